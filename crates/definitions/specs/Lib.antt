@@ -1,0 +1,33 @@
+-- Document 01, "Case sheets", as executable definitions. A text is the list of its bytes. A reader who believes these has nothing
+-- else to believe; `Drawer` and `Cases` prove that they give the cases written there, and `Writing` that reading is the inverse of
+-- writing.
+--
+--   Limits, Lists                  every limit by name; plain functions on lists
+--   "The sheets"                   Text, Relations, Formula, Sheets
+--   "From rule to tree"            Formula (what is counted), Tree
+--   "Atoms"                        Atoms
+--   "Actions"                      Actions, Strips (taking steps), Built (built steps, the bound)
+--   "The words of demand 3"        Demand, which says where each word is
+--   "Refusal sheet"                Refusal, which says where each number is tested; Outcome (what each call gives)
+--   "The desk program"             Desk
+--   "Case drawer"                  Drawer; Cases has further ones
+pub mod Limits
+pub mod Lists
+pub mod Text
+pub mod Refusal
+pub mod Relations
+pub mod Formula
+pub mod Writing
+pub mod Sheets
+pub mod Truth
+pub mod Tree
+pub mod Atoms
+pub mod Actions
+pub mod Strips
+pub mod Built
+pub mod Outcome
+pub mod Demand
+pub mod Desk
+pub mod Opened
+pub mod Drawer
+pub mod Cases

@@ -1,0 +1,67 @@
+-- Plain functions on lists, and a test that chooses between two values.
+use Prim.Native.Nat.{ℕ, zero, suc, _+_}
+use mathlib.Core.Bool.{Bool, true, false, _&&_, _||_}
+use mathlib.Core.Option.{Option, none, some}
+use mathlib.Core.List.{List, [], _∷_, _++_}
+use lib.Dec.{eqb}
+
+infixr 5 if_then_else_
+abbrev pub if_then_else_ : {A : Type 0} → Bool → A → A → A
+if_then_else_ true x y = x
+if_then_else_ false x y = y
+
+module _ {A : Type 0} where
+  -- every element passes the test; some element does; those that do, in order
+  unfoldable pub all : (A → Bool) → List A → Bool
+  all p [] = true
+  all p (x ∷ xs) = p x && all p xs
+
+  unfoldable pub any : (A → Bool) → List A → Bool
+  any p [] = false
+  any p (x ∷ xs) = p x || any p xs
+
+  unfoldable pub filter : (A → Bool) → List A → List A
+  filter p [] = []
+  filter p (x ∷ xs) = if p x then x ∷ filter p xs else filter p xs
+
+module _ {A B : Type 0} where
+  unfoldable pub flatMap : (A → List B) → List A → List B
+  flatMap f [] = []
+  flatMap f (x ∷ xs) = f x ++ flatMap f xs
+
+  -- each element with its number, the first one's being i
+  unfoldable pub mapFrom : (ℕ → A → B) → ℕ → List A → List B
+  mapFrom f i [] = []
+  mapFrom f i (x ∷ xs) = f i x ∷ mapFrom f (suc i) xs
+
+  unfoldable pub option : Option A → B → (A → B) → B
+  option none b f = b
+  option (some a) b f = f a
+
+-- the index of the first element that passes the test
+unfoldable pub position : {A : Type 0} → (A → Bool) → List A → Option ℕ
+position p [] = none
+position p (x ∷ xs) = if p x then some zero else option (position p xs) none (λ i. some (suc i))
+
+-- the n numbers from a on; the numbers below n
+unfoldable pub from : ℕ → ℕ → List ℕ
+from a zero = []
+from a (suc n) = a ∷ from (suc a) n
+
+unfoldable pub below : ℕ → List ℕ
+below n = from zero n
+
+unfoldable pub sum : List ℕ → ℕ
+sum [] = zero
+sum (x ∷ xs) = x + sum xs
+
+-- two lists of numbers are the same
+unfoldable pub same : List ℕ → List ℕ → Bool
+same [] [] = true
+same [] (y ∷ ys) = false
+same (x ∷ xs) [] = false
+same (x ∷ xs) (y ∷ ys) = eqb x y && same xs ys
+
+unfoldable pub isEmpty : {A : Type 0} → List A → Bool
+isEmpty [] = true
+isEmpty (x ∷ xs) = false

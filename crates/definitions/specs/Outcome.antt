@@ -1,0 +1,235 @@
+-- Document 01, "Refusal sheet": what each call returns, and what each lent buffer then holds.
+use Prim.Native.Nat.{ℕ, zero, _+_, _*_, _/_, _%_, _^_}
+use mathlib.Core.Bool.{Bool, not, _&&_, _||_}
+use mathlib.Core.Option.{Option, none, some}
+use mathlib.Core.List.{List, [], _∷_, _++_, map}
+use lib.ListN.{length, drop, getD}
+use lib.Dec.{eqb, leb, ltb}
+use Rattle.definitions.specs.Limits.{atomLimit, actionLimit, stepLimit}
+use Rattle.definitions.specs.Lists.{if_then_else_, any, filter, option, position, below, from, sum, flatMap}
+use Rattle.definitions.specs.Refusal.{Result, refused, accepted, _>>=_, refuseIf, given}
+use Rattle.definitions.specs.Relations.{Tuple}
+use Rattle.definitions.specs.Sheets.{Question, readQuestion, readSite, readPicks, readSteps, firstChosen}
+use Rattle.definitions.specs.Truth.{Case, ruleIsTrue, firstOfOtherKind}
+use Rattle.definitions.specs.Atoms.{Problem, problemOf, relationAt, tuplesOf, placesOf, atoms, wordsFor, bitsFrom, stateWords}
+use Rattle.definitions.specs.Actions.{Action, actions, actionAt}
+use Rattle.definitions.specs.Strips.{run, picksOf}
+use Rattle.definitions.specs.Built.{isPicked, chosenNumbers, builtSteps, bound}
+
+-- ---- what every call begins with: the question is read, then the site
+
+unfoldable pub readCase : List ℕ → List ℕ → Result Case
+readCase question site = do
+  q ← readQuestion question
+  s ← readSite (q .rels) site
+  accepted (record { question = q; site = s })
+
+-- 11: too many atoms or actions
+unfoldable pub ground : Case → Result Problem
+ground c =
+    let p = problemOf c in
+    refuseIf (ltb atomLimit (atoms p) || ltb actionLimit (actions p)) 11 zero >>= λ _. accepted p
+
+unfoldable pub readProblem : List ℕ → List ℕ → Result Problem
+readProblem question site = readCase question site >>= ground
+
+-- 12: a lent buffer is too short; the place is the length that is needed
+unfoldable pub roomFor : ℕ → ℕ → Result (Unit {0})
+roomFor needed room = refuseIf (ltb room needed) 12 needed
+
+unfoldable pub stateLength : Problem → ℕ
+stateLength p = wordsFor (atoms p)
+
+-- a buffer into whose front something is written; what lies past it stays
+unfoldable pub written : List ℕ → List ℕ → List ℕ
+written new old = new ++ drop (length new) old
+
+-- ---- the rule's formula as a part of the question's own bytes, empty where the question is refused
+pub record Span : Type 0 where
+  pub start : ℕ
+  pub len : ℕ
+
+unfoldable pub spanOf : Result Question → Span
+spanOf (refused k place) = record { start = zero; len = zero }
+spanOf (accepted q) = record { start = q .rule .at; len = length (q .rule .text) }
+
+unfoldable pub rulePart : List ℕ → Span
+rulePart question = spanOf (readQuestion question)
+
+-- ---- sizes (n, atoms, actions, bound)
+pub record Sizes : Type 0 where
+  pub elements : ℕ
+  pub atomCount : ℕ
+  pub actionCount : ℕ
+  pub stepBound : ℕ
+
+unfoldable pub sizesOf : Problem → Sizes
+sizesOf p = record { elements = p .size; atomCount = atoms p; actionCount = actions p; stepBound = bound p }
+
+unfoldable pub sizes : List ℕ → List ℕ → Result Sizes
+sizes question site = readProblem question site >>= λ p. accepted (sizesOf p)
+
+-- ---- an action by its number; 13 and that number where there is none
+unfoldable pub action : List ℕ → List ℕ → ℕ → Result Action
+action question site k = readProblem question site >>= λ p. given (actionAt p k) 13 k
+
+-- ---- picks as words: the rows of each `choose` as bits, as a state's atoms are, every `choose` from a new word on
+
+unfoldable pub relationWords : Problem → ℕ → ℕ
+relationWords p r = wordsFor (tuplesOf (p .size) (relationAt p r))
+
+unfoldable pub picksLength : Problem → ℕ
+picksLength p = sum (map (relationWords p) (chosenNumbers p))
+
+unfoldable pub pickWords : Problem → List Tuple → List ℕ
+pickWords p picks = flatMap
+    (λ r.
+    map (λ j. bitsFrom (λ row. ltb row (tuplesOf (p .size) (relationAt p r)) && isPicked p picks r row) (64 * j) 64) (below (relationWords p r)))
+    (chosenNumbers p)
+
+-- bit i of words
+unfoldable pub bitOf : List ℕ → ℕ → Bool
+bitOf words i = eqb (getD words (i / 64) 0 / 2 ^ (i % 64) % 2) 1
+
+-- the tuples of one relation's words, of all relations' words
+unfoldable pub relationPicks : Problem → List ℕ → ℕ → List Tuple
+relationPicks p words r = map (λ row. record { relation = r; places = placesOf (p .size) (relationAt p r .arity) row })
+    (filter (bitOf words) (below (tuplesOf (p .size) (relationAt p r))))
+
+unfoldable pub lentPicks : Problem → List ℕ → List ℕ → List Tuple
+lentPicks p words [] = []
+lentPicks p words (r ∷ rs) = relationPicks p words r ++ lentPicks p (drop (relationWords p r) words) rs
+
+-- whether word j of a relation's words has a spare bit set; the first such word of all relations' words
+unfoldable pub hasSpare : Problem → List ℕ → ℕ → ℕ → Bool
+hasSpare p words r j = any (λ i. leb (tuplesOf (p .size) (relationAt p r)) i && bitOf words i) (from (64 * j) 64)
+
+unfoldable pub spareWord : Problem → List ℕ → ℕ → List ℕ → Option ℕ
+spareWord p words start [] = none
+spareWord p words start (r ∷ rs) = option (position (hasSpare p words r) (below (relationWords p r)))
+    (spareWord p (drop (relationWords p r) words) (start + relationWords p r) rs) (λ j. some (start + j))
+
+-- ---- what is handed to a call: a text, or numbers
+pub data Given : Type 0 where
+  asText : List ℕ → Given
+  asNumbers : List ℕ → Given
+
+-- steps as a text, or lent: these are refused here only if they are too many
+unfoldable pub takeSteps : Given → Result (List ℕ)
+takeSteps (asText text) = readSteps text
+takeSteps (asNumbers steps) = refuseIf (ltb stepLimit (length steps)) 1 zero >>= λ _. accepted steps
+
+unfoldable pub textPicks : Case → Given → Result (List Tuple)
+textPicks c (asText text) = readPicks (c .question .chosen) (firstChosen (c .question)) (c .site .size) text
+textPicks c (asNumbers words) = accepted []
+
+unfoldable pub picksRoom : Problem → Given → Result (Unit {0})
+picksRoom p (asText text) = accepted tt
+picksRoom p (asNumbers words) = roomFor (picksLength p) (length words)
+
+-- 10: a bit of lent picks is set that is no tuple's; the place is its word
+unfoldable pub spareRefusal : Option ℕ → Result (Unit {0})
+spareRefusal none = accepted tt
+spareRefusal (some j) = refused 10 j
+
+unfoldable pub takePicks : Problem → Given → List Tuple → Result (List Tuple)
+takePicks p (asText text) picks = accepted picks
+takePicks p (asNumbers words) picks =
+    spareRefusal (spareWord p words zero (chosenNumbers p)) >>= λ _. accepted (lentPicks p words (chosenNumbers p))
+
+-- ---- checking steps
+
+pub record Ready : Type 0 where
+  pub problem : Problem
+  pub steps : List ℕ
+
+-- everything before the steps go one by one; `rooms` tests the lent buffers
+unfoldable pub readyToRun : List ℕ → List ℕ → Given → (Problem → Result (Unit {0})) → Result Ready
+readyToRun question site steps rooms = do
+  c ← readCase question site
+  ks ← takeSteps steps
+  p ← ground c
+  _ ← rooms p
+  accepted (record { problem = p; steps = ks })
+
+pub record Checked : Type 0 where
+  pub answer : Result ℕ
+  pub state : List ℕ
+
+unfoldable pub checkedFrom : Result Ready → List ℕ → Checked
+checkedFrom (refused k place) state = record { answer = refused k place; state = state }
+checkedFrom (accepted r) state =
+    let ran = run (r .problem) (r .steps) in
+    record { answer = ran .answer; state = written (stateWords (r .problem) (ran .state)) state }
+
+unfoldable pub checkSteps : List ℕ → List ℕ → Given → List ℕ → Checked
+checkSteps question site steps state = checkedFrom (readyToRun question site steps (λ p. roomFor (stateLength p) (length state))) state
+
+-- ---- reading picks from steps
+
+pub record PicksRead : Type 0 where
+  pub answer : Result ℕ
+  pub picks : List ℕ
+  pub state : List ℕ
+
+unfoldable pub picksIfAccepted : Result ℕ → List ℕ → List ℕ → List ℕ
+picksIfAccepted (refused k place) new old = old
+picksIfAccepted (accepted count) new old = written new old
+
+unfoldable pub picksReadFrom : Result Ready → List ℕ → List ℕ → PicksRead
+picksReadFrom (refused k place) picks state = record { answer = refused k place; picks = picks; state = state }
+picksReadFrom (accepted r) picks state =
+    let ran = run (r .problem) (r .steps) in
+    record {
+      answer = ran .answer;
+      picks = picksIfAccepted (ran .answer) (pickWords (r .problem) (picksOf (r .problem) (r .steps))) picks;
+      state = written (stateWords (r .problem) (ran .state)) state;
+    }
+
+unfoldable pub picksFromSteps : List ℕ → List ℕ → Given → List ℕ → List ℕ → PicksRead
+picksFromSteps question site steps picks state = picksReadFrom
+    (readyToRun question site steps (λ p.
+    roomFor (picksLength p) (length picks) >>= λ _. roomFor (stateLength p) (length state))) picks state
+
+-- ---- building steps from picks
+
+-- 16: the place is the index of the first `choose` of which the picks are not
+unfoldable pub kindRefusal : Option ℕ → Result (Unit {0})
+kindRefusal none = accepted tt
+kindRefusal (some i) = refused 16 i
+
+pub record Plan : Type 0 where
+  pub problem : Problem
+  pub picks : List Tuple
+  pub steps : List ℕ
+
+-- The refusals of building in their order: the texts, 11, 12 (lent picks, state, steps; the steps need the bound), 10, 16, 17.
+unfoldable pub plan : List ℕ → List ℕ → Given → ℕ → ℕ → Result Plan
+plan question site picks stateRoom stepsRoom = do
+  c ← readCase question site
+  read ← textPicks c picks
+  p ← ground c
+  _ ← picksRoom p picks
+  _ ← roomFor (stateLength p) stateRoom
+  _ ← roomFor (bound p) stepsRoom
+  tuples ← takePicks p picks read
+  _ ← kindRefusal (firstOfOtherKind c tuples)
+  _ ← refuseIf (not (ruleIsTrue c tuples)) 17 zero
+  accepted (record { problem = p; picks = tuples; steps = builtSteps p tuples })
+
+pub record Built : Type 0 where
+  pub answer : Result ℕ
+  pub state : List ℕ
+  pub steps : List ℕ
+
+unfoldable pub builtFrom : Result Plan → List ℕ → List ℕ → Built
+builtFrom (refused k place) state steps = record { answer = refused k place; state = state; steps = steps }
+builtFrom (accepted b) state steps =
+    record {
+      answer = accepted (length (b .steps));
+      state = written (stateWords (b .problem) (run (b .problem) (b .steps) .state)) state;
+      steps = written (b .steps) steps;
+    }
+
+unfoldable pub buildSteps : List ℕ → List ℕ → Given → List ℕ → List ℕ → Built
+buildSteps question site picks state steps = builtFrom (plan question site picks (length state) (length steps)) state steps

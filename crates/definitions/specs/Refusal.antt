@@ -1,0 +1,54 @@
+-- Document 01, "Refusal sheet": an answer is a value, or a refusal with its number and place. Where each number is tested:
+--    1  `readText` here; too many lent steps: Outcome.takeSteps; the desk program's bytes: Desk.answer
+--    2  Sheets.entryOf
+--    3  Sheets.addRel, addChoose, addRule, addSize, addFact; another sheet's record: addToQuestion, addToSite, addToPicks,
+--       addToSteps; missing: readQuestion, readSite
+--    4  Sheets.isNewName
+--    5  Formula.readFormula
+--    6  Formula.allForms, Formula.nesting
+--    7  Formula.isKnown in the rule, Sheets.used in `fact` and `pick`
+--    8  Formula.isScoped
+--    9  Sheets.addSize, Sheets.addTuple
+--   10  Sheets.addTuple in a text, Outcome.spareWord in lent picks
+--   11  Outcome.ground
+--   12  Outcome.roomFor
+--   13, 14, 15  Strips.runFrom; an action asked for by number: Outcome.action
+--   16  Truth.firstOfOtherKind, by Outcome.plan
+--   17  Truth.ruleIsTrue, by Outcome.plan
+use Prim.Native.Nat.{ℕ, zero}
+use mathlib.Core.Bool.{Bool, true, false}
+use mathlib.Core.Option.{Option, none, some}
+use mathlib.Core.List.{List, [], _∷_}
+use lib.ListN.{length}
+use lib.Dec.{ltb}
+use Rattle.definitions.specs.Limits.{textLimit}
+use Rattle.definitions.specs.Text.{Line, lines}
+
+pub data Result (A : Type 0) : Type 0 where
+  refused : (number place : ℕ) → Result A
+  accepted : A → Result A
+
+infixl 20 _>>=_
+-- the first refusal stands; a `do` block is read by this
+unfoldable pub _>>=_ : {A B : Type 0} → Result A → (A → Result B) → Result B
+_>>=_ (refused k place) f = refused k place
+_>>=_ (accepted a) f = f a
+
+-- the refusal k at a place where a test says so
+unfoldable pub refuseIf : Bool → ℕ → ℕ → Result (Unit {0})
+refuseIf true k place = refused k place
+refuseIf false k place = accepted tt
+
+-- what is there, or the refusal k at a place where nothing is
+unfoldable pub given : {A : Type 0} → Option A → ℕ → ℕ → Result A
+given none k place = refused k place
+given (some a) k place = accepted a
+
+-- How any sheet is read ("lines in order, in a line by number"): a text that is too long is 1, place 0; after that line by line,
+-- each line's tests in the order in which `line` makes them.
+unfoldable pub readLines : {S : Type 0} → (S → Line → Result S) → S → List Line → Result S
+readLines line s [] = accepted s
+readLines line s (l ∷ ls) = line s l >>= λ s′. readLines line s′ ls
+
+unfoldable pub readText : {S : Type 0} → (S → Line → Result S) → S → List ℕ → Result S
+readText line s text = refuseIf (ltb textLimit (length text)) 1 zero >>= λ _. readLines line s (lines text)

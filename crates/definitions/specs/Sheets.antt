@@ -1,0 +1,251 @@
+-- Document 01, "The sheets" and the first ten rows of its "Refusal sheet": reading the question, the site, picks and steps.
+-- A reader takes the relations that its lines may name, and nothing else of the question.
+use Prim.Native.Nat.{ℕ, _+_}
+use mathlib.Core.Bool.{Bool, true, false, not, _&&_, _||_}
+use mathlib.Core.Option.{Option, none, some}
+use mathlib.Core.List.{List, [], _∷_, _++_}
+use lib.ListN.{length}
+use lib.Dec.{eqb, leb, ltb}
+use Rattle.definitions.specs.Limits.{arityLimit, relLimit, chooseLimit, elementLimit, formLimit, nestingLimit}
+use Rattle.definitions.specs.Lists.{if_then_else_, all, same, isEmpty, option, position}
+use Rattle.definitions.specs.Text.{bytes, Line, fields, number, isRelationName, isBetween}
+use Rattle.definitions.specs.Refusal.{Result, refused, accepted, _>>=_, refuseIf, given, readText}
+use Rattle.definitions.specs.Relations.{Kind, static, plain, Fun, PFun, Inj, PInj, Relation, Tuple, isAmong, builtIn, isDeclared}
+use Rattle.definitions.specs.Formula.{Formula, readFormula, allForms, nesting, isKnown, isScoped}
+
+-- ---- the records of all sheets, by their form
+
+-- one line of any sheet, by its record word
+pub data Entry : Type 0 where
+  rel : (name : List ℕ) → (arity : ℕ) → Entry
+  choose : (name : List ℕ) → (arity : ℕ) → Kind → Entry
+  rule : (formula : List ℕ) → Entry
+  size : (n : ℕ) → Entry
+  fact pick : (name : List ℕ) → (elements : List ℕ) → Entry
+  step : (action : ℕ) → Entry
+
+-- an arity
+unfoldable pub arityOf : List ℕ → Option ℕ
+arityOf f = option (number f) none (λ a. if isBetween 1 arityLimit a then some a else none)
+
+-- what follows the name in a `choose` line: one of the four words, each of arity 2, or an arity
+unfoldable pub chooseOf : List ℕ → List ℕ → Option Entry
+chooseOf name f =
+    if same f (bytes "Fun") then some (choose name 2 Fun)
+    else if same f (bytes "PFun") then some (choose name 2 PFun)
+    else if same f (bytes "Inj") then some (choose name 2 Inj)
+    else if same f (bytes "PInj") then some (choose name 2 PInj)
+    else option (arityOf f) none (λ a. some (choose name a plain))
+
+unfoldable pub numbers : List (List ℕ) → Option (List ℕ)
+numbers [] = some []
+numbers (f ∷ fs) = option (number f) none (λ x. option (numbers fs) none (λ xs. some (x ∷ xs)))
+
+-- records with one field after the record word, with two, and, for `fact` and `pick`, with a name and 1 to 3 elements
+unfoldable pub withOne : (List ℕ → Option Entry) → List (List ℕ) → Option Entry
+withOne make [] = none
+withOne make (f ∷ []) = make f
+withOne make (f ∷ g ∷ fs) = none
+
+unfoldable pub withTwo : (List ℕ → List ℕ → Option Entry) → List (List ℕ) → Option Entry
+withTwo make [] = none
+withTwo make (f ∷ []) = none
+withTwo make (f ∷ g ∷ []) = make f g
+withTwo make (f ∷ g ∷ h ∷ fs) = none
+
+unfoldable pub withElements : (List ℕ → List ℕ → Entry) → List (List ℕ) → Option Entry
+withElements make [] = none
+withElements make (f ∷ fs) = if isBetween 1 arityLimit (length fs) then option (numbers fs) none (λ xs. some (make f xs)) else none
+
+-- what a line's fields say; none where the record word is unknown or the fields are not of its form
+unfoldable pub entry : List (List ℕ) → Option Entry
+entry [] = none
+entry (w ∷ fs) =
+    if same w (bytes "rel") then withTwo (λ name a. option (arityOf a) none (λ k. some (rel name k))) fs
+    else if same w (bytes "choose") then withTwo chooseOf fs
+    else if same w (bytes "rule") then withOne (λ f. some (rule f)) fs
+    else if same w (bytes "size") then withOne (λ f. option (number f) none (λ n. some (size n))) fs
+    else if same w (bytes "fact") then withElements fact fs
+    else if same w (bytes "pick") then withElements pick fs
+    else if same w (bytes "step") then withOne (λ f. option (number f) none (λ k. some (step k))) fs
+    else none
+
+-- 2: the line is not ended by byte 10, or says nothing
+unfoldable pub entryOf : Line → Result Entry
+entryOf l = given (if l .ended then entry (fields l) else none) 2 (l .at)
+
+-- ---- the question: `rel` lines, then `choose` lines, then one `rule` line
+
+-- the formula, with the place and the bytes of its field
+pub record Rule : Type 0 where
+  pub at : ℕ
+  pub text : List ℕ
+  pub formula : Formula
+
+-- a question's lines so far, and a whole question
+pub record Draft : Type 0 where
+  pub rels : List Relation
+  pub chosen : List Relation
+  pub ruled : Option Rule
+
+pub record Question : Type 0 where
+  pub rels : List Relation
+  pub chosen : List Relation
+  pub rule : Rule
+
+-- all relations in the order of their numbers
+unfoldable pub relations : List Relation → List Relation → List Relation
+relations rels chosen = builtIn ++ (rels ++ chosen)
+
+unfoldable pub isRuled : Option Rule → Bool
+isRuled none = false
+isRuled (some r) = true
+
+-- 4: a declared name is of its form, not built in and not declared by an earlier line
+unfoldable pub isNewName : Draft → List ℕ → Bool
+isNewName d name = isRelationName name && not (isDeclared (relations (d .rels) (d .chosen)) name)
+
+-- a `rel` line: 3 after a `choose` line, and where there are 8 already
+unfoldable pub addRel : Draft → ℕ → List ℕ → ℕ → Result Draft
+addRel d at name arity = do
+  _ ← refuseIf (not (isEmpty (d .chosen)) || leb relLimit (length (d .rels))) 3 at
+  _ ← refuseIf (not (isNewName d name)) 4 at
+  accepted (record { rels = d .rels ++ (record { name = name; arity = arity; kind = static } ∷ []); chosen = d .chosen; ruled = d .ruled })
+
+-- a `choose` line: 3 after the rule, and where there are 4 already
+unfoldable pub addChoose : Draft → ℕ → List ℕ → ℕ → Kind → Result Draft
+addChoose d at name arity kind = do
+  _ ← refuseIf (isRuled (d .ruled) || leb chooseLimit (length (d .chosen))) 3 at
+  _ ← refuseIf (not (isNewName d name)) 4 at
+  accepted (record { rels = d .rels; chosen = d .chosen ++ (record { name = name; arity = arity; kind = kind } ∷ []); ruled = d .ruled })
+
+-- the `rule` line: 3 if it is the second, or comes before any `choose`; then 5 to 8, each of the whole formula. The formula
+-- begins 5 bytes into the line, after `rule` and the tab.
+unfoldable pub addRule : Draft → ℕ → List ℕ → Result Draft
+addRule d at text = do
+  _ ← refuseIf (isRuled (d .ruled) || isEmpty (d .chosen)) 3 at
+  f ← given (readFormula text) 5 at
+  _ ← refuseIf (ltb formLimit (allForms (d .chosen) f) || ltb nestingLimit (nesting f)) 6 at
+  _ ← refuseIf (not (isKnown (relations (d .rels) (d .chosen)) f)) 7 at
+  _ ← refuseIf (not (isScoped [] f)) 8 at
+  accepted (record { rels = d .rels; chosen = d .chosen; ruled = some (record { at = at + 5; text = text; formula = f }) })
+
+-- a line of the question; what belongs to another sheet is 3
+unfoldable pub addToQuestion : Draft → ℕ → Entry → Result Draft
+addToQuestion d at (rel name arity) = addRel d at name arity
+addToQuestion d at (choose name arity kind) = addChoose d at name arity kind
+addToQuestion d at (rule text) = addRule d at text
+addToQuestion d at (size n) = refused 3 at
+addToQuestion d at (fact name xs) = refused 3 at
+addToQuestion d at (pick name xs) = refused 3 at
+addToQuestion d at (step k) = refused 3 at
+
+unfoldable pub questionLine : Draft → Line → Result Draft
+questionLine d l = entryOf l >>= addToQuestion d (l .at)
+
+-- the whole question; without a rule it is 3 at the text's length
+unfoldable pub readQuestion : List ℕ → Result Question
+readQuestion text = do
+  d ← readText questionLine (record { rels = []; chosen = []; ruled = none }) text
+  r ← given (d .ruled) 3 (length text)
+  accepted (record { rels = d .rels; chosen = d .chosen; rule = r })
+
+unfoldable pub relationsOf : Question → List Relation
+relationsOf q = relations (q .rels) (q .chosen)
+
+-- the number of the first `rel`, and of the first `choose`
+unfoldable pub firstRel : ℕ
+firstRel = 5
+
+unfoldable pub firstChosen : Question → ℕ
+firstChosen q = 5 + length (q .rels)
+
+-- ---- a tuple in a line: 7, 9 and 10
+
+-- the number of the relation that has the name and as many places as there are elements, where `first` is the first one's number
+unfoldable pub used : List Relation → ℕ → List ℕ → ℕ → Option ℕ
+used rs first name arity =
+    option (position (λ (r : Relation). same (r .name) name && eqb (r .arity) arity) rs) none (λ i. some (first + i))
+
+-- 7: no relation of this sheet has that name and arity; 9: an element is not below n; 10: the tuple stood in an earlier line
+unfoldable pub addTuple : List Relation → ℕ → ℕ → List Tuple → ℕ → List ℕ → List ℕ → Result (List Tuple)
+addTuple rs first n tuples at name xs = do
+  r ← given (used rs first name (length xs)) 7 at
+  _ ← refuseIf (not (all (λ x. ltb x n) xs)) 9 at
+  _ ← refuseIf (isAmong (record { relation = r; places = xs }) tuples) 10 at
+  accepted (tuples ++ (record { relation = r; places = xs } ∷ []))
+
+-- ---- the site: one `size` line, then `fact` lines of the `rel` relations
+
+-- a site's lines so far, and a whole site
+pub record SiteDraft : Type 0 where
+  pub sized : Option ℕ
+  pub facts : List Tuple
+
+pub record Site : Type 0 where
+  pub size : ℕ
+  pub facts : List Tuple
+
+-- a `size` line: 3 if it is the second, 9 if n is not 1 to 16
+unfoldable pub addSize : SiteDraft → ℕ → ℕ → Option ℕ → Result SiteDraft
+addSize d at n none = refuseIf (not (isBetween 1 elementLimit n)) 9 at >>= λ _. accepted (record { sized = some n; facts = d .facts })
+addSize d at n (some m) = refused 3 at
+
+-- a `fact` line: 3 before `size`
+unfoldable pub addFact : List Relation → SiteDraft → ℕ → List ℕ → List ℕ → Result SiteDraft
+addFact rels d at name xs = do
+  n ← given (d .sized) 3 at
+  facts ← addTuple rels firstRel n (d .facts) at name xs
+  accepted (record { sized = d .sized; facts = facts })
+
+unfoldable pub addToSite : List Relation → SiteDraft → ℕ → Entry → Result SiteDraft
+addToSite rels d at (rel name arity) = refused 3 at
+addToSite rels d at (choose name arity kind) = refused 3 at
+addToSite rels d at (rule text) = refused 3 at
+addToSite rels d at (size n) = addSize d at n (d .sized)
+addToSite rels d at (fact name xs) = addFact rels d at name xs
+addToSite rels d at (pick name xs) = refused 3 at
+addToSite rels d at (step k) = refused 3 at
+
+unfoldable pub siteLine : List Relation → SiteDraft → Line → Result SiteDraft
+siteLine rels d l = entryOf l >>= addToSite rels d (l .at)
+
+unfoldable pub readSite : List Relation → List ℕ → Result Site
+readSite rels text = do
+  d ← readText (siteLine rels) (record { sized = none; facts = [] }) text
+  n ← given (d .sized) 3 (length text)
+  accepted (record { size = n; facts = d .facts })
+
+-- ---- picks: `pick` lines of the `choose` relations, the first of which has the number `first`, over n elements
+
+unfoldable pub addToPicks : List Relation → ℕ → ℕ → List Tuple → ℕ → Entry → Result (List Tuple)
+addToPicks chosen first n picks at (rel name arity) = refused 3 at
+addToPicks chosen first n picks at (choose name arity kind) = refused 3 at
+addToPicks chosen first n picks at (rule text) = refused 3 at
+addToPicks chosen first n picks at (size m) = refused 3 at
+addToPicks chosen first n picks at (fact name xs) = refused 3 at
+addToPicks chosen first n picks at (pick name xs) = addTuple chosen first n picks at name xs
+addToPicks chosen first n picks at (step k) = refused 3 at
+
+unfoldable pub picksLine : List Relation → ℕ → ℕ → List Tuple → Line → Result (List Tuple)
+picksLine chosen first n picks l = entryOf l >>= addToPicks chosen first n picks (l .at)
+
+unfoldable pub readPicks : List Relation → ℕ → ℕ → List ℕ → Result (List Tuple)
+readPicks chosen first n text = readText (picksLine chosen first n) [] text
+
+-- ---- steps: `step` lines, each an action's number
+
+unfoldable pub addToSteps : List ℕ → ℕ → Entry → Result (List ℕ)
+addToSteps steps at (rel name arity) = refused 3 at
+addToSteps steps at (choose name arity kind) = refused 3 at
+addToSteps steps at (rule text) = refused 3 at
+addToSteps steps at (size n) = refused 3 at
+addToSteps steps at (fact name xs) = refused 3 at
+addToSteps steps at (pick name xs) = refused 3 at
+addToSteps steps at (step k) = accepted (steps ++ (k ∷ []))
+
+unfoldable pub stepsLine : List ℕ → Line → Result (List ℕ)
+stepsLine steps l = entryOf l >>= addToSteps steps (l .at)
+
+unfoldable pub readSteps : List ℕ → Result (List ℕ)
+readSteps text = readText stepsLine [] text

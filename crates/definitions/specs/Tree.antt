@@ -1,0 +1,132 @@
+-- Document 01, "From rule to tree": negation normal form, added totalities, nodes in preorder and their free variables.
+use Prim.Native.Nat.{ℕ, zero, suc, _+_}
+use mathlib.Core.Bool.{Bool, true, false, not, _&&_, _||_}
+use mathlib.Core.List.{List, [], _∷_, _++_, map}
+use lib.ListN.{length}
+use lib.Dec.{eqb}
+use Rattle.definitions.specs.Limits.{nestingLimit}
+use Rattle.definitions.specs.Lists.{if_then_else_, any, filter, same, option, position, below}
+use Rattle.definitions.specs.Relations.{Relation, isTotal, numberOf}
+use Rattle.definitions.specs.Formula.{Formula, Formulas, literal, negation, implication, conjunction, disjunction, exists, forall, nil, cons}
+use Rattle.definitions.specs.Sheets.{Question, relationsOf, firstChosen}
+
+-- A literal has a relation's number, and is its tuple or, where `positive` is false, its not-tuple. A variable is its level:
+-- how many quantifiers stand around the one that binds it. A quantifier has the level of its variable.
+mutual
+  pub data Tree : Type 0 where
+    leaf : (positive : Bool) → (relation : ℕ) → (levels : List ℕ) → Tree
+    forallNode existsNode : (level : ℕ) → Tree → Tree
+    andNode orNode : Trees → Tree
+
+  pub data Trees : Type 0 where
+    end : Trees
+    _then_ : Tree → Trees → Trees
+
+infixr 67 _then_
+-- a quantifier over k variables is k quantifiers over one, the first outermost
+unfoldable pub nest : (ℕ → Tree → Tree) → ℕ → ℕ → Tree → Tree
+nest quantifier level zero t = t
+nest quantifier level (suc k) t = quantifier level (nest quantifier (suc level) k t)
+
+unfoldable pub leafOf : Bool → List Relation → List (List ℕ) → List ℕ → List (List ℕ) → Tree
+leafOf positive rs scope r vs = leaf positive (option (numberOf rs r) zero (λ k. k)) (map (λ v. option (position (same v) scope) zero (λ k. k)) vs)
+
+-- Negation is pushed inward until only literals are negated, and `implies` is an `or` whose first part is negated. `asIs` is the
+-- tree of a formula, `negated` that of its negation, where `and` and `or`, `exists` and `forall` change places.
+unfoldable mutual
+  pub asIs : List Relation → List (List ℕ) → Formula → Tree
+  asIs rs scope (literal r vs) = leafOf true rs scope r vs
+  asIs rs scope (negation f) = negated rs scope f
+  asIs rs scope (implication f g) = orNode (negated rs scope f then asIs rs scope g then end)
+  asIs rs scope (conjunction fs) = andNode (allAsIs rs scope fs)
+  asIs rs scope (disjunction fs) = orNode (allAsIs rs scope fs)
+  asIs rs scope (exists vs f) = nest existsNode (length scope) (length vs) (asIs rs (scope ++ vs) f)
+  asIs rs scope (forall vs f) = nest forallNode (length scope) (length vs) (asIs rs (scope ++ vs) f)
+
+  pub negated : List Relation → List (List ℕ) → Formula → Tree
+  negated rs scope (literal r vs) = leafOf false rs scope r vs
+  negated rs scope (negation f) = asIs rs scope f
+  negated rs scope (implication f g) = andNode (asIs rs scope f then negated rs scope g then end)
+  negated rs scope (conjunction fs) = orNode (allNegated rs scope fs)
+  negated rs scope (disjunction fs) = andNode (allNegated rs scope fs)
+  negated rs scope (exists vs f) = nest forallNode (length scope) (length vs) (negated rs (scope ++ vs) f)
+  negated rs scope (forall vs f) = nest existsNode (length scope) (length vs) (negated rs (scope ++ vs) f)
+
+  pub allAsIs : List Relation → List (List ℕ) → Formulas → Trees
+  allAsIs rs scope nil = end
+  allAsIs rs scope (cons f fs) = asIs rs scope f then allAsIs rs scope fs
+
+  pub allNegated : List Relation → List (List ℕ) → Formulas → Trees
+  allNegated rs scope nil = end
+  allNegated rs scope (cons f fs) = negated rs scope f then allNegated rs scope fs
+
+-- For each total kind, in order, "for all a some b"; where there is one, the root is an `and` of the rule and all of these.
+unfoldable pub totalities : ℕ → List Relation → Trees
+totalities r [] = end
+totalities r (k ∷ ks) =
+    if isTotal (k .kind) then forallNode 0 (existsNode 1 (leaf true r (0 ∷ 1 ∷ []))) then totalities (suc r) ks else totalities (suc r) ks
+
+unfoldable pub joined : Tree → Trees → Tree
+joined t end = t
+joined t (u then us) = andNode (t then u then us)
+
+unfoldable pub treeOf : Question → Tree
+treeOf q = joined (asIs (relationsOf q) [] (q .rule .formula)) (totalities (firstChosen q) (q .chosen))
+
+-- ---- the nodes of a tree are its non-literal subtrees, each before its parts and these from the left; their preorder numbers
+-- are their indexes in this list
+unfoldable mutual
+  pub nodes : Tree → List Tree
+  nodes (leaf p r ls) = []
+  nodes (forallNode d t) = forallNode d t ∷ nodes t
+  nodes (existsNode d t) = existsNode d t ∷ nodes t
+  nodes (andNode ts) = andNode ts ∷ nodesAll ts
+  nodes (orNode ts) = orNode ts ∷ nodesAll ts
+
+  pub nodesAll : Trees → List Tree
+  nodesAll end = []
+  nodesAll (t then ts) = nodes t ++ nodesAll ts
+
+-- the parts of a node, each with its preorder number (of no meaning for a literal), where the node's own is v
+pub record Part : Type 0 where
+  pub node : ℕ
+  pub tree : Tree
+
+unfoldable pub partsFrom : ℕ → Trees → List Part
+partsFrom v end = []
+partsFrom v (t then ts) = record { node = v; tree = t } ∷ partsFrom (v + length (nodes t)) ts
+
+unfoldable pub parts : ℕ → Tree → List Part
+parts v (leaf p r ls) = []
+parts v (forallNode d t) = record { node = suc v; tree = t } ∷ []
+parts v (existsNode d t) = record { node = suc v; tree = t } ∷ []
+parts v (andNode ts) = partsFrom (suc v) ts
+parts v (orNode ts) = partsFrom (suc v) ts
+
+unfoldable pub howMany : Trees → ℕ
+howMany end = zero
+howMany (t then ts) = suc (howMany ts)
+
+unfoldable pub isForall : Tree → Bool
+isForall (leaf p r ls) = false
+isForall (forallNode d t) = true
+isForall (existsNode d t) = false
+isForall (andNode ts) = false
+isForall (orNode ts) = false
+
+-- the free variables of a node, outermost-bound first: the levels that occur free in it, of which there are few enough since
+-- few quantifiers nest
+unfoldable mutual
+  pub occurs : ℕ → Tree → Bool
+  occurs l (leaf p r ls) = any (eqb l) ls
+  occurs l (forallNode d t) = not (eqb l d) && occurs l t
+  occurs l (existsNode d t) = not (eqb l d) && occurs l t
+  occurs l (andNode ts) = occursIn l ts
+  occurs l (orNode ts) = occursIn l ts
+
+  pub occursIn : ℕ → Trees → Bool
+  occursIn l end = false
+  occursIn l (t then ts) = occurs l t || occursIn l ts
+
+unfoldable pub free : Tree → List ℕ
+free t = filter (λ l. occurs l t) (below nestingLimit)

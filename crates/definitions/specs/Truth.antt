@@ -1,0 +1,111 @@
+-- Document 01, "The words of demand 3": truth of the rule and the declared kinds, read off the sheets.
+use Prim.Native.Nat.{ℕ, zero, suc, _+_, _-_}
+use mathlib.Core.Bool.{Bool, true, false, not, _&&_, _||_}
+use mathlib.Core.Option.{Option}
+use mathlib.Core.List.{List, [], _∷_, map}
+use lib.ListN.{getD, length}
+use lib.Dec.{eqb, leb, ltb}
+use Rattle.definitions.specs.Lists.{if_then_else_, all, any, same, option, position, mapFrom, below}
+use Rattle.definitions.specs.Relations.{static, Relation, Tuple, isAmong, areDistinct, builtInHolds, numberOf, isFunction, isInjective, isTotal}
+use Rattle.definitions.specs.Formula.{Formula, Formulas, literal, negation, implication, conjunction, disjunction, exists, forall, nil, cons}
+use Rattle.definitions.specs.Sheets.{Question, Site, relationsOf, firstChosen}
+
+-- A case: its question and its site.
+pub record Case : Type 0 where
+  pub question : Question
+  pub site : Site
+
+-- Whether a tuple holds, of relation r and at the places xs: a built-in one by its meaning, that of a `rel` if it is a fact, that of a
+-- `choose` if it is a pick.
+unfoldable pub holds : Case → List Tuple → ℕ → List ℕ → Bool
+holds c picks r xs =
+    if ltb r 5 then builtInHolds (c .site .size) r (getD xs 0 0) (getD xs 1 0)
+    else isAmong (record { relation = r; places = xs }) (c .site .facts) || isAmong (record { relation = r; places = xs }) picks
+
+-- the variables bound around, innermost first, with their values
+pub record Binding : Type 0 where
+  pub variable : List ℕ
+  pub value : ℕ
+
+unfoldable pub valueOf : List Binding → List ℕ → ℕ
+valueOf [] v = zero
+valueOf (b ∷ bs) v = if same (b .variable) v then b .value else valueOf bs v
+
+-- for every, and for some, values 0 to n−1 of the variables
+unfoldable pub forEvery : ℕ → List (List ℕ) → List Binding → (List Binding → Bool) → Bool
+forEvery n [] bs p = p bs
+forEvery n (v ∷ vs) bs p = all (λ x. forEvery n vs (record { variable = v; value = x } ∷ bs) p) (below n)
+
+unfoldable pub forSome : ℕ → List (List ℕ) → List Binding → (List Binding → Bool) → Bool
+forSome n [] bs p = p bs
+forSome n (v ∷ vs) bs p = any (λ x. forSome n vs (record { variable = v; value = x } ∷ bs) p) (below n)
+
+-- Truth "of the formula as written", by the usual meaning of each form; variables range over all elements.
+unfoldable mutual
+  pub isTrue : Case → List Tuple → List Binding → Formula → Bool
+  isTrue c picks bs (literal r vs) = option (numberOf (relationsOf (c .question)) r) false (λ k. holds c picks k (map (valueOf bs) vs))
+  isTrue c picks bs (negation f) = not (isTrue c picks bs f)
+  isTrue c picks bs (implication f g) = not (isTrue c picks bs f) || isTrue c picks bs g
+  isTrue c picks bs (conjunction fs) = allTrue c picks bs fs
+  isTrue c picks bs (disjunction fs) = someTrue c picks bs fs
+  isTrue c picks bs (exists vs f) = forSome (c .site .size) vs bs (λ b. isTrue c picks b f)
+  isTrue c picks bs (forall vs f) = forEvery (c .site .size) vs bs (λ b. isTrue c picks b f)
+
+  pub allTrue : Case → List Tuple → List Binding → Formulas → Bool
+  allTrue c picks bs nil = true
+  allTrue c picks bs (cons f fs) = isTrue c picks bs f && allTrue c picks bs fs
+
+  pub someTrue : Case → List Tuple → List Binding → Formulas → Bool
+  someTrue c picks bs nil = false
+  someTrue c picks bs (cons f fs) = isTrue c picks bs f || someTrue c picks bs fs
+
+-- a test of each `choose` and its number, in order
+unfoldable pub eachChosen : Case → (ℕ → Relation → Bool) → List Bool
+eachChosen c test = mapFrom test (firstChosen (c .question)) (c .question .chosen)
+
+-- totality of Fun and Inj: every element is the first place of some pick
+unfoldable pub isTotalIn : Case → List Tuple → ℕ → Bool
+isTotalIn c picks r = all (λ x. any (λ y. holds c picks r (x ∷ y ∷ [])) (below (c .site .size))) (below (c .site .size))
+
+unfoldable pub areTotal : Case → List Tuple → Bool
+areTotal c picks = all (λ b. b) (eachChosen c (λ r (k : Relation). if isTotal (k .kind) then isTotalIn c picks r else true))
+
+-- the rule is true of the picks, totality included; 17 where it is not
+unfoldable pub ruleIsTrue : Case → List Tuple → Bool
+ruleIsTrue c picks = isTrue c picks [] (c .question .rule .formula) && areTotal c picks
+
+-- two picks of relation r agree in `a` and differ in `b`
+unfoldable pub two : ℕ → (a b : Tuple → ℕ) → List Tuple → Bool
+two r a b picks =
+    any (λ (t : Tuple). any (λ (u : Tuple). eqb (t .relation) r && eqb (u .relation) r && eqb (a t) (a u) && not (eqb (b t) (b u))) picks) picks
+
+unfoldable pub first : Tuple → ℕ
+first t = getD (t .places) 0 0
+
+unfoldable pub second : Tuple → ℕ
+second t = getD (t .places) 1 0
+
+-- a function kind has no first place with two seconds, an injective one no second with two firsts
+unfoldable pub isOfKind : List Tuple → ℕ → Relation → Bool
+isOfKind picks r k = not (isFunction (k .kind) && two r first second picks) && not (isInjective (k .kind) && two r second first picks)
+
+-- picks are of the declared kinds; 16 by the first `choose` of which they are not
+unfoldable pub areOfKinds : Case → List Tuple → Bool
+areOfKinds c picks = all (λ b. b) (eachChosen c (isOfKind picks))
+
+unfoldable pub firstOfOtherKind : Case → List Tuple → Option ℕ
+firstOfOtherKind c picks = position not (eachChosen c (isOfKind picks))
+
+-- ---- "Picks are a set of `choose` tuples": a tuple of a `choose` over the elements; no tuple stands twice
+unfoldable pub isPick : Case → Tuple → Bool
+isPick c t =
+    let q = c .question in
+    let r = t .relation in
+    let k = getD (q .chosen) (r - firstChosen q) (record { name = []; arity = zero; kind = static }) in
+    leb (firstChosen q) r
+    && ltb r (firstChosen q + length (q .chosen))
+    && eqb (length (t .places)) (k .arity)
+    && all (λ x. ltb x (c .site .size)) (t .places)
+
+unfoldable pub arePicks : Case → List Tuple → Bool
+arePicks c picks = all (isPick c) picks && areDistinct picks

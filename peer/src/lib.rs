@@ -1,0 +1,32 @@
+//! Case sheets in plain Rust: reading a question and a site, the numbered
+//! STRIPS problem they stand for, checking plans, reading the picks of a plan
+//! and building a plan from picks.
+//!
+//! Everything here was written from the paper that fixes the sheets and shares
+//! no line with the proved program, so that the two can be held against each
+//! other. Safe code only, save the one module that calls the other library.
+
+#![cfg_attr(not(feature = "ours"), forbid(unsafe_code))]
+#![cfg_attr(feature = "ours", deny(unsafe_code))]
+
+pub mod cases;
+pub mod desk;
+pub mod formula;
+pub mod ground;
+#[cfg(feature = "ours")]
+pub mod ours;
+pub mod plans;
+pub mod records;
+pub mod sample;
+pub mod sheets;
+pub mod text;
+pub mod tree;
+pub mod trial;
+
+pub use cases::{
+    action, action_number, build, build_text, check, check_text, picks, picks_text, rule_part,
+    sizes, Sizes,
+};
+pub use desk::desk;
+pub use ground::{Action, Prove, Set};
+pub use text::{Refusal, Reply};

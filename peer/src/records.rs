@@ -1,0 +1,105 @@
+//! The seven kinds of line. A line's own form is judged here, in whatever
+//! sheet it stands; the sheets then judge what the form lets through.
+
+use crate::text::{cause, number, Line, Refusal};
+
+/// How a chosen relation may be filled.
+#[derive(Clone, Copy, Debug, PartialEq, Eq)]
+pub enum Kind {
+    /// Any tuples of this arity; the static relations are of this kind too.
+    Plain(usize),
+    Fun,
+    PFun,
+    Inj,
+    PInj,
+}
+
+impl Kind {
+    pub fn arity(self) -> usize {
+        match self {
+            Kind::Plain(arity) => arity,
+            _ => 2,
+        }
+    }
+
+    pub fn is_function(self) -> bool {
+        !matches!(self, Kind::Plain(_))
+    }
+
+    pub fn is_injective(self) -> bool {
+        matches!(self, Kind::Inj | Kind::PInj)
+    }
+
+    pub fn is_total(self) -> bool {
+        matches!(self, Kind::Fun | Kind::Inj)
+    }
+}
+
+/// The elements of one `fact` or `pick` line, in order.
+#[derive(Clone, Copy, Debug, PartialEq, Eq)]
+pub struct Tuple {
+    elements: [u32; 3],
+    count: usize,
+}
+
+impl Tuple {
+    pub fn elements(&self) -> &[u32] {
+        &self.elements[..self.count]
+    }
+}
+
+#[derive(Clone, Copy, Debug)]
+pub enum Record<'t> {
+    Rel { name: &'t [u8], arity: usize },
+    Choose { name: &'t [u8], kind: Kind },
+    Rule { formula: &'t [u8] },
+    Size { n: u32 },
+    Fact { name: &'t [u8], tuple: Tuple },
+    Pick { name: &'t [u8], tuple: Tuple },
+    Step { action: u32 },
+}
+
+/// Reads one line by its own form, or refuses it with 2.
+pub fn record<'t>(line: &Line<'t>) -> Result<Record<'t>, Refusal> {
+    let read = if line.ended { well_formed(line.bytes) } else { None };
+    read.ok_or(line.refuse(cause::LINE_FORM))
+}
+
+fn well_formed(bytes: &[u8]) -> Option<Record<'_>> {
+    let mut fields = bytes.split(|&byte| byte == b'\t');
+    let record = match fields.next()? {
+        b"fact" => Record::Fact { name: fields.next()?, tuple: tuple(&mut fields)? },
+        b"pick" => Record::Pick { name: fields.next()?, tuple: tuple(&mut fields)? },
+        b"step" => Record::Step { action: number(fields.next()?)? },
+        b"rel" => Record::Rel { name: fields.next()?, arity: arity(fields.next()?)? },
+        b"choose" => Record::Choose { name: fields.next()?, kind: kind(fields.next()?)? },
+        b"rule" => Record::Rule { formula: fields.next()? },
+        b"size" => Record::Size { n: number(fields.next()?)? },
+        _ => return None,
+    };
+    fields.next().is_none().then_some(record)
+}
+
+fn arity(field: &[u8]) -> Option<usize> {
+    number(field).map(|arity| arity as usize).filter(|arity| (1..=3).contains(arity))
+}
+
+fn kind(field: &[u8]) -> Option<Kind> {
+    match field {
+        b"Fun" => Some(Kind::Fun),
+        b"PFun" => Some(Kind::PFun),
+        b"Inj" => Some(Kind::Inj),
+        b"PInj" => Some(Kind::PInj),
+        _ => arity(field).map(Kind::Plain),
+    }
+}
+
+/// One to three numbers; a fourth is left for the caller to find.
+fn tuple<'t>(fields: &mut impl Iterator<Item = &'t [u8]>) -> Option<Tuple> {
+    let mut tuple = Tuple { elements: [number(fields.next()?)?, 0, 0], count: 1 };
+    for field in fields.take(2) {
+        tuple.elements[tuple.count] = number(field)?;
+        tuple.count += 1;
+    }
+    Some(tuple)
+}
