@@ -1,0 +1,109 @@
+-- A node table is that of a tree: kinds, levels, free levels and parts of every node, in preorder.
+use mathlib.Core.Path.{_≡_}
+use mathlib.Core.Bool.{Bool, true, false}
+use mathlib.Core.List.{List, [], _∷_, map}
+use Prim.Native.Nat.{ℕ, _+_, _≤_, _<_}
+use lib.ListN.{length, getD, take, drop}
+use Rattle.definitions.specs.Tree.{Tree, leaf, forallNode, existsNode, andNode, orNode, Part, parts, nodes, free}
+use Rattle.tree.specs.declared.PartRow.{PartRow}
+use Rattle.tree.specs.declared.NodeRow.{NodeRow}
+use Rattle.tree.specs.declared.Nodes.{Nodes}
+
+-- what stands past the end of a table
+abbrev pub noPart : PartRow
+noPart = record { tag = 0; which = 0; levels = []; width = 0 }
+
+abbrev pub noNode : NodeRow
+noNode = record { kind = 0; level = 0; levels = []; width = 0; first = 0; many = 0 }
+
+-- ---- a node's kind and level as numbers
+
+unfoldable pub nodeKind : Tree → ℕ
+nodeKind (forallNode d t) = 0
+nodeKind (existsNode d t) = 1
+nodeKind (andNode ts) = 2
+nodeKind (orNode ts) = 3
+nodeKind (leaf p r ls) = 4
+
+unfoldable pub nodeLevel : Tree → ℕ
+nodeLevel (forallNode d t) = d
+nodeLevel (existsNode d t) = d
+nodeLevel (andNode ts) = 0
+nodeLevel (orNode ts) = 0
+nodeLevel (leaf p r ls) = 0
+
+-- ---- a part: what it is, its relation or node, and its levels
+pub record Head : Type 0 where
+  pub tag : ℕ
+  pub which : ℕ
+  pub levels : List ℕ
+
+-- of a tree whose preorder number is v
+unfoldable pub headFrom : ℕ → Tree → Head
+headFrom v (leaf true r ls) = record { tag = 0; which = r; levels = ls }
+headFrom v (leaf false r ls) = record { tag = 1; which = r; levels = ls }
+headFrom v (forallNode d t) = record { tag = 2; which = v; levels = free (forallNode d t) }
+headFrom v (existsNode d t) = record { tag = 3; which = v; levels = free (existsNode d t) }
+headFrom v (andNode ts) = record { tag = 3; which = v; levels = free (andNode ts) }
+headFrom v (orNode ts) = record { tag = 3; which = v; levels = free (orNode ts) }
+
+abbrev pub headOf : Part → Head
+headOf q = headFrom (q .node) (q .tree)
+
+-- of a row of the table
+abbrev pub headIn : PartRow → Head
+headIn q = record { tag = q .tag; which = q .which; levels = take (q .width) (q .levels) }
+
+-- ---- the table of a tree
+
+-- a part's relation is one of `rels`, its node one of `nodes`
+pub record PartIn (rels nodes : ℕ) (q : PartRow) : Type 0 where
+  pub relation : q .tag < 2 → q .which < rels
+  pub node : 2 ≤ q .tag → q .which < nodes
+
+-- row v is the node t, its parts among ps
+pub record IsNode (v : ℕ) (t : Tree) (row : NodeRow) (ps : List PartRow) : Type 0 where
+  pub kind : row .kind ≡ nodeKind t
+  pub level : row .level ≡ nodeLevel t
+  pub width : row .width ≡ length (free t)
+  pub levels : take (row .width) (row .levels) ≡ free t
+  pub parts : map headIn (take (row .many) (drop (row .first) ps)) ≡ map headOf (parts v t)
+
+-- the table is that of the tree, whose literals are of the first `rels` relations
+pub record IsTable (rels : ℕ) (root : Tree) (t : Nodes) : Type 0 where
+  pub count : t .count ≡ length (nodes root)
+  pub node : (v : ℕ) → v < t .count → IsNode v (getD (nodes root) v (leaf true 0 [])) (getD (t .rows) v noNode) (t .parts)
+  pub top : headIn (t .root) ≡ headFrom 0 root
+  pub within : (i : ℕ) → PartIn rels (t .count) (getD (t .parts) i noPart)
+  pub top-within : PartIn rels (t .count) (t .root)
+
+-- ---- what keeps indexes and arithmetic in range, for every index
+
+abbrev pub Levels : List ℕ → Type 0
+Levels ls = (i : ℕ) → getD ls i 0 < 4
+
+pub record PartFits (q : PartRow) : Type 0 where
+  pub width : q .width ≤ 4
+  pub levels : Levels (q .levels)
+  pub relation : q .tag < 2 → q .which < 17
+  pub node : 2 ≤ q .tag → q .which < 64
+
+pub record NodeFits (v : NodeRow) : Type 0 where
+  pub width : v .width ≤ 4
+  pub levels : Levels (v .levels)
+  pub level : v .level < 4
+  pub parts : v .first + v .many ≤ 64
+
+pub record PartsFit (t : Nodes) : Type 0 where
+  pub parts-length : length (t .parts) ≡ 64
+  pub part : (i : ℕ) → PartFits (getD (t .parts) i noPart)
+
+pub record NodesFit (t : Nodes) : Type 0 where
+  pub rows-length : length (t .rows) ≡ 64
+  pub node : (i : ℕ) → NodeFits (getD (t .rows) i noNode)
+
+pub record Fits (t : Nodes) : Type 0 where
+  pub few : t .count ≤ 64
+  pub parts : PartsFit t
+  pub nodes : NodesFit t
+  pub root : PartFits (t .root)

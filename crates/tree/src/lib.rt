@@ -1,0 +1,32 @@
+// The tree of a rule as a table by value: its non-literal nodes in preorder, and the parts of each side by side.
+
+// As many nodes, and as many parts, as a rule has forms at the most.
+pub const NODES: usize = 64;
+
+// A part of a node: a tuple (tag 0) or not-tuple (1) of relation `which` at its argument levels, or node `which` with its free
+// levels, outermost first, a `forall` (2) or another (3). The first `width` of the levels count.
+pub struct PartRow {
+    pub tag: u8,
+    pub which: usize,
+    pub levels: [usize; 4],
+    pub width: usize,
+}
+
+// A node: its kind (0 forall, 1 exists, 2 and, 3 or), a quantifier's level, its free levels, outermost first, and where its parts
+// stand: `many` of them from part `first` on.
+pub struct NodeRow {
+    pub kind: u8,
+    pub level: usize,
+    pub levels: [usize; 4],
+    pub width: usize,
+    pub first: usize,
+    pub many: usize,
+}
+
+// Nodes in preorder, all parts, and the root as a part.
+pub struct Nodes {
+    pub count: usize,
+    pub rows: [NodeRow; NODES],
+    pub parts: [PartRow; NODES],
+    pub root: PartRow,
+}
