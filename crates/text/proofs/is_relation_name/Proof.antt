@@ -1,0 +1,107 @@
+-- `text::is_relation_name` meets its contract. The bytes from the second up to i may stand in a name.
+use Prim.Native.Nat.{_+_, _-_, _≤_, _<_}
+use mathlib.Core.Path.{_≡_, refl, sym, _∙_}
+use mathlib.Core.Bool.{true, false}
+use native.Mathlib.Omega.{arith}
+use lib.ListN.{getD}
+use lib.Seq.{slice}
+use borrow.Author.Needs.{needs}
+use Rattle.definitions.specs.Lists.{all}
+use Rattle.text.specs.Spans.{isNameByte}
+use Rattle.text.proofs.Names.{name-empty, name-long, name-head, name-tail, name-good, name-next, names-end}
+use Rattle.text.proofs.is_relation_name.Statement.{statement}
+use Rattle.text.proofs.is_relation_name.Tie as tie
+
+abbrev Inv-loop : tie.InvT-loop
+Inv-loop s at end first i₀ i = (at < i) × (i ≤ end) × (all isNameByte (slice (at + 1) end s) ≡ all isNameByte (slice i end s))
+
+abbrev μ-loop : tie.MeasureT-loop
+μ-loop s at end first i₀ i = end - i
+
+returns : tie.Need-returns Inv-loop μ-loop
+returns c =
+    let a = c .before .before .args in
+    sym (name-empty (a .at) (a .end) (a .s .now) (omega arith) (omega arith))
+
+sub-if2 : tie.Need-sub-if2 Inv-loop μ-loop
+sub-if2 c = search needs
+
+returns-2 : tie.Need-returns-2 Inv-loop μ-loop
+returns-2 c =
+    let a = c .before .before .before .args in
+    sym (name-long (a .at) (a .end) (a .s .now) (omega arith) (omega arith) (omega arith))
+
+shared-slice-read-first : tie.Need-shared-slice-read-first Inv-loop μ-loop
+shared-slice-read-first c = search needs
+
+is-capital-requires : tie.Need-is-capital-requires Inv-loop μ-loop
+is-capital-requires c κs = search needs
+
+add-i : tie.Need-add-i Inv-loop μ-loop
+add-i c = search needs
+
+loop-holds : tie.Need-loop-holds Inv-loop μ-loop
+loop-holds c = search needs
+
+shared-slice-read-c : tie.Need-shared-slice-read-c Inv-loop μ-loop
+shared-slice-read-c c = search needs
+
+is-name-byte-requires : tie.Need-is-name-byte-requires Inv-loop μ-loop
+is-name-byte-requires c κs = search needs
+
+add-i-2 : tie.Need-add-i-2 Inv-loop μ-loop
+add-i-2 c = search needs
+
+loop-less : tie.Need-loop-less Inv-loop μ-loop
+loop-less c = search needs
+
+loop-again : tie.Need-loop-again Inv-loop μ-loop
+loop-again c =
+    let L = c .before .before .before .before in
+    let a = L .before .before .before .before .before .before .before .args in
+    let i = L .loop .i in
+    let p : isNameByte (getD (a .s .now) i 0) ≡ true = sym (c .before .is-name-byte .ensures) ∙ c .if4 .taken in
+    (omega arith, omega arith, L .loop .inv .2 ∙ name-next i (a .end) (a .s .now) (omega arith) (omega arith) ∙ rw p)
+
+returns-3 : tie.Need-returns-3 Inv-loop μ-loop
+returns-3 c =
+    let L = c .before .before .before .before in
+    let a = L .before .before .before .before .before .before .before .args in
+    let i = L .loop .i in
+    let p : isNameByte (getD (a .s .now) i 0) ≡ false = sym (c .before .is-name-byte .ensures) ∙ c .if4 .left in
+    sym (name-tail (a .at) (a .end) (a .s .now) (omega arith) (omega arith) (L .loop .inv .2 ∙ name-next i (a .end) (a .s .now) (omega arith) (omega arith) ∙ rw p))
+
+returns-4 : tie.Need-returns-4 Inv-loop μ-loop
+returns-4 c =
+    let L = c .before in
+    let a = L .before .before .before .before .before .before .before .args in
+    let i = L .loop .i in
+    let T3 = L .before in
+    sym (name-good (a .at) (a .end) (a .s .now) (omega arith) (omega arith) (sym (T3 .before .is-capital .ensures) ∙ T3 .if3 .taken) (omega arith) (L .loop .inv .2 ∙ names-end i (a .end) (a .s .now) (omega arith) (omega arith)))
+
+returns-5 : tie.Need-returns-5 Inv-loop μ-loop
+returns-5 c =
+    let a = c .before .before .before .before .before .before .args in
+    sym (name-head (a .at) (a .end) (a .s .now) (omega arith) (omega arith) (sym (c .before .is-capital .ensures) ∙ c .if3 .left))
+
+pub is-relation-name-spec : {M : Type 1} → statement M
+is-relation-name-spec =
+    tie.close
+    (tie.spec
+    Inv-loop
+    μ-loop
+    returns
+    sub-if2
+    returns-2
+    shared-slice-read-first
+    is-capital-requires
+    add-i
+    loop-holds
+    shared-slice-read-c
+    is-name-byte-requires
+    add-i-2
+    loop-less
+    loop-again
+    returns-3
+    returns-4
+    returns-5)

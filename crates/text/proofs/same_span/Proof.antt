@@ -1,0 +1,76 @@
+-- `text::same_span` meets its contract. The first i bytes are the same, so the spans are if what is left of them is.
+use Prim.Native.Nat.{_≤_, _-_}
+use mathlib.Core.Path.{_≡_, refl, sym, _∙_}
+use native.Mathlib.Omega.{arith}
+use lib.ListN.{length, drop}
+use lib.Seq.{slice}
+use borrow.Author.Needs.{needs}
+use Rattle.definitions.specs.Lists.{same}
+use Rattle.text.proofs.Laws.{in-text, same-length, spans-hit, spans-miss, spans-end}
+use Rattle.text.proofs.same_span.Statement.{statement}
+use Rattle.text.proofs.same_span.Tie as tie
+
+abbrev Inv-loop : tie.InvT-loop
+Inv-loop s a e t b f n i₀ i = (i ≤ n) × (n ≡ length (slice a e s)) × (n ≡ length (slice b f t)) × (same (slice a e s) (slice b f t) ≡ same (drop i (slice a e s)) (drop i (slice b f t)))
+
+abbrev μ-loop : tie.MeasureT-loop
+μ-loop s a e t b f n i₀ i = n - i
+
+span-length-requires : tie.Need-span-length-requires Inv-loop μ-loop
+span-length-requires c κs = search needs
+
+span-length-requires-2 : tie.Need-span-length-requires-2 Inv-loop μ-loop
+span-length-requires-2 c κs = search needs
+
+returns : tie.Need-returns Inv-loop μ-loop
+returns c = sym (same-length (slice (c .before .before .before .before .before .args .a) (c .before .before .before .before .before .args .e) (c .before .before .before .before .before .args .s .now)) (slice (c .before .before .before .before .before .args .b) (c .before .before .before .before .before .args .f) (c .before .before .before .before .before .args .t .now)) (λ w. c .if1 .taken (c .before .before .span-length .ensures ∙ w ∙ sym (c .before .span-length2 .ensures))))
+
+loop-holds : tie.Need-loop-holds Inv-loop μ-loop
+loop-holds c = (omega arith, c .before .before .span-length .ensures, c .if1 .left ∙ c .before .span-length2 .ensures, refl)
+
+add-if2 : tie.Need-add-if2 Inv-loop μ-loop
+add-if2 c = omega (arith, in-text (c .before .before .before .before .before .before .before .args .a) (c .before .before .before .before .before .before .before .args .e) (c .before .before .before .before .before .before .before .args .s .now) (c .before .loop .i) (omega arith) .1)
+
+shared-slice-read-if2 : tie.Need-shared-slice-read-if2 Inv-loop μ-loop
+shared-slice-read-if2 c = in-text (c .before .before .before .before .before .before .before .before .args .a) (c .before .before .before .before .before .before .before .before .args .e) (c .before .before .before .before .before .before .before .before .args .s .now) (c .before .before .loop .i) (omega arith) .1
+
+add-if2-2 : tie.Need-add-if2-2 Inv-loop μ-loop
+add-if2-2 c = omega (arith, in-text (c .before .before .before .before .before .before .before .before .args .b) (c .before .before .before .before .before .before .before .before .args .f) (c .before .before .before .before .before .before .before .before .args .t .now) (c .before .before .loop .i) (omega arith) .1)
+
+shared-slice-read-if2-2 : tie.Need-shared-slice-read-if2-2 Inv-loop μ-loop
+shared-slice-read-if2-2 c = in-text (c .before .before .before .before .before .before .before .before .before .args .b) (c .before .before .before .before .before .before .before .before .before .args .f) (c .before .before .before .before .before .before .before .before .before .args .t .now) (c .before .before .before .loop .i) (omega arith) .1
+
+returns-2 : tie.Need-returns-2 Inv-loop μ-loop
+returns-2 c = sym (c .before .before .before .before .loop .inv .3 ∙ spans-miss (c .before .before .before .before .before .before .before .before .before .before .args .s .now) (c .before .before .before .before .before .before .before .before .before .before .args .a) (c .before .before .before .before .before .before .before .before .before .before .args .e) (c .before .before .before .before .before .before .before .before .before .before .args .t .now) (c .before .before .before .before .before .before .before .before .before .before .args .b) (c .before .before .before .before .before .before .before .before .before .before .args .f) (c .before .before .before .before .loop .i) (c .before .before .before .before .before .before .before .span-length .result) (c .before .before .before .before .loop .inv .1) (c .before .before .before .before .loop .inv .2) (omega arith) (c .if2 .taken))
+
+add-i : tie.Need-add-i Inv-loop μ-loop
+add-i c = omega arith
+
+loop-less : tie.Need-loop-less Inv-loop μ-loop
+loop-less c = omega arith
+
+loop-again : tie.Need-loop-again Inv-loop μ-loop
+loop-again c = (omega arith, c .before .before .before .before .loop .inv .1, c .before .before .before .before .loop .inv .2, c .before .before .before .before .loop .inv .3 ∙ spans-hit (c .before .before .before .before .before .before .before .before .before .before .args .s .now) (c .before .before .before .before .before .before .before .before .before .before .args .a) (c .before .before .before .before .before .before .before .before .before .before .args .e) (c .before .before .before .before .before .before .before .before .before .before .args .t .now) (c .before .before .before .before .before .before .before .before .before .before .args .b) (c .before .before .before .before .before .before .before .before .before .before .args .f) (c .before .before .before .before .loop .i) (c .before .before .before .before .before .before .before .span-length .result) (c .before .before .before .before .loop .inv .1) (c .before .before .before .before .loop .inv .2) (omega arith) (c .if2 .left))
+
+returns-3 : tie.Need-returns-3 Inv-loop μ-loop
+returns-3 c = sym (c .before .loop .inv .3 ∙ spans-end (c .before .before .before .before .before .before .before .args .s .now) (c .before .before .before .before .before .before .before .args .a) (c .before .before .before .before .before .before .before .args .e) (c .before .before .before .before .before .before .before .args .t .now) (c .before .before .before .before .before .before .before .args .b) (c .before .before .before .before .before .before .before .args .f) (c .before .loop .i) (c .before .before .before .before .span-length .result) (c .before .loop .inv .1) (c .before .loop .inv .2) (omega arith))
+
+pub same-span-spec : {M : Type 1} → statement M
+same-span-spec =
+    tie.close
+    (tie.spec
+    Inv-loop
+    μ-loop
+    span-length-requires
+    span-length-requires-2
+    returns
+    loop-holds
+    add-if2
+    shared-slice-read-if2
+    add-if2-2
+    shared-slice-read-if2-2
+    returns-2
+    add-i
+    loop-less
+    loop-again
+    returns-3)
