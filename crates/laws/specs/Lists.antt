@@ -1,0 +1,137 @@
+-- Lists: what stands in a list of numbers, in a filter, in a map; tests of all or any elements.
+use Prim.Native.Nat.{ℕ, zero, suc, _+_, _<_, _≤_}
+use mathlib.Core.Path.{_≡_, refl, sym, ap, subst}
+use mathlib.Core.Logic.{_⊎_, inl, inr, ⊎-elim}
+use mathlib.Core.Bool.{Bool, true, false, not, _||_}
+use mathlib.Core.Option.{Option, none, some}
+use mathlib.Core.List.{List, [], _∷_, map, List·Memᴰ, List·Memᴰ·head, List·Memᴰ·tail, List·Memᴰ·not-nil, List·Memᴰ·cases-cons}
+use native.Mathlib.Omega.{arith}
+use lib.Dec.{T, eqb, eqb→eq}
+use lib.ListN.{length, take, drop}
+use Rattle.definitions.specs.Lists.{if_then_else_, all, any, filter, from, below}
+use Rattle.laws.specs.Booleans.{and-T, T-and-l, T-and-r, T-or, or-l, or-r, T-of, T-dec, neq}
+
+-- ---- something or nothing
+pub none-some : {A : Type 0} {a : A} → none ≡ some a → ⊥
+none-some {A} e = subst (λ (o : Option A). elim o as (λ _. Type 0) [ none ↦ Unit {0} | some a ↦ ⊥ ]) e tt
+
+pub some-eq : {A : Type 0} {a b : A} → some a ≡ some b → a ≡ b
+some-eq {A} {a} {b} e = ap (λ (o : Option A). elim o as (λ _. A) [ none ↦ a | some x ↦ x ]) e
+
+-- ---- the numbers below n
+pub mem-from : (n a x : ℕ) → a ≤ x → x < a + n → List·Memᴰ x (from a n)
+unfolding from
+mem-from zero a x h l = absurd (omega arith)
+mem-from (suc n) a x h l = go (T-dec (eqb x a)) (λ q. mem-from n (suc a) x q (omega arith))
+  where
+    go : T (eqb x a) ⊎ T (not (eqb x a)) → (suc a ≤ x → List·Memᴰ x (from (suc a) n)) → List·Memᴰ x (a ∷ from (suc a) n)
+    go (inl t) r = List·Memᴰ·head (eqb→eq x a t)
+    go (inr t) r = List·Memᴰ·tail (r (let k = neq x a t in omega arith))
+
+pub from-mem : (n a x : ℕ) → List·Memᴰ x (from a n) → (a ≤ x) × (x < a + n)
+unfolding from
+from-mem zero a x m = absurd (List·Memᴰ·not-nil m)
+from-mem (suc n) a x m = go (List·Memᴰ·cases-cons m) (from-mem n (suc a) x)
+  where
+    go : (x ≡ a) ⊎ List·Memᴰ x (from (suc a) n) → (List·Memᴰ x (from (suc a) n) → (suc a ≤ x) × (x < suc a + n)) → (a ≤ x) × (x < a + suc n)
+    go (inl e) r = (omega arith, omega arith)
+    go (inr q) r = let h = r q in (omega (arith, h .0), omega (arith, h .1))
+
+pub mem-below : (n x : ℕ) → x < n → List·Memᴰ x (below n)
+unfolding below
+mem-below n x h = mem-from n 0 x (omega arith) (omega arith)
+
+pub below-lt : (n x : ℕ) → List·Memᴰ x (below n) → x < n
+unfolding below
+below-lt n x m = let h = from-mem n 0 x m .1 in omega arith
+
+pub length-from : (a n : ℕ) → length (from a n) ≡ n
+unfolding from
+length-from a zero = refl
+length-from a (suc n) = ap suc (length-from (suc a) n)
+
+pub length-below : (n : ℕ) → length (below n) ≡ n
+unfolding below
+length-below n = length-from 0 n
+
+module _ {A : Type 0} where
+  pub mem-filter : (p : A → Bool) (l : List A) (x : A) → List·Memᴰ x l → T (p x) → List·Memᴰ x (filter p l)
+  unfolding filter
+  mem-filter p [] x m t = absurd (List·Memᴰ·not-nil m)
+  mem-filter p (y ∷ l) x m t = go (p y) refl (λ q. mem-filter p l x q t) (List·Memᴰ·cases-cons m)
+    where
+      go : (b : Bool) → p y ≡ b → (List·Memᴰ x l → List·Memᴰ x (filter p l)) → (x ≡ y) ⊎ List·Memᴰ x l → List·Memᴰ x ((if b then y ∷ filter p l else filter p l))
+      go true e r (inl q) = List·Memᴰ·head q
+      go true e r (inr q) = List·Memᴰ·tail (r q)
+      go false e r (inl q) = absurd (subst T e (subst (λ (z : A). T (p z)) q t))
+      go false e r (inr q) = r q
+
+  pub filter-mem : (p : A → Bool) (l : List A) (x : A) → List·Memᴰ x (filter p l) → List·Memᴰ x l × T (p x)
+  unfolding filter
+  filter-mem p [] x m = absurd (List·Memᴰ·not-nil m)
+  filter-mem p (y ∷ l) x m = go (p y) refl (filter-mem p l x) m
+    where
+      go : (b : Bool) → p y ≡ b → (List·Memᴰ x (filter p l) → List·Memᴰ x l × T (p x)) → List·Memᴰ x ((if b then y ∷ filter p l else filter p l)) → List·Memᴰ x (y ∷ l) × T (p x)
+      go true e r m = go2 (List·Memᴰ·cases-cons m)
+        where
+          go2 : (x ≡ y) ⊎ List·Memᴰ x (filter p l) → List·Memᴰ x (y ∷ l) × T (p x)
+          go2 (inl q) = (List·Memᴰ·head q, subst (λ (z : A). T (p z)) (sym q) (T-of e))
+          go2 (inr q) = let h = r q in (List·Memᴰ·tail (h .0), h .1)
+      go false e r m = let h = r m in (List·Memᴰ·tail (h .0), h .1)
+
+  pub all-at : (p : A → Bool) (l : List A) → T (all p l) → (x : A) → List·Memᴰ x l → T (p x)
+  unfolding all
+  all-at p [] t x m = absurd (List·Memᴰ·not-nil m)
+  all-at p (y ∷ l) t x m = go (all-at p l (T-and-r (p y) (all p l) t) x) (List·Memᴰ·cases-cons m)
+    where
+      go : (List·Memᴰ x l → T (p x)) → (x ≡ y) ⊎ List·Memᴰ x l → T (p x)
+      go r (inl q) = subst (λ (z : A). T (p z)) (sym q) (T-and-l (p y) (all p l) t)
+      go r (inr q) = r q
+
+  pub all-of : (p : A → Bool) (l : List A) → ((x : A) → List·Memᴰ x l → T (p x)) → T (all p l)
+  unfolding all
+  all-of p [] h = tt
+  all-of p (y ∷ l) h = and-T (p y) (all p l) (h y (List·Memᴰ·head refl)) (all-of p l (λ x m. h x (List·Memᴰ·tail m)))
+
+  pub any-of : (p : A → Bool) (l : List A) (x : A) → List·Memᴰ x l → T (p x) → T (any p l)
+  unfolding any
+  any-of p [] x m t = absurd (List·Memᴰ·not-nil m)
+  any-of p (y ∷ l) x m t = go (λ q. any-of p l x q t) (List·Memᴰ·cases-cons m)
+    where
+      go : (List·Memᴰ x l → T (any p l)) → (x ≡ y) ⊎ List·Memᴰ x l → T (p y || any p l)
+      go r (inl q) = or-l (p y) (any p l) (subst (λ (z : A). T (p z)) q t)
+      go r (inr q) = or-r (p y) (any p l) (r q)
+
+  pub any-at : (p : A → Bool) (l : List A) → T (any p l) → (x : A) × List·Memᴰ x l × T (p x)
+  unfolding any
+  any-at p [] t = absurd t
+  any-at p (y ∷ l) t = go (any-at p l) (T-or (p y) (any p l) t)
+    where
+      go : (T (any p l) → (x : A) × List·Memᴰ x l × T (p x)) → T (p y) ⊎ T (any p l) → (x : A) × List·Memᴰ x (y ∷ l) × T (p x)
+      go r (inl q) = (y, List·Memᴰ·head refl, q)
+      go r (inr q) = let h = r q in (h .0, List·Memᴰ·tail (h .1), h .2)
+
+-- ---- members of a map, of a part
+pub mem-map : {A B : Type 0} (f : A → B) (l : List A) (x : A) → List·Memᴰ x l → List·Memᴰ (f x) (map f l)
+mem-map f [] x m = absurd (List·Memᴰ·not-nil m)
+mem-map f (z ∷ l) x m = ⊎-elim (λ e. List·Memᴰ·head (ap f e)) (λ q. List·Memᴰ·tail (mem-map f l x q)) (List·Memᴰ·cases-cons m)
+
+pub map-mem : {A B : Type 0} (f : A → B) (l : List A) (y : B) → List·Memᴰ y (map f l) → (x : A) × List·Memᴰ x l × (y ≡ f x)
+map-mem f [] y m = absurd (List·Memᴰ·not-nil m)
+map-mem {A} f (z ∷ l) y m = go (map-mem f l y) (List·Memᴰ·cases-cons m)
+  where
+    go : (List·Memᴰ y (map f l) → (x : A) × List·Memᴰ x l × (y ≡ f x)) → (y ≡ f z) ⊎ List·Memᴰ y (map f l) → (x : A) × List·Memᴰ x (z ∷ l) × (y ≡ f x)
+    go r (inl e) = (z, List·Memᴰ·head refl, e)
+    go r (inr q) = let h = r q in (h .0, List·Memᴰ·tail (h .1), h .2)
+
+pub take-mem : {A : Type 0} (k : ℕ) (l : List A) (x : A) → List·Memᴰ x (take k l) → List·Memᴰ x l
+take-mem zero [] x m = m
+take-mem zero (y ∷ l) x m = absurd (List·Memᴰ·not-nil m)
+take-mem (suc k) [] x m = m
+take-mem (suc k) (y ∷ l) x m = ⊎-elim (λ e. List·Memᴰ·head e) (λ q. List·Memᴰ·tail (take-mem k l x q)) (List·Memᴰ·cases-cons m)
+
+pub drop-mem : {A : Type 0} (k : ℕ) (l : List A) (x : A) → List·Memᴰ x (drop k l) → List·Memᴰ x l
+drop-mem zero [] x m = m
+drop-mem zero (y ∷ l) x m = m
+drop-mem (suc k) [] x m = m
+drop-mem (suc k) (y ∷ l) x m = List·Memᴰ·tail (drop-mem k l x m)

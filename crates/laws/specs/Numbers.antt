@@ -1,0 +1,592 @@
+-- The problem's atoms and actions, and their numbers: a number decodes to the atom or action whose number it is, and every number
+-- below the count decodes. Where each relation's and each node's numbers start.
+use Prim.Native.Nat.{ℕ, zero, suc, _+_, _-_, _*_, _/_, _%_, _<_, _≤_}
+use mathlib.Core.Path.{_≡_, refl, sym, ap, ap₂, subst, _∙_}
+use mathlib.Core.Logic.{_⊎_, inl, inr, ⊎-elim}
+use mathlib.Core.Bool.{Bool, true, false}
+use mathlib.Core.Option.{none, some}
+use mathlib.Core.List.{List, [], _∷_, _++_}
+use native.Mathlib.Omega.{arith}
+use native.Mathlib.Nat.{add-zero, mul-zero, mod-lt, div-lt-iff-lt-mul, div-add-mod', div-one, mul-one}
+use lib.Arith.{digits-lt, digits-div, digits-mod}
+use lib.Dec.{T}
+use lib.ListN.{length, getD, take}
+use lib.Seq.{take-all}
+use Rattle.definitions.specs.Lists.{if_then_else_, flatMap, mapFrom}
+use Rattle.definitions.specs.Relations.{Kind, static, plain, Fun, PFun, Inj, PInj, isChosen, isFunction, isInjective, Relation}
+use Rattle.definitions.specs.Tree.{Tree, Trees, leaf, forallNode, existsNode, andNode, orNode, howMany}
+use Rattle.definitions.specs.Atoms.{Block, itemAt, countOf, Problem, relationAt, nodeAt, tuplesOf, rowsOf, nodeWidth, Atom, guess, proof, goal, tuple, notTuple, freeDomain, freeRange, holdsNode, relationBlocks, relationsBlocks, nodesBlocks, atomBlocks, atoms, nodeAtoms, relationStart, nodeStart, atomNumber}
+use Rattle.definitions.specs.Actions.{Action, set, beginProof, proveAnd, proveOr, proveExists, proveForall, proveGoal, choices, proveNode, setsOf, setBlocks, proofsOf, proofBlocks, actionBlocks, actions, actionAt, setStart, proofStart, proofNumber, actionNumber}
+use Rattle.laws.specs.Booleans.{T-of, T-true}
+use Rattle.laws.specs.Lists.{some-eq}
+use Rattle.laws.specs.Blocks.{count-nil, count-cons, count-append, item-here, item-past, item-cases, item-one, item-lt, item-some, item-none, item-left, item-right, item-append, groups, next-start, at-start, of-start, one-each}
+
+pub inj-fun : (k : Kind) → T (isInjective k) → T (isFunction k)
+unfolding isInjective isFunction
+inj-fun static t = t
+inj-fun plain t = t
+inj-fun Fun t = tt
+inj-fun PFun t = tt
+inj-fun Inj t = tt
+inj-fun PInj t = tt
+
+-- what `relationAt` and `nodeAt` give past the end
+abbrev pub noRelation : Relation
+noRelation = record { name = []; arity = zero; kind = static }
+
+abbrev pub noNode : Tree
+noNode = leaf true zero []
+
+-- ---- the problem's atoms
+unfoldable pub IsAtom : Problem → Atom → Type 0
+IsAtom p guess = Unit {0}
+IsAtom p proof = Unit {0}
+IsAtom p goal = Unit {0}
+IsAtom p (tuple r row) = (r < length (p .relations)) × (row < tuplesOf (p .size) (relationAt p r))
+IsAtom p (notTuple r row) = (r < length (p .relations)) × (row < tuplesOf (p .size) (relationAt p r))
+IsAtom p (freeDomain r x) = (r < length (p .relations)) × T (isFunction (relationAt p r .kind)) × (x < p .size)
+IsAtom p (freeRange r y) = (r < length (p .relations)) × T (isInjective (relationAt p r .kind)) × (y < p .size)
+IsAtom p (holdsNode v row) = (v < length (p .nodeList)) × (row < nodeWidth (p .size) (nodeAt p v))
+
+-- ---- and its actions
+unfoldable pub IsAction : Problem → Action → Type 0
+IsAction p (set r row) = (r < length (p .relations)) × T (isChosen (relationAt p r .kind)) × (row < tuplesOf (p .size) (relationAt p r))
+IsAction p beginProof = Unit {0}
+IsAction p (proveAnd v row) = (v < length (p .nodeList)) × (row < rowsOf (p .size) (nodeAt p v)) × ((ts : Trees) × (nodeAt p v ≡ andNode ts))
+IsAction p (proveOr v row i) = (v < length (p .nodeList)) × (row < rowsOf (p .size) (nodeAt p v)) × ((ts : Trees) × (nodeAt p v ≡ orNode ts) × (i < howMany ts))
+IsAction p (proveExists v row x) = (v < length (p .nodeList)) × (row < rowsOf (p .size) (nodeAt p v)) × ((d : ℕ) × (t : Tree) × (nodeAt p v ≡ existsNode d t) × (x < p .size))
+IsAction p (proveForall v row z) = (v < length (p .nodeList)) × (row < rowsOf (p .size) (nodeAt p v)) × ((d : ℕ) × (t : Tree) × (nodeAt p v ≡ forallNode d t) × (z < p .size))
+IsAction p proveGoal = Unit {0}
+
+-- ---- the four lists of blocks are of one form
+abbrev nodeBlock : ℕ → ℕ → Tree → Block Atom
+nodeBlock n v t = record { width = nodeWidth n t; item = holdsNode v }
+
+abbrev setBlock : ℕ → ℕ → Relation → Block Action
+setBlock n r k = record { width = setsOf n k; item = set r }
+
+abbrev proofBlock : ℕ → ℕ → Tree → Block Action
+proofBlock n v t = record { width = proofsOf n t; item = λ i. proveNode t v (i / choices n t) (i % choices n t) }
+
+relations-form : (n : ℕ) (ks : List Relation) → relationsBlocks n ks ≡ groups (relationBlocks n) 0 ks
+unfolding relationsBlocks groups
+relations-form n ks = refl
+
+nodes-form : (n : ℕ) (ts : List Tree) → nodesBlocks n ts ≡ groups (λ v t. nodeBlock n v t ∷ []) 0 ts
+unfolding nodesBlocks
+nodes-form n ts = one-each (nodeBlock n) 0 ts
+
+sets-form : (n : ℕ) (ks : List Relation) → setBlocks n ks ≡ groups (λ r k. setBlock n r k ∷ []) 0 ks
+unfolding setBlocks
+sets-form n ks = one-each (setBlock n) 0 ks
+
+proofs-form : (n : ℕ) (ts : List Tree) → proofBlocks n ts ≡ groups (λ v t. proofBlock n v t ∷ []) 0 ts
+unfolding proofBlocks
+proofs-form n ts = one-each (proofBlock n) 0 ts
+
+one-count : {A : Type 0} (b : Block A) → countOf (b ∷ []) ≡ b .width
+one-count {A} b = let e = count-cons b [] in let z = count-nil A in omega arith
+
+no-blocks : {A K : Type 0} (f : ℕ → K → List (Block A)) → countOf (groups f 0 []) ≡ 0
+unfolding groups flatMap mapFrom
+no-blocks {A} f = count-nil A
+
+-- how many atoms a relation has
+unfoldable pub relationWidth : ℕ → Relation → ℕ
+relationWidth n k = tuplesOf n k + (tuplesOf n k + ((if isFunction (k .kind) then n else zero) + (if isInjective (k .kind) then n else zero)))
+
+pub relation-width : (n r : ℕ) (k : Relation) → countOf (relationBlocks n r k) ≡ relationWidth n k
+unfolding relationBlocks relationWidth countOf
+relation-width n r k = omega arith
+
+pub sets-le : (n : ℕ) (k : Relation) → setsOf n k ≤ tuplesOf n k
+unfolding setsOf
+sets-le n k = go (isChosen (k .kind))
+  where
+    go : (b : Bool) → (if b then tuplesOf n k else zero) ≤ tuplesOf n k
+    go true = omega arith
+    go false = omega arith
+
+row-below : (i a c : ℕ) → i < a * c → (i / c < a) × (i % c < c)
+row-below i a zero h = let z = mul-zero a in absurd (omega arith)
+row-below i a (suc c) h = let q : 0 < suc c = omega arith in (div-lt-iff-lt-mul q .1 h, mod-lt i q)
+
+-- ---- the four blocks of a relation
+module _ (n r : ℕ) (k : Relation) where
+  abbrev b₁ : Block Atom
+  b₁ = record { width = tuplesOf n k; item = tuple r }
+
+  abbrev b₂ : Block Atom
+  b₂ = record { width = tuplesOf n k; item = notTuple r }
+
+  abbrev b₃ : Block Atom
+  b₃ = record { width = if isFunction (k .kind) then n else zero; item = freeDomain r }
+
+  abbrev b₄ : Block Atom
+  b₄ = record { width = if isInjective (k .kind) then n else zero; item = freeRange r }
+
+  in-tuples : (i : ℕ) → i < tuplesOf n k → itemAt (relationBlocks n r k) i ≡ some (tuple r i)
+  unfolding relationBlocks
+  in-tuples i h = item-here b₁ (b₂ ∷ b₃ ∷ b₄ ∷ []) i h
+
+  in-nots : (i : ℕ) → i < tuplesOf n k → itemAt (relationBlocks n r k) (tuplesOf n k + i) ≡ some (notTuple r i)
+  unfolding relationBlocks
+  in-nots i h = item-past b₁ (b₂ ∷ b₃ ∷ b₄ ∷ []) i ∙ item-here b₂ (b₃ ∷ b₄ ∷ []) i h
+
+  in-domain : (i : ℕ) → T (isFunction (k .kind)) → i < n → itemAt (relationBlocks n r k) (tuplesOf n k + (tuplesOf n k + i)) ≡ some (freeDomain r i)
+  unfolding relationBlocks
+  in-domain i f h =
+      let e : isFunction (k .kind) ≡ true = T-true (isFunction (k .kind)) f in
+      item-past b₁ (b₂ ∷ b₃ ∷ b₄ ∷ []) (tuplesOf n k + i) ∙ item-past b₂ (b₃ ∷ b₄ ∷ []) i ∙ item-here b₃ (b₄ ∷ []) i (rw e h)
+
+  in-range : (i : ℕ) → T (isInjective (k .kind)) → i < n → itemAt (relationBlocks n r k) (tuplesOf n k + (tuplesOf n k + (n + i))) ≡ some (freeRange r i)
+  unfolding relationBlocks
+  in-range i f h =
+      let e : isFunction (k .kind) ≡ true = T-true (isFunction (k .kind)) (inj-fun (k .kind) f) in
+      let g : isInjective (k .kind) ≡ true = T-true (isInjective (k .kind)) f in
+      item-past b₁ (b₂ ∷ b₃ ∷ b₄ ∷ []) (tuplesOf n k + (n + i)) ∙ item-past b₂ (b₃ ∷ b₄ ∷ []) (n + i)
+      ∙ ap (λ (w : ℕ). itemAt (b₃ ∷ b₄ ∷ []) (w + i)) (rw e refl) ∙ item-past b₃ (b₄ ∷ []) i ∙ item-here b₄ [] i (rw g h)
+
+  -- every number that decodes there is one of these four
+  pub data In (a : Atom) (i : ℕ) : Type 0 where
+    at-tuple : (x : ℕ) → x < tuplesOf n k → a ≡ tuple r x → i ≡ x → In a i
+    at-not : (x : ℕ) → x < tuplesOf n k → a ≡ notTuple r x → i ≡ tuplesOf n k + x → In a i
+    at-domain : (x : ℕ) → T (isFunction (k .kind)) → x < n → a ≡ freeDomain r x → i ≡ tuplesOf n k + (tuplesOf n k + x) → In a i
+    at-range : (x : ℕ) → T (isInjective (k .kind)) → x < n → a ≡ freeRange r x → i ≡ tuplesOf n k + (tuplesOf n k + (n + x)) → In a i
+
+  kind-part : (b : Bool) (x : ℕ) → x < (if b then n else zero) → T b × (x < n)
+  kind-part true x h = (tt, h)
+  kind-part false x h = absurd (omega arith)
+
+  kind-width : T (isInjective (k .kind)) → b₃ .width ≡ n
+  kind-width f = let e : isFunction (k .kind) ≡ true = T-true (isFunction (k .kind)) (inj-fun (k .kind) f) in rw e refl
+
+  four : (a : Atom) (i : ℕ) → itemAt (relationBlocks n r k) i ≡ some a → In a i
+  unfolding relationBlocks
+  four a i e = ⊎-elim
+      (λ q. at-tuple i (q .0) (q .1) refl)
+      (λ q. ⊎-elim
+      (λ s. at-not (i - tuplesOf n k) (s .0) (s .1) (omega (arith, q .0)))
+      (λ s. ⊎-elim
+      (λ u. let f = kind-part (isFunction (k .kind)) (i - tuplesOf n k - tuplesOf n k) (u .0) in at-domain (i - tuplesOf n k - tuplesOf n k) (f .0) (f .1) (u .1) (omega (arith, q .0, s .0)))
+      (λ u. let z = item-one b₄ (i - tuplesOf n k - tuplesOf n k - b₃ .width) a (u .1) in
+      let f = kind-part (isInjective (k .kind)) (i - tuplesOf n k - tuplesOf n k - b₃ .width) (z .0) in
+      let w = kind-width (f .0) in
+      at-range (i - tuplesOf n k - tuplesOf n k - b₃ .width) (f .0) (f .1) (z .1) (omega (arith, q .0, s .0, u .0, w)))
+      (item-cases b₃ (b₄ ∷ []) (i - tuplesOf n k - tuplesOf n k) a (s .1)))
+      (item-cases b₂ (b₃ ∷ b₄ ∷ []) (i - tuplesOf n k) a (q .1)))
+      (item-cases b₁ (b₂ ∷ b₃ ∷ b₄ ∷ []) i a e)
+
+module _ (p : Problem) where
+  -- all blocks of relations, nodes, sets and proofs, up to some relation or node
+  abbrev R : List Relation → List (Block Atom)
+  R ks = groups (relationBlocks (p .size)) 0 ks
+
+  abbrev N : List Tree → List (Block Atom)
+  N ts = groups (λ v t. nodeBlock (p .size) v t ∷ []) 0 ts
+
+  abbrev S : List Relation → List (Block Action)
+  S ks = groups (λ r k. setBlock (p .size) r k ∷ []) 0 ks
+
+  abbrev Q : List Tree → List (Block Action)
+  Q ts = groups (λ v t. proofBlock (p .size) v t ∷ []) 0 ts
+
+  all-relations : take (length (p .relations)) (p .relations) ≡ p .relations
+  all-relations = take-all (length (p .relations)) (p .relations) (omega arith)
+
+  all-nodes : take (length (p .nodeList)) (p .nodeList) ≡ p .nodeList
+  all-nodes = take-all (length (p .nodeList)) (p .nodeList) (omega arith)
+
+  -- ---- where atoms start
+  relation-start : (r : ℕ) → relationStart p r ≡ 3 + countOf (R (take r (p .relations)))
+  unfolding relationStart
+  relation-start r = ap (λ (bs : List (Block Atom)). 3 + countOf bs) (relations-form (p .size) (take r (p .relations)))
+
+  relation-end : relationStart p (length (p .relations)) ≡ 3 + countOf (R (p .relations))
+  relation-end = relation-start (length (p .relations)) ∙ ap (λ (ks : List Relation). 3 + countOf (R ks)) all-relations
+
+  node-start : (v : ℕ) → nodeStart p v ≡ 3 + countOf (R (p .relations)) + countOf (N (take v (p .nodeList)))
+  unfolding nodeStart
+  node-start v = ap₂ (λ (x : ℕ) (bs : List (Block Atom)). x + countOf bs) relation-end (nodes-form (p .size) (take v (p .nodeList)))
+
+  node-end : nodeStart p (length (p .nodeList)) ≡ 3 + countOf (R (p .relations)) + countOf (N (p .nodeList))
+  node-end = node-start (length (p .nodeList)) ∙ ap (λ (ts : List Tree). 3 + countOf (R (p .relations)) + countOf (N ts)) all-nodes
+
+  pub relation-first : relationStart p 0 ≡ 3
+  relation-first = let a = relation-start 0 in let b = no-blocks (relationBlocks (p .size)) in omega arith
+
+  pub relation-next : (r : ℕ) → r < length (p .relations) → relationStart p (suc r) ≡ relationStart p r + relationWidth (p .size) (relationAt p r)
+  unfolding relationAt
+  relation-next r l =
+      let a = relation-start r in
+      let b = relation-start (suc r) in
+      let c = next-start (relationBlocks (p .size)) (p .relations) noRelation r l in
+      let d = relation-width (p .size) r (getD (p .relations) r noRelation) in
+      omega arith
+
+  pub node-first : nodeStart p 0 ≡ relationStart p (length (p .relations))
+  node-first = let a = node-start 0 in let b = no-blocks (λ v t. nodeBlock (p .size) v t ∷ []) in let c = relation-end in omega arith
+
+  pub node-next : (v : ℕ) → v < length (p .nodeList) → nodeStart p (suc v) ≡ nodeStart p v + nodeWidth (p .size) (nodeAt p v)
+  unfolding nodeAt
+  node-next v l =
+      let a = node-start v in
+      let b = node-start (suc v) in
+      let c = next-start (λ v t. nodeBlock (p .size) v t ∷ []) (p .nodeList) noNode v l in
+      let d = one-count (nodeBlock (p .size) v (getD (p .nodeList) v noNode)) in
+      omega arith
+
+  -- ---- the atoms' blocks, and their end
+  abbrev fixed : List (Block Atom)
+  fixed = record { width = 1; item = λ _. guess } ∷ record { width = 1; item = λ _. proof } ∷ record { width = 1; item = λ _. goal } ∷ []
+
+  atoms-form : atomBlocks p ≡ fixed ++ (R (p .relations) ++ N (p .nodeList))
+  unfolding atomBlocks
+  atoms-form = ap₂ (λ (bs cs : List (Block Atom)). fixed ++ (bs ++ cs)) (relations-form (p .size) (p .relations)) (nodes-form (p .size) (p .nodeList))
+
+  fixed-count : countOf fixed ≡ 3
+  unfolding countOf
+  fixed-count = refl
+
+  pub atoms-end : nodeStart p (length (p .nodeList)) ≡ atoms p
+  unfolding atoms
+  atoms-end =
+      let a = node-end in
+      let b = ap countOf atoms-form in
+      let c = count-append fixed (R (p .relations) ++ N (p .nodeList)) in
+      let d = count-append (R (p .relations)) (N (p .nodeList)) in
+      let e = fixed-count in
+      omega arith
+
+  pub node-atoms : nodeStart p 0 + nodeAtoms p ≡ atoms p
+  unfolding nodeAtoms
+  node-atoms =
+      let a = node-end in
+      let b = node-first in
+      let c = relation-end in
+      let d = atoms-end in
+      let e = ap countOf (nodes-form (p .size) (p .nodeList)) in
+      omega arith
+
+  -- a start is at most the end
+  relations-le : (d r : ℕ) → r + d ≡ length (p .relations) → relationStart p r ≤ relationStart p (length (p .relations))
+  relations-le zero r e = let q : r ≡ length (p .relations) = omega arith in rw q (omega arith)
+  relations-le (suc d) r e = let n = relation-next r (omega arith) in let q = relations-le d (suc r) (omega arith) in omega arith
+
+  nodes-le : (d v : ℕ) → v + d ≡ length (p .nodeList) → nodeStart p v ≤ atoms p
+  nodes-le zero v e = let q : v ≡ length (p .nodeList) = omega arith in rw q (let z = atoms-end in omega arith)
+  nodes-le (suc d) v e = let n = node-next v (omega arith) in let q = nodes-le d (suc v) (omega arith) in omega arith
+
+  pub relation-le : (r : ℕ) → r ≤ length (p .relations) → relationStart p r ≤ nodeStart p 0
+  relation-le r l = let q = relations-le (length (p .relations) - r) r (omega arith) in let f = node-first in omega arith
+
+  pub node-le : (v : ℕ) → v ≤ length (p .nodeList) → nodeStart p v ≤ atoms p
+  node-le v l = nodes-le (length (p .nodeList) - v) v (omega arith)
+
+  pub tuple-below : (r row : ℕ) → r < length (p .relations) → row < tuplesOf (p .size) (relationAt p r) → relationStart p r + row < atoms p
+  unfolding relationWidth
+  tuple-below r row h b = let e = relation-next r h in let q = relation-le (suc r) (omega arith) in let z = node-le 0 (omega arith) in omega arith
+
+  pub node-below : (v row : ℕ) → v < length (p .nodeList) → row < nodeWidth (p .size) (nodeAt p v) → nodeStart p v + row < atoms p
+  node-below v row h b = let e = node-next v h in let q = node-le (suc v) (omega arith) in omega arith
+
+  pub three-atoms : 3 ≤ atoms p
+  three-atoms = let a = relation-first in let q = relation-le 0 (omega arith) in let z = node-le 0 (omega arith) in omega arith
+
+  -- ---- a number of a relation or a node decodes to its atom
+  relation-atom : (r i : ℕ) (a : Atom) → r < length (p .relations) → itemAt (relationBlocks (p .size) r (relationAt p r)) i ≡ some a → itemAt (atomBlocks p) (relationStart p r + i) ≡ some a
+  unfolding relationAt
+  relation-atom r i a l e =
+      let w : relationStart p r + i ≡ countOf fixed + (countOf (R (take r (p .relations))) + i) = let s = relation-start r in let f = fixed-count in omega arith in
+      ap₂ itemAt atoms-form w ∙ item-right fixed (R (p .relations) ++ N (p .nodeList)) (countOf (R (take r (p .relations))) + i)
+      ∙ item-left (R (p .relations)) (N (p .nodeList)) (countOf (R (take r (p .relations))) + i) a (at-start (relationBlocks (p .size)) (p .relations) noRelation r i a l e)
+
+  node-atom : (v row : ℕ) → v < length (p .nodeList) → row < nodeWidth (p .size) (nodeAt p v) → itemAt (atomBlocks p) (nodeStart p v + row) ≡ some (holdsNode v row)
+  unfolding nodeAt
+  node-atom v row l h =
+      let w : nodeStart p v + row ≡ countOf fixed + (countOf (R (p .relations)) + (countOf (N (take v (p .nodeList))) + row)) = let s = node-start v in let f = fixed-count in omega arith in
+      ap₂ itemAt atoms-form w ∙ item-right fixed (R (p .relations) ++ N (p .nodeList)) (countOf (R (p .relations)) + (countOf (N (take v (p .nodeList))) + row))
+      ∙ item-right (R (p .relations)) (N (p .nodeList)) (countOf (N (take v (p .nodeList))) + row)
+      ∙ at-start (λ v t. nodeBlock (p .size) v t ∷ []) (p .nodeList) noNode v row (holdsNode v row) l (item-here (nodeBlock (p .size) v (getD (p .nodeList) v noNode)) [] row h)
+
+  -- an atom's number decodes to it
+  pub atom-at : (a : Atom) → IsAtom p a → itemAt (atomBlocks p) (atomNumber p a) ≡ some a
+  unfolding IsAtom atomNumber atomBlocks
+  atom-at guess v = item-here (record { width = 1; item = λ _. guess }) _ 0 (omega arith)
+  atom-at proof v = item-past (record { width = 1; item = λ _. guess }) _ 0 ∙ item-here (record { width = 1; item = λ _. proof }) _ 0 (omega arith)
+  atom-at goal v = item-past (record { width = 1; item = λ _. guess }) _ 1 ∙ item-past (record { width = 1; item = λ _. proof }) _ 0 ∙ item-here (record { width = 1; item = λ _. goal }) _ 0 (omega arith)
+  atom-at (tuple r row) v = relation-atom r row (tuple r row) (v .0) (in-tuples (p .size) r (relationAt p r) row (v .1))
+  atom-at (notTuple r row) v =
+      let T : ℕ = tuplesOf (p .size) (relationAt p r) in
+      let e : relationStart p r + T + row ≡ relationStart p r + (T + row) = omega arith in
+      ap (itemAt (atomBlocks p)) e ∙ relation-atom r (T + row) (notTuple r row) (v .0) (in-nots (p .size) r (relationAt p r) row (v .1))
+  atom-at (freeDomain r x) v =
+      let T : ℕ = tuplesOf (p .size) (relationAt p r) in
+      let e : relationStart p r + 2 * T + x ≡ relationStart p r + (T + (T + x)) = omega arith in
+      ap (itemAt (atomBlocks p)) e ∙ relation-atom r (T + (T + x)) (freeDomain r x) (v .0) (in-domain (p .size) r (relationAt p r) x (v .1) (v .2))
+  atom-at (freeRange r y) v =
+      let T : ℕ = tuplesOf (p .size) (relationAt p r) in
+      let e : relationStart p r + 2 * T + p .size + y ≡ relationStart p r + (T + (T + (p .size + y))) = omega arith in
+      ap (itemAt (atomBlocks p)) e ∙ relation-atom r (T + (T + (p .size + y))) (freeRange r y) (v .0) (in-range (p .size) r (relationAt p r) y (v .1) (v .2))
+  atom-at (holdsNode v row) h = node-atom v row (h .0) (h .1)
+
+  -- so numbers tell the problem's atoms apart, and are below the count
+  pub atom-injective : (a b : Atom) → IsAtom p a → IsAtom p b → atomNumber p a ≡ atomNumber p b → a ≡ b
+  atom-injective a b v w e = some-eq (sym (atom-at a v) ∙ ap (itemAt (atomBlocks p)) e ∙ atom-at b w)
+
+  pub atom-below : (a : Atom) → IsAtom p a → atomNumber p a < atoms p
+  unfolding atoms
+  atom-below a v = item-lt (atomBlocks p) (atomNumber p a) a (atom-at a v)
+
+  -- what decodes is an atom of the problem, and the number is its number
+  in-relation : (r i : ℕ) (a : Atom) → r < length (p .relations) → In (p .size) r (relationAt p r) a i → IsAtom p a × (atomNumber p a ≡ relationStart p r + i)
+  unfolding IsAtom atomNumber
+  in-relation r i a l (at-tuple x h e q) = (subst (IsAtom p) (sym e) (l, h), ap (atomNumber p) e ∙ ap (λ (y : ℕ). relationStart p r + y) (sym q))
+  in-relation r i a l (at-not x h e q) = (subst (IsAtom p) (sym e) (l, h), ap (atomNumber p) e ∙ omega arith)
+  in-relation r i a l (at-domain x f h e q) = (subst (IsAtom p) (sym e) (l, f, h), ap (atomNumber p) e ∙ omega arith)
+  in-relation r i a l (at-range x f h e q) = (subst (IsAtom p) (sym e) (l, f, h), ap (atomNumber p) e ∙ omega arith)
+
+  -- the item of a single number
+  single : (b : Atom) (i : ℕ) (a : Atom) → IsAtom p b → (bs : List (Block Atom)) → itemAt (record { width = 1; item = λ _. b } ∷ bs) i ≡ some a → (IsAtom p a × (a ≡ b) × (i ≡ 0)) ⊎ ((j : ℕ) × (i ≡ suc j) × (itemAt bs j ≡ some a))
+  single b i a v bs e = ⊎-elim
+      (λ q. inl (subst (IsAtom p) (sym (q .1)) v, q .1, omega (arith, q .0)))
+      (λ q. inr (i - 1, omega (arith, q .0), q .1))
+      (item-cases (record { width = 1; item = λ _. b }) bs i a e)
+
+  atom-of : (i : ℕ) (a : Atom) → itemAt (atomBlocks p) i ≡ some a → IsAtom p a × (atomNumber p a ≡ i)
+  unfolding IsAtom atomNumber nodeAt relationAt
+  atom-of i a e = first (single guess i a tt _ (ap (λ (bs : List (Block Atom)). itemAt bs i) (sym atoms-form) ∙ e))
+    where
+      nodes : (i j : ℕ) → i ≡ 3 + countOf (R (p .relations)) + j → itemAt (N (p .nodeList)) j ≡ some a → IsAtom p a × (atomNumber p a ≡ i)
+      nodes i j h q =
+          let (v, l, s) = of-start (λ v t. nodeBlock (p .size) v t ∷ []) (p .nodeList) noNode j a q in
+          let o = item-one (nodeBlock (p .size) v (getD (p .nodeList) v noNode)) (s .0) a (s .2) in
+          let k = node-start v in
+          (subst (IsAtom p) (sym (o .1)) (l, o .0), ap (atomNumber p) (o .1) ∙ omega (arith, k, h, s .1))
+
+      relations : (i j : ℕ) → i ≡ 3 + j → itemAt (R (p .relations)) j ≡ some a → IsAtom p a × (atomNumber p a ≡ i)
+      relations i j h q =
+          let (r, l, s) = of-start (relationBlocks (p .size)) (p .relations) noRelation j a q in
+          let o = in-relation r (s .0) a l (four (p .size) r (getD (p .relations) r noRelation) a (s .0) (s .2)) in
+          let k = relation-start r in
+          (o .0, o .1 ∙ omega (arith, k, h, s .1))
+
+      rest : (i j : ℕ) → i ≡ 3 + j → itemAt (R (p .relations) ++ N (p .nodeList)) j ≡ some a → IsAtom p a × (atomNumber p a ≡ i)
+      rest i j h q = ⊎-elim (λ s. relations i j h s) (λ s. nodes i (s .0) (omega (arith, s .1)) (s .2)) (item-append (R (p .relations)) (N (p .nodeList)) j a q)
+
+      third : (i j : ℕ) → i ≡ suc (suc j) → (IsAtom p a × (a ≡ goal) × (j ≡ 0)) ⊎ ((k : ℕ) × (j ≡ suc k) × (itemAt (R (p .relations) ++ N (p .nodeList)) k ≡ some a)) → IsAtom p a × (atomNumber p a ≡ i)
+      third i j h (inl q) = (q .0, ap (atomNumber p) (q .1) ∙ omega (arith, q .2))
+      third i j h (inr q) = rest i (q .0) (omega (arith, q .1)) (q .2)
+
+      second : (i j : ℕ) → i ≡ suc j → (IsAtom p a × (a ≡ proof) × (j ≡ 0)) ⊎ ((k : ℕ) × (j ≡ suc k) × (itemAt (record { width = 1; item = λ _. goal } ∷ (R (p .relations) ++ N (p .nodeList))) k ≡ some a)) → IsAtom p a × (atomNumber p a ≡ i)
+      second i j h (inl q) = (q .0, ap (atomNumber p) (q .1) ∙ omega (arith, q .2))
+      second i j h (inr q) = third i (q .0) (omega (arith, q .1)) (single goal (q .0) a tt _ (q .2))
+
+      first : (IsAtom p a × (a ≡ guess) × (i ≡ 0)) ⊎ ((k : ℕ) × (i ≡ suc k) × (itemAt (record { width = 1; item = λ _. proof } ∷ record { width = 1; item = λ _. goal } ∷ (R (p .relations) ++ N (p .nodeList))) k ≡ some a)) → IsAtom p a × (atomNumber p a ≡ i)
+      first (inl q) = (q .0, ap (atomNumber p) (q .1) ∙ omega (arith, q .2))
+      first (inr q) = second i (q .0) (q .1) (single proof (q .0) a tt _ (q .2))
+
+  pub atom-is : (i : ℕ) (a : Atom) → itemAt (atomBlocks p) i ≡ some a → IsAtom p a
+  atom-is i a e = atom-of i a e .0
+
+  pub atom-number : (i : ℕ) (a : Atom) → itemAt (atomBlocks p) i ≡ some a → atomNumber p a ≡ i
+  atom-number i a e = atom-of i a e .1
+
+  pub atom-some : (i : ℕ) → i < atoms p → (a : Atom) × (itemAt (atomBlocks p) i ≡ some a)
+  unfolding atoms
+  atom-some i h = item-some (atomBlocks p) i h
+
+  -- ---- where actions start
+  set-start : (r : ℕ) → setStart p r ≡ countOf (S (take r (p .relations)))
+  unfolding setStart
+  set-start r = ap countOf (sets-form (p .size) (take r (p .relations)))
+
+  set-end : setStart p (length (p .relations)) ≡ countOf (S (p .relations))
+  set-end = set-start (length (p .relations)) ∙ ap (λ (ks : List Relation). countOf (S ks)) all-relations
+
+  proof-start : (v : ℕ) → proofStart p v ≡ countOf (S (p .relations)) + 1 + countOf (Q (take v (p .nodeList)))
+  unfolding proofStart
+  proof-start v = ap₂ (λ (x : ℕ) (bs : List (Block Action)). x + 1 + countOf bs) set-end (proofs-form (p .size) (take v (p .nodeList)))
+
+  proof-end : proofStart p (length (p .nodeList)) ≡ countOf (S (p .relations)) + 1 + countOf (Q (p .nodeList))
+  proof-end = proof-start (length (p .nodeList)) ∙ ap (λ (ts : List Tree). countOf (S (p .relations)) + 1 + countOf (Q ts)) all-nodes
+
+  pub set-first : setStart p 0 ≡ 0
+  set-first = let a = set-start 0 in let b = no-blocks (λ r k. setBlock (p .size) r k ∷ []) in omega arith
+
+  pub set-next : (r : ℕ) → r < length (p .relations) → setStart p (suc r) ≡ setStart p r + setsOf (p .size) (relationAt p r)
+  unfolding relationAt
+  set-next r l =
+      let a = set-start r in
+      let b = set-start (suc r) in
+      let c = next-start (λ r k. setBlock (p .size) r k ∷ []) (p .relations) noRelation r l in
+      let d = one-count (setBlock (p .size) r (getD (p .relations) r noRelation)) in
+      omega arith
+
+  pub proof-first : proofStart p 0 ≡ setStart p (length (p .relations)) + 1
+  proof-first = let a = proof-start 0 in let b = no-blocks (λ v t. proofBlock (p .size) v t ∷ []) in let c = set-end in omega arith
+
+  pub proof-next : (v : ℕ) → v < length (p .nodeList) → proofStart p (suc v) ≡ proofStart p v + proofsOf (p .size) (nodeAt p v)
+  unfolding nodeAt
+  proof-next v l =
+      let a = proof-start v in
+      let b = proof-start (suc v) in
+      let c = next-start (λ v t. proofBlock (p .size) v t ∷ []) (p .nodeList) noNode v l in
+      let d = one-count (proofBlock (p .size) v (getD (p .nodeList) v noNode)) in
+      omega arith
+
+  -- ---- the actions' blocks, and their end
+  abbrev begins : Block Action
+  begins = record { width = 1; item = λ _. beginProof }
+
+  abbrev ends : Block Action
+  ends = record { width = 1; item = λ _. proveGoal }
+
+  actions-form : actionBlocks p ≡ S (p .relations) ++ (begins ∷ (Q (p .nodeList) ++ (ends ∷ [])))
+  unfolding actionBlocks
+  actions-form = ap₂ (λ (bs cs : List (Block Action)). bs ++ (begins ∷ (cs ++ (ends ∷ [])))) (sets-form (p .size) (p .relations)) (proofs-form (p .size) (p .nodeList))
+
+  pub actions-end : actions p ≡ proofStart p (length (p .nodeList)) + 1
+  unfolding actions
+  actions-end =
+      let a = ap countOf actions-form in
+      let b = count-append (S (p .relations)) (begins ∷ (Q (p .nodeList) ++ (ends ∷ []))) in
+      let c = count-cons begins (Q (p .nodeList) ++ (ends ∷ [])) in
+      let d = count-append (Q (p .nodeList)) (ends ∷ []) in
+      let e = one-count ends in
+      let f = proof-end in
+      omega arith
+
+  -- ---- a number decodes to its action
+  set-at : (r row : ℕ) → r < length (p .relations) → row < setsOf (p .size) (relationAt p r) → actionAt p (setStart p r + row) ≡ some (set r row)
+  unfolding actionAt relationAt
+  set-at r row l h = ap₂ (λ (bs : List (Block Action)) (x : ℕ). itemAt bs (x + row)) actions-form (set-start r)
+      ∙ item-left (S (p .relations)) (begins ∷ (Q (p .nodeList) ++ (ends ∷ []))) (countOf (S (take r (p .relations))) + row) (set r row)
+      (at-start (λ r k. setBlock (p .size) r k ∷ []) (p .relations) noRelation r row (set r row) l (item-here (setBlock (p .size) r (getD (p .relations) r noRelation)) [] row h))
+
+  begin-at : actionAt p (setStart p (length (p .relations))) ≡ some beginProof
+  unfolding actionAt
+  begin-at = ap₂ itemAt actions-form (set-end ∙ sym (add-zero (countOf (S (p .relations)))))
+      ∙ item-right (S (p .relations)) (begins ∷ (Q (p .nodeList) ++ (ends ∷ []))) 0 ∙ item-here begins (Q (p .nodeList) ++ (ends ∷ [])) 0 (omega arith)
+
+  past-begin : (j : ℕ) → itemAt (actionBlocks p) (countOf (S (p .relations)) + 1 + j) ≡ itemAt (Q (p .nodeList) ++ (ends ∷ [])) j
+  past-begin j = let w : countOf (S (p .relations)) + 1 + j ≡ countOf (S (p .relations)) + (1 + j) = omega arith in
+      ap₂ itemAt actions-form w ∙ item-right (S (p .relations)) (begins ∷ (Q (p .nodeList) ++ (ends ∷ []))) (1 + j) ∙ item-past begins (Q (p .nodeList) ++ (ends ∷ [])) j
+
+  proof-at : (v j : ℕ) → v < length (p .nodeList) → j < proofsOf (p .size) (nodeAt p v) → actionAt p (proofStart p v + j) ≡ some (proveNode (nodeAt p v) v (j / choices (p .size) (nodeAt p v)) (j % choices (p .size) (nodeAt p v)))
+  unfolding actionAt nodeAt
+  proof-at v j l h =
+      let w : proofStart p v + j ≡ countOf (S (p .relations)) + 1 + (countOf (Q (take v (p .nodeList))) + j) = let s = proof-start v in omega arith in
+      ap (itemAt (actionBlocks p)) w ∙ past-begin (countOf (Q (take v (p .nodeList))) + j)
+      ∙ item-left (Q (p .nodeList)) (ends ∷ []) (countOf (Q (take v (p .nodeList))) + j) _
+      (at-start (λ v t. proofBlock (p .size) v t ∷ []) (p .nodeList) noNode v j _ l (item-here (proofBlock (p .size) v (getD (p .nodeList) v noNode)) [] j h))
+
+  goal-at : actionAt p (proofStart p (length (p .nodeList))) ≡ some proveGoal
+  unfolding actionAt
+  goal-at =
+      let w : proofStart p (length (p .nodeList)) ≡ countOf (S (p .relations)) + 1 + (countOf (Q (p .nodeList)) + 0) = let s = proof-end in omega arith in
+      ap (itemAt (actionBlocks p)) w ∙ past-begin (countOf (Q (p .nodeList)) + 0) ∙ item-right (Q (p .nodeList)) (ends ∷ []) 0 ∙ item-here ends [] 0 (omega arith)
+
+  -- the same, for a number between two starts
+  pub at-set : (k r : ℕ) → r < length (p .relations) → setStart p r ≤ k → k < setStart p (suc r) → actionAt p k ≡ some (set r (k - setStart p r))
+  at-set k r l a b =
+      let e : k ≡ setStart p r + (k - setStart p r) = omega arith in
+      let n = set-next r l in
+      ap (actionAt p) e ∙ set-at r (k - setStart p r) l (omega arith)
+
+  pub at-begin : (k : ℕ) → k ≡ setStart p (length (p .relations)) → actionAt p k ≡ some beginProof
+  at-begin k e = ap (actionAt p) e ∙ begin-at
+
+  pub at-proof : (k v : ℕ) → v < length (p .nodeList) → proofStart p v ≤ k → k < proofStart p (suc v)
+      → actionAt p k ≡ some (proveNode (nodeAt p v) v ((k - proofStart p v) / choices (p .size) (nodeAt p v)) ((k - proofStart p v) % choices (p .size) (nodeAt p v)))
+  at-proof k v l a b =
+      let e : k ≡ proofStart p v + (k - proofStart p v) = omega arith in
+      let n = proof-next v l in
+      ap (actionAt p) e ∙ proof-at v (k - proofStart p v) l (omega arith)
+
+  pub at-goal : (k : ℕ) → k ≡ proofStart p (length (p .nodeList)) → actionAt p k ≡ some proveGoal
+  at-goal k e = ap (actionAt p) e ∙ goal-at
+
+  pub at-none : (k : ℕ) → proofStart p (length (p .nodeList)) < k → actionAt p k ≡ none
+  unfolding actionAt actions
+  at-none k h = let e = actions-end in item-none (actionBlocks p) k (omega arith)
+
+  -- an action's number decodes to it
+  sets-width : (r : ℕ) → T (isChosen (relationAt p r .kind)) → setsOf (p .size) (relationAt p r) ≡ tuplesOf (p .size) (relationAt p r)
+  unfolding setsOf
+  sets-width r t = let e : isChosen (relationAt p r .kind) ≡ true = T-true _ t in rw e refl
+
+  prove-at : (v row i : ℕ) (s : Tree) → nodeAt p v ≡ s → v < length (p .nodeList) → row < rowsOf (p .size) (nodeAt p v) → i < choices (p .size) s → actionAt p (proofNumber p v row i) ≡ some (proveNode s v row i)
+  unfolding proofNumber proofsOf
+  prove-at v row i s e l h g =
+      let c : i < choices (p .size) (nodeAt p v) = subst (λ (x : Tree). i < choices (p .size) x) (sym e) g in
+      let w : proofStart p v + row * choices (p .size) (nodeAt p v) + i ≡ proofStart p v + (row * choices (p .size) (nodeAt p v) + i) = omega arith in
+      ap (actionAt p) w ∙ proof-at v (row * choices (p .size) (nodeAt p v) + i) l (digits-lt h c)
+      ∙ ap some (ap₂ (proveNode (nodeAt p v) v) (digits-div row c) (digits-mod row c) ∙ ap (λ (x : Tree). proveNode x v row i) e)
+
+  pub action-at : (a : Action) → IsAction p a → actionAt p (actionNumber p a) ≡ some a
+  unfolding IsAction actionNumber choices proveNode
+  action-at (set r row) v = set-at r row (v .0) (rw (sets-width r (v .1)) (v .2))
+  action-at beginProof v = begin-at
+  action-at (proveAnd v row) (l, h, (ts, e)) = prove-at v row 0 (andNode ts) e l h (omega arith)
+  action-at (proveOr v row i) (l, h, (ts, e, g)) = prove-at v row i (orNode ts) e l h g
+  action-at (proveExists v row x) (l, h, (d, t, e, g)) = prove-at v row x (existsNode d t) e l h g
+  action-at (proveForall v row z) (l, h, (d, t, e, g)) = prove-at v row z (forallNode d t) e l h g
+  action-at proveGoal v = goal-at
+
+  -- what decodes is an action of the problem, and the number is its number
+  in-node : (v j : ℕ) (s : Tree) → nodeAt p v ≡ s → v < length (p .nodeList) → j < proofsOf (p .size) s → IsAction p (proveNode s v (j / choices (p .size) s) (j % choices (p .size) s)) × (actionNumber p (proveNode s v (j / choices (p .size) s) (j % choices (p .size) s)) ≡ proofStart p v + j)
+  unfolding IsAction actionNumber proofNumber proofsOf choices proveNode
+  in-node v j (leaf q r ls) e l h = absurd (let z = mul-zero (rowsOf (p .size) (leaf q r ls)) in omega arith)
+  in-node v j (andNode ts) e l h = let b = row-below j (rowsOf (p .size) (andNode ts)) 1 h in ((l, rw e (b .0), (ts, e)), rw e (let d = div-one j in let m = mul-one (j / 1) in omega arith))
+  in-node v j (orNode ts) e l h = let b = row-below j (rowsOf (p .size) (orNode ts)) (howMany ts) h in ((l, rw e (b .0), (ts, e, b .1)), rw e (let d = div-add-mod' j (howMany ts) in omega arith))
+  in-node v j (existsNode d t) e l h = let b = row-below j (rowsOf (p .size) (existsNode d t)) (p .size) h in ((l, rw e (b .0), (d, t, e, b .1)), rw e (let d = div-add-mod' j (p .size) in omega arith))
+  in-node v j (forallNode d t) e l h = let b = row-below j (rowsOf (p .size) (forallNode d t)) (p .size) h in ((l, rw e (b .0), (d, t, e, b .1)), rw e (let d = div-add-mod' j (p .size) in omega arith))
+
+  set-of : (k : ℕ) (a : Action) → itemAt (S (p .relations)) k ≡ some a → IsAction p a × (actionNumber p a ≡ k)
+  unfolding IsAction actionNumber setsOf relationAt
+  set-of k a e =
+      let (r, l, s) = of-start (λ r k. setBlock (p .size) r k ∷ []) (p .relations) noRelation k a e in
+      let o = item-one (setBlock (p .size) r (getD (p .relations) r noRelation)) (s .0) a (s .2) in
+      (go r (s .0) l (isChosen (getD (p .relations) r noRelation .kind)) refl (o .0) (o .1), ap (actionNumber p) (o .1) ∙ ap (λ (x : ℕ). x + s .0) (set-start r) ∙ sym (s .1))
+    where
+      go : (r j : ℕ) → r < length (p .relations) → (b : Bool) → isChosen (getD (p .relations) r noRelation .kind) ≡ b → j < (if b then tuplesOf (p .size) (getD (p .relations) r noRelation) else zero) → a ≡ set r j → IsAction p a
+      go r j l true e h k = subst (IsAction p) (sym k) (l, T-of e, h)
+      go r j l false e h k = absurd (omega arith)
+
+  proof-of : (k j : ℕ) (a : Action) → k ≡ countOf (S (p .relations)) + 1 + j → itemAt (Q (p .nodeList)) j ≡ some a → IsAction p a × (actionNumber p a ≡ k)
+  unfolding nodeAt
+  proof-of k j a h e =
+      let (v, l, s) = of-start (λ v t. proofBlock (p .size) v t ∷ []) (p .nodeList) noNode j a e in
+      let o = item-one (proofBlock (p .size) v (getD (p .nodeList) v noNode)) (s .0) a (s .2) in
+      let q = in-node v (s .0) (getD (p .nodeList) v noNode) refl l (o .0) in
+      let z = proof-start v in
+      (subst (IsAction p) (sym (o .1)) (q .0), ap (actionNumber p) (o .1) ∙ q .1 ∙ omega (arith, z, h, s .1))
+
+  action-of : (k : ℕ) (a : Action) → actionAt p k ≡ some a → IsAction p a × (actionNumber p a ≡ k)
+  unfolding actionAt IsAction actionNumber
+  action-of k a e = ⊎-elim (λ q. set-of k a q) (λ q. past q) (item-append (S (p .relations)) (begins ∷ (Q (p .nodeList) ++ (ends ∷ []))) k a (ap (λ (bs : List (Block Action)). itemAt bs k) (sym actions-form) ∙ e))
+    where
+      last : (j : ℕ) → k ≡ countOf (S (p .relations)) + 1 + j → (itemAt (Q (p .nodeList)) j ≡ some a) ⊎ ((i : ℕ) × (j ≡ countOf (Q (p .nodeList)) + i) × (itemAt (ends ∷ []) i ≡ some a)) → IsAction p a × (actionNumber p a ≡ k)
+      last j h (inl q) = proof-of k j a h q
+      last j h (inr q) = let o = item-one ends (q .0) a (q .2) in let z = proof-end in (subst (IsAction p) (sym (o .1)) tt, ap (actionNumber p) (o .1) ∙ omega (arith, z, h, q .1, o .0))
+
+      past : (j : ℕ) × (k ≡ countOf (S (p .relations)) + j) × (itemAt (begins ∷ (Q (p .nodeList) ++ (ends ∷ []))) j ≡ some a) → IsAction p a × (actionNumber p a ≡ k)
+      past q = ⊎-elim
+          (λ b. let z = set-end in (subst (IsAction p) (sym (b .1)) tt, ap (actionNumber p) (b .1) ∙ omega (arith, z, q .1, b .0)))
+          (λ b. last (q .0 - 1) (omega (arith, q .1, b .0)) (item-append (Q (p .nodeList)) (ends ∷ []) (q .0 - 1) a (b .1)))
+          (item-cases begins (Q (p .nodeList) ++ (ends ∷ [])) (q .0) a (q .2))
+
+  pub action-is : (k : ℕ) (a : Action) → actionAt p k ≡ some a → IsAction p a
+  action-is k a e = action-of k a e .0
+
+  pub action-number : (k : ℕ) (a : Action) → actionAt p k ≡ some a → actionNumber p a ≡ k
+  action-number k a e = action-of k a e .1
+
+  pub action-below : (k : ℕ) (a : Action) → actionAt p k ≡ some a → k < actions p
+  unfolding actionAt actions
+  action-below k a e = item-lt (actionBlocks p) k a e
+
+  pub action-some : (k : ℕ) → k < actions p → (a : Action) × (actionAt p k ≡ some a)
+  unfolding actionAt actions
+  action-some k h = item-some (actionBlocks p) k h
