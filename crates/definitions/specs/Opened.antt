@@ -28,7 +28,7 @@ unfolding Lists.all Lists.any Lists.filter Lists.flatMap Lists.mapFrom Lists.opt
     Actions.choices Actions.proveNode Actions.setsOf Actions.setBlocks Actions.proofsOf Actions.proofBlocks Actions.actionBlocks Actions.actions Actions.actionAt Actions.setStart Actions.proofStart Actions.proofNumber Actions.actionNumber Actions.valuesIn Actions.withValue Actions.valuesAt Actions.partAtom Actions.partAtoms Actions.underAtom Actions.freeAtoms Actions.forallNeeds Actions.needs Actions.adds Actions.removes
     Strips.mayTake Strips.after Strips.reachesFrom Strips.reachesGoal Strips.runFrom Strips.run Strips.pickOf Strips.picksOf
     Built.isTrueAt Built.least Built.stepFor Built.trueRows Built.nodeSteps Built.chosenNumbers Built.isPicked Built.pickedRows Built.setSteps Built.builtActions Built.builtSteps Built.builtCount Built.mostPicks Built.bound Built.pickExponent Built.nodeExponent Built.boundExponents Built.polynomial Built.boundPolynomial Built.treeHolds
-    Outcome.readCase Outcome.ground Outcome.readProblem Outcome.roomFor Outcome.stateLength Outcome.written Outcome.spanOf Outcome.rulePart Outcome.sizesOf Outcome.sizes Outcome.action Outcome.relationWords Outcome.picksLength Outcome.pickWords Outcome.bitOf Outcome.relationPicks Outcome.lentPicks Outcome.hasSpare Outcome.spareWord Outcome.takeSteps Outcome.textPicks Outcome.picksRoom Outcome.spareRefusal Outcome.takePicks Outcome.readyToRun Outcome.checkedFrom Outcome.checkSteps Outcome.picksIfAccepted Outcome.picksReadFrom Outcome.picksFromSteps Outcome.kindRefusal Outcome.plan Outcome.builtFrom Outcome.buildSteps
+    Outcome.replyNumber Outcome.replyPlace Outcome.readCase Outcome.ground Outcome.readProblem Outcome.roomFor Outcome.stateLength Outcome.written Outcome.spanOf Outcome.rulePart Outcome.sizesOf Outcome.sizes Outcome.action Outcome.relationWords Outcome.picksLength Outcome.pickWords Outcome.bitOf Outcome.relationPicks Outcome.lentPicks Outcome.hasSpare Outcome.spareWord Outcome.takeSteps Outcome.textPicks Outcome.picksRoom Outcome.spareRefusal Outcome.takePicks Outcome.readyToRun Outcome.checkedFrom Outcome.checkSteps Outcome.picksIfAccepted Outcome.picksReadFrom Outcome.picksFromSteps Outcome.kindRefusal Outcome.plan Outcome.builtFrom Outcome.buildSteps
     Demand.isAccepted Demand.caseIsAccepted Demand.stepsAreAccepted Demand.areSamePicks
     Desk.isRecord Desk.isRule Desk.isStep Desk.isPickOrStep Desk.afterRule Desk.firstPickOrStep Desk.siteAndRest Desk.afterQuestion Desk.cutAt Desk.sheets Desk.printLine Desk.sizesLine Desk.countLine Desk.pickLine Desk.stepLine Desk.report Desk.printed Desk.checkedPlan Desk.startsWithStep Desk.answerOf Desk.answer Desk.desk
 everything = tt

@@ -16,6 +16,15 @@ use Rattle.definitions.specs.Actions.{Action, actions, actionAt}
 use Rattle.definitions.specs.Strips.{run, picksOf}
 use Rattle.definitions.specs.Built.{isPicked, chosenNumbers, builtSteps, bound}
 
+-- ---- a reply in the paper's numbers: a refusal is its number and place, success is 0 and the step count
+unfoldable pub replyNumber : Result ℕ → ℕ
+replyNumber (refused k place) = k
+replyNumber (accepted count) = zero
+
+unfoldable pub replyPlace : Result ℕ → ℕ
+replyPlace (refused k place) = place
+replyPlace (accepted count) = count
+
 -- ---- what every call begins with: the question is read, then the site
 
 unfoldable pub readCase : List ℕ → List ℕ → Result Case
