@@ -9,7 +9,10 @@ const LIST_LIMIT: usize = 4;
 #[derive(Clone, Debug)]
 pub enum Form<'t> {
     /// A relation's name and where its variables stand in the formula's list.
-    Literal { name: &'t [u8], variables: Range<usize> },
+    Literal {
+        name: &'t [u8],
+        variables: Range<usize>,
+    },
     Not,
     And,
     Or,

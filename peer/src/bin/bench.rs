@@ -1,0 +1,230 @@
+//! Times both programs on the same inputs, turn about, and prints the ratios.
+//!
+//!     bench [ROUNDS]
+
+use peer::sample::{needs, sound, Random, Sample};
+use peer::trial::{Calls, Other, Peer, LINKED};
+use peer::Reply;
+use std::hint::black_box;
+use std::time::Instant;
+
+const PATH_RULE: &str = "(forall (?x) (implies (not (MAX ?x)) (exists (?u ?y ?z) \
+(and (E ?y ?z) (F ?x ?y) (SUC ?x ?u) (F ?u ?z)))))";
+const DEEP_RULE: &str = "(forall (?a ?b ?c ?d) (or (D ?a ?b) (T ?c ?d)))";
+
+/// What is timed, on the sample that goes with it.
+#[derive(Clone, Copy)]
+enum Work {
+    Sizes,
+    BuildText,
+    BuildLent,
+    CheckLent,
+    CheckText,
+    Picks,
+    /// Build from text, check and read the picks, each on a small case.
+    Small,
+}
+
+struct Job {
+    name: String,
+    work: Work,
+    samples: Vec<Sample>,
+}
+
+/// Buffers made once, so that no job pays for making them.
+struct Buffers {
+    picks: Vec<u64>,
+    state: Vec<u64>,
+    steps: Vec<u32>,
+}
+
+impl Job {
+    fn new(name: &str, work: Work, sample: &Sample) -> Self {
+        Job { name: name.to_string(), work, samples: vec![sample.clone()] }
+    }
+
+    fn run(&self, program: &impl Calls, buffers: &mut Buffers) -> u64 {
+        let Buffers { picks, state, steps } = buffers;
+        let mut accepted = 0;
+        for sample in &self.samples {
+            let case = [&sample.question[..], &sample.site[..]];
+            let reply = match self.work {
+                Work::Sizes => program.sizes(case[0], case[1]).map(|sizes| sizes.n as usize).into(),
+                Work::BuildText => program.build_text(case, &sample.picks, state, steps),
+                Work::BuildLent => program.build(case, &sample.lent_picks, state, steps),
+                Work::CheckLent => program.check(case, &sample.lent_steps, state),
+                Work::CheckText => program.check_text(case, &sample.steps, state),
+                Work::Picks => program.picks(case, &sample.lent_steps, picks, state),
+                Work::Small => {
+                    black_box(program.build_text(case, &sample.picks, state, steps));
+                    black_box(program.check_text(case, &sample.steps, state));
+                    program.picks(case, &sample.lent_steps, picks, state)
+                }
+            };
+            accepted += u64::from(matches!(black_box(reply), Reply::Accepted(_)));
+        }
+        accepted
+    }
+
+    /// The least time in microseconds; the two programs take turns.
+    fn time(&self, rounds: u32, buffers: &mut Buffers) -> [f64; 2] {
+        let mut least = [f64::MAX; 2];
+        for round in 0..=rounds {
+            let start = Instant::now();
+            let peer = self.run(&Peer, buffers);
+            let middle = Instant::now();
+            let other = self.run(&Other, buffers);
+            let times = [middle - start, middle.elapsed()];
+            assert_eq!(peer, other, "{}", self.name);
+            // The first round only warms up.
+            if round > 0 {
+                for (least, time) in least.iter_mut().zip(times) {
+                    *least = least.min(time.as_secs_f64() * 1e6);
+                }
+            }
+        }
+        least
+    }
+}
+
+/// A site of close to 65,536 bytes of facts.
+fn many_facts() -> Sample {
+    let question = "rel\tROOM\t3\nrel\tDOOR\t3\nchoose\tT\t1\nrule\t(forall (?x) (T ?x))\n";
+    let mut site = String::from("size\t16\n");
+    'rows: for row in 0..16 * 16 * 16 {
+        for name in ["ROOM", "DOOR"] {
+            let line = format!("fact\t{name}\t{}\t{}\t{}\n", row / 256, row / 16 % 16, row % 16);
+            if site.len() + line.len() > 65_536 {
+                break 'rows;
+            }
+            site += &line;
+        }
+    }
+    Sample { question: question.into(), site: site.into(), ..Sample::default() }
+}
+
+/// A directed Hamiltonian path through 15 vertices with half of all edges.
+fn path() -> Sample {
+    let n = 15;
+    let order: Vec<usize> = (0..n).map(|place| place * 7 % n).collect();
+    let mut site = format!("size\t{n}\n");
+    for (from, to) in (0..n * n).map(|row| (row / n, row % n)) {
+        if (from * 5 + to * 3) % 2 == 0 || order.windows(2).any(|edge| edge == [from, to]) {
+            site += &format!("fact\tE\t{from}\t{to}\n");
+        }
+    }
+    let mut picks = String::new();
+    for (place, vertex) in order.iter().enumerate() {
+        picks += &format!("pick\tF\t{place}\t{vertex}\n");
+    }
+    let question = format!("rel\tE\t2\nchoose\tF\tInj\nrule\t{PATH_RULE}\n");
+    planned(question, site, picks)
+}
+
+/// Four nested quantifiers over a disjunction that nearly always holds.
+fn deep() -> Sample {
+    let n = 13;
+    let mut site = format!("size\t{n}\n");
+    let mut picks = String::new();
+    for (first, second) in (0..n * n).map(|row| (row / n, row % n)) {
+        if second != first {
+            site += &format!("fact\tD\t{first}\t{second}\n");
+        }
+        picks += &format!("pick\tT\t{first}\t{second}\n");
+    }
+    let question = format!("rel\tD\t2\nchoose\tT\t2\nrule\t{DEEP_RULE}\n");
+    planned(question, site, picks)
+}
+
+/// A case with its picks and its built steps, both as text and lent.
+fn planned(question: String, site: String, picks: String) -> Sample {
+    let (question, site) = (question.into_bytes(), site.into_bytes());
+    let mut sample = Sample { question, site, picks: picks.into(), ..Sample::default() };
+    let [words, state, steps] = needs(&sample).expect("an accepted case");
+    let (mut state, mut steps) = (vec![0; state], vec![0; steps]);
+    let case = [&sample.question[..], &sample.site[..]];
+    let Reply::Accepted(count) = Peer.build_text(case, &sample.picks, &mut state, &mut steps)
+    else {
+        panic!("picks that do not meet their rule");
+    };
+    steps.truncate(count as usize);
+    sample.lent_picks = vec![0; words];
+    Peer.picks(case, &steps, &mut sample.lent_picks, &mut state);
+    sample.lent_steps = steps;
+    sample
+}
+
+/// The same plan with proofs repeated before its last step, up to a length.
+fn padded(sample: &Sample, length: usize) -> Sample {
+    let mut steps = sample.lent_steps.clone();
+    let goal = steps.pop().expect("a plan's last step");
+    let proofs = steps[sample.lent_steps.len() / 2..].to_vec();
+    let missing = length - 1 - steps.len();
+    steps.extend(proofs.iter().cycle().take(missing));
+    steps.push(goal);
+    Sample { lent_steps: steps, ..sample.clone() }
+}
+
+/// A plan as text of nearly 65,536 bytes.
+fn long_text(sample: &Sample) -> Sample {
+    let mut steps = Vec::new();
+    for step in &sample.lent_steps {
+        let line = format!("step\t{step}\n");
+        if steps.len() + line.len() > 65_536 {
+            break;
+        }
+        steps.extend(line.bytes());
+    }
+    Sample { steps, ..sample.clone() }
+}
+
+fn small_cases() -> Vec<Sample> {
+    let mut random = Random::new(7);
+    let mut cases = Vec::new();
+    while cases.len() < 1_000 {
+        let sample = sound(&mut random);
+        if needs(&sample).is_some_and(|[_, _, bound]| bound < 400) {
+            cases.push(sample);
+        }
+    }
+    cases
+}
+
+fn jobs() -> Vec<Job> {
+    let (facts, path, deep) = (many_facts(), path(), deep());
+    let named = |what: &str, sample: &Sample| format!("{what}, {} steps", sample.lent_steps.len());
+    let job = |what: &str, work, sample: &Sample| Job::new(&named(what, sample), work, sample);
+    vec![
+        Job::new("read 64 KB of facts", Work::Sizes, &facts),
+        job("path of 15: build from text", Work::BuildText, &path),
+        job("path of 15: build, lent picks", Work::BuildLent, &path),
+        job("path of 15: check", Work::CheckLent, &path),
+        job("four deep: build from text", Work::BuildText, &deep),
+        job("four deep: build, lent picks", Work::BuildLent, &deep),
+        job("four deep: check", Work::CheckLent, &deep),
+        job("four deep: read picks", Work::Picks, &deep),
+        job("four deep: check lent", Work::CheckLent, &padded(&deep, 65_536)),
+        Job::new("four deep: 64 KB of step lines", Work::CheckText, &long_text(&deep)),
+        Job {
+            name: "1,000 small cases: all three".into(),
+            work: Work::Small,
+            samples: small_cases(),
+        },
+    ]
+}
+
+fn main() {
+    let rounds = std::env::args().nth(1).and_then(|text| text.parse().ok()).unwrap_or(30);
+    let mut buffers = Buffers { picks: vec![0; 256], state: vec![0; 1024], steps: vec![0; 65_536] };
+    if !LINKED {
+        println!("The library is not linked: the peer is timed against itself.");
+    }
+    println!(
+        "{:<46} {:>11} {:>11} {:>7}",
+        "microseconds, least of all rounds", "peer", "ours", "ratio"
+    );
+    for job in jobs() {
+        let [peer, other] = job.time(rounds, &mut buffers);
+        println!("{:<46} {peer:>11.1} {other:>11.1} {:>7.2}", job.name, other / peer);
+    }
+}

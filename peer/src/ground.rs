@@ -1,0 +1,465 @@
+//! The grounded STRIPS problem: every atom and every action has a number, and
+//! both are worked out from the layout instead of being listed.
+
+use crate::records::Kind;
+use crate::sheets::{Question, Structure};
+use crate::text::{cause, Refusal};
+use crate::tree::{Literal, Node, Part, Shape, Tree, Variables, NESTING_LIMIT};
+use std::ops::Range;
+
+const ATOM_LIMIT: u32 = 65_536;
+const ACTION_LIMIT: u32 = 131_072;
+
+pub const GUESS: u32 = 0;
+pub const PROOF: u32 = 1;
+pub const GOAL: u32 = 2;
+
+/// One element per variable in range, by depth.
+pub type Values = [u32; NESTING_LIMIT];
+
+/// A set action: which `choose`, from 0, and the row of its tuple.
+#[derive(Clone, Copy, Debug, PartialEq, Eq)]
+pub struct Set {
+    pub choose: u32,
+    pub row: u32,
+}
+
+/// A node's action: its preorder number, the row of its free variables' values,
+/// and the part, element or z that is chosen (0 for `and`).
+#[derive(Clone, Copy, Debug, PartialEq, Eq)]
+pub struct Prove {
+    pub node: u32,
+    pub row: u32,
+    pub choice: u32,
+}
+
+#[derive(Clone, Copy, Debug, PartialEq, Eq)]
+pub enum Action {
+    Set(Set),
+    BeginProof,
+    Prove(Prove),
+    ProveGoal,
+}
+
+/// Where a relation's atoms lie: tuples, not-tuples, free-domain, free-range.
+#[derive(Clone, Copy, Debug)]
+struct RelationAtoms {
+    kind: Kind,
+    first: u32,
+    tuples: u32,
+    /// First set action; only for a `choose`.
+    sets: u32,
+}
+
+impl RelationAtoms {
+    fn tuple(&self, row: u32) -> u32 {
+        self.first + row
+    }
+
+    fn not_tuple(&self, row: u32) -> u32 {
+        self.first + self.tuples + row
+    }
+
+    fn free_domain(&self, element: u32) -> u32 {
+        self.first + 2 * self.tuples + element
+    }
+
+    fn free_range(&self, element: u32, n: u32) -> u32 {
+        self.free_domain(n) + element
+    }
+
+    /// How many atoms there are in all.
+    fn count(&self, n: u32) -> u32 {
+        let free = u32::from(self.kind.is_function()) + u32::from(self.kind.is_injective());
+        2 * self.tuples + free * n
+    }
+}
+
+/// The atom of a part: linear in the values of the variables in range.
+#[derive(Clone, Copy, Debug)]
+pub struct PartAtom {
+    first: u32,
+    strides: Values,
+}
+
+impl PartAtom {
+    #[inline]
+    pub fn at(&self, values: &Values) -> u32 {
+        let [a, b, c, d] = self.strides;
+        self.first + a * values[0] + b * values[1] + c * values[2] + d * values[3]
+    }
+
+    /// Its atoms for every element of one variable, whose value here is 0.
+    #[inline]
+    pub fn along(&self, values: &Values, depth: usize, n: u32) -> impl Iterator<Item = u32> {
+        let (first, stride) = (self.at(values), self.strides[depth]);
+        (0..n).map(move |element| first + element * stride)
+    }
+}
+
+/// Divides by multiplying. With 2^32 / by rounded up this is exact for every
+/// action number (below 2^17) and every divisor in use (at most 64).
+#[derive(Clone, Copy, Debug)]
+pub struct Divisor {
+    by: u32,
+    inverse: u64,
+}
+
+impl Divisor {
+    fn new(by: u32) -> Self {
+        Divisor { by, inverse: (1u64 << 32).div_ceil(u64::from(by)) }
+    }
+
+    /// Quotient and remainder.
+    #[inline]
+    fn split(self, number: u32) -> (u32, u32) {
+        let quotient = ((u64::from(number) * self.inverse) >> 32) as u32;
+        (quotient, number - quotient * self.by)
+    }
+}
+
+/// Where a node's atoms and actions lie.
+#[derive(Clone, Debug)]
+pub struct NodeAtoms {
+    pub shape: Shape,
+    pub depth: usize,
+    pub free: Variables,
+    pub rows: u32,
+    /// Atoms per row: n for `forall`, one for the others.
+    pub width: u32,
+    /// Actions per row.
+    pub fan: u32,
+    by_fan: Divisor,
+    pub first_atom: u32,
+    pub first_action: u32,
+    pub parts: Range<usize>,
+}
+
+#[derive(Clone, Debug)]
+pub struct Problem<'c> {
+    question: &'c Question<'c>,
+    structure: &'c Structure,
+    relations: Vec<RelationAtoms>,
+    pub nodes: Vec<NodeAtoms>,
+    pub parts: Vec<PartAtom>,
+    pub n: u32,
+    by_n: Divisor,
+    pub atoms: u32,
+    pub begin_proof: u32,
+    pub prove_goal: u32,
+    pub bound: u32,
+}
+
+impl<'c> Problem<'c> {
+    /// Numbers the atoms and actions of a case, or refuses it as too large.
+    pub fn new(question: &'c Question, structure: &'c Structure) -> Result<Self, Refusal> {
+        let mut problem = Problem {
+            question,
+            structure,
+            relations: Vec::with_capacity(question.signature.relations.len()),
+            nodes: Vec::with_capacity(question.tree.nodes.len()),
+            parts: Vec::with_capacity(question.tree.parts.len()),
+            n: structure.n as u32,
+            by_n: Divisor::new(structure.n as u32),
+            atoms: GOAL + 1,
+            begin_proof: 0,
+            prove_goal: 0,
+            bound: 2,
+        };
+        problem.lay_relations();
+        problem.lay_nodes(&question.tree);
+        if problem.atoms > ATOM_LIMIT || problem.actions() > ACTION_LIMIT {
+            return Err(Refusal::new(cause::PROBLEM_SIZE, 0));
+        }
+        problem.lay_parts(&question.tree);
+        Ok(problem)
+    }
+
+    pub fn actions(&self) -> u32 {
+        self.prove_goal + 1
+    }
+
+    /// How many words a state takes.
+    pub fn words(&self) -> usize {
+        self.atoms.div_ceil(64) as usize
+    }
+
+    fn lay_relations(&mut self) {
+        let chosen = self.question.signature.chosen();
+        for (number, relation) in self.question.signature.relations.iter().enumerate() {
+            let tuples = self.n.pow(relation.arity() as u32);
+            let sets = self.begin_proof;
+            let relation = RelationAtoms { kind: relation.kind, first: self.atoms, tuples, sets };
+            self.atoms += relation.count(self.n);
+            if chosen.contains(&number) {
+                self.begin_proof += tuples;
+                self.bound += if relation.kind.is_function() { self.n } else { tuples };
+            }
+            self.relations.push(relation);
+        }
+    }
+
+    fn lay_nodes(&mut self, tree: &Tree) {
+        let mut action = self.begin_proof + 1;
+        for node in &tree.nodes {
+            let rows = self.n.pow(node.free.count_ones());
+            let width = if node.shape == Shape::Forall { self.n } else { 1 };
+            let fan = match node.shape {
+                Shape::And => 1,
+                Shape::Or => node.parts.len() as u32,
+                Shape::Exists | Shape::Forall => self.n,
+            };
+            let Node { shape, depth, free, parts } = node.clone();
+            let (first_atom, first_action) = (self.atoms, action);
+            self.nodes.push(NodeAtoms {
+                shape,
+                depth,
+                free,
+                rows,
+                width,
+                fan,
+                first_atom,
+                first_action,
+                parts,
+                by_fan: Divisor::new(fan),
+            });
+            self.atoms += rows * width;
+            self.bound += rows * width;
+            action += rows * fan;
+        }
+        self.prove_goal = action;
+    }
+
+    fn lay_parts(&mut self, tree: &Tree) {
+        for part in &tree.parts {
+            let atom = match part {
+                Part::Literal(literal) => self.literal_atom(literal),
+                Part::Node(node) => self.node_atom(*node),
+            };
+            self.parts.push(atom);
+        }
+    }
+
+    fn literal_atom(&self, literal: &Literal) -> PartAtom {
+        let relation = &self.relations[literal.relation];
+        let first = if literal.positive { relation.tuple(0) } else { relation.not_tuple(0) };
+        let mut strides = Values::default();
+        let mut stride = 1;
+        for &depth in literal.places[..literal.arity].iter().rev() {
+            strides[depth] += stride;
+            stride *= self.n;
+        }
+        PartAtom { first, strides }
+    }
+
+    /// A node as a part of another; a `forall` stands by its atom at n-1.
+    fn node_atom(&self, node: usize) -> PartAtom {
+        let node = &self.nodes[node];
+        let mut strides = Values::default();
+        let mut stride = node.width;
+        for depth in (0..NESTING_LIMIT).rev().filter(|depth| node.free >> depth & 1 == 1) {
+            strides[depth] = stride;
+            stride *= self.n;
+        }
+        PartAtom { first: node.first_atom + node.width - 1, strides }
+    }
+
+    /// The root's atom, which prove-goal needs.
+    pub fn root(&self) -> u32 {
+        self.nodes[0].first_atom + self.nodes[0].width - 1
+    }
+
+    /// What an action number stands for.
+    pub fn action(&self, number: u32) -> Option<Action> {
+        if number < self.begin_proof {
+            let chosen = &self.relations[self.question.signature.chosen()];
+            let choose = chosen.partition_point(|relation| relation.sets <= number) - 1;
+            let row = number - chosen[choose].sets;
+            return Some(Action::Set(Set { choose: choose as u32, row }));
+        }
+        if number == self.begin_proof {
+            return Some(Action::BeginProof);
+        }
+        if number < self.prove_goal {
+            let node = self.nodes.partition_point(|node| node.first_action <= number) - 1;
+            let NodeAtoms { first_action, by_fan, .. } = self.nodes[node];
+            let (row, choice) = by_fan.split(number - first_action);
+            return Some(Action::Prove(Prove { node: node as u32, row, choice }));
+        }
+        (number == self.prove_goal).then_some(Action::ProveGoal)
+    }
+
+    /// The number of an action, if the problem has it.
+    pub fn number(&self, action: &Action) -> Option<u32> {
+        match action {
+            Action::Set(Set { choose, row }) => {
+                let chosen = &self.relations[self.question.signature.chosen()];
+                let relation = chosen.get(*choose as usize)?;
+                (*row < relation.tuples).then(|| relation.sets + row)
+            }
+            Action::BeginProof => Some(self.begin_proof),
+            Action::Prove(Prove { node, row, choice }) => {
+                let node = self.nodes.get(*node as usize)?;
+                let there = *row < node.rows && *choice < node.fan;
+                there.then(|| node.first_action + row * node.fan + choice)
+            }
+            Action::ProveGoal => Some(self.prove_goal),
+        }
+    }
+
+    /// The values a row of a node gives its free variables.
+    #[inline]
+    fn values(&self, free: Variables, mut row: u32) -> Values {
+        let mut values = Values::default();
+        for depth in (0..NESTING_LIMIT).rev() {
+            if free >> depth & 1 == 1 {
+                (row, values[depth]) = self.by_n.split(row);
+            }
+        }
+        values
+    }
+
+    /// Writes what is initially true; spare bits of the last word are 0.
+    pub fn initial(&self, state: &mut [u64]) {
+        let state = &mut state[..self.words()];
+        state.fill(0);
+        add(state, GUESS);
+        let given = self.question.signature.chosen().start;
+        for (number, relation) in self.relations[..given].iter().enumerate() {
+            let bits = self.structure.tables.relation(number);
+            write_bits(state, relation.first, relation.tuples, |word| bits[word]);
+            write_bits(state, relation.not_tuple(0), relation.tuples, |word| !bits[word]);
+        }
+        for relation in &self.relations[given..] {
+            let end = relation.first + relation.count(self.n);
+            let first = relation.not_tuple(0);
+            write_bits(state, first, end - first, |_| u64::MAX);
+        }
+    }
+
+    /// Takes one action if all it needs holds; otherwise nothing changes.
+    #[inline]
+    pub fn take(&self, action: Action, state: &mut [u64]) -> bool {
+        match action {
+            Action::Set(set) => self.take_set(set, state),
+            Action::BeginProof => {
+                let may = holds(state, GUESS);
+                if may {
+                    remove(state, GUESS);
+                    add(state, PROOF);
+                }
+                may
+            }
+            Action::Prove(prove) => self.take_prove(prove, state),
+            Action::ProveGoal => {
+                let may = holds(state, self.root());
+                if may {
+                    add(state, GOAL);
+                }
+                may
+            }
+        }
+    }
+
+    fn take_set(&self, Set { choose, row }: Set, state: &mut [u64]) -> bool {
+        let relation = &self.relations[self.question.signature.chosen().start + choose as usize];
+        let (first, second) = self.by_n.split(row);
+        let domain = relation.free_domain(first);
+        let range = relation.free_range(second, self.n);
+        let (function, injective) = (relation.kind.is_function(), relation.kind.is_injective());
+        let may = holds(state, GUESS)
+            && holds(state, relation.not_tuple(row))
+            && (!function || holds(state, domain))
+            && (!injective || holds(state, range));
+        if may {
+            remove(state, relation.not_tuple(row));
+            if function {
+                remove(state, domain);
+            }
+            if injective {
+                remove(state, range);
+            }
+            add(state, relation.tuple(row));
+        }
+        may
+    }
+
+    #[inline]
+    fn take_prove(&self, Prove { node, row, choice }: Prove, state: &mut [u64]) -> bool {
+        let node = &self.nodes[node as usize];
+        let mut values = self.values(node.free, row);
+        let parts = &self.parts[node.parts.clone()];
+        let own = node.first_atom + row * node.width;
+        let (may, atom) = match node.shape {
+            Shape::And => (parts.iter().all(|part| holds(state, part.at(&values))), own),
+            Shape::Or => (holds(state, parts[choice as usize].at(&values)), own),
+            Shape::Exists => {
+                values[node.depth] = choice;
+                (holds(state, parts[0].at(&values)), own)
+            }
+            Shape::Forall => {
+                values[node.depth] = choice;
+                let before = choice == 0 || holds(state, own + choice - 1);
+                (before && holds(state, parts[0].at(&values)), own + choice)
+            }
+        };
+        let may = may && holds(state, PROOF);
+        if may {
+            add(state, atom);
+        }
+        may
+    }
+
+    /// The tuple atoms of one `choose`: first and how many.
+    pub fn chosen_tuples(&self, choose: usize) -> (u32, u32) {
+        let relation = &self.relations[self.question.signature.chosen().start + choose];
+        (relation.first, relation.tuples)
+    }
+
+    pub fn question(&self) -> &'c Question<'c> {
+        self.question
+    }
+}
+
+#[inline]
+pub fn holds(state: &[u64], atom: u32) -> bool {
+    state[atom as usize / 64] >> (atom % 64) & 1 == 1
+}
+
+#[inline]
+pub fn add(state: &mut [u64], atom: u32) {
+    state[atom as usize / 64] |= 1 << (atom % 64);
+}
+
+#[inline]
+pub fn remove(state: &mut [u64], atom: u32) {
+    state[atom as usize / 64] &= !(1 << (atom % 64));
+}
+
+/// Adds `count` bits from atom `first` on, a word of the source at a time.
+fn write_bits(state: &mut [u64], first: u32, count: u32, source: impl Fn(usize) -> u64) {
+    let (start, shift) = (first as usize / 64, first % 64);
+    for index in 0..count.div_ceil(64) as usize {
+        let left = count - 64 * index as u32;
+        let word = source(index) & if left < 64 { (1 << left) - 1 } else { u64::MAX };
+        state[start + index] |= word << shift;
+        if shift > 0 && word >> (64 - shift) != 0 {
+            state[start + index + 1] |= word >> (64 - shift);
+        }
+    }
+}
+
+/// Copies `count` bits from atom `first` on into words of their own.
+pub fn read_bits(state: &[u64], first: u32, count: u32, words: &mut [u64]) {
+    let (start, shift) = (first as usize / 64, first % 64);
+    for (index, word) in words.iter_mut().enumerate() {
+        let left = count - 64 * index as u32;
+        *word = state[start + index] >> shift;
+        if shift > 0 && left > 64 - shift {
+            *word |= state[start + index + 1] << (64 - shift);
+        }
+        if left < 64 {
+            *word &= (1 << left) - 1;
+        }
+    }
+}

@@ -1,0 +1,208 @@
+//! The proved program, called through its C interface. Every foreign
+//! declaration and every unsafe line of the package is in this file.
+//!
+//! A slice goes over as a pointer and a length; the refusal's number and place
+//! come back through two references, number 0 with the step count being success.
+
+#![allow(unsafe_code)]
+
+use crate::cases::Sizes;
+use crate::text::{Refusal, Reply};
+use crate::trial::Calls;
+
+#[rustfmt::skip]
+mod foreign {
+    extern "C" {
+        pub fn nendokwe_sizes(
+            question: *const u8, question_len: usize, site: *const u8, site_len: usize,
+            number: &mut u32, place: &mut u64,
+            n: &mut u64, atoms: &mut u64, actions: &mut u64, bound: &mut u64,
+        );
+        pub fn nendokwe_check_text(
+            question: *const u8, question_len: usize, site: *const u8, site_len: usize,
+            steps: *const u8, steps_len: usize, state: *mut u64, state_len: usize,
+            number: &mut u32, place: &mut u64,
+        );
+        pub fn nendokwe_check(
+            question: *const u8, question_len: usize, site: *const u8, site_len: usize,
+            steps: *const u32, steps_len: usize, state: *mut u64, state_len: usize,
+            number: &mut u32, place: &mut u64,
+        );
+        pub fn nendokwe_picks_text(
+            question: *const u8, question_len: usize, site: *const u8, site_len: usize,
+            steps: *const u8, steps_len: usize, picks: *mut u64, picks_len: usize,
+            state: *mut u64, state_len: usize, number: &mut u32, place: &mut u64,
+        );
+        pub fn nendokwe_picks(
+            question: *const u8, question_len: usize, site: *const u8, site_len: usize,
+            steps: *const u32, steps_len: usize, picks: *mut u64, picks_len: usize,
+            state: *mut u64, state_len: usize, number: &mut u32, place: &mut u64,
+        );
+        pub fn nendokwe_build_text(
+            question: *const u8, question_len: usize, site: *const u8, site_len: usize,
+            picks: *const u8, picks_len: usize, state: *mut u64, state_len: usize,
+            steps: *mut u32, steps_len: usize, number: &mut u32, place: &mut u64,
+        );
+        pub fn nendokwe_build(
+            question: *const u8, question_len: usize, site: *const u8, site_len: usize,
+            picks: *const u64, picks_len: usize, state: *mut u64, state_len: usize,
+            steps: *mut u32, steps_len: usize, number: &mut u32, place: &mut u64,
+        );
+        pub fn nendokwe_desk(
+            input: *const u8, input_len: usize, out: *mut u8, out_len: usize,
+            written: &mut u64,
+        );
+    }
+}
+
+/// More than the longest text the desk can print.
+const PRINT_ROOM: usize = 262_144;
+
+/// A place no call gives, so that an answer that was never written shows.
+const UNSET: u64 = u64::MAX;
+
+fn reply(number: u32, place: u64) -> Reply {
+    match number {
+        0 => Reply::Accepted(place),
+        number => Reply::Refused(Refusal { number, place }),
+    }
+}
+
+/// The proved program.
+pub struct Ours;
+
+#[rustfmt::skip]
+impl Calls for Ours {
+    fn sizes(&self, question: &[u8], site: &[u8]) -> Result<Sizes, Refusal> {
+        let (mut number, mut place) = (u32::MAX, UNSET);
+        let mut sizes = Sizes { n: UNSET, atoms: UNSET, actions: UNSET, bound: UNSET };
+        // Safety: each pointer comes from a live slice and goes with its length.
+        unsafe {
+            foreign::nendokwe_sizes(
+                question.as_ptr(), question.len(), site.as_ptr(), site.len(),
+                &mut number, &mut place,
+                &mut sizes.n, &mut sizes.atoms, &mut sizes.actions, &mut sizes.bound,
+            );
+        }
+        match number {
+            0 => Ok(sizes),
+            number => Err(Refusal { number, place }),
+        }
+    }
+
+    fn check_text(&self, case: [&[u8]; 2], steps: &[u8], state: &mut [u64]) -> Reply {
+        let (mut number, mut place) = (u32::MAX, UNSET);
+        // Safety: as for `sizes`; the state is ours alone while the call runs.
+        unsafe {
+            foreign::nendokwe_check_text(
+                case[0].as_ptr(), case[0].len(), case[1].as_ptr(), case[1].len(),
+                steps.as_ptr(), steps.len(), state.as_mut_ptr(), state.len(),
+                &mut number, &mut place,
+            );
+        }
+        reply(number, place)
+    }
+
+    fn check(&self, case: [&[u8]; 2], steps: &[u32], state: &mut [u64]) -> Reply {
+        let (mut number, mut place) = (u32::MAX, UNSET);
+        // Safety: as for `check_text`.
+        unsafe {
+            foreign::nendokwe_check(
+                case[0].as_ptr(), case[0].len(), case[1].as_ptr(), case[1].len(),
+                steps.as_ptr(), steps.len(), state.as_mut_ptr(), state.len(),
+                &mut number, &mut place,
+            );
+        }
+        reply(number, place)
+    }
+
+    fn picks_text(
+        &self,
+        case: [&[u8]; 2],
+        steps: &[u8],
+        picks: &mut [u64],
+        state: &mut [u64],
+    ) -> Reply {
+        let (mut number, mut place) = (u32::MAX, UNSET);
+        // Safety: as for `check_text`; the two buffers do not overlap.
+        unsafe {
+            foreign::nendokwe_picks_text(
+                case[0].as_ptr(), case[0].len(), case[1].as_ptr(), case[1].len(),
+                steps.as_ptr(), steps.len(), picks.as_mut_ptr(), picks.len(),
+                state.as_mut_ptr(), state.len(), &mut number, &mut place,
+            );
+        }
+        reply(number, place)
+    }
+
+    fn picks(
+        &self,
+        case: [&[u8]; 2],
+        steps: &[u32],
+        picks: &mut [u64],
+        state: &mut [u64],
+    ) -> Reply {
+        let (mut number, mut place) = (u32::MAX, UNSET);
+        // Safety: as for `picks_text`.
+        unsafe {
+            foreign::nendokwe_picks(
+                case[0].as_ptr(), case[0].len(), case[1].as_ptr(), case[1].len(),
+                steps.as_ptr(), steps.len(), picks.as_mut_ptr(), picks.len(),
+                state.as_mut_ptr(), state.len(), &mut number, &mut place,
+            );
+        }
+        reply(number, place)
+    }
+
+    fn build_text(
+        &self,
+        case: [&[u8]; 2],
+        picks: &[u8],
+        state: &mut [u64],
+        steps: &mut [u32],
+    ) -> Reply {
+        let (mut number, mut place) = (u32::MAX, UNSET);
+        // Safety: as for `picks_text`.
+        unsafe {
+            foreign::nendokwe_build_text(
+                case[0].as_ptr(), case[0].len(), case[1].as_ptr(), case[1].len(),
+                picks.as_ptr(), picks.len(), state.as_mut_ptr(), state.len(),
+                steps.as_mut_ptr(), steps.len(), &mut number, &mut place,
+            );
+        }
+        reply(number, place)
+    }
+
+    fn build(
+        &self,
+        case: [&[u8]; 2],
+        picks: &[u64],
+        state: &mut [u64],
+        steps: &mut [u32],
+    ) -> Reply {
+        let (mut number, mut place) = (u32::MAX, UNSET);
+        // Safety: as for `picks_text`.
+        unsafe {
+            foreign::nendokwe_build(
+                case[0].as_ptr(), case[0].len(), case[1].as_ptr(), case[1].len(),
+                picks.as_ptr(), picks.len(), state.as_mut_ptr(), state.len(),
+                steps.as_mut_ptr(), steps.len(), &mut number, &mut place,
+            );
+        }
+        reply(number, place)
+    }
+
+    fn desk(&self, input: &[u8]) -> Vec<u8> {
+        let mut printed = vec![0; PRINT_ROOM];
+        let mut written = UNSET;
+        // Safety: as for `sizes`; the output buffer is ours alone.
+        unsafe {
+            foreign::nendokwe_desk(
+                input.as_ptr(), input.len(), printed.as_mut_ptr(), printed.len(),
+                &mut written,
+            );
+        }
+        printed.truncate(usize::try_from(written).unwrap_or(0));
+        printed
+    }
+}

@@ -1,0 +1,169 @@
+//! Following a plan step by step, and building one from picks.
+
+use crate::ground::{add, holds, read_bits, Action, NodeAtoms, Problem, Set, Values, GOAL, PROOF};
+use crate::sheets::Tables;
+use crate::text::{cause, Refusal};
+use crate::tree::{Shape, Variables, NESTING_LIMIT};
+
+/// Runs the steps in the lent state; a refusal leaves the state it was met in.
+pub fn follow(problem: &Problem, steps: &[u32], state: &mut [u64]) -> Result<usize, Refusal> {
+    problem.initial(state);
+    for (index, &step) in steps.iter().enumerate() {
+        let action = problem.action(step).ok_or(Refusal::new(cause::NO_ACTION, index))?;
+        if !problem.take(action, state) {
+            return Err(Refusal::new(cause::NOT_APPLICABLE, index));
+        }
+    }
+    if !holds(state, GOAL) {
+        return Err(Refusal::new(cause::NO_GOAL, steps.len()));
+    }
+    Ok(steps.len())
+}
+
+/// The tuples set on the way to this state, which no later step takes back.
+pub fn read_picks(problem: &Problem, state: &[u64], picks: &mut [u64]) {
+    let mut start = 0;
+    for choose in 0..problem.question().signature.chosen().len() {
+        let (first, tuples) = problem.chosen_tuples(choose);
+        let end = start + tuples.div_ceil(64) as usize;
+        read_bits(state, first, tuples, &mut picks[start..end]);
+        start = end;
+    }
+}
+
+/// A plan being built, kept apart from the caller's buffers until it is sure
+/// that the rule is true.
+pub struct Plan<'p> {
+    problem: &'p Problem<'p>,
+    pub state: Vec<u64>,
+    pub steps: Vec<u32>,
+}
+
+/// Builds the plan of these picks if they meet their kinds and the rule.
+pub fn build<'p>(problem: &'p Problem, picks: &Tables) -> Result<Plan<'p>, Refusal> {
+    if let Some(choose) = broken_kind(problem, picks) {
+        return Err(Refusal::new(cause::KIND_BROKEN, choose));
+    }
+    let mut plan = Plan {
+        problem,
+        state: vec![0; problem.words()],
+        steps: Vec::with_capacity(problem.bound as usize),
+    };
+    problem.initial(&mut plan.state);
+    plan.set_picks(picks);
+    plan.act(problem.begin_proof);
+    debug_assert!(holds(&plan.state, PROOF));
+    for node in problem.nodes.iter().rev() {
+        plan.prove(node);
+    }
+    if !holds(&plan.state, problem.root()) {
+        return Err(Refusal::new(cause::RULE_FALSE, 0));
+    }
+    plan.act(problem.prove_goal);
+    Ok(plan)
+}
+
+impl Plan<'_> {
+    fn set_picks(&mut self, picks: &Tables) {
+        for choose in 0..self.problem.question().signature.chosen().len() {
+            for row in rows(picks.relation(choose)) {
+                let set = Action::Set(Set { choose: choose as u32, row });
+                let step = self.problem.number(&set);
+                step.into_iter().for_each(|step| self.act(step));
+            }
+        }
+    }
+
+    /// Takes a step that is known to be possible.
+    fn act(&mut self, step: u32) {
+        let taken = self
+            .problem
+            .action(step)
+            .is_some_and(|action| self.problem.take(action, &mut self.state));
+        debug_assert!(taken);
+        self.steps.push(step);
+    }
+
+    /// Proves every true atom of a node once, in row order; the parts' atoms
+    /// are settled by then, so one look at them decides.
+    fn prove(&mut self, node: &NodeAtoms) {
+        let mut values = Values::default();
+        for row in 0..node.rows {
+            if node.shape == Shape::Forall {
+                self.prove_chain(node, row, &values);
+            } else if let Some(choice) = self.witness(node, &values) {
+                add(&mut self.state, node.first_atom + row);
+                self.steps.push(node.first_action + row * node.fan + choice);
+            }
+            advance(&mut values, node.free, self.problem.n);
+        }
+    }
+
+    /// The first part or least element that makes the atom true.
+    fn witness(&self, node: &NodeAtoms, values: &Values) -> Option<u32> {
+        let parts = &self.problem.parts[node.parts.clone()];
+        let place = match node.shape {
+            Shape::And => parts.iter().all(|part| holds(&self.state, part.at(values))).then_some(0),
+            Shape::Or => parts.iter().position(|part| holds(&self.state, part.at(values))),
+            Shape::Exists | Shape::Forall => {
+                let mut atoms = parts[0].along(values, node.depth, self.problem.n);
+                atoms.position(|atom| holds(&self.state, atom))
+            }
+        };
+        place.map(|place| place as u32)
+    }
+
+    /// A `forall` is true up to z for every z before the first failure.
+    fn prove_chain(&mut self, node: &NodeAtoms, row: u32, values: &Values) {
+        let n = self.problem.n;
+        let atoms = self.problem.parts[node.parts.start].along(values, node.depth, n);
+        for (place, atom) in (row * n..).zip(atoms) {
+            if !holds(&self.state, atom) {
+                break;
+            }
+            add(&mut self.state, node.first_atom + place);
+            self.steps.push(node.first_action + place);
+        }
+    }
+}
+
+/// Moves to the next row's values: the innermost free variable runs fastest.
+fn advance(values: &mut Values, free: Variables, n: u32) {
+    for depth in (0..NESTING_LIMIT).rev().filter(|depth| free >> depth & 1 == 1) {
+        values[depth] += 1;
+        if values[depth] < n {
+            return;
+        }
+        values[depth] = 0;
+    }
+}
+
+/// The rows whose bits are set, in order.
+pub fn rows(words: &[u64]) -> impl Iterator<Item = u32> + '_ {
+    words.iter().enumerate().flat_map(|(index, &word)| {
+        let mut left = word;
+        std::iter::from_fn(move || {
+            let bit = (left != 0).then(|| left.trailing_zeros())?;
+            left &= left - 1;
+            Some(64 * index as u32 + bit)
+        })
+    })
+}
+
+/// The first `choose`, from 0, whose picks break its kind.
+fn broken_kind(problem: &Problem, picks: &Tables) -> Option<usize> {
+    let chosen = problem.question().signature.chosen_relations();
+    (0..chosen.len()).find(|&choose| {
+        let kind = chosen[choose].kind;
+        let (mut firsts, mut seconds) = (0u32, 0u32);
+        kind.is_function()
+            && rows(picks.relation(choose)).any(|row| {
+                let first = 1 << (row / problem.n);
+                let second = 1 << (row % problem.n);
+                let broken = firsts & first != 0 || (kind.is_injective() && seconds & second != 0);
+                firsts |= first;
+                seconds |= second;
+                broken
+            })
+    })
+}

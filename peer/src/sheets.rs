@@ -1,0 +1,272 @@
+//! The four sheets: question, site, picks and steps.
+
+use crate::formula::{is_relation_name, parse};
+use crate::records::{record, Kind, Record, Tuple};
+use crate::text::{cause, limit, lines, Line, Refusal};
+use crate::tree::{grow, Tree};
+use std::ops::Range;
+
+const REL_LIMIT: usize = 8;
+const CHOOSE_LIMIT: usize = 4;
+const SIZE_LIMIT: u32 = 16;
+
+#[derive(Clone, Copy, Debug)]
+pub struct Relation<'t> {
+    pub name: &'t [u8],
+    pub kind: Kind,
+}
+
+impl Relation<'_> {
+    pub fn arity(&self) -> usize {
+        self.kind.arity()
+    }
+}
+
+/// The five relations every site has, in the order of their numbers.
+pub const BUILT_IN: [Relation<'static>; 5] = [
+    Relation { name: b"EQ", kind: Kind::Plain(2) },
+    Relation { name: b"LT", kind: Kind::Plain(2) },
+    Relation { name: b"SUC", kind: Kind::Plain(2) },
+    Relation { name: b"ZERO", kind: Kind::Plain(1) },
+    Relation { name: b"MAX", kind: Kind::Plain(1) },
+];
+
+/// All relations by number: built in, then `rel`, then `choose`.
+#[derive(Clone, Debug)]
+pub struct Signature<'t> {
+    pub relations: Vec<Relation<'t>>,
+    first_chosen: usize,
+}
+
+impl<'t> Signature<'t> {
+    fn new() -> Self {
+        Signature { relations: BUILT_IN.to_vec(), first_chosen: BUILT_IN.len() }
+    }
+
+    pub fn find(&self, name: &[u8]) -> Option<usize> {
+        self.relations.iter().position(|relation| relation.name == name)
+    }
+
+    /// Relation numbers of the `rel` lines.
+    pub fn given(&self) -> Range<usize> {
+        BUILT_IN.len()..self.first_chosen
+    }
+
+    /// Relation numbers of the `choose` lines.
+    pub fn chosen(&self) -> Range<usize> {
+        self.first_chosen..self.relations.len()
+    }
+
+    pub fn chosen_relations(&self) -> &[Relation<'t>] {
+        &self.relations[self.first_chosen..]
+    }
+
+    /// Relation numbers of the kinds that must be total.
+    pub fn totals(&self) -> impl Iterator<Item = usize> + '_ {
+        self.chosen().filter(|&number| self.relations[number].kind.is_total())
+    }
+
+    fn takes_rel(&self) -> bool {
+        self.chosen().is_empty() && self.given().len() < REL_LIMIT
+    }
+
+    fn takes_choose(&self) -> bool {
+        self.chosen().len() < CHOOSE_LIMIT
+    }
+
+    fn declare(&mut self, line: &Line, name: &'t [u8], kind: Kind) -> Result<(), Refusal> {
+        if !is_relation_name(name) || self.find(name).is_some() {
+            return Err(line.refuse(cause::DECLARED_NAME));
+        }
+        self.relations.push(Relation { name, kind });
+        Ok(())
+    }
+}
+
+#[derive(Clone, Debug)]
+pub struct Question<'t> {
+    pub signature: Signature<'t>,
+    /// The formula as a part of the question's own bytes.
+    pub rule: &'t [u8],
+    pub tree: Tree,
+}
+
+pub fn question(text: &[u8]) -> Result<Question<'_>, Refusal> {
+    limit(text)?;
+    let mut signature = Signature::new();
+    let mut rule = None;
+    for line in lines(text) {
+        match (record(&line)?, &rule) {
+            (Record::Rel { name, arity }, None) if signature.takes_rel() => {
+                signature.declare(&line, name, Kind::Plain(arity))?;
+                signature.first_chosen += 1;
+            }
+            (Record::Choose { name, kind }, None) if signature.takes_choose() => {
+                signature.declare(&line, name, kind)?;
+            }
+            (Record::Rule { formula }, None) if !signature.chosen().is_empty() => {
+                let tree = rule_tree(formula, &signature).map_err(|number| line.refuse(number))?;
+                rule = Some((formula, tree));
+            }
+            _ => return Err(line.refuse(cause::RECORD_ORDER)),
+        }
+    }
+    let (rule, tree) = rule.ok_or(Refusal::new(cause::RECORD_ORDER, text.len()))?;
+    Ok(Question { signature, rule, tree })
+}
+
+fn rule_tree(text: &[u8], signature: &Signature) -> Result<Tree, u32> {
+    grow(&parse(text).ok_or(cause::FORMULA_FORM)?, signature)
+}
+
+/// Tuples as bits in row order, each relation from a new word.
+#[derive(Clone, Debug, Default)]
+pub struct Tables {
+    /// First word of each relation, and at last the number of words.
+    starts: Vec<usize>,
+    pub words: Vec<u64>,
+}
+
+impl Tables {
+    pub fn new(relations: &[Relation], n: usize) -> Self {
+        let mut tables = Tables { starts: vec![0], words: Vec::new() };
+        for relation in relations {
+            let words = n.pow(relation.arity() as u32).div_ceil(64);
+            tables.words.resize(tables.words.len() + words, 0);
+            tables.starts.push(tables.words.len());
+        }
+        tables
+    }
+
+    pub fn relation(&self, index: usize) -> &[u64] {
+        &self.words[self.starts[index]..self.starts[index + 1]]
+    }
+
+    /// Adds a tuple; false if it was there before.
+    fn insert(&mut self, index: usize, row: usize) -> bool {
+        let word = &mut self.words[self.starts[index] + row / 64];
+        let fresh = *word >> (row % 64) & 1 == 0;
+        *word |= 1 << (row % 64);
+        fresh
+    }
+}
+
+/// A site: how many elements, and the tuples of every static relation.
+#[derive(Clone, Debug)]
+pub struct Structure {
+    pub n: usize,
+    pub tables: Tables,
+}
+
+pub fn site(text: &[u8], signature: &Signature) -> Result<Structure, Refusal> {
+    limit(text)?;
+    let fixed = &signature.relations[..signature.first_chosen];
+    let mut structure = None;
+    for line in lines(text) {
+        match (record(&line)?, &mut structure) {
+            (Record::Size { n }, None) => {
+                if !(1..=SIZE_LIMIT).contains(&n) {
+                    return Err(line.refuse(cause::ELEMENT_RANGE));
+                }
+                structure = Some(bare_structure(fixed, n as usize));
+            }
+            (Record::Fact { name, tuple }, Some(Structure { n, tables })) => {
+                let given = &fixed[BUILT_IN.len()..];
+                let (index, row) = place(&line, given, name, &tuple, *n)?;
+                if !tables.insert(BUILT_IN.len() + index, row) {
+                    return Err(line.refuse(cause::REPEATED));
+                }
+            }
+            _ => return Err(line.refuse(cause::RECORD_ORDER)),
+        }
+    }
+    structure.ok_or(Refusal::new(cause::RECORD_ORDER, text.len()))
+}
+
+/// The built-in tuples over n elements, and no facts yet.
+fn bare_structure(fixed: &[Relation], n: usize) -> Structure {
+    let mut tables = Tables::new(fixed, n);
+    for first in 0..n {
+        tables.insert(0, first * n + first);
+        for second in first + 1..n {
+            tables.insert(1, first * n + second);
+        }
+        if first + 1 < n {
+            tables.insert(2, first * n + first + 1);
+        }
+    }
+    tables.insert(3, 0);
+    tables.insert(4, n - 1);
+    Structure { n, tables }
+}
+
+/// Finds a tuple's relation among those its record may name, and its row.
+fn place(
+    line: &Line,
+    relations: &[Relation],
+    name: &[u8],
+    tuple: &Tuple,
+    n: usize,
+) -> Result<(usize, usize), Refusal> {
+    let elements = tuple.elements();
+    let index = relations
+        .iter()
+        .position(|relation| relation.name == name)
+        .filter(|&index| relations[index].arity() == elements.len())
+        .ok_or(line.refuse(cause::RELATION_USE))?;
+    if elements.iter().any(|&element| element as usize >= n) {
+        return Err(line.refuse(cause::ELEMENT_RANGE));
+    }
+    let row = elements.iter().fold(0, |row, &element| row * n + element as usize);
+    Ok((index, row))
+}
+
+pub fn picks(text: &[u8], signature: &Signature, n: usize) -> Result<Tables, Refusal> {
+    limit(text)?;
+    let chosen = signature.chosen_relations();
+    let mut tables = Tables::new(chosen, n);
+    for line in lines(text) {
+        let Record::Pick { name, tuple } = record(&line)? else {
+            return Err(line.refuse(cause::RECORD_ORDER));
+        };
+        let (index, row) = place(&line, chosen, name, &tuple, n)?;
+        if !tables.insert(index, row) {
+            return Err(line.refuse(cause::REPEATED));
+        }
+    }
+    Ok(tables)
+}
+
+pub fn steps(text: &[u8]) -> Result<Vec<u32>, Refusal> {
+    limit(text)?;
+    let mut steps = Vec::with_capacity(text.len() / 7);
+    for line in lines(text) {
+        let Record::Step { action } = record(&line)? else {
+            return Err(line.refuse(cause::RECORD_ORDER));
+        };
+        steps.push(action);
+    }
+    Ok(steps)
+}
+
+/// Picks lent as bits, already long enough: only spare bits can be wrong.
+pub fn lent_picks(lent: &[u64], signature: &Signature, n: usize) -> Result<Tables, Refusal> {
+    let chosen = signature.chosen_relations();
+    let mut tables = Tables::new(chosen, n);
+    let needed = tables.words.len();
+    tables.words.copy_from_slice(&lent[..needed]);
+    for (index, relation) in chosen.iter().enumerate() {
+        let used = n.pow(relation.arity() as u32) % 64;
+        let last = tables.starts[index + 1] - 1;
+        if used > 0 && tables.words[last] >> used != 0 {
+            return Err(Refusal::new(cause::REPEATED, last));
+        }
+    }
+    Ok(tables)
+}
+
+/// How many words the picks of a case take.
+pub fn pick_words(signature: &Signature, n: usize) -> usize {
+    let tuples = |relation: &Relation| n.pow(relation.arity() as u32);
+    signature.chosen_relations().iter().map(|relation| tuples(relation).div_ceil(64)).sum()
+}

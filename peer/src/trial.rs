@@ -1,0 +1,208 @@
+//! One call with its buffers, run on either program, so that replies and every
+//! lent word can be held against each other.
+
+use crate::cases::{self, Sizes};
+use crate::sample::{desk_input, Random, Sample};
+use crate::text::{Refusal, Reply};
+
+/// The calls that both programs have.
+pub trait Calls {
+    fn sizes(&self, question: &[u8], site: &[u8]) -> Result<Sizes, Refusal>;
+    fn check_text(&self, case: [&[u8]; 2], steps: &[u8], state: &mut [u64]) -> Reply;
+    fn check(&self, case: [&[u8]; 2], steps: &[u32], state: &mut [u64]) -> Reply;
+    fn picks_text(
+        &self,
+        case: [&[u8]; 2],
+        steps: &[u8],
+        picks: &mut [u64],
+        state: &mut [u64],
+    ) -> Reply;
+    fn picks(&self, case: [&[u8]; 2], steps: &[u32], picks: &mut [u64], state: &mut [u64])
+        -> Reply;
+    fn build_text(
+        &self,
+        case: [&[u8]; 2],
+        picks: &[u8],
+        state: &mut [u64],
+        steps: &mut [u32],
+    ) -> Reply;
+    fn build(&self, case: [&[u8]; 2], picks: &[u64], state: &mut [u64], steps: &mut [u32])
+        -> Reply;
+    fn desk(&self, input: &[u8]) -> Vec<u8>;
+}
+
+/// This package's own program.
+pub struct Peer;
+
+impl Calls for Peer {
+    fn sizes(&self, question: &[u8], site: &[u8]) -> Result<Sizes, Refusal> {
+        cases::sizes(question, site)
+    }
+
+    fn check_text(&self, case: [&[u8]; 2], steps: &[u8], state: &mut [u64]) -> Reply {
+        cases::check_text(case[0], case[1], steps, state)
+    }
+
+    fn check(&self, case: [&[u8]; 2], steps: &[u32], state: &mut [u64]) -> Reply {
+        cases::check(case[0], case[1], steps, state)
+    }
+
+    fn picks_text(
+        &self,
+        case: [&[u8]; 2],
+        steps: &[u8],
+        picks: &mut [u64],
+        state: &mut [u64],
+    ) -> Reply {
+        cases::picks_text(case[0], case[1], steps, picks, state)
+    }
+
+    fn picks(
+        &self,
+        case: [&[u8]; 2],
+        steps: &[u32],
+        picks: &mut [u64],
+        state: &mut [u64],
+    ) -> Reply {
+        cases::picks(case[0], case[1], steps, picks, state)
+    }
+
+    fn build_text(
+        &self,
+        case: [&[u8]; 2],
+        picks: &[u8],
+        state: &mut [u64],
+        steps: &mut [u32],
+    ) -> Reply {
+        cases::build_text(case[0], case[1], picks, state, steps)
+    }
+
+    fn build(
+        &self,
+        case: [&[u8]; 2],
+        picks: &[u64],
+        state: &mut [u64],
+        steps: &mut [u32],
+    ) -> Reply {
+        cases::build(case[0], case[1], picks, state, steps)
+    }
+
+    fn desk(&self, input: &[u8]) -> Vec<u8> {
+        crate::desk::desk(input)
+    }
+}
+
+/// The other program: ours where it is linked, this one again where it is not.
+#[cfg(feature = "ours")]
+pub use crate::ours::Ours as Other;
+#[cfg(not(feature = "ours"))]
+pub use Peer as Other;
+
+/// Whether [`Other`] is a program of its own.
+pub const LINKED: bool = cfg!(feature = "ours");
+
+/// Words kept behind each lent buffer, which no call may touch.
+pub const GUARD: usize = 8;
+
+#[derive(Clone, Copy, Debug, PartialEq, Eq)]
+pub enum Call {
+    Sizes,
+    CheckText,
+    Check,
+    PicksText,
+    Picks,
+    BuildText,
+    Build,
+    DeskPicks,
+    DeskSteps,
+}
+
+pub const CALLS: [Call; 9] = [
+    Call::Sizes,
+    Call::CheckText,
+    Call::Check,
+    Call::PicksText,
+    Call::Picks,
+    Call::BuildText,
+    Call::Build,
+    Call::DeskPicks,
+    Call::DeskSteps,
+];
+
+/// How much of each buffer is lent: picks, state, steps.
+pub type Rooms = [usize; 3];
+
+/// All that a call leaves behind.
+#[derive(Clone, Debug, PartialEq, Eq)]
+pub struct Outcome {
+    pub reply: Reply,
+    pub sizes: Option<Sizes>,
+    pub picks: Vec<u64>,
+    pub state: Vec<u64>,
+    pub steps: Vec<u32>,
+    pub printed: Vec<u8>,
+}
+
+/// What buffers hold before a call.
+pub const FILL: u64 = 0x5a5a_1234_8765_a5a5;
+
+impl Outcome {
+    fn fresh(rooms: Rooms) -> Self {
+        Outcome {
+            reply: Reply::Accepted(0),
+            sizes: None,
+            picks: vec![FILL; rooms[0] + GUARD],
+            state: vec![FILL; rooms[1] + GUARD],
+            steps: vec![FILL as u32; rooms[2] + GUARD],
+            printed: Vec::new(),
+        }
+    }
+}
+
+/// Makes one call, with buffers of these lengths.
+pub fn run(program: &impl Calls, call: Call, sample: &Sample, rooms: Rooms) -> Outcome {
+    let mut outcome = Outcome::fresh(rooms);
+    let case = [&sample.question[..], &sample.site[..]];
+    let picks = &mut outcome.picks[..rooms[0]];
+    let state = &mut outcome.state[..rooms[1]];
+    let steps = &mut outcome.steps[..rooms[2]];
+    // Picks lent to the builder are brought to the length of a picks buffer.
+    let mut lent = sample.lent_picks.clone();
+    lent.resize(rooms[0], FILL);
+    outcome.reply = match call {
+        Call::Sizes => match program.sizes(case[0], case[1]) {
+            Ok(sizes) => {
+                outcome.sizes = Some(sizes);
+                Reply::Accepted(0)
+            }
+            Err(refusal) => Reply::Refused(refusal),
+        },
+        Call::CheckText => program.check_text(case, &sample.steps, state),
+        Call::Check => program.check(case, &sample.lent_steps, state),
+        Call::PicksText => program.picks_text(case, &sample.steps, picks, state),
+        Call::Picks => program.picks(case, &sample.lent_steps, picks, state),
+        Call::BuildText => program.build_text(case, &sample.picks, state, steps),
+        Call::Build => program.build(case, &lent, state, steps),
+        Call::DeskPicks | Call::DeskSteps => {
+            let input = desk_input(sample, call == Call::DeskSteps);
+            outcome.printed = program.desk(&input);
+            Reply::Accepted(0)
+        }
+    };
+    outcome
+}
+
+/// Lengths about the needed ones: mostly enough, often one or two off.
+pub fn rooms(random: &mut Random, needs: Option<Rooms>) -> Rooms {
+    let needs = needs.unwrap_or([4, 16, 64]);
+    needs.map(|need| match random.below(12) {
+        0 => 0,
+        1 => random.below(need + 1),
+        2 => need.saturating_sub(1),
+        3 => need.saturating_sub(2),
+        4 => need + 1,
+        5 => need + 2,
+        6 => need + random.below(40),
+        _ => need,
+    })
+}
