@@ -1,0 +1,304 @@
+-- Laws of looking a relation up by its name: one relation more, the built-in ones before those declared, arities and kinds.
+use Prim.Native.Nat.{ℕ, zero, suc, _+_, _-_, _≤_, _<_}
+use mathlib.Core.Path.{_≡_, refl, sym, ap, _∙_}
+use mathlib.Core.Bool.{Bool, true, false, _&&_, _||_}
+use mathlib.Core.Option.{Option, none, some}
+use mathlib.Core.List.{List, [], _∷_, _++_}
+use native.Mathlib.Numerals.{add-one}
+use native.Mathlib.Omega.{arith}
+use lib.Dec.{eqb}
+use lib.ListN.{length, getD}
+use lib.Seq.{slice, getD-append-add}
+use borrow.Author.Tests.{eq-eqb, ne-eqb}
+use Rattle.definitions.specs.Lists.{if_then_else_, same, any, option, position}
+use Rattle.definitions.specs.Text.{bytes}
+use Rattle.definitions.specs.Relations.{Relation, static, builtIn, numberOf, isDeclared}
+use Rattle.definitions.specs.Sheets.{relations}
+use Rattle.text.specs.Spans.{placeOf, kindOf}
+use Rattle.text.proofs.Laws.{and-false}
+use Rattle.text.specs.declared.Found.{Found}
+use Rattle.text.specs.declared.Found.the-variants.{At, Nowhere}
+use Rattle.names.specs.declared.Signature.{Signature}
+use Rattle.names.specs.Signatures.{relationIn, relationsFrom, relsOf, chosenOf, allOf, builtInTable, matches, hasArity, counted, HasArity, HasKind}
+
+-- ---- the first element that passes a test
+
+pub and-true : (b : Bool) → (b && true) ≡ b
+and-true true = refl
+and-true false = refl
+
+isSome : Option ℕ → Bool
+isSome o = option o false (λ _. true)
+
+module _ {A : Type 0} where
+  pub position-ext : (p q : A → Bool) → ((x : A) → p x ≡ q x) → (xs : List A) → position p xs ≡ position q xs
+  unfolding position
+  position-ext p q h [] = refl
+  position-ext p q h (x ∷ xs) = rw (h x, position-ext p q h xs)
+
+  any-position : (p q : A → Bool) → ((x : A) → p x ≡ q x) → (xs : List A) → any q xs ≡ isSome (position p xs)
+  unfolding position option any isSome
+  any-position p q h [] = refl
+  any-position p q h (x ∷ xs) = rw (← h x, any-position p q h xs) (go (p x) (position p xs))
+    where
+      go : (b : Bool) (o : Option ℕ) → (b || isSome o) ≡ isSome (if b then some zero else option o none (λ j. some (suc j)))
+      go true o = refl
+      go false none = refl
+      go false (some j) = refl
+
+  pub any-found : (p q : A → Bool) → ((x : A) → p x ≡ q x) → (xs : List A) (i : ℕ) → position p xs ≡ some i → true ≡ any q xs
+  unfolding option isSome
+  any-found p q h xs i e = sym (any-position p q h xs ∙ ap isSome e)
+
+  pub any-missed : (p q : A → Bool) → ((x : A) → p x ≡ q x) → (xs : List A) → position p xs ≡ none → false ≡ any q xs
+  unfolding option isSome
+  any-missed p q h xs e = sym (any-position p q h xs ∙ ap isSome e)
+
+  -- it is one of them, and passes
+  pub position-some : (p : A → Bool) (xs : List A) (i : ℕ) (d : A) → position p xs ≡ some i → (i < length xs) × (p (getD xs i d) ≡ true)
+  unfolding position option
+  position-some p [] i d e = let z : _≡_ {A = ℕ} 0 1 = cc in absurd (omega arith)
+  position-some p (x ∷ xs) i d e = go (p x) refl (position p xs) refl e (λ j. position-some p xs j d)
+    where
+      is : (j : ℕ) → some j ≡ some i → i ≡ j
+      is j f = cc
+
+      go : (b : Bool) → p x ≡ b → (o : Option ℕ) → position p xs ≡ o → (if b then some zero else option o none (λ j. some (suc j))) ≡ some i
+          → ((j : ℕ) → position p xs ≡ some j → (j < length xs) × (p (getD xs j d) ≡ true)) → (i < length (x ∷ xs)) × (p (getD (x ∷ xs) i d) ≡ true)
+      go true w o u f ih = rw (is 0 f) (omega arith, w)
+      go false w none u f ih = let z : _≡_ {A = ℕ} 0 1 = cc in absurd (omega arith)
+      go false w (some j) u f ih = let v = ih j u in rw (is (suc j) f) (omega arith, v .1)
+
+  position-append : (p : A → Bool) (xs ys : List A) → position p (xs ++ ys) ≡ option (position p xs) (counted (length xs) (position p ys)) (λ i. some i)
+  unfolding position option counted
+  position-append p [] ys = go (position p ys)
+    where
+      go : (o : Option ℕ) → o ≡ option o none (λ i. some (0 + i))
+      go none = refl
+      go (some i) = let z : i ≡ 0 + i = omega arith in ap (λ (m : ℕ). some m) z
+  position-append p (x ∷ xs) ys = rw (position-append p xs ys) (go (p x) (position p xs) (position p ys))
+    where
+      go : (b : Bool) (o u : Option ℕ) → (if b then some zero else option (option o (option u none (λ i. some (length xs + i))) (λ i. some i)) none (λ i. some (suc i)))
+          ≡ option (if b then some zero else option o none (λ i. some (suc i))) (option u none (λ i. some (suc (length xs) + i))) (λ i. some i)
+      go true o u = refl
+      go false (some i) u = refl
+      go false none none = refl
+      go false none (some j) = let z : suc (length xs + j) ≡ suc (length xs) + j = omega arith in ap (λ (m : ℕ). some m) z
+
+-- ---- one relation more
+
+module _ (r : Bool) (x y : List ℕ) (any : Bool) (arity k : ℕ) where
+  pub fits-any : any ≡ true → r ≡ same x y → r ≡ (same x y && (any || eqb arity k))
+  fits-any e w = rw e (w ∙ sym (and-true (same x y)))
+
+  pub fits-arity : any ≡ false → arity ≡ k → r ≡ same x y → r ≡ (same x y && (any || eqb arity k))
+  fits-arity e h w = rw (e, eq-eqb arity k h) (w ∙ sym (and-true (same x y)))
+
+pub fits-other : (x y : List ℕ) (any : Bool) (arity k : ℕ) → any ≡ false → (arity ≡ k → ⊥) → false ≡ (same x y && (any || eqb arity k))
+fits-other x y any arity k e h = rw (e, ne-eqb arity k h) (sym (and-false (same x y)))
+
+counted-next : (k : ℕ) (o : Option ℕ) → counted k (option o none (λ i. some (suc i))) ≡ counted (k + 1) o
+unfolding counted option
+counted-next k none = refl
+counted-next k (some i) = let z : k + suc i ≡ k + 1 + i = omega arith in ap (λ (m : ℕ). some m) z
+
+pub counted-zero : (o : Option ℕ) → counted 0 o ≡ o
+unfolding counted option
+counted-zero none = refl
+counted-zero (some i) = let z : 0 + i ≡ i = omega arith in ap (λ (m : ℕ). some m) z
+
+module _ (q : List ℕ) (g : Signature) where
+  next-relation : (i hi : ℕ) → i < hi → relationsFrom q g i (hi - i) ≡ relationIn q g i ∷ relationsFrom q g (i + 1) (hi - (i + 1))
+  unfolding relationsFrom
+  next-relation i hi h = let z : hi - i ≡ suc (hi - (i + 1)) = omega arith in rw z (rw (add-one i))
+
+  module _ (name : List ℕ) (any : Bool) (k : ℕ) where
+    module _ (i hi : ℕ) (h : i < hi) where
+      pub look-hit : (same (slice (getD (g .from) i 0) (getD (g .to) i 0) q) name && (any || eqb (getD (g .arity) i 0) k)) ≡ true
+          → counted i (position (matches name any k) (relationsFrom q g i (hi - i))) ≡ some i
+      unfolding position matches relationIn counted option
+      look-hit e = let z : i + 0 ≡ i = omega arith in rw (next-relation i hi h) (rw e (ap (λ (m : ℕ). some m) z))
+
+      pub look-miss : (same (slice (getD (g .from) i 0) (getD (g .to) i 0) q) name && (any || eqb (getD (g .arity) i 0) k)) ≡ false
+          → counted i (position (matches name any k) (relationsFrom q g i (hi - i))) ≡ counted (i + 1) (position (matches name any k) (relationsFrom q g (i + 1) (hi - (i + 1))))
+      unfolding position matches relationIn
+      look-miss e = rw (next-relation i hi h) (rw e (counted-next i (position (matches name any k) (relationsFrom q g (i + 1) (hi - (i + 1))))))
+
+    pub look-start : (lo m : ℕ) → counted lo (position (matches name any k) (relationsFrom q g lo m)) ≡ counted lo (position (matches name any k) (relationsFrom q g lo (lo + m - lo)))
+    look-start lo m = let z : lo + m - lo ≡ m = omega arith in rw z
+
+    pub look-end : (i hi : ℕ) → hi ≤ i → counted i (position (matches name any k) (relationsFrom q g i (hi - i))) ≡ none
+    unfolding position relationsFrom counted option
+    look-end i hi h = let z : hi - i ≡ 0 = omega arith in rw z
+
+-- ---- all relations: the built-in ones, then those declared
+
+relations-append : (q : List ℕ) (g : Signature) (i m n : ℕ) → relationsFrom q g i (m + n) ≡ relationsFrom q g i m ++ relationsFrom q g (i + m) n
+unfolding relationsFrom
+relations-append q g i zero n = let z : 0 + n ≡ n = omega arith in let y : i + 0 ≡ i = omega arith in rw (z, y)
+relations-append q g i (suc m) n =
+    let z : suc m + n ≡ suc (m + n) = omega arith in
+    let y : i + suc m ≡ suc i + m = omega arith in
+    rw (z, y) (ap (λ (rs : List Relation). relationIn q g i ∷ rs) (relations-append q g (suc i) m n))
+
+pub all-are : (q : List ℕ) (g : Signature) → allOf q g ≡ builtIn ++ relationsFrom q g 0 (g .rels + g .chosen)
+unfolding allOf relsOf chosenOf relations builtIn
+all-are q g = let z : 0 + g .rels ≡ g .rels = omega arith in sym (ap (λ (rs : List Relation). builtIn ++ rs) (relations-append q g 0 (g .rels) (g .chosen) ∙ rw z))
+
+built-in-are : relationsFrom (69 ∷ 81 ∷ 76 ∷ 84 ∷ 83 ∷ 85 ∷ 67 ∷ 90 ∷ 69 ∷ 82 ∷ 79 ∷ 77 ∷ 65 ∷ 88 ∷ []) builtInTable 0 5 ≡ builtIn
+unfolding relationsFrom relationIn builtInTable builtIn bytes kindOf
+built-in-are = refl
+
+found-some : (o : Option ℕ) (i : ℕ) (f : Found) → f ≡ At i → f ≡ placeOf o → o ≡ some i
+found-some none i f p q = let z : _≡_ {A = ℕ} 0 1 = cc in absurd (omega arith)
+found-some (some j) i f p q = cc
+
+found-none : (o : Option ℕ) (f : Found) → f ≡ Nowhere → f ≡ placeOf o → o ≡ none
+found-none none f p q = refl
+found-none (some j) f p q = let z : _≡_ {A = ℕ} 0 1 = cc in absurd (omega arith)
+
+module _ (q : List ℕ) (g : Signature) (p : Relation → Bool) where
+  in-all : position p (allOf q g) ≡ option (position p builtIn) (counted 5 (position p (relationsFrom q g 0 (g .rels + g .chosen)))) (λ i. some i)
+  unfolding builtIn
+  in-all = ap (position p) (all-are q g) ∙ position-append p builtIn (relationsFrom q g 0 (g .rels + g .chosen))
+
+  module _ (t : Signature) (u : t ≡ builtInTable) (b : Found) (w : b ≡ placeOf (counted 0 (position p (relationsFrom (69 ∷ 81 ∷ 76 ∷ 84 ∷ 83 ∷ 85 ∷ 67 ∷ 90 ∷ 69 ∷ 82 ∷ 79 ∷ 77 ∷ 65 ∷ 88 ∷ []) t 0 5)))) where
+    among-built-in : b ≡ placeOf (position p builtIn)
+    among-built-in = w ∙ ap placeOf (counted-zero _ ∙ ap (position p) (rw u built-in-are))
+
+    pub in-built-in : (i : ℕ) → b ≡ At i → At i ≡ placeOf (position p (allOf q g))
+    unfolding option
+    in-built-in i e = let w : position p (allOf q g) ≡ some i = in-all ∙ rw (found-some (position p builtIn) i b e among-built-in) in sym (ap placeOf w)
+
+    module _ (e : b ≡ Nowhere) (d : Found) (v : d ≡ placeOf (counted 0 (position p (relationsFrom q g 0 (g .rels + g .chosen))))) where
+      past-built-in : position p (allOf q g) ≡ counted 5 (position p (relationsFrom q g 0 (g .rels + g .chosen)))
+      unfolding option
+      past-built-in = in-all ∙ rw (found-none (position p builtIn) b e among-built-in)
+
+      among-declared : d ≡ placeOf (position p (relationsFrom q g 0 (g .rels + g .chosen)))
+      among-declared = v ∙ ap placeOf (counted-zero _)
+
+      pub in-declared : (i : ℕ) → d ≡ At i → At (5 + i) ≡ placeOf (position p (allOf q g))
+      unfolding counted option
+      in-declared i f =
+          let w : position p (allOf q g) ≡ some (5 + i) = past-built-in ∙ rw (found-some (position p (relationsFrom q g 0 (g .rels + g .chosen))) i d f among-declared) in
+          sym (ap placeOf w)
+
+      pub in-none : d ≡ Nowhere → Nowhere ≡ placeOf (position p (allOf q g))
+      unfolding counted option
+      in-none f =
+          let w : position p (allOf q g) ≡ none = past-built-in ∙ rw (found-none (position p (relationsFrom q g 0 (g .rels + g .chosen))) d f among-declared) in
+          sym (ap placeOf w)
+
+-- ---- what was found
+
+length-relations : (q : List ℕ) (g : Signature) (i m : ℕ) → length (relationsFrom q g i m) ≡ m
+unfolding relationsFrom
+length-relations q g i zero = refl
+length-relations q g i (suc m) = ap suc (length-relations q g (suc i) m)
+
+counted-some : (lo : ℕ) (o : Option ℕ) (i : ℕ) → counted lo o ≡ some i → (j : ℕ) × (o ≡ some j) × (i ≡ lo + j)
+unfolding counted option
+counted-some lo none i e = let z : _≡_ {A = ℕ} 0 1 = cc in absurd (omega arith)
+counted-some lo (some j) i e = (j, refl, is (lo + j) e)
+  where
+    is : (k : ℕ) → some k ≡ some i → i ≡ k
+    is k f = cc
+
+pub relation-at : (q : List ℕ) (g : Signature) (i m j : ℕ) (d : Relation) → j < m → getD (relationsFrom q g i m) j d ≡ relationIn q g (i + j)
+unfolding relationsFrom
+relation-at q g i zero j d h = absurd (omega arith)
+relation-at q g i (suc m) zero d h = let z : i ≡ i + 0 = omega arith in ap (relationIn q g) z
+relation-at q g i (suc m) (suc j) d h = let z : suc i + j ≡ i + suc j = omega arith in relation-at q g (suc i) m j d (omega arith) ∙ ap (relationIn q g) z
+
+-- a relation that was found is one of those looked at, and fits
+pub look-found : (q : List ℕ) (g : Signature) (p : Relation → Bool) (lo m i : ℕ) (f : Found) → f ≡ At i → f ≡ placeOf (counted lo (position p (relationsFrom q g lo m)))
+    → (lo ≤ i) × (i < lo + m) × (p (relationIn q g i) ≡ true)
+look-found q g p lo m i f e w =
+    let (j, s, z) = counted-some lo (position p (relationsFrom q g lo m)) i (found-some _ i f e w) in
+    let (h, v) = position-some p (relationsFrom q g lo m) j (relationIn q g 0) s in
+    let l : j < m = rw length-relations at h in
+    (omega arith, omega arith, rw (z, ← relation-at q g lo m j (relationIn q g 0) l) v)
+
+-- ---- by the name alone, and by name and arity
+
+module _ (rs : List Relation) (name : List ℕ) where
+  any-arity : (r : Relation) → matches name true 0 r ≡ same (r .name) name
+  unfolding matches
+  any-arity r = and-true (same (r .name) name)
+
+  one-arity : (k : ℕ) (r : Relation) → matches name false k r ≡ hasArity name k r
+  unfolding matches hasArity
+  one-arity k r = refl
+
+  pub by-name : (f : Found) → f ≡ placeOf (position (matches name true 0) rs) → f ≡ placeOf (numberOf rs name)
+  unfolding numberOf
+  by-name f w = w ∙ ap placeOf (position-ext (matches name true 0) (λ (r : Relation). same (r .name) name) any-arity rs)
+
+  module _ (f : Found) (w : f ≡ placeOf (position (matches name true 0) rs)) where
+    pub is-declared : (i : ℕ) → f ≡ At i → true ≡ isDeclared rs name
+    unfolding isDeclared
+    is-declared i e = any-found (matches name true 0) (λ (r : Relation). same (r .name) name) any-arity rs i (found-some _ i f e w)
+
+    pub not-declared : f ≡ Nowhere → false ≡ isDeclared rs name
+    unfolding isDeclared
+    not-declared e = any-missed (matches name true 0) (λ (r : Relation). same (r .name) name) any-arity rs (found-none _ f e w)
+
+  module _ (k : ℕ) (f : Found) (w : f ≡ placeOf (position (matches name false k) rs)) where
+    pub is-known : (i : ℕ) → f ≡ At i → true ≡ any (hasArity name k) rs
+    is-known i e = any-found (matches name false k) (hasArity name k) (one-arity k) rs i (found-some _ i f e w)
+
+    pub not-known : f ≡ Nowhere → false ≡ any (hasArity name k) rs
+    not-known e = any-missed (matches name false k) (hasArity name k) (one-arity k) rs (found-none _ f e w)
+
+-- ---- arities and kinds by number
+
+abbrev no-relation : Relation
+no-relation = record { name = []; arity = zero; kind = static }
+
+built-in-arity : (rs : List Relation) (r : ℕ) → r < 5 → getD (builtInTable .arity) r 0 ≡ getD (builtIn ++ rs) r no-relation .arity
+unfolding builtIn builtInTable
+built-in-arity rs zero h = refl
+built-in-arity rs (suc zero) h = refl
+built-in-arity rs (suc (suc zero)) h = refl
+built-in-arity rs (suc (suc (suc zero))) h = refl
+built-in-arity rs (suc (suc (suc (suc zero)))) h = refl
+built-in-arity rs (suc (suc (suc (suc (suc r))))) h = absurd (omega arith)
+
+built-in-kind : (rs : List Relation) (r : ℕ) → r < 5 → static ≡ getD (builtIn ++ rs) r no-relation .kind
+unfolding builtIn
+built-in-kind rs zero h = refl
+built-in-kind rs (suc zero) h = refl
+built-in-kind rs (suc (suc zero)) h = refl
+built-in-kind rs (suc (suc (suc zero))) h = refl
+built-in-kind rs (suc (suc (suc (suc zero)))) h = refl
+built-in-kind rs (suc (suc (suc (suc (suc r))))) h = absurd (omega arith)
+
+declared-at : (q : List ℕ) (g : Signature) (r : ℕ) → 5 ≤ r → r < 5 + (g .rels + g .chosen) → getD (allOf q g) r no-relation ≡ relationIn q g (r - 5)
+unfolding builtIn
+declared-at q g r h l =
+    let z : r ≡ 5 + (r - 5) = omega arith in
+    let y : 0 + (r - 5) ≡ r - 5 = omega arith in
+    ap (λ (rs : List Relation). getD rs r no-relation) (all-are q g)
+    ∙ ap (λ (i : ℕ). getD (builtIn ++ relationsFrom q g 0 (g .rels + g .chosen)) i no-relation) z
+    ∙ getD-append-add builtIn (relationsFrom q g 0 (g .rels + g .chosen)) (r - 5) no-relation
+    ∙ relation-at q g 0 (g .rels + g .chosen) (r - 5) no-relation (omega arith)
+    ∙ ap (relationIn q g) y
+
+module _ (g : Signature) (r : ℕ) where
+  pub arity-built-in : r < 5 → HasArity g r (getD (2 ∷ 2 ∷ 2 ∷ 1 ∷ 1 ∷ 0 ∷ 0 ∷ 0 ∷ 0 ∷ 0 ∷ 0 ∷ 0 ∷ []) r 0)
+  unfolding HasArity builtInTable
+  arity-built-in h q = built-in-arity (relationsFrom q g 0 (g .rels + g .chosen)) r h ∙ ap (λ (rs : List Relation). getD rs r no-relation .arity) (sym (all-are q g))
+
+  pub kind-built-in : r < 5 → HasKind g r 0
+  unfolding HasKind kindOf
+  kind-built-in h q = built-in-kind (relationsFrom q g 0 (g .rels + g .chosen)) r h ∙ ap (λ (rs : List Relation). getD rs r no-relation .kind) (sym (all-are q g))
+
+  module _ (h : 5 ≤ r) (l : r < 5 + (g .rels + g .chosen)) where
+    pub arity-declared : HasArity g r (getD (g .arity) (r - 5) 0)
+    unfolding HasArity relationIn
+    arity-declared q = sym (ap (λ (k : Relation). k .arity) (declared-at q g r h l))
+
+    pub kind-declared : HasKind g r (getD (g .kind) (r - 5) 0)
+    unfolding HasKind relationIn
+    kind-declared q = sym (ap (λ (k : Relation). k .kind) (declared-at q g r h l))

@@ -1,0 +1,69 @@
+-- A signature as the code holds it, the relations that it stands for, and what looking one up by its name means.
+use Prim.Native.Nat.{ℕ, zero, suc, _+_, _≤_, _<_}
+use mathlib.Core.Path.{_≡_}
+use mathlib.Core.Bool.{Bool, _&&_, _||_}
+use mathlib.Core.List.{List, [], _∷_}
+use mathlib.Core.Option.{Option, none, some}
+use lib.Dec.{eqb}
+use lib.ListN.{length, getD}
+use lib.Seq.{slice}
+use Rattle.definitions.specs.Lists.{same, option}
+use Rattle.definitions.specs.Relations.{Relation, static}
+use Rattle.definitions.specs.Sheets.{relations}
+use Rattle.text.specs.Spans.{kindOf}
+use Rattle.names.specs.declared.Signature.{Signature}
+
+-- relation i of the signature, whose names are spans of q
+unfoldable pub relationIn : List ℕ → Signature → ℕ → Relation
+relationIn q g i = record { name = slice (getD (g .from) i 0) (getD (g .to) i 0) q; arity = getD (g .arity) i 0; kind = kindOf (getD (g .kind) i 0) }
+
+-- the m relations from i on
+unfoldable pub relationsFrom : List ℕ → Signature → ℕ → ℕ → List Relation
+relationsFrom q g i zero = []
+relationsFrom q g i (suc m) = relationIn q g i ∷ relationsFrom q g (suc i) m
+
+-- the `rel` and the `choose` relations, and all in the order of their numbers
+unfoldable pub relsOf : List ℕ → Signature → List Relation
+relsOf q g = relationsFrom q g 0 (g .rels)
+
+unfoldable pub chosenOf : List ℕ → Signature → List Relation
+chosenOf q g = relationsFrom q g (g .rels) (g .chosen)
+
+unfoldable pub allOf : List ℕ → Signature → List Relation
+allOf q g = relations (relsOf q g) (chosenOf q g)
+
+-- a signature of a question: as many relations as there may be, names inside its text, arities 1 to 3
+pub record Sound (q : List ℕ) (g : Signature) : Type 0 where
+  pub rels-le : g .rels ≤ 8
+  pub chosen-le : g .chosen ≤ 4
+  pub spans : (i : ℕ) → i < g .rels + g .chosen → (getD (g .from) i 0 ≤ getD (g .to) i 0) × (getD (g .to) i 0 ≤ length q)
+  pub arities : (i : ℕ) → i < g .rels + g .chosen → (1 ≤ getD (g .arity) i 0) × (getD (g .arity) i 0 ≤ 3)
+
+-- the table of the built-in relations, and the bytes of their names
+unfoldable pub builtInTable : Signature
+builtInTable = record {
+  rels = 5;
+  chosen = 0;
+  from = 0 ∷ 2 ∷ 4 ∷ 7 ∷ 11 ∷ 0 ∷ 0 ∷ 0 ∷ 0 ∷ 0 ∷ 0 ∷ 0 ∷ [];
+  to = 2 ∷ 4 ∷ 7 ∷ 11 ∷ 14 ∷ 0 ∷ 0 ∷ 0 ∷ 0 ∷ 0 ∷ 0 ∷ 0 ∷ [];
+  arity = 2 ∷ 2 ∷ 2 ∷ 1 ∷ 1 ∷ 0 ∷ 0 ∷ 0 ∷ 0 ∷ 0 ∷ 0 ∷ 0 ∷ [];
+  kind = 0 ∷ 0 ∷ 0 ∷ 0 ∷ 0 ∷ 0 ∷ 0 ∷ 0 ∷ 0 ∷ 0 ∷ 0 ∷ 0 ∷ [];
+}
+
+-- a relation has the name and, unless any will do, the arity k; it has both
+unfoldable pub matches : List ℕ → Bool → ℕ → Relation → Bool
+matches name any k r = same (r .name) name && (any || eqb (r .arity) k)
+
+unfoldable pub hasArity : List ℕ → ℕ → Relation → Bool
+hasArity name k r = same (r .name) name && eqb (r .arity) k
+
+-- an index counted from lo on
+unfoldable pub counted : ℕ → Option ℕ → Option ℕ
+counted lo o = option o none (λ i. some (lo + i))
+
+-- relation r of all has the arity k, and the kind of the number k, whatever the names
+unfoldable pub HasArity : Signature → ℕ → ℕ → Type 0
+HasArity g r k = (q : List ℕ) → k ≡ getD (allOf q g) r (record { name = []; arity = zero; kind = static }) .arity
+
+unfoldable pub HasKind : Signature → ℕ → ℕ → Type 0
+HasKind g r k = (q : List ℕ) → kindOf k ≡ getD (allOf q g) r (record { name = []; arity = zero; kind = static }) .kind

@@ -1,0 +1,176 @@
+// The relations of a question as a signature, and a relation's number by its name: the built-in ones first, then those declared.
+ghost use mathlib.Core.Path.{_≡_};
+ghost use mathlib.Core.Bool.{_&&_, _||_};
+ghost use Prim.Native.Nat.{_+_, _≤_, _<_};
+ghost use lib.Dec.{eqb};
+ghost use lib.Seq.{slice};
+ghost use Rattle.definitions.specs.Lists.{same, any as anyOf, position};
+ghost use Rattle.definitions.specs.Relations.{numberOf, isDeclared};
+ghost use Rattle.text.specs.Spans.{placeOf};
+ghost use Rattle.names.specs.Signatures.{relationsFrom, allOf, builtInTable, matches, hasArity, counted, HasArity, HasKind};
+use text::Found;
+
+// How many relations a question declares at the most.
+pub const DECLARED: usize = 12;
+
+// Names as spans of a text, arities, kinds by number; first each `rel`, then each `choose`.
+pub struct Signature {
+    pub rels: usize,
+    pub chosen: usize,
+    pub from: [usize; DECLARED],
+    pub to: [usize; DECLARED],
+    pub arity: [usize; DECLARED],
+    pub kind: [u32; DECLARED],
+}
+
+// The table of the five built-in relations: EQ, LT, SUC, ZERO, MAX.
+const STARTS: [usize; DECLARED] = [0, 2, 4, 7, 11, 0, 0, 0, 0, 0, 0, 0];
+
+const ENDS: [usize; DECLARED] = [2, 4, 7, 11, 14, 0, 0, 0, 0, 0, 0, 0];
+
+const ARITIES: [usize; DECLARED] = [2, 2, 2, 1, 1, 0, 0, 0, 0, 0, 0, 0];
+
+// That table as a signature; its names are spans of `EQLTSUCZEROMAX`.
+fn built_in() -> Signature
+    ensures { λ r. ⌜ r ≡ builtInTable ⌝ }
+{
+    let from = STARTS;
+    let to = ENDS;
+    let arity = ARITIES;
+    Signature {
+        rels: 5,
+        chosen: 0,
+        from,
+        to,
+        arity,
+        kind: [0; DECLARED],
+    }
+}
+
+// A relation with the name from b to f of q, and an arity, has the name from a to e of s and, unless any will do, the arity k.
+fn fits(
+    q: &[u8],
+    b: usize,
+    f: usize,
+    arity: usize,
+    s: &[u8],
+    a: usize,
+    e: usize,
+    any: bool,
+    k: usize,
+) -> bool
+    ensures { λ r. ⌜ r ≡ (same (slice b f (now (q .entry))) (slice a e (now (s .entry))) && (any || eqb arity k)) ⌝ }
+{
+    if any {
+        return text::same_span(q, b, f, s, a, e);
+    }
+    if arity == k {
+        return text::same_span(q, b, f, s, a, e);
+    }
+    false
+}
+
+// The first of the m relations from lo on that has the name from a to e of s and, unless any will do, the arity k.
+pub fn lookup(
+    q: &[u8],
+    g: Signature,
+    lo: usize,
+    m: usize,
+    s: &[u8],
+    a: usize,
+    e: usize,
+    any: bool,
+    k: usize,
+) -> Found
+    requires { ⌜ lo + m ≤ 12 ⌝ }
+    ensures { λ r. ⌜ r ≡ placeOf (counted lo (position (matches (slice a e (now (s .entry))) any k) (relationsFrom (now (q .entry)) g lo m))) ⌝ }
+{
+    let hi = lo + m;
+    let mut i = lo;
+    while i < hi {
+        let from = g.from[i];
+        let to = g.to[i];
+        let places = g.arity[i];
+        if fits(q, from, to, places, s, a, e, any, k) {
+            return Found::At(i);
+        }
+        i += 1;
+    }
+    Found::Nowhere
+}
+
+// The number of the first relation of all that has the name and, unless any will do, the arity k.
+fn search(s: &[u8], g: Signature, a: usize, e: usize, any: bool, k: usize) -> Found
+    requires { ⌜ g .rels + g .chosen ≤ 12 ⌝ }
+    ensures { λ r. ⌜ r ≡ placeOf (position (matches (slice a e (now (s .entry))) any k) (allOf (now (s .entry)) g)) ⌝ }
+{
+    let table = built_in();
+    let b = lookup(b"EQLTSUCZEROMAX", table, 0, 5, s, a, e, any, k);
+    match b {
+        Found::At(i) => Found::At(i),
+        Found::Nowhere => {
+            let n = g.rels + g.chosen;
+            let d = lookup(s, g, 0, n, s, a, e, any, k);
+            match d {
+                Found::At(i) => Found::At(5 + i),
+                Found::Nowhere => Found::Nowhere,
+            }
+        }
+    }
+}
+
+// The number of the relation that the span names.
+pub fn relation(s: &[u8], g: Signature, a: usize, e: usize) -> Found
+    requires { ⌜ g .rels + g .chosen ≤ 12 ⌝ }
+    ensures { λ r. ⌜ r ≡ placeOf (numberOf (allOf (now (s .entry)) g) (slice a e (now (s .entry)))) ⌝ }
+{
+    search(s, g, a, e, true, 0)
+}
+
+// Whether the span names a relation.
+pub fn is_declared(s: &[u8], g: Signature, a: usize, e: usize) -> bool
+    requires { ⌜ g .rels + g .chosen ≤ 12 ⌝ }
+    ensures { λ r. ⌜ r ≡ isDeclared (allOf (now (s .entry)) g) (slice a e (now (s .entry))) ⌝ }
+{
+    let f = search(s, g, a, e, true, 0);
+    match f {
+        Found::At(_) => true,
+        Found::Nowhere => false,
+    }
+}
+
+// Whether the span names a relation with `count` places.
+pub fn known(s: &[u8], g: Signature, a: usize, e: usize, count: usize) -> bool
+    requires { ⌜ g .rels + g .chosen ≤ 12 ⌝ }
+    ensures { λ r. ⌜ r ≡ anyOf (hasArity (slice a e (now (s .entry))) count) (allOf (now (s .entry)) g) ⌝ }
+{
+    let f = search(s, g, a, e, false, count);
+    match f {
+        Found::At(_) => true,
+        Found::Nowhere => false,
+    }
+}
+
+// The arity of relation r.
+pub fn arity(g: Signature, r: usize) -> usize
+    requires { ⌜ (r < 5 + (g .rels + g .chosen)) × (g .rels + g .chosen ≤ 12) ⌝ }
+    ensures { λ k. ⌜ HasArity g r k ⌝ }
+{
+    if r < 5 {
+        return ARITIES[r];
+    }
+    let i = r - 5;
+    g.arity[i]
+}
+
+// The kind of relation r by its number; 0 is static.
+pub fn kind(g: Signature, r: usize) -> u32
+    requires { ⌜ (r < 5 + (g .rels + g .chosen)) × (g .rels + g .chosen ≤ 12) ⌝ }
+    ensures { λ k. ⌜ HasKind g r k ⌝ }
+{
+    if r < 5 {
+        return 0;
+    }
+    let i = r - 5;
+    g.kind[i]
+}
