@@ -1,0 +1,651 @@
+// The rule line of document 01: reading its formula, and the refusals 5 to 8 of its field.
+ghost use mathlib.Core.Path.{_≡_};
+ghost use mathlib.Core.Bool.{Bool, true, false, _&&_};
+ghost use mathlib.Core.List.{List, [], _∷_};
+ghost use Prim.Native.Nat.{ℕ, _+_, _-_, _^_, _≤_, _<_};
+ghost use lib.ListN.{length, drop};
+ghost use lib.Seq.{slice};
+ghost use Rattle.definitions.specs.Formula.{begins, kindOf, first, inside, longest, span, readWord, readVar, readVars, readParts, readLit, readNeg, readImp, readJoin, readQuant, read, Join, Quant, isBound, totals};
+ghost use Rattle.names.specs.Signatures.{allOf, chosenOf};
+ghost use Rattle.formula.specs.Seen.{totalOf, joinOf, headOf, okOf, seen, nought, shutOf, varFacts, varsFacts, bothFacts, oneMore, quantFacts, verdictOf, names, facts, factsAll, Grows, listed, verdictNumber, ruleNumber, litFacts};
+use names::Signature;
+
+// The form of a formula, by its first bytes.
+pub enum Kind {
+    Not,
+    Implies,
+    And,
+    Or,
+    Exists,
+    Forall,
+    Other,
+}
+
+// What is said of a part of a formula: its forms; whether no more than 4 quantifiers nest, those around it included; whether
+// its relations are known; whether its variables are bound, and none twice.
+pub struct Facts {
+    pub forms: usize,
+    pub fits: bool,
+    pub known: bool,
+    pub scoped: bool,
+}
+
+// What is found at a place: where it ends and what is said of it, or that it is not of its form.
+pub enum Found {
+    Ok(usize, Facts),
+    Bad,
+}
+
+// The variables bound around, outermost first, as spans of the text.
+pub struct Scope {
+    pub from: [usize; 4],
+    pub to: [usize; 4],
+    pub n: usize,
+}
+
+// A scope with further variables; whether they fit, and whether each was new.
+pub struct Grown {
+    pub scope: Scope,
+    pub fits: bool,
+    pub fresh: bool,
+}
+
+// The rule field's refusal: none, 5, 6, 7 or 8.
+pub enum Verdict {
+    Fine,
+    NotOfForm,
+    TooLarge,
+    Unknown,
+    Unbound,
+}
+
+// Does `s` go on with `p` at `at`.
+pub fn starts(s: &[u8], at: usize, p: &[u8]) -> bool
+    requires { ⌜ at ≤ length (now s) ⌝ }
+    ensures { λ r. ⌜ r ≡ begins (now (p .entry)) (drop at (now (s .entry))) ⌝ }
+{
+    let mut i = 0;
+    let mut j = at;
+    while i < p.len() {
+        if j >= s.len() {
+            return false;
+        }
+        if p[i] != s[j] {
+            return false;
+        }
+        i += 1;
+        j += 1;
+    }
+    true
+}
+
+pub fn kind_at(s: &[u8], at: usize) -> Kind
+    requires { ⌜ at ≤ length (now s) ⌝ }
+    ensures { λ r. ⌜ headOf r ≡ kindOf (drop at (now (s .entry))) ⌝ }
+{
+    if starts(s, at, b"(not ") {
+        return Kind::Not;
+    }
+    if starts(s, at, b"(implies ") {
+        return Kind::Implies;
+    }
+    if starts(s, at, b"(and ") {
+        return Kind::And;
+    }
+    if starts(s, at, b"(or ") {
+        return Kind::Or;
+    }
+    if starts(s, at, b"(exists (") {
+        return Kind::Exists;
+    }
+    if starts(s, at, b"(forall (") {
+        return Kind::Forall;
+    }
+    Kind::Other
+}
+
+fn is_first(c: u8, var: bool) -> bool
+    ensures { λ r. ⌜ r ≡ first var c ⌝ }
+{
+    if var {
+        c >= 97 && c <= 122
+    } else {
+        c >= 65 && c <= 90
+    }
+}
+
+fn is_inside(c: u8, var: bool) -> bool
+    ensures { λ r. ⌜ r ≡ inside var c ⌝ }
+{
+    if is_first(c, var) {
+        return true;
+    }
+    if c == 95 {
+        return true;
+    }
+    if c < 48 {
+        return false;
+    }
+    c <= 57
+}
+
+// Where the bytes that may stand inside a word end.
+pub fn run(s: &[u8], from: usize, var: bool) -> usize
+    requires { ⌜ from ≤ length (now s) ⌝ }
+    ensures { λ r. ⌜ r ≡ from + span var (drop from (now (s .entry))) ⌝ }
+{
+    let mut i = from;
+    while i < s.len() {
+        if !is_inside(s[i], var) {
+            return i;
+        }
+        i += 1;
+    }
+    i
+}
+
+// A name, or the letters of a variable.
+fn word(s: &[u8], at: usize, var: bool) -> Found
+    requires { ⌜ at ≤ length (now s) ⌝ }
+    ensures { λ r. ⌜ r ≡ seen nought (length (now (s .entry))) (readWord var (drop at (now (s .entry)))) ⌝ }
+{
+    if at >= s.len() {
+        return Found::Bad;
+    }
+    if !is_first(s[at], var) {
+        return Found::Bad;
+    }
+    let end = run(s, at + 1, var);
+    let most = longest_of(var);
+    if end - at <= most {
+        Found::Ok(
+            end,
+            Facts {
+                forms: 0,
+                fits: true,
+                known: true,
+                scoped: true,
+            },
+        )
+    } else {
+        Found::Bad
+    }
+}
+
+fn longest_of(var: bool) -> usize
+    ensures { λ r. ⌜ r ≡ longest var ⌝ }
+{
+    if var { 7 } else { 12 }
+}
+
+// Is the variable from `a` to `e` bound around.
+pub fn is_bound(s: &[u8], a: usize, e: usize, sc: Scope) -> bool
+    requires { ⌜ sc .n ≤ 4 ⌝ }
+    ensures { λ r. ⌜ r ≡ isBound (names (now (s .entry)) sc) (slice a e (now (s .entry))) ⌝ }
+{
+    let mut i = 0;
+    while i < sc.n {
+        if text::same_span(s, a, e, s, sc.from[i], sc.to[i]) {
+            return true;
+        }
+        i += 1;
+    }
+    false
+}
+
+fn and(a: bool, b: bool) -> bool
+    ensures { λ r. ⌜ r ≡ (a && b) ⌝ }
+{
+    if a { b } else { false }
+}
+
+// What is said of two parts together.
+fn both(f: Facts, g: Facts) -> Facts
+    requires { ⌜ f .forms + g .forms < 2 ^ 64 ⌝ }
+    ensures { λ r. ⌜ r ≡ bothFacts f g ⌝ }
+{
+    let fits = and(f.fits, g.fits);
+    let known = and(f.known, g.known);
+    let scoped = and(f.scoped, g.scoped);
+    Facts {
+        forms: f.forms + g.forms,
+        fits,
+        known,
+        scoped,
+    }
+}
+
+fn add(end: usize, f: Facts, g: Facts) -> Found
+    requires { ⌜ f .forms + g .forms < 2 ^ 64 ⌝ }
+    ensures { λ r. ⌜ r ≡ okOf end (bothFacts f g) ⌝ }
+{
+    let h = both(f, g);
+    Found::Ok(end, h)
+}
+
+pub fn var_at(s: &[u8], at: usize, sc: Scope) -> Found
+    requires { ⌜ (at ≤ length (now s)) × (sc .n ≤ 4) ⌝ }
+    ensures { λ r. ⌜ r ≡ seen (varFacts (names (now (s .entry)) sc)) (length (now (s .entry))) (readVar (drop at (now (s .entry)))) ⌝ }
+{
+    if starts(s, at, b"?") {
+        let w = word(s, at + 1, true);
+        match w {
+            Found::Bad => Found::Bad,
+            Found::Ok(e, _) => {
+                let b = is_bound(s, at, e, sc);
+                Found::Ok(
+                    e,
+                    Facts {
+                        forms: 1,
+                        fits: true,
+                        known: true,
+                        scoped: b,
+                    },
+                )
+            }
+        }
+    } else {
+        Found::Bad
+    }
+}
+
+// At most `left` further variables, each after a space.
+pub fn vars(s: &[u8], at: usize, left: usize, sc: Scope) -> Found
+    requires { ⌜ (at ≤ length (now s)) × (sc .n ≤ 4) ⌝ }
+    ensures { λ r. ⌜ r ≡ seen (varsFacts (names (now (s .entry)) sc)) (length (now (s .entry))) (readVars left (drop at (now (s .entry)))) ⌝ }
+{
+    if starts(s, at, b" ") {
+        if left == 0 {
+            return Found::Bad;
+        }
+        let v = var_at(s, at + 1, sc);
+        match v {
+            Found::Bad => Found::Bad,
+            Found::Ok(next, f) => {
+                let vs = vars(s, next, left - 1, sc);
+                match vs {
+                    Found::Bad => Found::Bad,
+                    Found::Ok(end, g) => add(end, f, g),
+                }
+            }
+        }
+    } else {
+        Found::Ok(
+            at,
+            Facts {
+                forms: 0,
+                fits: true,
+                known: true,
+                scoped: true,
+            },
+        )
+    }
+}
+
+// The closing bracket.
+pub fn shut(s: &[u8], at: usize, f: Facts) -> Found
+    requires { ⌜ at ≤ length (now s) ⌝ }
+    ensures { λ r. ⌜ r ≡ shutOf (now (s .entry)) at f ⌝ }
+{
+    if starts(s, at, b")") {
+        Found::Ok(at + 1, f)
+    } else {
+        Found::Bad
+    }
+}
+
+// ... of a form with one part, and with two.
+fn shut_one(s: &[u8], at: usize, f: Facts) -> Found
+    requires { ⌜ (at ≤ length (now s)) × (f .forms + 1 < 2 ^ 64) ⌝ }
+    ensures { λ r. ⌜ r ≡ shutOf (now (s .entry)) at (oneMore f) ⌝ }
+{
+    let g = Facts {
+        forms: 1 + f.forms,
+        fits: f.fits,
+        known: f.known,
+        scoped: f.scoped,
+    };
+    shut(s, at, g)
+}
+
+fn shut_two(s: &[u8], at: usize, f: Facts, g: Facts) -> Found
+    requires { ⌜ (at ≤ length (now s)) × (f .forms + g .forms + 1 < 2 ^ 64) ⌝ }
+    ensures { λ r. ⌜ r ≡ shutOf (now (s .entry)) at (oneMore (bothFacts f g)) ⌝ }
+{
+    let h = both(f, g);
+    shut_one(s, at, h)
+}
+
+// The scope with the variable from `a` to `e`.
+fn push(s: &[u8], g: Grown, a: usize, e: usize) -> Grown
+    requires { ⌜ g .scope .n ≤ 4 ⌝ }
+    ensures { λ r. ⌜ Grows (now (s .entry)) g (slice a e (now (s .entry)) ∷ []) r ⌝ }
+{
+    let old = g.scope;
+    let n = old.n;
+    if n < 4 {
+        let b = is_bound(s, a, e, old);
+        let fresh = and(g.fresh, !b);
+        let mut sc = old;
+        sc.from[n] = a;
+        sc.to[n] = e;
+        sc.n = n + 1;
+        Grown {
+            scope: sc,
+            fits: g.fits,
+            fresh,
+        }
+    } else {
+        Grown {
+            scope: old,
+            fits: false,
+            fresh: g.fresh,
+        }
+    }
+}
+
+// The scope with `k` variables, the first at `at`, one byte between them.
+pub fn grow(s: &[u8], at: usize, k: usize, g: Grown) -> Grown
+    requires { ⌜ g .scope .n ≤ 4 ⌝ }
+    ensures { λ r. ⌜ Grows (now (s .entry)) g (listed (now (s .entry)) at k) r ⌝ }
+{
+    if k == 0 {
+        return g;
+    }
+    if at >= s.len() {
+        return g;
+    }
+    let e = run(s, at + 1, true);
+    let h = push(s, g, at, e);
+    grow(s, e + 1, k - 1, h)
+}
+
+// A literal's closing bracket; its name is from `a` to `e`, its variables are said by `f`.
+fn shut_literal(s: &[u8], at: usize, a: usize, e: usize, f: Facts, sig: Signature) -> Found
+    requires { ⌜ (at ≤ length (now s)) × (sig .rels + sig .chosen ≤ 12) ⌝ }
+    ensures { λ r. ⌜ r ≡ shutOf (now (s .entry)) at (litFacts (allOf (now (s .entry)) sig) (slice a e (now (s .entry))) f) ⌝ }
+{
+    let k = names::known(s, sig, a, e, f.forms);
+    let g = Facts {
+        forms: 1,
+        fits: true,
+        known: k,
+        scoped: f.scoped,
+    };
+    shut(s, at, g)
+}
+
+// A quantifier's.
+fn shut_quant(s: &[u8], at: usize, count: usize, g: Grown, f: Facts) -> Found
+    requires { ⌜ (at ≤ length (now s)) × (count + f .forms < 2 ^ 64) ⌝ }
+    ensures { λ r. ⌜ r ≡ shutOf (now (s .entry)) at (quantFacts count (g .fits) (g .fresh) f) ⌝ }
+{
+    let fits = and(g.fits, f.fits);
+    let new = and(g.fits, g.fresh);
+    let scoped = and(new, f.scoped);
+    let h = Facts {
+        forms: count + f.forms,
+        fits,
+        known: f.known,
+        scoped,
+    };
+    shut(s, at, h)
+}
+
+// A relation with its variables.
+pub fn literal(s: &[u8], at: usize, sig: Signature, sc: Scope) -> Found
+    requires { ⌜ (at ≤ length (now s)) × (sig .rels + sig .chosen ≤ 12) × (sc .n ≤ 4) ⌝ }
+    ensures { λ r. ⌜ r ≡ seen (facts (allOf (now (s .entry)) sig) (names (now (s .entry)) sc)) (length (now (s .entry))) (readLit (drop at (now (s .entry)))) ⌝ }
+{
+    if starts(s, at, b"(") {
+        let n = word(s, at + 1, false);
+        match n {
+            Found::Bad => Found::Bad,
+            Found::Ok(a, _) => {
+                if starts(s, a, b" ") {
+                    let v = var_at(s, a + 1, sc);
+                    match v {
+                        Found::Bad => Found::Bad,
+                        Found::Ok(b, f) => {
+                            let vs = vars(s, b, s.len() - b, sc);
+                            match vs {
+                                Found::Bad => Found::Bad,
+                                Found::Ok(e, g) => {
+                                    let h = both(f, g);
+                                    shut_literal(s, e, at + 1, a, h, sig)
+                                }
+                            }
+                        }
+                    }
+                } else {
+                    Found::Bad
+                }
+            }
+        }
+    } else {
+        Found::Bad
+    }
+}
+
+// A formula at `at`, in which at most `room` brackets are open together.
+pub fn scan(s: &[u8], at: usize, room: usize, sig: Signature, sc: Scope) -> Found
+    requires { ⌜ (at ≤ length (now s)) × (sig .rels + sig .chosen ≤ 12) × (sc .n ≤ 4) ⌝ }
+    ensures { λ r. ⌜ r ≡ seen (facts (allOf (now (s .entry)) sig) (names (now (s .entry)) sc)) (length (now (s .entry))) (read room (drop at (now (s .entry)))) ⌝ }
+{
+    if room == 0 {
+        return Found::Bad;
+    }
+    let k = kind_at(s, at);
+    match k {
+        Kind::Not => negated(s, at + 5, room - 1, sig, sc),
+        Kind::Implies => implied(s, at + 9, room - 1, sig, sc),
+        Kind::And => joined(s, at + 5, room - 1, sig, sc),
+        Kind::Or => joined(s, at + 4, room - 1, sig, sc),
+        Kind::Exists => bound(s, at + 9, room - 1, sig, sc),
+        Kind::Forall => bound(s, at + 9, room - 1, sig, sc),
+        Kind::Other => literal(s, at, sig, sc),
+    }
+}
+
+// What follows `(not `.
+fn negated(s: &[u8], at: usize, room: usize, sig: Signature, sc: Scope) -> Found
+    requires { ⌜ (at ≤ length (now s)) × (sig .rels + sig .chosen ≤ 12) × (sc .n ≤ 4) ⌝ }
+    ensures { λ r. ⌜ r ≡ seen (facts (allOf (now (s .entry)) sig) (names (now (s .entry)) sc)) (length (now (s .entry))) (readNeg (read room) (drop at (now (s .entry)))) ⌝ }
+{
+    let f = scan(s, at, room, sig, sc);
+    match f {
+        Found::Bad => Found::Bad,
+        Found::Ok(a, n) => shut_one(s, a, n),
+    }
+}
+
+// What follows `(implies `.
+fn implied(s: &[u8], at: usize, room: usize, sig: Signature, sc: Scope) -> Found
+    requires { ⌜ (at ≤ length (now s)) × (sig .rels + sig .chosen ≤ 12) × (sc .n ≤ 4) ⌝ }
+    ensures { λ r. ⌜ r ≡ seen (facts (allOf (now (s .entry)) sig) (names (now (s .entry)) sc)) (length (now (s .entry))) (readImp (read room) (drop at (now (s .entry)))) ⌝ }
+{
+    let f = scan(s, at, room, sig, sc);
+    match f {
+        Found::Bad => Found::Bad,
+        Found::Ok(a, n) => {
+            if starts(s, a, b" ") {
+                let g = scan(s, a + 1, room, sig, sc);
+                match g {
+                    Found::Bad => Found::Bad,
+                    Found::Ok(b, m) => shut_two(s, b, n, m),
+                }
+            } else {
+                Found::Bad
+            }
+        }
+    }
+}
+
+// What follows `(and ` or `(or `.
+fn joined(s: &[u8], at: usize, room: usize, sig: Signature, sc: Scope) -> Found
+    requires { ⌜ (at ≤ length (now s)) × (sig .rels + sig .chosen ≤ 12) × (sc .n ≤ 4) ⌝ }
+    ensures { λ r. ⌜ ((j : Join) → r ≡ seen (facts (allOf (now (s .entry)) sig) (names (now (s .entry)) sc)) (length (now (s .entry))) (readJoin (read room) j (drop at (now (s .entry))))) ⌝ }
+{
+    let f = scan(s, at, room, sig, sc);
+    match f {
+        Found::Bad => Found::Bad,
+        Found::Ok(a, n) => {
+            let fs = parts(s, a, room, s.len() - a, sig, sc);
+            match fs {
+                Found::Bad => Found::Bad,
+                Found::Ok(b, m) => shut_two(s, b, n, m),
+            }
+        }
+    }
+}
+
+// At most `left` further parts, each after a space.
+fn parts(s: &[u8], at: usize, room: usize, left: usize, sig: Signature, sc: Scope) -> Found
+    requires { ⌜ (at ≤ length (now s)) × (sig .rels + sig .chosen ≤ 12) × (sc .n ≤ 4) ⌝ }
+    ensures { λ r. ⌜ r ≡ seen (factsAll (allOf (now (s .entry)) sig) (names (now (s .entry)) sc)) (length (now (s .entry))) (readParts (read room) left (drop at (now (s .entry)))) ⌝ }
+{
+    if starts(s, at, b" ") {
+        if left == 0 {
+            return Found::Bad;
+        }
+        let f = scan(s, at + 1, room, sig, sc);
+        match f {
+            Found::Bad => Found::Bad,
+            Found::Ok(a, n) => {
+                let fs = parts(s, a, room, left - 1, sig, sc);
+                match fs {
+                    Found::Bad => Found::Bad,
+                    Found::Ok(b, m) => add(b, n, m),
+                }
+            }
+        }
+    } else {
+        Found::Ok(
+            at,
+            Facts {
+                forms: 0,
+                fits: true,
+                known: true,
+                scoped: true,
+            },
+        )
+    }
+}
+
+// What follows `(exists (` or `(forall (`.
+fn bound(s: &[u8], at: usize, room: usize, sig: Signature, sc: Scope) -> Found
+    requires { ⌜ (at ≤ length (now s)) × (sig .rels + sig .chosen ≤ 12) × (sc .n ≤ 4) ⌝ }
+    ensures { λ r. ⌜ ((q : Quant) → r ≡ seen (facts (allOf (now (s .entry)) sig) (names (now (s .entry)) sc)) (length (now (s .entry))) (readQuant (read room) q (drop at (now (s .entry))))) ⌝ }
+{
+    let v = var_at(s, at, sc);
+    match v {
+        Found::Bad => Found::Bad,
+        Found::Ok(a, _) => {
+            let vs = vars(s, a, 3, sc);
+            match vs {
+                Found::Bad => Found::Bad,
+                Found::Ok(b, m) => {
+                    if starts(s, b, b") ") {
+                        let count = m.forms + 1;
+                        let none = Grown {
+                            scope: sc,
+                            fits: true,
+                            fresh: true,
+                        };
+                        let g = grow(s, at, count, none);
+                        let inner = g.scope;
+                        let f = scan(s, b + 2, room, sig, inner);
+                        match f {
+                            Found::Bad => Found::Bad,
+                            Found::Ok(e, n) => shut_quant(s, e, count, g, n),
+                        }
+                    } else {
+                        Found::Bad
+                    }
+                }
+            }
+        }
+    }
+}
+
+// How many totalities are added.
+pub fn totalities(sig: Signature) -> usize
+    requires { ⌜ sig .rels + sig .chosen ≤ 12 ⌝ }
+    ensures { λ r. ⌜ ((q : List ℕ) → r ≡ totals (chosenOf q sig)) × (r ≤ 12) ⌝ }
+{
+    let mut i = sig.rels;
+    let end = sig.rels + sig.chosen;
+    let mut t = 0;
+    while i < end {
+        let k = sig.kind[i];
+        let one = total(k);
+        t += one;
+        i += 1;
+    }
+    t
+}
+
+// Does a kind add a totality: `Fun` is 2, `Inj` is 4.
+fn total(k: u32) -> usize
+    ensures { λ r. ⌜ r ≡ totalOf k ⌝ }
+{
+    if k == 2 {
+        return 1;
+    }
+    if k == 4 {
+        return 1;
+    }
+    0
+}
+
+// The joining `and`.
+fn joining(t: usize) -> usize
+    ensures { λ r. ⌜ r ≡ joinOf t ⌝ }
+{
+    if t == 0 { 0 } else { 1 }
+}
+
+// The tests in the order of their numbers.
+fn judge(f: Facts, t: usize) -> Verdict
+    requires { ⌜ (f .forms < 2 ^ 63) × (t ≤ 12) ⌝ }
+    ensures { λ r. ⌜ verdictNumber r ≡ verdictOf f t ⌝ }
+{
+    let join = joining(t);
+    if f.forms + 3 * t + join > 64 {
+        return Verdict::TooLarge;
+    }
+    if !f.fits {
+        return Verdict::TooLarge;
+    }
+    if !f.known {
+        return Verdict::Unknown;
+    }
+    if !f.scoped {
+        return Verdict::Unbound;
+    }
+    Verdict::Fine
+}
+
+// The refusal of the rule field from `at` to `end`.
+pub fn rule_verdict(text: &[u8], at: usize, end: usize, sig: Signature) -> Verdict
+    requires { ⌜ (at ≤ end) × (end ≤ length (now text)) × (sig .rels + sig .chosen ≤ 12) ⌝ }
+    ensures { λ r. ⌜ verdictNumber r ≡ ruleNumber (allOf (now (text .entry)) sig) (chosenOf (now (text .entry)) sig) (slice at end (now (text .entry))) ⌝ }
+{
+    let sc = Scope {
+        from: [0; 4],
+        to: [0; 4],
+        n: 0,
+    };
+    let f = scan(text, at, 128, sig, sc);
+    match f {
+        Found::Bad => Verdict::NotOfForm,
+        Found::Ok(next, g) => {
+            if next == end {
+                let t = totalities(sig);
+                judge(g, t)
+            } else {
+                Verdict::NotOfForm
+            }
+        }
+    }
+}
