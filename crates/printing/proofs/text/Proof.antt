@@ -1,0 +1,50 @@
+-- `printing::text` meets its contract. What is left to print is what the loop has not passed.
+use Prim.Native.Nat.{_-_, _≤_}
+use mathlib.Core.Path.{refl}
+use mathlib.Core.List.{[], _∷_}
+use native.Mathlib.Omega.{arith}
+use borrow.Author.Needs.{needs}
+use lib.ListN.{length, drop}
+use Rattle.printing.specs.Printed.{Left, begin, recut, room-for, next as then, finished, left-length}
+use Rattle.printing.specs.Lines.{next-byte, no-byte}
+use Rattle.printing.proofs.text.Statement.{statement}
+use Rattle.printing.proofs.text.Tie as tie
+
+abbrev Inv-loop : tie.InvT-loop
+Inv-loop out₀ at s i₀ next₀ out i next = (i ≤ length s) × Left s out₀ at (drop i s) out next
+
+abbrev μ-loop : tie.MeasureT-loop
+μ-loop out₀ at s i₀ next₀ out i next = length s - i
+
+loop-holds : tie.Need-loop-holds Inv-loop μ-loop
+loop-holds c = (omega arith, begin _ refl (c .before .before .pre))
+
+shared-slice-read-byte : tie.Need-shared-slice-read-byte Inv-loop μ-loop
+shared-slice-read-byte c = search needs
+
+byte-requires : tie.Need-byte-requires Inv-loop μ-loop
+byte-requires c κs =
+    let L = c .before .before .before in
+    omega (arith, room-for (_ ∷ []) _ (recut (next-byte (L .before .before .before .args .s .now) (L .loop .i) (omega arith)) (L .loop .inv .1)))
+
+add-i : tie.Need-add-i Inv-loop μ-loop
+add-i c = search needs
+
+loop-less : tie.Need-loop-less Inv-loop μ-loop
+loop-less c = omega arith
+
+loop-again : tie.Need-loop-again Inv-loop μ-loop
+loop-again c =
+    let L = c .before .before .before .before .before .before in
+    (omega arith, then (_ ∷ []) _ (recut (next-byte (L .before .before .before .args .s .now) (L .loop .i) (omega arith)) (L .loop .inv .1)) (c .before .before .byte .ensures))
+
+same-length : tie.Need-same-length Inv-loop μ-loop
+same-length c = left-length (c .before .loop .inv .1)
+
+returns : tie.Need-returns Inv-loop μ-loop
+returns c =
+    let L = c .before in
+    finished (recut (no-byte (L .before .before .before .args .s .now) (L .loop .i) (omega arith)) (L .loop .inv .1))
+
+pub text-spec : {M : Type 1} → statement M
+text-spec = tie.close (tie.spec Inv-loop μ-loop loop-holds shared-slice-read-byte byte-requires add-i loop-less loop-again same-length returns)
