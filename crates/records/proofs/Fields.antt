@@ -1,0 +1,511 @@
+-- Laws of fields and entries.
+use Prim.Native.Nat.{ℕ, zero, suc, _+_, _-_, _≤_, _<_}
+use mathlib.Core.Path.{_≡_, refl, sym, ap, _∙_}
+use mathlib.Core.Bool.{Bool, true, false}
+use mathlib.Core.List.{List, [], _∷_}
+use mathlib.Core.Option.{Option, none, some}
+use native.Mathlib.Omega.{arith}
+use native.Mathlib.Decide.{decLt}
+use lib.Dec.{leb·suc-suc}
+use lib.ListN.{length}
+use lib.Seq.{slice, length-slice}
+use borrow.Author.Tests.{le-leb, lt-leb}
+use Rattle.definitions.specs.Lists.{if_then_else_, same, option, isEmpty}
+use Rattle.definitions.specs.Text.{bytes, split, fields, linesFrom, isBetween, number}
+use Rattle.definitions.specs.Relations.{plain, Fun, PFun, Inj, PInj}
+use Rattle.definitions.specs.Refusal.{given}
+use Rattle.definitions.specs.Sheets as S
+use Rattle.text.specs.Spans.{indexOf, numOf, kindOf}
+use Rattle.records.specs.Lines.{linesAt}
+use Rattle.records.specs.Entries.{OneField, TwoFields, Named, elements, consed, upTo, kindWord, recordWord, relOf, ruleOf, sizeOf, stepOf, entryIn, Reads}
+use Rattle.text.specs.declared.Num.{Num}
+use Rattle.text.specs.declared.Num.the-variants.{Is, Bad}
+use Rattle.text.specs.declared.Found.{Found}
+use Rattle.text.specs.declared.Found.the-variants.{At, Nowhere}
+use Rattle.records.specs.declared.Places.{Places}
+use Rattle.records.specs.declared.Places.the-variants.{Unread, One, Two, Three}
+use Rattle.records.specs.declared.Entry.{Entry}
+use Rattle.records.specs.declared.Entry.the-variants.{Wrong}
+use Rattle.text.proofs.Laws.{slice-all, slice-done, pieces-at, pieces-whole, end-within, split-some, same-length}
+
+-- ---- one field, two fields
+
+not-one : (make : List ℕ → Option S.Entry) (f : List ℕ) (fs : List (List ℕ)) → 0 < length fs → S.withOne make (f ∷ fs) ≡ none
+unfolding S.withOne
+not-one make f [] h = absurd (omega arith)
+not-one make f (g ∷ fs) h = refl
+
+not-two : (make : List ℕ → List ℕ → Option S.Entry) (f g : List ℕ) (fs : List (List ℕ)) → 0 < length fs → S.withTwo make (f ∷ g ∷ fs) ≡ none
+unfolding S.withTwo
+not-two make f g [] h = absurd (omega arith)
+not-two make f g (k ∷ fs) h = refl
+
+two-of-one : (make : List ℕ → List ℕ → Option S.Entry) (f : List ℕ) → S.withTwo make (f ∷ []) ≡ none
+unfolding S.withTwo
+two-of-one make f = refl
+
+module _ (a e : ℕ) (s : List ℕ) (h : a ≤ e) (k : e ≤ length s) (t : ℕ) (q : t ≡ a + indexOf 9 (slice a e s)) where
+  pub one-yes : e ≤ t → OneField s a e true
+  unfolding OneField
+  one-yes l = pieces-whole 9 a e s h k t q l
+
+  pub one-no : t < e → OneField s a e false
+  unfolding OneField
+  one-no l make = ap (S.withOne make) (pieces-at 9 a e s h k t q l) ∙ not-one make (slice a t s) (split 9 (slice (t + 1) e s)) (split-some 9 (slice (t + 1) e s))
+
+  pub two-none : e ≤ t → TwoFields s a e Nowhere
+  unfolding TwoFields
+  two-none l make = ap (S.withTwo make) (pieces-whole 9 a e s h k t q l) ∙ two-of-one make (slice a e s)
+
+  module _ (l : t < e) (u : ℕ) (r : u ≡ (t + 1) + indexOf 9 (slice (t + 1) e s)) where
+    pub two-more : u < e → TwoFields s a e Nowhere
+    unfolding TwoFields
+    two-more m make =
+        ap (S.withTwo make) (pieces-at 9 a e s h k t q l ∙ ap (λ (fs : List (List ℕ)). slice a t s ∷ fs) (pieces-at 9 (t + 1) e s (omega arith) k u r m))
+        ∙ not-two make (slice a t s) (slice (t + 1) u s) (split 9 (slice (u + 1) e s)) (split-some 9 (slice (u + 1) e s))
+
+    pub two-yes : e ≤ u → TwoFields s a e (At t)
+    unfolding TwoFields
+    two-yes m = (omega arith, l, pieces-at 9 a e s h k t q l ∙ ap (λ (fs : List (List ℕ)). slice a t s ∷ fs) (pieces-whole 9 (t + 1) e s (omega arith) k u r m))
+
+-- what TwoFields says
+pub two-bad : (s : List ℕ) (a e : ℕ) (f : Found) (make : List ℕ → List ℕ → Option S.Entry) → f ≡ Nowhere → TwoFields s a e f → S.withTwo make (split 9 (slice a e s)) ≡ none
+unfolding TwoFields
+two-bad s a e Nowhere make p w = w make
+two-bad s a e (At t) make p w = let z : _≡_ {A = ℕ} 0 1 = cc in absurd (omega arith)
+
+at-is : (t u : ℕ) → At t ≡ At u → t ≡ u
+at-is t u p = cc
+
+pub two-bounds : (s : List ℕ) (a e t : ℕ) (f : Found) → f ≡ At t → TwoFields s a e f → (a ≤ t) × (t < e)
+unfolding TwoFields
+two-bounds s a e t Nowhere p w = let z : _≡_ {A = ℕ} 0 1 = cc in absurd (omega arith)
+two-bounds s a e t (At u) p w = let z = at-is u t p in (omega arith, omega arith)
+
+pub two-is : (s : List ℕ) (a e t : ℕ) (f : Found) (make : List ℕ → List ℕ → Option S.Entry) → f ≡ At t → TwoFields s a e f → S.withTwo make (split 9 (slice a e s)) ≡ make (slice a t s) (slice (t + 1) e s)
+unfolding TwoFields S.withTwo
+two-is s a e t Nowhere make p w = let z : _≡_ {A = ℕ} 0 1 = cc in absurd (omega arith)
+two-is s a e t (At u) make p w = let z = at-is u t p in rw (← z) (ap (S.withTwo make) (w .2))
+
+pub one-bad : (s : List ℕ) (a e : ℕ) (b : Bool) (make : List ℕ → Option S.Entry) → b ≡ false → OneField s a e b → S.withOne make (split 9 (slice a e s)) ≡ none
+unfolding OneField
+one-bad s a e false make p w = w make
+one-bad s a e true make p w = let z : _≡_ {A = ℕ} 0 1 = cc in absurd (omega arith)
+
+pub one-is : (s : List ℕ) (a e : ℕ) (b : Bool) (make : List ℕ → Option S.Entry) → b ≡ true → OneField s a e b → S.withOne make (split 9 (slice a e s)) ≡ make (slice a e s)
+unfolding OneField S.withOne
+one-is s a e false make p w = let z : _≡_ {A = ℕ} 0 1 = cc in absurd (omega arith)
+one-is s a e true make p w = ap (S.withOne make) w
+
+-- ---- numbers
+
+pub num-is : (o : Option ℕ) (n : Num) (k : ℕ) → n ≡ Is k → n ≡ numOf o → o ≡ some k
+num-is none n k p q = let z : _≡_ {A = ℕ} 0 1 = cc in absurd (omega arith)
+num-is (some j) n k p q = cc
+
+pub num-bad : (o : Option ℕ) (n : Num) → n ≡ Bad → n ≡ numOf o → o ≡ none
+num-bad none n p q = refl
+num-bad (some j) n p q = let z : _≡_ {A = ℕ} 0 1 = cc in absurd (omega arith)
+
+module _ (f : List ℕ) where
+  pub arity-bad : number f ≡ none → S.arityOf f ≡ none
+  unfolding S.arityOf option
+  arity-bad p = rw p
+
+  pub arity-low : (k : ℕ) → number f ≡ some k → k < 1 → S.arityOf f ≡ none
+  unfolding S.arityOf option isBetween
+  arity-low k p l = rw p (simp (lt-leb 1 k l))
+
+  pub arity-high : (k : ℕ) → number f ≡ some k → 1 ≤ k → 3 < k → S.arityOf f ≡ none
+  unfolding S.arityOf option isBetween
+  arity-high k p l m = rw p (simp (le-leb 1 k l, lt-leb k 3 m))
+
+  pub arity-good : (k : ℕ) → number f ≡ some k → 1 ≤ k → k ≤ 3 → S.arityOf f ≡ some k
+  unfolding S.arityOf option isBetween
+  arity-good k p l m = rw p (simp (le-leb 1 k l, le-leb k 3 m))
+
+-- ---- kinds
+
+module _ (f : List ℕ) where
+  pub kind-2 : same f (70 ∷ 117 ∷ 110 ∷ []) ≡ true → kindWord f ≡ 2
+  unfolding kindWord
+  kind-2 p = rw p
+
+  module _ (n2 : same f (70 ∷ 117 ∷ 110 ∷ []) ≡ false) where
+    pub kind-3 : same f (80 ∷ 70 ∷ 117 ∷ 110 ∷ []) ≡ true → kindWord f ≡ 3
+    unfolding kindWord
+    kind-3 p = rw (n2, p)
+
+    module _ (n3 : same f (80 ∷ 70 ∷ 117 ∷ 110 ∷ []) ≡ false) where
+      pub kind-4 : same f (73 ∷ 110 ∷ 106 ∷ []) ≡ true → kindWord f ≡ 4
+      unfolding kindWord
+      kind-4 p = rw (n2, n3, p)
+
+      module _ (n4 : same f (73 ∷ 110 ∷ 106 ∷ []) ≡ false) where
+        pub kind-5 : same f (80 ∷ 73 ∷ 110 ∷ 106 ∷ []) ≡ true → kindWord f ≡ 5
+        unfolding kindWord
+        kind-5 p = rw (n2, n3, n4, p)
+
+        pub kind-0 : same f (80 ∷ 73 ∷ 110 ∷ 106 ∷ []) ≡ false → kindWord f ≡ 0
+        unfolding kindWord
+        kind-0 p = rw (n2, n3, n4, p)
+
+choose-tests : (name f : List ℕ) → S.chooseOf name f ≡
+    (if same f (70 ∷ 117 ∷ 110 ∷ []) then some (S.choose name 2 Fun)
+    else if same f (80 ∷ 70 ∷ 117 ∷ 110 ∷ []) then some (S.choose name 2 PFun)
+    else if same f (73 ∷ 110 ∷ 106 ∷ []) then some (S.choose name 2 Inj)
+    else if same f (80 ∷ 73 ∷ 110 ∷ 106 ∷ []) then some (S.choose name 2 PInj)
+    else option (S.arityOf f) none (λ a. some (S.choose name a plain)))
+unfolding S.chooseOf bytes
+choose-tests name f = refl
+
+kind-tests : (f : List ℕ) → kindWord f ≡
+    (if same f (70 ∷ 117 ∷ 110 ∷ []) then 2
+    else if same f (80 ∷ 70 ∷ 117 ∷ 110 ∷ []) then 3
+    else if same f (73 ∷ 110 ∷ 106 ∷ []) then 4
+    else if same f (80 ∷ 73 ∷ 110 ∷ 106 ∷ []) then 5
+    else 0)
+unfolding kindWord
+kind-tests f = refl
+
+choose-plain : (name : List ℕ) (o : Option S.Entry) (a b c d : Bool) → _≡_ {A = ℕ} (if a then 2 else if b then 3 else if c then 4 else if d then 5 else 0) 0
+    → (if a then some (S.choose name 2 Fun) else if b then some (S.choose name 2 PFun) else if c then some (S.choose name 2 Inj) else if d then some (S.choose name 2 PInj) else o) ≡ o
+choose-plain name o true b c d p = absurd (omega arith)
+choose-plain name o false true c d p = absurd (omega arith)
+choose-plain name o false false true d p = absurd (omega arith)
+choose-plain name o false false false true p = absurd (omega arith)
+choose-plain name o false false false false p = refl
+
+choose-kind : (name : List ℕ) (o : Option S.Entry) (a b c d : Bool) → (_≡_ {A = ℕ} (if a then 2 else if b then 3 else if c then 4 else if d then 5 else 0) 0 → ⊥)
+    → (if a then some (S.choose name 2 Fun) else if b then some (S.choose name 2 PFun) else if c then some (S.choose name 2 Inj) else if d then some (S.choose name 2 PInj) else o)
+    ≡ some (S.choose name 2 (kindOf (if a then 2 else if b then 3 else if c then 4 else if d then 5 else 0)))
+unfolding kindOf
+choose-kind name o true b c d p = refl
+choose-kind name o false true c d p = refl
+choose-kind name o false false true d p = refl
+choose-kind name o false false false true p = refl
+choose-kind name o false false false false p = absurd (p refl)
+
+pub choose-by-arity : (name f : List ℕ) → kindWord f ≡ 0 → S.chooseOf name f ≡ option (S.arityOf f) none (λ a. some (S.choose name a plain))
+choose-by-arity name f p = choose-tests name f ∙ choose-plain name _ (same f (70 ∷ 117 ∷ 110 ∷ [])) (same f (80 ∷ 70 ∷ 117 ∷ 110 ∷ [])) (same f (73 ∷ 110 ∷ 106 ∷ [])) (same f (80 ∷ 73 ∷ 110 ∷ 106 ∷ [])) (sym (kind-tests f) ∙ p)
+
+pub choose-by-kind : (name f : List ℕ) → (kindWord f ≡ 0 → ⊥) → S.chooseOf name f ≡ some (S.choose name 2 (kindOf (kindWord f)))
+choose-by-kind name f p = choose-tests name f ∙ choose-kind name _ (same f (70 ∷ 117 ∷ 110 ∷ [])) (same f (80 ∷ 70 ∷ 117 ∷ 110 ∷ [])) (same f (73 ∷ 110 ∷ 106 ∷ [])) (same f (80 ∷ 73 ∷ 110 ∷ 106 ∷ [])) (λ z. p (kind-tests f ∙ z)) ∙ ap (λ (k : ℕ). some (S.choose name 2 (kindOf k))) (sym (kind-tests f))
+
+-- ---- record words
+
+module _ (f : List ℕ) where
+  pub word-1 : same f (114 ∷ 101 ∷ 108 ∷ []) ≡ true → recordWord f ≡ 1
+  unfolding recordWord
+  word-1 p = rw (p)
+
+  module _ (n1 : same f (114 ∷ 101 ∷ 108 ∷ []) ≡ false) where
+    pub word-2 : same f (99 ∷ 104 ∷ 111 ∷ 111 ∷ 115 ∷ 101 ∷ []) ≡ true → recordWord f ≡ 2
+    unfolding recordWord
+    word-2 p = rw (n1, p)
+
+    module _ (n2 : same f (99 ∷ 104 ∷ 111 ∷ 111 ∷ 115 ∷ 101 ∷ []) ≡ false) where
+      pub word-3 : same f (114 ∷ 117 ∷ 108 ∷ 101 ∷ []) ≡ true → recordWord f ≡ 3
+      unfolding recordWord
+      word-3 p = rw (n1, n2, p)
+
+      module _ (n3 : same f (114 ∷ 117 ∷ 108 ∷ 101 ∷ []) ≡ false) where
+        pub word-4 : same f (115 ∷ 105 ∷ 122 ∷ 101 ∷ []) ≡ true → recordWord f ≡ 4
+        unfolding recordWord
+        word-4 p = rw (n1, n2, n3, p)
+
+        module _ (n4 : same f (115 ∷ 105 ∷ 122 ∷ 101 ∷ []) ≡ false) where
+          pub word-5 : same f (102 ∷ 97 ∷ 99 ∷ 116 ∷ []) ≡ true → recordWord f ≡ 5
+          unfolding recordWord
+          word-5 p = rw (n1, n2, n3, n4, p)
+
+          module _ (n5 : same f (102 ∷ 97 ∷ 99 ∷ 116 ∷ []) ≡ false) where
+            pub word-6 : same f (112 ∷ 105 ∷ 99 ∷ 107 ∷ []) ≡ true → recordWord f ≡ 6
+            unfolding recordWord
+            word-6 p = rw (n1, n2, n3, n4, n5, p)
+
+            module _ (n6 : same f (112 ∷ 105 ∷ 99 ∷ 107 ∷ []) ≡ false) where
+              pub word-7 : same f (115 ∷ 116 ∷ 101 ∷ 112 ∷ []) ≡ true → recordWord f ≡ 7
+              unfolding recordWord
+              word-7 p = rw (n1, n2, n3, n4, n5, n6, p)
+
+              pub word-0 : same f (115 ∷ 116 ∷ 101 ∷ 112 ∷ []) ≡ false → recordWord f ≡ 0
+              unfolding recordWord
+              word-0 p = rw (n1, n2, n3, n4, n5, n6, p)
+
+-- what the fields after a record word make, by its number
+unfoldable pub made : ℕ → List (List ℕ) → Option S.Entry
+made zero fs = none
+made (suc zero) fs = S.withTwo relOf fs
+made (suc (suc zero)) fs = S.withTwo S.chooseOf fs
+made (suc (suc (suc zero))) fs = S.withOne ruleOf fs
+made (suc (suc (suc (suc zero)))) fs = S.withOne sizeOf fs
+made (suc (suc (suc (suc (suc zero))))) fs = S.withElements S.fact fs
+made (suc (suc (suc (suc (suc (suc zero)))))) fs = S.withElements S.pick fs
+made (suc (suc (suc (suc (suc (suc (suc zero))))))) fs = S.withOne stepOf fs
+made (suc (suc (suc (suc (suc (suc (suc (suc k)))))))) fs = none
+
+entry-tests : (w : List ℕ) (fs : List (List ℕ)) → S.entry (w ∷ fs) ≡ (if same w (114 ∷ 101 ∷ 108 ∷ []) then S.withTwo relOf fs else if same w (99 ∷ 104 ∷ 111 ∷ 111 ∷ 115 ∷ 101 ∷ []) then S.withTwo S.chooseOf fs else if same w (114 ∷ 117 ∷ 108 ∷ 101 ∷ []) then S.withOne ruleOf fs else if same w (115 ∷ 105 ∷ 122 ∷ 101 ∷ []) then S.withOne sizeOf fs else if same w (102 ∷ 97 ∷ 99 ∷ 116 ∷ []) then S.withElements S.fact fs else if same w (112 ∷ 105 ∷ 99 ∷ 107 ∷ []) then S.withElements S.pick fs else if same w (115 ∷ 116 ∷ 101 ∷ 112 ∷ []) then S.withOne stepOf fs else none)
+unfolding S.entry bytes relOf ruleOf sizeOf stepOf
+entry-tests w fs = refl
+
+word-tests : (w : List ℕ) → recordWord w ≡ (if same w (114 ∷ 101 ∷ 108 ∷ []) then 1 else if same w (99 ∷ 104 ∷ 111 ∷ 111 ∷ 115 ∷ 101 ∷ []) then 2 else if same w (114 ∷ 117 ∷ 108 ∷ 101 ∷ []) then 3 else if same w (115 ∷ 105 ∷ 122 ∷ 101 ∷ []) then 4 else if same w (102 ∷ 97 ∷ 99 ∷ 116 ∷ []) then 5 else if same w (112 ∷ 105 ∷ 99 ∷ 107 ∷ []) then 6 else if same w (115 ∷ 116 ∷ 101 ∷ 112 ∷ []) then 7 else 0)
+unfolding recordWord
+word-tests w = refl
+
+made-tests : (fs : List (List ℕ)) (a b c d e f g : Bool) → (if a then S.withTwo relOf fs else if b then S.withTwo S.chooseOf fs else if c then S.withOne ruleOf fs else if d then S.withOne sizeOf fs else if e then S.withElements S.fact fs else if f then S.withElements S.pick fs else if g then S.withOne stepOf fs else none) ≡ made (if a then 1 else if b then 2 else if c then 3 else if d then 4 else if e then 5 else if f then 6 else if g then 7 else 0) fs
+unfolding made
+made-tests fs true b c d e f g = refl
+made-tests fs false true c d e f g = refl
+made-tests fs false false true d e f g = refl
+made-tests fs false false false true e f g = refl
+made-tests fs false false false false true f g = refl
+made-tests fs false false false false false true g = refl
+made-tests fs false false false false false false true = refl
+made-tests fs false false false false false false false = refl
+
+pub entry-made : (w : List ℕ) (fs : List (List ℕ)) → S.entry (w ∷ fs) ≡ made (recordWord w) fs
+entry-made w fs = entry-tests w fs ∙ made-tests fs (same w (114 ∷ 101 ∷ 108 ∷ [])) (same w (99 ∷ 104 ∷ 111 ∷ 111 ∷ 115 ∷ 101 ∷ [])) (same w (114 ∷ 117 ∷ 108 ∷ 101 ∷ [])) (same w (115 ∷ 105 ∷ 122 ∷ 101 ∷ [])) (same w (102 ∷ 97 ∷ 99 ∷ 116 ∷ [])) (same w (112 ∷ 105 ∷ 99 ∷ 107 ∷ [])) (same w (115 ∷ 116 ∷ 101 ∷ 112 ∷ [])) ∙ ap (λ (k : ℕ). made k fs) (sym (word-tests w))
+
+made-alone : (k : ℕ) → made k [] ≡ none
+unfolding made S.withOne S.withTwo S.withElements
+made-alone zero = refl
+made-alone (suc zero) = refl
+made-alone (suc (suc zero)) = refl
+made-alone (suc (suc (suc zero))) = refl
+made-alone (suc (suc (suc (suc zero)))) = refl
+made-alone (suc (suc (suc (suc (suc zero))))) = refl
+made-alone (suc (suc (suc (suc (suc (suc zero)))))) = refl
+made-alone (suc (suc (suc (suc (suc (suc (suc zero))))))) = refl
+made-alone (suc (suc (suc (suc (suc (suc (suc (suc k)))))))) = refl
+
+made-none : (j : ℕ) (fs : List (List ℕ)) → (j ≡ 1 → ⊥) → (j ≡ 2 → ⊥) → (j ≡ 3 → ⊥) → (j ≡ 4 → ⊥) → (j ≡ 5 → ⊥) → (j ≡ 6 → ⊥) → (j ≡ 7 → ⊥) → made j fs ≡ none
+unfolding made
+made-none zero fs a b c d e f g = refl
+made-none (suc zero) fs a b c d e f g = absurd (a refl)
+made-none (suc (suc zero)) fs a b c d e f g = absurd (b refl)
+made-none (suc (suc (suc zero))) fs a b c d e f g = absurd (c refl)
+made-none (suc (suc (suc (suc zero)))) fs a b c d e f g = absurd (d refl)
+made-none (suc (suc (suc (suc (suc zero))))) fs a b c d e f g = absurd (e refl)
+made-none (suc (suc (suc (suc (suc (suc zero)))))) fs a b c d e f g = absurd (f refl)
+made-none (suc (suc (suc (suc (suc (suc (suc zero))))))) fs a b c d e f g = absurd (g refl)
+made-none (suc (suc (suc (suc (suc (suc (suc (suc k)))))))) fs a b c d e f g = refl
+
+module _ (s : List ℕ) (a e : ℕ) (h : a ≤ e) (k : e ≤ length s) (t : ℕ) (q : t ≡ a + indexOf 9 (slice a e s)) where
+  pub record-alone : t ≡ e → entryIn s Wrong ≡ S.entry (split 9 (slice a e s))
+  unfolding entryIn
+  record-alone l = sym (ap S.entry (pieces-whole 9 a e s h k t q (omega arith)) ∙ entry-made (slice a e s) [] ∙ made-alone (recordWord (slice a e s)))
+
+  pub record-by : t < e → (j : ℕ) → j ≡ recordWord (slice a t s) → made j (split 9 (slice (t + 1) e s)) ≡ S.entry (split 9 (slice a e s))
+  record-by l j p = rw p (sym (ap S.entry (pieces-at 9 a e s h k t q l) ∙ entry-made (slice a t s) (split 9 (slice (t + 1) e s))))
+
+  -- a record of number 1 to 7
+  pub record-1 : t < e → (j : ℕ) → j ≡ recordWord (slice a t s) → j ≡ 1 → S.withTwo relOf (split 9 (slice (t + 1) e s)) ≡ S.entry (split 9 (slice a e s))
+  unfolding made
+  record-1 l j p r = record-by l 1 (sym r ∙ p)
+
+  pub record-2 : t < e → (j : ℕ) → j ≡ recordWord (slice a t s) → j ≡ 2 → S.withTwo S.chooseOf (split 9 (slice (t + 1) e s)) ≡ S.entry (split 9 (slice a e s))
+  unfolding made
+  record-2 l j p r = record-by l 2 (sym r ∙ p)
+
+  pub record-3 : t < e → (j : ℕ) → j ≡ recordWord (slice a t s) → j ≡ 3 → S.withOne ruleOf (split 9 (slice (t + 1) e s)) ≡ S.entry (split 9 (slice a e s))
+  unfolding made
+  record-3 l j p r = record-by l 3 (sym r ∙ p)
+
+  pub record-4 : t < e → (j : ℕ) → j ≡ recordWord (slice a t s) → j ≡ 4 → S.withOne sizeOf (split 9 (slice (t + 1) e s)) ≡ S.entry (split 9 (slice a e s))
+  unfolding made
+  record-4 l j p r = record-by l 4 (sym r ∙ p)
+
+  pub record-5 : t < e → (j : ℕ) → j ≡ recordWord (slice a t s) → j ≡ 5 → S.withElements S.fact (split 9 (slice (t + 1) e s)) ≡ S.entry (split 9 (slice a e s))
+  unfolding made
+  record-5 l j p r = record-by l 5 (sym r ∙ p)
+
+  pub record-6 : t < e → (j : ℕ) → j ≡ recordWord (slice a t s) → j ≡ 6 → S.withElements S.pick (split 9 (slice (t + 1) e s)) ≡ S.entry (split 9 (slice a e s))
+  unfolding made
+  record-6 l j p r = record-by l 6 (sym r ∙ p)
+
+  pub record-7 : t < e → (j : ℕ) → j ≡ recordWord (slice a t s) → j ≡ 7 → S.withOne stepOf (split 9 (slice (t + 1) e s)) ≡ S.entry (split 9 (slice a e s))
+  unfolding made
+  record-7 l j p r = record-by l 7 (sym r ∙ p)
+
+  pub record-0 : t < e → (j : ℕ) → j ≡ recordWord (slice a t s) → (j ≡ 1 → ⊥) → (j ≡ 2 → ⊥) → (j ≡ 3 → ⊥) → (j ≡ 4 → ⊥) → (j ≡ 5 → ⊥) → (j ≡ 6 → ⊥) → (j ≡ 7 → ⊥) → entryIn s Wrong ≡ S.entry (split 9 (slice a e s))
+  unfolding entryIn
+  record-0 l j p n1 n2 n3 n4 n5 n6 n7 = sym (made-none j (split 9 (slice (t + 1) e s)) n1 n2 n3 n4 n5 n6 n7) ∙ record-by l j p
+
+-- a word that is not of 4 bytes is not `rule`
+pub not-rule : (w : List ℕ) → (length w ≡ 4 → ⊥) → recordWord w ≡ 3 → ⊥
+not-rule w h p =
+    go (same w (114 ∷ 101 ∷ 108 ∷ [])) (same w (99 ∷ 104 ∷ 111 ∷ 111 ∷ 115 ∷ 101 ∷ [])) (same w (115 ∷ 105 ∷ 122 ∷ 101 ∷ [])) (same w (102 ∷ 97 ∷ 99 ∷ 116 ∷ [])) (same w (112 ∷ 105 ∷ 99 ∷ 107 ∷ [])) (same w (115 ∷ 116 ∷ 101 ∷ 112 ∷ []))
+    (sym (ap (λ (b : Bool). if same w (114 ∷ 101 ∷ 108 ∷ []) then 1 else if same w (99 ∷ 104 ∷ 111 ∷ 111 ∷ 115 ∷ 101 ∷ []) then 2 else if b then 3 else if same w (115 ∷ 105 ∷ 122 ∷ 101 ∷ []) then 4 else if same w (102 ∷ 97 ∷ 99 ∷ 116 ∷ []) then 5 else if same w (112 ∷ 105 ∷ 99 ∷ 107 ∷ []) then 6 else if same w (115 ∷ 116 ∷ 101 ∷ 112 ∷ []) then 7 else 0) (same-length w (114 ∷ 117 ∷ 108 ∷ 101 ∷ []) h)) ∙ sym (word-tests w) ∙ p)
+  where
+    go : (a b d e f g : Bool) → _≡_ {A = ℕ} (if a then 1 else if b then 2 else if false then 3 else if d then 4 else if e then 5 else if f then 6 else if g then 7 else 0) 3 → ⊥
+    go true b d e f g q = omega arith
+    go false true d e f g q = omega arith
+    go false false true e f g q = omega arith
+    go false false false true f g q = omega arith
+    go false false false false true g q = omega arith
+    go false false false false false true q = omega arith
+    go false false false false false false q = omega arith
+
+-- ---- elements
+
+between-next : (k n : ℕ) → 0 < n → isBetween 1 (suc k) (suc n) ≡ isBetween 1 k n
+unfolding isBetween
+between-next k zero h = absurd (omega arith)
+between-next k (suc n) h = rw (le-leb 1 (suc (suc n)) (omega arith), le-leb 1 (suc n) (omega arith)) (leb·suc-suc (suc n) k)
+
+consed-none : (x : ℕ) → consed x none ≡ none
+unfolding consed option
+consed-none x = refl
+
+consed-some : (x : ℕ) (xs : List ℕ) → consed x (some xs) ≡ some (x ∷ xs)
+unfolding consed option
+consed-some x xs = refl
+
+either : (b : Bool) → _≡_ {A = Option (List ℕ)} (if b then none else none) none
+either true = refl
+either false = refl
+
+upTo-bad : (k : ℕ) (f : List ℕ) (fs : List (List ℕ)) → number f ≡ none → upTo k (f ∷ fs) ≡ none
+unfolding upTo S.numbers option
+upTo-bad k f fs p = rw p (either (isBetween 1 k (suc (length fs))))
+
+upTo-last : (k : ℕ) (f : List ℕ) (x : ℕ) → number f ≡ some x → upTo (suc k) (f ∷ []) ≡ some (x ∷ [])
+unfolding upTo S.numbers option isBetween
+upTo-last k f x p = rw (p, le-leb 1 (suc k) (omega arith))
+
+upTo-none : (f : List ℕ) (fs : List (List ℕ)) → 0 < length fs → upTo 1 (f ∷ fs) ≡ none
+unfolding upTo isBetween
+upTo-none f fs h = rw (le-leb 1 (suc (length fs)) (omega arith), lt-leb (suc (length fs)) 1 (omega arith))
+
+pull : (b : Bool) (x : ℕ) (o : Option (List ℕ)) → (if b then consed x o else none) ≡ consed x (if b then o else none)
+unfolding consed option
+pull true x o = refl
+pull false x o = refl
+
+numbers-next : (f : List ℕ) (x : ℕ) (fs : List (List ℕ)) → number f ≡ some x → S.numbers (f ∷ fs) ≡ consed x (S.numbers fs)
+unfolding S.numbers option consed
+numbers-next f x fs p = rw p
+
+upTo-next : (k : ℕ) (f : List ℕ) (x : ℕ) (fs : List (List ℕ)) → number f ≡ some x → 0 < length fs → upTo (suc k) (f ∷ fs) ≡ consed x (upTo k fs)
+unfolding upTo
+upTo-next k f x fs p h = rw (numbers-next f x fs p, between-next k (length fs) h) (pull (isBetween 1 k (length fs)) x (S.numbers fs))
+
+module _ (s : List ℕ) (a e : ℕ) (h : a ≤ e) (k : e ≤ length s) (t : ℕ) (q : t ≡ a + indexOf 9 (slice a e s)) where
+  pub first-whole : e ≤ t → split 9 (slice a e s) ≡ slice a t s ∷ []
+  first-whole l = let z : t ≡ e = omega (arith, end-within 9 a e s h k) in pieces-whole 9 a e s h k t q l ∙ rw z
+
+  pub places-bad : (m : ℕ) → number (slice a t s) ≡ none → upTo m (split 9 (slice a e s)) ≡ none
+  places-bad m p = go (decLt t e)
+    where
+      go : Dec (t < e) → upTo m (split 9 (slice a e s)) ≡ none
+      go (yes l) = ap (upTo m) (pieces-at 9 a e s h k t q l) ∙ upTo-bad m (slice a t s) (split 9 (slice (t + 1) e s)) p
+      go (no l) = ap (upTo m) (first-whole (omega arith)) ∙ upTo-bad m (slice a t s) [] p
+
+  pub places-last : (m x : ℕ) → number (slice a t s) ≡ some x → e ≤ t → upTo (suc m) (split 9 (slice a e s)) ≡ some (x ∷ [])
+  places-last m x p l = ap (upTo (suc m)) (first-whole l) ∙ upTo-last m (slice a t s) x p
+
+  pub places-next : (m x : ℕ) → number (slice a t s) ≡ some x → t < e → upTo (suc m) (split 9 (slice a e s)) ≡ consed x (upTo m (split 9 (slice (t + 1) e s)))
+  places-next m x p l = ap (upTo (suc m)) (pieces-at 9 a e s h k t q l) ∙ upTo-next m (slice a t s) x (split 9 (slice (t + 1) e s)) p (split-some 9 (slice (t + 1) e s))
+
+  pub places-over : t < e → upTo 1 (split 9 (slice a e s)) ≡ none
+  places-over l = ap (upTo 1) (pieces-at 9 a e s h k t q l) ∙ upTo-none (slice a t s) (split 9 (slice (t + 1) e s)) (split-some 9 (slice (t + 1) e s))
+
+  -- the three readers of elements
+  module _ (x y : ℕ) where
+    pub last-bad : number (slice a t s) ≡ none → elements Unread ≡ consed x (consed y (upTo 1 (split 9 (slice a e s))))
+    unfolding elements
+    last-bad p = rw (places-bad 1 p, consed-none y, consed-none x)
+
+    pub last-over : t < e → elements Unread ≡ consed x (consed y (upTo 1 (split 9 (slice a e s))))
+    unfolding elements
+    last-over l = rw (places-over l, consed-none y, consed-none x)
+
+    pub last-good : (z : ℕ) → number (slice a t s) ≡ some z → e ≤ t → elements (Three x y z) ≡ consed x (consed y (upTo 1 (split 9 (slice a e s))))
+    unfolding elements
+    last-good z p l = rw (places-last 0 z p l, consed-some y (z ∷ []), consed-some x (y ∷ z ∷ []))
+
+    pub more-good : number (slice a t s) ≡ some y → e ≤ t → elements (Two x y) ≡ consed x (upTo 2 (split 9 (slice a e s)))
+    unfolding elements
+    more-good p l = rw (places-last 1 y p l, consed-some x (y ∷ []))
+
+  pub more-bad : (x : ℕ) → number (slice a t s) ≡ none → elements Unread ≡ consed x (upTo 2 (split 9 (slice a e s)))
+  unfolding elements
+  more-bad x p = rw (places-bad 2 p, consed-none x)
+
+  pub numbers-bad : number (slice a t s) ≡ none → elements Unread ≡ upTo 3 (split 9 (slice a e s))
+  unfolding elements
+  numbers-bad p = rw (places-bad 3 p)
+
+  pub numbers-good : (x : ℕ) → number (slice a t s) ≡ some x → e ≤ t → elements (One x) ≡ upTo 3 (split 9 (slice a e s))
+  unfolding elements
+  numbers-good x p l = rw (places-last 2 x p l)
+
+-- ---- a name and elements
+
+module _ (make : List ℕ → List ℕ → S.Entry) where
+  with-none : (f : List ℕ) → S.withElements make (f ∷ []) ≡ none
+  unfolding S.withElements isBetween
+  with-none f = refl
+
+  pull-made : (b : Bool) (o : Option (List ℕ)) (g : List ℕ → Option S.Entry) → (if b then option o none g else none) ≡ option (if b then o else none) none g
+  unfolding option
+  pull-made true o g = refl
+  pull-made false o g = refl
+
+  with-some : (f : List ℕ) (fs : List (List ℕ)) → S.withElements make (f ∷ fs) ≡ option (upTo 3 fs) none (λ xs. some (make f xs))
+  unfolding S.withElements upTo
+  with-some f fs = pull-made (isBetween 1 3 (length fs)) (S.numbers fs) (λ xs. some (make f xs))
+
+module _ (s : List ℕ) (a e : ℕ) (h : a ≤ e) (k : e ≤ length s) (t : ℕ) (q : t ≡ a + indexOf 9 (slice a e s)) where
+  pub named-none : e ≤ t → Named s a e e Unread
+  unfolding Named elements option
+  named-none l make = ap (S.withElements make) (pieces-whole 9 a e s h k t q l) ∙ with-none make (slice a e s)
+
+  pub named-some : t < e → (p : Places) → elements p ≡ upTo 3 (split 9 (slice (t + 1) e s)) → Named s a e t p
+  unfolding Named
+  named-some l p r make = ap (S.withElements make) (pieces-at 9 a e s h k t q l) ∙ with-some make (slice a t s) (split 9 (slice (t + 1) e s)) ∙ rw (sym r)
+
+pub named-made : (s : List ℕ) (a e t : ℕ) (p p′ : Places) (make : List ℕ → List ℕ → S.Entry) → p ≡ p′ → Named s a e t p → option (elements p′) none (λ xs. some (make (slice a t s) xs)) ≡ S.withElements make (split 9 (slice a e s))
+unfolding Named
+named-made s a e t p p′ make r w = rw (sym r) (sym (w make))
+
+-- ---- lines
+
+lines-cons : (at : ℕ) (p : List ℕ) (ps : List (List ℕ)) → 0 < length ps → linesFrom at (p ∷ ps) ≡ record { at = at; ended = true; content = p } ∷ linesFrom (at + length p + 1) ps
+unfolding linesFrom
+lines-cons at p [] h = absurd (omega arith)
+lines-cons at p (q ∷ qs) h = refl
+
+pub lines-stop : (s : List ℕ) (at : ℕ) → at ≡ length s → linesAt s at ≡ []
+unfolding linesAt split linesFrom isEmpty
+lines-stop s at q = rw (← slice-all at s, slice-done at (length s) s (omega arith) (omega arith))
+
+not-empty : (p : List ℕ) → 0 < length p → isEmpty p ≡ false
+unfolding isEmpty
+not-empty [] h = absurd (omega arith)
+not-empty (x ∷ p) h = refl
+
+module _ (s : List ℕ) (at : ℕ) (h : at < length s) (w : ℕ) (q : w ≡ at + indexOf 10 (slice at (length s) s)) where
+  -- an ended line
+  pub reads-line : w < length s → (x : Entry) → entryIn s x ≡ S.entry (split 9 (slice at w s)) → Reads s at (w + 1) x
+  unfolding Reads linesAt S.entryOf fields
+  reads-line l x r =
+      let f = pieces-at 10 at (length s) s (omega arith) (omega arith) w q l in
+      let n : at + length (slice at w s) + 1 ≡ w + 1 = omega (arith, length-slice at w s (omega arith)) in (
+        record { at = at; ended = true; content = slice at w s },
+        rw (← slice-all at s, f, lines-cons at (slice at w s) (split 10 (slice (w + 1) (length s) s)) (split-some 10 (slice (w + 1) (length s) s)), n, slice-all (w + 1) s),
+        refl,
+        ap (λ (o : Option S.Entry). given o 2 at) (sym r),
+      )
+
+  -- what is left and not ended
+  pub reads-open : length s ≤ w → Reads s at (length s) Wrong
+  unfolding Reads linesAt S.entryOf entryIn linesFrom given
+  reads-open l =
+      let f = pieces-whole 10 at (length s) s (omega arith) (omega arith) w q l in (
+        record { at = at; ended = false; content = slice at (length s) s },
+        rw (lines-stop s (length s) refl) (rw (← slice-all at s, f, not-empty (slice at (length s) s) (omega (arith, length-slice at (length s) s (omega arith))))),
+        refl,
+        refl,
+      )

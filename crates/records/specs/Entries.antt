@@ -1,0 +1,121 @@
+-- What the code's answers say, in the words of the definitions: numbers, fields, elements, entries.
+use Prim.Native.Nat.{ℕ, _+_, _≤_, _<_}
+use mathlib.Core.Path.{_≡_}
+use mathlib.Core.Bool.{Bool, true, false}
+use mathlib.Core.List.{List, [], _∷_}
+use mathlib.Core.Option.{Option, none, some}
+use lib.ListN.{length}
+use lib.Seq.{slice}
+use Rattle.definitions.specs.Lists.{if_then_else_, option, same}
+use Rattle.definitions.specs.Text.{Line, split, isBetween, number}
+use Rattle.definitions.specs.Refusal.{given}
+use Rattle.definitions.specs.Sheets as S
+use Rattle.text.specs.Spans.{kindOf}
+use Rattle.records.specs.Lines.{linesAt}
+use Rattle.text.specs.declared.Num.{Num}
+use Rattle.text.specs.declared.Num.the-variants.{Is, Bad}
+use Rattle.text.specs.declared.Found.{Found}
+use Rattle.text.specs.declared.Found.the-variants.{At, Nowhere}
+use Rattle.records.specs.declared.Places.{Places}
+use Rattle.records.specs.declared.Places.the-variants.{Unread, One, Two, Three}
+use Rattle.records.specs.declared.Entry.{Entry}
+use Rattle.records.specs.declared.Entry.the-variants.{Wrong, Rel, Choose, Rule, Size, Fact, Pick, Step}
+
+-- the span is one field; or it is not one
+unfoldable pub OneField : List ℕ → ℕ → ℕ → Bool → Type 0
+OneField s a e true = split 9 (slice a e s) ≡ slice a e s ∷ []
+OneField s a e false = (make : List ℕ → Option S.Entry) → S.withOne make (split 9 (slice a e s)) ≡ none
+
+-- an arity is 1 to 3
+unfoldable pub IsArity : Num → Type 0
+IsArity (Is k) = (1 ≤ k) × (k ≤ 3)
+IsArity Bad = Unit {0}
+
+-- the two fields of the span, parted by the tab at t; or not two
+unfoldable pub TwoFields : List ℕ → ℕ → ℕ → Found → Type 0
+TwoFields s a e (At t) = (a ≤ t) × (t < e) × (split 9 (slice a e s) ≡ slice a t s ∷ slice (t + 1) e s ∷ [])
+TwoFields s a e Nowhere = (make : List ℕ → List ℕ → Option S.Entry) → S.withTwo make (split 9 (slice a e s)) ≡ none
+
+-- the elements that an answer holds
+unfoldable pub listOf : Places → List ℕ
+listOf Unread = []
+listOf (One x) = x ∷ []
+listOf (Two x y) = x ∷ y ∷ []
+listOf (Three x y z) = x ∷ y ∷ z ∷ []
+
+unfoldable pub elements : Places → Option (List ℕ)
+elements Unread = none
+elements (One x) = some (x ∷ [])
+elements (Two x y) = some (x ∷ y ∷ [])
+elements (Three x y z) = some (x ∷ y ∷ z ∷ [])
+
+unfoldable pub consed : ℕ → Option (List ℕ) → Option (List ℕ)
+consed x o = option o none (λ xs. some (x ∷ xs))
+
+-- 1 to k numbers
+unfoldable pub upTo : ℕ → List (List ℕ) → Option (List ℕ)
+upTo k fs = if isBetween 1 k (length fs) then S.numbers fs else none
+
+-- the name and the elements of the span
+unfoldable pub Named : List ℕ → ℕ → ℕ → ℕ → Places → Type 0
+Named s a e t p = (make : List ℕ → List ℕ → S.Entry) → S.withElements make (split 9 (slice a e s)) ≡ option (elements p) none (λ xs. some (make (slice a t s) xs))
+
+-- the number of the kind that a word names, 0 where it names none
+unfoldable pub kindWord : List ℕ → ℕ
+kindWord f =
+    if same f (70 ∷ 117 ∷ 110 ∷ []) then 2
+    else if same f (80 ∷ 70 ∷ 117 ∷ 110 ∷ []) then 3
+    else if same f (73 ∷ 110 ∷ 106 ∷ []) then 4
+    else if same f (80 ∷ 73 ∷ 110 ∷ 106 ∷ []) then 5
+    else 0
+
+-- the number of a record word, 0 where it is none
+unfoldable pub recordWord : List ℕ → ℕ
+recordWord w =
+    if same w (114 ∷ 101 ∷ 108 ∷ []) then 1
+    else if same w (99 ∷ 104 ∷ 111 ∷ 111 ∷ 115 ∷ 101 ∷ []) then 2
+    else if same w (114 ∷ 117 ∷ 108 ∷ 101 ∷ []) then 3
+    else if same w (115 ∷ 105 ∷ 122 ∷ 101 ∷ []) then 4
+    else if same w (102 ∷ 97 ∷ 99 ∷ 116 ∷ []) then 5
+    else if same w (112 ∷ 105 ∷ 99 ∷ 107 ∷ []) then 6
+    else if same w (115 ∷ 116 ∷ 101 ∷ 112 ∷ []) then 7
+    else 0
+
+-- what the fields after a record word make
+unfoldable pub relOf : List ℕ → List ℕ → Option S.Entry
+relOf name a = option (S.arityOf a) none (λ k. some (S.rel name k))
+
+unfoldable pub ruleOf : List ℕ → Option S.Entry
+ruleOf f = some (S.rule f)
+
+unfoldable pub sizeOf : List ℕ → Option S.Entry
+sizeOf f = option (number f) none (λ n. some (S.size n))
+
+unfoldable pub stepOf : List ℕ → Option S.Entry
+stepOf f = option (number f) none (λ k. some (S.step k))
+
+-- the entry of the text s that an answer stands for
+unfoldable pub entryIn : List ℕ → Entry → Option S.Entry
+entryIn s Wrong = none
+entryIn s (Rel a e k) = some (S.rel (slice a e s) k)
+entryIn s (Choose a e k kind) = some (S.choose (slice a e s) k (kindOf kind))
+entryIn s (Rule a e) = some (S.rule (slice a e s))
+entryIn s (Size n) = some (S.size n)
+entryIn s (Fact a e xs) = some (S.fact (slice a e s) (listOf xs))
+entryIn s (Pick a e xs) = some (S.pick (slice a e s) (listOf xs))
+entryIn s (Step k) = some (S.step k)
+
+-- the spans of an entry of the line at `at` lie in the text, and an arity is 1 to 3
+unfoldable pub InText : List ℕ → ℕ → Entry → Type 0
+InText s at Wrong = Unit {0}
+InText s at (Rel a e k) = (a ≤ e) × (e ≤ length s) × (1 ≤ k) × (k ≤ 3)
+InText s at (Choose a e k kind) = (a ≤ e) × (e ≤ length s) × (1 ≤ k) × (k ≤ 3)
+InText s at (Rule a e) = (a ≡ at + 5) × (a ≤ e) × (e ≤ length s)
+InText s at (Size n) = Unit {0}
+InText s at (Fact a e xs) = (a ≤ e) × (e ≤ length s)
+InText s at (Pick a e xs) = (a ≤ e) × (e ≤ length s)
+InText s at (Step k) = Unit {0}
+
+-- the first line from `at` on says x, and the others begin at `next`
+unfoldable pub Reads : List ℕ → ℕ → ℕ → Entry → Type 0
+Reads s at next x = (l : Line) × (linesAt s at ≡ l ∷ linesAt s next) × (l .at ≡ at) × (S.entryOf l ≡ given (entryIn s x) 2 at)

@@ -1,0 +1,385 @@
+// What a line of any sheet says: its record word and the fields after it (document 01, "The sheets").
+ghost use mathlib.Core.Path.{_≡_};
+ghost use Prim.Native.Nat.{ℕ, _+_, _≤_, _<_};
+ghost use lib.ListN.{length};
+ghost use lib.Seq.{slice};
+ghost use Rattle.definitions.specs.Text.{split, number as numberOf};
+ghost use Rattle.definitions.specs.Sheets.{arityOf, chooseOf, withOne, withTwo, withElements, fact as factOf, pick as pickOf, entry as entryOf};
+ghost use Rattle.text.specs.Spans.{numOf};
+ghost use Rattle.records.specs.Entries.{OneField, TwoFields, Named, elements, consed, upTo, kindWord, recordWord, relOf, ruleOf, sizeOf, stepOf, entryIn, InText, IsArity, Reads};
+use text::Found;
+use text::Num;
+
+// One to three elements.
+pub enum Places {
+    Unread,
+    One(u32),
+    Two(u32, u32),
+    Three(u32, u32, u32),
+}
+
+// A record: names and the rule as spans of the text, a kind by its number.
+pub enum Entry {
+    Wrong,
+    Rel(usize, usize, u32),
+    Choose(usize, usize, u32, u32),
+    Rule(usize, usize),
+    Size(u32),
+    Fact(usize, usize, Places),
+    Pick(usize, usize, Places),
+    Step(u32),
+}
+
+// Elements, and where the name before them ends.
+struct Tuple {
+    end: usize,
+    places: Places,
+}
+
+// A line's record, and where the next line begins.
+pub struct Read {
+    pub entry: Entry,
+    pub next: usize,
+}
+
+// The span is one field.
+fn one(s: &[u8], a: usize, e: usize) -> bool
+    requires { ⌜ (a ≤ e) × (e ≤ length (now s)) ⌝ }
+    ensures { λ r. ⌜ OneField (now (s .entry)) a e r ⌝ }
+{
+    let t = text::find(s, a, e, 9);
+    if t < e {
+        return false;
+    }
+    true
+}
+
+// The place of the tab of a span of two fields.
+fn two(s: &[u8], a: usize, e: usize) -> Found
+    requires { ⌜ (a ≤ e) × (e ≤ length (now s)) ⌝ }
+    ensures { λ r. ⌜ TwoFields (now (s .entry)) a e r ⌝ }
+{
+    let t = text::find(s, a, e, 9);
+    if t == e {
+        return Found::Nowhere;
+    }
+    let u = text::find(s, t + 1, e, 9);
+    if u < e {
+        return Found::Nowhere;
+    }
+    Found::At(t)
+}
+
+// The arity that the span writes.
+fn arity(s: &[u8], a: usize, e: usize) -> Num
+    requires { ⌜ (a ≤ e) × (e ≤ length (now s)) ⌝ }
+    ensures { λ r. ⌜ (r ≡ numOf (arityOf (slice a e (now (s .entry))))) × IsArity r ⌝ }
+{
+    let n = text::number(s, a, e);
+    match n {
+        Num::Bad => Num::Bad,
+        Num::Is(k) => {
+            if k < 1 {
+                return Num::Bad;
+            }
+            if 3 < k {
+                return Num::Bad;
+            }
+            Num::Is(k)
+        }
+    }
+}
+
+// The number of the kind that the span names, 0 where it names none.
+fn kind_word(s: &[u8], a: usize, e: usize) -> u32
+    requires { ⌜ (a ≤ e) × (e ≤ length (now s)) ⌝ }
+    ensures { λ r. ⌜ r ≡ kindWord (slice a e (now (s .entry))) ⌝ }
+{
+    if text::word(s, a, e, b"Fun") {
+        return 2;
+    }
+    if text::word(s, a, e, b"PFun") {
+        return 3;
+    }
+    if text::word(s, a, e, b"Inj") {
+        return 4;
+    }
+    if text::word(s, a, e, b"PInj") {
+        return 5;
+    }
+    0
+}
+
+// The number of the record word that the span is, 0 where it is none.
+fn record_word(s: &[u8], a: usize, e: usize) -> u32
+    requires { ⌜ (a ≤ e) × (e ≤ length (now s)) ⌝ }
+    ensures { λ r. ⌜ r ≡ recordWord (slice a e (now (s .entry))) ⌝ }
+{
+    if text::word(s, a, e, b"rel") {
+        return 1;
+    }
+    if text::word(s, a, e, b"choose") {
+        return 2;
+    }
+    if text::word(s, a, e, b"rule") {
+        return 3;
+    }
+    if text::word(s, a, e, b"size") {
+        return 4;
+    }
+    if text::word(s, a, e, b"fact") {
+        return 5;
+    }
+    if text::word(s, a, e, b"pick") {
+        return 6;
+    }
+    if text::word(s, a, e, b"step") {
+        return 7;
+    }
+    0
+}
+
+// The fields after `rel`.
+fn rel_entry(s: &[u8], a: usize, e: usize) -> Entry
+    requires { ⌜ (a ≤ e) × (e ≤ length (now s)) ⌝ }
+    ensures { λ r. ⌜ (entryIn (now (s .entry)) r ≡ withTwo relOf (split 9 (slice a e (now (s .entry))))) × ((at : ℕ) → InText (now (s .entry)) at r) ⌝ }
+{
+    let f = two(s, a, e);
+    match f {
+        Found::Nowhere => Entry::Wrong,
+        Found::At(t) => {
+            let n = arity(s, t + 1, e);
+            match n {
+                Num::Bad => Entry::Wrong,
+                Num::Is(k) => Entry::Rel(a, t, k),
+            }
+        }
+    }
+}
+
+// The fields after `choose`.
+fn choose_entry(s: &[u8], a: usize, e: usize) -> Entry
+    requires { ⌜ (a ≤ e) × (e ≤ length (now s)) ⌝ }
+    ensures { λ r. ⌜ (entryIn (now (s .entry)) r ≡ withTwo chooseOf (split 9 (slice a e (now (s .entry))))) × ((at : ℕ) → InText (now (s .entry)) at r) ⌝ }
+{
+    let f = two(s, a, e);
+    match f {
+        Found::Nowhere => Entry::Wrong,
+        Found::At(t) => {
+            let kind = kind_word(s, t + 1, e);
+            if kind == 0 {
+                let n = arity(s, t + 1, e);
+                return match n {
+                    Num::Bad => Entry::Wrong,
+                    Num::Is(k) => Entry::Choose(a, t, k, 1),
+                };
+            }
+            Entry::Choose(a, t, 2, kind)
+        }
+    }
+}
+
+// The field after `rule`.
+fn rule_entry(s: &[u8], a: usize, e: usize) -> Entry
+    requires { ⌜ (a ≤ e) × (e ≤ length (now s)) ⌝ }
+    ensures { λ r. ⌜ (entryIn (now (s .entry)) r ≡ withOne ruleOf (split 9 (slice a e (now (s .entry))))) × ((at : ℕ) → a ≡ at + 5 → InText (now (s .entry)) at r) ⌝ }
+{
+    if one(s, a, e) {
+        return Entry::Rule(a, e);
+    }
+    Entry::Wrong
+}
+
+// The field after `size`.
+fn size_entry(s: &[u8], a: usize, e: usize) -> Entry
+    requires { ⌜ (a ≤ e) × (e ≤ length (now s)) ⌝ }
+    ensures { λ r. ⌜ (entryIn (now (s .entry)) r ≡ withOne sizeOf (split 9 (slice a e (now (s .entry))))) × ((at : ℕ) → InText (now (s .entry)) at r) ⌝ }
+{
+    if one(s, a, e) {
+        let n = text::number(s, a, e);
+        return match n {
+            Num::Bad => Entry::Wrong,
+            Num::Is(k) => Entry::Size(k),
+        };
+    }
+    Entry::Wrong
+}
+
+// The field after `step`.
+fn step_entry(s: &[u8], a: usize, e: usize) -> Entry
+    requires { ⌜ (a ≤ e) × (e ≤ length (now s)) ⌝ }
+    ensures { λ r. ⌜ (entryIn (now (s .entry)) r ≡ withOne stepOf (split 9 (slice a e (now (s .entry))))) × ((at : ℕ) → InText (now (s .entry)) at r) ⌝ }
+{
+    if one(s, a, e) {
+        let n = text::number(s, a, e);
+        return match n {
+            Num::Bad => Entry::Wrong,
+            Num::Is(k) => Entry::Step(k),
+        };
+    }
+    Entry::Wrong
+}
+
+// An element, by its number.
+fn element(s: &[u8], a: usize, e: usize) -> Num
+    requires { ⌜ (a ≤ e) × (e ≤ length (now s)) ⌝ }
+    ensures { λ r. ⌜ r ≡ numOf (numberOf (slice a e (now (s .entry)))) ⌝ }
+{
+    text::number(s, a, e)
+}
+
+// The third element.
+fn last(s: &[u8], a: usize, e: usize, x: u32, y: u32) -> Places
+    requires { ⌜ (a ≤ e) × (e ≤ length (now s)) ⌝ }
+    ensures { λ r. ⌜ elements r ≡ consed x (consed y (upTo 1 (split 9 (slice a e (now (s .entry)))))) ⌝ }
+{
+    let t = text::find(s, a, e, 9);
+    let n = element(s, a, t);
+    match n {
+        Num::Bad => Places::Unread,
+        Num::Is(z) => {
+            if t < e {
+                return Places::Unread;
+            }
+            Places::Three(x, y, z)
+        }
+    }
+}
+
+// The second element, and the third if there is one.
+fn more(s: &[u8], a: usize, e: usize, x: u32) -> Places
+    requires { ⌜ (a ≤ e) × (e ≤ length (now s)) ⌝ }
+    ensures { λ r. ⌜ elements r ≡ consed x (upTo 2 (split 9 (slice a e (now (s .entry))))) ⌝ }
+{
+    let t = text::find(s, a, e, 9);
+    let n = element(s, a, t);
+    match n {
+        Num::Bad => Places::Unread,
+        Num::Is(y) => {
+            if t < e {
+                return last(s, t + 1, e, x, y);
+            }
+            Places::Two(x, y)
+        }
+    }
+}
+
+// One to three elements.
+fn numbers(s: &[u8], a: usize, e: usize) -> Places
+    requires { ⌜ (a ≤ e) × (e ≤ length (now s)) ⌝ }
+    ensures { λ r. ⌜ elements r ≡ upTo 3 (split 9 (slice a e (now (s .entry)))) ⌝ }
+{
+    let t = text::find(s, a, e, 9);
+    let n = element(s, a, t);
+    match n {
+        Num::Bad => Places::Unread,
+        Num::Is(x) => {
+            if t < e {
+                return more(s, t + 1, e, x);
+            }
+            Places::One(x)
+        }
+    }
+}
+
+// The name and the elements after `fact` or `pick`.
+fn named(s: &[u8], a: usize, e: usize) -> Tuple
+    requires { ⌜ (a ≤ e) × (e ≤ length (now s)) ⌝ }
+    ensures { λ r. ⌜ Named (now (s .entry)) a e (r .end) (r .places) × (a ≤ r .end) × (r .end ≤ e) ⌝ }
+{
+    let t = text::find(s, a, e, 9);
+    if t == e {
+        return Tuple {
+            end: e,
+            places: Places::Unread,
+        };
+    }
+    let p = numbers(s, t + 1, e);
+    Tuple { end: t, places: p }
+}
+
+// The fields after `fact`.
+fn fact_entry(s: &[u8], a: usize, e: usize) -> Entry
+    requires { ⌜ (a ≤ e) × (e ≤ length (now s)) ⌝ }
+    ensures { λ r. ⌜ (entryIn (now (s .entry)) r ≡ withElements factOf (split 9 (slice a e (now (s .entry))))) × ((at : ℕ) → InText (now (s .entry)) at r) ⌝ }
+{
+    let n = named(s, a, e);
+    let t = n.end;
+    let p = n.places;
+    match p {
+        Places::Unread => Entry::Wrong,
+        Places::One(x) => Entry::Fact(a, t, Places::One(x)),
+        Places::Two(x, y) => Entry::Fact(a, t, Places::Two(x, y)),
+        Places::Three(x, y, z) => Entry::Fact(a, t, Places::Three(x, y, z)),
+    }
+}
+
+// The fields after `pick`.
+fn pick_entry(s: &[u8], a: usize, e: usize) -> Entry
+    requires { ⌜ (a ≤ e) × (e ≤ length (now s)) ⌝ }
+    ensures { λ r. ⌜ (entryIn (now (s .entry)) r ≡ withElements pickOf (split 9 (slice a e (now (s .entry))))) × ((at : ℕ) → InText (now (s .entry)) at r) ⌝ }
+{
+    let n = named(s, a, e);
+    let t = n.end;
+    let p = n.places;
+    match p {
+        Places::Unread => Entry::Wrong,
+        Places::One(x) => Entry::Pick(a, t, Places::One(x)),
+        Places::Two(x, y) => Entry::Pick(a, t, Places::Two(x, y)),
+        Places::Three(x, y, z) => Entry::Pick(a, t, Places::Three(x, y, z)),
+    }
+}
+
+// What the ended line from a up to e says.
+pub fn record(s: &[u8], a: usize, e: usize) -> Entry
+    requires { ⌜ (a ≤ e) × (e ≤ length (now s)) ⌝ }
+    ensures { λ r. ⌜ (entryIn (now (s .entry)) r ≡ entryOf (split 9 (slice a e (now (s .entry))))) × InText (now (s .entry)) a r ⌝ }
+{
+    let t = text::find(s, a, e, 9);
+    if t == e {
+        return Entry::Wrong;
+    }
+    let k = record_word(s, a, t);
+    if k == 1 {
+        return rel_entry(s, t + 1, e);
+    }
+    if k == 2 {
+        return choose_entry(s, t + 1, e);
+    }
+    if k == 3 {
+        return rule_entry(s, t + 1, e);
+    }
+    if k == 4 {
+        return size_entry(s, t + 1, e);
+    }
+    if k == 5 {
+        return fact_entry(s, t + 1, e);
+    }
+    if k == 6 {
+        return pick_entry(s, t + 1, e);
+    }
+    if k == 7 {
+        return step_entry(s, t + 1, e);
+    }
+    Entry::Wrong
+}
+
+// What the first line from `at` on says, and where the next one begins.
+pub fn line(s: &[u8], at: usize) -> Read
+    requires { ⌜ at < length (now s) ⌝ }
+    ensures { λ r. ⌜ (at < r .next) × (r .next ≤ length (now (s .entry))) × Reads (now (s .entry)) at (r .next) (r .entry) × InText (now (s .entry)) at (r .entry) ⌝ }
+{
+    let n = s.len();
+    let e = text::find(s, at, n, 10);
+    if e == n {
+        return Read {
+            entry: Entry::Wrong,
+            next: n,
+        };
+    }
+    let x = record(s, at, e);
+    Read {
+        entry: x,
+        next: e + 1,
+    }
+}
