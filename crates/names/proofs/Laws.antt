@@ -149,11 +149,11 @@ built-in-are : relationsFrom (69 ∷ 81 ∷ 76 ∷ 84 ∷ 83 ∷ 85 ∷ 67 ∷ 9
 unfolding relationsFrom relationIn builtInTable builtIn bytes kindOf
 built-in-are = refl
 
-found-some : (o : Option ℕ) (i : ℕ) (f : Found) → f ≡ At i → f ≡ placeOf o → o ≡ some i
+pub found-some : (o : Option ℕ) (i : ℕ) (f : Found) → f ≡ At i → f ≡ placeOf o → o ≡ some i
 found-some none i f p q = let z : _≡_ {A = ℕ} 0 1 = cc in absurd (omega arith)
 found-some (some j) i f p q = cc
 
-found-none : (o : Option ℕ) (f : Found) → f ≡ Nowhere → f ≡ placeOf o → o ≡ none
+pub found-none : (o : Option ℕ) (f : Found) → f ≡ Nowhere → f ≡ placeOf o → o ≡ none
 found-none none f p q = refl
 found-none (some j) f p q = let z : _≡_ {A = ℕ} 0 1 = cc in absurd (omega arith)
 

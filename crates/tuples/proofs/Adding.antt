@@ -1,0 +1,167 @@
+-- Adding a tuple of the text: the tests 7 and 9 find its bit, and the bit decides 10.
+use Prim.Native.Nat.{ℕ, zero, suc, _+_, _-_, _*_, _^_, _/_, _≤_, _<_}
+use mathlib.Core.Path.{_≡_, refl, sym, ap, ap₂, subst, _∙_}
+use mathlib.Core.Bool.{Bool, true, false, _&&_}
+use mathlib.Core.Option.{Option, none, some}
+use mathlib.Core.List.{List, [], _∷_, _++_}
+use native.Mathlib.Omega.{arith}
+use lib.Dec.{eqb}
+use lib.ListN.{length, getD}
+use borrow.Author.Tests.{eqb-true}
+use Rattle.definitions.specs.Lists.{option, position, same}
+use Rattle.definitions.specs.Refusal.{refused, accepted, _>>=_, refuseIf, given}
+use Rattle.definitions.specs.Relations.{Relation, Tuple, isAmong}
+use Rattle.definitions.specs.Atoms.{wordsFor}
+use Rattle.definitions.specs.Sheets as D
+use Rattle.bits.specs.Table.{bit, put}
+use Rattle.text.specs.Spans.{placeOf}
+use Rattle.text.specs.declared.Found.{Found}
+use Rattle.text.specs.declared.Found.the-variants.{At, Nowhere}
+use Rattle.names.specs.declared.Signature.{Signature}
+use Rattle.names.specs.Signatures.{relationIn, relationsFrom, matches, counted}
+use Rattle.names.proofs.Laws.{found-some, found-none, look-found}
+use Rattle.tuples.specs.declared.Mark.{Mark}
+use Rattle.tuples.specs.declared.Mark.the-variants.{Bit, Fault}
+use Rattle.tuples.specs.Marks.{areBelow, InRow, firstWord, bitOf, marks, Valid, AllValid, Stands, Spotted, Adds, Added}
+use Rattle.tuples.proofs.Rows.{row-power, power-le}
+use Rattle.tuples.proofs.Bits.{marks-among, valid-snoc, marks-put}
+
+-- ---- the tests 7 and 9
+
+module _ (rs : List Relation) (first n : ℕ) (ts : List Tuple) (at : ℕ) (name xs : List ℕ) where
+  tuple-7 : D.used rs first name (length xs) ≡ none → D.addTuple rs first n ts at name xs ≡ refused 7 at
+  unfolding D.addTuple given _>>=_
+  tuple-7 p = rw p
+
+  module _ (r : ℕ) (p : D.used rs first name (length xs) ≡ some r) where
+    tuple-9 : areBelow n xs ≡ false → D.addTuple rs first n ts at name xs ≡ refused 9 at
+    unfolding D.addTuple given _>>=_ refuseIf areBelow
+    tuple-9 b = rw (p, b)
+
+    tuple-in : areBelow n xs ≡ true → D.addTuple rs first n ts at name xs ≡ (refuseIf (isAmong (record { relation = r; places = xs }) ts) 10 at >>= λ _. accepted (ts ++ (record { relation = r; places = xs } ∷ [])))
+    unfolding D.addTuple given _>>=_ refuseIf areBelow
+    tuple-in b = rw (p, b)
+
+-- what was looked up is what is used
+used-is : (rs : List Relation) (first lo : ℕ) (name : List ℕ) (k : ℕ) (o : Option ℕ) → counted lo (position (matches name false k) rs) ≡ o → D.used rs (5 + lo) name k ≡ option o none (λ i. some (5 + i))
+unfolding D.used counted matches option
+used-is rs first lo name k o e = rw (← e) (go (position (λ (r : Relation). same (r .name) name && eqb (r .arity) k) rs))
+  where
+    go : (u : Option ℕ) → option u none (λ i. some (5 + lo + i)) ≡ option (option u none (λ i. some (lo + i))) none (λ i. some (5 + i))
+    go none = refl
+    go (some i) = let z : 5 + lo + i ≡ 5 + (lo + i) = omega arith in ap (λ (m : ℕ). some m) z
+
+match-arity : (q : List ℕ) (g : Signature) (name : List ℕ) (k i : ℕ) → matches name false k (relationIn q g i) ≡ true → getD (g .arity) i 0 ≡ k
+unfolding matches relationIn
+match-arity q g name k i p = eqb-true (getD (g .arity) i 0) k (second (same (relationIn q g i .name) name) (eqb (getD (g .arity) i 0) k) p)
+  where
+    second : (a b : Bool) → (a && b) ≡ true → b ≡ true
+    second true b p = p
+    second false b p = let z : _≡_ {A = ℕ} 0 1 = cc in absurd (omega arith)
+
+-- ---- the bit
+
+module _ (q : List ℕ) (g : Signature) (lo m n : ℕ) (name xs : List ℕ) (k : ℕ) (e : k ≡ length xs) (f : Found) (w : f ≡ placeOf (counted lo (position (matches name false k) (relationsFrom q g lo m)))) where
+  pub spot-unknown : f ≡ Nowhere → Spotted q g lo m n name xs (Fault 7)
+  unfolding Spotted option
+  spot-unknown p = (omega arith, λ ts at. tuple-7 (relationsFrom q g lo m) (5 + lo) n ts at name xs (rw (← e) (used-is (relationsFrom q g lo m) 5 lo name k none (found-none _ f p w))))
+
+  module _ (i : ℕ) (p : f ≡ At i) where
+    pub found-bounds : (lo ≤ i) × (i < lo + m) × (getD (g .arity) i 0 ≡ k)
+    found-bounds = let v = look-found q g (matches name false k) lo m i f p w in (v .0, v .1, match-arity q g name k i (v .2))
+
+    used-there : D.used (relationsFrom q g lo m) (5 + lo) name (length xs) ≡ some (5 + i)
+    unfolding option
+    used-there = rw (← e) (used-is (relationsFrom q g lo m) 5 lo name k (some i) (found-some _ i f p w))
+
+    module _ (r : Found) (u : InRow n xs r) where
+      pub spot-outside : r ≡ Nowhere → Spotted q g lo m n name xs (Fault 9)
+      unfolding Spotted InRow
+      spot-outside z = (omega arith, λ ts at. tuple-9 (relationsFrom q g lo m) (5 + lo) n ts at name xs (5 + i) used-there (subst (λ (r : Found). InRow n xs r) z u))
+
+      module _ (b : ℕ) (z : r ≡ At b) (t : ℕ) (h : (t ≡ firstWord g n lo (i - lo)) × (t ≤ 64 * (i - lo))) (n16 : n ≤ 16) (k3 : k ≤ 3) where
+        pub row-limit : b < 4096
+        row-limit = omega (arith, row-power n xs b r z u, power-le n (length xs) n16 (omega arith))
+
+        inside : areBelow n xs ≡ true
+        unfolding InRow
+        inside = subst (λ (r : Found). InRow n xs r) z u .0
+
+        valid : Valid g n lo m (record { relation = 5 + i; places = xs })
+        unfolding Valid
+        valid =
+            let v = found-bounds in
+            let j : i ≡ 5 + i - 5 = omega arith in
+            (omega arith, omega arith, sym (ap (λ (y : ℕ). getD (g .arity) y 0) (sym j) ∙ v .2 ∙ e), inside)
+
+        its-bit : bitOf g n lo (record { relation = 5 + i; places = xs }) ≡ t * 64 + b
+        unfolding bitOf InRow
+        its-bit =
+            let j : 5 + i - (5 + lo) ≡ i - lo = omega arith in
+            let y = subst (λ (r : Found). InRow n xs r) z u .1 in
+            let c : firstWord g n lo (5 + i - (5 + lo)) ≡ t = ap (firstWord g n lo) j ∙ sym (h .0) in
+            omega (arith, c, y)
+
+        pub spot-bit : Spotted q g lo m n name xs (Bit (t * 64 + b))
+        unfolding Spotted
+        spot-bit =
+            let v = found-bounds in
+            record {
+              tuple = record { relation = 5 + i; places = xs };
+              valid = valid;
+              its-bit = its-bit;
+              small = omega (arith, row-limit);
+              adds = λ ts at. tuple-in (relationsFrom q g lo m) (5 + lo) n ts at name xs (5 + i) used-there inside;
+            }
+
+-- ---- adding
+
+module _ (q : List ℕ) (g : Signature) (lo m n : ℕ) (name xs : List ℕ) (old new : List ℕ) (r : Mark) (w : Spotted q g lo m n name xs r) where
+  pub add-fault : (k : ℕ) → r ≡ Fault k → Added q g lo m n name xs old new k
+  unfolding Added Spotted Adds
+  add-fault k p ts at v b = go k (subst (λ (r : Mark). Spotted q g lo m n name xs r) p w .0) (subst (λ (r : Mark). Spotted q g lo m n name xs r) p w .1 ts at)
+    where
+      go : (k : ℕ) → 1 ≤ k → D.addTuple (relationsFrom q g lo m) (5 + lo) n ts at name xs ≡ refused k at → Adds q g lo m n name xs ts at new k
+      go zero h e = absurd (omega arith)
+      go (suc k) h e = e
+
+  module _ (b : ℕ) (p : r ≡ Bit b) where
+    there : Stands q g lo m n name xs b
+    unfolding Spotted
+    there = subst (λ (r : Mark). Spotted q g lo m n name xs r) p w
+
+    pub spot-limit : b < 64 * (64 * m)
+    spot-limit = there .small
+
+    among : (ts : List Tuple) → AllValid g n lo m ts → bit old ≡ marks (bitOf g n lo) ts → bit old b ≡ isAmong (there .tuple) ts
+    among ts v c = ap (λ (y : ℕ → Bool). y b) c ∙ ap (marks (bitOf g n lo) ts) (sym (there .its-bit)) ∙ marks-among g n lo m (there .tuple) ts (there .valid) v
+
+    pub add-10 : bit old b ≡ true → Added q g lo m n name xs old new 10
+    unfolding Added Adds refuseIf _>>=_
+    add-10 a ts at v c = there .adds ts at ∙ rw (sym (among ts v c) ∙ a)
+
+    pub add-0 : bit old b ≡ false → bit new ≡ put (bit old) b true → Added q g lo m n name xs old new 0
+    unfolding Added Adds refuseIf _>>=_
+    add-0 a d ts at v c = (
+      there .tuple,
+      there .adds ts at ∙ rw (sym (among ts v c) ∙ a),
+      valid-snoc g n lo m ts (there .tuple) v (there .valid),
+      d ∙ ap₂ (λ (y : ℕ → Bool) (j : ℕ). put y j true) c (sym (there .its-bit)) ∙ marks-put (bitOf g n lo) ts (there .tuple),
+    )
+
+-- ---- the first word
+
+module _ (g : Signature) (n lo j sum p : ℕ) (l : lo ≤ j) (h : sum ≡ firstWord g n lo (j - lo)) (b : sum ≤ 64 * (j - lo)) (e : p ≡ n ^ getD (g .arity) j 0) where
+  pub word-next : sum + (p + 63) / 64 ≡ firstWord g n lo (j + 1 - lo)
+  unfolding firstWord wordsFor
+  word-next =
+      let z : j + 1 - lo ≡ suc (j - lo) = omega arith in
+      let y : j ≡ lo + (j - lo) = omega arith in
+      rw z (ap₂ (λ (x y : ℕ). x + (y + 63) / 64) h (e ∙ ap (λ (i : ℕ). n ^ getD (g .arity) i 0) y))
+
+  pub word-limit : p ≤ 4096 → sum + (p + 63) / 64 ≤ 64 * (j + 1 - lo)
+  word-limit q = omega arith
+
+pub word-none : (g : Signature) (n lo : ℕ) → 0 ≡ firstWord g n lo (lo - lo)
+unfolding firstWord
+word-none g n lo = let z : lo - lo ≡ 0 = omega arith in rw z

@@ -1,0 +1,148 @@
+-- Tuples as bits: no two tuples share one, so a tuple's bit says whether it is among the tuples marked, and marking one more sets its bit.
+use Prim.Native.Nat.{ℕ, zero, suc, _+_, _-_, _*_, _^_, _≤_, _<_}
+use mathlib.Core.Path.{_≡_, refl, sym, ap, ap₂, subst, _∙_, fun-ext}
+use mathlib.Core.Bool.{Bool, true, false, cond, _&&_, _||_}
+use mathlib.Core.List.{List, [], _∷_, _++_}
+use native.Mathlib.Decide.{ℕ-discrete, decLt}
+use native.Mathlib.Omega.{arith}
+use lib.Dec.{eqb}
+use lib.ListN.{length, getD}
+use borrow.Author.Tests.{eq-eqb, ne-eqb, eqb-true}
+use Rattle.definitions.specs.Lists.{any, same}
+use Rattle.definitions.specs.Relations.{Tuple, sameTuple, isAmong}
+use Rattle.definitions.specs.Atoms.{rowOf, wordsFor}
+use Rattle.bits.specs.Table.{put}
+use Rattle.names.specs.declared.Signature.{Signature}
+use Rattle.tuples.specs.Marks.{firstWord, bitOf, marks, Valid, AllValid}
+use Rattle.tuples.proofs.Rows.{row-lt, row-same}
+
+-- ---- the words of relations
+
+pub words-hold : (k : ℕ) → k ≤ 64 * wordsFor k
+unfolding wordsFor
+words-hold k = omega arith
+
+module _ (g : Signature) (n lo : ℕ) where
+  -- a relation ends before a later one begins
+  pub words-apart : (m d : ℕ) → firstWord g n lo m + wordsFor (n ^ getD (g .arity) (lo + m) 0) ≤ firstWord g n lo (suc m + d)
+  unfolding firstWord
+  words-apart m zero = let z : suc m + 0 ≡ suc m = omega arith in rw z (omega arith)
+  words-apart m (suc d) = let z : suc m + suc d ≡ suc (suc m + d) = omega arith in rw z (omega (arith, words-apart m d))
+
+  module _ (m : ℕ) where
+    row-bound : (t : Tuple) → Valid g n lo m t → rowOf n (t .places) < 64 * wordsFor (n ^ getD (g .arity) (lo + (t .relation - (5 + lo))) 0)
+    unfolding Valid
+    row-bound t v =
+        let z : t .relation - 5 ≡ lo + (t .relation - (5 + lo)) = omega (arith, v .0) in
+        let e : n ^ length (t .places) ≡ n ^ getD (g .arity) (lo + (t .relation - (5 + lo))) 0 = ap (λ (x : ℕ). n ^ x) (v .2 ∙ ap (λ (x : ℕ). getD (g .arity) x 0) z) in
+        omega (arith, row-lt n (t .places) (v .3), e, words-hold (n ^ getD (g .arity) (lo + (t .relation - (5 + lo))) 0))
+
+    apart : (t u : Tuple) → Valid g n lo m t → t .relation - (5 + lo) < u .relation - (5 + lo) → bitOf g n lo t < bitOf g n lo u
+    unfolding bitOf
+    apart t u v h =
+        let d : ℕ = u .relation - (5 + lo) - suc (t .relation - (5 + lo)) in
+        let z : suc (t .relation - (5 + lo)) + d ≡ u .relation - (5 + lo) = omega arith in
+        let w : firstWord g n lo (t .relation - (5 + lo)) + wordsFor (n ^ getD (g .arity) (lo + (t .relation - (5 + lo))) 0) ≤ firstWord g n lo (u .relation - (5 + lo))
+        = subst (λ (x : ℕ). firstWord g n lo (t .relation - (5 + lo)) + wordsFor (n ^ getD (g .arity) (lo + (t .relation - (5 + lo))) 0) ≤ firstWord g n lo x) z (words-apart (t .relation - (5 + lo)) d) in
+        omega (arith, row-bound t v)
+
+    same-relation : (t u : Tuple) → Valid g n lo m t → Valid g n lo m u → bitOf g n lo t ≡ bitOf g n lo u → t .relation - (5 + lo) ≡ u .relation - (5 + lo)
+    same-relation t u v w e = go (decLt (t .relation - (5 + lo)) (u .relation - (5 + lo))) (decLt (u .relation - (5 + lo)) (t .relation - (5 + lo)))
+      where
+        less : (a b : ℕ) → a < b → a ≡ b → ⊥
+        less a b h p = omega arith
+
+        go : Dec (t .relation - (5 + lo) < u .relation - (5 + lo)) → Dec (u .relation - (5 + lo) < t .relation - (5 + lo)) → t .relation - (5 + lo) ≡ u .relation - (5 + lo)
+        go (yes h) d = absurd (less (bitOf g n lo t) (bitOf g n lo u) (apart t u v h) e)
+        go (no h) (yes k) = absurd (less (bitOf g n lo u) (bitOf g n lo t) (apart u t w k) (sym e))
+        go (no h) (no k) = omega arith
+
+    same-bit : (t u : Tuple) → Valid g n lo m t → Valid g n lo m u → bitOf g n lo t ≡ bitOf g n lo u → (t .relation ≡ u .relation) × (t .places ≡ u .places)
+    unfolding Valid bitOf
+    same-bit t u v w e =
+        let r : t .relation - (5 + lo) ≡ u .relation - (5 + lo) = same-relation t u v w e in
+        let s : t .relation ≡ u .relation = omega (arith, v .0, w .0) in
+        let x : firstWord g n lo (t .relation - (5 + lo)) ≡ firstWord g n lo (u .relation - (5 + lo)) = ap (firstWord g n lo) r in
+        (s, row-same n (t .places) (u .places) (v .3) (w .3) (v .2 ∙ ap (λ (i : ℕ). getD (g .arity) (i - 5) 0) s ∙ sym (w .2)) (omega arith))
+
+-- ---- equal tuples
+
+both : (a b : Bool) → (a && b) ≡ true → (a ≡ true) × (b ≡ true)
+both true b p = (refl, p)
+both false b p = let z : _≡_ {A = ℕ} 0 1 = cc in absurd (omega arith)
+
+same-refl : (xs : List ℕ) → same xs xs ≡ true
+unfolding same
+same-refl [] = refl
+same-refl (x ∷ xs) = rw (eq-eqb x x refl, same-refl xs)
+
+same-eq : (xs ys : List ℕ) → same xs ys ≡ true → xs ≡ ys
+unfolding same
+same-eq [] [] p = refl
+same-eq [] (y ∷ ys) p = let z : _≡_ {A = ℕ} 0 1 = cc in absurd (omega arith)
+same-eq (x ∷ xs) [] p = let z : _≡_ {A = ℕ} 0 1 = cc in absurd (omega arith)
+same-eq (x ∷ xs) (y ∷ ys) p = let w = both (eqb x y) (same xs ys) p in rw (eqb-true x y (w .0), same-eq xs ys (w .1))
+
+module _ (g : Signature) (n lo m : ℕ) where
+  bit-test : (t u : Tuple) → Valid g n lo m t → Valid g n lo m u → eqb (bitOf g n lo u) (bitOf g n lo t) ≡ sameTuple t u
+  unfolding sameTuple
+  bit-test t u v w = go (sameTuple t u) refl
+    where
+      go : (b : Bool) → sameTuple t u ≡ b → eqb (bitOf g n lo u) (bitOf g n lo t) ≡ b
+      go true p =
+          let h = both (eqb (t .relation) (u .relation)) (same (t .places) (u .places)) p in
+          let r = eqb-true (t .relation) (u .relation) (h .0) in
+          let x = same-eq (t .places) (u .places) (h .1) in
+          eq-eqb (bitOf g n lo u) (bitOf g n lo t) (sym (bit-ext t u r x))
+        where
+          bit-ext : (t u : Tuple) → t .relation ≡ u .relation → t .places ≡ u .places → bitOf g n lo t ≡ bitOf g n lo u
+          bit-ext t u r x = ap₂ (λ (a : ℕ) (b : List ℕ). bitOf g n lo (record { relation = a; places = b })) r x
+      go false p = ne-eqb (bitOf g n lo u) (bitOf g n lo t) (λ e. clash (same-bit g n lo m t u v w (sym e)))
+        where
+          clash : (t .relation ≡ u .relation) × (t .places ≡ u .places) → ⊥
+          clash h =
+              let q : sameTuple t u ≡ true = rw (h .0, h .1) (rw (eq-eqb (u .relation) (u .relation) refl, same-refl (u .places))) in
+              let z : _≡_ {A = ℕ} 0 1 = cc in
+              omega arith
+
+  -- a tuple's bit says whether it is among those marked
+  pub marks-among : (t : Tuple) (ts : List Tuple) → Valid g n lo m t → AllValid g n lo m ts → marks (bitOf g n lo) ts (bitOf g n lo t) ≡ isAmong t ts
+  unfolding marks isAmong any AllValid
+  marks-among t [] v w = refl
+  marks-among t (u ∷ us) v w = rw (bit-test t u v (w .0), marks-among t us v (w .1))
+
+  pub valid-snoc : (ts : List Tuple) (t : Tuple) → AllValid g n lo m ts → Valid g n lo m t → AllValid g n lo m (ts ++ (t ∷ []))
+  unfolding AllValid
+  valid-snoc [] t w v = (v, tt)
+  valid-snoc (u ∷ us) t w v = (w .0, valid-snoc us t (w .1) v)
+
+-- ---- marking one more
+
+or-false : (b : Bool) → (b || false) ≡ b
+or-false true = refl
+or-false false = refl
+
+or-true : (b : Bool) → (b || true) ≡ true
+or-true true = refl
+or-true false = refl
+
+any-snoc : (p : Tuple → Bool) (ts : List Tuple) (t : Tuple) → any p (ts ++ (t ∷ [])) ≡ (any p ts || p t)
+unfolding any
+any-snoc p [] t = or-false (p t)
+any-snoc p (u ∷ us) t = go (p u) (any-snoc p us t)
+  where
+    go : (b : Bool) → any p (us ++ (t ∷ [])) ≡ (any p us || p t) → (b || any p (us ++ (t ∷ []))) ≡ ((b || any p us) || p t)
+    go true e = refl
+    go false e = e
+
+pub marks-put : (place : Tuple → ℕ) (ts : List Tuple) (t : Tuple) → put (marks place ts) (place t) true ≡ marks place (ts ++ (t ∷ []))
+unfolding marks put
+marks-put place ts t = fun-ext (λ i. go i (ℕ-discrete i (place t)))
+  where
+    go : (i : ℕ) → Dec (i ≡ place t) → cond (eqb i (place t)) true (any (λ (u : Tuple). eqb (place u) i) ts) ≡ any (λ (u : Tuple). eqb (place u) i) (ts ++ (t ∷ []))
+    go i (yes e) = rw (eq-eqb i (place t) e) (sym (any-snoc (λ (u : Tuple). eqb (place u) i) ts t ∙ rw (eq-eqb (place t) i (sym e)) (or-true (any (λ (u : Tuple). eqb (place u) i) ts))))
+    go i (no h) = rw (ne-eqb i (place t) h) (sym (any-snoc (λ (u : Tuple). eqb (place u) i) ts t ∙ rw (ne-eqb (place t) i (λ e. h (sym e))) (or-false (any (λ (u : Tuple). eqb (place u) i) ts))))
+
+pub none-marked : (place : Tuple → ℕ) → (λ (i : ℕ). false) ≡ marks place []
+unfolding marks any
+none-marked place = refl

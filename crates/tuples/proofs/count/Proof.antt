@@ -1,0 +1,41 @@
+-- `tuples::count` meets its contract.
+use mathlib.Core.Path.{refl, sym, ap}
+use lib.ListN.{length}
+use borrow.Author.Needs.{needs}
+use Rattle.records.specs.Entries.{listOf}
+use Rattle.records.specs.declared.Places.{Places}
+use Rattle.tuples.proofs.count.Statement.{statement}
+use Rattle.tuples.proofs.count.Tie as tie
+
+enum-told : tie.Need-enum-told
+enum-told c = search needs
+
+enum-told-2 : tie.Need-enum-told-2
+enum-told-2 c = search needs
+
+enum-told-3 : tie.Need-enum-told-3
+enum-told-3 c = search needs
+
+enum-told-4 : tie.Need-enum-told-4
+enum-told-4 c = search needs
+
+returns : tie.Need-returns
+unfolding listOf
+returns c = sym (ap (λ (p : Places). length (listOf p)) (c .enum-told .given .1))
+
+returns-2 : tie.Need-returns-2
+unfolding listOf
+returns-2 c = sym (ap (λ (p : Places). length (listOf p)) (c .enum-told2 .given .1))
+
+returns-3 : tie.Need-returns-3
+unfolding listOf
+returns-3 c = sym (ap (λ (p : Places). length (listOf p)) (c .enum-told3 .given .1))
+
+returns-4 : tie.Need-returns-4
+unfolding listOf
+returns-4 c = sym (ap (λ (p : Places). length (listOf p)) (c .enum-told4 .given .1))
+
+pub count-spec : {M : Type 1} → statement M
+count-spec =
+    tie.close
+    (tie.spec enum-told enum-told-2 enum-told-3 enum-told-4 returns returns-2 returns-3 returns-4)
