@@ -1,0 +1,30 @@
+use mathlib.Core.Path.{_∙_}
+use native.Mathlib.Omega.{arith}
+use borrow.Author.Needs.{needs}
+use Rattle.bits.specs.Table.{bit}
+use Rattle.ground.specs.ChangeLaws.{put-clear, clear-past}
+use borrow.Author.Needs.{needs}
+use Rattle.ground.proofs.clear.Statement.{statement}
+use Rattle.ground.proofs.clear.Tie as tie
+use Rattle.ground.proofs.clear.Reads as reads
+use Rattle.ground.proofs.clear.Lts as lts
+use Rattle.bits.proofs.clear.Reads as clear-reads
+
+-- src/lib.rt:307:9
+clear-requires : tie.Need-clear-requires
+clear-requires c κs = search needs
+
+-- src/lib.rt:303:1
+same-length : tie.Need-same-length
+same-length c = search needs
+
+-- src/lib.rt:303:1
+returns : tie.Need-returns
+returns c = c .before .before .clear .ensures ∙ put-clear (bit (c .before .before .before .before .before .before .args .words .now)) (c .before .before .before .before .before .before .args .i)
+
+-- src/lib.rt:303:1
+returns-2 : tie.Need-returns-2
+returns-2 c = clear-past (c .before .before .args .words .now) (c .before .before .args .i) (omega arith)
+
+pub clear-spec : {M : Type 1} → statement M
+clear-spec = tie.close (tie.spec clear-requires same-length returns returns-2)

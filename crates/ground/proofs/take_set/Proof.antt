@@ -1,0 +1,63 @@
+use Prim.Native.Nat.{ℕ, _+_}
+use mathlib.Core.Path.{ap, _∙_}
+use mathlib.Core.Bool.{Bool}
+use mathlib.Core.List.{[], _∷_}
+use native.Mathlib.Omega.{arith}
+use borrow.Author.Needs.{needs}
+use Rattle.bits.specs.Table.{bit}
+use Rattle.ground.specs.Numbers.{changed, freeNumbers}
+use Rattle.ground.specs.ChangeLaws.{set-changes}
+use borrow.Author.Needs.{needs}
+use Rattle.ground.proofs.take_set.Statement.{statement}
+use Rattle.ground.proofs.take_set.Tie as tie
+use Rattle.ground.proofs.take_set.Reads as reads
+use Rattle.ground.proofs.take_set.Lts as lts
+use Rattle.ground.proofs.clear.Reads as clear-reads
+use Rattle.ground.proofs.free_clear.Reads as free-clear-reads
+use Rattle.ground.proofs.raise.Reads as raise-reads
+
+-- src/lib.rt:340:18
+add-clear : tie.Need-add-clear
+add-clear c = search needs
+
+-- src/lib.rt:340:5
+clear-requires : tie.Need-clear-requires
+clear-requires c κs = search needs
+
+-- src/lib.rt:341:5
+free-clear-requires : tie.Need-free-clear-requires
+free-clear-requires c κs = search needs
+
+-- src/lib.rt:342:18
+add-raise : tie.Need-add-raise
+add-raise c = search needs
+
+-- src/lib.rt:342:5
+raise-requires : tie.Need-raise-requires
+raise-requires c κs = search needs
+
+-- src/lib.rt:336:1
+same-length : tie.Need-same-length
+same-length c = search needs
+
+-- src/lib.rt:336:1
+returns : tie.Need-returns
+returns c = λ h.
+    let k = c .before .before .before .before .before .before .before .before .before .before .before .before .before .before .before .args .k in
+    let row = c .before .before .before .before .before .before .before .before .before .before .before .before .before .before .before .args .row in
+    let i = k .tuples + row in
+    c .before .before .raise .ensures (omega arith)
+    ∙ ap (λ (z : ℕ → Bool). changed z [] (i ∷ [])) (c .before .before .before .before .before .before .before .free-clear .ensures ∙ ap (λ (z : ℕ → Bool). changed z (freeNumbers (c .before .before .before .before .before .before .before .before .before .before .before .before .before .before .before .args .n) (k .kind) (k .free) row) []) (c .before .before .before .before .before .before .before .before .before .before .before .clear .ensures))
+    ∙ set-changes (bit (c .before .before .before .before .before .before .before .before .before .before .before .before .before .before .before .args .state .now)) (c .before .before .before .before .before .before .before .before .before .before .before .before .before .before .before .args .n) k row i
+
+pub take-set-spec : {M : Type 1} → statement M
+take-set-spec =
+    tie.close
+    (tie.spec
+    add-clear
+    clear-requires
+    free-clear-requires
+    add-raise
+    raise-requires
+    same-length
+    returns)

@@ -1,0 +1,40 @@
+use mathlib.Core.Path.{_≡_, ap, _∙_}
+use native.Mathlib.Omega.{arith}
+use borrow.Author.Needs.{needs}
+use lib.ListN.{length, set}
+use Rattle.bits.specs.Table.{bit}
+use Rattle.rows.specs.Laws.{within-set}
+use Rattle.ground.specs.NeedLaws.{under-is, row-values, within-most}
+use borrow.Author.Needs.{needs}
+use Rattle.ground.proofs.under_holds.Statement.{statement}
+use Rattle.ground.proofs.under_holds.Tie as tie
+use Rattle.ground.proofs.under_holds.Reads as reads
+use Rattle.ground.proofs.under_holds.Lts as lts
+use Rattle.ground.proofs.part_holds.Reads as part-holds-reads
+use Rattle.rows.proofs.values_of.Reads as values-of-reads
+
+-- src/lib.rt:221:19
+values-of-requires : tie.Need-values-of-requires
+values-of-requires c κs = search needs
+
+-- src/lib.rt:222:5
+mul-env : tie.Need-mul-env
+mul-env c = search needs
+
+-- src/lib.rt:222:5
+array-write-env : tie.Need-array-write-env
+array-write-env c = search needs
+
+-- src/lib.rt:223:5
+part-holds-requires : tie.Need-part-holds-requires
+part-holds-requires c κs = (c .before .before .before .before .pre .2, omega (arith, c .before .before .before .before .pre .3 .parts), within-most (c .before .before .before .before .args .n) (set (c .values-of .result) (c .before .before .before .before .args .v .level) (c .before .before .before .before .args .x)) (c .before .before .before .before .pre .1) (within-set (c .before .before .before .before .args .n) (c .values-of .result) (c .before .before .before .before .args .v .level) (c .before .before .before .before .args .x) (c .before .before .before .before .pre .4) (c .values-of .ensures .1)))
+
+-- src/lib.rt:215:1
+returns : tie.Need-returns
+returns c =
+    let len : length (c .before .values-of .result) ≡ 4 = search needs in
+    c .part-holds .ensures ∙ ap (bit (c .before .before .before .before .before .args .state .now)) (under-is (bit (c .before .before .before .before .before .args .state .now)) (c .before .before .before .before .before .args .n) (c .before .before .before .before .before .args .table .now) (c .before .before .before .before .before .args .v) (c .before .before .before .before .before .args .row) (c .before .values-of .result) (c .before .values-of .ensures .0 ∙ row-values (c .before .before .before .before .before .args .n) (c .before .before .before .before .before .args .v) (c .before .before .before .before .before .args .row)) (c .before .before .before .before .before .args .x) (omega (arith, c .before .before .before .before .before .pre .3 .level)))
+
+pub under-holds-spec : {M : Type 1} → statement M
+under-holds-spec =
+    tie.close (tie.spec values-of-requires mul-env array-write-env part-holds-requires returns)

@@ -1,0 +1,191 @@
+-- The numbers by the table are those of the problem's atoms.
+use mathlib.Core.Path.{_≡_, refl, sym, ap, ap₂, _∙_, subst}
+use mathlib.Core.Bool.{Bool, true, false, _&&_}
+use mathlib.Core.List.{List, [], _∷_, _++_, map}
+use Prim.Native.Nat.{ℕ, zero, suc, _+_, _-_, _*_, _/_, _%_, _≤_, _<_}
+use native.Mathlib.Nat.{add-zero, add-suc}
+use native.Mathlib.Omega.{arith}
+use lib.Arith.{digits-lt}
+use lib.ListN.{length, getD, take, drop, length-map, List·getD-map}
+use lib.Seq.{drop-cons}
+use Rattle.definitions.specs.Lists.{if_then_else_, all, from}
+use Rattle.definitions.specs.Relations.{Kind, static, plain, Fun, PFun, Inj, PInj, Relation, isFunction, isInjective}
+use Rattle.definitions.specs.Tree.{Tree, Trees, end, _then_, leaf, forallNode, existsNode, andNode, orNode, Part, parts, partsFrom, howMany, nodes, isForall}
+use Rattle.definitions.specs.Atoms.{Problem, State, relationAt, nodeAt, relationStart, nodeStart, tuplesOf, rowsOf, nodeWidth, Atom, guess, proof, goal, tuple, notTuple, freeDomain, freeRange, holdsNode, atomNumber, atoms}
+use Rattle.definitions.specs.Actions.{Values, withValue, valuesAt, partAtom, partAtoms, underAtom, freeAtoms, forallNeeds, Action, set, beginProof, proveAnd, proveOr, proveExists, proveForall, proveGoal, needs, adds, removes}
+use Rattle.definitions.specs.Strips.{mayTake, after}
+use Rattle.laws.specs.Numbers.{IsAction, tuple-below, node-below, three-atoms}
+use Rattle.tree.specs.Tables.{nodeKind, nodeLevel}
+use Rattle.ground.specs.Lines.{sizeIn, relationLine, nodeLine, partLine, partNumber, partAt}
+use Rattle.ground.specs.Numbers.{freeNumbers, rowValues, underAt, needNumbers, addNumbers, removeNumbers, setNeeds, setRemoves, andNeeds, orNeeds, existsNeeds, upTo, forallNeeds as forallNumbers, goalNeeds, changed, Held}
+use Rattle.ground.specs.Of.{kindNumber, IsPart, noPart, IsRelation, IsNode, Is, said}
+use Rattle.ground.specs.declared.NodeLine.{NodeLine}
+
+pub parts-length : (v : ℕ) (ts : Trees) → length (partsFrom v ts) ≡ howMany ts
+unfolding partsFrom howMany
+parts-length v end = refl
+parts-length v (t then ts) = ap suc (parts-length (v + length (nodes t)) ts)
+
+take-one : {A : Type 0} (i : ℕ) (xs : List A) (d : A) → i < length xs → take 1 (drop i xs) ≡ getD xs i d ∷ []
+take-one i xs d h = ap (take 1) (drop-cons xs i d h)
+
+module _ (p : Problem) (w : List ℕ) (is : Is p w) where
+  -- ---- parts
+  one-part : (e : Values) (i v : ℕ) (u : Tree) → IsPart p (partLine w i) v u → partAt w e i ≡ atomNumber p (partAtom (p .size) e v u)
+  unfolding partAt IsPart
+  one-part e i v u h = h e
+
+  parts-are : (e : Values) (k : ℕ) (qs : List Part) → ((i : ℕ) → i < length qs → IsPart p (partLine w (k + i)) (getD qs i noPart .node) (getD qs i noPart .tree))
+      → map (partAt w e) (from k (length qs)) ≡ map (atomNumber p) (partAtoms (p .size) e qs)
+  unfolding partAtoms from
+  parts-are e k [] h = refl
+  parts-are e k (q ∷ qs) h =
+      let a : IsPart p (partLine w k) (q .node) (q .tree) = subst (λ (j : ℕ). IsPart p (partLine w j) (q .node) (q .tree)) (add-zero k) (h 0 (omega arith)) in
+      ap₂ {C = List ℕ} _∷_ (one-part e k (q .node) (q .tree) a)
+      (parts-are e (suc k) qs (λ i l.
+      let s : k + suc i ≡ suc k + i = omega arith in
+      subst (λ (j : ℕ). IsPart p (partLine w j) (getD qs i noPart .node) (getD qs i noPart .tree)) s (h (suc i) (omega arith))))
+
+  module _ (v : ℕ) (u : Tree) (x : NodeLine) (n : IsNode p w v u x) where
+    all-parts : (row : ℕ) → map (partAt w (rowValues (p .size) x row)) (from (x .first) (x .many)) ≡ map (atomNumber p) (partAtoms (p .size) (valuesAt (p .size) u row) (parts v u))
+    all-parts row =
+        ap₂ (λ (e : Values) (m : ℕ). map (partAt w e) (from (x .first) m)) (n .values row) (n .many)
+        ∙ parts-are (valuesAt (p .size) u row) (x .first) (parts v u) (n .part)
+
+    some-part : (row i : ℕ) → i < length (parts v u)
+        → (partAt w (rowValues (p .size) x row) (x .first + i)) ∷ [] ≡ map (atomNumber p) (take 1 (drop i (partAtoms (p .size) (valuesAt (p .size) u row) (parts v u))))
+    unfolding partAtoms
+    some-part row i h =
+        let f : Part → Atom = λ (q : Part). partAtom (p .size) (valuesAt (p .size) u row) (q .node) (q .tree) in
+        let a : take 1 (drop i (map f (parts v u))) ≡ f (getD (parts v u) i noPart) ∷ [] =
+        take-one i (map f (parts v u)) (f noPart) (omega (arith, length-map (parts v u) f)) ∙ ap (λ (y : Atom). y ∷ []) (List·getD-map f (parts v u) i noPart) in
+        ap (λ (y : ℕ). y ∷ []) (ap (λ (e : Values). partAt w e (x .first + i)) (n .values row) ∙ one-part (valuesAt (p .size) u row) (x .first + i) _ _ (n .part i h)) ∙ ap (map (atomNumber p)) (sym a)
+
+  under-with : (v d y : ℕ) (t u : Tree) (x : NodeLine) (row : ℕ) → IsNode p w v u x → nodeLevel u ≡ d → parts v u ≡ record { node = suc v; tree = t } ∷ []
+      → underAt (p .size) w x row y ≡ atomNumber p (partAtom (p .size) (withValue (valuesAt (p .size) u row) d y) (suc v) t)
+  unfolding underAt
+  under-with v d y t u x row n l q =
+      let a : IsPart p (partLine w (x .first + 0)) (suc v) t =
+      subst (λ (ps : List Part). IsPart p (partLine w (x .first + 0)) (getD ps 0 noPart .node) (getD ps 0 noPart .tree)) q (n .part 0 (rw q (omega arith))) in
+      ap₂ (λ (e : Values) (m : ℕ). partAt w (withValue e m y) (x .first)) (n .values row) (n .level ∙ l)
+      ∙ one-part (withValue (valuesAt (p .size) u row) d y) (x .first) (suc v) t (subst (λ (j : ℕ). IsPart p (partLine w j) (suc v) t) (add-zero (x .first)) a)
+
+  under-at : (v : ℕ) (u : Tree) (x : NodeLine) → IsNode p w v u x → nodeKind u < 2 → (row y : ℕ) → underAt (p .size) w x row y ≡ atomNumber p (underAtom (p .size) v u row y)
+  unfolding underAtom nodeKind nodeLevel parts
+  under-at v (leaf q r ls) x n k row y = absurd (omega arith)
+  under-at v (forallNode d t) x n k row y = under-with v d y t (forallNode d t) x row n refl refl
+  under-at v (existsNode d t) x n k row y = under-with v d y t (existsNode d t) x row n refl refl
+  under-at v (andNode us) x n k row y = absurd (omega arith)
+  under-at v (orNode us) x n k row y = absurd (omega arith)
+
+  -- ---- free atoms
+  free-are : (k : Kind) (r row free : ℕ) → free ≡ relationStart p r + 2 * tuplesOf (p .size) (relationAt p r)
+      → map (atomNumber p) ((if isFunction k then freeDomain r (row / p .size) ∷ [] else []) ++ (if isInjective k then freeRange r (row % p .size) ∷ [] else [])) ≡ freeNumbers (p .size) (kindNumber k) free row
+  unfolding isFunction isInjective freeNumbers kindNumber atomNumber
+  free-are static r row free e = refl
+  free-are plain r row free e = refl
+  free-are Fun r row free e = rw e refl
+  free-are PFun r row free e = rw e refl
+  free-are Inj r row free e = rw e refl
+  free-are PInj r row free e = rw e refl
+
+  free-at : (r row : ℕ) → r < length (p .relations) → map (atomNumber p) (freeAtoms (p .size) (relationAt p r) r row) ≡ freeNumbers (p .size) (relationLine w r .kind) (relationLine w r .free) row
+  unfolding freeAtoms
+  free-at r row h =
+      free-are (relationAt p r .kind) r row (relationLine w r .free) (is .relation r h .free)
+      ∙ ap (λ (k : ℕ). freeNumbers (p .size) k (relationLine w r .free) row) (sym (is .relation r h .kind))
+
+  forall-are : (v row z : ℕ) → v < length (p .nodeList) → nodeKind (nodeAt p v) ≡ 0
+      → map (atomNumber p) (forallNeeds (p .size) v (nodeAt p v) row z) ≡ underAt (p .size) w (nodeLine w v) row z ∷ upTo (p .size) (nodeLine w v) row z
+  unfolding forallNeeds upTo atomNumber
+  forall-are v row zero h k = ap (λ (x : ℕ). x ∷ []) (sym (under-at v (nodeAt p v) (nodeLine w v) (is .node v h) (omega arith) row zero))
+  forall-are v row (suc z) h k =
+      ap₂ (λ (x y : ℕ). x ∷ (y + (row * p .size + z)) ∷ []) (sym (under-at v (nodeAt p v) (nodeLine w v) (is .node v h) (omega arith) row (suc z))) (sym (is .node v h .atoms))
+
+  or-length : (v i : ℕ) (u : Tree) (ts : Trees) → u ≡ orNode ts → i < howMany ts → i < length (parts v u)
+  unfolding parts
+  or-length v i u ts e h = rw (e, parts-length (suc v) ts) h
+
+  -- ---- what an action needs, adds and removes
+  needs-at : (x : Action) → IsAction p x → (n : ℕ) → n ≡ p .size → sizeIn w ≡ n → map (atomNumber p) (needs p x) ≡ needNumbers w (said x)
+  unfolding needs said needNumbers setNeeds andNeeds orNeeds existsNeeds forallNumbers goalNeeds atomNumber IsAction nodeKind
+  needs-at (set r row) a n e q =
+      rw (q, e) (ap₂ (λ (x : ℕ) (xs : List ℕ). 0 ∷ (x + row) ∷ xs) (sym (is .relation r (a .0) .nots)) (free-at r row (a .0)))
+  needs-at beginProof a n e q = refl
+  needs-at (proveAnd v row) a n e q = rw (q, e) (ap (λ (xs : List ℕ). 1 ∷ xs) (sym (all-parts v (nodeAt p v) (nodeLine w v) (is .node v (a .0)) row)))
+  needs-at (proveOr v row i) a n e q =
+      rw (q, e) (ap (λ (xs : List ℕ). 1 ∷ xs) (sym (some-part v (nodeAt p v) (nodeLine w v) (is .node v (a .0)) row i (or-length v i (nodeAt p v) (a .2 .0) (a .2 .1) (a .2 .2)))))
+  needs-at (proveExists v row x) a n e q =
+      rw (q, e) (ap (λ (y : ℕ). 1 ∷ y ∷ []) (sym (under-at v (nodeAt p v) (nodeLine w v) (is .node v (a .0)) (rw (a .2 .2) (omega arith)) row x)))
+  needs-at (proveForall v row z) a n e q = rw (q, e) (ap (λ (xs : List ℕ). 1 ∷ xs) (forall-are v row z (a .0) (ap nodeKind (a .2 .2))))
+  needs-at proveGoal a n e q = ap (λ (y : ℕ). y ∷ []) (sym (one-part (λ _. 0) 64 0 (p .root) (is .root)))
+
+  pub needs-are : (x : Action) → IsAction p x → map (atomNumber p) (needs p x) ≡ needNumbers w (said x)
+  needs-are x a = needs-at x a (p .size) refl (is .size)
+
+  pub adds-are : (x : Action) → IsAction p x → map (atomNumber p) (adds p x) ≡ addNumbers w (said x)
+  unfolding adds said addNumbers atomNumber IsAction
+  adds-are (set r row) a = ap (λ (x : ℕ). (x + row) ∷ []) (sym (is .relation r (a .0) .tuples))
+  adds-are beginProof a = refl
+  adds-are (proveAnd v row) a = ap (λ (x : ℕ). (x + row) ∷ []) (sym (is .node v (a .0) .atoms))
+  adds-are (proveOr v row i) a = ap (λ (x : ℕ). (x + row) ∷ []) (sym (is .node v (a .0) .atoms))
+  adds-are (proveExists v row i) a = ap (λ (x : ℕ). (x + row) ∷ []) (sym (is .node v (a .0) .atoms))
+  adds-are (proveForall v row z) a = ap₂ (λ (x n : ℕ). (x + (row * n + z)) ∷ []) (sym (is .node v (a .0) .atoms)) (sym (is .size))
+  adds-are proveGoal a = refl
+
+  pub removes-are : (x : Action) → IsAction p x → map (atomNumber p) (removes p x) ≡ removeNumbers w (said x)
+  unfolding removes said removeNumbers setRemoves atomNumber IsAction
+  removes-are (set r row) a =
+      ap₂ (λ (x : ℕ) (xs : List ℕ). (x + row) ∷ xs) (sym (is .relation r (a .0) .nots))
+      (free-at r row (a .0) ∙ ap (λ (n : ℕ). freeNumbers n (relationLine w r .kind) (relationLine w r .free) row) (sym (is .size)))
+  removes-are beginProof a = refl
+  removes-are (proveAnd v row) a = refl
+  removes-are (proveOr v row i) a = refl
+  removes-are (proveExists v row i) a = refl
+  removes-are (proveForall v row z) a = refl
+  removes-are proveGoal a = refl
+
+  all-map : (s : ℕ → Bool) (xs : List Atom) → all s (map (atomNumber p) xs) ≡ all (λ a. s (atomNumber p a)) xs
+  unfolding all
+  all-map s [] = refl
+  all-map s (x ∷ xs) = ap (λ (b : Bool). s (atomNumber p x) && b) (all-map s xs)
+
+  -- may be taken, and the state after
+  pub may-is : (s : State) (x : Action) → IsAction p x → all s (needNumbers w (said x)) ≡ mayTake p s x
+  unfolding mayTake
+  may-is s x k = ap (all s) (sym (needs-are x k)) ∙ all-map s (needs p x)
+
+  pub after-is : (s : State) (x : Action) → IsAction p x → changed s (removeNumbers w (said x)) (addNumbers w (said x)) ≡ after p s x
+  unfolding after changed
+  after-is s x k = ap₂ (changed s) (sym (removes-are x k)) (sym (adds-are x k))
+
+-- ---- what an action adds is a bit of a state that has room for all atoms
+module _ (p : Problem) (w : List ℕ) (is : Is p w) (k : ℕ) (room : atoms p ≤ 64 * k) where
+  in-word : (i : ℕ) → i < atoms p → i / 64 < k
+  in-word i h = omega arith
+
+  wide : (u : Tree) (kind : ℕ) → nodeKind u ≡ suc kind → nodeWidth (p .size) u ≡ rowsOf (p .size) u
+  unfolding nodeKind nodeWidth isForall
+  wide (leaf q r ls) kind e = refl
+  wide (forallNode d u) kind e = absurd (omega arith)
+  wide (existsNode d u) kind e = refl
+  wide (andNode us) kind e = refl
+  wide (orNode us) kind e = refl
+
+  wide-forall : (u t : Tree) (d : ℕ) → u ≡ forallNode d t → nodeWidth (p .size) u ≡ rowsOf (p .size) u * p .size
+  unfolding nodeWidth isForall
+  wide-forall u t d e = rw e refl
+
+  node-held : (v row : ℕ) → v < length (p .nodeList) → row < nodeWidth (p .size) (nodeAt p v) → (nodeLine w v .atoms + row) / 64 < k
+  node-held v row h b = let e = is .node v h .atoms in in-word (nodeLine w v .atoms + row) (rw e (node-below p v row h b))
+
+  pub held : (x : Action) → IsAction p x → Held (addNumbers w (said x)) k
+  unfolding addNumbers said IsAction nodeKind
+  held (set r row) a = let e = is .relation r (a .0) .tuples in (in-word (relationLine w r .tuples + row) (rw e (tuple-below p r row (a .0) (a .2))), tt)
+  held beginProof a = (in-word 1 (omega (arith, three-atoms p)), tt)
+  held (proveAnd v row) a = (node-held v row (a .0) (rw (wide (nodeAt p v) 1 (ap nodeKind (a .2 .1))) (a .1)), tt)
+  held (proveOr v row i) a = (node-held v row (a .0) (rw (wide (nodeAt p v) 2 (ap nodeKind (a .2 .1))) (a .1)), tt)
+  held (proveExists v row i) a = (node-held v row (a .0) (rw (wide (nodeAt p v) 0 (ap nodeKind (a .2 .2))) (a .1)), tt)
+  held (proveForall v row z) a =
+      (node-held v (row * sizeIn w + z) (a .0) (rw (is .size, wide-forall (nodeAt p v) (a .2 .1) (a .2 .0) (a .2 .2)) (digits-lt (a .1) (a .2 .3))), tt)
+  held proveGoal a = (in-word 2 (omega (arith, three-atoms p)), tt)
