@@ -1,10 +1,17 @@
 -- Laws about the definitions that more than one crate uses.
 --   Booleans, Lists    tests as facts; members of lists
+--   Positions          the first element that passes a test
+--   Tuples             equal tuples, tuples among tuples
+--   Repeats            lists without repeats
 --   Rows               tuples and their rows, for any number of places
 --   Blocks             runs of numbers, one after another
 --   Numbers            the numbers of atoms and of actions
 pub mod Booleans
 pub mod Lists
+pub mod Positions
+pub mod Tuples
+pub mod Repeats
 pub mod Rows
 pub mod Blocks
 pub mod Numbers
+pub mod Words

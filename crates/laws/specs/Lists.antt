@@ -1,15 +1,16 @@
 -- Lists: what stands in a list of numbers, in a filter, in a map; tests of all or any elements.
 use Prim.Native.Nat.{ℕ, zero, suc, _+_, _<_, _≤_}
-use mathlib.Core.Path.{_≡_, refl, sym, ap, subst}
+use mathlib.Core.Path.{_≡_, refl, sym, ap, ap₂, subst, _∙_}
 use mathlib.Core.Logic.{_⊎_, inl, inr, ⊎-elim}
 use mathlib.Core.Bool.{Bool, true, false, not, _||_}
 use mathlib.Core.Option.{Option, none, some}
-use mathlib.Core.List.{List, [], _∷_, map, List·Memᴰ, List·Memᴰ·head, List·Memᴰ·tail, List·Memᴰ·not-nil, List·Memᴰ·cases-cons}
+use mathlib.Core.List.{List, [], _∷_, _++_, map, append-assoc, List·Memᴰ, List·Memᴰ·head, List·Memᴰ·tail, List·Memᴰ·not-nil, List·Memᴰ·cases-cons, List·Memᴰ·append-cases, Memᴰ·append-left, Memᴰ·append-right}
 use native.Mathlib.Omega.{arith}
+use native.Mathlib.Nat.{add-zero, zero-add}
 use lib.Dec.{T, eqb, eqb→eq}
-use lib.ListN.{length, take, drop}
-use Rattle.definitions.specs.Lists.{if_then_else_, all, any, filter, from, below}
-use Rattle.laws.specs.Booleans.{and-T, T-and-l, T-and-r, T-or, or-l, or-r, T-of, T-dec, neq}
+use lib.ListN.{length, getD, take, drop}
+use Rattle.definitions.specs.Lists.{if_then_else_, all, any, filter, flatMap, mapFrom, from, below}
+use Rattle.laws.specs.Booleans.{and-T, T-and-l, T-and-r, T-or, or-l, or-r, T-of, T-false, T-dec, neq}
 
 -- ---- something or nothing
 pub none-some : {A : Type 0} {a : A} → none ≡ some a → ⊥
@@ -53,6 +54,16 @@ length-from a (suc n) = ap suc (length-from (suc a) n)
 pub length-below : (n : ℕ) → length (below n) ≡ n
 unfolding below
 length-below n = length-from 0 n
+
+getD-from : (n a i : ℕ) → i < n → getD (from a n) i 0 ≡ a + i
+unfolding from
+getD-from zero a i h = absurd (omega arith)
+getD-from (suc n) a zero h = sym (add-zero a)
+getD-from (suc n) a (suc i) h = let e = getD-from n (suc a) i (omega arith) in omega arith
+
+pub getD-below : (n i : ℕ) → i < n → getD (below n) i 0 ≡ i
+unfolding below
+getD-below n i h = getD-from n 0 i h ∙ zero-add i
 
 module _ {A : Type 0} where
   pub mem-filter : (p : A → Bool) (l : List A) (x : A) → List·Memᴰ x l → T (p x) → List·Memᴰ x (filter p l)
@@ -111,6 +122,20 @@ module _ {A : Type 0} where
       go r (inl q) = (y, List·Memᴰ·head refl, q)
       go r (inr q) = let h = r q in (h .0, List·Memᴰ·tail (h .1), h .2)
 
+  -- tests that agree on a list
+  pub filter-same : (f g : A → Bool) (l : List A) → ((x : A) → List·Memᴰ x l → f x ≡ g x) → filter f l ≡ filter g l
+  unfolding filter
+  filter-same f g [] h = refl
+  filter-same f g (x ∷ l) h = ap₂ (λ (b : Bool) (m : List A). if b then x ∷ m else m) (h x (List·Memᴰ·head refl)) (filter-same f g l (λ y m. h y (List·Memᴰ·tail m)))
+
+  pub any-none : (p : A → Bool) (l : List A) → ((x : A) → List·Memᴰ x l → p x ≡ false) → any p l ≡ false
+  unfolding any
+  any-none p [] h = refl
+  any-none p (x ∷ l) h = rw (h x (List·Memᴰ·head refl)) (any-none p l (λ y m. h y (List·Memᴰ·tail m)))
+
+  pub none-any : (p : A → Bool) (l : List A) → any p l ≡ false → (x : A) → List·Memᴰ x l → p x ≡ false
+  none-any p l e x m = T-false (p x) (λ t. subst T e (any-of p l x m t))
+
 -- ---- members of a map, of a part
 pub mem-map : {A B : Type 0} (f : A → B) (l : List A) (x : A) → List·Memᴰ x l → List·Memᴰ (f x) (map f l)
 mem-map f [] x m = absurd (List·Memᴰ·not-nil m)
@@ -135,3 +160,80 @@ drop-mem zero [] x m = m
 drop-mem zero (y ∷ l) x m = m
 drop-mem (suc k) [] x m = m
 drop-mem (suc k) (y ∷ l) x m = List·Memᴰ·tail (drop-mem k l x m)
+
+pub getD-mem : {A : Type 0} (l : List A) (i : ℕ) (d : A) → i < length l → List·Memᴰ (getD l i d) l
+getD-mem [] i d h = absurd (omega arith)
+getD-mem (x ∷ l) zero d h = List·Memᴰ·head refl
+getD-mem (x ∷ l) (suc i) d h = List·Memᴰ·tail (getD-mem l i d (omega arith))
+
+pub mem-getD : {A : Type 0} (l : List A) (x d : A) → List·Memᴰ x l → (i : ℕ) × (i < length l) × (getD l i d ≡ x)
+mem-getD [] x d m = absurd (List·Memᴰ·not-nil m)
+mem-getD {A} (y ∷ l) x d m = go (List·Memᴰ·cases-cons m) (mem-getD l x d)
+  where
+    go : (x ≡ y) ⊎ List·Memᴰ x l → (List·Memᴰ x l → (i : ℕ) × (i < length l) × (getD l i d ≡ x)) → (i : ℕ) × (i < suc (length l)) × (getD (y ∷ l) i d ≡ x)
+    go (inl e) r = (zero, omega arith, sym e)
+    go (inr q) r = let (i, h, e) = r q in (suc i, omega arith, e)
+
+pub mem-flat : {A B : Type 0} (f : A → List B) (l : List A) (x : A) (y : B) → List·Memᴰ x l → List·Memᴰ y (f x) → List·Memᴰ y (flatMap f l)
+unfolding flatMap
+mem-flat f [] x y m q = absurd (List·Memᴰ·not-nil m)
+mem-flat {A} f (z ∷ l) x y m q = ⊎-elim (λ e. Memᴰ·append-left (flatMap f l) (subst (λ (w : A). List·Memᴰ y (f w)) e q)) (λ k. Memᴰ·append-right (f z) (mem-flat f l x y k q)) (List·Memᴰ·cases-cons m)
+
+pub flat-mem : {A B : Type 0} (f : A → List B) (l : List A) (y : B) → List·Memᴰ y (flatMap f l) → (x : A) × List·Memᴰ x l × List·Memᴰ y (f x)
+unfolding flatMap
+flat-mem f [] y m = absurd (List·Memᴰ·not-nil m)
+flat-mem {A} {B} f (z ∷ l) y m = go (flat-mem f l y) (List·Memᴰ·append-cases (f z) m)
+  where
+    go : (List·Memᴰ y (flatMap f l) → (x : A) × List·Memᴰ x l × List·Memᴰ y (f x)) → List·Memᴰ y (f z) ⊎ List·Memᴰ y (flatMap f l) → (x : A) × List·Memᴰ x (z ∷ l) × List·Memᴰ y (f x)
+    go r (inl q) = (z, List·Memᴰ·head refl, q)
+    go r (inr q) = let h = r q in (h .0, List·Memᴰ·tail (h .1), h .2)
+
+pub flat-append : {A B : Type 0} (f : A → List B) (l m : List A) → flatMap f (l ++ m) ≡ flatMap f l ++ flatMap f m
+unfolding flatMap
+flat-append f [] m = refl
+flat-append {A} {B} f (x ∷ l) m = ap (λ (k : List B). f x ++ k) (flat-append f l m) ∙ sym (append-assoc (f x) (flatMap f l) (flatMap f m))
+
+pub map-flat : {A B C : Type 0} (g : B → C) (f : A → List B) (l : List A) → map g (flatMap f l) ≡ flatMap (λ x. map g (f x)) l
+unfolding flatMap
+map-flat g f [] = refl
+map-flat {A} {B} {C} g f (x ∷ l) = map-append g (f x) (flatMap f l) ∙ ap (λ (m : List C). map g (f x) ++ m) (map-flat g f l)
+  where
+    map-append : (g : B → C) (a b : List B) → map g (a ++ b) ≡ map g a ++ map g b
+    map-append g [] b = refl
+    map-append g (y ∷ a) b = ap (_∷_ (g y)) (map-append g a b)
+
+pub map-map : {A B C : Type 0} (g : B → C) (f : A → B) (l : List A) → map g (map f l) ≡ map (λ x. g (f x)) l
+map-map g f [] = refl
+map-map g f (x ∷ l) = ap (_∷_ (g (f x))) (map-map g f l)
+
+-- ---- elements with their numbers
+module _ {A B : Type 0} (f : ℕ → A → B) where
+  pub length-mapFrom : (r : ℕ) (l : List A) → length (mapFrom f r l) ≡ length l
+  unfolding mapFrom
+  length-mapFrom r [] = refl
+  length-mapFrom r (x ∷ l) = ap suc (length-mapFrom (suc r) l)
+
+  pub getD-mapFrom : (r j : ℕ) (l : List A) (d : A) (e : B) → j < length l → getD (mapFrom f r l) j e ≡ f (r + j) (getD l j d)
+  unfolding mapFrom
+  getD-mapFrom r j [] d e h = absurd (omega arith)
+  getD-mapFrom r zero (x ∷ l) d e h = ap (λ (i : ℕ). f i x) (sym (add-zero r))
+  getD-mapFrom r (suc j) (x ∷ l) d e h = let w : suc r + j ≡ r + suc j = omega arith in getD-mapFrom (suc r) j l d e (omega arith) ∙ ap (λ (i : ℕ). f i (getD l j d)) w
+
+  pub take-mapFrom : (r j : ℕ) (l : List A) → take j (mapFrom f r l) ≡ mapFrom f r (take j l)
+  unfolding mapFrom
+  take-mapFrom r zero l = refl
+  take-mapFrom r (suc j) [] = refl
+  take-mapFrom r (suc j) (x ∷ l) = ap (λ (m : List B). f r x ∷ m) (take-mapFrom (suc r) j l)
+
+-- every numbered element passes the test
+module _ {A : Type 0} (f : ℕ → A → Bool) where
+  pub each-at : (r : ℕ) (l : List A) (d : A) → T (all (λ b. b) (mapFrom f r l)) → (j : ℕ) → j < length l → T (f (r + j) (getD l j d))
+  unfolding all mapFrom
+  each-at r [] d t j h = absurd (omega arith)
+  each-at r (x ∷ l) d t zero h = subst (λ (i : ℕ). T (f i x)) (sym (add-zero r)) (T-and-l (f r x) _ t)
+  each-at r (x ∷ l) d t (suc j) h = let e : suc r + j ≡ r + suc j = omega arith in subst (λ (i : ℕ). T (f i (getD l j d))) e (each-at (suc r) l d (T-and-r (f r x) _ t) j (omega arith))
+
+  pub each-of : (r : ℕ) (l : List A) (d : A) → ((j : ℕ) → j < length l → T (f (r + j) (getD l j d))) → T (all (λ b. b) (mapFrom f r l))
+  unfolding all mapFrom
+  each-of r [] d h = tt
+  each-of r (x ∷ l) d h = and-T (f r x) _ (subst (λ (i : ℕ). T (f i x)) (add-zero r) (h 0 (omega arith))) (each-of (suc r) l d (λ j k. let e : r + suc j ≡ suc r + j = omega arith in subst (λ (i : ℕ). T (f i (getD l j d))) e (h (suc j) (omega arith))))

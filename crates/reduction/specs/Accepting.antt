@@ -1,0 +1,128 @@
+-- Checking accepts exactly the steps that reach the goal; and the bound is below the number of atoms.
+use Prim.Native.Nat.{ℕ, zero, suc, _+_, _-_, _<_, _≤_}
+use mathlib.Core.Path.{_≡_, refl, sym, ap, subst, _∙_}
+use mathlib.Core.Bool.{Bool, true, false, _&&_}
+use mathlib.Core.Option.{Option, none, some}
+use mathlib.Core.List.{List, [], _∷_, map}
+use native.Mathlib.Omega.{arith}
+use native.Mathlib.Nat.{add-zero, zero-add}
+use lib.Dec.{T, ltb}
+use lib.ListN.{length}
+use borrow.Author.Tests.{le-ltb}
+use Rattle.definitions.specs.Lists.{if_then_else_, option, sum, flatMap, mapFrom}
+use Rattle.definitions.specs.Refusal.{Result, refused, accepted, _>>=_, refuseIf}
+use Rattle.definitions.specs.Relations.{Relation, isChosen, isFunction, isInjective}
+use Rattle.definitions.specs.Atoms.{Problem, tuplesOf, Block, Atom, countOf, relationBlocks, relationsBlocks, nodesBlocks, nodeAtoms, atomBlocks, atoms, State, initial}
+use Rattle.definitions.specs.Actions.{Action, actionAt}
+use Rattle.definitions.specs.Strips.{mayTake, after, reachesFrom, reachesGoal, runFrom, run}
+use Rattle.definitions.specs.Built.{mostPicks, bound}
+use Rattle.definitions.specs.Outcome.{readCase, ground, readProblem, Given, asNumbers, takeSteps, readyToRun}
+use Rattle.definitions.specs.Demand.{isAccepted, stepsAreAccepted}
+use Rattle.laws.specs.Booleans.{T-of, T-true}
+use Rattle.laws.specs.Positions.{place}
+use Rattle.laws.specs.Blocks.{count-append}
+
+-- ---- a run is accepted exactly if it reaches the goal, with its step count
+pub runs-accept : (p : Problem) (ks : List ℕ) (s : State) (i : ℕ) → isAccepted (runFrom p s i ks .answer) ≡ reachesFrom p s ks
+unfolding runFrom reachesFrom isAccepted option
+runs-accept p [] s i = go (s _)
+  where
+    go : (b : Bool) → isAccepted (if b then accepted i else refused 15 i) ≡ b
+    go true = refl
+    go false = refl
+runs-accept p (k ∷ ks) s i = go (actionAt p k) (λ a. runs-accept p ks (after p s a) (suc i))
+  where
+    may : (a : Action) (b : Bool) → isAccepted (runFrom p (after p s a) (suc i) ks .answer) ≡ reachesFrom p (after p s a) ks → isAccepted ((if b then runFrom p (after p s a) (suc i) ks else record { answer = refused 14 i; state = s }) .answer) ≡ (b && reachesFrom p (after p s a) ks)
+    may a true h = h
+    may a false h = refl
+
+    go : (o : Option Action) → ((a : Action) → isAccepted (runFrom p (after p s a) (suc i) ks .answer) ≡ reachesFrom p (after p s a) ks) → isAccepted (option o (record { answer = refused 13 i; state = s }) (λ a. if mayTake p s a then runFrom p (after p s a) (suc i) ks else record { answer = refused 14 i; state = s }) .answer) ≡ option o false (λ a. mayTake p s a && reachesFrom p (after p s a) ks)
+    go none h = refl
+    go (some a) h = may a (mayTake p s a) (h a)
+
+-- (6) steps are accepted exactly if they reach the goal
+pub run-accepts : (p : Problem) (ks : List ℕ) → isAccepted (run p ks .answer) ≡ reachesGoal p ks
+unfolding run reachesGoal
+run-accepts p ks = runs-accept p ks (initial p) zero
+
+pub runs-count : (p : Problem) (ks : List ℕ) (s : State) (i : ℕ) → T (reachesFrom p s ks) → runFrom p s i ks .answer ≡ accepted (i + length ks)
+unfolding runFrom reachesFrom option
+runs-count p [] s i t = let e = T-true (s _) t in rw e (ap accepted (sym (add-zero i)))
+runs-count p (k ∷ ks) s i t = go (actionAt p k) t (λ a r. runs-count p ks (after p s a) (suc i) r)
+  where
+    shift : suc i + length ks ≡ i + suc (length ks)
+    shift = omega arith
+
+    may : (a : Action) (b : Bool) → T (b && reachesFrom p (after p s a) ks) → (T (reachesFrom p (after p s a) ks) → runFrom p (after p s a) (suc i) ks .answer ≡ accepted (suc i + length ks)) → (if b then runFrom p (after p s a) (suc i) ks else record { answer = refused 14 i; state = s }) .answer ≡ accepted (i + suc (length ks))
+    may a true t h = h t ∙ ap accepted shift
+    may a false t h = absurd t
+
+    go : (o : Option Action) → T (option o false (λ a. mayTake p s a && reachesFrom p (after p s a) ks)) → ((a : Action) → T (reachesFrom p (after p s a) ks) → runFrom p (after p s a) (suc i) ks .answer ≡ accepted (suc i + length ks)) → option o (record { answer = refused 13 i; state = s }) (λ a. if mayTake p s a then runFrom p (after p s a) (suc i) ks else record { answer = refused 14 i; state = s }) .answer ≡ accepted (i + suc (length ks))
+    go none t h = absurd t
+    go (some a) t h = may a (mayTake p s a) t (h a)
+
+pub run-count : (p : Problem) (ks : List ℕ) → T (reachesGoal p ks) → run p ks .answer ≡ accepted (length ks)
+unfolding run reachesGoal
+run-count p ks t = runs-count p ks (initial p) zero t ∙ ap accepted (zero-add (length ks))
+
+-- ---- whole calls
+pub is-accepted : {A : Type 0} (r : Result A) (a : A) → r ≡ accepted a → isAccepted r ≡ true
+unfolding isAccepted
+is-accepted r a e = ap isAccepted e
+
+pub accepted-is : {A : Type 0} (r : Result A) → isAccepted r ≡ true → (a : A) × (r ≡ accepted a)
+unfolding isAccepted
+accepted-is (refused k place) e = absurd (T-of e)
+accepted-is (accepted a) e = (a, refl)
+
+pub bind-inv : {A B : Type 0} (m : Result A) (f : A → Result B) (b : B) → (m >>= f) ≡ accepted b → (a : A) × (m ≡ accepted a) × (f a ≡ accepted b)
+unfolding _>>=_ isAccepted
+bind-inv {A} {B} (refused k place) f b e = absurd (subst T (sym (ap isAccepted e)) tt)
+bind-inv (accepted a) f b e = (a, refl, e)
+
+-- checking a question and site that are accepted, with steps that are read as ks
+pub steps-accepted : (question site : List ℕ) (p : Problem) (steps : Given) (ks : List ℕ) → readProblem question site ≡ accepted p → takeSteps steps ≡ accepted ks → stepsAreAccepted question site steps ≡ reachesGoal p ks
+unfolding readProblem stepsAreAccepted readyToRun _>>=_
+steps-accepted question site p steps ks e t =
+    let (c, a, g) = bind-inv (readCase question site) ground p e in
+    rw (a, t, g) (run-accepts p ks)
+
+-- accepted steps were taken
+pub steps-taken : (question site : List ℕ) (steps : Given) → stepsAreAccepted question site steps ≡ true → (ks : List ℕ) × (takeSteps steps ≡ accepted ks)
+unfolding stepsAreAccepted readyToRun
+steps-taken question site steps e =
+    let (n, r) = accepted-is (readyToRun question site steps (λ _. accepted tt) >>= λ r. run (r .problem) (r .steps) .answer) e in
+    let (x, f, g) = bind-inv (readyToRun question site steps (λ _. accepted tt)) _ n r in
+    let (c, h, i) = bind-inv (readCase question site) _ x f in
+    let (ks, j, l) = bind-inv (takeSteps steps) _ x i in
+    (ks, j)
+
+pub lent-steps : (ks : List ℕ) → length ks ≤ 65536 → takeSteps (asNumbers ks) ≡ accepted ks
+unfolding takeSteps refuseIf _>>=_
+lent-steps ks h = let e : ltb 65536 (length ks) ≡ false = le-ltb 65536 (length ks) h in rw e refl
+
+-- ---- the bound is below the number of atoms, so built steps are never too many
+most-le : (n r : ℕ) (k : Relation) → mostPicks n k ≤ countOf (relationBlocks n r k)
+unfolding mostPicks relationBlocks countOf
+most-le n r k = go (isFunction (k .kind)) (isChosen (k .kind)) (if isInjective (k .kind) then n else zero)
+  where
+    go : (f c : Bool) (w : ℕ) → (if f then n else if c then tuplesOf n k else zero) ≤ tuplesOf n k + (tuplesOf n k + ((if f then n else zero) + (w + zero)))
+    go true c w = omega arith
+    go false true w = omega arith
+    go false false w = omega arith
+
+mosts-le : (n r : ℕ) (ks : List Relation) → sum (map (mostPicks n) ks) ≤ countOf (flatMap (λ (bs : List (Block Atom)). bs) (mapFrom (relationBlocks n) r ks))
+unfolding sum flatMap mapFrom countOf
+mosts-le n r [] = omega arith
+mosts-le n r (k ∷ ks) =
+    let a = most-le n r k in
+    let b = mosts-le n (suc r) ks in
+    let c = count-append (relationBlocks n r k) (flatMap (λ (bs : List (Block Atom)). bs) (mapFrom (relationBlocks n) (suc r) ks)) in
+    omega arith
+
+pub bound-below : (p : Problem) → bound p < atoms p
+unfolding bound atoms atomBlocks nodeAtoms relationsBlocks countOf
+bound-below p =
+    let a = mosts-le (p .size) zero (p .relations) in
+    let b = count-append (relationsBlocks (p .size) (p .relations)) (nodesBlocks (p .size) (p .nodeList)) in
+    omega arith

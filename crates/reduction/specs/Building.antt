@@ -1,0 +1,149 @@
+-- Building steps from picks: what `plan` answers with buffers long enough, and what an answer of it tells.
+use Prim.Native.Nat.{ℕ, zero, _<_, _≤_}
+use mathlib.Core.Path.{_≡_, refl, sym, ap, subst, _∙_}
+use mathlib.Core.Bool.{Bool, true, false, not}
+use mathlib.Core.Option.{Option, none, some}
+use mathlib.Core.List.{List, List·Memᴰ}
+use lib.Dec.{T, ltb}
+use lib.ListN.{length}
+use borrow.Author.Tests.{le-ltb}
+use Rattle.definitions.specs.Lists.{filter, below}
+use Rattle.definitions.specs.Refusal.{Result, refused, accepted, _>>=_, refuseIf}
+use Rattle.definitions.specs.Relations.{Tuple, isChosen}
+use Rattle.definitions.specs.Sheets.{readPicks, firstChosen}
+use Rattle.definitions.specs.Truth.{Case, eachChosen, isOfKind, arePicks, areOfKinds, firstOfOtherKind, ruleIsTrue}
+use Rattle.definitions.specs.Atoms.{Problem, problemOf, relationAt, tuplesOf}
+use Rattle.definitions.specs.Built.{chosenNumbers, builtSteps, bound}
+use Rattle.definitions.specs.Outcome.{readCase, ground, roomFor, stateLength, picksLength, Given, asText, asNumbers, textPicks, picksRoom, spareWord, spareRefusal, takePicks, lentPicks, kindRefusal, Plan, plan, written, builtFrom}
+use Rattle.definitions.specs.Demand.{isAccepted}
+use Rattle.laws.specs.Booleans.{T-true}
+use Rattle.laws.specs.Lists.{below-lt, filter-mem, none-some}
+use Rattle.laws.specs.Positions.{any-not, place, position-none, position-some}
+use Rattle.laws.specs.Repeats.{once-distinct}
+use Rattle.laws.specs.Rows.{length-places, places-below}
+use Rattle.reduction.specs.Reader.{Accepted, gives-if, picks-fit}
+use Rattle.reduction.specs.Sound.{Inside, tupleAt}
+use Rattle.reduction.specs.Grounded.{good}
+use Rattle.reduction.specs.Picks.{fit-picks, inside-picks}
+use Rattle.reduction.specs.Lent.{lent-at, lent-once, numbers-once}
+use Rattle.reduction.specs.Accepting.{bind-inv}
+
+pub result-eq : {A : Type 0} (a b : A) → accepted a ≡ accepted b → a ≡ b
+result-eq {A} a b e = ap (λ (r : Result A). elim r as (λ _. A) [ refused k place ↦ a | accepted x ↦ x ]) e
+
+not-refused : (b : Bool) (k at : ℕ) (u : Unit {0}) → refuseIf b k at ≡ accepted u → b ≡ false
+unfolding refuseIf isAccepted
+not-refused true k at u e = absurd (subst T (sym (ap isAccepted e)) tt)
+not-refused false k at u e = refl
+
+-- ---- lent picks are tuples of the `choose` relations, none twice
+module _ (c : Case) (A : Accepted c) where
+  abbrev p : Problem
+  p = problemOf c
+
+  lent-are : (words : List ℕ) → T (arePicks c (lentPicks p words (chosenNumbers p)))
+  unfolding chosenNumbers
+  lent-are words = inside-picks c A (lentPicks p words (chosenNumbers p)) (λ t m. inside t (lent-at p (good c A) (chosenNumbers p) words t m))
+      (once-distinct (lentPicks p words (chosenNumbers p)) (lent-once p (good c A) (chosenNumbers p) words (numbers-once p (good c A))))
+    where
+      inside : (t : Tuple) → List·Memᴰ (t .relation) (filter (λ r. isChosen (relationAt p r .kind)) (below (length (p .relations)))) × ((row : ℕ) × (row < tuplesOf (p .size) (relationAt p (t .relation))) × (t ≡ tupleAt p (t .relation) row)) → Inside p (good c A) t
+      inside t (m, (row, l, e)) =
+          let q = filter-mem (λ r. isChosen (relationAt p r .kind)) (below (length (p .relations))) (t .relation) m in
+          subst (Inside p (good c A)) (sym e) (record { known = below-lt (length (p .relations)) (t .relation) (q .0); chosen = q .1; long = length-places (p .size) (relationAt p (t .relation) .arity) row; small = places-below (p .size) (relationAt p (t .relation) .arity) row (good c A .element) })
+
+-- ---- the picks that are handed over: read from a text, or the tuples of words that are long enough and have no spare bit set
+abbrev pub picksGiven : Case → Problem → Given → Result (List Tuple)
+picksGiven c p g = textPicks c g >>= λ read. picksRoom p g >>= λ _. takePicks p g read
+
+pub given-text : (c : Case) (p : Problem) (text : List ℕ) → picksGiven c p (asText text) ≡ readPicks (c .question .chosen) (firstChosen (c .question)) (c .site .size) text
+unfolding textPicks picksRoom takePicks _>>=_
+given-text c p text = go (readPicks (c .question .chosen) (firstChosen (c .question)) (c .site .size) text)
+  where
+    go : (r : Result (List Tuple)) → (r >>= λ read. accepted read) ≡ r
+    go (refused k place) = refl
+    go (accepted read) = refl
+
+pub given-words : (c : Case) (p : Problem) (words : List ℕ) → picksLength p ≤ length words → spareWord p words zero (chosenNumbers p) ≡ none → picksGiven c p (asNumbers words) ≡ accepted (lentPicks p words (chosenNumbers p))
+unfolding textPicks picksRoom takePicks roomFor refuseIf spareRefusal _>>=_
+given-words c p words h e = let a : ltb (length words) (picksLength p) ≡ false = le-ltb (length words) (picksLength p) h in rw (a, e) refl
+
+-- whatever is handed over and taken is picks
+given-parts : (c : Case) (p : Problem) (g : Given) (F : List Tuple) → picksGiven c p g ≡ accepted F → (read : List Tuple) × (textPicks c g ≡ accepted read) × (picksRoom p g ≡ accepted tt) × (takePicks p g read ≡ accepted F)
+given-parts c p g F e =
+    let (read, a, b) = bind-inv (textPicks c g) _ F e in
+    let (u, d, f) = bind-inv (picksRoom p g) _ F b in
+    (read, a, d, f)
+
+lent-taken : (p : Problem) (words : List ℕ) (read F : List Tuple) → takePicks p (asNumbers words) read ≡ accepted F → lentPicks p words (chosenNumbers p) ≡ F
+unfolding takePicks
+lent-taken p words read F e = let (u, a, d) = bind-inv (spareRefusal (spareWord p words zero (chosenNumbers p))) (λ _. accepted (lentPicks p words (chosenNumbers p))) F e in result-eq (lentPicks p words (chosenNumbers p)) F d
+
+pub given-picks : (c : Case) → Accepted c → (g : Given) (F : List Tuple) → picksGiven c (problemOf c) g ≡ accepted F → arePicks c F ≡ true
+given-picks c A (asText text) F e = T-true (arePicks c F) (fit-picks c F (gives-if _ (readPicks (c .question .chosen) (firstChosen (c .question)) (c .site .size) text) F (sym (given-text c (problemOf c) text) ∙ e) (picks-fit (c .question .chosen) (firstChosen (c .question)) (c .site .size) text)))
+given-picks c A (asNumbers words) F e =
+    let (read, a, b, d) = given-parts c (problemOf c) (asNumbers words) F e in
+    T-true (arePicks c F) (subst (λ (l : List Tuple). T (arePicks c l)) (lent-taken (problemOf c) words read F d) (lent-are c A words))
+
+-- ---- with buffers long enough only the kinds and the rule are left to test
+pub plan-is : (question site : List ℕ) (g : Given) (c : Case) (p : Problem) (F : List Tuple) (stateRoom stepsRoom : ℕ)
+    → readCase question site ≡ accepted c → ground c ≡ accepted p → picksGiven c p g ≡ accepted F → stateLength p ≤ stateRoom → bound p ≤ stepsRoom
+    → plan question site g stateRoom stepsRoom ≡ (kindRefusal (firstOfOtherKind c F) >>= λ _. refuseIf (not (ruleIsTrue c F)) 17 zero >>= λ _. accepted (record { problem = p; picks = F; steps = builtSteps p F }))
+unfolding plan roomFor refuseIf _>>=_
+plan-is question site g c p F stateRoom stepsRoom rc rg rf hs hb =
+    let (read, a, b, d) = given-parts c p g F rf in
+    let e : ltb stateRoom (stateLength p) ≡ false = le-ltb stateRoom (stateLength p) hs in
+    let f : ltb stepsRoom (bound p) ≡ false = le-ltb stepsRoom (bound p) hb in
+    rw (rc, a, rg, b, e, f, d) refl
+
+-- the kinds: 16 is refused exactly if some `choose` is not of its kind, by the first such
+pub kinds-hold : (c : Case) (F : List Tuple) → areOfKinds c F ≡ true → firstOfOtherKind c F ≡ none
+unfolding areOfKinds firstOfOtherKind
+kinds-hold c F e = position-none not (eachChosen c (isOfKind F)) (any-not (eachChosen c (isOfKind F)) ∙ ap not e)
+
+pub kinds-fail : (c : Case) (F : List Tuple) → areOfKinds c F ≡ false → (i : ℕ) × (firstOfOtherKind c F ≡ some i)
+unfolding areOfKinds firstOfOtherKind
+kinds-fail c F e = let q = position-some not (eachChosen c (isOfKind F)) true (any-not (eachChosen c (isOfKind F)) ∙ ap not e) in (q .0, q .1)
+
+pub kinds-told : (c : Case) (F : List Tuple) → firstOfOtherKind c F ≡ none → areOfKinds c F ≡ true
+kinds-told c F e = go (areOfKinds c F) refl
+  where
+    go : (b : Bool) → areOfKinds c F ≡ b → b ≡ true
+    go true q = refl
+    go false q = let r = kinds-fail c F q in absurd (none-some (sym e ∙ r .1))
+
+kind-accepted : (o : Option ℕ) (u : Unit {0}) → kindRefusal o ≡ accepted u → o ≡ none
+unfolding kindRefusal isAccepted
+kind-accepted none u e = refl
+kind-accepted (some i) u e = absurd (subst T (sym (ap isAccepted e)) tt)
+
+unaccepted : (b : Bool) → not b ≡ false → b ≡ true
+unaccepted true e = refl
+unaccepted false e = absurd (subst T e tt)
+
+given-from : (c : Case) (p : Problem) (g : Given) (read F : List Tuple) (u : Unit {0}) → textPicks c g ≡ accepted read → picksRoom p g ≡ accepted u → takePicks p g read ≡ accepted F → picksGiven c p g ≡ accepted F
+unfolding _>>=_
+given-from c p g read F u a b d = rw (a, b) d
+
+-- what a plan tells
+pub plan-tells : (question site : List ℕ) (g : Given) (stateRoom stepsRoom : ℕ) (b : Plan) → plan question site g stateRoom stepsRoom ≡ accepted b
+    → (c : Case) × (readCase question site ≡ accepted c) × (ground c ≡ accepted (b .problem)) × (picksGiven c (b .problem) g ≡ accepted (b .picks)) × (areOfKinds c (b .picks) ≡ true) × (ruleIsTrue c (b .picks) ≡ true) × (b .steps ≡ builtSteps (b .problem) (b .picks))
+unfolding plan _>>=_
+plan-tells question site g stateRoom stepsRoom b e =
+    let (c, rc, e₁) = bind-inv (readCase question site) _ b e in
+    let (read, rt, e₂) = bind-inv (textPicks c g) _ b e₁ in
+    let (p, rg, e₃) = bind-inv (ground c) _ b e₂ in
+    let (u₁, r₁, e₄) = bind-inv (picksRoom p g) _ b e₃ in
+    let (u₂, r₂, e₅) = bind-inv (roomFor (stateLength p) stateRoom) _ b e₄ in
+    let (u₃, r₃, e₆) = bind-inv (roomFor (bound p) stepsRoom) _ b e₅ in
+    let (F, rf, e₇) = bind-inv (takePicks p g read) _ b e₆ in
+    let (u₄, r₄, e₈) = bind-inv (kindRefusal (firstOfOtherKind c F)) _ b e₇ in
+    let (u₅, r₅, e₉) = bind-inv (refuseIf (not (ruleIsTrue c F)) 17 zero) _ b e₈ in
+    let q : record { problem = p; picks = F; steps = builtSteps p F } ≡ b = result-eq _ b e₉ in
+    subst (λ (b : Plan). (c : Case) × (readCase question site ≡ accepted c) × (ground c ≡ accepted (b .problem)) × (picksGiven c (b .problem) g ≡ accepted (b .picks)) × (areOfKinds c (b .picks) ≡ true) × (ruleIsTrue c (b .picks) ≡ true) × (b .steps ≡ builtSteps (b .problem) (b .picks))) q
+    (c, rc, rg, given-from c p g read F u₁ rt r₁ rf, kinds-told c F (kind-accepted (firstOfOtherKind c F) u₄ r₄), unaccepted (ruleIsTrue c F) (not-refused (not (ruleIsTrue c F)) 17 zero u₅ r₅), refl)
+
+-- what an accepted answer of the builder tells
+pub built-tells : (r : Result Plan) (state steps : List ℕ) (k : ℕ) → builtFrom r state steps .answer ≡ accepted k → (b : Plan) × (r ≡ accepted b) × (k ≡ length (b .steps)) × (builtFrom r state steps .steps ≡ written (b .steps) steps)
+unfolding builtFrom isAccepted
+built-tells (refused n place) state steps k e = absurd (subst T (sym (ap isAccepted e)) tt)
+built-tells (accepted b) state steps k e = (b, refl, sym (result-eq (length (b .steps)) k e), refl)

@@ -1,0 +1,275 @@
+-- The theorems, about document 01's definitions alone: demands 2 and 3, and what holds the numbering and the lent words together.
+-- A word of document 01 stands here under the name that `definitions` gives it; the proofs are in the other modules.
+--   1  existence                                            5  count, at-most
+--   2  acceptance, checking, checking-accepts               6  polynomial, degree
+--   3  soundness, tuples-set, reading                       7  strips-1, never-twice
+--   4  building, refused-16, refused-17, built-exactly,     8  atoms, actions, state and pick words
+--      whenever-built, built-accepted, built-same
+use Prim.Native.Nat.{ℕ, zero, _+_, _*_, _^_, _<_, _≤_}
+use mathlib.Core.Path.{_≡_, refl, sym, ap, subst, subst₂, _∙_}
+use mathlib.Core.Logic.{_⊎_, ⊎-elim, _↔_}
+use mathlib.Core.Bool.{Bool, true, false, not, _&&_}
+use mathlib.Core.Option.{none, some}
+use mathlib.Core.List.{List, [], _∷_, _++_, map, List·Memᴰ}
+use native.Mathlib.Omega.{arith}
+use lib.Dec.{ltb}
+use lib.ListN.{length, getD, take, length-append}
+use borrow.Author.Tests.{le-ltb}
+use Rattle.definitions.specs.Limits.{stepLimit}
+use Rattle.definitions.specs.Refusal.{Result, refused, accepted, _>>=_, refuseIf}
+use Rattle.definitions.specs.Relations.{Tuple, isAmong}
+use Rattle.definitions.specs.Sheets.{Question, readQuestion, readPicks, firstChosen}
+use Rattle.definitions.specs.Truth.{Case, arePicks, areOfKinds, firstOfOtherKind, ruleIsTrue}
+use Rattle.definitions.specs.Atoms.{Problem, problemOf, Atom, itemAt, atomBlocks, atoms, atomNumber, relationAt, placesOf, stateWords}
+use Rattle.definitions.specs.Actions.{Action, set, actionAt, actions, actionNumber, needs, adds, removes}
+use Rattle.definitions.specs.Strips.{reachesGoal, run, picksOf}
+use Rattle.definitions.specs.Built.{chosenNumbers, builtSteps, builtCount, bound, boundExponents, boundPolynomial}
+use Rattle.definitions.specs.Outcome.{readCase, ground, readProblem, roomFor, stateLength, written, picksLength, pickWords, bitOf, lentPicks, spareWord, Given, asText, asNumbers, takeSteps, textPicks, picksRoom, takePicks, readyToRun, Checked, checkedFrom, checkSteps, picksIfAccepted, picksReadFrom, picksFromSteps, kindRefusal, plan, Built, builtFrom, buildSteps}
+use Rattle.definitions.specs.Demand.{isAccepted, caseIsAccepted, stepsAreAccepted, areSamePicks}
+use Rattle.laws.specs.Numbers
+use Rattle.laws.specs.Words
+use Rattle.laws.specs.Booleans.{T-of}
+use Rattle.laws.specs.Blocks.{item-lt}
+use Rattle.laws.specs.Numbers.{IsAtom, IsAction}
+use Rattle.laws.specs.Words.{words-for}
+use Rattle.reduction.specs.Reader
+use Reader.{Accepted, case-fits, gives-if}
+use Rattle.reduction.specs.Grounded.{good}
+use Rattle.reduction.specs.Valid.{needs-valid, adds-valid, removes-valid}
+use Rattle.reduction.specs.Pairs
+use Rattle.reduction.specs.Between
+use Rattle.reduction.specs.Strips1
+use Rattle.reduction.specs.Accepting
+use Rattle.reduction.specs.Polynomial
+use Rattle.reduction.specs.Lent
+use Rattle.reduction.specs.States
+use Rattle.reduction.specs.Building
+
+-- A question and a site are accepted exactly if a case is read from them and its problem is within the limits.
+pub accepted-case : (question site : List ℕ) → (caseIsAccepted question site ≡ true) ↔ ((c : Case) × (p : Problem) × (readCase question site ≡ accepted c) × (readProblem question site ≡ accepted p))
+unfolding caseIsAccepted isAccepted readProblem
+accepted-case question site = (
+  (λ e. let (p, r) = Accepting.accepted-is (readProblem question site) e in let (c, a, g) = Accepting.bind-inv (readCase question site) ground p r in (c, p, a, r)),
+  (λ h. let (c, p, a, r) = h in Accepting.is-accepted (readProblem question site) p r),
+)
+
+-- ---- For every question and site that are accepted: c is the case read from the two texts, p its numbered problem.
+module _ (question site : List ℕ) (c : Case) (p : Problem) (is-case : readCase question site ≡ accepted c) (is-problem : readProblem question site ≡ accepted p) where
+  grounds : ground c ≡ accepted p
+  unfolding readProblem _>>=_
+  grounds = rw is-case at is-problem
+
+  same-problem : p ≡ problemOf c
+  unfolding ground
+  same-problem = let (u, a, g) = Accepting.bind-inv (refuseIf _ 11 zero) (λ _. accepted (problemOf c)) p grounds in sym (Building.result-eq (problemOf c) p g)
+
+  A : Accepted c
+  A = gives-if Accepted (readCase question site) c is-case (case-fits question site)
+
+  sound : (steps : List ℕ) → reachesGoal p steps ≡ true → (arePicks c (picksOf p steps) ≡ true) × (areOfKinds c (picksOf p steps) ≡ true) × (ruleIsTrue c (picksOf p steps) ≡ true)
+  sound = rw same-problem (Between.sound-case c A)
+
+  complete : (picks : List Tuple) → arePicks c picks ≡ true → areOfKinds c picks ≡ true → ruleIsTrue c picks ≡ true → (reachesGoal p (builtSteps p picks) ≡ true) × (areSamePicks (picksOf p (builtSteps p picks)) picks ≡ true)
+  complete = rw same-problem (Between.complete-case c A)
+
+  counts : (picks : List Tuple) → arePicks c picks ≡ true → areOfKinds c picks ≡ true → (length (builtSteps p picks) ≡ builtCount p picks) × (builtCount p picks ≤ bound p)
+  counts = rw same-problem (Between.count-case c A)
+
+  -- ---- 1, existence: some picks of the declared kinds make the rule true exactly when some step list, of whatever length,
+  -- reaches the goal.
+  pub existence : ((picks : List Tuple) × (arePicks c picks ≡ true) × (areOfKinds c picks ≡ true) × (ruleIsTrue c picks ≡ true)) ↔ ((steps : List ℕ) × (reachesGoal p steps ≡ true))
+  existence = (
+    (λ h. let (picks, a, k, r) = h in (builtSteps p picks, complete picks a k r .0)),
+    (λ h. let (steps, e) = h in let (a, k, r) = sound steps e in (picksOf p steps, a, k, r)),
+  )
+
+  -- ---- 2, acceptance: steps, as a text or as numbers, are accepted exactly if they reach the goal.
+  pub acceptance : (given : Given) (steps : List ℕ) → takeSteps given ≡ accepted steps → stepsAreAccepted question site given ≡ reachesGoal p steps
+  acceptance given steps t = Accepting.steps-accepted question site p given steps is-problem t
+
+  -- Numbers are taken as they are, unless they are too many.
+  pub lent-steps : (steps : List ℕ) → length steps ≤ stepLimit → takeSteps (asNumbers steps) ≡ accepted steps
+  lent-steps steps h = Accepting.lent-steps steps h
+
+  -- The checking call runs the steps, and leaves the last state's words at the front of its buffer.
+  pub checking : (given : Given) (steps : List ℕ) → takeSteps given ≡ accepted steps → (state : List ℕ) → stateLength p ≤ length state
+      → checkSteps question site given state ≡ record { answer = run p steps .answer; state = written (stateWords p (run p steps .state)) state }
+  unfolding checkSteps readyToRun roomFor refuseIf checkedFrom _>>=_
+  checking given steps t state h = let e : ltb (length state) (stateLength p) ≡ false = le-ltb (length state) (stateLength p) h in rw (is-case, t, grounds, e) refl
+
+  -- It accepts, with the step count, exactly the steps that reach the goal.
+  pub checking-accepts : (given : Given) (steps : List ℕ) → takeSteps given ≡ accepted steps → (state : List ℕ) → stateLength p ≤ length state
+      → (checkSteps question site given state .answer ≡ accepted (length steps)) ↔ (reachesGoal p steps ≡ true)
+  checking-accepts given steps t state h = let q = ap (λ (r : Checked). r .answer) (checking given steps t state h) in (
+    (λ e. sym (Accepting.run-accepts p steps) ∙ Accepting.is-accepted (run p steps .answer) (length steps) (sym q ∙ e)),
+    (λ e. q ∙ Accepting.run-count p steps (T-of e)),
+  )
+
+  -- ---- 3, soundness: whatever steps are accepted, the picks read from them are picks, of the declared kinds, and make the rule
+  -- true, totality included.
+  pub soundness : (given : Given) → stepsAreAccepted question site given ≡ true
+      → (steps : List ℕ) × (takeSteps given ≡ accepted steps) × (arePicks c (picksOf p steps) ≡ true) × (areOfKinds c (picksOf p steps) ≡ true) × (ruleIsTrue c (picksOf p steps) ≡ true)
+  soundness given e =
+      let (steps, t) = Accepting.steps-taken question site given e in
+      let (a, k, r) = sound steps (sym (acceptance given steps t) ∙ e) in
+      (steps, t, a, k, r)
+
+  -- The picks read from steps are exactly the tuples of the set actions among the steps.
+  pub tuples-set : (steps : List ℕ) (t : Tuple)
+      → (isAmong t (picksOf p steps) ≡ true) ↔ ((k : ℕ) × List·Memᴰ k steps × ((r : ℕ) × (row : ℕ) × (actionAt p k ≡ some (set r row)) × (t ≡ record { relation = r; places = placesOf (p .size) (relationAt p r .arity) row })))
+  tuples-set steps t = Between.set-tuples p steps t
+
+  -- The reading call runs the steps too; if they are accepted it leaves the words of these picks at the front of its buffer, and
+  -- otherwise leaves the buffer alone.
+  pub reading : (given : Given) (steps : List ℕ) → takeSteps given ≡ accepted steps → (picks state : List ℕ) → picksLength p ≤ length picks → stateLength p ≤ length state
+      → picksFromSteps question site given picks state
+      ≡ record { answer = run p steps .answer; picks = picksIfAccepted (run p steps .answer) (pickWords p (picksOf p steps)) picks; state = written (stateWords p (run p steps .state)) state }
+  unfolding picksFromSteps readyToRun roomFor refuseIf picksReadFrom _>>=_
+  reading given steps t picks state h g =
+      let e : ltb (length picks) (picksLength p) ≡ false = le-ltb (length picks) (picksLength p) h in
+      let f : ltb (length state) (stateLength p) ≡ false = le-ltb (length state) (stateLength p) g in
+      rw (is-case, t, grounds, e, f) refl
+
+  -- ---- 4, completeness. Picks are handed over as a text or as words: these are the picks that are taken then.
+  abbrev taken : Given → Result (List Tuple)
+  taken given = textPicks c given >>= λ read. picksRoom p given >>= λ _. takePicks p given read
+
+  -- Of a text they are those that are read; of words that are long enough and have no spare bit set, the tuples whose bits are set.
+  pub text-picks : (text : List ℕ) → taken (asText text) ≡ readPicks (c .question .chosen) (firstChosen (c .question)) (c .site .size) text
+  text-picks text = Building.given-text c p text
+
+  pub lent-picks : (words : List ℕ) → picksLength p ≤ length words → spareWord p words zero (chosenNumbers p) ≡ none → taken (asNumbers words) ≡ accepted (lentPicks p words (chosenNumbers p))
+  lent-picks words h e = Building.given-words c p words h e
+
+  -- Whatever is taken is a set of tuples of the `choose` relations.
+  pub taken-picks : (given : Given) (picks : List Tuple) → taken given ≡ accepted picks → arePicks c picks ≡ true
+  taken-picks = rw same-problem (Building.given-picks c A)
+
+  module _ (given : Given) (picks : List Tuple) (is-taken : taken given ≡ accepted picks) (state steps : List ℕ) (room : stateLength p ≤ length state) (space : bound p ≤ length steps) where
+    plans : plan question site given (length state) (length steps) ≡ (kindRefusal (firstOfOtherKind c picks) >>= λ _. refuseIf (not (ruleIsTrue c picks)) 17 zero >>= λ _. accepted (record { problem = p; picks = picks; steps = builtSteps p picks }))
+    plans = Building.plan-is question site given c p picks (length state) (length steps) is-case grounds is-taken room space
+
+    -- Picks of the declared kinds of which the rule is true always give the built steps.
+    pub building : areOfKinds c picks ≡ true → ruleIsTrue c picks ≡ true
+        → buildSteps question site given state steps ≡ record { answer = accepted (builtCount p picks); state = written (stateWords p (run p (builtSteps p picks) .state)) state; steps = written (builtSteps p picks) steps }
+    unfolding buildSteps builtFrom kindRefusal refuseIf _>>=_
+    building k r = rw (plans, Building.kinds-hold c picks k, r) (ap (λ (x : ℕ). record { answer = accepted x; state = written (stateWords p (run p (builtSteps p picks) .state)) state; steps = written (builtSteps p picks) steps }) (counts picks (taken-picks given picks is-taken) k .0))
+
+    -- Picks that are not of the declared kinds give none: 16, with the index of the first `choose` of which they are not.
+    pub refused-16 : areOfKinds c picks ≡ false → (i : ℕ) × (firstOfOtherKind c picks ≡ some i) × (buildSteps question site given state steps ≡ record { answer = refused 16 i; state = state; steps = steps })
+    unfolding buildSteps builtFrom kindRefusal _>>=_
+    refused-16 k = let (i, e) = Building.kinds-fail c picks k in (i, e, rw (plans, e) refl)
+
+    -- Picks of the declared kinds of which the rule is false give none: 17, place 0.
+    pub refused-17 : areOfKinds c picks ≡ true → ruleIsTrue c picks ≡ false → buildSteps question site given state steps ≡ record { answer = refused 17 0; state = state; steps = steps }
+    unfolding buildSteps builtFrom kindRefusal refuseIf _>>=_
+    refused-17 k r = rw (plans, Building.kinds-hold c picks k, r) refl
+
+    -- So steps are built exactly if the picks are of the declared kinds and the rule is true of them.
+    pub built-exactly : isAccepted (buildSteps question site given state steps .answer) ≡ (areOfKinds c picks && ruleIsTrue c picks)
+    unfolding isAccepted
+    built-exactly = go (areOfKinds c picks) refl (ruleIsTrue c picks) refl
+      where
+        go : (k : Bool) → areOfKinds c picks ≡ k → (r : Bool) → ruleIsTrue c picks ≡ r → isAccepted (buildSteps question site given state steps .answer) ≡ (k && r)
+        go true a true b = ap (λ (x : Built). isAccepted (x .answer)) (building a b)
+        go true a false b = ap (λ (x : Built). isAccepted (x .answer)) (refused-17 a b)
+        go false a r b = let (i, e, q) = refused-16 a in ap (λ (x : Built). isAccepted (x .answer)) q
+
+  -- Whenever steps are built, it is from picks of the declared kinds of which the rule is true, and the built steps are handed back.
+  pub whenever-built : (given : Given) (state steps : List ℕ) (k : ℕ) → buildSteps question site given state steps .answer ≡ accepted k
+      → (picks : List Tuple) × (taken given ≡ accepted picks) × (arePicks c picks ≡ true) × (areOfKinds c picks ≡ true) × (ruleIsTrue c picks ≡ true) × (k ≡ length (builtSteps p picks)) × (buildSteps question site given state steps .steps ≡ written (builtSteps p picks) steps)
+  unfolding buildSteps
+  whenever-built given state steps k e =
+      let (b, r, n, w) = Building.built-tells (plan question site given (length state) (length steps)) state steps k e in
+      let (c′, rc, rg, t, a, q, s) = Building.plan-tells question site given (length state) (length steps) b r in
+      let same-case : c′ ≡ c = Building.result-eq c′ c (sym rc ∙ is-case) in
+      let same : b .problem ≡ p = Building.result-eq (b .problem) p (sym rg ∙ ap ground same-case ∙ grounds) in
+      let f : taken given ≡ accepted (b .picks) = subst₂ (λ (x : Case) (y : Problem). Building.picksGiven x y given ≡ accepted (b .picks)) same-case same t in
+      let l : b .steps ≡ builtSteps p (b .picks) = s ∙ ap (λ (y : Problem). builtSteps y (b .picks)) same in
+      (b .picks, f, taken-picks given (b .picks) f, subst (λ (x : Case). areOfKinds x (b .picks) ≡ true) same-case a, subst (λ (x : Case). ruleIsTrue x (b .picks) ≡ true) same-case q, n ∙ ap length l, w ∙ ap (λ (x : List ℕ). written x steps) l)
+
+  -- The built steps, lent as numbers, are accepted.
+  pub built-accepted : (picks : List Tuple) → arePicks c picks ≡ true → areOfKinds c picks ≡ true → ruleIsTrue c picks ≡ true → stepsAreAccepted question site (asNumbers (builtSteps p picks)) ≡ true
+  built-accepted picks a k r =
+      let n = counts picks a k in
+      let b = Accepting.bound-below p in
+      let f = Reader.acceptance question site p is-problem .few-atoms in
+      acceptance (asNumbers (builtSteps p picks)) (builtSteps p picks) (lent-steps (builtSteps p picks) (omega (arith, n .0, n .1))) ∙ complete picks a k r .0
+
+  -- The picks read from them are the same tuples, no more and no fewer.
+  pub built-same : (picks : List Tuple) → arePicks c picks ≡ true → areOfKinds c picks ≡ true → ruleIsTrue c picks ≡ true → areSamePicks (picksOf p (builtSteps p picks)) picks ≡ true
+  built-same picks a k r = complete picks a k r .1
+
+  -- ---- 5, count: the built steps are picks + true node atoms + 2, and at most the bound.
+  pub count : (picks : List Tuple) → arePicks c picks ≡ true → areOfKinds c picks ≡ true → length (builtSteps p picks) ≡ builtCount p picks
+  count picks a k = counts picks a k .0
+
+  pub at-most : (picks : List Tuple) → arePicks c picks ≡ true → areOfKinds c picks ≡ true → builtCount p picks ≤ bound p
+  at-most picks a k = counts picks a k .1
+
+  -- ---- 6, polynomial: the bound is a polynomial in the number of elements; the question's text alone fixes its terms, whatever the
+  -- site holds.
+  pub polynomial : (q : Question) → readQuestion question ≡ accepted q → bound p ≡ boundPolynomial q (c .site .size)
+  polynomial q e = value ∙ ap (λ (x : Question). boundPolynomial x (c .site .size)) (Building.result-eq (c .question) q (sym (Reader.case-question question site c is-case) ∙ e))
+    where
+      value : bound p ≡ boundPolynomial (c .question) (c .site .size)
+      value = rw same-problem (Polynomial.bound-value c)
+
+  -- No exponent is above 4.
+  pub degree : (exponent : ℕ) → List·Memᴰ exponent (boundExponents (c .question)) → exponent ≤ 4
+  degree exponent m = Polynomial.degree c A exponent m
+
+  -- ---- 7, STRIPS-1: every action that removes something removes a need that no action adds;
+  pub strips-1 : (a : Action) → (removes p a ≡ []) ⊎ ((x : Atom) × List·Memᴰ x (removes p a) × List·Memᴰ x (needs p a) × ((b : Action) → List·Memᴰ x (adds p b) → ⊥))
+  strips-1 a = Strips1.strips-1 p a
+
+  -- so it is taken at most once: if an action is taken twice in a run that is accepted or only lacks the goal, it removes nothing.
+  pub never-twice : (k : ℕ) (a : Action) → actionAt p k ≡ some a → (before between after : List ℕ) (n : ℕ)
+      → (run p (before ++ (k ∷ (between ++ (k ∷ after)))) .answer ≡ accepted n) ⊎ (run p (before ++ (k ∷ (between ++ (k ∷ after)))) .answer ≡ refused 15 n) → removes p a ≡ []
+  never-twice = rw same-problem (Strips1.once-only (problemOf c) (good c A))
+
+  -- ---- 8, the numbering: a number decodes to the atom whose number it is, exactly the numbers below the count decode, and every
+  -- atom that an action needs, adds or removes is among them. The same for actions.
+  pub atom-number : (i : ℕ) (a : Atom) → itemAt (atomBlocks p) i ≡ some a → atomNumber p a ≡ i
+  atom-number i a e = Numbers.atom-number p i a e
+
+  pub atoms-numbered : (i : ℕ) → (i < atoms p) ↔ ((a : Atom) × (itemAt (atomBlocks p) i ≡ some a))
+  unfolding atoms
+  atoms-numbered i = (λ h. Numbers.atom-some p i h, λ q. item-lt (atomBlocks p) i (q .0) (q .1))
+
+  pub atoms-used : (k : ℕ) (a : Action) → actionAt p k ≡ some a → (x : Atom) → List·Memᴰ x (needs p a) ⊎ (List·Memᴰ x (adds p a) ⊎ List·Memᴰ x (removes p a)) → itemAt (atomBlocks p) (atomNumber p x) ≡ some x
+  atoms-used k a e x m = Numbers.atom-at p x (valid k a (Numbers.action-is p k a e) x m)
+    where
+      valid : (k : ℕ) (a : Action) → IsAction p a → (x : Atom) → List·Memᴰ x (needs p a) ⊎ (List·Memᴰ x (adds p a) ⊎ List·Memᴰ x (removes p a)) → IsAtom p x
+      valid = rw same-problem (λ k a v x m. ⊎-elim (λ q. needs-valid (problemOf c) (good c A) a v x q) (λ q. ⊎-elim (λ i. adds-valid (problemOf c) (good c A) a v x i) (λ i. removes-valid (problemOf c) (good c A) a v x i) q) m)
+
+  pub action-number : (k : ℕ) (a : Action) → actionAt p k ≡ some a → actionNumber p a ≡ k
+  action-number k a e = Numbers.action-number p k a e
+
+  pub actions-numbered : (k : ℕ) → (k < actions p) ↔ ((a : Action) × (actionAt p k ≡ some a))
+  actions-numbered k = (λ h. Numbers.action-some p k h, λ q. Numbers.action-below p k (q .0) (q .1))
+
+  -- The words that are left: bit i of a state's words says whether atom i holds, and no other bit is set.
+  pub state-bit : (steps : List ℕ) (i : ℕ) → i < atoms p → bitOf (stateWords p (run p steps .state)) i ≡ run p steps .state i
+  unfolding stateLength
+  state-bit steps i h = let w = words-for (atoms p) in Words.state-bit p (run p steps .state) i (omega (arith, w .0))
+
+  pub state-spare : (steps : List ℕ) (i : ℕ) → atoms p ≤ i → i < 64 * stateLength p → bitOf (stateWords p (run p steps .state)) i ≡ false
+  state-spare steps i h l = Words.state-bit p (run p steps .state) i l ∙ ends steps i h
+    where
+      ends : (steps : List ℕ) (i : ℕ) → atoms p ≤ i → run p steps .state i ≡ false
+      ends = rw same-problem (States.run-ends (problemOf c) (good c A))
+
+  -- The words of picks, whatever stands behind them, are taken back as the same tuples;
+  pub words-taken : (picks : List Tuple) (rest : List ℕ) → arePicks c picks ≡ true → (again : List Tuple) × (taken (asNumbers (pickWords p picks ++ rest)) ≡ accepted again) × (areSamePicks again picks ≡ true)
+  words-taken picks rest a =
+      let (l, s, t) = Lent.pick-words p picks rest in
+      let e = length-append (pickWords p picks) rest in
+      (lentPicks p (pickWords p picks ++ rest) (chosenNumbers p), lent-picks (pickWords p picks ++ rest) (omega arith) s, ap (λ (x : List Tuple). areSamePicks x picks) t ∙ order picks a)
+    where
+      order : (picks : List Tuple) → arePicks c picks ≡ true → areSamePicks (map (Pairs.tupleOf p) (Pairs.pairs p picks)) picks ≡ true
+      order = rw same-problem (Between.in-order c A)
+
+  -- and words that were taken are written again by the picks taken from them.
+  pub words-written : (words : List ℕ) → ((j : ℕ) → getD words j 0 < 2 ^ 64) → picksLength p ≤ length words → spareWord p words zero (chosenNumbers p) ≡ none → pickWords p (lentPicks p words (chosenNumbers p)) ≡ take (picksLength p) words
+  words-written = rw same-problem (Lent.words-again (problemOf c) (good c A))

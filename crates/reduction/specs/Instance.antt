@@ -1,0 +1,32 @@
+-- The theorems speak of something: document 01's case ONE, by its texts, is accepted, and soundness applies to its four steps.
+use Prim.Native.Nat.{ℕ}
+use mathlib.Core.Path.{_≡_, refl}
+use mathlib.Core.Bool.{true}
+use mathlib.Core.List.{List, [], _∷_}
+use Rattle.definitions.specs.Opened.{everything}
+use Rattle.definitions.specs.Text.{bytes}
+use Rattle.definitions.specs.Refusal.{accepted}
+use Rattle.definitions.specs.Truth.{Case, arePicks, areOfKinds, ruleIsTrue}
+use Rattle.definitions.specs.Atoms.{Problem}
+use Rattle.definitions.specs.Strips.{picksOf}
+use Rattle.definitions.specs.Outcome.{readCase, readProblem, asNumbers, takeSteps}
+use Rattle.definitions.specs.Demand.{caseIsAccepted, stepsAreAccepted}
+use Rattle.reduction.specs.Demands.{accepted-case, soundness}
+
+abbrev question : List ℕ
+question = bytes "choose\tT\t1\nrule\t(forall (?y) (T ?y))\n"
+
+abbrev site : List ℕ
+site = bytes "size\t1\n"
+
+accepts : caseIsAccepted question site ≡ true
+unfolding everything
+accepts = refl
+
+runs : stepsAreAccepted question site (asNumbers (0 ∷ 1 ∷ 2 ∷ 3 ∷ [])) ≡ true
+unfolding everything
+runs = refl
+
+pub one : (c : Case) × (p : Problem) × (readCase question site ≡ accepted c) × (readProblem question site ≡ accepted p)
+    × ((steps : List ℕ) × (takeSteps (asNumbers (0 ∷ 1 ∷ 2 ∷ 3 ∷ [])) ≡ accepted steps) × (arePicks c (picksOf p steps) ≡ true) × (areOfKinds c (picksOf p steps) ≡ true) × (ruleIsTrue c (picksOf p steps) ≡ true))
+one = let (c, p, a, b) = accepted-case question site .0 accepts in (c, p, a, b, soundness question site c p a b (asNumbers (0 ∷ 1 ∷ 2 ∷ 3 ∷ [])) runs)

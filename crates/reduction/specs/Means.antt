@@ -1,0 +1,197 @@
+-- What each atom means in the proof phase, and that the actions of nodes keep to it.
+use Prim.Native.Nat.{ℕ, zero, suc, _+_, _-_, _*_, _^_, _<_, _≤_}
+use mathlib.Core.Path.{_≡_, refl, sym, ap, ap₂, subst, subst₂, _∙_}
+use mathlib.Core.Logic.{_⊎_, ⊎-elim}
+use mathlib.Core.Bool.{Bool, true, false, not, _&&_}
+use mathlib.Core.List.{List, [], map, List·Memᴰ, List·Memᴰ·eq-of-singleton}
+use native.Mathlib.Omega.{arith}
+use native.Mathlib.Nat.{zero-add}
+use lib.Arith.{digits-lt, digits-div, digits-mod}
+use lib.Dec.{T}
+use lib.ListN.{length, getD, take, drop, length-map}
+use Rattle.definitions.specs.Lists.{all, below}
+use Rattle.definitions.specs.Relations.{Tuple, isChosen, isFunction}
+use Rattle.definitions.specs.Truth.{holds}
+use Rattle.definitions.specs.Tree.{Tree, Trees, leaf, forallNode, existsNode, andNode, orNode, end, _then_, nodes, free, partsFrom, parts, howMany, isForall}
+use Rattle.definitions.specs.Atoms.{Problem, relationAt, nodeAt, rowOf, placesOf, tuplesOf, rowsOf, nodeWidth, Atom, guess, proof, goal, tuple, notTuple, freeDomain, freeRange, holdsNode}
+use Rattle.definitions.specs.Actions.{Action, set, beginProof, proveAnd, proveOr, proveExists, proveForall, proveGoal, Values, valuesIn, withValue, valuesAt, partAtom, partAtoms, underAtom, forallNeeds, needs, adds}
+use Rattle.definitions.specs.Built.{treeHolds, treesHold, someHolds, isTrueAt}
+use Rattle.laws.specs.Booleans.{T-and-l, T-and-r, lt-split, or-l, or-r}
+use Rattle.laws.specs.Lists.{all-at, all-of, any-of, below-lt, mem-below}
+use Rattle.laws.specs.Rows.{places-below, places-row, row-lt}
+use Rattle.laws.specs.Numbers.{IsAction, IsAtom}
+use Rattle.reduction.specs.Parts.{Within, holds-same, back, Bnd, bnd-with, bnd-values, bnd-map, Here, HereAll, under-forall, under-exists, parts-and, parts-or, head-here, tail-here, here-sub, IsNode, node-at, Fits}
+
+-- what of an accepted case's problem the argument needs
+pub record Good (p : Problem) : Type 0 where
+  pub sized : p .source .site .size ≡ p .size
+  pub element : 0 < p .size
+  pub noded : p .nodeList ≡ nodes (p .root)
+  pub root-here : Here p 0 (p .root)
+  pub root-node : IsNode p (p .root)
+  pub pairs : (r : ℕ) → r < length (p .relations) → T (isFunction (relationAt p r .kind)) → relationAt p r .arity ≡ 2
+  pub low-static : (r : ℕ) → T (isChosen (relationAt p r .kind)) → 5 ≤ r
+  pub facts-static : (t : Tuple) → List·Memᴰ t (p .source .site .facts) → T (isChosen (relationAt p (t .relation) .kind)) → ⊥
+
+unfoldable pub means : Problem → List Tuple → Atom → Bool
+means p P guess = false
+means p P proof = true
+means p P goal = treeHolds (p .source) P (λ _. zero) (p .root)
+means p P (tuple r row) = holds (p .source) P r (placesOf (p .size) (relationAt p r .arity) row)
+means p P (notTuple r row) = not (holds (p .source) P r (placesOf (p .size) (relationAt p r .arity) row))
+means p P (freeDomain r x) = true
+means p P (freeRange r y) = true
+means p P (holdsNode v row) = isTrueAt p P (nodeAt p v) row
+
+module _ (p : Problem) (G : Good p) where
+  pub here-at : (v : ℕ) → v < length (p .nodeList) → Here p v (nodeAt p v)
+  unfolding nodeAt
+  here-at v l = subst₂ (Here p) (zero-add v) (ap (λ (ts : List Tree). getD ts v (leaf true zero [])) (sym (G .noded))) (here-sub p (p .root) 0 (G .root-here) v (subst (λ (ts : List Tree). v < length ts) (G .noded) l))
+
+  abbrev n : ℕ
+  n = p .size
+
+  pub values-bnd : (t : Tree) (row : ℕ) → Bnd (p .size) (valuesAt (p .size) t row)
+  unfolding valuesAt
+  values-bnd t row = bnd-values (p .size) (free t) (placesOf (p .size) (length (free t)) row) (G .element) (places-below (p .size) (length (free t)) row (G .element))
+
+  -- the row of a node's values is one of its rows
+  pub row-in : (t : Tree) (e : Values) → Bnd (p .size) e → rowOf (p .size) (map e (free t)) < rowsOf (p .size) t
+  unfolding rowsOf
+  row-in t e b = subst (λ (k : ℕ). rowOf (p .size) (map e (free t)) < p .size ^ k) (length-map (free t) e) (row-lt (p .size) (map e (free t)) (bnd-map (p .size) e (free t) b))
+
+  values-row : (t : Tree) (e : Values) → Bnd (p .size) e → valuesAt (p .size) t (rowOf (p .size) (map e (free t))) ≡ valuesIn (free t) (map e (free t))
+  unfolding valuesAt
+  values-row t e b = ap (valuesIn (free t)) (ap (λ (k : ℕ). placesOf (p .size) k (rowOf (p .size) (map e (free t)))) (sym (length-map (free t) e)) ∙ places-row (p .size) (map e (free t)) (G .element) (bnd-map (p .size) e (free t) b))
+
+  -- ---- a part's atom is one of the problem's
+  node-valid : (v row : ℕ) (t : Tree) → nodeAt p v ≡ t → v < length (p .nodeList) → row < nodeWidth (p .size) t → IsAtom p (holdsNode v row)
+  unfolding IsAtom
+  node-valid v row t e l h = (l, subst (λ (x : Tree). row < nodeWidth (p .size) x) (sym e) h)
+
+  leaf-row : (r : ℕ) (ls : List ℕ) (e : Values) → length ls ≡ relationAt p r .arity → Bnd (p .size) e → rowOf (p .size) (map e ls) < tuplesOf (p .size) (relationAt p r)
+  unfolding tuplesOf
+  leaf-row r ls e k b = subst (λ (x : ℕ). rowOf (p .size) (map e ls) < p .size ^ x) (length-map ls e ∙ k) (row-lt (p .size) (map e ls) (bnd-map (p .size) e ls b))
+
+  pub part-valid : (v : ℕ) (t : Tree) (e : Values) → Here p v t → Bnd (p .size) e → IsAtom p (partAtom (p .size) e v t)
+  unfolding partAtom IsAtom nodeWidth isForall IsNode Fits
+  part-valid v (leaf true r ls) e h b = (h .fits .0, leaf-row r ls e (h .fits .1) b)
+  part-valid v (leaf false r ls) e h b = (h .fits .0, leaf-row r ls e (h .fits .1) b)
+  part-valid v (forallNode d t) e h b = let q = node-at p v (forallNode d t) h tt in node-valid v _ (forallNode d t) (q .0) (q .1) (digits-lt (row-in (forallNode d t) e b) (omega (arith, G .element)))
+  part-valid v (existsNode d t) e h b = let q = node-at p v (existsNode d t) h tt in node-valid v _ (existsNode d t) (q .0) (q .1) (row-in (existsNode d t) e b)
+  part-valid v (andNode ts) e h b = let q = node-at p v (andNode ts) h tt in node-valid v _ (andNode ts) (q .0) (q .1) (row-in (andNode ts) e b)
+  part-valid v (orNode ts) e h b = let q = node-at p v (orNode ts) h tt in node-valid v _ (orNode ts) (q .0) (q .1) (row-in (orNode ts) e b)
+
+  module _ (P : List Tuple) where
+    -- a forall's atom at a row and z
+    pub forall-at : (d : ℕ) (t : Tree) (row z : ℕ) → z < p .size → isTrueAt p P (forallNode d t) (row * p .size + z) ≡ all (λ x. treeHolds (p .source) P (withValue (valuesAt (p .size) (forallNode d t) row) d x) t) (below (suc z))
+    unfolding isTrueAt
+    forall-at d t row z h = ap₂ (λ (a b : ℕ). all (λ x. treeHolds (p .source) P (withValue (valuesAt (p .size) (forallNode d t) a) d x) t) (below (suc b))) (digits-div row h) (digits-mod row h)
+
+    again : (t : Tree) (e : Values) → Within t → Bnd (p .size) e → treeHolds (p .source) P (valuesAt (p .size) t (rowOf (p .size) (map e (free t)))) t ≡ treeHolds (p .source) P e t
+    again t e w b = ap (λ (θ : Values). treeHolds (p .source) P θ t) (values-row t e b) ∙ holds-same (p .source) P t (valuesIn (free t) (map e (free t))) e (back t e w)
+
+    leaf-mean : (r : ℕ) (ls : List ℕ) (e : Values) → length ls ≡ relationAt p r .arity → Bnd (p .size) e → placesOf (p .size) (relationAt p r .arity) (rowOf (p .size) (map e ls)) ≡ map e ls
+    leaf-mean r ls e k b = ap (λ (x : ℕ). placesOf (p .size) x (rowOf (p .size) (map e ls))) (sym (length-map ls e ∙ k)) ∙ places-row (p .size) (map e ls) (G .element) (bnd-map (p .size) e ls b)
+
+    -- a part's atom means that the part is true
+    pub means-at : (v : ℕ) (t : Tree) (e : Values) → Here p v t → Bnd (p .size) e → means p P (partAtom (p .size) e v t) ≡ treeHolds (p .source) P e t
+    unfolding means partAtom treeHolds isTrueAt IsNode Fits
+    means-at v (leaf true r ls) e h b = ap (holds (p .source) P r) (leaf-mean r ls e (h .fits .1) b)
+    means-at v (leaf false r ls) e h b = ap (λ (xs : List ℕ). not (holds (p .source) P r xs)) (leaf-mean r ls e (h .fits .1) b)
+    means-at v (forallNode d t) e h b =
+        let q = node-at p v (forallNode d t) h tt in
+        let s : suc (p .size - 1) ≡ p .source .site .size = omega (arith, G .element, G .sized) in
+        ap (λ (x : Tree). isTrueAt p P x (rowOf (p .size) (map e (free (forallNode d t))) * p .size + (p .size - 1))) (q .0)
+        ∙ forall-at d t (rowOf (p .size) (map e (free (forallNode d t)))) (p .size - 1) (omega (arith, G .element))
+        ∙ ap (λ (k : ℕ). all (λ x. treeHolds (p .source) P (withValue (valuesAt (p .size) (forallNode d t) (rowOf (p .size) (map e (free (forallNode d t))))) d x) t) (below k)) s
+        ∙ again (forallNode d t) e (h .within) b
+    means-at v (existsNode d t) e h b = let q = node-at p v (existsNode d t) h tt in ap (λ (x : Tree). isTrueAt p P x (rowOf (p .size) (map e (free (existsNode d t))))) (q .0) ∙ again (existsNode d t) e (h .within) b
+    means-at v (andNode ts) e h b = let q = node-at p v (andNode ts) h tt in ap (λ (x : Tree). isTrueAt p P x (rowOf (p .size) (map e (free (andNode ts))))) (q .0) ∙ again (andNode ts) e (h .within) b
+    means-at v (orNode ts) e h b = let q = node-at p v (orNode ts) h tt in ap (λ (x : Tree). isTrueAt p P x (rowOf (p .size) (map e (free (orNode ts))))) (q .0) ∙ again (orNode ts) e (h .within) b
+
+    -- all parts; one part
+    pub parts-mean : (ts : Trees) (v : ℕ) (e : Values) → HereAll p v ts → Bnd (p .size) e → all (means p P) (partAtoms (p .size) e (partsFrom v ts)) ≡ treesHold (p .source) P e ts
+    unfolding partAtoms partsFrom treesHold all
+    parts-mean end v e h b = refl
+    parts-mean (t then ts) v e h b = ap₂ _&&_ (means-at v t e (head-here p v t ts h) b) (parts-mean ts (v + length (nodes t)) e (tail-here p v t ts h) b)
+
+    part-sound : (ts : Trees) (v i : ℕ) (e : Values) → HereAll p v ts → Bnd (p .size) e → i < howMany ts → T (all (means p P) (take 1 (drop i (partAtoms (p .size) e (partsFrom v ts))))) → T (someHolds (p .source) P e ts)
+    unfolding partAtoms partsFrom someHolds all howMany
+    part-sound end v i e h b l t = absurd (omega arith)
+    part-sound (u then ts) v zero e h b l t = or-l (treeHolds (p .source) P e u) _ (subst T (means-at v u e (head-here p v u ts h) b) (T-and-l (means p P (partAtom (p .size) e v u)) true t))
+    part-sound (u then ts) v (suc i) e h b l t = or-r (treeHolds (p .source) P e u) _ (part-sound ts (v + length (nodes u)) i e (tail-here p v u ts h) b (omega arith) t)
+
+    -- ---- the actions of nodes
+    at-node : (v row : ℕ) (s : Tree) → nodeAt p v ≡ s → T (isTrueAt p P s row) → T (means p P (holdsNode v row))
+    unfolding means
+    at-node v row s e t = subst (λ (x : Tree). T (isTrueAt p P x row)) (sym e) t
+
+    here-as : (v : ℕ) (s : Tree) → v < length (p .nodeList) → nodeAt p v ≡ s → Here p v s
+    here-as v s l e = subst (Here p v) e (here-at v l)
+
+    and-sound : (v row : ℕ) (ts : Trees) → v < length (p .nodeList) → nodeAt p v ≡ andNode ts → T (all (means p P) (needs p (proveAnd v row))) → T (means p P (holdsNode v row))
+    unfolding needs parts isTrueAt treeHolds all
+    and-sound v row ts l e t =
+        let q : T (all (means p P) (partAtoms (p .size) (valuesAt (p .size) (nodeAt p v) row) (parts v (nodeAt p v)))) = T-and-r (means p P proof) _ t in
+        at-node v row (andNode ts) e (subst T (parts-mean ts (suc v) (valuesAt (p .size) (andNode ts) row) (parts-and p v ts (here-as v (andNode ts) l e)) (values-bnd (andNode ts) row)) (subst (λ (s : Tree). T (all (means p P) (partAtoms (p .size) (valuesAt (p .size) s row) (parts v s)))) e q))
+
+    or-sound : (v row i : ℕ) (ts : Trees) → v < length (p .nodeList) → nodeAt p v ≡ orNode ts → i < howMany ts → T (all (means p P) (needs p (proveOr v row i))) → T (means p P (holdsNode v row))
+    unfolding needs parts isTrueAt treeHolds all
+    or-sound v row i ts l e g t =
+        let q : T (all (means p P) (take 1 (drop i (partAtoms (p .size) (valuesAt (p .size) (nodeAt p v) row) (parts v (nodeAt p v)))))) = T-and-r (means p P proof) _ t in
+        at-node v row (orNode ts) e (part-sound ts (suc v) i (valuesAt (p .size) (orNode ts) row) (parts-or p v ts (here-as v (orNode ts) l e)) (values-bnd (orNode ts) row) g (subst (λ (s : Tree). T (all (means p P) (take 1 (drop i (partAtoms (p .size) (valuesAt (p .size) s row) (parts v s)))))) e q))
+
+    exists-sound : (v row x d : ℕ) (u : Tree) → v < length (p .nodeList) → nodeAt p v ≡ existsNode d u → x < p .size → T (all (means p P) (needs p (proveExists v row x))) → T (means p P (holdsNode v row))
+    unfolding needs underAtom isTrueAt treeHolds all
+    exists-sound v row x d u l e g t =
+        let q : T (means p P (underAtom (p .size) v (nodeAt p v) row x)) = T-and-l (means p P (underAtom (p .size) v (nodeAt p v) row x)) true (T-and-r (means p P proof) _ t) in
+        let f : ℕ → Bool = λ x. treeHolds (p .source) P (withValue (valuesAt (p .size) (existsNode d u) row) d x) u in
+        let w : T (f x) = subst T (means-at (suc v) u (withValue (valuesAt (p .size) (existsNode d u) row) d x) (under-exists p v d u (here-as v (existsNode d u) l e)) (bnd-with (p .size) _ d x (values-bnd (existsNode d u) row) g)) (subst (λ (s : Tree). T (means p P (underAtom (p .size) v s row x))) e q) in
+        at-node v row (existsNode d u) e (any-of f (below (p .source .site .size)) x (mem-below (p .source .site .size) x (subst (λ (k : ℕ). x < k) (sym (G .sized)) g)) w)
+
+    all-up : (f : ℕ → Bool) (z : ℕ) → T (f (suc z)) → T (all f (below (suc z))) → T (all f (below (suc (suc z))))
+    all-up f z t h = all-of f (below (suc (suc z))) (λ x m. ⊎-elim (λ l. all-at f (below (suc z)) h x (mem-below (suc z) x l)) (λ e. subst (λ (y : ℕ). T (f y)) (sym e) t) (lt-split x (suc z) (below-lt (suc (suc z)) x m)))
+
+    all-zero : (f : ℕ → Bool) → T (f 0) → T (all f (below 1))
+    all-zero f t = all-of f (below 1) (λ x m. let l = below-lt 1 x m in let e : x ≡ 0 = omega arith in subst (λ (y : ℕ). T (f y)) (sym e) t)
+
+    forall-sound : (v row z d : ℕ) (u : Tree) → v < length (p .nodeList) → nodeAt p v ≡ forallNode d u → z < p .size → T (all (means p P) (needs p (proveForall v row z))) → T (means p P (holdsNode v (row * p .size + z)))
+    unfolding needs underAtom forallNeeds all means
+    forall-sound v row z d u l e g t = at-node v (row * p .size + z) (forallNode d u) e (subst T (sym (forall-at d u row z g)) (go z g t))
+      where
+        f : ℕ → Bool
+        f x = treeHolds (p .source) P (withValue (valuesAt (p .size) (forallNode d u) row) d x) u
+
+        under : (z : ℕ) → z < p .size → T (means p P (underAtom (p .size) v (nodeAt p v) row z)) → T (f z)
+        under z g q = subst T (means-at (suc v) u (withValue (valuesAt (p .size) (forallNode d u) row) d z) (under-forall p v d u (here-as v (forallNode d u) l e)) (bnd-with (p .size) _ d z (values-bnd (forallNode d u) row) g)) (subst (λ (s : Tree). T (means p P (underAtom (p .size) v s row z))) e q)
+
+        go : (z : ℕ) → z < p .size → T (all (means p P) (forallNeeds (p .size) v (nodeAt p v) row z)) → T (all (λ x. treeHolds (p .source) P (withValue (valuesAt (p .size) (forallNode d u) row) d x) u) (below (suc z)))
+        go zero g q = all-zero f (under 0 g (T-and-l (means p P (underAtom (p .size) v (nodeAt p v) row 0)) true q))
+        go (suc z) g q =
+            let a : T (isTrueAt p P (nodeAt p v) (row * p .size + z)) = T-and-l (isTrueAt p P (nodeAt p v) (row * p .size + z)) true (T-and-r (means p P (underAtom (p .size) v (nodeAt p v) row (suc z))) _ q) in
+            all-up f z (under (suc z) g (T-and-l (means p P (underAtom (p .size) v (nodeAt p v) row (suc z))) _ q))
+            (subst T (forall-at d u row z (omega arith)) (subst (λ (s : Tree). T (isTrueAt p P s (row * p .size + z))) e a))
+
+    goal-sound : T (all (means p P) (needs p proveGoal)) → T (means p P goal)
+    unfolding needs all means
+    goal-sound t = subst T (means-at 0 (p .root) (λ _. zero) (G .root-here) (λ l. G .element)) (T-and-l (means p P (partAtom (p .size) (λ _. zero) zero (p .root))) true t)
+
+    pub set-not : (r row : ℕ) → T (all (means p P) (needs p (set r row))) → ⊥
+    unfolding needs all means
+    set-not r row t = t
+
+    pub begin-not : T (all (means p P) (needs p beginProof)) → ⊥
+    unfolding needs all means
+    begin-not t = t
+
+    -- no set action and no begin-proof can be taken in the proof phase, and each other action keeps to the meaning
+    pub adds-mean : (a : Action) → IsAction p a → T (all (means p P) (needs p a)) → (x : Atom) → List·Memᴰ x (adds p a) → T (means p P x)
+    unfolding IsAction adds
+    adds-mean (set r row) v t x m = absurd (set-not r row t)
+    adds-mean beginProof v t x m = absurd (begin-not t)
+    adds-mean (proveAnd v row) (l, h, (ts, e)) t x m = subst (λ (y : Atom). T (means p P y)) (sym (List·Memᴰ·eq-of-singleton m)) (and-sound v row ts l e t)
+    adds-mean (proveOr v row i) (l, h, (ts, e, g)) t x m = subst (λ (y : Atom). T (means p P y)) (sym (List·Memᴰ·eq-of-singleton m)) (or-sound v row i ts l e g t)
+    adds-mean (proveExists v row z) (l, h, (d, u, e, g)) t x m = subst (λ (y : Atom). T (means p P y)) (sym (List·Memᴰ·eq-of-singleton m)) (exists-sound v row z d u l e g t)
+    adds-mean (proveForall v row z) (l, h, (d, u, e, g)) t x m = subst (λ (y : Atom). T (means p P y)) (sym (List·Memᴰ·eq-of-singleton m)) (forall-sound v row z d u l e g t)
+    adds-mean proveGoal v t x m = subst (λ (y : Atom). T (means p P y)) (sym (List·Memᴰ·eq-of-singleton m)) (goal-sound t)

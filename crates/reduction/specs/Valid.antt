@@ -1,0 +1,168 @@
+-- The problem's actions need, add and remove atoms of the problem only; so taking a step is seen on atoms.
+use Prim.Native.Nat.{ℕ, zero, suc, _+_, _-_, _*_, _/_, _%_, _^_, _<_}
+use mathlib.Core.Path.{_≡_, refl, sym, ap, subst, _∙_}
+use mathlib.Core.Logic.{_⊎_, inl, inr, ⊎-elim}
+use mathlib.Core.Bool.{Bool, true, false, not, _&&_}
+use mathlib.Core.List.{List, [], _∷_, map, List·Memᴰ, List·Memᴰ·head, List·Memᴰ·not-nil, List·Memᴰ·cases-cons, List·Memᴰ·append-cases, List·Memᴰ·eq-of-singleton, Memᴰ·append-left, Memᴰ·append-right}
+use native.Mathlib.Omega.{arith}
+use native.Mathlib.Nat.{mod-lt}
+use lib.Arith.{digits-lt}
+use lib.Dec.{T, eqb, eqb→eq, T-not, not-T}
+use lib.ListN.{length}
+use borrow.Author.Tests.{eq-eqb}
+use Rattle.definitions.specs.Lists.{if_then_else_, any}
+use Rattle.definitions.specs.Relations.{Relation, isFunction, isInjective}
+use Rattle.definitions.specs.Tree.{Tree, Trees, leaf, forallNode, existsNode, andNode, orNode, end, _then_, nodes, partsFrom, parts, isForall}
+use Rattle.definitions.specs.Atoms.{Problem, relationAt, nodeAt, placesOf, tuplesOf, rowsOf, nodeWidth, Atom, proof, freeDomain, freeRange, holdsNode, atomNumber, State}
+use Rattle.definitions.specs.Actions.{Action, set, beginProof, proveAnd, proveOr, proveExists, proveForall, proveGoal, Values, withValue, valuesAt, partAtoms, underAtom, freeAtoms, forallNeeds, needs, adds, removes}
+use Rattle.definitions.specs.Strips.{mayTake, after}
+use Rattle.laws.specs.Booleans.{T-and-l, T-and-r, T-of, T-or, and-T, or-l, or-r}
+use Rattle.laws.specs.Lists.{all-at, all-of, any-at, any-of, drop-mem, map-mem, mem-map, take-mem}
+use Rattle.laws.specs.Rows.{pair-places}
+use Rattle.laws.specs.Numbers.{IsAction, IsAtom, atom-injective}
+use Rattle.reduction.specs.Parts.{Bnd, bnd-with, Here, HereAll, under-forall, under-exists, parts-and, parts-or, head-here, tail-here, IsNode}
+use Rattle.reduction.specs.Means.{Good, here-at, values-bnd, part-valid}
+
+module _ (p : Problem) (G : Good p) where
+  -- a set action's free atoms
+  pub free-cases : (n r row : ℕ) (k : Relation) (x : Atom) → List·Memᴰ x (freeAtoms n k r row) → (T (isFunction (k .kind)) × (x ≡ freeDomain r (row / n))) ⊎ (T (isInjective (k .kind)) × (x ≡ freeRange r (row % n)))
+  unfolding freeAtoms
+  free-cases n r row k x m = ⊎-elim (λ q. inl (one (isFunction (k .kind)) (freeDomain r (row / n)) q)) (λ q. inr (one (isInjective (k .kind)) (freeRange r (row % n)) q)) (List·Memᴰ·append-cases (if isFunction (k .kind) then freeDomain r (row / n) ∷ [] else []) m)
+    where
+      one : (b : Bool) (a : Atom) → List·Memᴰ x (if b then a ∷ [] else []) → T b × (x ≡ a)
+      one true a m = (tt, List·Memᴰ·eq-of-singleton m)
+      one false a m = absurd (List·Memᴰ·not-nil m)
+
+  pub domain-free : (n r row : ℕ) (k : Relation) → T (isFunction (k .kind)) → List·Memᴰ (freeDomain r (row / n)) (freeAtoms n k r row)
+  unfolding freeAtoms
+  domain-free n r row k f = Memᴰ·append-left _ (go (isFunction (k .kind)) f)
+    where
+      go : (b : Bool) → T b → List·Memᴰ (freeDomain r (row / n)) (if b then freeDomain r (row / n) ∷ [] else [])
+      go true t = List·Memᴰ·head refl
+      go false t = absurd t
+
+  pub range-free : (n r row : ℕ) (k : Relation) → T (isInjective (k .kind)) → List·Memᴰ (freeRange r (row % n)) (freeAtoms n k r row)
+  unfolding freeAtoms
+  range-free n r row k f = Memᴰ·append-right (if isFunction (k .kind) then freeDomain r (row / n) ∷ [] else []) (go (isInjective (k .kind)) f)
+    where
+      go : (b : Bool) → T b → List·Memᴰ (freeRange r (row % n)) (if b then freeRange r (row % n) ∷ [] else [])
+      go true t = List·Memᴰ·head refl
+      go false t = absurd t
+
+  -- of a function kind, a row is a pair
+  pub pair-of : (r row : ℕ) → r < length (p .relations) → row < tuplesOf (p .size) (relationAt p r) → T (isFunction (relationAt p r .kind)) → (placesOf (p .size) (relationAt p r .arity) row ≡ row / p .size ∷ row % p .size ∷ []) × (row / p .size < p .size)
+  unfolding tuplesOf
+  pair-of r row l h f =
+      let e = G .pairs r l f in
+      let q = pair-places (p .size) row (G .element) (subst (λ (k : ℕ). row < p .size ^ k) e h) in
+      (ap (λ (k : ℕ). placesOf (p .size) k row) e ∙ q .0, q .1)
+
+  free-valid : (r row : ℕ) → IsAction p (set r row) → (x : Atom) → List·Memᴰ x (freeAtoms (p .size) (relationAt p r) r row) → IsAtom p x
+  unfolding IsAction IsAtom
+  free-valid r row v x m = ⊎-elim
+      (λ q. subst (IsAtom p) (sym (q .1)) (v .0, q .0, pair-of r row (v .0) (v .2) (q .0) .1))
+      (λ q. subst (IsAtom p) (sym (q .1)) (v .0, q .0, mod-lt row (G .element)))
+      (free-cases (p .size) r row (relationAt p r) x m)
+
+  parts-valid : (ts : Trees) (v : ℕ) (e : Values) → HereAll p v ts → Bnd (p .size) e → (x : Atom) → List·Memᴰ x (partAtoms (p .size) e (partsFrom v ts)) → IsAtom p x
+  unfolding partAtoms partsFrom
+  parts-valid end v e h b x m = absurd (List·Memᴰ·not-nil m)
+  parts-valid (t then ts) v e h b x m = ⊎-elim (λ q. subst (IsAtom p) (sym q) (part-valid p G v t e (head-here p v t ts h) b)) (λ q. parts-valid ts (v + length (nodes t)) e (tail-here p v t ts h) b x q) (List·Memᴰ·cases-cons m)
+
+  here-as : (v : ℕ) (s : Tree) → v < length (p .nodeList) → nodeAt p v ≡ s → Here p v s
+  here-as v s l e = subst (Here p v) e (here-at p G v l)
+
+  pub under-valid : (v row x : ℕ) (s : Tree) → v < length (p .nodeList) → nodeAt p v ≡ s → x < p .size → IsNode p s → IsAtom p (underAtom (p .size) v s row x)
+  unfolding underAtom IsAtom IsNode
+  under-valid v row x (leaf q r ls) l e g n = tt
+  under-valid v row x (forallNode d t) l e g n = part-valid p G (suc v) t (withValue (valuesAt (p .size) (forallNode d t) row) d x) (under-forall p v d t (here-as v (forallNode d t) l e)) (bnd-with (p .size) _ d x (values-bnd p G (forallNode d t) row) g)
+  under-valid v row x (existsNode d t) l e g n = part-valid p G (suc v) t (withValue (valuesAt (p .size) (existsNode d t) row) d x) (under-exists p v d t (here-as v (existsNode d t) l e)) (bnd-with (p .size) _ d x (values-bnd p G (existsNode d t) row) g)
+  under-valid v row x (andNode ts) l e g n = tt
+  under-valid v row x (orNode ts) l e g n = tt
+
+  own-valid : (v row z d : ℕ) (t : Tree) → v < length (p .nodeList) → nodeAt p v ≡ forallNode d t → row < rowsOf (p .size) (nodeAt p v) → z < p .size → IsAtom p (holdsNode v (row * p .size + z))
+  unfolding IsAtom nodeWidth isForall
+  own-valid v row z d t l e h g = (l, subst (λ (s : Tree). row * p .size + z < nodeWidth (p .size) s) (sym e) (digits-lt (subst (λ (s : Tree). row < rowsOf (p .size) s) e h) g))
+
+  row-valid : (v row : ℕ) (s : Tree) → v < length (p .nodeList) → nodeAt p v ≡ s → row < rowsOf (p .size) (nodeAt p v) → isForall s ≡ false → IsAtom p (holdsNode v row)
+  unfolding IsAtom nodeWidth
+  row-valid v row s l e h n = (l, subst (λ (s : Tree). row < nodeWidth (p .size) s) (sym e) (rw n (subst (λ (s : Tree). row < rowsOf (p .size) s) e h)))
+
+  forall-valid : (v row z d : ℕ) (t : Tree) → v < length (p .nodeList) → nodeAt p v ≡ forallNode d t → row < rowsOf (p .size) (nodeAt p v) → z < p .size → (x : Atom) → List·Memᴰ x (forallNeeds (p .size) v (nodeAt p v) row z) → IsAtom p x
+  unfolding forallNeeds IsNode
+  forall-valid v row zero d t l e h g x m = subst (IsAtom p) (sym (List·Memᴰ·eq-of-singleton m ∙ ap (λ (s : Tree). underAtom (p .size) v s row 0) e)) (under-valid v row 0 (forallNode d t) l e g tt)
+  forall-valid v row (suc z) d t l e h g x m = ⊎-elim
+      (λ q. subst (IsAtom p) (sym (q ∙ ap (λ (s : Tree). underAtom (p .size) v s row (suc z)) e)) (under-valid v row (suc z) (forallNode d t) l e g tt))
+      (λ q. subst (IsAtom p) (sym (List·Memᴰ·eq-of-singleton q)) (own-valid v row z d t l e h (omega arith)))
+      (List·Memᴰ·cases-cons m)
+
+  proof-or : {l : List Atom} (x : Atom) → ((y : Atom) → List·Memᴰ y l → IsAtom p y) → List·Memᴰ x (proof ∷ l) → IsAtom p x
+  unfolding IsAtom
+  proof-or x h m = ⊎-elim (λ e. subst (IsAtom p) (sym e) tt) (λ q. h x q) (List·Memᴰ·cases-cons m)
+
+  pub needs-valid : (a : Action) → IsAction p a → (x : Atom) → List·Memᴰ x (needs p a) → IsAtom p x
+  unfolding needs IsAction IsAtom parts IsNode
+  needs-valid (set r row) v x m = ⊎-elim (λ e. subst (IsAtom p) (sym e) tt) (λ q. ⊎-elim (λ e. subst (IsAtom p) (sym e) (v .0, v .2)) (λ s. free-valid r row v x s) (List·Memᴰ·cases-cons q)) (List·Memᴰ·cases-cons m)
+  needs-valid beginProof v x m = subst (IsAtom p) (sym (List·Memᴰ·eq-of-singleton m)) tt
+  needs-valid (proveAnd v row) (l, h, (ts, e)) x m = proof-or x
+      (λ y q. parts-valid ts (suc v) (valuesAt (p .size) (andNode ts) row) (parts-and p v ts (here-as v (andNode ts) l e)) (values-bnd p G (andNode ts) row) y (subst (λ (s : Tree). List·Memᴰ y (partAtoms (p .size) (valuesAt (p .size) s row) (parts v s))) e q)) m
+  needs-valid (proveOr v row i) (l, h, (ts, e, g)) x m = proof-or x
+      (λ y q. parts-valid ts (suc v) (valuesAt (p .size) (orNode ts) row) (parts-or p v ts (here-as v (orNode ts) l e)) (values-bnd p G (orNode ts) row) y (subst (λ (s : Tree). List·Memᴰ y (partAtoms (p .size) (valuesAt (p .size) s row) (parts v s))) e (drop-mem i _ y (take-mem 1 _ y q)))) m
+  needs-valid (proveExists v row z) (l, h, (d, t, e, g)) x m = proof-or x
+      (λ y q. subst (IsAtom p) (sym (List·Memᴰ·eq-of-singleton q ∙ ap (λ (s : Tree). underAtom (p .size) v s row z) e)) (under-valid v row z (existsNode d t) l e g tt)) m
+  needs-valid (proveForall v row z) (l, h, (d, t, e, g)) x m = proof-or x (λ y q. forall-valid v row z d t l e h g y q) m
+  needs-valid proveGoal v x m = subst (IsAtom p) (sym (List·Memᴰ·eq-of-singleton m)) (part-valid p G 0 (p .root) (λ _. zero) (G .root-here) (λ l. G .element))
+
+  pub adds-valid : (a : Action) → IsAction p a → (x : Atom) → List·Memᴰ x (adds p a) → IsAtom p x
+  unfolding adds IsAction IsAtom isForall
+  adds-valid (set r row) v x m = subst (IsAtom p) (sym (List·Memᴰ·eq-of-singleton m)) (v .0, v .2)
+  adds-valid beginProof v x m = subst (IsAtom p) (sym (List·Memᴰ·eq-of-singleton m)) tt
+  adds-valid (proveAnd v row) (l, h, (ts, e)) x m = subst (IsAtom p) (sym (List·Memᴰ·eq-of-singleton m)) (row-valid v row (andNode ts) l e h refl)
+  adds-valid (proveOr v row i) (l, h, (ts, e, g)) x m = subst (IsAtom p) (sym (List·Memᴰ·eq-of-singleton m)) (row-valid v row (orNode ts) l e h refl)
+  adds-valid (proveExists v row z) (l, h, (d, t, e, g)) x m = subst (IsAtom p) (sym (List·Memᴰ·eq-of-singleton m)) (row-valid v row (existsNode d t) l e h refl)
+  adds-valid (proveForall v row z) (l, h, (d, t, e, g)) x m = subst (IsAtom p) (sym (List·Memᴰ·eq-of-singleton m)) (own-valid v row z d t l e h g)
+  adds-valid proveGoal v x m = subst (IsAtom p) (sym (List·Memᴰ·eq-of-singleton m)) tt
+
+  pub removes-valid : (a : Action) → IsAction p a → (x : Atom) → List·Memᴰ x (removes p a) → IsAtom p x
+  unfolding removes IsAction IsAtom
+  removes-valid (set r row) v x m = ⊎-elim (λ e. subst (IsAtom p) (sym e) (v .0, v .2)) (λ s. free-valid r row v x s) (List·Memᴰ·cases-cons m)
+  removes-valid beginProof v x m = subst (IsAtom p) (sym (List·Memᴰ·eq-of-singleton m)) tt
+  removes-valid (proveAnd v row) h x m = absurd (List·Memᴰ·not-nil m)
+  removes-valid (proveOr v row i) h x m = absurd (List·Memᴰ·not-nil m)
+  removes-valid (proveExists v row z) h x m = absurd (List·Memᴰ·not-nil m)
+  removes-valid (proveForall v row z) h x m = absurd (List·Memᴰ·not-nil m)
+  removes-valid proveGoal v x m = absurd (List·Memᴰ·not-nil m)
+
+  -- ---- a step on atoms
+  number-mem : (x : Atom) (l : List Atom) → IsAtom p x → ((y : Atom) → List·Memᴰ y l → IsAtom p y) → T (any (eqb (atomNumber p x)) (map (atomNumber p) l)) → List·Memᴰ x l
+  number-mem x l v h t =
+      let (k, mk, e) = any-at (eqb (atomNumber p x)) (map (atomNumber p) l) t in
+      let (y, my, q) = map-mem (atomNumber p) l k mk in
+      subst (λ (z : Atom). List·Memᴰ z l) (sym (atom-injective p x y v (h y my) (eqb→eq (atomNumber p x) k e ∙ q))) my
+
+  mem-number : (x : Atom) (l : List Atom) → List·Memᴰ x l → T (any (eqb (atomNumber p x)) (map (atomNumber p) l))
+  mem-number x l m = any-of (eqb (atomNumber p x)) (map (atomNumber p) l) (atomNumber p x) (mem-map (atomNumber p) l x m) (T-of (eq-eqb (atomNumber p x) (atomNumber p x) refl))
+
+  pub after-cases : (s : State) (a : Action) (x : Atom) → IsAction p a → IsAtom p x → T (after p s a (atomNumber p x)) → (T (s (atomNumber p x)) × (List·Memᴰ x (removes p a) → ⊥)) ⊎ List·Memᴰ x (adds p a)
+  unfolding after
+  after-cases s a x v w t = ⊎-elim
+      (λ q. inl (T-and-l (s (atomNumber p x)) _ q, λ m. T-not (any (eqb (atomNumber p x)) (map (atomNumber p) (removes p a))) (T-and-r (s (atomNumber p x)) _ q) (mem-number x (removes p a) m)))
+      (λ q. inr (number-mem x (adds p a) w (adds-valid a v) q))
+      (T-or (s (atomNumber p x) && not (any (eqb (atomNumber p x)) (map (atomNumber p) (removes p a)))) _ t)
+
+  pub after-add : (s : State) (a : Action) (x : Atom) → List·Memᴰ x (adds p a) → T (after p s a (atomNumber p x))
+  unfolding after
+  after-add s a x m = or-r (s (atomNumber p x) && not (any (eqb (atomNumber p x)) (map (atomNumber p) (removes p a)))) _ (mem-number x (adds p a) m)
+
+  pub after-keep : (s : State) (a : Action) (x : Atom) → IsAction p a → IsAtom p x → T (s (atomNumber p x)) → (List·Memᴰ x (removes p a) → ⊥) → T (after p s a (atomNumber p x))
+  unfolding after
+  after-keep s a x v w t n = or-l (s (atomNumber p x) && not (any (eqb (atomNumber p x)) (map (atomNumber p) (removes p a)))) _
+      (and-T (s (atomNumber p x)) _ t (not-T (any (eqb (atomNumber p x)) (map (atomNumber p) (removes p a))) (λ q. n (number-mem x (removes p a) w (removes-valid a v) q))))
+
+  pub may-at : (s : State) (a : Action) → T (mayTake p s a) → (x : Atom) → List·Memᴰ x (needs p a) → T (s (atomNumber p x))
+  unfolding mayTake
+  may-at s a t x m = all-at (λ x. s (atomNumber p x)) (needs p a) t x m
+
+  pub may-of : (s : State) (a : Action) → ((x : Atom) → List·Memᴰ x (needs p a) → T (s (atomNumber p x))) → T (mayTake p s a)
+  unfolding mayTake
+  may-of s a h = all-of (λ x. s (atomNumber p x)) (needs p a) h
