@@ -202,6 +202,21 @@ map-flat {A} {B} {C} g f (x ∷ l) = map-append g (f x) (flatMap f l) ∙ ap (λ
     map-append g [] b = refl
     map-append g (y ∷ a) b = ap (_∷_ (g y)) (map-append g a b)
 
+pub flat-same : {A B : Type 0} (f g : A → List B) (l : List A) → ((x : A) → List·Memᴰ x l → f x ≡ g x) → flatMap f l ≡ flatMap g l
+unfolding flatMap
+flat-same f g [] h = refl
+flat-same f g (x ∷ l) h = ap₂ _++_ (h x (List·Memᴰ·head refl)) (flat-same f g l (λ y m. h y (List·Memᴰ·tail m)))
+
+pub flat-flat : {A B C : Type 0} (g : B → List C) (f : A → List B) (l : List A) → flatMap g (flatMap f l) ≡ flatMap (λ x. flatMap g (f x)) l
+unfolding flatMap
+flat-flat g f [] = refl
+flat-flat {A} {B} {C} g f (x ∷ l) = flat-append g (f x) (flatMap f l) ∙ ap (λ (m : List C). flatMap g (f x) ++ m) (flat-flat g f l)
+
+pub flat-map : {A B C : Type 0} (g : B → List C) (f : A → B) (l : List A) → flatMap g (map f l) ≡ flatMap (λ x. g (f x)) l
+unfolding flatMap
+flat-map g f [] = refl
+flat-map {A} {B} {C} g f (x ∷ l) = ap (λ (m : List C). g (f x) ++ m) (flat-map g f l)
+
 pub map-map : {A B C : Type 0} (g : B → C) (f : A → B) (l : List A) → map g (map f l) ≡ map (λ x. g (f x)) l
 map-map g f [] = refl
 map-map g f (x ∷ l) = ap (_∷_ (g (f x))) (map-map g f l)

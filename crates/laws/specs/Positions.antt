@@ -100,6 +100,12 @@ module _ {A : Type 0} (p : A → Bool) where
       go true e r = absurd (subst T e tt)
       go false e r = rw (r e) refl
 
+  pub position-at : (xs : List A) (d : A) (i : ℕ) → i < length xs → p (getD xs i d) ≡ true → ((j : ℕ) → j < i → p (getD xs j d) ≡ false) → position p xs ≡ some i
+  unfolding position option
+  position-at [] d i l e h = absurd (omega arith)
+  position-at (x ∷ xs) d zero l e h = rw e refl
+  position-at (x ∷ xs) d (suc i) l e h = rw (h zero (omega arith), position-at xs d i (omega arith) e (λ j k. h (suc j) (omega arith))) refl
+
   pub none-position : (xs : List A) → position p xs ≡ none → any p xs ≡ false
   none-position xs e = T-false (any p xs) (λ t. none-some (sym e ∙ position-place p xs t))
 

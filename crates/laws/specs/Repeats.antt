@@ -3,7 +3,7 @@ use Prim.Native.Nat.{ℕ, zero, suc, _<_, _≤_}
 use mathlib.Core.Path.{_≡_, refl, sym, ap, subst, _∙_}
 use mathlib.Core.Logic.{_⊎_, inl, inr, ⊎-elim}
 use mathlib.Core.Bool.{Bool, true, false, not}
-use mathlib.Core.List.{List, [], _∷_, _++_, map, List·Memᴰ, List·Memᴰ·head, List·Memᴰ·tail, List·Memᴰ·not-nil, List·Memᴰ·cases-cons, List·Memᴰ·append-cases, Memᴰ·cast}
+use mathlib.Core.List.{List, [], _∷_, _++_, map, List·Memᴰ, List·Memᴰ·head, List·Memᴰ·tail, List·Memᴰ·not-nil, List·Memᴰ·cases-cons, List·Memᴰ·append-cases, Memᴰ·append-right, Memᴰ·cast}
 use native.Mathlib.Omega.{arith}
 use lib.Dec.{T, T-not, not-T}
 use lib.ListN.{length}
@@ -31,6 +31,11 @@ module _ {A : Type 0} where
   unfolding Once
   once-append [] m hl hm d = hm
   once-append (x ∷ l) m hl hm d = (λ i. ⊎-elim (λ q. hl .0 q) (λ q. d x (List·Memᴰ·head refl) q) (List·Memᴰ·append-cases l i), once-append l m (hl .1) hm (λ y q r. d y (List·Memᴰ·tail q) r))
+
+pub once-middle : {A : Type 0} (l m : List A) (x : A) → Once (l ++ (x ∷ m)) → List·Memᴰ x l → ⊥
+unfolding Once
+once-middle [] m x o i = List·Memᴰ·not-nil i
+once-middle (y ∷ l) m x o i = ⊎-elim (λ e. o .0 (Memᴰ·append-right l (List·Memᴰ·head (sym e)))) (λ q. once-middle l m x (o .1) q) (List·Memᴰ·cases-cons i)
 
 pub once-map : {A B : Type 0} (f : A → B) (l : List A) → ((x y : A) → List·Memᴰ x l → List·Memᴰ y l → f x ≡ f y → x ≡ y) → Once l → Once (map f l)
 unfolding Once

@@ -40,7 +40,7 @@ runs-accept p (k ∷ ks) s i = go (actionAt p k) (λ a. runs-accept p ks (after 
     go none h = refl
     go (some a) h = may a (mayTake p s a) (h a)
 
--- (6) steps are accepted exactly if they reach the goal
+-- steps are accepted exactly if they reach the goal
 pub run-accepts : (p : Problem) (ks : List ℕ) → isAccepted (run p ks .answer) ≡ reachesGoal p ks
 unfolding run reachesGoal
 run-accepts p ks = runs-accept p ks (initial p) zero

@@ -31,7 +31,7 @@ use Rattle.reduction.specs.Accepting.{bind-inv}
 pub result-eq : {A : Type 0} (a b : A) → accepted a ≡ accepted b → a ≡ b
 result-eq {A} a b e = ap (λ (r : Result A). elim r as (λ _. A) [ refused k place ↦ a | accepted x ↦ x ]) e
 
-not-refused : (b : Bool) (k at : ℕ) (u : Unit {0}) → refuseIf b k at ≡ accepted u → b ≡ false
+pub not-refused : (b : Bool) (k at : ℕ) (u : Unit {0}) → refuseIf b k at ≡ accepted u → b ≡ false
 unfolding refuseIf isAccepted
 not-refused true k at u e = absurd (subst T (sym (ap isAccepted e)) tt)
 not-refused false k at u e = refl

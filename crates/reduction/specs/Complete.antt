@@ -222,7 +222,7 @@ module _ (p : Problem) (G : Good p) where
           (sym (ends-append p G (map setOf (pairs p F)) (beginProof ∷ (nodeSteps p F zero (p .nodeList) ++ (proveGoal ∷ []))) (initial p) ∙ ends-append p G (nodeSteps p F zero (p .nodeList)) (proveGoal ∷ []) s₂))
           (after-add p G s₃ proveGoal goal (List·Memᴰ·head refl))
 
-      -- (5) the built steps reach the goal
+      -- the built steps reach the goal
       pub complete : T (reachesGoal p (builtSteps p F))
       unfolding reachesGoal builtSteps
       complete = subst (λ (l : List Action). T (reachesFrom p (initial p) (map (actionNumber p) l))) (sym built-are)

@@ -17,22 +17,18 @@ use Rattle.laws.specs.Booleans.{T-of}
 use Rattle.laws.specs.Lists.{below-lt, filter-mem, length-below, map-mem, mem-below}
 use Rattle.laws.specs.Tuples.{among-mem}
 use Rattle.laws.specs.Repeats.{Once, filter-le, once-below, once-filter, once-map, pigeon}
-use Rattle.laws.specs.Numbers.{IsAction, noRelation}
+use Rattle.laws.specs.Numbers.{noRelation}
 use Rattle.reduction.specs.Means.{Good}
 use Rattle.reduction.specs.Valid.{pair-of}
-use Rattle.reduction.specs.Sound.{tup, OfKinds, tupleAt, same-row}
-use Rattle.reduction.specs.Pairs.{setOf, tupleOf, pairs, pairs-once, pairs-ready, picked-in, in-picked}
+use Rattle.reduction.specs.Sound.{tup, OfKinds, tupleAt}
+use Rattle.reduction.specs.Pairs.{setOf, tupleOf, pairs, tuples-once, picked-in, in-picked}
 use Rattle.reduction.specs.Complete.{built-are}
 
 module _ (p : Problem) (G : Good p) (F : List Tuple) (K : OfKinds p G F) where
-  tuples-once : Once (map (tupleOf p) (pairs p F))
-  unfolding IsAction
-  tuples-once = once-map (tupleOf p) (pairs p F) (λ a b ma mb e. let v = pairs-ready p F a ma in let w = pairs-ready p F b mb in let j = same-row p G (b .0) (b .1) (a .0) (a .1) (w .0 .2) (v .0 .2) e in ap₂ (λ (x y : ℕ). (x, y)) (j .0) (j .1)) (pairs-once p F)
-
   pub pairs-length : Once F → length (pairs p F) ≡ length F
   pairs-length o =
       let a = length-map (pairs p F) (tupleOf p) in
-      let b = pigeon (map (tupleOf p) (pairs p F)) F tuples-once (picked-in p F) in
+      let b = pigeon (map (tupleOf p) (pairs p F)) F (tuples-once p G F) (picked-in p F) in
       let c = pigeon F (map (tupleOf p) (pairs p F)) o (in-picked p G F (K .inside)) in
       omega arith
 

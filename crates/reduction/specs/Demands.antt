@@ -3,8 +3,9 @@
 --   1  existence                                            5  count, at-most
 --   2  acceptance, checking, checking-accepts               6  polynomial, degree
 --   3  soundness, tuples-set, reading                       7  strips-1, never-twice
---   4  building, refused-16, refused-17, built-exactly,     8  atoms, actions, state and pick words
---      whenever-built, built-accepted, built-same
+--   4  building, refused-16, refused-17, built-exactly,     8  atom-number, action-number and what belongs to them;
+--      whenever-built, built-accepted, built-same              state-bit, words-taken, words-written: lent words;
+--                                                              number-texts, steps-texts, picks-texts: what texts say
 use Prim.Native.Nat.{ℕ, zero, _+_, _*_, _^_, _<_, _≤_}
 use mathlib.Core.Path.{_≡_, refl, sym, ap, subst, subst₂, _∙_}
 use mathlib.Core.Logic.{_⊎_, ⊎-elim, _↔_}
@@ -15,15 +16,18 @@ use native.Mathlib.Omega.{arith}
 use lib.Dec.{ltb}
 use lib.ListN.{length, getD, take, length-append}
 use borrow.Author.Tests.{le-ltb}
-use Rattle.definitions.specs.Limits.{stepLimit}
+use Rattle.definitions.specs.Limits.{stepLimit, textLimit}
+use Rattle.definitions.specs.Lists.{flatMap}
+use Rattle.definitions.specs.Text.{number, decimal}
+use Rattle.definitions.specs.Desk.{stepLine, pickLine}
 use Rattle.definitions.specs.Refusal.{Result, refused, accepted, _>>=_, refuseIf}
 use Rattle.definitions.specs.Relations.{Tuple, isAmong}
-use Rattle.definitions.specs.Sheets.{Question, readQuestion, readPicks, firstChosen}
+use Rattle.definitions.specs.Sheets.{Question, readQuestion, readPicks, firstChosen, readSteps}
 use Rattle.definitions.specs.Truth.{Case, arePicks, areOfKinds, firstOfOtherKind, ruleIsTrue}
-use Rattle.definitions.specs.Atoms.{Problem, problemOf, Atom, itemAt, atomBlocks, atoms, atomNumber, relationAt, placesOf, stateWords}
+use Rattle.definitions.specs.Atoms.{Problem, problemOf, Atom, itemAt, atomBlocks, atoms, atomNumber, relationAt, placesOf, stateWords, rowOf}
 use Rattle.definitions.specs.Actions.{Action, set, actionAt, actions, actionNumber, needs, adds, removes}
 use Rattle.definitions.specs.Strips.{reachesGoal, run, picksOf}
-use Rattle.definitions.specs.Built.{chosenNumbers, builtSteps, builtCount, bound, boundExponents, boundPolynomial}
+use Rattle.definitions.specs.Built.{chosenNumbers, builtSteps, builtCount, bound, boundExponents, boundPolynomial, pickedRows}
 use Rattle.definitions.specs.Outcome.{readCase, ground, readProblem, roomFor, stateLength, written, picksLength, pickWords, bitOf, lentPicks, spareWord, Given, asText, asNumbers, takeSteps, textPicks, picksRoom, takePicks, readyToRun, Checked, checkedFrom, checkSteps, picksIfAccepted, picksReadFrom, picksFromSteps, kindRefusal, plan, Built, builtFrom, buildSteps}
 use Rattle.definitions.specs.Demand.{isAccepted, caseIsAccepted, stepsAreAccepted, areSamePicks}
 use Rattle.laws.specs.Numbers
@@ -44,6 +48,9 @@ use Rattle.reduction.specs.Polynomial
 use Rattle.reduction.specs.Lent
 use Rattle.reduction.specs.States
 use Rattle.reduction.specs.Building
+use Rattle.reduction.specs.Decimals
+use Rattle.reduction.specs.Told
+use Rattle.reduction.specs.Written
 
 -- A question and a site are accepted exactly if a case is read from them and its problem is within the limits.
 pub accepted-case : (question site : List ℕ) → (caseIsAccepted question site ≡ true) ↔ ((c : Case) × (p : Problem) × (readCase question site ≡ accepted c) × (readProblem question site ≡ accepted p))
@@ -55,6 +62,7 @@ accepted-case question site = (
 
 -- ---- For every question and site that are accepted: c is the case read from the two texts, p its numbered problem.
 module _ (question site : List ℕ) (c : Case) (p : Problem) (is-case : readCase question site ≡ accepted c) (is-problem : readProblem question site ≡ accepted p) where
+  -- (what the proofs in this module start from; the theorems begin at 1)
   grounds : ground c ≡ accepted p
   unfolding readProblem _>>=_
   grounds = rw is-case at is-problem
@@ -273,3 +281,29 @@ module _ (question site : List ℕ) (c : Case) (p : Problem) (is-case : readCase
   -- and words that were taken are written again by the picks taken from them.
   pub words-written : (words : List ℕ) → ((j : ℕ) → getD words j 0 < 2 ^ 64) → picksLength p ≤ length words → spareWord p words zero (chosenNumbers p) ≡ none → pickWords p (lentPicks p words (chosenNumbers p)) ≡ take (picksLength p) words
   words-written = rw same-problem (Lent.words-again (problemOf c) (good c A))
+
+  -- A text is read as picks exactly if it is what the desk program writes for them line by line; so every set of picks has a text,
+  -- and one text only in each order.
+  pub picks-texts : (text : List ℕ) (picks : List Tuple)
+      → (readPicks (c .question .chosen) (firstChosen (c .question)) (c .site .size) text ≡ accepted picks)
+      ↔ ((text ≡ flatMap (λ (t : Tuple). pickLine p (t .relation) (rowOf (p .size) (t .places))) picks) × (length text ≤ textLimit) × (arePicks c picks ≡ true))
+  picks-texts = rw same-problem (λ text picks. (
+    (λ e. let a = Building.given-picks c A (asText text) picks (Building.given-text c (problemOf c) text ∙ e) in let (f, l) = Written.picks-text c A picks (T-of a) text e in (f, l, a)),
+    (λ h. let (f, l, a) = h in ap (readPicks (c .question .chosen) (firstChosen (c .question)) (c .site .size)) f ∙ Written.picks-back c A picks (T-of a) (subst (λ (t : List ℕ). length t ≤ textLimit) f l)),
+  ))
+
+  -- Printed in the order of the atoms, as the desk program prints them, they are read back as the same tuples.
+  pub picks-printed : (picks : List Tuple) → arePicks c picks ≡ true → length (flatMap (λ r. flatMap (pickLine p r) (pickedRows p picks r)) (chosenNumbers p)) ≤ textLimit
+      → (again : List Tuple) × (readPicks (c .question .chosen) (firstChosen (c .question)) (c .site .size) (flatMap (λ r. flatMap (pickLine p r) (pickedRows p picks r)) (chosenNumbers p)) ≡ accepted again) × (areSamePicks again picks ≡ true)
+  picks-printed = rw same-problem (λ picks a h. (map (Pairs.tupleOf (problemOf c)) (Pairs.pairs (problemOf c) picks), Written.printed-back c A picks (T-of a) h, Between.in-order c A picks a))
+
+-- ---- A text is read as a number exactly if it is what is written for it and has at most 7 digits; and as steps exactly if it is what
+-- the desk program writes for them. So every step list within the limits has a text, and one text only.
+pub number-texts : (text : List ℕ) (n : ℕ) → (number text ≡ some n) ↔ ((text ≡ decimal n) × (n < 10 ^ 7))
+number-texts text n = (λ e. Decimals.decimal-number text n e, λ h. ap number (h .0) ∙ Decimals.number-decimal n (h .1))
+
+pub steps-texts : (text steps : List ℕ) → (readSteps text ≡ accepted steps) ↔ ((text ≡ flatMap stepLine steps) × (length text ≤ textLimit) × ((k : ℕ) → List·Memᴰ k steps → k < 10 ^ 7))
+steps-texts text steps = (
+  (λ e. Told.steps-told text steps e),
+  (λ h. let (e, l, f) = h in ap readSteps e ∙ Written.steps-back steps f (subst (λ (t : List ℕ). length t ≤ textLimit) e l)),
+)

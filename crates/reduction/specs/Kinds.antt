@@ -115,7 +115,7 @@ module _ (c : Case) (A : Accepted c) where
   unfolding problemOf problemWith
   root-means P = tree-means c P A
 
-  -- (4) soundness
+  -- soundness
   pub steps-sound : (ks : List ℕ) → reachesGoal p ks ≡ true → (areOfKinds c (picksOf p ks) ≡ true) × (ruleIsTrue c (picksOf p ks) ≡ true)
   steps-sound ks e =
       let s = sound p G ks (T-of e) in

@@ -23,6 +23,10 @@
 --   Lent         picks as words
 --   States       beyond the last atom nothing holds
 --   Building     what building answers
+--   Decimals     numbers written and read
+--   Lines        lines and fields of a text
+--   Told         what a sheet that was read tells of its text
+--   Written      sheets of steps and picks, written and read back
 pub mod Demands
 pub mod BothSides
 pub mod Instance
@@ -46,3 +50,7 @@ pub mod Polynomial
 pub mod Lent
 pub mod States
 pub mod Building
+pub mod Decimals
+pub mod Lines
+pub mod Told
+pub mod Written

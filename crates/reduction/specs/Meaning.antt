@@ -179,7 +179,7 @@ module _ (c : Case) (picks : List Tuple) where
   joined-holds t end e = sym (and-true (treeHolds c picks e t))
   joined-holds t (u then us) e = refl
 
-  -- (2) the tree means what the rule as written means, totalities included
+  -- the tree means what the rule as written means, totalities included
   pub tree-means : Accepted c → treeHolds c picks (λ _. zero) (treeOf (c .question)) ≡ ruleIsTrue c picks
   unfolding treeOf ruleIsTrue areTotal eachChosen Agree isBound any relationsOf
   tree-means A =

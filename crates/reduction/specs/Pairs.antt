@@ -1,6 +1,6 @@
 -- Picks as pairs of a relation and a row, in the order of the atoms: the set steps of built steps.
 use Prim.Native.Nat.{ℕ, _^_, _<_}
-use mathlib.Core.Path.{_≡_, sym, ap, subst, _∙_, fun-ext}
+use mathlib.Core.Path.{_≡_, sym, ap, ap₂, subst, _∙_, fun-ext}
 use mathlib.Core.List.{List, map, List·Memᴰ}
 use lib.ListN.{length}
 use Rattle.definitions.specs.Lists.{flatMap, below}
@@ -14,7 +14,7 @@ use Rattle.laws.specs.Repeats.{Once, once-below, once-filter, once-flat, once-m
 use Rattle.laws.specs.Rows.{places-row, row-lt}
 use Rattle.laws.specs.Numbers.{IsAction}
 use Rattle.reduction.specs.Means.{Good}
-use Rattle.reduction.specs.Sound.{tup, tupleAt, Inside}
+use Rattle.reduction.specs.Sound.{tup, tupleAt, Inside, same-row}
 
 abbrev pub Pair : Type 0
 Pair = ℕ × ℕ
@@ -62,16 +62,29 @@ module _ (p : Problem) (G : Good p) where
   pub tuple-back : (t : Tuple) → Inside p G t → tupleAt p (t .relation) (rowOf (p .size) (t .places)) ≡ t
   tuple-back t i = ap (tup (t .relation)) (ap (λ (k : ℕ). placesOf (p .size) k (rowOf (p .size) (t .places))) (sym (i .long)) ∙ places-row (p .size) (t .places) (G .element) (i .small))
 
+  -- and its row, which is a set action's
+  pub tuple-row : (t : Tuple) → Inside p G t → rowOf (p .size) (t .places) < tuplesOf (p .size) (relationAt p (t .relation))
+  unfolding tuplesOf
+  tuple-row t i = subst (λ (k : ℕ). rowOf (p .size) (t .places) < p .size ^ k) (i .long) (row-lt (p .size) (t .places) (i .small))
+
+  pub tuple-action : (t : Tuple) → Inside p G t → IsAction p (set (t .relation) (rowOf (p .size) (t .places)))
+  unfolding IsAction
+  tuple-action t i = (i .known, i .chosen, tuple-row t i)
+
+  pub tuples-once : (F : List Tuple) → Once (map (tupleOf p) (pairs p F))
+  unfolding IsAction
+  tuples-once F = once-map (tupleOf p) (pairs p F) (λ a b ma mb e. let v = pairs-ready p F a ma in let w = pairs-ready p F b mb in let j = same-row p G (b .0) (b .1) (a .0) (a .1) (w .0 .2) (v .0 .2) e in ap₂ (λ (x y : ℕ). (x, y)) (j .0) (j .1)) (pairs-once p F)
+
   module _ (F : List Tuple) (I : (t : Tuple) → List·Memᴰ t F → Inside p G t) where
     pub mem-pairs : (t : Tuple) → List·Memᴰ t F → List·Memᴰ (t .relation, rowOf (p .size) (t .places)) (pairs p F)
-    unfolding pairs pickedRows chosenNumbers isPicked tuplesOf
+    unfolding pairs pickedRows chosenNumbers isPicked
     mem-pairs t m =
         let i = I t m in
         mem-flat (λ r. map (λ row. (r, row)) (pickedRows p F r)) (chosenNumbers p) (t .relation) _
         (mem-filter (λ r. isChosen (relationAt p r .kind)) (below (length (p .relations))) (t .relation) (mem-below (length (p .relations)) (t .relation) (i .known)) (i .chosen))
         (mem-map (λ row. (t .relation, row)) (pickedRows p F (t .relation)) (rowOf (p .size) (t .places))
         (mem-filter (isPicked p F (t .relation)) (below (tuplesOf (p .size) (relationAt p (t .relation)))) (rowOf (p .size) (t .places))
-        (mem-below (tuplesOf (p .size) (relationAt p (t .relation))) (rowOf (p .size) (t .places)) (subst (λ (k : ℕ). rowOf (p .size) (t .places) < p .size ^ k) (i .long) (row-lt (p .size) (t .places) (i .small))))
+        (mem-below (tuplesOf (p .size) (relationAt p (t .relation))) (rowOf (p .size) (t .places)) (tuple-row t i))
         (mem-among (tupleAt p (t .relation) (rowOf (p .size) (t .places))) F (subst (λ (u : Tuple). List·Memᴰ u F) (sym (tuple-back t i)) m))))
 
     pub in-picked : (t : Tuple) → List·Memᴰ t F → List·Memᴰ t (map (tupleOf p) (pairs p F))

@@ -39,7 +39,7 @@ module _ {A B : Type 0} where
   gives-bind P Q (refused k place) f h g = tt
   gives-bind P Q (accepted a) f h g = g a h
 
-  holds-option : (P : A → Type 0) (Q : B → Type 0) (m : Option A) (f : A → Option B) → Holds P m → ((a : A) → P a → Holds Q (f a)) → Holds Q (option m none f)
+  pub holds-option : (P : A → Type 0) (Q : B → Type 0) (m : Option A) (f : A → Option B) → Holds P m → ((a : A) → P a → Holds Q (f a)) → Holds Q (option m none f)
   unfolding Holds option
   holds-option P Q none f h g = tt
   holds-option P Q (some a) f h g = g a h
@@ -55,20 +55,20 @@ module _ {A : Type 0} where
   gives-given P none k at h = tt
   gives-given P (some a) k at h = h
 
-  holds-if : (P : A → Type 0) (b : Bool) (x y : Option A) → (T b → Holds P x) → Holds P y → Holds P (if b then x else y)
+  pub holds-if : (P : A → Type 0) (b : Bool) (x y : Option A) → (T b → Holds P x) → Holds P y → Holds P (if b then x else y)
   holds-if P true x y h g = h tt
   holds-if P false x y h g = g
 
-  holds-self : (o : Option A) → Holds (λ a. o ≡ some a) o
+  pub holds-self : (o : Option A) → Holds (λ a. o ≡ some a) o
   unfolding Holds
   holds-self none = tt
   holds-self (some a) = refl
 
-  holds-none : (P : A → Type 0) → Holds P none
+  pub holds-none : (P : A → Type 0) → Holds P none
   unfolding Holds
   holds-none P = tt
 
-  holds-some : (P : A → Type 0) (a : A) → P a → Holds P (some a)
+  pub holds-some : (P : A → Type 0) (a : A) → P a → Holds P (some a)
   unfolding Holds
   holds-some P a h = h
 
@@ -214,6 +214,7 @@ pub record RuleFits (rels chosen : List Relation) (r : Rule) : Type 0 where
 record DraftFits (d : Draft) : Type 0 where
   rels-fit : (k : Relation) → List·Memᴰ k (d .rels) → RelFits k
   chosen-fit : (k : Relation) → List·Memᴰ k (d .chosen) → Fit (k .arity) (k .kind)
+  chosen-named : (k : Relation) → List·Memᴰ k (d .chosen) → T (isRelationName (k .name))
   apart : Apart (relations (d .rels) (d .chosen))
   ruled-fits : Holds (RuleFits (d .rels) (d .chosen)) (d .ruled)
 
@@ -260,6 +261,10 @@ new-name : (d : Draft) (name : List ℕ) → T (not (not (isNewName d name))) �
 unfolding isNewName
 new-name d name t = T-and-r (isRelationName name) _ (not-not-T (isNewName d name) t)
 
+formed-name : (d : Draft) (name : List ℕ) → T (not (not (isNewName d name))) → T (isRelationName name)
+unfolding isNewName
+formed-name d name t = T-and-l (isRelationName name) _ (not-not-T (isNewName d name) t)
+
 rel-line : (d : Draft) (at : ℕ) (name : List ℕ) (arity : ℕ) → DraftFits d → Arity arity → Gives DraftFits (addRel d at name arity)
 unfolding addRel
 rel-line d at name arity D h =
@@ -268,6 +273,7 @@ rel-line d at name arity D h =
     (λ _ u. gives-accepted DraftFits _ (record {
       rels-fit = mem-snoc RelFits (d .rels) (record { name = name; arity = arity; kind = static }) (D .rels-fit) (record { few = h; is-static = refl });
       chosen-fit = D .chosen-fit;
+      chosen-named = D .chosen-named;
       apart = go (d .chosen) (empty-nil (d .chosen) (not-or-l (not (isEmpty (d .chosen))) (leb 8 (length (d .rels))) t)) (D .apart) (new-name d name u);
       ruled-fits = no-rule (d .rels) (d .chosen) (d .ruled) (D .ruled-fits) (not-or-l (not (isEmpty (d .chosen))) (leb 8 (length (d .rels))) t) (RuleFits (d .rels ++ (record { name = name; arity = arity; kind = static } ∷ [])) (d .chosen));
     })))
@@ -284,6 +290,7 @@ choose-line d at name arity kind D h =
     (λ _ u. gives-accepted DraftFits _ (record {
       rels-fit = D .rels-fit;
       chosen-fit = mem-snoc (λ (k : Relation). Fit (k .arity) (k .kind)) (d .chosen) (record { name = name; arity = arity; kind = kind }) (D .chosen-fit) h;
+      chosen-named = mem-snoc (λ (k : Relation). T (isRelationName (k .name))) (d .chosen) (record { name = name; arity = arity; kind = kind }) (D .chosen-named) (formed-name d name u);
       apart = subst Apart (sym (relations-snoc (d .rels) (d .chosen) (record { name = name; arity = arity; kind = kind }))) (apart-snoc (relations (d .rels) (d .chosen)) (record { name = name; arity = arity; kind = kind }) (D .apart) (new-name d name u));
       ruled-fits = not-ruled (d .ruled) (not-or-l (isRuled (d .ruled)) (leb 4 (length (d .chosen))) t) (RuleFits (d .rels) (d .chosen ++ (record { name = name; arity = arity; kind = kind } ∷ [])));
     })))
@@ -299,6 +306,7 @@ rule-line d at text D =
     (λ _ w. gives-accepted DraftFits _ (record {
       rels-fit = D .rels-fit;
       chosen-fit = D .chosen-fit;
+      chosen-named = D .chosen-named;
       apart = D .apart;
       ruled-fits = holds-some (RuleFits (d .rels) (d .chosen)) _ (record {
         scoped = not-not-T (isScoped [] f) w;
@@ -327,6 +335,7 @@ line-step d l D = gives-bind EntryFits DraftFits (entryOf l) (addToQuestion d (l
 pub record QuestionFits (q : Question) : Type 0 where
   pub rels-fit : (k : Relation) → List·Memᴰ k (q .rels) → RelFits k
   pub chosen-fit : (k : Relation) → List·Memᴰ k (q .chosen) → Fit (k .arity) (k .kind)
+  pub chosen-named : (k : Relation) → List·Memᴰ k (q .chosen) → T (isRelationName (k .name))
   pub apart : Apart (relationsOf q)
   pub rule-fits : RuleFits (q .rels) (q .chosen) (q .rule)
 
@@ -339,9 +348,9 @@ unfolding readQuestion relationsOf
 question-fits text =
     gives-bind DraftFits QuestionFits (readText questionLine (record { rels = []; chosen = []; ruled = none }) text) _
     (gives-text DraftFits questionLine line-step (record { rels = []; chosen = []; ruled = none }) text
-    (record { rels-fit = λ k m. absurd (List·Memᴰ·not-nil m); chosen-fit = λ k m. absurd (List·Memᴰ·not-nil m); apart = builtIn-apart; ruled-fits = holds-none (RuleFits [] []) }))
+    (record { rels-fit = λ k m. absurd (List·Memᴰ·not-nil m); chosen-fit = λ k m. absurd (List·Memᴰ·not-nil m); chosen-named = λ k m. absurd (List·Memᴰ·not-nil m); apart = builtIn-apart; ruled-fits = holds-none (RuleFits [] []) }))
     (λ d D. gives-bind (RuleFits (d .rels) (d .chosen)) QuestionFits (given (d .ruled) 3 (length text)) _ (gives-given (RuleFits (d .rels) (d .chosen)) (d .ruled) 3 (length text) (D .ruled-fits))
-    (λ r R. gives-accepted QuestionFits _ (record { rels-fit = D .rels-fit; chosen-fit = D .chosen-fit; apart = D .apart; rule-fits = R })))
+    (λ r R. gives-accepted QuestionFits _ (record { rels-fit = D .rels-fit; chosen-fit = D .chosen-fit; chosen-named = D .chosen-named; apart = D .apart; rule-fits = R })))
 
 -- ---- tuples of a sheet
 abbrev pub noRelation : Relation
@@ -508,6 +517,6 @@ pub problem-gives : (question site : List ℕ) → Gives ProblemFits (readProble
 unfolding readProblem
 problem-gives question site = gives-bind Accepted ProblemFits (readCase question site) ground (case-fits question site) ground-fits
 
--- (1) what acceptance gives
+-- what acceptance gives
 pub acceptance : (question site : List ℕ) (p : Problem) → readProblem question site ≡ accepted p → ProblemFits p
 acceptance question site p e = gives-if ProblemFits (readProblem question site) p e (problem-gives question site)

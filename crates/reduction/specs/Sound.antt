@@ -344,7 +344,7 @@ module _ (p : Problem) (G : Good p) where
   initial-asked (freeRange r y) t = λ x m. List·Memᴰ·not-nil m
   initial-asked (holdsNode v row) t = t
 
-  -- (4) steps that reach the goal are read as picks of the declared kinds of which the tree is true
+  -- steps that reach the goal are read as picks of the declared kinds of which the tree is true
   pub sound : (ks : List ℕ) → T (reachesGoal p ks) → Solves (picksOf p ks)
   unfolding reachesGoal areDistinct
   sound ks t = guess-phase ks [] (initial p) (record { kinds = record { inside = λ t m. absurd (List·Memᴰ·not-nil m); fun = λ r x y z f m k. absurd (List·Memᴰ·not-nil m); inj = λ r x y z f m k. absurd (List·Memᴰ·not-nil m) }; distinct = tt; asked = λ x v h. initial-asked x (subst T (initial-at x v) h) }) t
