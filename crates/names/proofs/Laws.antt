@@ -133,7 +133,7 @@ module _ (q : List ℕ) (g : Signature) where
 
 -- ---- all relations: the built-in ones, then those declared
 
-relations-append : (q : List ℕ) (g : Signature) (i m n : ℕ) → relationsFrom q g i (m + n) ≡ relationsFrom q g i m ++ relationsFrom q g (i + m) n
+pub relations-append : (q : List ℕ) (g : Signature) (i m n : ℕ) → relationsFrom q g i (m + n) ≡ relationsFrom q g i m ++ relationsFrom q g (i + m) n
 unfolding relationsFrom
 relations-append q g i zero n = let z : 0 + n ≡ n = omega arith in let y : i + 0 ≡ i = omega arith in rw (z, y)
 relations-append q g i (suc m) n =
@@ -192,7 +192,7 @@ module _ (q : List ℕ) (g : Signature) (p : Relation → Bool) where
 
 -- ---- what was found
 
-length-relations : (q : List ℕ) (g : Signature) (i m : ℕ) → length (relationsFrom q g i m) ≡ m
+pub length-relations : (q : List ℕ) (g : Signature) (i m : ℕ) → length (relationsFrom q g i m) ≡ m
 unfolding relationsFrom
 length-relations q g i zero = refl
 length-relations q g i (suc m) = ap suc (length-relations q g (suc i) m)

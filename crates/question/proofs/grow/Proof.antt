@@ -1,0 +1,112 @@
+-- `question::grow` meets its contract.
+use Prim.Native.Nat.{_-_}
+use mathlib.Core.Path.{refl, sym, ap, _∙_}
+use borrow.Author.Needs.{needs}
+use Rattle.question.specs.Drafts.{grownBy}
+use Rattle.question.proofs.grow.Statement.{statement}
+use Rattle.question.proofs.grow.Tie as tie
+
+enum-told : tie.Need-enum-told
+enum-told c = search needs
+
+enum-known-x : tie.Need-enum-known-x
+enum-known-x c = search needs
+
+cast-push : tie.Need-cast-push
+cast-push c = search needs
+
+add-push : tie.Need-add-push
+add-push c = search needs
+
+push-requires : tie.Need-push-requires
+push-requires c κs = search needs
+
+enum-known-x-2 : tie.Need-enum-known-x-2
+enum-known-x-2 c = search needs
+
+add-push-2 : tie.Need-add-push-2
+add-push-2 c = search needs
+
+cast-push-2 : tie.Need-cast-push-2
+cast-push-2 c = search needs
+
+add-push-3 : tie.Need-add-push-3
+add-push-3 c = search needs
+
+push-requires-2 : tie.Need-push-requires-2
+push-requires-2 c κs = search needs
+
+enum-told-2 : tie.Need-enum-told-2
+enum-told-2 c = search needs
+
+enum-told-3 : tie.Need-enum-told-3
+enum-told-3 c = search needs
+
+enum-told-4 : tie.Need-enum-told-4
+enum-told-4 c = search needs
+
+enum-told-5 : tie.Need-enum-told-5
+enum-told-5 c = search needs
+
+enum-told-6 : tie.Need-enum-told-6
+enum-told-6 c = search needs
+
+returns : tie.Need-returns
+unfolding grownBy
+returns c = sym (ap (grownBy (c .before .before .args .g)) (c .enum-told .given .1))
+
+returns-2 : tie.Need-returns-2
+unfolding grownBy
+returns-2 c = c .push .ensures ∙ sym (ap (grownBy (c .before .before .before .before .before .args .g)) (c .before .before .before .x .given .1))
+
+returns-3 : tie.Need-returns-3
+unfolding grownBy
+returns-3 c = c .push2 .ensures ∙ sym (ap (grownBy (c .before .before .before .before .before .before .args .g)) (c .before .before .before .before .x2 .given .1))
+
+returns-4 : tie.Need-returns-4
+unfolding grownBy
+returns-4 c = sym (ap (grownBy (c .before .before .args .g)) (c .enum-told2 .given .1))
+
+returns-5 : tie.Need-returns-5
+unfolding grownBy
+returns-5 c = sym (ap (grownBy (c .before .before .args .g)) (c .enum-told3 .given .1))
+
+returns-6 : tie.Need-returns-6
+unfolding grownBy
+returns-6 c = sym (ap (grownBy (c .before .before .args .g)) (c .enum-told4 .given .1))
+
+returns-7 : tie.Need-returns-7
+unfolding grownBy
+returns-7 c = sym (ap (grownBy (c .before .before .args .g)) (c .enum-told5 .given .1))
+
+returns-8 : tie.Need-returns-8
+unfolding grownBy
+returns-8 c = sym (ap (grownBy (c .before .before .args .g)) (c .enum-told6 .given .1))
+
+pub grow-spec : {M : Type 1} → statement M
+grow-spec =
+    tie.close
+    (tie.spec
+    enum-told
+    enum-known-x
+    cast-push
+    add-push
+    push-requires
+    enum-known-x-2
+    add-push-2
+    cast-push-2
+    add-push-3
+    push-requires-2
+    enum-told-2
+    enum-told-3
+    enum-told-4
+    enum-told-5
+    enum-told-6
+    returns
+    returns-2
+    returns-3
+    returns-4
+    returns-5
+    returns-6
+    returns-7
+    returns-8)

@@ -1,0 +1,109 @@
+-- `question::judge` meets its contract.
+use Prim.Native.Nat.{_-_}
+use mathlib.Core.Path.{refl, sym, _∙_}
+use native.Mathlib.Omega.{arith}
+use borrow.Author.Needs.{needs}
+use Rattle.question.proofs.Judging.{in-rel, in-choose, judge-wrong, rel-late, rel-many, rel-new, rel-old, choose-many, choose-new, choose-old, rule-early, rule-now, judge-size, judge-fact, judge-pick, judge-step}
+use Rattle.question.proofs.judge.Statement.{statement}
+use Rattle.question.proofs.judge.Tie as tie
+
+enum-told : tie.Need-enum-told
+enum-told c = search needs
+
+enum-known-x : tie.Need-enum-known-x
+enum-known-x c = search needs
+
+returns : tie.Need-returns
+returns c = rel-late (c .before .before .before .before .before .before .args .s .now) (c .before .before .before .before .before .before .args .g) (c .before .before .before .before .before .before .args .x) _ _ _ (c .before .before .before .x .given .1) (c .if1 .taken)
+
+returns-2 : tie.Need-returns-2
+returns-2 c = rel-many (c .before .before .before .before .before .before .before .before .args .s .now) (c .before .before .before .before .before .before .before .before .args .g) (c .before .before .before .before .before .before .before .before .args .x) _ _ _ (c .before .before .before .before .before .x .given .1) (omega arith) (c .if2 .taken)
+
+new-name-requires : tie.Need-new-name-requires
+new-name-requires c κs = (omega (arith, c .before .before .before .before .before .before .before .before .pre .0 .rels-le, c .before .before .before .before .before .before .before .before .pre .0 .chosen-le), in-rel (c .before .before .before .before .before .before .before .before .args .s .now) (c .before .before .before .before .before .before .before .before .args .at) (c .before .before .before .before .before .before .before .before .args .x) _ _ _ (c .before .before .before .before .before .x .given .1) (c .before .before .before .before .before .before .before .before .pre .1) .0, in-rel (c .before .before .before .before .before .before .before .before .args .s .now) (c .before .before .before .before .before .before .before .before .args .at) (c .before .before .before .before .before .before .before .before .args .x) _ _ _ (c .before .before .before .before .before .x .given .1) (c .before .before .before .before .before .before .before .before .pre .1) .1)
+
+returns-3 : tie.Need-returns-3
+returns-3 c = rel-new (c .before .before .before .before .before .before .before .before .before .before .args .s .now) (c .before .before .before .before .before .before .before .before .before .before .args .g) (c .before .before .before .before .before .before .before .before .before .before .args .x) _ _ _ (c .before .before .before .before .before .before .before .x .given .1) (omega arith) (omega arith) (sym (c .before .new-name .ensures) ∙ c .if3 .taken)
+
+enum-known-x-2 : tie.Need-enum-known-x-2
+enum-known-x-2 c = search needs
+
+returns-4 : tie.Need-returns-4
+returns-4 c = choose-many (c .before .before .before .before .before .before .args .s .now) (c .before .before .before .before .before .before .args .g) (c .before .before .before .before .before .before .args .x) _ _ _ _ (c .before .before .before .x2 .given .1) (c .if4 .taken)
+
+new-name-requires-2 : tie.Need-new-name-requires-2
+new-name-requires-2 c κs = (omega (arith, c .before .before .before .before .before .before .pre .0 .rels-le, c .before .before .before .before .before .before .pre .0 .chosen-le), in-choose (c .before .before .before .before .before .before .args .s .now) (c .before .before .before .before .before .before .args .at) (c .before .before .before .before .before .before .args .x) _ _ _ _ (c .before .before .before .x2 .given .1) (c .before .before .before .before .before .before .pre .1) .0, in-choose (c .before .before .before .before .before .before .args .s .now) (c .before .before .before .before .before .before .args .at) (c .before .before .before .before .before .before .args .x) _ _ _ _ (c .before .before .before .x2 .given .1) (c .before .before .before .before .before .before .pre .1) .1)
+
+returns-5 : tie.Need-returns-5
+returns-5 c = choose-new (c .before .before .before .before .before .before .before .before .args .s .now) (c .before .before .before .before .before .before .before .before .args .g) (c .before .before .before .before .before .before .before .before .args .x) _ _ _ _ (c .before .before .before .before .before .x2 .given .1) (omega arith) (sym (c .before .new-name2 .ensures) ∙ c .if5 .taken)
+
+enum-told-2 : tie.Need-enum-told-2
+enum-told-2 c = search needs
+
+returns-6 : tie.Need-returns-6
+returns-6 c = rule-early (c .before .before .before .before .before .args .s .now) (c .before .before .before .before .before .args .g) (c .before .before .before .before .before .args .x) _ _ (c .before .before .enum-told2 .given .1) (c .if6 .taken)
+
+enum-told-3 : tie.Need-enum-told-3
+enum-told-3 c = search needs
+
+enum-told-4 : tie.Need-enum-told-4
+enum-told-4 c = search needs
+
+enum-told-5 : tie.Need-enum-told-5
+enum-told-5 c = search needs
+
+enum-told-6 : tie.Need-enum-told-6
+enum-told-6 c = search needs
+
+returns-7 : tie.Need-returns-7
+returns-7 c = judge-wrong (c .before .before .before .args .s .now) (c .before .before .before .args .g) (c .before .before .before .args .x) (c .enum-told .given .1)
+
+returns-8 : tie.Need-returns-8
+returns-8 c = rel-old (c .before .before .before .before .before .before .before .before .before .before .args .s .now) (c .before .before .before .before .before .before .before .before .before .before .args .g) (c .before .before .before .before .before .before .before .before .before .before .args .x) _ _ _ (c .before .before .before .before .before .before .before .x .given .1) (omega arith) (omega arith) (sym (c .before .new-name .ensures) ∙ c .if3 .left)
+
+returns-9 : tie.Need-returns-9
+returns-9 c = choose-old (c .before .before .before .before .before .before .before .before .args .s .now) (c .before .before .before .before .before .before .before .before .args .g) (c .before .before .before .before .before .before .before .before .args .x) _ _ _ _ (c .before .before .before .before .before .x2 .given .1) (omega arith) (sym (c .before .new-name2 .ensures) ∙ c .if5 .left)
+
+returns-10 : tie.Need-returns-10
+returns-10 c = rule-now (c .before .before .before .before .before .args .s .now) (c .before .before .before .before .before .args .g) (c .before .before .before .before .before .args .x) _ _ (c .before .before .enum-told2 .given .1) (c .if6 .left)
+
+returns-11 : tie.Need-returns-11
+returns-11 c = judge-size (c .before .before .before .args .s .now) (c .before .before .before .args .g) (c .before .before .before .args .x) _ (c .enum-told3 .given .1)
+
+returns-12 : tie.Need-returns-12
+returns-12 c = judge-fact (c .before .before .before .args .s .now) (c .before .before .before .args .g) (c .before .before .before .args .x) _ _ _ (c .enum-told4 .given .1)
+
+returns-13 : tie.Need-returns-13
+returns-13 c = judge-pick (c .before .before .before .args .s .now) (c .before .before .before .args .g) (c .before .before .before .args .x) _ _ _ (c .enum-told5 .given .1)
+
+returns-14 : tie.Need-returns-14
+returns-14 c = judge-step (c .before .before .before .args .s .now) (c .before .before .before .args .g) (c .before .before .before .args .x) _ (c .enum-told6 .given .1)
+
+pub judge-spec : {M : Type 1} → statement M
+judge-spec =
+    tie.close
+    (tie.spec
+    enum-told
+    enum-known-x
+    returns
+    returns-2
+    new-name-requires
+    returns-3
+    enum-known-x-2
+    returns-4
+    new-name-requires-2
+    returns-5
+    enum-told-2
+    returns-6
+    enum-told-3
+    enum-told-4
+    enum-told-5
+    enum-told-6
+    returns-7
+    returns-8
+    returns-9
+    returns-10
+    returns-11
+    returns-12
+    returns-13
+    returns-14)

@@ -1,0 +1,137 @@
+-- What the reader of the question answers, in the words of the definitions.
+use Prim.Native.Nat.{ℕ, zero, suc, _+_, _≤_}
+use mathlib.Core.Path.{_≡_}
+use mathlib.Core.Bool.{Bool, not, _||_}
+use mathlib.Core.List.{List, [], _∷_}
+use mathlib.Core.Option.{none, some}
+use lib.Dec.{eqb, leb}
+use lib.ListN.{length, set}
+use lib.Seq.{slice}
+use Rattle.definitions.specs.Lists.{if_then_else_}
+use Rattle.definitions.specs.Refusal.{Result, refused, accepted, _>>=_, given}
+use Rattle.definitions.specs.Formula.{readFormula}
+use Rattle.definitions.specs.Sheets as D
+use Rattle.records.specs.Lines.{readAt}
+use Rattle.records.specs.declared.Entry.{Entry}
+use Rattle.records.specs.declared.Entry.the-variants.{Wrong, Rel, Choose, Rule, Size, Fact, Pick, Step}
+use Rattle.names.specs.declared.Signature.{Signature}
+use Rattle.names.specs.Signatures.{relationsFrom, relsOf, chosenOf, allOf, Sound}
+use Rattle.formula.specs.Seen.{ruleNumber}
+use Rattle.question.specs.declared.Span.{Span}
+use Rattle.question.specs.declared.Head.{Head}
+use Rattle.question.specs.declared.Asked.{Asked}
+
+-- the question's lines so far, before its rule
+unfoldable pub draftOf : List ℕ → Signature → D.Draft
+draftOf s g = record { rels = relationsFrom s g 0 (g .rels); chosen = relationsFrom s g (g .rels) (g .chosen); ruled = none }
+
+-- a name that a line may declare
+unfoldable pub newIn : List ℕ → Signature → List ℕ → Bool
+newIn s g name = D.isNewName (draftOf s g) name
+
+-- what a line before the rule gets: 0 for a good relation, 1 for a rule in its place, else the refusal's number
+unfoldable pub judgeOf : List ℕ → Signature → Entry → ℕ
+judgeOf s g Wrong = 2
+judgeOf s g (Rel a e k) = if not (eqb (g .chosen) 0) || leb 8 (g .rels) then 3 else if newIn s g (slice a e s) then 0 else 4
+judgeOf s g (Choose a e k d) = if leb 4 (g .chosen) then 3 else if newIn s g (slice a e s) then 0 else 4
+judgeOf s g (Rule a e) = if eqb (g .chosen) 0 then 3 else 1
+judgeOf s g (Size n) = 3
+judgeOf s g (Fact a e p) = 3
+judgeOf s g (Pick a e p) = 3
+judgeOf s g (Step k) = 3
+
+-- the signature with relation i
+unfoldable pub pushed : Signature → ℕ → ℕ → ℕ → ℕ → ℕ → ℕ → ℕ → Signature
+pushed g i a e k d rels chosen = record {
+  rels = rels;
+  chosen = chosen;
+  from = set (g .from) i a;
+  to = set (g .to) i e;
+  arity = set (g .arity) i k;
+  kind = set (g .kind) i d;
+}
+
+unfoldable pub grownBy : Signature → Entry → Signature
+grownBy g Wrong = g
+grownBy g (Rel a e k) = pushed g (g .rels) a e k 0 (g .rels + 1) (g .chosen)
+grownBy g (Choose a e k d) = pushed g (g .rels + g .chosen) a e k d (g .rels) (g .chosen + 1)
+grownBy g (Rule a e) = g
+grownBy g (Size n) = g
+grownBy g (Fact a e p) = g
+grownBy g (Pick a e p) = g
+grownBy g (Step k) = g
+
+unfoldable pub spanIn : Entry → Span
+spanIn Wrong = record { from = 0; to = 0 }
+spanIn (Rel a e k) = record { from = 0; to = 0 }
+spanIn (Choose a e k d) = record { from = 0; to = 0 }
+spanIn (Rule a e) = record { from = a; to = e }
+spanIn (Size n) = record { from = 0; to = 0 }
+spanIn (Fact a e p) = record { from = 0; to = 0 }
+spanIn (Pick a e p) = record { from = 0; to = 0 }
+spanIn (Step k) = record { from = 0; to = 0 }
+
+-- a question is whole once it has its rule
+unfoldable pub whole : List ℕ → D.Draft → Result D.Question
+whole s d = given (d .ruled) 3 (length s) >>= λ r. accepted (record { rels = d .rels; chosen = d .chosen; rule = r })
+
+-- the rule's line was reached with a signature: what is left is the rule's own verdict, and the lines after it
+unfoldable pub Reached : List ℕ → Head → Type 0
+Reached s h =
+    Sound s (h .sig) × (1 ≤ h .sig .chosen) × (h .span .from ≡ h .place + 5) × (h .span .from ≤ h .span .to) × (h .span .to ≤ length s) × (h .next ≤ length s)
+    × (D.readQuestion s ≡ ((D.addRule (draftOf s (h .sig)) (h .place) (slice (h .span .from) (h .span .to) s) >>= readAt D.addToQuestion s (h .next)) >>= whole s))
+
+unfoldable pub HeadBy : ℕ → List ℕ → Head → Type 0
+HeadBy zero s h = Reached s h
+HeadBy (suc k) s h = D.readQuestion s ≡ refused (suc k) (h .place)
+
+unfoldable pub Headed : List ℕ → Head → Type 0
+Headed s h = HeadBy (h .fault) s h
+
+-- the rule's own verdict: 0, or 5 to 8
+unfoldable pub verdictIn : List ℕ → Head → ℕ
+verdictIn s h = ruleNumber (allOf s (h .sig)) (chosenOf s (h .sig)) (slice (h .span .from) (h .span .to) s)
+
+-- a question that is refused has no relations and an empty rule
+unfoldable pub noSignature : Signature
+noSignature = record {
+  rels = 0;
+  chosen = 0;
+  from = 0 ∷ 0 ∷ 0 ∷ 0 ∷ 0 ∷ 0 ∷ 0 ∷ 0 ∷ 0 ∷ 0 ∷ 0 ∷ 0 ∷ [];
+  to = 0 ∷ 0 ∷ 0 ∷ 0 ∷ 0 ∷ 0 ∷ 0 ∷ 0 ∷ 0 ∷ 0 ∷ 0 ∷ 0 ∷ [];
+  arity = 0 ∷ 0 ∷ 0 ∷ 0 ∷ 0 ∷ 0 ∷ 0 ∷ 0 ∷ 0 ∷ 0 ∷ 0 ∷ 0 ∷ [];
+  kind = 0 ∷ 0 ∷ 0 ∷ 0 ∷ 0 ∷ 0 ∷ 0 ∷ 0 ∷ 0 ∷ 0 ∷ 0 ∷ 0 ∷ [];
+}
+
+unfoldable pub refusedWith : ℕ → ℕ → Asked
+refusedWith k place = record { fault = k; place = place; sig = noSignature; rule = record { from = 0; to = 0 } }
+
+-- a question that is accepted: its relations are the signature's, and its rule is that span of the text
+pub record Accepts (s : List ℕ) (q : D.Question) (r : Asked) : Type 0 where
+  pub no-fault : r .fault ≡ 0
+  pub no-place : r .place ≡ 0
+  pub sound : Sound s (r .sig)
+  pub some-chosen : 1 ≤ r .sig .chosen
+  pub rels : q .rels ≡ relsOf s (r .sig)
+  pub chosen : q .chosen ≡ chosenOf s (r .sig)
+  pub rule-at : q .rule .at ≡ r .rule .from
+  pub rule-text : q .rule .text ≡ slice (r .rule .from) (r .rule .to) s
+  pub rule-from : r .rule .from ≤ r .rule .to
+  pub rule-to : r .rule .to ≤ length s
+  pub formula : readFormula (slice (r .rule .from) (r .rule .to) s) ≡ some (q .rule .formula)
+
+-- what the reader answers, by what the definitions read
+unfoldable pub QuestionRead : List ℕ → Result D.Question → Asked → Type 0
+QuestionRead s (refused k place) r = r ≡ refusedWith k place
+QuestionRead s (accepted q) r = Accepts s q r
+
+-- what a line after the rule gets
+unfoldable pub laterOf : Entry → ℕ
+laterOf Wrong = 2
+laterOf (Rel a e k) = 3
+laterOf (Choose a e k d) = 3
+laterOf (Rule a e) = 3
+laterOf (Size n) = 3
+laterOf (Fact a e p) = 3
+laterOf (Pick a e p) = 3
+laterOf (Step k) = 3

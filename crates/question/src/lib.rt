@@ -1,0 +1,321 @@
+// The question's reader: its relations as a signature, the place of its rule's formula, or its refusal (1 to 8).
+ghost use mathlib.Core.Path.{_≡_};
+ghost use Prim.Native.Nat.{_+_, _≤_, _<_};
+ghost use lib.ListN.{length, take, drop};
+ghost use lib.Seq.{slice};
+ghost use Rattle.definitions.specs.Sheets.{readQuestion};
+ghost use Rattle.definitions.specs.Outcome.{rulePart};
+ghost use Rattle.records.specs.Entries.{InText};
+ghost use Rattle.names.specs.Signatures.{Sound};
+ghost use Rattle.formula.specs.Seen.{verdictNumber};
+ghost use Rattle.question.specs.Drafts.{newIn, judgeOf, grownBy, pushed, spanIn, Headed, laterOf, noSignature, refusedWith, QuestionRead};
+use formula::Verdict;
+use names::Signature;
+use records::Entry;
+
+pub struct Span {
+    pub from: usize,
+    pub to: usize,
+}
+
+// What the lines up to the rule's give: a refusal (its number and place), or fault 0, the signature, the place of the rule's
+// line, the span of its formula and the place after its line.
+struct Head {
+    fault: u32,
+    place: usize,
+    sig: Signature,
+    span: Span,
+    next: usize,
+}
+
+// A question: its refusal's number and place, with no relations and an empty rule; or fault 0, its relations and its rule's span.
+pub struct Asked {
+    pub fault: u32,
+    pub place: usize,
+    pub sig: Signature,
+    pub rule: Span,
+}
+
+// The span is a relation's name that is neither built in nor declared.
+fn new_name(s: &[u8], g: Signature, a: usize, e: usize) -> bool
+    requires { ⌜ (g .rels + g .chosen ≤ 12) × (a ≤ e) × (e ≤ length (now s)) ⌝ }
+    ensures { λ r. ⌜ r ≡ newIn (now (s .entry)) g (slice a e (now (s .entry))) ⌝ }
+{
+    if text::is_relation_name(s, a, e) {
+        if names::is_declared(s, g, a, e) {
+            return false;
+        }
+        return true;
+    }
+    false
+}
+
+// What a line before the rule gets: 0 for a good relation, 1 for the rule in its place, else the refusal's number.
+fn judge(s: &[u8], g: Signature, at: usize, x: Entry) -> u32
+    requires { ⌜ Sound (now s) g × InText (now s) at x ⌝ }
+    ensures { λ r. ⌜ r ≡ judgeOf (now (s .entry)) g x ⌝ }
+{
+    match x {
+        Entry::Wrong => 2,
+        Entry::Rel(a, e, _) => {
+            if g.chosen != 0 {
+                return 3;
+            }
+            if 8 <= g.rels {
+                return 3;
+            }
+            if new_name(s, g, a, e) {
+                return 0;
+            }
+            4
+        }
+        Entry::Choose(a, e, _, _) => {
+            if 4 <= g.chosen {
+                return 3;
+            }
+            if new_name(s, g, a, e) {
+                return 0;
+            }
+            4
+        }
+        Entry::Rule(_, _) => {
+            if g.chosen == 0 {
+                return 3;
+            }
+            1
+        }
+        Entry::Size(_) => 3,
+        Entry::Fact(_, _, _) => 3,
+        Entry::Pick(_, _, _) => 3,
+        Entry::Step(_) => 3,
+    }
+}
+
+// The signature with relation i, and with those counts.
+fn push(
+    g: Signature,
+    i: usize,
+    a: usize,
+    e: usize,
+    k: usize,
+    d: u32,
+    rels: usize,
+    chosen: usize,
+) -> Signature
+    requires { ⌜ i < 12 ⌝ }
+    ensures { λ r. ⌜ r ≡ pushed g i a e k d rels chosen ⌝ }
+{
+    let mut from = g.from;
+    from[i] = a;
+    let mut to = g.to;
+    to[i] = e;
+    let mut arity = g.arity;
+    arity[i] = k;
+    let mut kind = g.kind;
+    kind[i] = d;
+    Signature {
+        rels,
+        chosen,
+        from,
+        to,
+        arity,
+        kind,
+    }
+}
+
+// The signature after a line that is good.
+fn grow(g: Signature, x: Entry) -> Signature
+    requires { ⌜ g .rels + g .chosen < 12 ⌝ }
+    ensures { λ r. ⌜ r ≡ grownBy g x ⌝ }
+{
+    match x {
+        Entry::Wrong => g,
+        Entry::Rel(a, e, k) => push(g, g.rels, a, e, k as usize, 0, g.rels + 1, g.chosen),
+        Entry::Choose(a, e, k, d) => push(
+            g,
+            g.rels + g.chosen,
+            a,
+            e,
+            k as usize,
+            d,
+            g.rels,
+            g.chosen + 1,
+        ),
+        Entry::Rule(_, _) => g,
+        Entry::Size(_) => g,
+        Entry::Fact(_, _, _) => g,
+        Entry::Pick(_, _, _) => g,
+        Entry::Step(_) => g,
+    }
+}
+
+// The span of a rule.
+fn rule_span(x: Entry) -> Span
+    ensures { λ r. ⌜ r ≡ spanIn x ⌝ }
+{
+    match x {
+        Entry::Wrong => Span { from: 0, to: 0 },
+        Entry::Rel(_, _, _) => Span { from: 0, to: 0 },
+        Entry::Choose(_, _, _, _) => Span { from: 0, to: 0 },
+        Entry::Rule(a, e) => Span { from: a, to: e },
+        Entry::Size(_) => Span { from: 0, to: 0 },
+        Entry::Fact(_, _, _) => Span { from: 0, to: 0 },
+        Entry::Pick(_, _, _) => Span { from: 0, to: 0 },
+        Entry::Step(_) => Span { from: 0, to: 0 },
+    }
+}
+
+// No relations.
+fn no_relations() -> Signature
+    ensures { λ r. ⌜ r ≡ noSignature ⌝ }
+{
+    Signature {
+        rels: 0,
+        chosen: 0,
+        from: [0; names::DECLARED],
+        to: [0; names::DECLARED],
+        arity: [0; names::DECLARED],
+        kind: [0; names::DECLARED],
+    }
+}
+
+// Reads a question up to its rule's line.
+fn question_head(s: &[u8]) -> Head
+    ensures { λ r. ⌜ Headed (now (s .entry)) r ⌝ }
+{
+    let end = s.len();
+    let mut g = no_relations();
+    if 65536 < end {
+        let none = Span { from: 0, to: 0 };
+        return Head {
+            fault: 1,
+            place: 0,
+            sig: g,
+            span: none,
+            next: 0,
+        };
+    }
+    let mut at = 0;
+    while at < end {
+        let l = records::line(s, at);
+        let x = l.entry;
+        let c = judge(s, g, at, x);
+        if c != 0 {
+            let p = rule_span(x);
+            if c == 1 {
+                return Head {
+                    fault: 0,
+                    place: at,
+                    sig: g,
+                    span: p,
+                    next: l.next,
+                };
+            }
+            return Head {
+                fault: c,
+                place: at,
+                sig: g,
+                span: p,
+                next: 0,
+            };
+        }
+        g = grow(g, x);
+        at = l.next;
+    }
+    let none = Span { from: 0, to: 0 };
+    Head {
+        fault: 3,
+        place: end,
+        sig: g,
+        span: none,
+        next: 0,
+    }
+}
+
+// What a line after the rule gets: whatever it is, it is refused.
+fn after_rule(x: Entry) -> u32
+    ensures { λ r. ⌜ r ≡ laterOf x ⌝ }
+{
+    match x {
+        Entry::Wrong => 2,
+        Entry::Rel(_, _, _) => 3,
+        Entry::Choose(_, _, _, _) => 3,
+        Entry::Rule(_, _) => 3,
+        Entry::Size(_) => 3,
+        Entry::Fact(_, _, _) => 3,
+        Entry::Pick(_, _, _) => 3,
+        Entry::Step(_) => 3,
+    }
+}
+
+// The number of the verdict on a rule, 0 where it is fine.
+fn number_of(v: Verdict) -> u32
+    ensures { λ r. ⌜ r ≡ verdictNumber v ⌝ }
+{
+    match v {
+        Verdict::Fine => 0,
+        Verdict::NotOfForm => 5,
+        Verdict::TooLarge => 6,
+        Verdict::Unknown => 7,
+        Verdict::Unbound => 8,
+    }
+}
+
+// A question that is refused.
+fn refusal(fault: u32, place: usize) -> Asked
+    ensures { λ r. ⌜ r ≡ refusedWith fault place ⌝ }
+{
+    let none = Span { from: 0, to: 0 };
+    let sig = no_relations();
+    Asked {
+        fault,
+        place,
+        sig,
+        rule: none,
+    }
+}
+
+// Reads a question.
+pub fn question(s: &[u8]) -> Asked
+    ensures { λ r. ⌜ QuestionRead (now (s .entry)) (readQuestion (now (s .entry))) r ⌝ }
+{
+    let h = question_head(s);
+    let fault = h.fault;
+    let place = h.place;
+    if fault != 0 {
+        return refusal(fault, place);
+    }
+    let sig = h.sig;
+    let rule = h.span;
+    let from = rule.from;
+    let to = rule.to;
+    let v = formula::rule_verdict(s, from, to, sig);
+    let verdict = number_of(v);
+    if verdict != 0 {
+        return refusal(verdict, place);
+    }
+    let next = h.next;
+    if next < s.len() {
+        let l = records::line(s, next);
+        let x = l.entry;
+        let c = after_rule(x);
+        return refusal(c, next);
+    }
+    Asked {
+        fault: 0,
+        place: 0,
+        sig,
+        rule,
+    }
+}
+
+// The rule's formula as a part of the question's own bytes, empty where the question is refused.
+pub fn rule_part(s: &[u8]) -> &[u8]
+    ensures { λ r. ⌜ now r ≡ take (rulePart (now (s .entry)) .len) (drop (rulePart (now (s .entry)) .start) (now (s .entry))) ⌝ }
+{
+    let q = question(s);
+    let rule = q.rule;
+    let from = rule.from;
+    let to = rule.to;
+    &s[from..to]
+}
