@@ -1,0 +1,3 @@
+-- The numbers of actions, by the table of a grounded problem.
+pub mod Decoded
+pub mod Found
