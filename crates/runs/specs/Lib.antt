@@ -1,0 +1,3 @@
+-- How steps end.
+pub mod Ended
+pub mod RunLaws

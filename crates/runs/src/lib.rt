@@ -1,0 +1,103 @@
+// Steps taken one by one in a lent state.
+ghost use mathlib.Core.Path.{_≡_};
+ghost use mathlib.Core.Bool.{Bool, true, false};
+ghost use mathlib.Core.Option.{some};
+ghost use Prim.Native.Nat.{ℕ, _*_, _≤_};
+ghost use lib.ListN.{length};
+ghost use Rattle.definitions.specs.Lists.{option};
+ghost use Rattle.definitions.specs.Atoms.{Problem, atoms};
+ghost use Rattle.definitions.specs.Actions.{Action, actionAt};
+ghost use Rattle.definitions.specs.Strips.{runFrom, mayTake, after};
+ghost use Rattle.bits.specs.Table.{bit};
+ghost use Rattle.ground.specs.Of.{Is};
+ghost use Rattle.decode.specs.Decoded.{Grounded};
+ghost use Rattle.runs.specs.Ended.{ended, isNothing};
+
+// How a list of steps ends: all taken and the goal reached (how many), no action of that number (which step), one that may not be
+// taken (which), or no goal (how many).
+pub enum End {
+    Done(usize),
+    NoAction(usize),
+    NotNow(usize),
+    NoGoal(usize),
+}
+
+fn is_nothing(a: ground::Act) -> bool
+    ensures { λ r. ⌜ r ≡ isNothing a ⌝ }
+{
+    match a {
+        ground::Act::Nothing => {
+            return true;
+        }
+        ground::Act::Set(_) => {
+            return false;
+        }
+        ground::Act::Begin => {
+            return false;
+        }
+        ground::Act::And(_) => {
+            return false;
+        }
+        ground::Act::Or(_) => {
+            return false;
+        }
+        ground::Act::Exists(_) => {
+            return false;
+        }
+        ground::Act::Forall(_) => {
+            return false;
+        }
+        ground::Act::Goal => {
+            return false;
+        }
+    }
+}
+
+// The steps are taken from a state on, each if it may be; the state is left as it is before the first that is refused, or at the end.
+pub fn run(state: &mut [u64], table: &[usize], steps: &[u32]) -> End
+    requires { ⌜ Grounded (now table) ⌝ }
+    ensures { λ r. ⌜ ((p : Problem) → Is p (now (table .entry)) → atoms p ≤ 64 * length (now (state .entry))
+        → (ended r ≡ runFrom p (bit (now (state .entry))) 0 (now (steps .entry)) .answer)
+        × (bit (now (state .exit)) ≡ runFrom p (bit (now (state .entry))) 0 (now (steps .entry)) .state)) ⌝ }
+{
+    let mut i: usize = 0;
+    while i < steps.len() {
+        let k = steps[i] as usize;
+        let a = decode::action_at(table, k);
+        if is_nothing(a) {
+            return End::NoAction(i);
+        }
+        if ground::may_take(state, table, a) {
+            ground::take(state, table, a);
+        } else {
+            return End::NotNow(i);
+        }
+        i += 1;
+    }
+    if ground::test(state, 2) {
+        return End::Done(i);
+    }
+    End::NoGoal(i)
+}
+
+// Whether the action of a number may be taken; of no action it may not.
+pub fn may(state: &[u64], table: &[usize], number: usize) -> bool
+    requires { ⌜ Grounded (now table) ⌝ }
+    ensures { λ r. ⌜ ((p : Problem) → Is p (now (table .entry)) → r ≡ option (actionAt p number) false (mayTake p (bit (now (state .entry))))) ⌝ }
+{
+    let a = decode::action_at(table, number);
+    if is_nothing(a) {
+        return false;
+    }
+    ground::may_take(state, table, a)
+}
+
+// The action of a number is taken.
+pub fn step(state: &mut [u64], table: &[usize], number: usize)
+    requires { ⌜ Grounded (now table) ⌝ }
+    ensures { λ r. ⌜ ((p : Problem) (x : Action) → Is p (now (table .entry)) → atoms p ≤ 64 * length (now (state .entry)) → actionAt p number ≡ some x
+        → bit (now (state .exit)) ≡ after p (bit (now (state .entry))) x) ⌝ }
+{
+    let a = decode::action_at(table, number);
+    ground::take(state, table, a);
+}
