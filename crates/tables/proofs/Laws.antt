@@ -1,0 +1,124 @@
+-- Laws of the loops over a part's levels and over the marked levels. Assumes nothing.
+use Prim.Native.Nat.{ℕ, suc, _+_, _-_, _≤_, _<_}
+use native.Mathlib.Numerals.{add-one}
+use native.Mathlib.Decide.{decLt}
+use native.Mathlib.Omega.{arith}
+use mathlib.Core.Path.{_≡_, refl, sym, ap, subst, _∙_}
+use mathlib.Core.Bool.{Bool, true, false, not, _&&_, _||_}
+use mathlib.Core.List.{List, [], _∷_, _++_, append-assoc, append-nil}
+use lib.ListN.{length, getD, take, drop, set, length-take, length-append, drop-of-length-le}
+use lib.Seq.{drop-cons, getD-take, getD-set-same, getD-set-other}
+use lib.Dec.{eqb, ltb}
+use borrow.Author.Tests.{eq-eqb, ne-eqb, lt-ltb, le-ltb}
+use Rattle.definitions.specs.Lists.{if_then_else_, any, filter, from, below}
+use Rattle.tables.specs.Postorder.{pad}
+use Rattle.tables.specs.Pass.{levelsOf, listedOf}
+use Rattle.tables.specs.Free.{pad-more}
+use Rattle.tables.specs.declared.Levels.{Levels}
+
+-- ---- `has`
+module _ (l w i : ℕ) (ls : List ℕ) where
+  pub has-stop : i ≡ w → any (eqb l) (drop i (take w ls)) ≡ false
+  unfolding any
+  has-stop e = ap (λ (x : List ℕ). any (eqb l) x) (drop-of-length-le (take w ls) {i = i} (omega (arith, length-take w ls)))
+
+  pub has-end : length ls ≤ i → any (eqb l) (drop i (take w ls)) ≡ false
+  unfolding any
+  has-end h = ap (λ (x : List ℕ). any (eqb l) x) (drop-of-length-le (take w ls) {i = i} (omega (arith, length-take w ls)))
+
+  module _ (h : i < w) (k : i < length ls) where
+    has-first : drop i (take w ls) ≡ getD ls i 0 ∷ drop (i + 1) (take w ls)
+    has-first = drop-cons (take w ls) i 0 (omega (arith, length-take w ls)) ∙ rw (getD-take w ls i 0 h, add-one i)
+
+    pub has-yes : l ≡ getD ls i 0 → any (eqb l) (drop i (take w ls)) ≡ true
+    unfolding any
+    has-yes e = ap (λ (x : List ℕ). any (eqb l) x) has-first ∙ ap (λ (b : Bool). b || any (eqb l) (drop (i + 1) (take w ls))) (eq-eqb l (getD ls i 0) e)
+
+    pub has-no : (l ≡ getD ls i 0 → ⊥) → any (eqb l) (drop i (take w ls)) ≡ any (eqb l) (drop (i + 1) (take w ls))
+    unfolding any
+    has-no e = ap (λ (x : List ℕ). any (eqb l) x) has-first ∙ ap (λ (b : Bool). b || any (eqb l) (drop (i + 1) (take w ls))) (ne-eqb l (getD ls i 0) e)
+
+-- ---- `listed`
+module _ (r : Levels) (l : ℕ) where
+  pub list-own : (own marked : Bool) → own ≡ true → r ≡ listedOf r l (not own && marked)
+  unfolding listedOf
+  list-own own marked e = rw e
+
+  pub list-yes : (own marked : Bool) → own ≡ false → marked ≡ true → record { at = set (r .at) (r .width) l; width = r .width + 1 } ≡ listedOf r l (not own && marked)
+  unfolding listedOf
+  list-yes own marked e h = rw (e, h)
+
+  pub list-no : (own marked : Bool) → own ≡ false → marked ≡ false → r ≡ listedOf r l (not own && marked)
+  unfolding listedOf
+  list-no own marked e h = rw (e, h)
+
+-- ---- `free_levels`: the levels below l that pass are listed
+pub record Listed (p : ℕ → Bool) (r : Levels) (l : ℕ) : Type 0 where
+  pub got : List ℕ
+  pub is : r ≡ levelsOf got
+  pub few : length got ≤ l
+  pub low : l ≤ 4
+  pub rest : got ++ filter p (from l (4 - l)) ≡ filter p (below 4)
+
+pub list-start : (p : ℕ → Bool) → Listed p (record { at = 0 ∷ 0 ∷ 0 ∷ 0 ∷ []; width = 0 }) 0
+unfolding below pad
+list-start p = record { got = []; is = refl; few = omega arith; low = omega arith; rest = refl }
+
+pub list-width : (p : ℕ → Bool) (r : Levels) (l : ℕ) → Listed p r l → r .width ≤ l
+list-width p r l k = omega (arith, ap (λ (x : Levels). x .width) (k .is), k .few)
+
+filter-next : (p : ℕ → Bool) (l : ℕ) (b : Bool) → l < 4 → b ≡ p l → filter p (from l (4 - l)) ≡ (if b then l ∷ filter p (from (l + 1) (4 - (l + 1))) else filter p (from (l + 1) (4 - (l + 1))))
+unfolding filter from
+filter-next p l b h e = let n : 4 - l ≡ suc (4 - (l + 1)) = omega arith in ap (λ (k : ℕ). filter p (from l k)) n ∙ rw (e, add-one l)
+
+filter-none : (p : ℕ → Bool) (l : ℕ) → 4 ≤ l → [] ≡ filter p (from l (4 - l))
+unfolding filter from
+filter-none p l h = let n : 4 - l ≡ 0 = omega arith in rw n
+
+list-more : (r : Levels) (l : ℕ) (xs : List ℕ) → length xs < 4 → r ≡ levelsOf xs → listedOf r l true ≡ levelsOf (xs ++ (l ∷ []))
+unfolding listedOf
+list-more r l xs h e = ap (λ (x : Levels). record { at = set (x .at) (x .width) l; width = x .width + 1 }) e ∙ rw (pad-more 4 xs l h, length-append xs (l ∷ []))
+
+list-less : (r : Levels) (l : ℕ) → listedOf r l false ≡ r
+unfolding listedOf
+list-less r l = refl
+
+pub list-again : (p : ℕ → Bool) (r q : Levels) (l : ℕ) (b : Bool) → l < 4 → b ≡ p l → q ≡ listedOf r l b → Listed p r l → Listed p q (l + 1)
+list-again p r q l true h e z k = record {
+  got = k .got ++ (l ∷ []);
+  is = z ∙ list-more r l (k .got) (omega (arith, k .few)) (k .is);
+  few = omega (arith, k .few, length-append (k .got) (l ∷ []));
+  low = omega arith;
+  rest = append-assoc (k .got) (l ∷ []) (filter p (from (l + 1) (4 - (l + 1)))) ∙ ap (λ (x : List ℕ). k .got ++ x) (sym (filter-next p l true h e)) ∙ k .rest;
+}
+list-again p r q l false h e z k = record {
+  got = k .got;
+  is = z ∙ list-less r l ∙ k .is;
+  few = omega (arith, k .few);
+  low = omega arith;
+  rest = ap (λ (x : List ℕ). k .got ++ x) (sym (filter-next p l false h e)) ∙ k .rest;
+}
+
+pub list-end : (p : ℕ → Bool) (r : Levels) (l : ℕ) → 4 ≤ l → Listed p r l → r ≡ levelsOf (filter p (below 4))
+list-end p r l h k = k .is ∙ ap (λ (x : List ℕ). levelsOf x) (sym (append-nil (k .got)) ∙ ap (λ (x : List ℕ). k .got ++ x) (filter-none p l h) ∙ k .rest)
+
+-- ---- `is_own`, `node_tag`
+pub own-quant : (k l x y : ℕ) → k < 2 → y ≡ x → eqb l y ≡ (ltb k 2 && eqb l x)
+own-quant k l x y h e = rw (lt-ltb k 2 h, e)
+
+pub own-none : (k l x : ℕ) → 2 ≤ k → false ≡ (ltb k 2 && eqb l x)
+own-none k l x h = rw (le-ltb k 2 h)
+
+pub tag-forall : (k : ℕ) → k ≡ 0 → _≡_ {A = ℕ} 2 (if eqb k 0 then 2 else 3)
+tag-forall k e = rw e
+
+pub tag-other : (k : ℕ) → (k ≡ 0 → ⊥) → _≡_ {A = ℕ} 3 (if eqb k 0 then 2 else 3)
+tag-other k e = rw (ne-eqb k 0 e)
+
+-- ---- `also`
+pub mark-again : (r : List Bool) (l : ℕ) (x : Bool) (f : ℕ → Bool) → l < length r → x ≡ f l → ((k : ℕ) → k < l → getD r k false ≡ f k) → (k : ℕ) → k < l + 1 → getD (set r l x) k false ≡ f k
+mark-again r l x f h e g k q = go (decLt k l)
+  where
+    go : Dec (k < l) → getD (set r l x) k false ≡ f k
+    go (yes c) = getD-set-other r l k x false (λ z. omega arith) ∙ g k c
+    go (no c) = let z : l ≡ k = omega arith in subst (λ (j : ℕ). getD (set r l x) j false ≡ f j) z (getD-set-same r l x false h ∙ e)

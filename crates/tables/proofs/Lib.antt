@@ -1,0 +1,3 @@
+-- Laws of this crate's proofs.
+pub mod Laws
+pub mod Turns

@@ -1,0 +1,263 @@
+// The node table of a tree, from its rows in postorder: one pass with a stack of parts that have no parent yet.
+ghost use mathlib.Core.Path.{_≡_};
+ghost use mathlib.Core.Bool.{true, false, not, _&&_, _||_};
+ghost use Prim.Native.Nat.{ℕ, _≤_, _<_};
+ghost use lib.ListN.{length, getD};
+ghost use lib.Dec.{eqb};
+ghost use Rattle.definitions.specs.Lists.{if_then_else_, filter, below};
+ghost use Rattle.definitions.specs.Tree.{Tree};
+ghost use Rattle.tree.specs.Tables.{IsTable, Fits};
+ghost use Rattle.tables.specs.Postorder.{rowsIn};
+ghost use Rattle.tables.specs.Pass.{hasLevel, isOwn, levelsOf, listedOf, leafPart, nodePart, nodeRow, blankPart, blankRow, Ranged};
+ghost use Rattle.tables.specs.Whole.{Of};
+use tree::NodeRow;
+use tree::Nodes;
+use tree::PartRow;
+
+// As many rows as a rule has forms at the most.
+pub const ROWS: usize = 64;
+
+// A tree's row; the rows of its parts come before it. A node has its kind (0 forall, 1 exists, 2 and, 3 or), its preorder number
+// `which`, `many` parts, and for a quantifier its level, alone in `levels`. A literal (kind 4, a not-tuple 5) has its relation
+// `which`, no parts, and its levels. The first `width` of the levels count, the others are 0.
+pub struct Row {
+    pub kind: u8,
+    pub which: u8,
+    pub many: u8,
+    pub width: u8,
+    pub levels: [u8; 3],
+}
+
+// The rows of a tree in postorder, and how many of them are nodes.
+pub struct Rows {
+    pub at: [Row; ROWS],
+    pub len: usize,
+    pub nodes: usize,
+}
+
+// Which levels occur.
+struct Marks {
+    at: [bool; 4],
+}
+
+// Levels in order; the first `width` count, the others are 0.
+struct Levels {
+    at: [usize; 4],
+    width: usize,
+}
+
+fn wide(x: u8) -> usize
+    ensures { λ r. ⌜ r ≡ x ⌝ }
+{
+    x as usize
+}
+
+fn or(a: bool, b: bool) -> bool
+    ensures { λ r. ⌜ r ≡ (a || b) ⌝ }
+{
+    if a { true } else { b }
+}
+
+// Is l one of a part's levels.
+fn has(p: PartRow, l: usize) -> bool
+    ensures { λ r. ⌜ r ≡ hasLevel l p ⌝ }
+{
+    let mut i = 0;
+    while i < 4 {
+        if i == p.width {
+            return false;
+        }
+        if l == p.levels[i] {
+            return true;
+        }
+        i += 1;
+    }
+    false
+}
+
+// The levels of a part are marked too.
+fn also(m: Marks, p: PartRow) -> Marks
+    ensures { λ r. ⌜ ((l : ℕ) → l < 4 → getD (r .at) l false ≡ (getD (m .at) l false || hasLevel l p)) ⌝ }
+{
+    let mut r = m;
+    let mut l = 0;
+    while l < 4 {
+        let old = m.at[l];
+        let h = has(p, l);
+        r.at[l] = or(old, h);
+        l += 1;
+    }
+    r
+}
+
+// Is l the level of a quantifier's row.
+fn is_own(row: Row, l: usize) -> bool
+    ensures { λ r. ⌜ r ≡ isOwn row l ⌝ }
+{
+    if row.kind < 2 {
+        l == wide(row.levels[0])
+    } else {
+        false
+    }
+}
+
+// One level more, if it is marked and not the row's own.
+fn listed(r: Levels, l: usize, own: bool, marked: bool) -> Levels
+    requires { ⌜ r .width < 4 ⌝ }
+    ensures { λ q. ⌜ q ≡ listedOf r l (not own && marked) ⌝ }
+{
+    if own {
+        return r;
+    }
+    if marked {
+        let n = r.width;
+        let mut q = r;
+        q.at[n] = l;
+        q.width = n + 1;
+        return q;
+    }
+    r
+}
+
+// The levels that are marked, in order, without the row's own.
+fn free_levels(m: Marks, row: Row) -> Levels
+    ensures { λ r. ⌜ r ≡ levelsOf (filter (λ l. not (isOwn row l) && getD (m .at) l false) (below 4)) ⌝ }
+{
+    let mut r = Levels {
+        at: [0usize; 4],
+        width: 0,
+    };
+    let mut l = 0;
+    while l < 4 {
+        let own = is_own(row, l);
+        let marked = m.at[l];
+        r = listed(r, l, own, marked);
+        l += 1;
+    }
+    r
+}
+
+// A literal as a part.
+fn leaf_part(row: Row) -> PartRow
+    requires { ⌜ 4 ≤ row .kind ⌝ }
+    ensures { λ r. ⌜ r ≡ leafPart row ⌝ }
+{
+    PartRow {
+        tag: row.kind - 4,
+        which: wide(row.which),
+        levels: [
+            wide(row.levels[0]),
+            wide(row.levels[1]),
+            wide(row.levels[2]),
+            0,
+        ],
+        width: wide(row.width),
+    }
+}
+
+fn node_tag(kind: u8) -> u8
+    ensures { λ r. ⌜ r ≡ (if eqb kind 0 then 2 else 3) ⌝ }
+{
+    if kind == 0 { 2 } else { 3 }
+}
+
+// A node as a part.
+fn node_part(row: Row, free: Levels) -> PartRow
+    ensures { λ r. ⌜ r ≡ nodePart row free ⌝ }
+{
+    let levels = free.at;
+    let tag = node_tag(row.kind);
+    PartRow {
+        tag,
+        which: wide(row.which),
+        levels,
+        width: free.width,
+    }
+}
+
+// A node's row of the table; its parts stand from `first` on.
+fn node_row(row: Row, free: Levels, first: usize) -> NodeRow
+    ensures { λ r. ⌜ r ≡ nodeRow row free first ⌝ }
+{
+    let levels = free.at;
+    NodeRow {
+        kind: row.kind,
+        level: wide(row.levels[0]),
+        levels,
+        width: free.width,
+        first,
+        many: wide(row.many),
+    }
+}
+
+fn no_part() -> PartRow
+    ensures { λ r. ⌜ r ≡ blankPart ⌝ }
+{
+    PartRow {
+        tag: 0,
+        which: 0,
+        levels: [0usize; 4],
+        width: 0,
+    }
+}
+
+fn no_row() -> NodeRow
+    ensures { λ r. ⌜ r ≡ blankRow ⌝ }
+{
+    NodeRow {
+        kind: 0,
+        level: 0,
+        levels: [0usize; 4],
+        width: 0,
+        first: 0,
+        many: 0,
+    }
+}
+
+// The table of the tree that these are the rows of.
+pub fn tabulate(from: Rows) -> Nodes
+    requires { ⌜ (length (from .at) ≡ 64) × (from .len ≤ 64) × Ranged 0 0 (rowsIn from) ⌝ }
+    ensures { λ r. ⌜ ((rels : ℕ) (root : Tree) → Of rels root from → IsTable rels root r × Fits r) ⌝ }
+{
+    let blank = no_part();
+    let blank_row = no_row();
+    let mut stack = [blank; 64];
+    let mut parts = [blank; 64];
+    let mut rows = [blank_row; 64];
+    let mut height = 0;
+    let mut placed = 0;
+    let mut i = 0;
+    while i < from.len {
+        let row = from.at[i];
+        i += 1;
+        if row.kind >= 4 {
+            stack[height] = leaf_part(row);
+            height += 1;
+            continue;
+        }
+        let first = placed;
+        let base = height - wide(row.many);
+        let mut marks = Marks { at: [false; 4] };
+        let mut j = base;
+        while j < height {
+            let p = stack[j];
+            parts[placed] = p;
+            marks = also(marks, p);
+            placed += 1;
+            j += 1;
+        }
+        let free = free_levels(marks, row);
+        let v = wide(row.which);
+        rows[v] = node_row(row, free, first);
+        stack[base] = node_part(row, free);
+        height = base + 1;
+    }
+    let root = stack[0];
+    let count = from.nodes;
+    Nodes {
+        count,
+        rows,
+        parts,
+        root,
+    }
+}
