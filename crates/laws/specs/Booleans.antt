@@ -4,7 +4,7 @@ use mathlib.Core.Path.{_≡_, refl, sym, subst}
 use mathlib.Core.Logic.{_⊎_, inl, inr}
 use mathlib.Core.Bool.{Bool, true, false, not, _&&_, _||_}
 use native.Mathlib.Omega.{arith}
-use borrow.Author.Tests.{eq-eqb}
+use borrow.Author.Tests.{eq-eqb, eqb-true, eqb-false}
 use lib.Dec.{T, ltb, eqb, ltb→lt, nltb→le, T-not}
 
 -- ---- Bool as a type
@@ -70,3 +70,24 @@ lt-split e n h = go (T-dec (ltb e n))
     go : T (ltb e n) ⊎ T (not (ltb e n)) → (e < n) ⊎ (e ≡ n)
     go (inl t) = inl (ltb→lt e n t)
     go (inr t) = let q = nltb→le e n t in inr (omega arith)
+
+-- a disjunction that fails, part by part; a doubled negation
+pub not-or-l : (a b : Bool) → T (not (a || b)) → T (not a)
+not-or-l true b t = t
+not-or-l false b t = tt
+
+pub not-or-r : (a b : Bool) → T (not (a || b)) → T (not b)
+not-or-r true b t = absurd t
+not-or-r false b t = t
+
+pub not-not-T : (b : Bool) → T (not (not b)) → T b
+not-not-T true t = tt
+not-not-T false t = t
+
+-- numbers that are not unequal are equal
+pub not-unequal : (x y : ℕ) → ((x ≡ y → ⊥) → ⊥) → x ≡ y
+not-unequal x y h = go (eqb x y) refl
+  where
+    go : (b : Bool) → eqb x y ≡ b → x ≡ y
+    go true e = eqb-true x y e
+    go false e = absurd (h (eqb-false x y e))

@@ -1,5 +1,6 @@
 -- Laws about the definitions that more than one crate uses.
 --   Booleans, Lists    tests as facts; members of lists
+--   Results            answers, accepted or refused
 --   Positions          the first element that passes a test
 --   Tuples             equal tuples, tuples among tuples
 --   Repeats            lists without repeats
@@ -8,6 +9,7 @@
 --   Numbers            the numbers of atoms and of actions
 pub mod Booleans
 pub mod Lists
+pub mod Results
 pub mod Positions
 pub mod Tuples
 pub mod Repeats

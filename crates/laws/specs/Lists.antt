@@ -4,7 +4,7 @@ use mathlib.Core.Path.{_≡_, refl, sym, ap, ap₂, subst, _∙_}
 use mathlib.Core.Logic.{_⊎_, inl, inr, ⊎-elim}
 use mathlib.Core.Bool.{Bool, true, false, not, _||_}
 use mathlib.Core.Option.{Option, none, some}
-use mathlib.Core.List.{List, [], _∷_, _++_, map, append-assoc, List·Memᴰ, List·Memᴰ·head, List·Memᴰ·tail, List·Memᴰ·not-nil, List·Memᴰ·cases-cons, List·Memᴰ·append-cases, Memᴰ·append-left, Memᴰ·append-right}
+use mathlib.Core.List.{List, [], _∷_, _++_, map, append-assoc, List·Memᴰ, List·Memᴰ·head, List·Memᴰ·tail, List·Memᴰ·not-nil, List·Memᴰ·cases-cons, List·Memᴰ·append-cases, List·Memᴰ·eq-of-singleton, Memᴰ·append-left, Memᴰ·append-right}
 use native.Mathlib.Omega.{arith}
 use native.Mathlib.Nat.{add-zero, zero-add}
 use lib.Dec.{T, eqb, eqb→eq}
@@ -160,6 +160,9 @@ drop-mem zero [] x m = m
 drop-mem zero (y ∷ l) x m = m
 drop-mem (suc k) [] x m = m
 drop-mem (suc k) (y ∷ l) x m = List·Memᴰ·tail (drop-mem k l x m)
+
+pub snoc-cases : {A : Type 0} (l : List A) (x y : A) → List·Memᴰ y (l ++ (x ∷ [])) → List·Memᴰ y l ⊎ (y ≡ x)
+snoc-cases l x y m = ⊎-elim (λ q. inl q) (λ q. inr (List·Memᴰ·eq-of-singleton q)) (List·Memᴰ·append-cases l m)
 
 pub getD-mem : {A : Type 0} (l : List A) (i : ℕ) (d : A) → i < length l → List·Memᴰ (getD l i d) l
 getD-mem [] i d h = absurd (omega arith)

@@ -1,6 +1,6 @@
 -- Checking accepts exactly the steps that reach the goal; and the bound is below the number of atoms.
 use Prim.Native.Nat.{ℕ, zero, suc, _+_, _-_, _<_, _≤_}
-use mathlib.Core.Path.{_≡_, refl, sym, ap, subst, _∙_}
+use mathlib.Core.Path.{_≡_, refl, sym, ap, _∙_}
 use mathlib.Core.Bool.{Bool, true, false, _&&_}
 use mathlib.Core.Option.{Option, none, some}
 use mathlib.Core.List.{List, [], _∷_, map}
@@ -10,7 +10,7 @@ use lib.Dec.{T, ltb}
 use lib.ListN.{length}
 use borrow.Author.Tests.{le-ltb}
 use Rattle.definitions.specs.Lists.{if_then_else_, option, sum, flatMap, mapFrom}
-use Rattle.definitions.specs.Refusal.{Result, refused, accepted, _>>=_, refuseIf}
+use Rattle.definitions.specs.Refusal.{refused, accepted, _>>=_, refuseIf}
 use Rattle.definitions.specs.Relations.{Relation, isChosen, isFunction, isInjective}
 use Rattle.definitions.specs.Atoms.{Problem, tuplesOf, Block, Atom, countOf, relationBlocks, relationsBlocks, nodesBlocks, nodeAtoms, atomBlocks, atoms, State, initial}
 use Rattle.definitions.specs.Actions.{Action, actionAt}
@@ -18,8 +18,8 @@ use Rattle.definitions.specs.Strips.{mayTake, after, reachesFrom, reachesGoal, 
 use Rattle.definitions.specs.Built.{mostPicks, bound}
 use Rattle.definitions.specs.Outcome.{readCase, ground, readProblem, Given, asNumbers, takeSteps, readyToRun}
 use Rattle.definitions.specs.Demand.{isAccepted, stepsAreAccepted}
-use Rattle.laws.specs.Booleans.{T-of, T-true}
-use Rattle.laws.specs.Positions.{place}
+use Rattle.laws.specs.Booleans.{T-true}
+use Rattle.laws.specs.Results.{accepted-is, bind-parts}
 use Rattle.laws.specs.Blocks.{count-append}
 
 -- ---- a run is accepted exactly if it reaches the goal, with its step count
@@ -66,25 +66,11 @@ unfolding run reachesGoal
 run-count p ks t = runs-count p ks (initial p) zero t ∙ ap accepted (zero-add (length ks))
 
 -- ---- whole calls
-pub is-accepted : {A : Type 0} (r : Result A) (a : A) → r ≡ accepted a → isAccepted r ≡ true
-unfolding isAccepted
-is-accepted r a e = ap isAccepted e
-
-pub accepted-is : {A : Type 0} (r : Result A) → isAccepted r ≡ true → (a : A) × (r ≡ accepted a)
-unfolding isAccepted
-accepted-is (refused k place) e = absurd (T-of e)
-accepted-is (accepted a) e = (a, refl)
-
-pub bind-inv : {A B : Type 0} (m : Result A) (f : A → Result B) (b : B) → (m >>= f) ≡ accepted b → (a : A) × (m ≡ accepted a) × (f a ≡ accepted b)
-unfolding _>>=_ isAccepted
-bind-inv {A} {B} (refused k place) f b e = absurd (subst T (sym (ap isAccepted e)) tt)
-bind-inv (accepted a) f b e = (a, refl, e)
-
 -- checking a question and site that are accepted, with steps that are read as ks
 pub steps-accepted : (question site : List ℕ) (p : Problem) (steps : Given) (ks : List ℕ) → readProblem question site ≡ accepted p → takeSteps steps ≡ accepted ks → stepsAreAccepted question site steps ≡ reachesGoal p ks
 unfolding readProblem stepsAreAccepted readyToRun _>>=_
 steps-accepted question site p steps ks e t =
-    let (c, a, g) = bind-inv (readCase question site) ground p e in
+    let (c, a, g) = bind-parts (readCase question site) ground p e in
     rw (a, t, g) (run-accepts p ks)
 
 -- accepted steps were taken
@@ -92,9 +78,9 @@ pub steps-taken : (question site : List ℕ) (steps : Given) → stepsAreAccepte
 unfolding stepsAreAccepted readyToRun
 steps-taken question site steps e =
     let (n, r) = accepted-is (readyToRun question site steps (λ _. accepted tt) >>= λ r. run (r .problem) (r .steps) .answer) e in
-    let (x, f, g) = bind-inv (readyToRun question site steps (λ _. accepted tt)) _ n r in
-    let (c, h, i) = bind-inv (readCase question site) _ x f in
-    let (ks, j, l) = bind-inv (takeSteps steps) _ x i in
+    let (x, f, g) = bind-parts (readyToRun question site steps (λ _. accepted tt)) _ n r in
+    let (c, h, i) = bind-parts (readCase question site) _ x f in
+    let (ks, j, l) = bind-parts (takeSteps steps) _ x i in
     (ks, j)
 
 pub lent-steps : (ks : List ℕ) → length ks ≤ 65536 → takeSteps (asNumbers ks) ≡ accepted ks

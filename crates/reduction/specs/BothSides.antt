@@ -1,11 +1,11 @@
 -- Words that stand on both sides of the theorems, so that a wrong one would not be noticed there: each has a law of its own.
 use Prim.Native.Nat.{ℕ, zero, suc, _+_, _-_, _<_, _≤_}
-use mathlib.Core.Path.{_≡_, refl, ap, subst, _∙_}
-use mathlib.Core.Logic.{_⊎_, ⊎-elim, _↔_}
+use mathlib.Core.Path.{_≡_, refl, ap, _∙_}
+use mathlib.Core.Logic.{_↔_}
 use mathlib.Core.Bool.{Bool, true, false, not, _&&_, _||_, or-false}
 use mathlib.Core.List.{List, [], _∷_, map, List·Memᴰ}
 use native.Mathlib.Omega.{arith}
-use lib.Dec.{T, eqb, eqb→eq, eqb-refl, T-not, not-T}
+use lib.Dec.{T-not, not-T}
 use lib.ListN.{getD}
 use borrow.Author.Tests.{eq-eqb, eqb-true, lt-ltb, le-ltb, ltb-true}
 use Rattle.definitions.specs.Lists.{all, any, below}
@@ -17,7 +17,7 @@ use Rattle.definitions.specs.Tree.{treeOf}
 use Rattle.definitions.specs.Built.{treeHolds}
 use Rattle.definitions.specs.Refusal.{accepted}
 use Rattle.definitions.specs.Outcome.{readCase}
-use Rattle.laws.specs.Booleans.{T-and-l, T-and-r, T-dec, T-false, T-of, T-true, and-T}
+use Rattle.laws.specs.Booleans.{T-and-l, T-and-r, T-false, T-of, T-true, and-T, not-unequal}
 use Rattle.laws.specs.Lists.{all-at, all-of, any-at, any-of, below-lt, mem-below}
 use Rattle.laws.specs.Tuples.{among-mem}
 use Rattle.reduction.specs.Reader.{Accepted, case-fits, gives-if}
@@ -82,16 +82,13 @@ pub kind-means : (picks : List Tuple) (r : ℕ) (k : Relation)
 unfolding isOfKind
 kind-means picks r k = (
   (λ e t u mt mu et eu. (
-    (λ f a. same-of (second t) (second u) (λ d. T-not (isFunction (k .kind) && two r first second picks) (T-and-l (not (isFunction (k .kind) && two r first second picks)) _ (T-of e)) (and-T (isFunction (k .kind)) _ (T-of f) (two-of r first second picks t u mt mu et eu a d)))),
-    (λ f a. same-of (first t) (first u) (λ d. T-not (isInjective (k .kind) && two r second first picks) (T-and-r (not (isFunction (k .kind) && two r first second picks)) _ (T-of e)) (and-T (isInjective (k .kind)) _ (T-of f) (two-of r second first picks t u mt mu et eu a d)))),
+    (λ f a. not-unequal (second t) (second u) (λ d. T-not (isFunction (k .kind) && two r first second picks) (T-and-l (not (isFunction (k .kind) && two r first second picks)) _ (T-of e)) (and-T (isFunction (k .kind)) _ (T-of f) (two-of r first second picks t u mt mu et eu a d)))),
+    (λ f a. not-unequal (first t) (first u) (λ d. T-not (isInjective (k .kind) && two r second first picks) (T-and-r (not (isFunction (k .kind) && two r first second picks)) _ (T-of e)) (and-T (isInjective (k .kind)) _ (T-of f) (two-of r second first picks t u mt mu et eu a d)))),
   )),
   (λ h. T-true (not (isFunction (k .kind) && two r first second picks) && not (isInjective (k .kind) && two r second first picks)) (and-T (not (isFunction (k .kind) && two r first second picks)) _
       (not-T (isFunction (k .kind) && two r first second picks) (λ q. let (t, u, mt, mu, et, eu, a, d) = two-at r first second picks (T-and-r (isFunction (k .kind)) _ q) in d (h t u mt mu et eu .0 (T-true (isFunction (k .kind)) (T-and-l (isFunction (k .kind)) _ q)) a)))
       (not-T (isInjective (k .kind) && two r second first picks) (λ q. let (t, u, mt, mu, et, eu, a, d) = two-at r second first picks (T-and-r (isInjective (k .kind)) _ q) in d (h t u mt mu et eu .1 (T-true (isInjective (k .kind)) (T-and-l (isInjective (k .kind)) _ q)) a))))),
 )
-  where
-    same-of : (a b : ℕ) → ((a ≡ b → ⊥) → ⊥) → a ≡ b
-    same-of a b h = ⊎-elim (λ t. eqb→eq a b t) (λ t. absurd (h (λ e. T-not (eqb a b) t (subst (λ (x : ℕ). T (eqb a x)) e (eqb-refl a))))) (T-dec (eqb a b))
 
 -- "a second for every first place"
 pub total-means : (c : Case) (picks : List Tuple) (r : ℕ) → (isTotalIn c picks r ≡ true) ↔ ((x : ℕ) → x < c .site .size → (y : ℕ) × (y < c .site .size) × (holds c picks r (x ∷ y ∷ []) ≡ true))

@@ -6,7 +6,7 @@ use mathlib.Core.Option.{Option, none, some}
 use mathlib.Core.List.{List, List·Memᴰ}
 use lib.Dec.{T, ltb}
 use lib.ListN.{length}
-use borrow.Author.Tests.{le-ltb}
+use borrow.Author.Tests.{le-ltb, ltb-false}
 use Rattle.definitions.specs.Lists.{filter, below}
 use Rattle.definitions.specs.Refusal.{Result, refused, accepted, _>>=_, refuseIf}
 use Rattle.definitions.specs.Relations.{Tuple, isChosen}
@@ -17,6 +17,7 @@ use Rattle.definitions.specs.Built.{chosenNumbers, builtSteps, bound}
 use Rattle.definitions.specs.Outcome.{readCase, ground, roomFor, stateLength, picksLength, Given, asText, asNumbers, textPicks, picksRoom, spareWord, spareRefusal, takePicks, lentPicks, kindRefusal, Plan, plan, written, builtFrom}
 use Rattle.definitions.specs.Demand.{isAccepted}
 use Rattle.laws.specs.Booleans.{T-true}
+use Rattle.laws.specs.Results.{accepted-eq, bind-parts, not-refused, refused-accepted}
 use Rattle.laws.specs.Lists.{below-lt, filter-mem, none-some}
 use Rattle.laws.specs.Positions.{any-not, place, position-none, position-some}
 use Rattle.laws.specs.Repeats.{once-distinct}
@@ -26,15 +27,6 @@ use Rattle.reduction.specs.Sound.{Inside, tupleAt}
 use Rattle.reduction.specs.Grounded.{good}
 use Rattle.reduction.specs.Picks.{fit-picks, inside-picks}
 use Rattle.reduction.specs.Lent.{lent-at, lent-once, numbers-once}
-use Rattle.reduction.specs.Accepting.{bind-inv}
-
-pub result-eq : {A : Type 0} (a b : A) → accepted a ≡ accepted b → a ≡ b
-result-eq {A} a b e = ap (λ (r : Result A). elim r as (λ _. A) [ refused k place ↦ a | accepted x ↦ x ]) e
-
-pub not-refused : (b : Bool) (k at : ℕ) (u : Unit {0}) → refuseIf b k at ≡ accepted u → b ≡ false
-unfolding refuseIf isAccepted
-not-refused true k at u e = absurd (subst T (sym (ap isAccepted e)) tt)
-not-refused false k at u e = refl
 
 -- ---- lent picks are tuples of the `choose` relations, none twice
 module _ (c : Case) (A : Accepted c) where
@@ -50,6 +42,11 @@ module _ (c : Case) (A : Accepted c) where
       inside t (m, (row, l, e)) =
           let q = filter-mem (λ r. isChosen (relationAt p r .kind)) (below (length (p .relations))) (t .relation) m in
           subst (Inside p (good c A)) (sym e) (record { known = below-lt (length (p .relations)) (t .relation) (q .0); chosen = q .1; long = length-places (p .size) (relationAt p (t .relation) .arity) row; small = places-below (p .size) (relationAt p (t .relation) .arity) row (good c A .element) })
+
+-- the problem that is grounded is the case's
+pub ground-is : (c : Case) (p : Problem) → ground c ≡ accepted p → p ≡ problemOf c
+unfolding ground
+ground-is c p e = let (u, a, g) = bind-parts (refuseIf _ 11 zero) (λ _. accepted (problemOf c)) p e in sym (accepted-eq (problemOf c) p g)
 
 -- ---- the picks that are handed over: read from a text, or the tuples of words that are long enough and have no spare bit set
 abbrev pub picksGiven : Case → Problem → Given → Result (List Tuple)
@@ -70,13 +67,13 @@ given-words c p words h e = let a : ltb (length words) (picksLength p) ≡ false
 -- whatever is handed over and taken is picks
 given-parts : (c : Case) (p : Problem) (g : Given) (F : List Tuple) → picksGiven c p g ≡ accepted F → (read : List Tuple) × (textPicks c g ≡ accepted read) × (picksRoom p g ≡ accepted tt) × (takePicks p g read ≡ accepted F)
 given-parts c p g F e =
-    let (read, a, b) = bind-inv (textPicks c g) _ F e in
-    let (u, d, f) = bind-inv (picksRoom p g) _ F b in
+    let (read, a, b) = bind-parts (textPicks c g) _ F e in
+    let (u, d, f) = bind-parts (picksRoom p g) _ F b in
     (read, a, d, f)
 
 lent-taken : (p : Problem) (words : List ℕ) (read F : List Tuple) → takePicks p (asNumbers words) read ≡ accepted F → lentPicks p words (chosenNumbers p) ≡ F
 unfolding takePicks
-lent-taken p words read F e = let (u, a, d) = bind-inv (spareRefusal (spareWord p words zero (chosenNumbers p))) (λ _. accepted (lentPicks p words (chosenNumbers p))) F e in result-eq (lentPicks p words (chosenNumbers p)) F d
+lent-taken p words read F e = let (u, a, d) = bind-parts (spareRefusal (spareWord p words zero (chosenNumbers p))) (λ _. accepted (lentPicks p words (chosenNumbers p))) F e in accepted-eq (lentPicks p words (chosenNumbers p)) F d
 
 pub given-picks : (c : Case) → Accepted c → (g : Given) (F : List Tuple) → picksGiven c (problemOf c) g ≡ accepted F → arePicks c F ≡ true
 given-picks c A (asText text) F e = T-true (arePicks c F) (fit-picks c F (gives-if _ (readPicks (c .question .chosen) (firstChosen (c .question)) (c .site .size) text) F (sym (given-text c (problemOf c) text) ∙ e) (picks-fit (c .question .chosen) (firstChosen (c .question)) (c .site .size) text)))
@@ -114,7 +111,7 @@ kinds-told c F e = go (areOfKinds c F) refl
 kind-accepted : (o : Option ℕ) (u : Unit {0}) → kindRefusal o ≡ accepted u → o ≡ none
 unfolding kindRefusal isAccepted
 kind-accepted none u e = refl
-kind-accepted (some i) u e = absurd (subst T (sym (ap isAccepted e)) tt)
+kind-accepted (some i) u e = absurd (refused-accepted e)
 
 unaccepted : (b : Bool) → not b ≡ false → b ≡ true
 unaccepted true e = refl
@@ -124,26 +121,42 @@ given-from : (c : Case) (p : Problem) (g : Given) (read F : List Tuple) (u : Uni
 unfolding _>>=_
 given-from c p g read F u a b d = rw (a, b) d
 
+-- a plan has room
+pub plan-rooms : (question site : List ℕ) (g : Given) (stateRoom stepsRoom : ℕ) (b : Plan) → plan question site g stateRoom stepsRoom ≡ accepted b → (stateLength (b .problem) ≤ stateRoom) × (bound (b .problem) ≤ stepsRoom)
+unfolding plan roomFor
+plan-rooms question site g stateRoom stepsRoom b e =
+    let (c, rc, e₁) = bind-parts (readCase question site) _ b e in
+    let (read, rt, e₂) = bind-parts (textPicks c g) _ b e₁ in
+    let (p, rg, e₃) = bind-parts (ground c) _ b e₂ in
+    let (u₁, r₁, e₄) = bind-parts (picksRoom p g) _ b e₃ in
+    let (u₂, r₂, e₅) = bind-parts (refuseIf (ltb stateRoom (stateLength p)) 12 (stateLength p)) _ b e₄ in
+    let (u₃, r₃, e₆) = bind-parts (refuseIf (ltb stepsRoom (bound p)) 12 (bound p)) _ b e₅ in
+    let (F, rf, e₇) = bind-parts (takePicks p g read) _ b e₆ in
+    let (u₄, r₄, e₈) = bind-parts (kindRefusal (firstOfOtherKind c F)) _ b e₇ in
+    let (u₅, r₅, e₉) = bind-parts (refuseIf (not (ruleIsTrue c F)) 17 zero) _ b e₈ in
+    subst (λ (b : Plan). (stateLength (b .problem) ≤ stateRoom) × (bound (b .problem) ≤ stepsRoom)) (accepted-eq _ b e₉)
+    (ltb-false stateRoom (stateLength p) (not-refused (ltb stateRoom (stateLength p)) 12 (stateLength p) u₂ r₂), ltb-false stepsRoom (bound p) (not-refused (ltb stepsRoom (bound p)) 12 (bound p) u₃ r₃))
+
 -- what a plan tells
 pub plan-tells : (question site : List ℕ) (g : Given) (stateRoom stepsRoom : ℕ) (b : Plan) → plan question site g stateRoom stepsRoom ≡ accepted b
     → (c : Case) × (readCase question site ≡ accepted c) × (ground c ≡ accepted (b .problem)) × (picksGiven c (b .problem) g ≡ accepted (b .picks)) × (areOfKinds c (b .picks) ≡ true) × (ruleIsTrue c (b .picks) ≡ true) × (b .steps ≡ builtSteps (b .problem) (b .picks))
 unfolding plan _>>=_
 plan-tells question site g stateRoom stepsRoom b e =
-    let (c, rc, e₁) = bind-inv (readCase question site) _ b e in
-    let (read, rt, e₂) = bind-inv (textPicks c g) _ b e₁ in
-    let (p, rg, e₃) = bind-inv (ground c) _ b e₂ in
-    let (u₁, r₁, e₄) = bind-inv (picksRoom p g) _ b e₃ in
-    let (u₂, r₂, e₅) = bind-inv (roomFor (stateLength p) stateRoom) _ b e₄ in
-    let (u₃, r₃, e₆) = bind-inv (roomFor (bound p) stepsRoom) _ b e₅ in
-    let (F, rf, e₇) = bind-inv (takePicks p g read) _ b e₆ in
-    let (u₄, r₄, e₈) = bind-inv (kindRefusal (firstOfOtherKind c F)) _ b e₇ in
-    let (u₅, r₅, e₉) = bind-inv (refuseIf (not (ruleIsTrue c F)) 17 zero) _ b e₈ in
-    let q : record { problem = p; picks = F; steps = builtSteps p F } ≡ b = result-eq _ b e₉ in
+    let (c, rc, e₁) = bind-parts (readCase question site) _ b e in
+    let (read, rt, e₂) = bind-parts (textPicks c g) _ b e₁ in
+    let (p, rg, e₃) = bind-parts (ground c) _ b e₂ in
+    let (u₁, r₁, e₄) = bind-parts (picksRoom p g) _ b e₃ in
+    let (u₂, r₂, e₅) = bind-parts (roomFor (stateLength p) stateRoom) _ b e₄ in
+    let (u₃, r₃, e₆) = bind-parts (roomFor (bound p) stepsRoom) _ b e₅ in
+    let (F, rf, e₇) = bind-parts (takePicks p g read) _ b e₆ in
+    let (u₄, r₄, e₈) = bind-parts (kindRefusal (firstOfOtherKind c F)) _ b e₇ in
+    let (u₅, r₅, e₉) = bind-parts (refuseIf (not (ruleIsTrue c F)) 17 zero) _ b e₈ in
+    let q : record { problem = p; picks = F; steps = builtSteps p F } ≡ b = accepted-eq _ b e₉ in
     subst (λ (b : Plan). (c : Case) × (readCase question site ≡ accepted c) × (ground c ≡ accepted (b .problem)) × (picksGiven c (b .problem) g ≡ accepted (b .picks)) × (areOfKinds c (b .picks) ≡ true) × (ruleIsTrue c (b .picks) ≡ true) × (b .steps ≡ builtSteps (b .problem) (b .picks))) q
     (c, rc, rg, given-from c p g read F u₁ rt r₁ rf, kinds-told c F (kind-accepted (firstOfOtherKind c F) u₄ r₄), unaccepted (ruleIsTrue c F) (not-refused (not (ruleIsTrue c F)) 17 zero u₅ r₅), refl)
 
 -- what an accepted answer of the builder tells
 pub built-tells : (r : Result Plan) (state steps : List ℕ) (k : ℕ) → builtFrom r state steps .answer ≡ accepted k → (b : Plan) × (r ≡ accepted b) × (k ≡ length (b .steps)) × (builtFrom r state steps .steps ≡ written (b .steps) steps)
 unfolding builtFrom isAccepted
-built-tells (refused n place) state steps k e = absurd (subst T (sym (ap isAccepted e)) tt)
-built-tells (accepted b) state steps k e = (b, refl, sym (result-eq (length (b .steps)) k e), refl)
+built-tells (refused n place) state steps k e = absurd (refused-accepted e)
+built-tells (accepted b) state steps k e = (b, refl, sym (accepted-eq (length (b .steps)) k e), refl)

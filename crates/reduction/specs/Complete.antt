@@ -18,12 +18,12 @@ use Rattle.definitions.specs.Actions.{Action, set, beginProof, proveGoal, actio
 use Rattle.definitions.specs.Strips.{mayTake, after, reachesFrom, reachesGoal, pickOf, picksOf}
 use Rattle.definitions.specs.Built.{treeHolds, nodeSteps, builtActions, builtSteps, stepFor, trueRows}
 use Rattle.laws.specs.Booleans.{T-of}
-use Rattle.laws.specs.Lists.{flat-append}
+use Rattle.laws.specs.Lists.{flat-append, snoc-cases}
 use Rattle.laws.specs.Repeats.{Once}
 use Rattle.laws.specs.Numbers.{IsAction, IsAtom, action-at, inj-fun}
 use Rattle.reduction.specs.Means.{Good, means}
 use Rattle.reduction.specs.Valid.{needs-valid, after-add, after-keep, may-of, free-cases, pair-of}
-use Rattle.reduction.specs.Sound.{tup, holds-split, holds-base, holds-pick, holds-empty, OfKinds, asks, tupleAt, snoc-cases, same-row, initial-at}
+use Rattle.reduction.specs.Sound.{holds-mono, holds-new, tup, holds-split, holds-pick, holds-empty, OfKinds, asks, tupleAt, same-row, initial-at}
 use Rattle.reduction.specs.Pairs.{Pair, setOf, tupleOf, Ready, pairs, sets-are, pairs-once, pairs-ready, picked-in, in-picked}
 use Rattle.reduction.specs.Does.{Takes, ends, takes-append, ends-append, takes-reach, Has, Does, High, Low, nodes-do, part-low}
 
@@ -70,12 +70,6 @@ module _ (p : Problem) (G : Good p) where
     here : List·Memᴰ (tupleAt p r row) P₁
     here = Memᴰ·append-right P (List·Memᴰ·head refl)
 
-    old : (r′ : ℕ) (xs : List ℕ) → T (holds (p .source) P r′ xs) → T (holds (p .source) P₁ r′ xs)
-    old r′ xs t = ⊎-elim (λ q. holds-base (p .source) P₁ r′ xs q) (λ q. holds-pick (p .source) P₁ r′ xs (q .0) (Memᴰ·append-left (tupleAt p r row ∷ []) (q .1))) (holds-split (p .source) P r′ xs t)
-
-    back : (r′ : ℕ) (xs : List ℕ) → T (holds (p .source) P₁ r′ xs) → T (holds (p .source) P r′ xs) ⊎ (tup r′ xs ≡ tupleAt p r row)
-    back r′ xs t = ⊎-elim (λ q. inl (holds-base (p .source) P r′ xs q)) (λ q. ⊎-elim (λ m. inl (holds-pick (p .source) P r′ xs (q .0) m)) (λ e. inr e) (snoc-cases p G P (tupleAt p r row) (tup r′ xs) (q .1))) (holds-split (p .source) P₁ r′ xs t)
-
     chosen-high : 5 ≤ r
     unfolding IsAction
     chosen-high = G .low-static r (v .1)
@@ -96,8 +90,8 @@ module _ (p : Problem) (G : Good p) where
     set-exact (tuple r′ row′) w a = ⊎-elim
         (λ q. stays (tuple r′ row′) w q (removed (tuple r′ row′) (λ e. num-clash tt (ap tag e)) (λ f e. num-clash tt (ap tag e)) (λ f e. num-clash tt (ap tag e))))
         (λ q. let k = same-row p G r row r′ row′ (v .2) (w .1) q in after-add p G s (set r row) (tuple r′ row′) (List·Memᴰ·head (ap₂ tuple (k .0) (k .1))))
-        (back r′ _ a)
-    set-exact (notTuple r′ row′) w a = stays (notTuple r′ row′) w (not-T (holds (p .source) P r′ (placesOf (p .size) (relationAt p r′ .arity) row′)) (λ t. T-not (holds (p .source) P₁ r′ (placesOf (p .size) (relationAt p r′ .arity) row′)) a (old r′ _ t)))
+        (holds-new (p .source) P (tupleAt p r row) r′ _ a)
+    set-exact (notTuple r′ row′) w a = stays (notTuple r′ row′) w (not-T (holds (p .source) P r′ (placesOf (p .size) (relationAt p r′ .arity) row′)) (λ t. T-not (holds (p .source) P₁ r′ (placesOf (p .size) (relationAt p r′ .arity) row′)) a (holds-mono (p .source) P P₁ (λ t m. Memᴰ·append-left (tupleAt p r row ∷ []) m) r′ _ t)))
         (removed (notTuple r′ row′) (λ e. T-not (holds (p .source) P₁ r (placesOf (p .size) (relationAt p r .arity) row)) (subst (asks p G P₁) e a) (holds-pick (p .source) P₁ r _ chosen-high here)) (λ f e. num-clash tt (ap tag e)) (λ f e. num-clash tt (ap tag e)))
     set-exact (freeDomain r′ x) w a = stays (freeDomain r′ x) w (λ y m. a y (Memᴰ·append-left (tupleAt p r row ∷ []) m))
         (removed (freeDomain r′ x) (λ e. num-clash tt (ap tag e)) (λ f e. subst (asks p G P₁) e a (row % p .size) (pair-mem f)) (λ f e. num-clash tt (ap tag e)))
@@ -140,10 +134,10 @@ module _ (p : Problem) (G : Good p) where
             n (subst (λ (xs : List ℕ). List·Memᴰ (tup (q .0) xs) P) (ap (λ (z : ℕ). z ∷ (q .1) % (p .size) ∷ []) e ∙ sym (pair q v g)) k)
 
         sub1 : (q : Pair) → List·Memᴰ (tupleOf p q) F → (t : Tuple) → List·Memᴰ t (P ++ (tupleOf p q ∷ [])) → List·Memᴰ t F
-        sub1 q m t k = ⊎-elim (λ a. sub t a) (λ e. subst (λ (z : Tuple). List·Memᴰ z F) (sym e) m) (snoc-cases p G P (tupleOf p q) t k)
+        sub1 q m t k = ⊎-elim (λ a. sub t a) (λ e. subst (λ (z : Tuple). List·Memᴰ z F) (sym e) m) (snoc-cases P (tupleOf p q) t k)
 
         fresh1 : (q : Pair) (l : List Pair) → (List·Memᴰ q l → ⊥) → IsAction p (setOf q) → ((u : Pair) → List·Memᴰ u l → IsAction p (setOf u)) → ((u : Pair) → List·Memᴰ u l → List·Memᴰ (tupleOf p u) P → ⊥) → (u : Pair) → List·Memᴰ u l → List·Memᴰ (tupleOf p u) (P ++ (tupleOf p q ∷ [])) → ⊥
-        fresh1 q l n v vs h u m k = ⊎-elim (λ a. h u m a) (λ e. let w = vs u m in let j = same-row p G (q .0) (q .1) (u .0) (u .1) (v .2) (w .2) e in n (Memᴰ·cast (ap₂ (λ (a b : ℕ). (a, b)) (sym (j .0)) (sym (j .1))) m)) (snoc-cases p G P (tupleOf p q) (tupleOf p u) k)
+        fresh1 q l n v vs h u m k = ⊎-elim (λ a. h u m a) (λ e. let w = vs u m in let j = same-row p G (q .0) (q .1) (u .0) (u .1) (v .2) (w .2) e in n (Memᴰ·cast (ap₂ (λ (a b : ℕ). (a, b)) (sym (j .0)) (sym (j .1))) m)) (snoc-cases P (tupleOf p q) (tupleOf p u) k)
 
     abbrev P₀ : List Tuple
     P₀ = map (tupleOf p) (pairs p F)
@@ -163,16 +157,13 @@ module _ (p : Problem) (G : Good p) where
     initial-exact x v a = subst T (sym (initial-at p G x v)) (asks-initial x a)
 
     -- ---- begin-proof
-    more : (A B : List Tuple) → ((t : Tuple) → List·Memᴰ t A → List·Memᴰ t B) → (r : ℕ) (xs : List ℕ) → T (holds (p .source) A r xs) → T (holds (p .source) B r xs)
-    more A B h r xs t = ⊎-elim (λ q. holds-base (p .source) B r xs q) (λ q. holds-pick (p .source) B r xs (q .0) (h _ (q .1))) (holds-split (p .source) A r xs t)
-
     begin-has : (s : State) → Exact P₀ s → Has p G (Low p G F (length (p .nodeList))) (after p s beginProof)
     unfolding means High asks IsAtom removes adds IsAction tag
     begin-has s E guess w a = absurd (a .1)
     begin-has s E proof w a = after-add p G s beginProof proof (List·Memᴰ·head refl)
     begin-has s E goal w a = absurd (a .1)
-    begin-has s E (tuple r row) w a = after-keep p G s beginProof (tuple r row) tt w (E (tuple r row) w (more F P₀ (in-picked p G F (K .inside)) r _ (a .0))) (λ m. num-clash tt (ap tag (List·Memᴰ·eq-of-singleton m)))
-    begin-has s E (notTuple r row) w a = after-keep p G s beginProof (notTuple r row) tt w (E (notTuple r row) w (not-T (holds (p .source) P₀ r (placesOf (p .size) (relationAt p r .arity) row)) (λ t. T-not (holds (p .source) F r (placesOf (p .size) (relationAt p r .arity) row)) (a .0) (more P₀ F (picked-in p F) r _ t)))) (λ m. num-clash tt (ap tag (List·Memᴰ·eq-of-singleton m)))
+    begin-has s E (tuple r row) w a = after-keep p G s beginProof (tuple r row) tt w (E (tuple r row) w (holds-mono (p .source) F P₀ (in-picked p G F (K .inside)) r _ (a .0))) (λ m. num-clash tt (ap tag (List·Memᴰ·eq-of-singleton m)))
+    begin-has s E (notTuple r row) w a = after-keep p G s beginProof (notTuple r row) tt w (E (notTuple r row) w (not-T (holds (p .source) P₀ r (placesOf (p .size) (relationAt p r .arity) row)) (λ t. T-not (holds (p .source) F r (placesOf (p .size) (relationAt p r .arity) row)) (a .0) (holds-mono (p .source) P₀ F (picked-in p F) r _ t)))) (λ m. num-clash tt (ap tag (List·Memᴰ·eq-of-singleton m)))
     begin-has s E (freeDomain r x) w a = absurd (a .1)
     begin-has s E (freeRange r y) w a = absurd (a .1)
     begin-has s E (holdsNode k row) w a = absurd (let h = a .1 in let l = w .0 in omega arith)

@@ -1,4 +1,5 @@
--- The theorems, about document 01's definitions alone: demands 2 and 3, and what holds the numbering and the lent words together.
+-- The theorems, about document 01's definitions alone: demands 2 and 3, what holds numbering, texts and lent words together, and what
+-- of demand 1 is about definitions.
 -- A word of document 01 stands here under the name that `definitions` gives it; the proofs are in the other modules.
 --   1  existence                                            5  count, at-most
 --   2  acceptance, checking, checking-accepts               6  polynomial, degree
@@ -6,6 +7,7 @@
 --   4  building, refused-16, refused-17, built-exactly,     8  atom-number, action-number and what belongs to them;
 --      whenever-built, built-accepted, built-same              state-bit, words-taken, words-written: lent words;
 --                                                              number-texts, steps-texts, picks-texts: what texts say
+--                                                           9  check-refuse, read-refuse, build-refuse, the lengths
 use Prim.Native.Nat.{ℕ, zero, _+_, _*_, _^_, _<_, _≤_}
 use mathlib.Core.Path.{_≡_, refl, sym, ap, subst, subst₂, _∙_}
 use mathlib.Core.Logic.{_⊎_, ⊎-elim, _↔_}
@@ -28,13 +30,14 @@ use Rattle.definitions.specs.Atoms.{Problem, problemOf, Atom, itemAt, atomBlock
 use Rattle.definitions.specs.Actions.{Action, set, actionAt, actions, actionNumber, needs, adds, removes}
 use Rattle.definitions.specs.Strips.{reachesGoal, run, picksOf}
 use Rattle.definitions.specs.Built.{chosenNumbers, builtSteps, builtCount, bound, boundExponents, boundPolynomial, pickedRows}
-use Rattle.definitions.specs.Outcome.{readCase, ground, readProblem, roomFor, stateLength, written, picksLength, pickWords, bitOf, lentPicks, spareWord, Given, asText, asNumbers, takeSteps, textPicks, picksRoom, takePicks, readyToRun, Checked, checkedFrom, checkSteps, picksIfAccepted, picksReadFrom, picksFromSteps, kindRefusal, plan, Built, builtFrom, buildSteps}
+use Rattle.definitions.specs.Outcome.{sizes, action, readCase, ground, readProblem, roomFor, stateLength, written, picksLength, pickWords, bitOf, lentPicks, spareWord, Given, asText, asNumbers, takeSteps, textPicks, picksRoom, takePicks, readyToRun, Checked, checkedFrom, checkSteps, picksIfAccepted, picksReadFrom, picksFromSteps, kindRefusal, plan, Built, builtFrom, buildSteps}
 use Rattle.definitions.specs.Demand.{isAccepted, caseIsAccepted, stepsAreAccepted, areSamePicks}
 use Rattle.laws.specs.Numbers
 use Rattle.laws.specs.Words
 use Rattle.laws.specs.Booleans.{T-of}
+use Rattle.laws.specs.Results.{accepted-eq, accepted-is, bind-parts, is-accepted}
 use Rattle.laws.specs.Blocks.{item-lt}
-use Rattle.laws.specs.Numbers.{IsAtom, IsAction}
+use Rattle.laws.specs.Numbers.{IsAction, IsAtom}
 use Rattle.laws.specs.Words.{words-for}
 use Rattle.reduction.specs.Reader
 use Reader.{Accepted, case-fits, gives-if}
@@ -48,6 +51,8 @@ use Rattle.reduction.specs.Polynomial
 use Rattle.reduction.specs.Lent
 use Rattle.reduction.specs.States
 use Rattle.reduction.specs.Building
+use Rattle.reduction.specs.Refusals
+use Rattle.reduction.specs.Buffers
 use Rattle.reduction.specs.Decimals
 use Rattle.reduction.specs.Told
 use Rattle.reduction.specs.Written
@@ -56,8 +61,8 @@ use Rattle.reduction.specs.Written
 pub accepted-case : (question site : List ℕ) → (caseIsAccepted question site ≡ true) ↔ ((c : Case) × (p : Problem) × (readCase question site ≡ accepted c) × (readProblem question site ≡ accepted p))
 unfolding caseIsAccepted isAccepted readProblem
 accepted-case question site = (
-  (λ e. let (p, r) = Accepting.accepted-is (readProblem question site) e in let (c, a, g) = Accepting.bind-inv (readCase question site) ground p r in (c, p, a, r)),
-  (λ h. let (c, p, a, r) = h in Accepting.is-accepted (readProblem question site) p r),
+  (λ e. let (p, r) = accepted-is (readProblem question site) e in let (c, a, g) = bind-parts (readCase question site) ground p r in (c, p, a, r)),
+  (λ h. let (c, p, a, r) = h in is-accepted (readProblem question site) p r),
 )
 
 -- ---- For every question and site that are accepted: c is the case read from the two texts, p its numbered problem.
@@ -68,8 +73,7 @@ module _ (question site : List ℕ) (c : Case) (p : Problem) (is-case : readCase
   grounds = rw is-case at is-problem
 
   same-problem : p ≡ problemOf c
-  unfolding ground
-  same-problem = let (u, a, g) = Accepting.bind-inv (refuseIf _ 11 zero) (λ _. accepted (problemOf c)) p grounds in sym (Building.result-eq (problemOf c) p g)
+  same-problem = Building.ground-is c p grounds
 
   A : Accepted c
   A = gives-if Accepted (readCase question site) c is-case (case-fits question site)
@@ -109,7 +113,7 @@ module _ (question site : List ℕ) (c : Case) (p : Problem) (is-case : readCase
   pub checking-accepts : (given : Given) (steps : List ℕ) → takeSteps given ≡ accepted steps → (state : List ℕ) → stateLength p ≤ length state
       → (checkSteps question site given state .answer ≡ accepted (length steps)) ↔ (reachesGoal p steps ≡ true)
   checking-accepts given steps t state h = let q = ap (λ (r : Checked). r .answer) (checking given steps t state h) in (
-    (λ e. sym (Accepting.run-accepts p steps) ∙ Accepting.is-accepted (run p steps .answer) (length steps) (sym q ∙ e)),
+    (λ e. sym (Accepting.run-accepts p steps) ∙ is-accepted (run p steps .answer) (length steps) (sym q ∙ e)),
     (λ e. q ∙ Accepting.run-count p steps (T-of e)),
   )
 
@@ -190,8 +194,8 @@ module _ (question site : List ℕ) (c : Case) (p : Problem) (is-case : readCase
   whenever-built given state steps k e =
       let (b, r, n, w) = Building.built-tells (plan question site given (length state) (length steps)) state steps k e in
       let (c′, rc, rg, t, a, q, s) = Building.plan-tells question site given (length state) (length steps) b r in
-      let same-case : c′ ≡ c = Building.result-eq c′ c (sym rc ∙ is-case) in
-      let same : b .problem ≡ p = Building.result-eq (b .problem) p (sym rg ∙ ap ground same-case ∙ grounds) in
+      let same-case : c′ ≡ c = accepted-eq c′ c (sym rc ∙ is-case) in
+      let same : b .problem ≡ p = accepted-eq (b .problem) p (sym rg ∙ ap ground same-case ∙ grounds) in
       let f : taken given ≡ accepted (b .picks) = subst₂ (λ (x : Case) (y : Problem). Building.picksGiven x y given ≡ accepted (b .picks)) same-case same t in
       let l : b .steps ≡ builtSteps p (b .picks) = s ∙ ap (λ (y : Problem). builtSteps y (b .picks)) same in
       (b .picks, f, taken-picks given (b .picks) f, subst (λ (x : Case). areOfKinds x (b .picks) ≡ true) same-case a, subst (λ (x : Case). ruleIsTrue x (b .picks) ≡ true) same-case q, n ∙ ap length l, w ∙ ap (λ (x : List ℕ). written x steps) l)
@@ -218,7 +222,7 @@ module _ (question site : List ℕ) (c : Case) (p : Problem) (is-case : readCase
   -- ---- 6, polynomial: the bound is a polynomial in the number of elements; the question's text alone fixes its terms, whatever the
   -- site holds.
   pub polynomial : (q : Question) → readQuestion question ≡ accepted q → bound p ≡ boundPolynomial q (c .site .size)
-  polynomial q e = value ∙ ap (λ (x : Question). boundPolynomial x (c .site .size)) (Building.result-eq (c .question) q (sym (Reader.case-question question site c is-case) ∙ e))
+  polynomial q e = value ∙ ap (λ (x : Question). boundPolynomial x (c .site .size)) (accepted-eq (c .question) q (sym (Reader.case-question question site c is-case) ∙ e))
     where
       value : bound p ≡ boundPolynomial (c .question) (c .site .size)
       value = rw same-problem (Polynomial.bound-value c)
@@ -307,3 +311,35 @@ steps-texts text steps = (
   (λ e. Told.steps-told text steps e),
   (λ h. let (e, l, f) = h in ap readSteps e ∙ Written.steps-back steps f (subst (λ (t : List ℕ). length t ≤ textLimit) e l)),
 )
+
+-- ---- 9, demand 1, for whatever is handed over: each call refuses only with numbers of its own, keeps every buffer's length, and a
+-- refusal leaves what document 01 says it leaves.
+module _ (question site : List ℕ) where
+  pub sizes-refuse : (k place : ℕ) → sizes question site ≡ refused k place → (1 ≤ k) × (k ≤ 11)
+  sizes-refuse k place e = Refusals.sizes-refuse question site k place e
+
+  pub action-refuse : (n k place : ℕ) → action question site n ≡ refused k place → ((1 ≤ k) × (k ≤ 11)) ⊎ (k ≡ 13)
+  action-refuse n k place e = Refusals.action-refuse question site n k place e
+
+  -- Checking: 1 to 15; 1 to 12 leave the state's buffer as it was.
+  pub check-refuse : (steps : Given) (state : List ℕ) (k place : ℕ) → checkSteps question site steps state .answer ≡ refused k place → (1 ≤ k) × (k ≤ 15) × (k ≤ 12 → checkSteps question site steps state .state ≡ state)
+  check-refuse steps state k place e = let (a, b) = Refusals.check-refuse question site steps state k place e in (a, b, Buffers.check-leaves question site steps state k place e)
+
+  pub check-length : (steps : Given) (state : List ℕ) → length (checkSteps question site steps state .state) ≡ length state
+  check-length steps state = Buffers.check-length question site steps state
+
+  -- Reading picks: 1 to 15, which all leave the picks' buffer as it was; 1 to 12 leave the state's too.
+  pub read-refuse : (steps : Given) (picks state : List ℕ) (k place : ℕ) → picksFromSteps question site steps picks state .answer ≡ refused k place
+      → (1 ≤ k) × (k ≤ 15) × (picksFromSteps question site steps picks state .picks ≡ picks) × (k ≤ 12 → picksFromSteps question site steps picks state .state ≡ state)
+  read-refuse steps picks state k place e = let (a, b) = Refusals.read-refuse question site steps picks state k place e in let (f, g) = Buffers.read-leaves question site steps picks state k place e in (a, b, f, g)
+
+  pub read-length : (steps : Given) (picks state : List ℕ) → (length (picksFromSteps question site steps picks state .picks) ≡ length picks) × (length (picksFromSteps question site steps picks state .state) ≡ length state)
+  read-length steps picks state = Buffers.read-length question site steps picks state
+
+  -- Building: 1 to 12, 16 and 17, which all leave both buffers as they were.
+  pub build-refuse : (picks : Given) (state steps : List ℕ) (k place : ℕ) → buildSteps question site picks state steps .answer ≡ refused k place
+      → (((1 ≤ k) × (k ≤ 12)) ⊎ ((k ≡ 16) ⊎ (k ≡ 17))) × (buildSteps question site picks state steps .state ≡ state) × (buildSteps question site picks state steps .steps ≡ steps)
+  build-refuse picks state steps k place e = let (f, g) = Buffers.build-leaves question site picks state steps k place e in (Refusals.build-refuse question site picks state steps k place e, f, g)
+
+  pub build-length : (picks : Given) (state steps : List ℕ) → (length (buildSteps question site picks state steps .state) ≡ length state) × (length (buildSteps question site picks state steps .steps) ≡ length steps)
+  build-length picks state steps = Buffers.build-length question site picks state steps

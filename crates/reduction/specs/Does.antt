@@ -20,8 +20,8 @@ use Rattle.laws.specs.Lists.{all-at, all-of, below-lt, mem-below}
 use Rattle.laws.specs.Positions.{least-below, least-place, place}
 use Rattle.laws.specs.Numbers.{IsAction, IsAtom, action-at, noNode}
 use Rattle.reduction.specs.Parts.{Bnd, bnd-with, Here, HereAll, under-forall, under-exists, parts-and, parts-or, head-here, tail-here}
-use Rattle.reduction.specs.Means.{Good, means, here-at, values-bnd, forall-at, means-at}
-use Rattle.reduction.specs.Valid.{needs-valid, after-add, after-keep, may-of}
+use Rattle.reduction.specs.Means.{here-as, Good, means, values-bnd, forall-at, means-at}
+use Rattle.reduction.specs.Valid.{proof-or, needs-valid, after-add, after-keep, may-of}
 
 module _ (p : Problem) (G : Good p) where
   -- ---- steps taken
@@ -179,14 +179,8 @@ module _ (p : Problem) (G : Good p) where
         go false i t r = let q = r t in (omega (arith, q .0), λ x m. q .1 x m)
 
     -- ---- the step for a true atom of a node
-    here-as : (v : ℕ) (s : Tree) → v < length (p .nodeList) → nodeAt p v ≡ s → Here p v s
-    here-as v s l e = subst (Here p v) e (here-at p G v l)
-
     make-step : {X : Atom → Type 0} (v row : ℕ) (a : Action) → IsAction p a → removes p a ≡ [] → ((x : Atom) → List·Memᴰ x (needs p a) → X x) → List·Memᴰ (holdsNode v row) (adds p a) → Step X v row a
     make-step v row a i r n g = record { valid = i; plain = r; needed = λ x m. (needs-valid p G a i x m, n x m); given = g }
-
-    proof-or : (X : Atom → Type 0) {l : List Atom} (x : Atom) → X proof → ((y : Atom) → List·Memᴰ y l → X y) → List·Memᴰ x (proof ∷ l) → X x
-    proof-or X x i h m = ⊎-elim (λ e. subst X (sym e) i) (λ q. h x q) (List·Memᴰ·cases-cons m)
 
     abbrev Mine : ℕ → Tree → ℕ → Atom → Type 0
     Mine v s row x = Low (suc v) x ⊎ Own v 0 (λ _. ⊥) (isTrueAt p P s) (λ _. proveGoal) row x
@@ -194,7 +188,7 @@ module _ (p : Problem) (G : Good p) where
     and-step : (v row : ℕ) (ts : Trees) → v < length (p .nodeList) → nodeAt p v ≡ andNode ts → row < nodeWidth (p .size) (andNode ts) → T (isTrueAt p P (andNode ts) row) → Step (Mine v (andNode ts) row) v row (proveAnd v row)
     unfolding IsAction needs adds removes parts isTrueAt treeHolds nodeWidth isForall
     and-step v row ts l e h t = make-step v row (proveAnd v row) (l, subst (λ (s : Tree). row < rowsOf (p .size) s) (sym e) h, (ts, e)) refl
-        (λ x m. proof-or (Mine v (andNode ts) row) x (inl (proof-low (suc v))) (λ y q. inl (parts-low ts (suc v) (suc v) (valuesAt (p .size) (andNode ts) row) (omega arith) (parts-and p v ts (here-as v (andNode ts) l e)) (values-bnd p G (andNode ts) row) t y (subst (λ (s : Tree). List·Memᴰ y (partAtoms (p .size) (valuesAt (p .size) s row) (parts v s))) e q))) m)
+        (λ x m. proof-or (Mine v (andNode ts) row) x (inl (proof-low (suc v))) (λ y q. inl (parts-low ts (suc v) (suc v) (valuesAt (p .size) (andNode ts) row) (omega arith) (parts-and p v ts (here-as p G v (andNode ts) l e)) (values-bnd p G (andNode ts) row) t y (subst (λ (s : Tree). List·Memᴰ y (partAtoms (p .size) (valuesAt (p .size) s row) (parts v s))) e q))) m)
         (List·Memᴰ·head refl)
 
     or-step : (v row : ℕ) (ts : Trees) → v < length (p .nodeList) → nodeAt p v ≡ orNode ts → row < nodeWidth (p .size) (orNode ts) → T (isTrueAt p P (orNode ts) row) → Step (Mine v (orNode ts) row) v row (stepFor p P v (orNode ts) row)
@@ -204,7 +198,7 @@ module _ (p : Problem) (G : Good p) where
         let f : Part → Bool = λ (q : Part). treeHolds (p .source) P (valuesAt (p .size) (orNode ts) row) (q .tree) in
         let a : T (any f (partsFrom (suc v) ts)) = subst T (some-any ts (suc v) (valuesAt (p .size) (orNode ts) row)) t in
         let k : least f (partsFrom (suc v) ts) ≡ place f (partsFrom (suc v) ts) = least-place f (partsFrom (suc v) ts) a in
-        let q = part-first ts (suc v) (suc v) (valuesAt (p .size) (orNode ts) row) (omega arith) (parts-or p v ts (here-as v (orNode ts) l e)) (values-bnd p G (orNode ts) row) a in
+        let q = part-first ts (suc v) (suc v) (valuesAt (p .size) (orNode ts) row) (omega arith) (parts-or p v ts (here-as p G v (orNode ts) l e)) (values-bnd p G (orNode ts) row) a in
         make-step v row (proveOr v row (least f (partsFrom (suc v) ts))) (l, subst (λ (s : Tree). row < rowsOf (p .size) s) (sym e) h, (ts, e, subst (λ (i : ℕ). i < howMany ts) (sym k) (q .0))) refl
         (λ x m. proof-or (Mine v (orNode ts) row) x (inl (proof-low (suc v))) (λ y i. inl (q .1 y (subst (λ (z : ℕ). List·Memᴰ y (take 1 (drop z (partAtoms (p .size) (valuesAt (p .size) (orNode ts) row) (partsFrom (suc v) ts))))) k (subst (λ (s : Tree). List·Memᴰ y (take 1 (drop (least f (partsFrom (suc v) ts)) (partAtoms (p .size) (valuesAt (p .size) s row) (parts v s))))) e i)))) m)
         (List·Memᴰ·head refl)
@@ -216,7 +210,7 @@ module _ (p : Problem) (G : Good p) where
         let q = least-below f (p .size) (subst (λ (k : ℕ). T (any f (below k))) (G .sized) t) in
         make-step v row (proveExists v row (least f (below (p .size)))) (l, subst (λ (s : Tree). row < rowsOf (p .size) s) (sym e) h, (d, u, e, q .0)) refl
         (λ x m. proof-or (Mine v (existsNode d u) row) x (inl (proof-low (suc v))) (λ y i. inl (subst (Low (suc v)) (sym (List·Memᴰ·eq-of-singleton i ∙ ap (λ (s : Tree). underAtom (p .size) v s row (least f (below (p .size)))) e))
-        (part-low (suc v) (suc v) u (withValue (valuesAt (p .size) (existsNode d u) row) d (least f (below (p .size)))) (omega arith) (under-exists p v d u (here-as v (existsNode d u) l e)) (bnd-with (p .size) _ d _ (values-bnd p G (existsNode d u) row) (q .0)) (q .1)))) m)
+        (part-low (suc v) (suc v) u (withValue (valuesAt (p .size) (existsNode d u) row) d (least f (below (p .size)))) (omega arith) (under-exists p v d u (here-as p G v (existsNode d u) l e)) (bnd-with (p .size) _ d _ (values-bnd p G (existsNode d u) row) (q .0)) (q .1)))) m)
         (List·Memᴰ·head refl)
 
     -- a forall's needs at a row and z
@@ -229,7 +223,7 @@ module _ (p : Problem) (G : Good p) where
 
         under : (z : ℕ) → z < p .size → T (f z) → Low (suc v) (underAtom (p .size) v (nodeAt p v) row z)
         under z g t = subst (λ (s : Tree). Low (suc v) (underAtom (p .size) v s row z)) (sym e)
-            (part-low (suc v) (suc v) u (withValue (valuesAt (p .size) (forallNode d u) row) d z) (omega arith) (under-forall p v d u (here-as v (forallNode d u) l e)) (bnd-with (p .size) _ d z (values-bnd p G (forallNode d u) row) g) t)
+            (part-low (suc v) (suc v) u (withValue (valuesAt (p .size) (forallNode d u) row) d z) (omega arith) (under-forall p v d u (here-as p G v (forallNode d u) l e)) (bnd-with (p .size) _ d z (values-bnd p G (forallNode d u) row) g) t)
 
         go : (z : ℕ) → z < p .size → T (all (λ x. treeHolds (p .source) P (withValue (valuesAt (p .size) (forallNode d u) row) d x) u) (below (suc z))) → List·Memᴰ x (forallNeeds (p .size) v (nodeAt p v) row z) → Mine v (forallNode d u) (row * p .size + z) x
         go zero g t m = inl (subst (Low (suc v)) (sym (List·Memᴰ·eq-of-singleton m)) (under 0 g (all-at f (below 1) t 0 (mem-below 1 0 (omega arith)))))

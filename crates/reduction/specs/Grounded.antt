@@ -18,12 +18,13 @@ use Rattle.definitions.specs.Sheets.{Question, relationsOf, relations, firstCho
 use Rattle.definitions.specs.Truth.{Case}
 use Rattle.definitions.specs.Tree.{Tree, Trees, leaf, forallNode, existsNode, end, _then_, nest, leafOf, asIs, negated, allAsIs, allNegated, totalities, joined, treeOf, nodes}
 use Rattle.definitions.specs.Atoms.{Problem, problemOf, problemWith, relationAt, nodeAt}
-use Rattle.laws.specs.Booleans.{T-and-l, T-and-r, T-of, T-or, and-T, or-l, or-r}
+use Rattle.laws.specs.Booleans.{T-and-l, T-and-r, T-of, T-or, and-T}
 use Rattle.laws.specs.Lists.{all-at, getD-mem}
 use Rattle.laws.specs.Positions.{place, place-lt, position-place}
 use Rattle.laws.specs.Tuples.{same-eq}
 use Rattle.laws.specs.Numbers.{noRelation}
 use Rattle.reduction.specs.Reader.{Apart, Fit, Accepted}
+use Rattle.reduction.specs.Meaning.{known-name}
 use Rattle.reduction.specs.Parts.{Within, WithinAll, Fits, FitsAll, Here, IsNode}
 use Rattle.reduction.specs.Means.{Good}
 
@@ -79,17 +80,10 @@ unfolding any place Apart isDeclared
 known-at [] r k a t = absurd t
 known-at (q ∷ rs) r k a t = go (same (q .name) r) refl t (known-at rs r k (a .1))
   where
-    named : T (any (λ (q : Relation). same (q .name) r && eqb (q .arity) k) rs) → T (any (λ (q : Relation). same (q .name) r) rs)
-    named t = weaken rs t
-      where
-        weaken : (l : List Relation) → T (any (λ (q : Relation). same (q .name) r && eqb (q .arity) k) l) → T (any (λ (q : Relation). same (q .name) r) l)
-        weaken [] t = t
-        weaken (x ∷ l) t = ⊎-elim (λ u. or-l (same (x .name) r) _ (T-and-l (same (x .name) r) _ u)) (λ u. or-r (same (x .name) r) _ (weaken l u)) (T-or (same (x .name) r && eqb (x .arity) k) _ t)
-
     go : (b : Bool) → same (q .name) r ≡ b → T ((b && eqb (q .arity) k) || any (λ (q : Relation). same (q .name) r && eqb (q .arity) k) rs)
         → (T (any (λ (q : Relation). same (q .name) r && eqb (q .arity) k) rs) → (place (λ (q : Relation). same (q .name) r) rs < length rs) × (getD rs (place (λ (q : Relation). same (q .name) r) rs) noRelation .arity ≡ k) × T (any (λ (q : Relation). same (q .name) r) rs))
         → ((if b then zero else suc (place (λ (q : Relation). same (q .name) r) rs)) < suc (length rs)) × (getD (q ∷ rs) (if b then zero else suc (place (λ (q : Relation). same (q .name) r) rs)) noRelation .arity ≡ k) × T (b || any (λ (q : Relation). same (q .name) r) rs)
-    go true e t ih = (omega arith, ⊎-elim (λ u. eqb→eq (q .arity) k u) (λ u. absurd (T-not (any (λ (x : Relation). same (x .name) (q .name)) rs) (a .0) (subst (λ (z : List ℕ). T (any (λ (x : Relation). same (x .name) z) rs)) (sym (same-eq (q .name) r (T-of e))) (named u)))) (T-or (eqb (q .arity) k) _ t), tt)
+    go true e t ih = (omega arith, ⊎-elim (λ u. eqb→eq (q .arity) k u) (λ u. absurd (T-not (any (λ (x : Relation). same (x .name) (q .name)) rs) (a .0) (subst (λ (z : List ℕ). T (any (λ (x : Relation). same (x .name) z) rs)) (sym (same-eq (q .name) r (T-of e))) (known-name rs r k u)))) (T-or (eqb (q .arity) k) _ t), tt)
     go false e t ih = let h = ih t in (omega (arith, h .0), h .1, h .2)
 
 module _ (c : Case) (A : Accepted c) where

@@ -1,7 +1,6 @@
 -- The declared kinds as tested and as said; soundness in the words of the definitions.
 use Prim.Native.Nat.{ℕ, zero, _+_, _-_, _<_}
 use mathlib.Core.Path.{_≡_, refl, sym, ap, subst, subst₂, _∙_}
-use mathlib.Core.Logic.{_⊎_, ⊎-elim}
 use mathlib.Core.Bool.{true, not, _&&_}
 use mathlib.Core.List.{List, [], _∷_, List·Memᴰ}
 use native.Mathlib.Omega.{arith}
@@ -14,7 +13,7 @@ use Rattle.definitions.specs.Truth.{Case, eachChosen, two, first, second, isOfK
 use Rattle.definitions.specs.Atoms.{Problem, problemOf, problemWith, relationAt}
 use Rattle.definitions.specs.Strips.{reachesGoal, picksOf}
 use Rattle.definitions.specs.Built.{treeHolds}
-use Rattle.laws.specs.Booleans.{T-and-l, T-and-r, T-dec, T-of, T-true, and-T}
+use Rattle.laws.specs.Booleans.{T-and-l, T-and-r, T-of, T-true, and-T, not-unequal}
 use Rattle.laws.specs.Lists.{any-at, any-of, each-at, each-of}
 use Rattle.laws.specs.Numbers.{inj-fun, noRelation}
 use Rattle.reduction.specs.Reader.{Accepted}
@@ -99,13 +98,10 @@ module _ (c : Case) (A : Accepted c) where
   unfolding areOfKinds eachChosen isOfKind first second
   tested-kinds P I h = record {
     inside = I;
-    fun = λ r x y z f m n. same-of y z (λ d. T-not (isFunction (relationAt p r .kind) && two r first second P) (T-and-l (not (isFunction (relationAt p r .kind) && two r first second P)) _ (test r (I _ m))) (and-T (isFunction (relationAt p r .kind)) _ f (two-of r first second P (tup r (x ∷ y ∷ [])) (tup r (x ∷ z ∷ [])) m n refl refl refl d)));
-    inj = λ r x y z f m n. same-of x y (λ d. T-not (isInjective (relationAt p r .kind) && two r second first P) (T-and-r (not (isFunction (relationAt p r .kind) && two r first second P)) _ (test r (I _ m))) (and-T (isInjective (relationAt p r .kind)) _ f (two-of r second first P (tup r (x ∷ z ∷ [])) (tup r (y ∷ z ∷ [])) m n refl refl refl d)));
+    fun = λ r x y z f m n. not-unequal y z (λ d. T-not (isFunction (relationAt p r .kind) && two r first second P) (T-and-l (not (isFunction (relationAt p r .kind) && two r first second P)) _ (test r (I _ m))) (and-T (isFunction (relationAt p r .kind)) _ f (two-of r first second P (tup r (x ∷ y ∷ [])) (tup r (x ∷ z ∷ [])) m n refl refl refl d)));
+    inj = λ r x y z f m n. not-unequal x y (λ d. T-not (isInjective (relationAt p r .kind) && two r second first P) (T-and-r (not (isFunction (relationAt p r .kind) && two r first second P)) _ (test r (I _ m))) (and-T (isInjective (relationAt p r .kind)) _ f (two-of r second first P (tup r (x ∷ z ∷ [])) (tup r (y ∷ z ∷ [])) m n refl refl refl d)));
   }
     where
-      same-of : (a b : ℕ) → ((a ≡ b → ⊥) → ⊥) → a ≡ b
-      same-of a b h = ⊎-elim (λ t. eqb→eq a b t) (λ t. absurd (h (λ e. T-not (eqb a b) t (subst (λ (x : ℕ). T (eqb a x)) e (eqb-refl a))))) (T-dec (eqb a b))
-
       test : (r : ℕ) {xs : List ℕ} → Inside p G (tup r xs) → T (isOfKind P r (relationAt p r))
       test r i =
           let (j, e, l) = chosen-index c A r (i .known) (i .chosen) in

@@ -1,4 +1,4 @@
--- Demands 2 and 3 about document 01's definitions. `Demands` has the theorems; a reader begins there.
+-- The demands about document 01's definitions. `Demands` has the theorems; a reader begins there.
 --   Demands      every theorem under its name, with a sentence that says it
 --   BothSides    laws of the words that stand on both sides of a theorem
 --   Instance     the theorems speak of something: the case ONE
@@ -27,6 +27,8 @@
 --   Lines        lines and fields of a text
 --   Told         what a sheet that was read tells of its text
 --   Written      sheets of steps and picks, written and read back
+--   Refusals     which numbers each call refuses with
+--   Buffers      what is left in lent buffers
 pub mod Demands
 pub mod BothSides
 pub mod Instance
@@ -54,3 +56,5 @@ pub mod Decimals
 pub mod Lines
 pub mod Told
 pub mod Written
+pub mod Refusals
+pub mod Buffers

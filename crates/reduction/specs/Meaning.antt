@@ -77,6 +77,12 @@ module _ (n : ℕ) (G : List Binding → Bool) where
 length-snoc : {A : Type 0} (l : List A) (x : A) → length (l ++ (x ∷ [])) ≡ suc (length l)
 length-snoc l x = let e = length-append l (x ∷ []) in omega arith
 
+-- a known literal's name is a relation's
+pub known-name : (rs : List Relation) (r : List ℕ) (k : ℕ) → T (any (λ (q : Relation). same (q .name) r && eqb (q .arity) k) rs) → T (any (λ (q : Relation). same (q .name) r) rs)
+unfolding any
+known-name [] r k t = t
+known-name (q ∷ rs) r k t = ⊎-elim (λ u. or-l (same (q .name) r) _ (T-and-l (same (q .name) r) _ u)) (λ u. or-r (same (q .name) r) _ (known-name rs r k u)) (T-or (same (q .name) r && eqb (q .arity) k) _ t)
+
 module _ (c : Case) (picks : List Tuple) where
   nest-some : (vs scope : List (List ℕ)) (t : Tree) (G : List Binding → Bool) → T (areNew scope vs) → ((bs : List Binding) (e : Values) → Agree (scope ++ vs) bs e → treeHolds c picks e t ≡ G bs)
       → (bs : List Binding) (e : Values) → Agree scope bs e → treeHolds c picks e (nest existsNode (length scope) (length vs) t) ≡ forSome (c .site .size) vs bs G
@@ -98,11 +104,6 @@ module _ (c : Case) (picks : List Tuple) where
   unfolding Agree all
   map-agree scope bs e a [] h = refl
   map-agree scope bs e a (v ∷ vs) h = ap₂ _∷_ (ap e (level-place scope v (T-and-l (isBound scope v) _ h)) ∙ sym (a v (T-and-l (isBound scope v) _ h))) (map-agree scope bs e a vs (T-and-r (isBound scope v) _ h))
-
-  known-name : (rs : List Relation) (r : List ℕ) (k : ℕ) → T (any (λ (q : Relation). same (q .name) r && eqb (q .arity) k) rs) → T (any (λ (q : Relation). same (q .name) r) rs)
-  unfolding any
-  known-name [] r k t = t
-  known-name (q ∷ rs) r k t = ⊎-elim (λ u. or-l (same (q .name) r) _ (T-and-l (same (q .name) r) _ u)) (λ u. or-r (same (q .name) r) _ (known-name rs r k u)) (T-or (same (q .name) r && eqb (q .arity) k) _ t)
 
   leaf-holds : (rs : List Relation) (r : List ℕ) (xs : List ℕ) → T (any (λ (q : Relation). same (q .name) r) rs) → holds c picks (option (numberOf rs r) zero (λ k. k)) xs ≡ option (numberOf rs r) false (λ k. holds c picks k xs)
   unfolding numberOf option

@@ -48,8 +48,8 @@ module _ (p : Problem) (G : Good p) where
   unfolding nodeAt
   here-at v l = subst₂ (Here p) (zero-add v) (ap (λ (ts : List Tree). getD ts v (leaf true zero [])) (sym (G .noded))) (here-sub p (p .root) 0 (G .root-here) v (subst (λ (ts : List Tree). v < length ts) (G .noded) l))
 
-  abbrev n : ℕ
-  n = p .size
+  pub here-as : (v : ℕ) (s : Tree) → v < length (p .nodeList) → nodeAt p v ≡ s → Here p v s
+  here-as v s l e = subst (Here p v) e (here-at v l)
 
   pub values-bnd : (t : Tree) (row : ℕ) → Bnd (p .size) (valuesAt (p .size) t row)
   unfolding valuesAt
@@ -126,9 +126,6 @@ module _ (p : Problem) (G : Good p) where
     at-node : (v row : ℕ) (s : Tree) → nodeAt p v ≡ s → T (isTrueAt p P s row) → T (means p P (holdsNode v row))
     unfolding means
     at-node v row s e t = subst (λ (x : Tree). T (isTrueAt p P x row)) (sym e) t
-
-    here-as : (v : ℕ) (s : Tree) → v < length (p .nodeList) → nodeAt p v ≡ s → Here p v s
-    here-as v s l e = subst (Here p v) e (here-at v l)
 
     and-sound : (v row : ℕ) (ts : Trees) → v < length (p .nodeList) → nodeAt p v ≡ andNode ts → T (all (means p P) (needs p (proveAnd v row))) → T (means p P (holdsNode v row))
     unfolding needs parts isTrueAt treeHolds all

@@ -19,6 +19,7 @@ use Rattle.definitions.specs.Actions.{Values, valuesIn, withValue}
 use Rattle.definitions.specs.Built.{treeHolds, treesHold, someHolds}
 use Rattle.laws.specs.Booleans.{T-and-l, T-and-r, T-of, T-or, and-T, or-l, or-r}
 use Rattle.laws.specs.Lists.{all-at, any-at, mem-below, mem-filter}
+use Rattle.laws.specs.Numbers.{noNode}
 
 -- ---- every level that a quantifier binds or a literal names is below 4
 unfoldable mutual
@@ -141,9 +142,6 @@ module _ (p : Problem) where
     FitsAll (t then ts) = Fits t × FitsAll ts
 
   -- ---- t stands in the problem's tree, its nodes having the numbers from v on
-  abbrev noNode : Tree
-  noNode = leaf true zero []
-
   pub record Here (v : ℕ) (t : Tree) : Type 0 where
     pub cover : (j : ℕ) → j < length (nodes t) → nodeAt p (v + j) ≡ getD (nodes t) j noNode
     pub within : Within t

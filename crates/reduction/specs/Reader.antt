@@ -20,9 +20,9 @@ use Rattle.definitions.specs.Truth.{Case}
 use Rattle.definitions.specs.Atoms.{Problem, problemOf, atoms}
 use Rattle.definitions.specs.Actions.{actions}
 use Rattle.definitions.specs.Outcome.{readCase, ground, readProblem}
-use Rattle.laws.specs.Booleans.{T-and-l, T-and-r, T-of, T-or, or-l, or-r}
-use Rattle.laws.specs.Positions.{place}
+use Rattle.laws.specs.Booleans.{T-and-l, T-and-r, T-of, T-or, not-not-T, not-or-l, not-or-r, or-l, or-r}
 use Rattle.laws.specs.Tuples.{distinct-snoc, same-eq, same-refl}
+use Rattle.laws.specs.Numbers.{noRelation}
 
 -- ---- what holds of a result if it is accepted, of an option if there is something
 unfoldable pub Gives : {A : Type 0} → (A → Type 0) → Result A → Type 0
@@ -226,18 +226,6 @@ unfolding isEmpty
 empty-nil [] t = refl
 empty-nil (x ∷ l) t = absurd t
 
-not-or-l : (a b : Bool) → T (not (a || b)) → T (not a)
-not-or-l true b t = t
-not-or-l false b t = tt
-
-not-or-r : (a b : Bool) → T (not (a || b)) → T (not b)
-not-or-r true b t = absurd t
-not-or-r false b t = t
-
-not-not-T : (b : Bool) → T (not (not b)) → T b
-not-not-T true t = tt
-not-not-T false t = t
-
 relations-snoc : (rels chosen : List Relation) (x : Relation) → relations rels (chosen ++ (x ∷ [])) ≡ relations rels chosen ++ (x ∷ [])
 unfolding relations builtIn
 relations-snoc rels chosen x = ap (λ (l : List Relation). builtIn ++ l) (sym (append-assoc rels chosen (x ∷ []))) ∙ sym (append-assoc builtIn (rels ++ chosen) (x ∷ []))
@@ -353,9 +341,6 @@ question-fits text =
     (λ r R. gives-accepted QuestionFits _ (record { rels-fit = D .rels-fit; chosen-fit = D .chosen-fit; chosen-named = D .chosen-named; apart = D .apart; rule-fits = R })))
 
 -- ---- tuples of a sheet
-abbrev pub noRelation : Relation
-noRelation = record { name = []; arity = zero; kind = static }
-
 -- a tuple of one of the relations, whose numbers begin at `first`, over n elements
 pub record TupleFits (rs : List Relation) (first n : ℕ) (t : Tuple) : Type 0 where
   pub index : ℕ

@@ -4,7 +4,7 @@ use mathlib.Core.Path.{_≡_, refl, sym, ap, ap₂, subst, subst₂, _∙_}
 use mathlib.Core.Logic.{_⊎_, inl, inr, ⊎-elim}
 use mathlib.Core.Bool.{Bool, true, false, not, _&&_, _||_}
 use mathlib.Core.Option.{Option, none, some}
-use mathlib.Core.List.{List, [], _∷_, _++_, append-assoc, append-nil, List·Memᴰ, List·Memᴰ·head, List·Memᴰ·tail, List·Memᴰ·not-nil, List·Memᴰ·append-cases, List·Memᴰ·eq-of-singleton, Memᴰ·append-left, Memᴰ·append-right, Memᴰ·cast}
+use mathlib.Core.List.{List, [], _∷_, _++_, append-assoc, append-nil, List·Memᴰ, List·Memᴰ·head, List·Memᴰ·tail, List·Memᴰ·not-nil, List·Memᴰ·eq-of-singleton, Memᴰ·append-left, Memᴰ·append-right, Memᴰ·cast}
 use lib.Dec.{T, ltb, T-not, not-T}
 use lib.ListN.{length, getD}
 use borrow.Author.Tests.{ltb-false, le-ltb}
@@ -17,7 +17,7 @@ use Rattle.definitions.specs.Actions.{Action, set, beginProof, proveAnd, proveO
 use Rattle.definitions.specs.Strips.{mayTake, after, reachesFrom, reachesGoal, pickOf, picksOf}
 use Rattle.definitions.specs.Built.{treeHolds}
 use Rattle.laws.specs.Booleans.{T-and-l, T-and-r, T-or, or-l, or-r}
-use Rattle.laws.specs.Lists.{all-of}
+use Rattle.laws.specs.Lists.{all-of, snoc-cases}
 use Rattle.laws.specs.Tuples.{among-mem, distinct-snoc, mem-among}
 use Rattle.laws.specs.Rows.{Below, length-places, places-below, row-places}
 use Rattle.laws.specs.Numbers.{IsAction, IsAtom, action-is, atom-at, inj-fun}
@@ -83,6 +83,13 @@ module _ (c : Case) where
       go true e t = subst T e tt
       go false e t = ⊎-elim (λ q. n (tup r xs) (among-mem (tup r xs) (c .site .facts) q) refl) (λ q. q) (T-or (isAmong (tup r xs) (c .site .facts)) false t)
 
+  -- more picks, and one more
+  pub holds-mono : (P Q : List Tuple) → ((t : Tuple) → List·Memᴰ t P → List·Memᴰ t Q) → (r : ℕ) (xs : List ℕ) → T (holds c P r xs) → T (holds c Q r xs)
+  holds-mono P Q h r xs t = ⊎-elim (λ q. holds-base Q r xs q) (λ q. holds-pick Q r xs (q .0) (h _ (q .1))) (holds-split P r xs t)
+
+  pub holds-new : (P : List Tuple) (t : Tuple) (r : ℕ) (xs : List ℕ) → T (holds c (P ++ (t ∷ [])) r xs) → T (holds c P r xs) ⊎ (tup r xs ≡ t)
+  holds-new P t r xs h = ⊎-elim (λ q. inl (holds-base P r xs q)) (λ q. ⊎-elim (λ m. inl (holds-pick P r xs (q .0) m)) (λ e. inr e) (snoc-cases P t (tup r xs) (q .1))) (holds-split (P ++ (t ∷ [])) r xs h)
+
 module _ (p : Problem) (G : Good p) where
   -- a tuple of a chosen relation, over the elements
   pub record Inside (t : Tuple) : Type 0 where
@@ -116,10 +123,6 @@ module _ (p : Problem) (G : Good p) where
     pub kinds : OfKinds P
     pub distinct : T (areDistinct P)
     pub asked : (x : Atom) → IsAtom p x → T (s (atomNumber p x)) → asks P x
-
-  -- the old picks and the new one
-  pub snoc-cases : (P : List Tuple) (t u : Tuple) → List·Memᴰ u (P ++ (t ∷ [])) → List·Memᴰ u P ⊎ (u ≡ t)
-  snoc-cases P t u m = ⊎-elim (λ q. inl q) (λ q. inr (List·Memᴰ·eq-of-singleton q)) (List·Memᴰ·append-cases P m)
 
   pub same-row : (r row r′ row′ : ℕ) → row < tuplesOf (p .size) (relationAt p r) → row′ < tuplesOf (p .size) (relationAt p r′) → tupleAt p r′ row′ ≡ tupleAt p r row → (r′ ≡ r) × (row′ ≡ row)
   unfolding tuplesOf
@@ -196,12 +199,6 @@ module _ (p : Problem) (G : Good p) where
     unfolding IsAction
     chosen-high = G .low-static r (v .1)
 
-    old : (r′ : ℕ) (xs : List ℕ) → T (holds (p .source) P r′ xs) → T (holds (p .source) P₁ r′ xs)
-    old r′ xs t = ⊎-elim (λ q. holds-base (p .source) P₁ r′ xs q) (λ q. holds-pick (p .source) P₁ r′ xs (q .0) (Memᴰ·append-left (tupleAt p r row ∷ []) (q .1))) (holds-split (p .source) P r′ xs t)
-
-    new : (r′ : ℕ) (xs : List ℕ) → T (holds (p .source) P₁ r′ xs) → T (holds (p .source) P r′ xs) ⊎ (tup r′ xs ≡ tupleAt p r row)
-    new r′ xs t = ⊎-elim (λ q. inl (holds-base (p .source) P r′ xs q)) (λ q. ⊎-elim (λ m. inl (holds-pick (p .source) P r′ xs (q .0) m)) (λ e. inr e) (snoc-cases P (tupleAt p r row) (tup r′ xs) (q .1))) (holds-split (p .source) P₁ r′ xs t)
-
     set-asked : (x : Atom) → IsAtom p x → (T (s (atomNumber p x)) × (List·Memᴰ x (removes p (set r row)) → ⊥)) ⊎ List·Memᴰ x (adds p (set r row)) → asks P₁ x
     unfolding asks adds removes IsAtom IsAction isTuple
     set-asked guess w q = tt
@@ -209,12 +206,12 @@ module _ (p : Problem) (G : Good p) where
     set-asked proof w (inr m) = absurd (subst (λ (a : Atom). T (not (isTuple a))) (List·Memᴰ·eq-of-singleton m) tt)
     set-asked goal w (inl q) = I .asked goal tt (q .0)
     set-asked goal w (inr m) = absurd (subst (λ (a : Atom). T (not (isTuple a))) (List·Memᴰ·eq-of-singleton m) tt)
-    set-asked (tuple r′ row′) w (inl q) = old r′ _ (I .asked (tuple r′ row′) w (q .0))
+    set-asked (tuple r′ row′) w (inl q) = holds-mono (p .source) P P₁ (λ t m. Memᴰ·append-left (tupleAt p r row ∷ []) m) r′ _ (I .asked (tuple r′ row′) w (q .0))
     set-asked (tuple r′ row′) w (inr m) = subst (asks P₁) (sym (List·Memᴰ·eq-of-singleton m)) (holds-pick (p .source) P₁ r _ chosen-high (Memᴰ·append-right P (List·Memᴰ·head refl)))
     set-asked (notTuple r′ row′) w (inl q) = not-T (holds (p .source) P₁ r′ (placesOf (p .size) (relationAt p r′ .arity) row′)) (λ t. ⊎-elim
         (λ a. T-not (holds (p .source) P r′ (placesOf (p .size) (relationAt p r′ .arity) row′)) (I .asked (notTuple r′ row′) w (q .0)) a)
         (λ e. let k = same-row r row r′ row′ (v .2) (w .1) e in q .1 (List·Memᴰ·head (ap₂ notTuple (k .0) (k .1))))
-        (new r′ _ t))
+        (holds-new (p .source) P (tupleAt p r row) r′ _ t))
     set-asked (notTuple r′ row′) w (inr m) = absurd (subst (λ (a : Atom). T (not (isTuple a))) (List·Memᴰ·eq-of-singleton m) tt)
     set-asked (freeDomain r′ x) w (inl q) = λ y m. ⊎-elim
         (λ a. I .asked (freeDomain r′ x) w (q .0) y a)

@@ -13,7 +13,6 @@ use Rattle.definitions.specs.Actions.{Action, set, beginProof, proveAnd, proveO
 use Rattle.definitions.specs.Strips.{mayTake, after, runFrom, run}
 use Rattle.laws.specs.Booleans.{T-of}
 use Rattle.laws.specs.Lists.{some-eq}
-use Rattle.laws.specs.Positions.{place}
 use Rattle.laws.specs.Numbers.{IsAtom, action-is}
 use Rattle.reduction.specs.Means.{Good}
 use Rattle.reduction.specs.Valid.{needs-valid, after-cases, may-at}

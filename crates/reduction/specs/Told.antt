@@ -18,12 +18,11 @@ use Rattle.definitions.specs.Sheets.{Entry, rel, choose, rule, size, fact, pick
 use Rattle.definitions.specs.Desk.{printLine, stepLine}
 use Rattle.definitions.specs.Demand.{isAccepted}
 use Rattle.laws.specs.Booleans.{T-and-l}
+use Rattle.laws.specs.Results.{accepted-eq, bind-parts, given-some, not-refused, refused-accepted}
 use Rattle.laws.specs.Lists.{none-some, some-eq}
 use Rattle.laws.specs.Tuples.{same-eq}
 use Rattle.laws.specs.Numbers.{noRelation}
 use Rattle.reduction.specs.Reader.{Holds, holds-option, holds-if, holds-none, holds-some, holds-self, position-holds}
-use Rattle.reduction.specs.Accepting.{bind-inv}
-use Rattle.reduction.specs.Building.{result-eq, not-refused}
 use Rattle.reduction.specs.Decimals.{decimal-number}
 use Rattle.reduction.specs.Lines.{split-cons, joined, print-joined}
 
@@ -122,11 +121,6 @@ entry-told (w ∷ fs) =
     facts [] = holds-none (Says (w ∷ fs))
     facts (f ∷ gs) = holds-if (Says (w ∷ fs)) (isBetween 1 3 (length gs)) _ none (λ b. holds-option (λ xs. numbers gs ≡ some xs) (Says (w ∷ fs)) (numbers gs) _ (holds-self (numbers gs)) (λ xs e. holds-some (Says (w ∷ fs)) (fact f xs) tt)) (holds-none (Says (w ∷ fs)))
 
-given-told : {A : Type 0} (o : Option A) (k at : ℕ) (a : A) → given o k at ≡ accepted a → o ≡ some a
-unfolding given isAccepted
-given-told none k at a e = absurd (subst T (sym (ap isAccepted e)) tt)
-given-told (some b) k at a e = ap some (result-eq b a e)
-
 holds-told : {A : Type 0} (P : A → Type 0) (o : Option A) (a : A) → o ≡ some a → Holds P o → P a
 unfolding Holds
 holds-told P o a e h = subst (Holds P) e h
@@ -134,11 +128,11 @@ holds-told P o a e h = subst (Holds P) e h
 -- an ended line's entry, and that a line that is not ended has none
 line-told : (at : ℕ) (w : List ℕ) (e : Entry) → entryOf (record { at = at; ended = true; content = w }) ≡ accepted e → Says (split 9 w) e
 unfolding entryOf fields
-line-told at w e h = holds-told (Says (split 9 w)) (entry (split 9 w)) e (given-told (entry (split 9 w)) 2 at e h) (entry-told (split 9 w))
+line-told at w e h = holds-told (Says (split 9 w)) (entry (split 9 w)) e (given-some (entry (split 9 w)) 2 at e h) (entry-told (split 9 w))
 
 open-told : (at : ℕ) (w : List ℕ) (e : Entry) → entryOf (record { at = at; ended = false; content = w }) ≡ accepted e → ⊥
 unfolding entryOf given isAccepted
-open-told at w e h = subst T (sym (ap isAccepted h)) tt
+open-told at w e h = refused-accepted h
 
 fields-back : (w : List ℕ) (fs : List (List ℕ)) → split 9 w ≡ fs → joined fs ≡ w
 fields-back w fs e = joined-back fs ∙ ap (unsplit 9) (sym e) ∙ split-back 9 w
@@ -152,7 +146,7 @@ module _ {A : Type 0} (line : List A → Line → Result (List A)) (write : A �
 
   none-new : (ps : List (List ℕ)) (acc s : List A) → unsplit 10 ps ≡ [] → accepted acc ≡ accepted s → Was ps acc s
   unfolding flatMap
-  none-new ps acc s u e = ([], sym (result-eq acc s e) ∙ sym (append-nil acc), u, λ a m. absurd (List·Memᴰ·not-nil m))
+  none-new ps acc s u e = ([], sym (accepted-eq acc s e) ∙ sym (append-nil acc), u, λ a m. absurd (List·Memᴰ·not-nil m))
 
   lines-told : (ps : List (List ℕ)) (acc s : List A) (at : ℕ) → readLines line acc (linesFrom at ps) ≡ accepted s → Was ps acc s
   unfolding linesFrom readLines unsplit flatMap isEmpty
@@ -161,9 +155,9 @@ module _ {A : Type 0} (line : List A → Line → Result (List A)) (write : A �
     where
       last : (w : List ℕ) → readLines line acc (if isEmpty w then [] else record { at = at; ended = false; content = w } ∷ []) ≡ accepted s → Was (w ∷ []) acc s
       last [] e = none-new ([] ∷ []) acc s refl e
-      last (b ∷ w) e = let (m, f, g) = bind-inv (line acc (record { at = at; ended = false; content = b ∷ w })) _ s e in absurd (never acc at (b ∷ w) m f)
+      last (b ∷ w) e = let (m, f, g) = bind-parts (line acc (record { at = at; ended = false; content = b ∷ w })) _ s e in absurd (never acc at (b ∷ w) m f)
   lines-told (w ∷ q ∷ qs) acc s at e =
-      let (m, f, g) = bind-inv (line acc (record { at = at; ended = true; content = w })) _ s e in
+      let (m, f, g) = bind-parts (line acc (record { at = at; ended = true; content = w })) _ s e in
       let (a, j, n, h) = tells acc at w m f in
       let (new, k, u, all′) = lines-told (q ∷ qs) m s (at + length w + 1) g in (
         a ∷ new,
@@ -175,29 +169,29 @@ module _ {A : Type 0} (line : List A → Line → Result (List A)) (write : A �
   pub text-told : (text : List ℕ) (s : List A) → readText line [] text ≡ accepted s → (text ≡ flatMap (λ a. printLine (write a)) s) × (length text ≤ textLimit) × ((a : A) → List·Memᴰ a s → P a)
   unfolding readText lines
   text-told text s e =
-      let (u, f, g) = bind-inv (refuseIf (ltb textLimit (length text)) 1 zero) _ s e in
+      let (u, f, g) = bind-parts (refuseIf (ltb textLimit (length text)) 1 zero) _ s e in
       let (new, k, t, h) = lines-told (split 10 text) [] s zero g in
       (sym (split-back 10 text) ∙ t ∙ ap (flatMap (λ a. printLine (write a))) (sym k), ltb-false textLimit (length text) (not-refused (ltb textLimit (length text)) 1 zero u f), λ a m. h a (subst (λ (l : List A). List·Memᴰ a l) k m))
 
 -- ---- steps
 steps-add : (acc : List ℕ) (at : ℕ) (fs : List (List ℕ)) (e : Entry) (m : List ℕ) → Says fs e → addToSteps acc at e ≡ accepted m → (k : ℕ) × (fs ≡ bytes "step" ∷ decimal k ∷ []) × (m ≡ acc ++ (k ∷ [])) × (k < 10 ^ 7)
 unfolding addToSteps Says isAccepted
-steps-add acc at fs (rel name a) m s e = absurd (subst T (sym (ap isAccepted e)) tt)
-steps-add acc at fs (choose name a k) m s e = absurd (subst T (sym (ap isAccepted e)) tt)
-steps-add acc at fs (rule f) m s e = absurd (subst T (sym (ap isAccepted e)) tt)
-steps-add acc at fs (size n) m s e = absurd (subst T (sym (ap isAccepted e)) tt)
-steps-add acc at fs (fact name xs) m s e = absurd (subst T (sym (ap isAccepted e)) tt)
-steps-add acc at fs (pick name xs) m s e = absurd (subst T (sym (ap isAccepted e)) tt)
-steps-add acc at fs (step k) m s e = (k, s .0, sym (result-eq (acc ++ (k ∷ [])) m e), s .1)
+steps-add acc at fs (rel name a) m s e = absurd (refused-accepted e)
+steps-add acc at fs (choose name a k) m s e = absurd (refused-accepted e)
+steps-add acc at fs (rule f) m s e = absurd (refused-accepted e)
+steps-add acc at fs (size n) m s e = absurd (refused-accepted e)
+steps-add acc at fs (fact name xs) m s e = absurd (refused-accepted e)
+steps-add acc at fs (pick name xs) m s e = absurd (refused-accepted e)
+steps-add acc at fs (step k) m s e = (k, s .0, sym (accepted-eq (acc ++ (k ∷ [])) m e), s .1)
 
 -- a text that is read as steps is what is written for them
 pub steps-told : (text ks : List ℕ) → readSteps text ≡ accepted ks → (text ≡ flatMap stepLine ks) × (length text ≤ textLimit) × ((k : ℕ) → List·Memᴰ k ks → k < 10 ^ 7)
 unfolding readSteps stepsLine stepLine
 steps-told text ks e = text-told stepsLine (λ k. bytes "step" ∷ decimal k ∷ []) (λ k. k < 10 ^ 7)
-    (λ acc at w m h. let (e, f, g) = bind-inv (entryOf (record { at = at; ended = true; content = w })) (addToSteps acc at) m h in
+    (λ acc at w m h. let (e, f, g) = bind-parts (entryOf (record { at = at; ended = true; content = w })) (addToSteps acc at) m h in
     let (k, q, n, l) = steps-add acc at (split 9 w) e m (line-told at w e f) g in
     (k, fields-back w (bytes "step" ∷ decimal k ∷ []) q, n, l))
-    (λ acc at w m h. let (e, f, g) = bind-inv (entryOf (record { at = at; ended = false; content = w })) (addToSteps acc at) m h in open-told at w e f)
+    (λ acc at w m h. let (e, f, g) = bind-parts (entryOf (record { at = at; ended = false; content = w })) (addToSteps acc at) m h in open-told at w e f)
     text ks e
 
 -- ---- picks
@@ -222,33 +216,33 @@ module _ (rs : List Relation) (first n : ℕ) where
   tuple-told : (acc : List Tuple) (at : ℕ) (name xs : List ℕ) (m : List Tuple) → addTuple rs first n acc at name xs ≡ accepted m → (t : Tuple) × (t .places ≡ xs) × (name ≡ nameOf t) × (m ≡ acc ++ (t ∷ []))
   unfolding addTuple
   tuple-told acc at name xs m e =
-      let (r, f, g) = bind-inv (given (used rs first name (length xs)) 7 at) _ m e in
-      let (u, h, i) = bind-inv (refuseIf (not (all (λ x. ltb x n) xs)) 9 at) _ m g in
-      let (v, j, k) = bind-inv (refuseIf (isAmong (record { relation = r; places = xs }) acc) 10 at) _ m i in
-      (record { relation = r; places = xs }, refl, used-told name (length xs) r (given-told (used rs first name (length xs)) 7 at r f), sym (result-eq _ m k))
+      let (r, f, g) = bind-parts (given (used rs first name (length xs)) 7 at) _ m e in
+      let (u, h, i) = bind-parts (refuseIf (not (all (λ x. ltb x n) xs)) 9 at) _ m g in
+      let (v, j, k) = bind-parts (refuseIf (isAmong (record { relation = r; places = xs }) acc) 10 at) _ m i in
+      (record { relation = r; places = xs }, refl, used-told name (length xs) r (given-some (used rs first name (length xs)) 7 at r f), sym (accepted-eq _ m k))
 
   abbrev written : Tuple → List (List ℕ)
   written t = bytes "pick" ∷ nameOf t ∷ map decimal (t .places)
 
   picks-add : (acc : List Tuple) (at : ℕ) (fs : List (List ℕ)) (e : Entry) (m : List Tuple) → Says fs e → addToPicks rs first n acc at e ≡ accepted m → (t : Tuple) × (fs ≡ written t) × (m ≡ acc ++ (t ∷ []))
   unfolding addToPicks Says isAccepted
-  picks-add acc at fs (rel name a) m s e = absurd (subst T (sym (ap isAccepted e)) tt)
-  picks-add acc at fs (choose name a k) m s e = absurd (subst T (sym (ap isAccepted e)) tt)
-  picks-add acc at fs (rule f) m s e = absurd (subst T (sym (ap isAccepted e)) tt)
-  picks-add acc at fs (size k) m s e = absurd (subst T (sym (ap isAccepted e)) tt)
-  picks-add acc at fs (fact name xs) m s e = absurd (subst T (sym (ap isAccepted e)) tt)
+  picks-add acc at fs (rel name a) m s e = absurd (refused-accepted e)
+  picks-add acc at fs (choose name a k) m s e = absurd (refused-accepted e)
+  picks-add acc at fs (rule f) m s e = absurd (refused-accepted e)
+  picks-add acc at fs (size k) m s e = absurd (refused-accepted e)
+  picks-add acc at fs (fact name xs) m s e = absurd (refused-accepted e)
   picks-add acc at fs (pick name xs) m s e =
       let (t, a, b, d) = tuple-told acc at name xs m e in
       (t, s ∙ ap₂ (λ (x y : List ℕ). bytes "pick" ∷ x ∷ map decimal y) b (sym a), d)
-  picks-add acc at fs (step k) m s e = absurd (subst T (sym (ap isAccepted e)) tt)
+  picks-add acc at fs (step k) m s e = absurd (refused-accepted e)
 
   -- a text that is read as picks is what is written for them
   pub picks-told : (text : List ℕ) (F : List Tuple) → readPicks rs first n text ≡ accepted F → (text ≡ flatMap (λ (t : Tuple). printLine (bytes "pick" ∷ getD rs (t .relation - first) noRelation .name ∷ map decimal (t .places))) F) × (length text ≤ textLimit)
   unfolding readPicks picksLine
   picks-told text F e =
       let (a, b, d) = text-told (picksLine rs first n) written (λ _. Unit {0})
-      (λ acc at w m h. let (e, f, g) = bind-inv (entryOf (record { at = at; ended = true; content = w })) (addToPicks rs first n acc at) m h in
+      (λ acc at w m h. let (e, f, g) = bind-parts (entryOf (record { at = at; ended = true; content = w })) (addToPicks rs first n acc at) m h in
       let (t, q, k) = picks-add acc at (split 9 w) e m (line-told at w e f) g in
       (t, fields-back w (written t) q, k, tt))
-      (λ acc at w m h. let (e, f, g) = bind-inv (entryOf (record { at = at; ended = false; content = w })) (addToPicks rs first n acc at) m h in open-told at w e f)
+      (λ acc at w m h. let (e, f, g) = bind-parts (entryOf (record { at = at; ended = false; content = w })) (addToPicks rs first n acc at) m h in open-told at w e f)
       text F e in (a, b)

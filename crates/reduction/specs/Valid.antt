@@ -20,8 +20,12 @@ use Rattle.laws.specs.Booleans.{T-and-l, T-and-r, T-of, T-or, and-T, or-l, or-r
 use Rattle.laws.specs.Lists.{all-at, all-of, any-at, any-of, drop-mem, map-mem, mem-map, take-mem}
 use Rattle.laws.specs.Rows.{pair-places}
 use Rattle.laws.specs.Numbers.{IsAction, IsAtom, atom-injective}
-use Rattle.reduction.specs.Parts.{Bnd, bnd-with, Here, HereAll, under-forall, under-exists, parts-and, parts-or, head-here, tail-here, IsNode}
-use Rattle.reduction.specs.Means.{Good, here-at, values-bnd, part-valid}
+use Rattle.reduction.specs.Parts.{Bnd, bnd-with, HereAll, under-forall, under-exists, parts-and, parts-or, head-here, tail-here, IsNode}
+use Rattle.reduction.specs.Means.{Good, here-as, values-bnd, part-valid}
+
+-- what holds of the proof phase and of every further need holds of every need
+pub proof-or : (X : Atom → Type 0) {l : List Atom} (x : Atom) → X proof → ((y : Atom) → List·Memᴰ y l → X y) → List·Memᴰ x (proof ∷ l) → X x
+proof-or X x i h m = ⊎-elim (λ e. subst X (sym e) i) (λ q. h x q) (List·Memᴰ·cases-cons m)
 
 module _ (p : Problem) (G : Good p) where
   -- a set action's free atoms
@@ -69,14 +73,11 @@ module _ (p : Problem) (G : Good p) where
   parts-valid end v e h b x m = absurd (List·Memᴰ·not-nil m)
   parts-valid (t then ts) v e h b x m = ⊎-elim (λ q. subst (IsAtom p) (sym q) (part-valid p G v t e (head-here p v t ts h) b)) (λ q. parts-valid ts (v + length (nodes t)) e (tail-here p v t ts h) b x q) (List·Memᴰ·cases-cons m)
 
-  here-as : (v : ℕ) (s : Tree) → v < length (p .nodeList) → nodeAt p v ≡ s → Here p v s
-  here-as v s l e = subst (Here p v) e (here-at p G v l)
-
   pub under-valid : (v row x : ℕ) (s : Tree) → v < length (p .nodeList) → nodeAt p v ≡ s → x < p .size → IsNode p s → IsAtom p (underAtom (p .size) v s row x)
   unfolding underAtom IsAtom IsNode
   under-valid v row x (leaf q r ls) l e g n = tt
-  under-valid v row x (forallNode d t) l e g n = part-valid p G (suc v) t (withValue (valuesAt (p .size) (forallNode d t) row) d x) (under-forall p v d t (here-as v (forallNode d t) l e)) (bnd-with (p .size) _ d x (values-bnd p G (forallNode d t) row) g)
-  under-valid v row x (existsNode d t) l e g n = part-valid p G (suc v) t (withValue (valuesAt (p .size) (existsNode d t) row) d x) (under-exists p v d t (here-as v (existsNode d t) l e)) (bnd-with (p .size) _ d x (values-bnd p G (existsNode d t) row) g)
+  under-valid v row x (forallNode d t) l e g n = part-valid p G (suc v) t (withValue (valuesAt (p .size) (forallNode d t) row) d x) (under-forall p v d t (here-as p G v (forallNode d t) l e)) (bnd-with (p .size) _ d x (values-bnd p G (forallNode d t) row) g)
+  under-valid v row x (existsNode d t) l e g n = part-valid p G (suc v) t (withValue (valuesAt (p .size) (existsNode d t) row) d x) (under-exists p v d t (here-as p G v (existsNode d t) l e)) (bnd-with (p .size) _ d x (values-bnd p G (existsNode d t) row) g)
   under-valid v row x (andNode ts) l e g n = tt
   under-valid v row x (orNode ts) l e g n = tt
 
@@ -96,21 +97,17 @@ module _ (p : Problem) (G : Good p) where
       (λ q. subst (IsAtom p) (sym (List·Memᴰ·eq-of-singleton q)) (own-valid v row z d t l e h (omega arith)))
       (List·Memᴰ·cases-cons m)
 
-  proof-or : {l : List Atom} (x : Atom) → ((y : Atom) → List·Memᴰ y l → IsAtom p y) → List·Memᴰ x (proof ∷ l) → IsAtom p x
-  unfolding IsAtom
-  proof-or x h m = ⊎-elim (λ e. subst (IsAtom p) (sym e) tt) (λ q. h x q) (List·Memᴰ·cases-cons m)
-
   pub needs-valid : (a : Action) → IsAction p a → (x : Atom) → List·Memᴰ x (needs p a) → IsAtom p x
   unfolding needs IsAction IsAtom parts IsNode
   needs-valid (set r row) v x m = ⊎-elim (λ e. subst (IsAtom p) (sym e) tt) (λ q. ⊎-elim (λ e. subst (IsAtom p) (sym e) (v .0, v .2)) (λ s. free-valid r row v x s) (List·Memᴰ·cases-cons q)) (List·Memᴰ·cases-cons m)
   needs-valid beginProof v x m = subst (IsAtom p) (sym (List·Memᴰ·eq-of-singleton m)) tt
-  needs-valid (proveAnd v row) (l, h, (ts, e)) x m = proof-or x
-      (λ y q. parts-valid ts (suc v) (valuesAt (p .size) (andNode ts) row) (parts-and p v ts (here-as v (andNode ts) l e)) (values-bnd p G (andNode ts) row) y (subst (λ (s : Tree). List·Memᴰ y (partAtoms (p .size) (valuesAt (p .size) s row) (parts v s))) e q)) m
-  needs-valid (proveOr v row i) (l, h, (ts, e, g)) x m = proof-or x
-      (λ y q. parts-valid ts (suc v) (valuesAt (p .size) (orNode ts) row) (parts-or p v ts (here-as v (orNode ts) l e)) (values-bnd p G (orNode ts) row) y (subst (λ (s : Tree). List·Memᴰ y (partAtoms (p .size) (valuesAt (p .size) s row) (parts v s))) e (drop-mem i _ y (take-mem 1 _ y q)))) m
-  needs-valid (proveExists v row z) (l, h, (d, t, e, g)) x m = proof-or x
+  needs-valid (proveAnd v row) (l, h, (ts, e)) x m = proof-or (IsAtom p) x tt
+      (λ y q. parts-valid ts (suc v) (valuesAt (p .size) (andNode ts) row) (parts-and p v ts (here-as p G v (andNode ts) l e)) (values-bnd p G (andNode ts) row) y (subst (λ (s : Tree). List·Memᴰ y (partAtoms (p .size) (valuesAt (p .size) s row) (parts v s))) e q)) m
+  needs-valid (proveOr v row i) (l, h, (ts, e, g)) x m = proof-or (IsAtom p) x tt
+      (λ y q. parts-valid ts (suc v) (valuesAt (p .size) (orNode ts) row) (parts-or p v ts (here-as p G v (orNode ts) l e)) (values-bnd p G (orNode ts) row) y (subst (λ (s : Tree). List·Memᴰ y (partAtoms (p .size) (valuesAt (p .size) s row) (parts v s))) e (drop-mem i _ y (take-mem 1 _ y q)))) m
+  needs-valid (proveExists v row z) (l, h, (d, t, e, g)) x m = proof-or (IsAtom p) x tt
       (λ y q. subst (IsAtom p) (sym (List·Memᴰ·eq-of-singleton q ∙ ap (λ (s : Tree). underAtom (p .size) v s row z) e)) (under-valid v row z (existsNode d t) l e g tt)) m
-  needs-valid (proveForall v row z) (l, h, (d, t, e, g)) x m = proof-or x (λ y q. forall-valid v row z d t l e h g y q) m
+  needs-valid (proveForall v row z) (l, h, (d, t, e, g)) x m = proof-or (IsAtom p) x tt (λ y q. forall-valid v row z d t l e h g y q) m
   needs-valid proveGoal v x m = subst (IsAtom p) (sym (List·Memᴰ·eq-of-singleton m)) (part-valid p G 0 (p .root) (λ _. zero) (G .root-here) (λ l. G .element))
 
   pub adds-valid : (a : Action) → IsAction p a → (x : Atom) → List·Memᴰ x (adds p a) → IsAtom p x
