@@ -62,7 +62,7 @@ module _ (p : Problem) where
     (λ h. let (k, m, s) = h in T-true (isAmong t (picksOf p steps)) (mem-among t (picksOf p steps) (subst (λ (u : Tuple). List·Memᴰ u (picksOf p steps)) (sym (s .3)) (mem-flat at-step steps k (tupleAt p (s .0) (s .1)) m (set-step k (s .0) (s .1) (s .2)))))),
   )
 
-same-picks : (P F : List Tuple) → ((t : Tuple) → List·Memᴰ t P → List·Memᴰ t F) → ((t : Tuple) → List·Memᴰ t F → List·Memᴰ t P) → areSamePicks P F ≡ true
+pub same-picks : (P F : List Tuple) → ((t : Tuple) → List·Memᴰ t P → List·Memᴰ t F) → ((t : Tuple) → List·Memᴰ t F → List·Memᴰ t P) → areSamePicks P F ≡ true
 unfolding areSamePicks
 same-picks P F f g = T-true (all (λ t. isAmong t F) P && all (λ u. isAmong u P) F)
     (and-T (all (λ t. isAmong t F) P) _ (all-of (λ t. isAmong t F) P (λ x m. mem-among x F (f x m))) (all-of (λ u. isAmong u P) F (λ x m. mem-among x P (g x m))))

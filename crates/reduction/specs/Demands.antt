@@ -1,13 +1,17 @@
 -- The theorems, about document 01's definitions alone: demands 2 and 3, what holds numbering, texts and lent words together, and what
 -- of demand 1 is about definitions.
 -- A word of document 01 stands here under the name that `definitions` gives it; the proofs are in the other modules.
---   1  existence                                            5  count, at-most
---   2  acceptance, checking, checking-accepts               6  polynomial, degree
---   3  soundness, tuples-set, reading                       7  strips-1, never-twice
---   4  building, refused-16, refused-17, built-exactly,     8  atom-number, action-number and what belongs to them;
---      whenever-built, built-accepted, built-same              state-bit, words-taken, words-written: lent words;
---                                                              number-texts, steps-texts, picks-texts: what texts say
---                                                           9  check-refuse, read-refuse, build-refuse, the lengths
+--    1  existence
+--    2  acceptance, lent-steps, checking, checking-accepts
+--    3  soundness, tuples-set, reading
+--    4  text-picks, lent-picks, taken-picks; building, refused-16, refused-17, built-exactly; whenever-built, built-accepted, built-same
+--    5  count, at-most
+--    6  polynomial, degree
+--    7  strips-1, never-twice
+--    8  atom-number, atoms-numbered, atoms-used, action-number, actions-numbered; state-bit, state-spare, words-taken, words-written;
+--       picks-texts, picks-printed, number-texts, steps-texts
+--    9  sizes-refuse, action-refuse, check-refuse, read-refuse, build-refuse; check-length, read-length, build-length
+--   10  desk-records
 use Prim.Native.Nat.{ℕ, zero, _+_, _*_, _^_, _<_, _≤_}
 use mathlib.Core.Path.{_≡_, refl, sym, ap, subst, subst₂, _∙_}
 use mathlib.Core.Logic.{_⊎_, ⊎-elim, _↔_}
@@ -21,7 +25,7 @@ use borrow.Author.Tests.{le-ltb}
 use Rattle.definitions.specs.Limits.{stepLimit, textLimit}
 use Rattle.definitions.specs.Lists.{flatMap}
 use Rattle.definitions.specs.Text.{number, decimal}
-use Rattle.definitions.specs.Desk.{stepLine, pickLine}
+use Rattle.definitions.specs.Desk.{stepLine, pickLine, sheets, answer}
 use Rattle.definitions.specs.Refusal.{Result, refused, accepted, _>>=_, refuseIf}
 use Rattle.definitions.specs.Relations.{Tuple, isAmong}
 use Rattle.definitions.specs.Sheets.{Question, readQuestion, readPicks, firstChosen, readSteps}
@@ -30,7 +34,7 @@ use Rattle.definitions.specs.Atoms.{Problem, problemOf, Atom, itemAt, atomBlock
 use Rattle.definitions.specs.Actions.{Action, set, actionAt, actions, actionNumber, needs, adds, removes}
 use Rattle.definitions.specs.Strips.{reachesGoal, run, picksOf}
 use Rattle.definitions.specs.Built.{chosenNumbers, builtSteps, builtCount, bound, boundExponents, boundPolynomial, pickedRows}
-use Rattle.definitions.specs.Outcome.{sizes, action, readCase, ground, readProblem, roomFor, stateLength, written, picksLength, pickWords, bitOf, lentPicks, spareWord, Given, asText, asNumbers, takeSteps, textPicks, picksRoom, takePicks, readyToRun, Checked, checkedFrom, checkSteps, picksIfAccepted, picksReadFrom, picksFromSteps, kindRefusal, plan, Built, builtFrom, buildSteps}
+use Rattle.definitions.specs.Outcome.{sizes, action, readCase, ground, readProblem, roomFor, stateLength, written, picksLength, pickWords, bitOf, lentPicks, spareWord, Given, asText, asNumbers, takeSteps, textPicks, picksRoom, takePicks, readyToRun, Checked, checkedFrom, checkSteps, picksIfAccepted, picksReadFrom, picksFromSteps, kindRefusal, Plan, plan, Built, builtFrom, buildSteps}
 use Rattle.definitions.specs.Demand.{isAccepted, caseIsAccepted, stepsAreAccepted, areSamePicks}
 use Rattle.laws.specs.Numbers
 use Rattle.laws.specs.Words
@@ -53,6 +57,7 @@ use Rattle.reduction.specs.States
 use Rattle.reduction.specs.Building
 use Rattle.reduction.specs.Refusals
 use Rattle.reduction.specs.Buffers
+use Rattle.reduction.specs.Filed
 use Rattle.reduction.specs.Decimals
 use Rattle.reduction.specs.Told
 use Rattle.reduction.specs.Written
@@ -343,3 +348,9 @@ module _ (question site : List ℕ) where
 
   pub build-length : (picks : Given) (state steps : List ℕ) → (length (buildSteps question site picks state steps .state) ≡ length state) × (length (buildSteps question site picks state steps .steps) ≡ length steps)
   build-length picks state steps = Buffers.build-length question site picks state steps
+
+-- ---- 10, the desk program: unless it refuses, what it prints (`Desk.report`) are the two records of one case: picks of the declared
+-- kinds of which the rule is true, and steps that reach the goal and are read as the same tuples.
+pub desk-records : (input : List ℕ) (b : Plan) → answer input ≡ accepted b
+    → (c : Case) × (readCase (sheets input .question) (sheets input .site) ≡ accepted c) × (ground c ≡ accepted (b .problem)) × (arePicks c (b .picks) ≡ true) × (areOfKinds c (b .picks) ≡ true) × (ruleIsTrue c (b .picks) ≡ true) × (reachesGoal (b .problem) (b .steps) ≡ true) × (areSamePicks (picksOf (b .problem) (b .steps)) (b .picks) ≡ true)
+desk-records input b e = let (c, rc, rg, h) = Filed.desk-filed input b e in let (a, k, r, g, s) = h in (c, rc, rg, a, k, r, g, s)

@@ -29,6 +29,7 @@
 --   Written      sheets of steps and picks, written and read back
 --   Refusals     which numbers each call refuses with
 --   Buffers      what is left in lent buffers
+--   Filed        what the desk program prints
 pub mod Demands
 pub mod BothSides
 pub mod Instance
@@ -58,3 +59,4 @@ pub mod Told
 pub mod Written
 pub mod Refusals
 pub mod Buffers
+pub mod Filed
