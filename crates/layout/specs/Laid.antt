@@ -1,0 +1,125 @@
+-- What is promised of a layout.
+use mathlib.Core.Path.{_≡_}
+use mathlib.Core.Bool.{Bool, true, false, _||_}
+use mathlib.Core.List.{List}
+use Prim.Native.Nat.{ℕ, zero, suc, _+_, _*_, _^_, _≤_, _<_}
+use lib.Dec.{ltb}
+use lib.ListN.{length, getD}
+use Rattle.definitions.specs.Limits.{atomLimit, actionLimit}
+use Rattle.definitions.specs.Lists.{if_then_else_}
+use Rattle.definitions.specs.Tree.{nodes}
+use Rattle.definitions.specs.Atoms.{Problem, relationAt, tuplesOf, relationStart, nodeStart, atoms}
+use Rattle.definitions.specs.Actions.{actions, setStart, proofStart}
+use Rattle.definitions.specs.Built.{bound}
+use Rattle.tree.specs.Tables.{IsTable, noNode}
+use Rattle.tree.specs.declared.Nodes.{Nodes}
+use Rattle.rows.specs.Values.{Most}
+use Rattle.ground.specs.Of.{kindNumber}
+use Rattle.layout.specs.declared.Relations.{Relations}
+use Rattle.layout.specs.declared.Layout.{Layout}
+use Rattle.layout.specs.declared.Made.{Made}
+
+-- ---- by the number of a kind
+unfoldable pub relationWidth : (n size kind : ℕ) → ℕ
+relationWidth n size kind = if ltb kind 2 then size + size else (if ltb kind 4 then size + size + n else size + size + n + n)
+
+unfoldable pub setWidth : (size kind : ℕ) → ℕ
+setWidth size zero = 0
+setWidth size (suc k) = size
+
+unfoldable pub mostWidth : (n size kind : ℕ) → ℕ
+mostWidth n size zero = 0
+mostWidth n size (suc zero) = size
+mostWidth n size (suc (suc k)) = n
+
+unfoldable pub nodeWidth : (n rows kind : ℕ) → ℕ
+nodeWidth n rows zero = rows * n
+nodeWidth n rows (suc k) = rows
+
+unfoldable pub choicesOf : (n kind many : ℕ) → ℕ
+choicesOf n zero many = n
+choicesOf n (suc zero) many = n
+choicesOf n (suc (suc zero)) many = 1
+choicesOf n (suc (suc (suc k))) many = many
+
+-- the relations fit their arrays
+pub record RelationsFit (g : Relations) : Type 0 where
+  pub count : g .count ≤ 17
+  pub arity : Most (g .arity) 4
+
+-- ---- starts by the tables: the sum of the widths before
+unfoldable pub relationSum : ℕ → Relations → ℕ → ℕ
+relationSum n g zero = 3
+relationSum n g (suc r) = relationSum n g r + relationWidth n (n ^ getD (g .arity) r 0) (getD (g .kind) r 0)
+
+unfoldable pub setSum : ℕ → Relations → ℕ → ℕ
+setSum n g zero = 0
+setSum n g (suc r) = setSum n g r + setWidth (n ^ getD (g .arity) r 0) (getD (g .kind) r 0)
+
+unfoldable pub pickSum : ℕ → Relations → ℕ → ℕ
+pickSum n g zero = 0
+pickSum n g (suc r) = pickSum n g r + mostWidth n (n ^ getD (g .arity) r 0) (getD (g .kind) r 0)
+
+unfoldable pub nodeSum : ℕ → Nodes → ℕ → ℕ → ℕ
+nodeSum n t from zero = from
+nodeSum n t from (suc v) = nodeSum n t from v + nodeWidth n (n ^ getD (t .rows) v noNode .width) (getD (t .rows) v noNode .kind)
+
+unfoldable pub actSum : ℕ → Nodes → ℕ → ℕ → ℕ
+actSum n t from zero = from
+actSum n t from (suc v) = actSum n t from v + (n ^ getD (t .rows) v noNode .width) * choicesOf n (getD (t .rows) v noNode .kind) (getD (t .rows) v noNode .many)
+
+pub record RelationsLaid (n : ℕ) (g : Relations) (i : ℕ) (rel neg dom sets : List ℕ) (at set picks : ℕ) : Type 0 where
+  pub at-is : at ≡ relationSum n g i
+  pub set-is : set ≡ setSum n g i
+  pub picks-are : picks ≡ pickSum n g i
+  pub rel-at : (r : ℕ) → r ≤ i → getD rel r 0 ≡ relationSum n g r
+  pub neg-at : (r : ℕ) → r < i → getD neg r 0 ≡ relationSum n g r + n ^ getD (g .arity) r 0
+  pub dom-at : (r : ℕ) → r < i → getD dom r 0 ≡ relationSum n g r + (n ^ getD (g .arity) r 0 + n ^ getD (g .arity) r 0)
+  pub set-at : (r : ℕ) → r ≤ i → getD sets r 0 ≡ setSum n g r
+  pub rel-most : Most rel at
+  pub neg-most : Most neg at
+  pub dom-most : Most dom at
+  pub set-most : Most sets set
+
+pub record NodesLaid (n : ℕ) (t : Nodes) (from first : ℕ) (v : ℕ) (node act : List ℕ) (at acts : ℕ) : Type 0 where
+  pub at-is : at ≡ nodeSum n t from v
+  pub act-is : acts ≡ actSum n t first v
+  pub node-at : (r : ℕ) → r ≤ v → getD node r 0 ≡ nodeSum n t from r
+  pub act-at : (r : ℕ) → r ≤ v → getD act r 0 ≡ actSum n t first r
+  pub node-most : Most node at
+  pub act-most : Most act acts
+
+-- ---- of which problem the elements, the relations and the node table are
+pub record Inputs (p : Problem) (n : ℕ) (g : Relations) (t : Nodes) : Type 0 where
+  pub size : n ≡ p .size
+  pub list : p .nodeList ≡ nodes (p .root)
+  pub count : g .count ≡ length (p .relations)
+  pub arity : (r : ℕ) → r < g .count → getD (g .arity) r 0 ≡ relationAt p r .arity
+  pub kind : (r : ℕ) → r < g .count → getD (g .kind) r 0 ≡ kindNumber (relationAt p r .kind)
+  pub tree : IsTable (g .count) (p .root) t
+
+-- every start is the problem's
+pub record Starts (p : Problem) (l : Layout) : Type 0 where
+  pub rel : (r : ℕ) → r ≤ length (p .relations) → getD (l .rel) r 0 ≡ relationStart p r
+  pub neg : (r : ℕ) → r < length (p .relations) → getD (l .neg) r 0 ≡ relationStart p r + tuplesOf (p .size) (relationAt p r)
+  pub dom : (r : ℕ) → r < length (p .relations) → getD (l .dom) r 0 ≡ relationStart p r + 2 * tuplesOf (p .size) (relationAt p r)
+  pub set : (r : ℕ) → r ≤ length (p .relations) → getD (l .set) r 0 ≡ setStart p r
+  pub node : (v : ℕ) → v ≤ length (p .nodeList) → getD (l .node) v 0 ≡ nodeStart p v
+  pub act : (v : ℕ) → v ≤ length (p .nodeList) → getD (l .act) v 0 ≡ proofStart p v
+
+-- no entry is above b
+pub record Small (l : Layout) (b : ℕ) : Type 0 where
+  pub rel : Most (l .rel) b
+  pub neg : Most (l .neg) b
+  pub dom : Most (l .dom) b
+  pub set : Most (l .set) b
+  pub node : Most (l .node) b
+  pub act : Most (l .act) b
+
+pub record Laid (p : Problem) (m : Made) : Type 0 where
+  pub over-is : m .over ≡ (ltb atomLimit (atoms p) || ltb actionLimit (actions p))
+  pub atoms-are : m .atoms ≡ atoms p
+  pub actions-are : m .actions ≡ actions p
+  pub bound-is : m .bound ≡ bound p
+  pub starts : Starts p (m .layout)
+  pub small : m .over ≡ false → Small (m .layout) actionLimit

@@ -1,0 +1,4 @@
+-- What a layout says, and the laws of its loops.
+pub mod Laid
+pub mod LaidLaws
+pub mod StartsAre

@@ -1,0 +1,256 @@
+-- The sums by the tables are the problem's starts, its counts and its bound.
+use mathlib.Core.Path.{_≡_, refl, sym, ap, ap₂, _∙_, subst}
+use mathlib.Core.Bool.{Bool, true, false, false≢true, _||_}
+use mathlib.Core.List.{List, [], _∷_, map}
+use Prim.Native.Nat.{ℕ, zero, suc, _+_, _-_, _*_, _^_, _≤_, _<_}
+use native.Mathlib.Omega.{arith}
+use native.Mathlib.Decide.{decLt}
+use borrow.Author.Tests.{lt-ltb, le-ltb}
+use lib.Dec.{ltb}
+use lib.ListN.{length, getD, take, drop, length-map, length-drop}
+use lib.Seq.{take-all, length-take-le}
+use Rattle.definitions.specs.Limits.{atomLimit, actionLimit}
+use Rattle.definitions.specs.Lists.{if_then_else_, sum}
+use Rattle.definitions.specs.Relations.{Kind, static, plain, Fun, PFun, Inj, PInj, Relation, isChosen, isFunction, isInjective}
+use Rattle.definitions.specs.Tree.{Tree, leaf, forallNode, existsNode, andNode, orNode, parts, nodes, isForall}
+use Rattle.definitions.specs.Atoms.{Problem, relationAt, nodeAt, relationStart, nodeStart, tuplesOf, rowsOf, nodeWidth as widthOf, nodeAtoms, atoms}
+use Rattle.definitions.specs.Actions.{choices, setsOf, proofsOf, setStart, proofStart, actions}
+use Rattle.definitions.specs.Built.{mostPicks, bound}
+use Rattle.laws.specs.Numbers.{noRelation, relationWidth as widthIn, relation-first, relation-next, set-first, set-next, node-first, node-next, node-le, proof-first, proof-next, atoms-end, node-atoms, actions-end}
+use Rattle.tree.specs.Tables.{nodeKind, headIn, headOf, IsNode, IsTable, noNode, Fits}
+use Rattle.tree.specs.declared.PartRow.{PartRow}
+use Rattle.tree.specs.declared.NodeRow.{NodeRow}
+use Rattle.tree.specs.declared.Nodes.{Nodes}
+use Rattle.rows.specs.Values.{Most}
+use Rattle.ground.specs.Of.{kindNumber}
+use Rattle.ground.specs.OfLaws.{parts-length}
+use Rattle.layout.specs.declared.Relations.{Relations}
+use Rattle.layout.specs.declared.Layout.{Layout}
+use Rattle.layout.specs.declared.Made.{Made}
+use Rattle.layout.specs.Laid.{relationWidth, setWidth, mostWidth, nodeWidth, choicesOf, relationSum, setSum, pickSum, nodeSum, actSum, RelationsLaid, NodesLaid, Inputs, Starts, Small, Laid}
+
+-- ---- by the kind
+width-is : (n T : ℕ) (k : Kind) → relationWidth n T (kindNumber k) ≡ T + (T + ((if isFunction k then n else 0) + (if isInjective k then n else 0)))
+unfolding relationWidth kindNumber isFunction isInjective
+width-is n T static = omega arith
+width-is n T plain = omega arith
+width-is n T Fun = omega arith
+width-is n T PFun = omega arith
+width-is n T Inj = omega arith
+width-is n T PInj = omega arith
+
+sets-are : (T : ℕ) (k : Kind) → setWidth T (kindNumber k) ≡ (if isChosen k then T else 0)
+unfolding setWidth kindNumber isChosen
+sets-are T static = refl
+sets-are T plain = refl
+sets-are T Fun = refl
+sets-are T PFun = refl
+sets-are T Inj = refl
+sets-are T PInj = refl
+
+picks-are : (n T : ℕ) (k : Kind) → mostWidth n T (kindNumber k) ≡ (if isFunction k then n else (if isChosen k then T else 0))
+unfolding mostWidth kindNumber isFunction isChosen
+picks-are n T static = refl
+picks-are n T plain = refl
+picks-are n T Fun = refl
+picks-are n T PFun = refl
+picks-are n T Inj = refl
+picks-are n T PInj = refl
+
+node-width-is : (n T : ℕ) (u : Tree) → nodeWidth n T (nodeKind u) ≡ (if isForall u then T * n else T)
+unfolding nodeWidth nodeKind isForall
+node-width-is n T (leaf q r ls) = refl
+node-width-is n T (forallNode d u) = refl
+node-width-is n T (existsNode d u) = refl
+node-width-is n T (andNode us) = refl
+node-width-is n T (orNode us) = refl
+
+pub many-are : (v : ℕ) (u : Tree) (w : NodeRow) (ps : List PartRow) → IsNode v u w ps → w .first + w .many ≤ length ps → w .many ≡ length (parts v u)
+many-are v u w ps i h =
+    let a : length (take (w .many) (drop (w .first) ps)) ≡ w .many = length-take-le (w .many) (drop (w .first) ps) (omega (arith, length-drop (w .first) ps)) in
+    sym a ∙ sym (length-map (take (w .many) (drop (w .first) ps)) headIn) ∙ ap length (i .parts) ∙ length-map (parts v u) headOf
+
+choices-are : (n v : ℕ) (u : Tree) (w : NodeRow) (ps : List PartRow) → IsNode v u w ps → w .first + w .many ≤ length ps → choicesOf n (nodeKind u) (w .many) ≡ choices n u
+unfolding choicesOf nodeKind choices parts
+choices-are n v (leaf q r ls) w ps i b = many-are v (leaf q r ls) w ps i b
+choices-are n v (forallNode d u) w ps i b = refl
+choices-are n v (existsNode d u) w ps i b = refl
+choices-are n v (andNode us) w ps i b = refl
+choices-are n v (orNode us) w ps i b = many-are v (orNode us) w ps i b ∙ parts-length (suc v) us
+
+sum-next : (f : Relation → ℕ) (r : ℕ) (ks : List Relation) → r < length ks → sum (map f (take (suc r) ks)) ≡ sum (map f (take r ks)) + f (getD ks r noRelation)
+unfolding sum
+sum-next f r [] h = absurd (omega arith)
+sum-next f zero (k ∷ ks) h = omega arith
+sum-next f (suc r) (k ∷ ks) h = let q = sum-next f r ks (omega arith) in omega arith
+
+sum-none : (f : Relation → ℕ) → sum (map f []) ≡ 0
+unfolding sum
+sum-none f = refl
+
+module _ (p : Problem) (g : Relations) (t : Nodes) (is : Inputs p (p .size) g t) where
+  relation-width : (r : ℕ) → r < g .count → relationWidth (p .size) (p .size ^ getD (g .arity) r 0) (getD (g .kind) r 0) ≡ widthIn (p .size) (relationAt p r)
+  unfolding widthIn tuplesOf
+  relation-width r h = ap₂ (λ (a k : ℕ). relationWidth (p .size) (p .size ^ a) k) (is .arity r h) (is .kind r h) ∙ width-is (p .size) (p .size ^ relationAt p r .arity) (relationAt p r .kind)
+
+  set-width : (r : ℕ) → r < g .count → setWidth (p .size ^ getD (g .arity) r 0) (getD (g .kind) r 0) ≡ setsOf (p .size) (relationAt p r)
+  unfolding setsOf tuplesOf
+  set-width r h = ap₂ (λ (a k : ℕ). setWidth (p .size ^ a) k) (is .arity r h) (is .kind r h) ∙ sets-are (p .size ^ relationAt p r .arity) (relationAt p r .kind)
+
+  pick-width : (r : ℕ) → r < g .count → mostWidth (p .size) (p .size ^ getD (g .arity) r 0) (getD (g .kind) r 0) ≡ mostPicks (p .size) (getD (p .relations) r noRelation)
+  unfolding mostPicks tuplesOf relationAt
+  pick-width r h = ap₂ (λ (a k : ℕ). mostWidth (p .size) (p .size ^ a) k) (is .arity r h) (is .kind r h) ∙ picks-are (p .size) (p .size ^ relationAt p r .arity) (relationAt p r .kind)
+
+  tuples-are : (r : ℕ) → r < g .count → p .size ^ getD (g .arity) r 0 ≡ tuplesOf (p .size) (relationAt p r)
+  unfolding tuplesOf
+  tuples-are r h = ap (λ (a : ℕ). p .size ^ a) (is .arity r h)
+
+  rel-are : (r : ℕ) → r ≤ g .count → relationSum (p .size) g r ≡ relationStart p r
+  unfolding relationSum
+  rel-are zero h = sym (relation-first p)
+  rel-are (suc r) h = ap₂ (λ (x y : ℕ). x + y) (rel-are r (omega arith)) (relation-width r h) ∙ sym (relation-next p r (omega (arith, is .count)))
+
+  set-are : (r : ℕ) → r ≤ g .count → setSum (p .size) g r ≡ setStart p r
+  unfolding setSum
+  set-are zero h = sym (set-first p)
+  set-are (suc r) h = ap₂ (λ (x y : ℕ). x + y) (set-are r (omega arith)) (set-width r h) ∙ sym (set-next p r (omega (arith, is .count)))
+
+  pick-are : (r : ℕ) → r ≤ g .count → pickSum (p .size) g r ≡ sum (map (mostPicks (p .size)) (take r (p .relations)))
+  unfolding pickSum
+  pick-are zero h = sym (sum-none (mostPicks (p .size)))
+  pick-are (suc r) h = ap₂ (λ (x y : ℕ). x + y) (pick-are r (omega arith)) (pick-width r h) ∙ sym (sum-next (mostPicks (p .size)) r (p .relations) (omega (arith, is .count)))
+
+  pub count-is : t .count ≡ length (p .nodeList)
+  count-is = is .tree .count ∙ ap length (sym (is .list))
+
+  pub node-is : (v : ℕ) → v < t .count → IsNode v (nodeAt p v) (getD (t .rows) v noNode) (t .parts)
+  unfolding nodeAt
+  node-is v h = subst (λ (us : List Tree). IsNode v (getD us v (leaf true 0 [])) (getD (t .rows) v noNode) (t .parts)) (sym (is .list)) (is .tree .node v h)
+
+  rows-are : (v : ℕ) → v < t .count → p .size ^ getD (t .rows) v noNode .width ≡ rowsOf (p .size) (nodeAt p v)
+  unfolding rowsOf
+  rows-are v h = ap (λ (x : ℕ). p .size ^ x) (node-is v h .width)
+
+  node-width : (v : ℕ) → v < t .count → nodeWidth (p .size) (p .size ^ getD (t .rows) v noNode .width) (getD (t .rows) v noNode .kind) ≡ widthOf (p .size) (nodeAt p v)
+  unfolding widthOf
+  node-width v h = ap₂ (λ (T k : ℕ). nodeWidth (p .size) T k) (rows-are v h) (node-is v h .kind) ∙ node-width-is (p .size) (rowsOf (p .size) (nodeAt p v)) (nodeAt p v)
+
+  module _ (fits : Fits t) where
+    pub in-parts : (v : ℕ) → getD (t .rows) v noNode .first + getD (t .rows) v noNode .many ≤ length (t .parts)
+    in-parts v = omega (arith, fits .nodes .node v .parts, fits .parts .parts-length)
+
+    act-width : (v : ℕ) → v < t .count
+        → (p .size ^ getD (t .rows) v noNode .width) * choicesOf (p .size) (getD (t .rows) v noNode .kind) (getD (t .rows) v noNode .many) ≡ proofsOf (p .size) (nodeAt p v)
+    unfolding proofsOf
+    act-width v h =
+        ap₂ (λ (x y : ℕ). x * y) (rows-are v h)
+        (ap (λ (k : ℕ). choicesOf (p .size) k (getD (t .rows) v noNode .many)) (node-is v h .kind) ∙ choices-are (p .size) v (nodeAt p v) (getD (t .rows) v noNode) (t .parts) (node-is v h) (in-parts v))
+
+    act-are : (v : ℕ) → v ≤ t .count → actSum (p .size) t (setStart p (length (p .relations)) + 1) v ≡ proofStart p v
+    unfolding actSum
+    act-are zero h = sym (proof-first p)
+    act-are (suc v) h = ap₂ (λ (x y : ℕ). x + y) (act-are v (omega arith)) (act-width v h) ∙ sym (proof-next p v (omega (arith, count-is)))
+
+  node-are : (v : ℕ) → v ≤ t .count → nodeSum (p .size) t (relationStart p (length (p .relations))) v ≡ nodeStart p v
+  unfolding nodeSum
+  node-are zero h = sym (node-first p)
+  node-are (suc v) h = ap₂ (λ (x y : ℕ). x + y) (node-are v (omega arith)) (node-width v h) ∙ sym (node-next p v (omega (arith, count-is)))
+
+-- ---- the limits
+pub too-many : (a b x y : ℕ) → a < x → true ≡ (ltb a x || ltb b y)
+too-many a b x y h = rw (lt-ltb a x h) refl
+
+pub not-first : (a b x y : ℕ) (r : Bool) → x ≤ a → r ≡ ltb b y → r ≡ (ltb a x || ltb b y)
+not-first a b x y r h e = rw (le-ltb a x h) e
+
+neither : (a b x y : ℕ) → (ltb a x || ltb b y) ≡ false → (x ≤ a) × (y ≤ b)
+neither a b x y e = go (decLt a x) (decLt b y)
+  where
+    go : Dec (a < x) → Dec (b < y) → (x ≤ a) × (y ≤ b)
+    go (yes h) q = absurd (false≢true (sym e ∙ sym (too-many a b x y h)))
+    go (no h) (yes k) = absurd (false≢true (sym e ∙ sym (not-first a b x y true (omega arith) (sym (lt-ltb b y k)))))
+    go (no h) (no k) = (omega arith, omega arith)
+
+-- ---- a layout is the problem's
+module _ (p : Problem) (g : Relations) (t : Nodes) (is : Inputs p (p .size) g t) (fits : Fits t) (rel neg dom sets node act : List ℕ) (at st picks end acts : ℕ)
+    (L : RelationsLaid (p .size) g (g .count) rel neg dom sets at st picks) (N : NodesLaid (p .size) t at (st + 1) (t .count) node act end acts) where
+  at-is : at ≡ relationStart p (length (p .relations))
+  at-is = L .at-is ∙ rel-are p g t is (g .count) (omega arith) ∙ ap (relationStart p) (is .count)
+
+  st-is : st + 1 ≡ setStart p (length (p .relations)) + 1
+  st-is = ap (λ (x : ℕ). x + 1) (L .set-is ∙ set-are p g t is (g .count) (omega arith) ∙ ap (setStart p) (is .count))
+
+  node-at : (v : ℕ) → v ≤ t .count → getD node v 0 ≡ nodeStart p v
+  node-at v h = N .node-at v h ∙ ap (λ (x : ℕ). nodeSum (p .size) t x v) at-is ∙ node-are p g t is v h
+
+  act-at : (v : ℕ) → v ≤ t .count → getD act v 0 ≡ proofStart p v
+  act-at v h = N .act-at v h ∙ ap (λ (x : ℕ). actSum (p .size) t x v) st-is ∙ act-are p g t is fits v h
+
+  end-is : end ≡ atoms p
+  end-is = N .at-is ∙ sym (N .node-at (t .count) (omega arith)) ∙ node-at (t .count) (omega arith) ∙ ap (nodeStart p) (count-is p g t is) ∙ atoms-end p
+
+  acts-is : acts + 1 ≡ actions p
+  acts-is = ap (λ (x : ℕ). x + 1) (N .act-is ∙ sym (N .act-at (t .count) (omega arith)) ∙ act-at (t .count) (omega arith) ∙ ap (proofStart p) (count-is p g t is)) ∙ sym (actions-end p)
+
+  pub low : at ≤ end
+  low = let e : getD node 0 0 ≡ at = node-at 0 (omega arith) ∙ node-first p ∙ sym at-is in let q = N .node-most 0 in omega arith
+
+  low-acts : st ≤ acts
+  low-acts = let e : getD act 0 0 ≡ st + 1 = act-at 0 (omega arith) ∙ proof-first p ∙ sym st-is in let q = N .act-most 0 in omega arith
+
+  bound-is : picks + (end - at) + 2 ≡ bound p
+  unfolding bound
+  bound-is =
+      let a : picks ≡ sum (map (mostPicks (p .size)) (p .relations)) =
+      L .picks-are ∙ pick-are p g t is (g .count) (omega arith) ∙ ap (λ (ks : List Relation). sum (map (mostPicks (p .size)) ks)) (take-all (g .count) (p .relations) (omega (arith, is .count))) in
+      let b = node-atoms p in
+      let d : at ≡ nodeStart p 0 = at-is ∙ sym (node-first p) in
+      omega (arith, a, b, d, end-is)
+
+  laid-at : (over : Bool) → over ≡ (ltb atomLimit end || ltb actionLimit (acts + 1))
+      → Laid p (record { over = over; atoms = end; actions = acts + 1; bound = picks + (end - at) + 2; layout = record { rel = rel; neg = neg; dom = dom; set = sets; node = node; act = act } })
+  laid-at over f =
+      record {
+        over-is = f ∙ ap₂ (λ (x y : ℕ). ltb atomLimit x || ltb actionLimit y) end-is acts-is;
+        atoms-are = end-is;
+        actions-are = acts-is;
+        bound-is = bound-is;
+        starts = record {
+          rel = λ r h. L .rel-at r (omega (arith, is .count)) ∙ rel-are p g t is r (omega (arith, is .count));
+          neg = λ r h. L .neg-at r (omega (arith, is .count)) ∙ ap₂ (λ (x y : ℕ). x + y) (rel-are p g t is r (omega (arith, is .count))) (tuples-are p g t is r (omega (arith, is .count)));
+          dom = λ r h.
+              let e = rel-are p g t is r (omega (arith, is .count)) in
+              let q = tuples-are p g t is r (omega (arith, is .count)) in
+              let w = L .dom-at r (omega (arith, is .count)) in
+              omega arith;
+          set = λ r h. L .set-at r (omega (arith, is .count)) ∙ set-are p g t is r (omega (arith, is .count));
+          node = λ v h. node-at v (omega (arith, count-is p g t is));
+          act = λ v h. act-at v (omega (arith, count-is p g t is));
+        };
+        small = λ y.
+            let q = neither atomLimit actionLimit end (acts + 1) (sym f ∙ y) in
+            let u = q .0 in
+            let w = q .1 in
+            let v = low in
+            let v' = low-acts in
+            record {
+              rel = λ i. omega (arith, L .rel-most i);
+              neg = λ i. omega (arith, L .neg-most i);
+              dom = λ i. omega (arith, L .dom-most i);
+              set = λ i. omega (arith, L .set-most i);
+              node = λ i. omega (arith, N .node-most i);
+              act = λ i. omega (arith, N .act-most i);
+            };
+      }
+
+pub laid : (n : ℕ) (p : Problem) (g : Relations) (t : Nodes) → Inputs p n g t → Fits t → (rel neg dom sets node act : List ℕ) (at st picks end acts : ℕ) (over : Bool)
+    → RelationsLaid n g (g .count) rel neg dom sets at st picks → NodesLaid n t at (st + 1) (t .count) node act end acts → over ≡ (ltb atomLimit end || ltb actionLimit (acts + 1))
+    → Laid p (record { over = over; atoms = end; actions = acts + 1; bound = picks + (end - at) + 2; layout = record { rel = rel; neg = neg; dom = dom; set = sets; node = node; act = act } })
+laid n p g t is f rel neg dom sets node act at st picks end acts over L N o =
+    laid-at p g t (subst (λ (m : ℕ). Inputs p m g t) (is .size) is) f rel neg dom sets node act at st picks end acts
+    (subst (λ (m : ℕ). RelationsLaid m g (g .count) rel neg dom sets at st picks) (is .size) L) (subst (λ (m : ℕ). NodesLaid m t at (st + 1) (t .count) node act end acts) (is .size) N) over o
+
+-- the nodes' starts begin with the first
+pub nodes-low : (n from first v : ℕ) (t : Nodes) (node act : List ℕ) (at acts : ℕ) → NodesLaid n t from first v node act at acts → from ≤ at
+unfolding nodeSum
+nodes-low n from first v t node act at acts N = let e = N .node-at 0 (omega arith) in let q = N .node-most 0 in omega arith
