@@ -42,10 +42,11 @@ choicesOf n (suc zero) many = n
 choicesOf n (suc (suc zero)) many = 1
 choicesOf n (suc (suc (suc k))) many = many
 
--- the relations fit their arrays
+-- the relations fit their arrays, and no arity or kind is out of range
 pub record RelationsFit (g : Relations) : Type 0 where
   pub count : g .count ≤ 17
   pub arity : Most (g .arity) 4
+  pub kind : Most (g .kind) 5
 
 -- ---- starts by the tables: the sum of the widths before
 unfoldable pub relationSum : ℕ → Relations → ℕ → ℕ
