@@ -1,7 +1,7 @@
 -- The loop over the lines of any sheet: reading the whole is reading the rest from a place on with the state reached.
 use Prim.Native.Nat.{ℕ, _≤_, _<_}
-use mathlib.Core.Path.{_≡_, refl, _∙_}
-use mathlib.Core.Option.{Option, none, some}
+use mathlib.Core.Path.{_≡_, refl, ap, _∙_}
+use mathlib.Core.Option.{Option}
 use mathlib.Core.List.{List, _∷_}
 use lib.ListN.{length}
 use borrow.Author.Tests.{lt-ltb, le-ltb}
@@ -37,18 +37,11 @@ module _ {S : Type 0} (add : S → ℕ → D.Entry → Result S) where
   read-next s at next st x w = next-of s at next st (w .0) (entryIn s x) (w .1) (w .2) (w .3)
 
   -- by what the line gives
-  pub read-wrong : (s : List ℕ) (at next : ℕ) (st : S) (x : Entry) → Reads s at next x → entryIn s x ≡ none → readAt add s at st ≡ refused 2 at
-  unfolding given _>>=_
-  read-wrong s at next st x w p = read-next s at next st x w ∙ rw p
+  module _ (s : List ℕ) (at next : ℕ) (st : S) (x : Entry) (l : Reads s at next x) where
+    pub read-went : (st′ : S) → (given (entryIn s x) 2 at >>= add st at) ≡ accepted st′ → readAt add s at st ≡ readAt add s next st′
+    unfolding _>>=_
+    read-went st′ e = read-next s at next st x l ∙ ap (λ (r : Result S). r >>= readAt add s next) e
 
-  pub read-entry : (s : List ℕ) (at next : ℕ) (st : S) (x : Entry) (e : D.Entry) → Reads s at next x → entryIn s x ≡ some e → readAt add s at st ≡ (add st at e >>= readAt add s next)
-  unfolding given _>>=_
-  read-entry s at next st x e w p = read-next s at next st x w ∙ rw p
-
-  pub read-refused : (s : List ℕ) (at next : ℕ) (st : S) (x : Entry) (e : D.Entry) (k place : ℕ) → Reads s at next x → entryIn s x ≡ some e → add st at e ≡ refused k place → readAt add s at st ≡ refused k place
-  unfolding _>>=_
-  read-refused s at next st x e k place w p q = read-entry s at next st x e w p ∙ rw q
-
-  pub read-accepted : (s : List ℕ) (at next : ℕ) (st : S) (x : Entry) (e : D.Entry) (st′ : S) → Reads s at next x → entryIn s x ≡ some e → add st at e ≡ accepted st′ → readAt add s at st ≡ readAt add s next st′
-  unfolding _>>=_
-  read-accepted s at next st x e st′ w p q = read-entry s at next st x e w p ∙ rw q
+    pub read-halted : (k place : ℕ) → (given (entryIn s x) 2 at >>= add st at) ≡ refused k place → readAt add s at st ≡ refused k place
+    unfolding _>>=_
+    read-halted k place e = read-next s at next st x l ∙ ap (λ (r : Result S). r >>= readAt add s next) e

@@ -1,0 +1,83 @@
+-- `sheets::judge` meets its contract.
+use mathlib.Core.Path.{refl, sym, ap}
+use borrow.Author.Needs.{needs}
+use Rattle.sheets.specs.Reading.{verdictOf}
+use Rattle.sheets.proofs.judge.Statement.{statement}
+use Rattle.sheets.proofs.judge.Tie as tie
+
+enum-told : tie.Need-enum-told
+enum-told c = search needs
+
+enum-told-2 : tie.Need-enum-told-2
+enum-told-2 c = search needs
+
+enum-told-3 : tie.Need-enum-told-3
+enum-told-3 c = search needs
+
+enum-told-4 : tie.Need-enum-told-4
+enum-told-4 c = search needs
+
+enum-told-5 : tie.Need-enum-told-5
+enum-told-5 c = search needs
+
+enum-told-6 : tie.Need-enum-told-6
+enum-told-6 c = search needs
+
+enum-told-7 : tie.Need-enum-told-7
+enum-told-7 c = search needs
+
+enum-known-x : tie.Need-enum-known-x
+enum-known-x c = search needs
+
+returns : tie.Need-returns
+unfolding verdictOf
+returns c = sym (ap verdictOf (c .enum-told .given .1))
+
+returns-2 : tie.Need-returns-2
+unfolding verdictOf
+returns-2 c = sym (ap verdictOf (c .enum-told2 .given .1))
+
+returns-3 : tie.Need-returns-3
+unfolding verdictOf
+returns-3 c = sym (ap verdictOf (c .enum-told3 .given .1))
+
+returns-4 : tie.Need-returns-4
+unfolding verdictOf
+returns-4 c = sym (ap verdictOf (c .enum-told4 .given .1))
+
+returns-5 : tie.Need-returns-5
+unfolding verdictOf
+returns-5 c = sym (ap verdictOf (c .enum-told5 .given .1))
+
+returns-6 : tie.Need-returns-6
+unfolding verdictOf
+returns-6 c = sym (ap verdictOf (c .enum-told6 .given .1))
+
+returns-7 : tie.Need-returns-7
+unfolding verdictOf
+returns-7 c = sym (ap verdictOf (c .enum-told7 .given .1))
+
+returns-8 : tie.Need-returns-8
+unfolding verdictOf
+returns-8 c = sym (ap verdictOf (c .before .x .given .1))
+
+pub judge-spec : {M : Type 1} → statement M
+judge-spec =
+    tie.close
+    (tie.spec
+    enum-told
+    enum-told-2
+    enum-told-3
+    enum-told-4
+    enum-told-5
+    enum-told-6
+    enum-told-7
+    enum-known-x
+    returns
+    returns-2
+    returns-3
+    returns-4
+    returns-5
+    returns-6
+    returns-7
+    returns-8)

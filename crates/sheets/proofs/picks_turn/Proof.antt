@@ -1,0 +1,83 @@
+-- `sheets::picks_turn` meets its contract.
+use native.Mathlib.Omega.{arith}
+use borrow.Author.Needs.{needs}
+use Rattle.sheets.proofs.Turns.{picks-wrong, picks-rel, picks-choose, picks-rule, picks-size, picks-fact, picks-step, picks-pick}
+use Rattle.sheets.proofs.picks_turn.Statement.{statement}
+use Rattle.sheets.proofs.picks_turn.Tie as tie
+
+enum-told : tie.Need-enum-told
+enum-told c = search needs
+
+enum-told-2 : tie.Need-enum-told-2
+enum-told-2 c = search needs
+
+enum-told-3 : tie.Need-enum-told-3
+enum-told-3 c = search needs
+
+enum-told-4 : tie.Need-enum-told-4
+enum-told-4 c = search needs
+
+enum-told-5 : tie.Need-enum-told-5
+enum-told-5 c = search needs
+
+enum-told-6 : tie.Need-enum-told-6
+enum-told-6 c = search needs
+
+enum-known-x : tie.Need-enum-known-x
+enum-known-x c = search needs
+
+add-requires : tie.Need-add-requires
+add-requires c κs = (c .before .before .before .before .before .before .before .pre .0, omega arith, omega arith, omega (arith, c .before .before .before .before .before .before .before .pre .0 .chosen-le))
+
+enum-told-7 : tie.Need-enum-told-7
+enum-told-7 c = search needs
+
+returns : tie.Need-returns
+returns c = picks-wrong (c .before .before .before .before .before .args .q .now) (c .before .before .before .before .before .args .g) (c .before .before .before .before .before .args .s .now) (c .before .before .before .before .before .args .n) (c .before .before .before .before .before .args .x) _ _ (c .enum-told .given .1)
+
+returns-2 : tie.Need-returns-2
+returns-2 c = picks-rel (c .before .before .before .before .before .args .q .now) (c .before .before .before .before .before .args .g) (c .before .before .before .before .before .args .s .now) (c .before .before .before .before .before .args .n) (c .before .before .before .before .before .args .x) _ _ _ _ _ (c .enum-told2 .given .1)
+
+returns-3 : tie.Need-returns-3
+returns-3 c = picks-choose (c .before .before .before .before .before .args .q .now) (c .before .before .before .before .before .args .g) (c .before .before .before .before .before .args .s .now) (c .before .before .before .before .before .args .n) (c .before .before .before .before .before .args .x) _ _ _ _ _ _ (c .enum-told3 .given .1)
+
+returns-4 : tie.Need-returns-4
+returns-4 c = picks-rule (c .before .before .before .before .before .args .q .now) (c .before .before .before .before .before .args .g) (c .before .before .before .before .before .args .s .now) (c .before .before .before .before .before .args .n) (c .before .before .before .before .before .args .x) _ _ _ _ (c .enum-told4 .given .1)
+
+returns-5 : tie.Need-returns-5
+returns-5 c = picks-size (c .before .before .before .before .before .args .q .now) (c .before .before .before .before .before .args .g) (c .before .before .before .before .before .args .s .now) (c .before .before .before .before .before .args .n) (c .before .before .before .before .before .args .x) _ _ _ (c .enum-told5 .given .1)
+
+returns-6 : tie.Need-returns-6
+returns-6 c = picks-fact (c .before .before .before .before .before .args .q .now) (c .before .before .before .before .before .args .g) (c .before .before .before .before .before .args .s .now) (c .before .before .before .before .before .args .n) (c .before .before .before .before .before .args .x) _ _ _ _ _ (c .enum-told6 .given .1)
+
+same-length : tie.Need-same-length
+same-length c = search needs
+
+returns-7 : tie.Need-returns-7
+returns-7 c = picks-pick (c .before .before .before .before .before .before .before .before .before .before .args .q .now) (c .before .before .before .before .before .before .before .before .before .before .args .g) (c .before .before .before .before .before .before .before .before .before .before .args .s .now) (c .before .before .before .before .before .before .before .before .before .before .args .n) (c .before .before .before .before .before .before .before .before .before .before .args .x) _ _ _ _ _ (c .before .before .before .before .before .x .given .1) _ (c .before .before .add .ensures)
+
+returns-8 : tie.Need-returns-8
+returns-8 c = picks-step (c .before .before .before .before .before .args .q .now) (c .before .before .before .before .before .args .g) (c .before .before .before .before .before .args .s .now) (c .before .before .before .before .before .args .n) (c .before .before .before .before .before .args .x) _ _ _ (c .enum-told7 .given .1)
+
+pub picks-turn-spec : {M : Type 1} → statement M
+picks-turn-spec =
+    tie.close
+    (tie.spec
+    enum-told
+    enum-told-2
+    enum-told-3
+    enum-told-4
+    enum-told-5
+    enum-told-6
+    enum-known-x
+    add-requires
+    enum-told-7
+    returns
+    returns-2
+    returns-3
+    returns-4
+    returns-5
+    returns-6
+    same-length
+    returns-7
+    returns-8)

@@ -1,0 +1,112 @@
+-- `sheets::site_turn` meets its contract.
+use mathlib.Core.Path.{refl}
+use native.Mathlib.Omega.{arith}
+use borrow.Author.Needs.{needs}
+use Rattle.sheets.proofs.Turns.{site-wrong, site-rel, site-choose, site-rule, site-pick, site-step, size-again, size-low, size-high, size-good, fact-early, fact-added, fact-fault}
+use Rattle.sheets.proofs.site_turn.Statement.{statement}
+use Rattle.sheets.proofs.site_turn.Tie as tie
+
+enum-told : tie.Need-enum-told
+enum-told c = search needs
+
+enum-told-2 : tie.Need-enum-told-2
+enum-told-2 c = search needs
+
+enum-told-3 : tie.Need-enum-told-3
+enum-told-3 c = search needs
+
+enum-told-4 : tie.Need-enum-told-4
+enum-told-4 c = search needs
+
+enum-known-x : tie.Need-enum-known-x
+enum-known-x c = search needs
+
+returns : tie.Need-returns
+returns c = size-again (c .before .before .before .before .before .before .before .args .q .now) (c .before .before .before .before .before .before .before .args .g) (c .before .before .before .before .before .before .before .args .s .now) (c .before .before .before .before .before .before .before .args .n) (c .before .before .before .before .before .before .before .args .x) _ _ _ (c .before .before .x .given .1) (c .if1 .taken)
+
+returns-2 : tie.Need-returns-2
+returns-2 c = size-low (c .before .before .before .before .before .before .before .before .args .q .now) (c .before .before .before .before .before .before .before .before .args .g) (c .before .before .before .before .before .before .before .before .args .s .now) (c .before .before .before .before .before .before .before .before .args .n) (c .before .before .before .before .before .before .before .before .args .x) _ _ _ (c .before .before .before .x .given .1) (c .before .if1 .left) (omega arith)
+
+returns-3 : tie.Need-returns-3
+returns-3 c = size-high (c .before .before .before .before .before .before .before .before .before .args .q .now) (c .before .before .before .before .before .before .before .before .before .args .g) (c .before .before .before .before .before .before .before .before .before .args .s .now) (c .before .before .before .before .before .before .before .before .before .args .n) (c .before .before .before .before .before .before .before .before .before .args .x) _ _ _ (c .before .before .before .before .x .given .1) (c .before .before .if1 .left) (omega arith)
+
+cast-t15 : tie.Need-cast-t15
+cast-t15 c = search needs
+
+enum-known-x-2 : tie.Need-enum-known-x-2
+enum-known-x-2 c = search needs
+
+returns-4 : tie.Need-returns-4
+returns-4 c = fact-early (c .before .before .before .before .before .before .before .args .q .now) (c .before .before .before .before .before .before .before .args .g) (c .before .before .before .before .before .before .before .args .s .now) (c .before .before .before .before .before .before .before .args .n) (c .before .before .before .before .before .before .before .args .x) _ _ _ _ _ (c .before .before .x2 .given .1) (c .if4 .taken)
+
+add-requires : tie.Need-add-requires
+add-requires c κs = (c .before .before .before .before .before .before .before .before .pre .0, omega arith, omega arith, omega (arith, c .before .before .before .before .before .before .before .before .pre .0 .rels-le))
+
+same-length : tie.Need-same-length
+same-length c = search needs
+
+returns-5 : tie.Need-returns-5
+returns-5 c = fact-added (c .before .before .before .before .before .before .before .before .before .before .before .before .args .q .now) (c .before .before .before .before .before .before .before .before .before .before .before .before .args .g) (c .before .before .before .before .before .before .before .before .before .before .before .before .args .s .now) (c .before .before .before .before .before .before .before .before .before .before .before .before .args .n) (c .before .before .before .before .before .before .before .before .before .before .before .before .args .x) _ _ _ _ _ (c .before .before .before .before .before .before .before .x2 .given .1) (c .before .before .before .before .before .if4 .left) _ (c .before .before .before .add .ensures) (c .if5 .taken)
+
+enum-told-5 : tie.Need-enum-told-5
+enum-told-5 c = search needs
+
+enum-told-6 : tie.Need-enum-told-6
+enum-told-6 c = search needs
+
+returns-6 : tie.Need-returns-6
+returns-6 c = site-wrong (c .before .before .before .before .before .args .q .now) (c .before .before .before .before .before .args .g) (c .before .before .before .before .before .args .s .now) (c .before .before .before .before .before .args .n) (c .before .before .before .before .before .args .x) _ _ (c .enum-told .given .1)
+
+returns-7 : tie.Need-returns-7
+returns-7 c = site-rel (c .before .before .before .before .before .args .q .now) (c .before .before .before .before .before .args .g) (c .before .before .before .before .before .args .s .now) (c .before .before .before .before .before .args .n) (c .before .before .before .before .before .args .x) _ _ _ _ _ (c .enum-told2 .given .1)
+
+returns-8 : tie.Need-returns-8
+returns-8 c = site-choose (c .before .before .before .before .before .args .q .now) (c .before .before .before .before .before .args .g) (c .before .before .before .before .before .args .s .now) (c .before .before .before .before .before .args .n) (c .before .before .before .before .before .args .x) _ _ _ _ _ _ (c .enum-told3 .given .1)
+
+returns-9 : tie.Need-returns-9
+returns-9 c = site-rule (c .before .before .before .before .before .args .q .now) (c .before .before .before .before .before .args .g) (c .before .before .before .before .before .args .s .now) (c .before .before .before .before .before .args .n) (c .before .before .before .before .before .args .x) _ _ _ _ (c .enum-told4 .given .1)
+
+returns-10 : tie.Need-returns-10
+returns-10 c = size-good (c .before .before .before .before .before .before .before .before .before .args .q .now) (c .before .before .before .before .before .before .before .before .before .args .g) (c .before .before .before .before .before .before .before .before .before .args .s .now) (c .before .before .before .before .before .before .before .before .before .args .n) (c .before .before .before .before .before .before .before .before .before .args .x) _ _ _ (c .before .before .before .before .x .given .1) (c .before .before .if1 .left) (omega arith) (omega arith) refl
+
+same-length-2 : tie.Need-same-length-2
+same-length-2 c = search needs
+
+returns-11 : tie.Need-returns-11
+returns-11 c = fact-fault (c .before .before .before .before .before .before .before .before .before .before .before .before .args .q .now) (c .before .before .before .before .before .before .before .before .before .before .before .before .args .g) (c .before .before .before .before .before .before .before .before .before .before .before .before .args .s .now) (c .before .before .before .before .before .before .before .before .before .before .before .before .args .n) (c .before .before .before .before .before .before .before .before .before .before .before .before .args .x) _ _ _ _ _ (c .before .before .before .before .before .before .before .x2 .given .1) (c .before .before .before .before .before .if4 .left) _ (c .before .before .before .add .ensures) (c .if5 .left)
+
+returns-12 : tie.Need-returns-12
+returns-12 c = site-pick (c .before .before .before .before .before .args .q .now) (c .before .before .before .before .before .args .g) (c .before .before .before .before .before .args .s .now) (c .before .before .before .before .before .args .n) (c .before .before .before .before .before .args .x) _ _ _ _ _ (c .enum-told5 .given .1)
+
+returns-13 : tie.Need-returns-13
+returns-13 c = site-step (c .before .before .before .before .before .args .q .now) (c .before .before .before .before .before .args .g) (c .before .before .before .before .before .args .s .now) (c .before .before .before .before .before .args .n) (c .before .before .before .before .before .args .x) _ _ _ (c .enum-told6 .given .1)
+
+pub site-turn-spec : {M : Type 1} → statement M
+site-turn-spec =
+    tie.close
+    (tie.spec
+    enum-told
+    enum-told-2
+    enum-told-3
+    enum-told-4
+    enum-known-x
+    returns
+    returns-2
+    returns-3
+    cast-t15
+    enum-known-x-2
+    returns-4
+    add-requires
+    same-length
+    returns-5
+    enum-told-5
+    enum-told-6
+    returns-6
+    returns-7
+    returns-8
+    returns-9
+    returns-10
+    same-length-2
+    returns-11
+    returns-12
+    returns-13)

@@ -1,0 +1,108 @@
+-- What the readers of a site, of picks and of steps answer and leave, by what the definitions read.
+use Prim.Native.Nat.{ℕ, zero, suc, _+_, _≤_}
+use mathlib.Core.Path.{_≡_}
+use mathlib.Core.Bool.{Bool, false}
+use mathlib.Core.List.{List, []}
+use mathlib.Core.Option.{Option, none, some}
+use lib.ListN.{length}
+use Rattle.definitions.specs.Refusal.{Result, refused, accepted, _>>=_, given}
+use Rattle.definitions.specs.Relations.{Tuple}
+use Rattle.definitions.specs.Sheets as D
+use Rattle.definitions.specs.Outcome.{written}
+use Rattle.bits.specs.Table.{bit}
+use Rattle.records.specs.Entries.{entryIn}
+use Rattle.records.specs.declared.Entry.{Entry}
+use Rattle.records.specs.declared.Entry.the-variants.{Wrong, Rel, Choose, Rule, Size, Fact, Pick, Step}
+use Rattle.names.specs.declared.Signature.{Signature}
+use Rattle.names.specs.Signatures.{relsOf, chosenOf}
+use Rattle.tuples.specs.Marks.{bitOf, marks, AllValid}
+use Rattle.sheets.specs.declared.Turn.{Turn}
+use Rattle.sheets.specs.declared.Turn.the-variants.{Next, Fault}
+use Rattle.sheets.specs.declared.Answer.{Answer}
+use Rattle.sheets.specs.declared.Answer.the-variants.{Done, Refused}
+use Rattle.sheets.specs.declared.Verdict.{Verdict}
+use Rattle.sheets.specs.declared.Verdict.the-variants.{Number, Fault as Bad}
+
+-- an answer: of what was read, a number; or the refusal
+unfoldable pub answered : {A : Type 0} → (A → ℕ) → Result A → Answer
+answered f (refused k place) = Refused k place
+answered f (accepted a) = Done (f a)
+
+-- ---- a site
+
+unfoldable pub sizeIn : D.Site → ℕ
+sizeIn st = st .size
+
+-- the size so far, 0 for none, and the lines so far
+unfoldable pub sizedOf : ℕ → Option ℕ
+sizedOf zero = none
+sizedOf (suc n) = some (suc n)
+
+unfoldable pub draft : ℕ → List Tuple → D.SiteDraft
+draft n facts = record { sized = sizedOf n; facts = facts }
+
+-- the table holds the facts, all of them tuples of a `rel` over n elements
+unfoldable pub Facts : Signature → ℕ → List Tuple → (ℕ → Bool) → Type 0
+Facts g n facts p = (n ≤ 16) × (p ≡ marks (bitOf g n 0) facts) × AllValid g n 0 (g .rels) facts × (n ≡ 0 → facts ≡ [])
+
+-- one line of a site
+unfoldable pub SiteTurns : Signature → Result D.SiteDraft → ℕ → Turn → (ℕ → Bool) → Type 0
+SiteTurns g res at (Next n) p = (facts : List Tuple) × (res ≡ accepted (draft n facts)) × Facts g n facts p
+SiteTurns g res at (Fault k) p = res ≡ refused k at
+
+unfoldable pub SiteTurned : List ℕ → Signature → List ℕ → ℕ → Entry → List ℕ → List ℕ → Turn → Type 0
+SiteTurned q g s n x old new r = (at : ℕ) → (facts : List Tuple) → Facts g n facts (bit old) → SiteTurns g (given (entryIn s x) 2 at >>= D.addToSite (relsOf q g) (draft n facts) at) at r (bit new)
+
+-- a whole site: its facts are in the table
+unfoldable pub GotSite : Signature → Result D.Site → Answer → (ℕ → Bool) → Type 0
+GotSite g (refused k place) r p = r ≡ Refused k place
+GotSite g (accepted st) r p = (r ≡ Done (st .size)) × (p ≡ marks (bitOf g (st .size) 0) (st .facts)) × AllValid g (st .size) 0 (g .rels) (st .facts) × (1 ≤ st .size) × (st .size ≤ 16)
+
+unfoldable pub FactsIn : Signature → Result D.Site → (ℕ → Bool) → Type 0
+FactsIn g (refused k place) p = p ≡ λ i. false
+FactsIn g (accepted st) p = (p ≡ marks (bitOf g (st .size) 0) (st .facts)) × AllValid g (st .size) 0 (g .rels) (st .facts) × (1 ≤ st .size) × (st .size ≤ 16)
+
+-- ---- picks
+
+-- the table holds the picks, all of them tuples of a `choose` over n elements
+unfoldable pub Picks : Signature → ℕ → List Tuple → (ℕ → Bool) → Type 0
+Picks g n picks p = (p ≡ marks (bitOf g n (g .rels)) picks) × AllValid g n (g .rels) (g .chosen) picks
+
+-- one line of picks, by the answer's number
+unfoldable pub PickTurns : Signature → ℕ → List Tuple → Result (List Tuple) → ℕ → ℕ → (ℕ → Bool) → Type 0
+PickTurns g n picks res at zero p = (more : List Tuple) × (res ≡ accepted more) × Picks g n more p × (length more ≡ length picks + 1)
+PickTurns g n picks res at (suc k) p = res ≡ refused (suc k) at
+
+unfoldable pub PickTurned : List ℕ → Signature → List ℕ → ℕ → Entry → List ℕ → List ℕ → ℕ → Type 0
+PickTurned q g s n x old new r = (at : ℕ) → (picks : List Tuple) → Picks g n picks (bit old) → PickTurns g n picks (given (entryIn s x) 2 at >>= D.addToPicks (chosenOf q g) (5 + g .rels) n picks at) at r (bit new)
+
+-- all picks: they are in the table
+unfoldable pub GotPicks : Signature → ℕ → Result (List Tuple) → Answer → (ℕ → Bool) → Type 0
+GotPicks g n (refused k place) r p = r ≡ Refused k place
+GotPicks g n (accepted picks) r p = (r ≡ Done (length picks)) × Picks g n picks p
+
+unfoldable pub PicksIn : Signature → ℕ → Result (List Tuple) → (ℕ → Bool) → Type 0
+PicksIn g n (refused k place) p = p ≡ λ i. false
+PicksIn g n (accepted picks) p = Picks g n picks p
+
+-- ---- steps
+
+unfoldable pub verdictOf : Entry → Verdict
+verdictOf Wrong = Bad 2
+verdictOf (Rel a e k) = Bad 3
+verdictOf (Choose a e k d) = Bad 3
+verdictOf (Rule a e) = Bad 3
+verdictOf (Size n) = Bad 3
+verdictOf (Fact a e p) = Bad 3
+verdictOf (Pick a e p) = Bad 3
+verdictOf (Step k) = Number k
+
+-- the sheet is accepted, and there is room for its numbers
+unfoldable pub Writes : Result (List ℕ) → ℕ → Type 0
+Writes (refused k place) room = ⊥
+Writes (accepted ks) room = length ks ≤ room
+
+-- the numbers lent afterwards
+unfoldable pub left : Result (List ℕ) → List ℕ → List ℕ
+left (refused k place) out = out
+left (accepted ks) out = written ks out

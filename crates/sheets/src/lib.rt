@@ -1,0 +1,256 @@
+// The readers of the site, of picks and of steps: a value, or the refusal's number and place (1 to 3, 7, 9, 10).
+ghost use mathlib.Core.Path.{_≡_};
+ghost use mathlib.Core.Bool.{false};
+ghost use Prim.Native.Nat.{_+_, _≤_};
+ghost use lib.ListN.{length};
+ghost use Rattle.bits.specs.Table.{bit};
+ghost use Rattle.definitions.specs.Sheets.{readSite, readPicks, readSteps};
+ghost use Rattle.names.specs.Signatures.{Sound, relsOf, chosenOf};
+ghost use Rattle.sheets.specs.Reading.{answered, sizeIn, SiteTurned, GotSite, FactsIn, PickTurned, GotPicks, PicksIn, verdictOf, Writes, left};
+use names::Signature;
+use records::Entry;
+
+// A site's size, a count of picks or of steps; or a refusal's number and place.
+pub enum Answer {
+    Done(usize),
+    Refused(u32, usize),
+}
+
+// After a line of a site: the size so far, 0 for none; or the refusal's number.
+enum Turn {
+    Next(usize),
+    Fault(u32),
+}
+
+// One line of a site, where n is the size so far.
+fn site_turn(q: &[u8], g: Signature, s: &[u8], n: usize, table: &mut [u64], x: Entry) -> Turn
+    requires { ⌜ Sound (now q) g × (512 ≤ length (now table)) × (n ≤ 16) ⌝ }
+    ensures { λ r. ⌜ SiteTurned (now (q .entry)) g (now (s .entry)) n x (now (table .entry)) (now (table .exit)) r ⌝ }
+{
+    match x {
+        Entry::Wrong => Turn::Fault(2),
+        Entry::Rel(_, _, _) => Turn::Fault(3),
+        Entry::Choose(_, _, _, _) => Turn::Fault(3),
+        Entry::Rule(_, _) => Turn::Fault(3),
+        Entry::Size(k) => {
+            if n != 0 {
+                return Turn::Fault(3);
+            }
+            if k < 1 {
+                return Turn::Fault(9);
+            }
+            if 16 < k {
+                return Turn::Fault(9);
+            }
+            Turn::Next(k as usize)
+        }
+        Entry::Fact(a, e, p) => {
+            if n == 0 {
+                return Turn::Fault(3);
+            }
+            let m = g.rels;
+            let c = tuples::add(q, g, 0, m, n, s, a, e, p, table);
+            if c == 0 {
+                return Turn::Next(n);
+            }
+            Turn::Fault(c)
+        }
+        Entry::Pick(_, _, _) => Turn::Fault(3),
+        Entry::Step(_) => Turn::Fault(3),
+    }
+}
+
+// Reads a site into the table.
+fn site_lines(q: &[u8], g: Signature, s: &[u8], table: &mut [u64]) -> Answer
+    requires { ⌜ Sound (now q) g × (512 ≤ length (now table)) × (bit (now table) ≡ λ i. false) ⌝ }
+    ensures { λ r. ⌜ GotSite g (readSite (relsOf (now (q .entry)) g) (now (s .entry))) r (bit (now (table .exit))) ⌝ }
+{
+    let end = s.len();
+    if 65536 < end {
+        return Answer::Refused(1, 0);
+    }
+    let mut at = 0;
+    let mut n: usize = 0;
+    while at < end {
+        let l = records::line(s, at);
+        let x = l.entry;
+        let t = site_turn(q, g, s, n, table, x);
+        match t {
+            Turn::Next(m) => {
+                n = m;
+            }
+            Turn::Fault(k) => {
+                return Answer::Refused(k, at);
+            }
+        }
+        at = l.next;
+    }
+    if n == 0 {
+        return Answer::Refused(3, end);
+    }
+    Answer::Done(n)
+}
+
+// Reads a site: its size, and its facts as bits of the table, which comes in cleared and stays so where the site is refused.
+pub fn site(q: &[u8], g: Signature, s: &[u8], table: &mut [u64]) -> Answer
+    requires { ⌜ Sound (now q) g × (512 ≤ length (now table)) × (bit (now table) ≡ λ i. false) ⌝ }
+    ensures { λ r. ⌜ (r ≡ answered sizeIn (readSite (relsOf (now (q .entry)) g) (now (s .entry)))) × FactsIn g (readSite (relsOf (now (q .entry)) g) (now (s .entry))) (bit (now (table .exit))) ⌝ }
+{
+    let r = site_lines(q, g, s, table);
+    match r {
+        Answer::Done(n) => Answer::Done(n),
+        Answer::Refused(k, place) => {
+            let count = table.len();
+            bits::fill(table, count);
+            Answer::Refused(k, place)
+        }
+    }
+}
+
+// One line of picks: 0, or the refusal's number.
+fn picks_turn(q: &[u8], g: Signature, s: &[u8], n: usize, table: &mut [u64], x: Entry) -> u32
+    requires { ⌜ Sound (now q) g × (256 ≤ length (now table)) × (n ≤ 16) ⌝ }
+    ensures { λ r. ⌜ PickTurned (now (q .entry)) g (now (s .entry)) n x (now (table .entry)) (now (table .exit)) r ⌝ }
+{
+    match x {
+        Entry::Wrong => 2,
+        Entry::Rel(_, _, _) => 3,
+        Entry::Choose(_, _, _, _) => 3,
+        Entry::Rule(_, _) => 3,
+        Entry::Size(_) => 3,
+        Entry::Fact(_, _, _) => 3,
+        Entry::Pick(a, e, p) => {
+            let lo = g.rels;
+            let m = g.chosen;
+            tuples::add(q, g, lo, m, n, s, a, e, p, table)
+        }
+        Entry::Step(_) => 3,
+    }
+}
+
+// Reads picks over n elements into the table.
+fn picks_lines(q: &[u8], g: Signature, s: &[u8], n: usize, table: &mut [u64]) -> Answer
+    requires { ⌜ Sound (now q) g × (256 ≤ length (now table)) × (n ≤ 16) × (bit (now table) ≡ λ i. false) ⌝ }
+    ensures { λ r. ⌜ GotPicks g n (readPicks (chosenOf (now (q .entry)) g) (5 + g .rels) n (now (s .entry))) r (bit (now (table .exit))) ⌝ }
+{
+    let end = s.len();
+    if 65536 < end {
+        return Answer::Refused(1, 0);
+    }
+    let mut at = 0;
+    let mut k: usize = 0;
+    while at < end {
+        let l = records::line(s, at);
+        let x = l.entry;
+        let c = picks_turn(q, g, s, n, table, x);
+        if c != 0 {
+            return Answer::Refused(c, at);
+        }
+        k += 1;
+        at = l.next;
+    }
+    Answer::Done(k)
+}
+
+// Reads picks over n elements: how many, and the picks as bits of the table, which comes in cleared and stays so where they are
+// refused.
+pub fn picks(q: &[u8], g: Signature, s: &[u8], n: usize, table: &mut [u64]) -> Answer
+    requires { ⌜ Sound (now q) g × (256 ≤ length (now table)) × (n ≤ 16) × (bit (now table) ≡ λ i. false) ⌝ }
+    ensures { λ r. ⌜ (r ≡ answered length (readPicks (chosenOf (now (q .entry)) g) (5 + g .rels) n (now (s .entry)))) × PicksIn g n (readPicks (chosenOf (now (q .entry)) g) (5 + g .rels) n (now (s .entry))) (bit (now (table .exit))) ⌝ }
+{
+    let r = picks_lines(q, g, s, n, table);
+    match r {
+        Answer::Done(k) => Answer::Done(k),
+        Answer::Refused(k, place) => {
+            let count = table.len();
+            bits::fill(table, count);
+            Answer::Refused(k, place)
+        }
+    }
+}
+
+// What a line of a steps sheet gives.
+enum Verdict {
+    Number(u32),
+    Fault(u32),
+}
+
+fn judge(x: Entry) -> Verdict
+    ensures { λ r. ⌜ r ≡ verdictOf x ⌝ }
+{
+    match x {
+        Entry::Wrong => Verdict::Fault(2),
+        Entry::Rel(_, _, _) => Verdict::Fault(3),
+        Entry::Choose(_, _, _, _) => Verdict::Fault(3),
+        Entry::Rule(_, _) => Verdict::Fault(3),
+        Entry::Size(_) => Verdict::Fault(3),
+        Entry::Fact(_, _, _) => Verdict::Fault(3),
+        Entry::Pick(_, _, _) => Verdict::Fault(3),
+        Entry::Step(k) => Verdict::Number(k),
+    }
+}
+
+// How many steps the sheet has, or its refusal.
+fn scan(s: &[u8]) -> Answer
+    ensures { λ r. ⌜ r ≡ answered length (readSteps (now (s .entry))) ⌝ }
+{
+    if 65536 < s.len() {
+        return Answer::Refused(1, 0);
+    }
+    let mut at = 0;
+    let mut n = 0;
+    while at < s.len() {
+        let l = records::line(s, at);
+        let x = l.entry;
+        let v = judge(x);
+        match v {
+            Verdict::Number(_) => {
+                n += 1;
+            }
+            Verdict::Fault(a) => {
+                return Answer::Refused(a, at);
+            }
+        }
+        at = l.next;
+    }
+    Answer::Done(n)
+}
+
+// Writes the numbers of a sheet that is accepted to the front of `out`.
+fn write(s: &[u8], out: &mut [u32])
+    requires { ⌜ Writes (readSteps (now s)) (length (now out)) ⌝ }
+    ensures { λ _. ⌜ now (out .exit) ≡ left (readSteps (now (s .entry))) (now (out .entry)) ⌝ }
+{
+    let mut at = 0;
+    let mut n = 0;
+    while at < s.len() {
+        let l = records::line(s, at);
+        let x = l.entry;
+        let v = judge(x);
+        match v {
+            Verdict::Number(k) => {
+                out[n] = k;
+                n += 1;
+            }
+            Verdict::Fault(_) => {
+                return;
+            }
+        }
+        at = l.next;
+    }
+}
+
+// Reads a whole sheet of steps to the front of `out`, which has room for those of the longest text; validates first, then writes.
+pub fn steps(s: &[u8], out: &mut [u32]) -> Answer
+    requires { ⌜ 9362 ≤ length (now out) ⌝ }
+    ensures { λ r. ⌜ (r ≡ answered length (readSteps (now (s .entry)))) × (now (out .exit) ≡ left (readSteps (now (s .entry))) (now (out .entry))) ⌝ }
+{
+    let a = scan(s);
+    match a {
+        Answer::Done(n) => {
+            write(s, out);
+            Answer::Done(n)
+        }
+        Answer::Refused(k, p) => Answer::Refused(k, p),
+    }
+}
