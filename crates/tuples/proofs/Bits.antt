@@ -1,17 +1,19 @@
 -- Tuples as bits: no two tuples share one, so a tuple's bit says whether it is among the tuples marked, and marking one more sets its bit.
 use Prim.Native.Nat.{ℕ, zero, suc, _+_, _-_, _*_, _^_, _≤_, _<_}
 use mathlib.Core.Path.{_≡_, refl, sym, ap, ap₂, subst, _∙_, fun-ext}
-use mathlib.Core.Bool.{Bool, true, false, cond, _&&_, _||_}
+use mathlib.Core.Bool.{Bool, true, false, cond, _||_}
 use mathlib.Core.List.{List, [], _∷_, _++_}
 use native.Mathlib.Decide.{ℕ-discrete, decLt}
 use native.Mathlib.Omega.{arith}
-use lib.Dec.{eqb}
+use lib.Dec.{T, eqb}
 use lib.ListN.{length, getD}
-use borrow.Author.Tests.{eq-eqb, ne-eqb, eqb-true}
-use Rattle.definitions.specs.Lists.{any, same}
+use borrow.Author.Tests.{eq-eqb, ne-eqb}
+use Rattle.definitions.specs.Lists.{any}
 use Rattle.definitions.specs.Relations.{Tuple, sameTuple, isAmong}
 use Rattle.definitions.specs.Atoms.{rowOf, wordsFor}
 use Rattle.bits.specs.Table.{put}
+use Rattle.laws.specs.Booleans.{T-of, T-true}
+use Rattle.laws.specs.Tuples.{sameTuple-eq, sameTuple-refl}
 use Rattle.names.specs.declared.Signature.{Signature}
 use Rattle.tuples.specs.Marks.{firstWord, bitOf, marks, Valid, AllValid}
 use Rattle.tuples.proofs.Rows.{row-lt, row-same}
@@ -30,7 +32,7 @@ module _ (g : Signature) (n lo : ℕ) where
   words-apart m (suc d) = let z : suc m + suc d ≡ suc (suc m + d) = omega arith in rw z (omega (arith, words-apart m d))
 
   module _ (m : ℕ) where
-    row-bound : (t : Tuple) → Valid g n lo m t → rowOf n (t .places) < 64 * wordsFor (n ^ getD (g .arity) (lo + (t .relation - (5 + lo))) 0)
+    pub row-bound : (t : Tuple) → Valid g n lo m t → rowOf n (t .places) < 64 * wordsFor (n ^ getD (g .arity) (lo + (t .relation - (5 + lo))) 0)
     unfolding Valid
     row-bound t v =
         let z : t .relation - 5 ≡ lo + (t .relation - (5 + lo)) = omega (arith, v .0) in
@@ -65,43 +67,20 @@ module _ (g : Signature) (n lo : ℕ) where
         let x : firstWord g n lo (t .relation - (5 + lo)) ≡ firstWord g n lo (u .relation - (5 + lo)) = ap (firstWord g n lo) r in
         (s, row-same n (t .places) (u .places) (v .3) (w .3) (v .2 ∙ ap (λ (i : ℕ). getD (g .arity) (i - 5) 0) s ∙ sym (w .2)) (omega arith))
 
--- ---- equal tuples
-
-both : (a b : Bool) → (a && b) ≡ true → (a ≡ true) × (b ≡ true)
-both true b p = (refl, p)
-both false b p = let z : _≡_ {A = ℕ} 0 1 = cc in absurd (omega arith)
-
-same-refl : (xs : List ℕ) → same xs xs ≡ true
-unfolding same
-same-refl [] = refl
-same-refl (x ∷ xs) = rw (eq-eqb x x refl, same-refl xs)
-
-same-eq : (xs ys : List ℕ) → same xs ys ≡ true → xs ≡ ys
-unfolding same
-same-eq [] [] p = refl
-same-eq [] (y ∷ ys) p = let z : _≡_ {A = ℕ} 0 1 = cc in absurd (omega arith)
-same-eq (x ∷ xs) [] p = let z : _≡_ {A = ℕ} 0 1 = cc in absurd (omega arith)
-same-eq (x ∷ xs) (y ∷ ys) p = let w = both (eqb x y) (same xs ys) p in rw (eqb-true x y (w .0), same-eq xs ys (w .1))
+-- ---- tuples as bits
 
 module _ (g : Signature) (n lo m : ℕ) where
   bit-test : (t u : Tuple) → Valid g n lo m t → Valid g n lo m u → eqb (bitOf g n lo u) (bitOf g n lo t) ≡ sameTuple t u
-  unfolding sameTuple
   bit-test t u v w = go (sameTuple t u) refl
     where
       go : (b : Bool) → sameTuple t u ≡ b → eqb (bitOf g n lo u) (bitOf g n lo t) ≡ b
-      go true p =
-          let h = both (eqb (t .relation) (u .relation)) (same (t .places) (u .places)) p in
-          let r = eqb-true (t .relation) (u .relation) (h .0) in
-          let x = same-eq (t .places) (u .places) (h .1) in
-          eq-eqb (bitOf g n lo u) (bitOf g n lo t) (sym (bit-ext t u r x))
-        where
-          bit-ext : (t u : Tuple) → t .relation ≡ u .relation → t .places ≡ u .places → bitOf g n lo t ≡ bitOf g n lo u
-          bit-ext t u r x = ap₂ (λ (a : ℕ) (b : List ℕ). bitOf g n lo (record { relation = a; places = b })) r x
+      go true p = eq-eqb (bitOf g n lo u) (bitOf g n lo t) (ap (bitOf g n lo) (sym (sameTuple-eq t u (T-of p))))
       go false p = ne-eqb (bitOf g n lo u) (bitOf g n lo t) (λ e. clash (same-bit g n lo m t u v w (sym e)))
         where
           clash : (t .relation ≡ u .relation) × (t .places ≡ u .places) → ⊥
           clash h =
-              let q : sameTuple t u ≡ true = rw (h .0, h .1) (rw (eq-eqb (u .relation) (u .relation) refl, same-refl (u .places))) in
+              let x : t ≡ u = ap₂ (λ (a : ℕ) (b : List ℕ). record { relation = a; places = b }) (h .0) (h .1) in
+              let q : sameTuple t u ≡ true = T-true (sameTuple t u) (subst (λ (y : Tuple). T (sameTuple t y)) x (sameTuple-refl t)) in
               let z : _≡_ {A = ℕ} 0 1 = cc in
               omega arith
 

@@ -2,3 +2,4 @@
 pub mod Rows
 pub mod Bits
 pub mod Adding
+pub mod Words
