@@ -65,7 +65,7 @@ weaken f (refused k place) h = f k h
 weaken f (accepted a) h = tt
 
 -- ---- reading the sheets and grounding refuse with 1 to 11, buffers that are too short with 12
-abbrev Sheet : ℕ → Type 0
+abbrev pub Sheet : ℕ → Type 0
 Sheet k = (1 ≤ k) × (k ≤ 11)
 
 entry-by : (l : Line) → Refuses Sheet (entryOf l)
@@ -88,7 +88,7 @@ question-add d at (fact name xs) = other Draft at
 question-add d at (pick name xs) = other Draft at
 question-add d at (step k) = other Draft at
 
-question-by : (text : List ℕ) → Refuses Sheet (readQuestion text)
+pub question-by : (text : List ℕ) → Refuses Sheet (readQuestion text)
 unfolding readQuestion questionLine
 question-by text = bind-by Sheet _ _ (text-by Sheet questionLine (omega arith, omega arith) (λ d l. bind-by Sheet (entryOf l) _ (entry-by l) (question-add d (l .at))) _ text) (λ d. bind-by Sheet _ _ (given-by Sheet (d .ruled) 3 (length text) (omega arith, omega arith)) (λ r. accepted-by Sheet _))
 
@@ -112,7 +112,7 @@ site-add rels d at (fact name xs) = bind-by Sheet _ _ (given-by Sheet (d .sized)
 site-add rels d at (pick name xs) = other SiteDraft at
 site-add rels d at (step k) = other SiteDraft at
 
-site-by : (rels : List Relation) (text : List ℕ) → Refuses Sheet (readSite rels text)
+pub site-by : (rels : List Relation) (text : List ℕ) → Refuses Sheet (readSite rels text)
 unfolding readSite siteLine
 site-by rels text = bind-by Sheet _ _ (text-by Sheet (siteLine rels) (omega arith, omega arith) (λ d l. bind-by Sheet (entryOf l) _ (entry-by l) (site-add rels d (l .at))) _ text) (λ d. bind-by Sheet _ _ (given-by Sheet (d .sized) 3 (length text) (omega arith, omega arith)) (λ n. accepted-by Sheet _))
 
