@@ -1,0 +1,2 @@
+-- Words of this crate.
+pub mod Read
