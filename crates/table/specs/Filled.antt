@@ -1,0 +1,87 @@
+-- The numbers of each line, the table that they make, and what is promised of it.
+use mathlib.Core.Path.{_≡_}
+use mathlib.Core.List.{List, [], _∷_, _++_}
+use Prim.Native.Nat.{ℕ, zero, suc, _+_, _-_, _*_, _≤_, _<_}
+use lib.Dec.{eqb}
+use lib.ListN.{length, getD, take, drop, set}
+use Rattle.definitions.specs.Lists.{if_then_else_}
+use Rattle.definitions.specs.Atoms.{Problem, atoms}
+use Rattle.tree.specs.Tables.{noPart, noNode}
+use Rattle.tree.specs.declared.PartRow.{PartRow}
+use Rattle.tree.specs.declared.Nodes.{Nodes}
+use Rattle.rows.specs.Values.{weightOf}
+use Rattle.ground.specs.Lines.{nodesIn, nodeLine, Fits}
+use Rattle.ground.specs.Of.{Is}
+use Rattle.layout.specs.Laid.{Inputs, Starts}
+use Rattle.layout.specs.declared.Relations.{Relations}
+use Rattle.layout.specs.declared.Layout.{Layout}
+
+-- d, with s in place of what stands from `at` on
+unfoldable pub splice : ℕ → List ℕ → List ℕ → List ℕ
+splice at s d = take at d ++ (s ++ drop (at + length s) d)
+
+-- the first k lines, one after another
+unfoldable pub tab : (ℕ → List ℕ) → ℕ → List ℕ
+tab f zero = []
+tab f (suc k) = tab f k ++ f k
+
+unfoldable pub relationNumbers : Relations → Layout → ℕ → List ℕ
+relationNumbers g l r = getD (l .set) r 0 ∷ getD (l .rel) r 0 ∷ getD (l .neg) r 0 ∷ getD (l .dom) r 0 ∷ getD (g .kind) r 0 ∷ []
+
+-- past the last of 17 relations
+unfoldable pub relationEnd : Layout → List ℕ
+relationEnd l = getD (l .set) 17 0 ∷ getD (l .rel) 17 0 ∷ 0 ∷ 0 ∷ 0 ∷ []
+
+unfoldable pub nodeNumbers : Nodes → Layout → ℕ → List ℕ
+nodeNumbers t l v =
+    let x = getD (t .rows) v noNode in
+    getD (l .act) v 0
+    ∷ getD (l .node) v 0
+    ∷ x .kind
+    ∷ x .level
+    ∷ x .first
+    ∷ x .many
+    ∷ x .width
+    ∷ getD (x .levels) 0 0
+    ∷ getD (x .levels) 1 0
+    ∷ getD (x .levels) 2 0
+    ∷ getD (x .levels) 3 0
+    ∷ []
+
+-- past the last of 64 nodes
+unfoldable pub nodeEnd : Layout → List ℕ
+nodeEnd l = getD (l .act) 64 0 ∷ getD (l .node) 64 0 ∷ 0 ∷ 0 ∷ 0 ∷ 0 ∷ 0 ∷ 0 ∷ 0 ∷ 0 ∷ 0 ∷ []
+
+-- where the atoms of a part's relation or node start, by the part's tag
+unfoldable pub startIn : Layout → ℕ → ℕ → ℕ
+startIn l zero which = getD (l .rel) which 0
+startIn l (suc zero) which = getD (l .neg) which 0
+startIn l (suc (suc k)) which = getD (l .node) which 0
+
+-- a part's atom at the values 0, and the weights of the levels; a `forall` stands for its last atom, n to a row
+unfoldable pub partNumbers : ℕ → Layout → PartRow → List ℕ
+partNumbers n l q =
+    let w = weightOf n (take (q .width) (q .levels)) in
+    let start = startIn l (q .tag) (q .which) in
+    if eqb (q .tag) 2 then (start + (n - 1)) ∷ (w 0 * n) ∷ (w 1 * n) ∷ (w 2 * n) ∷ (w 3 * n) ∷ []
+    else start ∷ w 0 ∷ w 1 ∷ w 2 ∷ w 3 ∷ []
+
+-- the lines of all relations, of all nodes, and of all parts with the root
+unfoldable pub relationLines : Relations → Layout → List ℕ
+relationLines g l = tab (relationNumbers g l) 17 ++ relationEnd l
+
+unfoldable pub nodeLines : Nodes → Layout → List ℕ
+nodeLines t l = tab (nodeNumbers t l) 64 ++ nodeEnd l
+
+unfoldable pub partLines : ℕ → Nodes → Layout → List ℕ
+partLines n t l = tab (λ (i : ℕ). partNumbers n l (getD (t .parts) i noPart)) 64 ++ partNumbers n l (t .root)
+
+-- all of it, in place of w
+unfoldable pub tableOf : ℕ → Relations → Nodes → Layout → List ℕ → List ℕ
+tableOf n g t l w = splice 808 (partLines n t l) (splice 93 (nodeLines t l) (splice 3 (relationLines g l) (set (set (set w 0 n) 1 (g .count)) 2 (t .count))))
+
+-- the table is that of every problem whose elements, relations, nodes and starts these are, and all its numbers are in range
+pub record Filled (n : ℕ) (g : Relations) (t : Nodes) (l : Layout) (w : List ℕ) : Type 0 where
+  pub fits : Fits w
+  pub is : (p : Problem) → Inputs p n g t → Starts p l → Is p w
+  pub ends : (p : Problem) → Inputs p n g t → Starts p l → nodeLine w (nodesIn w) .atoms ≡ atoms p

@@ -1,0 +1,137 @@
+// The table of a grounded problem, filled from its elements, its relations, its node table and its layout.
+ghost use mathlib.Core.Path.{_≡_};
+ghost use Prim.Native.Nat.{ℕ, _+_, _*_, _^_, _<_, _≤_};
+ghost use lib.ListN.{getD, length};
+ghost use Rattle.definitions.specs.Limits.{actionLimit};
+ghost use Rattle.definitions.specs.Atoms.{Problem};
+ghost use Rattle.tree.specs.Tables.{noPart, PartFits, Fits};
+ghost use Rattle.rows.specs.Values.{Most};
+ghost use Rattle.ground.specs.Lines.{tableLength};
+ghost use Rattle.layout.specs.Laid.{RelationsFit, Inputs, Starts, Small};
+ghost use Rattle.table.specs.Filled.{splice, nodeNumbers, startIn, partNumbers, relationLines, nodeLines, partLines, tableOf, Filled};
+use layout::Layout;
+use layout::Relations;
+use tree::Nodes;
+use tree::PartRow;
+
+// The numbers of a line are written from place `at` on.
+fn store(table: &mut [usize], at: usize, line: &[usize])
+    requires { ⌜ at + length (now line) ≤ length (now table) ⌝ }
+    ensures { λ r. ⌜ now (table .exit) ≡ splice at (now (line .entry)) (now (table .entry)) ⌝ }
+{
+    let mut j: usize = 0;
+    while j < line.len() {
+        table[at + j] = line[j];
+        j += 1;
+    }
+}
+
+// The lines of the relations.
+fn fill_relations(table: &mut [usize], g: Relations, l: Layout)
+    requires { ⌜ length (now table) ≡ tableLength ⌝ }
+    ensures { λ r. ⌜ now (table .exit) ≡ splice 3 (relationLines g l) (now (table .entry)) ⌝ }
+{
+    let mut r: usize = 0;
+    while r < 17 {
+        let line = [l.set[r], l.rel[r], l.neg[r], l.dom[r], g.kind[r]];
+        store(table, 3 + 5 * r, &line);
+        r += 1;
+    }
+    let last = [l.set[17], l.rel[17], 0, 0, 0];
+    store(table, 88, &last);
+}
+
+fn wide(x: u8) -> usize
+    ensures { λ r. ⌜ (r ≡ x) × (r < 256) ⌝ }
+{
+    x as usize
+}
+
+// The lines of the nodes.
+fn fill_nodes(table: &mut [usize], t: Nodes, l: Layout)
+    requires { ⌜ (length (now table) ≡ tableLength) × Fits t × Small l actionLimit ⌝ }
+    ensures { λ r. ⌜ (now (table .exit) ≡ splice 93 (nodeLines t l) (now (table .entry))) × ((v : ℕ) → v < 64 → Most (nodeNumbers t l v) (2 ^ 32)) ⌝ }
+{
+    let mut v: usize = 0;
+    while v < 64 {
+        let x = t.rows[v];
+        let ls = x.levels;
+        let kind = wide(x.kind);
+        let line = [
+            l.act[v],
+            l.node[v],
+            kind,
+            x.level,
+            x.first,
+            x.many,
+            x.width,
+            ls[0],
+            ls[1],
+            ls[2],
+            ls[3],
+        ];
+        store(table, 93 + 11 * v, &line);
+        v += 1;
+    }
+    let last = [l.act[64], l.node[64], 0, 0, 0, 0, 0, 0, 0, 0, 0];
+    store(table, 797, &last);
+}
+
+// Where the atoms of a part's relation or node start.
+fn start_of(l: Layout, tag: u8, which: usize) -> usize
+    requires { ⌜ (tag < 2 → which < 17) × (2 ≤ tag → which < 64) × Small l actionLimit ⌝ }
+    ensures { λ r. ⌜ (r ≡ startIn l tag which) × (r ≤ actionLimit) ⌝ }
+{
+    if tag == 0 {
+        return l.rel[which];
+    }
+    if tag == 1 {
+        return l.neg[which];
+    }
+    l.node[which]
+}
+
+// The line of a part.
+fn part_numbers(n: usize, l: Layout, q: PartRow) -> [usize; 5]
+    requires { ⌜ (0 < n) × (n ≤ 64) × PartFits q × Small l actionLimit ⌝ }
+    ensures { λ r. ⌜ (r ≡ partNumbers n l q) × Most r (2 ^ 32) ⌝ }
+{
+    let levels = q.levels;
+    let start = start_of(l, q.tag, q.which);
+    let w = rows::weights(n, levels, q.width);
+    if q.tag == 2 {
+        return [start + (n - 1), w[0] * n, w[1] * n, w[2] * n, w[3] * n];
+    }
+    [start, w[0], w[1], w[2], w[3]]
+}
+
+// The lines of the parts, and the root's.
+fn fill_parts(table: &mut [usize], n: usize, t: Nodes, l: Layout)
+    requires { ⌜ (length (now table) ≡ tableLength) × (0 < n) × (n ≤ 64) × Fits t × Small l actionLimit ⌝ }
+    ensures { λ r. ⌜ (now (table .exit) ≡ splice 808 (partLines n t l) (now (table .entry)))
+        × ((i : ℕ) → i < 64 → Most (partNumbers n l (getD (t .parts) i noPart)) (2 ^ 32)) × Most (partNumbers n l (t .root)) (2 ^ 32) ⌝ }
+{
+    let mut i: usize = 0;
+    while i < 64 {
+        let q = t.parts[i];
+        let line = part_numbers(n, l, q);
+        store(table, 808 + 5 * i, &line);
+        i += 1;
+    }
+    let q = t.root;
+    let last = part_numbers(n, l, q);
+    store(table, 1128, &last);
+}
+
+// The whole table.
+pub fn fill(table: &mut [usize], n: usize, g: Relations, t: Nodes, l: Layout)
+    requires { ⌜ (length (now table) ≡ tableLength) × (0 < n) × (n ≤ 64) × RelationsFit g × Fits t × Small l actionLimit ⌝ }
+    ensures { λ r. ⌜ (now (table .exit) ≡ tableOf n g t l (now (table .entry))) × Filled n g t l (now (table .exit)) ⌝ }
+{
+    table[0] = n;
+    table[1] = g.count;
+    table[2] = t.count;
+    fill_relations(table, g, l);
+    fill_nodes(table, t, l);
+    fill_parts(table, n, t, l);
+}
