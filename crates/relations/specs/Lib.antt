@@ -1,0 +1,3 @@
+-- Relations by number.
+pub mod Numbered
+pub mod NumberedLaws
