@@ -121,7 +121,7 @@ unfolding tuplesOf rowsAt
 relation-rows p q g n s e i h = ap₂ (λ (x y : ℕ). x ^ y) s (relation-arity p q g e i h)
 
 -- a part of a text, as the code lends it
-part-is : (a e : ℕ) (q : List ℕ) → slice a e q ≡ take (e - a) (drop a q)
+pub part-is : (a e : ℕ) (q : List ℕ) → slice a e q ≡ take (e - a) (drop a q)
 part-is zero e q = let z : e - 0 ≡ e = omega arith in rw z
 part-is (suc a) zero [] = let z : 0 - suc a ≡ 0 = omega arith in rw z
 part-is (suc a) zero (x ∷ q) = let z : 0 - suc a ≡ 0 = omega arith in rw z

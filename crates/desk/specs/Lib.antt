@@ -5,4 +5,5 @@ pub mod Agrees
 pub mod Words
 pub mod Marked
 pub mod Short
+pub mod Opened
 pub mod Answers
