@@ -2,3 +2,4 @@
 pub mod Fields
 pub mod Made
 pub mod Runs
+pub mod Digits

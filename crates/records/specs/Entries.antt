@@ -18,6 +18,8 @@ use Rattle.text.specs.declared.Found.{Found}
 use Rattle.text.specs.declared.Found.the-variants.{At, Nowhere}
 use Rattle.records.specs.declared.Places.{Places}
 use Rattle.records.specs.declared.Places.the-variants.{Unread, One, Two, Three}
+use Rattle.records.specs.declared.Quick.{Quick}
+use Rattle.records.specs.declared.Quick.the-variants.{Step as Told, Other}
 use Rattle.records.specs.declared.Entry.{Entry}
 use Rattle.records.specs.declared.Entry.the-variants.{Wrong, Rel, Choose, Rule, Size, Fact, Pick, Step}
 
@@ -119,3 +121,8 @@ InText s at (Step k) = Unit {0}
 -- the first line from `at` on says x, and the others begin at `next`
 unfoldable pub Reads : List ℕ → ℕ → ℕ → Entry → Type 0
 Reads s at next x = (l : Line) × (linesAt s at ≡ l ∷ linesAt s next) × (l .at ≡ at) × (S.entryOf l ≡ given (entryIn s x) 2 at)
+
+-- a step line told by its bytes
+unfoldable pub StepReads : List ℕ → ℕ → Quick → Type 0
+StepReads s at (Told k next) = (at < next) × (next ≤ length s) × Reads s at next (Step k)
+StepReads s at Other = Unit {0}

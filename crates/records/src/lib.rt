@@ -6,7 +6,7 @@ ghost use lib.Seq.{slice};
 ghost use Rattle.definitions.specs.Text.{split, number as numberOf};
 ghost use Rattle.definitions.specs.Sheets.{arityOf, chooseOf, withOne, withTwo, withElements, fact as factOf, pick as pickOf, entry as entryOf};
 ghost use Rattle.text.specs.Spans.{numOf};
-ghost use Rattle.records.specs.Entries.{OneField, TwoFields, Named, elements, consed, upTo, kindWord, recordWord, relOf, ruleOf, sizeOf, stepOf, entryIn, InText, IsArity, Reads};
+ghost use Rattle.records.specs.Entries.{OneField, TwoFields, Named, elements, consed, upTo, kindWord, recordWord, relOf, ruleOf, sizeOf, stepOf, entryIn, InText, IsArity, Reads, StepReads};
 use text::Found;
 use text::Num;
 
@@ -34,6 +34,12 @@ pub enum Entry {
 struct Tuple {
     end: usize,
     places: Places,
+}
+
+// A step and where the next line begins, or some other line.
+enum Quick {
+    Step(u32, usize),
+    Other,
 }
 
 // A line's record, and where the next line begins.
@@ -364,8 +370,8 @@ pub fn record(s: &[u8], a: usize, e: usize) -> Entry
     Entry::Wrong
 }
 
-// What the first line from `at` on says, and where the next one begins.
-pub fn line(s: &[u8], at: usize) -> Read
+// What the first line from `at` on says, whatever its record, and where the next one begins.
+fn any_line(s: &[u8], at: usize) -> Read
     requires { ⌜ at < length (now s) ⌝ }
     ensures { λ r. ⌜ (at < r .next) × (r .next ≤ length (now (s .entry))) × Reads (now (s .entry)) at (r .next) (r .entry) × InText (now (s .entry)) at (r .entry) ⌝ }
 {
@@ -381,5 +387,43 @@ pub fn line(s: &[u8], at: usize) -> Read
     Read {
         entry: x,
         next: e + 1,
+    }
+}
+
+// A good `step` line at `at`, by its first bytes and its digits alone.
+fn step_line(s: &[u8], at: usize) -> Quick
+    requires { ⌜ at < length (now s) ⌝ }
+    ensures { λ r. ⌜ StepReads (now (s .entry)) at r ⌝ }
+{
+    let n = s.len();
+    if n - at < 7 {
+        return Quick::Other;
+    }
+    if text::word(s, at, at + 5, b"step\t") {
+        let e = text::find(s, at + 5, n, 10);
+        if e == n {
+            return Quick::Other;
+        }
+        let k = text::number(s, at + 5, e);
+        return match k {
+            Num::Bad => Quick::Other,
+            Num::Is(v) => Quick::Step(v, e + 1),
+        };
+    }
+    Quick::Other
+}
+
+// What the first line from `at` on says, and where the next one begins.
+pub fn line(s: &[u8], at: usize) -> Read
+    requires { ⌜ at < length (now s) ⌝ }
+    ensures { λ r. ⌜ (at < r .next) × (r .next ≤ length (now (s .entry))) × Reads (now (s .entry)) at (r .next) (r .entry) × InText (now (s .entry)) at (r .entry) ⌝ }
+{
+    let q = step_line(s, at);
+    match q {
+        Quick::Other => any_line(s, at),
+        Quick::Step(k, next) => Read {
+            entry: Entry::Step(k),
+            next,
+        },
     }
 }

@@ -1,14 +1,14 @@
 -- Laws of spans and of `split`: a scan a byte at a time, the pieces of a span by the place of its first separator, equal spans.
 use Prim.Native.Nat.{ℕ, zero, suc, _+_, _-_, _≤_, _<_}
-use mathlib.Core.Path.{_≡_, refl, sym, ap, _∙_}
+use mathlib.Core.Path.{_≡_, refl, sym, ap, ap₂, _∙_}
 use mathlib.Core.Bool.{Bool, true, false, _&&_}
-use mathlib.Core.List.{List, [], _∷_}
+use mathlib.Core.List.{List, [], _∷_, _++_}
 use native.Mathlib.Numerals.{add-one}
 use native.Mathlib.Nat.{zero-add, suc-add}
 use native.Mathlib.Omega.{arith}
 use native.Mathlib.Decide.{decLt}
 use lib.Dec.{eqb}
-use lib.ListN.{length, take, drop, getD, length-drop, drop-of-length-le}
+use lib.ListN.{take-append-drop, length, take, drop, getD, length-drop, drop-of-length-le}
 use lib.Seq.{slice, slice-cons, slice-empty, length-slice, getD-drop, getD-take, take-length, take-all, take-nil, take-take, drop-drop, drop-cons}
 use borrow.Author.Tests.{eq-eqb, ne-eqb}
 use Rattle.definitions.specs.Lists.{if_then_else_, same}
@@ -104,6 +104,12 @@ span-take a k e s h = ap (drop a) (sym (take-take (a + k) e s h)) ∙ drop-take 
 
 span-drop : (a k e : ℕ) (s : List ℕ) → slice (a + k + 1) e s ≡ drop (suc k) (slice a e s)
 span-drop a k e s = let q : a + suc k ≡ a + k + 1 = omega arith in rw (← q, drop-drop (suc k) a (take e s))
+
+-- a span in two
+pub span-append : (a k e : ℕ) (s : List ℕ) → a + suc k ≤ e → slice a e s ≡ slice a (a + suc k) s ++ slice (a + suc k) e s
+span-append a k e s h =
+    let z : a + suc k ≡ a + k + 1 = omega arith in
+    sym (ap₂ _++_ (span-take a (suc k) e s h) (ap (λ (b : ℕ). slice b e s) z ∙ span-drop a k e s) ∙ take-append-drop (suc k) (slice a e s))
 
 module _ (b at e : ℕ) (s : List ℕ) (h : at ≤ e) (k : e ≤ length s) where
   pub end-within : at + indexOf b (slice at e s) ≤ e

@@ -1,27 +1,28 @@
 -- `records::line` meets its contract.
-use native.Mathlib.Omega.{arith}
-use lib.ListN.{length}
 use borrow.Author.Needs.{needs}
-use Rattle.text.proofs.Laws.{end-within}
-use Rattle.records.proofs.Made.{in-wrong}
-use Rattle.records.proofs.Fields.{reads-line, reads-open}
+use Rattle.records.proofs.Digits.{step-told}
 use Rattle.records.proofs.line.Statement.{statement}
 use Rattle.records.proofs.line.Tie as tie
 
-find-requires : tie.Need-find-requires
-find-requires c κs = search needs
+step-line-requires : tie.Need-step-line-requires
+step-line-requires c κs = search needs
+
+enum-told : tie.Need-enum-told
+enum-told c = search needs
+
+any-line-requires : tie.Need-any-line-requires
+any-line-requires c κs = search needs
+
+enum-known-q : tie.Need-enum-known-q
+enum-known-q c = search needs
 
 returns : tie.Need-returns
-returns c = (omega arith, omega arith, reads-open (c .before .before .before .args .s .now) (c .before .before .before .args .at) (omega arith) (c .before .find .result) (c .before .find .ensures) (omega arith), in-wrong (c .before .before .before .args .s .now) _)
-
-record-requires : tie.Need-record-requires
-record-requires c κs = omega (arith, c .before .find .ensures, end-within 10 (c .before .before .before .args .at) (length (c .before .before .before .args .s .now)) (c .before .before .before .args .s .now) (omega arith) (omega arith))
-
-add-t8 : tie.Need-add-t8
-add-t8 c = omega (arith, c .before .before .find .ensures, end-within 10 (c .before .before .before .before .args .at) (length (c .before .before .before .before .args .s .now)) (c .before .before .before .before .args .s .now) (omega arith) (omega arith))
+returns c = search needs
 
 returns-2 : tie.Need-returns-2
-returns-2 c = (omega (arith, c .before .before .find .ensures), omega (arith, c .before .before .find .ensures, end-within 10 (c .before .before .before .before .args .at) (length (c .before .before .before .before .args .s .now)) (c .before .before .before .before .args .s .now) (omega arith) (omega arith)), reads-line (c .before .before .before .before .args .s .now) (c .before .before .before .before .args .at) (omega arith) (c .before .before .find .result) (c .before .before .find .ensures) (omega (arith, c .before .before .find .ensures, end-within 10 (c .before .before .before .before .args .at) (length (c .before .before .before .before .args .s .now)) (c .before .before .before .before .args .s .now) (omega arith) (omega arith))) _ (c .«record» .ensures .0), c .«record» .ensures .1)
+returns-2 c = step-told (c .before .before .before .before .before .args .s .now) (c .before .before .before .before .before .args .at) _ _ _ (c .before .q .given .1) (c .before .before .before .step-line .ensures)
 
 pub line-spec : {M : Type 1} → statement M
-line-spec = tie.close (tie.spec find-requires returns record-requires add-t8 returns-2)
+line-spec =
+    tie.close
+    (tie.spec step-line-requires enum-told any-line-requires enum-known-q returns returns-2)
