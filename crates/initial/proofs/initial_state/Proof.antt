@@ -1,0 +1,63 @@
+use Prim.Native.Nat.{_+_, _/_}
+use mathlib.Core.Path.{sym, subst, _∙_}
+use native.Mathlib.Omega.{arith}
+use Rattle.initial.specs.Rows.{Room}
+use Rattle.initial.specs.RowLaws.{atoms-few, atoms-words}
+use Rattle.initial.specs.InitialLaws.{begun}
+use borrow.Author.Needs.{needs}
+use Rattle.initial.proofs.initial_state.Statement.{statement}
+use Rattle.initial.proofs.initial_state.Tie as tie
+
+shared-slice-read-node-line : tie.Need-shared-slice-read-node-line
+shared-slice-read-node-line c = search needs
+
+node-line-requires : tie.Need-node-line-requires
+node-line-requires c κs = search needs
+
+add-fill : tie.Need-add-fill
+add-fill c =
+    let start = c .before .before .before .before .before .before .before in
+    let line = c .before .before .node-line in
+    omega (arith, atoms-few (start .args .table .now) (line .result) (line .ensures) (start .pre .0))
+
+fill-requires : tie.Need-fill-requires
+fill-requires c κs =
+    let start = c .before .before .before .before .before .before .before in
+    let line = c .before .before .node-line in
+    omega (arith, atoms-words (start .args .table .now) (line .result) (line .ensures), start .pre .1)
+
+write-requires : tie.Need-write-requires
+write-requires c κs = search needs
+
+put-relations-requires : tie.Need-put-relations-requires
+put-relations-requires c κs = search needs
+
+same-length : tie.Need-same-length
+same-length c = search needs
+
+returns : tie.Need-returns
+returns c =
+    let start = c .before .before .before .before .before .before .before .before .before .before .before .before .before .before .before .before .before .before in
+    let line = c .before .before .before .before .before .before .before .before .before .before .before .before .before .node-line in
+    let filled = c .before .before .before .before .before .before .before .before .before .before .fill in
+    let wrote = c .before .before .before .before .before .before .write in
+    let w = start .args .table .now in
+    let m = atoms-words w (line .result) (line .ensures) in
+    begun w (start .args .facts .now) (start .args .state .now) _ ((line .result .atoms + 63) / 64) (start .pre .0)
+    (λ j. omega (arith, c .before .before .before .before .before .before .before .before .before .before .before .before .before .before .before .slice-known .given j)) (λ j. omega (arith, c .slice-known4 .given j))
+    (c .before .before .put-relations .kept .0 ∙ wrote .kept .0 ∙ filled .kept .0) m (omega (arith, m, start .pre .1)) (filled .ensures .1)
+    (λ h. wrote .ensures (omega (arith, filled .kept .0)))
+    (λ h. c .before .before .put-relations .ensures (subst (Room w) (sym (wrote .kept .0 ∙ filled .kept .0)) h))
+
+pub initial-state-spec : {M : Type 1} → statement M
+initial-state-spec =
+    tie.close
+    (tie.spec
+    shared-slice-read-node-line
+    node-line-requires
+    add-fill
+    fill-requires
+    write-requires
+    put-relations-requires
+    same-length
+    returns)

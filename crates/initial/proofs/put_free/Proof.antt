@@ -1,0 +1,68 @@
+use borrow.Author.Needs.{needs}
+use Prim.Native.Nat.{_+_, _-_, _*_, _≤_}
+use mathlib.Core.Path.{_≡_, refl, _∙_}
+use mathlib.Core.Bool.{true}
+use native.Mathlib.Omega.{arith}
+use lib.ListN.{length}
+use Rattle.bits.specs.Table.{bit, paste}
+use Rattle.bits.proofs.Laws.{paste-zero}
+use Rattle.initial.specs.RowLaws.{range-step}
+use Rattle.initial.proofs.put_free.Statement.{statement}
+use Rattle.initial.proofs.put_free.Tie as tie
+
+abbrev Inv-loop : tie.InvT-loop
+Inv-loop state₀ from count k₀ state k = (k ≤ count) × (length state ≡ length state₀) × (from + count ≤ 64 * length state₀ → bit state ≡ paste (bit state₀) from (λ i. true) 0 k)
+
+abbrev μ-loop : tie.MeasureT-loop
+μ-loop state₀ from count k₀ state k = count - k
+
+loop-holds : tie.Need-loop-holds Inv-loop μ-loop
+loop-holds c =
+    let start = c .before in
+    (omega arith, refl, λ h. paste-zero (bit (start .args .state .now)) (start .args .from) (λ i. true) 0)
+
+add-write : tie.Need-add-write Inv-loop μ-loop
+add-write c = search needs
+
+write-requires : tie.Need-write-requires Inv-loop μ-loop
+write-requires c κs = search needs
+
+add-k : tie.Need-add-k Inv-loop μ-loop
+add-k c = search needs
+
+loop-less : tie.Need-loop-less Inv-loop μ-loop
+loop-less c = search needs
+
+loop-again : tie.Need-loop-again Inv-loop μ-loop
+loop-again c =
+    let start = c .before .before .before .before .before .before .before in
+    let l = c .before .before .before .before .before .loop in
+    let wrote = c .before .before .write in (
+      omega arith,
+      wrote .kept .0 ∙ l .inv .1,
+      λ h.
+          range-step (bit (start .args .state .now)) (start .args .from) (λ i. true) (l .k) (l .inv .2 h) (wrote .ensures (omega (arith, l .inv .1))) refl,
+    )
+
+same-length : tie.Need-same-length Inv-loop μ-loop
+same-length c = c .before .loop .inv .1
+
+returns : tie.Need-returns Inv-loop μ-loop
+returns c =
+    let l = c .before .loop in
+    λ h. let e : l .k ≡ c .before .before .before .args .count = omega arith in rw e at (l .inv .2 h)
+
+pub put-free-spec : {M : Type 1} → statement M
+put-free-spec =
+    tie.close
+    (tie.spec
+    Inv-loop
+    μ-loop
+    loop-holds
+    add-write
+    write-requires
+    add-k
+    loop-less
+    loop-again
+    same-length
+    returns)

@@ -1,0 +1,66 @@
+use mathlib.Core.Path.{_∙_}
+use native.Mathlib.Nat.{div-le-self, div-add-mod'}
+use native.Mathlib.Omega.{arith}
+use Rattle.initial.specs.RowLaws.{is-pair, is-one, is-fact, is-unpicked}
+use borrow.Author.Needs.{needs}
+use Rattle.initial.proofs.tuple_holds.Statement.{statement}
+use Rattle.initial.proofs.tuple_holds.Tie as tie
+
+div-built-in-holds : tie.Need-div-built-in-holds
+div-built-in-holds c = search needs
+
+rem-built-in-holds : tie.Need-rem-built-in-holds
+rem-built-in-holds c = search needs
+
+built-in-holds-requires : tie.Need-built-in-holds-requires
+built-in-holds-requires c κs =
+    let start = c .before .before in
+    (omega arith, omega (arith, div-le-self (start .args .row) (start .args .n)), omega (arith, div-add-mod' (start .args .row) (start .args .n)))
+
+returns : tie.Need-returns
+returns c =
+    let start = c .before .before .before in
+    c .built-in-holds .ensures ∙ is-pair (start .args .facts .now) (start .args .n) (start .args .r) (start .args .kind) (start .args .first) (start .args .row) (omega arith)
+
+built-in-holds-requires-2 : tie.Need-built-in-holds-requires-2
+built-in-holds-requires-2 c κs = search needs
+
+returns-2 : tie.Need-returns-2
+returns-2 c =
+    let start = c .before .before .before .before in
+    c .built-in-holds2 .ensures ∙ is-one (start .args .facts .now) (start .args .n) (start .args .r) (start .args .kind) (start .args .first) (start .args .row) (omega arith) (omega arith)
+
+mul-test : tie.Need-mul-test
+mul-test c = search needs
+
+add-test : tie.Need-add-test
+add-test c = search needs
+
+test-requires : tie.Need-test-requires
+test-requires c κs = search needs
+
+returns-3 : tie.Need-returns-3
+returns-3 c =
+    let start = c .before .before .before .before .before in
+    c .test .ensures ∙ is-fact (start .args .facts .now) (start .args .n) (start .args .r) (start .args .kind) (start .args .first) (start .args .row) (omega arith) (omega arith)
+
+returns-4 : tie.Need-returns-4
+returns-4 c =
+    let start = c .before .before .before .before in
+    is-unpicked (start .args .facts .now) (start .args .n) (start .args .r) (start .args .kind) (start .args .first) (start .args .row) (omega arith) (λ e. omega arith)
+
+pub tuple-holds-spec : {M : Type 1} → statement M
+tuple-holds-spec =
+    tie.close
+    (tie.spec
+    div-built-in-holds
+    rem-built-in-holds
+    built-in-holds-requires
+    returns
+    built-in-holds-requires-2
+    returns-2
+    mul-test
+    add-test
+    test-requires
+    returns-3
+    returns-4)

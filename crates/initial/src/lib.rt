@@ -1,0 +1,165 @@
+// The initial state of a grounded problem, written into a lent table of words.
+ghost use mathlib.Core.Path.{_≡_};
+ghost use mathlib.Core.Bool.{true};
+ghost use Prim.Native.Nat.{ℕ, _+_, _-_, _*_, _/_, _^_, _<_, _≤_};
+ghost use lib.ListN.{length};
+ghost use Rattle.definitions.specs.Relations.{builtInHolds};
+ghost use Rattle.definitions.specs.Atoms.{wordsFor};
+ghost use Rattle.bits.specs.Table.{bit, put, paste};
+ghost use Rattle.ground.specs.Lines.{relationsIn, relationLine, Fits};
+ghost use Rattle.initial.specs.Rows.{holdsAt, rowsIn, freeIn, tuplesPut, relationPut, RelationRoom, wordsIn, relationsPut, Room, atomsIn};
+ghost use Rattle.initial.specs.Initial.{Begun};
+use ground::RelationLine;
+
+// What a built-in relation says of x, and of y where it has two places.
+fn built_in_holds(n: usize, r: usize, x: usize, y: usize) -> bool
+    requires { ⌜ (r < 5) × (x ≤ 2 ^ 32) × (y ≤ 2 ^ 32) ⌝ }
+    ensures { λ b. ⌜ b ≡ builtInHolds n r x y ⌝ }
+{
+    if r == 0 {
+        return x == y;
+    }
+    if r == 1 {
+        return x < y;
+    }
+    if r == 2 {
+        return y == x + 1;
+    }
+    if r == 3 {
+        return x == 0;
+    }
+    x + 1 == n
+}
+
+// Whether a tuple holds while nothing is picked: a built-in one by its meaning, one of a `rel` by its bit among the facts, whose
+// words begin with word `first`, and none of a `choose`.
+fn tuple_holds(facts: &[u64], n: usize, r: usize, kind: usize, first: usize, row: usize) -> bool
+    requires { ⌜ (0 < n) × (first ≤ 2 ^ 32) × (row ≤ 2 ^ 32) ⌝ }
+    ensures { λ b. ⌜ b ≡ holdsAt (now (facts .entry)) n r kind first row ⌝ }
+{
+    if r < 3 {
+        return built_in_holds(n, r, row / n, row % n);
+    }
+    if r < 5 {
+        return built_in_holds(n, r, row, 0);
+    }
+    if kind == 0 {
+        return ground::test(facts, 64 * first + row);
+    }
+    false
+}
+
+// Bit i becomes b, where it is in the table.
+fn write(state: &mut [u64], i: usize, b: bool)
+    ensures { λ r. ⌜ (i / 64 < length (now (state .entry)) → bit (now (state .exit)) ≡ put (bit (now (state .entry))) i b) ⌝ }
+{
+    if i / 64 < state.len() {
+        bits::write(state, i, b);
+    }
+}
+
+// How many tuples a relation has.
+fn rows(k: RelationLine) -> usize
+    ensures { λ c. ⌜ c ≡ rowsIn k ⌝ }
+{
+    if k.tuples < k.nots {
+        return k.nots - k.tuples;
+    }
+    0
+}
+
+// How many free atoms a relation has: an element each for kinds 2 to 5, and once more for 4 and 5.
+fn free(n: usize, kind: usize) -> usize
+    requires { ⌜ n ≤ 64 ⌝ }
+    ensures { λ c. ⌜ c ≡ freeIn n kind ⌝ }
+{
+    if kind < 2 {
+        return 0;
+    }
+    if kind < 4 {
+        return n;
+    }
+    2 * n
+}
+
+// Of each tuple of a relation, it or its not-tuple holds.
+fn put_tuples(state: &mut [u64], facts: &[u64], n: usize, r: usize, k: RelationLine, first: usize)
+    requires { ⌜ (0 < n) × (first ≤ 2 ^ 32) × (k .tuples ≤ 2 ^ 32) × (k .nots ≤ 2 ^ 32) ⌝ }
+    ensures { λ u. ⌜ (k .nots + rowsIn k ≤ 64 * length (now (state .entry))
+        → bit (now (state .exit)) ≡ tuplesPut (now (facts .entry)) n r k first (rowsIn k) (bit (now (state .entry)))) ⌝ }
+{
+    let count = rows(k);
+    let mut row: usize = 0;
+    while row < count {
+        let b = tuple_holds(facts, n, r, k.kind, first, row);
+        write(state, k.tuples + row, b);
+        write(state, k.nots + row, !b);
+        row += 1;
+    }
+}
+
+// The `count` bits from bit `from` on are set.
+fn put_free(state: &mut [u64], from: usize, count: usize)
+    requires { ⌜ (from ≤ 2 ^ 32) × (count ≤ 2 ^ 32) ⌝ }
+    ensures { λ u. ⌜ (from + count ≤ 64 * length (now (state .entry))
+        → bit (now (state .exit)) ≡ paste (bit (now (state .entry))) from (λ i. true) 0 count) ⌝ }
+{
+    let mut k: usize = 0;
+    while k < count {
+        write(state, from + k, true);
+        k += 1;
+    }
+}
+
+// The atoms of a relation.
+fn put_relation(state: &mut [u64], facts: &[u64], table: &[usize], r: usize, first: usize)
+    requires { ⌜ Fits (now table) × (r < 17) × (first ≤ 2 ^ 32) ⌝ }
+    ensures { λ u. ⌜ (RelationRoom (now (table .entry)) (length (now (state .entry))) r
+        → bit (now (state .exit)) ≡ relationPut (now (facts .entry)) (now (table .entry)) r first (bit (now (state .entry)))) ⌝ }
+{
+    let n = table[0];
+    let k = ground::relation_line(table, r);
+    put_tuples(state, facts, n, r, k, first);
+    let count = free(n, k.kind);
+    put_free(state, k.free, count);
+}
+
+// How many words of facts a relation has; a built-in one has none.
+fn words(table: &[usize], r: usize) -> usize
+    requires { ⌜ Fits (now table) × (r < 17) ⌝ }
+    ensures { λ c. ⌜ c ≡ wordsIn (now (table .entry)) r ⌝ }
+{
+    if r < 5 {
+        return 0;
+    }
+    let k = ground::relation_line(table, r);
+    (rows(k) + 63) / 64
+}
+
+// The atoms of all relations.
+fn put_relations(state: &mut [u64], facts: &[u64], table: &[usize])
+    requires { ⌜ Fits (now table) ⌝ }
+    ensures { λ u. ⌜ (Room (now (table .entry)) (length (now (state .entry)))
+        → bit (now (state .exit)) ≡ relationsPut (now (facts .entry)) (now (table .entry)) (relationsIn (now (table .entry))) (bit (now (state .entry)))) ⌝ }
+{
+    let count = table[1];
+    let mut first: usize = 0;
+    let mut r: usize = 0;
+    while r < count {
+        put_relation(state, facts, table, r, first);
+        first += words(table, r);
+        r += 1;
+    }
+}
+
+// The initial state; words past those that it needs stay.
+pub fn initial_state(table: &[usize], facts: &[u64], state: &mut [u64])
+    requires { ⌜ Fits (now table) ⌝ }
+    requires { ⌜ wordsFor (atomsIn (now table)) ≤ length (now state) ⌝ }
+    ensures { λ u. ⌜ Begun (now (table .entry)) (now (facts .entry)) (now (state .entry)) (now (state .exit)) ⌝ }
+{
+    let end = ground::node_line(table, table[2]);
+    bits::fill(state, (end.atoms + 63) / 64);
+    write(state, 0, true);
+    put_relations(state, facts, table);
+}
