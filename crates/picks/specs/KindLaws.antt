@@ -1,0 +1,79 @@
+-- The kinds of picks tested on their bits are those of the definitions.
+use Prim.Native.Nat.{ℕ, zero, suc, _+_, _*_, _^_, _<_}
+use mathlib.Core.Path.{_≡_, refl, sym, ap, ap₂, subst, _∙_}
+use mathlib.Core.Bool.{Bool, true, _&&_, _||_}
+use mathlib.Core.Option.{Option, none, some}
+use mathlib.Core.List.{List, [], _∷_, List·Memᴰ, List·Memᴰ·head, List·Memᴰ·tail}
+use native.Mathlib.Omega.{arith}
+use native.Mathlib.Nat.{mul-one, pow-zero, pow-suc, one-mul}
+use lib.Arith.{digits-lt}
+use lib.Dec.{T, ltb}
+use lib.ListN.{length}
+use Rattle.bits.specs.Table.{num, count}
+use Rattle.definitions.specs.Lists.{if_then_else_, any, option, position, below}
+use Rattle.definitions.specs.Relations.{Kind, static, plain, Fun, PFun, Inj, PInj, Tuple, isChosen, isFunction, isInjective}
+use Rattle.definitions.specs.Truth.{Case, arePicks, firstOfOtherKind}
+use Rattle.definitions.specs.Atoms.{problemOf, relationAt, tuplesOf}
+use Rattle.definitions.specs.Built.{isPicked, chosenNumbers}
+use Rattle.laws.specs.Booleans.{T-of}
+use Rattle.laws.specs.Lists.{below-lt, filter-mem}
+use Rattle.reduction.specs.Reader.{Accepted}
+use Rattle.reduction.specs.Grounded.{good}
+use Rattle.reduction.specs.Picks.{picks-inside}
+use Rattle.states.specs.Kinds.{hasTwo, isCrowded, breaks, first-broken}
+use Rattle.picks.specs.Words.{rowsIn, PicksAre}
+
+any-same : {A : Type 0} (f g : A → Bool) (l : List A) → ((x : A) → List·Memᴰ x l → f x ≡ g x) → any f l ≡ any g l
+unfolding any
+any-same f g [] h = refl
+any-same f g (x ∷ l) h = ap₂ _||_ (h x (List·Memᴰ·head refl)) (any-same f g l (λ y m. h y (List·Memᴰ·tail m)))
+
+position-same : {A : Type 0} (f g : A → Bool) (l : List A) → ((x : A) → List·Memᴰ x l → f x ≡ g x) → position f l ≡ position g l
+unfolding position
+position-same f g [] h = refl
+position-same f g (x ∷ l) h = ap₂ (λ (b : Bool) (o : Option ℕ). if b then some zero else option o none (λ i. some (suc i))) (h x (List·Memᴰ·head refl)) (position-same f g l (λ y m. h y (List·Memᴰ·tail m)))
+
+count-same : (f g : ℕ → Bool) (n : ℕ) → ((y : ℕ) → y < n → f y ≡ g y) → count f 0 n ≡ count g 0 n
+unfolding count
+count-same f g zero h = refl
+count-same f g (suc n) h = ap₂ (λ (a : ℕ) (b : Bool). a + num b) (count-same f g n (λ y l. h y (omega arith))) (h (0 + n) (omega arith))
+
+module _ (f g : ℕ → Bool) (n : ℕ) (h : (row : ℕ) → row < n * n → f row ≡ g row) where
+  crowd-same : (a b : ℕ) → ((x y : ℕ) → x < n → y < n → x * a + y * b < n * n) → isCrowded f n a b ≡ isCrowded g n a b
+  unfolding isCrowded hasTwo
+  crowd-same a b k = any-same (λ x. ltb 1 (count (λ y. f (x * a + y * b)) 0 n)) (λ x. ltb 1 (count (λ y. g (x * a + y * b)) 0 n)) (below n)
+      (λ x m. ap (ltb 1) (count-same (λ y. f (x * a + y * b)) (λ y. g (x * a + y * b)) n (λ y l. h (x * a + y * b) (k x y (below-lt n x m) l))))
+
+  in-row : (x y : ℕ) → x < n → y < n → x * n + y * 1 < n * n
+  in-row x y a b = let e = mul-one y in let l : x * n + y < n * n = digits-lt a b in omega arith
+
+  in-column : (y x : ℕ) → y < n → x < n → y * 1 + x * n < n * n
+  in-column y x a b = let e = mul-one y in let l : x * n + y < n * n = digits-lt b a in omega arith
+
+  crowds-same : (k : Kind) → breaks k n f ≡ breaks k n g
+  unfolding breaks
+  crowds-same k = ap₂ (λ (a b : Bool). (isFunction k && a) || (isInjective k && b)) (crowd-same n 1 in-row) (crowd-same 1 n in-column)
+
+-- only a function kind is tested
+breaks-same : (k : Kind) (n : ℕ) (f g : ℕ → Bool) → (T (isFunction k) → (row : ℕ) → row < n * n → f row ≡ g row) → breaks k n f ≡ breaks k n g
+unfolding breaks isFunction isInjective
+breaks-same static n f g h = refl
+breaks-same plain n f g h = refl
+breaks-same Fun n f g h = crowds-same f g n (h tt) Fun
+breaks-same PFun n f g h = crowds-same f g n (h tt) PFun
+breaks-same Inj n f g h = crowds-same f g n (h tt) Inj
+breaks-same PInj n f g h = crowds-same f g n (h tt) PInj
+
+module _ (c : Case) (A : Accepted c) (F : List Tuple) (picks : arePicks c F ≡ true) (words : List ℕ) (same : PicksAre (problemOf c) words F) where
+  -- 16
+  pub kinds-are : position (λ r. breaks (relationAt (problemOf c) r .kind) (problemOf c .size) (rowsIn (problemOf c) words r)) (chosenNumbers (problemOf c)) ≡ firstOfOtherKind c F
+  unfolding chosenNumbers tuplesOf
+  kinds-are =
+      position-same (λ r. breaks (relationAt (problemOf c) r .kind) (problemOf c .size) (rowsIn (problemOf c) words r)) (λ r. breaks (relationAt (problemOf c) r .kind) (problemOf c .size) (isPicked (problemOf c) F r)) (chosenNumbers (problemOf c)) (λ r m.
+      let q = filter-mem (λ r. isChosen (relationAt (problemOf c) r .kind)) (below (length (problemOf c .relations))) r m in
+      let l = below-lt (length (problemOf c .relations)) r (q .0) in
+      breaks-same (relationAt (problemOf c) r .kind) (problemOf c .size) (rowsIn (problemOf c) words r) (isPicked (problemOf c) F r) (λ f row h. same r row l (q .1) (subst (λ (k : ℕ). row < problemOf c .size ^ k) (sym (good c A .pairs r l f)) (rw (square (problemOf c .size)) h))))
+      ∙ sym (first-broken c A F (picks-inside c A F (T-of picks)))
+    where
+      square : (n : ℕ) → n ^ 2 ≡ n * n
+      square n = pow-suc n 1 ∙ ap (λ (x : ℕ). x * n) (pow-suc n 0 ∙ ap (λ (x : ℕ). x * n) (pow-zero n) ∙ one-mul n)

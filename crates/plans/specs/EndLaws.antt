@@ -1,0 +1,121 @@
+-- The way from part to part: begin-proof and prove-goal by the table, and a fresh table that holds a lent state.
+use Prim.Native.Nat.{ℕ, zero, suc, _+_, _-_, _/_, _%_, _<_, _≤_}
+use mathlib.Core.Path.{_≡_, refl, sym, ap, subst, _∙_, fun-ext}
+use mathlib.Core.Logic.{⊎-elim}
+use mathlib.Core.Bool.{Bool, true, false}
+use mathlib.Core.List.{List, _++_}
+use native.Mathlib.Omega.{arith}
+use lib.Dec.{ltb, ltb→lt, nltb→le}
+use lib.ListN.{length, take, drop, getD, set, replicate, List·getD-append, List·getD-eq-default}
+use lib.Seq.{take-length, length-take-le, getD-append-add, getD-drop, paste, paste-suc}
+use native.Mathlib.Nat.{zero-add}
+use native.Mathlib.Numerals.{add-one}
+use Rattle.bits.specs.Table.{digit, bit, Words}
+use Rattle.definitions.specs.Lists.{all}
+use Rattle.definitions.specs.Atoms.{Problem, State, atoms, wordsFor}
+use Rattle.definitions.specs.Actions.{actionNumber, beginProof, proveGoal}
+use Rattle.definitions.specs.Strips.{mayTake}
+use Rattle.definitions.specs.Outcome.{written, stateLength}
+use Rattle.laws.specs.Booleans.{T-dec}
+use Rattle.laws.specs.Numbers.{IsAction, three-atoms}
+use Rattle.ground.specs.Lines.{relationLine, relationsIn, nodesIn, nodeLine}
+use Rattle.ground.specs.Numbers.{needNumbers}
+use Rattle.ground.specs.Of.{Is, said}
+use Rattle.ground.specs.OfLaws.{may-is}
+use Rattle.ground.specs.declared.RelationLine.{RelationLine}
+use Rattle.ground.specs.declared.NodeLine.{NodeLine}
+use Rattle.ground.specs.declared.Act.the-variants.{Begin, Goal}
+use Rattle.proving.specs.Following.{Out, out, one, provedNodes}
+use Rattle.setting.specs.Setting.{setRelations}
+use Rattle.plans.specs.Following.{proved, Follows, Rehearsed, Performed}
+use Rattle.plans.specs.BuiltLaws.{front-words}
+
+module _ (p : Problem) (w : List ℕ) (is : Is p w) where
+  pub begin-number : (x : RelationLine) → x ≡ relationLine w (relationsIn w) → x .sets ≡ actionNumber p beginProof
+  unfolding actionNumber
+  begin-number x e = ap (λ (y : RelationLine). y .sets) e ∙ ap (λ (r : ℕ). relationLine w r .sets) (is .relations) ∙ is .sets (length (p .relations)) (omega arith)
+
+  pub goal-number : (x : NodeLine) → x ≡ nodeLine w (nodesIn w) → x .acts ≡ actionNumber p proveGoal
+  unfolding actionNumber
+  goal-number x e = ap (λ (y : NodeLine). y .acts) e ∙ ap (λ (v : ℕ). nodeLine w v .acts) (is .nodes) ∙ is .acts (length (p .nodeList)) (omega arith)
+
+  pub goal-test : (s : State) (b : Bool) → b ≡ all s (needNumbers w Goal) → b ≡ mayTake p s proveGoal
+  unfolding said IsAction
+  goal-test s b e = e ∙ may-is p w is s proveGoal tt
+
+pub begin-is : (p : Problem) → IsAction p beginProof
+unfolding IsAction
+begin-is p = tt
+
+pub goal-is : (p : Problem) → IsAction p proveGoal
+unfolding IsAction
+goal-is p = tt
+
+pub begin-said : Begin ≡ said beginProof
+unfolding said
+begin-said = refl
+
+pub goal-said : Goal ≡ said proveGoal
+unfolding said
+goal-said = refl
+
+-- ---- the parts of the way
+module _ (p : Problem) (f : ℕ → ℕ → Bool) (o o₁ o₂ o₃ : Out) (a : setRelations p f o 0 (length (p .relations)) ≡ o₁) (b : one p o₁ beginProof ≡ o₂) (c : provedNodes p o₂ (length (p .nodeList)) ≡ o₃) where
+  proved-is : proved p f o ≡ o₃
+  unfolding proved
+  proved-is = ap (λ (x : Out). provedNodes p (one p x beginProof) (length (p .nodeList))) a ∙ ap (λ (x : Out). provedNodes p x (length (p .nodeList))) b ∙ c
+
+  pub way-yes : (t : Bool) (o₄ : Out) → t ≡ mayTake p (o₃ .state) proveGoal → t ≡ true → one p o₃ proveGoal ≡ o₄ → Follows p f o o₄ true
+  way-yes t o₄ e y d = record { goal = sym y ∙ e ∙ ap (λ (x : Out). mayTake p (x .state) proveGoal) (sym proved-is); end = ap (λ (x : Out). one p x proveGoal) proved-is ∙ d }
+
+  pub way-no : (t : Bool) → t ≡ mayTake p (o₃ .state) proveGoal → t ≡ false → Follows p f o o₃ false
+  way-no t e n = record { goal = sym n ∙ e ∙ ap (λ (x : Out). mayTake p (x .state) proveGoal) (sym proved-is); end = proved-is }
+
+-- ---- a copy, word by word
+pub copy-next : (d s x : List ℕ) (i : ℕ) → i < length d → i < length s → x ≡ paste d 0 s i → set x i (getD s i 0) ≡ paste d 0 s (i + 1)
+copy-next d s x i h k e =
+    let z : 0 + i ≡ i = zero-add i in
+    rw (e, add-one) (ap (λ (n : ℕ). set (paste d 0 s i) n (getD s i 0)) (sym z) ∙ paste-suc d 0 s i 0 (omega arith) k)
+
+pub copy-end : (d s x : List ℕ) (k : ℕ) → k ≤ length s → x ≡ paste d 0 s k → x ≡ written (take k s) d
+unfolding written
+copy-end d s x k h e = e ∙ ap (λ (n : ℕ). take k s ++ drop n d) (zero-add k ∙ sym (length-take-le k s h))
+
+-- ---- a table of zeros into whose front words are written has their bits
+zeros-at : (k j : ℕ) → _≡_ {A = ℕ} (getD (replicate k 0) j 0) 0
+zeros-at zero j = refl
+zeros-at (suc k) zero = refl
+zeros-at (suc k) (suc j) = zeros-at k j
+
+pub fresh-bits : (t : List ℕ) (k : ℕ) → bit (written (take (length t) t) (replicate k 0)) ≡ bit t
+unfolding written bit
+fresh-bits t k = fun-ext (λ i. ap (λ (w : ℕ). digit w (i % 64)) (front (i / 64)))
+  where
+    front : (j : ℕ) → getD (take (length t) t ++ drop (length (take (length t) t)) (replicate k 0)) j 0 ≡ getD t j 0
+    front j = ap (λ (u : List ℕ). getD (u ++ drop (length u) (replicate k 0)) j 0) (take-length t) ∙ ⊎-elim
+        (λ h. List·getD-append t (drop (length t) (replicate k 0)) 0 j (ltb→lt j (length t) h))
+        (λ h.
+        let q = nltb→le j (length t) h in
+        let m : length t + (j - length t) ≡ j = omega arith in
+        ap (λ (n : ℕ). getD (t ++ drop (length t) (replicate k 0)) n 0) (sym m) ∙ getD-append-add t (drop (length t) (replicate k 0)) (j - length t) 0
+        ∙ getD-drop (length t) (replicate k 0) (j - length t) 0 ∙ zeros-at k (length t + (j - length t)) ∙ sym (List·getD-eq-default t 0 q))
+        (T-dec (ltb j (length t)))
+
+-- ---- what the code has after the way
+pub rehearsed : (p : Problem) (f : ℕ → ℕ → Bool) (t u : List ℕ) (k : ℕ) (b : List ℕ) (o : Out) (h : Bool) → u ≡ written (take (length t) t) (replicate k 0) → Follows p f (out (bit u) b 0) o h → Rehearsed p f (bit t) h
+rehearsed p f t u k b o h e W = record { steps = b; end = o; way = subst (λ (s : State). Follows p f (out s b 0) o h) (ap bit e ∙ fresh-bits t k) W }
+
+pub words-some : (p : Problem) (m : ℕ) → m ≡ atoms p → 0 < (m + 63) / 64
+words-some p m e = let h = three-atoms p in omega arith
+
+pub performed : (p : Problem) (f : ℕ → ℕ → Bool) (t u : List ℕ) (k : ℕ) (b b′ v : List ℕ) (n m : ℕ) (h : Bool) (state state′ : List ℕ) → u ≡ written (take (length t) t) (replicate k 0) → Follows p f (out (bit u) b 0) (out (bit v) b′ n) h
+    → Words v → (m + 63) / 64 ≤ length v → m ≡ atoms p → state′ ≡ written (take ((m + 63) / 64) v) state → Performed p f (bit t) state b state′ b′ n
+unfolding stateLength wordsFor
+performed p f t u k b b′ v n m h state state′ e W w l a q =
+    let s : (m + 63) / 64 ≡ (atoms p + 63) / 64 = ap (λ (x : ℕ). (x + 63) / 64) a in
+    record {
+      left = bit v;
+      holds = h;
+      way = subst (λ (s : State). Follows p f (out s b 0) (out (bit v) b′ n) h) (ap bit e ∙ fresh-bits t k) W;
+      words = q ∙ ap (λ (x : ℕ). written (take x v) state) s ∙ ap (λ (x : List ℕ). written x state) (front-words p (bit v) v w (omega arith) refl);
+    }

@@ -1,0 +1,13 @@
+-- Building steps from picks.
+--   Following    the builder's way as folds over its progress
+--   Ways         that it is the built steps, taken and written one by one
+--   Answers      what building gives, in the words of the definitions
+--   BuiltLaws    so the state, the steps and the count are theirs
+--   EndLaws      the way from part to part, as the code has it
+--   BuildLaws    what `build` finds, as what the definitions give
+pub mod Following
+pub mod Ways
+pub mod Answers
+pub mod BuiltLaws
+pub mod EndLaws
+pub mod BuildLaws

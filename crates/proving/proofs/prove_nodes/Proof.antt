@@ -1,0 +1,83 @@
+use Prim.Native.Nat.{_+_, _-_, _*_, _^_, _≤_}
+use mathlib.Core.Path.{_≡_, refl, sym, ap, _∙_}
+use native.Mathlib.Omega.{arith}
+use borrow.Author.Needs.{needs}
+use lib.ListN.{length}
+use Rattle.bits.specs.Table.{bit}
+use Rattle.definitions.specs.Atoms.{Problem, nodeStart, atoms as atomsOf}
+use Rattle.ground.specs.Lines.{nodesIn}
+use Rattle.ground.specs.NeedLaws.{node-small}
+use Rattle.proving.specs.Following.{Ready, out, provedNodes}
+use Rattle.proving.specs.FollowLaws.{nodes-next, nodes-end, end-start, start-before, width-before}
+use Rattle.proving.proofs.prove_nodes.Statement.{statement}
+use Rattle.proving.proofs.prove_nodes.Tie as tie
+
+abbrev Inv-loop : tie.InvT-loop
+Inv-loop state₀ steps₀ at table atoms k₀ end₀ v₀ state steps k end v = (v ≤ nodesIn table) × (end ≤ 2 ^ 32) × (k ≤ at + (nodesIn table - v) * 2 ^ 32) × (length state ≡ length state₀) × (length steps ≡ length steps₀) × ((p : Problem) → Ready p table (length state₀) → atoms ≡ atomsOf p → (end ≡ nodeStart p v) × (provedNodes p (out (bit state₀) steps₀ at) (length (p .nodeList)) ≡ provedNodes p (out (bit state) steps k) v))
+
+abbrev μ-loop : tie.MeasureT-loop
+μ-loop state₀ steps₀ at table atoms k₀ end₀ v₀ state steps k end v = v
+
+shared-slice-read-v : tie.Need-shared-slice-read-v Inv-loop μ-loop
+shared-slice-read-v c = omega (arith, c .before .before .before .before .pre .0 .whole)
+
+loop-holds : tie.Need-loop-holds Inv-loop μ-loop
+loop-holds c = (omega arith, c .before .before .before .before .pre .1, omega arith, refl, refl, λ p R e. (end-start p (c .before .before .before .before .args .table .now) (R .is) (c .before .before .before .before .args .atoms) e, ap (provedNodes p (out (bit (c .before .before .before .before .args .state .now)) (c .before .before .before .before .args .steps .now) (c .before .before .before .before .args .at))) (sym (R .is .nodes))))
+
+sub-v : tie.Need-sub-v Inv-loop μ-loop
+sub-v c = omega arith
+
+node-line-requires : tie.Need-node-line-requires Inv-loop μ-loop
+node-line-requires c κs = (c .before .before .before .before .before .before .pre .0 .whole, omega (arith, c .before .before .before .before .before .before .pre .0 .nodes))
+
+gap-requires : tie.Need-gap-requires Inv-loop μ-loop
+gap-requires c κs = search needs
+
+prove-node-requires : tie.Need-prove-node-requires Inv-loop μ-loop
+prove-node-requires c κs = (c .before .before .before .before .before .before .before .before .before .before .pre .0, omega (arith, c .before .before .before .before .before .before .before .before .before .before .pre .0 .nodes), omega (arith, c .gap .ensures), omega (arith, c .before .before .before .before .before .before .before .before .before .before .pre .0 .nodes))
+
+loop-less : tie.Need-loop-less Inv-loop μ-loop
+loop-less c = omega arith
+
+loop-again : tie.Need-loop-again Inv-loop μ-loop
+loop-again c = (
+  omega arith,
+  node-small (c .before .before .before .before .before .before .before .before .before .before .before .before .before .before .before .args .table .now) (c .before .before .before .before .before .before .before .before .before .before .before .before .before .before .before .pre .0) (c .before .before .before .before .before .before .before .before .before .before .loop .v - 1) (c .before .before .before .before .before .before .before .before .node-line .result) (c .before .before .before .before .before .before .before .before .node-line .ensures) (omega (arith, c .before .before .before .before .before .before .before .before .before .before .before .before .before .before .before .pre .0 .nodes)) .1,
+  omega (arith, c .before .before .before .before .prove-node .ensures .0, c .before .before .before .before .before .gap .ensures),
+  c .before .before .before .before .prove-node .kept .0 ∙ c .before .before .before .before .before .before .before .before .before .before .loop .inv .3,
+  c .before .before .before .before .prove-node .kept .1 .0 ∙ c .before .before .before .before .before .before .before .before .before .before .loop .inv .4,
+  λ p R e.
+      let I = c .before .before .before .before .before .before .before .before .before .before .loop .inv .5 p R e in
+      let g = width-before p (c .before .before .before .before .before .before .before .before .before .before .before .before .before .before .before .args .table .now) (R .is) (c .before .before .before .before .before .before .before .before .before .before .loop .v) (c .before .before .before .before .before .before .before .before .before .before .loop .end) (c .before .before .before .before .before .before .before .before .node-line .result) (c .before .before .before .before .before .before .before .before .node-line .ensures) (omega arith) (omega arith) (I .0) (c .before .before .before .before .before .gap .result) (c .before .before .before .before .before .gap .ensures) in (
+        start-before p (c .before .before .before .before .before .before .before .before .before .before .before .before .before .before .before .args .table .now) (R .is) (c .before .before .before .before .before .before .before .before .before .before .loop .v) (c .before .before .before .before .before .before .before .before .node-line .result) (c .before .before .before .before .before .before .before .before .node-line .ensures) (omega arith) (omega arith),
+        I .1 ∙ nodes-next p (out (bit (c .before .before .before .before .before .before .before .before .before .before .loop .state)) (c .before .before .before .before .before .before .before .before .before .before .loop .steps) (c .before .before .before .before .before .before .before .before .before .before .loop .k)) (out (bit (c .before .before .before .before .prove-node .last .0)) (c .before .before .before .before .prove-node .last .1 .0) (c .before .before .before .before .prove-node .result)) (c .before .before .before .before .before .before .before .before .before .before .loop .v) (c .before .before .before .before .before .gap .result) (omega arith) g
+            (c .before .before .before .before .prove-node .ensures .1 p (record { is = R .is; room = omega (arith, R .room, c .before .before .before .before .before .before .before .before .before .before .loop .inv .3); few = R .few }) (omega (arith, R .is .nodes)) g),
+      ),
+)
+
+same-length : tie.Need-same-length Inv-loop μ-loop
+same-length c = search needs
+
+same-length-2 : tie.Need-same-length-2 Inv-loop μ-loop
+same-length-2 c = search needs
+
+returns : tie.Need-returns Inv-loop μ-loop
+returns c = (omega (arith, c .before .before .before .before .before .before .pre .0 .nodes), λ p R e. c .before .loop .inv .5 p R e .1 ∙ nodes-end p (out (bit (c .before .loop .state)) (c .before .loop .steps) (c .before .loop .k)) (c .before .loop .v) (omega arith))
+
+pub prove-nodes-spec : {M : Type 1} → statement M
+prove-nodes-spec =
+    tie.close
+    (tie.spec
+    Inv-loop
+    μ-loop
+    shared-slice-read-v
+    loop-holds
+    sub-v
+    node-line-requires
+    gap-requires
+    prove-node-requires
+    loop-less
+    loop-again
+    same-length
+    same-length-2
+    returns)

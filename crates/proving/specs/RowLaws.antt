@@ -1,0 +1,224 @@
+-- The first action that the code finds for an atom of a node is the one that `stepNow` says.
+use Prim.Native.Nat.{ℕ, zero, suc, _+_, _-_, _*_, _/_, _%_, _^_, _<_, _≤_}
+use mathlib.Core.Path.{_≡_, refl, sym, ap, ap₂, subst, subst₂, _∙_}
+use mathlib.Core.Bool.{Bool, true, false}
+use mathlib.Core.Option.{none, some}
+use mathlib.Core.List.{List}
+use native.Mathlib.Omega.{arith}
+use native.Mathlib.Nat.{add-zero, mod-lt, div-lt-iff-lt-mul, div-le-self, mul-le-mul}
+use lib.Dec.{eqb}
+use borrow.Author.Tests.{eqb-true, eqb-false}
+use lib.ListN.{length}
+use Rattle.definitions.specs.Lists.{if_then_else_, all, option, position, from, below}
+use Rattle.definitions.specs.Tree.{Tree, leaf, forallNode, existsNode, andNode, orNode, parts, isForall}
+use Rattle.definitions.specs.Atoms.{Problem, State, nodeAt, rowsOf, nodeWidth}
+use Rattle.definitions.specs.Actions.{Action, choices, proveNode, proofStart, proofNumber, actionNumber}
+use Rattle.definitions.specs.Strips.{mayTake}
+use Rattle.laws.specs.Numbers.{IsAction}
+use Rattle.tree.specs.Tables.{nodeKind}
+use Rattle.ground.specs.Lines.{sizeIn, nodeLine, Fits}
+use Rattle.ground.specs.declared.NodeLine.{NodeLine}
+use Rattle.ground.specs.Numbers.{needNumbers}
+use Rattle.ground.specs.Of.{Is, said}
+use Rattle.ground.specs.OfLaws.{parts-length, may-is}
+use Rattle.ground.specs.declared.Act.{Act}
+use Rattle.states.specs.Planning.{rowIn, firstTry, tries, tryAt, stepNow}
+use Rattle.proving.specs.declared.Way.{Way}
+use Rattle.proving.specs.Tries.{actBy, wayBy, firstFrom}
+
+-- ---- the first that passes
+first-same : (f g : ℕ → Bool) (k a : ℕ) → ((i : ℕ) → i < k → f (a + i) ≡ g (a + i)) → firstFrom f a k ≡ firstFrom g a k
+unfolding firstFrom
+first-same f g zero a h = refl
+first-same f g (suc k) a h =
+    ap₂ (λ (b : Bool) (r : ℕ). if b then a else r) (ap f (sym (add-zero a)) ∙ h 0 (omega arith) ∙ ap g (add-zero a))
+    (first-same f g k (suc a) (λ i l. let e : suc a + i ≡ a + suc i = omega arith in ap f e ∙ h (suc i) (omega arith) ∙ ap g (sym e)))
+
+first-le : (f : ℕ → Bool) (k a : ℕ) → a ≤ firstFrom f a k
+unfolding firstFrom
+first-le f zero a = omega arith
+first-le f (suc k) a = go (f a) (first-le f k (suc a))
+  where
+    go : (b : Bool) → suc a ≤ firstFrom f (suc a) k → a ≤ (if b then a else firstFrom f (suc a) k)
+    go true h = omega arith
+    go false h = omega arith
+
+pub found : (f : ℕ → Bool) (k a : ℕ) → firstFrom f a k < a + k → position f (from a k) ≡ some (firstFrom f a k - a)
+unfolding firstFrom position from option
+found f zero a h = absurd (omega arith)
+found f (suc k) a h = go (f a) h (found f k (suc a)) (first-le f k (suc a))
+  where
+    go : (b : Bool) → (if b then a else firstFrom f (suc a) k) < a + suc k → (firstFrom f (suc a) k < suc a + k → position f (from (suc a) k) ≡ some (firstFrom f (suc a) k - suc a)) → suc a ≤ firstFrom f (suc a) k
+        → (if b then some zero else option (position f (from (suc a) k)) none (λ i. some (suc i))) ≡ some ((if b then a else firstFrom f (suc a) k) - a)
+    go true h r l = let e : a - a ≡ 0 = omega arith in ap some (sym e)
+    go false h r l = let e : suc (firstFrom f (suc a) k - suc a) ≡ firstFrom f (suc a) k - a = omega arith in rw (r (omega arith)) (ap some e)
+
+pub lost : (f : ℕ → Bool) (k a : ℕ) → a + k ≤ firstFrom f a k → position f (from a k) ≡ none
+unfolding firstFrom position from option
+lost f zero a h = refl
+lost f (suc k) a h = go (f a) h (lost f k (suc a))
+  where
+    go : (b : Bool) → a + suc k ≤ (if b then a else firstFrom f (suc a) k) → (suc a + k ≤ firstFrom f (suc a) k → position f (from (suc a) k) ≡ none)
+        → (if b then some zero else option (position f (from (suc a) k)) none (λ i. some (suc i))) ≡ none
+    go true h r = absurd (omega arith)
+    go false h r = rw (r (omega arith))
+
+-- ---- the way by the table
+module _ (n v j : ℕ) where
+  pub record WayIs (t : Tree) (w : Way) : Type 0 where
+    pub row : w .row ≡ rowIn n t j
+    pub base : w .base ≡ firstTry n t j
+    pub tries : w .tries ≡ tries n t
+    pub choices : w .choices ≡ choices n t
+
+  way-is : (t : Tree) → WayIs t (wayBy n (nodeKind t) (length (parts v t)) j)
+  unfolding wayBy nodeKind rowIn firstTry tries choices isForall parts
+  way-is (leaf q r ls) = record { row = refl; base = refl; tries = refl; choices = refl }
+  way-is (forallNode d t) = record { row = refl; base = refl; tries = refl; choices = refl }
+  way-is (existsNode d t) = record { row = refl; base = refl; tries = refl; choices = refl }
+  way-is (andNode ts) = record { row = refl; base = refl; tries = refl; choices = refl }
+  way-is (orNode ts) = record { row = refl; base = refl; tries = parts-length (suc v) ts; choices = parts-length (suc v) ts }
+
+  act-is : (t : Tree) (row i : ℕ) → 0 < tries n t → actBy (nodeKind t) v row i ≡ said (proveNode t v row i)
+  unfolding actBy nodeKind said proveNode tries choices isForall
+  act-is (leaf q r ls) row i h = absurd (omega arith)
+  act-is (forallNode d t) row i h = refl
+  act-is (existsNode d t) row i h = refl
+  act-is (andNode ts) row i h = refl
+  act-is (orNode ts) row i h = refl
+
+-- ---- the actions of an atom
+module _ (p : Problem) (w : List ℕ) (is : Is p w) (element : 0 < p .size) (v : ℕ) (l : v < length (p .nodeList)) (j : ℕ) where
+  try-is : (t : Tree) → nodeAt p v ≡ t → j < nodeWidth (p .size) t → (i : ℕ) → i < tries (p .size) t → IsAction p (tryAt (p .size) v t j i)
+  unfolding tryAt rowIn firstTry tries isForall choices proveNode nodeWidth IsAction
+  try-is (leaf q r ls) e h i k = absurd (omega arith)
+  try-is (forallNode d u) e h i k = (l, subst (λ (t : Tree). j / p .size < rowsOf (p .size) t) (sym e) (div-lt-iff-lt-mul element .1 h), (d, u, e, omega (arith, mod-lt j element)))
+  try-is (existsNode d u) e h i k = (l, subst (λ (t : Tree). j < rowsOf (p .size) t) (sym e) h, (d, u, e, omega arith))
+  try-is (andNode ts) e h i k = (l, subst (λ (t : Tree). j < rowsOf (p .size) t) (sym e) h, (ts, e))
+  try-is (orNode ts) e h i k = (l, subst (λ (t : Tree). j < rowsOf (p .size) t) (sym e) h, (ts, e, omega arith))
+
+  try-number : (t : Tree) → nodeAt p v ≡ t → (i : ℕ) → i < tries (p .size) t → actionNumber p (tryAt (p .size) v t j i) ≡ proofStart p v + rowIn (p .size) t j * choices (p .size) t + (firstTry (p .size) t j + i)
+  unfolding tryAt rowIn firstTry tries isForall choices proveNode actionNumber proofNumber
+  try-number (leaf q r ls) e i k = absurd (omega arith)
+  try-number (forallNode d u) e i k = ap (λ (t : Tree). proofStart p v + j / p .size * choices (p .size) t + (j % p .size + i)) e
+  try-number (existsNode d u) e i k = ap (λ (t : Tree). proofStart p v + j * choices (p .size) t + (0 + i)) e
+  try-number (andNode ts) e i k = let q : 0 ≡ 0 + i = omega arith in ap₂ (λ (t : Tree) (x : ℕ). proofStart p v + j * choices (p .size) t + x) e q
+  try-number (orNode ts) e i k = ap (λ (t : Tree). proofStart p v + j * choices (p .size) t + (0 + i)) e
+
+  abbrev way : Way
+  way = wayBy (sizeIn w) (nodeLine w v .kind) (nodeLine w v .many) j
+
+  here : WayIs (p .size) v j (nodeAt p v) way
+  here = subst (λ (x : Way). WayIs (p .size) v j (nodeAt p v) x) (ap (λ (n : ℕ). wayBy n (nodeKind (nodeAt p v)) (length (parts v (nodeAt p v))) j) (sym (is .size)) ∙ ap₂ (λ (k m : ℕ). wayBy (sizeIn w) k m j) (sym (is .node v l .kind)) (sym (is .node v l .many))) (way-is (p .size) v j (nodeAt p v))
+
+  act-said : (i : ℕ) → i < tries (p .size) (nodeAt p v) → actBy (nodeLine w v .kind) v (way .row) (way .base + i) ≡ said (tryAt (p .size) v (nodeAt p v) j i)
+  unfolding tryAt
+  act-said i k = ap (λ (x : ℕ). actBy x v (way .row) (way .base + i)) (is .node v l .kind) ∙ ap₂ (λ (x y : ℕ). actBy (nodeKind (nodeAt p v)) v x (y + i)) (here .row) (here .base)
+      ∙ act-is (p .size) v j (nodeAt p v) (rowIn (p .size) (nodeAt p v) j) (firstTry (p .size) (nodeAt p v) j + i) (omega arith)
+
+  -- what the code tests of a state, and finds
+  module _ (s : State) (h : j < nodeWidth (p .size) (nodeAt p v)) where
+    abbrev passes : ℕ → Bool
+    passes i = all s (needNumbers w (actBy (nodeLine w v .kind) v (way .row) (way .base + i)))
+
+    abbrev may : ℕ → Bool
+    may i = mayTake p s (tryAt (p .size) v (nodeAt p v) j i)
+
+    same : firstFrom passes 0 (way .tries) ≡ firstFrom may 0 (tries (p .size) (nodeAt p v))
+    same = ap (firstFrom passes 0) (here .tries) ∙ first-same passes may (tries (p .size) (nodeAt p v)) 0 (λ i k.
+        let q : i < tries (p .size) (nodeAt p v) = k in
+        let e : 0 + i < tries (p .size) (nodeAt p v) = omega arith in
+        ap (λ (a : Act). all s (needNumbers w a)) (act-said (0 + i) e) ∙ may-is p w is s (tryAt (p .size) v (nodeAt p v) j (0 + i)) (try-is (nodeAt p v) refl h (0 + i) e))
+
+    -- by a node's line x and a way y
+    pub record Found (x : NodeLine) (y : Way) (r : ℕ) : Type 0 where
+      pub action : Action
+      pub valid : IsAction p action
+      pub step : stepNow p s v (nodeAt p v) j ≡ some action
+      pub says : actBy (x .kind) v (y .row) (y .base + r) ≡ said action
+      pub number : x .acts + y .row * y .choices + (y .base + r) ≡ actionNumber p action
+
+    abbrev First : NodeLine → Way → ℕ → Type 0
+    First x y r = r ≡ firstFrom (λ i. all s (needNumbers w (actBy (x .kind) v (y .row) (y .base + i)))) 0 (y .tries)
+
+    found-here : (r : ℕ) → First (nodeLine w v) way r → r < way .tries → Found (nodeLine w v) way r
+    unfolding stepNow below option
+    found-here r e k =
+        let m : r < tries (p .size) (nodeAt p v) = subst (λ (x : ℕ). r < x) (here .tries) k in
+        let q : r ≡ firstFrom may 0 (tries (p .size) (nodeAt p v)) = e ∙ same in
+        let z : firstFrom may 0 (tries (p .size) (nodeAt p v)) - 0 ≡ r = omega arith in
+        record {
+          action = tryAt (p .size) v (nodeAt p v) j r;
+          valid = try-is (nodeAt p v) refl h r m;
+          step = rw (found may (tries (p .size) (nodeAt p v)) 0 (omega arith)) (ap (λ (x : ℕ). some (tryAt (p .size) v (nodeAt p v) j x)) z);
+          says = act-said r m;
+          number =
+              ap (λ (a : ℕ). a + way .row * way .choices + (way .base + r)) (is .acts v (omega arith)) ∙ ap₂ (λ (x y : ℕ). proofStart p v + x + (y + r)) (ap₂ _*_ (here .row) (here .choices)) (here .base)
+              ∙ sym (try-number (nodeAt p v) refl r m);
+        }
+
+    lost-here : (r : ℕ) → First (nodeLine w v) way r → way .tries ≤ r → stepNow p s v (nodeAt p v) j ≡ none
+    unfolding stepNow below option
+    lost-here r e k =
+        let t = here .tries in
+        let q : r ≡ firstFrom may 0 (tries (p .size) (nodeAt p v)) = e ∙ same in
+        rw (lost may (tries (p .size) (nodeAt p v)) 0 (omega arith))
+
+    -- the line and the way as the code has them
+    module _ (x : NodeLine) (y : Way) (ex : x ≡ nodeLine w v) (ey : y ≡ wayBy (sizeIn w) (x .kind) (x .many) j) where
+      way-here : y ≡ way
+      way-here = ey ∙ ap (λ (z : NodeLine). wayBy (sizeIn w) (z .kind) (z .many) j) ex
+
+      pub row-found : (r : ℕ) → First x y r → r < y .tries → Found x y r
+      row-found = subst₂ (λ (x : NodeLine) (y : Way). (r : ℕ) → First x y r → r < y .tries → Found x y r) (sym ex) (sym way-here) found-here
+
+      pub row-lost : (r : ℕ) → First x y r → y .tries ≤ r → stepNow p s v (nodeAt p v) j ≡ none
+      row-lost = subst₂ (λ (x : NodeLine) (y : Way). (r : ℕ) → First x y r → y .tries ≤ r → stepNow p s v (nodeAt p v) j ≡ none) (sym ex) (sym way-here) lost-here
+
+-- ---- what keeps the tries in the table
+pub record WayFits (w : List ℕ) (node kind : ℕ) (y : Way) : Type 0 where
+  pub row : y .row ≤ 2 ^ 32
+  pub elements : kind < 2 → y .base + y .tries ≤ sizeIn w
+  pub parts : 3 ≤ kind → y .base + y .tries ≤ nodeLine w node .many
+  pub few : y .base + y .tries ≤ 64
+  pub choices : y .choices ≤ 64
+
+way-small : (w : List ℕ) (node kind j : ℕ) → Fits w → node < 64 → j ≤ 2 ^ 32 → WayFits w node kind (wayBy (sizeIn w) kind (nodeLine w node .many) j)
+unfolding wayBy
+way-small w node kind j F l h = go (eqb kind 0) refl (eqb kind 1) refl (eqb kind 2) refl
+  where
+    n : ℕ
+    n = sizeIn w
+
+    m : ℕ
+    m = nodeLine w node .many
+
+    go : (b₀ : Bool) → eqb kind 0 ≡ b₀ → (b₁ : Bool) → eqb kind 1 ≡ b₁ → (b₂ : Bool) → eqb kind 2 ≡ b₂
+        → WayFits w node kind (if b₀ then record { row = j / sizeIn w; base = j % sizeIn w; tries = 1; choices = sizeIn w } else if b₁ then record { row = j; base = 0; tries = sizeIn w; choices = sizeIn w } else if b₂ then record { row = j; base = 0; tries = 1; choices = 1 } else record { row = j; base = 0; tries = nodeLine w node .many; choices = nodeLine w node .many })
+    go true e₀ b₁ e₁ b₂ e₂ =
+        let z = eqb-true kind 0 e₀ in
+        let d = div-le-self j (sizeIn w) in
+        let q = mod-lt j (F .some) in
+        record { row = omega arith; elements = λ _. omega arith; parts = λ k. absurd (omega arith); few = omega (arith, F .size); choices = F .size }
+    go false e₀ true e₁ b₂ e₂ =
+        let z = eqb-true kind 1 e₁ in
+        record { row = h; elements = λ _. omega arith; parts = λ k. absurd (omega arith); few = omega (arith, F .size); choices = F .size }
+    go false e₀ false e₁ true e₂ =
+        let z = eqb-true kind 2 e₂ in
+        record { row = h; elements = λ k. absurd (omega arith); parts = λ k. absurd (omega arith); few = omega arith; choices = omega arith }
+    go false e₀ false e₁ false e₂ =
+        let a = eqb-false kind 0 e₀ in
+        let b = eqb-false kind 1 e₁ in
+        let q = F .node node l .parts in
+        record { row = h; elements = λ k. absurd (omega arith); parts = λ _. omega arith; few = omega arith; choices = omega arith }
+
+pub way-fits : (w : List ℕ) (node j : ℕ) → Fits w → node < 64 → j ≤ 2 ^ 32 → (x : NodeLine) (y : Way) → x ≡ nodeLine w node → y ≡ wayBy (sizeIn w) (x .kind) (x .many) j → WayFits w node (x .kind) y
+way-fits w node j F l h x y ex ey = subst (WayFits w node (x .kind)) (sym (ey ∙ ap (λ (z : NodeLine). wayBy (sizeIn w) (x .kind) (z .many) j) ex)) (way-small w node (x .kind) j F l h)
+
+pub acts-small : (w : List ℕ) (node : ℕ) → Fits w → (x : NodeLine) → x ≡ nodeLine w node → x .acts ≤ 2 ^ 32
+unfolding nodeLine
+acts-small w node F x e = rw e (F .entry (93 + 11 * node))
+
+-- the number of an action fits
+pub row-wide : (a b c : ℕ) → a ≤ 2 ^ 32 → b ≤ 64 → c ≤ 64 → a * b + c < 2 ^ 63
+row-wide a b c h k l = omega (arith, mul-le-mul h k)
