@@ -1,20 +1,23 @@
 -- The tuples of a `choose` that hold after steps were taken are those that the steps set: only set actions add tuples, nothing
 -- removes them, and none holds at first.
-use Prim.Native.Nat.{ℕ, zero, suc, _<_}
-use mathlib.Core.Path.{_≡_, refl, sym, ap, ap₂, subst, _∙_}
+use Prim.Native.Nat.{ℕ, zero, suc, _<_, _+_, _*_}
+use mathlib.Core.Path.{_≡_, refl, sym, ap, ap₂, subst, _∙_, fun-ext}
 use mathlib.Core.Bool.{Bool, true, false, not, _&&_, _||_, or-false, or-assoc}
 use mathlib.Core.Option.{Option, none, some}
-use mathlib.Core.List.{List, [], _∷_, _++_}
-use lib.Dec.{T, eqb, eqb→eq, eqb-refl}
+use mathlib.Core.List.{List, [], _∷_, _++_, map}
+use lib.Dec.{T, eqb, eqb→eq, eqb-refl, ltb}
 use lib.ListN.{length}
-use Rattle.definitions.specs.Lists.{if_then_else_, any, option, flatMap}
+use borrow.Author.Tests.{ltb-true}
+use Rattle.definitions.specs.Outcome.{relationWords, pickWords}
+use Rattle.laws.specs.Lists.{filter-mem, flat-same, below-lt}
+use Rattle.definitions.specs.Lists.{if_then_else_, any, option, flatMap, below}
 use Rattle.definitions.specs.Refusal.{Result, refused, accepted}
 use Rattle.definitions.specs.Relations.{Tuple, isAmong, sameTuple, isChosen}
 use Rattle.definitions.specs.Truth.{holds}
-use Rattle.definitions.specs.Atoms.{Problem, relationAt, tuplesOf, placesOf, goal, tuple, atomNumber, tupleHolds, isInitial, State, initial}
+use Rattle.definitions.specs.Atoms.{Problem, relationAt, tuplesOf, placesOf, goal, tuple, atomNumber, tupleHolds, isInitial, State, initial, relationStart, bitsFrom}
 use Rattle.definitions.specs.Actions.{Action, set, beginProof, proveAnd, proveOr, proveExists, proveForall, proveGoal, actionAt, adds, removes}
 use Rattle.definitions.specs.Strips.{mayTake, after, Run, runFrom, run, pickOf, picksOf}
-use Rattle.definitions.specs.Built.{isPicked}
+use Rattle.definitions.specs.Built.{isPicked, chosenNumbers}
 use Rattle.laws.specs.Booleans.{and-T, T-and-l, T-and-r, T-ext, T-false}
 use Rattle.laws.specs.Tuples.{sameTuple-eq, sameTuple-refl}
 use Rattle.laws.specs.Numbers.{IsAtom, IsAction, action-is}
@@ -128,3 +131,23 @@ module _ (p : Problem) (G : Good p) where
         → run p ks .state (atomNumber p (tuple r row)) ≡ isPicked p (picksOf p ks) r row
     unfolding run
     tuples-left c ks t = tuples-run ks (initial p) zero t ∙ ap (λ (b : Bool). b || isPicked p (picksOf p ks) r row) (not-at-first c)
+
+  -- so the picks' words can be copied from the state
+  row-left : (ks : List ℕ) → T (areTaken (run p ks .answer)) → (r row : ℕ) → r < length (p .relations) → T (isChosen (relationAt p r .kind))
+      → (ltb row (tuplesOf (p .size) (relationAt p r)) && isPicked p (picksOf p ks) r row) ≡ (ltb row (tuplesOf (p .size) (relationAt p r)) && run p ks .state (relationStart p r + row))
+  unfolding atomNumber
+  row-left ks t r row l c = go (ltb row (tuplesOf (p .size) (relationAt p r))) refl
+    where
+      go : (b : Bool) → ltb row (tuplesOf (p .size) (relationAt p r)) ≡ b → (b && isPicked p (picksOf p ks) r row) ≡ (b && run p ks .state (relationStart p r + row))
+      go true e = sym (tuples-left r row l (ltb-true row (tuplesOf (p .size) (relationAt p r)) e) c ks t)
+      go false e = refl
+
+  pub words-left : (ks : List ℕ) → T (areTaken (run p ks .answer))
+      → pickWords p (picksOf p ks) ≡ flatMap (λ r. map (λ j. bitsFrom (λ row. ltb row (tuplesOf (p .size) (relationAt p r)) && run p ks .state (relationStart p r + row)) (64 * j) 64) (below (relationWords p r))) (chosenNumbers p)
+  unfolding pickWords chosenNumbers
+  words-left ks t = flat-same
+      (λ r. map (λ j. bitsFrom (λ row. ltb row (tuplesOf (p .size) (relationAt p r)) && isPicked p (picksOf p ks) r row) (64 * j) 64) (below (relationWords p r)))
+      (λ r. map (λ j. bitsFrom (λ row. ltb row (tuplesOf (p .size) (relationAt p r)) && run p ks .state (relationStart p r + row)) (64 * j) 64) (below (relationWords p r)))
+      (chosenNumbers p) (λ r m.
+      let q = filter-mem (λ r. isChosen (relationAt p r .kind)) (below (length (p .relations))) r m in
+      ap (λ (f : ℕ → Bool). map (λ j. bitsFrom f (64 * j) 64) (below (relationWords p r))) (fun-ext (λ row. row-left ks t r row (below-lt (length (p .relations)) r (q .0)) (q .1))))
