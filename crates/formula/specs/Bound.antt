@@ -1,29 +1,28 @@
 -- A quantifier's variables, as they were read and as the scope takes them; the whole field. Assumes nothing.
-use Prim.Native.Nat.{ℕ, zero, suc, _+_, _-_, _*_, _≤_, _<_, suc-le-suc, zero-le}
+use Prim.Native.Nat.{ℕ, zero, suc, _+_, _-_, _*_, _≤_, _<_}
 use native.Mathlib.Numerals.{add-one, sub-one}
 use native.Mathlib.Omega.{arith}
 use mathlib.Core.Path.{_≡_, refl, sym, ap, subst, _∙_}
 use mathlib.Core.Option.{Option, none, some}
 use mathlib.Core.Bool.{Bool, true, false, not, _&&_, _||_}
 use mathlib.Core.List.{List, [], _∷_, _++_, append-assoc}
-use lib.ListN.{length, take, drop, length-append, length-drop, drop-of-length-le, take-append-drop}
+use lib.ListN.{length, drop, length-append, length-drop, take-append-drop}
 use lib.Seq.{slice, drop-drop, drop-at}
 use lib.Dec.{eqb, leb, ltb}
-use borrow.Author.Tests.{le-leb, lt-leb, leb-true, leb-false, lt-ltb, le-ltb}
+use borrow.Author.Tests.{leb-true, leb-false, lt-ltb, le-ltb}
 use Rattle.definitions.specs.Lists.{option, if_then_else_}
 use Rattle.definitions.specs.Text.{isVariable, isSmall, isBetween, isDigit}
 use Rattle.definitions.specs.Relations.{Relation}
-use Rattle.definitions.specs.Formula.{Formula, Quant, quant, Variables, no-words, a-word, writeVars, write, WellFormed, Res, bad, ok, begins, span, readVar, readVars, read, readFormula, isBound, areNew, isScoped, isKnown, nesting, forms, allForms, totals}
-use Rattle.definitions.specs.Writing.{sound, IsWord, IsVar, var-is, span-in, span-append, span-le, vars-stop, inside-first, begins-is, sound-var, sound-vars, complete, accepted-texts}
-use Rattle.formula.specs.Seen.{names, spans, listed, Grows, facts, varFacts, varsFacts, quantFacts, verdictOf, ruleNumber, joinOf, seen}
+use Rattle.definitions.specs.Formula.{Formula, Quant, quant, Variables, no-words, a-word, writeVars, write, bad, ok, begins, span, readVar, readVars, read, readFormula, isScoped, isKnown, nesting, forms, allForms, totals}
+use Rattle.definitions.specs.Writing.{sound, IsWord, var-is, span-in, span-append, span-le, vars-stop, inside-first, begins-is, sound-var, sound-vars, complete, accepted-texts}
+use Rattle.formula.specs.Seen.{names, spans, listed, Grows, facts, quantFacts, verdictOf, ruleNumber, joinOf, seen}
 use Rattle.formula.specs.Steps.{Hit, miss, slice-front, drop-take}
 use Rattle.formula.specs.Said.{quant-facts}
 use Rattle.formula.specs.Spans.{length-names, listed-more, listed-none, grow-more}
 use Rattle.formula.specs.declared.Scope.{Scope}
 use Rattle.formula.specs.declared.Grown.{Grown}
 use Rattle.formula.specs.declared.Facts.{Facts}
-use Rattle.formula.specs.declared.Found.{Found}
-use Rattle.formula.specs.declared.Found.the-variants.{Ok, Bad}
+use Rattle.formula.specs.declared.Found.the-variants.{Bad}
 
 pub few : (s : List ℕ) (sc : Scope) → sc .n ≤ 4 → length (names s sc) ≤ 4
 few s sc h = rw (length-names s sc) h
@@ -100,7 +99,7 @@ bound-facts rs s sc at a b v vs k g q f n x y e c gr h =
     fin ek gs = rw (ek, h) (sym (quant-facts rs (names s sc) (v ∷ vs) q f (g .fits) (g .fresh) (names s (g .scope)) (gs .fit ∙ ap (λ (m : ℕ). leb (m + suc (length vs)) 4) (sym (length-names s sc))) (gs .new) (gs .named)))
 
 -- ---- the whole field
-slice-rest : (s : List ℕ) (at e : ℕ) → at ≤ e → e ≤ length s → drop at s ≡ slice at e s ++ drop e s
+pub slice-rest : (s : List ℕ) (at e : ℕ) → at ≤ e → e ≤ length s → drop at s ≡ slice at e s ++ drop e s
 slice-rest s at e h k =
     sym (take-append-drop (e - at) (drop at s))
     ∙ ap (λ (l : List ℕ). l ++ drop (e - at) (drop at s)) (sym (drop-take at e s))

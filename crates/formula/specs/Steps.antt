@@ -1,24 +1,22 @@
 -- The code's steps, as facts on the reader. Assumes nothing.
 use Prim.Native.Nat.{ℕ, zero, suc, _+_, _-_, _≤_, _<_, suc-le-suc, zero-le}
-use native.Mathlib.Nat.{le-of-suc-le-suc, not-suc-le-zero, sub-zero, zero-sub, suc-sub-suc}
+use native.Mathlib.Nat.{sub-zero, zero-sub, suc-sub-suc}
 use native.Mathlib.Numerals.{add-one, sub-one}
 use native.Mathlib.Omega.{arith}
 use mathlib.Core.Path.{_≡_, refl, sym, ap, subst, _∙_}
-use mathlib.Core.Bool.{Bool, true, false, _&&_, _||_}
-use mathlib.Core.List.{List, [], _∷_, _++_, append-assoc}
-use mathlib.Core.Logic.{_⊎_, inl, inr, ⊎-elim}
-use lib.ListN.{length, take, drop, getD, length-append, length-drop, length-take, drop-of-length-le, take-append-drop}
+use mathlib.Core.Bool.{Bool, true, false, _&&_}
+use mathlib.Core.List.{List, [], _∷_, _++_}
+use lib.ListN.{length, take, drop, getD, length-append, length-drop, drop-of-length-le}
 use lib.Seq.{slice, take-nil, drop-cons, drop-drop, take-at, drop-at}
-use lib.Dec.{eqb, leb, lit<, lit≤}
-use borrow.Author.Tests.{eq-eqb, ne-eqb, eqb-true, le-leb, lt-leb, leb-true}
-use Rattle.definitions.specs.Lists.{any, all}
+use lib.Dec.{leb, lit≤}
+use borrow.Author.Tests.{le-leb, lt-leb}
+use Rattle.definitions.specs.Lists.{all}
 use Rattle.definitions.specs.Text.{isVariable}
 use Rattle.definitions.specs.Relations.{Relation}
-use Rattle.definitions.specs.Formula.{isBound, Join, ands, ors, Quant, somes, everys, Formula, literal, negation, implication, conjunction, disjunction, exists, forall, join, quant, Formulas, nil, cons, joinWord, quantWord, notWord, impWord, writeVars, writeList, write, writeAll, writeParts, forms, formsAll, first, inside, longest, span, Res, bad, ok, andThen, begins, want, readWord, readVar, readVars, readParts, Head, isNot, isImplies, isAnd, isOr, isExists, isForall, isOther, kindOf, close, readJoin, readQuant, readLit, readNeg, readImp, readBody, read}
-use Rattle.definitions.specs.Writing.{begins-is, var-is, WordRead, sound-word, span-le, VarRead, sound-var, VarsRead, sound-vars, FRead, PRead, sound, sound-parts, span-in, span-out, word-yes, word-no, word-nil, vars-none, parts-none, KindIs, kind-is}
-use Rattle.formula.specs.Seen.{seen, nought, shutOf, facts, factsAll, varFacts, varsFacts, bothFacts, oneMore, litFacts, quantFacts}
+use Rattle.definitions.specs.Formula.{isBound, Join, ands, ors, Quant, somes, everys, Formula, literal, negation, implication, conjunction, disjunction, exists, forall, join, quant, Formulas, nil, cons, joinWord, quantWord, notWord, impWord, writeVars, writeList, write, writeAll, writeParts, forms, formsAll, first, inside, longest, span, Res, bad, ok, andThen, begins, want, readWord, readVar, readVars, readParts, Head, kindOf, close, readJoin, readQuant, readLit, readNeg, readImp, readBody, read}
+use Rattle.definitions.specs.Writing.{begins-is, var-is, sound-word, span-le, sound-var, sound-vars, sound, sound-parts, span-in, span-out, word-yes, word-no, word-nil, vars-none, parts-none, KindIs, kind-is}
+use Rattle.formula.specs.Seen.{seen, nought, shutOf, facts, factsAll, varFacts, varsFacts, bothFacts, oneMore, litFacts}
 use Rattle.formula.specs.Said.{neg-facts, imp-facts, join-facts, all-facts, nil-facts, lit-facts, vars-facts}
-use Rattle.formula.specs.declared.Found.{Found}
 use Rattle.formula.specs.declared.Found.the-variants.{Ok, Bad}
 use Rattle.formula.specs.declared.Facts.{Facts}
 

@@ -586,7 +586,7 @@ pub fn totalities(sig: Signature) -> usize
 }
 
 // Does a kind add a totality: `Fun` is 2, `Inj` is 4.
-fn total(k: u32) -> usize
+pub fn total(k: u32) -> usize
     ensures { λ r. ⌜ r ≡ totalOf k ⌝ }
 {
     if k == 2 {

@@ -1,17 +1,16 @@
 -- The functions that read a formula and its parts meet their contracts; the brackets that may still be opened, then the parts
 -- that may still follow, fall from call to call.
-use mathlib.Core.Path.{_≡_, refl, sym, ap, _∙_}
+use mathlib.Core.Path.{sym, ap, _∙_}
 use native.Mathlib.Omega.{arith}
 use borrow.Author.Needs.{needs}
-use Prim.Native.Nat.{_+_, _-_, _*_, _^_, _≤_}
-use mathlib.Core.Bool.{true, false}
+use Prim.Native.Nat.{_+_, _-_, _*_, _^_}
 use mathlib.Core.List.{[], _∷_}
-use lib.ListN.{length, drop}
+use lib.ListN.{length}
 use lib.Seq.{drop-drop}
-use Rattle.definitions.specs.Formula.{begins, readVar, readVars, readParts, readNeg, readImp, readJoin, readQuant, read, notWord, impWord, joinWord, quantWord, ands, ors, somes, everys, isNot, isImplies, isAnd, isOr, isExists, isForall, isOther}
+use Rattle.definitions.specs.Formula.{readNeg, readImp, readJoin, readQuant, read, notWord, impWord, joinWord, quantWord, ands, ors, somes, everys, isNot, isImplies, isAnd, isOr, isExists, isForall, isOther}
 use Rattle.names.specs.Signatures.{allOf}
-use Rattle.formula.specs.Seen.{headOf, seen, nought, names, facts, factsAll, varFacts, varsFacts}
-use Rattle.formula.specs.Steps.{Hit, hit, room, fit-var, fit-vars, fit-read, fit-parts, neg-bad, neg-ok, imp-bad, imp-gap, imp-bad-2, imp-ok, join-bad, join-bad-2, join-ok, parts-full, parts-bad, parts-bad-2, parts-more, parts-stop-at, quant-bad, quant-bad-2, quant-gap, quant-bad-3, quant-ok, read-none, read-as, kind-begins}
+use Rattle.formula.specs.Seen.{headOf, seen, names, facts, factsAll, varFacts, varsFacts}
+use Rattle.formula.specs.Steps.{hit, room, fit-var, fit-vars, fit-read, fit-parts, neg-bad, neg-ok, imp-bad, imp-gap, imp-bad-2, imp-ok, join-bad, join-bad-2, join-ok, parts-full, parts-bad, parts-bad-2, parts-more, parts-stop-at, quant-bad, quant-bad-2, quant-gap, quant-bad-3, quant-ok, read-none, read-as, kind-begins}
 use Rattle.formula.specs.Bound.{few, bound-facts}
 use Prim.Native.Nat.{ℕ, _<_}
 use borrow.Fn.Kinds.{In}

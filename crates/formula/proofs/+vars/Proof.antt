@@ -1,13 +1,11 @@
 -- `vars` meets its contract.
-use mathlib.Core.Path.{_≡_, refl, sym, ap, _∙_}
+use mathlib.Core.Path.{sym, _∙_}
 use native.Mathlib.Omega.{arith}
 use borrow.Author.Needs.{needs}
 use Prim.Native.Nat.{_+_, _-_}
 use mathlib.Core.List.{[], _∷_}
-use Rattle.formula.specs.Seen.{nought, names, varFacts, varsFacts, seen, bothFacts, facts}
-use Rattle.definitions.specs.Formula.{readVar, readVars}
-use lib.ListN.{length, drop}
-use Rattle.formula.specs.Steps.{Hit, hit, room, fit-var, fit-vars, vars-stop-at, vars-full, vars-bad, vars-bad-2, vars-more}
+use Rattle.formula.specs.Seen.{names, varFacts, varsFacts}
+use Rattle.formula.specs.Steps.{hit, room, fit-var, fit-vars, vars-stop-at, vars-full, vars-bad, vars-bad-2, vars-more}
 use Prim.Native.Nat.{ℕ, _<_}
 use borrow.Fn.Kinds.{In}
 use borrow.Fn.PlainCycle.{Measures, is, falls, and}

@@ -1,16 +1,14 @@
 -- `literal` meets its contract.
-use mathlib.Core.Path.{_≡_, refl, sym, ap, _∙_}
+use mathlib.Core.Path.{sym, ap, _∙_}
 use native.Mathlib.Omega.{arith}
 use Prim.Native.Nat.{_+_, _-_}
 use mathlib.Core.List.{[], _∷_}
 use Rattle.names.specs.Signatures.{allOf}
-use Rattle.formula.specs.Seen.{nought, names, varFacts, varsFacts, seen, bothFacts, facts}
-use Rattle.definitions.specs.Formula.{readVar, readVars}
-use lib.ListN.{length, drop}
+use Rattle.formula.specs.Seen.{nought, names, varFacts, varsFacts}
 use Rattle.formula.specs.Seen.{litFacts, shutOf}
 use lib.Seq.{slice}
 use Rattle.formula.specs.Bound.{few}
-use Rattle.formula.specs.Steps.{Hit, hit, room, fit-word, fit-var, fit-vars, lit-no, lit-bad, lit-gap, lit-bad-2, lit-bad-3, lit-ok}
+use Rattle.formula.specs.Steps.{hit, room, fit-word, fit-var, fit-vars, lit-no, lit-bad, lit-gap, lit-bad-2, lit-bad-3, lit-ok}
 use borrow.Author.Needs.{needs}
 use Rattle.formula.proofs.literal.Statement.{statement}
 use Rattle.formula.proofs.literal.Tie as tie

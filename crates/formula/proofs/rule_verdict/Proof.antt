@@ -1,7 +1,6 @@
 -- `rule_verdict` meets its contract.
-use mathlib.Core.Path.{_≡_, refl, sym, ap, _∙_}
+use mathlib.Core.Path.{sym, _∙_}
 use native.Mathlib.Omega.{arith}
-use Prim.Native.Nat.{_≤_}
 use Rattle.formula.specs.Seen.{facts}
 use Rattle.names.specs.Signatures.{allOf, chosenOf}
 use Rattle.formula.specs.Steps.{hit, fit-read}
