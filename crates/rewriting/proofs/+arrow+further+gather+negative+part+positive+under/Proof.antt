@@ -1,0 +1,1595 @@
+-- The functions of the walk meet their contracts. From call to call the text that is left falls; where a call stays at its place,
+-- a part goes to `positive` or `negative`, and these to the function of one form.
+use mathlib.Core.Path.{refl, sym, ap, subst, _∙_}
+use mathlib.Core.Bool.{Bool, true, false}
+use native.Mathlib.Omega.{arith}
+use borrow.Author.Needs.{needs}
+use Prim.Native.Nat.{_+_, _-_, _*_}
+use lib.ListN.{length}
+use Rattle.formula.specs.Seen.{headOf}
+use Rattle.tables.specs.Postorder.{joinRow}
+use Rattle.rewriting.specs.Trees.{chain as chainOf}
+use Rattle.rewriting.specs.Ready.{asJoin, asQuant, Adds, Walked, numbered as numberedOf}
+use Rattle.rewriting.proofs.Words.{list-in}
+use Rattle.rewriting.proofs.Turns.{ready-in, ready-end, ready-nodes, neg-view, imp-view, join-view, quant-view, walked-more, parts-many, neg-ready, neg-place, neg-done, imp-ready-1, imp-ready-2, imp-place, imp-space, imp-done, join-ready, join-parts, join-one, join-place, join-space, join-done, join-some, parts-in, parts-some, parts-end, part-ready, part-next, parts-done}
+use Rattle.rewriting.proofs.Ends.{quant-list, quant-ready, quant-nodes, quant-levels, quant-place, quant-space, quant-done}
+use Prim.Native.Nat.{ℕ, _<_}
+use borrow.Fn.Kinds.{In}
+use borrow.Fn.PlainCycle.{Measures, is, falls, and}
+use Rattle.rewriting.proofs.arrow.Reads as arrow
+use Rattle.rewriting.proofs.arrow.Kinds as arrow-kinds
+use Rattle.rewriting.proofs.+arrow+further+gather+negative+part+positive+under.Lts-arrow as arrow-lts
+use Rattle.rewriting.proofs.further.Reads as further
+use Rattle.rewriting.proofs.further.Kinds as further-kinds
+use Rattle.rewriting.proofs.+arrow+further+gather+negative+part+positive+under.Lts-further as further-lts
+use Rattle.rewriting.proofs.gather.Reads as gather
+use Rattle.rewriting.proofs.gather.Kinds as gather-kinds
+use Rattle.rewriting.proofs.+arrow+further+gather+negative+part+positive+under.Lts-gather as gather-lts
+use Rattle.rewriting.proofs.negative.Reads as negative
+use Rattle.rewriting.proofs.negative.Kinds as negative-kinds
+use Rattle.rewriting.proofs.+arrow+further+gather+negative+part+positive+under.Lts-negative as negative-lts
+use Rattle.rewriting.proofs.part.Reads as part
+use Rattle.rewriting.proofs.part.Kinds as part-kinds
+use Rattle.rewriting.proofs.+arrow+further+gather+negative+part+positive+under.Lts-part as part-lts
+use Rattle.rewriting.proofs.positive.Reads as positive
+use Rattle.rewriting.proofs.positive.Kinds as positive-kinds
+use Rattle.rewriting.proofs.+arrow+further+gather+negative+part+positive+under.Lts-positive as positive-lts
+use Rattle.rewriting.proofs.under.Reads as under
+use Rattle.rewriting.proofs.under.Kinds as under-kinds
+use Rattle.rewriting.proofs.+arrow+further+gather+negative+part+positive+under.Lts-under as under-lts
+use Rattle.formula.proofs.kind_at.Reads as kind-at-reads
+use Rattle.rewriting.proofs.bind.Reads as bind-reads
+use Rattle.rewriting.proofs.chain.Reads as chain-reads
+use Rattle.rewriting.proofs.join_kind.Reads as join-kind-reads
+use Rattle.rewriting.proofs.join_row.Reads as join-row-reads
+use Rattle.rewriting.proofs.join_word.Reads as join-word-reads
+use Rattle.rewriting.proofs.literal.Reads as literal-reads
+use Rattle.rewriting.proofs.numbered.Reads as numbered-reads
+use Rattle.rewriting.proofs.push.Reads as push-reads
+use Rattle.rewriting.proofs.quant_kind.Reads as quant-kind-reads
+use Rattle.rewriting.proofs.+arrow+further+gather+negative+part+positive+under.{statement}
+use Rattle.rewriting.proofs.+arrow+further+gather+negative+part+positive+under.Tie.{close}
+
+abbrev μ-arrow : Measures 1 arrow-kinds.ps ℕ
+μ-arrow κs a = (length (a .0 .now) - a .1 .0) * 4 + 0
+
+abbrev μ-further : Measures 1 further-kinds.ps ℕ
+μ-further κs a = (length (a .0 .now) - a .1 .0) * 4 + 0
+
+abbrev μ-gather : Measures 1 gather-kinds.ps ℕ
+μ-gather κs a = (length (a .0 .now) - a .1 .0) * 4 + 0
+
+abbrev μ-negative : Measures 1 negative-kinds.ps ℕ
+μ-negative κs a = (length (a .0 .now) - a .1 .0) * 4 + 1
+
+abbrev μ-part : Measures 1 part-kinds.ps ℕ
+μ-part κs a = (length (a .0 .now) - a .1 .0) * 4 + 2
+
+abbrev μ-positive : Measures 1 positive-kinds.ps ℕ
+μ-positive κs a = (length (a .0 .now) - a .1 .0) * 4 + 1
+
+abbrev μ-under : Measures 1 under-kinds.ps ℕ
+μ-under κs a = (length (a .0 .now) - a .1 .0) * 4 + 0
+
+abbrev arrow-at : ℕ → In 1 arrow-kinds.ps
+arrow-at t = and 1 arrow-kinds.ps (is 1 arrow-kinds.ps μ-arrow t) arrow.Pre
+
+abbrev arrow-below : ℕ → In 1 arrow-kinds.ps
+arrow-below t = and 1 arrow-kinds.ps (falls 1 arrow-kinds.ps _<_ μ-arrow t) arrow.Pre
+
+abbrev further-at : ℕ → In 1 further-kinds.ps
+further-at t = and 1 further-kinds.ps (is 1 further-kinds.ps μ-further t) further.Pre
+
+abbrev further-below : ℕ → In 1 further-kinds.ps
+further-below t = and 1 further-kinds.ps (falls 1 further-kinds.ps _<_ μ-further t) further.Pre
+
+abbrev gather-at : ℕ → In 1 gather-kinds.ps
+gather-at t = and 1 gather-kinds.ps (is 1 gather-kinds.ps μ-gather t) gather.Pre
+
+abbrev gather-below : ℕ → In 1 gather-kinds.ps
+gather-below t = and 1 gather-kinds.ps (falls 1 gather-kinds.ps _<_ μ-gather t) gather.Pre
+
+abbrev negative-at : ℕ → In 1 negative-kinds.ps
+negative-at t = and 1 negative-kinds.ps (is 1 negative-kinds.ps μ-negative t) negative.Pre
+
+abbrev negative-below : ℕ → In 1 negative-kinds.ps
+negative-below t =
+    and 1 negative-kinds.ps (falls 1 negative-kinds.ps _<_ μ-negative t) negative.Pre
+
+abbrev part-at : ℕ → In 1 part-kinds.ps
+part-at t = and 1 part-kinds.ps (is 1 part-kinds.ps μ-part t) part.Pre
+
+abbrev part-below : ℕ → In 1 part-kinds.ps
+part-below t = and 1 part-kinds.ps (falls 1 part-kinds.ps _<_ μ-part t) part.Pre
+
+abbrev positive-at : ℕ → In 1 positive-kinds.ps
+positive-at t = and 1 positive-kinds.ps (is 1 positive-kinds.ps μ-positive t) positive.Pre
+
+abbrev positive-below : ℕ → In 1 positive-kinds.ps
+positive-below t =
+    and 1 positive-kinds.ps (falls 1 positive-kinds.ps _<_ μ-positive t) positive.Pre
+
+abbrev under-at : ℕ → In 1 under-kinds.ps
+under-at t = and 1 under-kinds.ps (is 1 under-kinds.ps μ-under t) under.Pre
+
+abbrev under-below : ℕ → In 1 under-kinds.ps
+under-below t = and 1 under-kinds.ps (falls 1 under-kinds.ps _<_ μ-under t) under.Pre
+
+arrow-numbered-requires : (t : ℕ) → arrow-lts.Need-numbered-requires (
+  numbered-reads.Asked,
+  numbered-reads.Learnt,
+  part-below t,
+  part.Post,
+  join-kind-reads.Asked,
+  join-kind-reads.Learnt,
+  join-row-reads.Asked,
+  join-row-reads.Learnt,
+  push-reads.Asked,
+  push-reads.Learnt,
+) (arrow-at t) arrow.Post
+arrow-numbered-requires t c κs = omega (arith, ready-nodes (c .before .pre .1 .0))
+
+arrow-add-part : (t : ℕ) → arrow-lts.Need-add-part (
+  numbered-reads.Asked,
+  numbered-reads.Learnt,
+  part-below t,
+  part.Post,
+  join-kind-reads.Asked,
+  join-kind-reads.Learnt,
+  join-row-reads.Asked,
+  join-row-reads.Learnt,
+  push-reads.Asked,
+  push-reads.Learnt,
+) (arrow-at t) arrow.Post
+arrow-add-part t c = omega (arith, ready-in (imp-ready-1 (c .before .before .args .s .now) (c .before .before .args .at) (c .before .before .args .sig) (c .before .before .args .sc) (c .before .before .args .t) (c .before .before .pre .1 .0) (imp-view (c .before .before .pre .1 .0) (c .before .before .pre .1 .1)) (c .numbered .result) (c .numbered .ensures)), c .before .before .good .0 .0)
+
+arrow-part-requires : (t : ℕ) → arrow-lts.Need-part-requires (
+  numbered-reads.Asked,
+  numbered-reads.Learnt,
+  part-below t,
+  part.Post,
+  join-kind-reads.Asked,
+  join-kind-reads.Learnt,
+  join-row-reads.Asked,
+  join-row-reads.Learnt,
+  push-reads.Asked,
+  push-reads.Learnt,
+) (arrow-at t) arrow.Post
+arrow-part-requires t c κs = (omega (arith, c .before .before .pre .0, ready-in (imp-ready-1 (c .before .before .args .s .now) (c .before .before .args .at) (c .before .before .args .sig) (c .before .before .args .sc) (c .before .before .args .t) (c .before .before .pre .1 .0) (imp-view (c .before .before .pre .1 .0) (c .before .before .pre .1 .1)) (c .numbered .result) (c .numbered .ensures))), (imp-ready-1 (c .before .before .args .s .now) (c .before .before .args .at) (c .before .before .args .sig) (c .before .before .args .sc) (c .before .before .args .t) (c .before .before .pre .1 .0) (imp-view (c .before .before .pre .1 .0) (c .before .before .pre .1 .1)) (c .numbered .result) (c .numbered .ensures)))
+
+arrow-add-part-2 : (t : ℕ) → arrow-lts.Need-add-part-2 (
+  numbered-reads.Asked,
+  numbered-reads.Learnt,
+  part-below t,
+  part.Post,
+  join-kind-reads.Asked,
+  join-kind-reads.Learnt,
+  join-row-reads.Asked,
+  join-row-reads.Learnt,
+  push-reads.Asked,
+  push-reads.Learnt,
+) (arrow-at t) arrow.Post
+arrow-add-part-2 t c = omega (arith, ready-in (imp-ready-2 (c .before .before .before .before .args .s .now) (c .before .before .before .before .args .at) (c .before .before .before .before .args .sig) (c .before .before .before .before .args .sc) (c .before .before .before .before .args .t) (c .before .before .before .before .pre .1 .0) (imp-view (c .before .before .before .before .pre .1 .0) (c .before .before .before .before .pre .1 .1)) (c .before .before .numbered .result) (c .before .before .numbered .ensures) (c .before .before .before .before .args .pos) (c .before .part .result) (c .before .part .ensures (imp-ready-1 (c .before .before .before .before .args .s .now) (c .before .before .before .before .args .at) (c .before .before .before .before .args .sig) (c .before .before .before .before .args .sc) (c .before .before .before .before .args .t) (c .before .before .before .before .pre .1 .0) (imp-view (c .before .before .before .before .pre .1 .0) (c .before .before .before .before .pre .1 .1)) (c .before .before .numbered .result) (c .before .before .numbered .ensures)))), c .before .before .before .before .good .0 .0)
+
+arrow-part-requires-2 : (t : ℕ) → arrow-lts.Need-part-requires-2 (
+  numbered-reads.Asked,
+  numbered-reads.Learnt,
+  part-below t,
+  part.Post,
+  join-kind-reads.Asked,
+  join-kind-reads.Learnt,
+  join-row-reads.Asked,
+  join-row-reads.Learnt,
+  push-reads.Asked,
+  push-reads.Learnt,
+) (arrow-at t) arrow.Post
+arrow-part-requires-2 t c κs = (omega (arith, c .before .before .before .before .pre .0, ready-in (imp-ready-2 (c .before .before .before .before .args .s .now) (c .before .before .before .before .args .at) (c .before .before .before .before .args .sig) (c .before .before .before .before .args .sc) (c .before .before .before .before .args .t) (c .before .before .before .before .pre .1 .0) (imp-view (c .before .before .before .before .pre .1 .0) (c .before .before .before .before .pre .1 .1)) (c .before .before .numbered .result) (c .before .before .numbered .ensures) (c .before .before .before .before .args .pos) (c .before .part .result) (c .before .part .ensures (imp-ready-1 (c .before .before .before .before .args .s .now) (c .before .before .before .before .args .at) (c .before .before .before .before .args .sig) (c .before .before .before .before .args .sc) (c .before .before .before .before .args .t) (c .before .before .before .before .pre .1 .0) (imp-view (c .before .before .before .before .pre .1 .0) (c .before .before .before .before .pre .1 .1)) (c .before .before .numbered .result) (c .before .before .numbered .ensures)))), c .before .part .ensures (imp-ready-1 (c .before .before .before .before .args .s .now) (c .before .before .before .before .args .at) (c .before .before .before .before .args .sig) (c .before .before .before .before .args .sc) (c .before .before .before .before .args .t) (c .before .before .before .before .pre .1 .0) (imp-view (c .before .before .before .before .pre .1 .0) (c .before .before .before .before .pre .1 .1)) (c .before .before .numbered .result) (c .before .before .numbered .ensures)) .place), (imp-ready-2 (c .before .before .before .before .args .s .now) (c .before .before .before .before .args .at) (c .before .before .before .before .args .sig) (c .before .before .before .before .args .sc) (c .before .before .before .before .args .t) (c .before .before .before .before .pre .1 .0) (imp-view (c .before .before .before .before .pre .1 .0) (c .before .before .before .before .pre .1 .1)) (c .before .before .numbered .result) (c .before .before .numbered .ensures) (c .before .before .before .before .args .pos) (c .before .part .result) (c .before .part .ensures (imp-ready-1 (c .before .before .before .before .args .s .now) (c .before .before .before .before .args .at) (c .before .before .before .before .args .sig) (c .before .before .before .before .args .sc) (c .before .before .before .before .args .t) (c .before .before .before .before .pre .1 .0) (imp-view (c .before .before .before .before .pre .1 .0) (c .before .before .before .before .pre .1 .1)) (c .before .before .numbered .result) (c .before .before .numbered .ensures)))))
+
+arrow-join-kind-requires : (t : ℕ) → arrow-lts.Need-join-kind-requires (
+  numbered-reads.Asked,
+  numbered-reads.Learnt,
+  part-below t,
+  part.Post,
+  join-kind-reads.Asked,
+  join-kind-reads.Learnt,
+  join-row-reads.Asked,
+  join-row-reads.Learnt,
+  push-reads.Asked,
+  push-reads.Learnt,
+) (arrow-at t) arrow.Post
+arrow-join-kind-requires t c κs = search needs
+
+arrow-join-row-requires : (t : ℕ) → arrow-lts.Need-join-row-requires (
+  numbered-reads.Asked,
+  numbered-reads.Learnt,
+  part-below t,
+  part.Post,
+  join-kind-reads.Asked,
+  join-kind-reads.Learnt,
+  join-row-reads.Asked,
+  join-row-reads.Learnt,
+  push-reads.Asked,
+  push-reads.Learnt,
+) (arrow-at t) arrow.Post
+arrow-join-row-requires t c κs = (omega (arith, ready-nodes (c .before .before .before .before .before .before .before .pre .1 .0)), omega arith)
+
+arrow-push-requires : (t : ℕ) → arrow-lts.Need-push-requires (
+  numbered-reads.Asked,
+  numbered-reads.Learnt,
+  part-below t,
+  part.Post,
+  join-kind-reads.Asked,
+  join-kind-reads.Learnt,
+  join-row-reads.Asked,
+  join-row-reads.Learnt,
+  push-reads.Asked,
+  push-reads.Learnt,
+) (arrow-at t) arrow.Post
+arrow-push-requires t c κs = imp-space (c .before .before .before .before .before .before .before .before .args .s .now) (c .before .before .before .before .before .before .before .before .args .at) (c .before .before .before .before .before .before .before .before .args .sig) (c .before .before .before .before .before .before .before .before .args .sc) (c .before .before .before .before .before .before .before .before .args .t) (c .before .before .before .before .before .before .before .before .pre .1 .0) (imp-view (c .before .before .before .before .before .before .before .before .pre .1 .0) (c .before .before .before .before .before .before .before .before .pre .1 .1)) (c .before .before .before .before .before .before .numbered .result) (c .before .before .before .before .before .before .numbered .ensures) (c .before .before .before .before .before .before .before .before .args .pos) (c .before .before .before .before .before .part .result) (c .before .before .before .before .before .part .ensures (imp-ready-1 (c .before .before .before .before .before .before .before .before .args .s .now) (c .before .before .before .before .before .before .before .before .args .at) (c .before .before .before .before .before .before .before .before .args .sig) (c .before .before .before .before .before .before .before .before .args .sc) (c .before .before .before .before .before .before .before .before .args .t) (c .before .before .before .before .before .before .before .before .pre .1 .0) (imp-view (c .before .before .before .before .before .before .before .before .pre .1 .0) (c .before .before .before .before .before .before .before .before .pre .1 .1)) (c .before .before .before .before .before .before .numbered .result) (c .before .before .before .before .before .before .numbered .ensures))) (c .before .before .before .part2 .result) (c .before .before .before .part2 .ensures (imp-ready-2 (c .before .before .before .before .before .before .before .before .args .s .now) (c .before .before .before .before .before .before .before .before .args .at) (c .before .before .before .before .before .before .before .before .args .sig) (c .before .before .before .before .before .before .before .before .args .sc) (c .before .before .before .before .before .before .before .before .args .t) (c .before .before .before .before .before .before .before .before .pre .1 .0) (imp-view (c .before .before .before .before .before .before .before .before .pre .1 .0) (c .before .before .before .before .before .before .before .before .pre .1 .1)) (c .before .before .before .before .before .before .numbered .result) (c .before .before .before .before .before .before .numbered .ensures) (c .before .before .before .before .before .before .before .before .args .pos) (c .before .before .before .before .before .part .result) (c .before .before .before .before .before .part .ensures (imp-ready-1 (c .before .before .before .before .before .before .before .before .args .s .now) (c .before .before .before .before .before .before .before .before .args .at) (c .before .before .before .before .before .before .before .before .args .sig) (c .before .before .before .before .before .before .before .before .args .sc) (c .before .before .before .before .before .before .before .before .args .t) (c .before .before .before .before .before .before .before .before .pre .1 .0) (imp-view (c .before .before .before .before .before .before .before .before .pre .1 .0) (c .before .before .before .before .before .before .before .before .pre .1 .1)) (c .before .before .before .before .before .before .numbered .result) (c .before .before .before .before .before .before .numbered .ensures)))))
+
+arrow-add-t18 : (t : ℕ) → arrow-lts.Need-add-t18 (
+  numbered-reads.Asked,
+  numbered-reads.Learnt,
+  part-below t,
+  part.Post,
+  join-kind-reads.Asked,
+  join-kind-reads.Learnt,
+  join-row-reads.Asked,
+  join-row-reads.Learnt,
+  push-reads.Asked,
+  push-reads.Learnt,
+) (arrow-at t) arrow.Post
+arrow-add-t18 t c = omega (arith, imp-place (c .before .before .before .before .before .before .before .before .before .args .s .now) (c .before .before .before .before .before .before .before .before .before .args .at) (c .before .before .before .before .before .before .before .before .before .args .sig) (c .before .before .before .before .before .before .before .before .before .args .sc) (c .before .before .before .before .before .before .before .before .before .args .t) (c .before .before .before .before .before .before .before .before .before .pre .1 .0) (imp-view (c .before .before .before .before .before .before .before .before .before .pre .1 .0) (c .before .before .before .before .before .before .before .before .before .pre .1 .1)) (c .before .before .before .before .before .before .before .numbered .result) (c .before .before .before .before .before .before .before .numbered .ensures) (c .before .before .before .before .before .before .before .before .before .args .pos) (c .before .before .before .before .before .before .part .result) (c .before .before .before .before .before .before .part .ensures (imp-ready-1 (c .before .before .before .before .before .before .before .before .before .args .s .now) (c .before .before .before .before .before .before .before .before .before .args .at) (c .before .before .before .before .before .before .before .before .before .args .sig) (c .before .before .before .before .before .before .before .before .before .args .sc) (c .before .before .before .before .before .before .before .before .before .args .t) (c .before .before .before .before .before .before .before .before .before .pre .1 .0) (imp-view (c .before .before .before .before .before .before .before .before .before .pre .1 .0) (c .before .before .before .before .before .before .before .before .before .pre .1 .1)) (c .before .before .before .before .before .before .before .numbered .result) (c .before .before .before .before .before .before .before .numbered .ensures))) (c .before .before .before .before .part2 .result) (c .before .before .before .before .part2 .ensures (imp-ready-2 (c .before .before .before .before .before .before .before .before .before .args .s .now) (c .before .before .before .before .before .before .before .before .before .args .at) (c .before .before .before .before .before .before .before .before .before .args .sig) (c .before .before .before .before .before .before .before .before .before .args .sc) (c .before .before .before .before .before .before .before .before .before .args .t) (c .before .before .before .before .before .before .before .before .before .pre .1 .0) (imp-view (c .before .before .before .before .before .before .before .before .before .pre .1 .0) (c .before .before .before .before .before .before .before .before .before .pre .1 .1)) (c .before .before .before .before .before .before .before .numbered .result) (c .before .before .before .before .before .before .before .numbered .ensures) (c .before .before .before .before .before .before .before .before .before .args .pos) (c .before .before .before .before .before .before .part .result) (c .before .before .before .before .before .before .part .ensures (imp-ready-1 (c .before .before .before .before .before .before .before .before .before .args .s .now) (c .before .before .before .before .before .before .before .before .before .args .at) (c .before .before .before .before .before .before .before .before .before .args .sig) (c .before .before .before .before .before .before .before .before .before .args .sc) (c .before .before .before .before .before .before .before .before .before .args .t) (c .before .before .before .before .before .before .before .before .before .pre .1 .0) (imp-view (c .before .before .before .before .before .before .before .before .before .pre .1 .0) (c .before .before .before .before .before .before .before .before .before .pre .1 .1)) (c .before .before .before .before .before .before .before .numbered .result) (c .before .before .before .before .before .before .before .numbered .ensures))))), ready-end (c .before .before .before .before .before .before .before .before .before .pre .1 .0), c .before .before .before .before .before .before .before .before .before .good .0 .0)
+
+arrow-returns : (t : ℕ) → arrow-lts.Need-returns (
+  numbered-reads.Asked,
+  numbered-reads.Learnt,
+  part-below t,
+  part.Post,
+  join-kind-reads.Asked,
+  join-kind-reads.Learnt,
+  join-row-reads.Asked,
+  join-row-reads.Learnt,
+  push-reads.Asked,
+  push-reads.Learnt,
+) (arrow-at t) arrow.Post
+arrow-returns t c = λ w. imp-done (c .before .before .before .before .before .before .before .before .before .args .s .now) (c .before .before .before .before .before .before .before .before .before .args .at) (c .before .before .before .before .before .before .before .before .before .args .sig) (c .before .before .before .before .before .before .before .before .before .args .sc) (c .before .before .before .before .before .before .before .before .before .args .t) w (imp-view w (c .before .before .before .before .before .before .before .before .before .pre .1 .1)) (c .before .before .before .before .before .before .before .numbered .result) (c .before .before .before .before .before .before .before .numbered .ensures) (c .before .before .before .before .before .before .before .before .before .args .pos) (c .before .before .before .before .before .before .part .result) (c .before .before .before .before .before .before .part .ensures (imp-ready-1 (c .before .before .before .before .before .before .before .before .before .args .s .now) (c .before .before .before .before .before .before .before .before .before .args .at) (c .before .before .before .before .before .before .before .before .before .args .sig) (c .before .before .before .before .before .before .before .before .before .args .sc) (c .before .before .before .before .before .before .before .before .before .args .t) w (imp-view w (c .before .before .before .before .before .before .before .before .before .pre .1 .1)) (c .before .before .before .before .before .before .before .numbered .result) (c .before .before .before .before .before .before .before .numbered .ensures))) (c .before .before .before .before .part2 .result) (c .before .before .before .before .part2 .ensures (imp-ready-2 (c .before .before .before .before .before .before .before .before .before .args .s .now) (c .before .before .before .before .before .before .before .before .before .args .at) (c .before .before .before .before .before .before .before .before .before .args .sig) (c .before .before .before .before .before .before .before .before .before .args .sc) (c .before .before .before .before .before .before .before .before .before .args .t) w (imp-view w (c .before .before .before .before .before .before .before .before .before .pre .1 .1)) (c .before .before .before .before .before .before .before .numbered .result) (c .before .before .before .before .before .before .before .numbered .ensures) (c .before .before .before .before .before .before .before .before .before .args .pos) (c .before .before .before .before .before .before .part .result) (c .before .before .before .before .before .before .part .ensures (imp-ready-1 (c .before .before .before .before .before .before .before .before .before .args .s .now) (c .before .before .before .before .before .before .before .before .before .args .at) (c .before .before .before .before .before .before .before .before .before .args .sig) (c .before .before .before .before .before .before .before .before .before .args .sc) (c .before .before .before .before .before .before .before .before .before .args .t) w (imp-view w (c .before .before .before .before .before .before .before .before .before .pre .1 .1)) (c .before .before .before .before .before .before .before .numbered .result) (c .before .before .before .before .before .before .before .numbered .ensures))))) (c .push .result) (c .before .join-row .result) (c .before .join-row .ensures ∙ ap (λ n. joinRow n (c .before .before .before .before .before .before .before .before .before .args .t .nodes) 2) (c .before .before .join-kind .ensures)) (c .push .ensures)
+
+further-shared-slice-read-if1 : (t : ℕ) → further-lts.Need-shared-slice-read-if1 (
+  part-below t,
+  part.Post,
+  further-below t,
+  further.Post,
+) (further-at t) further.Post
+further-shared-slice-read-if1 t c = parts-in (c .before .before .args .s .now) (c .before .before .args .at) (c .before .before .args .sig) (c .before .before .args .sc) (c .before .before .args .t) (c .before .before .pre .1 .0)
+
+further-add-part : (t : ℕ) → further-lts.Need-add-part (
+  part-below t,
+  part.Post,
+  further-below t,
+  further.Post,
+) (further-at t) further.Post
+further-add-part t c = omega (arith, parts-in (c .before .before .before .args .s .now) (c .before .before .before .args .at) (c .before .before .before .args .sig) (c .before .before .before .args .sc) (c .before .before .before .args .t) (c .before .before .before .pre .1 .0), c .before .before .before .good .0 .0)
+
+further-part-requires : (t : ℕ) → further-lts.Need-part-requires (
+  part-below t,
+  part.Post,
+  further-below t,
+  further.Post,
+) (further-at t) further.Post
+further-part-requires t c κs = (omega (arith, c .before .before .before .pre .0, ready-in (part-ready (c .before .before .before .args .s .now) (c .before .before .before .args .at) (c .before .before .before .args .sig) (c .before .before .before .args .sc) (c .before .before .before .args .t) (c .before .before .before .pre .1 .0) (parts-some (c .before .before .before .args .s .now) (c .before .before .before .args .at) (c .before .before .before .args .sig) (c .before .before .before .args .sc) (c .before .before .before .args .t) (c .before .before .before .pre .1 .0) (c .if1 .taken)))), (part-ready (c .before .before .before .args .s .now) (c .before .before .before .args .at) (c .before .before .before .args .sig) (c .before .before .before .args .sc) (c .before .before .before .args .t) (c .before .before .before .pre .1 .0) (parts-some (c .before .before .before .args .s .now) (c .before .before .before .args .at) (c .before .before .before .args .sig) (c .before .before .before .args .sc) (c .before .before .before .args .t) (c .before .before .before .pre .1 .0) (c .if1 .taken))))
+
+further-add-further : (t : ℕ) → further-lts.Need-add-further (
+  part-below t,
+  part.Post,
+  further-below t,
+  further.Post,
+) (further-at t) further.Post
+further-add-further t c = omega (arith, c .before .before .before .before .before .pre .1 .1, (c .before .before .before .before .before .pre .1 .0) .fine .rows)
+
+further-further-requires : (t : ℕ) → further-lts.Need-further-requires (
+  part-below t,
+  part.Post,
+  further-below t,
+  further.Post,
+) (further-at t) further.Post
+further-further-requires t c κs = (omega (arith, c .before .before .before .before .before .pre .0, ready-in (part-ready (c .before .before .before .before .before .args .s .now) (c .before .before .before .before .before .args .at) (c .before .before .before .before .before .args .sig) (c .before .before .before .before .before .args .sc) (c .before .before .before .before .before .args .t) (c .before .before .before .before .before .pre .1 .0) (parts-some (c .before .before .before .before .before .args .s .now) (c .before .before .before .before .before .args .at) (c .before .before .before .before .before .args .sig) (c .before .before .before .before .before .args .sc) (c .before .before .before .before .before .args .t) (c .before .before .before .before .before .pre .1 .0) (c .before .before .if1 .taken))), c .before .part .ensures (part-ready (c .before .before .before .before .before .args .s .now) (c .before .before .before .before .before .args .at) (c .before .before .before .before .before .args .sig) (c .before .before .before .before .before .args .sc) (c .before .before .before .before .before .args .t) (c .before .before .before .before .before .pre .1 .0) (parts-some (c .before .before .before .before .before .args .s .now) (c .before .before .before .before .before .args .at) (c .before .before .before .before .before .args .sig) (c .before .before .before .before .before .args .sc) (c .before .before .before .before .before .args .t) (c .before .before .before .before .before .pre .1 .0) (c .before .before .if1 .taken))) .place), ((part-next (c .before .before .before .before .before .args .s .now) (c .before .before .before .before .before .args .at) (c .before .before .before .before .before .args .sig) (c .before .before .before .before .before .args .sc) (c .before .before .before .before .before .args .t) (c .before .before .before .before .before .pre .1 .0) (parts-some (c .before .before .before .before .before .args .s .now) (c .before .before .before .before .before .args .at) (c .before .before .before .before .before .args .sig) (c .before .before .before .before .before .args .sc) (c .before .before .before .before .before .args .t) (c .before .before .before .before .before .pre .1 .0) (c .before .before .if1 .taken)) (c .before .before .before .before .before .args .pos) (c .before .part .result) (c .before .part .ensures (part-ready (c .before .before .before .before .before .args .s .now) (c .before .before .before .before .before .args .at) (c .before .before .before .before .before .args .sig) (c .before .before .before .before .before .args .sc) (c .before .before .before .before .before .args .t) (c .before .before .before .before .before .pre .1 .0) (parts-some (c .before .before .before .before .before .args .s .now) (c .before .before .before .before .before .args .at) (c .before .before .before .before .before .args .sig) (c .before .before .before .before .before .args .sc) (c .before .before .before .before .before .args .t) (c .before .before .before .before .before .pre .1 .0) (c .before .before .if1 .taken))))), omega (arith, c .before .before .before .before .before .pre .1 .1, walked-more (c .before .before .before .before .before .args .pos) _ (c .before .part .result) (c .before .part .ensures (part-ready (c .before .before .before .before .before .args .s .now) (c .before .before .before .before .before .args .at) (c .before .before .before .before .before .args .sig) (c .before .before .before .before .before .args .sc) (c .before .before .before .before .before .args .t) (c .before .before .before .before .before .pre .1 .0) (parts-some (c .before .before .before .before .before .args .s .now) (c .before .before .before .before .before .args .at) (c .before .before .before .before .before .args .sig) (c .before .before .before .before .before .args .sc) (c .before .before .before .before .before .args .t) (c .before .before .before .before .before .pre .1 .0) (c .before .before .if1 .taken)))))))
+
+further-returns : (t : ℕ) → further-lts.Need-returns (
+  part-below t,
+  part.Post,
+  further-below t,
+  further.Post,
+) (further-at t) further.Post
+further-returns t c = λ w. parts-done (c .before .before .before .before .before .before .args .s .now) (c .before .before .before .before .before .before .args .at) (c .before .before .before .before .before .before .args .sig) (c .before .before .before .before .before .before .args .sc) (c .before .before .before .before .before .before .args .t) w (parts-some (c .before .before .before .before .before .before .args .s .now) (c .before .before .before .before .before .before .args .at) (c .before .before .before .before .before .before .args .sig) (c .before .before .before .before .before .before .args .sc) (c .before .before .before .before .before .before .args .t) w (c .before .before .before .if1 .taken)) (c .before .before .before .before .before .before .args .pos) (c .before .before .part .result) (c .before .before .part .ensures (part-ready (c .before .before .before .before .before .before .args .s .now) (c .before .before .before .before .before .before .args .at) (c .before .before .before .before .before .before .args .sig) (c .before .before .before .before .before .before .args .sc) (c .before .before .before .before .before .before .args .t) w (parts-some (c .before .before .before .before .before .before .args .s .now) (c .before .before .before .before .before .before .args .at) (c .before .before .before .before .before .before .args .sig) (c .before .before .before .before .before .before .args .sc) (c .before .before .before .before .before .before .args .t) w (c .before .before .before .if1 .taken)))) (c .before .before .before .before .before .before .args .many) (c .further .result) (c .further .ensures (part-next (c .before .before .before .before .before .before .args .s .now) (c .before .before .before .before .before .before .args .at) (c .before .before .before .before .before .before .args .sig) (c .before .before .before .before .before .before .args .sc) (c .before .before .before .before .before .before .args .t) w (parts-some (c .before .before .before .before .before .before .args .s .now) (c .before .before .before .before .before .before .args .at) (c .before .before .before .before .before .before .args .sig) (c .before .before .before .before .before .before .args .sc) (c .before .before .before .before .before .before .args .t) w (c .before .before .before .if1 .taken)) (c .before .before .before .before .before .before .args .pos) (c .before .before .part .result) (c .before .before .part .ensures (part-ready (c .before .before .before .before .before .before .args .s .now) (c .before .before .before .before .before .before .args .at) (c .before .before .before .before .before .before .args .sig) (c .before .before .before .before .before .before .args .sc) (c .before .before .before .before .before .before .args .t) w (parts-some (c .before .before .before .before .before .before .args .s .now) (c .before .before .before .before .before .before .args .at) (c .before .before .before .before .before .before .args .sig) (c .before .before .before .before .before .before .args .sc) (c .before .before .before .before .before .before .args .t) w (c .before .before .before .if1 .taken))))))
+
+further-returns-2 : (t : ℕ) → further-lts.Need-returns-2 (
+  part-below t,
+  part.Post,
+  further-below t,
+  further.Post,
+) (further-at t) further.Post
+further-returns-2 t c = λ w. parts-end (c .before .before .before .args .s .now) (c .before .before .before .args .at) (c .before .before .before .args .sig) (c .before .before .before .args .sc) (c .before .before .before .args .t) w (c .before .before .before .args .pos) (c .before .before .before .args .many) (c .if1 .left)
+
+gather-numbered-requires : (t : ℕ) → gather-lts.Need-numbered-requires (
+  numbered-reads.Asked,
+  numbered-reads.Learnt,
+  join-word-reads.Asked,
+  join-word-reads.Learnt,
+  part-below t,
+  part.Post,
+  further-below t,
+  further.Post,
+  join-kind-reads.Asked,
+  join-kind-reads.Learnt,
+  join-row-reads.Asked,
+  join-row-reads.Learnt,
+  push-reads.Asked,
+  push-reads.Learnt,
+) (gather-at t) gather.Post
+gather-numbered-requires t c κs = omega (arith, ready-nodes (c .before .pre .1 .0))
+
+gather-join-word-requires : (t : ℕ) → gather-lts.Need-join-word-requires (
+  numbered-reads.Asked,
+  numbered-reads.Learnt,
+  join-word-reads.Asked,
+  join-word-reads.Learnt,
+  part-below t,
+  part.Post,
+  further-below t,
+  further.Post,
+  join-kind-reads.Asked,
+  join-kind-reads.Learnt,
+  join-row-reads.Asked,
+  join-row-reads.Learnt,
+  push-reads.Asked,
+  push-reads.Learnt,
+) (gather-at t) gather.Post
+gather-join-word-requires t c κs = search needs
+
+gather-add-part : (t : ℕ) → gather-lts.Need-add-part (
+  numbered-reads.Asked,
+  numbered-reads.Learnt,
+  join-word-reads.Asked,
+  join-word-reads.Learnt,
+  part-below t,
+  part.Post,
+  further-below t,
+  further.Post,
+  join-kind-reads.Asked,
+  join-kind-reads.Learnt,
+  join-row-reads.Asked,
+  join-row-reads.Learnt,
+  push-reads.Asked,
+  push-reads.Learnt,
+) (gather-at t) gather.Post
+gather-add-part t c = omega (arith, ready-in (join-ready (c .before .before .before .args .s .now) (c .before .before .before .args .at) (c .before .before .before .args .sig) (c .before .before .before .args .sc) (c .before .before .before .args .t) (asJoin (c .before .before .before .args .conj)) (c .before .before .before .pre .1 .0) (join-view (c .before .before .before .args .conj) (c .before .before .before .pre .1 .0) (c .before .before .before .pre .1 .1)) (c .before .numbered .result) (c .before .numbered .ensures) (c .before .before .before .args .at + c .join-word .result) (ap (λ n. c .before .before .before .args .at + n) (c .join-word .ensures))), c .before .before .before .good .0 .0)
+
+gather-part-requires : (t : ℕ) → gather-lts.Need-part-requires (
+  numbered-reads.Asked,
+  numbered-reads.Learnt,
+  join-word-reads.Asked,
+  join-word-reads.Learnt,
+  part-below t,
+  part.Post,
+  further-below t,
+  further.Post,
+  join-kind-reads.Asked,
+  join-kind-reads.Learnt,
+  join-row-reads.Asked,
+  join-row-reads.Learnt,
+  push-reads.Asked,
+  push-reads.Learnt,
+) (gather-at t) gather.Post
+gather-part-requires t c κs = (omega (arith, c .before .before .before .pre .0, ready-in (join-ready (c .before .before .before .args .s .now) (c .before .before .before .args .at) (c .before .before .before .args .sig) (c .before .before .before .args .sc) (c .before .before .before .args .t) (asJoin (c .before .before .before .args .conj)) (c .before .before .before .pre .1 .0) (join-view (c .before .before .before .args .conj) (c .before .before .before .pre .1 .0) (c .before .before .before .pre .1 .1)) (c .before .numbered .result) (c .before .numbered .ensures) (c .before .before .before .args .at + c .join-word .result) (ap (λ n. c .before .before .before .args .at + n) (c .join-word .ensures))), join-some (c .before .before .before .args .conj), c .join-word .ensures), (join-ready (c .before .before .before .args .s .now) (c .before .before .before .args .at) (c .before .before .before .args .sig) (c .before .before .before .args .sc) (c .before .before .before .args .t) (asJoin (c .before .before .before .args .conj)) (c .before .before .before .pre .1 .0) (join-view (c .before .before .before .args .conj) (c .before .before .before .pre .1 .0) (c .before .before .before .pre .1 .1)) (c .before .numbered .result) (c .before .numbered .ensures) (c .before .before .before .args .at + c .join-word .result) (ap (λ n. c .before .before .before .args .at + n) (c .join-word .ensures))))
+
+gather-further-requires : (t : ℕ) → gather-lts.Need-further-requires (
+  numbered-reads.Asked,
+  numbered-reads.Learnt,
+  join-word-reads.Asked,
+  join-word-reads.Learnt,
+  part-below t,
+  part.Post,
+  further-below t,
+  further.Post,
+  join-kind-reads.Asked,
+  join-kind-reads.Learnt,
+  join-row-reads.Asked,
+  join-row-reads.Learnt,
+  push-reads.Asked,
+  push-reads.Learnt,
+) (gather-at t) gather.Post
+gather-further-requires t c κs = (omega (arith, c .before .before .before .before .before .pre .0, ready-in (c .before .before .before .before .before .pre .1 .0), c .before .part .ensures (join-ready (c .before .before .before .before .before .args .s .now) (c .before .before .before .before .before .args .at) (c .before .before .before .before .before .args .sig) (c .before .before .before .before .before .args .sc) (c .before .before .before .before .before .args .t) (asJoin (c .before .before .before .before .before .args .conj)) (c .before .before .before .before .before .pre .1 .0) (join-view (c .before .before .before .before .before .args .conj) (c .before .before .before .before .before .pre .1 .0) (c .before .before .before .before .before .pre .1 .1)) (c .before .before .before .numbered .result) (c .before .before .before .numbered .ensures) (c .before .before .before .before .before .args .at + c .before .before .join-word .result) (ap (λ n. c .before .before .before .before .before .args .at + n) (c .before .before .join-word .ensures))) .place, join-some (c .before .before .before .before .before .args .conj), c .before .before .join-word .ensures), ((join-parts (c .before .before .before .before .before .args .s .now) (c .before .before .before .before .before .args .at) (c .before .before .before .before .before .args .sig) (c .before .before .before .before .before .args .sc) (c .before .before .before .before .before .args .t) (asJoin (c .before .before .before .before .before .args .conj)) (c .before .before .before .before .before .pre .1 .0) (join-view (c .before .before .before .before .before .args .conj) (c .before .before .before .before .before .pre .1 .0) (c .before .before .before .before .before .pre .1 .1)) (c .before .before .before .numbered .result) (c .before .before .before .numbered .ensures) (c .before .before .before .before .before .args .at + c .before .before .join-word .result) (ap (λ n. c .before .before .before .before .before .args .at + n) (c .before .before .join-word .ensures)) (c .before .before .before .before .before .args .pos) (c .before .part .result) (c .before .part .ensures (join-ready (c .before .before .before .before .before .args .s .now) (c .before .before .before .before .before .args .at) (c .before .before .before .before .before .args .sig) (c .before .before .before .before .before .args .sc) (c .before .before .before .before .before .args .t) (asJoin (c .before .before .before .before .before .args .conj)) (c .before .before .before .before .before .pre .1 .0) (join-view (c .before .before .before .before .before .args .conj) (c .before .before .before .before .before .pre .1 .0) (c .before .before .before .before .before .pre .1 .1)) (c .before .before .before .numbered .result) (c .before .before .before .numbered .ensures) (c .before .before .before .before .before .args .at + c .before .before .join-word .result) (ap (λ n. c .before .before .before .before .before .args .at + n) (c .before .before .join-word .ensures))))), join-one (c .before .before .before .before .before .args .s .now) (c .before .before .before .before .before .args .at) (c .before .before .before .before .before .args .sig) (c .before .before .before .before .before .args .sc) (c .before .before .before .before .before .args .t) (asJoin (c .before .before .before .before .before .args .conj)) (c .before .before .before .before .before .pre .1 .0) (join-view (c .before .before .before .before .before .args .conj) (c .before .before .before .before .before .pre .1 .0) (c .before .before .before .before .before .pre .1 .1)) (c .before .before .before .numbered .result) (c .before .before .before .numbered .ensures) (c .before .before .before .before .before .args .at + c .before .before .join-word .result) (ap (λ n. c .before .before .before .before .before .args .at + n) (c .before .before .join-word .ensures)) (c .before .before .before .before .before .args .pos) (c .before .part .result) (c .before .part .ensures (join-ready (c .before .before .before .before .before .args .s .now) (c .before .before .before .before .before .args .at) (c .before .before .before .before .before .args .sig) (c .before .before .before .before .before .args .sc) (c .before .before .before .before .before .args .t) (asJoin (c .before .before .before .before .before .args .conj)) (c .before .before .before .before .before .pre .1 .0) (join-view (c .before .before .before .before .before .args .conj) (c .before .before .before .before .before .pre .1 .0) (c .before .before .before .before .before .pre .1 .1)) (c .before .before .before .numbered .result) (c .before .before .before .numbered .ensures) (c .before .before .before .before .before .args .at + c .before .before .join-word .result) (ap (λ n. c .before .before .before .before .before .args .at + n) (c .before .before .join-word .ensures))))))
+
+gather-join-kind-requires : (t : ℕ) → gather-lts.Need-join-kind-requires (
+  numbered-reads.Asked,
+  numbered-reads.Learnt,
+  join-word-reads.Asked,
+  join-word-reads.Learnt,
+  part-below t,
+  part.Post,
+  further-below t,
+  further.Post,
+  join-kind-reads.Asked,
+  join-kind-reads.Learnt,
+  join-row-reads.Asked,
+  join-row-reads.Learnt,
+  push-reads.Asked,
+  push-reads.Learnt,
+) (gather-at t) gather.Post
+gather-join-kind-requires t c κs = search needs
+
+gather-join-row-requires : (t : ℕ) → gather-lts.Need-join-row-requires (
+  numbered-reads.Asked,
+  numbered-reads.Learnt,
+  join-word-reads.Asked,
+  join-word-reads.Learnt,
+  part-below t,
+  part.Post,
+  further-below t,
+  further.Post,
+  join-kind-reads.Asked,
+  join-kind-reads.Learnt,
+  join-row-reads.Asked,
+  join-row-reads.Learnt,
+  push-reads.Asked,
+  push-reads.Learnt,
+) (gather-at t) gather.Post
+gather-join-row-requires t c κs = (omega (arith, ready-nodes (c .before .before .before .before .before .before .before .before .pre .1 .0)), omega (arith, parts-many (c .before .before .before .before .before .before .before .before .args .pos) 1 _ (c .before .before .further .result) (c .before .before .further .ensures (join-parts (c .before .before .before .before .before .before .before .before .args .s .now) (c .before .before .before .before .before .before .before .before .args .at) (c .before .before .before .before .before .before .before .before .args .sig) (c .before .before .before .before .before .before .before .before .args .sc) (c .before .before .before .before .before .before .before .before .args .t) (asJoin (c .before .before .before .before .before .before .before .before .args .conj)) (c .before .before .before .before .before .before .before .before .pre .1 .0) (join-view (c .before .before .before .before .before .before .before .before .args .conj) (c .before .before .before .before .before .before .before .before .pre .1 .0) (c .before .before .before .before .before .before .before .before .pre .1 .1)) (c .before .before .before .before .before .before .numbered .result) (c .before .before .before .before .before .before .numbered .ensures) (c .before .before .before .before .before .before .before .before .args .at + c .before .before .before .before .before .join-word .result) (ap (λ n. c .before .before .before .before .before .before .before .before .args .at + n) (c .before .before .before .before .before .join-word .ensures)) (c .before .before .before .before .before .before .before .before .args .pos) (c .before .before .before .before .part .result) (c .before .before .before .before .part .ensures (join-ready (c .before .before .before .before .before .before .before .before .args .s .now) (c .before .before .before .before .before .before .before .before .args .at) (c .before .before .before .before .before .before .before .before .args .sig) (c .before .before .before .before .before .before .before .before .args .sc) (c .before .before .before .before .before .before .before .before .args .t) (asJoin (c .before .before .before .before .before .before .before .before .args .conj)) (c .before .before .before .before .before .before .before .before .pre .1 .0) (join-view (c .before .before .before .before .before .before .before .before .args .conj) (c .before .before .before .before .before .before .before .before .pre .1 .0) (c .before .before .before .before .before .before .before .before .pre .1 .1)) (c .before .before .before .before .before .before .numbered .result) (c .before .before .before .before .before .before .numbered .ensures) (c .before .before .before .before .before .before .before .before .args .at + c .before .before .before .before .before .join-word .result) (ap (λ n. c .before .before .before .before .before .before .before .before .args .at + n) (c .before .before .before .before .before .join-word .ensures)))))) (join-one (c .before .before .before .before .before .before .before .before .args .s .now) (c .before .before .before .before .before .before .before .before .args .at) (c .before .before .before .before .before .before .before .before .args .sig) (c .before .before .before .before .before .before .before .before .args .sc) (c .before .before .before .before .before .before .before .before .args .t) (asJoin (c .before .before .before .before .before .before .before .before .args .conj)) (c .before .before .before .before .before .before .before .before .pre .1 .0) (join-view (c .before .before .before .before .before .before .before .before .args .conj) (c .before .before .before .before .before .before .before .before .pre .1 .0) (c .before .before .before .before .before .before .before .before .pre .1 .1)) (c .before .before .before .before .before .before .numbered .result) (c .before .before .before .before .before .before .numbered .ensures) (c .before .before .before .before .before .before .before .before .args .at + c .before .before .before .before .before .join-word .result) (ap (λ n. c .before .before .before .before .before .before .before .before .args .at + n) (c .before .before .before .before .before .join-word .ensures)) (c .before .before .before .before .before .before .before .before .args .pos) (c .before .before .before .before .part .result) (c .before .before .before .before .part .ensures (join-ready (c .before .before .before .before .before .before .before .before .args .s .now) (c .before .before .before .before .before .before .before .before .args .at) (c .before .before .before .before .before .before .before .before .args .sig) (c .before .before .before .before .before .before .before .before .args .sc) (c .before .before .before .before .before .before .before .before .args .t) (asJoin (c .before .before .before .before .before .before .before .before .args .conj)) (c .before .before .before .before .before .before .before .before .pre .1 .0) (join-view (c .before .before .before .before .before .before .before .before .args .conj) (c .before .before .before .before .before .before .before .before .pre .1 .0) (c .before .before .before .before .before .before .before .before .pre .1 .1)) (c .before .before .before .before .before .before .numbered .result) (c .before .before .before .before .before .before .numbered .ensures) (c .before .before .before .before .before .before .before .before .args .at + c .before .before .before .before .before .join-word .result) (ap (λ n. c .before .before .before .before .before .before .before .before .args .at + n) (c .before .before .before .before .before .join-word .ensures))))), join-space (c .before .before .before .before .before .before .before .before .args .s .now) (c .before .before .before .before .before .before .before .before .args .at) (c .before .before .before .before .before .before .before .before .args .sig) (c .before .before .before .before .before .before .before .before .args .sc) (c .before .before .before .before .before .before .before .before .args .t) (asJoin (c .before .before .before .before .before .before .before .before .args .conj)) (c .before .before .before .before .before .before .before .before .pre .1 .0) (join-view (c .before .before .before .before .before .before .before .before .args .conj) (c .before .before .before .before .before .before .before .before .pre .1 .0) (c .before .before .before .before .before .before .before .before .pre .1 .1)) (c .before .before .before .before .before .before .numbered .result) (c .before .before .before .before .before .before .numbered .ensures) (c .before .before .before .before .before .before .before .before .args .at + c .before .before .before .before .before .join-word .result) (ap (λ n. c .before .before .before .before .before .before .before .before .args .at + n) (c .before .before .before .before .before .join-word .ensures)) (c .before .before .before .before .before .before .before .before .args .pos) (c .before .before .before .before .part .result) (c .before .before .before .before .part .ensures (join-ready (c .before .before .before .before .before .before .before .before .args .s .now) (c .before .before .before .before .before .before .before .before .args .at) (c .before .before .before .before .before .before .before .before .args .sig) (c .before .before .before .before .before .before .before .before .args .sc) (c .before .before .before .before .before .before .before .before .args .t) (asJoin (c .before .before .before .before .before .before .before .before .args .conj)) (c .before .before .before .before .before .before .before .before .pre .1 .0) (join-view (c .before .before .before .before .before .before .before .before .args .conj) (c .before .before .before .before .before .before .before .before .pre .1 .0) (c .before .before .before .before .before .before .before .before .pre .1 .1)) (c .before .before .before .before .before .before .numbered .result) (c .before .before .before .before .before .before .numbered .ensures) (c .before .before .before .before .before .before .before .before .args .at + c .before .before .before .before .before .join-word .result) (ap (λ n. c .before .before .before .before .before .before .before .before .args .at + n) (c .before .before .before .before .before .join-word .ensures)))) (c .before .before .further .result) (c .before .before .further .ensures (join-parts (c .before .before .before .before .before .before .before .before .args .s .now) (c .before .before .before .before .before .before .before .before .args .at) (c .before .before .before .before .before .before .before .before .args .sig) (c .before .before .before .before .before .before .before .before .args .sc) (c .before .before .before .before .before .before .before .before .args .t) (asJoin (c .before .before .before .before .before .before .before .before .args .conj)) (c .before .before .before .before .before .before .before .before .pre .1 .0) (join-view (c .before .before .before .before .before .before .before .before .args .conj) (c .before .before .before .before .before .before .before .before .pre .1 .0) (c .before .before .before .before .before .before .before .before .pre .1 .1)) (c .before .before .before .before .before .before .numbered .result) (c .before .before .before .before .before .before .numbered .ensures) (c .before .before .before .before .before .before .before .before .args .at + c .before .before .before .before .before .join-word .result) (ap (λ n. c .before .before .before .before .before .before .before .before .args .at + n) (c .before .before .before .before .before .join-word .ensures)) (c .before .before .before .before .before .before .before .before .args .pos) (c .before .before .before .before .part .result) (c .before .before .before .before .part .ensures (join-ready (c .before .before .before .before .before .before .before .before .args .s .now) (c .before .before .before .before .before .before .before .before .args .at) (c .before .before .before .before .before .before .before .before .args .sig) (c .before .before .before .before .before .before .before .before .args .sc) (c .before .before .before .before .before .before .before .before .args .t) (asJoin (c .before .before .before .before .before .before .before .before .args .conj)) (c .before .before .before .before .before .before .before .before .pre .1 .0) (join-view (c .before .before .before .before .before .before .before .before .args .conj) (c .before .before .before .before .before .before .before .before .pre .1 .0) (c .before .before .before .before .before .before .before .before .pre .1 .1)) (c .before .before .before .before .before .before .numbered .result) (c .before .before .before .before .before .before .numbered .ensures) (c .before .before .before .before .before .before .before .before .args .at + c .before .before .before .before .before .join-word .result) (ap (λ n. c .before .before .before .before .before .before .before .before .args .at + n) (c .before .before .before .before .before .join-word .ensures))))))))
+
+gather-push-requires : (t : ℕ) → gather-lts.Need-push-requires (
+  numbered-reads.Asked,
+  numbered-reads.Learnt,
+  join-word-reads.Asked,
+  join-word-reads.Learnt,
+  part-below t,
+  part.Post,
+  further-below t,
+  further.Post,
+  join-kind-reads.Asked,
+  join-kind-reads.Learnt,
+  join-row-reads.Asked,
+  join-row-reads.Learnt,
+  push-reads.Asked,
+  push-reads.Learnt,
+) (gather-at t) gather.Post
+gather-push-requires t c κs = join-space (c .before .before .before .before .before .before .before .before .before .args .s .now) (c .before .before .before .before .before .before .before .before .before .args .at) (c .before .before .before .before .before .before .before .before .before .args .sig) (c .before .before .before .before .before .before .before .before .before .args .sc) (c .before .before .before .before .before .before .before .before .before .args .t) (asJoin (c .before .before .before .before .before .before .before .before .before .args .conj)) (c .before .before .before .before .before .before .before .before .before .pre .1 .0) (join-view (c .before .before .before .before .before .before .before .before .before .args .conj) (c .before .before .before .before .before .before .before .before .before .pre .1 .0) (c .before .before .before .before .before .before .before .before .before .pre .1 .1)) (c .before .before .before .before .before .before .before .numbered .result) (c .before .before .before .before .before .before .before .numbered .ensures) (c .before .before .before .before .before .before .before .before .before .args .at + c .before .before .before .before .before .before .join-word .result) (ap (λ n. c .before .before .before .before .before .before .before .before .before .args .at + n) (c .before .before .before .before .before .before .join-word .ensures)) (c .before .before .before .before .before .before .before .before .before .args .pos) (c .before .before .before .before .before .part .result) (c .before .before .before .before .before .part .ensures (join-ready (c .before .before .before .before .before .before .before .before .before .args .s .now) (c .before .before .before .before .before .before .before .before .before .args .at) (c .before .before .before .before .before .before .before .before .before .args .sig) (c .before .before .before .before .before .before .before .before .before .args .sc) (c .before .before .before .before .before .before .before .before .before .args .t) (asJoin (c .before .before .before .before .before .before .before .before .before .args .conj)) (c .before .before .before .before .before .before .before .before .before .pre .1 .0) (join-view (c .before .before .before .before .before .before .before .before .before .args .conj) (c .before .before .before .before .before .before .before .before .before .pre .1 .0) (c .before .before .before .before .before .before .before .before .before .pre .1 .1)) (c .before .before .before .before .before .before .before .numbered .result) (c .before .before .before .before .before .before .before .numbered .ensures) (c .before .before .before .before .before .before .before .before .before .args .at + c .before .before .before .before .before .before .join-word .result) (ap (λ n. c .before .before .before .before .before .before .before .before .before .args .at + n) (c .before .before .before .before .before .before .join-word .ensures)))) (c .before .before .before .further .result) (c .before .before .before .further .ensures (join-parts (c .before .before .before .before .before .before .before .before .before .args .s .now) (c .before .before .before .before .before .before .before .before .before .args .at) (c .before .before .before .before .before .before .before .before .before .args .sig) (c .before .before .before .before .before .before .before .before .before .args .sc) (c .before .before .before .before .before .before .before .before .before .args .t) (asJoin (c .before .before .before .before .before .before .before .before .before .args .conj)) (c .before .before .before .before .before .before .before .before .before .pre .1 .0) (join-view (c .before .before .before .before .before .before .before .before .before .args .conj) (c .before .before .before .before .before .before .before .before .before .pre .1 .0) (c .before .before .before .before .before .before .before .before .before .pre .1 .1)) (c .before .before .before .before .before .before .before .numbered .result) (c .before .before .before .before .before .before .before .numbered .ensures) (c .before .before .before .before .before .before .before .before .before .args .at + c .before .before .before .before .before .before .join-word .result) (ap (λ n. c .before .before .before .before .before .before .before .before .before .args .at + n) (c .before .before .before .before .before .before .join-word .ensures)) (c .before .before .before .before .before .before .before .before .before .args .pos) (c .before .before .before .before .before .part .result) (c .before .before .before .before .before .part .ensures (join-ready (c .before .before .before .before .before .before .before .before .before .args .s .now) (c .before .before .before .before .before .before .before .before .before .args .at) (c .before .before .before .before .before .before .before .before .before .args .sig) (c .before .before .before .before .before .before .before .before .before .args .sc) (c .before .before .before .before .before .before .before .before .before .args .t) (asJoin (c .before .before .before .before .before .before .before .before .before .args .conj)) (c .before .before .before .before .before .before .before .before .before .pre .1 .0) (join-view (c .before .before .before .before .before .before .before .before .before .args .conj) (c .before .before .before .before .before .before .before .before .before .pre .1 .0) (c .before .before .before .before .before .before .before .before .before .pre .1 .1)) (c .before .before .before .before .before .before .before .numbered .result) (c .before .before .before .before .before .before .before .numbered .ensures) (c .before .before .before .before .before .before .before .before .before .args .at + c .before .before .before .before .before .before .join-word .result) (ap (λ n. c .before .before .before .before .before .before .before .before .before .args .at + n) (c .before .before .before .before .before .before .join-word .ensures))))))
+
+gather-add-t21 : (t : ℕ) → gather-lts.Need-add-t21 (
+  numbered-reads.Asked,
+  numbered-reads.Learnt,
+  join-word-reads.Asked,
+  join-word-reads.Learnt,
+  part-below t,
+  part.Post,
+  further-below t,
+  further.Post,
+  join-kind-reads.Asked,
+  join-kind-reads.Learnt,
+  join-row-reads.Asked,
+  join-row-reads.Learnt,
+  push-reads.Asked,
+  push-reads.Learnt,
+) (gather-at t) gather.Post
+gather-add-t21 t c = omega (arith, join-place (c .before .before .before .before .before .before .before .before .before .before .args .s .now) (c .before .before .before .before .before .before .before .before .before .before .args .at) (c .before .before .before .before .before .before .before .before .before .before .args .sig) (c .before .before .before .before .before .before .before .before .before .before .args .sc) (c .before .before .before .before .before .before .before .before .before .before .args .t) (asJoin (c .before .before .before .before .before .before .before .before .before .before .args .conj)) (c .before .before .before .before .before .before .before .before .before .before .pre .1 .0) (join-view (c .before .before .before .before .before .before .before .before .before .before .args .conj) (c .before .before .before .before .before .before .before .before .before .before .pre .1 .0) (c .before .before .before .before .before .before .before .before .before .before .pre .1 .1)) (c .before .before .before .before .before .before .before .before .numbered .result) (c .before .before .before .before .before .before .before .before .numbered .ensures) (c .before .before .before .before .before .before .before .before .before .before .args .at + c .before .before .before .before .before .before .before .join-word .result) (ap (λ n. c .before .before .before .before .before .before .before .before .before .before .args .at + n) (c .before .before .before .before .before .before .before .join-word .ensures)) (c .before .before .before .before .before .before .before .before .before .before .args .pos) (c .before .before .before .before .before .before .part .result) (c .before .before .before .before .before .before .part .ensures (join-ready (c .before .before .before .before .before .before .before .before .before .before .args .s .now) (c .before .before .before .before .before .before .before .before .before .before .args .at) (c .before .before .before .before .before .before .before .before .before .before .args .sig) (c .before .before .before .before .before .before .before .before .before .before .args .sc) (c .before .before .before .before .before .before .before .before .before .before .args .t) (asJoin (c .before .before .before .before .before .before .before .before .before .before .args .conj)) (c .before .before .before .before .before .before .before .before .before .before .pre .1 .0) (join-view (c .before .before .before .before .before .before .before .before .before .before .args .conj) (c .before .before .before .before .before .before .before .before .before .before .pre .1 .0) (c .before .before .before .before .before .before .before .before .before .before .pre .1 .1)) (c .before .before .before .before .before .before .before .before .numbered .result) (c .before .before .before .before .before .before .before .before .numbered .ensures) (c .before .before .before .before .before .before .before .before .before .before .args .at + c .before .before .before .before .before .before .before .join-word .result) (ap (λ n. c .before .before .before .before .before .before .before .before .before .before .args .at + n) (c .before .before .before .before .before .before .before .join-word .ensures)))) (c .before .before .before .before .further .result) (c .before .before .before .before .further .ensures (join-parts (c .before .before .before .before .before .before .before .before .before .before .args .s .now) (c .before .before .before .before .before .before .before .before .before .before .args .at) (c .before .before .before .before .before .before .before .before .before .before .args .sig) (c .before .before .before .before .before .before .before .before .before .before .args .sc) (c .before .before .before .before .before .before .before .before .before .before .args .t) (asJoin (c .before .before .before .before .before .before .before .before .before .before .args .conj)) (c .before .before .before .before .before .before .before .before .before .before .pre .1 .0) (join-view (c .before .before .before .before .before .before .before .before .before .before .args .conj) (c .before .before .before .before .before .before .before .before .before .before .pre .1 .0) (c .before .before .before .before .before .before .before .before .before .before .pre .1 .1)) (c .before .before .before .before .before .before .before .before .numbered .result) (c .before .before .before .before .before .before .before .before .numbered .ensures) (c .before .before .before .before .before .before .before .before .before .before .args .at + c .before .before .before .before .before .before .before .join-word .result) (ap (λ n. c .before .before .before .before .before .before .before .before .before .before .args .at + n) (c .before .before .before .before .before .before .before .join-word .ensures)) (c .before .before .before .before .before .before .before .before .before .before .args .pos) (c .before .before .before .before .before .before .part .result) (c .before .before .before .before .before .before .part .ensures (join-ready (c .before .before .before .before .before .before .before .before .before .before .args .s .now) (c .before .before .before .before .before .before .before .before .before .before .args .at) (c .before .before .before .before .before .before .before .before .before .before .args .sig) (c .before .before .before .before .before .before .before .before .before .before .args .sc) (c .before .before .before .before .before .before .before .before .before .before .args .t) (asJoin (c .before .before .before .before .before .before .before .before .before .before .args .conj)) (c .before .before .before .before .before .before .before .before .before .before .pre .1 .0) (join-view (c .before .before .before .before .before .before .before .before .before .before .args .conj) (c .before .before .before .before .before .before .before .before .before .before .pre .1 .0) (c .before .before .before .before .before .before .before .before .before .before .pre .1 .1)) (c .before .before .before .before .before .before .before .before .numbered .result) (c .before .before .before .before .before .before .before .before .numbered .ensures) (c .before .before .before .before .before .before .before .before .before .before .args .at + c .before .before .before .before .before .before .before .join-word .result) (ap (λ n. c .before .before .before .before .before .before .before .before .before .before .args .at + n) (c .before .before .before .before .before .before .before .join-word .ensures)))))), ready-end (c .before .before .before .before .before .before .before .before .before .before .pre .1 .0), c .before .before .before .before .before .before .before .before .before .before .good .0 .0)
+
+gather-returns : (t : ℕ) → gather-lts.Need-returns (
+  numbered-reads.Asked,
+  numbered-reads.Learnt,
+  join-word-reads.Asked,
+  join-word-reads.Learnt,
+  part-below t,
+  part.Post,
+  further-below t,
+  further.Post,
+  join-kind-reads.Asked,
+  join-kind-reads.Learnt,
+  join-row-reads.Asked,
+  join-row-reads.Learnt,
+  push-reads.Asked,
+  push-reads.Learnt,
+) (gather-at t) gather.Post
+gather-returns t c = λ w. join-done (c .before .before .before .before .before .before .before .before .before .before .args .s .now) (c .before .before .before .before .before .before .before .before .before .before .args .at) (c .before .before .before .before .before .before .before .before .before .before .args .sig) (c .before .before .before .before .before .before .before .before .before .before .args .sc) (c .before .before .before .before .before .before .before .before .before .before .args .t) (asJoin (c .before .before .before .before .before .before .before .before .before .before .args .conj)) w (join-view (c .before .before .before .before .before .before .before .before .before .before .args .conj) w (c .before .before .before .before .before .before .before .before .before .before .pre .1 .1)) (c .before .before .before .before .before .before .before .before .numbered .result) (c .before .before .before .before .before .before .before .before .numbered .ensures) (c .before .before .before .before .before .before .before .before .before .before .args .at + c .before .before .before .before .before .before .before .join-word .result) (ap (λ n. c .before .before .before .before .before .before .before .before .before .before .args .at + n) (c .before .before .before .before .before .before .before .join-word .ensures)) (c .before .before .before .before .before .before .before .before .before .before .args .pos) (c .before .before .before .before .before .before .part .result) (c .before .before .before .before .before .before .part .ensures (join-ready (c .before .before .before .before .before .before .before .before .before .before .args .s .now) (c .before .before .before .before .before .before .before .before .before .before .args .at) (c .before .before .before .before .before .before .before .before .before .before .args .sig) (c .before .before .before .before .before .before .before .before .before .before .args .sc) (c .before .before .before .before .before .before .before .before .before .before .args .t) (asJoin (c .before .before .before .before .before .before .before .before .before .before .args .conj)) w (join-view (c .before .before .before .before .before .before .before .before .before .before .args .conj) w (c .before .before .before .before .before .before .before .before .before .before .pre .1 .1)) (c .before .before .before .before .before .before .before .before .numbered .result) (c .before .before .before .before .before .before .before .before .numbered .ensures) (c .before .before .before .before .before .before .before .before .before .before .args .at + c .before .before .before .before .before .before .before .join-word .result) (ap (λ n. c .before .before .before .before .before .before .before .before .before .before .args .at + n) (c .before .before .before .before .before .before .before .join-word .ensures)))) (c .before .before .before .before .further .result) (c .before .before .before .before .further .ensures (join-parts (c .before .before .before .before .before .before .before .before .before .before .args .s .now) (c .before .before .before .before .before .before .before .before .before .before .args .at) (c .before .before .before .before .before .before .before .before .before .before .args .sig) (c .before .before .before .before .before .before .before .before .before .before .args .sc) (c .before .before .before .before .before .before .before .before .before .before .args .t) (asJoin (c .before .before .before .before .before .before .before .before .before .before .args .conj)) w (join-view (c .before .before .before .before .before .before .before .before .before .before .args .conj) w (c .before .before .before .before .before .before .before .before .before .before .pre .1 .1)) (c .before .before .before .before .before .before .before .before .numbered .result) (c .before .before .before .before .before .before .before .before .numbered .ensures) (c .before .before .before .before .before .before .before .before .before .before .args .at + c .before .before .before .before .before .before .before .join-word .result) (ap (λ n. c .before .before .before .before .before .before .before .before .before .before .args .at + n) (c .before .before .before .before .before .before .before .join-word .ensures)) (c .before .before .before .before .before .before .before .before .before .before .args .pos) (c .before .before .before .before .before .before .part .result) (c .before .before .before .before .before .before .part .ensures (join-ready (c .before .before .before .before .before .before .before .before .before .before .args .s .now) (c .before .before .before .before .before .before .before .before .before .before .args .at) (c .before .before .before .before .before .before .before .before .before .before .args .sig) (c .before .before .before .before .before .before .before .before .before .before .args .sc) (c .before .before .before .before .before .before .before .before .before .before .args .t) (asJoin (c .before .before .before .before .before .before .before .before .before .before .args .conj)) w (join-view (c .before .before .before .before .before .before .before .before .before .before .args .conj) w (c .before .before .before .before .before .before .before .before .before .before .pre .1 .1)) (c .before .before .before .before .before .before .before .before .numbered .result) (c .before .before .before .before .before .before .before .before .numbered .ensures) (c .before .before .before .before .before .before .before .before .before .before .args .at + c .before .before .before .before .before .before .before .join-word .result) (ap (λ n. c .before .before .before .before .before .before .before .before .before .before .args .at + n) (c .before .before .before .before .before .before .before .join-word .ensures)))))) (c .push .result) (c .before .join-row .result) (c .before .join-row .ensures ∙ ap (λ n. joinRow n (c .before .before .before .before .before .before .before .before .before .before .args .t .nodes) (c .before .before .before .before .further .result .many)) (c .before .before .join-kind .ensures)) (c .push .ensures)
+
+negative-kind-at-requires : (t : ℕ) → negative-lts.Need-kind-at-requires (
+  kind-at-reads.Asked,
+  kind-at-reads.Learnt,
+  positive-below t,
+  positive.Post,
+  arrow-below t,
+  arrow.Post,
+  gather-below t,
+  gather.Post,
+  under-below t,
+  under.Post,
+  literal-reads.Asked,
+  literal-reads.Learnt,
+) (negative-at t) negative.Post
+negative-kind-at-requires t c κs = omega (arith, ready-in (c .before .pre .1))
+
+negative-enum-told : (t : ℕ) → negative-lts.Need-enum-told (
+  kind-at-reads.Asked,
+  kind-at-reads.Learnt,
+  positive-below t,
+  positive.Post,
+  arrow-below t,
+  arrow.Post,
+  gather-below t,
+  gather.Post,
+  under-below t,
+  under.Post,
+  literal-reads.Asked,
+  literal-reads.Learnt,
+) (negative-at t) negative.Post
+negative-enum-told t c = search needs
+
+negative-add-positive : (t : ℕ) → negative-lts.Need-add-positive (
+  kind-at-reads.Asked,
+  kind-at-reads.Learnt,
+  positive-below t,
+  positive.Post,
+  arrow-below t,
+  arrow.Post,
+  gather-below t,
+  gather.Post,
+  under-below t,
+  under.Post,
+  literal-reads.Asked,
+  literal-reads.Learnt,
+) (negative-at t) negative.Post
+negative-add-positive t c = omega (arith, ready-in (neg-ready (c .before .before .before .before .args .s .now) (c .before .before .before .before .args .at) (c .before .before .before .before .args .sig) (c .before .before .before .before .args .sc) (c .before .before .before .before .args .t) (c .before .before .before .before .pre .1) (neg-view (c .before .before .before .before .pre .1) (sym (c .before .before .kind-at .ensures) ∙ ap headOf (c .enum-told .given .1)))), c .before .before .before .before .good .0 .0)
+
+negative-positive-requires : (t : ℕ) → negative-lts.Need-positive-requires (
+  kind-at-reads.Asked,
+  kind-at-reads.Learnt,
+  positive-below t,
+  positive.Post,
+  arrow-below t,
+  arrow.Post,
+  gather-below t,
+  gather.Post,
+  under-below t,
+  under.Post,
+  literal-reads.Asked,
+  literal-reads.Learnt,
+) (negative-at t) negative.Post
+negative-positive-requires t c κs = (omega (arith, c .before .before .before .before .pre .0, ready-in (neg-ready (c .before .before .before .before .args .s .now) (c .before .before .before .before .args .at) (c .before .before .before .before .args .sig) (c .before .before .before .before .args .sc) (c .before .before .before .before .args .t) (c .before .before .before .before .pre .1) (neg-view (c .before .before .before .before .pre .1) (sym (c .before .before .kind-at .ensures) ∙ ap headOf (c .enum-told .given .1))))), (neg-ready (c .before .before .before .before .args .s .now) (c .before .before .before .before .args .at) (c .before .before .before .before .args .sig) (c .before .before .before .before .args .sc) (c .before .before .before .before .args .t) (c .before .before .before .before .pre .1) (neg-view (c .before .before .before .before .pre .1) (sym (c .before .before .kind-at .ensures) ∙ ap headOf (c .enum-told .given .1)))))
+
+negative-add-t11 : (t : ℕ) → negative-lts.Need-add-t11 (
+  kind-at-reads.Asked,
+  kind-at-reads.Learnt,
+  positive-below t,
+  positive.Post,
+  arrow-below t,
+  arrow.Post,
+  gather-below t,
+  gather.Post,
+  under-below t,
+  under.Post,
+  literal-reads.Asked,
+  literal-reads.Learnt,
+) (negative-at t) negative.Post
+negative-add-t11 t c = omega (arith, neg-place (c .before .before .before .before .before .before .args .s .now) (c .before .before .before .before .before .before .args .at) (c .before .before .before .before .before .before .args .sig) (c .before .before .before .before .before .before .args .sc) (c .before .before .before .before .before .before .args .t) (c .before .before .before .before .before .before .pre .1) (neg-view (c .before .before .before .before .before .before .pre .1) (sym (c .before .before .before .before .kind-at .ensures) ∙ ap headOf (c .before .before .enum-told .given .1))) (c .before .positive .result .at) (c .before .positive .ensures (neg-ready (c .before .before .before .before .before .before .args .s .now) (c .before .before .before .before .before .before .args .at) (c .before .before .before .before .before .before .args .sig) (c .before .before .before .before .before .before .args .sc) (c .before .before .before .before .before .before .args .t) (c .before .before .before .before .before .before .pre .1) (neg-view (c .before .before .before .before .before .before .pre .1) (sym (c .before .before .before .before .kind-at .ensures) ∙ ap headOf (c .before .before .enum-told .given .1)))) .place), ready-end (c .before .before .before .before .before .before .pre .1), c .before .before .before .before .before .before .good .0 .0)
+
+negative-enum-told-2 : (t : ℕ) → negative-lts.Need-enum-told-2 (
+  kind-at-reads.Asked,
+  kind-at-reads.Learnt,
+  positive-below t,
+  positive.Post,
+  arrow-below t,
+  arrow.Post,
+  gather-below t,
+  gather.Post,
+  under-below t,
+  under.Post,
+  literal-reads.Asked,
+  literal-reads.Learnt,
+) (negative-at t) negative.Post
+negative-enum-told-2 t c = search needs
+
+negative-arrow-requires : (t : ℕ) → negative-lts.Need-arrow-requires (
+  kind-at-reads.Asked,
+  kind-at-reads.Learnt,
+  positive-below t,
+  positive.Post,
+  arrow-below t,
+  arrow.Post,
+  gather-below t,
+  gather.Post,
+  under-below t,
+  under.Post,
+  literal-reads.Asked,
+  literal-reads.Learnt,
+) (negative-at t) negative.Post
+negative-arrow-requires t c κs = (omega (arith, c .before .before .before .before .pre .0), ((c .before .before .before .before .pre .1), (sym (c .before .before .kind-at .ensures) ∙ ap headOf (c .enum-told2 .given .1))))
+
+negative-enum-told-3 : (t : ℕ) → negative-lts.Need-enum-told-3 (
+  kind-at-reads.Asked,
+  kind-at-reads.Learnt,
+  positive-below t,
+  positive.Post,
+  arrow-below t,
+  arrow.Post,
+  gather-below t,
+  gather.Post,
+  under-below t,
+  under.Post,
+  literal-reads.Asked,
+  literal-reads.Learnt,
+) (negative-at t) negative.Post
+negative-enum-told-3 t c = search needs
+
+negative-gather-requires : (t : ℕ) → negative-lts.Need-gather-requires (
+  kind-at-reads.Asked,
+  kind-at-reads.Learnt,
+  positive-below t,
+  positive.Post,
+  arrow-below t,
+  arrow.Post,
+  gather-below t,
+  gather.Post,
+  under-below t,
+  under.Post,
+  literal-reads.Asked,
+  literal-reads.Learnt,
+) (negative-at t) negative.Post
+negative-gather-requires t c κs = (omega (arith, c .before .before .before .before .pre .0), ((c .before .before .before .before .pre .1), (sym (c .before .before .kind-at .ensures) ∙ ap headOf (c .enum-told3 .given .1))))
+
+negative-enum-told-4 : (t : ℕ) → negative-lts.Need-enum-told-4 (
+  kind-at-reads.Asked,
+  kind-at-reads.Learnt,
+  positive-below t,
+  positive.Post,
+  arrow-below t,
+  arrow.Post,
+  gather-below t,
+  gather.Post,
+  under-below t,
+  under.Post,
+  literal-reads.Asked,
+  literal-reads.Learnt,
+) (negative-at t) negative.Post
+negative-enum-told-4 t c = search needs
+
+negative-gather-requires-2 : (t : ℕ) → negative-lts.Need-gather-requires-2 (
+  kind-at-reads.Asked,
+  kind-at-reads.Learnt,
+  positive-below t,
+  positive.Post,
+  arrow-below t,
+  arrow.Post,
+  gather-below t,
+  gather.Post,
+  under-below t,
+  under.Post,
+  literal-reads.Asked,
+  literal-reads.Learnt,
+) (negative-at t) negative.Post
+negative-gather-requires-2 t c κs = (omega (arith, c .before .before .before .before .pre .0), ((c .before .before .before .before .pre .1), (sym (c .before .before .kind-at .ensures) ∙ ap headOf (c .enum-told4 .given .1))))
+
+negative-enum-told-5 : (t : ℕ) → negative-lts.Need-enum-told-5 (
+  kind-at-reads.Asked,
+  kind-at-reads.Learnt,
+  positive-below t,
+  positive.Post,
+  arrow-below t,
+  arrow.Post,
+  gather-below t,
+  gather.Post,
+  under-below t,
+  under.Post,
+  literal-reads.Asked,
+  literal-reads.Learnt,
+) (negative-at t) negative.Post
+negative-enum-told-5 t c = search needs
+
+negative-under-requires : (t : ℕ) → negative-lts.Need-under-requires (
+  kind-at-reads.Asked,
+  kind-at-reads.Learnt,
+  positive-below t,
+  positive.Post,
+  arrow-below t,
+  arrow.Post,
+  gather-below t,
+  gather.Post,
+  under-below t,
+  under.Post,
+  literal-reads.Asked,
+  literal-reads.Learnt,
+) (negative-at t) negative.Post
+negative-under-requires t c κs = (omega (arith, c .before .before .before .before .pre .0), ((c .before .before .before .before .pre .1), (sym (c .before .before .kind-at .ensures) ∙ ap headOf (c .enum-told5 .given .1))))
+
+negative-enum-told-6 : (t : ℕ) → negative-lts.Need-enum-told-6 (
+  kind-at-reads.Asked,
+  kind-at-reads.Learnt,
+  positive-below t,
+  positive.Post,
+  arrow-below t,
+  arrow.Post,
+  gather-below t,
+  gather.Post,
+  under-below t,
+  under.Post,
+  literal-reads.Asked,
+  literal-reads.Learnt,
+) (negative-at t) negative.Post
+negative-enum-told-6 t c = search needs
+
+negative-under-requires-2 : (t : ℕ) → negative-lts.Need-under-requires-2 (
+  kind-at-reads.Asked,
+  kind-at-reads.Learnt,
+  positive-below t,
+  positive.Post,
+  arrow-below t,
+  arrow.Post,
+  gather-below t,
+  gather.Post,
+  under-below t,
+  under.Post,
+  literal-reads.Asked,
+  literal-reads.Learnt,
+) (negative-at t) negative.Post
+negative-under-requires-2 t c κs = (omega (arith, c .before .before .before .before .pre .0), ((c .before .before .before .before .pre .1), (sym (c .before .before .kind-at .ensures) ∙ ap headOf (c .enum-told6 .given .1))))
+
+negative-enum-told-7 : (t : ℕ) → negative-lts.Need-enum-told-7 (
+  kind-at-reads.Asked,
+  kind-at-reads.Learnt,
+  positive-below t,
+  positive.Post,
+  arrow-below t,
+  arrow.Post,
+  gather-below t,
+  gather.Post,
+  under-below t,
+  under.Post,
+  literal-reads.Asked,
+  literal-reads.Learnt,
+) (negative-at t) negative.Post
+negative-enum-told-7 t c = search needs
+
+negative-literal-requires : (t : ℕ) → negative-lts.Need-literal-requires (
+  kind-at-reads.Asked,
+  kind-at-reads.Learnt,
+  positive-below t,
+  positive.Post,
+  arrow-below t,
+  arrow.Post,
+  gather-below t,
+  gather.Post,
+  under-below t,
+  under.Post,
+  literal-reads.Asked,
+  literal-reads.Learnt,
+) (negative-at t) negative.Post
+negative-literal-requires t c κs = ((c .before .before .before .before .pre .1), (sym (c .before .before .kind-at .ensures) ∙ ap headOf (c .enum-told7 .given .1)))
+
+negative-returns : (t : ℕ) → negative-lts.Need-returns (
+  kind-at-reads.Asked,
+  kind-at-reads.Learnt,
+  positive-below t,
+  positive.Post,
+  arrow-below t,
+  arrow.Post,
+  gather-below t,
+  gather.Post,
+  under-below t,
+  under.Post,
+  literal-reads.Asked,
+  literal-reads.Learnt,
+) (negative-at t) negative.Post
+negative-returns t c = λ w. neg-done (c .before .before .before .before .before .before .args .s .now) (c .before .before .before .before .before .before .args .at) (c .before .before .before .before .before .before .args .sig) (c .before .before .before .before .before .before .args .sc) (c .before .before .before .before .before .before .args .t) false w (neg-view w (sym (c .before .before .before .before .kind-at .ensures) ∙ ap headOf (c .before .before .enum-told .given .1))) (c .before .positive .result) (c .before .positive .ensures (neg-ready (c .before .before .before .before .before .before .args .s .now) (c .before .before .before .before .before .before .args .at) (c .before .before .before .before .before .before .args .sig) (c .before .before .before .before .before .before .args .sc) (c .before .before .before .before .before .before .args .t) w (neg-view w (sym (c .before .before .before .before .kind-at .ensures) ∙ ap headOf (c .before .before .enum-told .given .1)))))
+
+negative-returns-2 : (t : ℕ) → negative-lts.Need-returns-2 (
+  kind-at-reads.Asked,
+  kind-at-reads.Learnt,
+  positive-below t,
+  positive.Post,
+  arrow-below t,
+  arrow.Post,
+  gather-below t,
+  gather.Post,
+  under-below t,
+  under.Post,
+  literal-reads.Asked,
+  literal-reads.Learnt,
+) (negative-at t) negative.Post
+negative-returns-2 t c = c .arrow .ensures
+
+negative-returns-3 : (t : ℕ) → negative-lts.Need-returns-3 (
+  kind-at-reads.Asked,
+  kind-at-reads.Learnt,
+  positive-below t,
+  positive.Post,
+  arrow-below t,
+  arrow.Post,
+  gather-below t,
+  gather.Post,
+  under-below t,
+  under.Post,
+  literal-reads.Asked,
+  literal-reads.Learnt,
+) (negative-at t) negative.Post
+negative-returns-3 t c = c .gather .ensures
+
+negative-returns-4 : (t : ℕ) → negative-lts.Need-returns-4 (
+  kind-at-reads.Asked,
+  kind-at-reads.Learnt,
+  positive-below t,
+  positive.Post,
+  arrow-below t,
+  arrow.Post,
+  gather-below t,
+  gather.Post,
+  under-below t,
+  under.Post,
+  literal-reads.Asked,
+  literal-reads.Learnt,
+) (negative-at t) negative.Post
+negative-returns-4 t c = c .gather2 .ensures
+
+negative-returns-5 : (t : ℕ) → negative-lts.Need-returns-5 (
+  kind-at-reads.Asked,
+  kind-at-reads.Learnt,
+  positive-below t,
+  positive.Post,
+  arrow-below t,
+  arrow.Post,
+  gather-below t,
+  gather.Post,
+  under-below t,
+  under.Post,
+  literal-reads.Asked,
+  literal-reads.Learnt,
+) (negative-at t) negative.Post
+negative-returns-5 t c = c .under .ensures
+
+negative-returns-6 : (t : ℕ) → negative-lts.Need-returns-6 (
+  kind-at-reads.Asked,
+  kind-at-reads.Learnt,
+  positive-below t,
+  positive.Post,
+  arrow-below t,
+  arrow.Post,
+  gather-below t,
+  gather.Post,
+  under-below t,
+  under.Post,
+  literal-reads.Asked,
+  literal-reads.Learnt,
+) (negative-at t) negative.Post
+negative-returns-6 t c = c .under2 .ensures
+
+negative-returns-7 : (t : ℕ) → negative-lts.Need-returns-7 (
+  kind-at-reads.Asked,
+  kind-at-reads.Learnt,
+  positive-below t,
+  positive.Post,
+  arrow-below t,
+  arrow.Post,
+  gather-below t,
+  gather.Post,
+  under-below t,
+  under.Post,
+  literal-reads.Asked,
+  literal-reads.Learnt,
+) (negative-at t) negative.Post
+negative-returns-7 t c = c .literal .ensures
+
+part-positive-requires : (t : ℕ) → part-lts.Need-positive-requires (
+  positive-below t,
+  positive.Post,
+  negative-below t,
+  negative.Post,
+) (part-at t) part.Post
+part-positive-requires t c κs = (omega (arith, c .before .before .pre .0), (c .before .before .pre .1))
+
+part-negative-requires : (t : ℕ) → part-lts.Need-negative-requires (
+  positive-below t,
+  positive.Post,
+  negative-below t,
+  negative.Post,
+) (part-at t) part.Post
+part-negative-requires t c κs = (omega (arith, c .before .before .pre .0), (c .before .before .pre .1))
+
+part-returns : (t : ℕ) → part-lts.Need-returns (
+  positive-below t,
+  positive.Post,
+  negative-below t,
+  negative.Post,
+) (part-at t) part.Post
+part-returns t c = λ w. subst (λ (b : Bool). Walked b (c .before .before .before .args .s .now) (c .before .before .before .args .at) (c .before .before .before .args .sig) (c .before .before .before .args .sc) (c .before .before .before .args .t) (w .f) (c .positive .result)) (sym (c .before .if1 .taken)) (c .positive .ensures w)
+
+part-returns-2 : (t : ℕ) → part-lts.Need-returns-2 (
+  positive-below t,
+  positive.Post,
+  negative-below t,
+  negative.Post,
+) (part-at t) part.Post
+part-returns-2 t c = λ w. subst (λ (b : Bool). Walked b (c .before .before .before .args .s .now) (c .before .before .before .args .at) (c .before .before .before .args .sig) (c .before .before .before .args .sc) (c .before .before .before .args .t) (w .f) (c .negative .result)) (sym (c .before .if1 .left)) (c .negative .ensures w)
+
+positive-kind-at-requires : (t : ℕ) → positive-lts.Need-kind-at-requires (
+  kind-at-reads.Asked,
+  kind-at-reads.Learnt,
+  negative-below t,
+  negative.Post,
+  arrow-below t,
+  arrow.Post,
+  gather-below t,
+  gather.Post,
+  under-below t,
+  under.Post,
+  literal-reads.Asked,
+  literal-reads.Learnt,
+) (positive-at t) positive.Post
+positive-kind-at-requires t c κs = omega (arith, ready-in (c .before .pre .1))
+
+positive-enum-told : (t : ℕ) → positive-lts.Need-enum-told (
+  kind-at-reads.Asked,
+  kind-at-reads.Learnt,
+  negative-below t,
+  negative.Post,
+  arrow-below t,
+  arrow.Post,
+  gather-below t,
+  gather.Post,
+  under-below t,
+  under.Post,
+  literal-reads.Asked,
+  literal-reads.Learnt,
+) (positive-at t) positive.Post
+positive-enum-told t c = search needs
+
+positive-add-negative : (t : ℕ) → positive-lts.Need-add-negative (
+  kind-at-reads.Asked,
+  kind-at-reads.Learnt,
+  negative-below t,
+  negative.Post,
+  arrow-below t,
+  arrow.Post,
+  gather-below t,
+  gather.Post,
+  under-below t,
+  under.Post,
+  literal-reads.Asked,
+  literal-reads.Learnt,
+) (positive-at t) positive.Post
+positive-add-negative t c = omega (arith, ready-in (neg-ready (c .before .before .before .before .args .s .now) (c .before .before .before .before .args .at) (c .before .before .before .before .args .sig) (c .before .before .before .before .args .sc) (c .before .before .before .before .args .t) (c .before .before .before .before .pre .1) (neg-view (c .before .before .before .before .pre .1) (sym (c .before .before .kind-at .ensures) ∙ ap headOf (c .enum-told .given .1)))), c .before .before .before .before .good .0 .0)
+
+positive-negative-requires : (t : ℕ) → positive-lts.Need-negative-requires (
+  kind-at-reads.Asked,
+  kind-at-reads.Learnt,
+  negative-below t,
+  negative.Post,
+  arrow-below t,
+  arrow.Post,
+  gather-below t,
+  gather.Post,
+  under-below t,
+  under.Post,
+  literal-reads.Asked,
+  literal-reads.Learnt,
+) (positive-at t) positive.Post
+positive-negative-requires t c κs = (omega (arith, c .before .before .before .before .pre .0, ready-in (neg-ready (c .before .before .before .before .args .s .now) (c .before .before .before .before .args .at) (c .before .before .before .before .args .sig) (c .before .before .before .before .args .sc) (c .before .before .before .before .args .t) (c .before .before .before .before .pre .1) (neg-view (c .before .before .before .before .pre .1) (sym (c .before .before .kind-at .ensures) ∙ ap headOf (c .enum-told .given .1))))), (neg-ready (c .before .before .before .before .args .s .now) (c .before .before .before .before .args .at) (c .before .before .before .before .args .sig) (c .before .before .before .before .args .sc) (c .before .before .before .before .args .t) (c .before .before .before .before .pre .1) (neg-view (c .before .before .before .before .pre .1) (sym (c .before .before .kind-at .ensures) ∙ ap headOf (c .enum-told .given .1)))))
+
+positive-add-t11 : (t : ℕ) → positive-lts.Need-add-t11 (
+  kind-at-reads.Asked,
+  kind-at-reads.Learnt,
+  negative-below t,
+  negative.Post,
+  arrow-below t,
+  arrow.Post,
+  gather-below t,
+  gather.Post,
+  under-below t,
+  under.Post,
+  literal-reads.Asked,
+  literal-reads.Learnt,
+) (positive-at t) positive.Post
+positive-add-t11 t c = omega (arith, neg-place (c .before .before .before .before .before .before .args .s .now) (c .before .before .before .before .before .before .args .at) (c .before .before .before .before .before .before .args .sig) (c .before .before .before .before .before .before .args .sc) (c .before .before .before .before .before .before .args .t) (c .before .before .before .before .before .before .pre .1) (neg-view (c .before .before .before .before .before .before .pre .1) (sym (c .before .before .before .before .kind-at .ensures) ∙ ap headOf (c .before .before .enum-told .given .1))) (c .before .negative .result .at) (c .before .negative .ensures (neg-ready (c .before .before .before .before .before .before .args .s .now) (c .before .before .before .before .before .before .args .at) (c .before .before .before .before .before .before .args .sig) (c .before .before .before .before .before .before .args .sc) (c .before .before .before .before .before .before .args .t) (c .before .before .before .before .before .before .pre .1) (neg-view (c .before .before .before .before .before .before .pre .1) (sym (c .before .before .before .before .kind-at .ensures) ∙ ap headOf (c .before .before .enum-told .given .1)))) .place), ready-end (c .before .before .before .before .before .before .pre .1), c .before .before .before .before .before .before .good .0 .0)
+
+positive-enum-told-2 : (t : ℕ) → positive-lts.Need-enum-told-2 (
+  kind-at-reads.Asked,
+  kind-at-reads.Learnt,
+  negative-below t,
+  negative.Post,
+  arrow-below t,
+  arrow.Post,
+  gather-below t,
+  gather.Post,
+  under-below t,
+  under.Post,
+  literal-reads.Asked,
+  literal-reads.Learnt,
+) (positive-at t) positive.Post
+positive-enum-told-2 t c = search needs
+
+positive-arrow-requires : (t : ℕ) → positive-lts.Need-arrow-requires (
+  kind-at-reads.Asked,
+  kind-at-reads.Learnt,
+  negative-below t,
+  negative.Post,
+  arrow-below t,
+  arrow.Post,
+  gather-below t,
+  gather.Post,
+  under-below t,
+  under.Post,
+  literal-reads.Asked,
+  literal-reads.Learnt,
+) (positive-at t) positive.Post
+positive-arrow-requires t c κs = (omega (arith, c .before .before .before .before .pre .0), ((c .before .before .before .before .pre .1), (sym (c .before .before .kind-at .ensures) ∙ ap headOf (c .enum-told2 .given .1))))
+
+positive-enum-told-3 : (t : ℕ) → positive-lts.Need-enum-told-3 (
+  kind-at-reads.Asked,
+  kind-at-reads.Learnt,
+  negative-below t,
+  negative.Post,
+  arrow-below t,
+  arrow.Post,
+  gather-below t,
+  gather.Post,
+  under-below t,
+  under.Post,
+  literal-reads.Asked,
+  literal-reads.Learnt,
+) (positive-at t) positive.Post
+positive-enum-told-3 t c = search needs
+
+positive-gather-requires : (t : ℕ) → positive-lts.Need-gather-requires (
+  kind-at-reads.Asked,
+  kind-at-reads.Learnt,
+  negative-below t,
+  negative.Post,
+  arrow-below t,
+  arrow.Post,
+  gather-below t,
+  gather.Post,
+  under-below t,
+  under.Post,
+  literal-reads.Asked,
+  literal-reads.Learnt,
+) (positive-at t) positive.Post
+positive-gather-requires t c κs = (omega (arith, c .before .before .before .before .pre .0), ((c .before .before .before .before .pre .1), (sym (c .before .before .kind-at .ensures) ∙ ap headOf (c .enum-told3 .given .1))))
+
+positive-enum-told-4 : (t : ℕ) → positive-lts.Need-enum-told-4 (
+  kind-at-reads.Asked,
+  kind-at-reads.Learnt,
+  negative-below t,
+  negative.Post,
+  arrow-below t,
+  arrow.Post,
+  gather-below t,
+  gather.Post,
+  under-below t,
+  under.Post,
+  literal-reads.Asked,
+  literal-reads.Learnt,
+) (positive-at t) positive.Post
+positive-enum-told-4 t c = search needs
+
+positive-gather-requires-2 : (t : ℕ) → positive-lts.Need-gather-requires-2 (
+  kind-at-reads.Asked,
+  kind-at-reads.Learnt,
+  negative-below t,
+  negative.Post,
+  arrow-below t,
+  arrow.Post,
+  gather-below t,
+  gather.Post,
+  under-below t,
+  under.Post,
+  literal-reads.Asked,
+  literal-reads.Learnt,
+) (positive-at t) positive.Post
+positive-gather-requires-2 t c κs = (omega (arith, c .before .before .before .before .pre .0), ((c .before .before .before .before .pre .1), (sym (c .before .before .kind-at .ensures) ∙ ap headOf (c .enum-told4 .given .1))))
+
+positive-enum-told-5 : (t : ℕ) → positive-lts.Need-enum-told-5 (
+  kind-at-reads.Asked,
+  kind-at-reads.Learnt,
+  negative-below t,
+  negative.Post,
+  arrow-below t,
+  arrow.Post,
+  gather-below t,
+  gather.Post,
+  under-below t,
+  under.Post,
+  literal-reads.Asked,
+  literal-reads.Learnt,
+) (positive-at t) positive.Post
+positive-enum-told-5 t c = search needs
+
+positive-under-requires : (t : ℕ) → positive-lts.Need-under-requires (
+  kind-at-reads.Asked,
+  kind-at-reads.Learnt,
+  negative-below t,
+  negative.Post,
+  arrow-below t,
+  arrow.Post,
+  gather-below t,
+  gather.Post,
+  under-below t,
+  under.Post,
+  literal-reads.Asked,
+  literal-reads.Learnt,
+) (positive-at t) positive.Post
+positive-under-requires t c κs = (omega (arith, c .before .before .before .before .pre .0), ((c .before .before .before .before .pre .1), (sym (c .before .before .kind-at .ensures) ∙ ap headOf (c .enum-told5 .given .1))))
+
+positive-enum-told-6 : (t : ℕ) → positive-lts.Need-enum-told-6 (
+  kind-at-reads.Asked,
+  kind-at-reads.Learnt,
+  negative-below t,
+  negative.Post,
+  arrow-below t,
+  arrow.Post,
+  gather-below t,
+  gather.Post,
+  under-below t,
+  under.Post,
+  literal-reads.Asked,
+  literal-reads.Learnt,
+) (positive-at t) positive.Post
+positive-enum-told-6 t c = search needs
+
+positive-under-requires-2 : (t : ℕ) → positive-lts.Need-under-requires-2 (
+  kind-at-reads.Asked,
+  kind-at-reads.Learnt,
+  negative-below t,
+  negative.Post,
+  arrow-below t,
+  arrow.Post,
+  gather-below t,
+  gather.Post,
+  under-below t,
+  under.Post,
+  literal-reads.Asked,
+  literal-reads.Learnt,
+) (positive-at t) positive.Post
+positive-under-requires-2 t c κs = (omega (arith, c .before .before .before .before .pre .0), ((c .before .before .before .before .pre .1), (sym (c .before .before .kind-at .ensures) ∙ ap headOf (c .enum-told6 .given .1))))
+
+positive-enum-told-7 : (t : ℕ) → positive-lts.Need-enum-told-7 (
+  kind-at-reads.Asked,
+  kind-at-reads.Learnt,
+  negative-below t,
+  negative.Post,
+  arrow-below t,
+  arrow.Post,
+  gather-below t,
+  gather.Post,
+  under-below t,
+  under.Post,
+  literal-reads.Asked,
+  literal-reads.Learnt,
+) (positive-at t) positive.Post
+positive-enum-told-7 t c = search needs
+
+positive-literal-requires : (t : ℕ) → positive-lts.Need-literal-requires (
+  kind-at-reads.Asked,
+  kind-at-reads.Learnt,
+  negative-below t,
+  negative.Post,
+  arrow-below t,
+  arrow.Post,
+  gather-below t,
+  gather.Post,
+  under-below t,
+  under.Post,
+  literal-reads.Asked,
+  literal-reads.Learnt,
+) (positive-at t) positive.Post
+positive-literal-requires t c κs = ((c .before .before .before .before .pre .1), (sym (c .before .before .kind-at .ensures) ∙ ap headOf (c .enum-told7 .given .1)))
+
+positive-returns : (t : ℕ) → positive-lts.Need-returns (
+  kind-at-reads.Asked,
+  kind-at-reads.Learnt,
+  negative-below t,
+  negative.Post,
+  arrow-below t,
+  arrow.Post,
+  gather-below t,
+  gather.Post,
+  under-below t,
+  under.Post,
+  literal-reads.Asked,
+  literal-reads.Learnt,
+) (positive-at t) positive.Post
+positive-returns t c = λ w. neg-done (c .before .before .before .before .before .before .args .s .now) (c .before .before .before .before .before .before .args .at) (c .before .before .before .before .before .before .args .sig) (c .before .before .before .before .before .before .args .sc) (c .before .before .before .before .before .before .args .t) true w (neg-view w (sym (c .before .before .before .before .kind-at .ensures) ∙ ap headOf (c .before .before .enum-told .given .1))) (c .before .negative .result) (c .before .negative .ensures (neg-ready (c .before .before .before .before .before .before .args .s .now) (c .before .before .before .before .before .before .args .at) (c .before .before .before .before .before .before .args .sig) (c .before .before .before .before .before .before .args .sc) (c .before .before .before .before .before .before .args .t) w (neg-view w (sym (c .before .before .before .before .kind-at .ensures) ∙ ap headOf (c .before .before .enum-told .given .1)))))
+
+positive-returns-2 : (t : ℕ) → positive-lts.Need-returns-2 (
+  kind-at-reads.Asked,
+  kind-at-reads.Learnt,
+  negative-below t,
+  negative.Post,
+  arrow-below t,
+  arrow.Post,
+  gather-below t,
+  gather.Post,
+  under-below t,
+  under.Post,
+  literal-reads.Asked,
+  literal-reads.Learnt,
+) (positive-at t) positive.Post
+positive-returns-2 t c = c .arrow .ensures
+
+positive-returns-3 : (t : ℕ) → positive-lts.Need-returns-3 (
+  kind-at-reads.Asked,
+  kind-at-reads.Learnt,
+  negative-below t,
+  negative.Post,
+  arrow-below t,
+  arrow.Post,
+  gather-below t,
+  gather.Post,
+  under-below t,
+  under.Post,
+  literal-reads.Asked,
+  literal-reads.Learnt,
+) (positive-at t) positive.Post
+positive-returns-3 t c = c .gather .ensures
+
+positive-returns-4 : (t : ℕ) → positive-lts.Need-returns-4 (
+  kind-at-reads.Asked,
+  kind-at-reads.Learnt,
+  negative-below t,
+  negative.Post,
+  arrow-below t,
+  arrow.Post,
+  gather-below t,
+  gather.Post,
+  under-below t,
+  under.Post,
+  literal-reads.Asked,
+  literal-reads.Learnt,
+) (positive-at t) positive.Post
+positive-returns-4 t c = c .gather2 .ensures
+
+positive-returns-5 : (t : ℕ) → positive-lts.Need-returns-5 (
+  kind-at-reads.Asked,
+  kind-at-reads.Learnt,
+  negative-below t,
+  negative.Post,
+  arrow-below t,
+  arrow.Post,
+  gather-below t,
+  gather.Post,
+  under-below t,
+  under.Post,
+  literal-reads.Asked,
+  literal-reads.Learnt,
+) (positive-at t) positive.Post
+positive-returns-5 t c = c .under .ensures
+
+positive-returns-6 : (t : ℕ) → positive-lts.Need-returns-6 (
+  kind-at-reads.Asked,
+  kind-at-reads.Learnt,
+  negative-below t,
+  negative.Post,
+  arrow-below t,
+  arrow.Post,
+  gather-below t,
+  gather.Post,
+  under-below t,
+  under.Post,
+  literal-reads.Asked,
+  literal-reads.Learnt,
+) (positive-at t) positive.Post
+positive-returns-6 t c = c .under2 .ensures
+
+positive-returns-7 : (t : ℕ) → positive-lts.Need-returns-7 (
+  kind-at-reads.Asked,
+  kind-at-reads.Learnt,
+  negative-below t,
+  negative.Post,
+  arrow-below t,
+  arrow.Post,
+  gather-below t,
+  gather.Post,
+  under-below t,
+  under.Post,
+  literal-reads.Asked,
+  literal-reads.Learnt,
+) (positive-at t) positive.Post
+positive-returns-7 t c = c .literal .ensures
+
+under-add-bind : (t : ℕ) → under-lts.Need-add-bind (
+  bind-reads.Asked,
+  bind-reads.Learnt,
+  numbered-reads.Asked,
+  numbered-reads.Learnt,
+  part-below t,
+  part.Post,
+  quant-kind-reads.Asked,
+  quant-kind-reads.Learnt,
+  chain-reads.Asked,
+  chain-reads.Learnt,
+) (under-at t) under.Post
+under-add-bind t c = omega (arith, list-in (c .before .args .s .now) (c .before .args .at + 9) (c .before .args .sc) (quant-list (c .before .args .s .now) (c .before .args .at) (c .before .args .sig) (c .before .args .sc) (c .before .args .t) (asQuant (c .before .args .some)) (c .before .pre .1 .0) (quant-view (c .before .args .some) (c .before .pre .1 .0) (c .before .pre .1 .1))), c .before .good .0 .0)
+
+under-bind-requires : (t : ℕ) → under-lts.Need-bind-requires (
+  bind-reads.Asked,
+  bind-reads.Learnt,
+  numbered-reads.Asked,
+  numbered-reads.Learnt,
+  part-below t,
+  part.Post,
+  quant-kind-reads.Asked,
+  quant-kind-reads.Learnt,
+  chain-reads.Asked,
+  chain-reads.Learnt,
+) (under-at t) under.Post
+under-bind-requires t c κs = (quant-list (c .before .args .s .now) (c .before .args .at) (c .before .args .sig) (c .before .args .sc) (c .before .args .t) (asQuant (c .before .args .some)) (c .before .pre .1 .0) (quant-view (c .before .args .some) (c .before .pre .1 .0) (c .before .pre .1 .1)))
+
+under-sub-k : (t : ℕ) → under-lts.Need-sub-k (
+  bind-reads.Asked,
+  bind-reads.Learnt,
+  numbered-reads.Asked,
+  numbered-reads.Learnt,
+  part-below t,
+  part.Post,
+  quant-kind-reads.Asked,
+  quant-kind-reads.Learnt,
+  chain-reads.Asked,
+  chain-reads.Learnt,
+) (under-at t) under.Post
+under-sub-k t c = omega (arith, c .before .before .bind .ensures (quant-list (c .before .before .before .before .args .s .now) (c .before .before .before .before .args .at) (c .before .before .before .before .args .sig) (c .before .before .before .before .args .sc) (c .before .before .before .before .args .t) (asQuant (c .before .before .before .before .args .some)) (c .before .before .before .before .pre .1 .0) (quant-view (c .before .before .before .before .args .some) (c .before .before .before .before .pre .1 .0) (c .before .before .before .before .pre .1 .1))) .count)
+
+under-numbered-requires : (t : ℕ) → under-lts.Need-numbered-requires (
+  bind-reads.Asked,
+  bind-reads.Learnt,
+  numbered-reads.Asked,
+  numbered-reads.Learnt,
+  part-below t,
+  part.Post,
+  quant-kind-reads.Asked,
+  quant-kind-reads.Learnt,
+  chain-reads.Asked,
+  chain-reads.Learnt,
+) (under-at t) under.Post
+under-numbered-requires t c κs = quant-nodes (c .before .before .before .before .args .s .now) (c .before .before .before .before .args .at) (c .before .before .before .before .args .sig) (c .before .before .before .before .args .sc) (c .before .before .before .before .args .t) (asQuant (c .before .before .before .before .args .some)) (c .before .before .before .before .pre .1 .0) (quant-view (c .before .before .before .before .args .some) (c .before .before .before .before .pre .1 .0) (c .before .before .before .before .pre .1 .1)) (c .before .before .bind .result) (c .before .before .bind .ensures (quant-list (c .before .before .before .before .args .s .now) (c .before .before .before .before .args .at) (c .before .before .before .before .args .sig) (c .before .before .before .before .args .sc) (c .before .before .before .before .args .t) (asQuant (c .before .before .before .before .args .some)) (c .before .before .before .before .pre .1 .0) (quant-view (c .before .before .before .before .args .some) (c .before .before .before .before .pre .1 .0) (c .before .before .before .before .pre .1 .1)))) (c .before .before .bind .result .scope .n - c .before .before .before .before .args .sc .n) refl (numberedOf (c .before .before .before .before .args .t) (c .before .before .bind .result .scope .n - c .before .before .before .before .args .sc .n)) refl
+
+under-part-requires : (t : ℕ) → under-lts.Need-part-requires (
+  bind-reads.Asked,
+  bind-reads.Learnt,
+  numbered-reads.Asked,
+  numbered-reads.Learnt,
+  part-below t,
+  part.Post,
+  quant-kind-reads.Asked,
+  quant-kind-reads.Learnt,
+  chain-reads.Asked,
+  chain-reads.Learnt,
+) (under-at t) under.Post
+under-part-requires t c κs = (omega (arith, c .before .before .before .before .before .pre .0, ready-in (quant-ready (c .before .before .before .before .before .args .s .now) (c .before .before .before .before .before .args .at) (c .before .before .before .before .before .args .sig) (c .before .before .before .before .before .args .sc) (c .before .before .before .before .before .args .t) (asQuant (c .before .before .before .before .before .args .some)) (c .before .before .before .before .before .pre .1 .0) (quant-view (c .before .before .before .before .before .args .some) (c .before .before .before .before .before .pre .1 .0) (c .before .before .before .before .before .pre .1 .1)) (c .before .before .before .bind .result) (c .before .before .before .bind .ensures (quant-list (c .before .before .before .before .before .args .s .now) (c .before .before .before .before .before .args .at) (c .before .before .before .before .before .args .sig) (c .before .before .before .before .before .args .sc) (c .before .before .before .before .before .args .t) (asQuant (c .before .before .before .before .before .args .some)) (c .before .before .before .before .before .pre .1 .0) (quant-view (c .before .before .before .before .before .args .some) (c .before .before .before .before .before .pre .1 .0) (c .before .before .before .before .before .pre .1 .1)))) (c .before .before .before .bind .result .scope .n - c .before .before .before .before .before .args .sc .n) refl (c .numbered .result) (c .numbered .ensures)), c .before .before .before .bind .ensures (quant-list (c .before .before .before .before .before .args .s .now) (c .before .before .before .before .before .args .at) (c .before .before .before .before .before .args .sig) (c .before .before .before .before .before .args .sc) (c .before .before .before .before .before .args .t) (asQuant (c .before .before .before .before .before .args .some)) (c .before .before .before .before .before .pre .1 .0) (quant-view (c .before .before .before .before .before .args .some) (c .before .before .before .before .before .pre .1 .0) (c .before .before .before .before .before .pre .1 .1))) .place), (quant-ready (c .before .before .before .before .before .args .s .now) (c .before .before .before .before .before .args .at) (c .before .before .before .before .before .args .sig) (c .before .before .before .before .before .args .sc) (c .before .before .before .before .before .args .t) (asQuant (c .before .before .before .before .before .args .some)) (c .before .before .before .before .before .pre .1 .0) (quant-view (c .before .before .before .before .before .args .some) (c .before .before .before .before .before .pre .1 .0) (c .before .before .before .before .before .pre .1 .1)) (c .before .before .before .bind .result) (c .before .before .before .bind .ensures (quant-list (c .before .before .before .before .before .args .s .now) (c .before .before .before .before .before .args .at) (c .before .before .before .before .before .args .sig) (c .before .before .before .before .before .args .sc) (c .before .before .before .before .before .args .t) (asQuant (c .before .before .before .before .before .args .some)) (c .before .before .before .before .before .pre .1 .0) (quant-view (c .before .before .before .before .before .args .some) (c .before .before .before .before .before .pre .1 .0) (c .before .before .before .before .before .pre .1 .1)))) (c .before .before .before .bind .result .scope .n - c .before .before .before .before .before .args .sc .n) refl (c .numbered .result) (c .numbered .ensures)))
+
+under-quant-kind-requires : (t : ℕ) → under-lts.Need-quant-kind-requires (
+  bind-reads.Asked,
+  bind-reads.Learnt,
+  numbered-reads.Asked,
+  numbered-reads.Learnt,
+  part-below t,
+  part.Post,
+  quant-kind-reads.Asked,
+  quant-kind-reads.Learnt,
+  chain-reads.Asked,
+  chain-reads.Learnt,
+) (under-at t) under.Post
+under-quant-kind-requires t c κs = search needs
+
+under-chain-requires : (t : ℕ) → under-lts.Need-chain-requires (
+  bind-reads.Asked,
+  bind-reads.Learnt,
+  numbered-reads.Asked,
+  numbered-reads.Learnt,
+  part-below t,
+  part.Post,
+  quant-kind-reads.Asked,
+  quant-kind-reads.Learnt,
+  chain-reads.Asked,
+  chain-reads.Learnt,
+) (under-at t) under.Post
+under-chain-requires t c κs = (quant-space (c .before .before .before .before .before .before .before .before .args .s .now) (c .before .before .before .before .before .before .before .before .args .at) (c .before .before .before .before .before .before .before .before .args .sig) (c .before .before .before .before .before .before .before .before .args .sc) (c .before .before .before .before .before .before .before .before .args .t) (asQuant (c .before .before .before .before .before .before .before .before .args .some)) (c .before .before .before .before .before .before .before .before .pre .1 .0) (quant-view (c .before .before .before .before .before .before .before .before .args .some) (c .before .before .before .before .before .before .before .before .pre .1 .0) (c .before .before .before .before .before .before .before .before .pre .1 .1)) (c .before .before .before .before .before .before .bind .result) (c .before .before .before .before .before .before .bind .ensures (quant-list (c .before .before .before .before .before .before .before .before .args .s .now) (c .before .before .before .before .before .before .before .before .args .at) (c .before .before .before .before .before .before .before .before .args .sig) (c .before .before .before .before .before .before .before .before .args .sc) (c .before .before .before .before .before .before .before .before .args .t) (asQuant (c .before .before .before .before .before .before .before .before .args .some)) (c .before .before .before .before .before .before .before .before .pre .1 .0) (quant-view (c .before .before .before .before .before .before .before .before .args .some) (c .before .before .before .before .before .before .before .before .pre .1 .0) (c .before .before .before .before .before .before .before .before .pre .1 .1)))) (c .before .before .before .before .before .before .bind .result .scope .n - c .before .before .before .before .before .before .before .before .args .sc .n) refl (c .before .before .before .numbered .result) (c .before .before .before .numbered .ensures) (c .before .before .before .before .before .before .before .before .args .pos) (c .before .before .part .result) (c .before .before .part .ensures (quant-ready (c .before .before .before .before .before .before .before .before .args .s .now) (c .before .before .before .before .before .before .before .before .args .at) (c .before .before .before .before .before .before .before .before .args .sig) (c .before .before .before .before .before .before .before .before .args .sc) (c .before .before .before .before .before .before .before .before .args .t) (asQuant (c .before .before .before .before .before .before .before .before .args .some)) (c .before .before .before .before .before .before .before .before .pre .1 .0) (quant-view (c .before .before .before .before .before .before .before .before .args .some) (c .before .before .before .before .before .before .before .before .pre .1 .0) (c .before .before .before .before .before .before .before .before .pre .1 .1)) (c .before .before .before .before .before .before .bind .result) (c .before .before .before .before .before .before .bind .ensures (quant-list (c .before .before .before .before .before .before .before .before .args .s .now) (c .before .before .before .before .before .before .before .before .args .at) (c .before .before .before .before .before .before .before .before .args .sig) (c .before .before .before .before .before .before .before .before .args .sc) (c .before .before .before .before .before .before .before .before .args .t) (asQuant (c .before .before .before .before .before .before .before .before .args .some)) (c .before .before .before .before .before .before .before .before .pre .1 .0) (quant-view (c .before .before .before .before .before .before .before .before .args .some) (c .before .before .before .before .before .before .before .before .pre .1 .0) (c .before .before .before .before .before .before .before .before .pre .1 .1)))) (c .before .before .before .before .before .before .bind .result .scope .n - c .before .before .before .before .before .before .before .before .args .sc .n) refl (c .before .before .before .numbered .result) (c .before .before .before .numbered .ensures))), quant-nodes (c .before .before .before .before .before .before .before .before .args .s .now) (c .before .before .before .before .before .before .before .before .args .at) (c .before .before .before .before .before .before .before .before .args .sig) (c .before .before .before .before .before .before .before .before .args .sc) (c .before .before .before .before .before .before .before .before .args .t) (asQuant (c .before .before .before .before .before .before .before .before .args .some)) (c .before .before .before .before .before .before .before .before .pre .1 .0) (quant-view (c .before .before .before .before .before .before .before .before .args .some) (c .before .before .before .before .before .before .before .before .pre .1 .0) (c .before .before .before .before .before .before .before .before .pre .1 .1)) (c .before .before .before .before .before .before .bind .result) (c .before .before .before .before .before .before .bind .ensures (quant-list (c .before .before .before .before .before .before .before .before .args .s .now) (c .before .before .before .before .before .before .before .before .args .at) (c .before .before .before .before .before .before .before .before .args .sig) (c .before .before .before .before .before .before .before .before .args .sc) (c .before .before .before .before .before .before .before .before .args .t) (asQuant (c .before .before .before .before .before .before .before .before .args .some)) (c .before .before .before .before .before .before .before .before .pre .1 .0) (quant-view (c .before .before .before .before .before .before .before .before .args .some) (c .before .before .before .before .before .before .before .before .pre .1 .0) (c .before .before .before .before .before .before .before .before .pre .1 .1)))) (c .before .before .before .before .before .before .bind .result .scope .n - c .before .before .before .before .before .before .before .before .args .sc .n) refl (c .before .before .before .numbered .result) (c .before .before .before .numbered .ensures), omega (arith, quant-levels (c .before .before .before .before .before .before .before .before .args .s .now) (c .before .before .before .before .before .before .before .before .args .at) (c .before .before .before .before .before .before .before .before .args .sig) (c .before .before .before .before .before .before .before .before .args .sc) (c .before .before .before .before .before .before .before .before .args .t) (asQuant (c .before .before .before .before .before .before .before .before .args .some)) (c .before .before .before .before .before .before .before .before .pre .1 .0) (quant-view (c .before .before .before .before .before .before .before .before .args .some) (c .before .before .before .before .before .before .before .before .pre .1 .0) (c .before .before .before .before .before .before .before .before .pre .1 .1)) (c .before .before .before .before .before .before .bind .result) (c .before .before .before .before .before .before .bind .ensures (quant-list (c .before .before .before .before .before .before .before .before .args .s .now) (c .before .before .before .before .before .before .before .before .args .at) (c .before .before .before .before .before .before .before .before .args .sig) (c .before .before .before .before .before .before .before .before .args .sc) (c .before .before .before .before .before .before .before .before .args .t) (asQuant (c .before .before .before .before .before .before .before .before .args .some)) (c .before .before .before .before .before .before .before .before .pre .1 .0) (quant-view (c .before .before .before .before .before .before .before .before .args .some) (c .before .before .before .before .before .before .before .before .pre .1 .0) (c .before .before .before .before .before .before .before .before .pre .1 .1)))) (c .before .before .before .before .before .before .bind .result .scope .n - c .before .before .before .before .before .before .before .before .args .sc .n) refl (c .before .before .before .numbered .result) (c .before .before .before .numbered .ensures)), c .before .before .part .ensures (quant-ready (c .before .before .before .before .before .before .before .before .args .s .now) (c .before .before .before .before .before .before .before .before .args .at) (c .before .before .before .before .before .before .before .before .args .sig) (c .before .before .before .before .before .before .before .before .args .sc) (c .before .before .before .before .before .before .before .before .args .t) (asQuant (c .before .before .before .before .before .before .before .before .args .some)) (c .before .before .before .before .before .before .before .before .pre .1 .0) (quant-view (c .before .before .before .before .before .before .before .before .args .some) (c .before .before .before .before .before .before .before .before .pre .1 .0) (c .before .before .before .before .before .before .before .before .pre .1 .1)) (c .before .before .before .before .before .before .bind .result) (c .before .before .before .before .before .before .bind .ensures (quant-list (c .before .before .before .before .before .before .before .before .args .s .now) (c .before .before .before .before .before .before .before .before .args .at) (c .before .before .before .before .before .before .before .before .args .sig) (c .before .before .before .before .before .before .before .before .args .sc) (c .before .before .before .before .before .before .before .before .args .t) (asQuant (c .before .before .before .before .before .before .before .before .args .some)) (c .before .before .before .before .before .before .before .before .pre .1 .0) (quant-view (c .before .before .before .before .before .before .before .before .args .some) (c .before .before .before .before .before .before .before .before .pre .1 .0) (c .before .before .before .before .before .before .before .before .pre .1 .1)))) (c .before .before .before .before .before .before .bind .result .scope .n - c .before .before .before .before .before .before .before .before .args .sc .n) refl (c .before .before .before .numbered .result) (c .before .before .before .numbered .ensures)) .adds .long)
+
+under-add-t20 : (t : ℕ) → under-lts.Need-add-t20 (
+  bind-reads.Asked,
+  bind-reads.Learnt,
+  numbered-reads.Asked,
+  numbered-reads.Learnt,
+  part-below t,
+  part.Post,
+  quant-kind-reads.Asked,
+  quant-kind-reads.Learnt,
+  chain-reads.Asked,
+  chain-reads.Learnt,
+) (under-at t) under.Post
+under-add-t20 t c = omega (arith, quant-place (c .before .before .before .before .before .before .before .before .before .args .s .now) (c .before .before .before .before .before .before .before .before .before .args .at) (c .before .before .before .before .before .before .before .before .before .args .sig) (c .before .before .before .before .before .before .before .before .before .args .sc) (c .before .before .before .before .before .before .before .before .before .args .t) (asQuant (c .before .before .before .before .before .before .before .before .before .args .some)) (c .before .before .before .before .before .before .before .before .before .pre .1 .0) (quant-view (c .before .before .before .before .before .before .before .before .before .args .some) (c .before .before .before .before .before .before .before .before .before .pre .1 .0) (c .before .before .before .before .before .before .before .before .before .pre .1 .1)) (c .before .before .before .before .before .before .before .bind .result) (c .before .before .before .before .before .before .before .bind .ensures (quant-list (c .before .before .before .before .before .before .before .before .before .args .s .now) (c .before .before .before .before .before .before .before .before .before .args .at) (c .before .before .before .before .before .before .before .before .before .args .sig) (c .before .before .before .before .before .before .before .before .before .args .sc) (c .before .before .before .before .before .before .before .before .before .args .t) (asQuant (c .before .before .before .before .before .before .before .before .before .args .some)) (c .before .before .before .before .before .before .before .before .before .pre .1 .0) (quant-view (c .before .before .before .before .before .before .before .before .before .args .some) (c .before .before .before .before .before .before .before .before .before .pre .1 .0) (c .before .before .before .before .before .before .before .before .before .pre .1 .1)))) (c .before .before .before .before .before .before .before .bind .result .scope .n - c .before .before .before .before .before .before .before .before .before .args .sc .n) refl (c .before .before .before .before .numbered .result) (c .before .before .before .before .numbered .ensures) (c .before .before .before .before .before .before .before .before .before .args .pos) (c .before .before .before .part .result) (c .before .before .before .part .ensures (quant-ready (c .before .before .before .before .before .before .before .before .before .args .s .now) (c .before .before .before .before .before .before .before .before .before .args .at) (c .before .before .before .before .before .before .before .before .before .args .sig) (c .before .before .before .before .before .before .before .before .before .args .sc) (c .before .before .before .before .before .before .before .before .before .args .t) (asQuant (c .before .before .before .before .before .before .before .before .before .args .some)) (c .before .before .before .before .before .before .before .before .before .pre .1 .0) (quant-view (c .before .before .before .before .before .before .before .before .before .args .some) (c .before .before .before .before .before .before .before .before .before .pre .1 .0) (c .before .before .before .before .before .before .before .before .before .pre .1 .1)) (c .before .before .before .before .before .before .before .bind .result) (c .before .before .before .before .before .before .before .bind .ensures (quant-list (c .before .before .before .before .before .before .before .before .before .args .s .now) (c .before .before .before .before .before .before .before .before .before .args .at) (c .before .before .before .before .before .before .before .before .before .args .sig) (c .before .before .before .before .before .before .before .before .before .args .sc) (c .before .before .before .before .before .before .before .before .before .args .t) (asQuant (c .before .before .before .before .before .before .before .before .before .args .some)) (c .before .before .before .before .before .before .before .before .before .pre .1 .0) (quant-view (c .before .before .before .before .before .before .before .before .before .args .some) (c .before .before .before .before .before .before .before .before .before .pre .1 .0) (c .before .before .before .before .before .before .before .before .before .pre .1 .1)))) (c .before .before .before .before .before .before .before .bind .result .scope .n - c .before .before .before .before .before .before .before .before .before .args .sc .n) refl (c .before .before .before .before .numbered .result) (c .before .before .before .before .numbered .ensures))), ready-end (c .before .before .before .before .before .before .before .before .before .pre .1 .0), c .before .before .before .before .before .before .before .before .before .good .0 .0)
+
+under-returns : (t : ℕ) → under-lts.Need-returns (
+  bind-reads.Asked,
+  bind-reads.Learnt,
+  numbered-reads.Asked,
+  numbered-reads.Learnt,
+  part-below t,
+  part.Post,
+  quant-kind-reads.Asked,
+  quant-kind-reads.Learnt,
+  chain-reads.Asked,
+  chain-reads.Learnt,
+) (under-at t) under.Post
+under-returns t c = λ w. quant-done (c .before .before .before .before .before .before .before .before .before .args .s .now) (c .before .before .before .before .before .before .before .before .before .args .at) (c .before .before .before .before .before .before .before .before .before .args .sig) (c .before .before .before .before .before .before .before .before .before .args .sc) (c .before .before .before .before .before .before .before .before .before .args .t) (asQuant (c .before .before .before .before .before .before .before .before .before .args .some)) w (quant-view (c .before .before .before .before .before .before .before .before .before .args .some) w (c .before .before .before .before .before .before .before .before .before .pre .1 .1)) (c .before .before .before .before .before .before .before .bind .result) (c .before .before .before .before .before .before .before .bind .ensures (quant-list (c .before .before .before .before .before .before .before .before .before .args .s .now) (c .before .before .before .before .before .before .before .before .before .args .at) (c .before .before .before .before .before .before .before .before .before .args .sig) (c .before .before .before .before .before .before .before .before .before .args .sc) (c .before .before .before .before .before .before .before .before .before .args .t) (asQuant (c .before .before .before .before .before .before .before .before .before .args .some)) w (quant-view (c .before .before .before .before .before .before .before .before .before .args .some) w (c .before .before .before .before .before .before .before .before .before .pre .1 .1)))) (c .before .before .before .before .before .before .before .bind .result .scope .n - c .before .before .before .before .before .before .before .before .before .args .sc .n) refl (c .before .before .before .before .numbered .result) (c .before .before .before .before .numbered .ensures) (c .before .before .before .before .before .before .before .before .before .args .pos) (c .before .before .before .part .result) (c .before .before .before .part .ensures (quant-ready (c .before .before .before .before .before .before .before .before .before .args .s .now) (c .before .before .before .before .before .before .before .before .before .args .at) (c .before .before .before .before .before .before .before .before .before .args .sig) (c .before .before .before .before .before .before .before .before .before .args .sc) (c .before .before .before .before .before .before .before .before .before .args .t) (asQuant (c .before .before .before .before .before .before .before .before .before .args .some)) w (quant-view (c .before .before .before .before .before .before .before .before .before .args .some) w (c .before .before .before .before .before .before .before .before .before .pre .1 .1)) (c .before .before .before .before .before .before .before .bind .result) (c .before .before .before .before .before .before .before .bind .ensures (quant-list (c .before .before .before .before .before .before .before .before .before .args .s .now) (c .before .before .before .before .before .before .before .before .before .args .at) (c .before .before .before .before .before .before .before .before .before .args .sig) (c .before .before .before .before .before .before .before .before .before .args .sc) (c .before .before .before .before .before .before .before .before .before .args .t) (asQuant (c .before .before .before .before .before .before .before .before .before .args .some)) w (quant-view (c .before .before .before .before .before .before .before .before .before .args .some) w (c .before .before .before .before .before .before .before .before .before .pre .1 .1)))) (c .before .before .before .before .before .before .before .bind .result .scope .n - c .before .before .before .before .before .before .before .before .before .args .sc .n) refl (c .before .before .before .before .numbered .result) (c .before .before .before .before .numbered .ensures))) (c .chain .result) (subst (λ n. Adds (c .before .before .before .part .result .rows) (chainOf n (c .before .before .before .before .before .before .before .before .before .args .t .nodes) (c .before .before .before .before .before .before .before .before .before .args .sc .n) (c .before .before .before .before .before .before .before .bind .result .scope .n - c .before .before .before .before .before .before .before .before .before .args .sc .n)) 0 (c .chain .result)) (c .before .quant-kind .ensures) (c .chain .ensures))
+
+pub +arrow+further+gather+negative+part+positive+under-spec : {M : Type 1} → statement M
++arrow+further+gather+negative+part+positive+under-spec =
+    close μ-arrow μ-further μ-gather μ-negative μ-part μ-positive μ-under (λ t. arrow-lts.spec (
+      numbered-reads.Asked,
+      numbered-reads.Learnt,
+      part-below t,
+      part.Post,
+      join-kind-reads.Asked,
+      join-kind-reads.Learnt,
+      join-row-reads.Asked,
+      join-row-reads.Learnt,
+      push-reads.Asked,
+      push-reads.Learnt,
+    )
+    (arrow-at t)
+    arrow.Post
+    (arrow-numbered-requires t)
+    (arrow-add-part t)
+    (arrow-part-requires t)
+    (arrow-add-part-2 t)
+    (arrow-part-requires-2 t)
+    (arrow-join-kind-requires t)
+    (arrow-join-row-requires t)
+    (arrow-push-requires t)
+    (arrow-add-t18 t)
+    (arrow-returns t))
+    (λ t. further-lts.spec
+    (part-below t, part.Post, further-below t, further.Post)
+    (further-at t)
+    further.Post
+    (further-shared-slice-read-if1 t)
+    (further-add-part t)
+    (further-part-requires t)
+    (further-add-further t)
+    (further-further-requires t)
+    (further-returns t)
+    (further-returns-2 t))
+    (λ t. gather-lts.spec (
+      numbered-reads.Asked,
+      numbered-reads.Learnt,
+      join-word-reads.Asked,
+      join-word-reads.Learnt,
+      part-below t,
+      part.Post,
+      further-below t,
+      further.Post,
+      join-kind-reads.Asked,
+      join-kind-reads.Learnt,
+      join-row-reads.Asked,
+      join-row-reads.Learnt,
+      push-reads.Asked,
+      push-reads.Learnt,
+    )
+    (gather-at t)
+    gather.Post
+    (gather-numbered-requires t)
+    (gather-join-word-requires t)
+    (gather-add-part t)
+    (gather-part-requires t)
+    (gather-further-requires t)
+    (gather-join-kind-requires t)
+    (gather-join-row-requires t)
+    (gather-push-requires t)
+    (gather-add-t21 t)
+    (gather-returns t))
+    (λ t. negative-lts.spec (
+      kind-at-reads.Asked,
+      kind-at-reads.Learnt,
+      positive-below t,
+      positive.Post,
+      arrow-below t,
+      arrow.Post,
+      gather-below t,
+      gather.Post,
+      under-below t,
+      under.Post,
+      literal-reads.Asked,
+      literal-reads.Learnt,
+    )
+    (negative-at t)
+    negative.Post
+    (negative-kind-at-requires t)
+    (negative-enum-told t)
+    (negative-add-positive t)
+    (negative-positive-requires t)
+    (negative-add-t11 t)
+    (negative-enum-told-2 t)
+    (negative-arrow-requires t)
+    (negative-enum-told-3 t)
+    (negative-gather-requires t)
+    (negative-enum-told-4 t)
+    (negative-gather-requires-2 t)
+    (negative-enum-told-5 t)
+    (negative-under-requires t)
+    (negative-enum-told-6 t)
+    (negative-under-requires-2 t)
+    (negative-enum-told-7 t)
+    (negative-literal-requires t)
+    (negative-returns t)
+    (negative-returns-2 t)
+    (negative-returns-3 t)
+    (negative-returns-4 t)
+    (negative-returns-5 t)
+    (negative-returns-6 t)
+    (negative-returns-7 t))
+    (λ t. part-lts.spec
+    (positive-below t, positive.Post, negative-below t, negative.Post)
+    (part-at t)
+    part.Post
+    (part-positive-requires t)
+    (part-negative-requires t)
+    (part-returns t)
+    (part-returns-2 t))
+    (λ t. positive-lts.spec (
+      kind-at-reads.Asked,
+      kind-at-reads.Learnt,
+      negative-below t,
+      negative.Post,
+      arrow-below t,
+      arrow.Post,
+      gather-below t,
+      gather.Post,
+      under-below t,
+      under.Post,
+      literal-reads.Asked,
+      literal-reads.Learnt,
+    )
+    (positive-at t)
+    positive.Post
+    (positive-kind-at-requires t)
+    (positive-enum-told t)
+    (positive-add-negative t)
+    (positive-negative-requires t)
+    (positive-add-t11 t)
+    (positive-enum-told-2 t)
+    (positive-arrow-requires t)
+    (positive-enum-told-3 t)
+    (positive-gather-requires t)
+    (positive-enum-told-4 t)
+    (positive-gather-requires-2 t)
+    (positive-enum-told-5 t)
+    (positive-under-requires t)
+    (positive-enum-told-6 t)
+    (positive-under-requires-2 t)
+    (positive-enum-told-7 t)
+    (positive-literal-requires t)
+    (positive-returns t)
+    (positive-returns-2 t)
+    (positive-returns-3 t)
+    (positive-returns-4 t)
+    (positive-returns-5 t)
+    (positive-returns-6 t)
+    (positive-returns-7 t))
+    λ t. under-lts.spec (
+      bind-reads.Asked,
+      bind-reads.Learnt,
+      numbered-reads.Asked,
+      numbered-reads.Learnt,
+      part-below t,
+      part.Post,
+      quant-kind-reads.Asked,
+      quant-kind-reads.Learnt,
+      chain-reads.Asked,
+      chain-reads.Learnt,
+    )
+    (under-at t)
+    under.Post
+    (under-add-bind t)
+    (under-bind-requires t)
+    (under-sub-k t)
+    (under-numbered-requires t)
+    (under-part-requires t)
+    (under-quant-kind-requires t)
+    (under-chain-requires t)
+    (under-add-t20 t)
+    (under-returns t)

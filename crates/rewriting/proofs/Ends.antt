@@ -1,0 +1,164 @@
+-- The walk's quantifiers and literals. Assumes nothing.
+use Prim.Native.Nat.{ℕ, zero, suc, _+_, _-_, _≤_, _<_}
+use native.Mathlib.Omega.{arith}
+use mathlib.Core.Path.{_≡_, refl, sym, ap, subst, _∙_}
+use mathlib.Core.Bool.{Bool, true, false, _&&_}
+use mathlib.Core.List.{List, [], _∷_, _++_, map, append-assoc}
+use lib.ListN.{length, drop, length-append}
+use lib.Seq.{slice, drop-drop}
+use lib.Dec.{eqb}
+use Rattle.definitions.specs.Lists.{any, same, option}
+use Rattle.definitions.specs.Text.{isCapital, isBetween, isDigit}
+use Rattle.definitions.specs.Relations.{Relation, numberOf}
+use Rattle.definitions.specs.Formula.{Formula, literal, Quant, quant, quantWord, writeVars, writeList, write, span, isKnown}
+use Rattle.definitions.specs.Writing.{IsWord, name-is, span-in, span-append, inside-first}
+use Rattle.definitions.specs.Tree.{Tree, nodes, nest, leafOf}
+use Rattle.names.specs.Signatures.{allOf}
+use Rattle.names.specs.declared.Signature.{Signature}
+use Rattle.formula.specs.Seen.{names}
+use Rattle.formula.specs.Spans.{length-names}
+use Rattle.formula.specs.Steps.{slice-front}
+use Rattle.formula.specs.Bound.{front-rest}
+use Rattle.formula.specs.declared.Scope.{Scope}
+use Rattle.tables.specs.Postorder.{pad, post, leafKind, leafRow}
+use Rattle.tables.specs.declared.Row.{Row}
+use Rattle.tables.specs.declared.Rows.{Rows}
+use Rattle.rewriting.specs.Trees.{treeIn, quantNode, quantKind, chain, tree-lit, tree-quant, post-nest, nodes-nest}
+use Rattle.rewriting.specs.Sizes.{known-few}
+use Rattle.rewriting.specs.Ready.{levelOf, Adds, pushed, numbered, Fine, Ready, ListReady, VarsReady, Walked, Opened, Filled}
+use Rattle.rewriting.specs.declared.Walk.{Walk}
+use Rattle.rewriting.specs.declared.Bound.{Bound}
+use Rattle.rewriting.specs.declared.Leaf.{Leaf}
+use Rattle.rewriting.proofs.Tables.{adds-push, adds-number, adds-both, adds-as}
+use Rattle.rewriting.proofs.Views.{lay-literal, IsLit, IsQuant, fine-quant, quant-forms, quant-nesting}
+use Rattle.rewriting.proofs.Turns.{lay-quant, len-quant, quant-nine, fine-in, long-in, moved, as-tree, ready-few, ready-rows, walked-len}
+use Rattle.rewriting.proofs.Words.{vars-in}
+
+-- ---- a quantifier
+regroup : (v vs m : List ℕ) → ((v ++ vs) ++ (41 ∷ 32 ∷ [])) ++ m ≡ v ++ (vs ++ (41 ∷ 32 ∷ m))
+regroup v vs m = simp append-assoc
+
+nest-rows : {t p x u : Rows} (b : Bool) (q : Quant) (d k : ℕ) (T : Tree) → Adds t [] k p → Adds p (post (p .nodes) T) (length (nodes T)) x → Adds x (chain (quantKind b q) (t .nodes) d k) 0 u → Adds t (post (t .nodes) (nest (quantNode b q) d k T)) (length (nodes (nest (quantNode b q) d k T))) u
+nest-rows {t} {p} {x} {u} b q d k T a c e = adds-as (ap (λ (n : ℕ). post n T ++ chain (quantKind b q) (t .nodes) d k) (a .nodes) ∙ sym (post-nest b q (t .nodes) d k T)) (omega (arith, nodes-nest b q d k T)) (adds-both a (adds-both c e))
+
+module _ (s : List ℕ) (at : ℕ) (g : Signature) (sc : Scope) (t : Rows) (q : Quant) (w : Ready s at g sc t) (v : IsQuant q (w .f)) where
+  pub quant-fine : Fine (allOf s g) (names s sc) (t .len) (t .nodes) (quant q (v .v ∷ v .vs) (v .g))
+  quant-fine = subst (λ (f : Formula). Fine (allOf s g) (names s sc) (t .len) (t .nodes) f) (v .is) (w .fine)
+
+  pub quant-text : drop (at + 9) s ≡ v .v ++ (writeVars (v .vs) ++ (41 ∷ 32 ∷ (write (v .g) ++ (41 ∷ w .rest))))
+  quant-text = ap (λ (n : ℕ). drop (at + n) s) (sym (quant-nine q)) ∙ front-rest s (quantWord q) (v .v ++ (writeVars (v .vs) ++ (41 ∷ 32 ∷ (write (v .g) ++ (41 ∷ w .rest))))) at (w .is ∙ ap (λ (f : Formula). write f ++ w .rest) (v .is) ∙ lay-quant q (v .v) (v .vs) (v .g) (w .rest))
+
+  abbrev pub quant-list : ListReady s (at + 9) sc
+  quant-list = record {
+    v = v .v;
+    vs = v .vs;
+    rest = write (v .g) ++ (41 ∷ w .rest);
+    is = quant-text;
+    words = v .words;
+    fits = omega (arith, quant-fine .deep, quant-nesting q (v .v ∷ v .vs) (v .g), length-names s sc);
+  }
+
+  module _ (d : Bound) (D : Opened s (at + 9) sc (v .v) (v .vs) d) (k : ℕ) (ek : k ≡ d .scope .n - sc .n) (p : Rows) (e : p ≡ numbered t k) where
+    pub quant-many : k ≡ length (v .v ∷ v .vs)
+    quant-many = omega (arith, D .count)
+
+    pub after-list : drop (at + 9 + (length (writeList (v .v ∷ v .vs)) + 2)) s ≡ write (v .g) ++ (41 ∷ w .rest)
+    after-list =
+        ap (λ (n : ℕ). drop (at + 9 + n) s) (sym (length-append (writeList (v .v ∷ v .vs)) (41 ∷ 32 ∷ [])))
+        ∙ front-rest s (writeList (v .v ∷ v .vs) ++ (41 ∷ 32 ∷ [])) (write (v .g) ++ (41 ∷ w .rest)) (at + 9) (quant-text ∙ sym (regroup (v .v) (writeVars (v .vs)) (write (v .g) ++ (41 ∷ w .rest))))
+
+    abbrev pub quant-ready : Ready s (d .at) g (d .scope) p
+    quant-ready = record {
+      f = v .g;
+      rest = 41 ∷ w .rest;
+      is = ap (λ (n : ℕ). drop n s) (D .place) ∙ after-list;
+      fine = fine-in t k p e (subst (λ (n : ℕ). Fine (allOf s g) (names s (d .scope)) (t .len) (t .nodes + n) (v .g)) (sym quant-many) (fine-quant (allOf s g) (names s sc) (t .len) (t .nodes) q (v .v ∷ v .vs) (v .g) (names s (d .scope)) (D .scope) quant-fine));
+      fixed = moved p (w .fixed) (long-in t k p e (w .fixed .long));
+    }
+
+    pub quant-nodes : t .nodes + k ≤ 64
+    quant-nodes = omega (arith, quant-fine .nodes, quant-forms q (v .v ∷ v .vs) (v .g), quant-many)
+
+    pub quant-levels : sc .n + k ≤ 4
+    quant-levels = omega (arith, quant-fine .deep, quant-nesting q (v .v ∷ v .vs) (v .g), length-names s sc, quant-many)
+
+    module _ (b : Bool) (x : Walk) (X : Walked b s (d .at) g (d .scope) p (v .g) x) where
+      pub quant-place : x .at + 1 ≡ at + length (write (w .f))
+      quant-place = omega (arith, X .place, D .place, ap (λ (f : Formula). length (write f)) (v .is), len-quant q (v .v) (v .vs) (v .g))
+
+      pub quant-space : x .rows .len + k ≤ 64
+      quant-space = omega (arith, walked-len b (v .g) x X, quant-fine .rows, quant-forms q (v .v ∷ v .vs) (v .g), quant-many, ap (λ (r : Rows). r .len) e)
+
+      pub quant-done : (u : Rows) → Adds (x .rows) (chain (quantKind b q) (t .nodes) (sc .n) k) 0 u → Walked b s at g sc t (w .f) (record { rows = u; at = x .at + 1 })
+      quant-done u U = record {
+        place = quant-place;
+        adds = as-tree (ap (λ (f : Formula). treeIn b (allOf s g) (names s sc) f) (v .is) ∙ tree-quant (allOf s g) (names s sc) b q (v .v ∷ v .vs) (v .g) ∙ same)
+            (nest-rows b q (sc .n) k (treeIn b (allOf s g) (names s (d .scope)) (v .g)) (adds-number t p k (w .fixed .long) e) (X .adds) U);
+      }
+        where
+          same : nest (quantNode b q) (length (names s sc)) (length (v .v ∷ v .vs)) (treeIn b (allOf s g) (names s sc ++ (v .v ∷ v .vs)) (v .g)) ≡ nest (quantNode b q) (sc .n) k (treeIn b (allOf s g) (names s (d .scope)) (v .g))
+          same = rw (length-names s sc, quant-many, D .scope)
+
+-- ---- a literal
+pub none-row : (b : Bool) (kind k : ℕ) → kind ≡ leafKind b → record { kind = kind; which = k; many = 0; width = 0; levels = 0 ∷ 0 ∷ 0 ∷ [] } ≡ leafRow b k []
+unfolding pad
+none-row b kind k e = rw e
+
+len-literal : (n : List ℕ) (vs : List (List ℕ)) → length (write (literal n vs)) ≡ 2 + (length n + length (writeVars vs))
+unfolding write
+len-literal n vs = simp length-append (omega arith)
+
+name-span : (w : List ℕ) → IsWord false w → span false w ≡ length w
+name-span w h = subst (λ (x : List ℕ). span false x ≡ length x) (sym (h .is)) (span-in false (h .head) (h .tail) (inside-first false (h .head) (h .starts)) ∙ ap suc (h .goes))
+
+name-stop : (v : List ℕ) (vs : List (List ℕ)) (m : List ℕ) → span false (writeVars (v ∷ vs) ++ m) ≡ 0
+unfolding span writeVars isCapital isBetween isDigit
+name-stop v vs m = refl
+
+known-literal : (rs : List Relation) (n : List ℕ) (vs : List (List ℕ)) → isKnown rs (literal n vs) ≡ any (λ (k : Relation). same (k .name) n && eqb (k .arity) (length vs)) rs
+unfolding isKnown
+known-literal rs n vs = refl
+
+leaf-adds : (b : Bool) (rs : List Relation) (scope : List (List ℕ)) (n : List ℕ) (vs : List (List ℕ)) (t u : Rows) (row : Row) → length (t .at) ≡ 64 → t .len < 64 → row ≡ leafRow b (option (numberOf rs n) zero (λ k. k)) (map (λ v. levelOf scope v) vs) → u ≡ pushed t row → Adds t (post (t .nodes) (leafOf b rs scope n vs)) (length (nodes (leafOf b rs scope n vs))) u
+unfolding leafOf post nodes
+leaf-adds b rs scope n vs t u row h k er eu = adds-as (ap (λ (x : Row). x ∷ []) er) refl (adds-push t u row h k eu)
+
+module _ (s : List ℕ) (at : ℕ) (g : Signature) (sc : Scope) (t : Rows) (w : Ready s at g sc t) (v : IsLit (w .f)) (a : ℕ) (ea : a ≡ (at + 1) + span false (drop (at + 1) s)) where
+  lit-text : drop (at + 1) s ≡ v .n ++ (writeVars (v .v ∷ v .vs) ++ (41 ∷ w .rest))
+  lit-text = sym (drop-drop 1 at s) ∙ ap (λ (l : List ℕ). drop 1 l) (w .is ∙ ap (λ (f : Formula). write f ++ w .rest) (v .is) ∙ lay-literal (v .n) (v .v ∷ v .vs) (w .rest))
+
+  pub lit-name-end : a ≡ (at + 1) + length (v .n)
+  lit-name-end = ea ∙ ap (λ (n : ℕ). (at + 1) + n) (ap (λ (l : List ℕ). span false l) lit-text ∙ span-append false (v .n) (writeVars (v .v ∷ v .vs) ++ (41 ∷ w .rest)) (name-span (v .n) (name-is (v .n) (v .name))) (name-stop (v .v) (v .vs) (41 ∷ w .rest)))
+
+  pub lit-rest : drop a s ≡ writeVars (v .v ∷ v .vs) ++ (41 ∷ w .rest)
+  lit-rest = ap (λ (n : ℕ). drop n s) lit-name-end ∙ front-rest s (v .n) (writeVars (v .v ∷ v .vs) ++ (41 ∷ w .rest)) (at + 1) lit-text
+
+  pub lit-known : any (λ (k : Relation). same (k .name) (v .n) && eqb (k .arity) (length (v .v ∷ v .vs))) (allOf s g) ≡ true
+  lit-known = sym (known-literal (allOf s g) (v .n) (v .v ∷ v .vs)) ∙ ap (λ (f : Formula). isKnown (allOf s g) f) (sym (v .is)) ∙ w .fine .known
+
+  abbrev pub lit-vars : VarsReady s a sc 0
+  lit-vars = record {
+    vs = v .v ∷ v .vs;
+    rest = w .rest;
+    is = lit-rest;
+    words = v .words;
+    fits = omega (arith, known-few (allOf s g) (v .n) (length (v .v ∷ v .vs)) (w .fixed .places) lit-known);
+    small = ready-few w;
+  }
+
+  pub lit-end : a < length s
+  lit-end = vars-in s a sc 0 lit-vars
+
+  lit-name : slice (at + 1) a s ≡ v .n
+  lit-name = slice-front s (v .n) (at + 1) a (omega (arith, lit-end)) (lit-text ∙ ap (λ (l : List ℕ). v .n ++ l) (sym lit-rest))
+
+  module _ (b : Bool) (k : ℕ) (ek : k ≡ option (numberOf (allOf s g) (slice (at + 1) a s)) zero (λ j. j)) (l : Leaf) (L : Filled s a sc b k [] (v .v ∷ v .vs) l) where
+    pub lit-place : l .at + 1 ≡ at + length (write (w .f))
+    lit-place = omega (arith, L .place, lit-name-end, ap (λ (f : Formula). length (write f)) (v .is), len-literal (v .n) (v .v ∷ v .vs))
+
+    pub lit-done : (u : Rows) → u ≡ pushed t (l .row) → Walked b s at g sc t (w .f) (record { rows = u; at = l .at + 1 })
+    lit-done u eu = record {
+      place = lit-place;
+      adds = as-tree (ap (λ (f : Formula). treeIn b (allOf s g) (names s sc) f) (v .is) ∙ tree-lit (allOf s g) (names s sc) b (v .n) (v .v ∷ v .vs))
+          (leaf-adds b (allOf s g) (names s sc) (v .n) (v .v ∷ v .vs) t u (l .row) (w .fixed .long) (ready-rows w) (L .row ∙ ap (λ (n : ℕ). leafRow b n (map (λ x. levelOf (names s sc) x) (v .v ∷ v .vs))) (ek ∙ ap (λ (x : List ℕ). option (numberOf (allOf s g) x) zero (λ j. j)) lit-name)) eu);
+    }

@@ -1,0 +1,62 @@
+-- Tables of rows: one row more, several, the rows of quantifiers one inside the other. Assumes nothing.
+use Prim.Native.Nat.{ℕ, zero, suc, _+_, _-_, _<_}
+use native.Mathlib.Numerals.{add-one, sub-one}
+use native.Mathlib.Omega.{arith}
+use mathlib.Core.Path.{_≡_, refl, sym, ap, subst, _∙_}
+use mathlib.Core.List.{List, [], _∷_, _++_, append-assoc, append-nil}
+use lib.ListN.{length, set, take, length-set, length-append}
+use lib.Seq.{take-suc-set}
+use Rattle.tables.specs.Postorder.{rowsIn, quantRow}
+use Rattle.tables.specs.declared.Row.{Row}
+use Rattle.tables.specs.declared.Rows.{Rows}
+use Rattle.rewriting.specs.Trees.{chain}
+use Rattle.rewriting.specs.Ready.{Adds, pushed, numbered}
+
+rows-push : (t : Rows) (row : Row) → length (t .at) ≡ 64 → t .len < 64 → rowsIn (pushed t row) ≡ rowsIn t ++ (row ∷ [])
+unfolding rowsIn
+rows-push t row h k = ap (λ (n : ℕ). take n (set (t .at) (t .len) row)) (add-one (t .len)) ∙ take-suc-set (t .at) (t .len) row (omega arith)
+
+rows-number : (t : Rows) (k : ℕ) → rowsIn (numbered t k) ≡ rowsIn t ++ []
+unfolding rowsIn
+rows-number t k = sym (append-nil (take (t .len) (t .at)))
+
+pub adds-none : (t : Rows) → length (t .at) ≡ 64 → Adds t [] 0 t
+adds-none t h = record { is = sym (append-nil (rowsIn t)); len = omega arith; nodes = omega arith; long = h }
+
+pub adds-push : (t u : Rows) (row : Row) → length (t .at) ≡ 64 → t .len < 64 → u ≡ pushed t row → Adds t (row ∷ []) 0 u
+adds-push t u row h k e = subst (λ (x : Rows). Adds t (row ∷ []) 0 x) (sym e) (record {
+  is = rows-push t row h k;
+  len = refl;
+  nodes = omega arith;
+  long = length-set (t .at) (t .len) row ∙ h;
+})
+
+pub adds-number : (t u : Rows) (k : ℕ) → length (t .at) ≡ 64 → u ≡ numbered t k → Adds t [] k u
+adds-number t u k h e = subst (λ (x : Rows). Adds t [] k x) (sym e) (record { is = rows-number t k; len = omega arith; nodes = refl; long = h })
+
+pub adds-both : {t u w : Rows} {R Q : List Row} {n m : ℕ} → Adds t R n u → Adds u Q m w → Adds t (R ++ Q) (n + m) w
+adds-both {t} {u} {w} {R} {Q} a b = record {
+  is = b .is ∙ ap (λ (l : List Row). l ++ Q) (a .is) ∙ append-assoc (rowsIn t) R Q;
+  len = omega (arith, a .len, b .len, length-append R Q);
+  nodes = omega (arith, a .nodes, b .nodes);
+  long = b .long;
+}
+
+pub adds-as : {t u : Rows} {R Q : List Row} {n m : ℕ} → R ≡ Q → n ≡ m → Adds t R n u → Adds t Q m u
+adds-as {t} {u} {R} {Q} {n} {m} e h a = subst (λ (x : List Row). Adds t x m u) e (subst (λ (x : ℕ). Adds t R x u) h a)
+
+-- ---- `chain`
+chain-zero : (kind v d k : ℕ) → k ≡ 0 → [] ≡ chain kind v d k
+unfolding chain
+chain-zero kind v d k e = rw e
+
+chain-suc : (kind v d k : ℕ) → (k ≡ 0 → ⊥) → quantRow kind (v + (k - 1)) (d + (k - 1)) ∷ chain kind v d (k - 1) ≡ chain kind v d k
+unfolding chain
+chain-suc kind v d zero n = absurd (n refl)
+chain-suc kind v d (suc k) n = rw (sub-one (suc k))
+
+pub chain-none : (kind v d k : ℕ) (t : Rows) → k ≡ 0 → length (t .at) ≡ 64 → Adds t (chain kind v d k) 0 t
+chain-none kind v d k t e h = adds-as (chain-zero kind v d k e) refl (adds-none t h)
+
+pub chain-more : (kind v d k : ℕ) (t u r : Rows) (row : Row) → (k ≡ 0 → ⊥) → length (t .at) ≡ 64 → t .len < 64 → row ≡ quantRow kind (v + (k - 1)) (d + (k - 1)) → u ≡ pushed t row → Adds u (chain kind v d (k - 1)) 0 r → Adds t (chain kind v d k) 0 r
+chain-more kind v d k t u r row n h l e p a = adds-as (ap (λ (x : Row). x ∷ chain kind v d (k - 1)) e ∙ chain-suc kind v d k n) (omega arith) (adds-both (adds-push t u row h l p) a)

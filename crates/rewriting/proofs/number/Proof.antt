@@ -1,0 +1,32 @@
+-- `number` meets its contract.
+use mathlib.Core.Path.{sym, _∙_}
+use native.Mathlib.Omega.{arith}
+use lib.Seq.{slice}
+use Rattle.definitions.specs.Relations.{numberOf}
+use Rattle.names.specs.Signatures.{allOf}
+use Rattle.rewriting.proofs.Words.{number-low, number-at, number-none}
+use borrow.Author.Needs.{needs}
+use Rattle.rewriting.proofs.number.Statement.{statement}
+use Rattle.rewriting.proofs.number.Tie as tie
+
+relation-requires : tie.Need-relation-requires
+relation-requires c κs = search needs
+
+enum-known-f : tie.Need-enum-known-f
+enum-known-f c = search needs
+
+cast-result : tie.Need-cast-result
+cast-result c = omega (arith, number-low (c .before .before .before .before .before .args .s .now) (c .before .before .before .before .before .args .g) (slice (c .before .before .before .before .before .args .a) (c .before .before .before .before .before .args .e) (c .before .before .before .before .before .args .s .now)) _ (c .before .before .before .before .before .pre) (sym (c .before .f .given .1) ∙ c .before .before .before .relation .ensures))
+
+enum-told : tie.Need-enum-told
+enum-told c = search needs
+
+returns : tie.Need-returns
+returns c = number-at (numberOf (allOf (c .before .before .before .before .before .args .s .now) (c .before .before .before .before .before .args .g)) (slice (c .before .before .before .before .before .args .a) (c .before .before .before .before .before .args .e) (c .before .before .before .before .before .args .s .now))) _ (sym (c .before .f .given .1) ∙ c .before .before .before .relation .ensures)
+
+returns-2 : tie.Need-returns-2
+returns-2 c = number-none (numberOf (allOf (c .before .before .before .before .args .s .now) (c .before .before .before .before .args .g)) (slice (c .before .before .before .before .args .a) (c .before .before .before .before .args .e) (c .before .before .before .before .args .s .now))) (sym (c .enum-told .given .1) ∙ c .before .before .relation .ensures)
+
+pub number-spec : {M : Type 1} → statement M
+number-spec =
+    tie.close (tie.spec relation-requires enum-known-f cast-result enum-told returns returns-2)

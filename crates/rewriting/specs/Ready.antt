@@ -1,0 +1,133 @@
+-- What the walk asks of a place of the text, and what it gives. Definitions only.
+use Prim.Native.Nat.{ℕ, zero, _+_, _≤_}
+use mathlib.Core.Path.{_≡_}
+use mathlib.Core.Bool.{Bool, true, false}
+use mathlib.Core.List.{List, _∷_, _++_, map}
+use lib.ListN.{length, drop, set}
+use Rattle.definitions.specs.Lists.{same, option, position}
+use Rattle.definitions.specs.Relations.{Relation}
+use Rattle.definitions.specs.Formula.{Formula, Formulas, write, writeVars, writeList, writeParts, WellFormed, AllWellFormed, Variables, Join, ands, ors, Quant, somes, everys, Head, isAnd, isOr, isExists, isForall, forms, formsAll, nesting, nestingAll, isKnown, areKnown}
+use Rattle.definitions.specs.Tree.{nodes, nodesAll, howMany}
+use Rattle.names.specs.Signatures.{allOf}
+use Rattle.names.specs.declared.Signature.{Signature}
+use Rattle.formula.specs.Seen.{names}
+use Rattle.formula.specs.declared.Scope.{Scope}
+use Rattle.tables.specs.Postorder.{post, postAll, rowsIn, leafRow}
+use Rattle.tables.specs.declared.Row.{Row}
+use Rattle.tables.specs.declared.Rows.{Rows}
+use Rattle.rewriting.specs.Trees.{treeIn, treesIn}
+use Rattle.rewriting.specs.Sizes.{FewPlaces}
+use Rattle.rewriting.specs.declared.Walk.{Walk}
+use Rattle.rewriting.specs.declared.Pieces.{Pieces}
+use Rattle.rewriting.specs.declared.Bound.{Bound}
+use Rattle.rewriting.specs.declared.Leaf.{Leaf}
+
+abbrev pub asJoin : Bool → Join
+asJoin true = ands
+asJoin false = ors
+
+abbrev pub asQuant : Bool → Quant
+asQuant true = somes
+asQuant false = everys
+
+abbrev pub joinHead : Bool → Head
+joinHead true = isAnd
+joinHead false = isOr
+
+abbrev pub quantHead : Bool → Head
+quantHead true = isExists
+quantHead false = isForall
+
+-- the level of a variable in a scope
+abbrev pub levelOf : List (List ℕ) → List ℕ → ℕ
+levelOf scope v = option (position (same v) scope) zero (λ k. k)
+
+-- ---- tables of rows
+abbrev pub pushed : Rows → Row → Rows
+pushed t row = record { at = set (t .at) (t .len) row; len = t .len + 1; nodes = t .nodes }
+
+abbrev pub numbered : Rows → ℕ → Rows
+numbered t k = record { at = t .at; len = t .len; nodes = t .nodes + k }
+
+-- u has these rows and n nodes more than t
+pub record Adds (t : Rows) (rows : List Row) (n : ℕ) (u : Rows) : Type 0 where
+  pub is : rowsIn u ≡ rowsIn t ++ rows
+  pub len : u .len ≡ t .len + length rows
+  pub nodes : u .nodes ≡ t .nodes + n
+  pub long : length (u .at) ≡ 64
+
+-- ---- a formula that was accepted, n rows and m nodes being there already
+pub record Fine (rs : List Relation) (scope : List (List ℕ)) (n m : ℕ) (f : Formula) : Type 0 where
+  pub depth : ℕ
+  pub good : WellFormed depth f
+  pub rows : n + forms f ≤ 64
+  pub nodes : m + forms f ≤ 64
+  pub deep : length scope + nesting f ≤ 4
+  pub known : isKnown rs f ≡ true
+
+pub record AllFine (rs : List Relation) (scope : List (List ℕ)) (n m : ℕ) (fs : Formulas) : Type 0 where
+  pub depth : ℕ
+  pub good : AllWellFormed depth fs
+  pub rows : n + formsAll fs ≤ 64
+  pub nodes : m + formsAll fs ≤ 64
+  pub deep : length scope + nestingAll fs ≤ 4
+  pub known : areKnown rs fs ≡ true
+
+-- the relations are few, and so are their places; there is space for all rows
+pub record Fixed (s : List ℕ) (g : Signature) (t : Rows) : Type 0 where
+  pub few : g .rels + g .chosen ≤ 12
+  pub places : FewPlaces (allOf s g)
+  pub long : length (t .at) ≡ 64
+
+-- such a formula is written at `at`
+pub record Ready (s : List ℕ) (at : ℕ) (g : Signature) (sc : Scope) (t : Rows) : Type 0 where
+  pub f : Formula
+  pub rest : List ℕ
+  pub is : drop at s ≡ write f ++ rest
+  pub fine : Fine (allOf s g) (names s sc) (t .len) (t .nodes) f
+  pub fixed : Fixed s g t
+
+-- ... further parts, and the bracket after them
+pub record PartsReady (s : List ℕ) (at : ℕ) (g : Signature) (sc : Scope) (t : Rows) : Type 0 where
+  pub fs : Formulas
+  pub rest : List ℕ
+  pub is : drop at s ≡ writeParts fs ++ (41 ∷ rest)
+  pub fine : AllFine (allOf s g) (names s sc) (t .len) (t .nodes) fs
+  pub fixed : Fixed s g t
+
+-- ... a quantifier's variables, and its bracket and space
+pub record ListReady (s : List ℕ) (at : ℕ) (sc : Scope) : Type 0 where
+  pub v : List ℕ
+  pub vs : List (List ℕ)
+  pub rest : List ℕ
+  pub is : drop at s ≡ v ++ (writeVars vs ++ (41 ∷ 32 ∷ rest))
+  pub words : Variables (v ∷ vs)
+  pub fits : sc .n + length (v ∷ vs) ≤ 4
+
+-- ... a literal's variables, and its bracket, `n` levels being there already
+pub record VarsReady (s : List ℕ) (at : ℕ) (sc : Scope) (n : ℕ) : Type 0 where
+  pub vs : List (List ℕ)
+  pub rest : List ℕ
+  pub is : drop at s ≡ writeVars vs ++ (41 ∷ rest)
+  pub words : Variables vs
+  pub fits : n + length vs ≤ 3
+  pub small : sc .n ≤ 4
+
+-- ---- what is given: the place after, and the rows of the tree
+pub record Walked (b : Bool) (s : List ℕ) (at : ℕ) (g : Signature) (sc : Scope) (t : Rows) (f : Formula) (r : Walk) : Type 0 where
+  pub place : r .at ≡ at + length (write f)
+  pub adds : Adds t (post (t .nodes) (treeIn b (allOf s g) (names s sc) f)) (length (nodes (treeIn b (allOf s g) (names s sc) f))) (r .rows)
+
+pub record WalkedParts (b : Bool) (s : List ℕ) (at : ℕ) (g : Signature) (sc : Scope) (t : Rows) (many : ℕ) (fs : Formulas) (r : Pieces) : Type 0 where
+  pub place : r .at ≡ at + length (writeParts fs)
+  pub adds : Adds t (postAll (t .nodes) (treesIn b (allOf s g) (names s sc) fs)) (length (nodesAll (treesIn b (allOf s g) (names s sc) fs))) (r .rows)
+  pub count : r .many ≡ many + howMany (treesIn b (allOf s g) (names s sc) fs)
+
+pub record Opened (s : List ℕ) (at : ℕ) (sc : Scope) (v : List ℕ) (vs : List (List ℕ)) (r : Bound) : Type 0 where
+  pub place : r .at ≡ at + (length (writeList (v ∷ vs)) + 2)
+  pub scope : names s (r .scope) ≡ names s sc ++ (v ∷ vs)
+  pub count : r .scope .n ≡ sc .n + length (v ∷ vs)
+
+pub record Filled (s : List ℕ) (at : ℕ) (sc : Scope) (p : Bool) (k : ℕ) (ls : List ℕ) (vs : List (List ℕ)) (r : Leaf) : Type 0 where
+  pub place : r .at ≡ at + length (writeVars vs)
+  pub row : r .row ≡ leafRow p k (ls ++ map (λ v. levelOf (names s sc) v) vs)

@@ -1,0 +1,56 @@
+-- A rule that was accepted, its totalities, and the question that its table is of. Definitions only.
+use Prim.Native.Nat.{ℕ, _+_, _≤_}
+use mathlib.Core.Path.{_≡_}
+use mathlib.Core.Bool.{true}
+use mathlib.Core.Option.{some}
+use mathlib.Core.List.{List, [], _∷_}
+use lib.ListN.{length}
+use lib.Seq.{slice}
+use Rattle.definitions.specs.Lists.{if_then_else_}
+use Rattle.definitions.specs.Relations.{isTotal}
+use Rattle.definitions.specs.Formula.{Formula, readFormula}
+use Rattle.definitions.specs.Sheets.{Question, relationsOf}
+use Rattle.definitions.specs.Tree.{Tree, Trees, leaf, forallNode, existsNode, end, _then_, asIs, totalities, joined, treeOf}
+use Rattle.text.specs.Spans.{kindOf}
+use Rattle.names.specs.Signatures.{Sound, allOf, relsOf, chosenOf}
+use Rattle.names.specs.declared.Signature.{Signature}
+use Rattle.formula.specs.Seen.{ruleNumber}
+use Rattle.tree.specs.Tables.{IsTable, Fits}
+use Rattle.tree.specs.declared.Nodes.{Nodes}
+use Rattle.tables.specs.Whole.{Of}
+use Rattle.tables.specs.declared.Rows.{Rows}
+
+-- "for all a some b" of a relation; what a relation adds by the number of its kind
+abbrev pub totalityOf : ℕ → Tree
+totalityOf r = forallNode 0 (existsNode 1 (leaf true r (0 ∷ 1 ∷ [])))
+
+unfoldable pub oneTotality : ℕ → ℕ → Trees
+oneTotality k r = if isTotal (kindOf k) then totalityOf r then end else end
+
+-- the rule from `at` to `stop` of a question's text was not refused
+pub record Accepted (s : List ℕ) (at stop : ℕ) (g : Signature) : Type 0 where
+  pub low : at ≤ stop
+  pub high : stop ≤ length s
+  pub sound : Sound s g
+  pub fine : ruleNumber (allOf s g) (chosenOf s g) (slice at stop s) ≡ 0
+
+-- the tree of the rule that is the formula f, with its totalities
+abbrev pub rootOf : List ℕ → Signature → Formula → Tree
+rootOf s g f = joined (asIs (allOf s g) [] f) (totalities (5 + g .rels) (chosenOf s g))
+
+-- the question that has these relations and this rule
+pub record IsQuestion (s : List ℕ) (at stop : ℕ) (g : Signature) (q : Question) : Type 0 where
+  pub rels : q .rels ≡ relsOf s g
+  pub chosen : q .chosen ≡ chosenOf s g
+  pub rule : readFormula (slice at stop s) ≡ some (q .rule .formula)
+
+-- the rows are those of the rule's tree, and the table holds them
+pub record RowsOf (s : List ℕ) (at stop : ℕ) (g : Signature) (r : Rows) : Type 0 where
+  pub long : length (r .at) ≡ 64
+  pub few : r .len ≤ 64
+  pub of : (f : Formula) → readFormula (slice at stop s) ≡ some f → Of (length (allOf s g)) (rootOf s g f) r
+
+-- the table is the question's
+pub record TableOf (s : List ℕ) (at stop : ℕ) (g : Signature) (r : Nodes) : Type 0 where
+  pub fits : Fits r
+  pub is : (q : Question) → IsQuestion s at stop g q → IsTable (length (relationsOf q)) (treeOf q) r

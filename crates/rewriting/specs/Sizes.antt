@@ -1,0 +1,104 @@
+-- The tree of a formula that is accepted has a table: few levels, each below 4, and relations that there are. Assumes nothing.
+use Prim.Native.Nat.{ℕ, zero, suc, _+_, _≤_, _<_}
+use native.Mathlib.Omega.{arith}
+use mathlib.Core.Path.{_≡_, refl, ap}
+use mathlib.Core.Option.{Option, none, some}
+use mathlib.Core.Bool.{Bool, true, false, not, _&&_, _||_}
+use mathlib.Core.List.{List, [], _∷_, _++_, map}
+use lib.ListN.{length, getD, length-append}
+use lib.Dec.{eqb}
+use borrow.Author.Tests.{eqb-true}
+use Rattle.definitions.specs.Lists.{any, same, option, position}
+use Rattle.definitions.specs.Relations.{Relation, static, numberOf}
+use Rattle.definitions.specs.Formula.{Formula, Formulas, literal, negation, implication, conjunction, disjunction, exists, forall, nil, cons, Join, ands, ors, Quant, somes, everys, nesting, nestingAll, isKnown, areKnown}
+use Rattle.definitions.specs.Tree.{Tree, Trees, end, _then_, nest, leafOf}
+use Rattle.names.proofs.Laws.{position-some}
+use Rattle.tables.specs.Postorder.{Small, AllSmall}
+use Rattle.rewriting.specs.Trees.{treeIn, treesIn, joinNode, quantNode, tree-lit, tree-neg, tree-imp, tree-join, trees-nil, trees-cons, tree-quant}
+
+-- no relation has more than 3 places
+unfoldable pub FewPlaces : List Relation → Type 0
+FewPlaces [] = Unit {0}
+FewPlaces (r ∷ rs) = (r .arity ≤ 3) × FewPlaces rs
+
+-- ---- literals
+position-lt : {A : Type 0} (p : A → Bool) (xs : List A) (d : A) (n : ℕ) → length xs ≤ n → 0 < n → option (position p xs) zero (λ k. k) < n
+unfolding option
+position-lt p xs d n h o = go (position p xs) refl
+  where
+    go : (i : Option ℕ) → position p xs ≡ i → option i zero (λ k. k) < n
+    go none e = o
+    go (some i) e = omega (arith, position-some p xs i d e .0)
+
+levels-low : (sc vs : List (List ℕ)) (i : ℕ) → length sc ≤ 4 → getD (map (λ v. option (position (same v) sc) zero (λ k. k)) vs) i 0 < 4
+levels-low sc [] zero h = omega arith
+levels-low sc [] (suc i) h = omega arith
+levels-low sc (v ∷ vs) zero h = position-lt (same v) sc [] 4 h (omega arith)
+levels-low sc (v ∷ vs) (suc i) h = levels-low sc vs i h
+
+pub length-map : {A B : Type 0} (f : A → B) (l : List A) → length (map f l) ≡ length l
+length-map f [] = refl
+length-map f (x ∷ l) = ap suc (length-map f l)
+
+pub known-few : (rs : List Relation) (n : List ℕ) (m : ℕ) → FewPlaces rs → any (λ (k : Relation). same (k .name) n && eqb (k .arity) m) rs ≡ true → m ≤ 3
+unfolding FewPlaces any
+known-few [] n m h e = let z : _≡_ {A = ℕ} 0 1 = cc in absurd (omega arith)
+known-few (r ∷ rs) n m h e = go (same (r .name) n) (eqb (r .arity) m) refl e (known-few rs n m (h .1))
+  where
+    go : (a b : Bool) → eqb (r .arity) m ≡ b → ((a && b) || any (λ (k : Relation). same (k .name) n && eqb (k .arity) m) rs) ≡ true → (any (λ (k : Relation). same (k .name) n && eqb (k .arity) m) rs ≡ true → m ≤ 3) → m ≤ 3
+    go true true q x f = omega (arith, eqb-true (r .arity) m q, h .0)
+    go true false q x f = f x
+    go false b q x f = f x
+
+-- ---- quantifiers
+small-quant : (rels : ℕ) (b : Bool) (q : Quant) (d : ℕ) (t : Tree) → d < 4 → Small rels t → Small rels (quantNode b q d t)
+unfolding Small
+small-quant rels true somes d t h s = (h, s)
+small-quant rels true everys d t h s = (h, s)
+small-quant rels false somes d t h s = (h, s)
+small-quant rels false everys d t h s = (h, s)
+
+small-nest : (rels : ℕ) (b : Bool) (q : Quant) (d k : ℕ) (t : Tree) → d + k ≤ 4 → Small rels t → Small rels (nest (quantNode b q) d k t)
+unfolding nest
+small-nest rels b q d zero t h s = s
+small-nest rels b q d (suc k) t h s = small-quant rels b q d (nest (quantNode b q) (suc d) k t) (omega arith) (small-nest rels b q (suc d) k t (omega arith) s)
+
+small-join : (rels : ℕ) (b : Bool) (j : Join) (ts : Trees) → AllSmall rels ts → Small rels (joinNode b j ts)
+unfolding Small
+small-join rels true ands ts s = s
+small-join rels true ors ts s = s
+small-join rels false ands ts s = s
+small-join rels false ors ts s = s
+
+small-two : (rels : ℕ) (t u : Tree) → Small rels t → Small rels u → AllSmall rels (t then u then end)
+unfolding Small
+small-two rels t u a b = (a, (b, tt))
+
+pub both-left : (a b : Bool) → (a && b) ≡ true → a ≡ true
+both-left true b e = refl
+both-left false b e = e
+
+pub both-right : (a b : Bool) → (a && b) ≡ true → b ≡ true
+both-right true b e = e
+both-right false b e = let z : _≡_ {A = ℕ} 0 1 = cc in absurd (omega arith)
+
+module _ (rs : List Relation) (few : FewPlaces rs) (some-rels : 0 < length rs) where
+  small-lit : (b : Bool) (sc : List (List ℕ)) (n : List ℕ) (vs : List (List ℕ)) → any (λ (k : Relation). same (k .name) n && eqb (k .arity) (length vs)) rs ≡ true → length sc ≤ 4 → Small (length rs) (leafOf b rs sc n vs)
+  unfolding leafOf Small numberOf
+  small-lit b sc n vs e h = (position-lt (λ (r : Relation). same (r .name) n) rs (record { name = []; arity = 0; kind = static }) (length rs) (omega arith) some-rels, rw (length-map (λ v. option (position (same v) sc) zero (λ k. k)) vs) (known-few rs n (length vs) few e), λ i. levels-low sc vs i h)
+
+  mutual
+    unfolding nesting isKnown Small
+
+    pub tree-small : (b : Bool) (sc : List (List ℕ)) (f : Formula) → isKnown rs f ≡ true → length sc + nesting f ≤ 4 → Small (length rs) (treeIn b rs sc f)
+    tree-small b sc (literal n vs) e h = rw (tree-lit rs sc b n vs) (small-lit b sc n vs e (omega arith))
+    tree-small b sc (negation f) e h = rw (tree-neg rs sc b f) (tree-small (not b) sc f e h)
+    tree-small b sc (implication f g) e h = rw (tree-imp rs sc b f g) (small-join (length rs) b ors (treeIn (not b) rs sc f then treeIn b rs sc g then end) (small-two (length rs) (treeIn (not b) rs sc f) (treeIn b rs sc g) (tree-small (not b) sc f (both-left (isKnown rs f) (isKnown rs g) e) (omega arith)) (tree-small b sc g (both-right (isKnown rs f) (isKnown rs g) e) (omega arith))))
+    tree-small b sc (conjunction fs) e h = rw (tree-join rs sc b ands fs) (small-join (length rs) b ands (treesIn b rs sc fs) (trees-small b sc fs e h))
+    tree-small b sc (disjunction fs) e h = rw (tree-join rs sc b ors fs) (small-join (length rs) b ors (treesIn b rs sc fs) (trees-small b sc fs e h))
+    tree-small b sc (exists vs f) e h = rw (tree-quant rs sc b somes vs f) (small-nest (length rs) b somes (length sc) (length vs) (treeIn b rs (sc ++ vs) f) (omega arith) (tree-small b (sc ++ vs) f e (omega (arith, length-append sc vs))))
+    tree-small b sc (forall vs f) e h = rw (tree-quant rs sc b everys vs f) (small-nest (length rs) b everys (length sc) (length vs) (treeIn b rs (sc ++ vs) f) (omega arith) (tree-small b (sc ++ vs) f e (omega (arith, length-append sc vs))))
+
+    trees-small : (b : Bool) (sc : List (List ℕ)) (fs : Formulas) → areKnown rs fs ≡ true → length sc + nestingAll fs ≤ 4 → AllSmall (length rs) (treesIn b rs sc fs)
+    trees-small b sc nil e h = rw (trees-nil rs sc b) tt
+    trees-small b sc (cons f fs) e h = rw (trees-cons rs sc b f fs) (tree-small b sc f (both-left (isKnown rs f) (areKnown rs fs) e) (omega arith), trees-small b sc fs (both-right (isKnown rs f) (areKnown rs fs) e) (omega arith))
