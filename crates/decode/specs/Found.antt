@@ -1,6 +1,6 @@
 -- What a search over the starting numbers finds is the action of that number, and an action's number by the table is its number.
-use mathlib.Core.Path.{_≡_, refl, sym, ap, ap₂, _∙_, subst}
-use mathlib.Core.List.{List, []}
+use mathlib.Core.Path.{_≡_, refl, sym, ap, _∙_, subst}
+use mathlib.Core.List.{List}
 use Prim.Native.Nat.{ℕ, zero, suc, _+_, _-_, _*_, _/_, _%_, _^_, _≤_, _<_}
 use native.Mathlib.Nat.{div-one, div-le-self, mod-lt, mul-zero, mul-one, mul-le-mul}
 use native.Mathlib.Numerals.{add-one}

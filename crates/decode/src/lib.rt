@@ -1,6 +1,6 @@
 // The action of a number, and the number of an action.
 ghost use mathlib.Core.Path.{_≡_};
-ghost use Prim.Native.Nat.{ℕ, _+_, _*_, _<_, _≤_};
+ghost use Prim.Native.Nat.{_+_, _*_, _<_, _≤_};
 ghost use Rattle.definitions.specs.Atoms.{Problem};
 ghost use Rattle.definitions.specs.Actions.{Action, actionAt, actionNumber};
 ghost use Rattle.laws.specs.Numbers.{IsAction};

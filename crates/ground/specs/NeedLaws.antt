@@ -1,14 +1,13 @@
 -- Laws of tests of lists of bits.
-use mathlib.Core.Path.{_≡_, refl, sym, ap, ap₂, _∙_, subst}
+use mathlib.Core.Path.{_≡_, refl, sym, ap, _∙_, subst}
 use mathlib.Core.Bool.{Bool, true, false, _&&_}
 use mathlib.Core.List.{List, [], _∷_, map}
 use Prim.Native.Nat.{ℕ, zero, suc, _+_, _-_, _*_, _/_, _%_, _^_, _≤_, _<_}
 use native.Mathlib.Nat.{mul-le-mul}
 use native.Mathlib.Omega.{arith}
 use borrow.Author.Tests.{lt-ltb, le-ltb}
-use lib.Dec.{ltb}
 use lib.ListN.{length, getD, take, set}
-use Rattle.definitions.specs.Lists.{if_then_else_, all, from}
+use Rattle.definitions.specs.Lists.{all, from}
 use Rattle.definitions.specs.Atoms.{placesOf}
 use Rattle.definitions.specs.Actions.{Values, valuesIn, withValue}
 use Rattle.rows.specs.Values.{valueIn, Most, Within}

@@ -1,24 +1,24 @@
 -- The numbers by the table are those of the problem's atoms.
 use mathlib.Core.Path.{_≡_, refl, sym, ap, ap₂, _∙_, subst}
-use mathlib.Core.Bool.{Bool, true, false, _&&_}
+use mathlib.Core.Bool.{Bool, _&&_}
 use mathlib.Core.List.{List, [], _∷_, _++_, map}
 use Prim.Native.Nat.{ℕ, zero, suc, _+_, _-_, _*_, _/_, _%_, _≤_, _<_}
-use native.Mathlib.Nat.{add-zero, add-suc}
+use native.Mathlib.Nat.{add-zero}
 use native.Mathlib.Omega.{arith}
 use lib.Arith.{digits-lt}
 use lib.ListN.{length, getD, take, drop, length-map, List·getD-map}
 use lib.Seq.{drop-cons}
 use Rattle.definitions.specs.Lists.{if_then_else_, all, from}
-use Rattle.definitions.specs.Relations.{Kind, static, plain, Fun, PFun, Inj, PInj, Relation, isFunction, isInjective}
+use Rattle.definitions.specs.Relations.{Kind, static, plain, Fun, PFun, Inj, PInj, isFunction, isInjective}
 use Rattle.definitions.specs.Tree.{Tree, Trees, end, _then_, leaf, forallNode, existsNode, andNode, orNode, Part, parts, partsFrom, howMany, nodes, isForall}
-use Rattle.definitions.specs.Atoms.{Problem, State, relationAt, nodeAt, relationStart, nodeStart, tuplesOf, rowsOf, nodeWidth, Atom, guess, proof, goal, tuple, notTuple, freeDomain, freeRange, holdsNode, atomNumber, atoms}
+use Rattle.definitions.specs.Atoms.{Problem, State, relationAt, nodeAt, relationStart, tuplesOf, rowsOf, nodeWidth, Atom, freeDomain, freeRange, atomNumber, atoms}
 use Rattle.definitions.specs.Actions.{Values, withValue, valuesAt, partAtom, partAtoms, underAtom, freeAtoms, forallNeeds, Action, set, beginProof, proveAnd, proveOr, proveExists, proveForall, proveGoal, needs, adds, removes}
 use Rattle.definitions.specs.Strips.{mayTake, after}
 use Rattle.laws.specs.Numbers.{IsAction, tuple-below, node-below, three-atoms}
 use Rattle.tree.specs.Tables.{nodeKind, nodeLevel}
-use Rattle.ground.specs.Lines.{sizeIn, relationLine, nodeLine, partLine, partNumber, partAt}
+use Rattle.ground.specs.Lines.{sizeIn, relationLine, nodeLine, partLine, partAt}
 use Rattle.ground.specs.Numbers.{freeNumbers, rowValues, underAt, needNumbers, addNumbers, removeNumbers, setNeeds, setRemoves, andNeeds, orNeeds, existsNeeds, upTo, forallNeeds as forallNumbers, goalNeeds, changed, Held}
-use Rattle.ground.specs.Of.{kindNumber, IsPart, noPart, IsRelation, IsNode, Is, said}
+use Rattle.ground.specs.Of.{kindNumber, IsPart, noPart, IsNode, Is, said}
 use Rattle.ground.specs.declared.NodeLine.{NodeLine}
 
 pub parts-length : (v : ℕ) (ts : Trees) → length (partsFrom v ts) ≡ howMany ts

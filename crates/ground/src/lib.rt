@@ -1,12 +1,12 @@
 // The grounded problem by number: a table of numbers, lent as a slice, from which come the numbers of the atoms that an action needs,
 // adds and removes. Nothing is listed, and an action costs its own parts.
 ghost use mathlib.Core.Path.{_≡_};
-ghost use mathlib.Core.List.{List, [], _∷_, map};
-ghost use Prim.Native.Nat.{ℕ, _+_, _*_, _/_, _^_, _<_, _≤_};
-ghost use lib.ListN.{getD, length};
+ghost use mathlib.Core.List.{[], _∷_, map};
+ghost use Prim.Native.Nat.{_+_, _*_, _/_, _^_, _<_, _≤_};
+ghost use lib.ListN.{length};
 ghost use Rattle.definitions.specs.Lists.{all, from};
 ghost use Rattle.bits.specs.Table.{bit};
-ghost use Rattle.rows.specs.Values.{valueIn, Within, Most};
+ghost use Rattle.rows.specs.Values.{valueIn, Most};
 ghost use Rattle.ground.specs.Lines.{tableLength, relationLine, nodeLine, partLine, partNumber, partAt, NodeFits, Fits};
 ghost use Rattle.ground.specs.Numbers.{freeNumbers, setNeeds, andNeeds, orNeeds, existsNeeds, forallNeeds, goalNeeds, underAt, setRemoves, ActFits, needNumbers, addNumbers, removeNumbers, changed, Held};
 

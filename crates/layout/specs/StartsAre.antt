@@ -13,21 +13,18 @@ use Rattle.definitions.specs.Limits.{atomLimit, actionLimit}
 use Rattle.definitions.specs.Lists.{if_then_else_, sum}
 use Rattle.definitions.specs.Relations.{Kind, static, plain, Fun, PFun, Inj, PInj, Relation, isChosen, isFunction, isInjective}
 use Rattle.definitions.specs.Tree.{Tree, leaf, forallNode, existsNode, andNode, orNode, parts, nodes, isForall}
-use Rattle.definitions.specs.Atoms.{Problem, relationAt, nodeAt, relationStart, nodeStart, tuplesOf, rowsOf, nodeWidth as widthOf, nodeAtoms, atoms}
+use Rattle.definitions.specs.Atoms.{Problem, relationAt, nodeAt, relationStart, nodeStart, tuplesOf, rowsOf, nodeWidth as widthOf, atoms}
 use Rattle.definitions.specs.Actions.{choices, setsOf, proofsOf, setStart, proofStart, actions}
 use Rattle.definitions.specs.Built.{mostPicks, bound}
-use Rattle.laws.specs.Numbers.{noRelation, relationWidth as widthIn, relation-first, relation-next, set-first, set-next, node-first, node-next, node-le, proof-first, proof-next, atoms-end, node-atoms, actions-end}
-use Rattle.tree.specs.Tables.{nodeKind, headIn, headOf, IsNode, IsTable, noNode, Fits}
+use Rattle.laws.specs.Numbers.{noRelation, relationWidth as widthIn, relation-first, relation-next, set-first, set-next, node-first, node-next, proof-first, proof-next, atoms-end, node-atoms, actions-end}
+use Rattle.tree.specs.Tables.{nodeKind, headIn, headOf, IsNode, noNode, Fits}
 use Rattle.tree.specs.declared.PartRow.{PartRow}
 use Rattle.tree.specs.declared.NodeRow.{NodeRow}
 use Rattle.tree.specs.declared.Nodes.{Nodes}
-use Rattle.rows.specs.Values.{Most}
 use Rattle.ground.specs.Of.{kindNumber}
 use Rattle.ground.specs.OfLaws.{parts-length}
 use Rattle.layout.specs.declared.Relations.{Relations}
-use Rattle.layout.specs.declared.Layout.{Layout}
-use Rattle.layout.specs.declared.Made.{Made}
-use Rattle.layout.specs.Laid.{relationWidth, setWidth, mostWidth, nodeWidth, choicesOf, relationSum, setSum, pickSum, nodeSum, actSum, RelationsLaid, NodesLaid, Inputs, Starts, Small, Laid}
+use Rattle.layout.specs.Laid.{relationWidth, setWidth, mostWidth, nodeWidth, choicesOf, relationSum, setSum, pickSum, nodeSum, actSum, RelationsLaid, NodesLaid, Inputs, Laid}
 
 -- ---- by the kind
 width-is : (n T : ℕ) (k : Kind) → relationWidth n T (kindNumber k) ≡ T + (T + ((if isFunction k then n else 0) + (if isInjective k then n else 0)))

@@ -1,7 +1,7 @@
 // Where the numbers of atoms and actions start, and how many there are.
 ghost use mathlib.Core.Path.{_≡_};
-ghost use mathlib.Core.Bool.{Bool, true, false, _||_};
-ghost use Prim.Native.Nat.{ℕ, _+_, _*_, _^_, _<_, _≤_};
+ghost use mathlib.Core.Bool.{true, _||_};
+ghost use Prim.Native.Nat.{_+_, _*_, _^_, _<_, _≤_};
 ghost use lib.Dec.{ltb};
 ghost use Rattle.definitions.specs.Limits.{atomLimit, actionLimit};
 ghost use Rattle.definitions.specs.Atoms.{Problem};

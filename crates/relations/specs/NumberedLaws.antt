@@ -1,12 +1,12 @@
 -- One turn of the loop over a signature's relations.
 use mathlib.Core.Path.{_≡_, refl, sym, ap, _∙_, subst}
-use mathlib.Core.List.{List, [], _∷_, _++_}
+use mathlib.Core.List.{List, [], _∷_}
 use Prim.Native.Nat.{ℕ, zero, suc, _+_, _-_, _≤_, _<_}
 use native.Mathlib.Decide.{ℕ-discrete, decLt}
 use native.Mathlib.Omega.{arith}
 use lib.ListN.{length, getD, set, replicate, length-append}
 use lib.Seq.{getD-set-same, getD-set-other, set-out}
-use Rattle.definitions.specs.Relations.{builtIn, Relation, static}
+use Rattle.definitions.specs.Relations.{builtIn}
 use Rattle.text.specs.Spans.{kindOf}
 use Rattle.names.specs.Signatures.{allOf, relationsFrom, HasArity, HasKind}
 use Rattle.names.specs.declared.Signature.{Signature}
@@ -14,7 +14,6 @@ use Rattle.names.proofs.Laws.{all-are, length-relations, arity-built-in, arity-
 use Rattle.rows.specs.Values.{Most}
 use Rattle.ground.specs.Of.{kindNumber}
 use Rattle.layout.specs.Laid.{RelationsFit}
-use Rattle.layout.specs.declared.Relations.{Relations}
 use Rattle.relations.specs.Numbered.{Declared, noRelation, Numbered}
 
 -- ---- kinds

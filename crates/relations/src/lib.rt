@@ -1,6 +1,6 @@
 // The relations of a question's signature by number: the built-in ones first, then those declared.
 ghost use mathlib.Core.Path.{_≡_};
-ghost use Prim.Native.Nat.{ℕ, _+_, _≤_, _<_};
+ghost use Prim.Native.Nat.{_+_, _≤_, _<_};
 ghost use Rattle.text.specs.Spans.{kindOf};
 ghost use Rattle.ground.specs.Of.{kindNumber};
 ghost use Rattle.layout.specs.Laid.{RelationsFit};

@@ -3,13 +3,13 @@ use mathlib.Core.Path.{_≡_, refl, sym, ap, ap₂, _∙_, subst, fun-ext}
 use mathlib.Core.Bool.{Bool, true, false}
 use mathlib.Core.List.{List, [], _∷_, _++_, map}
 use Prim.Native.Nat.{ℕ, zero, suc, _+_, _-_, _*_, _/_, _%_, _^_, _≤_, _<_}
-use native.Mathlib.Nat.{pow-zero, pow-suc, pow-succ', mul-assoc, add-mul, mul-add, add-assoc, mul-one, div-one, mod-lt, pow-le-pow-left, pow-le-pow-right, le-trans, div-div-eq-div-mul, mul-le-mul, mul-zero}
+use native.Mathlib.Nat.{pow-zero, pow-suc, add-mul, mul-add, div-one, pow-le-pow-left, pow-le-pow-right, div-div-eq-div-mul, mul-le-mul, mul-zero}
 use native.Mathlib.Numerals.{add-one}
 use native.Mathlib.Decide.{ℕ-discrete, decLt}
 use native.Mathlib.Omega.{arith}
 use borrow.Author.Tests.{eq-eqb, ne-eqb}
 use lib.Dec.{eqb}
-use lib.ListN.{length, getD, take, drop, set, length-append, length-map, List·getD-map, List·getD-eq-default}
+use lib.ListN.{length, getD, take, drop, set, length-append, length-map, List·getD-map}
 use lib.Seq.{take-suc, drop-cons, getD-take, getD-set-same, getD-set-other, set-out, length-take-le}
 use Rattle.definitions.specs.Lists.{if_then_else_}
 use Rattle.definitions.specs.Atoms.{rowOf, placesOf}

@@ -1,6 +1,6 @@
 // Rows: powers, the values of a row, the weights by which values make a row, and the search in a table of starting numbers.
 ghost use mathlib.Core.Path.{_≡_};
-ghost use mathlib.Core.List.{List, map};
+ghost use mathlib.Core.List.{map};
 ghost use Prim.Native.Nat.{ℕ, _+_, _*_, _^_, _<_, _≤_};
 ghost use lib.ListN.{take, getD, length};
 ghost use Rattle.definitions.specs.Atoms.{placesOf};

@@ -3,12 +3,12 @@ use mathlib.Core.Path.{_≡_, refl, sym, ap, _∙_, subst}
 use mathlib.Core.Bool.{Bool, true, false, false≢true}
 use mathlib.Core.Option.{Option, none, some}
 use mathlib.Core.List.{List, [], _∷_}
-use Prim.Native.Nat.{ℕ, zero, suc, _*_, _≤_, _<_}
+use Prim.Native.Nat.{ℕ, suc, _*_, _≤_, _<_}
 use lib.ListN.{length, getD, drop, drop-of-length-le}
 use lib.Seq.{drop-cons}
-use Rattle.definitions.specs.Lists.{if_then_else_, all, option}
+use Rattle.definitions.specs.Lists.{all, option}
 use Rattle.definitions.specs.Refusal.{Result, refused, accepted}
-use Rattle.definitions.specs.Atoms.{Problem, State, atoms, atomNumber, goal}
+use Rattle.definitions.specs.Atoms.{Problem, State, atoms, atomNumber}
 use Rattle.definitions.specs.Actions.{Action, set, beginProof, proveAnd, proveOr, proveExists, proveForall, proveGoal, actionAt}
 use Rattle.definitions.specs.Strips.{mayTake, after, Run, runFrom}
 use Rattle.laws.specs.Numbers.{IsAction, action-is}
@@ -16,7 +16,6 @@ use Rattle.ground.specs.Numbers.{needNumbers, addNumbers, removeNumbers, change
 use Rattle.ground.specs.Of.{Is, said, actOf}
 use Rattle.ground.specs.OfLaws.{may-is, after-is, held}
 use Rattle.ground.specs.declared.Act.{Act}
-use Rattle.ground.specs.declared.Act.the-variants.{Set, Begin, And, Or, Exists, Forall, Goal, Nothing}
 use Rattle.runs.specs.Ended.{ended, isNothing}
 use Rattle.runs.specs.declared.End.{End}
 use Rattle.runs.specs.declared.End.the-variants.{Done, NoAction, NotNow, NoGoal}

@@ -1,6 +1,6 @@
 -- The filled table is that of the problem, and its numbers are in range.
 use mathlib.Core.Path.{_≡_, refl, sym, ap, ap₂, _∙_, subst}
-use mathlib.Core.List.{List, [], _∷_, _++_, map}
+use mathlib.Core.List.{List, [], _∷_, map}
 use Prim.Native.Nat.{ℕ, zero, suc, _+_, _-_, _*_, _^_, _≤_, _<_}
 use native.Mathlib.Decide.{decLt}
 use native.Mathlib.Omega.{arith}
@@ -8,15 +8,15 @@ use lib.ListN.{length, getD, take, drop, set, length-append, length-set, List·g
 use lib.Seq.{getD-set-same, getD-set-other, getD-drop}
 use Rattle.definitions.specs.Limits.{actionLimit}
 use Rattle.definitions.specs.Tree.{Tree, Part, parts, free}
-use Rattle.definitions.specs.Atoms.{Problem, placesOf, relationAt, nodeAt, relationStart, nodeStart, atoms}
-use Rattle.definitions.specs.Actions.{Values, valuesIn, valuesAt, setStart, proofStart}
+use Rattle.definitions.specs.Atoms.{Problem, placesOf, nodeAt, atoms}
+use Rattle.definitions.specs.Actions.{valuesIn, valuesAt}
 use Rattle.laws.specs.Numbers.{atoms-end}
 use Rattle.tree.specs.Tables.{Levels, headIn, headOf, IsNode as IsRow, noPart, noNode, Fits as TreeFits}
 use Rattle.tree.specs.declared.PartRow.{PartRow}
 use Rattle.tree.specs.declared.NodeRow.{NodeRow}
 use Rattle.tree.specs.declared.Nodes.{Nodes}
 use Rattle.rows.specs.Values.{Most}
-use Rattle.ground.specs.Lines.{tableLength, sizeIn, relationsIn, nodesIn, relationLine, nodeLine, partLine, NodeFits, Fits}
+use Rattle.ground.specs.Lines.{tableLength, nodesIn, relationLine, nodeLine, partLine, NodeFits, Fits}
 use Rattle.ground.specs.Numbers.{rowValues}
 use Rattle.ground.specs.Of.{IsPart, noPart as noTreePart, IsRelation, IsNode, Is}
 use Rattle.ground.specs.declared.NodeLine.{NodeLine}

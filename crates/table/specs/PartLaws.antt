@@ -1,8 +1,8 @@
 -- A part's line gives the numbers of the part's atom.
-use mathlib.Core.Path.{_≡_, refl, sym, ap, ap₂, _∙_}
+use mathlib.Core.Path.{_≡_, refl, sym, ap, _∙_}
 use mathlib.Core.Bool.{Bool, true, false}
 use mathlib.Core.List.{List, [], _∷_, map}
-use Prim.Native.Nat.{ℕ, zero, suc, _+_, _-_, _*_, _^_, _≤_, _<_}
+use Prim.Native.Nat.{ℕ, zero, suc, _+_, _-_, _*_, _^_, _≤_}
 use native.Mathlib.Nat.{add-mul, mul-assoc, mul-le-mul}
 use native.Mathlib.Omega.{arith}
 use borrow.Author.Tests.{eq-eqb, ne-eqb}
@@ -11,7 +11,7 @@ use lib.ListN.{length, getD, take}
 use Rattle.definitions.specs.Limits.{actionLimit}
 use Rattle.definitions.specs.Lists.{if_then_else_}
 use Rattle.definitions.specs.Tree.{Tree, leaf, forallNode, existsNode, andNode, orNode, free}
-use Rattle.definitions.specs.Atoms.{Problem, rowOf, relationAt, tuplesOf, relationStart, nodeStart, atomNumber}
+use Rattle.definitions.specs.Atoms.{Problem, rowOf, atomNumber}
 use Rattle.definitions.specs.Actions.{Values, partAtom}
 use Rattle.tree.specs.Tables.{Head, headFrom, headIn, PartIn, PartFits}
 use Rattle.tree.specs.declared.PartRow.{PartRow}
@@ -20,7 +20,7 @@ use Rattle.rows.specs.Laws.{row-weighed}
 use Rattle.ground.specs.Lines.{partNumber}
 use Rattle.ground.specs.Of.{IsPart}
 use Rattle.ground.specs.declared.PartLine.{PartLine}
-use Rattle.layout.specs.Laid.{Starts, Small}
+use Rattle.layout.specs.Laid.{Starts}
 use Rattle.layout.specs.declared.Layout.{Layout}
 use Rattle.table.specs.Filled.{startIn, partNumbers}
 use Rattle.table.specs.SpliceLaws.{each-most}

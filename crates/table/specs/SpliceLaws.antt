@@ -1,13 +1,13 @@
 -- Laws of lines written one after another.
-use mathlib.Core.Path.{_≡_, refl, sym, ap, ap₂, _∙_, subst}
+use mathlib.Core.Path.{_≡_, refl, sym, ap, ap₂, _∙_}
 use mathlib.Core.List.{List, [], _∷_, _++_, append-assoc}
 use Prim.Native.Nat.{ℕ, zero, suc, _+_, _-_, _*_, _≤_, _<_}
 use native.Mathlib.Nat.{mul-zero, mul-suc, add-zero, mul-le-mul}
 use native.Mathlib.Numerals.{add-one}
 use native.Mathlib.Decide.{decLt}
 use native.Mathlib.Omega.{arith}
-use lib.ListN.{length, getD, take, drop, set, length-append, length-drop, take-append-drop, List·getD-append}
-use lib.Seq.{take-length, take-append-le, take-append-add, drop-append-add, drop-at, take-at, getD-append-add, getD-take, getD-drop, length-take-le, drop-drop, paste, paste-zero, paste-suc}
+use lib.ListN.{length, getD, take, drop, length-append, length-drop, take-append-drop, List·getD-append}
+use lib.Seq.{take-length, drop-append-add, take-at, getD-append-add, getD-take, getD-drop, length-take-le, drop-drop, paste}
 use Rattle.rows.specs.Values.{Most}
 use Rattle.table.specs.Filled.{splice, tab}
 

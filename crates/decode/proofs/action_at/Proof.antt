@@ -1,5 +1,6 @@
-use Prim.Native.Nat.{ℕ, _+_, _*_, _-_, _≤_, _<_}
-use mathlib.Core.Path.{_≡_, refl, sym, ap, _∙_, subst}
+-- `decode::action_at` meets its contract.
+use Prim.Native.Nat.{_+_, _*_, _-_}
+use mathlib.Core.Path.{refl, sym, _∙_, subst}
 use native.Mathlib.Omega.{arith}
 use borrow.Author.Needs.{needs}
 use lib.ListN.{getD}
@@ -16,75 +17,57 @@ use Rattle.decode.proofs.proof_of.Reads as proof-of-reads
 use Rattle.ground.proofs.node_line.Reads as node-line-reads
 use Rattle.rows.proofs.locate.Reads as locate-reads
 
--- src/lib.rt:35:13
 shared-slice-read-n : tie.Need-shared-slice-read-n
 shared-slice-read-n c = search needs
 
--- src/lib.rt:36:16
 shared-slice-read-rels : tie.Need-shared-slice-read-rels
 shared-slice-read-rels c = search needs
 
--- src/lib.rt:37:17
 shared-slice-read-nodes : tie.Need-shared-slice-read-nodes
 shared-slice-read-nodes c = search needs
 
--- src/lib.rt:38:27
 mul-begin : tie.Need-mul-begin
 mul-begin c = search needs
 
--- src/lib.rt:38:23
 add-begin : tie.Need-add-begin
 add-begin c = search needs
 
--- src/lib.rt:38:17
 mul-begin-2 : tie.Need-mul-begin-2
 mul-begin-2 c = search needs
 
--- src/lib.rt:38:17
 shared-slice-read-begin : tie.Need-shared-slice-read-begin
 shared-slice-read-begin c = search needs
 
--- src/lib.rt:39:27
 mul-goal : tie.Need-mul-goal
 mul-goal c = search needs
 
--- src/lib.rt:39:22
 add-goal : tie.Need-add-goal
 add-goal c = search needs
 
--- src/lib.rt:39:16
 mul-goal-2 : tie.Need-mul-goal-2
 mul-goal-2 c = search needs
 
--- src/lib.rt:39:16
 shared-slice-read-goal : tie.Need-shared-slice-read-goal
 shared-slice-read-goal c = search needs
 
--- src/lib.rt:41:13
 locate-requires : tie.Need-locate-requires
 locate-requires c κs = (omega (arith, c .before .before .before .before .before .before .before .pre .fits .whole, c .before .before .before .before .before .before .before .pre .fits .relations), omega (arith, sets-begin (c .before .before .before .before .before .before .before .pre .problem) (c .before .before .before .before .before .before .before .args .table .now) (c .before .before .before .before .before .before .before .pre .is)), c .if1 .taken)
 
--- src/lib.rt:42:33
 mul-row : tie.Need-mul-row
 mul-row c = search needs
 
--- src/lib.rt:42:29
 add-row : tie.Need-add-row
 add-row c = search needs
 
--- src/lib.rt:42:23
 mul-row-2 : tie.Need-mul-row-2
 mul-row-2 c = search needs
 
--- src/lib.rt:42:23
 shared-slice-read-row : tie.Need-shared-slice-read-row
 shared-slice-read-row c = search needs
 
--- src/lib.rt:42:19
 sub-row : tie.Need-sub-row
 sub-row c = search needs
 
--- src/lib.rt:43:9
 returns : tie.Need-returns
 returns c =
     let r = c .before .locate .result in (
@@ -92,45 +75,35 @@ returns c =
       λ p is. found-set p (c .before .before .before .before .before .before .before .before .before .args .table .now) is (c .before .before .before .before .before .before .before .before .before .args .k) r (c .before .locate .ensures .0) (c .before .locate .ensures .1) (c .before .locate .ensures .2),
     )
 
--- src/lib.rt:46:9
 returns-2 : tie.Need-returns-2
 returns-2 c = (tt, λ p is. found-begin p (c .before .before .before .before .before .before .before .before .args .table .now) is (c .before .before .before .before .before .before .before .before .args .k) (omega arith))
 
--- src/lib.rt:49:13
 locate-requires-2 : tie.Need-locate-requires-2
 locate-requires-2 c κs = (omega (arith, c .before .before .before .before .before .before .before .before .before .pre .fits .whole, c .before .before .before .before .before .before .before .before .before .pre .fits .nodes), omega (arith, acts-begin (c .before .before .before .before .before .before .before .before .before .pre .problem) (c .before .before .before .before .before .before .before .before .before .args .table .now) (c .before .before .before .before .before .before .before .before .before .pre .is)), c .if3 .taken)
 
--- src/lib.rt:50:34
 mul-off : tie.Need-mul-off
 mul-off c = search needs
 
--- src/lib.rt:50:29
 add-off : tie.Need-add-off
 add-off c = search needs
 
--- src/lib.rt:50:23
 mul-off-2 : tie.Need-mul-off-2
 mul-off-2 c = search needs
 
--- src/lib.rt:50:23
 shared-slice-read-off : tie.Need-shared-slice-read-off
 shared-slice-read-off c = search needs
 
--- src/lib.rt:50:19
 sub-off : tie.Need-sub-off
 sub-off c = search needs
 
--- src/lib.rt:51:13
 node-line-requires : tie.Need-node-line-requires
 node-line-requires c κs = search needs
 
--- src/lib.rt:52:9
 proof-of-requires : tie.Need-proof-of-requires
 proof-of-requires c κs =
     let v = c .before .before .locate2 .result in
     (c .before .before .before .before .before .before .before .before .before .before .before .before .pre .fits .some, found-many (c .before .before .before .before .before .before .before .before .before .before .before .before .pre .problem) (c .before .before .before .before .before .before .before .before .before .before .before .before .args .table .now) (c .before .before .before .before .before .before .before .before .before .before .before .before .pre .is) (c .before .before .before .before .before .before .before .before .before .before .before .before .args .k) v (c .before .before .locate2 .ensures .0) (c .before .before .locate2 .ensures .1) (c .before .before .locate2 .ensures .2) (c .node-line .result) (c .node-line .ensures))
 
--- src/lib.rt:52:9
 returns-3 : tie.Need-returns-3
 returns-3 c =
     let v = c .before .before .before .locate2 .result in
@@ -141,11 +114,9 @@ returns-3 c =
       λ p is. c .proof-of .ensures ∙ found-proof p w is (c .before .before .before .before .before .before .before .before .before .before .before .before .before .args .k) v (c .before .before .before .locate2 .ensures .0) (c .before .before .before .locate2 .ensures .1) (c .before .before .before .locate2 .ensures .2) (c .before .node-line .result) (c .before .node-line .ensures),
     )
 
--- src/lib.rt:55:9
 returns-4 : tie.Need-returns-4
 returns-4 c = (tt, λ p is. found-goal p (c .before .before .before .before .before .before .before .before .before .before .args .table .now) is (c .before .before .before .before .before .before .before .before .before .before .args .k) (omega arith))
 
--- src/lib.rt:31:1
 returns-5 : tie.Need-returns-5
 returns-5 c = (tt, λ p is. found-none p (c .before .before .before .before .before .before .before .before .before .before .args .table .now) is (c .before .before .before .before .before .before .before .before .before .before .args .k) (omega (arith, c .before .if3 .left, c .if4 .left)))
 

@@ -1,9 +1,9 @@
-use Prim.Native.Nat.{ℕ, _+_, _*_, _<_}
-use mathlib.Core.Path.{_≡_, sym, subst, _∙_}
+-- `decode::number_of` meets its contract.
+use Prim.Native.Nat.{_+_, _*_, _<_}
+use mathlib.Core.Path.{sym, subst}
 use Rattle.ground.specs.declared.NodeLine.{NodeLine}
 use native.Mathlib.Omega.{arith}
 use borrow.Author.Needs.{needs}
-use lib.ListN.{getD}
 use Rattle.ground.specs.Lines.{sizeIn, nodesIn}
 use Rattle.ground.specs.NeedLaws.{fits-of, node-small}
 use Rattle.ground.specs.declared.Act.the-variants.{Set, And, Or, Exists, Forall}
@@ -16,93 +16,73 @@ use Rattle.decode.proofs.number_of.Lts as lts
 use Rattle.ground.proofs.node_line.Reads as node-line-reads
 use Rattle.ground.proofs.relation_line.Reads as relation-line-reads
 
--- src/lib.rt:66:13
 shared-slice-read-n : tie.Need-shared-slice-read-n
 shared-slice-read-n c = search needs
 
--- src/lib.rt:67:16
 shared-slice-read-rels : tie.Need-shared-slice-read-rels
 shared-slice-read-rels c = search needs
 
--- src/lib.rt:68:17
 shared-slice-read-nodes : tie.Need-shared-slice-read-nodes
 shared-slice-read-nodes c = search needs
 
--- src/lib.rt:70:26
 enum-known-a : tie.Need-enum-known-a
 enum-known-a c = search needs
 
--- src/lib.rt:71:17
 relation-line-requires : tie.Need-relation-line-requires
 relation-line-requires c κs =
     let f = fits-of (c .before .before .before .before .before .before .before .args .table .now) (c .before .before .before .before .before .before .before .args .a) (Set (c .before .a .given .0 .0)) (c .before .a .given .1) (c .before .before .before .before .before .before .before .pre .1) in
     (c .before .before .before .before .before .before .before .pre .0 .whole, omega (arith, f .0))
 
--- src/lib.rt:72:20
 add-result : tie.Need-add-result
 add-result c =
     let f = fits-of (c .before .before .before .before .before .before .before .before .before .before .args .table .now) (c .before .before .before .before .before .before .before .before .before .before .args .a) (Set (c .before .before .before .before .a .given .0 .0)) (c .before .before .before .before .a .given .1) (c .before .before .before .before .before .before .before .before .before .before .pre .1) in
     omega (arith, f .1, sets-small (c .before .before .before .before .before .before .before .before .before .before .args .table .now) (c .before .before .before .before .a .given .0 .0 .relation) (c .before .before .relation-line .result) (c .before .before .before .before .before .before .before .before .before .before .pre .0) (c .before .before .relation-line .ensures))
 
--- src/lib.rt:72:13
 returns : tie.Need-returns
 returns c = number-of (c .before .before .before .before .before .before .before .before .before .before .args .table .now) (c .before .before .before .before .before .before .before .before .before .before .args .a) _ (number-set (c .before .before .before .before .before .before .before .before .before .before .args .table .now) (c .before .before .before .before .before .before .before .before .before .before .args .a) (c .before .before .before .before .a .given .0 .0) (c .before .before .relation-line .result) (c .before .before .before .before .a .given .1) (c .before .before .relation-line .ensures))
 
--- src/lib.rt:75:30
 enum-told : tie.Need-enum-told
 enum-told c = search needs
 
--- src/lib.rt:75:30
 mul-result : tie.Need-mul-result
 mul-result c = search needs
 
--- src/lib.rt:75:26
 add-result-2 : tie.Need-add-result-2
 add-result-2 c = search needs
 
--- src/lib.rt:75:20
 mul-result-2 : tie.Need-mul-result-2
 mul-result-2 c = search needs
 
--- src/lib.rt:75:20
 shared-slice-read-result : tie.Need-shared-slice-read-result
 shared-slice-read-result c = search needs
 
--- src/lib.rt:75:13
 returns-2 : tie.Need-returns-2
 returns-2 c = number-of (c .before .before .before .before .before .before .before .args .table .now) (c .before .before .before .before .before .before .before .args .a) _ (number-begin (c .before .before .before .before .before .before .before .args .table .now) (c .before .before .before .before .before .before .before .args .a) (c .before .enum-told .given .1))
 
--- src/lib.rt:77:26
 enum-known-a-2 : tie.Need-enum-known-a-2
 enum-known-a-2 c = search needs
 
--- src/lib.rt:78:17
 node-line-requires : tie.Need-node-line-requires
 node-line-requires c κs =
     let f = fits-of (c .before .before .before .before .before .before .before .args .table .now) (c .before .before .before .before .before .before .before .args .a) (And (c .before .a2 .given .0 .0)) (c .before .a2 .given .1) (c .before .before .before .before .before .before .before .pre .1) in
     (c .before .before .before .before .before .before .before .pre .0 .whole, omega (arith, f .0))
 
--- src/lib.rt:79:20
 add-result-3 : tie.Need-add-result-3
 add-result-3 c =
     let f = fits-of (c .before .before .before .before .before .before .before .before .before .before .args .table .now) (c .before .before .before .before .before .before .before .before .before .before .args .a) (And (c .before .before .before .before .a2 .given .0 .0)) (c .before .before .before .before .a2 .given .1) (c .before .before .before .before .before .before .before .before .before .before .pre .1) in
     omega (arith, f .1, acts-small (c .before .before .before .before .before .before .before .before .before .before .args .table .now) (c .before .before .before .before .a2 .given .0 .0 .node) (c .before .before .node-line .result) (c .before .before .before .before .before .before .before .before .before .before .pre .0) (c .before .before .node-line .ensures))
 
--- src/lib.rt:79:13
 returns-3 : tie.Need-returns-3
 returns-3 c = number-of (c .before .before .before .before .before .before .before .before .before .before .args .table .now) (c .before .before .before .before .before .before .before .before .before .before .args .a) _ (number-and (c .before .before .before .before .before .before .before .before .before .before .args .table .now) (c .before .before .before .before .before .before .before .before .before .before .args .a) (c .before .before .before .before .a2 .given .0 .0) (c .before .before .node-line .result) (c .before .before .before .before .a2 .given .1) (c .before .before .node-line .ensures))
 
--- src/lib.rt:81:25
 enum-known-a-3 : tie.Need-enum-known-a-3
 enum-known-a-3 c = search needs
 
--- src/lib.rt:82:17
 node-line-requires-2 : tie.Need-node-line-requires-2
 node-line-requires-2 c κs =
     let f = fits-of (c .before .before .before .before .before .before .before .args .table .now) (c .before .before .before .before .before .before .before .args .a) (Or (c .before .a3 .given .0 .0)) (c .before .a3 .given .1) (c .before .before .before .before .before .before .before .pre .1) in
     (c .before .before .before .before .before .before .before .pre .0 .whole, omega (arith, f .0))
 
--- src/lib.rt:83:30
 mul-result-3 : tie.Need-mul-result-3
 mul-result-3 c =
     let f = fits-of (c .before .before .before .before .before .before .before .before .before .before .args .table .now) (c .before .before .before .before .before .before .before .before .before .before .args .a) (Or (c .before .before .before .before .a3 .given .0 .0)) (c .before .before .before .before .a3 .given .1) (c .before .before .before .before .before .before .before .before .before .before .pre .1) in
@@ -110,7 +90,6 @@ mul-result-3 c =
     let b = q .0 .parts in
     omega (arith, row-times (c .before .before .before .before .a3 .given .0 .0 .row) (c .before .before .node-line2 .result .many) (f .1) (omega arith))
 
--- src/lib.rt:83:30
 add-result-4 : tie.Need-add-result-4
 add-result-4 c =
     let f = fits-of (c .before .before .before .before .before .before .before .before .before .before .before .args .table .now) (c .before .before .before .before .before .before .before .before .before .before .before .args .a) (Or (c .before .before .before .before .before .a3 .given .0 .0)) (c .before .before .before .before .before .a3 .given .1) (c .before .before .before .before .before .before .before .before .before .before .before .pre .1) in
@@ -118,7 +97,6 @@ add-result-4 c =
     let b = q .0 .parts in
     omega (arith, row-times (c .before .before .before .before .before .a3 .given .0 .0 .row) (c .before .before .before .node-line2 .result .many) (f .1) (omega arith), subst (λ (y : NodeLine). c .before .before .before .before .before .a3 .given .0 .0 .choice < y .many) (sym (c .before .before .before .node-line2 .ensures)) (f .2))
 
--- src/lib.rt:83:20
 add-result-5 : tie.Need-add-result-5
 add-result-5 c =
     let f = fits-of (c .before .before .before .before .before .before .before .before .before .before .before .before .args .table .now) (c .before .before .before .before .before .before .before .before .before .before .before .before .args .a) (Or (c .before .before .before .before .before .before .a3 .given .0 .0)) (c .before .before .before .before .before .before .a3 .given .1) (c .before .before .before .before .before .before .before .before .before .before .before .before .pre .1) in
@@ -126,123 +104,97 @@ add-result-5 c =
     let b = q .0 .parts in
     omega (arith, row-times (c .before .before .before .before .before .before .a3 .given .0 .0 .row) (c .before .before .before .before .node-line2 .result .many) (f .1) (omega arith), subst (λ (y : NodeLine). c .before .before .before .before .before .before .a3 .given .0 .0 .choice < y .many) (sym (c .before .before .before .before .node-line2 .ensures)) (f .2), acts-small (c .before .before .before .before .before .before .before .before .before .before .before .before .args .table .now) (c .before .before .before .before .before .before .a3 .given .0 .0 .node) (c .before .before .before .before .node-line2 .result) (c .before .before .before .before .before .before .before .before .before .before .before .before .pre .0) (c .before .before .before .before .node-line2 .ensures))
 
--- src/lib.rt:83:13
 returns-4 : tie.Need-returns-4
 returns-4 c = number-of (c .before .before .before .before .before .before .before .before .before .before .before .before .args .table .now) (c .before .before .before .before .before .before .before .before .before .before .before .before .args .a) _ (number-or (c .before .before .before .before .before .before .before .before .before .before .before .before .args .table .now) (c .before .before .before .before .before .before .before .before .before .before .before .before .args .a) (c .before .before .before .before .before .before .a3 .given .0 .0) (c .before .before .before .before .node-line2 .result) (c .before .before .before .before .before .before .a3 .given .1) (c .before .before .before .before .node-line2 .ensures))
 
--- src/lib.rt:85:29
 enum-known-a-4 : tie.Need-enum-known-a-4
 enum-known-a-4 c = search needs
 
--- src/lib.rt:86:17
 node-line-requires-3 : tie.Need-node-line-requires-3
 node-line-requires-3 c κs =
     let f = fits-of (c .before .before .before .before .before .before .before .args .table .now) (c .before .before .before .before .before .before .before .args .a) (Exists (c .before .a4 .given .0 .0)) (c .before .a4 .given .1) (c .before .before .before .before .before .before .before .pre .1) in
     (c .before .before .before .before .before .before .before .pre .0 .whole, omega (arith, f .0))
 
--- src/lib.rt:87:30
 mul-result-4 : tie.Need-mul-result-4
 mul-result-4 c =
     let f = fits-of (c .before .before .before .before .before .before .before .before .before .args .table .now) (c .before .before .before .before .before .before .before .before .before .args .a) (Exists (c .before .before .before .a4 .given .0 .0)) (c .before .before .before .a4 .given .1) (c .before .before .before .before .before .before .before .before .before .pre .1) in
     omega (arith, row-times (c .before .before .before .a4 .given .0 .0 .row) (sizeIn (c .before .before .before .before .before .before .before .before .before .args .table .now)) (f .1) (c .before .before .before .before .before .before .before .before .before .pre .0 .size))
 
--- src/lib.rt:87:30
 add-result-6 : tie.Need-add-result-6
 add-result-6 c =
     let f = fits-of (c .before .before .before .before .before .before .before .before .before .before .args .table .now) (c .before .before .before .before .before .before .before .before .before .before .args .a) (Exists (c .before .before .before .before .a4 .given .0 .0)) (c .before .before .before .before .a4 .given .1) (c .before .before .before .before .before .before .before .before .before .before .pre .1) in
     omega (arith, row-times (c .before .before .before .before .a4 .given .0 .0 .row) (sizeIn (c .before .before .before .before .before .before .before .before .before .before .args .table .now)) (f .1) (c .before .before .before .before .before .before .before .before .before .before .pre .0 .size), f .2, c .before .before .before .before .before .before .before .before .before .before .pre .0 .size)
 
--- src/lib.rt:87:20
 add-result-7 : tie.Need-add-result-7
 add-result-7 c =
     let f = fits-of (c .before .before .before .before .before .before .before .before .before .before .before .args .table .now) (c .before .before .before .before .before .before .before .before .before .before .before .args .a) (Exists (c .before .before .before .before .before .a4 .given .0 .0)) (c .before .before .before .before .before .a4 .given .1) (c .before .before .before .before .before .before .before .before .before .before .before .pre .1) in
     omega (arith, row-times (c .before .before .before .before .before .a4 .given .0 .0 .row) (sizeIn (c .before .before .before .before .before .before .before .before .before .before .before .args .table .now)) (f .1) (c .before .before .before .before .before .before .before .before .before .before .before .pre .0 .size), f .2, c .before .before .before .before .before .before .before .before .before .before .before .pre .0 .size, acts-small (c .before .before .before .before .before .before .before .before .before .before .before .args .table .now) (c .before .before .before .before .before .a4 .given .0 .0 .node) (c .before .before .before .node-line3 .result) (c .before .before .before .before .before .before .before .before .before .before .before .pre .0) (c .before .before .before .node-line3 .ensures))
 
--- src/lib.rt:87:13
 returns-5 : tie.Need-returns-5
 returns-5 c = number-of (c .before .before .before .before .before .before .before .before .before .before .before .args .table .now) (c .before .before .before .before .before .before .before .before .before .before .before .args .a) _ (number-exists (c .before .before .before .before .before .before .before .before .before .before .before .args .table .now) (c .before .before .before .before .before .before .before .before .before .before .before .args .a) (c .before .before .before .before .before .a4 .given .0 .0) (c .before .before .before .node-line3 .result) (c .before .before .before .before .before .a4 .given .1) (c .before .before .before .node-line3 .ensures))
 
--- src/lib.rt:89:29
 enum-known-a-5 : tie.Need-enum-known-a-5
 enum-known-a-5 c = search needs
 
--- src/lib.rt:90:17
 node-line-requires-4 : tie.Need-node-line-requires-4
 node-line-requires-4 c κs =
     let f = fits-of (c .before .before .before .before .before .before .before .args .table .now) (c .before .before .before .before .before .before .before .args .a) (Forall (c .before .a5 .given .0 .0)) (c .before .a5 .given .1) (c .before .before .before .before .before .before .before .pre .1) in
     (c .before .before .before .before .before .before .before .pre .0 .whole, omega (arith, f .0))
 
--- src/lib.rt:91:30
 mul-result-5 : tie.Need-mul-result-5
 mul-result-5 c =
     let f = fits-of (c .before .before .before .before .before .before .before .before .before .args .table .now) (c .before .before .before .before .before .before .before .before .before .args .a) (Forall (c .before .before .before .a5 .given .0 .0)) (c .before .before .before .a5 .given .1) (c .before .before .before .before .before .before .before .before .before .pre .1) in
     omega (arith, row-times (c .before .before .before .a5 .given .0 .0 .row) (sizeIn (c .before .before .before .before .before .before .before .before .before .args .table .now)) (f .1) (c .before .before .before .before .before .before .before .before .before .pre .0 .size))
 
--- src/lib.rt:91:30
 add-result-8 : tie.Need-add-result-8
 add-result-8 c =
     let f = fits-of (c .before .before .before .before .before .before .before .before .before .before .args .table .now) (c .before .before .before .before .before .before .before .before .before .before .args .a) (Forall (c .before .before .before .before .a5 .given .0 .0)) (c .before .before .before .before .a5 .given .1) (c .before .before .before .before .before .before .before .before .before .before .pre .1) in
     omega (arith, row-times (c .before .before .before .before .a5 .given .0 .0 .row) (sizeIn (c .before .before .before .before .before .before .before .before .before .before .args .table .now)) (f .1) (c .before .before .before .before .before .before .before .before .before .before .pre .0 .size), f .2, c .before .before .before .before .before .before .before .before .before .before .pre .0 .size)
 
--- src/lib.rt:91:20
 add-result-9 : tie.Need-add-result-9
 add-result-9 c =
     let f = fits-of (c .before .before .before .before .before .before .before .before .before .before .before .args .table .now) (c .before .before .before .before .before .before .before .before .before .before .before .args .a) (Forall (c .before .before .before .before .before .a5 .given .0 .0)) (c .before .before .before .before .before .a5 .given .1) (c .before .before .before .before .before .before .before .before .before .before .before .pre .1) in
     omega (arith, row-times (c .before .before .before .before .before .a5 .given .0 .0 .row) (sizeIn (c .before .before .before .before .before .before .before .before .before .before .before .args .table .now)) (f .1) (c .before .before .before .before .before .before .before .before .before .before .before .pre .0 .size), f .2, c .before .before .before .before .before .before .before .before .before .before .before .pre .0 .size, acts-small (c .before .before .before .before .before .before .before .before .before .before .before .args .table .now) (c .before .before .before .before .before .a5 .given .0 .0 .node) (c .before .before .before .node-line4 .result) (c .before .before .before .before .before .before .before .before .before .before .before .pre .0) (c .before .before .before .node-line4 .ensures))
 
--- src/lib.rt:91:13
 returns-6 : tie.Need-returns-6
 returns-6 c = number-of (c .before .before .before .before .before .before .before .before .before .before .before .args .table .now) (c .before .before .before .before .before .before .before .before .before .before .before .args .a) _ (number-forall (c .before .before .before .before .before .before .before .before .before .before .before .args .table .now) (c .before .before .before .before .before .before .before .before .before .before .before .args .a) (c .before .before .before .before .before .a5 .given .0 .0) (c .before .before .before .node-line4 .result) (c .before .before .before .before .before .a5 .given .1) (c .before .before .before .node-line4 .ensures))
 
--- src/lib.rt:94:31
 enum-told-2 : tie.Need-enum-told-2
 enum-told-2 c = search needs
 
--- src/lib.rt:94:31
 mul-result-6 : tie.Need-mul-result-6
 mul-result-6 c = search needs
 
--- src/lib.rt:94:26
 add-result-10 : tie.Need-add-result-10
 add-result-10 c = search needs
 
--- src/lib.rt:94:20
 mul-result-7 : tie.Need-mul-result-7
 mul-result-7 c = search needs
 
--- src/lib.rt:94:20
 shared-slice-read-result-2 : tie.Need-shared-slice-read-result-2
 shared-slice-read-result-2 c = search needs
 
--- src/lib.rt:94:13
 returns-7 : tie.Need-returns-7
 returns-7 c = number-of (c .before .before .before .before .before .before .before .args .table .now) (c .before .before .before .before .before .before .before .args .a) _ (number-goal (c .before .before .before .before .before .before .before .args .table .now) (c .before .before .before .before .before .before .before .args .a) (c .before .enum-told2 .given .1))
 
--- src/lib.rt:97:31
 enum-told-3 : tie.Need-enum-told-3
 enum-told-3 c = search needs
 
--- src/lib.rt:97:31
 mul-result-8 : tie.Need-mul-result-8
 mul-result-8 c = search needs
 
--- src/lib.rt:97:26
 add-result-11 : tie.Need-add-result-11
 add-result-11 c = search needs
 
--- src/lib.rt:97:20
 mul-result-9 : tie.Need-mul-result-9
 mul-result-9 c = search needs
 
--- src/lib.rt:97:20
 shared-slice-read-result-3 : tie.Need-shared-slice-read-result-3
 shared-slice-read-result-3 c = search needs
 
--- src/lib.rt:97:20
 add-result-12 : tie.Need-add-result-12
 add-result-12 c = omega (arith, c .before .before .before .before .before .before .before .pre .0 .entry (93 + 11 * nodesIn (c .before .before .before .before .before .before .before .args .table .now)))
 
--- src/lib.rt:97:13
 returns-8 : tie.Need-returns-8
 returns-8 c = number-of (c .before .before .before .before .before .before .before .args .table .now) (c .before .before .before .before .before .before .before .args .a) _ (number-nothing (c .before .before .before .before .before .before .before .args .table .now) (c .before .before .before .before .before .before .before .args .a) (c .before .enum-told3 .given .1))
 

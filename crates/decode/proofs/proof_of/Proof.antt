@@ -1,4 +1,4 @@
-use mathlib.Core.Path.{_≡_}
+-- `decode::proof_of` meets its contract.
 use native.Mathlib.Omega.{arith}
 use borrow.Author.Needs.{needs}
 use Rattle.decode.specs.Found.{in-forall, in-exists, in-and, in-or}
@@ -8,43 +8,33 @@ use Rattle.decode.proofs.proof_of.Tie as tie
 use Rattle.decode.proofs.proof_of.Reads as reads
 use Rattle.decode.proofs.proof_of.Lts as lts
 
--- src/lib.rt:18:70
 div-t7 : tie.Need-div-t7
 div-t7 c = search needs
 
--- src/lib.rt:18:87
 rem-t8 : tie.Need-rem-t8
 rem-t8 c = search needs
 
--- src/lib.rt:18:9
 returns : tie.Need-returns
 returns c = in-forall (c .before .before .args .n) (c .before .before .args .v) (c .before .before .args .off) (c .before .before .args .line) (omega arith)
 
--- src/lib.rt:21:70
 div-t10 : tie.Need-div-t10
 div-t10 c = search needs
 
--- src/lib.rt:21:87
 rem-t11 : tie.Need-rem-t11
 rem-t11 c = search needs
 
--- src/lib.rt:21:9
 returns-2 : tie.Need-returns-2
 returns-2 c = in-exists (c .before .before .before .before .args .n) (c .before .before .before .before .args .v) (c .before .before .before .before .args .off) (c .before .before .before .before .args .line) (omega arith)
 
--- src/lib.rt:24:9
 returns-3 : tie.Need-returns-3
 returns-3 c = in-and (c .before .before .before .before .before .before .args .n) (c .before .before .before .before .before .before .args .v) (c .before .before .before .before .before .before .args .off) (c .before .before .before .before .before .before .args .line) (omega arith)
 
--- src/lib.rt:27:55
 div-t14 : tie.Need-div-t14
 div-t14 c = omega (arith, c .before .before .before .before .before .before .pre .1 (omega arith))
 
--- src/lib.rt:27:75
 rem-t15 : tie.Need-rem-t15
 rem-t15 c = omega (arith, c .before .before .before .before .before .before .pre .1 (omega arith))
 
--- src/lib.rt:13:1
 returns-4 : tie.Need-returns-4
 returns-4 c = in-or (c .before .before .before .before .before .before .args .n) (c .before .before .before .before .before .before .args .v) (c .before .before .before .before .before .before .args .off) (c .before .before .before .before .before .before .args .line) (λ e. omega arith) (λ e. omega arith) (λ e. omega arith)
 

@@ -1,3 +1,4 @@
+-- `ground::clear` meets its contract.
 use mathlib.Core.Path.{_∙_}
 use native.Mathlib.Omega.{arith}
 use borrow.Author.Needs.{needs}
@@ -10,19 +11,15 @@ use Rattle.ground.proofs.clear.Reads as reads
 use Rattle.ground.proofs.clear.Lts as lts
 use Rattle.bits.proofs.clear.Reads as clear-reads
 
--- src/lib.rt:307:9
 clear-requires : tie.Need-clear-requires
 clear-requires c κs = search needs
 
--- src/lib.rt:303:1
 same-length : tie.Need-same-length
 same-length c = search needs
 
--- src/lib.rt:303:1
 returns : tie.Need-returns
 returns c = c .before .before .clear .ensures ∙ put-clear (bit (c .before .before .before .before .before .before .args .words .now)) (c .before .before .before .before .before .before .args .i)
 
--- src/lib.rt:303:1
 returns-2 : tie.Need-returns-2
 returns-2 c = clear-past (c .before .before .args .words .now) (c .before .before .args .i) (omega arith)
 

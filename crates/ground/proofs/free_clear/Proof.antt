@@ -1,4 +1,5 @@
-use Prim.Native.Nat.{ℕ, _+_, _%_, _<_}
+-- `ground::free_clear` meets its contract.
+use Prim.Native.Nat.{_+_, _%_, _<_}
 use mathlib.Core.Path.{ap, _∙_}
 use mathlib.Core.List.{[], _∷_}
 use native.Mathlib.Nat.{div-le-self, mod-lt}
@@ -14,53 +15,41 @@ use Rattle.ground.proofs.free_clear.Reads as reads
 use Rattle.ground.proofs.free_clear.Lts as lts
 use Rattle.ground.proofs.clear.Reads as clear-reads
 
--- src/lib.rt:326:9
 returns : tie.Need-returns
 returns c = clear-none (bit (c .before .before .args .state .now)) (c .before .before .args .n) (c .before .before .args .kind) (c .before .before .args .free) (c .before .before .args .row) (omega arith)
 
--- src/lib.rt:328:25
 div-clear : tie.Need-div-clear
 div-clear c = search needs
 
--- src/lib.rt:328:18
 add-clear : tie.Need-add-clear
 add-clear c = omega (arith, div-le-self (c .before .before .before .args .row) (c .before .before .before .args .n))
 
--- src/lib.rt:328:5
 clear-requires : tie.Need-clear-requires
 clear-requires c κs = search needs
 
--- src/lib.rt:330:9
 same-length : tie.Need-same-length
 same-length c = search needs
 
--- src/lib.rt:330:9
 returns-2 : tie.Need-returns-2
 returns-2 c = c .before .before .before .clear .ensures ∙ clear-domain (bit (c .before .before .before .before .before .before .before .args .state .now)) (c .before .before .before .before .before .before .before .args .n) (c .before .before .before .before .before .before .before .args .kind) (c .before .before .before .before .before .before .before .args .free) (c .before .before .before .before .before .before .before .args .row) (omega arith) (omega arith)
 
--- src/lib.rt:332:18
 add-clear-2 : tie.Need-add-clear-2
 add-clear-2 c = search needs
 
--- src/lib.rt:332:29
 rem-clear : tie.Need-rem-clear
 rem-clear c = search needs
 
--- src/lib.rt:332:18
 add-clear-3 : tie.Need-add-clear-3
 add-clear-3 c =
     let h : 0 < c .before .before .before .before .before .before .before .before .args .n = omega arith in
     omega (arith, mod-lt (c .before .before .before .before .before .before .before .before .args .row) h)
 
--- src/lib.rt:332:5
 clear-requires-2 : tie.Need-clear-requires-2
 clear-requires-2 c κs = search needs
 
--- src/lib.rt:321:1
 same-length-2 : tie.Need-same-length-2
 same-length-2 c = search needs
 
--- src/lib.rt:321:1
 returns-3 : tie.Need-returns-3
 returns-3 c = c .before .before .clear2 .ensures ∙ ap (λ s. changed s ((c .before .before .before .before .before .before .before .before .before .before .before .args .free + c .before .before .before .before .before .before .before .before .before .before .before .args .n + c .before .before .before .before .before .before .before .before .before .before .before .args .row % c .before .before .before .before .before .before .before .before .before .before .before .args .n) ∷ []) []) (c .before .before .before .before .before .before .before .clear .ensures) ∙ clear-both (bit (c .before .before .before .before .before .before .before .before .before .before .before .args .state .now)) (c .before .before .before .before .before .before .before .before .before .before .before .args .n) (c .before .before .before .before .before .before .before .before .before .before .before .args .kind) (c .before .before .before .before .before .before .before .before .before .before .before .args .free) (c .before .before .before .before .before .before .before .before .before .before .before .args .row) (omega arith)
 

@@ -1,4 +1,5 @@
-use Prim.Native.Nat.{ℕ, _<_}
+-- `ground::free_hold` meets its contract.
+use Prim.Native.Nat.{_<_}
 use mathlib.Core.Path.{sym, _∙_}
 use native.Mathlib.Nat.{div-le-self, mod-lt}
 use native.Mathlib.Omega.{arith}
@@ -12,49 +13,38 @@ use Rattle.ground.proofs.free_hold.Reads as reads
 use Rattle.ground.proofs.free_hold.Lts as lts
 use Rattle.ground.proofs.test.Reads as test-reads
 
--- src/lib.rt:148:9
 returns : tie.Need-returns
 returns c = free-none (bit (c .before .before .args .state .now)) (c .before .before .args .n) (c .before .before .args .kind) (c .before .before .args .free) (c .before .before .args .row) (omega arith)
 
--- src/lib.rt:150:27
 div-test : tie.Need-div-test
 div-test c = search needs
 
--- src/lib.rt:150:20
 add-test : tie.Need-add-test
 add-test c = omega (arith, div-le-self (c .before .before .args .row) (c .before .before .args .n))
 
--- src/lib.rt:150:8
 test-requires : tie.Need-test-requires
 test-requires c κs = search needs
 
--- src/lib.rt:152:13
 returns-2 : tie.Need-returns-2
 returns-2 c = free-domain (bit (c .before .before .before .before .before .args .state .now)) (c .before .before .before .before .before .args .n) (c .before .before .before .before .before .args .kind) (c .before .before .before .before .before .args .free) (c .before .before .before .before .before .args .row) (omega arith) (omega arith) (sym (c .before .before .test .ensures) ∙ c .before .if2 .taken)
 
--- src/lib.rt:154:28
 add-test-2 : tie.Need-add-test-2
 add-test-2 c = search needs
 
--- src/lib.rt:154:39
 rem-test : tie.Need-rem-test
 rem-test c = search needs
 
--- src/lib.rt:154:28
 add-test-3 : tie.Need-add-test-3
 add-test-3 c =
     let h : 0 < c .before .before .before .before .before .args .n = omega arith in
     omega (arith, mod-lt (c .before .before .before .before .before .args .row) h)
 
--- src/lib.rt:154:9
 test-requires-2 : tie.Need-test-requires-2
 test-requires-2 c κs = search needs
 
--- src/lib.rt:154:9
 returns-3 : tie.Need-returns-3
 returns-3 c = free-both (bit (c .before .before .before .before .before .before .args .state .now)) (c .before .before .before .before .before .before .args .n) (c .before .before .before .before .before .before .args .kind) (c .before .before .before .before .before .before .args .free) (c .before .before .before .before .before .before .args .row) (c .test2 .result) (omega arith) (sym (c .before .before .before .test .ensures) ∙ c .before .before .if2 .taken) (c .test2 .ensures)
 
--- src/lib.rt:143:1
 returns-4 : tie.Need-returns-4
 returns-4 c = free-no (bit (c .before .before .before .before .args .state .now)) (c .before .before .before .before .args .n) (c .before .before .before .before .args .kind) (c .before .before .before .before .args .free) (c .before .before .before .before .args .row) (omega arith) (sym (c .before .test .ensures) ∙ c .if2 .left)
 

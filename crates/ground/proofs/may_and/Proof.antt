@@ -1,5 +1,5 @@
-use mathlib.Core.Path.{_≡_, sym, _∙_}
-use native.Mathlib.Omega.{arith}
+-- `ground::may_and` meets its contract.
+use mathlib.Core.Path.{sym, _∙_}
 use borrow.Author.Needs.{needs}
 use Rattle.bits.specs.Table.{bit}
 use Rattle.ground.specs.NeedLaws.{and-no, and-parts, row-values, within-most}
@@ -12,23 +12,18 @@ use Rattle.ground.proofs.parts_hold.Reads as parts-hold-reads
 use Rattle.ground.proofs.test.Reads as test-reads
 use Rattle.rows.proofs.values_of.Reads as values-of-reads
 
--- src/lib.rt:194:9
 values-of-requires : tie.Need-values-of-requires
 values-of-requires c κs = search needs
 
--- src/lib.rt:195:8
 test-requires : tie.Need-test-requires
 test-requires c κs = search needs
 
--- src/lib.rt:196:9
 parts-hold-requires : tie.Need-parts-hold-requires
 parts-hold-requires c κs = (c .before .before .before .before .before .before .pre .2, c .before .before .before .before .before .before .pre .3 .parts, within-most (c .before .before .before .before .before .before .args .n) (c .before .before .values-of .result) (c .before .before .before .before .before .before .pre .1) (c .before .before .values-of .ensures .1))
 
--- src/lib.rt:196:9
 returns : tie.Need-returns
 returns c = and-parts (bit (c .before .before .before .before .before .before .before .args .state .now)) (c .before .before .before .before .before .before .before .args .n) (c .before .before .before .before .before .before .before .args .table .now) (c .before .before .before .before .before .before .before .args .v) (c .before .before .before .before .before .before .before .args .row) (c .before .before .before .values-of .result) (c .before .before .before .values-of .ensures .0 ∙ row-values (c .before .before .before .before .before .before .before .args .n) (c .before .before .before .before .before .before .before .args .v) (c .before .before .before .before .before .before .before .args .row)) (c .parts-hold .result) (sym (c .before .before .test .ensures) ∙ c .before .if1 .taken) (c .parts-hold .ensures)
 
--- src/lib.rt:189:1
 returns-2 : tie.Need-returns-2
 returns-2 c = and-no (bit (c .before .before .before .before .before .before .args .state .now)) (c .before .before .before .before .before .before .args .n) (c .before .before .before .before .before .before .args .table .now) (c .before .before .before .before .before .before .args .v) (c .before .before .before .before .before .before .args .row) (sym (c .before .test .ensures) ∙ c .if1 .left)
 

@@ -1,3 +1,4 @@
+-- `ground::may_exists` meets its contract.
 use mathlib.Core.Path.{sym, _∙_}
 use borrow.Author.Needs.{needs}
 use Rattle.bits.specs.Table.{bit}
@@ -10,19 +11,15 @@ use Rattle.ground.proofs.may_exists.Lts as lts
 use Rattle.ground.proofs.test.Reads as test-reads
 use Rattle.ground.proofs.under_holds.Reads as under-holds-reads
 
--- src/lib.rt:231:8
 test-requires : tie.Need-test-requires
 test-requires c κs = search needs
 
--- src/lib.rt:232:9
 under-holds-requires : tie.Need-under-holds-requires
 under-holds-requires c κs = search needs
 
--- src/lib.rt:232:9
 returns : tie.Need-returns
 returns c = exists-under (bit (c .before .before .before .before .before .args .state .now)) (c .before .before .before .before .before .args .n) (c .before .before .before .before .before .args .table .now) (c .before .before .before .before .before .args .v) (c .before .before .before .before .before .args .row) (c .before .before .before .before .before .args .x) (c .under-holds .result) (sym (c .before .before .test .ensures) ∙ c .before .if1 .taken) (c .under-holds .ensures)
 
--- src/lib.rt:227:1
 returns-2 : tie.Need-returns-2
 returns-2 c = exists-no (bit (c .before .before .before .before .args .state .now)) (c .before .before .before .before .args .n) (c .before .before .before .before .args .table .now) (c .before .before .before .before .args .v) (c .before .before .before .before .args .row) (c .before .before .before .before .args .x) (sym (c .before .test .ensures) ∙ c .if1 .left)
 

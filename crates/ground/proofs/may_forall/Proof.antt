@@ -1,3 +1,4 @@
+-- `ground::may_forall` meets its contract.
 use mathlib.Core.Path.{sym, _∙_}
 use native.Mathlib.Omega.{arith}
 use borrow.Author.Needs.{needs}
@@ -11,47 +12,36 @@ use Rattle.ground.proofs.may_forall.Lts as lts
 use Rattle.ground.proofs.test.Reads as test-reads
 use Rattle.ground.proofs.under_holds.Reads as under-holds-reads
 
--- src/lib.rt:242:8
 test-requires : tie.Need-test-requires
 test-requires c κs = search needs
 
--- src/lib.rt:243:12
 under-holds-requires : tie.Need-under-holds-requires
 under-holds-requires c κs = search needs
 
--- src/lib.rt:245:17
 returns : tie.Need-returns
 returns c = forall-first (bit (c .before .before .before .before .before .before .before .args .state .now)) (c .before .before .before .before .before .before .before .args .n) (c .before .before .before .before .before .before .before .args .table .now) (c .before .before .before .before .before .before .before .args .v) (c .before .before .before .before .before .before .before .args .row) (c .before .before .before .before .before .before .before .args .z) (omega arith) (sym (c .before .before .before .before .test .ensures) ∙ c .before .before .before .if1 .taken) (sym (c .before .before .under-holds .ensures) ∙ c .before .if2 .taken)
 
--- src/lib.rt:247:43
 mul-test : tie.Need-mul-test
 mul-test c = omega (arith, times-wide (c .before .before .before .before .before .before .before .args .row) (c .before .before .before .before .before .before .before .args .n) (c .before .before .before .before .before .before .before .pre .5) (c .before .before .before .before .before .before .before .pre .1))
 
--- src/lib.rt:247:54
 sub-test : tie.Need-sub-test
 sub-test c = search needs
 
--- src/lib.rt:247:43
 add-test : tie.Need-add-test
 add-test c = omega (arith, times-wide (c .before .before .before .before .before .before .before .args .row) (c .before .before .before .before .before .before .before .args .n) (c .before .before .before .before .before .before .before .pre .5) (c .before .before .before .before .before .before .before .pre .1))
 
--- src/lib.rt:247:32
 add-test-2 : tie.Need-add-test-2
 add-test-2 c = omega (arith, times-wide (c .before .before .before .before .before .before .before .before .args .row) (c .before .before .before .before .before .before .before .before .args .n) (c .before .before .before .before .before .before .before .before .pre .5) (c .before .before .before .before .before .before .before .before .pre .1))
 
--- src/lib.rt:247:13
 test-requires-2 : tie.Need-test-requires-2
 test-requires-2 c κs = search needs
 
--- src/lib.rt:247:13
 returns-2 : tie.Need-returns-2
 returns-2 c = forall-next (bit (c .before .before .before .before .before .before .before .before .before .args .state .now)) (c .before .before .before .before .before .before .before .before .before .args .n) (c .before .before .before .before .before .before .before .before .before .args .table .now) (c .before .before .before .before .before .before .before .before .before .args .v) (c .before .before .before .before .before .before .before .before .before .args .row) (c .before .before .before .before .before .before .before .before .before .args .z) (c .test2 .result) (omega arith) (sym (c .before .before .before .before .before .before .test .ensures) ∙ c .before .before .before .before .before .if1 .taken) (sym (c .before .before .before .before .under-holds .ensures) ∙ c .before .before .before .if2 .taken) (c .test2 .ensures)
 
--- src/lib.rt:238:1
 returns-3 : tie.Need-returns-3
 returns-3 c = forall-not (bit (c .before .before .before .before .before .before .args .state .now)) (c .before .before .before .before .before .before .args .n) (c .before .before .before .before .before .before .args .table .now) (c .before .before .before .before .before .before .args .v) (c .before .before .before .before .before .before .args .row) (c .before .before .before .before .before .before .args .z) (sym (c .before .before .before .test .ensures) ∙ c .before .before .if1 .taken) (sym (c .before .under-holds .ensures) ∙ c .if2 .left)
 
--- src/lib.rt:238:1
 returns-4 : tie.Need-returns-4
 returns-4 c = forall-no (bit (c .before .before .before .before .args .state .now)) (c .before .before .before .before .args .n) (c .before .before .before .before .args .table .now) (c .before .before .before .before .args .v) (c .before .before .before .before .args .row) (c .before .before .before .before .args .z) (sym (c .before .test .ensures) ∙ c .if1 .left)
 

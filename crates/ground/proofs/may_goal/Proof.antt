@@ -1,7 +1,6 @@
-use mathlib.Core.Path.{_∙_}
+-- `ground::may_goal` meets its contract.
 use mathlib.Core.List.{[], _∷_}
 use native.Mathlib.Omega.{arith}
-use borrow.Author.Needs.{needs}
 use Rattle.bits.specs.Table.{bit}
 use Rattle.rows.specs.Laws.{within-zeros}
 use Rattle.ground.specs.NeedLaws.{goal-all, within-most}
@@ -11,11 +10,9 @@ use Rattle.ground.proofs.may_goal.Reads as reads
 use Rattle.ground.proofs.may_goal.Lts as lts
 use Rattle.ground.proofs.part_holds.Reads as part-holds-reads
 
--- src/lib.rt:259:5
 part-holds-requires : tie.Need-part-holds-requires
 part-holds-requires c κs = (c .before .before .pre, omega arith, within-most 1 (0 ∷ 0 ∷ 0 ∷ 0 ∷ []) (omega arith) (within-zeros 1 (omega arith)))
 
--- src/lib.rt:254:1
 returns : tie.Need-returns
 returns c = goal-all (bit (c .before .before .before .args .state .now)) (c .before .before .before .args .table .now) (c .part-holds .result) (c .part-holds .ensures)
 

@@ -1,4 +1,5 @@
-use mathlib.Core.Path.{_≡_, sym, _∙_}
+-- `ground::may_or` meets its contract.
+use mathlib.Core.Path.{sym, _∙_}
 use native.Mathlib.Omega.{arith}
 use borrow.Author.Needs.{needs}
 use Rattle.bits.specs.Table.{bit}
@@ -12,27 +13,21 @@ use Rattle.ground.proofs.part_holds.Reads as part-holds-reads
 use Rattle.ground.proofs.test.Reads as test-reads
 use Rattle.rows.proofs.values_of.Reads as values-of-reads
 
--- src/lib.rt:207:9
 values-of-requires : tie.Need-values-of-requires
 values-of-requires c κs = search needs
 
--- src/lib.rt:208:8
 test-requires : tie.Need-test-requires
 test-requires c κs = search needs
 
--- src/lib.rt:209:41
 add-part-holds : tie.Need-add-part-holds
 add-part-holds c = search needs
 
--- src/lib.rt:209:9
 part-holds-requires : tie.Need-part-holds-requires
 part-holds-requires c κs = (c .before .before .before .before .before .before .before .pre .2, omega (arith, c .before .before .before .before .before .before .before .pre .3 .parts), within-most (c .before .before .before .before .before .before .before .args .n) (c .before .before .before .values-of .result) (c .before .before .before .before .before .before .before .pre .1) (c .before .before .before .values-of .ensures .1))
 
--- src/lib.rt:209:9
 returns : tie.Need-returns
 returns c = or-part (bit (c .before .before .before .before .before .before .before .before .args .state .now)) (c .before .before .before .before .before .before .before .before .args .n) (c .before .before .before .before .before .before .before .before .args .table .now) (c .before .before .before .before .before .before .before .before .args .v) (c .before .before .before .before .before .before .before .before .args .row) (c .before .before .before .before .values-of .result) (c .before .before .before .before .values-of .ensures .0 ∙ row-values (c .before .before .before .before .before .before .before .before .args .n) (c .before .before .before .before .before .before .before .before .args .v) (c .before .before .before .before .before .before .before .before .args .row)) (c .before .before .before .before .before .before .before .before .args .i) (c .part-holds .result) (sym (c .before .before .before .test .ensures) ∙ c .before .before .if1 .taken) (c .part-holds .ensures)
 
--- src/lib.rt:202:1
 returns-2 : tie.Need-returns-2
 returns-2 c = or-no (bit (c .before .before .before .before .before .before .args .state .now)) (c .before .before .before .before .before .before .args .n) (c .before .before .before .before .before .before .args .table .now) (c .before .before .before .before .before .before .args .v) (c .before .before .before .before .before .before .args .row) (c .before .before .before .before .before .before .args .i) (sym (c .before .test .ensures) ∙ c .if1 .left)
 

@@ -1,3 +1,4 @@
+-- `ground::may_set` meets its contract.
 use mathlib.Core.Path.{sym, _∙_}
 use borrow.Author.Needs.{needs}
 use Rattle.bits.specs.Table.{bit}
@@ -10,31 +11,24 @@ use Rattle.ground.proofs.may_set.Lts as lts
 use Rattle.ground.proofs.free_hold.Reads as free-hold-reads
 use Rattle.ground.proofs.test.Reads as test-reads
 
--- src/lib.rt:164:8
 test-requires : tie.Need-test-requires
 test-requires c κs = search needs
 
--- src/lib.rt:165:24
 add-test : tie.Need-add-test
 add-test c = search needs
 
--- src/lib.rt:165:12
 test-requires-2 : tie.Need-test-requires-2
 test-requires-2 c κs = search needs
 
--- src/lib.rt:166:13
 free-hold-requires : tie.Need-free-hold-requires
 free-hold-requires c κs = search needs
 
--- src/lib.rt:166:13
 returns : tie.Need-returns
 returns c = set-free (bit (c .before .before .before .before .before .before .before .args .state .now)) (c .before .before .before .before .before .before .before .args .n) (c .before .before .before .before .before .before .before .args .k) (c .before .before .before .before .before .before .before .args .row) (c .free-hold .result) (sym (c .before .before .before .before .before .test .ensures) ∙ c .before .before .before .before .if1 .taken) (sym (c .before .before .test2 .ensures) ∙ c .before .if2 .taken) (c .free-hold .ensures)
 
--- src/lib.rt:160:1
 returns-2 : tie.Need-returns-2
 returns-2 c = set-not (bit (c .before .before .before .before .before .before .args .state .now)) (c .before .before .before .before .before .before .args .n) (c .before .before .before .before .before .before .args .k) (c .before .before .before .before .before .before .args .row) (sym (c .before .before .before .before .test .ensures) ∙ c .before .before .before .if1 .taken) (sym (c .before .test2 .ensures) ∙ c .if2 .left)
 
--- src/lib.rt:160:1
 returns-3 : tie.Need-returns-3
 returns-3 c = set-no (bit (c .before .before .before .args .state .now)) (c .before .before .before .args .n) (c .before .before .before .args .k) (c .before .before .before .args .row) (sym (c .before .test .ensures) ∙ c .if1 .left)
 

@@ -1,5 +1,6 @@
+-- `ground::may_take` meets its contract.
 use Prim.Native.Nat.{_<_}
-use mathlib.Core.Path.{_≡_, sym, subst, _∙_}
+use mathlib.Core.Path.{sym, subst}
 use Rattle.ground.specs.declared.NodeLine.{NodeLine}
 use native.Mathlib.Omega.{arith}
 use borrow.Author.Needs.{needs}
@@ -21,144 +22,115 @@ use Rattle.ground.proofs.node_line.Reads as node-line-reads
 use Rattle.ground.proofs.relation_line.Reads as relation-line-reads
 use Rattle.ground.proofs.test.Reads as test-reads
 
--- src/lib.rt:268:13
 shared-slice-read-n : tie.Need-shared-slice-read-n
 shared-slice-read-n c = search needs
 
--- src/lib.rt:270:18
 enum-known-a : tie.Need-enum-known-a
 enum-known-a c = search needs
 
--- src/lib.rt:271:17
 relation-line-requires : tie.Need-relation-line-requires
 relation-line-requires c κs =
     let f = fits-of (c .before .before .before .before .before .before .args .table .now) (c .before .before .before .before .before .before .args .a) (Set (c .before .a .given .0 .0)) (c .before .a .given .1) (c .before .before .before .before .before .before .pre .1) in
     (c .before .before .before .before .before .before .pre .0 .whole, omega (arith, f .0))
 
--- src/lib.rt:272:13
 may-set-requires : tie.Need-may-set-requires
 may-set-requires c κs =
     let f = fits-of (c .before .before .before .before .before .before .before .args .table .now) (c .before .before .before .before .before .before .before .args .a) (Set (c .before .before .a .given .0 .0)) (c .before .before .a .given .1) (c .before .before .before .before .before .before .before .pre .1) in
     let q = relation-small (c .before .before .before .before .before .before .before .args .table .now) (c .before .before .before .before .before .before .before .pre .0) (c .before .before .a .given .0 .0 .relation) (c .relation-line .result) (c .relation-line .ensures) in
     (c .before .before .before .before .before .before .before .pre .0 .some, c .before .before .before .before .before .before .before .pre .0 .size, q .1, q .2, f .1)
 
--- src/lib.rt:272:13
 returns : tie.Need-returns
 returns c = need-set (bit (c .before .before .before .before .before .before .before .before .args .state .now)) (c .before .before .before .before .before .before .before .before .args .table .now) (c .before .before .before .before .before .before .before .before .args .a) (c .may-set .result) (c .before .before .before .a .given .0 .0) (c .before .relation-line .result) (c .before .before .before .a .given .1) (c .before .relation-line .ensures) (c .may-set .ensures)
 
--- src/lib.rt:275:13
 enum-told : tie.Need-enum-told
 enum-told c = search needs
 
--- src/lib.rt:275:13
 test-requires : tie.Need-test-requires
 test-requires c κs = search needs
 
--- src/lib.rt:275:13
 returns-2 : tie.Need-returns-2
 returns-2 c = need-begin (bit (c .before .before .before .before .before .before .args .state .now)) (c .before .before .before .before .before .before .args .table .now) (c .before .before .before .before .before .before .args .a) (c .test .result) (c .before .enum-told .given .1) (c .test .ensures)
 
--- src/lib.rt:277:18
 enum-known-a-2 : tie.Need-enum-known-a-2
 enum-known-a-2 c = search needs
 
--- src/lib.rt:278:17
 node-line-requires : tie.Need-node-line-requires
 node-line-requires c κs =
     let f = fits-of (c .before .before .before .before .before .before .args .table .now) (c .before .before .before .before .before .before .args .a) (And (c .before .a2 .given .0 .0)) (c .before .a2 .given .1) (c .before .before .before .before .before .before .pre .1) in
     (c .before .before .before .before .before .before .pre .0 .whole, omega (arith, f .0))
 
--- src/lib.rt:279:13
 may-and-requires : tie.Need-may-and-requires
 may-and-requires c κs =
     let f = fits-of (c .before .before .before .before .before .before .before .args .table .now) (c .before .before .before .before .before .before .before .args .a) (And (c .before .before .a2 .given .0 .0)) (c .before .before .a2 .given .1) (c .before .before .before .before .before .before .before .pre .1) in
     let q = node-small (c .before .before .before .before .before .before .before .args .table .now) (c .before .before .before .before .before .before .before .pre .0) (c .before .before .a2 .given .0 .0 .node) (c .node-line .result) (c .node-line .ensures) (f .0) in
     (c .before .before .before .before .before .before .before .pre .0 .some, c .before .before .before .before .before .before .before .pre .0 .size, c .before .before .before .before .before .before .before .pre .0, q .0)
 
--- src/lib.rt:279:13
 returns-3 : tie.Need-returns-3
 returns-3 c = need-and (bit (c .before .before .before .before .before .before .before .before .args .state .now)) (c .before .before .before .before .before .before .before .before .args .table .now) (c .before .before .before .before .before .before .before .before .args .a) (c .may-and .result) (c .before .before .before .a2 .given .0 .0) (c .before .node-line .result) (c .before .before .before .a2 .given .1) (c .before .node-line .ensures) (c .may-and .ensures)
 
--- src/lib.rt:281:17
 enum-known-a-3 : tie.Need-enum-known-a-3
 enum-known-a-3 c = search needs
 
--- src/lib.rt:282:17
 node-line-requires-2 : tie.Need-node-line-requires-2
 node-line-requires-2 c κs =
     let f = fits-of (c .before .before .before .before .before .before .args .table .now) (c .before .before .before .before .before .before .args .a) (Or (c .before .a3 .given .0 .0)) (c .before .a3 .given .1) (c .before .before .before .before .before .before .pre .1) in
     (c .before .before .before .before .before .before .pre .0 .whole, omega (arith, f .0))
 
--- src/lib.rt:283:13
 may-or-requires : tie.Need-may-or-requires
 may-or-requires c κs =
     let f = fits-of (c .before .before .before .before .before .before .before .args .table .now) (c .before .before .before .before .before .before .before .args .a) (Or (c .before .before .a3 .given .0 .0)) (c .before .before .a3 .given .1) (c .before .before .before .before .before .before .before .pre .1) in
     let q = node-small (c .before .before .before .before .before .before .before .args .table .now) (c .before .before .before .before .before .before .before .pre .0) (c .before .before .a3 .given .0 .0 .node) (c .node-line2 .result) (c .node-line2 .ensures) (f .0) in
     (c .before .before .before .before .before .before .before .pre .0 .some, c .before .before .before .before .before .before .before .pre .0 .size, c .before .before .before .before .before .before .before .pre .0, q .0, subst (λ (y : NodeLine). c .before .before .a3 .given .0 .0 .choice < y .many) (sym (c .node-line2 .ensures)) (f .2))
 
--- src/lib.rt:283:13
 returns-4 : tie.Need-returns-4
 returns-4 c = need-or (bit (c .before .before .before .before .before .before .before .before .args .state .now)) (c .before .before .before .before .before .before .before .before .args .table .now) (c .before .before .before .before .before .before .before .before .args .a) (c .may-or .result) (c .before .before .before .a3 .given .0 .0) (c .before .node-line2 .result) (c .before .before .before .a3 .given .1) (c .before .node-line2 .ensures) (c .may-or .ensures)
 
--- src/lib.rt:285:21
 enum-known-a-4 : tie.Need-enum-known-a-4
 enum-known-a-4 c = search needs
 
--- src/lib.rt:286:17
 node-line-requires-3 : tie.Need-node-line-requires-3
 node-line-requires-3 c κs =
     let f = fits-of (c .before .before .before .before .before .before .args .table .now) (c .before .before .before .before .before .before .args .a) (Exists (c .before .a4 .given .0 .0)) (c .before .a4 .given .1) (c .before .before .before .before .before .before .pre .1) in
     (c .before .before .before .before .before .before .pre .0 .whole, omega (arith, f .0))
 
--- src/lib.rt:287:13
 may-exists-requires : tie.Need-may-exists-requires
 may-exists-requires c κs =
     let f = fits-of (c .before .before .before .before .before .before .before .args .table .now) (c .before .before .before .before .before .before .before .args .a) (Exists (c .before .before .a4 .given .0 .0)) (c .before .before .a4 .given .1) (c .before .before .before .before .before .before .before .pre .1) in
     let q = node-small (c .before .before .before .before .before .before .before .args .table .now) (c .before .before .before .before .before .before .before .pre .0) (c .before .before .a4 .given .0 .0 .node) (c .node-line3 .result) (c .node-line3 .ensures) (f .0) in
     (c .before .before .before .before .before .before .before .pre .0 .some, c .before .before .before .before .before .before .before .pre .0 .size, c .before .before .before .before .before .before .before .pre .0, q .0, f .2)
 
--- src/lib.rt:287:13
 returns-5 : tie.Need-returns-5
 returns-5 c = need-exists (bit (c .before .before .before .before .before .before .before .before .args .state .now)) (c .before .before .before .before .before .before .before .before .args .table .now) (c .before .before .before .before .before .before .before .before .args .a) (c .may-exists .result) (c .before .before .before .a4 .given .0 .0) (c .before .node-line3 .result) (c .before .before .before .a4 .given .1) (c .before .node-line3 .ensures) (c .may-exists .ensures)
 
--- src/lib.rt:289:21
 enum-known-a-5 : tie.Need-enum-known-a-5
 enum-known-a-5 c = search needs
 
--- src/lib.rt:290:17
 node-line-requires-4 : tie.Need-node-line-requires-4
 node-line-requires-4 c κs =
     let f = fits-of (c .before .before .before .before .before .before .args .table .now) (c .before .before .before .before .before .before .args .a) (Forall (c .before .a5 .given .0 .0)) (c .before .a5 .given .1) (c .before .before .before .before .before .before .pre .1) in
     (c .before .before .before .before .before .before .pre .0 .whole, omega (arith, f .0))
 
--- src/lib.rt:291:13
 may-forall-requires : tie.Need-may-forall-requires
 may-forall-requires c κs =
     let f = fits-of (c .before .before .before .before .before .before .before .args .table .now) (c .before .before .before .before .before .before .before .args .a) (Forall (c .before .before .a5 .given .0 .0)) (c .before .before .a5 .given .1) (c .before .before .before .before .before .before .before .pre .1) in
     let q = node-small (c .before .before .before .before .before .before .before .args .table .now) (c .before .before .before .before .before .before .before .pre .0) (c .before .before .a5 .given .0 .0 .node) (c .node-line4 .result) (c .node-line4 .ensures) (f .0) in
     (c .before .before .before .before .before .before .before .pre .0 .some, c .before .before .before .before .before .before .before .pre .0 .size, c .before .before .before .before .before .before .before .pre .0, q .0, q .1, f .1, f .2)
 
--- src/lib.rt:291:13
 returns-6 : tie.Need-returns-6
 returns-6 c = need-forall (bit (c .before .before .before .before .before .before .before .before .args .state .now)) (c .before .before .before .before .before .before .before .before .args .table .now) (c .before .before .before .before .before .before .before .before .args .a) (c .may-forall .result) (c .before .before .before .a5 .given .0 .0) (c .before .node-line4 .result) (c .before .before .before .a5 .given .1) (c .before .node-line4 .ensures) (c .may-forall .ensures)
 
--- src/lib.rt:294:13
 enum-told-2 : tie.Need-enum-told-2
 enum-told-2 c = search needs
 
--- src/lib.rt:294:13
 may-goal-requires : tie.Need-may-goal-requires
 may-goal-requires c κs = search needs
 
--- src/lib.rt:294:13
 returns-7 : tie.Need-returns-7
 returns-7 c = need-goal (bit (c .before .before .before .before .before .before .args .state .now)) (c .before .before .before .before .before .before .args .table .now) (c .before .before .before .before .before .before .args .a) (c .may-goal .result) (c .before .enum-told2 .given .1) (c .may-goal .ensures)
 
--- src/lib.rt:297:13
 enum-told-3 : tie.Need-enum-told-3
 enum-told-3 c = search needs
 
--- src/lib.rt:297:13
 returns-8 : tie.Need-returns-8
 returns-8 c = need-nothing (bit (c .before .before .before .before .before .args .state .now)) (c .before .before .before .before .before .args .table .now) (c .before .before .before .before .before .args .a) (c .enum-told3 .given .1)
 

@@ -1,3 +1,4 @@
+-- `ground::node_line` meets its contract.
 use mathlib.Core.Path.{refl}
 use borrow.Author.Needs.{needs}
 use Rattle.ground.specs.Lines.{nodeLine}
@@ -7,143 +8,108 @@ use Rattle.ground.proofs.node_line.Tie as tie
 use Rattle.ground.proofs.node_line.Reads as reads
 use Rattle.ground.proofs.node_line.Lts as lts
 
--- src/lib.rt:89:19
 mul-at : tie.Need-mul-at
 mul-at c = search needs
 
--- src/lib.rt:89:14
 add-at : tie.Need-add-at
 add-at c = search needs
 
--- src/lib.rt:90:25
 add-t5 : tie.Need-add-t5
 add-t5 c = search needs
 
--- src/lib.rt:90:19
 mul-t6 : tie.Need-mul-t6
 mul-t6 c = search needs
 
--- src/lib.rt:90:19
 shared-slice-read-t8 : tie.Need-shared-slice-read-t8
 shared-slice-read-t8 c = search needs
 
--- src/lib.rt:90:40
 add-t9 : tie.Need-add-t9
 add-t9 c = search needs
 
--- src/lib.rt:90:34
 mul-t10 : tie.Need-mul-t10
 mul-t10 c = search needs
 
--- src/lib.rt:90:34
 shared-slice-read-t12 : tie.Need-shared-slice-read-t12
 shared-slice-read-t12 c = search needs
 
--- src/lib.rt:90:55
 add-t13 : tie.Need-add-t13
 add-t13 c = search needs
 
--- src/lib.rt:90:49
 mul-t14 : tie.Need-mul-t14
 mul-t14 c = search needs
 
--- src/lib.rt:90:49
 shared-slice-read-t16 : tie.Need-shared-slice-read-t16
 shared-slice-read-t16 c = search needs
 
--- src/lib.rt:90:70
 add-t17 : tie.Need-add-t17
 add-t17 c = search needs
 
--- src/lib.rt:90:64
 mul-t18 : tie.Need-mul-t18
 mul-t18 c = search needs
 
--- src/lib.rt:90:64
 shared-slice-read-t20 : tie.Need-shared-slice-read-t20
 shared-slice-read-t20 c = search needs
 
--- src/lib.rt:92:15
 mul-t5 : tie.Need-mul-t5
 mul-t5 c = search needs
 
--- src/lib.rt:92:15
 shared-slice-read-t20-2 : tie.Need-shared-slice-read-t20-2
 shared-slice-read-t20-2 c = search needs
 
--- src/lib.rt:93:22
 add-t18 : tie.Need-add-t18
 add-t18 c = search needs
 
--- src/lib.rt:93:16
 mul-t17 : tie.Need-mul-t17
 mul-t17 c = search needs
 
--- src/lib.rt:93:16
 shared-slice-read-t16-2 : tie.Need-shared-slice-read-t16-2
 shared-slice-read-t16-2 c = search needs
 
--- src/lib.rt:94:21
 add-t14 : tie.Need-add-t14
 add-t14 c = search needs
 
--- src/lib.rt:94:15
 mul-t13 : tie.Need-mul-t13
 mul-t13 c = search needs
 
--- src/lib.rt:94:15
 shared-slice-read-t12-2 : tie.Need-shared-slice-read-t12-2
 shared-slice-read-t12-2 c = search needs
 
--- src/lib.rt:95:22
 add-t10 : tie.Need-add-t10
 add-t10 c = search needs
 
--- src/lib.rt:95:16
 mul-t9 : tie.Need-mul-t9
 mul-t9 c = search needs
 
--- src/lib.rt:95:16
 shared-slice-read-t8-2 : tie.Need-shared-slice-read-t8-2
 shared-slice-read-t8-2 c = search needs
 
--- src/lib.rt:96:22
 add-t6 : tie.Need-add-t6
 add-t6 c = search needs
 
--- src/lib.rt:96:16
 mul-t25 : tie.Need-mul-t25
 mul-t25 c = search needs
 
--- src/lib.rt:96:16
 shared-slice-read-t27 : tie.Need-shared-slice-read-t27
 shared-slice-read-t27 c = search needs
 
--- src/lib.rt:97:21
 add-t28 : tie.Need-add-t28
 add-t28 c = search needs
 
--- src/lib.rt:97:15
 mul-t29 : tie.Need-mul-t29
 mul-t29 c = search needs
 
--- src/lib.rt:97:15
 shared-slice-read-t31 : tie.Need-shared-slice-read-t31
 shared-slice-read-t31 c = search needs
 
--- src/lib.rt:98:22
 add-t32 : tie.Need-add-t32
 add-t32 c = search needs
 
--- src/lib.rt:98:16
 mul-t33 : tie.Need-mul-t33
 mul-t33 c = search needs
 
--- src/lib.rt:98:16
 shared-slice-read-t35 : tie.Need-shared-slice-read-t35
 shared-slice-read-t35 c = search needs
 
--- src/lib.rt:85:1
 returns : tie.Need-returns
 unfolding nodeLine
 returns c = refl

@@ -1,3 +1,4 @@
+-- `ground::part_line` meets its contract.
 use mathlib.Core.Path.{refl}
 use borrow.Author.Needs.{needs}
 use Rattle.ground.specs.Lines.{partLine}
@@ -7,71 +8,54 @@ use Rattle.ground.proofs.part_line.Tie as tie
 use Rattle.ground.proofs.part_line.Reads as reads
 use Rattle.ground.proofs.part_line.Lts as lts
 
--- src/lib.rt:108:20
 mul-at : tie.Need-mul-at
 mul-at c = search needs
 
--- src/lib.rt:108:14
 add-at : tie.Need-add-at
 add-at c = search needs
 
--- src/lib.rt:109:26
 add-t5 : tie.Need-add-t5
 add-t5 c = search needs
 
--- src/lib.rt:109:20
 mul-t6 : tie.Need-mul-t6
 mul-t6 c = search needs
 
--- src/lib.rt:109:20
 shared-slice-read-t8 : tie.Need-shared-slice-read-t8
 shared-slice-read-t8 c = search needs
 
--- src/lib.rt:109:41
 add-t9 : tie.Need-add-t9
 add-t9 c = search needs
 
--- src/lib.rt:109:35
 mul-t10 : tie.Need-mul-t10
 mul-t10 c = search needs
 
--- src/lib.rt:109:35
 shared-slice-read-t12 : tie.Need-shared-slice-read-t12
 shared-slice-read-t12 c = search needs
 
--- src/lib.rt:109:56
 add-t13 : tie.Need-add-t13
 add-t13 c = search needs
 
--- src/lib.rt:109:50
 mul-t14 : tie.Need-mul-t14
 mul-t14 c = search needs
 
--- src/lib.rt:109:50
 shared-slice-read-t16 : tie.Need-shared-slice-read-t16
 shared-slice-read-t16 c = search needs
 
--- src/lib.rt:109:71
 add-t17 : tie.Need-add-t17
 add-t17 c = search needs
 
--- src/lib.rt:109:65
 mul-t18 : tie.Need-mul-t18
 mul-t18 c = search needs
 
--- src/lib.rt:109:65
 shared-slice-read-t20 : tie.Need-shared-slice-read-t20
 shared-slice-read-t20 c = search needs
 
--- src/lib.rt:110:23
 mul-t5 : tie.Need-mul-t5
 mul-t5 c = search needs
 
--- src/lib.rt:110:23
 shared-slice-read-t20-2 : tie.Need-shared-slice-read-t20-2
 shared-slice-read-t20-2 c = search needs
 
--- src/lib.rt:104:1
 returns : tie.Need-returns
 unfolding partLine
 returns c = refl

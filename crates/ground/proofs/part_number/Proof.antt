@@ -1,4 +1,5 @@
-use Prim.Native.Nat.{ℕ, _+_, _*_, _^_, _≤_}
+-- `ground::part_number` meets its contract.
+use Prim.Native.Nat.{ℕ, _*_, _^_, _≤_}
 use native.Mathlib.Omega.{arith}
 use borrow.Author.Needs.{needs}
 use lib.ListN.{getD}
@@ -12,71 +13,54 @@ use Rattle.ground.proofs.part_number.Lts as lts
 small : (c : tie.Start) (l : ℕ) → getD (c .args .t2) l 0 * getD (c .args .q .weights) l 0 ≤ 64 * 2 ^ 32
 small c l = value-times (getD (c .args .t2) l 0) (getD (c .args .q .weights) l 0) (c .pre .2 l) (c .pre .1 l)
 
--- src/lib.rt:119:16
 array-read-result : tie.Need-array-read-result
 array-read-result c = search needs
 
--- src/lib.rt:119:25
 array-read-result-2 : tie.Need-array-read-result-2
 array-read-result-2 c = search needs
 
--- src/lib.rt:119:16
 mul-result : tie.Need-mul-result
 mul-result c = omega (arith, small (c .before) 0)
 
--- src/lib.rt:119:33
 array-read-result-3 : tie.Need-array-read-result-3
 array-read-result-3 c = search needs
 
--- src/lib.rt:119:42
 array-read-result-4 : tie.Need-array-read-result-4
 array-read-result-4 c = search needs
 
--- src/lib.rt:119:33
 mul-result-2 : tie.Need-mul-result-2
 mul-result-2 c = omega (arith, small (c .before) 1)
 
--- src/lib.rt:119:50
 array-read-result-5 : tie.Need-array-read-result-5
 array-read-result-5 c = search needs
 
--- src/lib.rt:119:59
 array-read-result-6 : tie.Need-array-read-result-6
 array-read-result-6 c = search needs
 
--- src/lib.rt:119:50
 mul-result-3 : tie.Need-mul-result-3
 mul-result-3 c = omega (arith, small (c .before) 2)
 
--- src/lib.rt:119:66
 array-read-result-7 : tie.Need-array-read-result-7
 array-read-result-7 c = search needs
 
--- src/lib.rt:119:75
 array-read-result-8 : tie.Need-array-read-result-8
 array-read-result-8 c = search needs
 
--- src/lib.rt:119:66
 mul-result-4 : tie.Need-mul-result-4
 mul-result-4 c = omega (arith, small (c .before) 3)
 
--- src/lib.rt:119:50
 add-result : tie.Need-add-result
 add-result c = omega (arith, small (c .before) 2, small (c .before) 3)
 
--- src/lib.rt:119:33
 add-result-2 : tie.Need-add-result-2
 add-result-2 c = omega (arith, small (c .before) 1, small (c .before) 2, small (c .before) 3)
 
--- src/lib.rt:119:16
 add-result-3 : tie.Need-add-result-3
 add-result-3 c = omega (arith, small (c .before) 0, small (c .before) 1, small (c .before) 2, small (c .before) 3)
 
--- src/lib.rt:119:5
 add-result-4 : tie.Need-add-result-4
 add-result-4 c = omega (arith, c .before .before .pre .0, small (c .before .before) 0, small (c .before .before) 1, small (c .before .before) 2, small (c .before .before) 3)
 
--- src/lib.rt:114:1
 returns : tie.Need-returns
 returns c = number-is (c .before .before .args .q) (c .before .before .args .t2)
 

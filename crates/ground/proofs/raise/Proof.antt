@@ -1,3 +1,4 @@
+-- `ground::raise` meets its contract.
 use mathlib.Core.Path.{_∙_}
 use native.Mathlib.Omega.{arith}
 use borrow.Author.Needs.{needs}
@@ -10,19 +11,15 @@ use Rattle.ground.proofs.raise.Reads as reads
 use Rattle.ground.proofs.raise.Lts as lts
 use Rattle.bits.proofs.set.Reads as set-reads
 
--- src/lib.rt:316:9
 set-requires : tie.Need-set-requires
 set-requires c κs = search needs
 
--- src/lib.rt:312:1
 same-length : tie.Need-same-length
 same-length c = search needs
 
--- src/lib.rt:312:1
 returns : tie.Need-returns
 returns c = λ h. c .before .before .set .ensures ∙ put-raise (bit (c .before .before .before .before .before .before .args .words .now)) (c .before .before .before .before .before .before .args .i)
 
--- src/lib.rt:312:1
 returns-2 : tie.Need-returns-2
 returns-2 c = λ h. absurd (omega arith)
 

@@ -1,3 +1,4 @@
+-- `ground::relation_line` meets its contract.
 use mathlib.Core.Path.{refl}
 use borrow.Author.Needs.{needs}
 use Rattle.ground.specs.Lines.{relationLine}
@@ -7,71 +8,54 @@ use Rattle.ground.proofs.relation_line.Tie as tie
 use Rattle.ground.proofs.relation_line.Reads as reads
 use Rattle.ground.proofs.relation_line.Lts as lts
 
--- src/lib.rt:80:18
 mul-at : tie.Need-mul-at
 mul-at c = search needs
 
--- src/lib.rt:80:14
 add-at : tie.Need-add-at
 add-at c = search needs
 
--- src/lib.rt:81:26
 mul-t4 : tie.Need-mul-t4
 mul-t4 c = search needs
 
--- src/lib.rt:81:26
 shared-slice-read-t6 : tie.Need-shared-slice-read-t6
 shared-slice-read-t6 c = search needs
 
--- src/lib.rt:81:51
 add-t7 : tie.Need-add-t7
 add-t7 c = search needs
 
--- src/lib.rt:81:45
 mul-t8 : tie.Need-mul-t8
 mul-t8 c = search needs
 
--- src/lib.rt:81:45
 shared-slice-read-t10 : tie.Need-shared-slice-read-t10
 shared-slice-read-t10 c = search needs
 
--- src/lib.rt:81:72
 add-t11 : tie.Need-add-t11
 add-t11 c = search needs
 
--- src/lib.rt:81:66
 mul-t12 : tie.Need-mul-t12
 mul-t12 c = search needs
 
--- src/lib.rt:81:66
 shared-slice-read-t14 : tie.Need-shared-slice-read-t14
 shared-slice-read-t14 c = search needs
 
--- src/lib.rt:81:93
 add-t15 : tie.Need-add-t15
 add-t15 c = search needs
 
--- src/lib.rt:81:87
 mul-t16 : tie.Need-mul-t16
 mul-t16 c = search needs
 
--- src/lib.rt:81:87
 shared-slice-read-t18 : tie.Need-shared-slice-read-t18
 shared-slice-read-t18 c = search needs
 
--- src/lib.rt:81:114
 add-t19 : tie.Need-add-t19
 add-t19 c = search needs
 
--- src/lib.rt:81:108
 mul-t20 : tie.Need-mul-t20
 mul-t20 c = search needs
 
--- src/lib.rt:81:108
 shared-slice-read-t22 : tie.Need-shared-slice-read-t22
 shared-slice-read-t22 c = search needs
 
--- src/lib.rt:76:1
 returns : tie.Need-returns
 unfolding relationLine
 returns c = refl

@@ -1,3 +1,4 @@
+-- `ground::take_set` meets its contract.
 use Prim.Native.Nat.{ℕ, _+_}
 use mathlib.Core.Path.{ap, _∙_}
 use mathlib.Core.Bool.{Bool}
@@ -16,31 +17,24 @@ use Rattle.ground.proofs.clear.Reads as clear-reads
 use Rattle.ground.proofs.free_clear.Reads as free-clear-reads
 use Rattle.ground.proofs.raise.Reads as raise-reads
 
--- src/lib.rt:340:18
 add-clear : tie.Need-add-clear
 add-clear c = search needs
 
--- src/lib.rt:340:5
 clear-requires : tie.Need-clear-requires
 clear-requires c κs = search needs
 
--- src/lib.rt:341:5
 free-clear-requires : tie.Need-free-clear-requires
 free-clear-requires c κs = search needs
 
--- src/lib.rt:342:18
 add-raise : tie.Need-add-raise
 add-raise c = search needs
 
--- src/lib.rt:342:5
 raise-requires : tie.Need-raise-requires
 raise-requires c κs = search needs
 
--- src/lib.rt:336:1
 same-length : tie.Need-same-length
 same-length c = search needs
 
--- src/lib.rt:336:1
 returns : tie.Need-returns
 returns c = λ h.
     let k = c .before .before .before .before .before .before .before .before .before .before .before .before .before .before .before .args .k in

@@ -1,3 +1,4 @@
+-- `ground::test` meets its contract.
 use mathlib.Core.Path.{sym}
 use native.Mathlib.Omega.{arith}
 use borrow.Author.Needs.{needs}
@@ -9,15 +10,12 @@ use Rattle.ground.proofs.test.Reads as reads
 use Rattle.ground.proofs.test.Lts as lts
 use Rattle.bits.proofs.get.Reads as get-reads
 
--- src/lib.rt:127:9
 get-requires : tie.Need-get-requires
 get-requires c κs = search needs
 
--- src/lib.rt:127:9
 returns : tie.Need-returns
 returns c = search needs
 
--- src/lib.rt:123:1
 returns-2 : tie.Need-returns-2
 returns-2 c = sym (bit-past (c .before .before .args .words .now) (c .before .before .args .i) (omega arith))
 

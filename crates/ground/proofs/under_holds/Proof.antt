@@ -1,3 +1,4 @@
+-- `ground::under_holds` meets its contract.
 use mathlib.Core.Path.{_≡_, ap, _∙_}
 use native.Mathlib.Omega.{arith}
 use borrow.Author.Needs.{needs}
@@ -13,23 +14,18 @@ use Rattle.ground.proofs.under_holds.Lts as lts
 use Rattle.ground.proofs.part_holds.Reads as part-holds-reads
 use Rattle.rows.proofs.values_of.Reads as values-of-reads
 
--- src/lib.rt:221:19
 values-of-requires : tie.Need-values-of-requires
 values-of-requires c κs = search needs
 
--- src/lib.rt:222:5
 mul-env : tie.Need-mul-env
 mul-env c = search needs
 
--- src/lib.rt:222:5
 array-write-env : tie.Need-array-write-env
 array-write-env c = search needs
 
--- src/lib.rt:223:5
 part-holds-requires : tie.Need-part-holds-requires
 part-holds-requires c κs = (c .before .before .before .before .pre .2, omega (arith, c .before .before .before .before .pre .3 .parts), within-most (c .before .before .before .before .args .n) (set (c .values-of .result) (c .before .before .before .before .args .v .level) (c .before .before .before .before .args .x)) (c .before .before .before .before .pre .1) (within-set (c .before .before .before .before .args .n) (c .values-of .result) (c .before .before .before .before .args .v .level) (c .before .before .before .before .args .x) (c .before .before .before .before .pre .4) (c .values-of .ensures .1)))
 
--- src/lib.rt:215:1
 returns : tie.Need-returns
 returns c =
     let len : length (c .before .values-of .result) ≡ 4 = search needs in

@@ -1,3 +1,4 @@
+-- `layout::choices` meets its contract.
 use native.Mathlib.Omega.{arith}
 use Rattle.layout.specs.LaidLaws.{choices-quantifier, choices-and, choices-or}
 use Rattle.layout.proofs.choices.Statement.{statement}
@@ -5,15 +6,12 @@ use Rattle.layout.proofs.choices.Tie as tie
 use Rattle.layout.proofs.choices.Reads as reads
 use Rattle.layout.proofs.choices.Lts as lts
 
--- src/lib.rt:119:9
 returns : tie.Need-returns
 returns c = choices-quantifier (c .before .args .n) (c .before .args .many) (c .before .args .kind) (omega arith)
 
--- src/lib.rt:122:9
 returns-2 : tie.Need-returns-2
 returns-2 c = choices-and (c .before .before .args .n) (c .before .before .args .many) (c .before .before .args .kind) (omega arith)
 
--- src/lib.rt:115:1
 returns-3 : tie.Need-returns-3
 returns-3 c = choices-or (c .before .before .args .n) (c .before .before .args .many) (c .before .before .args .kind) (omega arith) (λ e. omega arith)
 

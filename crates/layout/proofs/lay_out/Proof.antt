@@ -1,3 +1,4 @@
+-- `layout::lay_out` meets its contract.
 use Prim.Native.Nat.{_+_}
 use native.Mathlib.Omega.{arith}
 use borrow.Author.Needs.{needs}
@@ -12,39 +13,30 @@ use Rattle.layout.proofs.node_starts.Reads as node-starts-reads
 use Rattle.layout.proofs.relation_starts.Reads as relation-starts-reads
 use Rattle.layout.proofs.too_many.Reads as too-many-reads
 
--- src/lib.rt:200:9
 relation-starts-requires : tie.Need-relation-starts-requires
 relation-starts-requires c κs = search needs
 
--- src/lib.rt:201:17
 add-first : tie.Need-add-first
 add-first c = omega (arith, c .before .relation-starts .ensures .set-is, set-bound (c .before .before .args .n) (c .before .before .args .g) (c .before .before .pre .1) (c .before .before .pre .2) (c .before .before .args .g .count), c .before .before .pre .2 .count)
 
--- src/lib.rt:202:9
 node-starts-requires : tie.Need-node-starts-requires
 node-starts-requires c κs = (c .before .before .pre .0, c .before .before .pre .1, c .before .before .pre .3, omega (arith, c .before .relation-starts .ensures .at-is, rel-bound (c .before .before .args .n) (c .before .before .args .g) (c .before .before .pre .1) (c .before .before .pre .2) (c .before .before .args .g .count), c .before .before .pre .2 .count), omega (arith, c .before .relation-starts .ensures .set-is, set-bound (c .before .before .args .n) (c .before .before .args .g) (c .before .before .pre .1) (c .before .before .pre .2) (c .before .before .args .g .count), c .before .before .pre .2 .count))
 
--- src/lib.rt:204:19
 add-actions : tie.Need-add-actions
 add-actions c = omega (arith, c .before .before .before .relation-starts .ensures .set-is, set-bound (c .before .before .before .before .args .n) (c .before .before .before .before .args .g) (c .before .before .before .before .pre .1) (c .before .before .before .before .pre .2) (c .before .before .before .before .args .g .count), c .before .before .before .before .pre .2 .count, c .before .node-starts .ensures .act-is, act-bound (c .before .before .before .before .args .n) (c .before .before .before .before .args .t) (c .before .before .before .relation-starts .result .at) (c .before .before .before .relation-starts .result .sets + 1) (c .before .before .before .before .pre .1) (c .before .before .before .before .pre .3) (c .before .before .before .before .args .t .count), c .before .before .before .before .pre .3 .few)
 
--- src/lib.rt:205:28
 sub-bound : tie.Need-sub-bound
 sub-bound c = nodes-low (c .before .before .before .before .before .args .n) (c .before .before .before .before .relation-starts .result .at) (c .before .before .before .before .relation-starts .result .sets + 1) (c .before .before .before .before .before .args .t .count) (c .before .before .before .before .before .args .t) (c .before .before .node-starts .result .node) (c .before .before .node-starts .result .act) (c .before .before .node-starts .result .at) (c .before .before .node-starts .result .acts) (c .before .before .node-starts .ensures)
 
--- src/lib.rt:205:17
 add-bound : tie.Need-add-bound
 add-bound c = omega (arith, c .before .before .before .before .before .relation-starts .ensures .at-is, rel-bound (c .before .before .before .before .before .before .args .n) (c .before .before .before .before .before .before .args .g) (c .before .before .before .before .before .before .pre .1) (c .before .before .before .before .before .before .pre .2) (c .before .before .before .before .before .before .args .g .count), c .before .before .before .before .before .before .pre .2 .count, c .before .before .before .node-starts .ensures .at-is, node-bound (c .before .before .before .before .before .before .args .n) (c .before .before .before .before .before .before .args .t) (c .before .before .before .before .before .relation-starts .result .at) (c .before .before .before .before .before .relation-starts .result .sets + 1) (c .before .before .before .before .before .before .pre .1) (c .before .before .before .before .before .before .pre .3) (c .before .before .before .before .before .before .args .t .count), c .before .before .before .before .before .before .pre .3 .few, c .before .before .before .before .before .relation-starts .ensures .picks-are, pick-bound (c .before .before .before .before .before .before .args .n) (c .before .before .before .before .before .before .args .g) (c .before .before .before .before .before .before .pre .1) (c .before .before .before .before .before .before .pre .2) (c .before .before .before .before .before .before .args .g .count))
 
--- src/lib.rt:205:17
 add-bound-2 : tie.Need-add-bound-2
 add-bound-2 c = omega (arith, c .before .before .before .before .before .relation-starts .ensures .at-is, rel-bound (c .before .before .before .before .before .before .args .n) (c .before .before .before .before .before .before .args .g) (c .before .before .before .before .before .before .pre .1) (c .before .before .before .before .before .before .pre .2) (c .before .before .before .before .before .before .args .g .count), c .before .before .before .before .before .before .pre .2 .count, c .before .before .before .node-starts .ensures .at-is, node-bound (c .before .before .before .before .before .before .args .n) (c .before .before .before .before .before .before .args .t) (c .before .before .before .before .before .relation-starts .result .at) (c .before .before .before .before .before .relation-starts .result .sets + 1) (c .before .before .before .before .before .before .pre .1) (c .before .before .before .before .before .before .pre .3) (c .before .before .before .before .before .before .args .t .count), c .before .before .before .before .before .before .pre .3 .few, c .before .before .before .before .before .relation-starts .ensures .picks-are, pick-bound (c .before .before .before .before .before .before .args .n) (c .before .before .before .before .before .before .args .g) (c .before .before .before .before .before .before .pre .1) (c .before .before .before .before .before .before .pre .2) (c .before .before .before .before .before .before .args .g .count))
 
--- src/lib.rt:206:9
 too-many-requires : tie.Need-too-many-requires
 too-many-requires c κs = search needs
 
--- src/lib.rt:196:1
 returns : tie.Need-returns
 returns c = λ p is. laid (c .before .before .before .before .before .before .before .before .before .before .before .before .before .args .n) p (c .before .before .before .before .before .before .before .before .before .before .before .before .before .args .g) (c .before .before .before .before .before .before .before .before .before .before .before .before .before .args .t) is (c .before .before .before .before .before .before .before .before .before .before .before .before .before .pre .3) (c .before .before .before .before .before .before .before .before .before .before .before .before .relation-starts .result .rel) (c .before .before .before .before .before .before .before .before .before .before .before .before .relation-starts .result .neg) (c .before .before .before .before .before .before .before .before .before .before .before .before .relation-starts .result .dom) (c .before .before .before .before .before .before .before .before .before .before .before .before .relation-starts .result .set) (c .before .before .before .before .before .before .before .before .before .before .node-starts .result .node) (c .before .before .before .before .before .before .before .before .before .before .node-starts .result .act) (c .before .before .before .before .before .before .before .before .before .before .before .before .relation-starts .result .at) (c .before .before .before .before .before .before .before .before .before .before .before .before .relation-starts .result .sets) (c .before .before .before .before .before .before .before .before .before .before .before .before .relation-starts .result .picks) (c .before .before .before .before .before .before .before .before .before .before .node-starts .result .at) (c .before .before .before .before .before .before .before .before .before .before .node-starts .result .acts) (c .before .before .before .before .before .before .too-many .result)
     (c .before .before .before .before .before .before .before .before .before .before .before .before .relation-starts .ensures) (c .before .before .before .before .before .before .before .before .before .before .node-starts .ensures) (c .before .before .before .before .before .before .too-many .ensures)

@@ -1,3 +1,4 @@
+-- `layout::most_width` meets its contract.
 use native.Mathlib.Omega.{arith}
 use Rattle.layout.specs.LaidLaws.{most-none, most-all, most-one}
 use Rattle.layout.proofs.most_width.Statement.{statement}
@@ -5,15 +6,12 @@ use Rattle.layout.proofs.most_width.Tie as tie
 use Rattle.layout.proofs.most_width.Reads as reads
 use Rattle.layout.proofs.most_width.Lts as lts
 
--- src/lib.rt:95:9
 returns : tie.Need-returns
 returns c = most-none (c .before .args .n) (c .before .args .size) (c .before .args .kind) (omega arith)
 
--- src/lib.rt:98:9
 returns-2 : tie.Need-returns-2
 returns-2 c = most-all (c .before .before .args .n) (c .before .before .args .size) (c .before .before .args .kind) (omega arith)
 
--- src/lib.rt:91:1
 returns-3 : tie.Need-returns-3
 returns-3 c = most-one (c .before .before .args .n) (c .before .before .args .size) (c .before .before .args .kind) (λ e. omega arith) (λ e. omega arith)
 

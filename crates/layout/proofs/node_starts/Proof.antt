@@ -1,9 +1,10 @@
-use Prim.Native.Nat.{ℕ, _+_, _*_, _-_, _≤_, _<_, _^_}
-use mathlib.Core.Path.{_≡_, refl, sym, ap, _∙_, subst}
+-- `layout::node_starts` meets its contract.
+use Prim.Native.Nat.{ℕ, _-_, _≤_, _^_}
+use mathlib.Core.Path.{_≡_, refl, ap, _∙_, subst}
 use native.Mathlib.Omega.{arith}
 use borrow.Author.Needs.{needs}
 use lib.ListN.{length, getD, length-set}
-use Rattle.tree.specs.Tables.{noNode, Fits}
+use Rattle.tree.specs.Tables.{noNode}
 use Rattle.layout.specs.Laid.{NodesLaid, nodeWidth, choicesOf}
 use Rattle.layout.specs.LaidLaws.{nodes-first, nodes-next, node-bound, act-bound, acts-le, node-width-le, pow-fits, size-most}
 use Rattle.layout.proofs.node_starts.Statement.{statement}
@@ -31,81 +32,62 @@ rows-small c =
 row-choices : (c : tie.After-choices Inv-loop μ-loop) → c .choices .result ≡ choicesOf (c .before .before .before .before .before .before .before .args .n) (getD (c .before .before .before .before .before .before .before .args .t2 .rows) (c .before .before .before .before .before .before .loop .v) noNode .kind) (getD (c .before .before .before .before .before .before .before .args .t2 .rows) (c .before .before .before .before .before .before .loop .v) noNode .many)
 row-choices c = c .choices .ensures ∙ ap (λ (k : ℕ). choicesOf (c .before .before .before .before .before .before .before .args .n) k (getD (c .before .before .before .before .before .before .before .args .t2 .rows) (c .before .before .before .before .before .before .loop .v) noNode .many)) (c .before .before .before .wide .ensures)
 
--- src/lib.rt:167:5
 array-write-node : tie.Need-array-write-node Inv-loop μ-loop
 array-write-node c = omega arith
 
--- src/lib.rt:168:5
 array-write-act : tie.Need-array-write-act Inv-loop μ-loop
 array-write-act c = omega arith
 
--- src/lib.rt:172:5
 loop-holds : tie.Need-loop-holds Inv-loop μ-loop
 loop-holds c = (omega arith, refl, refl, nodes-first (c .args .n) (c .args .t2) (c .args .from) (c .args .first))
 
--- src/lib.rt:173:19
 mul-row : tie.Need-mul-row Inv-loop μ-loop
 mul-row c = omega (arith, c .before .before .pre .2 .few)
 
--- src/lib.rt:173:19
 element-copy-out-row : tie.Need-element-copy-out-row Inv-loop μ-loop
 element-copy-out-row c = omega (arith, c .before .before .pre .2 .few)
 
--- src/lib.rt:174:13
 wide-requires : tie.Need-wide-requires Inv-loop μ-loop
 wide-requires c κs = search needs
 
--- src/lib.rt:175:13
 power-requires : tie.Need-power-requires Inv-loop μ-loop
 power-requires c κs = (c .before .before .before .before .pre .0, pow-fits (c .before .before .before .before .args .n) (getD (c .before .before .before .before .args .t2 .rows) (c .before .before .before .loop .v) noNode .width) (c .before .before .before .before .pre .1) (c .before .before .before .before .pre .2 .nodes .node (c .before .before .before .loop .v) .width))
 
--- src/lib.rt:176:19
 node-width-requires : tie.Need-node-width-requires Inv-loop μ-loop
 node-width-requires c κs = (c .before .before .before .before .before .pre .1, rows-small c)
 
--- src/lib.rt:176:14
 add-at : tie.Need-add-at Inv-loop μ-loop
 add-at c =
     let w = c .node-width .ensures ∙ ap (nodeWidth (c .before .before .before .before .before .before .args .n) (c .before .power .result)) (c .before .before .wide .ensures) in
     omega (arith, c .before .before .before .before .before .loop .inv .3 .at-is, node-bound (c .before .before .before .before .before .before .args .n) (c .before .before .before .before .before .before .args .t2) (c .before .before .before .before .before .before .args .from) (c .before .before .before .before .before .before .args .first) (c .before .before .before .before .before .before .pre .1) (c .before .before .before .before .before .before .pre .2) (c .before .before .before .before .before .loop .v), c .before .before .before .before .before .before .pre .2 .few, w, node-width-le (c .before .before .before .before .before .before .args .n) (c .before .power .result) (getD (c .before .before .before .before .before .before .args .t2 .rows) (c .before .before .before .before .before .loop .v) noNode .kind) (c .before .before .before .before .before .before .pre .1) (rows-small (c .before)))
 
--- src/lib.rt:177:30
 choices-requires : tie.Need-choices-requires Inv-loop μ-loop
 choices-requires c κs = search needs
 
--- src/lib.rt:177:23
 mul-acts : tie.Need-mul-acts Inv-loop μ-loop
 mul-acts c = omega (arith, acts-le (c .before .before .before .before .before .before .before .args .n) (c .before .before .before .before .before .before .before .args .t2) (c .before .before .before .before .before .before .before .args .from) (c .before .before .before .before .before .before .before .args .first) (c .before .before .before .before .before .before .before .pre .1) (c .before .before .before .before .before .before .before .pre .2) (c .before .before .before .before .before .before .loop .v) (c .before .before .power .result) (c .choices .result) (c .before .before .power .ensures) (row-choices c))
 
--- src/lib.rt:177:16
 add-acts : tie.Need-add-acts Inv-loop μ-loop
 add-acts c = omega (arith, c .before .before .before .before .before .before .loop .inv .3 .act-is, act-bound (c .before .before .before .before .before .before .before .args .n) (c .before .before .before .before .before .before .before .args .t2) (c .before .before .before .before .before .before .before .args .from) (c .before .before .before .before .before .before .before .args .first) (c .before .before .before .before .before .before .before .pre .1) (c .before .before .before .before .before .before .before .pre .2) (c .before .before .before .before .before .before .loop .v), c .before .before .before .before .before .before .before .pre .2 .few, acts-le (c .before .before .before .before .before .before .before .args .n) (c .before .before .before .before .before .before .before .args .t2) (c .before .before .before .before .before .before .before .args .from) (c .before .before .before .before .before .before .before .args .first) (c .before .before .before .before .before .before .before .pre .1) (c .before .before .before .before .before .before .before .pre .2) (c .before .before .before .before .before .before .loop .v) (c .before .before .power .result) (c .choices .result) (c .before .before .power .ensures) (row-choices c))
 
--- src/lib.rt:178:9
 add-v : tie.Need-add-v Inv-loop μ-loop
 add-v c = omega (arith, c .before .before .before .before .before .before .before .pre .2 .few)
 
--- src/lib.rt:179:9
 mul-node : tie.Need-mul-node Inv-loop μ-loop
 mul-node c = omega (arith, c .before .before .before .before .before .before .before .pre .2 .few)
 
--- src/lib.rt:179:9
 array-write-node-2 : tie.Need-array-write-node-2 Inv-loop μ-loop
 array-write-node-2 c = omega (arith, c .before .before .before .before .before .before .before .pre .2 .few)
 
--- src/lib.rt:180:9
 mul-act : tie.Need-mul-act Inv-loop μ-loop
 mul-act c = omega (arith, c .before .before .before .before .before .before .before .pre .2 .few)
 
--- src/lib.rt:180:9
 array-write-act-2 : tie.Need-array-write-act-2 Inv-loop μ-loop
 array-write-act-2 c = omega (arith, c .before .before .before .before .before .before .before .pre .2 .few)
 
--- src/lib.rt:172:5
 loop-less : tie.Need-loop-less Inv-loop μ-loop
 loop-less c = omega (arith, c .before .before .before .before .before .before .before .pre .2 .few)
 
--- src/lib.rt:172:5
 loop-again : tie.Need-loop-again Inv-loop μ-loop
 loop-again c = (
   omega arith,
@@ -115,7 +97,6 @@ loop-again c = (
       (c .before .before .before .before .before .before .loop .inv .1) (c .before .before .before .before .before .before .loop .inv .2) (c .before .before .power .ensures) (c .before .node-width .ensures ∙ ap (nodeWidth (c .before .before .before .before .before .before .before .args .n) (c .before .before .power .result)) (c .before .before .before .wide .ensures)) (row-choices c) (c .before .before .before .before .before .before .loop .inv .3),
 )
 
--- src/lib.rt:161:1
 returns : tie.Need-returns Inv-loop μ-loop
 returns c =
     let e : c .before .loop .v ≡ c .before .before .args .t2 .count = omega arith in

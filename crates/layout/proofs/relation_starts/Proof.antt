@@ -1,9 +1,10 @@
-use Prim.Native.Nat.{ℕ, _+_, _*_, _-_, _≤_, _<_, _^_}
-use mathlib.Core.Path.{_≡_, refl, sym, ap, _∙_, subst}
+-- `layout::relation_starts` meets its contract.
+use Prim.Native.Nat.{ℕ, _-_, _≤_, _^_}
+use mathlib.Core.Path.{_≡_, refl, _∙_, subst}
 use native.Mathlib.Omega.{arith}
 use borrow.Author.Needs.{needs}
 use lib.ListN.{length, getD, length-set}
-use Rattle.layout.specs.Laid.{RelationsFit, RelationsLaid}
+use Rattle.layout.specs.Laid.{RelationsLaid}
 use Rattle.layout.specs.LaidLaws.{rels-first, rels-next, rel-bound, set-bound, pick-bound, width-le, set-width-le, most-width-le, pow-fits, size-most}
 use Rattle.layout.proofs.relation_starts.Statement.{statement}
 use Rattle.layout.proofs.relation_starts.Tie as tie
@@ -27,111 +28,84 @@ size-small c =
     let i = c .before .before .before .before .loop .i in
     size-most (s .args .n) (getD (s .args .t2 .arity) i 0) (c .power .result) (c .power .ensures) (s .pre .1) (s .pre .2 .arity i)
 
--- src/lib.rt:135:5
 array-write-rel : tie.Need-array-write-rel Inv-loop μ-loop
 array-write-rel c = omega arith
 
--- src/lib.rt:140:5
 loop-holds : tie.Need-loop-holds Inv-loop μ-loop
 loop-holds c = (omega arith, refl, refl, refl, refl, rels-first (c .args .n) (c .args .t2))
 
--- src/lib.rt:141:20
 mul-kind : tie.Need-mul-kind Inv-loop μ-loop
 mul-kind c = omega (arith, c .before .before .pre .2 .count)
 
--- src/lib.rt:141:20
 element-copy-out-kind : tie.Need-element-copy-out-kind Inv-loop μ-loop
 element-copy-out-kind c = omega (arith, c .before .before .pre .2 .count)
 
--- src/lib.rt:142:35
 mul-power : tie.Need-mul-power Inv-loop μ-loop
 mul-power c = omega (arith, c .before .before .before .pre .2 .count)
 
--- src/lib.rt:142:35
 element-copy-out-power : tie.Need-element-copy-out-power Inv-loop μ-loop
 element-copy-out-power c = omega (arith, c .before .before .before .pre .2 .count)
 
--- src/lib.rt:142:13
 power-requires : tie.Need-power-requires Inv-loop μ-loop
 power-requires c κs = (c .before .before .before .before .pre .0, pow-fits (c .before .before .before .before .args .n) (getD (c .before .before .before .before .args .t2 .arity) (c .before .before .before .loop .i) 0) (c .before .before .before .before .pre .1) (c .before .before .before .before .pre .2 .arity (c .before .before .before .loop .i)))
 
--- src/lib.rt:143:18
 add-neg : tie.Need-add-neg Inv-loop μ-loop
 add-neg c = omega (arith, c .before .before .before .before .loop .inv .5 .at-is, rel-bound (c .before .before .before .before .before .args .n) (c .before .before .before .before .before .args .t2) (c .before .before .before .before .before .pre .1) (c .before .before .before .before .before .pre .2) (c .before .before .before .before .loop .i), c .before .before .before .before .before .pre .2 .count, size-small c)
 
--- src/lib.rt:143:9
 mul-neg : tie.Need-mul-neg Inv-loop μ-loop
 mul-neg c = omega (arith, c .before .before .before .before .before .pre .2 .count)
 
--- src/lib.rt:143:9
 array-write-neg : tie.Need-array-write-neg Inv-loop μ-loop
 array-write-neg c = omega (arith, c .before .before .before .before .before .pre .2 .count)
 
--- src/lib.rt:144:24
 add-dom : tie.Need-add-dom Inv-loop μ-loop
 add-dom c = omega (arith, size-small c)
 
--- src/lib.rt:144:18
 add-dom-2 : tie.Need-add-dom-2 Inv-loop μ-loop
 add-dom-2 c = omega (arith, c .before .before .before .before .loop .inv .5 .at-is, rel-bound (c .before .before .before .before .before .args .n) (c .before .before .before .before .before .args .t2) (c .before .before .before .before .before .pre .1) (c .before .before .before .before .before .pre .2) (c .before .before .before .before .loop .i), c .before .before .before .before .before .pre .2 .count, size-small c)
 
--- src/lib.rt:144:9
 mul-dom : tie.Need-mul-dom Inv-loop μ-loop
 mul-dom c = omega (arith, c .before .before .before .before .before .pre .2 .count)
 
--- src/lib.rt:144:9
 array-write-dom : tie.Need-array-write-dom Inv-loop μ-loop
 array-write-dom c = omega (arith, c .before .before .before .before .before .pre .2 .count)
 
--- src/lib.rt:145:19
 relation-width-requires : tie.Need-relation-width-requires Inv-loop μ-loop
 relation-width-requires c κs = (c .before .before .before .before .before .pre .1, size-small c)
 
--- src/lib.rt:145:14
 add-at : tie.Need-add-at Inv-loop μ-loop
 add-at c = omega (arith, c .before .before .before .before .before .loop .inv .5 .at-is, rel-bound (c .before .before .before .before .before .before .args .n) (c .before .before .before .before .before .before .args .t2) (c .before .before .before .before .before .before .pre .1) (c .before .before .before .before .before .before .pre .2) (c .before .before .before .before .before .loop .i), c .before .before .before .before .before .before .pre .2 .count, c .relation-width .ensures, width-le (c .before .before .before .before .before .before .args .n) (c .before .power .result) (getD (c .before .before .before .before .before .before .args .t2 .kind) (c .before .before .before .before .before .loop .i) 0) (c .before .before .before .before .before .before .pre .1) (size-small (c .before)) .1)
 
--- src/lib.rt:146:23
 set-width-requires : tie.Need-set-width-requires Inv-loop μ-loop
 set-width-requires c κs = search needs
 
--- src/lib.rt:146:16
 add-sets : tie.Need-add-sets Inv-loop μ-loop
 add-sets c = omega (arith, c .before .before .before .before .before .before .loop .inv .5 .set-is, set-bound (c .before .before .before .before .before .before .before .args .n) (c .before .before .before .before .before .before .before .args .t2) (c .before .before .before .before .before .before .before .pre .1) (c .before .before .before .before .before .before .before .pre .2) (c .before .before .before .before .before .before .loop .i), c .before .before .before .before .before .before .before .pre .2 .count, c .set-width .ensures, set-width-le (c .before .before .power .result) (getD (c .before .before .before .before .before .before .before .args .t2 .kind) (c .before .before .before .before .before .before .loop .i) 0), size-small (c .before .before))
 
--- src/lib.rt:147:25
 most-width-requires : tie.Need-most-width-requires Inv-loop μ-loop
 most-width-requires c κs = search needs
 
--- src/lib.rt:147:17
 add-picks : tie.Need-add-picks Inv-loop μ-loop
 add-picks c = omega (arith, c .before .before .before .before .before .before .before .loop .inv .5 .picks-are, pick-bound (c .before .before .before .before .before .before .before .before .args .n) (c .before .before .before .before .before .before .before .before .args .t2) (c .before .before .before .before .before .before .before .before .pre .1) (c .before .before .before .before .before .before .before .before .pre .2) (c .before .before .before .before .before .before .before .loop .i), c .before .before .before .before .before .before .before .before .pre .2 .count, c .most-width .ensures, most-width-le (c .before .before .before .before .before .before .before .before .args .n) (c .before .before .before .power .result) (getD (c .before .before .before .before .before .before .before .before .args .t2 .kind) (c .before .before .before .before .before .before .before .loop .i) 0) (c .before .before .before .before .before .before .before .before .pre .1) (size-small (c .before .before .before)))
 
--- src/lib.rt:148:9
 add-i : tie.Need-add-i Inv-loop μ-loop
 add-i c = omega (arith, c .before .before .before .before .before .before .before .before .pre .2 .count)
 
--- src/lib.rt:149:9
 mul-rel : tie.Need-mul-rel Inv-loop μ-loop
 mul-rel c = omega (arith, c .before .before .before .before .before .before .before .before .pre .2 .count)
 
--- src/lib.rt:149:9
 array-write-rel-2 : tie.Need-array-write-rel-2 Inv-loop μ-loop
 array-write-rel-2 c = omega (arith, c .before .before .before .before .before .before .before .before .pre .2 .count)
 
--- src/lib.rt:150:9
 mul-set : tie.Need-mul-set Inv-loop μ-loop
 mul-set c = omega (arith, c .before .before .before .before .before .before .before .before .pre .2 .count)
 
--- src/lib.rt:150:9
 array-write-set : tie.Need-array-write-set Inv-loop μ-loop
 array-write-set c = omega (arith, c .before .before .before .before .before .before .before .before .pre .2 .count)
 
--- src/lib.rt:140:5
 loop-less : tie.Need-loop-less Inv-loop μ-loop
 loop-less c = omega (arith, c .before .before .before .before .before .before .before .before .pre .2 .count)
 
--- src/lib.rt:140:5
 loop-again : tie.Need-loop-again Inv-loop μ-loop
 loop-again c = (
   omega arith,
@@ -143,7 +117,6 @@ loop-again c = (
       (c .before .before .before .before .before .before .before .loop .inv .1) (c .before .before .before .before .before .before .before .loop .inv .2) (c .before .before .before .before .before .before .before .loop .inv .3) (c .before .before .before .before .before .before .before .loop .inv .4) (c .before .before .before .power .ensures) (c .before .before .relation-width .ensures) (c .before .set-width .ensures) (c .most-width .ensures) (c .before .before .before .before .before .before .before .loop .inv .5),
 )
 
--- src/lib.rt:127:1
 returns : tie.Need-returns Inv-loop μ-loop
 returns c =
     let e : c .before .loop .i ≡ c .before .before .args .t2 .count = omega arith in

@@ -1,3 +1,4 @@
+-- `layout::relation_width` meets its contract.
 use native.Mathlib.Omega.{arith}
 use borrow.Author.Needs.{needs}
 use Rattle.layout.specs.LaidLaws.{width-plain, width-function, width-injective}
@@ -7,39 +8,30 @@ use Rattle.layout.proofs.relation_width.Tie as tie
 use Rattle.layout.proofs.relation_width.Reads as reads
 use Rattle.layout.proofs.relation_width.Lts as lts
 
--- src/lib.rt:72:16
 add-result : tie.Need-add-result
 add-result c = search needs
 
--- src/lib.rt:72:9
 returns : tie.Need-returns
 returns c = width-plain (c .before .args .n) (c .before .args .size) (c .before .args .kind) (omega arith)
 
--- src/lib.rt:75:16
 add-result-2 : tie.Need-add-result-2
 add-result-2 c = search needs
 
--- src/lib.rt:75:16
 add-result-3 : tie.Need-add-result-3
 add-result-3 c = search needs
 
--- src/lib.rt:75:9
 returns-2 : tie.Need-returns-2
 returns-2 c = width-function (c .before .before .args .n) (c .before .before .args .size) (c .before .before .args .kind) (omega arith) (omega arith)
 
--- src/lib.rt:77:5
 add-result-4 : tie.Need-add-result-4
 add-result-4 c = search needs
 
--- src/lib.rt:77:5
 add-result-5 : tie.Need-add-result-5
 add-result-5 c = search needs
 
--- src/lib.rt:77:5
 add-result-6 : tie.Need-add-result-6
 add-result-6 c = search needs
 
--- src/lib.rt:67:1
 returns-3 : tie.Need-returns-3
 returns-3 c = width-injective (c .before .before .args .n) (c .before .before .args .size) (c .before .before .args .kind) (omega arith)
 

@@ -1,3 +1,4 @@
+-- `layout::set_width` meets its contract.
 use native.Mathlib.Omega.{arith}
 use Rattle.layout.specs.LaidLaws.{set-none, set-some}
 use Rattle.layout.proofs.set_width.Statement.{statement}
@@ -5,11 +6,9 @@ use Rattle.layout.proofs.set_width.Tie as tie
 use Rattle.layout.proofs.set_width.Reads as reads
 use Rattle.layout.proofs.set_width.Lts as lts
 
--- src/lib.rt:85:9
 returns : tie.Need-returns
 returns c = set-none (c .before .args .size) (c .before .args .kind) (omega arith)
 
--- src/lib.rt:81:1
 returns-2 : tie.Need-returns-2
 returns-2 c = set-some (c .before .args .size) (c .before .args .kind) (λ e. omega arith)
 

@@ -1,3 +1,4 @@
+-- `layout::too_many` meets its contract.
 use native.Mathlib.Omega.{arith}
 use mathlib.Core.Path.{refl}
 use Rattle.layout.specs.StartsAre.{too-many, not-first}
@@ -6,11 +7,9 @@ use Rattle.layout.proofs.too_many.Tie as tie
 use Rattle.layout.proofs.too_many.Reads as reads
 use Rattle.layout.proofs.too_many.Lts as lts
 
--- src/lib.rt:190:9
 returns : tie.Need-returns
 returns c = too-many 65536 131072 (c .before .args .atoms) (c .before .args .actions) (omega arith)
 
--- src/lib.rt:186:1
 returns-2 : tie.Need-returns-2
 returns-2 c = not-first 65536 131072 (c .before .args .atoms) (c .before .args .actions) _ (omega arith) refl
 

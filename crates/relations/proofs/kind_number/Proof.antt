@@ -1,16 +1,14 @@
+-- `relations::kind_number` meets its contract.
 use native.Mathlib.Omega.{arith}
-use borrow.Author.Needs.{needs}
 use Rattle.relations.specs.NumberedLaws.{kind-small, kind-last}
 use Rattle.relations.proofs.kind_number.Statement.{statement}
 use Rattle.relations.proofs.kind_number.Tie as tie
 use Rattle.relations.proofs.kind_number.Reads as reads
 use Rattle.relations.proofs.kind_number.Lts as lts
 
--- src/lib.rt:16:9
 returns : tie.Need-returns
 returns c = (kind-small (c .before .args .k) (omega arith), omega arith)
 
--- src/lib.rt:12:1
 returns-2 : tie.Need-returns-2
 returns-2 c = (kind-last (c .before .args .k) (omega arith), omega arith)
 

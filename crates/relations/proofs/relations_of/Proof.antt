@@ -1,8 +1,9 @@
-use Prim.Native.Nat.{ℕ, _+_, _-_, _≤_, _<_}
+-- `relations::relations_of` meets its contract.
+use Prim.Native.Nat.{_-_, _≤_}
 use mathlib.Core.Path.{_≡_, refl, _∙_}
 use native.Mathlib.Omega.{arith}
 use borrow.Author.Needs.{needs}
-use lib.ListN.{length, getD, length-set}
+use lib.ListN.{length, length-set}
 use Rattle.relations.specs.NumberedLaws.{Upto, upto-start, upto-next, arity-small, numbered}
 use Rattle.relations.proofs.relations_of.Statement.{statement}
 use Rattle.relations.proofs.relations_of.Tie as tie
@@ -18,55 +19,42 @@ Inv-loop g count arity₀ kind₀ r₀ arity kind r = (r ≤ count) × (length a
 abbrev μ-loop : tie.MeasureT-loop
 μ-loop g count arity₀ kind₀ r₀ arity kind r = count - r
 
--- src/lib.rt:26:22
 add-count : tie.Need-add-count Inv-loop μ-loop
 add-count c = omega (arith, c .before .pre .rels, c .before .pre .chosen)
 
--- src/lib.rt:26:17
 add-count-2 : tie.Need-add-count-2 Inv-loop μ-loop
 add-count-2 c = omega (arith, c .before .pre .rels, c .before .pre .chosen)
 
--- src/lib.rt:30:5
 loop-holds : tie.Need-loop-holds Inv-loop μ-loop
 loop-holds c = (omega arith, refl, refl, upto-start (c .before .args .g))
 
--- src/lib.rt:31:13
 arity-requires : tie.Need-arity-requires Inv-loop μ-loop
 arity-requires c κs = (omega arith, omega (arith, c .before .before .before .pre .rels, c .before .before .before .pre .chosen))
 
--- src/lib.rt:32:13
 kind-requires : tie.Need-kind-requires Inv-loop μ-loop
 kind-requires c κs = (omega arith, omega (arith, c .before .before .before .before .pre .rels, c .before .before .before .before .pre .chosen))
 
--- src/lib.rt:33:9
 mul-arity : tie.Need-mul-arity Inv-loop μ-loop
 mul-arity c = omega (arith, c .before .before .before .before .before .pre .rels, c .before .before .before .before .before .pre .chosen)
 
--- src/lib.rt:33:9
 array-write-arity : tie.Need-array-write-arity Inv-loop μ-loop
 array-write-arity c = omega (arith, c .before .before .before .before .before .pre .rels, c .before .before .before .before .before .pre .chosen)
 
--- src/lib.rt:34:19
 kind-number-requires : tie.Need-kind-number-requires Inv-loop μ-loop
 kind-number-requires c κs = search needs
 
--- src/lib.rt:34:9
 mul-kind : tie.Need-mul-kind Inv-loop μ-loop
 mul-kind c = omega (arith, c .before .before .before .before .before .before .pre .rels, c .before .before .before .before .before .before .pre .chosen)
 
--- src/lib.rt:34:9
 array-write-kind : tie.Need-array-write-kind Inv-loop μ-loop
 array-write-kind c = omega (arith, c .before .before .before .before .before .before .pre .rels, c .before .before .before .before .before .before .pre .chosen)
 
--- src/lib.rt:35:9
 add-r : tie.Need-add-r Inv-loop μ-loop
 add-r c = omega (arith, c .before .before .before .before .before .before .pre .rels, c .before .before .before .before .before .before .pre .chosen)
 
--- src/lib.rt:30:5
 loop-less : tie.Need-loop-less Inv-loop μ-loop
 loop-less c = omega arith
 
--- src/lib.rt:30:5
 loop-again : tie.Need-loop-again Inv-loop μ-loop
 loop-again c = (
   omega arith,
@@ -76,7 +64,6 @@ loop-again c = (
       (c .before .before .arity .ensures) (arity-small (c .before .before .before .before .before .before .args .g) (c .before .before .before .before .loop .r) (c .before .before .arity .result) (c .before .before .before .before .before .before .pre) (omega arith) (c .before .before .arity .ensures)) (c .before .kind .ensures) (c .kind-number .ensures .0) (c .kind-number .ensures .1) (c .before .before .before .before .loop .inv .3),
 )
 
--- src/lib.rt:22:1
 returns : tie.Need-returns Inv-loop μ-loop
 returns c = numbered (c .before .before .before .args .g) (c .before .loop .r) (c .before .loop .arity) (c .before .loop .kind) (c .before .before .before .pre) (omega arith) (c .before .loop .inv .3)
 

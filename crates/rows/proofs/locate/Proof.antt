@@ -1,5 +1,6 @@
-use Prim.Native.Nat.{ℕ, _+_, _*_, _-_, _/_, _≤_, _<_}
-use mathlib.Core.Path.{_≡_, ap}
+-- `rows::locate` meets its contract.
+use Prim.Native.Nat.{_+_, _*_, _-_, _/_, _≤_, _<_}
+use mathlib.Core.Path.{_≡_}
 use native.Mathlib.Omega.{arith}
 use borrow.Author.Needs.{needs}
 use lib.ListN.{length, getD}
@@ -21,57 +22,44 @@ in-range c =
     let s = c .before .before in
     omega (arith, stride-le (s .args .stride) (L .low + (L .high - L .low) / 2) (s .args .count) (omega arith), s .pre .0)
 
--- src/lib.rt:73:5
 loop-holds : tie.Need-loop-holds Inv-loop μ-loop
 loop-holds c =
     let q = locate-start (c .args .table .now) (c .args .at) (c .args .stride) (c .args .count) (c .args .k) (c .pre .1) (c .pre .2) in
     (q .0, omega arith, q .1, c .pre .2)
 
--- src/lib.rt:73:11
 add-loop : tie.Need-add-loop Inv-loop μ-loop
 add-loop c = search needs
 
--- src/lib.rt:74:26
 sub-mid : tie.Need-sub-mid Inv-loop μ-loop
 sub-mid c = search needs
 
--- src/lib.rt:74:19
 add-mid : tie.Need-add-mid Inv-loop μ-loop
 add-mid c = search needs
 
--- src/lib.rt:75:27
 mul-if1 : tie.Need-mul-if1 Inv-loop μ-loop
 mul-if1 c = omega (arith, in-range c)
 
--- src/lib.rt:75:22
 add-if1 : tie.Need-add-if1 Inv-loop μ-loop
 add-if1 c = omega (arith, in-range c)
 
--- src/lib.rt:75:16
 mul-if1-2 : tie.Need-mul-if1-2 Inv-loop μ-loop
 mul-if1-2 c = omega (arith, in-range c)
 
--- src/lib.rt:75:16
 shared-slice-read-if1 : tie.Need-shared-slice-read-if1 Inv-loop μ-loop
 shared-slice-read-if1 c = omega (arith, in-range (c .before))
 
--- src/lib.rt:73:5
 loop-less : tie.Need-loop-less Inv-loop μ-loop
 loop-less c = omega arith
 
--- src/lib.rt:73:5
 loop-again : tie.Need-loop-again Inv-loop μ-loop
 loop-again c = (omega arith, omega arith, c .before .before .before .loop .inv .2, c .if1 .taken)
 
--- src/lib.rt:73:5
 loop-less-2 : tie.Need-loop-less-2 Inv-loop μ-loop
 loop-less-2 c = omega arith
 
--- src/lib.rt:73:5
 loop-again-2 : tie.Need-loop-again-2 Inv-loop μ-loop
 loop-again-2 c = (omega arith, c .before .before .before .loop .inv .1, c .if1 .left, c .before .before .before .loop .inv .3)
 
--- src/lib.rt:67:1
 returns : tie.Need-returns Inv-loop μ-loop
 returns c =
     let e : c .before .loop .low + 1 ≡ c .before .loop .high = omega arith in

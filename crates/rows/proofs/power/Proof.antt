@@ -1,4 +1,5 @@
-use Prim.Native.Nat.{ℕ, _+_, _*_, _-_, _≤_, _<_, _^_}
+-- `rows::power` meets its contract.
+use Prim.Native.Nat.{ℕ, _-_, _≤_, _^_}
 use mathlib.Core.Path.{_≡_, ap, _∙_}
 use native.Mathlib.Omega.{arith}
 use borrow.Author.Needs.{needs}
@@ -14,27 +15,21 @@ Inv-loop n k r₀ i₀ r i = (i ≤ k) × (r ≡ n ^ i)
 abbrev μ-loop : tie.MeasureT-loop
 μ-loop n k r₀ i₀ r i = k - i
 
--- src/lib.rt:17:5
 loop-holds : tie.Need-loop-holds Inv-loop μ-loop
 loop-holds c = (omega arith, pow-first (c .args .n))
 
--- src/lib.rt:18:13
 mul-r : tie.Need-mul-r Inv-loop μ-loop
 mul-r c = omega (arith, pow-next (c .before .before .args .n) (c .before .loop .i) (c .before .loop .r) (c .before .loop .inv .1), pow-below (c .before .before .args .n) (c .before .loop .i) (c .before .before .args .k) (2 ^ 64) (c .before .before .pre .0) (c .loop-test .taken) (c .before .before .pre .1))
 
--- src/lib.rt:19:9
 add-i : tie.Need-add-i Inv-loop μ-loop
 add-i c = search needs
 
--- src/lib.rt:17:5
 loop-less : tie.Need-loop-less Inv-loop μ-loop
 loop-less c = search needs
 
--- src/lib.rt:17:5
 loop-again : tie.Need-loop-again Inv-loop μ-loop
 loop-again c = (omega arith, pow-next (c .before .before .args .n) (c .before .loop .i) (c .before .loop .r) (c .before .loop .inv .1))
 
--- src/lib.rt:11:1
 returns : tie.Need-returns Inv-loop μ-loop
 returns c =
     let e : c .before .loop .i ≡ c .before .before .args .k = omega arith in

@@ -1,5 +1,5 @@
-use Prim.Native.Nat.{ℕ, _*_, _≤_, _^_}
-use mathlib.Core.Path.{_≡_, refl}
+-- `rows::times` meets its contract.
+use mathlib.Core.Path.{_≡_}
 use native.Mathlib.Omega.{arith}
 use borrow.Author.Needs.{needs}
 use lib.ListN.{length, getD}
@@ -10,39 +10,30 @@ use Rattle.rows.proofs.times.Tie as tie
 use Rattle.rows.proofs.times.Reads as reads
 use Rattle.rows.proofs.times.Lts as lts
 
--- src/lib.rt:46:6
 array-read-t6 : tie.Need-array-read-t6
 array-read-t6 c = search needs
 
--- src/lib.rt:46:6
 mul-t7 : tie.Need-mul-t7
 mul-t7 c = omega (arith, times-most (getD (c .args .t1) 0 0) (c .args .n) (c .pre .1 0) (c .pre .0))
 
--- src/lib.rt:46:16
 array-read-t10 : tie.Need-array-read-t10
 array-read-t10 c = search needs
 
--- src/lib.rt:46:16
 mul-t11 : tie.Need-mul-t11
 mul-t11 c = omega (arith, times-most (getD (c .args .t1) 1 0) (c .args .n) (c .pre .1 1) (c .pre .0))
 
--- src/lib.rt:46:26
 array-read-t14 : tie.Need-array-read-t14
 array-read-t14 c = search needs
 
--- src/lib.rt:46:26
 mul-t15 : tie.Need-mul-t15
 mul-t15 c = omega (arith, times-most (getD (c .args .t1) 2 0) (c .args .n) (c .pre .1 2) (c .pre .0))
 
--- src/lib.rt:46:36
 array-read-t18 : tie.Need-array-read-t18
 array-read-t18 c = search needs
 
--- src/lib.rt:46:36
 mul-t19 : tie.Need-mul-t19
 mul-t19 c = omega (arith, times-most (getD (c .args .t1) 3 0) (c .args .n) (c .pre .1 3) (c .pre .0))
 
--- src/lib.rt:42:1
 returns : tie.Need-returns
 returns c =
     let len : length (c .args .t1) ≡ 4 = search needs in

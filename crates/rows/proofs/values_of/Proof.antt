@@ -1,9 +1,10 @@
-use Prim.Native.Nat.{ℕ, _+_, _*_, _-_, _≤_, _<_, _/_, _^_}
-use mathlib.Core.Path.{_≡_, refl, ap, _∙_}
+-- `rows::values_of` meets its contract.
+use Prim.Native.Nat.{_-_, _≤_, _/_, _^_}
+use mathlib.Core.Path.{_≡_, refl}
 use native.Mathlib.Omega.{arith}
 use native.Mathlib.Nat.{mod-lt}
 use borrow.Author.Needs.{needs}
-use lib.ListN.{length, take, drop, getD, length-set}
+use lib.ListN.{length, take, drop, length-set}
 use Rattle.definitions.specs.Atoms.{placesOf}
 use Rattle.definitions.specs.Actions.{valuesIn}
 use Rattle.rows.specs.Values.{valueIn, Within}
@@ -19,43 +20,33 @@ Inv-loop n width row levels out₀ rest₀ i₀ out rest i = (i ≤ width) × (l
 abbrev μ-loop : tie.MeasureT-loop
 μ-loop n width row levels out₀ rest₀ i₀ out rest i = i
 
--- src/lib.rt:95:5
 loop-holds : tie.Need-loop-holds Inv-loop μ-loop
 loop-holds c = (omega arith, refl, rest-none (c .args .n) (c .args .row) (c .args .width), values-none (c .args .n) (c .args .row) (c .args .width) (c .args .t2), within-zeros (c .args .n) (omega arith))
 
--- src/lib.rt:96:9
 sub-i : tie.Need-sub-i Inv-loop μ-loop
 sub-i c = search needs
 
--- src/lib.rt:97:26
 rem-out : tie.Need-rem-out Inv-loop μ-loop
 rem-out c = search needs
 
--- src/lib.rt:97:13
 mul-out : tie.Need-mul-out Inv-loop μ-loop
 mul-out c = search needs
 
--- src/lib.rt:97:13
 array-read-out : tie.Need-array-read-out Inv-loop μ-loop
 array-read-out c = search needs
 
--- src/lib.rt:97:9
 mul-out-2 : tie.Need-mul-out-2 Inv-loop μ-loop
 mul-out-2 c = omega (arith, c .before .before .pre .1 (c .before .loop .i - 1))
 
--- src/lib.rt:97:9
 array-write-out : tie.Need-array-write-out Inv-loop μ-loop
 array-write-out c = omega (arith, c .before .before .pre .1 (c .before .loop .i - 1))
 
--- src/lib.rt:98:16
 div-rest : tie.Need-div-rest Inv-loop μ-loop
 div-rest c = search needs
 
--- src/lib.rt:95:5
 loop-less : tie.Need-loop-less Inv-loop μ-loop
 loop-less c = search needs
 
--- src/lib.rt:95:5
 loop-again : tie.Need-loop-again Inv-loop μ-loop
 loop-again c =
     let s = c .before .before in
@@ -64,7 +55,6 @@ loop-again c =
     let t = values-next (s .args .n) (s .args .width) (l .i) (s .args .row) (l .rest) (l .out) (s .args .t2) (omega arith) (omega arith) (omega arith) (omega (arith, s .pre .1 (l .i - 1))) (l .inv .2) (l .inv .3) in
     (omega arith, simp length-set (l .inv .1), t .1, t .0, within-set (s .args .n) (l .out) _ _ (mod-lt (l .rest) (omega arith)) (l .inv .4))
 
--- src/lib.rt:87:1
 returns : tie.Need-returns Inv-loop μ-loop
 returns c =
     let s = c .before .before in

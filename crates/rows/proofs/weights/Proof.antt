@@ -1,11 +1,11 @@
-use Prim.Native.Nat.{ℕ, _+_, _*_, _-_, _≤_, _<_, _^_}
-use mathlib.Core.Path.{_≡_, refl, sym, ap, subst, _∙_}
-use mathlib.Core.List.{List, map}
+-- `rows::weights` meets its contract.
+use Prim.Native.Nat.{ℕ, _+_, _*_, _-_, _≤_, _^_}
+use mathlib.Core.Path.{_≡_, refl, ap, _∙_}
 use native.Mathlib.Omega.{arith}
 use borrow.Author.Needs.{needs}
-use lib.ListN.{length, take, getD, set, length-set, length-map}
-use Rattle.rows.specs.Values.{valueIn, weightOf, Most}
-use Rattle.rows.specs.Laws.{weight-none, weight-next, weight-most, value-most, weight-turn, product-most}
+use lib.ListN.{length, take, getD, length-set, length-map}
+use Rattle.rows.specs.Values.{valueIn, weightOf}
+use Rattle.rows.specs.Laws.{weight-none, weight-most, value-most, weight-turn, product-most}
 use Rattle.rows.proofs.weights.Statement.{statement}
 use Rattle.rows.proofs.weights.Tie as tie
 use Rattle.rows.proofs.weights.Reads as reads
@@ -18,35 +18,28 @@ Inv-loop n width levels w₀ i₀ w i = (i ≤ width) × (length w ≡ length w�
 abbrev μ-loop : tie.MeasureT-loop
 μ-loop n width levels w₀ i₀ w i = width - i
 
--- src/lib.rt:57:5
 loop-holds : tie.Need-loop-holds Inv-loop μ-loop
 loop-holds c = (omega arith, refl, weight-none (c .args .n) (c .args .t2))
 
--- src/lib.rt:58:13
 times-requires : tie.Need-times-requires Inv-loop μ-loop
 times-requires c κs =
     let len : length (c .before .before .args .t2) ≡ 4 = search needs in
     (omega arith, λ l. omega (arith, value-most (c .before .loop .w) (weightOf (c .before .before .args .n) (take (c .before .loop .i) (c .before .before .args .t2))) (65 ^ 4) (c .before .loop .inv .2) (weight-most (c .before .before .args .n) (c .before .loop .i) (c .before .before .args .t2) (omega arith) (omega arith) (omega arith) (omega arith)) l))
 
--- src/lib.rt:59:17
 mul-l : tie.Need-mul-l Inv-loop μ-loop
 mul-l c = search needs
 
--- src/lib.rt:59:17
 array-read-l : tie.Need-array-read-l Inv-loop μ-loop
 array-read-l c = search needs
 
--- src/lib.rt:60:9
 mul-w : tie.Need-mul-w Inv-loop μ-loop
 mul-w c = omega (arith, c .before .before .before .pre .1 (c .before .before .loop .i))
 
--- src/lib.rt:60:9
 array-read-w : tie.Need-array-read-w Inv-loop μ-loop
 array-read-w c =
     let e = ap length (c .times .ensures) in
     omega (arith, c .before .before .before .pre .1 (c .before .before .loop .i), e, length-map (c .before .before .loop .w) (λ (x : ℕ). x * c .before .before .before .args .n))
 
--- src/lib.rt:60:9
 add-w : tie.Need-add-w Inv-loop μ-loop
 add-w c =
     let len : length (c .before .before .before .args .t2) ≡ 4 = search needs in
@@ -56,21 +49,17 @@ add-w c =
           (value-most (c .before .before .loop .w) (weightOf (c .before .before .before .args .n) (take (c .before .before .loop .i) (c .before .before .before .args .t2))) (65 ^ 4) (c .before .before .loop .inv .2) (weight-most (c .before .before .before .args .n) (c .before .before .loop .i) (c .before .before .before .args .t2) (omega arith) (omega arith) (omega arith) (omega arith))),
     )
 
--- src/lib.rt:60:9
 array-write-w : tie.Need-array-write-w Inv-loop μ-loop
 array-write-w c =
     let e = ap length (c .times .ensures) in
     omega (arith, c .before .before .before .pre .1 (c .before .before .loop .i), e, length-map (c .before .before .loop .w) (λ (x : ℕ). x * c .before .before .before .args .n))
 
--- src/lib.rt:61:9
 add-i : tie.Need-add-i Inv-loop μ-loop
 add-i c = search needs
 
--- src/lib.rt:57:5
 loop-less : tie.Need-loop-less Inv-loop μ-loop
 loop-less c = search needs
 
--- src/lib.rt:57:5
 loop-again : tie.Need-loop-again Inv-loop μ-loop
 loop-again c =
     let len : length (c .before .before .before .args .t2) ≡ 4 = search needs in
@@ -80,7 +69,6 @@ loop-again c =
       weight-turn (c .before .before .before .args .n) (c .before .before .loop .i) (c .before .before .loop .w) (c .times .result) (c .before .before .before .args .t2) len (c .before .before .loop .inv .1) (omega arith) (c .before .before .before .pre .1) (c .times .ensures) (c .before .before .loop .inv .2),
     )
 
--- src/lib.rt:50:1
 returns : tie.Need-returns Inv-loop μ-loop
 returns c =
     let len : length (c .before .before .args .t2) ≡ 4 = search needs in

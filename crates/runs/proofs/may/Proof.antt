@@ -1,4 +1,5 @@
-use mathlib.Core.Path.{_≡_, sym, _∙_}
+-- `runs::may` meets its contract.
+use mathlib.Core.Path.{sym, _∙_}
 use mathlib.Core.List.{[]}
 use borrow.Author.Needs.{needs}
 use Rattle.bits.specs.Table.{bit}
@@ -12,23 +13,18 @@ use Rattle.decode.proofs.action_at.Reads as action-at-reads
 use Rattle.ground.proofs.may_take.Reads as may-take-reads
 use Rattle.runs.proofs.is_nothing.Reads as is-nothing-reads
 
--- src/lib.rt:88:9
 action-at-requires : tie.Need-action-at-requires
 action-at-requires c κs = search needs
 
--- src/lib.rt:89:8
 is-nothing-requires : tie.Need-is-nothing-requires
 is-nothing-requires c κs = search needs
 
--- src/lib.rt:90:9
 returns : tie.Need-returns
 returns c = λ p is. may-none p (c .before .before .before .before .before .args .table .now) is (bit (c .before .before .before .before .before .args .state .now)) 0 (c .before .before .before .before .before .args .number) [] (c .before .before .action-at .result) (c .before .before .action-at .ensures .1 p is) (sym (c .before .is-nothing .ensures) ∙ c .if1 .taken)
 
--- src/lib.rt:92:5
 may-take-requires : tie.Need-may-take-requires
 may-take-requires c κs = search needs
 
--- src/lib.rt:84:1
 returns-2 : tie.Need-returns-2
 returns-2 c = λ p is. may-some p (c .before .before .before .before .before .before .args .table .now) is (bit (c .before .before .before .before .before .before .args .state .now)) 0 (c .before .before .before .before .before .before .args .number) [] (c .before .before .before .action-at .result) (c .before .before .before .action-at .ensures .1 p is) (c .may-take .result) (sym (c .before .before .is-nothing .ensures) ∙ c .before .if1 .left) (c .may-take .ensures)
 

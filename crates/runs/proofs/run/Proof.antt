@@ -1,6 +1,6 @@
-use Prim.Native.Nat.{ℕ, zero, suc, _+_, _*_, _-_, _≤_, _<_}
+-- `runs::run` meets its contract.
+use Prim.Native.Nat.{ℕ, suc, _*_, _-_, _≤_}
 use mathlib.Core.Path.{_≡_, refl, sym, ap, _∙_}
-use mathlib.Core.List.{_∷_}
 use native.Mathlib.Numerals.{add-one}
 use native.Mathlib.Omega.{arith}
 use borrow.Author.Needs.{needs}
@@ -28,35 +28,27 @@ Inv-loop state₀ table steps i₀ state i = (i ≤ length steps) × (length sta
 abbrev μ-loop : tie.MeasureT-loop
 μ-loop state₀ table steps i₀ state i = length steps - i
 
--- src/lib.rt:64:5
 loop-holds : tie.Need-loop-holds Inv-loop μ-loop
 loop-holds c = (omega arith, refl, λ p is h. refl)
 
--- src/lib.rt:65:17
 mul-k : tie.Need-mul-k Inv-loop μ-loop
 mul-k c = search needs
 
--- src/lib.rt:65:17
 shared-slice-read-k : tie.Need-shared-slice-read-k Inv-loop μ-loop
 shared-slice-read-k c = search needs
 
--- src/lib.rt:65:17
 cast-k : tie.Need-cast-k Inv-loop μ-loop
 cast-k c = omega (arith, c .shared-slice-known3 .given (c .before .before .loop .i))
 
--- src/lib.rt:66:13
 action-at-requires : tie.Need-action-at-requires Inv-loop μ-loop
 action-at-requires c κs = search needs
 
--- src/lib.rt:67:12
 is-nothing-requires : tie.Need-is-nothing-requires Inv-loop μ-loop
 is-nothing-requires c κs = search needs
 
--- src/lib.rt:68:13
 same-length : tie.Need-same-length Inv-loop μ-loop
 same-length c = search needs
 
--- src/lib.rt:68:13
 returns : tie.Need-returns Inv-loop μ-loop
 returns c = λ p is h.
     answer-is (runFrom p (bit (c .before .before .before .before .before .before .before .before .before .args .state .now)) 0 (c .before .before .before .before .before .before .before .before .before .args .steps .now)) (NoAction (c .before .before .before .before .before .loop .i)) (bit (c .before .before .before .before .before .loop .state)) (refused 13 (c .before .before .before .before .before .loop .i))
@@ -64,19 +56,15 @@ returns c = λ p is h.
     ∙ none-run p (c .before .before .before .before .before .before .before .before .before .args .table .now) is (bit (c .before .before .before .before .before .loop .state)) (c .before .before .before .before .before .loop .i) (getD (c .before .before .before .before .before .before .before .before .before .args .steps .now) (c .before .before .before .before .before .loop .i) 0) (drop (suc (c .before .before .before .before .before .loop .i)) (c .before .before .before .before .before .before .before .before .before .args .steps .now)) (c .before .before .action-at .result) (c .before .before .action-at .ensures .1 p is) (sym (c .before .is-nothing .ensures) ∙ c .if1 .taken))
     (end-no-action (c .before .before .before .before .before .loop .i))
 
--- src/lib.rt:70:12
 may-take-requires : tie.Need-may-take-requires Inv-loop μ-loop
 may-take-requires c κs = search needs
 
--- src/lib.rt:71:13
 take-requires : tie.Need-take-requires Inv-loop μ-loop
 take-requires c κs = search needs
 
--- src/lib.rt:73:13
 same-length-2 : tie.Need-same-length-2 Inv-loop μ-loop
 same-length-2 c = search needs
 
--- src/lib.rt:73:13
 returns-2 : tie.Need-returns-2 Inv-loop μ-loop
 returns-2 c = λ p is h.
     answer-is (runFrom p (bit (c .before .before .before .before .before .before .before .before .before .before .before .before .args .state .now)) 0 (c .before .before .before .before .before .before .before .before .before .before .before .before .args .steps .now)) (NotNow (c .before .before .before .before .before .before .before .before .loop .i)) (bit (c .before .before .before .before .before .before .before .before .loop .state)) (refused 14 (c .before .before .before .before .before .before .before .before .loop .i))
@@ -84,15 +72,12 @@ returns-2 c = λ p is h.
     ∙ not-run p (c .before .before .before .before .before .before .before .before .before .before .before .before .args .table .now) is (bit (c .before .before .before .before .before .before .before .before .loop .state)) (c .before .before .before .before .before .before .before .before .loop .i) (getD (c .before .before .before .before .before .before .before .before .before .before .before .before .args .steps .now) (c .before .before .before .before .before .before .before .before .loop .i) 0) (drop (suc (c .before .before .before .before .before .before .before .before .loop .i)) (c .before .before .before .before .before .before .before .before .before .before .before .before .args .steps .now)) (c .before .before .before .before .before .action-at .result) (c .before .before .before .before .before .action-at .ensures .1 p is) (sym (c .before .before .before .before .is-nothing .ensures) ∙ c .before .before .before .if1 .left) (sym (c .if2 .left) ∙ c .before .may-take .ensures))
     (end-not-now (c .before .before .before .before .before .before .before .before .loop .i))
 
--- src/lib.rt:75:9
 add-i : tie.Need-add-i Inv-loop μ-loop
 add-i c = search needs
 
--- src/lib.rt:64:5
 loop-less : tie.Need-loop-less Inv-loop μ-loop
 loop-less c = search needs
 
--- src/lib.rt:64:5
 loop-again : tie.Need-loop-again Inv-loop μ-loop
 loop-again c = (
   omega arith,
@@ -103,26 +88,21 @@ loop-again c = (
       ∙ ap (λ (m : ℕ). runFrom p (bit (c .before .before .take .last .0)) m (drop m (c .before .before .before .before .before .before .before .before .before .before .before .before .before .before .before .before .args .steps .now))) (sym (add-one (c .before .before .before .before .before .before .before .before .before .before .before .before .loop .i))),
 )
 
--- src/lib.rt:77:8
 test-requires : tie.Need-test-requires Inv-loop μ-loop
 test-requires c κs = search needs
 
--- src/lib.rt:78:9
 same-length-3 : tie.Need-same-length-3 Inv-loop μ-loop
 same-length-3 c = search needs
 
--- src/lib.rt:78:9
 returns-3 : tie.Need-returns-3 Inv-loop μ-loop
 returns-3 c = λ p is h.
     answer-is (runFrom p (bit (c .before .before .before .before .before .before .before .before .args .state .now)) 0 (c .before .before .before .before .before .before .before .before .args .steps .now)) (Done (c .before .before .before .before .loop .i)) (bit (c .before .before .before .before .loop .state)) (accepted (c .before .before .before .before .loop .i))
     (c .before .before .before .before .loop .inv .2 p is h ∙ end-run p (bit (c .before .before .before .before .loop .state)) (c .before .before .before .before .loop .i) (c .before .before .before .before .before .before .before .before .args .steps .now) (omega arith) ∙ run-done p (bit (c .before .before .before .before .loop .state)) (c .before .before .before .before .loop .i) (sym (c .before .test .ensures) ∙ c .if3 .taken))
     (end-done (c .before .before .before .before .loop .i))
 
--- src/lib.rt:57:1
 same-length-4 : tie.Need-same-length-4 Inv-loop μ-loop
 same-length-4 c = search needs
 
--- src/lib.rt:57:1
 returns-4 : tie.Need-returns-4 Inv-loop μ-loop
 returns-4 c = λ p is h.
     answer-is (runFrom p (bit (c .before .before .before .before .before .before .before .before .args .state .now)) 0 (c .before .before .before .before .before .before .before .before .args .steps .now)) (NoGoal (c .before .before .before .before .loop .i)) (bit (c .before .before .before .before .loop .state)) (refused 15 (c .before .before .before .before .loop .i))

@@ -1,3 +1,4 @@
+-- `runs::step` meets its contract.
 use mathlib.Core.List.{[]}
 use borrow.Author.Needs.{needs}
 use lib.ListN.{length}
@@ -11,19 +12,15 @@ use Rattle.runs.proofs.step.Lts as lts
 use Rattle.decode.proofs.action_at.Reads as action-at-reads
 use Rattle.ground.proofs.take.Reads as take-reads
 
--- src/lib.rt:101:9
 action-at-requires : tie.Need-action-at-requires
 action-at-requires c κs = search needs
 
--- src/lib.rt:102:5
 take-requires : tie.Need-take-requires
 take-requires c κs = search needs
 
--- src/lib.rt:96:1
 same-length : tie.Need-same-length
 same-length c = search needs
 
--- src/lib.rt:96:1
 returns : tie.Need-returns
 returns c = λ p x is room y. step-is p (c .before .before .before .before .before .before .before .args .table .now) is (bit (c .before .before .before .before .before .before .before .args .state .now)) 0 (c .before .before .before .before .before .before .before .args .number) [] (c .before .before .before .before .action-at .result) (c .before .before .before .before .action-at .ensures .1 p is) x (bit (c .before .before .take .last .0)) (length (c .before .before .before .before .before .before .before .args .state .now)) y room (c .before .before .take .ensures)
 

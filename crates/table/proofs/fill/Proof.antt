@@ -1,7 +1,6 @@
-use mathlib.Core.Path.{_≡_, _∙_}
-use native.Mathlib.Omega.{arith}
+-- `table::fill` meets its contract.
+use mathlib.Core.Path.{_∙_}
 use borrow.Author.Needs.{needs}
-use lib.ListN.{length}
 use Rattle.table.specs.FilledLaws.{three-set, all-filled, filled}
 use borrow.Author.Needs.{needs}
 use Rattle.table.proofs.fill.Statement.{statement}
@@ -12,35 +11,27 @@ use Rattle.table.proofs.fill_nodes.Reads as fill-nodes-reads
 use Rattle.table.proofs.fill_parts.Reads as fill-parts-reads
 use Rattle.table.proofs.fill_relations.Reads as fill-relations-reads
 
--- src/lib.rt:119:5
 slice-write-table : tie.Need-slice-write-table
 slice-write-table c = search needs
 
--- src/lib.rt:120:5
 slice-write-table-2 : tie.Need-slice-write-table-2
 slice-write-table-2 c = search needs
 
--- src/lib.rt:121:5
 slice-write-table-3 : tie.Need-slice-write-table-3
 slice-write-table-3 c = search needs
 
--- src/lib.rt:122:5
 fill-relations-requires : tie.Need-fill-relations-requires
 fill-relations-requires c κs = search needs
 
--- src/lib.rt:123:5
 fill-nodes-requires : tie.Need-fill-nodes-requires
 fill-nodes-requires c κs = (c .before .before .before .fill-relations .kept .0 ∙ three-set (c .before .before .before .before .before .before .args .table .now) (c .before .before .before .before .before .before .args .n) (c .before .before .before .before .before .before .args .g .count) (c .before .before .before .before .before .before .args .t .count) ∙ c .before .before .before .before .before .before .pre .0, c .before .before .before .before .before .before .pre .4, c .before .before .before .before .before .before .pre .5)
 
--- src/lib.rt:124:5
 fill-parts-requires : tie.Need-fill-parts-requires
 fill-parts-requires c κs = (c .before .before .before .fill-nodes .kept .0 ∙ c .before .before .before .before .before .before .before .fill-relations .kept .0 ∙ three-set (c .before .before .before .before .before .before .before .before .before .before .args .table .now) (c .before .before .before .before .before .before .before .before .before .before .args .n) (c .before .before .before .before .before .before .before .before .before .before .args .g .count) (c .before .before .before .before .before .before .before .before .before .before .args .t .count) ∙ c .before .before .before .before .before .before .before .before .before .before .pre .0, c .before .before .before .before .before .before .before .before .before .before .pre .1, c .before .before .before .before .before .before .before .before .before .before .pre .2, c .before .before .before .before .before .before .before .before .before .before .pre .4, c .before .before .before .before .before .before .before .before .before .before .pre .5)
 
--- src/lib.rt:115:1
 same-length : tie.Need-same-length
 same-length c = c .before .before .fill-parts .kept .0 ∙ c .before .before .before .before .before .before .fill-nodes .kept .0 ∙ c .before .before .before .before .before .before .before .before .before .before .fill-relations .kept .0 ∙ three-set (c .before .before .before .before .before .before .before .before .before .before .before .before .before .args .table .now) (c .before .before .before .before .before .before .before .before .before .before .before .before .before .args .n) (c .before .before .before .before .before .before .before .before .before .before .before .before .before .args .g .count) (c .before .before .before .before .before .before .before .before .before .before .before .before .before .args .t .count)
 
--- src/lib.rt:115:1
 returns : tie.Need-returns
 returns c =
     let e = all-filled (c .before .before .before .before .before .before .before .before .before .before .before .before .before .args .n) (c .before .before .before .before .before .before .before .before .before .before .before .before .before .args .g) (c .before .before .before .before .before .before .before .before .before .before .before .before .before .args .t) (c .before .before .before .before .before .before .before .before .before .before .before .before .before .args .l) (c .before .before .before .before .before .before .before .before .before .before .before .before .before .args .table .now) (c .before .before .before .before .before .before .before .before .before .before .fill-relations .last .0) (c .before .before .before .before .before .before .fill-nodes .last .0) (c .before .before .fill-parts .last .0) (c .before .before .before .before .before .before .before .before .before .before .fill-relations .ensures) (c .before .before .before .before .before .before .fill-nodes .ensures .0) (c .before .before .fill-parts .ensures .0) in

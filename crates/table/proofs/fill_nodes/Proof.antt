@@ -1,8 +1,9 @@
-use Prim.Native.Nat.{ℕ, _+_, _*_, _-_, _^_, _≤_, _<_}
-use mathlib.Core.Path.{_≡_, refl, sym, ap, _∙_}
+-- `table::fill_nodes` meets its contract.
+use Prim.Native.Nat.{ℕ, _-_, _^_, _≤_, _<_}
+use mathlib.Core.Path.{_≡_, refl, _∙_}
 use native.Mathlib.Omega.{arith}
 use borrow.Author.Needs.{needs}
-use lib.ListN.{length, getD}
+use lib.ListN.{length}
 use Rattle.rows.specs.Values.{Most}
 use Rattle.table.specs.Filled.{splice, tab, nodeNumbers}
 use Rattle.table.specs.SpliceLaws.{tab-none}
@@ -20,79 +21,60 @@ Inv-loop table₀ t l v₀ table v = (v ≤ 64) × (length table ≡ length tabl
 abbrev μ-loop : tie.MeasureT-loop
 μ-loop table₀ t l v₀ table v = 64 - v
 
--- src/lib.rt:56:5
 loop-holds : tie.Need-loop-holds Inv-loop μ-loop
 loop-holds c = (omega arith, refl, tab-none (nodeNumbers (c .before .args .t2) (c .before .args .t3)) 93 (c .before .args .table .now), λ u h. absurd (omega arith))
 
--- src/lib.rt:57:17
 mul-x : tie.Need-mul-x Inv-loop μ-loop
 mul-x c = search needs
 
--- src/lib.rt:57:17
 element-copy-out-x : tie.Need-element-copy-out-x Inv-loop μ-loop
 element-copy-out-x c = search needs
 
--- src/lib.rt:59:13
 wide-requires : tie.Need-wide-requires Inv-loop μ-loop
 wide-requires c κs = search needs
 
--- src/lib.rt:60:21
 mul-t13 : tie.Need-mul-t13 Inv-loop μ-loop
 mul-t13 c = search needs
 
--- src/lib.rt:60:21
 element-copy-out-t19 : tie.Need-element-copy-out-t19 Inv-loop μ-loop
 element-copy-out-t19 c = search needs
 
--- src/lib.rt:60:31
 mul-t20 : tie.Need-mul-t20 Inv-loop μ-loop
 mul-t20 c = search needs
 
--- src/lib.rt:60:31
 element-copy-out-t23 : tie.Need-element-copy-out-t23 Inv-loop μ-loop
 element-copy-out-t23 c = search needs
 
--- src/lib.rt:60:83
 array-read-t26 : tie.Need-array-read-t26 Inv-loop μ-loop
 array-read-t26 c = search needs
 
--- src/lib.rt:60:90
 array-read-t29 : tie.Need-array-read-t29 Inv-loop μ-loop
 array-read-t29 c = search needs
 
--- src/lib.rt:60:97
 array-read-t32 : tie.Need-array-read-t32 Inv-loop μ-loop
 array-read-t32 c = search needs
 
--- src/lib.rt:60:104
 array-read-store : tie.Need-array-read-store Inv-loop μ-loop
 array-read-store c = search needs
 
--- src/lib.rt:61:27
 mul-store : tie.Need-mul-store Inv-loop μ-loop
 mul-store c = search needs
 
--- src/lib.rt:61:22
 add-store : tie.Need-add-store Inv-loop μ-loop
 add-store c = search needs
 
--- src/lib.rt:61:35
 slice-aggregate-store : tie.Need-slice-aggregate-store Inv-loop μ-loop
 slice-aggregate-store c = search needs
 
--- src/lib.rt:61:9
 store-requires : tie.Need-store-requires Inv-loop μ-loop
 store-requires c κs = omega (arith, c .before .before .before .before .before .before .before .before .loop .inv .1, c .before .before .before .before .before .before .before .before .before .before .pre .0)
 
--- src/lib.rt:62:9
 add-v : tie.Need-add-v Inv-loop μ-loop
 add-v c = search needs
 
--- src/lib.rt:56:5
 loop-less : tie.Need-loop-less Inv-loop μ-loop
 loop-less c = search needs
 
--- src/lib.rt:56:5
 loop-again : tie.Need-loop-again Inv-loop μ-loop
 loop-again c = (
   omega arith,
@@ -101,27 +83,21 @@ loop-again c = (
   one-more (λ (u : ℕ). Most (nodeNumbers (c .before .before .before .before .before .before .before .before .before .before .before .before .before .args .t2) (c .before .before .before .before .before .before .before .before .before .before .before .before .before .args .t3) u) (2 ^ 32)) (c .before .before .before .before .before .before .before .before .before .before .before .loop .v) (c .before .before .before .before .before .before .before .before .before .before .before .loop .inv .3) (node-most (c .before .before .before .before .before .before .before .before .before .before .before .before .before .args .t2) (c .before .before .before .before .before .before .before .before .before .before .before .before .before .args .t3) (c .before .before .before .before .before .before .before .before .before .before .before .loop .table) (c .before .before .before .before .before .before .before .before .before .before .before .before .before .args .table .now) (c .before .before .store .last .0) (c .before .before .before .before .before .before .before .before .before .before .before .before .before .pre .0) (c .before .before .before .before .before .before .before .before .before .before .before .loop .v) (c .before .before .before .before .before .before .before .wide .result) (c .before .before .before .before .before .before .before .before .before .before .before .before .before .pre .1) (c .before .before .before .before .before .before .before .before .before .before .before .before .before .pre .2) (c .before .before .before .before .before .before .before .wide .ensures .1) (c .before .before .before .before .before .before .before .wide .ensures .0)),
 )
 
--- src/lib.rt:64:17
 element-copy-out-t43 : tie.Need-element-copy-out-t43 Inv-loop μ-loop
 element-copy-out-t43 c = search needs
 
--- src/lib.rt:64:28
 element-copy-out-t46 : tie.Need-element-copy-out-t46 Inv-loop μ-loop
 element-copy-out-t46 c = search needs
 
--- src/lib.rt:65:23
 slice-aggregate-store-2 : tie.Need-slice-aggregate-store-2 Inv-loop μ-loop
 slice-aggregate-store-2 c = search needs
 
--- src/lib.rt:65:5
 store-requires-2 : tie.Need-store-requires-2 Inv-loop μ-loop
 store-requires-2 c κs = omega (arith, c .before .before .before .before .before .loop .inv .1, c .before .before .before .before .before .before .before .pre .0)
 
--- src/lib.rt:51:1
 same-length : tie.Need-same-length Inv-loop μ-loop
 same-length c = search needs
 
--- src/lib.rt:51:1
 returns : tie.Need-returns Inv-loop μ-loop
 returns c = (node-last (c .before .before .before .before .before .before .before .before .before .before .args .t2) (c .before .before .before .before .before .before .before .before .before .before .args .t3) (c .before .before .before .before .before .before .before .before .loop .table) (c .before .before .before .before .before .before .before .before .before .before .args .table .now) (c .before .before .store2 .last .0) (c .before .before .before .before .before .before .before .before .before .before .pre .0) (c .before .before .before .before .before .before .before .before .loop .v) (omega arith) (c .before .before .before .before .before .before .before .before .loop .inv .2) (c .before .before .store2 .ensures), λ u h. c .before .before .before .before .before .before .before .before .loop .inv .3 u (omega arith))
 

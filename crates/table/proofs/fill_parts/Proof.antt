@@ -1,5 +1,6 @@
-use Prim.Native.Nat.{ℕ, _+_, _*_, _-_, _^_, _≤_, _<_}
-use mathlib.Core.Path.{_≡_, refl, sym, ap, _∙_, subst}
+-- `table::fill_parts` meets its contract.
+use Prim.Native.Nat.{ℕ, _-_, _^_, _≤_, _<_}
+use mathlib.Core.Path.{_≡_, refl, ap, _∙_, subst}
 use mathlib.Core.List.{List}
 use native.Mathlib.Omega.{arith}
 use borrow.Author.Needs.{needs}
@@ -23,47 +24,36 @@ Inv-loop table₀ n l t i₀ table i = (i ≤ 64) × (length table ≡ length ta
 abbrev μ-loop : tie.MeasureT-loop
 μ-loop table₀ n l t i₀ table i = 64 - i
 
--- src/lib.rt:103:5
 loop-holds : tie.Need-loop-holds Inv-loop μ-loop
 loop-holds c = (omega arith, refl, tab-none (λ (i : ℕ). partNumbers (c .before .args .n) (c .before .args .l) (getD (c .before .args .t3 .parts) i noPart)) 808 (c .before .args .table .now), λ u h. absurd (omega arith))
 
--- src/lib.rt:104:17
 mul-q : tie.Need-mul-q Inv-loop μ-loop
 mul-q c = search needs
 
--- src/lib.rt:104:17
 element-copy-out-q : tie.Need-element-copy-out-q Inv-loop μ-loop
 element-copy-out-q c = search needs
 
--- src/lib.rt:105:20
 part-numbers-requires : tie.Need-part-numbers-requires Inv-loop μ-loop
 part-numbers-requires c κs = (c .before .before .before .before .pre .1, c .before .before .before .before .pre .2, c .before .before .before .before .pre .3 .parts .part (c .before .before .loop .i), c .before .before .before .before .pre .4)
 
--- src/lib.rt:106:28
 mul-store : tie.Need-mul-store Inv-loop μ-loop
 mul-store c = search needs
 
--- src/lib.rt:106:22
 add-store : tie.Need-add-store Inv-loop μ-loop
 add-store c = search needs
 
--- src/lib.rt:106:35
 slice-aggregate-store : tie.Need-slice-aggregate-store Inv-loop μ-loop
 slice-aggregate-store c = search needs
 
--- src/lib.rt:106:9
 store-requires : tie.Need-store-requires Inv-loop μ-loop
 store-requires c κs = omega (arith, c .before .before .before .before .before .loop .inv .1, c .before .before .before .before .before .before .before .pre .0, ap length (c .before .before .part-numbers .ensures .0), length-part (c .before .before .before .before .before .before .before .args .n) (c .before .before .before .before .before .before .before .args .l) (getD (c .before .before .before .before .before .before .before .args .t3 .parts) (c .before .before .before .before .before .loop .i) noPart))
 
--- src/lib.rt:107:9
 add-i : tie.Need-add-i Inv-loop μ-loop
 add-i c = search needs
 
--- src/lib.rt:103:5
 loop-less : tie.Need-loop-less Inv-loop μ-loop
 loop-less c = search needs
 
--- src/lib.rt:103:5
 loop-again : tie.Need-loop-again Inv-loop μ-loop
 loop-again c = (
   omega arith,
@@ -72,23 +62,18 @@ loop-again c = (
   one-more (λ (u : ℕ). Most (partNumbers (c .before .before .before .before .before .before .before .before .before .before .args .n) (c .before .before .before .before .before .before .before .before .before .before .args .l) (getD (c .before .before .before .before .before .before .before .before .before .before .args .t3 .parts) u noPart)) (2 ^ 32)) (c .before .before .before .before .before .before .before .before .loop .i) (c .before .before .before .before .before .before .before .before .loop .inv .3) (subst (λ (xs : List ℕ). Most xs (2 ^ 32)) (c .before .before .before .before .before .part-numbers .ensures .0) (c .before .before .before .before .before .part-numbers .ensures .1)),
 )
 
--- src/lib.rt:110:16
 part-numbers-requires-2 : tie.Need-part-numbers-requires-2 Inv-loop μ-loop
 part-numbers-requires-2 c κs = (c .before .before .before .before .pre .1, c .before .before .before .before .pre .2, c .before .before .before .before .pre .3 .root, c .before .before .before .before .pre .4)
 
--- src/lib.rt:111:24
 slice-aggregate-store-2 : tie.Need-slice-aggregate-store-2 Inv-loop μ-loop
 slice-aggregate-store-2 c = search needs
 
--- src/lib.rt:111:5
 store-requires-2 : tie.Need-store-requires-2 Inv-loop μ-loop
 store-requires-2 c κs = omega (arith, c .before .before .before .before .before .loop .inv .1, c .before .before .before .before .before .before .before .pre .0, ap length (c .before .before .part-numbers2 .ensures .0), length-part (c .before .before .before .before .before .before .before .args .n) (c .before .before .before .before .before .before .before .args .l) (c .before .before .before .before .before .before .before .args .t3 .root))
 
--- src/lib.rt:97:1
 same-length : tie.Need-same-length Inv-loop μ-loop
 same-length c = search needs
 
--- src/lib.rt:97:1
 returns : tie.Need-returns Inv-loop μ-loop
 returns c = (part-last (c .before .before .before .before .before .before .before .before .before .before .args .n) (c .before .before .before .before .before .before .before .before .before .before .args .t3) (c .before .before .before .before .before .before .before .before .before .before .args .l) (c .before .before .before .before .before .before .before .before .loop .table) (c .before .before .before .before .before .before .before .before .before .before .args .table .now) (c .before .before .store2 .last .0) (c .before .before .before .before .before .before .before .before .before .before .pre .0) (c .before .before .before .before .before .before .before .before .loop .i) (c .before .before .before .before .before .part-numbers2 .result) (omega arith) (c .before .before .before .before .before .part-numbers2 .ensures .0) (c .before .before .before .before .before .before .before .before .loop .inv .2) (c .before .before .store2 .ensures), (λ u h. c .before .before .before .before .before .before .before .before .loop .inv .3 u (omega arith)), subst (λ (xs : List ℕ). Most xs (2 ^ 32)) (c .before .before .before .before .before .part-numbers2 .ensures .0) (c .before .before .before .before .before .part-numbers2 .ensures .1))
 

@@ -1,8 +1,9 @@
-use Prim.Native.Nat.{ℕ, _+_, _*_, _-_, _≤_, _<_}
-use mathlib.Core.Path.{_≡_, refl, sym, ap, _∙_}
+-- `table::fill_relations` meets its contract.
+use Prim.Native.Nat.{_-_, _≤_}
+use mathlib.Core.Path.{_≡_, refl, _∙_}
 use native.Mathlib.Omega.{arith}
 use borrow.Author.Needs.{needs}
-use lib.ListN.{length, getD}
+use lib.ListN.{length}
 use Rattle.table.specs.Filled.{splice, tab, relationNumbers}
 use Rattle.table.specs.SpliceLaws.{tab-none}
 use Rattle.table.specs.TurnLaws.{relation-turn, relation-last}
@@ -18,99 +19,75 @@ Inv-loop table₀ g l r₀ table r = (r ≤ 17) × (length table ≡ length tabl
 abbrev μ-loop : tie.MeasureT-loop
 μ-loop table₀ g l r₀ table r = 17 - r
 
--- src/lib.rt:35:5
 loop-holds : tie.Need-loop-holds Inv-loop μ-loop
 loop-holds c = (omega arith, refl, tab-none (relationNumbers (c .before .args .t2) (c .before .args .t3)) 3 (c .before .args .table .now))
 
--- src/lib.rt:36:21
 mul-t10 : tie.Need-mul-t10 Inv-loop μ-loop
 mul-t10 c = search needs
 
--- src/lib.rt:36:21
 element-copy-out-t13 : tie.Need-element-copy-out-t13 Inv-loop μ-loop
 element-copy-out-t13 c = search needs
 
--- src/lib.rt:36:31
 mul-t14 : tie.Need-mul-t14 Inv-loop μ-loop
 mul-t14 c = search needs
 
--- src/lib.rt:36:31
 element-copy-out-t17 : tie.Need-element-copy-out-t17 Inv-loop μ-loop
 element-copy-out-t17 c = search needs
 
--- src/lib.rt:36:41
 mul-t18 : tie.Need-mul-t18 Inv-loop μ-loop
 mul-t18 c = search needs
 
--- src/lib.rt:36:41
 element-copy-out-t21 : tie.Need-element-copy-out-t21 Inv-loop μ-loop
 element-copy-out-t21 c = search needs
 
--- src/lib.rt:36:51
 mul-t22 : tie.Need-mul-t22 Inv-loop μ-loop
 mul-t22 c = search needs
 
--- src/lib.rt:36:51
 element-copy-out-t25 : tie.Need-element-copy-out-t25 Inv-loop μ-loop
 element-copy-out-t25 c = search needs
 
--- src/lib.rt:36:61
 mul-store : tie.Need-mul-store Inv-loop μ-loop
 mul-store c = search needs
 
--- src/lib.rt:36:61
 element-copy-out-store : tie.Need-element-copy-out-store Inv-loop μ-loop
 element-copy-out-store c = search needs
 
--- src/lib.rt:37:26
 mul-store-2 : tie.Need-mul-store-2 Inv-loop μ-loop
 mul-store-2 c = search needs
 
--- src/lib.rt:37:22
 add-store : tie.Need-add-store Inv-loop μ-loop
 add-store c = search needs
 
--- src/lib.rt:37:33
 slice-aggregate-store : tie.Need-slice-aggregate-store Inv-loop μ-loop
 slice-aggregate-store c = search needs
 
--- src/lib.rt:37:9
 store-requires : tie.Need-store-requires Inv-loop μ-loop
 store-requires c κs = omega (arith, c .before .before .before .before .before .before .before .before .loop .inv .1, c .before .before .before .before .before .before .before .before .before .before .pre)
 
--- src/lib.rt:38:9
 add-r : tie.Need-add-r Inv-loop μ-loop
 add-r c = search needs
 
--- src/lib.rt:35:5
 loop-less : tie.Need-loop-less Inv-loop μ-loop
 loop-less c = search needs
 
--- src/lib.rt:35:5
 loop-again : tie.Need-loop-again Inv-loop μ-loop
 loop-again c = (omega arith, c .before .before .store .kept .0 ∙ c .before .before .before .before .before .before .before .before .before .before .before .loop .inv .1, relation-turn (c .before .before .before .before .before .before .before .before .before .before .before .before .before .args .t2) (c .before .before .before .before .before .before .before .before .before .before .before .before .before .args .t3) (c .before .before .before .before .before .before .before .before .before .before .before .loop .table) (c .before .before .before .before .before .before .before .before .before .before .before .before .before .args .table .now) (c .before .before .store .last .0) (c .before .before .before .before .before .before .before .before .before .before .before .before .before .pre) (c .before .before .before .before .before .before .before .before .before .before .before .loop .r) (omega arith) (c .before .before .before .before .before .before .before .before .before .before .before .loop .inv .2) (c .before .before .store .ensures))
 
--- src/lib.rt:40:17
 element-copy-out-t37 : tie.Need-element-copy-out-t37 Inv-loop μ-loop
 element-copy-out-t37 c = search needs
 
--- src/lib.rt:40:28
 element-copy-out-t40 : tie.Need-element-copy-out-t40 Inv-loop μ-loop
 element-copy-out-t40 c = search needs
 
--- src/lib.rt:41:22
 slice-aggregate-store-2 : tie.Need-slice-aggregate-store-2 Inv-loop μ-loop
 slice-aggregate-store-2 c = search needs
 
--- src/lib.rt:41:5
 store-requires-2 : tie.Need-store-requires-2 Inv-loop μ-loop
 store-requires-2 c κs = omega (arith, c .before .before .before .before .before .loop .inv .1, c .before .before .before .before .before .before .before .pre)
 
--- src/lib.rt:30:1
 same-length : tie.Need-same-length Inv-loop μ-loop
 same-length c = search needs
 
--- src/lib.rt:30:1
 returns : tie.Need-returns Inv-loop μ-loop
 returns c = relation-last (c .before .before .before .before .before .before .before .before .before .before .args .t2) (c .before .before .before .before .before .before .before .before .before .before .args .t3) (c .before .before .before .before .before .before .before .before .loop .table) (c .before .before .before .before .before .before .before .before .before .before .args .table .now) (c .before .before .store2 .last .0) (c .before .before .before .before .before .before .before .before .before .before .pre) (c .before .before .before .before .before .before .before .before .loop .r) (omega arith) (c .before .before .before .before .before .before .before .before .loop .inv .2) (c .before .before .store2 .ensures)
 

@@ -1,5 +1,6 @@
-use Prim.Native.Nat.{ℕ, _+_, _-_, _≤_, _<_}
-use mathlib.Core.Path.{_≡_, refl, sym, ap, ap₂, _∙_}
+-- `table::store` meets its contract.
+use Prim.Native.Nat.{ℕ, _+_, _-_, _≤_}
+use mathlib.Core.Path.{_≡_, refl, sym, ap, _∙_}
 use mathlib.Core.List.{List}
 use native.Mathlib.Numerals.{add-one}
 use native.Mathlib.Omega.{arith}
@@ -18,39 +19,30 @@ Inv-loop table₀ at line j₀ table j = (j ≤ length line) × (length table �
 abbrev μ-loop : tie.MeasureT-loop
 μ-loop table₀ at line j₀ table j = length line - j
 
--- src/lib.rt:23:5
 loop-holds : tie.Need-loop-holds Inv-loop μ-loop
 loop-holds c = (omega arith, refl, paste-zero (c .args .table .now) (c .args .at) (c .args .line .now))
 
--- src/lib.rt:24:25
 mul-table : tie.Need-mul-table Inv-loop μ-loop
 mul-table c = search needs
 
--- src/lib.rt:24:25
 shared-slice-read-table : tie.Need-shared-slice-read-table Inv-loop μ-loop
 shared-slice-read-table c = search needs
 
--- src/lib.rt:24:15
 add-table : tie.Need-add-table Inv-loop μ-loop
 add-table c = search needs
 
--- src/lib.rt:24:9
 mul-table-2 : tie.Need-mul-table-2 Inv-loop μ-loop
 mul-table-2 c = search needs
 
--- src/lib.rt:24:9
 slice-write-table : tie.Need-slice-write-table Inv-loop μ-loop
 slice-write-table c = search needs
 
--- src/lib.rt:25:9
 add-j : tie.Need-add-j Inv-loop μ-loop
 add-j c = search needs
 
--- src/lib.rt:23:5
 loop-less : tie.Need-loop-less Inv-loop μ-loop
 loop-less c = search needs
 
--- src/lib.rt:23:5
 loop-again : tie.Need-loop-again Inv-loop μ-loop
 loop-again c = (
   omega arith,
@@ -58,11 +50,9 @@ loop-again c = (
   ap (λ (x : List ℕ). set x (c .before .before .before .args .at + c .before .before .loop .j) (getD (c .before .before .before .args .line .now) (c .before .before .loop .j) 0)) (c .before .before .loop .inv .2) ∙ paste-suc (c .before .before .before .args .table .now) (c .before .before .before .args .at) (c .before .before .before .args .line .now) (c .before .before .loop .j) 0 (omega (arith, c .before .before .before .pre)) (omega arith) ∙ ap (paste (c .before .before .before .args .table .now) (c .before .before .before .args .at) (c .before .before .before .args .line .now)) (sym (add-one (c .before .before .loop .j))),
 )
 
--- src/lib.rt:18:1
 same-length : tie.Need-same-length Inv-loop μ-loop
 same-length c = search needs
 
--- src/lib.rt:18:1
 returns : tie.Need-returns Inv-loop μ-loop
 returns c = c .before .loop .inv .2 ∙ splice-all (c .before .before .args .table .now) (c .before .before .args .at) (c .before .before .args .line .now) (c .before .loop .j) (omega arith) (c .before .loop .inv .0)
 
