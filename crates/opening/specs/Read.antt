@@ -33,6 +33,7 @@ opened q n = record { fault = 0; place = 0; sig = q .sig; rule = q .rule; n = n 
 -- the case c was read from the question's text s: relations and rule are spans of it, the facts are bits
 pub record Holds (s : List ℕ) (c : Case) (r : Opened) (facts : ℕ → Bool) : Type 0 where
   pub no-fault : r .fault ≡ 0
+  pub asked : readQuestion s ≡ accepted (c .question)
   pub sound : Sound s (r .sig)
   pub some-chosen : 1 ≤ r .sig .chosen
   pub rels : c .question .rels ≡ relsOf s (r .sig)
@@ -102,10 +103,11 @@ module _ (s t : List ℕ) (a : Asked) (facts : ℕ → Bool) (h : QuestionRead s
         go : (r : Result Site) → answered sizeIn r ≡ Done n → FactsIn (a .sig) r facts → CaseRead s (r >>= λ st. accepted (record { question = known s a h z .0; site = st })) (opened a n) facts
         go (refused j at) x f = let w : _≡_ {A = ℕ} 0 1 = cc in absurd (omega arith)
         go (accepted st) x f =
-            let (q, e, y) = known s a h z in
+            let (q, e′, y) = known s a h z in
             let m : n ≡ st .size = cc in
             record {
               no-fault = refl;
+              asked = e′;
               sound = y .sound;
               some-chosen = y .some-chosen;
               rels = y .rels;
