@@ -20,11 +20,11 @@ use Rattle.records.specs.declared.Entry.{Entry}
 use Rattle.records.specs.declared.Entry.the-variants.{Wrong, Rel, Choose, Rule, Size, Fact, Pick, Step}
 use Rattle.records.proofs.Runs.{read-stop, read-next}
 use Rattle.names.specs.declared.Signature.{Signature}
-use Rattle.names.specs.Signatures.{relationsFrom, relsOf, chosenOf, allOf}
+use Rattle.names.specs.Signatures.{relationsFrom, relsOf, chosenOf, allOf, Sound}
 use Rattle.formula.specs.Seen.{ruleNumber}
 use Rattle.question.specs.declared.Head.{Head}
 use Rattle.question.specs.declared.Asked.{Asked}
-use Rattle.question.specs.Drafts.{draftOf, whole, Reached, HeadBy, Headed, refusedWith, QuestionRead, laterOf}
+use Rattle.question.specs.Drafts.{draftOf, whole, Reached, HeadBy, Headed, noSignature, refusedWith, QuestionRead, laterOf}
 
 -- ---- the rule's line by its verdict
 
@@ -218,3 +218,18 @@ part-by s (accepted q) r w =
 pub part-is : (s : List ℕ) (r : Asked) → QuestionRead s (D.readQuestion s) r → take (r .rule .to - r .rule .from) (drop (r .rule .from) s) ≡ take (rulePart s .len) (drop (rulePart s .start) s)
 unfolding rulePart
 part-is s r w = part-by s (D.readQuestion s) r w
+
+-- ---- the signature is sound, whether the question is refused or not
+
+sound-by : (s : List ℕ) (o : Result D.Question) (r : Asked) → QuestionRead s o r → Sound s (r .sig)
+unfolding QuestionRead refusedWith noSignature
+sound-by s (refused k place) r w = rw w (record {
+  rels-le = omega arith;
+  chosen-le = omega arith;
+  spans = λ i l. absurd (omega arith);
+  arities = λ i l. absurd (omega arith);
+})
+sound-by s (accepted q) r w = w .sound
+
+pub question-sound : (s : List ℕ) (r : Asked) → QuestionRead s (D.readQuestion s) r → Sound s (r .sig)
+question-sound s r w = sound-by s (D.readQuestion s) r w

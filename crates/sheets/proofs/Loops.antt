@@ -1,15 +1,16 @@
 -- The loops over the lines of a site and of picks, and what is left where they are refused.
-use Prim.Native.Nat.{ℕ, zero, suc, _+_, _*_, _≤_, _<_}
+use Prim.Native.Nat.{ℕ, zero, suc, _+_, _*_, _≤_, _<_, _/_, _%_}
 use mathlib.Core.Path.{_≡_, refl, sym, ap, subst, _∙_, fun-ext}
 use mathlib.Core.Bool.{Bool, false}
 use mathlib.Core.List.{List, []}
 use native.Mathlib.Decide.{decLt}
 use native.Mathlib.Omega.{arith}
-use lib.ListN.{length}
+use lib.ListN.{length, getD, replicate}
 use Rattle.definitions.specs.Refusal.{Result, refused, accepted, _>>=_, given, readText}
 use Rattle.definitions.specs.Relations.{Tuple}
 use Rattle.definitions.specs.Sheets as D
-use Rattle.bits.specs.Table.{bit, paste}
+use Rattle.bits.specs.Table.{digit, bit, paste}
+use Rattle.bits.proofs.Digit.{digit-of-zero}
 use Rattle.bits.proofs.Laws.{paste-in, bit-past, paste-out}
 use Rattle.records.specs.Lines.{lineBy, readAt}
 use Rattle.records.specs.Entries.{entryIn, Reads}
@@ -141,6 +142,17 @@ module _ (q : List ℕ) (g : Signature) (n : ℕ) (s : List ℕ) where
     pub picks-done : at ≡ length s → GotPicks g n (D.readPicks (chosenOf q g) (5 + g .rels) n s) (Done k) (bit table)
     unfolding GotPicks PicksAt
     picks-done e = rw (w .1 ∙ read-stop (D.addToPicks (chosenOf q g) (5 + g .rels) n) s at (w .0) e) (ap Done (sym (w .3)), w .2)
+
+-- ---- a cleared table
+
+pub zeros-clear : (k : ℕ) → bit (replicate k 0) ≡ λ i. false
+unfolding bit
+zeros-clear k = fun-ext (λ i. ap (λ (w : ℕ). digit w (i % 64)) (at k (i / 64)) ∙ digit-of-zero (i % 64))
+  where
+    at : (k j : ℕ) → _≡_ {A = ℕ} (getD (replicate k 0) j 0) 0
+    at zero j = refl
+    at (suc k) zero = refl
+    at (suc k) (suc j) = at k j
 
 -- ---- what is left
 

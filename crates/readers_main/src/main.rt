@@ -1,0 +1,243 @@
+// Runs small sheets, good and damaged, through the four readers and writes what each gives: `ok` with its numbers, or the refusal's
+// number and place.
+use sheets::Answer;
+
+// A number after a space.
+fn number(n: usize) {
+    io::write_all(1, b" ");
+    io::print_decimal(1, n as u64);
+}
+
+fn answer(what: &[u8], a: Answer) {
+    io::write_all(1, what);
+    match a {
+        Answer::Done(n) => {
+            io::write_all(1, b" ok");
+            number(n);
+        }
+        Answer::Refused(k, place) => {
+            number(k as usize);
+            number(place);
+        }
+    }
+    io::write_all(1, b"\n");
+}
+
+fn ask(s: &[u8]) {
+    let q = question::question(s);
+    io::write_all(1, b"question");
+    if q.fault == 0 {
+        io::write_all(1, b" ok");
+        number(q.sig.rels);
+        number(q.sig.chosen);
+        number(q.rule.from);
+        number(q.rule.to);
+    } else {
+        number(q.fault as usize);
+        number(q.place);
+    }
+    io::write_all(1, b"\n");
+}
+
+// A site of a question with D, E, T and F.
+fn read_site(s: &[u8]) {
+    let text =
+        b"rel\tD\t1\nrel\tE\t2\nchoose\tT\t1\nchoose\tF\tFun\nrule\t(forall (?y) (or (D ?y) (T ?y)))\n";
+    let q = question::question(text);
+    let g = q.sig;
+    let mut table = [0u64; 512];
+    let a = sheets::site(text, g, s, &mut table);
+    answer(b"site", a);
+}
+
+fn read_picks(s: &[u8]) {
+    let text =
+        b"rel\tD\t1\nrel\tE\t2\nchoose\tT\t1\nchoose\tF\tFun\nrule\t(forall (?y) (or (D ?y) (T ?y)))\n";
+    let q = question::question(text);
+    let g = q.sig;
+    let mut table = [0u64; 256];
+    let a = sheets::picks(text, g, s, 2, &mut table);
+    answer(b"picks", a);
+}
+
+fn read_steps(s: &[u8]) {
+    let mut out = [0u32; 9362];
+    let a = sheets::steps(s, &mut out);
+    answer(b"steps", a);
+}
+
+// Questions: lines, fields, numbers, names, order, the rule's own tests.
+fn questions1() {
+    ask(b"");
+    ask(b"rel\tD\t1\n");
+    ask(b"rule\t(T ?x)\n");
+    ask(b"choose\tT\t1\nrule\t(T ?x)\n");
+    ask(b"choose\tT\t1\nrule\t(exists (?x) (T ?x))\n");
+    ask(b"choose\tT\t1\nrule\t(exists (?x) (T ?x))");
+    ask(b"\n");
+    ask(b"rel\tD\t0\n");
+}
+
+fn questions2() {
+    ask(b"rel\tD\t4\n");
+    ask(b"rel\tD\t01\n");
+    ask(b"rel\tD\n");
+    ask(b"rel\tD\t1\t2\n");
+    ask(b"rel\td\t1\n");
+    ask(b"rel\t\t1\n");
+    ask(b"rel\tEQ\t2\n");
+    ask(b"rel\tD\t1\nrel\tD\t2\n");
+}
+
+fn questions3() {
+    ask(b"rel\tABCDEFGHIJKL\t1\nchoose\tT\t1\nrule\t(exists (?x) (T ?x))\n");
+    ask(b"rel\tABCDEFGHIJKLM\t1\n");
+    ask(
+        b"rel\tA\t1\nrel\tB\t1\nrel\tC\t1\nrel\tD\t1\nrel\tE\t1\nrel\tF\t1\nrel\tG\t1\nrel\tH\t1\nrel\tI\t1\n",
+    );
+    ask(b"choose\tA\t1\nchoose\tB\t1\nchoose\tC\t1\nchoose\tD\t1\nchoose\tE\t1\n");
+    ask(b"choose\tT\t1\nrel\tD\t1\n");
+    ask(b"choose\tF\tFun\nrule\t(forall (?x) (exists (?y) (F ?x ?y)))\n");
+    ask(b"choose\tF\tfun\n");
+    ask(b"size\t2\n");
+}
+
+fn questions4() {
+    ask(b"size\tx\n");
+    ask(b"step\t1\n");
+    ask(b"step\t12345678\n");
+    ask(b"fact\tD\t0\n");
+    ask(b"fact\tD\n");
+    ask(b"choose\tT\t1\nrule\t(exists (?x) (S ?x))\n");
+    ask(b"choose\tT\t1\nrule\t(exists (?x) (T ?x ?x))\n");
+    ask(b"choose\tT\t1\nrule\t(T ?x\n");
+}
+
+fn questions5() {
+    ask(b"choose\tT\t1\nrule\t\n");
+    ask(b"choose\tT\t1\nrule\n");
+    ask(b"choose\tT\t1\nrule\t(exists (?x ?x) (T ?x))\n");
+    ask(
+        b"choose\tT\t1\nrule\t(exists (?a) (exists (?b) (exists (?c) (exists (?d) (exists (?e) (T ?a))))))\n",
+    );
+    ask(b"choose\tT\t1\nrule\t(exists (?a ?b ?c ?d ?e) (T ?a))\n");
+    ask(b"choose\tT\t1\nrule\t(exists (?x) (T ?x))\nrule\t(exists (?x) (T ?x))\n");
+    ask(b"choose\tT\t1\nrule\t(exists (?x) (T ?x))\nchoose\tT\t1\n");
+    ask(b"choose\tT\t1\nrule\t(exists (?x) (T ?x))\n\n");
+}
+
+fn questions6() {
+    ask(b"rel\t\xc3\t1\n");
+    ask(b"\xc3\n");
+}
+
+// Sites of the question above.
+fn sites1() {
+    read_site(b"");
+    read_site(b"size\t2\n");
+    read_site(b"size\t0\n");
+    read_site(b"size\t17\n");
+    read_site(b"size\t16\n");
+    read_site(b"size\t1\n");
+    read_site(b"fact\tD\t0\nsize\t2\n");
+    read_site(b"size\t2\nsize\t2\n");
+}
+
+fn sites2() {
+    read_site(b"size\t2\nfact\tD\t0\n");
+    read_site(b"size\t2\nfact\tD\t2\n");
+    read_site(b"size\t2\nfact\tD\t0\nfact\tD\t0\n");
+    read_site(b"size\t2\nfact\tS\t0\n");
+    read_site(b"size\t2\nfact\tT\t0\n");
+    read_site(b"size\t2\nfact\tEQ\t0\t0\n");
+    read_site(b"size\t2\nfact\tD\t0\t1\n");
+    read_site(b"size\t2\nfact\tE\t0\n");
+}
+
+fn sites3() {
+    read_site(b"size\t2\nfact\tE\t0\t1\nfact\tE\t1\t0\n");
+    read_site(b"size\t2\nfact\tE\t0\t0\t0\t0\n");
+    read_site(b"size\t2\nfact\tD\n");
+    read_site(b"size\t2\nfact\tD\t\n");
+    read_site(b"size\t2\nfact\tD\t+1\n");
+    read_site(b"size\t2\npick\tT\t0\n");
+    read_site(b"size\t2\nfact\tD\t0");
+    read_site(b"size\t2");
+}
+
+fn sites4() {
+    read_site(b"size\t2\nfact\tS\t9\n");
+    read_site(b"size\t2\nfact\tS\tx\n");
+    read_site(b"size\t2\n\n");
+    read_site(b"rel\tD\t1\n");
+}
+
+// Picks over two elements.
+fn picks1() {
+    read_picks(b"");
+    read_picks(b"pick\tT\t0\npick\tT\t1\n");
+    read_picks(b"pick\tT\t2\n");
+    read_picks(b"pick\tD\t0\n");
+    read_picks(b"pick\tT\t1\npick\tT\t1\n");
+    read_picks(b"pick\tF\t0\t1\npick\tF\t0\t0\n");
+    read_picks(b"fact\tD\t0\n");
+    read_picks(b"step\t0\n");
+}
+
+fn picks2() {
+    read_picks(b"pick\tT\n");
+    read_picks(b"pick\n");
+    read_picks(b"pick\tT\t0\npick\tF\t1\n");
+}
+
+// Steps.
+fn steps1() {
+    read_steps(b"");
+    read_steps(b"step\t0\nstep\t1\n");
+    read_steps(b"step\t9999999\n");
+    read_steps(b"step\t10000000\n");
+    read_steps(b"step\t00\n");
+    read_steps(b"step\t01\n");
+    read_steps(b"step\t\n");
+    read_steps(b"step\n");
+}
+
+fn steps2() {
+    read_steps(b"step\t1\t2\n");
+    read_steps(b"step\t1");
+    read_steps(b"step\t1\nsize\t2\n");
+    read_steps(b"step\t1\nsize\tx\n");
+    read_steps(b"step\t1\nstop\t2\n");
+    read_steps(b"step 1\n");
+    read_steps(b"step\t1\n\nstep\t2\n");
+    read_steps(b"Step\t1\n");
+}
+
+// A byte over the limit, and the limit itself.
+fn long() {
+    let over = [10u8; 65537];
+    ask(&over);
+    read_site(&over);
+    read_picks(&over);
+    read_steps(&over);
+    ask(&over[1..]);
+    read_steps(&over[1..]);
+}
+
+fn main() {
+    questions1();
+    questions2();
+    questions3();
+    questions4();
+    questions5();
+    questions6();
+    sites1();
+    sites2();
+    sites3();
+    sites4();
+    picks1();
+    picks2();
+    steps1();
+    steps2();
+    long();
+}
