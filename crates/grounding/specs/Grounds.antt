@@ -1,0 +1,131 @@
+-- A case that was read, and the table of its numbered problem.
+use Prim.Native.Nat.{ℕ, zero, _+_, _≤_, _<_}
+use mathlib.Core.Path.{_≡_, refl, sym, ap, ap₂, subst, _∙_}
+use mathlib.Core.Bool.{Bool, true, false, _||_}
+use mathlib.Core.List.{List, []}
+use lib.Dec.{ltb}
+use lib.ListN.{length, getD}
+use borrow.Author.Tests.{le-ltb}
+use Rattle.definitions.specs.Limits.{atomLimit, actionLimit, formLimit, nestingLimit}
+use Rattle.definitions.specs.Lists.{option}
+use Rattle.definitions.specs.Formula.{Formula, allForms, nesting, isKnown, isScoped}
+use Rattle.definitions.specs.Refusal.{Result, refused, accepted, _>>=_, refuseIf}
+use Rattle.definitions.specs.Relations.{Relation}
+use Rattle.definitions.specs.Sheets.{Question, readQuestion, relations, relationsOf}
+use Rattle.laws.specs.Booleans.{T-true}
+use Rattle.reduction.specs.Reader.{gives-if, QuestionFits, RuleFits, question-fits}
+use Rattle.formula.specs.Seen.{ruleNumber}
+use Rattle.rewriting.specs.Rule.{Accepted, IsQuestion, TableOf}
+use Rattle.definitions.specs.Truth.{Case}
+use Rattle.definitions.specs.Tree.{treeOf}
+use Rattle.definitions.specs.Atoms.{Problem, problemOf, problemWith, relationAt, atoms}
+use Rattle.definitions.specs.Actions.{actions}
+use Rattle.definitions.specs.Built.{bound}
+use Rattle.definitions.specs.Outcome.{ground}
+use Rattle.names.specs.Signatures.{Sound, relsOf, chosenOf, allOf}
+use Rattle.tree.specs.Tables.{IsTable}
+use Rattle.tree.specs.declared.Nodes.{Nodes}
+use Rattle.ground.specs.Lines.{Fits, nodesIn, nodeLine}
+use Rattle.ground.specs.Of.{Is, kindNumber}
+use native.Mathlib.Omega.{arith}
+use Rattle.layout.specs.declared.Relations.{Relations}
+use Rattle.layout.specs.declared.Made.{Made}
+use Rattle.layout.specs.Laid.{Inputs, Laid, Small}
+use Rattle.relations.specs.Numbered.{Numbered, Declared, noRelation}
+use Rattle.table.specs.Filled.{Filled}
+use Rattle.opening.specs.declared.Opened.{Opened}
+use Rattle.opening.specs.Read.{Holds}
+use Rattle.grounding.specs.declared.Sized.{Sized}
+
+-- some case was read from the question's text
+pub record Read (s : List ℕ) (o : Opened) : Type 0 where
+  pub case : Case
+  pub facts : ℕ → Bool
+  pub holds : Holds s case o facts
+
+-- the table w is that of the problem p, whose counts are these
+pub record Tabled (p : Problem) (r : Sized) (w : List ℕ) : Type 0 where
+  pub within : r .over ≡ false
+  pub atoms-are : r .atoms ≡ atoms p
+  pub actions-are : r .actions ≡ actions p
+  pub bound-is : r .bound ≡ bound p
+  pub fits : Fits w
+  pub is : Is p w
+  pub ends : nodeLine w (nodesIn w) .atoms ≡ atoms p
+
+-- what grounding a case gives: 11, place 0, or the table of its problem
+pub record Over (k place : ℕ) (r : Sized) : Type 0 where
+  pub over : r .over ≡ true
+  pub number : k ≡ 11
+  pub no-place : place ≡ 0
+
+unfoldable pub GroundsTo : Result Problem → Sized → List ℕ → Type 0
+GroundsTo (refused k place) r w = Over k place r
+GroundsTo (accepted p) r w = Tabled p r w
+
+-- ---- laws
+module _ (s : List ℕ) (o : Opened) (c : Case) (facts : ℕ → Bool) (h : Holds s c o facts) where
+  all-are : relations (c .question .rels) (c .question .chosen) ≡ allOf s (o .sig)
+  unfolding allOf
+  all-are = ap₂ relations (h .rels) (h .chosen)
+
+  relations-are : relationsOf (c .question) ≡ allOf s (o .sig)
+  unfolding relationsOf
+  relations-are = all-are
+
+  pub declared : Declared (o .sig)
+  declared = record { rels = h .sound .rels-le; chosen = h .sound .chosen-le; arity = λ i l. small i (h .sound .arities i l .1) }
+    where
+      small : (i : ℕ) → getD (o .sig .arity) i 0 ≤ 3 → getD (o .sig .arity) i 0 ≤ 4
+      small i a = omega arith
+
+  -- the rule was not refused
+  pub rule-fine : Accepted s (o .rule .from) (o .rule .to) (o .sig)
+  unfolding ruleNumber option
+  rule-fine = record {
+    low = h .rule-from;
+    high = h .rule-to;
+    sound = h .sound;
+    fine = rw (h .formula, few, shallow, known, scoped) refl;
+  }
+    where
+      f : Formula
+      f = c .question .rule .formula
+
+      fits : RuleFits (c .question .rels) (c .question .chosen) (c .question .rule)
+      fits = gives-if QuestionFits (readQuestion s) (c .question) (h .asked) (question-fits s) .rule-fits
+
+      few : ltb formLimit (allForms (chosenOf s (o .sig)) f) ≡ false
+      few = le-ltb formLimit (allForms (chosenOf s (o .sig)) f) (subst (λ (ks : List Relation). allForms ks f ≤ formLimit) (h .chosen) (fits .few-forms))
+
+      shallow : ltb nestingLimit (nesting f) ≡ false
+      shallow = le-ltb nestingLimit (nesting f) (fits .nested)
+
+      known : isKnown (allOf s (o .sig)) f ≡ true
+      known = ap (λ (ks : List Relation). isKnown ks f) (sym all-are) ∙ T-true (isKnown (relations (c .question .rels) (c .question .chosen)) f) (fits .known)
+
+      scoped : isScoped [] f ≡ true
+      scoped = T-true (isScoped [] f) (fits .scoped)
+
+  pub is-question : IsQuestion s (o .rule .from) (o .rule .to) (o .sig) (c .question)
+  is-question = record { rels = h .rels; chosen = h .chosen; rule = h .formula }
+
+  module _ (g : Relations) (t : Nodes) (m : Numbered (o .sig) g) (table : TableOf s (o .rule .from) (o .rule .to) (o .sig) t) where
+    pub inputs : Inputs (problemOf c) (o .n) g t
+    unfolding problemOf problemWith relationAt
+    inputs = record {
+      size = h .size;
+      list = refl;
+      count = m .count s ∙ ap length (sym relations-are);
+      arity = λ r l. m .arity s r l ∙ ap (λ (ks : List Relation). getD ks r noRelation .arity) (sym relations-are);
+      kind = λ r l. m .kind s r l ∙ ap (λ (ks : List Relation). kindNumber (getD ks r noRelation .kind)) (sym relations-are);
+      tree = subst (λ (k : ℕ). IsTable k (treeOf (c .question)) t) (ap length relations-are ∙ sym (m .count s)) (table .is (c .question) is-question);
+    }
+
+pub grounds-over : (c : Case) (m : Made) (r : Sized) (w : List ℕ) → Laid (problemOf c) m → m .over ≡ true → r .over ≡ true → GroundsTo (ground c) r w
+unfolding ground refuseIf _>>=_ GroundsTo
+grounds-over c m r w l e o = let q : (ltb atomLimit (atoms (problemOf c)) || ltb actionLimit (actions (problemOf c))) ≡ true = sym (l .over-is) ∙ e in rw q (record { over = o; number = refl; no-place = refl })
+
+pub grounds-within : (c : Case) (m : Made) (r : Sized) (w : List ℕ) → Laid (problemOf c) m → m .over ≡ false → Tabled (problemOf c) r w → GroundsTo (ground c) r w
+unfolding ground refuseIf _>>=_ GroundsTo
+grounds-within c m r w l e t = let q : (ltb atomLimit (atoms (problemOf c)) || ltb actionLimit (actions (problemOf c))) ≡ false = sym (l .over-is) ∙ e in rw q t
