@@ -1,0 +1,46 @@
+-- `cases::check_lent` meets its contract: the case is refused, the steps are too many, or they are run. Assumes nothing.
+use mathlib.Core.List.{[]}
+use native.Mathlib.Omega.{arith}
+use Rattle.definitions.specs.Outcome.{asNumbers}
+use Rattle.sheets.proofs.Loops.{zeros-clear}
+use Rattle.cases.specs.Replies.{call-case, call-known, call-steps, call-ran, lent-many, lent-few}
+use borrow.Author.Needs.{needs}
+use Rattle.cases.proofs.check_lent.Statement.{statement}
+use Rattle.cases.proofs.check_lent.Tie as tie
+
+slice-aggregate-read-case : tie.Need-slice-aggregate-read-case
+slice-aggregate-read-case c = search needs
+
+read-case-requires : tie.Need-read-case-requires
+read-case-requires c κs = (omega arith, zeros-clear 512)
+
+returns : tie.Need-returns
+returns c = call-case _ _ _ _ _ _ (c .before .before .before .read-case .ensures) (c .if1 .taken)
+
+returns-2 : tie.Need-returns-2
+returns-2 c = call-steps _ _ _ _ _ _ (c .before .before .before .before .read-case .ensures) (c .before .if1 .left) _ _ (lent-many _ (c .if2 .taken))
+
+slice-aggregate-check-case : tie.Need-slice-aggregate-check-case
+slice-aggregate-check-case c = search needs
+
+check-case-requires : tie.Need-check-case-requires
+check-case-requires c κs = record { case = call-known _ _ (asNumbers []) [] _ _ (c .before .before .before .before .before .before .read-case .ensures) (c .before .before .before .if1 .left) .0; holds = call-known _ _ (asNumbers []) [] _ _ (c .before .before .before .before .before .before .read-case .ensures) (c .before .before .before .if1 .left) .2 }
+
+same-length : tie.Need-same-length
+same-length c = search needs
+
+returns-3 : tie.Need-returns-3
+returns-3 c = call-ran _ _ _ _ _ _ (c .before .before .before .before .before .before .before .before .before .read-case .ensures) (c .before .before .before .before .before .before .if1 .left) _ (lent-few _ (omega arith)) _ _ (c .before .before .check-case .ensures)
+
+pub check-lent-spec : {M : Type 1} → statement M
+check-lent-spec =
+    tie.close
+    (tie.spec
+    slice-aggregate-read-case
+    read-case-requires
+    returns
+    returns-2
+    slice-aggregate-check-case
+    check-case-requires
+    same-length
+    returns-3)

@@ -1,0 +1,48 @@
+-- `cases::reply_of` meets its contract: each ending is the answer that `ended` gives it. Assumes nothing.
+use mathlib.Core.Path.{sym, ap}
+use Rattle.runs.specs.Ended.{ended}
+use Rattle.cases.specs.Replies.{resultOf}
+use borrow.Author.Needs.{needs}
+use Rattle.cases.proofs.reply_of.Statement.{statement}
+use Rattle.cases.proofs.reply_of.Tie as tie
+
+enum-known-e : tie.Need-enum-known-e
+enum-known-e c = search needs
+
+enum-known-e-2 : tie.Need-enum-known-e-2
+enum-known-e-2 c = search needs
+
+enum-known-e-3 : tie.Need-enum-known-e-3
+enum-known-e-3 c = search needs
+
+enum-known-e-4 : tie.Need-enum-known-e-4
+enum-known-e-4 c = search needs
+
+returns : tie.Need-returns
+unfolding resultOf ended
+returns c = sym (ap ended (c .before .e .given .1))
+
+returns-2 : tie.Need-returns-2
+unfolding resultOf ended
+returns-2 c = sym (ap ended (c .before .e2 .given .1))
+
+returns-3 : tie.Need-returns-3
+unfolding resultOf ended
+returns-3 c = sym (ap ended (c .before .e3 .given .1))
+
+returns-4 : tie.Need-returns-4
+unfolding resultOf ended
+returns-4 c = sym (ap ended (c .before .e4 .given .1))
+
+pub reply-of-spec : {M : Type 1} → statement M
+reply-of-spec =
+    tie.close
+    (tie.spec
+    enum-known-e
+    enum-known-e-2
+    enum-known-e-3
+    enum-known-e-4
+    returns
+    returns-2
+    returns-3
+    returns-4)

@@ -1,0 +1,82 @@
+// The public calls. Each takes texts and lent buffers of any kind and any length, and answers; none asks anything of its caller.
+// What a call returns, and what each buffer then holds, is what `definitions`, `Outcome`, says of it.
+ghost use mathlib.Core.Path.{_≡_};
+ghost use Rattle.definitions.specs.Truth.{Case};
+ghost use Rattle.definitions.specs.Outcome.{asText, asNumbers, checkSteps};
+ghost use Rattle.bits.specs.Table.{bit};
+ghost use Rattle.opening.specs.Read.{Holds};
+ghost use Rattle.runs.specs.Ended.{ended};
+ghost use Rattle.cases.specs.Replies.{resultOf, CaseIn, Checks};
+use opening::Opened;
+use runs::End;
+use sheets::Answer;
+
+// All is well, with the step count; or a refusal with its number and place.
+pub enum Reply {
+    Accepted(usize),
+    Refused(u32, usize),
+}
+
+// How a run ended, as a reply.
+fn reply_of(e: End) -> Reply
+    ensures { λ r. ⌜ resultOf r ≡ ended e ⌝ }
+{
+    match e {
+        End::Done(i) => Reply::Accepted(i),
+        End::NoAction(i) => Reply::Refused(13, i),
+        End::NotNow(i) => Reply::Refused(14, i),
+        End::NoGoal(i) => Reply::Refused(15, i),
+    }
+}
+
+// Steps of a case that was read: 11, 12, then the steps one by one.
+fn check_case(question: &[u8], o: Opened, facts: &[u64], steps: &[u32], state: &mut [u64]) -> Reply
+    requires { ⌜ CaseIn (now question) o (bit (now facts)) ⌝ }
+    ensures { λ r. ⌜ ((c : Case) → Holds (now (question .entry)) c o (bit (now (facts .entry))) → Checks c (now (steps .entry)) (now (state .entry)) r (now (state .exit))) ⌝ }
+{
+    let mut table = [0usize; ground::TABLE];
+    let m = grounding::ground_case(question, o, &mut table);
+    if m.over {
+        return Reply::Refused(11, 0);
+    }
+    let words = (m.atoms + 63) / 64;
+    if state.len() < words {
+        return Reply::Refused(12, words);
+    }
+    let e = checking::start_and_run(&table, facts, steps, &mut state[..words]);
+    reply_of(e)
+}
+
+// Checks steps that are handed over as a text.
+pub fn check_text(question: &[u8], site: &[u8], steps: &[u8], state: &mut [u64]) -> Reply
+    ensures answer { λ r. ⌜ resultOf r ≡ checkSteps (now (question .entry)) (now (site .entry)) (asText (now (steps .entry))) (now (state .entry)) .answer ⌝ }
+    ensures left { λ r. ⌜ now (state .exit) ≡ checkSteps (now (question .entry)) (now (site .entry)) (asText (now (steps .entry))) (now (state .entry)) .state ⌝ }
+{
+    let mut facts = [0u64; 512];
+    let o = opening::read_case(question, site, &mut facts);
+    if o.fault != 0 {
+        return Reply::Refused(o.fault, o.place);
+    }
+    let mut list = [0u32; 9362];
+    let a = sheets::steps(steps, &mut list);
+    match a {
+        Answer::Refused(k, place) => Reply::Refused(k, place),
+        Answer::Done(count) => check_case(question, o, &facts, &list[..count], state),
+    }
+}
+
+// Checks steps that are lent as numbers.
+pub fn check_lent(question: &[u8], site: &[u8], steps: &[u32], state: &mut [u64]) -> Reply
+    ensures answer { λ r. ⌜ resultOf r ≡ checkSteps (now (question .entry)) (now (site .entry)) (asNumbers (now (steps .entry))) (now (state .entry)) .answer ⌝ }
+    ensures left { λ r. ⌜ now (state .exit) ≡ checkSteps (now (question .entry)) (now (site .entry)) (asNumbers (now (steps .entry))) (now (state .entry)) .state ⌝ }
+{
+    let mut facts = [0u64; 512];
+    let o = opening::read_case(question, site, &mut facts);
+    if o.fault != 0 {
+        return Reply::Refused(o.fault, o.place);
+    }
+    if 65536 < steps.len() {
+        return Reply::Refused(1, 0);
+    }
+    check_case(question, o, &facts, steps, state)
+}
