@@ -2,7 +2,7 @@
 use Prim.Native.Nat.{ℕ, zero, suc, _+_, _*_, _/_, _≤_, _<_}
 use mathlib.Core.Path.{_≡_, refl, sym, ap, ap₂, subst, _∙_}
 use mathlib.Core.Bool.{Bool, true, false, _||_}
-use mathlib.Core.List.{List, _++_}
+use mathlib.Core.List.{List, [], _++_}
 use native.Mathlib.Omega.{arith}
 use lib.Dec.{ltb}
 use lib.ListN.{length, take, drop}
@@ -10,12 +10,13 @@ use lib.Seq.{take-append-seam}
 use borrow.Author.Tests.{lt-ltb, le-ltb, ltb-false}
 use Rattle.definitions.specs.Limits.{atomLimit, actionLimit, stepLimit}
 use Rattle.definitions.specs.Actions.{actions}
+use Rattle.definitions.specs.Built.{bound}
 use Rattle.ground.specs.Lines.{nodesIn, nodeLine}
 use Rattle.definitions.specs.Refusal.{Result, refused, accepted, _>>=_, refuseIf}
 use Rattle.definitions.specs.Sheets.{readQuestion, readSteps}
 use Rattle.definitions.specs.Truth.{Case}
 use Rattle.bits.specs.Table.{bit}
-use Rattle.definitions.specs.Atoms.{Problem, problemOf, atoms, wordsFor, stateWords}
+use Rattle.definitions.specs.Atoms.{Problem, problemOf, problemWith, atoms, wordsFor, stateWords}
 use Rattle.definitions.specs.Strips.{run}
 use Rattle.definitions.specs.Outcome
 use Rattle.laws.specs.Booleans.{T-of}
@@ -30,11 +31,13 @@ use Rattle.sheets.specs.Reading.{answered, left, Writes}
 use Rattle.sheets.proofs.Numbers.{all-room}
 use Rattle.opening.specs.declared.Opened.{Opened}
 use Rattle.opening.specs.Read.{Holds, CaseRead}
-use Rattle.grounding.specs.declared.Sized.{Sized}
+use Rattle.grounding.specs.declared.Sized.{Sized as Counted}
 use Rattle.grounding.specs.Grounds.{GroundsTo, Over, Tabled}
 use Rattle.runs.specs.declared.End.{End}
 use Rattle.runs.specs.Ended.{ended}
 use Rattle.checking.specs.Checks.{Ran, Runs}
+use Rattle.cases.specs.declared.Sizing.{Sizing}
+use Rattle.cases.specs.declared.Sizing.the-variants.{Sized, Refused as Unsized}
 use Rattle.cases.specs.declared.Reply.{Reply}
 use Rattle.cases.specs.declared.Reply.the-variants.{Accepted, Refused}
 use Rattle.cases.specs.Order
@@ -78,7 +81,7 @@ checks-refused : (c : Case) (steps old : List ℕ) (k place : ℕ) → readied c
 unfolding Outcome.checkedFrom
 checks-refused c steps old k place e r q = record { answer = rw e q; state = rw e refl }
 
-module _ (c : Case) (steps old : List ℕ) (m : Sized) (w : List ℕ) (g : GroundsTo (Outcome.ground c) m w) where
+module _ (c : Case) (steps old : List ℕ) (m : Counted) (w : List ℕ) (g : GroundsTo (Outcome.ground c) m w) where
   pub checks-over : m .over ≡ true → Checks c steps old (Refused 11 0) old
   unfolding GroundsTo readied resultOf _>>=_
   checks-over o = go (Outcome.ground c) refl g
@@ -214,3 +217,50 @@ module _ (t out : List ℕ) where
       go : (x : Result (List ℕ)) → answered length x ≡ Done k → Writes x 9362 → k ≤ 9362
       go (refused j at) h w = absurd w
       go (accepted ks) h w = let z : length ks ≡ k = cc in omega arith
+
+-- ---- sizes
+
+problem-size : (c : Case) → problemOf c .size ≡ c .site .size
+unfolding problemOf problemWith
+problem-size c = refl
+
+unfoldable pub sizingOf : Sizing → Result Outcome.Sizes
+sizingOf (Sized s) = accepted (record { elements = s .elements; atomCount = s .atoms; actionCount = s .actions; stepBound = s .bound })
+sizingOf (Unsized k place) = refused k place
+
+sizes-value : (question site : List ℕ) (c : Case) (p : Problem) → Outcome.readCase question site ≡ accepted c → Outcome.ground c ≡ accepted p → Outcome.sizes question site ≡ accepted (Outcome.sizesOf p)
+unfolding Outcome.sizes Outcome.readProblem _>>=_
+sizes-value question site c p e e′ = rw (e, e′) refl
+
+counts-are : (n a b d : ℕ) (p : Problem) → n ≡ p .size → a ≡ atoms p → b ≡ actions p → d ≡ bound p → accepted (record { elements = n; atomCount = a; actionCount = b; stepBound = d }) ≡ accepted (Outcome.sizesOf p)
+unfolding Outcome.sizesOf
+counts-are n a b d p en ea eb ed = rw (en, ea, eb, ed) refl
+
+module _ (question site : List ℕ) (o : Opened) (facts : ℕ → Bool) (read : CaseRead question (Outcome.readCase question site) o facts) where
+  pub sizes-case : (o .fault ≡ 0 → ⊥) → sizingOf (Unsized (o .fault) (o .place)) ≡ Outcome.sizes question site
+  unfolding CaseRead sizingOf Outcome.sizes Outcome.readProblem _>>=_
+  sizes-case z = go (Outcome.readCase question site) read
+    where
+      go : (x : Result Case) → CaseRead question x o facts → refused (o .fault) (o .place) ≡ ((x >>= Outcome.ground) >>= λ p. accepted (Outcome.sizesOf p))
+      go (refused k place) h = ap₂ refused (h .number) (h .where-it-is)
+      go (accepted c) h = absurd (z (h .no-fault))
+
+  pub sizes-known : o .fault ≡ 0 → (c : Case) × (Outcome.readCase question site ≡ accepted c) × Holds question c o facts
+  sizes-known z = call-known question site (Outcome.asNumbers []) [] o facts read z
+
+  module _ (z : o .fault ≡ 0) (m : Counted) (w : List ℕ) (g : (c : Case) → Holds question c o facts → GroundsTo (Outcome.ground c) m w) where
+    pub sizes-over : m .over ≡ true → sizingOf (Unsized 11 0) ≡ Outcome.sizes question site
+    unfolding sizingOf Outcome.sizes Outcome.readProblem GroundsTo _>>=_
+    sizes-over t = let (c, e, h) = sizes-known z in rw e (go (Outcome.ground c) (g c h))
+      where
+        go : (x : Result Problem) → GroundsTo x m w → refused 11 0 ≡ (x >>= λ p. accepted (Outcome.sizesOf p))
+        go (refused k place) h = ap₂ refused (sym (h .number)) (sym (h .no-place))
+        go (accepted p) h = absurd (false-true (sym (h .within) ∙ t))
+
+    pub sizes-are : m .over ≡ false → sizingOf (Sized (record { elements = o .n; atoms = m .atoms; actions = m .actions; bound = m .bound })) ≡ Outcome.sizes question site
+    unfolding sizingOf
+    sizes-are f =
+        let (c, e, h) = sizes-known z in
+        let (p, e′, k) = within c [] [] m w (g c h) f in
+        counts-are (o .n) (m .atoms) (m .actions) (m .bound) p (h .size ∙ sym (problem-size c) ∙ ap (λ (q : Problem). q .size) (sym (ground-is c p e′))) (k .atoms-are) (k .actions-are) (k .bound-is)
+        ∙ sym (sizes-value question site c p e e′)

@@ -2,11 +2,11 @@
 // What a call returns, and what each buffer then holds, is what `definitions`, `Outcome`, says of it.
 ghost use mathlib.Core.Path.{_≡_};
 ghost use Rattle.definitions.specs.Truth.{Case};
-ghost use Rattle.definitions.specs.Outcome.{asText, asNumbers, checkSteps};
+ghost use Rattle.definitions.specs.Outcome.{asText, asNumbers, checkSteps, sizes as «sizes-of»};
 ghost use Rattle.bits.specs.Table.{bit};
 ghost use Rattle.opening.specs.Read.{Holds};
 ghost use Rattle.runs.specs.Ended.{ended};
-ghost use Rattle.cases.specs.Replies.{resultOf, CaseIn, Checks};
+ghost use Rattle.cases.specs.Replies.{resultOf, sizingOf, CaseIn, Checks};
 use opening::Opened;
 use runs::End;
 use sheets::Answer;
@@ -15,6 +15,41 @@ use sheets::Answer;
 pub enum Reply {
     Accepted(usize),
     Refused(u32, usize),
+}
+
+// How many elements, atoms and actions a problem has, and the bound.
+pub struct Counts {
+    pub elements: usize,
+    pub atoms: usize,
+    pub actions: usize,
+    pub bound: usize,
+}
+
+pub enum Sizing {
+    Sized(Counts),
+    Refused(u32, usize),
+}
+
+// The sizes of the numbered problem.
+pub fn sizes(question: &[u8], site: &[u8]) -> Sizing
+    ensures { λ r. ⌜ sizingOf r ≡ «sizes-of» (now (question .entry)) (now (site .entry)) ⌝ }
+{
+    let mut facts = [0u64; 512];
+    let o = opening::read_case(question, site, &mut facts);
+    if o.fault != 0 {
+        return Sizing::Refused(o.fault, o.place);
+    }
+    let mut table = [0usize; ground::TABLE];
+    let m = grounding::ground_case(question, o, &mut table);
+    if m.over {
+        return Sizing::Refused(11, 0);
+    }
+    Sizing::Sized(Counts {
+        elements: o.n,
+        atoms: m.atoms,
+        actions: m.actions,
+        bound: m.bound,
+    })
 }
 
 // How a run ended, as a reply.
