@@ -134,7 +134,7 @@ fn count(
 }
 
 // The `count` line of each `choose`.
-pub fn counts(out: &mut [u8], at: usize, q: &[u8], g: Signature, n: usize, words: &[u64]) -> usize
+fn counts(out: &mut [u8], at: usize, q: &[u8], g: Signature, n: usize, words: &[u64]) -> usize
     requires { ⌜ Sound (now q) g × (1 ≤ n) × (n ≤ 16) × (64 * g .chosen ≤ length (now words)) × (at + length («counts-of» (now q) g n (now words)) ≤ length (now out)) ⌝ }
     ensures { λ r. ⌜ Prints («counts-of» (now (q .entry)) g n (now (words .entry))) (now (out .entry)) at (now (out .exit)) r ⌝ }
 {
@@ -216,7 +216,7 @@ fn picked(
 }
 
 // The `pick` lines of each `choose`.
-pub fn picks(out: &mut [u8], at: usize, q: &[u8], g: Signature, n: usize, words: &[u64]) -> usize
+fn picks(out: &mut [u8], at: usize, q: &[u8], g: Signature, n: usize, words: &[u64]) -> usize
     requires { ⌜ Sound (now q) g × (1 ≤ n) × (n ≤ 16) × (64 * g .chosen ≤ length (now words)) × (at + length («picks-of» (now q) g n (now words)) ≤ length (now out)) ⌝ }
     ensures { λ r. ⌜ Prints («picks-of» (now (q .entry)) g n (now (words .entry))) (now (out .entry)) at (now (out .exit)) r ⌝ }
 {
@@ -231,7 +231,7 @@ pub fn picks(out: &mut [u8], at: usize, q: &[u8], g: Signature, n: usize, words:
 }
 
 // The report up to its steps: the sizes, the counts, the picks.
-pub fn head(
+fn head(
     out: &mut [u8],
     q: &[u8],
     g: Signature,
