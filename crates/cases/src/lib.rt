@@ -2,11 +2,12 @@
 // What a call returns, and what each buffer then holds, is what `definitions`, `Outcome`, says of it.
 ghost use mathlib.Core.Path.{_≡_};
 ghost use Rattle.definitions.specs.Truth.{Case};
-ghost use Rattle.definitions.specs.Outcome.{asText, asNumbers, checkSteps, sizes as «sizes-of»};
+ghost use Rattle.definitions.specs.Outcome.{asText, asNumbers, checkSteps, sizes as «sizes-of», action as «action-of»};
 ghost use Rattle.bits.specs.Table.{bit};
 ghost use Rattle.opening.specs.Read.{Holds};
 ghost use Rattle.runs.specs.Ended.{ended};
 ghost use Rattle.cases.specs.Replies.{resultOf, sizingOf, CaseIn, Checks};
+ghost use Rattle.cases.specs.Asked.{actionOf, found};
 use opening::Opened;
 use runs::End;
 use sheets::Answer;
@@ -50,6 +51,32 @@ pub fn sizes(question: &[u8], site: &[u8]) -> Sizing
         actions: m.actions,
         bound: m.bound,
     })
+}
+
+pub enum Asked {
+    Action(ground::Act),
+    Refused(u32, usize),
+}
+
+// The action of number k.
+pub fn action(question: &[u8], site: &[u8], k: usize) -> Asked
+    ensures { λ r. ⌜ actionOf r ≡ found («action-of» (now (question .entry)) (now (site .entry)) k) ⌝ }
+{
+    let mut facts = [0u64; 512];
+    let o = opening::read_case(question, site, &mut facts);
+    if o.fault != 0 {
+        return Asked::Refused(o.fault, o.place);
+    }
+    let mut table = [0usize; ground::TABLE];
+    let m = grounding::ground_case(question, o, &mut table);
+    if m.over {
+        return Asked::Refused(11, 0);
+    }
+    if k < m.actions {
+        let a = decode::action_at(&table, k);
+        return Asked::Action(a);
+    }
+    Asked::Refused(13, k)
 }
 
 // How a run ended, as a reply.

@@ -1,0 +1,53 @@
+-- `cases::action` meets its contract: the case is refused, it is over the limits, there is no such action, or it is the one decoded. Assumes nothing.
+use native.Mathlib.Omega.{arith}
+use Rattle.sheets.proofs.Loops.{zeros-clear}
+use Rattle.cases.specs.Replies.{sizes-known}
+use Rattle.cases.specs.Asked.{actionOf, asked-case, asked-over, asked-table, asked-none, asked-known}
+use borrow.Author.Needs.{needs}
+use Rattle.cases.proofs.action.Statement.{statement}
+use Rattle.cases.proofs.action.Tie as tie
+
+slice-aggregate-read-case : tie.Need-slice-aggregate-read-case
+slice-aggregate-read-case c = search needs
+
+read-case-requires : tie.Need-read-case-requires
+read-case-requires c κs = (omega arith, zeros-clear 512)
+
+returns : tie.Need-returns
+returns c = asked-case _ _ _ _ _ (c .before .before .before .read-case .ensures) (c .if1 .taken)
+
+slice-aggregate-ground-case : tie.Need-slice-aggregate-ground-case
+slice-aggregate-ground-case c = search needs
+
+ground-case-requires : tie.Need-ground-case-requires
+ground-case-requires c κs = (search needs, record { case = sizes-known _ _ _ _ (c .before .before .before .before .read-case .ensures) (c .before .if1 .left) .0; facts = _; holds = sizes-known _ _ _ _ (c .before .before .before .before .read-case .ensures) (c .before .if1 .left) .2 })
+
+returns-2 : tie.Need-returns-2
+returns-2 c = asked-over _ _ _ _ _ (c .before .before .before .before .before .before .before .read-case .ensures) (c .before .before .before .before .if1 .left) _ _ (λ x h. c .before .before .ground-case .ensures x _ h) (c .if2 .taken)
+
+slice-aggregate-action-at : tie.Need-slice-aggregate-action-at
+slice-aggregate-action-at c = search needs
+
+action-at-requires : tie.Need-action-at-requires
+action-at-requires c κs = asked-table _ _ 0 _ _ (c .before .before .before .before .before .before .before .before .before .before .read-case .ensures) (c .before .before .before .before .before .before .before .if1 .left) _ _ (λ x h. c .before .before .before .before .before .ground-case .ensures x _ h) (c .before .before .before .if2 .left)
+
+returns-3 : tie.Need-returns-3
+returns-3 c = asked-known _ _ _ _ _ (c .before .before .before .before .before .before .before .before .before .before .before .read-case .ensures) (c .before .before .before .before .before .before .before .before .if1 .left) _ _ (λ x h. c .before .before .before .before .before .before .ground-case .ensures x _ h) (c .before .before .before .before .if2 .left) (c .before .before .if3 .taken) _ (c .action-at .ensures .1)
+
+returns-4 : tie.Need-returns-4
+returns-4 c = asked-none _ _ _ _ _ (c .before .before .before .before .before .before .before .before .before .read-case .ensures) (c .before .before .before .before .before .before .if1 .left) _ _ (λ x h. c .before .before .before .before .ground-case .ensures x _ h) (c .before .before .if2 .left) (c .if3 .left)
+
+pub action-spec : {M : Type 1} → statement M
+action-spec =
+    tie.close
+    (tie.spec
+    slice-aggregate-read-case
+    read-case-requires
+    returns
+    slice-aggregate-ground-case
+    ground-case-requires
+    returns-2
+    slice-aggregate-action-at
+    action-at-requires
+    returns-3
+    returns-4)
