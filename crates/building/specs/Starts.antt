@@ -8,19 +8,16 @@ use lib.ListN.{length, take, drop, length-take}
 use lib.Seq.{take-append-seam, length-front}
 use Rattle.definitions.specs.Relations.{Tuple}
 use Rattle.definitions.specs.Truth.{Case, arePicks}
-use Rattle.definitions.specs.Atoms.{Problem, problemOf, initial, atoms, wordsFor}
+use Rattle.definitions.specs.Atoms.{problemOf, initial, atoms, wordsFor}
 use Rattle.definitions.specs.Actions.{actions}
 use Rattle.definitions.specs.Built.{bound}
 use Rattle.definitions.specs.Outcome.{stateLength}
 use Rattle.reduction.specs.Reader.{Accepted}
 use Rattle.bits.specs.Table.{bit}
-use Rattle.ground.specs.Lines.{Fits}
 use Rattle.ground.specs.Of.{Is}
 use Rattle.initial.specs.Rows.{atomsIn}
 use Rattle.initial.specs.Initial.{FactsIn, Begun}
 use Rattle.picks.specs.Words.{PicksAre}
-use Rattle.plans.specs.declared.Answer.{Answer}
-use Rattle.plans.specs.Answers.{Gives}
 
 -- a table, the facts, the picks and room for the steps are those of a case and of picks of it
 pub record Prepared (c : Case) (F : List Tuple) (table facts words : List ℕ) (count room : ℕ) : Type 0 where

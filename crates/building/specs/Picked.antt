@@ -1,0 +1,252 @@
+-- Words that hold picks: what building asks of them, for picks read from a text and for lent words.
+use Prim.Native.Nat.{ℕ, zero, suc, _+_, _-_, _*_, _/_, _%_, _^_, _≤_, _<_}
+use mathlib.Core.Path.{_≡_, refl, sym, ap, ap₂, subst, _∙_}
+use mathlib.Core.Bool.{Bool, true, false, _&&_}
+use mathlib.Core.Option.{none}
+use mathlib.Core.List.{List, [], _∷_, _++_, append-assoc}
+use native.Mathlib.Nat.{add-zero, zero-add}
+use native.Mathlib.Omega.{arith}
+use lib.Dec.{T, ltb}
+use lib.ListN.{length, take, drop, getD, length-take, take-append-drop, List·getD-eq-default}
+use lib.Seq.{getD-take, length-take-le, getD-append-add}
+use borrow.Author.Tests.{lt-ltb, ltb-true, ltb-false}
+use Rattle.bits.specs.Table.{bit, digit, words, Words}
+use Rattle.bits.proofs.Laws.{bit-words, length-words, is-words}
+use Rattle.definitions.specs.Lists.{if_then_else_, filter, flatMap, from, below}
+use Rattle.definitions.specs.Refusal.{Result, accepted}
+use Rattle.definitions.specs.Relations.{Relation, Tuple, isChosen}
+use Rattle.definitions.specs.Sheets.{readPicks, firstChosen}
+use Rattle.definitions.specs.Truth.{Case, arePicks}
+use Rattle.definitions.specs.Atoms.{Problem, problemOf, problemWith, relationAt, tuplesOf, wordsFor}
+use Rattle.definitions.specs.Built.{chosenNumbers, isPicked}
+use Rattle.definitions.specs.Outcome.{relationWords, picksLength, pickWords, lentPicks, spareWord, textPicks, asText, asNumbers}
+use Rattle.laws.specs.Booleans.{T-true, T-false}
+use Rattle.laws.specs.Numbers.{noRelation}
+use Rattle.laws.specs.Words.{bit-is, bit-front, words-for}
+use Rattle.names.specs.declared.Signature.{Signature}
+use Rattle.names.specs.Signatures.{relationIn, chosenOf, relsOf}
+use Rattle.names.proofs.Laws.{length-relations, relation-at}
+use Rattle.tuples.specs.Marks.{firstWord, bitOf, marks, AllValid}
+use Rattle.tuples.proofs.Rows.{power-le}
+use Rattle.tuples.proofs.Words as W
+use Rattle.reduction.specs.Reader.{Accepted}
+use Rattle.reduction.specs.Grounded.{good, count-relations, chosen-at, chosen-index, chosen-is}
+use Rattle.reduction.specs.Building.{given-text, given-words, given-picks}
+use Rattle.reduction.specs.Lent.{words-of, words-again, pick-words}
+use Rattle.picks.specs.Words.{wordStart, PicksAre}
+use Rattle.sheets.specs.Reading.{Picks, PicksIn}
+use Rattle.opening.specs.declared.Opened.{Opened}
+use Rattle.opening.specs.Read.{Holds}
+
+-- ---- words one after another
+
+bit-back : (t u : List ℕ) (k i : ℕ) → length t ≡ k → bit (t ++ u) (64 * k + i) ≡ bit u i
+unfolding bit
+bit-back t u k i e =
+    let q : (64 * k + i) / 64 ≡ length t + i / 64 = omega arith in
+    let d : (64 * k + i) % 64 ≡ i % 64 = omega arith in
+    rw (q, d) (ap (λ (w : ℕ). digit w (i % 64)) (getD-append-add t u (i / 64) 0))
+
+front-bit : (t u : List ℕ) (i : ℕ) → i < 64 * length t → bit (t ++ u) i ≡ bit t i
+front-bit t u i h = sym (bit-is (t ++ u) i) ∙ bit-front t u i h ∙ bit-is t i
+
+-- ---- the words of picks hold them
+
+module _ (p : Problem) (F : List Tuple) where
+  abbrev isOne : ℕ → Bool
+  isOne r = isChosen (relationAt p r .kind)
+
+  abbrev rows : ℕ → ℕ
+  rows r = tuplesOf (p .size) (relationAt p r)
+
+  abbrev own : ℕ → List ℕ
+  own r = words (λ row. ltb row (rows r) && isPicked p F r row) (relationWords p r)
+
+  own-row : (r row : ℕ) (rest : List ℕ) → row < rows r → bit (own r ++ rest) row ≡ isPicked p F r row
+  unfolding relationWords
+  own-row r row rest h =
+      let k : row < 64 * relationWords p r = omega (arith, words-for (rows r) .0) in
+      let l = length-words (λ row. ltb row (rows r) && isPicked p F r row) (relationWords p r) in
+      front-bit (own r) rest row (omega arith) ∙ bit-words (λ row. ltb row (rows r) && isPicked p F r row) (relationWords p r) row k ∙ ap (λ (b : Bool). b && isPicked p F r row) (lt-ltb row (rows r) h)
+
+  -- a relation's words start after those of the `choose` relations before it
+  start-next : (r : ℕ) (b : Bool) → isOne r ≡ b → wordStart p (suc r) ≡ wordStart p r + (if b then relationWords p r else zero)
+  unfolding wordStart
+  start-next r b e = ap (λ (x : Bool). wordStart p r + (if x then relationWords p r else zero)) e
+
+  start-grows : (r j : ℕ) → wordStart p r ≤ wordStart p (r + j)
+  unfolding wordStart
+  start-grows r zero = rw (add-zero r) (omega arith)
+  start-grows r (suc j) = let e : r + suc j ≡ suc (r + j) = omega arith in rw e (omega (arith, start-grows r j))
+
+  rows-from : (m r j row base : ℕ) (rest : List ℕ) → j < m → T (isOne (r + j)) → row < rows (r + j) → wordStart p (r + j) ≡ wordStart p r + base
+      → bit (flatMap own (filter isOne (from r m)) ++ rest) (64 * base + row) ≡ isPicked p F (r + j) row
+  unfolding flatMap filter from
+  rows-from zero r j row base rest h t l e = absurd (omega arith)
+  rows-from (suc m) r zero row base rest h t l e =
+      let z : r + 0 ≡ r = add-zero r in
+      let i : 64 * base + row ≡ row = let q = ap (wordStart p) z in omega arith in
+      rw (T-true (isOne r) (subst (λ (x : ℕ). T (isOne x)) z t))
+      (ap₂ (λ (w : List ℕ) (x : ℕ). bit w x) (append-assoc (own r) (flatMap own (filter isOne (from (suc r) m))) rest) i
+      ∙ own-row r row (flatMap own (filter isOne (from (suc r) m)) ++ rest) (subst (λ (x : ℕ). row < rows x) z l) ∙ ap (λ (x : ℕ). isPicked p F x row) (sym z))
+  rows-from (suc m) r (suc j) row base rest h t l e = go (isOne r) refl (λ base′ q.
+      rows-from m (suc r) j row base′ rest (omega arith) (subst (λ (x : ℕ). T (isOne x)) next t) (subst (λ (x : ℕ). row < rows x) next l) (sym (ap (wordStart p) next) ∙ q) ∙ ap (λ (x : ℕ). isPicked p F x row) (sym next))
+    where
+      next : r + suc j ≡ suc r + j
+      next = omega arith
+
+      go : (b : Bool) → isOne r ≡ b
+          → ((base′ : ℕ) → wordStart p (r + suc j) ≡ wordStart p (suc r) + base′ → bit (flatMap own (filter isOne (from (suc r) m)) ++ rest) (64 * base′ + row) ≡ isPicked p F (r + suc j) row)
+          → bit (flatMap own (if b then r ∷ filter isOne (from (suc r) m) else filter isOne (from (suc r) m)) ++ rest) (64 * base + row) ≡ isPicked p F (r + suc j) row
+      go true q later =
+          let n = start-next r true q in
+          let g = start-grows (suc r) j in
+          let g′ = ap (wordStart p) next in
+          let i : 64 * base + row ≡ 64 * relationWords p r + (64 * (base - relationWords p r) + row) = omega arith in
+          ap₂ (λ (w : List ℕ) (x : ℕ). bit w x) (append-assoc (own r) (flatMap own (filter isOne (from (suc r) m))) rest) i
+          ∙ bit-back (own r) (flatMap own (filter isOne (from (suc r) m)) ++ rest) (relationWords p r) (64 * (base - relationWords p r) + row) (length-words _ (relationWords p r))
+          ∙ later (base - relationWords p r) (omega arith)
+      go false q later = let n = start-next r false q in later base (omega arith)
+
+  -- so words whose front is written for picks hold them
+  pub front-picks : (w : List ℕ) → take (picksLength p) w ≡ pickWords p F → PicksAre p w F
+  unfolding chosenNumbers below wordStart
+  front-picks w e r row l t h =
+      ap (λ (x : List ℕ). bit x (64 * wordStart p r + row)) (sym (take-append-drop (picksLength p) w) ∙ ap (λ (x : List ℕ). x ++ drop (picksLength p) w) (e ∙ words-of p F))
+      ∙ rows-from (length (p .relations)) 0 r row (wordStart p r) (drop (picksLength p) w) l (subst (λ (x : ℕ). T (isOne x)) (sym (zero-add r)) t) (subst (λ (x : ℕ). row < rows x) (sym (zero-add r)) h) (ap (wordStart p) (zero-add r) ∙ sym (zero-add (wordStart p r)))
+      ∙ ap (λ (x : ℕ). isPicked p F x row) (zero-add r)
+
+-- a front of words is written for picks if its bits are those of the words that are
+words-take : (k : ℕ) (w : List ℕ) → Words w → Words (take k w)
+words-take k w ok j = go (ltb j k) refl
+  where
+    go : (b : Bool) → ltb j k ≡ b → getD (take k w) j 0 < 2 ^ 64
+    go true e = let q = getD-take k w j 0 (ltb-true j k e) in let h = ok j in omega arith
+    go false e = let h = ltb-false j k e in let a = length-take k w in let q = List·getD-eq-default (take k w) 0 {n = j} (omega arith) in omega arith
+
+take-words : (f : ℕ → Bool) (k : ℕ) (w : List ℕ) → Words w → k ≤ length w → bit w ≡ f → take k w ≡ words f k
+take-words f k w ok h e = is-words (take k w) f k (words-take k w ok) (length-take-le k w h) (λ i l.
+    sym (ap (λ (x : List ℕ). bit x i) (sym (take-append-drop k w)) ∙ front-bit (take k w) (drop k w) i (let q = length-take-le k w h in omega arith)) ∙ ap (λ (g : ℕ → Bool). g i) e)
+
+-- ---- the numbers of the `choose` relations follow all others
+
+filter-from : (f : ℕ → Bool) (b a k : ℕ) → ((i : ℕ) → i < b → f (a + i) ≡ false) → ((i : ℕ) → i < k → f (a + b + i) ≡ true) → filter f (from a (b + k)) ≡ from (a + b) k
+unfolding filter from
+filter-from f zero a zero h t = refl
+filter-from f zero a (suc k) h t =
+    let z : a + 0 ≡ a = add-zero a in
+    let n : 0 + suc k ≡ suc k = zero-add (suc k) in
+    let e : f a ≡ true = ap f (sym (add-zero a) ∙ ap (λ (x : ℕ). x + 0) (sym z)) ∙ t 0 (omega arith) in
+    rw (n, z, e) (ap (λ (l : List ℕ). a ∷ l) (ap (λ (x : ℕ). filter f (from (suc a) x)) (sym (zero-add k)) ∙ filter-from f zero (suc a) k (λ i l. absurd (omega arith)) (λ i l.
+    let q : suc a + 0 + i ≡ a + 0 + suc i = omega arith in ap f q ∙ t (suc i) (omega arith)) ∙ ap (λ (x : ℕ). from x k) (add-zero (suc a))))
+filter-from f (suc b) a k h t =
+    let n : suc b + k ≡ suc (b + k) = omega arith in
+    let m : suc a + b ≡ a + suc b = omega arith in
+    let e : f a ≡ false = ap f (sym (add-zero a)) ∙ h 0 (omega arith) in
+    rw (n, e) (filter-from f b (suc a) k (λ i l. let q : suc a + i ≡ a + suc i = omega arith in ap f q ∙ h (suc i) (omega arith)) (λ i l. ap (λ (x : ℕ). f (x + i)) m ∙ t i l) ∙ ap (λ (x : ℕ). from x k) m)
+
+module _ (c : Case) (A : Accepted c) where
+  pub numbers-are : chosenNumbers (problemOf c) ≡ from (firstChosen (c .question)) (length (c .question .chosen))
+  unfolding chosenNumbers below
+  numbers-are =
+      let f : ℕ → Bool = λ r. isChosen (relationAt (problemOf c) r .kind) in
+      ap (λ (k : ℕ). filter f (from 0 k)) (count-relations c A)
+      ∙ filter-from f (firstChosen (c .question)) 0 (length (c .question .chosen))
+      (λ i h. ap f (zero-add i) ∙ T-false (f i) (λ t. let q = chosen-index c A i (let k = count-relations c A in omega arith) t in omega (arith, q .1)))
+      (λ i h. ap (λ (x : ℕ). f (x + i)) (zero-add (firstChosen (c .question))) ∙ T-true (f (firstChosen (c .question) + i)) (chosen-is c A i h .1))
+      ∙ ap (λ (a : ℕ). from a (length (c .question .chosen))) (zero-add (firstChosen (c .question)))
+
+-- ---- picks read from a text
+
+few-words : (g : Signature) (n lo m : ℕ) → n ≤ 16 → ((i : ℕ) → i < m → getD (g .arity) (lo + i) 0 ≤ 3) → firstWord g n lo m ≤ 64 * m
+unfolding firstWord wordsFor
+few-words g n lo zero h a = omega arith
+few-words g n lo (suc m) h a = omega (arith, few-words g n lo m h (λ i l. a i (omega arith)), power-le n (getD (g .arity) (lo + m) 0) h (a m (omega arith)))
+
+problem-size : (c : Case) → problemOf c .size ≡ c .site .size
+unfolding problemOf problemWith
+problem-size c = refl
+
+module _ (s : List ℕ) (c : Case) (A : Accepted c) (o : Opened) (facts : ℕ → Bool) (h : Holds s c o facts) where
+  abbrev g : Signature
+  g = o .sig
+
+  many-rels : length (c .question .rels) ≡ o .sig .rels
+  unfolding relsOf
+  many-rels = ap length (h .rels) ∙ length-relations s (o .sig) 0 (o .sig .rels)
+
+  many-chosen : length (c .question .chosen) ≡ o .sig .chosen
+  unfolding chosenOf
+  many-chosen = ap length (h .chosen) ∙ length-relations s (o .sig) (o .sig .rels) (o .sig .chosen)
+
+  first-is : firstChosen (c .question) ≡ 5 + o .sig .rels
+  unfolding firstChosen
+  first-is = ap (λ (x : ℕ). 5 + x) many-rels
+
+  pub chosen-numbers : chosenNumbers (problemOf c) ≡ from (5 + o .sig .rels) (o .sig .chosen)
+  chosen-numbers = numbers-are c A ∙ ap₂ from first-is many-chosen
+
+  chosen-arity : (i : ℕ) → i < o .sig .chosen → relationAt (problemOf c) (5 + o .sig .rels + i) .arity ≡ getD (o .sig .arity) (o .sig .rels + i) 0
+  unfolding chosenOf relationIn
+  chosen-arity i l =
+      ap (λ (x : ℕ). relationAt (problemOf c) (x + i) .arity) (sym first-is)
+      ∙ ap (λ (k : Relation). k .arity) (chosen-at c A i ∙ ap (λ (ks : List Relation). getD ks i noRelation) (h .chosen) ∙ relation-at s (o .sig) (o .sig .rels) (o .sig .chosen) i noRelation l)
+
+  elements-are : o .n ≡ problemOf c .size
+  elements-are = h .size ∙ sym (problem-size c)
+
+  some-elements : 0 < problemOf c .size
+  some-elements = subst (λ (n : ℕ). 0 < n) elements-are (h .some-elements)
+
+  -- what the code reads is what the definitions read
+  pub text-read : (text : List ℕ) → readPicks (chosenOf s (o .sig)) (5 + o .sig .rels) (o .n) text ≡ textPicks c (asText text)
+  unfolding textPicks
+  text-read text =
+      ap (λ (ks : List Relation). readPicks ks (5 + o .sig .rels) (o .n) text) (sym (h .chosen))
+      ∙ ap₂ (λ (a n : ℕ). readPicks (c .question .chosen) a n text) (sym first-is) (h .size)
+
+  -- the picks of a problem fit a table of 256 words
+  length-is : picksLength (problemOf c) ≡ firstWord (o .sig) (problemOf c .size) (o .sig .rels) (o .sig .chosen)
+  unfolding AllValid
+  length-is = W.picks-length (o .sig) (o .sig .rels) (o .sig .chosen) (problemOf c) some-elements [] tt chosen-arity chosen-numbers
+
+  pub text-fits : picksLength (problemOf c) ≤ 256
+  text-fits =
+      let k = few-words (o .sig) (problemOf c .size) (o .sig .rels) (o .sig .chosen) (subst (λ (n : ℕ). n ≤ 16) elements-are (h .few-elements)) (λ i l. h .sound .arities (o .sig .rels + i) (omega arith) .1) in
+      omega (arith, length-is, h .sound .chosen-le)
+
+  module _ (text : List ℕ) (F : List Tuple) (read : textPicks c (asText text) ≡ accepted F) where
+    pub text-are : arePicks c F ≡ true
+    unfolding textPicks
+    text-are = given-picks c A (asText text) F (given-text c (problemOf c) text ∙ read)
+
+    module _ (w : List ℕ) (ok : Words w) (room : 256 ≤ length w) (held : PicksIn (o .sig) (o .n) (readPicks (chosenOf s (o .sig)) (5 + o .sig .rels) (o .n) text) (bit w)) where
+      its-picks : Picks (o .sig) (problemOf c .size) F (bit w)
+      unfolding PicksIn
+      its-picks = subst (λ (n : ℕ). Picks (o .sig) n F (bit w)) elements-are (subst (λ (r : Result (List Tuple)). PicksIn (o .sig) (o .n) r (bit w)) (text-read text ∙ read) held)
+
+      -- the words' front is written for the picks read
+      pub text-front : take (picksLength (problemOf c)) w ≡ pickWords (problemOf c) F
+      unfolding Picks
+      text-front =
+          ap (λ (k : ℕ). take k w) length-is
+          ∙ take-words (marks (bitOf (o .sig) (problemOf c .size) (o .sig .rels)) F) (firstWord (o .sig) (problemOf c .size) (o .sig .rels) (o .sig .chosen)) w ok (let e = length-is in let k = text-fits in omega arith) (its-picks .0)
+          ∙ W.pick-words (o .sig) (o .sig .rels) (o .sig .chosen) (problemOf c) some-elements F (its-picks .1) chosen-arity chosen-numbers
+
+      pub text-picked : PicksAre (problemOf c) w F
+      text-picked = front-picks (problemOf c) F w text-front
+
+-- ---- lent words
+
+module _ (c : Case) (A : Accepted c) (w : List ℕ) (room : picksLength (problemOf c) ≤ length w) (e : spareWord (problemOf c) w zero (chosenNumbers (problemOf c)) ≡ none) where
+  abbrev lent : List Tuple
+  lent = lentPicks (problemOf c) w (chosenNumbers (problemOf c))
+
+  pub lent-are : arePicks c lent ≡ true
+  lent-are = given-picks c A (asNumbers w) lent (given-words c (problemOf c) w room e)
+
+  pub lent-front : Words w → take (picksLength (problemOf c)) w ≡ pickWords (problemOf c) lent
+  lent-front ok = sym (words-again (problemOf c) (good c A) w ok room e)
+
+  pub lent-picked : Words w → PicksAre (problemOf c) w lent
+  lent-picked ok = front-picks (problemOf c) lent w (lent-front ok)
