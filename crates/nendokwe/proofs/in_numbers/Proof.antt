@@ -1,0 +1,107 @@
+-- `nendokwe::in_numbers` meets its contract: an action in numbers, kind by kind. Assumes nothing.
+use mathlib.Core.Path.{sym, ap, _∙_}
+use Rattle.nendokwe.specs.Told.{detailsOf}
+use borrow.Author.Needs.{needs}
+use Rattle.nendokwe.proofs.in_numbers.Statement.{statement}
+use Rattle.nendokwe.proofs.in_numbers.Tie as tie
+
+enum-known-a : tie.Need-enum-known-a
+enum-known-a c = search needs
+
+enum-known-a-2 : tie.Need-enum-known-a-2
+enum-known-a-2 c = search needs
+
+enum-known-a-3 : tie.Need-enum-known-a-3
+enum-known-a-3 c = search needs
+
+chosen-requires : tie.Need-chosen-requires
+chosen-requires c κs = search needs
+
+enum-known-a-4 : tie.Need-enum-known-a-4
+enum-known-a-4 c = search needs
+
+chosen-requires-2 : tie.Need-chosen-requires-2
+chosen-requires-2 c κs = search needs
+
+enum-known-a-5 : tie.Need-enum-known-a-5
+enum-known-a-5 c = search needs
+
+chosen-requires-3 : tie.Need-chosen-requires-3
+chosen-requires-3 c κs = search needs
+
+enum-told : tie.Need-enum-told
+enum-told c = search needs
+
+bare-requires : tie.Need-bare-requires
+bare-requires c κs = search needs
+
+enum-told-2 : tie.Need-enum-told-2
+enum-told-2 c = search needs
+
+bare-requires-2 : tie.Need-bare-requires-2
+bare-requires-2 c κs = search needs
+
+enum-told-3 : tie.Need-enum-told-3
+enum-told-3 c = search needs
+
+bare-requires-3 : tie.Need-bare-requires-3
+bare-requires-3 c κs = search needs
+
+returns : tie.Need-returns
+unfolding detailsOf
+returns c = sym (ap detailsOf (c .before .a .given .1))
+
+returns-2 : tie.Need-returns-2
+unfolding detailsOf
+returns-2 c = sym (ap detailsOf (c .before .a2 .given .1))
+
+returns-3 : tie.Need-returns-3
+unfolding detailsOf
+returns-3 c = c .chosen .ensures ∙ sym (ap detailsOf (c .before .before .a3 .given .1))
+
+returns-4 : tie.Need-returns-4
+unfolding detailsOf
+returns-4 c = c .chosen2 .ensures ∙ sym (ap detailsOf (c .before .before .a4 .given .1))
+
+returns-5 : tie.Need-returns-5
+unfolding detailsOf
+returns-5 c = c .chosen3 .ensures ∙ sym (ap detailsOf (c .before .before .a5 .given .1))
+
+returns-6 : tie.Need-returns-6
+unfolding detailsOf
+returns-6 c = c .bare .ensures ∙ sym (ap detailsOf (c .before .enum-told .given .1))
+
+returns-7 : tie.Need-returns-7
+unfolding detailsOf
+returns-7 c = c .bare2 .ensures ∙ sym (ap detailsOf (c .before .enum-told2 .given .1))
+
+returns-8 : tie.Need-returns-8
+unfolding detailsOf
+returns-8 c = c .bare3 .ensures ∙ sym (ap detailsOf (c .before .enum-told3 .given .1))
+
+pub in-numbers-spec : {M : Type 1} → statement M
+in-numbers-spec =
+    tie.close
+    (tie.spec
+    enum-known-a
+    enum-known-a-2
+    enum-known-a-3
+    chosen-requires
+    enum-known-a-4
+    chosen-requires-2
+    enum-known-a-5
+    chosen-requires-3
+    enum-told
+    bare-requires
+    enum-told-2
+    bare-requires-2
+    enum-told-3
+    bare-requires-3
+    returns
+    returns-2
+    returns-3
+    returns-4
+    returns-5
+    returns-6
+    returns-7
+    returns-8)

@@ -1,0 +1,2 @@
+-- Words of this crate's contracts.
+pub mod Told

@@ -1,0 +1,199 @@
+// The public calls for programs in C, Rust and other languages. A slice goes over as a pointer and a length; lent memory must not
+// overlap. A call's number and place come back through two references: 0 and the step count, or a refusal's number and place.
+// What a refusal leaves as it was is left: sizes and an action's details are written only where there are some.
+ghost use mathlib.Core.Path.{_≡_};
+ghost use Rattle.definitions.specs.Outcome.{asText, asNumbers, sizes as «sizes-of», action as «action-of», checkSteps, replyNumber, replyPlace};
+ghost use Rattle.cases.specs.Replies.{resultOf, sizingOf};
+ghost use Rattle.cases.specs.Asked.{actionOf};
+ghost use Rattle.nendokwe.specs.Told.{numberOf, placeOf, told, kindOf, subjectOf, rowIn, choiceOf, detailsOf};
+use cases::Asked;
+use cases::Reply;
+use cases::Sizing;
+use ground::Act;
+use ground::ChoiceAct;
+
+// A reply as number and place.
+fn tell(r: Reply, number: &mut u32, place: &mut usize)
+    ensures { λ _. ⌜ now (number .exit) ≡ replyNumber (resultOf r) ⌝ }
+    ensures { λ _. ⌜ now (place .exit) ≡ replyPlace (resultOf r) ⌝ }
+{
+    match r {
+        Reply::Accepted(count) => {
+            *number = 0;
+            *place = count;
+        }
+        Reply::Refused(k, at) => {
+            *number = k;
+            *place = at;
+        }
+    }
+}
+
+// The sizes of a case.
+#[no_mangle]
+pub extern "C" fn nendokwe_sizes(
+    question: &[u8],
+    site: &[u8],
+    number: &mut u32,
+    place: &mut usize,
+    elements: &mut usize,
+    atoms: &mut usize,
+    actions: &mut usize,
+    bound: &mut usize,
+)
+    ensures { λ _. ⌜ now (number .exit) ≡ numberOf («sizes-of» (now (question .entry)) (now (site .entry))) ⌝ }
+    ensures { λ _. ⌜ now (place .exit) ≡ placeOf («sizes-of» (now (question .entry)) (now (site .entry))) ⌝ }
+    ensures { λ _. ⌜ now (elements .exit) ≡ told (λ s. s .elements) («sizes-of» (now (question .entry)) (now (site .entry))) (now (elements .entry)) ⌝ }
+    ensures { λ _. ⌜ now (atoms .exit) ≡ told (λ s. s .atomCount) («sizes-of» (now (question .entry)) (now (site .entry))) (now (atoms .entry)) ⌝ }
+    ensures { λ _. ⌜ now (actions .exit) ≡ told (λ s. s .actionCount) («sizes-of» (now (question .entry)) (now (site .entry))) (now (actions .entry)) ⌝ }
+    ensures { λ _. ⌜ now (bound .exit) ≡ told (λ s. s .stepBound) («sizes-of» (now (question .entry)) (now (site .entry))) (now (bound .entry)) ⌝ }
+{
+    let r = cases::sizes(question, site);
+    match r {
+        Sizing::Sized(s) => {
+            *number = 0;
+            *place = 0;
+            *elements = s.elements;
+            *atoms = s.atoms;
+            *actions = s.actions;
+            *bound = s.bound;
+        }
+        Sizing::Refused(k, at) => {
+            *number = k;
+            *place = at;
+        }
+    }
+}
+
+// An action in numbers.
+pub struct Details {
+    pub kind: u32,
+    pub subject: usize,
+    pub row: usize,
+    pub choice: usize,
+}
+
+// The details of an action that has none but its kind.
+fn bare(kind: u32) -> Details
+    ensures { λ r. ⌜ r ≡ record { kind = kind; subject = 0; row = 0; choice = 0 } ⌝ }
+{
+    Details {
+        kind,
+        subject: 0,
+        row: 0,
+        choice: 0,
+    }
+}
+
+// The details of an action on a node, with the part, element or z that is chosen.
+fn chosen(kind: u32, a: ChoiceAct) -> Details
+    ensures { λ r. ⌜ r ≡ record { kind = kind; subject = a .node; row = a .row; choice = a .choice } ⌝ }
+{
+    Details {
+        kind,
+        subject: a.node,
+        row: a.row,
+        choice: a.choice,
+    }
+}
+
+// An action in numbers, by its kind.
+fn in_numbers(a: Act) -> Details
+    ensures { λ r. ⌜ r ≡ detailsOf a ⌝ }
+{
+    match a {
+        Act::Set(x) => Details {
+            kind: 0,
+            subject: x.relation,
+            row: x.row,
+            choice: 0,
+        },
+        Act::And(x) => Details {
+            kind: 2,
+            subject: x.node,
+            row: x.row,
+            choice: 0,
+        },
+        Act::Or(x) => chosen(3, x),
+        Act::Exists(x) => chosen(4, x),
+        Act::Forall(x) => chosen(5, x),
+        Act::Begin => bare(1),
+        Act::Goal => bare(6),
+        Act::Nothing => bare(7),
+    }
+}
+
+// The action of number k: its kind (0 set, 1 begin-proof, 2 `and`, 3 `or`, 4 `exists`, 5 `forall`, 6 prove-goal), its relation or node,
+// its row, and its part, element or z; a detail that its kind does not have is 0.
+#[no_mangle]
+pub extern "C" fn nendokwe_action(
+    question: &[u8],
+    site: &[u8],
+    k: usize,
+    number: &mut u32,
+    place: &mut usize,
+    kind: &mut u32,
+    subject: &mut usize,
+    row: &mut usize,
+    choice: &mut usize,
+)
+    ensures { λ _. ⌜ now (number .exit) ≡ numberOf («action-of» (now (question .entry)) (now (site .entry)) k) ⌝ }
+    ensures { λ _. ⌜ now (place .exit) ≡ placeOf («action-of» (now (question .entry)) (now (site .entry)) k) ⌝ }
+    ensures { λ _. ⌜ now (kind .exit) ≡ told kindOf («action-of» (now (question .entry)) (now (site .entry)) k) (now (kind .entry)) ⌝ }
+    ensures { λ _. ⌜ now (subject .exit) ≡ told subjectOf («action-of» (now (question .entry)) (now (site .entry)) k) (now (subject .entry)) ⌝ }
+    ensures { λ _. ⌜ now (row .exit) ≡ told rowIn («action-of» (now (question .entry)) (now (site .entry)) k) (now (row .entry)) ⌝ }
+    ensures { λ _. ⌜ now (choice .exit) ≡ told choiceOf («action-of» (now (question .entry)) (now (site .entry)) k) (now (choice .entry)) ⌝ }
+{
+    let r = cases::action(question, site, k);
+    match r {
+        Asked::Action(a) => {
+            let d = in_numbers(a);
+            *number = 0;
+            *place = 0;
+            *kind = d.kind;
+            *subject = d.subject;
+            *row = d.row;
+            *choice = d.choice;
+        }
+        Asked::Refused(k, at) => {
+            *number = k;
+            *place = at;
+        }
+    }
+}
+
+// Checks steps that are handed over as a text.
+#[no_mangle]
+pub extern "C" fn nendokwe_check_text(
+    question: &[u8],
+    site: &[u8],
+    steps: &[u8],
+    state: &mut [u64],
+    number: &mut u32,
+    place: &mut usize,
+)
+    ensures { λ _. ⌜ now (number .exit) ≡ replyNumber (checkSteps (now (question .entry)) (now (site .entry)) (asText (now (steps .entry))) (now (state .entry)) .answer) ⌝ }
+    ensures { λ _. ⌜ now (place .exit) ≡ replyPlace (checkSteps (now (question .entry)) (now (site .entry)) (asText (now (steps .entry))) (now (state .entry)) .answer) ⌝ }
+    ensures { λ _. ⌜ now (state .exit) ≡ checkSteps (now (question .entry)) (now (site .entry)) (asText (now (steps .entry))) (now (state .entry)) .state ⌝ }
+{
+    let r = cases::check_text(question, site, steps, state);
+    tell(r, number, place);
+}
+
+// Checks steps that are lent as numbers.
+#[no_mangle]
+pub extern "C" fn nendokwe_check(
+    question: &[u8],
+    site: &[u8],
+    steps: &[u32],
+    state: &mut [u64],
+    number: &mut u32,
+    place: &mut usize,
+)
+    ensures { λ _. ⌜ now (number .exit) ≡ replyNumber (checkSteps (now (question .entry)) (now (site .entry)) (asNumbers (now (steps .entry))) (now (state .entry)) .answer) ⌝ }
+    ensures { λ _. ⌜ now (place .exit) ≡ replyPlace (checkSteps (now (question .entry)) (now (site .entry)) (asNumbers (now (steps .entry))) (now (state .entry)) .answer) ⌝ }
+    ensures { λ _. ⌜ now (state .exit) ≡ checkSteps (now (question .entry)) (now (site .entry)) (asNumbers (now (steps .entry))) (now (state .entry)) .state ⌝ }
+{
+    let r = cases::check_lent(question, site, steps, state);
+    tell(r, number, place);
+}
