@@ -1,0 +1,54 @@
+-- `reading::cut` meets its contract: its digits are the bits, by the laws of `Cuts`. Assumes nothing.
+use Prim.Native.Nat.{_/_}
+use native.Mathlib.Omega.{arith}
+use Rattle.reading.specs.Cuts.{joined, cut-some, cut-all, mask-fits}
+use borrow.Author.Needs.{needs}
+use Rattle.reading.proofs.cut.Statement.{statement}
+use Rattle.reading.proofs.cut.Tie as tie
+
+word-at-requires : tie.Need-word-at-requires
+word-at-requires c κs = search needs
+
+shr-low : tie.Need-shr-low
+shr-low c = search needs
+
+add-word-at : tie.Need-add-word-at
+add-word-at c = search needs
+
+word-at-requires-2 : tie.Need-word-at-requires-2
+word-at-requires-2 c κs = search needs
+
+sub-high : tie.Need-sub-high
+sub-high c = search needs
+
+shl-high : tie.Need-shl-high
+shl-high c = search needs
+
+shl-result : tie.Need-shl-result
+shl-result c = search needs
+
+sub-result : tie.Need-sub-result
+sub-result c = mask-fits _ (omega arith)
+
+returns : tie.Need-returns
+unfolding joined
+returns c = cut-some _ _ (omega (arith, c .before .before .before .shared-slice-known .given (c .before .before .before .before .args .i / 64))) _ _ _ (c .before .before .word-at .ensures) (c .before .word-at2 .ensures) (omega arith)
+
+returns-2 : tie.Need-returns-2
+unfolding joined
+returns-2 c = cut-all _ _ (omega (arith, c .before .before .before .shared-slice-known .given (c .before .before .before .before .args .i / 64))) _ _ _ (c .before .before .word-at .ensures) (c .before .word-at2 .ensures) (omega arith)
+
+pub cut-spec : {M : Type 1} → statement M
+cut-spec =
+    tie.close
+    (tie.spec
+    word-at-requires
+    shr-low
+    add-word-at
+    word-at-requires-2
+    sub-high
+    shl-high
+    shl-result
+    sub-result
+    returns
+    returns-2)
