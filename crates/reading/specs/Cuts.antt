@@ -1,7 +1,7 @@
 -- A word cut out of two by shifts and a mask, digit by digit. Assumes nothing.
 use Prim.Native.Nat.{ℕ, zero, suc, _+_, _-_, _*_, _/_, _%_, _^_, _≤_, _<_}
 use mathlib.Core.Path.{_≡_, sym, ap, ap₂, _∙_}
-use mathlib.Core.Bool.{Bool, true, false, _&&_, _||_, and-true, and-comm, or-false}
+use mathlib.Core.Bool.{Bool, false, _&&_, _||_, and-true, and-comm, or-false}
 use mathlib.Core.List.{List}
 use native.Mathlib.Nat.{mod-lt, div-eq-of-lt, pow-suc}
 use native.Mathlib.Decide.{decLt}

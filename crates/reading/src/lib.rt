@@ -2,18 +2,29 @@
 // They are cut out of the state word by word, since a relation's tuples may start anywhere in a word there.
 ghost use mathlib.Core.Path.{_≡_};
 ghost use mathlib.Core.Bool.{_&&_};
-ghost use Prim.Native.Nat.{ℕ, _+_, _^_, _≤_};
+ghost use Prim.Native.Nat.{_+_, _^_, _≤_};
 ghost use lib.Dec.{ltb};
 ghost use lib.ListN.{length, getD};
 ghost use lib.Seq.{sets};
-ghost use Rattle.definitions.specs.Atoms.{Problem};
-ghost use Rattle.definitions.specs.Outcome.{picksLength};
+ghost use Rattle.definitions.specs.Truth.{Case};
+ghost use Rattle.definitions.specs.Atoms.{Problem, wordsFor};
+ghost use Rattle.definitions.specs.Outcome.{asText, asNumbers, picksLength, picksFromSteps};
+ghost use Rattle.reduction.specs.Reader.{Accepted};
 ghost use Rattle.bits.specs.Table.{bit, word as «word-of»};
 ghost use Rattle.ground.specs.Lines.{Fits};
 ghost use Rattle.ground.specs.Of.{Is};
+ghost use Rattle.decode.specs.Decoded.{Grounded};
+ghost use Rattle.initial.specs.Rows.{atomsIn};
+ghost use Rattle.opening.specs.Read.{Holds};
 ghost use Rattle.picks.specs.Words.{wordsIn};
+ghost use Rattle.cases.specs.Replies.{resultOf, CaseIn};
 ghost use Rattle.reading.specs.Copies.{lineWords, picksIn, Copied};
+ghost use Rattle.reading.specs.Reads.{ReadBy, Reads};
+use cases::Reply;
 use ground::RelationLine;
+use opening::Opened;
+use runs::End;
+use sheets::Answer;
 
 // Word j; past the end all bits are 0.
 fn word_at(words: &[u64], j: usize) -> u64
@@ -84,4 +95,106 @@ pub fn copy_picks(table: &[usize], state: &[u64], picks: &mut [u64])
         word += picks::words_in(line);
         r += 1;
     }
+}
+
+// Steps are run from the initial state on; where they reach the goal, their picks are written.
+fn run_and_copy(
+    table: &[usize],
+    facts: &[u64],
+    steps: &[u32],
+    picks: &mut [u64],
+    state: &mut [u64],
+) -> Reply
+    requires { ⌜ Grounded (now table) ⌝ }
+    requires { ⌜ wordsFor (atomsIn (now table)) ≤ length (now state) ⌝ }
+    requires { ⌜ picksIn (now table) ≤ length (now picks) ⌝ }
+    ensures { λ r. ⌜ ReadBy (now (table .entry)) (now (facts .entry)) (now (steps .entry)) (now (picks .entry)) (now (state .entry)) r (now (picks .exit)) (now (state .exit)) ⌝ }
+{
+    let e = checking::start_and_run(table, facts, steps, state);
+    match e {
+        End::Done(i) => {
+            copy_picks(table, state, picks);
+            Reply::Accepted(i)
+        }
+        End::NoAction(i) => Reply::Refused(13, i),
+        End::NotNow(i) => Reply::Refused(14, i),
+        End::NoGoal(i) => Reply::Refused(15, i),
+    }
+}
+
+// Picks of the steps of a case that was read: 11, 12 for the picks, 12 for the state, then the steps one by one.
+fn read_picks(
+    question: &[u8],
+    o: Opened,
+    facts: &[u64],
+    steps: &[u32],
+    picks: &mut [u64],
+    state: &mut [u64],
+) -> Reply
+    requires { ⌜ CaseIn (now question) o (bit (now facts)) ⌝ }
+    ensures { λ r. ⌜ ((c : Case) → Accepted c → Holds (now (question .entry)) c o (bit (now (facts .entry)))
+        → Reads c (now (steps .entry)) (now (picks .entry)) (now (state .entry)) r (now (picks .exit)) (now (state .exit))) ⌝ }
+{
+    let mut table = [0usize; ground::TABLE];
+    let m = grounding::ground_case(question, o, &mut table);
+    if m.over {
+        return Reply::Refused(11, 0);
+    }
+    let needed = picks_length(&table);
+    if picks.len() < needed {
+        return Reply::Refused(12, needed);
+    }
+    let words = (m.atoms + 63) / 64;
+    if state.len() < words {
+        return Reply::Refused(12, words);
+    }
+    run_and_copy(&table, facts, steps, picks, &mut state[..words])
+}
+
+// Reads picks from steps that are handed over as a text.
+pub fn picks_text(
+    question: &[u8],
+    site: &[u8],
+    steps: &[u8],
+    picks: &mut [u64],
+    state: &mut [u64],
+) -> Reply
+    ensures answer { λ r. ⌜ resultOf r ≡ picksFromSteps (now (question .entry)) (now (site .entry)) (asText (now (steps .entry))) (now (picks .entry)) (now (state .entry)) .answer ⌝ }
+    ensures picks { λ r. ⌜ now (picks .exit) ≡ picksFromSteps (now (question .entry)) (now (site .entry)) (asText (now (steps .entry))) (now (picks .entry)) (now (state .entry)) .picks ⌝ }
+    ensures state { λ r. ⌜ now (state .exit) ≡ picksFromSteps (now (question .entry)) (now (site .entry)) (asText (now (steps .entry))) (now (picks .entry)) (now (state .entry)) .state ⌝ }
+{
+    let mut facts = [0u64; 512];
+    let o = opening::read_case(question, site, &mut facts);
+    if o.fault != 0 {
+        return Reply::Refused(o.fault, o.place);
+    }
+    let mut list = [0u32; 9362];
+    let a = sheets::steps(steps, &mut list);
+    match a {
+        Answer::Refused(k, place) => Reply::Refused(k, place),
+        Answer::Done(count) => read_picks(question, o, &facts, &list[..count], picks, state),
+    }
+}
+
+// Reads picks from steps that are lent as numbers.
+pub fn picks_lent(
+    question: &[u8],
+    site: &[u8],
+    steps: &[u32],
+    picks: &mut [u64],
+    state: &mut [u64],
+) -> Reply
+    ensures answer { λ r. ⌜ resultOf r ≡ picksFromSteps (now (question .entry)) (now (site .entry)) (asNumbers (now (steps .entry))) (now (picks .entry)) (now (state .entry)) .answer ⌝ }
+    ensures picks { λ r. ⌜ now (picks .exit) ≡ picksFromSteps (now (question .entry)) (now (site .entry)) (asNumbers (now (steps .entry))) (now (picks .entry)) (now (state .entry)) .picks ⌝ }
+    ensures state { λ r. ⌜ now (state .exit) ≡ picksFromSteps (now (question .entry)) (now (site .entry)) (asNumbers (now (steps .entry))) (now (picks .entry)) (now (state .entry)) .state ⌝ }
+{
+    let mut facts = [0u64; 512];
+    let o = opening::read_case(question, site, &mut facts);
+    if o.fault != 0 {
+        return Reply::Refused(o.fault, o.place);
+    }
+    if 65536 < steps.len() {
+        return Reply::Refused(1, 0);
+    }
+    read_picks(question, o, &facts, steps, picks, state)
 }

@@ -1,0 +1,51 @@
+-- `reading::picks_lent` meets its contract: the case is refused, the steps are too many, or they are run. Assumes nothing.
+use native.Mathlib.Omega.{arith}
+use Rattle.sheets.proofs.Loops.{zeros-clear}
+use Rattle.cases.specs.Replies.{lent-many, lent-few}
+use Rattle.reading.specs.Reads.{call-case, call-in, call-steps, call-ran}
+use mathlib.Core.List.{[]}
+use Rattle.definitions.specs.Outcome.{asNumbers}
+use borrow.Author.Needs.{needs}
+use Rattle.reading.proofs.picks_lent.Statement.{statement}
+use Rattle.reading.proofs.picks_lent.Tie as tie
+
+slice-aggregate-read-case : tie.Need-slice-aggregate-read-case
+slice-aggregate-read-case c = search needs
+
+read-case-requires : tie.Need-read-case-requires
+read-case-requires c κs = (omega arith, zeros-clear 512)
+
+returns : tie.Need-returns
+returns c = call-case _ _ _ _ _ _ _ (c .before .before .before .read-case .ensures) (c .if1 .taken)
+
+returns-2 : tie.Need-returns-2
+returns-2 c = call-steps _ _ _ _ _ _ _ (c .before .before .before .before .read-case .ensures) (c .before .if1 .left) _ _ (lent-many _ (omega arith))
+
+slice-aggregate-read-picks : tie.Need-slice-aggregate-read-picks
+slice-aggregate-read-picks c = search needs
+
+read-picks-requires : tie.Need-read-picks-requires
+read-picks-requires c κs = call-in _ _ (asNumbers []) [] [] _ _ (c .before .before .before .before .before .before .before .read-case .ensures) (c .before .before .before .before .if1 .left)
+
+same-length : tie.Need-same-length
+same-length c = search needs
+
+same-length-2 : tie.Need-same-length-2
+same-length-2 c = search needs
+
+returns-3 : tie.Need-returns-3
+returns-3 c = call-ran _ _ _ _ _ _ _ (c .before .before .before .before .before .before .before .before .before .before .before .before .read-case .ensures) (c .before .before .before .before .before .before .before .before .before .if1 .left) _ (lent-few _ (omega arith)) _ _ _ (c .before .before .before .before .read-picks .ensures)
+
+pub picks-lent-spec : {M : Type 1} → statement M
+picks-lent-spec =
+    tie.close
+    (tie.spec
+    slice-aggregate-read-case
+    read-case-requires
+    returns
+    returns-2
+    slice-aggregate-read-picks
+    read-picks-requires
+    same-length
+    same-length-2
+    returns-3)
