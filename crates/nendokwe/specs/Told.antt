@@ -1,11 +1,17 @@
 -- A result as numbers: its refusal's number and place, or 0 and 0; and what of a value is written, where there is one.
-use Prim.Native.Nat.{ℕ, zero}
+use Prim.Native.Nat.{ℕ, zero, _-_}
 use mathlib.Core.Path.{_≡_, refl, sym, ap, _∙_}
 use mathlib.Core.Option.{Option, none, some}
+use mathlib.Core.List.{List}
+use lib.ListN.{length}
+use lib.Seq.{length-slice}
 use native.Mathlib.Omega.{arith}
 use Rattle.definitions.specs.Refusal.{Result, refused, accepted, _>>=_}
 use Rattle.definitions.specs.Actions.{Action, set, beginProof, proveAnd, proveOr, proveExists, proveForall, proveGoal}
-use Rattle.definitions.specs.Outcome.{Sizes}
+use Rattle.definitions.specs.Sheets.{Question, readQuestion}
+use Rattle.definitions.specs.Outcome.{Sizes, spanOf, rulePart}
+use Rattle.question.specs.declared.Asked.{Asked as Read}
+use Rattle.question.specs.Drafts.{QuestionRead, refusedWith}
 use Rattle.ground.specs.declared.Act.{Act}
 use Rattle.ground.specs.declared.Act.the-variants.{Set, Begin, And, Or, Exists, Forall, Goal, Nothing}
 use Rattle.cases.specs.declared.Counts.{Counts}
@@ -80,6 +86,16 @@ detailsOf Goal = record { kind = 6; subject = 0; row = 0; choice = 0 }
 detailsOf Nothing = record { kind = 7; subject = 0; row = 0; choice = 0 }
 
 -- ---- what the calls write, by what was returned to them
+
+-- where the rule lies
+rule-by : (s : List ℕ) (o : Result Question) (r : Read) → QuestionRead s o r → (r .rule .from ≡ spanOf o .start) × (r .rule .to - r .rule .from ≡ spanOf o .len)
+unfolding QuestionRead refusedWith spanOf
+rule-by s (refused k place) r w = rw w (refl, omega arith)
+rule-by s (accepted q) r w = (sym (w .rule-at), sym (ap length (w .rule-text) ∙ length-slice (r .rule .from) (r .rule .to) s (w .rule-to)))
+
+pub rule-told : (s : List ℕ) (r : Read) → QuestionRead s (readQuestion s) r → (r .rule .from ≡ rulePart s .start) × (r .rule .to - r .rule .from ≡ rulePart s .len)
+unfolding rulePart
+rule-told s r w = rule-by s (readQuestion s) r w
 
 -- number and place, and the old values where a result is refused
 pub refused-told : {A : Type 0} (x : Result A) (k place : ℕ) → x ≡ refused k place → (k ≡ numberOf x) × (place ≡ placeOf x) × ((f : A → ℕ) (old : ℕ) → old ≡ told f x old)

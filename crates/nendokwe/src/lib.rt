@@ -2,7 +2,7 @@
 // overlap. A call's number and place come back through two references: 0 and the step count, or a refusal's number and place.
 // What a refusal leaves as it was is left: sizes and an action's details are written only where there are some.
 ghost use mathlib.Core.Path.{_≡_};
-ghost use Rattle.definitions.specs.Outcome.{asText, asNumbers, sizes as «sizes-of», action as «action-of», checkSteps, replyNumber, replyPlace};
+ghost use Rattle.definitions.specs.Outcome.{asText, asNumbers, sizes as «sizes-of», action as «action-of», rulePart, checkSteps, replyNumber, replyPlace};
 ghost use Rattle.cases.specs.Replies.{resultOf, sizingOf};
 ghost use Rattle.cases.specs.Asked.{actionOf};
 ghost use Rattle.nendokwe.specs.Told.{numberOf, placeOf, told, kindOf, subjectOf, rowIn, choiceOf, detailsOf};
@@ -27,6 +27,18 @@ fn tell(r: Reply, number: &mut u32, place: &mut usize)
             *place = at;
         }
     }
+}
+
+// Where the rule's formula lies in the question, and how long it is: 0 and 0 where the question is refused.
+#[no_mangle]
+pub extern "C" fn nendokwe_rule(question: &[u8], start: &mut usize, length: &mut usize)
+    ensures { λ _. ⌜ now (start .exit) ≡ rulePart (now (question .entry)) .start ⌝ }
+    ensures { λ _. ⌜ now (length .exit) ≡ rulePart (now (question .entry)) .len ⌝ }
+{
+    let q = question::question(question);
+    let part = q.rule;
+    *start = part.from;
+    *length = part.to - part.from;
 }
 
 // The sizes of a case.
