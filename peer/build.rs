@@ -9,7 +9,7 @@ fn main() {
     }
     let own = env::var("CARGO_MANIFEST_DIR").unwrap_or_default();
     let directory = env::var("NENDOKWE_LIB").unwrap_or(format!("{own}/../target/staticlib"));
-    println!("cargo:rerun-if-changed={directory}/libcases.a");
+    println!("cargo:rerun-if-changed={directory}/libnendokwe.a");
     println!("cargo:rustc-link-search=native={directory}");
-    println!("cargo:rustc-link-lib=static=cases");
+    println!("cargo:rustc-link-lib=static=nendokwe");
 }

@@ -6,6 +6,7 @@ use crate::ground::{Action, Problem};
 use crate::plans::{build as build_plan, follow, read_picks};
 use crate::sheets::{self, pick_words, Question, Structure, Tables};
 use crate::text::{cause, Refusal, Reply};
+use crate::tree::Shape;
 
 const STEP_LIMIT: usize = 65_536;
 
@@ -53,6 +54,33 @@ pub fn action(question: &[u8], site: &[u8], number: u64) -> Result<Action, Refus
     let small = u32::try_from(number).ok();
     let none = Refusal { number: cause::NO_ACTION, place: number };
     small.and_then(|number| problem.action(number)).ok_or(none)
+}
+
+/// The action of this number in numbers: its kind (set, begin-proof, `and`, `or`,
+/// `exists`, `forall`, prove-goal, from 0), its relation or node, its row, and its
+/// part, element or z.
+pub fn action_details(question: &[u8], site: &[u8], number: u64) -> Result<[u64; 4], Refusal> {
+    let found = action(question, site, number)?;
+    let (question, structure) = case(question, site)?;
+    let problem = Problem::new(&question, &structure)?;
+    let details = match found {
+        Action::Set(set) => {
+            let relation = question.signature.chosen().start as u32 + set.choose;
+            [0, relation, set.row, 0]
+        }
+        Action::BeginProof => [1, 0, 0, 0],
+        Action::Prove(prove) => {
+            let kind = match problem.nodes[prove.node as usize].shape {
+                Shape::And => 2,
+                Shape::Or => 3,
+                Shape::Exists => 4,
+                Shape::Forall => 5,
+            };
+            [kind, prove.node, prove.row, prove.choice]
+        }
+        Action::ProveGoal => [6, 0, 0, 0],
+    };
+    Ok(details.map(u64::from))
 }
 
 /// The number of an action; nothing if the case has no such action.

@@ -18,6 +18,14 @@ mod foreign {
             number: &mut u32, place: &mut u64,
             n: &mut u64, atoms: &mut u64, actions: &mut u64, bound: &mut u64,
         );
+        pub fn nendokwe_rule(
+            question: *const u8, question_len: usize, start: &mut u64, length: &mut u64,
+        );
+        pub fn nendokwe_action(
+            question: *const u8, question_len: usize, site: *const u8, site_len: usize,
+            k: u64, number: &mut u32, place: &mut u64,
+            kind: &mut u32, subject: &mut u64, row: &mut u64, choice: &mut u64,
+        );
         pub fn nendokwe_check_text(
             question: *const u8, question_len: usize, site: *const u8, site_len: usize,
             steps: *const u8, steps_len: usize, state: *mut u64, state_len: usize,
@@ -55,8 +63,8 @@ mod foreign {
     }
 }
 
-/// More than the longest text the desk can print.
-const PRINT_ROOM: usize = 262_144;
+/// As much as the desk call asks for: more than the longest text it prints.
+const PRINT_ROOM: usize = 573_952;
 
 /// A place no call gives, so that an answer that was never written shows.
 const UNSET: u64 = u64::MAX;
@@ -86,6 +94,31 @@ impl Calls for Ours {
         }
         match number {
             0 => Ok(sizes),
+            number => Err(Refusal { number, place }),
+        }
+    }
+
+    fn rule(&self, question: &[u8]) -> [u64; 2] {
+        let (mut start, mut length) = (UNSET, UNSET);
+        // Safety: as for `sizes`.
+        unsafe {
+            foreign::nendokwe_rule(question.as_ptr(), question.len(), &mut start, &mut length);
+        }
+        [start, length]
+    }
+
+    fn action(&self, case: [&[u8]; 2], k: u64) -> Result<[u64; 4], Refusal> {
+        let (mut number, mut place) = (u32::MAX, UNSET);
+        let (mut kind, mut subject, mut row, mut choice) = (u32::MAX, UNSET, UNSET, UNSET);
+        // Safety: as for `sizes`.
+        unsafe {
+            foreign::nendokwe_action(
+                case[0].as_ptr(), case[0].len(), case[1].as_ptr(), case[1].len(),
+                k, &mut number, &mut place, &mut kind, &mut subject, &mut row, &mut choice,
+            );
+        }
+        match number {
+            0 => Ok([u64::from(kind), subject, row, choice]),
             number => Err(Refusal { number, place }),
         }
     }

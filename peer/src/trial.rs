@@ -8,6 +8,9 @@ use crate::text::{Refusal, Reply};
 /// The calls that both programs have.
 pub trait Calls {
     fn sizes(&self, question: &[u8], site: &[u8]) -> Result<Sizes, Refusal>;
+    /// Where the rule's formula begins, and its length.
+    fn rule(&self, question: &[u8]) -> [u64; 2];
+    fn action(&self, case: [&[u8]; 2], number: u64) -> Result<[u64; 4], Refusal>;
     fn check_text(&self, case: [&[u8]; 2], steps: &[u8], state: &mut [u64]) -> Reply;
     fn check(&self, case: [&[u8]; 2], steps: &[u32], state: &mut [u64]) -> Reply;
     fn picks_text(
@@ -37,6 +40,16 @@ pub struct Peer;
 impl Calls for Peer {
     fn sizes(&self, question: &[u8], site: &[u8]) -> Result<Sizes, Refusal> {
         cases::sizes(question, site)
+    }
+
+    fn rule(&self, question: &[u8]) -> [u64; 2] {
+        let (rule, refused) = cases::rule_part(question);
+        let start = if refused.is_some() { 0 } else { question.len() - 1 - rule.len() };
+        [start as u64, rule.len() as u64]
+    }
+
+    fn action(&self, case: [&[u8]; 2], number: u64) -> Result<[u64; 4], Refusal> {
+        cases::action_details(case[0], case[1], number)
     }
 
     fn check_text(&self, case: [&[u8]; 2], steps: &[u8], state: &mut [u64]) -> Reply {
@@ -107,6 +120,8 @@ pub const GUARD: usize = 8;
 #[derive(Clone, Copy, Debug, PartialEq, Eq)]
 pub enum Call {
     Sizes,
+    Rule,
+    Action,
     CheckText,
     Check,
     PicksText,
@@ -117,8 +132,10 @@ pub enum Call {
     DeskSteps,
 }
 
-pub const CALLS: [Call; 9] = [
+pub const CALLS: [Call; 11] = [
     Call::Sizes,
+    Call::Rule,
+    Call::Action,
     Call::CheckText,
     Call::Check,
     Call::PicksText,
@@ -136,7 +153,8 @@ pub type Rooms = [usize; 3];
 #[derive(Clone, Debug, PartialEq, Eq)]
 pub struct Outcome {
     pub reply: Reply,
-    pub sizes: Option<Sizes>,
+    /// The sizes, where the rule lies, or an action's details.
+    pub found: Vec<u64>,
     pub picks: Vec<u64>,
     pub state: Vec<u64>,
     pub steps: Vec<u32>,
@@ -150,12 +168,22 @@ impl Outcome {
     fn fresh(rooms: Rooms) -> Self {
         Outcome {
             reply: Reply::Accepted(0),
-            sizes: None,
+            found: Vec::new(),
             picks: vec![FILL; rooms[0] + GUARD],
             state: vec![FILL; rooms[1] + GUARD],
             steps: vec![FILL as u32; rooms[2] + GUARD],
             printed: Vec::new(),
         }
+    }
+}
+
+fn found<const N: usize>(numbers: Result<[u64; N], Refusal>, into: &mut Vec<u64>) -> Reply {
+    match numbers {
+        Ok(numbers) => {
+            into.extend(numbers);
+            Reply::Accepted(0)
+        }
+        Err(refusal) => Reply::Refused(refusal),
     }
 }
 
@@ -170,13 +198,14 @@ pub fn run(program: &impl Calls, call: Call, sample: &Sample, rooms: Rooms) -> O
     let mut lent = sample.lent_picks.clone();
     lent.resize(rooms[0], FILL);
     outcome.reply = match call {
-        Call::Sizes => match program.sizes(case[0], case[1]) {
-            Ok(sizes) => {
-                outcome.sizes = Some(sizes);
-                Reply::Accepted(0)
-            }
-            Err(refusal) => Reply::Refused(refusal),
-        },
+        Call::Sizes => {
+            let sizes = program.sizes(case[0], case[1]);
+            let sizes = sizes.map(|sizes| [sizes.n, sizes.atoms, sizes.actions, sizes.bound]);
+            found(sizes, &mut outcome.found)
+        }
+        Call::Rule => found(Ok(program.rule(case[0])), &mut outcome.found),
+        // The room for steps is near the bound, and so near the numbers of actions.
+        Call::Action => found(program.action(case, rooms[2] as u64), &mut outcome.found),
         Call::CheckText => program.check_text(case, &sample.steps, state),
         Call::Check => program.check(case, &sample.lent_steps, state),
         Call::PicksText => program.picks_text(case, &sample.steps, picks, state),

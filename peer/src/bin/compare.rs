@@ -20,7 +20,7 @@ fn argument(place: usize, otherwise: u64) -> u64 {
 fn show(call: Call, sample: &Sample, rooms: Rooms, outcomes: [&Outcome; 2]) {
     println!("differs: {call:?} with rooms {rooms:?}");
     for outcome in outcomes {
-        println!("  {:?} {:?} {}", outcome.reply, outcome.sizes, outcome.printed.escape_ascii());
+        println!("  {:?} {:?} {}", outcome.reply, outcome.found, outcome.printed.escape_ascii());
     }
     for sheet in [&sample.question, &sample.site, &sample.picks, &sample.steps] {
         println!("  | {}", sheet.escape_ascii());

@@ -53,10 +53,11 @@ fn kept(outcome: &Outcome, call: Call, needs: Option<Rooms>) -> bool {
     let builds = matches!(call, Call::BuildText | Call::Build);
     // How far each buffer may have been written.
     let (picks, state, steps) = match outcome.reply {
-        Reply::Accepted(_) if matches!(call, Call::Sizes) => (0, 0, 0),
+        Reply::Accepted(_) if matches!(call, Call::Sizes | Call::Rule | Call::Action) => (0, 0, 0),
         Reply::Accepted(_) if reads_picks => (picks, state, 0),
         Reply::Accepted(count) if builds => (0, state, count as usize),
         Reply::Accepted(_) => (0, state, 0),
+        Reply::Refused(_) if call == Call::Action => (0, 0, 0),
         Reply::Refused(refusal) if (13..=15).contains(&refusal.number) => (0, state, 0),
         Reply::Refused(_) => (0, 0, 0),
     };
@@ -73,6 +74,7 @@ fn known(outcome: &Outcome, call: Call) -> bool {
     let Reply::Refused(refusal) = outcome.reply else { return true };
     match call {
         Call::Sizes => (1..=11).contains(&refusal.number),
+        Call::Action => matches!(refusal.number, 1..=11 | 13),
         Call::BuildText | Call::Build => matches!(refusal.number, 1..=12 | 16 | 17),
         _ => (1..=15).contains(&refusal.number),
     }
