@@ -42,7 +42,7 @@ fn cut(words: &[u64], i: usize, n: usize) -> u64
 {
     let shift = i % 64;
     let low = word_at(words, i / 64) >> shift;
-    // two shifts, since a shift by 64 is none
+    // in two shifts, since there is none by 64
     let high = word_at(words, i / 64 + 1) << 1 << (63 - shift);
     let all = low | high;
     if n < 64 {
