@@ -2,7 +2,7 @@
 // overlap. A call's number and place come back through two references: 0 and the step count, or a refusal's number and place.
 // What a refusal leaves as it was is left: sizes and an action's details are written only where there are some.
 ghost use mathlib.Core.Path.{_≡_};
-ghost use Rattle.definitions.specs.Outcome.{asText, asNumbers, sizes as «sizes-of», action as «action-of», rulePart, checkSteps, replyNumber, replyPlace};
+ghost use Rattle.definitions.specs.Outcome.{asText, asNumbers, sizes as «sizes-of», action as «action-of», rulePart, checkSteps, picksFromSteps, replyNumber, replyPlace};
 ghost use Rattle.cases.specs.Replies.{resultOf, sizingOf};
 ghost use Rattle.cases.specs.Asked.{actionOf};
 ghost use Rattle.nendokwe.specs.Told.{numberOf, placeOf, told, kindOf, subjectOf, rowIn, choiceOf, detailsOf};
@@ -207,5 +207,45 @@ pub extern "C" fn nendokwe_check(
     ensures { λ _. ⌜ now (state .exit) ≡ checkSteps (now (question .entry)) (now (site .entry)) (asNumbers (now (steps .entry))) (now (state .entry)) .state ⌝ }
 {
     let r = cases::check_lent(question, site, steps, state);
+    tell(r, number, place);
+}
+
+// Reads the picks of steps that are handed over as a text.
+#[no_mangle]
+pub extern "C" fn nendokwe_picks_text(
+    question: &[u8],
+    site: &[u8],
+    steps: &[u8],
+    picks: &mut [u64],
+    state: &mut [u64],
+    number: &mut u32,
+    place: &mut usize,
+)
+    ensures { λ _. ⌜ now (number .exit) ≡ replyNumber (picksFromSteps (now (question .entry)) (now (site .entry)) (asText (now (steps .entry))) (now (picks .entry)) (now (state .entry)) .answer) ⌝ }
+    ensures { λ _. ⌜ now (place .exit) ≡ replyPlace (picksFromSteps (now (question .entry)) (now (site .entry)) (asText (now (steps .entry))) (now (picks .entry)) (now (state .entry)) .answer) ⌝ }
+    ensures { λ _. ⌜ now (picks .exit) ≡ picksFromSteps (now (question .entry)) (now (site .entry)) (asText (now (steps .entry))) (now (picks .entry)) (now (state .entry)) .picks ⌝ }
+    ensures { λ _. ⌜ now (state .exit) ≡ picksFromSteps (now (question .entry)) (now (site .entry)) (asText (now (steps .entry))) (now (picks .entry)) (now (state .entry)) .state ⌝ }
+{
+    let r = reading::picks_text(question, site, steps, picks, state);
+    tell(r, number, place);
+}
+
+// Reads the picks of steps that are lent as numbers.
+#[no_mangle]
+pub extern "C" fn nendokwe_picks(
+    question: &[u8],
+    site: &[u8],
+    steps: &[u32],
+    picks: &mut [u64],
+    state: &mut [u64],
+    number: &mut u32,
+    place: &mut usize,
+)
+    ensures { λ _. ⌜ now (number .exit) ≡ replyNumber (picksFromSteps (now (question .entry)) (now (site .entry)) (asNumbers (now (steps .entry))) (now (picks .entry)) (now (state .entry)) .answer) ⌝ }
+    ensures { λ _. ⌜ now (place .exit) ≡ replyPlace (picksFromSteps (now (question .entry)) (now (site .entry)) (asNumbers (now (steps .entry))) (now (picks .entry)) (now (state .entry)) .answer) ⌝ }
+    ensures { λ _. ⌜ now (picks .exit) ≡ picksFromSteps (now (question .entry)) (now (site .entry)) (asNumbers (now (steps .entry))) (now (picks .entry)) (now (state .entry)) .picks ⌝ }
+    ensures { λ _. ⌜ now (state .exit) ≡ picksFromSteps (now (question .entry)) (now (site .entry)) (asNumbers (now (steps .entry))) (now (picks .entry)) (now (state .entry)) .state ⌝ }
+{
+    let r = reading::picks_lent(question, site, steps, picks, state);
     tell(r, number, place);
 }
