@@ -236,6 +236,13 @@ module _ (s : List ℕ) (c : Case) (A : Accepted c) (o : Opened) (facts : ℕ �
       pub text-picked : PicksAre (problemOf c) w F
       text-picked = front-picks (problemOf c) F w text-front
 
+      -- so they have no spare bit set
+      pub text-clear : spareWord (problemOf c) w zero (chosenNumbers (problemOf c)) ≡ none
+      text-clear =
+          let k : ℕ = picksLength (problemOf c) in
+          ap (λ (x : List ℕ). spareWord (problemOf c) x zero (chosenNumbers (problemOf c))) (sym (take-append-drop k w) ∙ ap (λ (x : List ℕ). x ++ drop k w) text-front)
+          ∙ pick-words (problemOf c) F (drop k w) .1
+
 -- ---- lent words
 
 module _ (c : Case) (A : Accepted c) (w : List ℕ) (room : picksLength (problemOf c) ≤ length w) (e : spareWord (problemOf c) w zero (chosenNumbers (problemOf c)) ≡ none) where

@@ -1,0 +1,149 @@
+-- What the public calls answer and leave, by what was read: the case is refused, the picks' text is, or steps are built from words.
+use Prim.Native.Nat.{ℕ, zero, _+_, _^_, _≤_}
+use mathlib.Core.Path.{_≡_, refl, sym, ap, ap₂, subst, _∙_}
+use mathlib.Core.Bool.{Bool}
+use mathlib.Core.Option.{Option, none, some}
+use mathlib.Core.List.{List, []}
+use native.Mathlib.Omega.{arith}
+use lib.ListN.{length, take, getD}
+use borrow.Author.Tests.{le-ltb}
+use Rattle.definitions.specs.Refusal.{Result, refused, accepted, _>>=_, refuseIf}
+use Rattle.definitions.specs.Relations.{Tuple}
+use Rattle.definitions.specs.Sheets.{readPicks}
+use Rattle.definitions.specs.Truth.{Case}
+use Rattle.definitions.specs.Atoms.{Problem, problemOf}
+use Rattle.definitions.specs.Built.{chosenNumbers}
+use Rattle.definitions.specs.Outcome
+use Rattle.bits.specs.Table.{bit, Words}
+use Rattle.names.specs.Signatures.{chosenOf}
+use Rattle.reduction.specs.Reader.{Accepted, case-fits, gives-if}
+use Rattle.reduction.specs.Building.{ground-is}
+use Rattle.sheets.specs.declared.Answer.{Answer}
+use Rattle.sheets.specs.declared.Answer.the-variants.{Done, Refused as Bad}
+use Rattle.sheets.specs.Reading.{answered, PicksIn}
+use Rattle.opening.specs.declared.Opened.{Opened}
+use Rattle.opening.specs.Read.{Holds, CaseRead}
+use Rattle.plans.specs.Answers.{planned}
+use Rattle.cases.specs.declared.Reply.{Reply}
+use Rattle.cases.specs.declared.Reply.the-variants.{Refused}
+use Rattle.cases.specs.Order
+use Rattle.cases.specs.Replies.{resultOf, CaseIn, call-known}
+use Rattle.building.specs.Picked.{text-read, text-fits, text-are, text-front, text-clear, lent-are, lent-front}
+use Rattle.building.specs.Builds.{rest, Builds, Held, room-there}
+
+-- ---- picks in words, in the order of `plan`
+module _ (question site : List ℕ) (c : Case) (e : Outcome.readCase question site ≡ accepted c) (words : List ℕ) (stateRoom stepsRoom : ℕ) where
+  text-plan : (text : List ℕ) (F : List Tuple) → Outcome.textPicks c (Outcome.asText text) ≡ accepted F → Outcome.picksLength (problemOf c) ≤ length words
+      → Outcome.spareWord (problemOf c) words zero (chosenNumbers (problemOf c)) ≡ none → Outcome.plan question site (Outcome.asText text) stateRoom stepsRoom ≡ rest c words F stateRoom stepsRoom
+  unfolding Outcome.plan rest planned Outcome.picksRoom Outcome.takePicks Outcome.spareRefusal _>>=_
+  text-plan text F f room clear = go (Outcome.ground c) refl
+    where
+      go : (x : Result Problem) → Outcome.ground c ≡ x → Outcome.plan question site (Outcome.asText text) stateRoom stepsRoom ≡ rest c words F stateRoom stepsRoom
+      go (refused k place) g = rw (e, f, g) refl
+      go (accepted p) g =
+          let i = sym (ground-is c p g) in
+          let r : Outcome.roomFor (Outcome.picksLength p) (length words) ≡ accepted tt = room-there (Outcome.picksLength p) (length words) (subst (λ (x : Problem). Outcome.picksLength x ≤ length words) i room) in
+          let n : Outcome.spareWord p words zero (chosenNumbers p) ≡ none = subst (λ (x : Problem). Outcome.spareWord x words zero (chosenNumbers x) ≡ none) i clear in
+          rw (e, f, g, r, n) refl
+
+  lent-plan : Outcome.plan question site (Outcome.asNumbers words) stateRoom stepsRoom ≡ rest c words (Outcome.lentPicks (problemOf c) words (chosenNumbers (problemOf c))) stateRoom stepsRoom
+  unfolding Outcome.plan rest planned Outcome.textPicks Outcome.picksRoom Outcome.takePicks Outcome.spareRefusal _>>=_
+  lent-plan = go (Outcome.ground c) refl
+    where
+      go : (x : Result Problem) → Outcome.ground c ≡ x → Outcome.plan question site (Outcome.asNumbers words) stateRoom stepsRoom ≡ rest c words (Outcome.lentPicks (problemOf c) words (chosenNumbers (problemOf c))) stateRoom stepsRoom
+      go (refused k place) g = rw (e, g) refl
+      go (accepted p) g = each (Outcome.spareWord p words zero (chosenNumbers p)) refl
+        where
+          each : (x : Option ℕ) → Outcome.spareWord p words zero (chosenNumbers p) ≡ x → Outcome.plan question site (Outcome.asNumbers words) stateRoom stepsRoom ≡ rest c words (Outcome.lentPicks (problemOf c) words (chosenNumbers (problemOf c))) stateRoom stepsRoom
+          each none n = rw (e, g, ← ground-is c p g, n) refl
+          each (some j) n = rw (e, g, ← ground-is c p g, n) refl
+
+-- ---- what a call answers, and what the lent state and steps hold then
+abbrev pub Answers : (question site : List ℕ) (picks : Outcome.Given) (state steps : List ℕ) → Reply → (state′ steps′ : List ℕ) → Type 0
+Answers question site picks state steps r state′ steps′ =
+    (resultOf r ≡ Outcome.buildSteps question site picks state steps .answer)
+    × ((state′ ≡ Outcome.buildSteps question site picks state steps .state) × (steps′ ≡ Outcome.buildSteps question site picks state steps .steps))
+
+module _ (question site : List ℕ) (picks : Outcome.Given) (state steps : List ℕ) where
+  from-plan : (x : Result Outcome.Plan) → Outcome.plan question site picks (length state) (length steps) ≡ x → (r : Reply) (state′ steps′ : List ℕ)
+      → Outcome.builtFrom x state steps ≡ record { answer = resultOf r; state = state′; steps = steps′ } → Answers question site picks state steps r state′ steps′
+  unfolding Outcome.buildSteps
+  from-plan x e r state′ steps′ b =
+      let q : Outcome.builtFrom (Outcome.plan question site picks (length state) (length steps)) state steps ≡ record { answer = resultOf r; state = state′; steps = steps′ } = ap (λ (y : Result Outcome.Plan). Outcome.builtFrom y state steps) e ∙ b in
+      (sym (ap (λ (y : Outcome.Built). y .answer) q), (sym (ap (λ (y : Outcome.Built). y .state) q), sym (ap (λ (y : Outcome.Built). y .steps) q)))
+
+  refused-with : (k place : ℕ) → Outcome.plan question site picks (length state) (length steps) ≡ refused k place → Answers question site picks state steps (Refused k place) state steps
+  unfolding Outcome.builtFrom resultOf
+  refused-with k place e = from-plan (refused k place) e (Refused k place) state steps refl
+
+  module _ (o : Opened) (facts : ℕ → Bool) (read : CaseRead question (Outcome.readCase question site) o facts) where
+    pub call-case : (o .fault ≡ 0 → ⊥) → Answers question site picks state steps (Refused (o .fault) (o .place)) state steps
+    unfolding CaseRead
+    call-case z = go (Outcome.readCase question site) refl read
+      where
+        go : (x : Result Case) → Outcome.readCase question site ≡ x → CaseRead question x o facts → Answers question site picks state steps (Refused (o .fault) (o .place)) state steps
+        go (refused k place) e h = refused-with (o .fault) (o .place) (Order.plan-case question site picks (length state) (length steps) k place e ∙ sym (ap₂ refused (h .number) (h .where-it-is)))
+        go (accepted c) e h = absurd (z (h .no-fault))
+
+    module _ (z : o .fault ≡ 0) where
+      -- the case that was read
+      pub case-in : CaseIn question o facts
+      case-in = let (c, e, h) = call-known question site picks [] o facts read z in record { case = c; holds = h }
+
+      its-case : (c : Case) × (Outcome.readCase question site ≡ accepted c) × Holds question c o facts
+      its-case = call-known question site picks [] o facts read z
+
+      fits : Accepted (its-case .0)
+      fits = gives-if Accepted (Outcome.readCase question site) (its-case .0) (its-case .1) (case-fits question site)
+
+      -- what building from words gives, in a call
+      built : (words : List ℕ) (F : List Tuple) → Outcome.plan question site picks (length state) (length steps) ≡ rest (its-case .0) words F (length state) (length steps)
+          → (r : Reply) (state′ steps′ : List ℕ) → Builds (its-case .0) words F state steps r state′ steps′ → Answers question site picks state steps r state′ steps′
+      built words F e r state′ steps′ b = from-plan (rest (its-case .0) words F (length state) (length steps)) e r state′ steps′ b
+
+-- picks that stand in words, of whatever case and tuples they are: what is promised of building from them
+abbrev pub FromWords : List ℕ → Opened → (ℕ → Bool) → (words state steps : List ℕ) → Reply → (state′ steps′ : List ℕ) → Type 0
+FromWords question o facts words state steps r state′ steps′ = (c : Case) (F : List Tuple) → Holds question c o facts → Accepted c → Held c words F → Builds c words F state steps r state′ steps′
+
+module _ (question site : List ℕ) (state steps : List ℕ) (o : Opened) (facts : ℕ → Bool) (read : CaseRead question (Outcome.readCase question site) o facts) (z : o .fault ≡ 0) where
+  -- picks as a text
+  module _ (text : List ℕ) (a : Answer) (q : a ≡ answered length (readPicks (chosenOf question (o .sig)) (5 + o .sig .rels) (o .n) text)) where
+    abbrev picks : Outcome.Given
+    picks = Outcome.asText text
+
+    pub call-text-refused : (k place : ℕ) → a ≡ Bad k place → Answers question site picks state steps (Refused k place) state steps
+    unfolding answered
+    call-text-refused k place e =
+        let (c, ec, h) = its-case question site picks state steps o facts read z in
+        let A = fits question site picks state steps o facts read z in
+        refused-with question site picks state steps k place (Order.plan-text question site picks (length state) (length steps) c ec k place (sym (text-read question c A o facts h text) ∙ go (readPicks (chosenOf question (o .sig)) (5 + o .sig .rels) (o .n) text) (sym q ∙ e)))
+      where
+        go : (x : Result (List Tuple)) → answered length x ≡ Bad k place → x ≡ refused k place
+        go (refused j at) h = cc
+        go (accepted F) h = let y : _≡_ {A = ℕ} 0 1 = cc in absurd (omega arith)
+
+    pub call-text : (k : ℕ) → a ≡ Done k → (words : List ℕ) → Words words → 256 ≤ length words → PicksIn (o .sig) (o .n) (readPicks (chosenOf question (o .sig)) (5 + o .sig .rels) (o .n) text) (bit words)
+        → (r : Reply) (state′ steps′ : List ℕ) → FromWords question o facts words state steps r state′ steps′ → Answers question site picks state steps r state′ steps′
+    unfolding answered
+    call-text k e words ok room held r state′ steps′ b =
+        let (c, ec, h) = its-case question site picks state steps o facts read z in
+        let A = fits question site picks state steps o facts read z in
+        let (F, f) = go (readPicks (chosenOf question (o .sig)) (5 + o .sig .rels) (o .n) text) (sym q ∙ e) in
+        let t = sym (text-read question c A o facts h text) ∙ f in
+        let front = text-front question c A o facts h text F t words ok room held in
+        let n = text-fits question c A o facts h in
+        built question site picks state steps o facts read z words F (text-plan question site c ec words (length state) (length steps) text F t (omega arith) (text-clear question c A o facts h text F t words ok room held)) r state′ steps′
+        (b c F h A (λ _ _. (text-are question c A o facts h text F t, front)))
+      where
+        go : (x : Result (List Tuple)) → answered length x ≡ Done k → (F : List Tuple) × (x ≡ accepted F)
+        go (refused j at) h = let y : _≡_ {A = ℕ} 0 1 = cc in absurd (omega arith)
+        go (accepted F) h = (F, refl)
+
+  -- picks as words
+  pub call-lent : (words : List ℕ) → Words words → (r : Reply) (state′ steps′ : List ℕ) → FromWords question o facts words state steps r state′ steps′ → Answers question site (Outcome.asNumbers words) state steps r state′ steps′
+  call-lent words ok r state′ steps′ b =
+      let picks : Outcome.Given = Outcome.asNumbers words in
+      let (c, ec, h) = its-case question site picks state steps o facts read z in
+      let A = fits question site picks state steps o facts read z in
+      let F : List Tuple = Outcome.lentPicks (problemOf c) words (chosenNumbers (problemOf c)) in
+      built question site picks state steps o facts read z words F (lent-plan question site c ec words (length state) (length steps)) r state′ steps′ (b c F h A (λ room clear. (lent-are c A words room clear, lent-front c A words room clear ok)))
