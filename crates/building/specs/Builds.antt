@@ -1,9 +1,9 @@
 -- What the calls that build steps answer and leave: the order of refusals after the texts, one law for each place where a call can end.
-use Prim.Native.Nat.{ℕ, zero, _+_, _/_, _^_, _≤_, _<_}
-use mathlib.Core.Path.{_≡_, refl, sym, ap, ap₂, subst, subst₂, _∙_}
+use Prim.Native.Nat.{ℕ, zero, _+_, _/_, _≤_, _<_}
+use mathlib.Core.Path.{_≡_, refl, sym, ap, ap₂, subst, _∙_}
 use mathlib.Core.Bool.{Bool, true, false, _||_}
-use mathlib.Core.Option.{Option, none, some}
-use mathlib.Core.List.{List, [], _++_}
+use mathlib.Core.Option.{none}
+use mathlib.Core.List.{List, []}
 use native.Mathlib.Omega.{arith}
 use lib.Dec.{ltb}
 use lib.ListN.{length, take}
@@ -137,7 +137,7 @@ module _ (c : Case) (words : List ℕ) (F : List Tuple) (state steps : List ℕ)
                 clear = sym t ∙ ap told e
 
                 -- what building from the initial state on is handed
-                pub prepared : (text : List ℕ) (opened : Opened) (facts : List ℕ) → Holds text c opened (bit facts) → Accepted c → Held c words F → Prepared c F w facts (take k words) (m .atoms) (length steps)
+                prepared : (text : List ℕ) (opened : Opened) (facts : List ℕ) → Holds text c opened (bit facts) → Accepted c → Held c words F → Prepared c F w facts (take k words) (m .atoms) (length steps)
                 prepared text opened facts h A held =
                     let (a, front) = held (subst (λ (x : ℕ). x ≤ length words) q picks-room) clear in
                     record {
@@ -151,6 +151,7 @@ module _ (c : Case) (words : List ℕ) (F : List Tuple) (state steps : List ℕ)
                       steps-room = subst (λ (x : ℕ). x ≤ length steps) (tabled .bound-is) steps-room;
                     }
 
-                pub builds-built : (a : Answer) (state′ steps′ : List ℕ) → Gives c (problemOf c) F state steps a state′ steps′ → (r : Reply) → resultOf r ≡ answered a → Builds c words F state steps r state′ steps′
+                pub builds-built : (text : List ℕ) (opened : Opened) (facts : List ℕ) → Holds text c opened (bit facts) → Accepted c → Held c words F → (a : Answer) (state′ steps′ : List ℕ)
+                    → (Prepared c F w facts (take k words) (m .atoms) (length steps) → Gives c (problemOf c) F state steps a state′ steps′) → (r : Reply) → resultOf r ≡ answered a → Builds c words F state steps r state′ steps′
                 unfolding rest Outcome.spareRefusal _>>=_
-                builds-built a state′ steps′ G r q = rw (grounded, first-room, second-room, third-room, clear, q) G
+                builds-built text opened facts h A held a state′ steps′ G r q = rw (grounded, first-room, second-room, third-room, clear, q) (G (prepared text opened facts h A held))

@@ -1,13 +1,12 @@
 -- What the public calls answer and leave, by what was read: the case is refused, the picks' text is, or steps are built from words.
-use Prim.Native.Nat.{ℕ, zero, _+_, _^_, _≤_}
+use Prim.Native.Nat.{ℕ, zero, _+_, _≤_}
 use mathlib.Core.Path.{_≡_, refl, sym, ap, ap₂, subst, _∙_}
 use mathlib.Core.Bool.{Bool}
 use mathlib.Core.Option.{Option, none, some}
 use mathlib.Core.List.{List, []}
 use native.Mathlib.Omega.{arith}
-use lib.ListN.{length, take, getD}
-use borrow.Author.Tests.{le-ltb}
-use Rattle.definitions.specs.Refusal.{Result, refused, accepted, _>>=_, refuseIf}
+use lib.ListN.{length}
+use Rattle.definitions.specs.Refusal.{Result, refused, accepted, _>>=_}
 use Rattle.definitions.specs.Relations.{Tuple}
 use Rattle.definitions.specs.Sheets.{readPicks}
 use Rattle.definitions.specs.Truth.{Case}
@@ -101,9 +100,10 @@ module _ (question site : List ℕ) (picks : Outcome.Given) (state steps : List 
           → (r : Reply) (state′ steps′ : List ℕ) → Builds (its-case .0) words F state steps r state′ steps′ → Answers question site picks state steps r state′ steps′
       built words F e r state′ steps′ b = from-plan (rest (its-case .0) words F (length state) (length steps)) e r state′ steps′ b
 
--- picks that stand in words, of whatever case and tuples they are: what is promised of building from them
-abbrev pub FromWords : List ℕ → Opened → (ℕ → Bool) → (words state steps : List ℕ) → Reply → (state′ steps′ : List ℕ) → Type 0
-FromWords question o facts words state steps r state′ steps′ = (c : Case) (F : List Tuple) → Holds question c o facts → Accepted c → Held c words F → Builds c words F state steps r state′ steps′
+-- what is promised of building from words: they have 64 bits each, and whatever case and picks they are of, this is built
+pub record FromWords (question : List ℕ) (o : Opened) (facts : ℕ → Bool) (words state steps : List ℕ) (r : Reply) (state′ steps′ : List ℕ) : Type 0 where
+  pub fit : Words words
+  pub builds : (c : Case) (F : List Tuple) → Holds question c o facts → Accepted c → Held c words F → Builds c words F state steps r state′ steps′
 
 module _ (question site : List ℕ) (state steps : List ℕ) (o : Opened) (facts : ℕ → Bool) (read : CaseRead question (Outcome.readCase question site) o facts) (z : o .fault ≡ 0) where
   -- picks as a text
@@ -122,28 +122,28 @@ module _ (question site : List ℕ) (state steps : List ℕ) (o : Opened) (facts
         go (refused j at) h = cc
         go (accepted F) h = let y : _≡_ {A = ℕ} 0 1 = cc in absurd (omega arith)
 
-    pub call-text : (k : ℕ) → a ≡ Done k → (words : List ℕ) → Words words → 256 ≤ length words → PicksIn (o .sig) (o .n) (readPicks (chosenOf question (o .sig)) (5 + o .sig .rels) (o .n) text) (bit words)
+    pub call-text : (k : ℕ) → a ≡ Done k → (words : List ℕ) → 256 ≤ length words → PicksIn (o .sig) (o .n) (readPicks (chosenOf question (o .sig)) (5 + o .sig .rels) (o .n) text) (bit words)
         → (r : Reply) (state′ steps′ : List ℕ) → FromWords question o facts words state steps r state′ steps′ → Answers question site picks state steps r state′ steps′
     unfolding answered
-    call-text k e words ok room held r state′ steps′ b =
+    call-text k e words room held r state′ steps′ b =
         let (c, ec, h) = its-case question site picks state steps o facts read z in
         let A = fits question site picks state steps o facts read z in
         let (F, f) = go (readPicks (chosenOf question (o .sig)) (5 + o .sig .rels) (o .n) text) (sym q ∙ e) in
         let t = sym (text-read question c A o facts h text) ∙ f in
-        let front = text-front question c A o facts h text F t words ok room held in
+        let front = text-front question c A o facts h text F t words (b .fit) room held in
         let n = text-fits question c A o facts h in
-        built question site picks state steps o facts read z words F (text-plan question site c ec words (length state) (length steps) text F t (omega arith) (text-clear question c A o facts h text F t words ok room held)) r state′ steps′
-        (b c F h A (λ _ _. (text-are question c A o facts h text F t, front)))
+        built question site picks state steps o facts read z words F (text-plan question site c ec words (length state) (length steps) text F t (omega arith) (text-clear question c A o facts h text F t words (b .fit) room held)) r state′ steps′
+        (b .builds c F h A (λ _ _. (text-are question c A o facts h text F t, front)))
       where
         go : (x : Result (List Tuple)) → answered length x ≡ Done k → (F : List Tuple) × (x ≡ accepted F)
         go (refused j at) h = let y : _≡_ {A = ℕ} 0 1 = cc in absurd (omega arith)
         go (accepted F) h = (F, refl)
 
   -- picks as words
-  pub call-lent : (words : List ℕ) → Words words → (r : Reply) (state′ steps′ : List ℕ) → FromWords question o facts words state steps r state′ steps′ → Answers question site (Outcome.asNumbers words) state steps r state′ steps′
-  call-lent words ok r state′ steps′ b =
+  pub call-lent : (words : List ℕ) → (r : Reply) (state′ steps′ : List ℕ) → FromWords question o facts words state steps r state′ steps′ → Answers question site (Outcome.asNumbers words) state steps r state′ steps′
+  call-lent words r state′ steps′ b =
       let picks : Outcome.Given = Outcome.asNumbers words in
       let (c, ec, h) = its-case question site picks state steps o facts read z in
       let A = fits question site picks state steps o facts read z in
       let F : List Tuple = Outcome.lentPicks (problemOf c) words (chosenNumbers (problemOf c)) in
-      built question site picks state steps o facts read z words F (lent-plan question site c ec words (length state) (length steps)) r state′ steps′ (b c F h A (λ room clear. (lent-are c A words room clear, lent-front c A words room clear ok)))
+      built question site picks state steps o facts read z words F (lent-plan question site c ec words (length state) (length steps)) r state′ steps′ (b .builds c F h A (λ room clear. (lent-are c A words room clear, lent-front c A words room clear (b .fit))))

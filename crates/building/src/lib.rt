@@ -7,14 +7,20 @@ ghost use Rattle.definitions.specs.Relations.{Tuple};
 ghost use Rattle.definitions.specs.Truth.{Case};
 ghost use Rattle.definitions.specs.Atoms.{Problem, problemOf};
 ghost use Rattle.definitions.specs.Built.{chosenNumbers};
-ghost use Rattle.definitions.specs.Outcome.{spareWord};
+ghost use Rattle.definitions.specs.Outcome.{spareWord, asText, asNumbers, buildSteps};
+ghost use Rattle.bits.specs.Table.{bit};
 ghost use Rattle.ground.specs.Lines.{Fits};
 ghost use Rattle.ground.specs.Of.{Is};
 ghost use Rattle.initial.specs.Rows.{atomsIn};
-ghost use Rattle.plans.specs.Answers.{Gives};
+ghost use Rattle.plans.specs.Answers.{answered, Gives};
+ghost use Rattle.cases.specs.Replies.{resultOf, CaseIn};
+ghost use Rattle.building.specs.Calls.{FromWords};
 ghost use Rattle.building.specs.Spare.{spareIn, told};
 ghost use Rattle.building.specs.Starts.{Prepared};
+use cases::Reply;
 use ground::RelationLine;
+use opening::Opened;
+use sheets::Answer;
 
 // The first word of lent picks that has a spare bit set, or that none has.
 pub enum Spare {
@@ -83,4 +89,101 @@ pub fn start_and_build(
     let words = (atoms + 63) / 64;
     initial::initial_state(table, facts, &mut start[..words]);
     plans::build(state, steps, &start[..words], table, atoms, picks)
+}
+
+// What was built, as a reply.
+fn reply_of(a: plans::Answer) -> Reply
+    ensures { λ r. ⌜ resultOf r ≡ answered a ⌝ }
+{
+    match a {
+        plans::Answer::Steps(count) => Reply::Accepted(count),
+        plans::Answer::OtherKind(i) => Reply::Refused(16, i),
+        plans::Answer::RuleFalse => Reply::Refused(17, 0),
+    }
+}
+
+// Steps of a case that was read, from picks that stand in words: 11, 12 (picks, state, steps), 10, 16, 17. Words past the needed
+// length are not lent on. (Picks read from a text have words enough, and no spare bit.)
+fn build_case(
+    question: &[u8],
+    o: Opened,
+    facts: &[u64],
+    picks: &[u64],
+    state: &mut [u64],
+    steps: &mut [u32],
+) -> Reply
+    requires { ⌜ CaseIn (now question) o (bit (now facts)) ⌝ }
+    ensures { λ r. ⌜ FromWords (now (question .entry)) o (bit (now (facts .entry))) (now (picks .entry)) (now (state .entry)) (now (steps .entry)) r (now (state .exit)) (now (steps .exit)) ⌝ }
+{
+    let mut table = [0usize; ground::TABLE];
+    let m = grounding::ground_case(question, o, &mut table);
+    if m.over {
+        return Reply::Refused(11, 0);
+    }
+    let held = reading::picks_length(&table);
+    if picks.len() < held {
+        return Reply::Refused(12, held);
+    }
+    let words = (m.atoms + 63) / 64;
+    if state.len() < words {
+        return Reply::Refused(12, words);
+    }
+    if steps.len() < m.bound {
+        return Reply::Refused(12, m.bound);
+    }
+    let s = spare_word(&table, picks);
+    match s {
+        Spare::Word(j) => Reply::Refused(10, j),
+        Spare::Clear => {
+            let a = start_and_build(state, steps, &table, facts, m.atoms, &picks[..held]);
+            reply_of(a)
+        }
+    }
+}
+
+// Builds steps from picks that are handed over as a text.
+pub fn build_text(
+    question: &[u8],
+    site: &[u8],
+    picks: &[u8],
+    state: &mut [u64],
+    steps: &mut [u32],
+) -> Reply
+    ensures answer { λ r. ⌜ resultOf r ≡ buildSteps (now (question .entry)) (now (site .entry)) (asText (now (picks .entry))) (now (state .entry)) (now (steps .entry)) .answer ⌝ }
+    ensures state { λ r. ⌜ now (state .exit) ≡ buildSteps (now (question .entry)) (now (site .entry)) (asText (now (picks .entry))) (now (state .entry)) (now (steps .entry)) .state ⌝ }
+    ensures steps { λ r. ⌜ now (steps .exit) ≡ buildSteps (now (question .entry)) (now (site .entry)) (asText (now (picks .entry))) (now (state .entry)) (now (steps .entry)) .steps ⌝ }
+{
+    let mut facts = [0u64; 512];
+    let o = opening::read_case(question, site, &mut facts);
+    if o.fault != 0 {
+        return Reply::Refused(o.fault, o.place);
+    }
+    let mut words = [0u64; 256];
+    let sig = o.sig;
+    let n = o.n;
+    let a = sheets::picks(question, sig, picks, n, &mut words);
+    match a {
+        Answer::Refused(k, place) => Reply::Refused(k, place),
+        Answer::Done(_) => build_case(question, o, &facts, &words, state, steps),
+    }
+}
+
+// Builds steps from picks that are lent as words.
+pub fn build_lent(
+    question: &[u8],
+    site: &[u8],
+    picks: &[u64],
+    state: &mut [u64],
+    steps: &mut [u32],
+) -> Reply
+    ensures answer { λ r. ⌜ resultOf r ≡ buildSteps (now (question .entry)) (now (site .entry)) (asNumbers (now (picks .entry))) (now (state .entry)) (now (steps .entry)) .answer ⌝ }
+    ensures state { λ r. ⌜ now (state .exit) ≡ buildSteps (now (question .entry)) (now (site .entry)) (asNumbers (now (picks .entry))) (now (state .entry)) (now (steps .entry)) .state ⌝ }
+    ensures steps { λ r. ⌜ now (steps .exit) ≡ buildSteps (now (question .entry)) (now (site .entry)) (asNumbers (now (picks .entry))) (now (state .entry)) (now (steps .entry)) .steps ⌝ }
+{
+    let mut facts = [0u64; 512];
+    let o = opening::read_case(question, site, &mut facts);
+    if o.fault != 0 {
+        return Reply::Refused(o.fault, o.place);
+    }
+    build_case(question, o, &facts, picks, state, steps)
 }
