@@ -52,19 +52,25 @@ nodeNumbers t l v =
 unfoldable pub nodeEnd : Layout → List ℕ
 nodeEnd l = getD (l .act) 64 0 ∷ getD (l .node) 64 0 ∷ 0 ∷ 0 ∷ 0 ∷ 0 ∷ 0 ∷ 0 ∷ 0 ∷ 0 ∷ 0 ∷ []
 
--- where the atoms of a part's relation or node start, by the part's tag
-unfoldable pub startIn : Layout → ℕ → ℕ → ℕ
-startIn l zero which = getD (l .rel) which 0
-startIn l (suc zero) which = getD (l .neg) which 0
-startIn l (suc (suc k)) which = getD (l .node) which 0
+-- where the atoms of a part's relation or node start, by the part's tag, among the starts of tuples, of not-tuples and of nodes
+unfoldable pub startIn : (rel neg node : List ℕ) → ℕ → ℕ → ℕ
+startIn rel neg node zero which = getD rel which 0
+startIn rel neg node (suc zero) which = getD neg which 0
+startIn rel neg node (suc (suc k)) which = getD node which 0
 
 -- a part's atom at the values 0, and the weights of the levels; a `forall` stands for its last atom, n to a row
-unfoldable pub partNumbers : ℕ → Layout → PartRow → List ℕ
-partNumbers n l q =
+unfoldable pub numbersFrom : (n start : ℕ) → PartRow → List ℕ
+numbersFrom n start q =
     let w = weightOf n (take (q .width) (q .levels)) in
-    let start = startIn l (q .tag) (q .which) in
     if eqb (q .tag) 2 then (start + (n - 1)) ∷ (w 0 * n) ∷ (w 1 * n) ∷ (w 2 * n) ∷ (w 3 * n) ∷ []
     else start ∷ w 0 ∷ w 1 ∷ w 2 ∷ w 3 ∷ []
+
+-- the line of a part, by the starts or by the layout that holds them
+unfoldable pub numbersIn : (n : ℕ) (rel neg node : List ℕ) → PartRow → List ℕ
+numbersIn n rel neg node q = numbersFrom n (startIn rel neg node (q .tag) (q .which)) q
+
+abbrev pub partNumbers : ℕ → Layout → PartRow → List ℕ
+partNumbers n l q = numbersIn n (l .rel) (l .neg) (l .node) q
 
 -- the lines of all relations, of all nodes, and of all parts with the root
 unfoldable pub relationLines : Relations → Layout → List ℕ

@@ -129,7 +129,7 @@ module _ (n : ℕ) (g : Relations) (t : Nodes) (l : Layout) (d : List ℕ) (len 
   unfolding partLines
   length-P =
       length-append (tab (λ (i : ℕ). partNumbers n l (getD (t .parts) i noPart)) 64) (partNumbers n l (t .root))
-      ∙ ap₂ (λ (x y : ℕ). x + y) (length-tab (λ (i : ℕ). partNumbers n l (getD (t .parts) i noPart)) 5 (λ i. length-part n l (getD (t .parts) i noPart)) 64) (length-part n l (t .root))
+      ∙ ap₂ (λ (x y : ℕ). x + y) (length-tab (λ (i : ℕ). partNumbers n l (getD (t .parts) i noPart)) 5 (λ i. length-part n (l .rel) (l .neg) (l .node) (getD (t .parts) i noPart)) 64) (length-part n (l .rel) (l .neg) (l .node) (t .root))
 
   length-T₀ : length T₀ ≡ 1133
   length-T₀ = length-set (set (set d 0 n) 1 (g .count)) 2 (t .count) ∙ length-set (set d 0 n) 1 (g .count) ∙ length-set d 0 n ∙ len
@@ -203,13 +203,13 @@ module _ (n : ℕ) (g : Relations) (t : Nodes) (l : Layout) (d : List ℕ) (len 
   unfolding partLines
   part-at k j i h q e =
       ap (λ (x : ℕ). getD T x 0) e ∙ in-P (5 * k + j) (omega arith)
-      ∙ lines-at (λ (i : ℕ). partNumbers n l (getD (t .parts) i noPart)) 5 (λ i. length-part n l (getD (t .parts) i noPart)) 64 (partNumbers n l (t .root)) k j h q
+      ∙ lines-at (λ (i : ℕ). partNumbers n l (getD (t .parts) i noPart)) 5 (λ i. length-part n (l .rel) (l .neg) (l .node) (getD (t .parts) i noPart)) 64 (partNumbers n l (t .root)) k j h q
 
   root-at : (j i : ℕ) → j < 5 → i ≡ 808 + (5 * 64 + j) → getD T i 0 ≡ getD (partNumbers n l (t .root)) j 0
   unfolding partLines
   root-at j i q e =
       ap (λ (x : ℕ). getD T x 0) e ∙ in-P (5 * 64 + j) (omega arith)
-      ∙ end-at (λ (i : ℕ). partNumbers n l (getD (t .parts) i noPart)) 5 (λ i. length-part n l (getD (t .parts) i noPart)) 64 (partNumbers n l (t .root)) j
+      ∙ end-at (λ (i : ℕ). partNumbers n l (getD (t .parts) i noPart)) 5 (λ i. length-part n (l .rel) (l .neg) (l .node) (getD (t .parts) i noPart)) 64 (partNumbers n l (t .root)) j
 
   -- what the code reads as a line
   sets-at : (r : ℕ) → r ≤ 17 → relationLine T r .sets ≡ getD (l .set) r 0

@@ -20,59 +20,75 @@ use Rattle.rows.specs.Laws.{row-weighed}
 use Rattle.ground.specs.Lines.{partNumber}
 use Rattle.ground.specs.Of.{IsPart}
 use Rattle.ground.specs.declared.PartLine.{PartLine}
-use Rattle.layout.specs.Laid.{Starts}
+use Rattle.layout.specs.Laid.{Starts, Small}
 use Rattle.layout.specs.declared.Layout.{Layout}
-use Rattle.table.specs.Filled.{startIn, partNumbers}
+use Rattle.table.specs.Filled.{startIn, numbersFrom, numbersIn, partNumbers}
 use Rattle.table.specs.SpliceLaws.{each-most}
 
 -- ---- starts by the tag
-module _ (l : Layout) (which : ℕ) where
-  pub start-tuple : (tag : ℕ) → tag ≡ 0 → getD (l .rel) which 0 ≡ startIn l tag which
+module _ (rel neg node : List ℕ) (which : ℕ) where
+  pub start-tuple : (tag : ℕ) → tag ≡ 0 → getD rel which 0 ≡ startIn rel neg node tag which
   unfolding startIn
   start-tuple tag e = rw e refl
 
-  pub start-not : (tag : ℕ) → tag ≡ 1 → getD (l .neg) which 0 ≡ startIn l tag which
+  pub start-not : (tag : ℕ) → tag ≡ 1 → getD neg which 0 ≡ startIn rel neg node tag which
   unfolding startIn
   start-not tag e = rw e refl
 
-  pub start-node : (tag : ℕ) → (tag ≡ 0 → ⊥) → (tag ≡ 1 → ⊥) → getD (l .node) which 0 ≡ startIn l tag which
+  pub start-node : (tag : ℕ) → (tag ≡ 0 → ⊥) → (tag ≡ 1 → ⊥) → getD node which 0 ≡ startIn rel neg node tag which
   unfolding startIn
   start-node zero a b = absurd (a refl)
   start-node (suc zero) a b = absurd (b refl)
   start-node (suc (suc k)) a b = refl
 
+pub start-most : (l : Layout) (b : ℕ) → Small l b → (tag which : ℕ) → startIn (l .rel) (l .neg) (l .node) tag which ≤ b
+unfolding startIn
+start-most l b s zero which = s .rel which
+start-most l b s (suc zero) which = s .neg which
+start-most l b s (suc (suc k)) which = s .node which
+
 -- ---- the line by the tag
-module _ (n : ℕ) (l : Layout) (q : PartRow) (s : ℕ) (w : List ℕ) (e : s ≡ startIn l (q .tag) (q .which)) (v : valueIn w ≡ weightOf n (take (q .width) (q .levels))) where
+module _ (n s : ℕ) (q : PartRow) (w : List ℕ) (v : valueIn w ≡ weightOf n (take (q .width) (q .levels))) where
   at : (i : ℕ) → getD w i 0 ≡ weightOf n (take (q .width) (q .levels)) i
   unfolding valueIn
   at i = ap (λ (f : Values). f i) v
 
-  pub line-last : q .tag ≡ 2 → (s + (n - 1)) ∷ (getD w 0 0 * n) ∷ (getD w 1 0 * n) ∷ (getD w 2 0 * n) ∷ (getD w 3 0 * n) ∷ [] ≡ partNumbers n l q
-  unfolding partNumbers
-  line-last t = rw (eq-eqb (q .tag) 2 t, e, at 0, at 1, at 2, at 3) refl
+  pub line-last : q .tag ≡ 2 → (s + (n - 1)) ∷ (getD w 0 0 * n) ∷ (getD w 1 0 * n) ∷ (getD w 2 0 * n) ∷ (getD w 3 0 * n) ∷ [] ≡ numbersFrom n s q
+  unfolding numbersFrom
+  line-last t = rw (eq-eqb (q .tag) 2 t, at 0, at 1, at 2, at 3) refl
 
-  pub line-plain : (q .tag ≡ 2 → ⊥) → s ∷ getD w 0 0 ∷ getD w 1 0 ∷ getD w 2 0 ∷ getD w 3 0 ∷ [] ≡ partNumbers n l q
-  unfolding partNumbers
-  line-plain t = rw (ne-eqb (q .tag) 2 t, e, at 0, at 1, at 2, at 3) refl
+  pub line-plain : (q .tag ≡ 2 → ⊥) → s ∷ getD w 0 0 ∷ getD w 1 0 ∷ getD w 2 0 ∷ getD w 3 0 ∷ [] ≡ numbersFrom n s q
+  unfolding numbersFrom
+  line-plain t = rw (ne-eqb (q .tag) 2 t, at 0, at 1, at 2, at 3) refl
 
 pub weight-times : (w n : ℕ) → w ≤ 65 ^ 4 → n ≤ 64 → w * n ≤ 65 ^ 4 * 64
 weight-times w n a b = mul-le-mul a b
 
-pub length-part : (n : ℕ) (l : Layout) (q : PartRow) → length (partNumbers n l q) ≡ 5
-unfolding partNumbers
-length-part n l q = go (eqb (q .tag) 2)
+length-from : (n s : ℕ) (q : PartRow) → length (numbersFrom n s q) ≡ 5
+unfolding numbersFrom
+length-from n s q = go (eqb (q .tag) 2)
   where
-    go : (b : Bool) → length (if b then (startIn l (q .tag) (q .which) + (n - 1)) ∷ (weightOf n (take (q .width) (q .levels)) 0 * n) ∷ (weightOf n (take (q .width) (q .levels)) 1 * n) ∷ (weightOf n (take (q .width) (q .levels)) 2 * n) ∷ (weightOf n (take (q .width) (q .levels)) 3 * n) ∷ []
-        else startIn l (q .tag) (q .which) ∷ weightOf n (take (q .width) (q .levels)) 0 ∷ weightOf n (take (q .width) (q .levels)) 1 ∷ weightOf n (take (q .width) (q .levels)) 2 ∷ weightOf n (take (q .width) (q .levels)) 3 ∷ []) ≡ 5
+    go : (b : Bool) → length (if b then (s + (n - 1)) ∷ (weightOf n (take (q .width) (q .levels)) 0 * n) ∷ (weightOf n (take (q .width) (q .levels)) 1 * n) ∷ (weightOf n (take (q .width) (q .levels)) 2 * n) ∷ (weightOf n (take (q .width) (q .levels)) 3 * n) ∷ []
+        else s ∷ weightOf n (take (q .width) (q .levels)) 0 ∷ weightOf n (take (q .width) (q .levels)) 1 ∷ weightOf n (take (q .width) (q .levels)) 2 ∷ weightOf n (take (q .width) (q .levels)) 3 ∷ []) ≡ 5
     go true = refl
     go false = refl
+
+module _ (n : ℕ) (rel neg node : List ℕ) (q : PartRow) where
+  pub length-part : length (numbersIn n rel neg node q) ≡ 5
+  unfolding numbersIn
+  length-part = length-from n (startIn rel neg node (q .tag) (q .which)) q
+
+  -- the line made from the part's start is the part's
+  pub line-from : (s : ℕ) (line : List ℕ) → s ≡ startIn rel neg node (q .tag) (q .which) → line ≡ numbersFrom n s q → line ≡ numbersIn n rel neg node q
+  unfolding numbersIn
+  line-from s line e f = f ∙ ap (λ (x : ℕ). numbersFrom n x q) e
 
 -- ---- the number that a head stands for
 unfoldable pub rowBy : ℕ → ℕ → ℕ → ℕ
 rowBy n tag row = if eqb tag 2 then row * n + (n - 1) else row
 
 unfoldable pub numberBy : Layout → ℕ → Values → Head → ℕ
-numberBy l n e h = startIn l (h .tag) (h .which) + rowBy n (h .tag) (rowOf n (map e (h .levels)))
+numberBy l n e h = startIn (l .rel) (l .neg) (l .node) (h .tag) (h .which) + rowBy n (h .tag) (rowOf n (map e (h .levels)))
 
 -- the five numbers of a line as a line
 abbrev pub lineOf : List ℕ → PartLine
@@ -87,14 +103,14 @@ weighed-times e w n =
     omega (arith, a 0, a 1, a 2, a 3, b, c, d)
 
 part-by-head : (n : ℕ) (l : Layout) (e : Values) (q : PartRow) → PartFits q → partNumber e (lineOf (partNumbers n l q)) ≡ numberBy l n e (headIn q)
-unfolding partNumbers partNumber numberBy rowBy valueIn
+unfolding numbersIn numbersFrom partNumber numberBy rowBy valueIn
 part-by-head n l e q f = go (eqb (q .tag) 2)
   where
     w : Values
     w = weightOf n (take (q .width) (q .levels))
 
     s : ℕ
-    s = startIn l (q .tag) (q .which)
+    s = startIn (l .rel) (l .neg) (l .node) (q .tag) (q .which)
 
     r : ℕ
     r = rowOf n (map e (take (q .width) (q .levels)))

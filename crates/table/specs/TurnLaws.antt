@@ -13,7 +13,7 @@ use Rattle.ground.specs.Lines.{tableLength}
 use Rattle.layout.specs.Laid.{Small}
 use Rattle.layout.specs.declared.Relations.{Relations}
 use Rattle.layout.specs.declared.Layout.{Layout}
-use Rattle.table.specs.Filled.{splice, tab, relationNumbers, relationEnd, nodeNumbers, nodeEnd, partNumbers, relationLines, nodeLines, partLines}
+use Rattle.table.specs.Filled.{splice, tab, relationNumbers, relationEnd, nodeNumbers, nodeEnd, numbersIn, partNumbers, relationLines, nodeLines, partLines}
 use Rattle.table.specs.SpliceLaws.{tab-next, tab-end, each-most}
 use Rattle.table.specs.PartLaws.{length-part}
 use Rattle.table.specs.FilledLaws.{length-relation, length-relation-end, length-node, length-node-end}
@@ -47,16 +47,18 @@ module _ (t : Nodes) (l : Layout) (w d z : List ℕ) (len : length d ≡ tableLe
       each-most (2 ^ 32) (nodeNumbers t l v)
       (omega (arith, s .act v), (omega (arith, s .node v), (omega arith, (omega (arith, n .level), (omega (arith, n .parts), (omega (arith, n .parts), (omega (arith, n .width), (omega (arith, n .levels 0), (omega (arith, n .levels 1), (omega (arith, n .levels 2), (omega (arith, n .levels 3), tt)))))))))))
 
-module _ (n : ℕ) (t : Nodes) (l : Layout) (w d z : List ℕ) (len : length d ≡ tableLength) where
-  pub part-turn : (i : ℕ) (line : List ℕ) → i < 64 → line ≡ partNumbers n l (getD (t .parts) i noPart) → w ≡ splice 808 (tab (λ (i : ℕ). partNumbers n l (getD (t .parts) i noPart)) i) d
-      → z ≡ splice (808 + 5 * i) line w → z ≡ splice 808 (tab (λ (i : ℕ). partNumbers n l (getD (t .parts) i noPart)) (i + 1)) d
+module _ (n : ℕ) (t : Nodes) (rel neg node w d z : List ℕ) (len : length d ≡ tableLength) where
+  pub part-turn : (i : ℕ) (line : List ℕ) → i < 64 → line ≡ numbersIn n rel neg node (getD (t .parts) i noPart) → w ≡ splice 808 (tab (λ (i : ℕ). numbersIn n rel neg node (getD (t .parts) i noPart)) i) d
+      → z ≡ splice (808 + 5 * i) line w → z ≡ splice 808 (tab (λ (i : ℕ). numbersIn n rel neg node (getD (t .parts) i noPart)) (i + 1)) d
   part-turn i line h c e q =
-      rw c at q ∙ tab-next (λ (i : ℕ). partNumbers n l (getD (t .parts) i noPart)) 5 (λ i. length-part n l (getD (t .parts) i noPart)) 808 i w d (omega arith) e
+      rw c at q ∙ tab-next (λ (i : ℕ). numbersIn n rel neg node (getD (t .parts) i noPart)) 5 (λ i. length-part n rel neg node (getD (t .parts) i noPart)) 808 i w d (omega arith) e
 
-  pub part-last : (i : ℕ) (line : List ℕ) → i ≡ 64 → line ≡ partNumbers n l (t .root) → w ≡ splice 808 (tab (λ (i : ℕ). partNumbers n l (getD (t .parts) i noPart)) i) d → z ≡ splice 1128 line w → z ≡ splice 808 (partLines n t l) d
-  unfolding partLines
-  part-last i line h c e q =
-      rw c at q ∙ tab-end (λ (i : ℕ). partNumbers n l (getD (t .parts) i noPart)) 5 (λ i. length-part n l (getD (t .parts) i noPart)) 808 64 (partNumbers n l (t .root)) w d (omega (arith, length-part n l (t .root))) (rw h at e)
+pub part-last : (n : ℕ) (t : Nodes) (l : Layout) (w d z : List ℕ) → length d ≡ tableLength → (i : ℕ) (line : List ℕ) → i ≡ 64 → line ≡ partNumbers n l (t .root)
+    → w ≡ splice 808 (tab (λ (i : ℕ). partNumbers n l (getD (t .parts) i noPart)) i) d → z ≡ splice 1128 line w → z ≡ splice 808 (partLines n t l) d
+unfolding partLines
+part-last n t l w d z len i line h c e q =
+    rw c at q
+    ∙ tab-end (λ (i : ℕ). partNumbers n l (getD (t .parts) i noPart)) 5 (λ i. length-part n (l .rel) (l .neg) (l .node) (getD (t .parts) i noPart)) 808 64 (partNumbers n l (t .root)) w d (omega (arith, length-part n (l .rel) (l .neg) (l .node) (t .root))) (rw h at e)
 
 -- what holds of all before the next and of the next holds of all up to it
 pub one-more : (P : ℕ → Type 0) (v : ℕ) → ((u : ℕ) → u < v → P u) → P v → (u : ℕ) → u < v + 1 → P u

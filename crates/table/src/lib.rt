@@ -7,7 +7,7 @@ ghost use Rattle.tree.specs.Tables.{noPart, PartFits, Fits};
 ghost use Rattle.rows.specs.Values.{Most};
 ghost use Rattle.ground.specs.Lines.{tableLength};
 ghost use Rattle.layout.specs.Laid.{RelationsFit, Small};
-ghost use Rattle.table.specs.Filled.{splice, nodeNumbers, startIn, partNumbers, relationLines, nodeLines, partLines, tableOf, Filled};
+ghost use Rattle.table.specs.Filled.{splice, nodeNumbers, startIn, numbersFrom, partNumbers, relationLines, nodeLines, partLines, tableOf, Filled};
 use layout::Layout;
 use layout::Relations;
 use tree::Nodes;
@@ -76,27 +76,26 @@ fn fill_nodes(table: &mut [usize], t: Nodes, l: Layout)
     store(table, 797, &last);
 }
 
-// Where the atoms of a part's relation or node start.
-fn start_of(l: Layout, tag: u8, which: usize) -> usize
-    requires { ⌜ (tag < 2 → which < 17) × (2 ≤ tag → which < 64) × Small l actionLimit ⌝ }
-    ensures { λ r. ⌜ (r ≡ startIn l tag which) × (r ≤ actionLimit) ⌝ }
+// Where the atoms of a part's relation or node start; the arrays of a layout come as slices, so that no call copies it.
+fn start_of(rel: &[usize], neg: &[usize], node: &[usize], tag: u8, which: usize) -> usize
+    requires { ⌜ (tag < 2 → which < 17) × (2 ≤ tag → which < 64) × (17 ≤ length (now rel)) × (17 ≤ length (now neg)) × (64 ≤ length (now node)) ⌝ }
+    ensures { λ r. ⌜ r ≡ startIn (now (rel .entry)) (now (neg .entry)) (now (node .entry)) tag which ⌝ }
 {
     if tag == 0 {
-        return l.rel[which];
+        return rel[which];
     }
     if tag == 1 {
-        return l.neg[which];
+        return neg[which];
     }
-    l.node[which]
+    node[which]
 }
 
-// The line of a part.
-fn part_numbers(n: usize, l: Layout, q: PartRow) -> [usize; 5]
-    requires { ⌜ (0 < n) × (n ≤ 64) × PartFits q × Small l actionLimit ⌝ }
-    ensures { λ r. ⌜ (r ≡ partNumbers n l q) × Most r (2 ^ 32) ⌝ }
+// The line of a part whose atoms start there.
+fn part_numbers(n: usize, start: usize, q: PartRow) -> [usize; 5]
+    requires { ⌜ (0 < n) × (n ≤ 64) × PartFits q × (start ≤ actionLimit) ⌝ }
+    ensures { λ r. ⌜ (r ≡ numbersFrom n start q) × Most r (2 ^ 32) ⌝ }
 {
     let levels = q.levels;
-    let start = start_of(l, q.tag, q.which);
     let w = rows::weights(n, levels, q.width);
     if q.tag == 2 {
         return [start + (n - 1), w[0] * n, w[1] * n, w[2] * n, w[3] * n];
@@ -110,15 +109,20 @@ fn fill_parts(table: &mut [usize], n: usize, t: Nodes, l: Layout)
     ensures { λ r. ⌜ (now (table .exit) ≡ splice 808 (partLines n t l) (now (table .entry)))
         × ((i : ℕ) → i < 64 → Most (partNumbers n l (getD (t .parts) i noPart)) (2 ^ 32)) × Most (partNumbers n l (t .root)) (2 ^ 32) ⌝ }
 {
+    let rel = l.rel;
+    let neg = l.neg;
+    let node = l.node;
     let mut i: usize = 0;
     while i < 64 {
         let q = t.parts[i];
-        let line = part_numbers(n, l, q);
+        let start = start_of(&rel, &neg, &node, q.tag, q.which);
+        let line = part_numbers(n, start, q);
         store(table, 808 + 5 * i, &line);
         i += 1;
     }
     let q = t.root;
-    let last = part_numbers(n, l, q);
+    let start = start_of(&rel, &neg, &node, q.tag, q.which);
+    let last = part_numbers(n, start, q);
     store(table, 1128, &last);
 }
 
