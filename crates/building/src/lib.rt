@@ -125,11 +125,12 @@ fn build_case(
         return Reply::Refused(12, held);
     }
     let words = (m.atoms + 63) / 64;
+    let bound = m.bound;
     if state.len() < words {
         return Reply::Refused(12, words);
     }
-    if steps.len() < m.bound {
-        return Reply::Refused(12, m.bound);
+    if steps.len() < bound {
+        return Reply::Refused(12, bound);
     }
     let s = spare_word(&table, picks);
     match s {

@@ -49,17 +49,17 @@ returns-3 c = record {
 
 returns-4 : tie.Need-returns-4
 returns-4 c = record {
-  fit = λ j. omega (arith, c .before .before .before .before .before .before .before .before .before .before .before .before .before .shared-slice-known3 .given j);
+  fit = λ j. omega (arith, c .before .before .before .before .before .before .before .before .before .before .before .before .shared-slice-known3 .given j);
   builds = λ x F h A held.
-      let g = c .before .before .before .before .before .before .before .before .before .ground-case .ensures x _ h in
-      builds-steps x _ F _ _ _ _ g (c .before .before .before .before .before .before .before .if1 .left) _ (c .before .before .before .before .before .picks-length .ensures .1 (problemOf x) (tabled x [] [] [] [] _ _ g (c .before .before .before .before .before .before .before .if1 .left) .is)) (omega arith) (omega arith) (c .if4 .taken);
+      let g = c .before .before .before .before .before .before .before .before .ground-case .ensures x _ h in
+      builds-steps x _ F _ _ _ _ g (c .before .before .before .before .before .before .if1 .left) _ (c .before .before .before .before .picks-length .ensures .1 (problemOf x) (tabled x [] [] [] [] _ _ g (c .before .before .before .before .before .before .if1 .left) .is)) (omega arith) (omega arith) (c .if4 .taken);
 }
 
 slice-aggregate-spare-word : tie.Need-slice-aggregate-spare-word
 slice-aggregate-spare-word c = search needs
 
 spare-word-requires : tie.Need-spare-word-requires
-spare-word-requires c κs = tabled (c .before .before .before .before .before .before .before .before .before .before .before .before .before .before .before .before .before .pre .case) [] [] [] [] _ _ (c .before .before .before .before .before .before .before .before .before .before .ground-case .ensures (c .before .before .before .before .before .before .before .before .before .before .before .before .before .before .before .before .before .pre .case) _ (c .before .before .before .before .before .before .before .before .before .before .before .before .before .before .before .before .before .pre .holds)) (c .before .before .before .before .before .before .before .before .if1 .left) .fits
+spare-word-requires c κs = tabled (c .before .before .before .before .before .before .before .before .before .before .before .before .before .before .before .before .pre .case) [] [] [] [] _ _ (c .before .before .before .before .before .before .before .before .before .ground-case .ensures (c .before .before .before .before .before .before .before .before .before .before .before .before .before .before .before .before .pre .case) _ (c .before .before .before .before .before .before .before .before .before .before .before .before .before .before .before .before .pre .holds)) (c .before .before .before .before .before .before .before .if1 .left) .fits
 
 enum-known-s : tie.Need-enum-known-s
 enum-known-s c = search needs
@@ -75,20 +75,20 @@ slice-aggregate-start-and-build-2 c = sym (length-take-le _ _ (omega arith))
 
 start-and-build-requires : tie.Need-start-and-build-requires
 start-and-build-requires c κs =
-    let g = c .before .before .before .before .before .before .before .before .before .before .before .before .before .before .before .before .before .ground-case .ensures (c .before .before .before .before .before .before .before .before .before .before .before .before .before .before .before .before .before .before .before .before .before .before .before .before .pre .case) _ (c .before .before .before .before .before .before .before .before .before .before .before .before .before .before .before .before .before .before .before .before .before .before .before .before .pre .holds) in
-    let t = tabled (c .before .before .before .before .before .before .before .before .before .before .before .before .before .before .before .before .before .before .before .before .before .before .before .before .pre .case) [] [] [] [] _ _ g (c .before .before .before .before .before .before .before .before .before .before .before .before .before .before .before .if1 .left) in
-    (t .fits, t .ends ∙ sym (t .atoms-are), omega (arith, atoms-few (c .before .before .before .before .before .before .before .before .before .before .before .before .before .before .before .before .before .before .before .before .before .before .before .before .pre .case) [] [] _ _ g (c .before .before .before .before .before .before .before .before .before .before .before .before .before .before .before .if1 .left)), omega arith)
+    let g = c .before .before .before .before .before .before .before .before .before .before .before .before .before .before .before .before .ground-case .ensures (c .before .before .before .before .before .before .before .before .before .before .before .before .before .before .before .before .before .before .before .before .before .before .before .pre .case) _ (c .before .before .before .before .before .before .before .before .before .before .before .before .before .before .before .before .before .before .before .before .before .before .before .pre .holds) in
+    let t = tabled (c .before .before .before .before .before .before .before .before .before .before .before .before .before .before .before .before .before .before .before .before .before .before .before .pre .case) [] [] [] [] _ _ g (c .before .before .before .before .before .before .before .before .before .before .before .before .before .before .if1 .left) in
+    (t .fits, t .ends ∙ sym (t .atoms-are), omega (arith, atoms-few (c .before .before .before .before .before .before .before .before .before .before .before .before .before .before .before .before .before .before .before .before .before .before .before .pre .case) [] [] _ _ g (c .before .before .before .before .before .before .before .before .before .before .before .before .before .before .if1 .left)), omega arith)
 
 reply-of-requires : tie.Need-reply-of-requires
 reply-of-requires c κs = search needs
 
 returns-5 : tie.Need-returns-5
 returns-5 c = record {
-  fit = λ j. omega (arith, c .before .before .before .before .before .before .before .before .before .before .before .before .before .before .before .before .before .before .shared-slice-known3 .given j);
+  fit = λ j. omega (arith, c .before .before .before .before .before .before .before .before .before .before .before .before .before .before .before .before .before .shared-slice-known3 .given j);
   builds = λ x F h A held.
-      let g = c .before .before .before .before .before .before .before .before .before .before .before .before .before .before .ground-case .ensures x _ h in
-      let is = tabled x [] [] [] [] _ _ g (c .before .before .before .before .before .before .before .before .before .before .before .before .if1 .left) .is in
-      builds-spare x _ F _ _ _ _ g (c .before .before .before .before .before .before .before .before .before .before .before .before .if1 .left) _ (c .before .before .before .before .before .before .before .before .before .before .picks-length .ensures .1 (problemOf x) is) (omega arith) (omega arith) (omega arith) _ (c .before .before .before .spare-word .ensures (problemOf x) is) _ (c .before .s .given .1);
+      let g = c .before .before .before .before .before .before .before .before .before .before .before .before .before .ground-case .ensures x _ h in
+      let is = tabled x [] [] [] [] _ _ g (c .before .before .before .before .before .before .before .before .before .before .before .if1 .left) .is in
+      builds-spare x _ F _ _ _ _ g (c .before .before .before .before .before .before .before .before .before .before .before .if1 .left) _ (c .before .before .before .before .before .before .before .before .before .picks-length .ensures .1 (problemOf x) is) (omega arith) (omega arith) (omega arith) _ (c .before .before .before .spare-word .ensures (problemOf x) is) _ (c .before .s .given .1);
 }
 
 same-length : tie.Need-same-length
@@ -99,11 +99,11 @@ same-length-2 c = search needs
 
 returns-6 : tie.Need-returns-6
 returns-6 c = record {
-  fit = λ j. omega (arith, c .before .before .before .before .before .before .before .before .before .before .before .before .before .before .before .before .before .before .before .before .before .before .before .before .before .before .before .shared-slice-known3 .given j);
+  fit = λ j. omega (arith, c .before .before .before .before .before .before .before .before .before .before .before .before .before .before .before .before .before .before .before .before .before .before .before .before .before .before .shared-slice-known3 .given j);
   builds = λ x F h A held.
-      let g = c .before .before .before .before .before .before .before .before .before .before .before .before .before .before .before .before .before .before .before .before .before .before .before .ground-case .ensures x _ h in
-      let is = tabled x [] [] [] [] _ _ g (c .before .before .before .before .before .before .before .before .before .before .before .before .before .before .before .before .before .before .before .before .before .if1 .left) .is in
-      builds-built x _ F _ _ _ _ g (c .before .before .before .before .before .before .before .before .before .before .before .before .before .before .before .before .before .before .before .before .before .if1 .left) _ (c .before .before .before .before .before .before .before .before .before .before .before .before .before .before .before .before .before .before .before .picks-length .ensures .1 (problemOf x) is) (omega arith) (omega arith) (omega arith) _ (c .before .before .before .before .before .before .before .before .before .before .before .before .spare-word .ensures (problemOf x) is) (c .before .before .before .before .before .before .before .before .before .before .enum-told .given .1) _ _ _ h A held _ _ _ (c .before .before .before .before .before .start-and-build .ensures x F) _ (c .reply-of .ensures);
+      let g = c .before .before .before .before .before .before .before .before .before .before .before .before .before .before .before .before .before .before .before .before .before .before .ground-case .ensures x _ h in
+      let is = tabled x [] [] [] [] _ _ g (c .before .before .before .before .before .before .before .before .before .before .before .before .before .before .before .before .before .before .before .before .if1 .left) .is in
+      builds-built x _ F _ _ _ _ g (c .before .before .before .before .before .before .before .before .before .before .before .before .before .before .before .before .before .before .before .before .if1 .left) _ (c .before .before .before .before .before .before .before .before .before .before .before .before .before .before .before .before .before .before .picks-length .ensures .1 (problemOf x) is) (omega arith) (omega arith) (omega arith) _ (c .before .before .before .before .before .before .before .before .before .before .before .before .spare-word .ensures (problemOf x) is) (c .before .before .before .before .before .before .before .before .before .before .enum-told .given .1) _ _ _ h A held _ _ _ (c .before .before .before .before .before .start-and-build .ensures x F) _ (c .reply-of .ensures);
 }
 
 pub build-case-spec : {M : Type 1} → statement M
