@@ -86,11 +86,11 @@ module _ (question site : List ℕ) (picks : Outcome.Given) (state steps : List 
 
     module _ (z : o .fault ≡ 0) where
       -- the case that was read
-      pub case-in : CaseIn question o facts
-      case-in = let (c, e, h) = call-known question site picks [] o facts read z in record { case = c; holds = h }
-
       its-case : (c : Case) × (Outcome.readCase question site ≡ accepted c) × Holds question c o facts
       its-case = call-known question site picks [] o facts read z
+
+      pub case-in : CaseIn question o facts
+      case-in = record { case = its-case .0; holds = its-case .2 }
 
       fits : Accepted (its-case .0)
       fits = gives-if Accepted (Outcome.readCase question site) (its-case .0) (its-case .1) (case-fits question site)

@@ -168,9 +168,6 @@ unfolding problemOf problemWith
 problem-size c = refl
 
 module _ (s : List ℕ) (c : Case) (A : Accepted c) (o : Opened) (facts : ℕ → Bool) (h : Holds s c o facts) where
-  abbrev g : Signature
-  g = o .sig
-
   many-rels : length (c .question .rels) ≡ o .sig .rels
   unfolding relsOf
   many-rels = ap length (h .rels) ∙ length-relations s (o .sig) 0 (o .sig .rels)
@@ -254,6 +251,3 @@ module _ (c : Case) (A : Accepted c) (w : List ℕ) (room : picksLength (problem
 
   pub lent-front : Words w → take (picksLength (problemOf c)) w ≡ pickWords (problemOf c) lent
   lent-front ok = sym (words-again (problemOf c) (good c A) w ok room e)
-
-  pub lent-picked : Words w → PicksAre (problemOf c) w lent
-  lent-picked ok = front-picks (problemOf c) lent w (lent-front ok)

@@ -103,7 +103,7 @@ fn reply_of(a: plans::Answer) -> Reply
 }
 
 // Steps of a case that was read, from picks that stand in words: 11, 12 (picks, state, steps), 10, 16, 17. Words past the needed
-// length are not lent on. (Picks read from a text have words enough, and no spare bit.)
+// length are not read. (Picks read from a text have words enough, and no spare bit.)
 fn build_case(
     question: &[u8],
     o: Opened,
