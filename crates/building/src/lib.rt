@@ -23,7 +23,7 @@ use opening::Opened;
 use sheets::Answer;
 
 // The first word of lent picks that has a spare bit set, or that none has.
-pub enum Spare {
+enum Spare {
     Clear,
     Word(usize),
 }
@@ -55,7 +55,7 @@ fn has_spare(picks: &[u64], word: usize, line: RelationLine) -> bool
 }
 
 // The first word of lent picks that has a spare bit set.
-pub fn spare_word(table: &[usize], picks: &[u64]) -> Spare
+fn spare_word(table: &[usize], picks: &[u64]) -> Spare
     requires { ⌜ Fits (now table) ⌝ }
     ensures { λ s. ⌜ ((p : Problem) → Is p (now (table .entry)) → told s ≡ spareWord p (now (picks .entry)) 0 (chosenNumbers p)) ⌝ }
 {
