@@ -162,9 +162,9 @@ module _ (q : List ℕ) (g : Signature) (p : Relation → Bool) where
   unfolding builtIn
   in-all = ap (position p) (all-are q g) ∙ position-append p builtIn (relationsFrom q g 0 (g .rels + g .chosen))
 
-  module _ (t : Signature) (u : t ≡ builtInTable) (b : Found) (w : b ≡ placeOf (counted 0 (position p (relationsFrom (69 ∷ 81 ∷ 76 ∷ 84 ∷ 83 ∷ 85 ∷ 67 ∷ 90 ∷ 69 ∷ 82 ∷ 79 ∷ 77 ∷ 65 ∷ 88 ∷ []) t 0 5)))) where
+  module _ (b : Found) (w : b ≡ placeOf (counted 0 (position p (relationsFrom (69 ∷ 81 ∷ 76 ∷ 84 ∷ 83 ∷ 85 ∷ 67 ∷ 90 ∷ 69 ∷ 82 ∷ 79 ∷ 77 ∷ 65 ∷ 88 ∷ []) builtInTable 0 5)))) where
     among-built-in : b ≡ placeOf (position p builtIn)
-    among-built-in = w ∙ ap placeOf (counted-zero _ ∙ ap (position p) (rw u built-in-are))
+    among-built-in = w ∙ ap placeOf (counted-zero _ ∙ ap (position p) built-in-are)
 
     pub in-built-in : (i : ℕ) → b ≡ At i → At i ≡ placeOf (position p (allOf q g))
     unfolding option

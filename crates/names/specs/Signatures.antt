@@ -13,6 +13,10 @@ use Rattle.definitions.specs.Sheets.{relations}
 use Rattle.text.specs.Spans.{kindOf}
 use Rattle.names.specs.declared.Signature.{Signature}
 
+-- the signature with these arrays in place of its own
+abbrev pub withArrays : Signature → (from to arity : List ℕ) → Signature
+withArrays g from to arity = record { rels = g .rels; chosen = g .chosen; from = from; to = to; arity = arity; kind = g .kind }
+
 -- relation i of the signature, whose names are spans of q
 unfoldable pub relationIn : List ℕ → Signature → ℕ → Relation
 relationIn q g i = record { name = slice (getD (g .from) i 0) (getD (g .to) i 0) q; arity = getD (g .arity) i 0; kind = kindOf (getD (g .kind) i 0) }

@@ -3,11 +3,12 @@ ghost use mathlib.Core.Path.{_≡_};
 ghost use mathlib.Core.Bool.{_&&_, _||_};
 ghost use Prim.Native.Nat.{_+_, _≤_, _<_};
 ghost use lib.Dec.{eqb};
+ghost use lib.ListN.{length};
 ghost use lib.Seq.{slice};
 ghost use Rattle.definitions.specs.Lists.{same, any as anyOf, position};
 ghost use Rattle.definitions.specs.Relations.{numberOf, isDeclared};
 ghost use Rattle.text.specs.Spans.{placeOf};
-ghost use Rattle.names.specs.Signatures.{relationsFrom, allOf, builtInTable, matches, hasArity, counted, HasArity, HasKind};
+ghost use Rattle.names.specs.Signatures.{relationsFrom, allOf, withArrays, matches, hasArity, counted, HasArity, HasKind};
 use text::Found;
 
 // How many relations a question declares at the most.
@@ -23,29 +24,12 @@ pub struct Signature {
     pub kind: [u32; DECLARED],
 }
 
-// The table of the five built-in relations: EQ, LT, SUC, ZERO, MAX.
+// The table of the five built-in relations, EQ, LT, SUC, ZERO and MAX: names as spans of `EQLTSUCZEROMAX`, and arities.
 const STARTS: [usize; DECLARED] = [0, 2, 4, 7, 11, 0, 0, 0, 0, 0, 0, 0];
 
 const ENDS: [usize; DECLARED] = [2, 4, 7, 11, 14, 0, 0, 0, 0, 0, 0, 0];
 
 const ARITIES: [usize; DECLARED] = [2, 2, 2, 1, 1, 0, 0, 0, 0, 0, 0, 0];
-
-// That table as a signature; its names are spans of `EQLTSUCZEROMAX`.
-fn built_in() -> Signature
-    ensures { λ r. ⌜ r ≡ builtInTable ⌝ }
-{
-    let from = STARTS;
-    let to = ENDS;
-    let arity = ARITIES;
-    Signature {
-        rels: 5,
-        chosen: 0,
-        from,
-        to,
-        arity,
-        kind: [0; DECLARED],
-    }
-}
 
 // A relation with the name from b to f of q, and an arity, has the name from a to e of s and, unless any will do, the arity k.
 fn fits(
@@ -70,10 +54,13 @@ fn fits(
     false
 }
 
-// The first of the m relations from lo on that has the name from a to e of s and, unless any will do, the arity k.
+// The first of the m relations from lo on that has the name from a to e of s and, unless any will do, the arity k. The arrays of a
+// signature come as slices, so that no call copies it.
 pub fn lookup(
     q: &[u8],
-    g: Signature,
+    from: &[usize],
+    to: &[usize],
+    arity: &[usize],
     lo: usize,
     m: usize,
     s: &[u8],
@@ -82,16 +69,14 @@ pub fn lookup(
     any: bool,
     k: usize,
 ) -> Found
-    requires { ⌜ lo + m ≤ 12 ⌝ }
-    ensures { λ r. ⌜ r ≡ placeOf (counted lo (position (matches (slice a e (now (s .entry))) any k) (relationsFrom (now (q .entry)) g lo m))) ⌝ }
+    requires { ⌜ (lo + m ≤ 12) × (12 ≤ length (now from)) × (12 ≤ length (now to)) × (12 ≤ length (now arity)) ⌝ }
+    ensures { λ r. ⌜ ((g : Signature) → r ≡ placeOf (counted lo (position (matches (slice a e (now (s .entry))) any k)
+        (relationsFrom (now (q .entry)) (withArrays g (now (from .entry)) (now (to .entry)) (now (arity .entry))) lo m)))) ⌝ }
 {
     let hi = lo + m;
     let mut i = lo;
     while i < hi {
-        let from = g.from[i];
-        let to = g.to[i];
-        let places = g.arity[i];
-        if fits(q, from, to, places, s, a, e, any, k) {
+        if fits(q, from[i], to[i], arity[i], s, a, e, any, k) {
             return Found::At(i);
         }
         i += 1;
@@ -104,13 +89,27 @@ fn search(s: &[u8], g: Signature, a: usize, e: usize, any: bool, k: usize) -> Fo
     requires { ⌜ g .rels + g .chosen ≤ 12 ⌝ }
     ensures { λ r. ⌜ r ≡ placeOf (position (matches (slice a e (now (s .entry))) any k) (allOf (now (s .entry)) g)) ⌝ }
 {
-    let table = built_in();
-    let b = lookup(b"EQLTSUCZEROMAX", table, 0, 5, s, a, e, any, k);
+    let b = lookup(
+        b"EQLTSUCZEROMAX",
+        &STARTS,
+        &ENDS,
+        &ARITIES,
+        0,
+        5,
+        s,
+        a,
+        e,
+        any,
+        k,
+    );
     match b {
         Found::At(i) => Found::At(i),
         Found::Nowhere => {
             let n = g.rels + g.chosen;
-            let d = lookup(s, g, 0, n, s, a, e, any, k);
+            let from = g.from;
+            let to = g.to;
+            let arity = g.arity;
+            let d = lookup(s, &from, &to, &arity, 0, n, s, a, e, any, k);
             match d {
                 Found::At(i) => Found::At(5 + i),
                 Found::Nowhere => Found::Nowhere,

@@ -5,7 +5,7 @@ use mathlib.Core.Bool.{not}
 use mathlib.Core.Option.{some}
 use mathlib.Core.List.{List, [], _∷_, _++_}
 use native.Mathlib.Omega.{arith}
-use lib.ListN.{length-append}
+use lib.ListN.{length, length-append}
 use lib.Seq.{slice}
 use borrow.Author.Tests.{le-leb, lt-leb}
 use Rattle.definitions.specs.Text.{isBetween}
@@ -19,8 +19,8 @@ use Rattle.records.specs.declared.Places.{Places}
 use Rattle.records.specs.declared.Entry.{Entry}
 use Rattle.records.specs.declared.Entry.the-variants.{Wrong, Rel, Choose, Rule, Size, Fact, Pick, Step}
 use Rattle.names.specs.declared.Signature.{Signature}
-use Rattle.names.specs.Signatures.{relationsFrom, relsOf, chosenOf}
-use Rattle.tuples.specs.Marks.{bitOf, marks, AllValid, Adds, Added}
+use Rattle.names.specs.Signatures.{relationsFrom, relsOf, chosenOf, Sound}
+use Rattle.tuples.specs.Marks.{Arrays, bitOf, marks, AllValid, Adds, Added}
 use Rattle.sheets.specs.Reading.{sizedOf, draft, Facts, SiteTurns, SiteTurned, Picks, PickTurns, PickTurned}
 use Rattle.sheets.specs.declared.Turn.the-variants.{Next, Fault}
 
@@ -30,6 +30,16 @@ adds-fault : (q : List ℕ) (g : Signature) (lo m n : ℕ) (name xs : List ℕ) 
 unfolding Adds
 adds-fault q g lo m n name xs ts at new zero h v = absurd (h refl)
 adds-fault q g lo m n name xs ts at new (suc k) h v = v
+
+-- the arrays of a question's signature
+pub sound-arrays : (q : List ℕ) (g : Signature) (lo m : ℕ) → Sound q g → lo + m ≤ g .rels + g .chosen → length (g .from) ≡ 12 → length (g .to) ≡ 12 → length (g .arity) ≡ 12 → Arrays lo m (g .from) (g .to) (g .arity)
+sound-arrays q g lo m s h f t a = record {
+  few = omega (arith, s .rels-le, s .chosen-le);
+  length-from = omega arith;
+  length-to = omega arith;
+  length-arity = omega arith;
+  arities = λ j l. s .arities j (omega arith) .1;
+}
 
 -- ---- a line of a site
 
@@ -129,7 +139,10 @@ module _ (q : List ℕ) (g : Signature) (s : List ℕ) (n : ℕ) (x : Entry) (ol
     unfolding SiteTurned SiteTurns
     fact-early h at facts w = fact-is at facts ∙ early n at facts h
 
-    module _ (h : n ≡ 0 → ⊥) (c : ℕ) (u : Added q g 0 (g .rels) n (slice a e s) (listOf y) old new c) where
+    module _ (h : n ≡ 0 → ⊥) (c m : ℕ) (r : m ≡ g .rels) (v : Added q g 0 m n (slice a e s) (listOf y) old new c) where
+      u : Added q g 0 (g .rels) n (slice a e s) (listOf y) old new c
+      u = subst (λ (m : ℕ). Added q g 0 m n (slice a e s) (listOf y) old new c) r v
+
       pub fact-added : c ≡ 0 → SiteTurned q g s n x old new (Next n)
       unfolding SiteTurned SiteTurns Facts Added Adds _>>=_
       fact-added z at facts w =
@@ -185,6 +198,8 @@ module _ (q : List ℕ) (g : Signature) (s : List ℕ) (n : ℕ) (x : Entry) (ol
     turn-by zero at picks res w r v = (picks ++ (v .0 ∷ []), r ∙ v .1, (v .3, v .2), length-append picks (v .0 ∷ []))
     turn-by (suc c) at picks res w r v = r ∙ v
 
-    pub picks-pick : (c : ℕ) → Added q g (g .rels) (g .chosen) n (slice a e s) (listOf y) old new c → PickTurned q g s n x old new c
+    pub picks-pick : (c lo m : ℕ) → lo ≡ g .rels → m ≡ g .chosen → Added q g lo m n (slice a e s) (listOf y) old new c → PickTurned q g s n x old new c
     unfolding PickTurned Picks Added
-    picks-pick c u at picks w = turn-by c at picks _ w (pick-is at picks) (u picks at (w .1) (w .0))
+    picks-pick c lo m l r v at picks w =
+        let u = subst (λ (m : ℕ). Added q g (g .rels) m n (slice a e s) (listOf y) old new c) r (subst (λ (lo : ℕ). Added q g lo m n (slice a e s) (listOf y) old new c) l v) in
+        turn-by c at picks _ w (pick-is at picks) (u picks at (w .1) (w .0))

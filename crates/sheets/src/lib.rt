@@ -1,11 +1,12 @@
 // The readers of the site, of picks and of steps: a value, or the refusal's number and place (1 to 3, 7, 9, 10).
 ghost use mathlib.Core.Path.{_≡_};
 ghost use mathlib.Core.Bool.{false};
-ghost use Prim.Native.Nat.{_+_, _≤_};
+ghost use Prim.Native.Nat.{_+_, _*_, _≤_};
 ghost use lib.ListN.{length};
 ghost use Rattle.bits.specs.Table.{bit};
 ghost use Rattle.definitions.specs.Sheets.{readSite, readPicks, readSteps};
-ghost use Rattle.names.specs.Signatures.{Sound, relsOf, chosenOf};
+ghost use Rattle.names.specs.Signatures.{Sound, withArrays, relsOf, chosenOf};
+ghost use Rattle.tuples.specs.Marks.{Arrays};
 ghost use Rattle.sheets.specs.Reading.{answered, sizeIn, SiteTurned, GotSite, FactsIn, PickTurned, GotPicks, PicksIn, verdictOf, Writes, left};
 use names::Signature;
 use records::Entry;
@@ -22,10 +23,21 @@ enum Turn {
     Fault(u32),
 }
 
-// One line of a site, where n is the size so far.
-fn site_turn(q: &[u8], g: Signature, s: &[u8], n: usize, table: &mut [u64], x: Entry) -> Turn
-    requires { ⌜ Sound (now q) g × (512 ≤ length (now table)) × (n ≤ 16) ⌝ }
-    ensures { λ r. ⌜ SiteTurned (now (q .entry)) g (now (s .entry)) n x (now (table .entry)) (now (table .exit)) r ⌝ }
+// One line of a site, where n is the size so far; of a signature the arrays and the number m of `rel` relations.
+fn site_turn(
+    q: &[u8],
+    from: &[usize],
+    to: &[usize],
+    arity: &[usize],
+    m: usize,
+    s: &[u8],
+    n: usize,
+    table: &mut [u64],
+    x: Entry,
+) -> Turn
+    requires { ⌜ Arrays 0 m (now from) (now to) (now arity) × (64 * m ≤ length (now table)) × (n ≤ 16) ⌝ }
+    ensures { λ r. ⌜ ((g : Signature) → m ≡ g .rels
+        → SiteTurned (now (q .entry)) (withArrays g (now (from .entry)) (now (to .entry)) (now (arity .entry))) (now (s .entry)) n x (now (table .entry)) (now (table .exit)) r) ⌝ }
 {
     match x {
         Entry::Wrong => Turn::Fault(2),
@@ -48,8 +60,7 @@ fn site_turn(q: &[u8], g: Signature, s: &[u8], n: usize, table: &mut [u64], x: E
             if n == 0 {
                 return Turn::Fault(3);
             }
-            let m = g.rels;
-            let c = tuples::add(q, g, 0, m, n, s, a, e, p, table);
+            let c = tuples::add(q, from, to, arity, 0, m, n, s, a, e, p, table);
             if c == 0 {
                 return Turn::Next(n);
             }
@@ -69,12 +80,15 @@ fn site_lines(q: &[u8], g: Signature, s: &[u8], table: &mut [u64]) -> Answer
     if 65536 < end {
         return Answer::Refused(1, 0);
     }
+    let from = g.from;
+    let to = g.to;
+    let arity = g.arity;
     let mut at = 0;
     let mut n: usize = 0;
     while at < end {
         let l = records::line(s, at);
         let x = l.entry;
-        let t = site_turn(q, g, s, n, table, x);
+        let t = site_turn(q, &from, &to, &arity, g.rels, s, n, table, x);
         match t {
             Turn::Next(m) => {
                 n = m;
@@ -107,10 +121,22 @@ pub fn site(q: &[u8], g: Signature, s: &[u8], table: &mut [u64]) -> Answer
     }
 }
 
-// One line of picks: 0, or the refusal's number.
-fn picks_turn(q: &[u8], g: Signature, s: &[u8], n: usize, table: &mut [u64], x: Entry) -> u32
-    requires { ⌜ Sound (now q) g × (256 ≤ length (now table)) × (n ≤ 16) ⌝ }
-    ensures { λ r. ⌜ PickTurned (now (q .entry)) g (now (s .entry)) n x (now (table .entry)) (now (table .exit)) r ⌝ }
+// One line of picks: 0, or the refusal's number; of a signature the arrays, and the m `choose` relations from lo on.
+fn picks_turn(
+    q: &[u8],
+    from: &[usize],
+    to: &[usize],
+    arity: &[usize],
+    lo: usize,
+    m: usize,
+    s: &[u8],
+    n: usize,
+    table: &mut [u64],
+    x: Entry,
+) -> u32
+    requires { ⌜ Arrays lo m (now from) (now to) (now arity) × (64 * m ≤ length (now table)) × (n ≤ 16) ⌝ }
+    ensures { λ r. ⌜ ((g : Signature) → lo ≡ g .rels → m ≡ g .chosen
+        → PickTurned (now (q .entry)) (withArrays g (now (from .entry)) (now (to .entry)) (now (arity .entry))) (now (s .entry)) n x (now (table .entry)) (now (table .exit)) r) ⌝ }
 {
     match x {
         Entry::Wrong => 2,
@@ -119,11 +145,7 @@ fn picks_turn(q: &[u8], g: Signature, s: &[u8], n: usize, table: &mut [u64], x: 
         Entry::Rule(_, _) => 3,
         Entry::Size(_) => 3,
         Entry::Fact(_, _, _) => 3,
-        Entry::Pick(a, e, p) => {
-            let lo = g.rels;
-            let m = g.chosen;
-            tuples::add(q, g, lo, m, n, s, a, e, p, table)
-        }
+        Entry::Pick(a, e, p) => { tuples::add(q, from, to, arity, lo, m, n, s, a, e, p, table) }
         Entry::Step(_) => 3,
     }
 }
@@ -137,12 +159,15 @@ fn picks_lines(q: &[u8], g: Signature, s: &[u8], n: usize, table: &mut [u64]) ->
     if 65536 < end {
         return Answer::Refused(1, 0);
     }
+    let from = g.from;
+    let to = g.to;
+    let arity = g.arity;
     let mut at = 0;
     let mut k: usize = 0;
     while at < end {
         let l = records::line(s, at);
         let x = l.entry;
-        let c = picks_turn(q, g, s, n, table, x);
+        let c = picks_turn(q, &from, &to, &arity, g.rels, g.chosen, s, n, table, x);
         if c != 0 {
             return Answer::Refused(c, at);
         }

@@ -26,6 +26,10 @@ use Rattle.tuples.specs.Marks.{areBelow, InRow, firstWord, bitOf, marks,
 use Rattle.tuples.proofs.Rows.{row-power, power-le}
 use Rattle.tuples.proofs.Bits.{marks-among, valid-snoc, marks-put}
 
+-- a signature of no relation: bounds hold for every signature with the arrays, so for this one
+pub noSignature : Signature
+noSignature = record { rels = 0; chosen = 0; from = []; to = []; arity = []; kind = [] }
+
 -- ---- the tests 7 and 9
 
 module _ (rs : List Relation) (first n : ℕ) (ts : List Tuple) (at : ℕ) (name xs : List ℕ) where
@@ -151,16 +155,15 @@ module _ (q : List ℕ) (g : Signature) (lo m n : ℕ) (name xs : List ℕ) (old
 
 -- ---- the first word
 
-module _ (g : Signature) (n lo j sum p : ℕ) (l : lo ≤ j) (h : sum ≡ firstWord g n lo (j - lo)) (b : sum ≤ 64 * (j - lo)) (e : p ≡ n ^ getD (g .arity) j 0) where
-  pub word-next : sum + (p + 63) / 64 ≡ firstWord g n lo (j + 1 - lo)
-  unfolding firstWord wordsFor
-  word-next =
-      let z : j + 1 - lo ≡ suc (j - lo) = omega arith in
-      let y : j ≡ lo + (j - lo) = omega arith in
-      rw z (ap₂ (λ (x y : ℕ). x + (y + 63) / 64) h (e ∙ ap (λ (i : ℕ). n ^ getD (g .arity) i 0) y))
+pub word-next : (g : Signature) (n lo j sum p : ℕ) → lo ≤ j → sum ≡ firstWord g n lo (j - lo) → p ≡ n ^ getD (g .arity) j 0 → sum + (p + 63) / 64 ≡ firstWord g n lo (j + 1 - lo)
+unfolding firstWord wordsFor
+word-next g n lo j sum p l h e =
+    let z : j + 1 - lo ≡ suc (j - lo) = omega arith in
+    let y : j ≡ lo + (j - lo) = omega arith in
+    rw z (ap₂ (λ (x y : ℕ). x + (y + 63) / 64) h (e ∙ ap (λ (i : ℕ). n ^ getD (g .arity) i 0) y))
 
-  pub word-limit : p ≤ 4096 → sum + (p + 63) / 64 ≤ 64 * (j + 1 - lo)
-  word-limit q = omega arith
+pub word-limit : (lo j sum p : ℕ) → lo ≤ j → sum ≤ 64 * (j - lo) → p ≤ 4096 → sum + (p + 63) / 64 ≤ 64 * (j + 1 - lo)
+word-limit lo j sum p l b q = omega arith
 
 pub word-none : (g : Signature) (n lo : ℕ) → 0 ≡ firstWord g n lo (lo - lo)
 unfolding firstWord

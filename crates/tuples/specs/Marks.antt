@@ -37,6 +37,14 @@ unfoldable pub firstWord : Signature → ℕ → ℕ → ℕ → ℕ
 firstWord g n lo zero = zero
 firstWord g n lo (suc m) = firstWord g n lo m + wordsFor (n ^ getD (g .arity) (lo + m) 0)
 
+-- the arrays of a signature: they have the m relations from lo on, and no arity among these or before is above 3
+pub record Arrays (lo m : ℕ) (from to arity : List ℕ) : Type 0 where
+  pub few : lo + m ≤ 12
+  pub length-from : 12 ≤ length from
+  pub length-to : 12 ≤ length to
+  pub length-arity : 12 ≤ length arity
+  pub arities : (j : ℕ) → j < lo + m → getD arity j 0 ≤ 3
+
 -- the bit of a tuple
 unfoldable pub bitOf : Signature → ℕ → ℕ → Tuple → ℕ
 bitOf g n lo t = 64 * firstWord g n lo (t .relation - (5 + lo)) + rowOf n (t .places)

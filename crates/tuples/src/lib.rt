@@ -5,8 +5,8 @@ ghost use Prim.Native.Nat.{ℕ, _+_, _-_, _*_, _^_, _≤_, _<_};
 ghost use lib.ListN.{length, getD};
 ghost use lib.Seq.{slice};
 ghost use Rattle.records.specs.Entries.{listOf};
-ghost use Rattle.names.specs.Signatures.{Sound};
-ghost use Rattle.tuples.specs.Marks.{InRow, RowBelow, firstWord, Spotted, Added};
+ghost use Rattle.names.specs.Signatures.{withArrays};
+ghost use Rattle.tuples.specs.Marks.{InRow, RowBelow, firstWord, Arrays, Spotted, Added};
 use names::Signature;
 use records::Places;
 use text::Found;
@@ -79,26 +79,36 @@ fn power(n: usize, k: usize) -> usize
     r
 }
 
-// The first word of relation i, where relation lo has the first word of all.
-pub fn first_word(g: Signature, n: usize, lo: usize, i: usize) -> usize
-    requires { ⌜ (n ≤ 16) × (lo ≤ i) × (i ≤ 12) × ((j : ℕ) → j < i → getD (g .arity) j 0 ≤ 3) ⌝ }
-    ensures { λ r. ⌜ (r ≡ firstWord g n lo (i - lo)) × (r ≤ 64 * (i - lo)) ⌝ }
+// The first word of relation i, where relation lo has the first word of all, by the array of the arities.
+fn word_of(arity: &[usize], n: usize, lo: usize, i: usize) -> usize
+    requires { ⌜ (n ≤ 16) × (lo ≤ i) × (i ≤ 12) × (12 ≤ length (now arity)) × ((j : ℕ) → j < i → getD (now arity) j 0 ≤ 3) ⌝ }
+    ensures { λ r. ⌜ ((g : Signature) → (from to : List ℕ) → r ≡ firstWord (withArrays g from to (now (arity .entry))) n lo (i - lo)) × (r ≤ 64 * (i - lo)) ⌝ }
 {
     let mut j = lo;
     let mut sum: usize = 0;
     while j < i {
-        let k = g.arity[j];
-        let p = power(n, k);
+        let p = power(n, arity[j]);
         sum += (p + 63) / 64;
         j += 1;
     }
     sum
 }
 
+// The first word of relation i of a signature.
+pub fn first_word(g: Signature, n: usize, lo: usize, i: usize) -> usize
+    requires { ⌜ (n ≤ 16) × (lo ≤ i) × (i ≤ 12) × ((j : ℕ) → j < i → getD (g .arity) j 0 ≤ 3) ⌝ }
+    ensures { λ r. ⌜ (r ≡ firstWord g n lo (i - lo)) × (r ≤ 64 * (i - lo)) ⌝ }
+{
+    let arity = g.arity;
+    word_of(&arity, n, lo, i)
+}
+
 // The bit of the tuple with the name from a to e of s and those elements, of the m relations from lo on.
 fn spot(
     q: &[u8],
-    g: Signature,
+    from: &[usize],
+    to: &[usize],
+    arity: &[usize],
     lo: usize,
     m: usize,
     n: usize,
@@ -107,11 +117,11 @@ fn spot(
     e: usize,
     p: Places,
 ) -> Mark
-    requires { ⌜ Sound (now q) g × (lo + m ≤ g .rels + g .chosen) × (n ≤ 16) ⌝ }
-    ensures { λ r. ⌜ Spotted (now (q .entry)) g lo m n (slice a e (now (s .entry))) (listOf p) r ⌝ }
+    requires { ⌜ Arrays lo m (now from) (now to) (now arity) × (n ≤ 16) ⌝ }
+    ensures { λ r. ⌜ ((g : Signature) → Spotted (now (q .entry)) (withArrays g (now (from .entry)) (now (to .entry)) (now (arity .entry))) lo m n (slice a e (now (s .entry))) (listOf p) r) ⌝ }
 {
     let k = count(p);
-    let f = names::lookup(q, g, lo, m, s, a, e, false, k);
+    let f = names::lookup(q, from, to, arity, lo, m, s, a, e, false, k);
     match f {
         Found::Nowhere => Mark::Fault(7),
         Found::At(i) => {
@@ -119,7 +129,7 @@ fn spot(
             match w {
                 Found::Nowhere => Mark::Fault(9),
                 Found::At(b) => {
-                    let t = first_word(g, n, lo, i);
+                    let t = word_of(arity, n, lo, i);
                     Mark::Bit(t * 64 + b)
                 }
             }
@@ -127,10 +137,12 @@ fn spot(
     }
 }
 
-// Adds that tuple to the table: 0, or the number of its refusal.
+// Adds that tuple to the table: 0, or the number of its refusal. The arrays of a signature come as slices, so that no call copies it.
 pub fn add(
     q: &[u8],
-    g: Signature,
+    from: &[usize],
+    to: &[usize],
+    arity: &[usize],
     lo: usize,
     m: usize,
     n: usize,
@@ -140,10 +152,10 @@ pub fn add(
     p: Places,
     table: &mut [u64],
 ) -> u32
-    requires { ⌜ Sound (now q) g × (lo + m ≤ g .rels + g .chosen) × (n ≤ 16) × (64 * m ≤ length (now table)) ⌝ }
-    ensures { λ r. ⌜ Added (now (q .entry)) g lo m n (slice a e (now (s .entry))) (listOf p) (now (table .entry)) (now (table .exit)) r ⌝ }
+    requires { ⌜ Arrays lo m (now from) (now to) (now arity) × (n ≤ 16) × (64 * m ≤ length (now table)) ⌝ }
+    ensures { λ r. ⌜ ((g : Signature) → Added (now (q .entry)) (withArrays g (now (from .entry)) (now (to .entry)) (now (arity .entry))) lo m n (slice a e (now (s .entry))) (listOf p) (now (table .entry)) (now (table .exit)) r) ⌝ }
 {
-    let t = spot(q, g, lo, m, n, s, a, e, p);
+    let t = spot(q, from, to, arity, lo, m, n, s, a, e, p);
     match t {
         Mark::Fault(k) => k,
         Mark::Bit(b) => {
