@@ -1,31 +1,25 @@
 -- The `count` and `pick` lines printed from a signature and words are the definitions' lines, where the signature is that of the
 -- problem's relations and the words hold the picks. Assumes nothing.
-use Prim.Native.Nat.{ℕ, zero, suc, _+_, _-_, _*_, _/_, _%_, _^_, _≤_, _<_}
-use mathlib.Core.Path.{_≡_, refl, sym, ap, ap₂, subst, _∙_}
+use Prim.Native.Nat.{ℕ, zero, suc, _+_, _-_, _*_, _^_, _≤_, _<_}
+use mathlib.Core.Path.{_≡_, refl, sym, ap, ap₂, _∙_}
 use mathlib.Core.Bool.{Bool, true, false, _&&_}
-use mathlib.Core.List.{List, [], _∷_, _++_, map, append-assoc, append-nil}
-use native.Mathlib.Numerals.{add-one}
+use mathlib.Core.List.{List, [], _∷_, _++_}
 use native.Mathlib.Nat.{add-zero, zero-add, add-suc, suc-add}
 use native.Mathlib.Omega.{arith}
-use lib.Dec.{eqb, ltb}
-use lib.ListN.{length, take, drop, getD, length-append}
+use lib.Dec.{ltb}
+use lib.ListN.{length, take, drop, getD}
 use lib.Seq.{slice, take-nil, getD-append-add}
 use borrow.Author.Tests.{lt-ltb, le-ltb}
-use Rattle.definitions.specs.Lists.{if_then_else_, filter, flatMap, from, below, sum}
+use Rattle.definitions.specs.Lists.{if_then_else_, filter, flatMap, from, below}
 use Rattle.definitions.specs.Text.{bytes, decimal}
 use Rattle.definitions.specs.Relations.{Relation, Tuple, static, builtIn}
-use Rattle.definitions.specs.Atoms.{Problem, relationAt, tuplesOf, placesOf, wordsFor}
+use Rattle.definitions.specs.Atoms.{Problem, relationAt, tuplesOf, wordsFor}
 use Rattle.definitions.specs.Built.{chosenNumbers, isPicked, pickedRows}
-use Rattle.definitions.specs.Outcome.{relationWords, pickWords}
 use Rattle.definitions.specs.Desk.{printLine, countLine, pickLine}
-use Rattle.bits.specs.Table.{bit, digit, num, count, words}
-use Rattle.bits.proofs.Laws.{bit-words, length-words}
-use Rattle.laws.specs.Lists.{flat-append}
+use Rattle.bits.specs.Table.{bit, num, count, words}
 use Rattle.names.specs.declared.Signature.{Signature}
-use Rattle.names.specs.Signatures.{Sound, relationIn, relationsFrom, allOf}
+use Rattle.names.specs.Signatures.{relationIn, relationsFrom, allOf}
 use Rattle.names.proofs.Laws.{all-are, relation-at}
-use Rattle.tuples.specs.Marks.{firstWord}
-use Rattle.reduction.specs.Lent.{words-of}
 use Rattle.desk.specs.Report.{nameAt, rowsAt, wordAt, countAt, counts, rowLine, rowLines, picksAt, picks}
 
 -- ---- numbers one after another

@@ -1,22 +1,21 @@
 -- What the desk program prints, case by case: too long an input, the checked and the built plan, and the report's parts with their
 -- length. Assumes nothing.
-use Prim.Native.Nat.{ℕ, zero, _+_, _-_, _*_, _≤_, _<_}
-use mathlib.Core.Path.{_≡_, refl, sym, ap, _∙_}
+use Prim.Native.Nat.{ℕ, _+_, _-_, _*_, _≤_, _<_}
+use mathlib.Core.Path.{_≡_, sym, ap, _∙_}
 use mathlib.Core.Bool.{Bool, true, false}
 use mathlib.Core.List.{List, [], _∷_, _++_, append-assoc}
 use native.Mathlib.Omega.{arith}
-use lib.Dec.{ltb}
 use lib.ListN.{length, take, drop, length-append}
 use borrow.Author.Tests.{lt-ltb, le-ltb}
 use Rattle.definitions.specs.Lists.{if_then_else_, flatMap}
-use Rattle.definitions.specs.Text.{bytes, decimal, lines}
+use Rattle.definitions.specs.Text.{bytes, decimal}
 use Rattle.definitions.specs.Refusal.{Result, refused, accepted, _>>=_, refuseIf}
 use Rattle.definitions.specs.Relations.{Tuple}
 use Rattle.definitions.specs.Atoms.{Problem, atoms}
 use Rattle.definitions.specs.Actions.{actions}
-use Rattle.definitions.specs.Built.{bound, chosenNumbers, pickedRows}
-use Rattle.definitions.specs.Outcome.{Plan, plan, asText, Sizes, sizesOf}
-use Rattle.definitions.specs.Desk.{printLine, sizesLine, countLine, pickLine, stepLine, report, printed, Sheets, sheets, startsWithStep, checkedPlan, answerOf, answer, desk}
+use Rattle.definitions.specs.Built.{bound}
+use Rattle.definitions.specs.Outcome.{Plan, plan, asText, sizesOf}
+use Rattle.definitions.specs.Desk.{printLine, sizesLine, stepLine, report, printed, Sheets, sheets, checkedPlan, answerOf, answer, desk}
 use Rattle.names.specs.declared.Signature.{Signature}
 use Rattle.names.specs.Signatures.{Sound}
 use Rattle.desk.specs.Cutting.{CutAt}

@@ -1,15 +1,15 @@
 -- Where a line ends, its record word, and where the first line of a kind ends or begins. Assumes nothing.
-use Prim.Native.Nat.{ℕ, zero, suc, _+_, _-_, _≤_, _<_, min}
+use Prim.Native.Nat.{ℕ, _+_, _-_, _≤_, _<_, min}
 use mathlib.Core.Path.{_≡_, refl, sym, ap, ap₂, _∙_}
-use mathlib.Core.Bool.{Bool, true, false, _||_}
+use mathlib.Core.Bool.{Bool, true, false}
 use mathlib.Core.List.{List, [], _∷_}
 use native.Mathlib.Nat.{min-eq-left, min-eq-right, min-le-right}
 use native.Mathlib.Omega.{arith}
 use native.Mathlib.Decide.{decLt}
 use lib.ListN.{length, take, drop, length-drop, drop-of-length-le}
 use lib.Seq.{slice, length-slice, take-length, take-all, drop-length, drop-drop}
-use Rattle.definitions.specs.Lists.{if_then_else_, same, isEmpty}
-use Rattle.definitions.specs.Text.{bytes, Line, split, linesFrom, lines, fields}
+use Rattle.definitions.specs.Lists.{same, isEmpty}
+use Rattle.definitions.specs.Text.{bytes, split, linesFrom, lines, fields}
 use Rattle.definitions.specs.Desk.{isRecord, isRule, isStep, isPickOrStep, afterRule, firstPickOrStep, startsWithStep, siteAndRest, afterQuestion, cutAt, sheets}
 use Rattle.text.specs.Spans.{indexOf}
 use Rattle.records.specs.Lines.{linesAt}

@@ -3,7 +3,6 @@ pub mod Cutting
 pub mod Report
 pub mod Agrees
 pub mod Words
-pub mod Marked
 pub mod Short
 pub mod Opened
 pub mod Answers

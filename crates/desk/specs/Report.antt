@@ -1,13 +1,13 @@
 -- The report's `count` and `pick` lines as the code has them: names as spans of the question, picks as bits of words, each `choose`
 -- from a new word on. Assumes nothing.
-use Prim.Native.Nat.{ℕ, zero, suc, _+_, _-_, _*_, _/_, _^_, _≤_, _<_}
-use mathlib.Core.Path.{_≡_, refl, sym, ap, _∙_}
-use mathlib.Core.Bool.{Bool, true, false}
+use Prim.Native.Nat.{ℕ, suc, _+_, _-_, _*_, _/_, _^_, _≤_, _<_}
+use mathlib.Core.Path.{_≡_, refl, sym, _∙_}
+use mathlib.Core.Bool.{true, false}
 use mathlib.Core.List.{List, [], _∷_, _++_, map}
 use native.Mathlib.Numerals.{add-one}
 use native.Mathlib.Omega.{arith}
 use lib.ListN.{length, take, drop, getD}
-use Rattle.definitions.specs.Lists.{if_then_else_, filter, flatMap, from, below}
+use Rattle.definitions.specs.Lists.{if_then_else_, flatMap, from, below}
 use Rattle.definitions.specs.Text.{bytes, decimal}
 use Rattle.definitions.specs.Atoms.{placesOf, wordsFor}
 use Rattle.definitions.specs.Desk.{printLine, sizesLine}

@@ -1,7 +1,7 @@
 -- How long what is printed can be: names have at most 12 bytes, elements at most 2 digits, steps of 32 bits at most 10, and any
 -- number at most 20. Assumes nothing.
 use Prim.Native.Nat.{ℕ, zero, suc, _+_, _*_, _/_, _%_, _^_, _≤_, _<_}
-use mathlib.Core.Path.{_≡_, refl, sym, ap, _∙_}
+use mathlib.Core.Path.{_≡_, _∙_}
 use mathlib.Core.Bool.{Bool, true, false, _&&_, _||_}
 use mathlib.Core.List.{List, [], _∷_, _++_, map}
 use native.Mathlib.Nat.{add-zero, add-comm, suc-mul, mod-lt}
@@ -10,7 +10,7 @@ use lib.Dec.{T, eqb, leb, leb→le}
 use lib.ListN.{length, getD, length-append}
 use Rattle.definitions.specs.Lists.{if_then_else_, all, flatMap, from, below}
 use Rattle.definitions.specs.Text.{bytes, isCapital, isDigit, isRelationName, decimalIn, decimal}
-use Rattle.definitions.specs.Atoms.{placesOf, wordsFor}
+use Rattle.definitions.specs.Atoms.{placesOf}
 use Rattle.definitions.specs.Outcome.{Sizes}
 use Rattle.definitions.specs.Desk.{printLine, sizesLine, stepLine}
 use Rattle.bits.specs.Table.{bit, count}
@@ -20,7 +20,7 @@ use Rattle.names.specs.Signatures.{Sound}
 use Rattle.tuples.proofs.Rows.{power-le}
 use Rattle.printing.specs.Decimals.{decimal-length}
 use Rattle.printing.specs.Lines.{field, elements, no-is, ok-is, step-is, sizes-is, count-is, pick-is}
-use Rattle.desk.specs.Report.{nameAt, rowsAt, wordAt, countAt, counts, rowLine, rowLines, picksAt, picks}
+use Rattle.desk.specs.Report.{nameAt, wordAt, countAt, counts, rowLine, rowLines, picksAt, picks}
 
 -- ---- numbers and names
 

@@ -1,32 +1,28 @@
--- The words that are written for picks hold them as `Agrees` asks; and the numbers of the `choose` relations. Assumes nothing.
-use Prim.Native.Nat.{ℕ, zero, suc, _+_, _-_, _*_, _/_, _%_, _^_, _≤_, _<_}
-use mathlib.Core.Path.{_≡_, refl, sym, ap, ap₂, subst, _∙_}
-use mathlib.Core.Bool.{Bool, true, false, _&&_}
-use mathlib.Core.List.{List, [], _∷_, _++_, append-assoc, append-nil, List·Memᴰ}
-use native.Mathlib.Numerals.{add-one}
-use native.Mathlib.Nat.{add-zero, zero-add}
+-- The words that are written for picks hold them as `Agrees` asks. Assumes nothing.
+use Prim.Native.Nat.{ℕ, zero, suc, _+_, _-_, _*_, _/_, _%_, _≤_, _<_}
+use mathlib.Core.Path.{_≡_, refl, sym, ap, ap₂, _∙_}
+use mathlib.Core.Bool.{Bool, _&&_}
+use mathlib.Core.List.{List, [], _∷_, _++_, append-assoc, append-nil}
 use native.Mathlib.Omega.{arith}
-use native.Mathlib.Decide.{decLt}
-use lib.Dec.{T, ltb}
-use lib.ListN.{length, getD, length-append, List·getD-append}
+use lib.Dec.{ltb}
+use lib.ListN.{length, length-append}
 use lib.Seq.{getD-append-add}
-use Rattle.definitions.specs.Lists.{if_then_else_, filter, flatMap, from, below}
-use Rattle.definitions.specs.Relations.{Relation, Kind, Tuple, static, isChosen, builtIn}
+use Rattle.definitions.specs.Lists.{flatMap, from}
+use Rattle.definitions.specs.Relations.{Tuple}
 use Rattle.definitions.specs.Sheets.{relations}
 use Rattle.definitions.specs.Atoms.{Problem, relationAt, tuplesOf, wordsFor}
 use Rattle.definitions.specs.Built.{chosenNumbers, isPicked}
 use Rattle.definitions.specs.Outcome.{relationWords, pickWords}
 use Rattle.bits.specs.Table.{bit, digit, words}
 use Rattle.bits.proofs.Laws.{bit-words, length-words}
-use Rattle.laws.specs.Booleans.{T-true}
-use Rattle.laws.specs.Lists.{flat-append, getD-mem}
+use Rattle.laws.specs.Lists.{flat-append}
 use Rattle.laws.specs.Words.{bit-is, bit-front}
 use Rattle.names.specs.declared.Signature.{Signature}
 use Rattle.names.specs.Signatures.{allOf}
 use Rattle.tuples.specs.Marks.{firstWord}
 use Rattle.reduction.specs.Lent.{words-of}
 use Rattle.desk.specs.Report.{rowsAt, wordAt}
-use Rattle.desk.specs.Agrees.{Agrees, noRelation, from-append, from-snoc, relation-rows}
+use Rattle.desk.specs.Agrees.{Agrees, from-append, from-snoc, relation-rows}
 
 -- ---- the bits of tables one after another
 
@@ -98,70 +94,3 @@ module _ (p : Problem) (F : List Tuple) (q : List ℕ) (g : Signature) (n : ℕ)
         ∙ ap (λ (r : ℕ). rowBit r i) z
         ∙ ap (λ (t : ℕ). ltb i t && isPicked p F (5 + (g .rels + j)) i) (relation-rows p q g n s e (g .rels + j) (omega arith));
   }
-
--- ---- the numbers of the `choose` relations follow those of all others
-
-module _ (test : ℕ → Bool) where
-  filter-none : (a m : ℕ) → ((j : ℕ) → j < m → test (a + j) ≡ false) → filter test (from a m) ≡ []
-  unfolding filter from
-  filter-none a zero h = refl
-  filter-none a (suc m) h = rw (rw (add-zero a) at (h 0 (omega arith))) (filter-none (suc a) m (λ j l. let e : a + suc j ≡ suc a + j = omega arith in rw e at (h (suc j) (omega arith))))
-
-  filter-all : (a m : ℕ) → ((j : ℕ) → j < m → test (a + j) ≡ true) → filter test (from a m) ≡ from a m
-  unfolding filter from
-  filter-all a zero h = refl
-  filter-all a (suc m) h = rw (rw (add-zero a) at (h 0 (omega arith))) (ap (λ (l : List ℕ). a ∷ l) (filter-all (suc a) m (λ j l. let e : a + suc j ≡ suc a + j = omega arith in rw e at (h (suc j) (omega arith)))))
-
-  filter-append : (l m : List ℕ) → filter test (l ++ m) ≡ filter test l ++ filter test m
-  unfolding filter
-  filter-append [] m = refl
-  filter-append (x ∷ l) m = go (test x) (filter-append l m)
-    where
-      go : (b : Bool) → filter test (l ++ m) ≡ filter test l ++ filter test m → (if b then x ∷ filter test (l ++ m) else filter test (l ++ m)) ≡ (if b then x ∷ filter test l else filter test l) ++ filter test m
-      go true e = ap (λ (k : List ℕ). x ∷ k) e
-      go false e = e
-
-module _ (p : Problem) (rels chosen : List Relation) (e : p .relations ≡ relations rels chosen)
-    (static-rels : (k : Relation) → List·Memᴰ k rels → k .kind ≡ static) (chosen-kinds : (k : Relation) → List·Memᴰ k chosen → T (isChosen (k .kind))) where
-  abbrev isOne : ℕ → Bool
-  isOne r = isChosen (relationAt p r .kind)
-
-  none-first : (r : ℕ) → r < 5 → isOne r ≡ false
-  unfolding relationAt relations builtIn isChosen
-  none-first zero h = rw e
-  none-first (suc zero) h = rw e
-  none-first (suc (suc zero)) h = rw e
-  none-first (suc (suc (suc zero))) h = rw e
-  none-first (suc (suc (suc (suc zero)))) h = rw e
-  none-first (suc (suc (suc (suc (suc r))))) h = absurd (omega arith)
-
-  none-rel : (i : ℕ) → i < length rels → isOne (5 + i) ≡ false
-  unfolding relationAt relations builtIn isChosen
-  none-rel i h =
-      ap (λ (rs : List Relation). isChosen (getD rs (5 + i) noRelation .kind)) e
-      ∙ ap (λ (k : Relation). isChosen (k .kind)) (getD-append-add builtIn (rels ++ chosen) i noRelation ∙ List·getD-append rels chosen noRelation i h)
-      ∙ ap isChosen (static-rels (getD rels i noRelation) (getD-mem rels i noRelation h))
-
-  one-chosen : (j : ℕ) → j < length chosen → isOne (5 + length rels + j) ≡ true
-  unfolding relationAt relations builtIn
-  one-chosen j h =
-      let z : 5 + length rels + j ≡ 5 + (length rels + j) = omega arith in
-      ap isOne z ∙ ap (λ (rs : List Relation). isChosen (getD rs (5 + (length rels + j)) noRelation .kind)) e
-      ∙ ap (λ (k : Relation). isChosen (k .kind)) (getD-append-add builtIn (rels ++ chosen) (length rels + j) noRelation ∙ getD-append-add rels chosen j noRelation)
-      ∙ T-true (isChosen (getD chosen j noRelation .kind)) (chosen-kinds (getD chosen j noRelation) (getD-mem chosen j noRelation h))
-
-  all-length : length (p .relations) ≡ 5 + length rels + length chosen
-  unfolding relations builtIn
-  all-length = let a = ap length e in let b = length-append rels chosen in omega arith
-
-  pub chosen-numbers : chosenNumbers p ≡ from (5 + length rels) (length chosen)
-  unfolding chosenNumbers below
-  chosen-numbers =
-      ap (λ (m : ℕ). filter isOne (from 0 m)) all-length
-      ∙ ap (filter isOne) (from-append 0 (5 + length rels) (length chosen) ∙ ap (λ (a : ℕ). from 0 (5 + length rels) ++ from a (length chosen)) (zero-add (5 + length rels)))
-      ∙ filter-append isOne (from 0 (5 + length rels)) (from (5 + length rels) (length chosen))
-      ∙ ap₂ _++_ (filter-none isOne 0 (5 + length rels) (λ j h. let z = zero-add j in rw z (none j h (decLt j 5)))) (filter-all isOne (5 + length rels) (length chosen) one-chosen)
-    where
-      none : (j : ℕ) → j < 5 + length rels → Dec (j < 5) → isOne j ≡ false
-      none j h (yes l) = none-first j l
-      none j h (no l) = let z : 5 + (j - 5) ≡ j = omega arith in sym (ap isOne z) ∙ none-rel (j - 5) (omega arith)

@@ -1,4 +1,4 @@
-// The desk program's reply (document 01, "The desk program"): the cut of its input, and the report.
+// Parts of the desk program's reply (document 01, "The desk program"): the cut of its input, and the report up to its steps.
 ghost use mathlib.Core.Path.{_≡_};
 ghost use mathlib.Core.List.{[], _∷_};
 ghost use Prim.Native.Nat.{_+_, _*_, _^_, _≤_, _<_, min};
@@ -231,7 +231,7 @@ fn picks(out: &mut [u8], at: usize, q: &[u8], g: Signature, n: usize, words: &[u
 }
 
 // The report up to its steps: the sizes, the counts, the picks.
-fn head(
+pub fn head(
     out: &mut [u8],
     q: &[u8],
     g: Signature,
