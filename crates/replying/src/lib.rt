@@ -1,0 +1,154 @@
+// The desk program's reply (document 01, "The desk program"): every byte that it prints, for every input.
+ghost use mathlib.Core.Path.{_≡_};
+ghost use mathlib.Core.List.{List};
+ghost use Prim.Native.Nat.{_≤_};
+ghost use lib.ListN.{length};
+ghost use Rattle.definitions.specs.Refusal.{refused};
+ghost use Rattle.definitions.specs.Relations.{Tuple};
+ghost use Rattle.definitions.specs.Truth.{Case};
+ghost use Rattle.definitions.specs.Outcome.{written, asText, plan};
+ghost use Rattle.definitions.specs.Desk.{printed, checkedPlan, desk as «desk-of»};
+ghost use Rattle.bits.specs.Table.{bit};
+ghost use Rattle.replying.specs.Replied.{Replies, Reportable, reportOf};
+ghost use Rattle.replying.specs.Known.{Known, IsKnown};
+ghost use Rattle.replying.specs.Checked.{checkedCase};
+ghost use Rattle.replying.specs.Planned.{plannedCase, Picked, IsPicked};
+ghost use Rattle.replying.specs.Whole.{Front};
+use grounding::Sized;
+use opening::Opened;
+use runs::End;
+use sheets::Answer;
+
+// The most bytes that a reply has: the picks of four relations, 8,192 steps, and the other lines.
+pub const ROOM: usize = 573952;
+
+// A refusal is one line.
+fn refuse(out: &mut [u8], number: u32, place: usize) -> usize
+    requires { ⌜ 573952 ≤ length (now out) ⌝ }
+    ensures { λ r. ⌜ Replies (printed (refused number place)) (now (out .entry)) (now (out .exit)) r ⌝ }
+{
+    printing::no_line(out, 0, number as usize, place)
+}
+
+// The report of a plan: the sizes, counts and picks, a line for each step, and how many steps there are.
+fn report(
+    out: &mut [u8],
+    question: &[u8],
+    o: Opened,
+    m: Sized,
+    words: &[u64],
+    steps: &[u32],
+) -> usize
+    requires { ⌜ Reportable (now question) o (length (now words)) (now steps) × (573952 ≤ length (now out)) ⌝ }
+    ensures { λ r. ⌜ Replies (reportOf (now (question .entry)) o m (now (words .entry)) (now (steps .entry))) (now (out .entry)) (now (out .exit)) r ⌝ }
+{
+    let sig = o.sig;
+    let count = steps.len();
+    let headed = desk::head(out, question, sig, o.n, m.atoms, m.actions, m.bound, words);
+    let listed = printing::step_lines(out, headed, steps, count);
+    printing::ok_line(out, listed, count)
+}
+
+// Steps of a case that was read: 11, then the steps one by one, and the picks that they set.
+fn check_case(out: &mut [u8], question: &[u8], o: Opened, facts: &[u64], steps: &[u32]) -> usize
+    requires { ⌜ IsKnown (now question) o (bit (now facts)) × (length (now steps) ≤ 8192) × (573952 ≤ length (now out)) ⌝ }
+    ensures { λ r. ⌜ ((c : Case) → Known (now (question .entry)) c o (bit (now (facts .entry))) → Replies (printed (checkedCase c (now (steps .entry)))) (now (out .entry)) (now (out .exit)) r) ⌝ }
+{
+    let mut table = [0usize; ground::TABLE];
+    let m = grounding::ground_case(question, o, &mut table);
+    if m.over {
+        return refuse(out, 11, 0);
+    }
+    let words = (m.atoms + 63) / 64;
+    let mut state = [0u64; 1024];
+    let e = checking::start_and_run(&table, facts, steps, &mut state[..words]);
+    match e {
+        End::Done(_) => {
+            let mut picks = [0u64; 256];
+            reading::copy_picks(&table, &state[..words], &mut picks);
+            report(out, question, o, m, &picks, steps)
+        }
+        End::NoAction(i) => refuse(out, 13, i),
+        End::NotNow(i) => refuse(out, 14, i),
+        End::NoGoal(i) => refuse(out, 15, i),
+    }
+}
+
+// A third sheet of steps is checked.
+fn check(out: &mut [u8], question: &[u8], site: &[u8], text: &[u8]) -> usize
+    requires { ⌜ (length (now text) ≤ 16384) × (573952 ≤ length (now out)) ⌝ }
+    ensures { λ r. ⌜ Replies (printed (checkedPlan (now (question .entry)) (now (site .entry)) (now (text .entry)))) (now (out .entry)) (now (out .exit)) r ⌝ }
+{
+    let mut facts = [0u64; 512];
+    let o = opening::read_case(question, site, &mut facts);
+    if o.fault != 0 {
+        return refuse(out, o.fault, o.place);
+    }
+    let mut steps = [0u32; 9362];
+    let a = sheets::steps(text, &mut steps);
+    match a {
+        Answer::Refused(k, place) => refuse(out, k, place),
+        Answer::Done(count) => check_case(out, question, o, &facts, &steps[..count]),
+    }
+}
+
+// Picks of a case that was read: 11, 12, and the steps built from them.
+fn build_case(out: &mut [u8], question: &[u8], o: Opened, facts: &[u64], picks: &[u64]) -> usize
+    requires { ⌜ IsPicked (now question) o (bit (now facts)) (now picks) × (256 ≤ length (now picks)) × (573952 ≤ length (now out)) ⌝ }
+    ensures { λ r. ⌜ ((c : Case) (F : List Tuple) → Known (now (question .entry)) c o (bit (now (facts .entry))) → Picked (now (question .entry)) c o F (now (picks .entry))
+        → Replies (printed (plannedCase c F)) (now (out .entry)) (now (out .exit)) r) ⌝ }
+{
+    let mut table = [0usize; ground::TABLE];
+    let m = grounding::ground_case(question, o, &mut table);
+    if m.over {
+        return refuse(out, 11, 0);
+    }
+    if 8192 < m.bound {
+        return refuse(out, 12, m.bound);
+    }
+    let mut state = [0u64; 1024];
+    let mut steps = [0u32; 8192];
+    let a = building::start_and_build(&mut state, &mut steps, &table, facts, m.atoms, picks);
+    match a {
+        plans::Answer::Steps(count) => report(out, question, o, m, picks, &steps[..count]),
+        plans::Answer::OtherKind(i) => refuse(out, 16, i),
+        plans::Answer::RuleFalse => refuse(out, 17, 0),
+    }
+}
+
+// From any other third sheet, which has picks, steps are built.
+fn build(out: &mut [u8], question: &[u8], site: &[u8], text: &[u8]) -> usize
+    requires { ⌜ 573952 ≤ length (now out) ⌝ }
+    ensures { λ r. ⌜ Replies (printed (plan (now (question .entry)) (now (site .entry)) (asText (now (text .entry))) 1024 8192)) (now (out .entry)) (now (out .exit)) r ⌝ }
+{
+    let mut facts = [0u64; 512];
+    let o = opening::read_case(question, site, &mut facts);
+    if o.fault != 0 {
+        return refuse(out, o.fault, o.place);
+    }
+    let sig = o.sig;
+    let mut picks = [0u64; 256];
+    let a = sheets::picks(question, sig, text, o.n, &mut picks);
+    match a {
+        Answer::Refused(k, place) => refuse(out, k, place),
+        Answer::Done(_) => build_case(out, question, o, &facts, &picks),
+    }
+}
+
+// What the desk program prints for an input, at the front of `out`, and how many bytes that is; the others stay.
+pub fn reply(input: &[u8], out: &mut [u8; ROOM]) -> usize
+    ensures count { λ r. ⌜ r ≡ length («desk-of» (now (input .entry))) ⌝ }
+    ensures bytes { λ r. ⌜ now (out .exit) ≡ written («desk-of» (now (input .entry))) (now (out .entry)) ⌝ }
+    ensures front { λ r. ⌜ Front r (now (out .exit)) ⌝ }
+{
+    if 16384 < input.len() {
+        return refuse(out, 1, 0);
+    }
+    let c = desk::cut_input(input);
+    let q = c.question;
+    let s = c.site;
+    if c.steps {
+        return check(out, &input[..q], &input[q..s], &input[s..]);
+    }
+    build(out, &input[..q], &input[q..s], &input[s..])
+}
