@@ -2,7 +2,7 @@
 // overlap. A call's number and place come back through two references: 0 and the step count, or a refusal's number and place.
 // What a refusal leaves as it was is left: sizes and an action's details are written only where there are some.
 ghost use mathlib.Core.Path.{_≡_};
-ghost use Rattle.definitions.specs.Outcome.{asText, asNumbers, sizes as «sizes-of», action as «action-of», rulePart, checkSteps, picksFromSteps, replyNumber, replyPlace};
+ghost use Rattle.definitions.specs.Outcome.{asText, asNumbers, sizes as «sizes-of», action as «action-of», rulePart, checkSteps, picksFromSteps, buildSteps, replyNumber, replyPlace};
 ghost use Rattle.cases.specs.Replies.{resultOf, sizingOf};
 ghost use Rattle.cases.specs.Asked.{actionOf};
 ghost use Rattle.nendokwe.specs.Told.{numberOf, placeOf, told, kindOf, subjectOf, rowIn, choiceOf, detailsOf};
@@ -247,5 +247,45 @@ pub extern "C" fn nendokwe_picks(
     ensures { λ _. ⌜ now (state .exit) ≡ picksFromSteps (now (question .entry)) (now (site .entry)) (asNumbers (now (steps .entry))) (now (picks .entry)) (now (state .entry)) .state ⌝ }
 {
     let r = reading::picks_lent(question, site, steps, picks, state);
+    tell(r, number, place);
+}
+
+// Builds steps from picks that are handed over as a text.
+#[no_mangle]
+pub extern "C" fn nendokwe_build_text(
+    question: &[u8],
+    site: &[u8],
+    picks: &[u8],
+    state: &mut [u64],
+    steps: &mut [u32],
+    number: &mut u32,
+    place: &mut usize,
+)
+    ensures { λ _. ⌜ now (number .exit) ≡ replyNumber (buildSteps (now (question .entry)) (now (site .entry)) (asText (now (picks .entry))) (now (state .entry)) (now (steps .entry)) .answer) ⌝ }
+    ensures { λ _. ⌜ now (place .exit) ≡ replyPlace (buildSteps (now (question .entry)) (now (site .entry)) (asText (now (picks .entry))) (now (state .entry)) (now (steps .entry)) .answer) ⌝ }
+    ensures { λ _. ⌜ now (state .exit) ≡ buildSteps (now (question .entry)) (now (site .entry)) (asText (now (picks .entry))) (now (state .entry)) (now (steps .entry)) .state ⌝ }
+    ensures { λ _. ⌜ now (steps .exit) ≡ buildSteps (now (question .entry)) (now (site .entry)) (asText (now (picks .entry))) (now (state .entry)) (now (steps .entry)) .steps ⌝ }
+{
+    let r = building::build_text(question, site, picks, state, steps);
+    tell(r, number, place);
+}
+
+// Builds steps from picks that are lent as words.
+#[no_mangle]
+pub extern "C" fn nendokwe_build(
+    question: &[u8],
+    site: &[u8],
+    picks: &[u64],
+    state: &mut [u64],
+    steps: &mut [u32],
+    number: &mut u32,
+    place: &mut usize,
+)
+    ensures { λ _. ⌜ now (number .exit) ≡ replyNumber (buildSteps (now (question .entry)) (now (site .entry)) (asNumbers (now (picks .entry))) (now (state .entry)) (now (steps .entry)) .answer) ⌝ }
+    ensures { λ _. ⌜ now (place .exit) ≡ replyPlace (buildSteps (now (question .entry)) (now (site .entry)) (asNumbers (now (picks .entry))) (now (state .entry)) (now (steps .entry)) .answer) ⌝ }
+    ensures { λ _. ⌜ now (state .exit) ≡ buildSteps (now (question .entry)) (now (site .entry)) (asNumbers (now (picks .entry))) (now (state .entry)) (now (steps .entry)) .state ⌝ }
+    ensures { λ _. ⌜ now (steps .exit) ≡ buildSteps (now (question .entry)) (now (site .entry)) (asNumbers (now (picks .entry))) (now (state .entry)) (now (steps .entry)) .steps ⌝ }
+{
+    let r = building::build_lent(question, site, picks, state, steps);
     tell(r, number, place);
 }
