@@ -2,7 +2,9 @@
 // overlap. A call's number and place come back through two references: 0 and the step count, or a refusal's number and place.
 // What a refusal leaves as it was is left: sizes and an action's details are written only where there are some.
 ghost use mathlib.Core.Path.{_≡_};
-ghost use Rattle.definitions.specs.Outcome.{asText, asNumbers, sizes as «sizes-of», action as «action-of», rulePart, checkSteps, picksFromSteps, buildSteps, replyNumber, replyPlace};
+ghost use lib.ListN.{length};
+ghost use Rattle.definitions.specs.Desk.{desk};
+ghost use Rattle.definitions.specs.Outcome.{asText, asNumbers, sizes as «sizes-of», action as «action-of», rulePart, checkSteps, picksFromSteps, buildSteps, written, replyNumber, replyPlace};
 ghost use Rattle.cases.specs.Replies.{resultOf, sizingOf};
 ghost use Rattle.cases.specs.Asked.{actionOf};
 ghost use Rattle.nendokwe.specs.Told.{numberOf, placeOf, told, kindOf, subjectOf, rowIn, choiceOf, detailsOf};
@@ -288,4 +290,13 @@ pub extern "C" fn nendokwe_build(
 {
     let r = building::build_lent(question, site, picks, state, steps);
     tell(r, number, place);
+}
+
+// What the desk program prints for an input, and how many bytes that is. As many are lent as it can print at the most: 573,952.
+#[no_mangle]
+pub extern "C" fn nendokwe_desk(input: &[u8], out: &mut [u8; replying::ROOM]) -> usize
+    ensures { λ r. ⌜ r ≡ length (desk (now (input .entry))) ⌝ }
+    ensures { λ r. ⌜ now (out .exit) ≡ written (desk (now (input .entry))) (now (out .entry)) ⌝ }
+{
+    replying::reply(input, out)
 }
