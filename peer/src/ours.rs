@@ -56,10 +56,7 @@ mod foreign {
             picks: *const u64, picks_len: usize, state: *mut u64, state_len: usize,
             steps: *mut u32, steps_len: usize, number: &mut u32, place: &mut u64,
         );
-        pub fn nendokwe_desk(
-            input: *const u8, input_len: usize, out: *mut u8, out_len: usize,
-            written: &mut u64,
-        );
+        pub fn nendokwe_desk(input: *const u8, input_len: usize, out: *mut u8) -> usize;
     }
 }
 
@@ -227,15 +224,10 @@ impl Calls for Ours {
 
     fn desk(&self, input: &[u8]) -> Vec<u8> {
         let mut printed = vec![0; PRINT_ROOM];
-        let mut written = UNSET;
-        // Safety: as for `sizes`; the output buffer is ours alone.
-        unsafe {
-            foreign::nendokwe_desk(
-                input.as_ptr(), input.len(), printed.as_mut_ptr(), printed.len(),
-                &mut written,
-            );
-        }
-        printed.truncate(usize::try_from(written).unwrap_or(0));
+        // Safety: as for `sizes`; the output buffer is ours alone, and as long as the call asks.
+        let written =
+            unsafe { foreign::nendokwe_desk(input.as_ptr(), input.len(), printed.as_mut_ptr()) };
+        printed.truncate(written);
         printed
     }
 }
