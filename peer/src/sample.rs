@@ -475,3 +475,19 @@ pub fn needs(sample: &Sample) -> Option<[usize; 3]> {
     };
     Some([picks, sizes.atoms.div_ceil(64) as usize, sizes.bound as usize])
 }
+
+/// A case whose site is close to this many kilobytes of facts, 64 at the most.
+pub fn facts(kilobytes: usize) -> Sample {
+    let question = "rel\tROOM\t3\nrel\tDOOR\t3\nchoose\tT\t1\nrule\t(forall (?x) (T ?x))\n";
+    let mut site = String::from("size\t16\n");
+    'rows: for row in 0..16 * 16 * 16 {
+        for name in ["ROOM", "DOOR"] {
+            let line = format!("fact\t{name}\t{}\t{}\t{}\n", row / 256, row / 16 % 16, row % 16);
+            if site.len() + line.len() > kilobytes * 1_024 {
+                break 'rows;
+            }
+            site += &line;
+        }
+    }
+    Sample { question: question.into(), site: site.into(), ..Sample::default() }
+}

@@ -2,7 +2,7 @@
 //!
 //!     bench [ROUNDS]
 
-use peer::sample::{needs, sound, Random, Sample};
+use peer::sample::{facts, needs, sound, Random, Sample};
 use peer::trial::{Calls, Other, Peer, LINKED};
 use peer::Reply;
 use std::hint::black_box;
@@ -85,22 +85,6 @@ impl Job {
         }
         least
     }
-}
-
-/// A site of close to 65,536 bytes of facts.
-fn many_facts() -> Sample {
-    let question = "rel\tROOM\t3\nrel\tDOOR\t3\nchoose\tT\t1\nrule\t(forall (?x) (T ?x))\n";
-    let mut site = String::from("size\t16\n");
-    'rows: for row in 0..16 * 16 * 16 {
-        for name in ["ROOM", "DOOR"] {
-            let line = format!("fact\t{name}\t{}\t{}\t{}\n", row / 256, row / 16 % 16, row % 16);
-            if site.len() + line.len() > 65_536 {
-                break 'rows;
-            }
-            site += &line;
-        }
-    }
-    Sample { question: question.into(), site: site.into(), ..Sample::default() }
 }
 
 /// A directed Hamiltonian path through 15 vertices with half of all edges.
@@ -191,11 +175,13 @@ fn small_cases() -> Vec<Sample> {
 }
 
 fn jobs() -> Vec<Job> {
-    let (facts, path, deep) = (many_facts(), path(), deep());
+    let (path, deep) = (path(), deep());
     let named = |what: &str, sample: &Sample| format!("{what}, {} steps", sample.lent_steps.len());
     let job = |what: &str, work, sample: &Sample| Job::new(&named(what, sample), work, sample);
     vec![
-        Job::new("read 64 KB of facts", Work::Sizes, &facts),
+        Job::new("read 16 KB of facts", Work::Sizes, &facts(16)),
+        Job::new("read 32 KB of facts", Work::Sizes, &facts(32)),
+        Job::new("read 64 KB of facts", Work::Sizes, &facts(64)),
         job("path of 15: build from text", Work::BuildText, &path),
         job("path of 15: build, lent picks", Work::BuildLent, &path),
         job("path of 15: check", Work::CheckLent, &path),
