@@ -1,14 +1,19 @@
 -- What building gives, in the words of the definitions: the end of `Outcome.plan`, and an answer as a result.
-use Prim.Native.Nat.{ℕ, zero}
+use Prim.Native.Nat.{ℕ, zero, _^_, _≤_}
 use mathlib.Core.Path.{_≡_}
-use mathlib.Core.Bool.{not}
+use mathlib.Core.Bool.{not, true}
+use mathlib.Core.Option.{none}
 use mathlib.Core.List.{List}
 use Rattle.definitions.specs.Refusal.{Result, refused, accepted, _>>=_, refuseIf}
 use Rattle.definitions.specs.Relations.{Tuple}
-use Rattle.definitions.specs.Truth.{Case, ruleIsTrue, firstOfOtherKind}
-use Rattle.definitions.specs.Atoms.{Problem}
-use Rattle.definitions.specs.Built.{builtSteps}
+use Rattle.definitions.specs.Truth.{Case, arePicks, ruleIsTrue, firstOfOtherKind}
+use Rattle.definitions.specs.Atoms.{Problem, problemOf, State, initial, atoms}
+use Rattle.definitions.specs.Actions.{actions}
+use Rattle.definitions.specs.Built.{builtSteps, bound}
 use Rattle.definitions.specs.Outcome.{kindRefusal, Plan, builtFrom}
+use Rattle.reduction.specs.Reader.{Accepted}
+use Rattle.ground.specs.Of.{Is}
+use Rattle.picks.specs.Words.{PicksAre}
 use Rattle.plans.specs.declared.Answer.{Answer}
 use Rattle.plans.specs.declared.Answer.the-variants.{Steps, OtherKind, RuleFalse}
 
@@ -27,3 +32,15 @@ answered RuleFalse = refused 17 zero
 -- the answer, and what the lent state and steps hold then, are those of building
 abbrev pub Gives : Case → Problem → List Tuple → (state steps : List ℕ) → Answer → (state′ steps′ : List ℕ) → Type 0
 Gives c p F state steps r state′ steps′ = builtFrom (planned c p F) state steps ≡ record { answer = answered r; state = state′; steps = steps′ }
+
+-- a table, picks of the declared kinds, the state to start from and room for the steps are those of a case
+pub record Asked (c : Case) (F : List Tuple) (table words : List ℕ) (start : State) (count room : ℕ) : Type 0 where
+  pub case : Accepted c
+  pub picks : arePicks c F ≡ true
+  pub kinds : none ≡ firstOfOtherKind c F
+  pub is : Is (problemOf c) table
+  pub picked : PicksAre (problemOf c) words F
+  pub atoms-are : count ≡ atoms (problemOf c)
+  pub few : actions (problemOf c) ≤ 2 ^ 32
+  pub begins : start ≡ initial (problemOf c)
+  pub steps-room : bound (problemOf c) ≤ room

@@ -6,13 +6,13 @@ use mathlib.Core.Bool.{Bool, true, false}
 use mathlib.Core.List.{List, _++_}
 use native.Mathlib.Omega.{arith}
 use lib.Dec.{ltb, ltb→lt, nltb→le}
-use lib.ListN.{length, take, drop, getD, set, replicate, List·getD-append, List·getD-eq-default}
-use lib.Seq.{take-length, length-take-le, getD-append-add, getD-drop, paste, paste-suc}
+use lib.ListN.{length, take, drop, getD, set, replicate, length-append, List·getD-append, List·getD-eq-default}
+use lib.Seq.{take-length, length-take-le, take-at, getD-append-add, getD-drop, paste, paste-suc}
 use native.Mathlib.Nat.{zero-add}
 use native.Mathlib.Numerals.{add-one}
 use Rattle.bits.specs.Table.{digit, bit, Words}
 use Rattle.definitions.specs.Lists.{all}
-use Rattle.definitions.specs.Atoms.{Problem, State, atoms, wordsFor}
+use Rattle.definitions.specs.Atoms.{Problem, State, atoms, wordsFor, stateWords}
 use Rattle.definitions.specs.Actions.{actionNumber, beginProof, proveGoal}
 use Rattle.definitions.specs.Strips.{mayTake}
 use Rattle.definitions.specs.Outcome.{written, stateLength}
@@ -27,7 +27,7 @@ use Rattle.ground.specs.declared.NodeLine.{NodeLine}
 use Rattle.ground.specs.declared.Act.the-variants.{Begin, Goal}
 use Rattle.proving.specs.Following.{Out, out, one, provedNodes}
 use Rattle.setting.specs.Setting.{setRelations}
-use Rattle.plans.specs.Following.{proved, Follows, Rehearsed, Performed}
+use Rattle.plans.specs.Following.{proved, Follows}
 use Rattle.plans.specs.BuiltLaws.{front-words}
 
 module _ (p : Problem) (w : List ℕ) (is : Is p w) where
@@ -102,20 +102,22 @@ fresh-bits t k = fun-ext (λ i. ap (λ (w : ℕ). digit w (i % 64)) (front (i / 
         (T-dec (ltb j (length t)))
 
 -- ---- what the code has after the way
-pub rehearsed : (p : Problem) (f : ℕ → ℕ → Bool) (t u : List ℕ) (k : ℕ) (b : List ℕ) (o : Out) (h : Bool) → u ≡ written (take (length t) t) (replicate k 0) → Follows p f (out (bit u) b 0) o h → Rehearsed p f (bit t) h
-rehearsed p f t u k b o h e W = record { steps = b; end = o; way = subst (λ (s : State). Follows p f (out s b 0) o h) (ap bit e ∙ fresh-bits t k) W }
+pub from-fresh : (p : Problem) (f : ℕ → ℕ → Bool) (t u : List ℕ) (k : ℕ) (b : List ℕ) (o : Out) (h : Bool) → u ≡ written (take (length t) t) (replicate k 0) → Follows p f (out (bit u) b 0) o h → Follows p f (out (bit t) b 0) o h
+from-fresh p f t u k b o h e W = subst (λ (s : State). Follows p f (out s b 0) o h) (ap bit e ∙ fresh-bits t k) W
 
 pub words-some : (p : Problem) (m : ℕ) → m ≡ atoms p → 0 < (m + 63) / 64
 words-some p m e = let h = three-atoms p in omega arith
 
-pub performed : (p : Problem) (f : ℕ → ℕ → Bool) (t u : List ℕ) (k : ℕ) (b b′ v : List ℕ) (n m : ℕ) (h : Bool) (state state′ : List ℕ) → u ≡ written (take (length t) t) (replicate k 0) → Follows p f (out (bit u) b 0) (out (bit v) b′ n) h
-    → Words v → (m + 63) / 64 ≤ length v → m ≡ atoms p → state′ ≡ written (take ((m + 63) / 64) v) state → Performed p f (bit t) state b state′ b′ n
+pub state-lent : (p : Problem) (v : List ℕ) (m : ℕ) (state state′ : List ℕ) → Words v → (m + 63) / 64 ≤ length v → m ≡ atoms p → state′ ≡ written (take ((m + 63) / 64) v) state → state′ ≡ written (stateWords p (bit v)) state
 unfolding stateLength wordsFor
-performed p f t u k b b′ v n m h state state′ e W w l a q =
+state-lent p v m state state′ w l a q =
     let s : (m + 63) / 64 ≡ (atoms p + 63) / 64 = ap (λ (x : ℕ). (x + 63) / 64) a in
-    record {
-      left = bit v;
-      holds = h;
-      way = subst (λ (s : State). Follows p f (out s b 0) (out (bit v) b′ n) h) (ap bit e ∙ fresh-bits t k) W;
-      words = q ∙ ap (λ (x : ℕ). written (take x v) state) s ∙ ap (λ (x : List ℕ). written x state) (front-words p (bit v) v w (omega arith) refl);
-    }
+    q ∙ ap (λ (x : ℕ). written (take x v) state) s ∙ ap (λ (x : List ℕ). written x state) (front-words p (bit v) v w (omega arith) refl)
+
+-- steps that were written to a buffer are copied
+pub steps-lent : (l b made steps steps′ : List ℕ) (n : ℕ) → n ≡ length l → made ≡ written l b → length l ≤ length steps → (n ≤ length steps → n ≤ length made → steps′ ≡ written (take n made) steps) → steps′ ≡ written l steps
+unfolding written
+steps-lent l b made steps steps′ n e m h q =
+    let k : length made ≡ length l + length (drop (length l) b) = ap length m ∙ length-append l (drop (length l) b) in
+    let t : take n made ≡ l = ap (λ (x : List ℕ). take n x) m ∙ take-at l (drop (length l) b) n (sym e) in
+    q (omega arith) (omega arith) ∙ ap (λ (x : List ℕ). x ++ drop (length x) steps) t

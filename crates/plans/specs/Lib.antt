@@ -3,7 +3,7 @@
 --   Ways         that it is the built steps, taken and written one by one
 --   Answers      what building gives, in the words of the definitions
 --   BuiltLaws    so the state, the steps and the count are theirs
---   EndLaws      the way from part to part, as the code has it
+--   EndLaws      the way from part to part, and what is lent out, as the code has it
 --   BuildLaws    what `build` finds, as what the definitions give
 pub mod Following
 pub mod Ways

@@ -17,11 +17,16 @@ ghost use Rattle.ground.specs.Lines.{Fits};
 ghost use Rattle.ground.specs.Of.{Is};
 ghost use Rattle.picks.specs.Words.{rowsIn, PicksAre};
 ghost use Rattle.proving.specs.Following.{Ready, out};
-ghost use Rattle.plans.specs.Following.{Follows, Rehearsed, Performed};
-ghost use Rattle.plans.specs.Answers.{Gives};
+ghost use Rattle.plans.specs.Following.{Follows};
+ghost use Rattle.plans.specs.Answers.{Gives, Asked};
 
 // The words of a state at the most.
 pub const WORDS: usize = 1024;
+
+// Built steps are fewer than atoms. Most problems are small, and for them no large buffer is cleared.
+const SMALL: usize = 1024;
+
+const LARGE: usize = 65536;
 
 // Whether the goal was proved, and how many steps were taken.
 pub struct Followed {
@@ -70,40 +75,21 @@ fn copy(dst: &mut [u64], src: &[u64], k: usize)
     }
 }
 
-// Whether the goal may be proved after the built steps before it, from the state `start` on; nothing lent is written.
-fn rehearse(start: &[u64], table: &[usize], atoms: usize, picks: &[u64]) -> bool
-    requires { ⌜ Fits (now table) × (atoms ≤ 2 ^ 16) × (length (now start) ≤ 1024) ⌝ }
-    ensures { λ r. ⌜ ((p : Problem) → Ready p (now (table .entry)) 1024 → atoms ≡ «atoms-of» p
-        → Rehearsed p (rowsIn p (now (picks .entry))) (bit (now (start .entry))) r) ⌝ }
+// The first k steps of src become those of dst, where both have as many.
+fn copy_steps(dst: &mut [u32], src: &[u32], k: usize)
+    ensures { λ r. ⌜ (k ≤ length (now (dst .entry)) → k ≤ length (now (src .entry)) → now (dst .exit) ≡ written (take k (now (src .entry))) (now (dst .entry))) ⌝ }
 {
-    let mut state = [0u64; WORDS];
-    let mut none = [0u32; 1];
-    let k = start.len();
-    copy(&mut state, start, k);
-    let f = follow(&mut state, &mut none, table, atoms, picks);
-    f.holds
-}
-
-// The built steps are written, and the state that they leave from the state `start` on, in its first words.
-fn perform(
-    state: &mut [u64],
-    steps: &mut [u32],
-    start: &[u64],
-    table: &[usize],
-    atoms: usize,
-    picks: &[u64],
-) -> usize
-    requires { ⌜ Fits (now table) × (atoms ≤ 2 ^ 16) × (length (now start) ≤ 1024) × ((atoms + 63) / 64 ≤ length (now state)) ⌝ }
-    ensures { λ r. ⌜ ((p : Problem) → Ready p (now (table .entry)) 1024 → atoms ≡ «atoms-of» p
-        → Performed p (rowsIn p (now (picks .entry))) (bit (now (start .entry))) (now (state .entry)) (now (steps .entry)) (now (state .exit)) (now (steps .exit)) r) ⌝ }
-{
-    let mut made = [0u64; WORDS];
-    let k = start.len();
-    copy(&mut made, start, k);
-    let f = follow(&mut made, steps, table, atoms, picks);
-    let words = (atoms + 63) / 64;
-    copy(state, &made, words);
-    f.count
+    if dst.len() < k {
+        return;
+    }
+    if src.len() < k {
+        return;
+    }
+    let mut i: usize = 0;
+    while i < k {
+        dst[i] = src[i];
+        i += 1;
+    }
 }
 
 // What building gives: how many steps, the index of the first `choose` of which the picks are not, or that the rule is false.
@@ -111,6 +97,68 @@ pub enum Answer {
     Steps(usize),
     OtherKind(usize),
     RuleFalse,
+}
+
+// Steps from picks of the declared kinds. They are taken in a state of its own and written to `made`; if the goal was proved, both are
+// copied to what is lent.
+fn build_in(
+    made: &mut [u32],
+    state: &mut [u64],
+    steps: &mut [u32],
+    start: &[u64],
+    table: &[usize],
+    atoms: usize,
+    picks: &[u64],
+) -> Answer
+    requires { ⌜ Fits (now table) × (atoms ≤ 2 ^ 16) × (length (now start) ≤ 1024) × ((atoms + 63) / 64 ≤ length (now state)) × (atoms ≤ length (now made)) ⌝ }
+    ensures { λ r. ⌜ ((c : Case) (F : List Tuple) → Asked c F (now (table .entry)) (now (picks .entry)) (bit (now (start .entry))) atoms (length (now (steps .entry)))
+        → Gives c (problemOf c) F (now (state .entry)) (now (steps .entry)) r (now (state .exit)) (now (steps .exit))) ⌝ }
+{
+    let mut left = [0u64; WORDS];
+    let k = start.len();
+    copy(&mut left, start, k);
+    let f = follow(&mut left, made, table, atoms, picks);
+    if f.holds {
+        let words = (atoms + 63) / 64;
+        copy(state, &left, words);
+        copy_steps(steps, made, f.count);
+        return Answer::Steps(f.count);
+    }
+    Answer::RuleFalse
+}
+
+// The same for a small problem.
+fn build_small(
+    state: &mut [u64],
+    steps: &mut [u32],
+    start: &[u64],
+    table: &[usize],
+    atoms: usize,
+    picks: &[u64],
+) -> Answer
+    requires { ⌜ Fits (now table) × (atoms ≤ 1024) × (length (now start) ≤ 1024) × ((atoms + 63) / 64 ≤ length (now state)) ⌝ }
+    ensures { λ r. ⌜ ((c : Case) (F : List Tuple) → Asked c F (now (table .entry)) (now (picks .entry)) (bit (now (start .entry))) atoms (length (now (steps .entry)))
+        → Gives c (problemOf c) F (now (state .entry)) (now (steps .entry)) r (now (state .exit)) (now (steps .exit))) ⌝ }
+{
+    let mut made = [0u32; SMALL];
+    build_in(&mut made, state, steps, start, table, atoms, picks)
+}
+
+// The same for any problem.
+fn build_large(
+    state: &mut [u64],
+    steps: &mut [u32],
+    start: &[u64],
+    table: &[usize],
+    atoms: usize,
+    picks: &[u64],
+) -> Answer
+    requires { ⌜ Fits (now table) × (atoms ≤ 2 ^ 16) × (length (now start) ≤ 1024) × ((atoms + 63) / 64 ≤ length (now state)) ⌝ }
+    ensures { λ r. ⌜ ((c : Case) (F : List Tuple) → Asked c F (now (table .entry)) (now (picks .entry)) (bit (now (start .entry))) atoms (length (now (steps .entry)))
+        → Gives c (problemOf c) F (now (state .entry)) (now (steps .entry)) r (now (state .exit)) (now (steps .exit))) ⌝ }
+{
+    let mut made = [0u32; LARGE];
+    build_in(&mut made, state, steps, start, table, atoms, picks)
 }
 
 // The steps built from picks and the state that they leave, from the initial state `start` on.
@@ -133,11 +181,10 @@ pub fn build(
             return Answer::OtherKind(i);
         }
         picks::Kinds::Kept => {
-            if rehearse(start, table, atoms, picks) {
-                let count = perform(state, steps, start, table, atoms, picks);
-                return Answer::Steps(count);
+            if atoms <= SMALL {
+                return build_small(state, steps, start, table, atoms, picks);
             }
-            return Answer::RuleFalse;
+            return build_large(state, steps, start, table, atoms, picks);
         }
     }
 }
