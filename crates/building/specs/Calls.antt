@@ -1,9 +1,9 @@
 -- What the public calls answer and leave, by what was read: the case is refused, the picks' text is, or steps are built from words.
 use Prim.Native.Nat.{ℕ, zero, _+_, _≤_}
-use mathlib.Core.Path.{_≡_, refl, sym, ap, ap₂, subst, _∙_}
+use mathlib.Core.Path.{_≡_, refl, sym, ap, subst, _∙_}
 use mathlib.Core.Bool.{Bool}
 use mathlib.Core.Option.{Option, none, some}
-use mathlib.Core.List.{List, []}
+use mathlib.Core.List.{List}
 use native.Mathlib.Omega.{arith}
 use lib.ListN.{length}
 use Rattle.definitions.specs.Refusal.{Result, refused, accepted, _>>=_}
@@ -15,7 +15,7 @@ use Rattle.definitions.specs.Built.{chosenNumbers}
 use Rattle.definitions.specs.Outcome
 use Rattle.bits.specs.Table.{bit, Words}
 use Rattle.names.specs.Signatures.{chosenOf}
-use Rattle.reduction.specs.Reader.{Accepted, case-fits, gives-if}
+use Rattle.reduction.specs.Reader.{Accepted}
 use Rattle.reduction.specs.Building.{ground-is}
 use Rattle.sheets.specs.declared.Answer.{Answer}
 use Rattle.sheets.specs.declared.Answer.the-variants.{Done, Refused as Bad}
@@ -26,9 +26,10 @@ use Rattle.plans.specs.Answers.{planned}
 use Rattle.cases.specs.declared.Reply.{Reply}
 use Rattle.cases.specs.declared.Reply.the-variants.{Refused}
 use Rattle.cases.specs.Order
-use Rattle.cases.specs.Replies.{resultOf, CaseIn, call-known}
+use Rattle.cases.specs.Known.{case-refused, case-read, case-accepted, sheet-refused, sheet-read, room-there}
+use Rattle.cases.specs.Replies.{resultOf}
 use Rattle.building.specs.Picked.{text-read, text-fits, text-are, text-front, text-clear, lent-are, lent-front}
-use Rattle.building.specs.Builds.{rest, Builds, Held, room-there}
+use Rattle.building.specs.Builds.{rest, Builds, Held}
 
 -- ---- picks in words, in the order of `plan`
 module _ (question site : List ℕ) (c : Case) (e : Outcome.readCase question site ≡ accepted c) (words : List ℕ) (stateRoom stepsRoom : ℕ) where
@@ -77,28 +78,16 @@ module _ (question site : List ℕ) (picks : Outcome.Given) (state steps : List 
 
   module _ (o : Opened) (facts : ℕ → Bool) (read : CaseRead question (Outcome.readCase question site) o facts) where
     pub call-case : (o .fault ≡ 0 → ⊥) → Answers question site picks state steps (Refused (o .fault) (o .place)) state steps
-    unfolding CaseRead
-    call-case z = go (Outcome.readCase question site) refl read
-      where
-        go : (x : Result Case) → Outcome.readCase question site ≡ x → CaseRead question x o facts → Answers question site picks state steps (Refused (o .fault) (o .place)) state steps
-        go (refused k place) e h = refused-with (o .fault) (o .place) (Order.plan-case question site picks (length state) (length steps) k place e ∙ sym (ap₂ refused (h .number) (h .where-it-is)))
-        go (accepted c) e h = absurd (z (h .no-fault))
+    call-case z = refused-with (o .fault) (o .place) (Order.plan-case question site picks (length state) (length steps) (o .fault) (o .place) (case-refused question site o facts read z))
 
     module _ (z : o .fault ≡ 0) where
-      -- the case that was read
-      its-case : (c : Case) × (Outcome.readCase question site ≡ accepted c) × Holds question c o facts
-      its-case = call-known question site picks [] o facts read z
-
-      pub case-in : CaseIn question o facts
-      case-in = record { case = its-case .0; holds = its-case .2 }
-
-      fits : Accepted (its-case .0)
-      fits = gives-if Accepted (Outcome.readCase question site) (its-case .0) (its-case .1) (case-fits question site)
+      abbrev its-case : Case
+      its-case = case-read question site o facts read z .0
 
       -- what building from words gives, in a call
-      built : (words : List ℕ) (F : List Tuple) → Outcome.plan question site picks (length state) (length steps) ≡ rest (its-case .0) words F (length state) (length steps)
-          → (r : Reply) (state′ steps′ : List ℕ) → Builds (its-case .0) words F state steps r state′ steps′ → Answers question site picks state steps r state′ steps′
-      built words F e r state′ steps′ b = from-plan (rest (its-case .0) words F (length state) (length steps)) e r state′ steps′ b
+      built : (words : List ℕ) (F : List Tuple) → Outcome.plan question site picks (length state) (length steps) ≡ rest its-case words F (length state) (length steps)
+          → (r : Reply) (state′ steps′ : List ℕ) → Builds its-case words F state steps r state′ steps′ → Answers question site picks state steps r state′ steps′
+      built words F e r state′ steps′ b = from-plan (rest its-case words F (length state) (length steps)) e r state′ steps′ b
 
 -- what is promised of building from words: they have 64 bits each, and whatever case and picks they are of, this is built
 pub record FromWords (question : List ℕ) (o : Opened) (facts : ℕ → Bool) (words state steps : List ℕ) (r : Reply) (state′ steps′ : List ℕ) : Type 0 where
@@ -112,38 +101,28 @@ module _ (question site : List ℕ) (state steps : List ℕ) (o : Opened) (facts
     picks = Outcome.asText text
 
     pub call-text-refused : (k place : ℕ) → a ≡ Bad k place → Answers question site picks state steps (Refused k place) state steps
-    unfolding answered
     call-text-refused k place e =
-        let (c, ec, h) = its-case question site picks state steps o facts read z in
-        let A = fits question site picks state steps o facts read z in
-        refused-with question site picks state steps k place (Order.plan-text question site picks (length state) (length steps) c ec k place (sym (text-read question c A o facts h text) ∙ go (readPicks (chosenOf question (o .sig)) (5 + o .sig .rels) (o .n) text) (sym q ∙ e)))
-      where
-        go : (x : Result (List Tuple)) → answered length x ≡ Bad k place → x ≡ refused k place
-        go (refused j at) h = cc
-        go (accepted F) h = let y : _≡_ {A = ℕ} 0 1 = cc in absurd (omega arith)
+        let (c, ec, h) = case-read question site o facts read z in
+        let A = case-accepted question site o facts read z in
+        refused-with question site picks state steps k place (Order.plan-text question site picks (length state) (length steps) c ec k place (sym (text-read question c A o facts h text) ∙ sheet-refused length _ a k place q e))
 
     pub call-text : (k : ℕ) → a ≡ Done k → (words : List ℕ) → 256 ≤ length words → PicksIn (o .sig) (o .n) (readPicks (chosenOf question (o .sig)) (5 + o .sig .rels) (o .n) text) (bit words)
         → (r : Reply) (state′ steps′ : List ℕ) → FromWords question o facts words state steps r state′ steps′ → Answers question site picks state steps r state′ steps′
-    unfolding answered
     call-text k e words room held r state′ steps′ b =
-        let (c, ec, h) = its-case question site picks state steps o facts read z in
-        let A = fits question site picks state steps o facts read z in
-        let (F, f) = go (readPicks (chosenOf question (o .sig)) (5 + o .sig .rels) (o .n) text) (sym q ∙ e) in
+        let (c, ec, h) = case-read question site o facts read z in
+        let A = case-accepted question site o facts read z in
+        let (F, f, _) = sheet-read length _ a k q e in
         let t = sym (text-read question c A o facts h text) ∙ f in
         let front = text-front question c A o facts h text F t words (b .fit) room held in
         let n = text-fits question c A o facts h in
         built question site picks state steps o facts read z words F (text-plan question site c ec words (length state) (length steps) text F t (omega arith) (text-clear question c A o facts h text F t words (b .fit) room held)) r state′ steps′
         (b .builds c F h A (λ _ _. (text-are question c A o facts h text F t, front)))
-      where
-        go : (x : Result (List Tuple)) → answered length x ≡ Done k → (F : List Tuple) × (x ≡ accepted F)
-        go (refused j at) h = let y : _≡_ {A = ℕ} 0 1 = cc in absurd (omega arith)
-        go (accepted F) h = (F, refl)
 
   -- picks as words
   pub call-lent : (words : List ℕ) → (r : Reply) (state′ steps′ : List ℕ) → FromWords question o facts words state steps r state′ steps′ → Answers question site (Outcome.asNumbers words) state steps r state′ steps′
   call-lent words r state′ steps′ b =
       let picks : Outcome.Given = Outcome.asNumbers words in
-      let (c, ec, h) = its-case question site picks state steps o facts read z in
-      let A = fits question site picks state steps o facts read z in
+      let (c, ec, h) = case-read question site o facts read z in
+      let A = case-accepted question site o facts read z in
       let F : List Tuple = Outcome.lentPicks (problemOf c) words (chosenNumbers (problemOf c)) in
       built question site picks state steps o facts read z words F (lent-plan question site c ec words (length state) (length steps)) r state′ steps′ (b .builds c F h A (λ room clear. (lent-are c A words room clear, lent-front c A words room clear (b .fit))))

@@ -17,7 +17,7 @@ use Rattle.definitions.specs.Refusal.{Result, accepted}
 use Rattle.definitions.specs.Relations.{Relation, Tuple, isChosen}
 use Rattle.definitions.specs.Sheets.{readPicks, firstChosen}
 use Rattle.definitions.specs.Truth.{Case, arePicks}
-use Rattle.definitions.specs.Atoms.{Problem, problemOf, problemWith, relationAt, tuplesOf, wordsFor}
+use Rattle.definitions.specs.Atoms.{Problem, problemOf, relationAt, tuplesOf, wordsFor}
 use Rattle.definitions.specs.Built.{chosenNumbers, isPicked}
 use Rattle.definitions.specs.Outcome.{relationWords, picksLength, pickWords, lentPicks, spareWord, textPicks, asText, asNumbers}
 use Rattle.laws.specs.Booleans.{T-true, T-false}
@@ -37,6 +37,7 @@ use Rattle.picks.specs.Words.{wordStart, PicksAre}
 use Rattle.sheets.specs.Reading.{Picks, PicksIn}
 use Rattle.opening.specs.declared.Opened.{Opened}
 use Rattle.opening.specs.Read.{Holds}
+use Rattle.cases.specs.Known.{elements-are}
 
 -- ---- words one after another
 
@@ -163,10 +164,6 @@ unfolding firstWord wordsFor
 few-words g n lo zero h a = omega arith
 few-words g n lo (suc m) h a = omega (arith, few-words g n lo m h (λ i l. a i (omega arith)), power-le n (getD (g .arity) (lo + m) 0) h (a m (omega arith)))
 
-problem-size : (c : Case) → problemOf c .size ≡ c .site .size
-unfolding problemOf problemWith
-problem-size c = refl
-
 module _ (s : List ℕ) (c : Case) (A : Accepted c) (o : Opened) (facts : ℕ → Bool) (h : Holds s c o facts) where
   many-rels : length (c .question .rels) ≡ o .sig .rels
   unfolding relsOf
@@ -189,11 +186,11 @@ module _ (s : List ℕ) (c : Case) (A : Accepted c) (o : Opened) (facts : ℕ �
       ap (λ (x : ℕ). relationAt (problemOf c) (x + i) .arity) (sym first-is)
       ∙ ap (λ (k : Relation). k .arity) (chosen-at c A i ∙ ap (λ (ks : List Relation). getD ks i noRelation) (h .chosen) ∙ relation-at s (o .sig) (o .sig .rels) (o .sig .chosen) i noRelation l)
 
-  elements-are : o .n ≡ problemOf c .size
-  elements-are = h .size ∙ sym (problem-size c)
+  abbrev size : o .n ≡ problemOf c .size
+  size = elements-are s c o facts h
 
   some-elements : 0 < problemOf c .size
-  some-elements = subst (λ (n : ℕ). 0 < n) elements-are (h .some-elements)
+  some-elements = subst (λ (n : ℕ). 0 < n) size (h .some-elements)
 
   -- what the code reads is what the definitions read
   pub text-read : (text : List ℕ) → readPicks (chosenOf s (o .sig)) (5 + o .sig .rels) (o .n) text ≡ textPicks c (asText text)
@@ -209,7 +206,7 @@ module _ (s : List ℕ) (c : Case) (A : Accepted c) (o : Opened) (facts : ℕ �
 
   pub text-fits : picksLength (problemOf c) ≤ 256
   text-fits =
-      let k = few-words (o .sig) (problemOf c .size) (o .sig .rels) (o .sig .chosen) (subst (λ (n : ℕ). n ≤ 16) elements-are (h .few-elements)) (λ i l. h .sound .arities (o .sig .rels + i) (omega arith) .1) in
+      let k = few-words (o .sig) (problemOf c .size) (o .sig .rels) (o .sig .chosen) (subst (λ (n : ℕ). n ≤ 16) size (h .few-elements)) (λ i l. h .sound .arities (o .sig .rels + i) (omega arith) .1) in
       omega (arith, length-is, h .sound .chosen-le)
 
   module _ (text : List ℕ) (F : List Tuple) (read : textPicks c (asText text) ≡ accepted F) where
@@ -220,7 +217,7 @@ module _ (s : List ℕ) (c : Case) (A : Accepted c) (o : Opened) (facts : ℕ �
     module _ (w : List ℕ) (ok : Words w) (room : 256 ≤ length w) (held : PicksIn (o .sig) (o .n) (readPicks (chosenOf s (o .sig)) (5 + o .sig .rels) (o .n) text) (bit w)) where
       its-picks : Picks (o .sig) (problemOf c .size) F (bit w)
       unfolding PicksIn
-      its-picks = subst (λ (n : ℕ). Picks (o .sig) n F (bit w)) elements-are (subst (λ (r : Result (List Tuple)). PicksIn (o .sig) (o .n) r (bit w)) (text-read text ∙ read) held)
+      its-picks = subst (λ (n : ℕ). Picks (o .sig) n F (bit w)) size (subst (λ (r : Result (List Tuple)). PicksIn (o .sig) (o .n) r (bit w)) (text-read text ∙ read) held)
 
       -- the words' front is written for the picks read
       pub text-front : take (picksLength (problemOf c)) w ≡ pickWords (problemOf c) F

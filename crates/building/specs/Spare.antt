@@ -10,7 +10,7 @@ use native.Mathlib.Numerals.{add-one}
 use native.Mathlib.Omega.{arith}
 use lib.Dec.{eqb, leb, ltb, leb→le}
 use lib.ListN.{length, drop, getD}
-use lib.Pow.{pow-pos, shr-lt, shr-shr}
+use lib.Pow.{pow-pos, shr-lt}
 use lib.Seq.{getD-drop, drop-drop}
 use borrow.Author.Tests.{eq-eqb, ne-eqb, le-leb, lt-leb, ltb-true, ltb-false, eqb-true, eqb-false}
 use Rattle.bits.specs.Table.{digit, bit, Words}
@@ -29,6 +29,7 @@ use Rattle.ground.specs.Of.{Is}
 use Rattle.ground.specs.declared.RelationLine.{RelationLine}
 use Rattle.picks.specs.Words.{wordsIn}
 use Rattle.picks.specs.WordLaws.{is-chosen, is-static, tuples-are}
+use Rattle.reading.specs.Cuts.{right-digit}
 use Rattle.building.specs.declared.Spare.{Spare}
 use Rattle.building.specs.declared.Spare.the-variants.{Clear, Word}
 
@@ -48,11 +49,6 @@ told (Word j) = some j
 words-drop : (k : ℕ) (w : List ℕ) → Words w → Words (drop k w)
 words-drop k w ok j = let q = getD-drop k w j 0 in let h = ok (k + j) in omega arith
 
--- ---- one word: digits from place m on are those of the word shifted down
-digit-shift : (w m k : ℕ) → digit (w / 2 ^ m) k ≡ digit w (m + k)
-unfolding digit
-digit-shift w m k = ap (λ (x : ℕ). eqb (x % 2) 1) (shr-shr w m k)
-
 module _ (p : Problem) (u : List ℕ) (ok : Words u) (r : ℕ) where
   abbrev t : ℕ
   t = tuplesOf (p .size) (relationAt p r)
@@ -68,7 +64,7 @@ module _ (p : Problem) (u : List ℕ) (ok : Words u) (r : ℕ) where
   its-bit k h =
       let e : (64 * (t / 64) + (t % 64 + k)) / 64 ≡ t / 64 = omega arith in
       let d : (64 * (t / 64) + (t % 64 + k)) % 64 ≡ t % 64 + k = omega arith in
-      bit-is u (64 * (t / 64) + (t % 64 + k)) ∙ ap₂ (λ (j m : ℕ). digit (getD u j 0) m) e d ∙ sym (digit-shift (getD u (t / 64) 0) (t % 64) k)
+      bit-is u (64 * (t / 64) + (t % 64 + k)) ∙ ap₂ (λ (j m : ℕ). digit (getD u j 0) m) e d ∙ sym (right-digit (getD u (t / 64) 0) (t % 64) k)
 
   spare-last : 0 < t % 64 → hasSpare p u r (t / 64) ≡ ltb 0 (getD u (t / 64) 0 / 2 ^ (t % 64))
   unfolding hasSpare

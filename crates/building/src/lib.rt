@@ -2,7 +2,7 @@
 ghost use mathlib.Core.Path.{_≡_};
 ghost use Prim.Native.Nat.{_+_, _/_, _^_, _≤_};
 ghost use mathlib.Core.List.{List};
-ghost use lib.ListN.{length, getD};
+ghost use lib.ListN.{length};
 ghost use Rattle.definitions.specs.Relations.{Tuple};
 ghost use Rattle.definitions.specs.Truth.{Case};
 ghost use Rattle.definitions.specs.Atoms.{Problem, problemOf};
@@ -13,7 +13,8 @@ ghost use Rattle.ground.specs.Lines.{Fits};
 ghost use Rattle.ground.specs.Of.{Is};
 ghost use Rattle.initial.specs.Rows.{atomsIn};
 ghost use Rattle.plans.specs.Answers.{answered, Gives};
-ghost use Rattle.cases.specs.Replies.{resultOf, CaseIn};
+ghost use Rattle.cases.specs.Known.{CaseIn};
+ghost use Rattle.cases.specs.Replies.{resultOf};
 ghost use Rattle.building.specs.Calls.{FromWords};
 ghost use Rattle.building.specs.Spare.{spareIn, told};
 ghost use Rattle.building.specs.Starts.{Prepared};
@@ -26,16 +27,6 @@ use sheets::Answer;
 enum Spare {
     Clear,
     Word(usize),
-}
-
-// Word j; past the end all bits are 0.
-fn word_at(words: &[u64], j: usize) -> u64
-    ensures { λ r. ⌜ r ≡ getD (now (words .entry)) j 0 ⌝ }
-{
-    if j < words.len() {
-        return words[j];
-    }
-    0
 }
 
 // Whether a relation has a spare bit set. Its words start with word `word`; the tuples leave bits over in the last one alone.
@@ -51,7 +42,7 @@ fn has_spare(picks: &[u64], word: usize, line: RelationLine) -> bool
     if used == 0 {
         return false;
     }
-    0 < word_at(picks, word + tuples / 64) >> used
+    0 < reading::word_at(picks, word + tuples / 64) >> used
 }
 
 // The first word of lent picks that has a spare bit set.

@@ -6,7 +6,8 @@ ghost use Rattle.definitions.specs.Outcome.{asText, asNumbers, checkSteps, size
 ghost use Rattle.bits.specs.Table.{bit};
 ghost use Rattle.opening.specs.Read.{Holds};
 ghost use Rattle.runs.specs.Ended.{ended};
-ghost use Rattle.cases.specs.Replies.{resultOf, sizingOf, CaseIn, Checks};
+ghost use Rattle.cases.specs.Known.{CaseIn};
+ghost use Rattle.cases.specs.Replies.{resultOf, sizingOf, Checks};
 ghost use Rattle.cases.specs.Asked.{actionOf, found};
 use opening::Opened;
 use runs::End;
@@ -80,7 +81,7 @@ pub fn action(question: &[u8], site: &[u8], k: usize) -> Asked
 }
 
 // How a run ended, as a reply.
-fn reply_of(e: End) -> Reply
+pub fn reply_of(e: End) -> Reply
     ensures { λ r. ⌜ resultOf r ≡ ended e ⌝ }
 {
     match e {

@@ -30,7 +30,7 @@ mod-digit : (w n k : ℕ) → k < n → digit (w % 2 ^ n) k ≡ digit w k
 mod-digit w n k l =
     ap (λ (x : ℕ). digit x k) (sym (and-mask w n)) ∙ digit-and w (2 ^ n - 1) k ∙ ap (λ (b : Bool). digit w k && b) (mask-digit n k ∙ lt-ltb k n l) ∙ and-true (digit w k)
 
-right-digit : (w s k : ℕ) → digit (w / 2 ^ s) k ≡ digit w (s + k)
+pub right-digit : (w s k : ℕ) → digit (w / 2 ^ s) k ≡ digit w (s + k)
 unfolding digit
 right-digit w s k = ap (λ (x : ℕ). eqb (x % 2) 1) (shr-shr w s k)
 

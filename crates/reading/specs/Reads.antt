@@ -2,38 +2,33 @@
 use Prim.Native.Nat.{ℕ, _+_, _/_, _≤_, _<_}
 use mathlib.Core.Path.{_≡_, refl, sym, ap, ap₂, subst, _∙_}
 use mathlib.Core.Bool.{Bool, true, false}
-use mathlib.Core.List.{List, [], _++_}
-use lib.Dec.{ltb}
+use mathlib.Core.List.{List, _++_}
 use lib.ListN.{length, drop}
-use borrow.Author.Tests.{lt-ltb, le-ltb}
-use Rattle.definitions.specs.Limits.{atomLimit}
-use Rattle.definitions.specs.Refusal.{Result, refused, accepted, _>>=_, refuseIf}
+use Rattle.definitions.specs.Refusal.{Result, refused, accepted, _>>=_}
 use Rattle.definitions.specs.Truth.{Case}
-use Rattle.definitions.specs.Atoms.{Problem, problemOf, atoms, wordsFor, stateWords}
+use Rattle.definitions.specs.Atoms.{Problem, problemOf, atoms, stateWords}
 use Rattle.definitions.specs.Strips.{run, picksOf}
 use Rattle.definitions.specs.Outcome
 use Rattle.laws.specs.Words.{state-length}
 use Rattle.bits.specs.Table.{bit}
-use Rattle.reduction.specs.Reader.{Accepted, gives-if, case-fits}
+use Rattle.reduction.specs.Reader.{Accepted}
 use Rattle.reduction.specs.Means.{Good}
 use Rattle.reduction.specs.Grounded.{good}
-use Rattle.reduction.specs.Building.{ground-is}
 use Rattle.ground.specs.Of.{Is}
 use Rattle.initial.specs.Rows.{atomsIn}
 use Rattle.initial.specs.Initial.{FactsIn}
-use Rattle.decode.specs.Decoded.{Grounded}
 use Rattle.opening.specs.declared.Opened.{Opened}
 use Rattle.opening.specs.Read.{Holds, CaseRead}
 use Rattle.grounding.specs.declared.Sized.{Sized as Counted}
 use Rattle.grounding.specs.Grounds.{GroundsTo}
 use Rattle.runs.specs.declared.End.{End}
-use Rattle.runs.specs.declared.End.the-variants.{Done}
 use Rattle.runs.specs.Ended.{ended}
-use Rattle.checking.specs.Checks.{Ran, Runs}
+use Rattle.checking.specs.Checks.{Runs}
 use Rattle.cases.specs.declared.Reply.{Reply}
 use Rattle.cases.specs.declared.Reply.the-variants.{Accepted as Fine, Refused}
 use Rattle.cases.specs.Order
-use Rattle.cases.specs.Replies.{resultOf, CaseIn, false-true, facts-held, within, atoms-few, words-fit, call-known}
+use Rattle.cases.specs.Known.{case-refused, case-read, case-accepted, facts-held, case-over, grounds, tabled, words-are, room-short, room-there}
+use Rattle.cases.specs.Replies.{resultOf}
 use Rattle.reading.specs.Copies.{Copied}
 use Rattle.reading.specs.CopyLaws.{copied-done}
 
@@ -49,14 +44,14 @@ ReadBy w f steps picks state r newPicks newState = (p : Problem) → Is p w → 
     → Read p steps picks r newPicks newState
 
 module _ (w f steps picks state newState : List ℕ) (e : End) (runs : Runs w f steps state e newState) where
-  pub read-done : (i : ℕ) (newPicks : List ℕ) → e ≡ Done i → Copied w newState picks newPicks → ReadBy w f steps picks state (Fine i) newPicks newState
+  pub read-done : (i : ℕ) (newPicks : List ℕ) → ended e ≡ accepted i → Copied w newState picks newPicks → ReadBy w f steps picks state (Fine i) newPicks newState
   unfolding ReadBy Runs resultOf ended Outcome.picksIfAccepted
   read-done i newPicks q copy p is ends F G l =
       let ran = runs p is ends F l in
-      let a : accepted i ≡ run p steps .answer = ap ended (sym q) ∙ ran .answer in
+      let a : accepted i ≡ run p steps .answer = sym q ∙ ran .answer in
       record {
         answer = a;
-        picks-are = rw (sym a) (copied-done w newState picks newPicks steps i p copy is G (subst (λ (x : End). Ran p steps x newState) q ran));
+        picks-are = rw (sym a) (copied-done w newState picks newPicks steps i p copy is G (record { answer = a; state = ran .state }));
         state-is = ran .state;
       }
 
@@ -87,54 +82,44 @@ module _ (c : Case) (steps picks state : List ℕ) where
 
   module _ (m : Counted) (w : List ℕ) (g : GroundsTo (Outcome.ground c) m w) where
     pub reads-over : m .over ≡ true → Reads c steps picks state (Refused 11 0) picks state
-    unfolding GroundsTo readied resultOf _>>=_
-    reads-over o = go (Outcome.ground c) refl g
-      where
-        go : (x : Result Problem) → Outcome.ground c ≡ x → GroundsTo x m w → Reads c steps picks state (Refused 11 0) picks state
-        go (refused k place) e h = reads-refused k place (rw e refl) (Refused 11 0) (ap₂ refused (sym (h .number)) (sym (h .no-place)))
-        go (accepted p) e h = absurd (false-true (sym (h .within) ∙ o))
+    unfolding readied resultOf _>>=_
+    reads-over o = reads-refused 11 0 (rw (case-over c m w g o) refl) (Refused 11 0) refl
 
     module _ (o : m .over ≡ false) where
       abbrev p : Problem
-      p = within c [] [] m w g o .0
-
-      words-are : (m .atoms + 63) / 64 ≡ Outcome.stateLength p
-      unfolding Outcome.stateLength wordsFor
-      words-are = ap (λ (k : ℕ). (k + 63) / 64) (within c [] [] m w g o .2 .atoms-are)
+      p = problemOf c
 
       module _ (count : ℕ) (e : (q : Problem) → Is q w → count ≡ Outcome.picksLength q) where
         count-is : count ≡ Outcome.picksLength p
-        count-is = e p (within c [] [] m w g o .2 .is)
+        count-is = e p (tabled c m w g o .is)
 
         pub reads-few-picks : length picks < count → Reads c steps picks state (Refused 12 count) picks state
-        unfolding readied rooms Outcome.roomFor refuseIf resultOf _>>=_
+        unfolding readied rooms resultOf _>>=_
         reads-few-picks l =
-            let g′ = within c [] [] m w g o .1 in
-            let b : ltb (length picks) (Outcome.picksLength p) ≡ true = lt-ltb (length picks) (Outcome.picksLength p) (subst (λ (k : ℕ). length picks < k) count-is l) in
-            reads-refused 12 (Outcome.picksLength p) (rw (g′, b) refl) (Refused 12 count) (ap (refused 12) count-is)
+            let b = room-short (Outcome.picksLength p) (length picks) (subst (λ (k : ℕ). length picks < k) count-is l) in
+            reads-refused 12 (Outcome.picksLength p) (rw (grounds c m w g o, b) refl) (Refused 12 count) (ap (refused 12) count-is)
 
         module _ (l : count ≤ length picks) where
-          enough : ltb (length picks) (Outcome.picksLength p) ≡ false
-          enough = le-ltb (length picks) (Outcome.picksLength p) (subst (λ (k : ℕ). k ≤ length picks) count-is l)
+          enough : Outcome.roomFor (Outcome.picksLength p) (length picks) ≡ accepted tt
+          enough = room-there (Outcome.picksLength p) (length picks) (subst (λ (k : ℕ). k ≤ length picks) count-is l)
 
           pub reads-few-words : length state < (m .atoms + 63) / 64 → Reads c steps picks state (Refused 12 ((m .atoms + 63) / 64)) picks state
-          unfolding readied rooms Outcome.roomFor refuseIf resultOf _>>=_
+          unfolding readied rooms resultOf _>>=_
           reads-few-words h =
-              let g′ = within c [] [] m w g o .1 in
-              let b : ltb (length state) (Outcome.stateLength p) ≡ true = lt-ltb (length state) (Outcome.stateLength p) (subst (λ (k : ℕ). length state < k) words-are h) in
-              reads-refused 12 (Outcome.stateLength p) (rw (g′, enough, b) refl) (Refused 12 ((m .atoms + 63) / 64)) (ap (refused 12) words-are)
+              let b = room-short (Outcome.stateLength p) (length state) (subst (λ (k : ℕ). length state < k) (words-are c m w g o) h) in
+              reads-refused 12 (Outcome.stateLength p) (rw (grounds c m w g o, enough, b) refl) (Refused 12 ((m .atoms + 63) / 64)) (ap (refused 12) (words-are c m w g o))
 
           pub reads-ran : (m .atoms + 63) / 64 ≤ length state → (r : Reply) (newPicks part newState : List ℕ) → Read p steps picks r newPicks part
               → newState ≡ part ++ drop ((m .atoms + 63) / 64) state → Reads c steps picks state r newPicks newState
-          unfolding readied rooms Outcome.roomFor refuseIf Outcome.picksReadFrom Outcome.written _>>=_
+          unfolding readied rooms Outcome.picksReadFrom Outcome.written _>>=_
           reads-ran h r newPicks part newState ran n =
-              let g′ = within c [] [] m w g o .1 in
-              let b : ltb (length state) (Outcome.stateLength p) ≡ false = le-ltb (length state) (Outcome.stateLength p) (subst (λ (k : ℕ). k ≤ length state) words-are h) in
+              let g′ = grounds c m w g o in
+              let b = room-there (Outcome.stateLength p) (length state) (subst (λ (k : ℕ). k ≤ length state) (words-are c m w g o) h) in
               let s : length (stateWords p (run p steps .state)) ≡ Outcome.stateLength p = state-length p (run p steps .state) in
               record {
                 answer = rw (g′, enough, b) (ran .answer);
                 picks-are = rw (g′, enough, b) (ran .picks-are);
-                state-is = rw (g′, enough, b, s) (n ∙ ap₂ (λ (x : List ℕ) (k : ℕ). x ++ drop k state) (ran .state-is) words-are);
+                state-is = rw (g′, enough, b, s) (n ∙ ap₂ (λ (x : List ℕ) (k : ℕ). x ++ drop k state) (ran .state-is) (words-are c m w g o));
               }
 
       -- what is asked of the problem by `ReadBy`
@@ -142,24 +127,8 @@ module _ (c : Case) (steps picks state : List ℕ) where
           → (r : Reply) (newPicks newPart : List ℕ) → ReadBy w f steps picks part r newPicks newPart → Read p steps picks r newPicks newPart
       unfolding ReadBy
       its-read A s o′ f part held l r newPicks newPart read =
-          let h = within c [] [] m w g o .2 in
-          let q : p ≡ problemOf c = ground-is c p (within c [] [] m w g o .1) in
-          read p (h .is) (h .ends) (subst (λ (x : Problem). FactsIn x f) (sym q) (facts-held s c o′ f held)) (subst Good (sym q) (good c A)) (sym l ∙ words-are)
-
--- ---- the table that was made of a case
-module _ (s : List ℕ) (o : Opened) (f : List ℕ) (known : CaseIn s o (bit f)) (m : Counted) (w : List ℕ)
-    (g : (c : Case) (facts : ℕ → Bool) → Holds s c o facts → GroundsTo (Outcome.ground c) m w) (fine : m .over ≡ false) where
-  its : GroundsTo (Outcome.ground (known .case)) m w
-  its = g (known .case) (bit f) (known .holds)
-
-  pub its-table : Grounded w
-  its-table = let (p, e, h) = within (known .case) [] [] m w its fine in record { problem = p; is = h .is; fits = h .fits }
-
-  pub its-atoms : m .atoms ≤ atomLimit
-  its-atoms = atoms-few (known .case) [] [] m w its fine
-
-  pub its-words : (k : ℕ) → (m .atoms + 63) / 64 ≡ k → wordsFor (atomsIn w) ≤ k
-  its-words k e = words-fit (known .case) [] [] m w its fine k e
+          let h = tabled c m w g o in
+          read p (h .is) (h .ends) (facts-held s c o′ f held) (good c A) (sym l ∙ words-are c m w g o)
 
 -- ---- of the texts: the case, the steps, then these
 
@@ -178,28 +147,18 @@ module _ (question site : List ℕ) (given : Outcome.Given) (picks state : List 
   refused-with k place e r q = (rw e q, (rw e refl, rw e refl))
 
   pub call-case : (o .fault ≡ 0 → ⊥) → PicksRead question site given picks state (Refused (o .fault) (o .place)) picks state
-  unfolding CaseRead resultOf
-  call-case z = go (Outcome.readCase question site) refl read
-    where
-      go : (x : Result Case) → Outcome.readCase question site ≡ x → CaseRead question x o facts → PicksRead question site given picks state (Refused (o .fault) (o .place)) picks state
-      go (refused k place) e h = refused-with k place (Order.case-refused question site given room k place e) (Refused (o .fault) (o .place)) (ap₂ refused (h .number) (h .where-it-is))
-      go (accepted c) e h = absurd (z (h .no-fault))
+  unfolding resultOf
+  call-case z = refused-with (o .fault) (o .place) (Order.case-refused question site given room (o .fault) (o .place) (case-refused question site o facts read z)) (Refused (o .fault) (o .place)) refl
 
   module _ (z : o .fault ≡ 0) where
-    known : (c : Case) × (Outcome.readCase question site ≡ accepted c) × Holds question c o facts
-    known = call-known question site given state o facts read z
-
-    pub call-in : CaseIn question o facts
-    call-in = record { case = known .0; holds = known .2 }
-
     pub call-steps : (k place : ℕ) → Outcome.takeSteps given ≡ refused k place → PicksRead question site given picks state (Refused k place) picks state
     unfolding resultOf
-    call-steps k place t = let (c, e, h) = known in refused-with k place (Order.steps-refused question site given room c e k place t) (Refused k place) refl
+    call-steps k place t = let (c, e, h) = case-read question site o facts read z in refused-with k place (Order.steps-refused question site given room c e k place t) (Refused k place) refl
 
     pub call-ran : (ks : List ℕ) → Outcome.takeSteps given ≡ accepted ks → (r : Reply) (newPicks newState : List ℕ)
         → ((c : Case) → Accepted c → Holds question c o facts → Reads c ks picks state r newPicks newState) → PicksRead question site given picks state r newPicks newState
     unfolding Outcome.picksFromSteps Outcome.readyToRun readied rooms _>>=_
     call-ran ks t r newPicks newState ran =
-        let (c, e, h) = known in
-        let k = ran c (gives-if Accepted (Outcome.readCase question site) c e (case-fits question site)) h in
+        let (c, e, h) = case-read question site o facts read z in
+        let k = ran c (case-accepted question site o facts read z) h in
         (rw (e, t) (k .answer), (rw (e, t) (k .picks-are), rw (e, t) (k .state-is)))

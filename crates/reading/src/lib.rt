@@ -17,17 +17,17 @@ ghost use Rattle.decode.specs.Decoded.{Grounded};
 ghost use Rattle.initial.specs.Rows.{atomsIn};
 ghost use Rattle.opening.specs.Read.{Holds};
 ghost use Rattle.picks.specs.Words.{wordsIn};
-ghost use Rattle.cases.specs.Replies.{resultOf, CaseIn};
+ghost use Rattle.cases.specs.Known.{CaseIn};
+ghost use Rattle.cases.specs.Replies.{resultOf};
 ghost use Rattle.reading.specs.Copies.{lineWords, picksIn, Copied};
 ghost use Rattle.reading.specs.Reads.{ReadBy, Reads};
 use cases::Reply;
 use ground::RelationLine;
 use opening::Opened;
-use runs::End;
 use sheets::Answer;
 
 // Word j; past the end all bits are 0.
-fn word_at(words: &[u64], j: usize) -> u64
+pub fn word_at(words: &[u64], j: usize) -> u64
     ensures { λ r. ⌜ r ≡ getD (now (words .entry)) j 0 ⌝ }
 {
     if j < words.len() {
@@ -111,14 +111,13 @@ fn run_and_copy(
     ensures { λ r. ⌜ ReadBy (now (table .entry)) (now (facts .entry)) (now (steps .entry)) (now (picks .entry)) (now (state .entry)) r (now (picks .exit)) (now (state .exit)) ⌝ }
 {
     let e = checking::start_and_run(table, facts, steps, state);
-    match e {
-        End::Done(i) => {
+    let r = cases::reply_of(e);
+    match r {
+        Reply::Accepted(i) => {
             copy_picks(table, state, picks);
             Reply::Accepted(i)
         }
-        End::NoAction(i) => Reply::Refused(13, i),
-        End::NotNow(i) => Reply::Refused(14, i),
-        End::NoGoal(i) => Reply::Refused(15, i),
+        Reply::Refused(k, i) => Reply::Refused(k, i),
     }
 }
 

@@ -29,12 +29,13 @@ use Rattle.runs.specs.declared.End.{End}
 use Rattle.runs.specs.declared.End.the-variants.{Done, NoAction, NotNow, NoGoal}
 use Rattle.runs.specs.Ended.{ended}
 use Rattle.checking.specs.Checks.{Ran, Runs}
-use Rattle.cases.specs.Replies.{readied, facts-held}
+use Rattle.cases.specs.Known.{Grounding, case-over, grounds, tabled, words-are, ran-of}
+use Rattle.cases.specs.Replies.{readied}
 use Rattle.reading.specs.Copies.{picksIn, Copied}
 use Rattle.reading.specs.CopyLaws.{picks-in, copied-done}
 use Rattle.building.specs.Picked.{text-fits}
 use Rattle.replying.specs.Replied.{Replies, answer-as, text-as, reportOf}
-use Rattle.replying.specs.Known.{Known, IsKnown, case-read, Grounding, front-agrees, report-as, case-over, grounds, tabled, words-are, state-fits}
+use Rattle.replying.specs.Known.{Known, IsKnown, known-read, front-agrees, report-as, state-fits}
 
 -- the steps of a case that was read
 unfoldable pub checkedCase : Case → List ℕ → Result Plan
@@ -59,11 +60,11 @@ module _ (question site text : List ℕ) where
 
 module _ (question site text : List ℕ) (o : Opened) (facts : ℕ → Bool) (case : CaseRead question (readCase question site) o facts) (z : o .fault ≡ 0) where
   pub text-fault : (k place : ℕ) → takeSteps (asText text) ≡ refused k place → checkedPlan question site text ≡ refused k place
-  text-fault k place t = let (c, q, K) = case-read question site o facts case z in steps-refused question site text c q k place t
+  text-fault k place t = let (c, q, K) = known-read question site o facts case z in steps-refused question site text c q k place t
 
   pub text-checked : (ks : List ℕ) → takeSteps (asText text) ≡ accepted ks → (old new : List ℕ) (r : ℕ) → ((c : Case) → Known question c o facts → Replies (printed (checkedCase c ks)) old new r)
       → Replies (printed (checkedPlan question site text)) old new r
-  text-checked ks t old new r h = let (c, q, K) = case-read question site o facts case z in answer-as _ _ old new r (steps-read question site text c q ks t) (h c K)
+  text-checked ks t old new r h = let (c, q, K) = known-read question site o facts case z in answer-as _ _ old new r (steps-read question site text c q ks t) (h c K)
 
 -- a step has a line of four bytes at least, so there are few of them
 step-long : (k : ℕ) → 4 ≤ length (stepLine k)
@@ -103,10 +104,7 @@ module _ (s : List ℕ) (o : Opened) (f : List ℕ) (ks : List ℕ) (m : Sized) 
     its = g c (bit f) (K .holds)
 
     pub its-run : m .over ≡ false → (part left : List ℕ) (e : End) → (m .atoms + 63) / 64 ≡ length part → Runs w f ks part e left → Ran (problemOf c) ks e left
-    unfolding Runs
-    its-run v part left e l runs =
-        let t = tabled c m w its v in
-        runs (problemOf c) (t .is) (t .ends) (facts-held s c o f (K .holds)) (sym l ∙ words-are c m w its v)
+    its-run v part left e l runs = ran-of c m w its v s o f ks part left e (K .holds) l runs
 
   module _ (c : Case) (K : Known s c o (bit f)) (old new : List ℕ) (r : ℕ) where
     pub reply-over : m .over ≡ true → Replies (printed (refused 11 0)) old new r → Replies (printed (checkedCase c ks)) old new r

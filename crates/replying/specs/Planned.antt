@@ -29,11 +29,12 @@ use Rattle.opening.specs.declared.Opened.{Opened}
 use Rattle.opening.specs.Read.{CaseRead}
 use Rattle.grounding.specs.declared.Sized.{Sized}
 use Rattle.grounding.specs.Grounds.{GroundsTo}
-use Rattle.cases.specs.Replies.{facts-held}
+use Rattle.cases.specs.Known.{facts-held, sheet-refused, sheet-read, Grounding, case-over, grounds, tabled, actions-few}
+use Rattle.cases.specs.Order.{plan-text}
 use Rattle.building.specs.Picked.{text-read, text-are, text-front, text-picked}
 use Rattle.building.specs.Starts.{Prepared}
 use Rattle.replying.specs.Replied.{Replies, answer-as, text-as, reportOf}
-use Rattle.replying.specs.Known.{Known, sheet-refused, sheet-read, case-read, Grounding, front-agrees, report-as, case-over, grounds, tabled, actions-most, state-fits}
+use Rattle.replying.specs.Known.{Known, known-read, front-agrees, report-as, state-fits}
 
 -- the picks of a case that was read: 11, 12, then what is built
 unfoldable pub plannedCase : Case → List Tuple → Result Plan
@@ -56,19 +57,9 @@ pub record IsPicked (s : List ℕ) (o : Opened) (facts : ℕ → Bool) (words : 
   pub known : Known s case o facts
   pub picked : Picked s case o tuples words
 
-module _ (question site text : List ℕ) where
-  pub plan-refused : (k place : ℕ) → readCase question site ≡ refused k place → plan question site (asText text) 1024 8192 ≡ refused k place
-  unfolding plan _>>=_
-  plan-refused k place e = rw e refl
-
-  module _ (c : Case) (e : readCase question site ≡ accepted c) where
-    pub picks-refused : (k place : ℕ) → textPicks c (asText text) ≡ refused k place → plan question site (asText text) 1024 8192 ≡ refused k place
-    unfolding plan _>>=_
-    picks-refused k place t = rw (e, t) refl
-
-    pub picks-read : (F : List Tuple) → textPicks c (asText text) ≡ accepted F → plan question site (asText text) 1024 8192 ≡ plannedCase c F
-    unfolding plan plannedCase planned picksRoom takePicks _>>=_
-    picks-read F t = rw (e, t) refl
+picks-read : (question site text : List ℕ) (c : Case) → readCase question site ≡ accepted c → (F : List Tuple) → textPicks c (asText text) ≡ accepted F → plan question site (asText text) 1024 8192 ≡ plannedCase c F
+unfolding plan plannedCase planned picksRoom takePicks _>>=_
+picks-read question site text c e F t = rw (e, t) refl
 
 module _ (c : Case) (F : List Tuple) where
   planned-over : (k place : ℕ) → ground c ≡ refused k place → plannedCase c F ≡ refused k place
@@ -137,7 +128,7 @@ module _ (s : List ℕ) (o : Opened) (f words : List ℕ) (ok : Words words) (en
         facts-in = facts-held s c o f (K .holds);
         picked = text-picked s c (K .fits) o (bit f) (K .holds) (P .text) F (P .read) words ok enough (P .held);
         atoms-are = t .atoms-are;
-        few = omega (arith, actions-most c m w (g c (bit f) (K .holds)) v);
+        few = omega (arith, actions-few c m w (g c (bit f) (K .holds)) v);
         steps-room = omega (arith, t .bound-is);
       }
 
@@ -190,25 +181,25 @@ module _ (s : List ℕ) (o : Opened) (f words : List ℕ) (ok : Words words) (en
 
 module _ (question site text : List ℕ) (o : Opened) (facts : ℕ → Bool) (case : CaseRead question (readCase question site) o facts) (z : o .fault ≡ 0) (a : Sheet)
     (e : a ≡ told length (readPicks (chosenOf question (o .sig)) (5 + o .sig .rels) (o .n) text)) where
-  its-text : readPicks (chosenOf question (o .sig)) (5 + o .sig .rels) (o .n) text ≡ textPicks (case-read question site o facts case z .0) (asText text)
-  its-text = let (c, q, K) = case-read question site o facts case z in text-read question c (K .fits) o facts (K .holds) text
+  its-text : readPicks (chosenOf question (o .sig)) (5 + o .sig .rels) (o .n) text ≡ textPicks (known-read question site o facts case z .0) (asText text)
+  its-text = let (c, q, K) = known-read question site o facts case z in text-read question c (K .fits) o facts (K .holds) text
 
   pub text-refused : (k place : ℕ) → a ≡ Bad k place → plan question site (asText text) 1024 8192 ≡ refused k place
   text-refused k place n =
-      let (c, q, K) = case-read question site o facts case z in
-      picks-refused question site text c q k place (sym its-text ∙ sheet-refused length _ a k place e n)
+      let (c, q, K) = known-read question site o facts case z in
+      plan-text question site (asText text) 1024 8192 c q k place (sym its-text ∙ sheet-refused length _ a k place e n)
 
   module _ (words : List ℕ) (held : PicksIn (o .sig) (o .n) (readPicks (chosenOf question (o .sig)) (5 + o .sig .rels) (o .n) text) (bit words)) (n : ℕ) (d : a ≡ Done n) where
     pub is-picked : IsPicked question o facts words
     is-picked =
-        let (c, q, K) = case-read question site o facts case z in
-        let (F, t) = sheet-read length _ a n e d in
+        let (c, q, K) = known-read question site o facts case z in
+        let (F, t, _) = sheet-read length _ a n e d in
         record { case = c; tuples = F; known = K; picked = record { text = text; read = sym its-text ∙ t; held = held } }
 
     pub text-planned : (old new : List ℕ) (r : ℕ) → ((c : Case) (F : List Tuple) → Known question c o facts → Picked question c o F words → Replies (printed (plannedCase c F)) old new r)
         → Replies (printed (plan question site (asText text) 1024 8192)) old new r
     unfolding is-picked
     text-planned old new r h =
-        let (c, q, K) = case-read question site o facts case z in
+        let (c, q, K) = known-read question site o facts case z in
         let I = is-picked in
         answer-as _ _ old new r (picks-read question site text c q (I .tuples) (I .picked .read)) (h c (I .tuples) K (I .picked))

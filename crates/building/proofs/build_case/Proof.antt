@@ -1,11 +1,10 @@
 -- `building::build_case` meets its contract: each return is a law of `Builds`: 11, 12 three times, 10, or what was built. Assumes nothing.
 use mathlib.Core.Path.{sym, _∙_}
-use mathlib.Core.List.{[]}
 use native.Mathlib.Omega.{arith}
 use lib.Seq.{length-take-le}
 use Rattle.definitions.specs.Atoms.{problemOf}
-use Rattle.cases.specs.Replies.{atoms-few}
-use Rattle.building.specs.Builds.{tabled, builds-over, builds-picks, builds-state, builds-steps, builds-spare, builds-built}
+use Rattle.cases.specs.Known.{tabled, atoms-few}
+use Rattle.building.specs.Builds.{builds-over, builds-picks, builds-state, builds-steps, builds-spare, builds-built}
 use borrow.Author.Needs.{needs}
 use Rattle.building.proofs.build_case.Statement.{statement}
 use Rattle.building.proofs.build_case.Tie as tie
@@ -26,25 +25,25 @@ slice-aggregate-picks-length : tie.Need-slice-aggregate-picks-length
 slice-aggregate-picks-length c = search needs
 
 picks-length-requires : tie.Need-picks-length-requires
-picks-length-requires c κs = tabled (c .before .before .before .before .before .before .before .before .before .before .pre .case) [] [] [] [] _ _ (c .before .before .before .ground-case .ensures (c .before .before .before .before .before .before .before .before .before .before .pre .case) _ (c .before .before .before .before .before .before .before .before .before .before .pre .holds)) (c .before .if1 .left) .fits
+picks-length-requires c κs = tabled (c .before .before .before .before .before .before .before .before .before .before .pre .case) _ _ (c .before .before .before .ground-case .ensures (c .before .before .before .before .before .before .before .before .before .before .pre .case) _ (c .before .before .before .before .before .before .before .before .before .before .pre .holds)) (c .before .if1 .left) .fits
 
 returns-2 : tie.Need-returns-2
 returns-2 c = record {
   fit = λ j. omega (arith, c .before .before .before .before .before .before .before .before .before .shared-slice-known3 .given j);
   builds = λ x F h A held.
       let g = c .before .before .before .before .before .ground-case .ensures x _ h in
-      builds-picks x _ F _ _ _ _ g (c .before .before .before .if1 .left) _ (c .before .picks-length .ensures .1 (problemOf x) (tabled x [] [] [] [] _ _ g (c .before .before .before .if1 .left) .is)) (c .if2 .taken);
+      builds-picks x _ F _ _ _ _ g (c .before .before .before .if1 .left) _ (c .before .picks-length .ensures .1 (problemOf x) (tabled x _ _ g (c .before .before .before .if1 .left) .is)) (c .if2 .taken);
 }
 
 add-words : tie.Need-add-words
-add-words c = omega (arith, atoms-few (c .before .before .before .before .before .before .before .before .before .before .before .before .before .pre .case) [] [] _ _ (c .before .before .before .before .before .before .ground-case .ensures (c .before .before .before .before .before .before .before .before .before .before .before .before .before .pre .case) _ (c .before .before .before .before .before .before .before .before .before .before .before .before .before .pre .holds)) (c .before .before .before .before .if1 .left))
+add-words c = omega (arith, atoms-few (c .before .before .before .before .before .before .before .before .before .before .before .before .before .pre .case) _ _ (c .before .before .before .before .before .before .ground-case .ensures (c .before .before .before .before .before .before .before .before .before .before .before .before .before .pre .case) _ (c .before .before .before .before .before .before .before .before .before .before .before .before .before .pre .holds)) (c .before .before .before .before .if1 .left))
 
 returns-3 : tie.Need-returns-3
 returns-3 c = record {
   fit = λ j. omega (arith, c .before .before .before .before .before .before .before .before .before .before .before .shared-slice-known3 .given j);
   builds = λ x F h A held.
       let g = c .before .before .before .before .before .before .before .ground-case .ensures x _ h in
-      builds-state x _ F _ _ _ _ g (c .before .before .before .before .before .if1 .left) _ (c .before .before .before .picks-length .ensures .1 (problemOf x) (tabled x [] [] [] [] _ _ g (c .before .before .before .before .before .if1 .left) .is)) (omega arith) (c .if3 .taken);
+      builds-state x _ F _ _ _ _ g (c .before .before .before .before .before .if1 .left) _ (c .before .before .before .picks-length .ensures .1 (problemOf x) (tabled x _ _ g (c .before .before .before .before .before .if1 .left) .is)) (omega arith) (c .if3 .taken);
 }
 
 returns-4 : tie.Need-returns-4
@@ -52,14 +51,14 @@ returns-4 c = record {
   fit = λ j. omega (arith, c .before .before .before .before .before .before .before .before .before .before .before .before .shared-slice-known3 .given j);
   builds = λ x F h A held.
       let g = c .before .before .before .before .before .before .before .before .ground-case .ensures x _ h in
-      builds-steps x _ F _ _ _ _ g (c .before .before .before .before .before .before .if1 .left) _ (c .before .before .before .before .picks-length .ensures .1 (problemOf x) (tabled x [] [] [] [] _ _ g (c .before .before .before .before .before .before .if1 .left) .is)) (omega arith) (omega arith) (c .if4 .taken);
+      builds-steps x _ F _ _ _ _ g (c .before .before .before .before .before .before .if1 .left) _ (c .before .before .before .before .picks-length .ensures .1 (problemOf x) (tabled x _ _ g (c .before .before .before .before .before .before .if1 .left) .is)) (omega arith) (omega arith) (c .if4 .taken);
 }
 
 slice-aggregate-spare-word : tie.Need-slice-aggregate-spare-word
 slice-aggregate-spare-word c = search needs
 
 spare-word-requires : tie.Need-spare-word-requires
-spare-word-requires c κs = tabled (c .before .before .before .before .before .before .before .before .before .before .before .before .before .before .before .before .pre .case) [] [] [] [] _ _ (c .before .before .before .before .before .before .before .before .before .ground-case .ensures (c .before .before .before .before .before .before .before .before .before .before .before .before .before .before .before .before .pre .case) _ (c .before .before .before .before .before .before .before .before .before .before .before .before .before .before .before .before .pre .holds)) (c .before .before .before .before .before .before .before .if1 .left) .fits
+spare-word-requires c κs = tabled (c .before .before .before .before .before .before .before .before .before .before .before .before .before .before .before .before .pre .case) _ _ (c .before .before .before .before .before .before .before .before .before .ground-case .ensures (c .before .before .before .before .before .before .before .before .before .before .before .before .before .before .before .before .pre .case) _ (c .before .before .before .before .before .before .before .before .before .before .before .before .before .before .before .before .pre .holds)) (c .before .before .before .before .before .before .before .if1 .left) .fits
 
 enum-known-s : tie.Need-enum-known-s
 enum-known-s c = search needs
@@ -76,8 +75,8 @@ slice-aggregate-start-and-build-2 c = sym (length-take-le _ _ (omega arith))
 start-and-build-requires : tie.Need-start-and-build-requires
 start-and-build-requires c κs =
     let g = c .before .before .before .before .before .before .before .before .before .before .before .before .before .before .before .before .ground-case .ensures (c .before .before .before .before .before .before .before .before .before .before .before .before .before .before .before .before .before .before .before .before .before .before .before .pre .case) _ (c .before .before .before .before .before .before .before .before .before .before .before .before .before .before .before .before .before .before .before .before .before .before .before .pre .holds) in
-    let t = tabled (c .before .before .before .before .before .before .before .before .before .before .before .before .before .before .before .before .before .before .before .before .before .before .before .pre .case) [] [] [] [] _ _ g (c .before .before .before .before .before .before .before .before .before .before .before .before .before .before .if1 .left) in
-    (t .fits, t .ends ∙ sym (t .atoms-are), omega (arith, atoms-few (c .before .before .before .before .before .before .before .before .before .before .before .before .before .before .before .before .before .before .before .before .before .before .before .pre .case) [] [] _ _ g (c .before .before .before .before .before .before .before .before .before .before .before .before .before .before .if1 .left)), omega arith)
+    let t = tabled (c .before .before .before .before .before .before .before .before .before .before .before .before .before .before .before .before .before .before .before .before .before .before .before .pre .case) _ _ g (c .before .before .before .before .before .before .before .before .before .before .before .before .before .before .if1 .left) in
+    (t .fits, t .ends ∙ sym (t .atoms-are), omega (arith, atoms-few (c .before .before .before .before .before .before .before .before .before .before .before .before .before .before .before .before .before .before .before .before .before .before .before .pre .case) _ _ g (c .before .before .before .before .before .before .before .before .before .before .before .before .before .before .if1 .left)), omega arith)
 
 reply-of-requires : tie.Need-reply-of-requires
 reply-of-requires c κs = search needs
@@ -87,7 +86,7 @@ returns-5 c = record {
   fit = λ j. omega (arith, c .before .before .before .before .before .before .before .before .before .before .before .before .before .before .before .before .before .shared-slice-known3 .given j);
   builds = λ x F h A held.
       let g = c .before .before .before .before .before .before .before .before .before .before .before .before .before .ground-case .ensures x _ h in
-      let is = tabled x [] [] [] [] _ _ g (c .before .before .before .before .before .before .before .before .before .before .before .if1 .left) .is in
+      let is = tabled x _ _ g (c .before .before .before .before .before .before .before .before .before .before .before .if1 .left) .is in
       builds-spare x _ F _ _ _ _ g (c .before .before .before .before .before .before .before .before .before .before .before .if1 .left) _ (c .before .before .before .before .before .before .before .before .before .picks-length .ensures .1 (problemOf x) is) (omega arith) (omega arith) (omega arith) _ (c .before .before .before .spare-word .ensures (problemOf x) is) _ (c .before .s .given .1);
 }
 
@@ -102,7 +101,7 @@ returns-6 c = record {
   fit = λ j. omega (arith, c .before .before .before .before .before .before .before .before .before .before .before .before .before .before .before .before .before .before .before .before .before .before .before .before .before .before .shared-slice-known3 .given j);
   builds = λ x F h A held.
       let g = c .before .before .before .before .before .before .before .before .before .before .before .before .before .before .before .before .before .before .before .before .before .before .ground-case .ensures x _ h in
-      let is = tabled x [] [] [] [] _ _ g (c .before .before .before .before .before .before .before .before .before .before .before .before .before .before .before .before .before .before .before .before .if1 .left) .is in
+      let is = tabled x _ _ g (c .before .before .before .before .before .before .before .before .before .before .before .before .before .before .before .before .before .before .before .before .if1 .left) .is in
       builds-built x _ F _ _ _ _ g (c .before .before .before .before .before .before .before .before .before .before .before .before .before .before .before .before .before .before .before .before .if1 .left) _ (c .before .before .before .before .before .before .before .before .before .before .before .before .before .before .before .before .before .before .picks-length .ensures .1 (problemOf x) is) (omega arith) (omega arith) (omega arith) _ (c .before .before .before .before .before .before .before .before .before .before .before .before .spare-word .ensures (problemOf x) is) (c .before .before .before .before .before .before .before .before .before .before .enum-told .given .1) _ _ _ h A held _ _ _ (c .before .before .before .before .before .start-and-build .ensures x F) _ (c .reply-of .ensures);
 }
 

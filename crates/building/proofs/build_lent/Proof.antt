@@ -1,9 +1,8 @@
 -- `building::build_lent` meets its contract: the case is refused, or steps are built from the lent words. Assumes nothing.
-use mathlib.Core.List.{[]}
 use native.Mathlib.Omega.{arith}
-use Rattle.definitions.specs.Outcome.{asNumbers}
 use Rattle.sheets.proofs.Loops.{zeros-clear}
-use Rattle.building.specs.Calls.{call-case, case-in, call-lent}
+use Rattle.cases.specs.Known.{case-in}
+use Rattle.building.specs.Calls.{call-case, call-lent}
 use borrow.Author.Needs.{needs}
 use Rattle.building.proofs.build_lent.Statement.{statement}
 use Rattle.building.proofs.build_lent.Tie as tie
@@ -21,7 +20,7 @@ slice-aggregate-build-case : tie.Need-slice-aggregate-build-case
 slice-aggregate-build-case c = search needs
 
 build-case-requires : tie.Need-build-case-requires
-build-case-requires c κs = case-in _ _ (asNumbers []) [] [] _ _ (c .before .before .before .before .before .before .read-case .ensures) (c .before .before .before .if1 .left)
+build-case-requires c κs = case-in _ _ _ _ (c .before .before .before .before .before .before .read-case .ensures) (c .before .before .before .if1 .left)
 
 same-length : tie.Need-same-length
 same-length c = search needs

@@ -1,9 +1,8 @@
 -- `building::build_text` meets its contract: the case is refused, the text is, or steps are built from its picks. Assumes nothing.
-use mathlib.Core.List.{[]}
 use native.Mathlib.Omega.{arith}
-use Rattle.definitions.specs.Outcome.{asNumbers}
 use Rattle.sheets.proofs.Loops.{zeros-clear}
-use Rattle.building.specs.Calls.{call-case, case-in, call-text-refused, call-text}
+use Rattle.cases.specs.Known.{case-in}
+use Rattle.building.specs.Calls.{call-case, call-text-refused, call-text}
 use borrow.Author.Needs.{needs}
 use Rattle.building.proofs.build_text.Statement.{statement}
 use Rattle.building.proofs.build_text.Tie as tie
@@ -21,7 +20,7 @@ slice-aggregate-picks : tie.Need-slice-aggregate-picks
 slice-aggregate-picks c = search needs
 
 picks-requires : tie.Need-picks-requires
-picks-requires c κs = let h = case-in _ _ (asNumbers []) [] [] _ _ (c .before .before .before .before .before .read-case .ensures) (c .before .before .if1 .left) .holds in (h .sound, omega arith, h .few-elements, zeros-clear 256)
+picks-requires c κs = let h = case-in _ _ _ _ (c .before .before .before .before .before .read-case .ensures) (c .before .before .if1 .left) .holds in (h .sound, omega arith, h .few-elements, zeros-clear 256)
 
 enum-known-a : tie.Need-enum-known-a
 enum-known-a c = search needs
@@ -36,7 +35,7 @@ slice-aggregate-build-case-2 : tie.Need-slice-aggregate-build-case-2
 slice-aggregate-build-case-2 c = search needs
 
 build-case-requires : tie.Need-build-case-requires
-build-case-requires c κs = case-in _ _ (asNumbers []) [] [] _ _ (c .before .before .before .before .before .before .before .before .before .before .before .before .before .read-case .ensures) (c .before .before .before .before .before .before .before .before .before .before .if1 .left)
+build-case-requires c κs = case-in _ _ _ _ (c .before .before .before .before .before .before .before .before .before .before .before .before .before .read-case .ensures) (c .before .before .before .before .before .before .before .before .before .before .if1 .left)
 
 returns-2 : tie.Need-returns-2
 returns-2 c = call-text-refused _ _ _ _ _ _ (c .before .before .before .before .before .before .before .before .before .before .read-case .ensures) (c .before .before .before .before .before .before .before .if1 .left) _ _ (c .before .before .before .before .picks .ensures .0) _ _ (c .before .a .given .1)

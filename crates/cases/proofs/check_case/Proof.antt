@@ -1,9 +1,9 @@
 -- `cases::check_case` meets its contract: each return is a law of `Replies`: 11, 12, or the steps taken. Assumes nothing.
 use mathlib.Core.Path.{refl, sym}
 use native.Mathlib.Omega.{arith}
-use mathlib.Core.List.{[]}
 use lib.Seq.{length-take-le}
-use Rattle.cases.specs.Replies.{checks-over, checks-short, checks-ran, within, atoms-few, words-fit, ran-of}
+use Rattle.cases.specs.Known.{table-is, atoms-few, words-fit, ran-of}
+use Rattle.cases.specs.Replies.{checks-over, checks-short, checks-ran}
 use borrow.Author.Needs.{needs}
 use Rattle.cases.proofs.check_case.Statement.{statement}
 use Rattle.cases.proofs.check_case.Tie as tie
@@ -18,7 +18,7 @@ returns : tie.Need-returns
 returns c = λ x h. checks-over x _ _ _ _ (c .before .before .ground-case .ensures x _ h) (c .if1 .taken)
 
 add-words : tie.Need-add-words
-add-words c = omega (arith, atoms-few (c .before .before .before .before .before .before .before .before .before .pre .case) [] [] _ _ (c .before .before .before .ground-case .ensures (c .before .before .before .before .before .before .before .before .before .pre .case) _ (c .before .before .before .before .before .before .before .before .before .pre .holds)) (c .before .if1 .left))
+add-words c = omega (arith, atoms-few (c .before .before .before .before .before .before .before .before .before .pre .case) _ _ (c .before .before .before .ground-case .ensures (c .before .before .before .before .before .before .before .before .before .pre .case) _ (c .before .before .before .before .before .before .before .before .before .pre .holds)) (c .before .if1 .left))
 
 returns-2 : tie.Need-returns-2
 returns-2 c = λ x h. checks-short x _ _ _ _ (c .before .before .before .before .ground-case .ensures x _ h) (c .before .before .if1 .left) (c .if2 .taken)
@@ -33,7 +33,7 @@ slice-aggregate-start-and-run-2 : tie.Need-slice-aggregate-start-and-run-2
 slice-aggregate-start-and-run-2 c = sym (length-take-le _ _ (omega arith))
 
 start-and-run-requires : tie.Need-start-and-run-requires
-start-and-run-requires c κs = (record { problem = within (c .before .before .before .before .before .before .before .before .before .before .before .before .pre .case) [] [] _ _ (c .before .before .before .before .before .before .ground-case .ensures (c .before .before .before .before .before .before .before .before .before .before .before .before .pre .case) _ (c .before .before .before .before .before .before .before .before .before .before .before .before .pre .holds)) (c .before .before .before .before .if1 .left) .0; is = within (c .before .before .before .before .before .before .before .before .before .before .before .before .pre .case) [] [] _ _ (c .before .before .before .before .before .before .ground-case .ensures (c .before .before .before .before .before .before .before .before .before .before .before .before .pre .case) _ (c .before .before .before .before .before .before .before .before .before .before .before .before .pre .holds)) (c .before .before .before .before .if1 .left) .2 .is; fits = within (c .before .before .before .before .before .before .before .before .before .before .before .before .pre .case) [] [] _ _ (c .before .before .before .before .before .before .ground-case .ensures (c .before .before .before .before .before .before .before .before .before .before .before .before .pre .case) _ (c .before .before .before .before .before .before .before .before .before .before .before .before .pre .holds)) (c .before .before .before .before .if1 .left) .2 .fits }, words-fit (c .before .before .before .before .before .before .before .before .before .before .before .before .pre .case) [] [] _ _ (c .before .before .before .before .before .before .ground-case .ensures (c .before .before .before .before .before .before .before .before .before .before .before .before .pre .case) _ (c .before .before .before .before .before .before .before .before .before .before .before .before .pre .holds)) (c .before .before .before .before .if1 .left) _ (sym (length-take-le _ _ (omega arith))))
+start-and-run-requires c κs = (table-is (c .before .before .before .before .before .before .before .before .before .before .before .before .pre .case) _ _ (c .before .before .before .before .before .before .ground-case .ensures (c .before .before .before .before .before .before .before .before .before .before .before .before .pre .case) _ (c .before .before .before .before .before .before .before .before .before .before .before .before .pre .holds)) (c .before .before .before .before .if1 .left), words-fit (c .before .before .before .before .before .before .before .before .before .before .before .before .pre .case) _ _ (c .before .before .before .before .before .before .ground-case .ensures (c .before .before .before .before .before .before .before .before .before .before .before .before .pre .case) _ (c .before .before .before .before .before .before .before .before .before .before .before .before .pre .holds)) (c .before .before .before .before .if1 .left) _ (sym (length-take-le _ _ (omega arith))))
 
 reply-of-requires : tie.Need-reply-of-requires
 reply-of-requires c κs = search needs
@@ -42,7 +42,7 @@ same-length : tie.Need-same-length
 same-length c = search needs
 
 returns-3 : tie.Need-returns-3
-returns-3 c = λ x h. checks-ran x _ _ _ _ (c .before .before .before .before .before .before .before .before .before .before .ground-case .ensures x _ h) (c .before .before .before .before .before .before .before .before .if1 .left) (omega arith) _ _ _ _ (ran-of x _ _ _ _ (c .before .before .before .before .before .before .before .before .before .before .ground-case .ensures x _ h) (c .before .before .before .before .before .before .before .before .if1 .left) _ _ _ _ _ _ h (sym (length-take-le _ _ (omega arith))) (c .before .before .before .start-and-run .ensures)) refl (c .reply-of .ensures)
+returns-3 c = λ x h. checks-ran x _ _ _ _ (c .before .before .before .before .before .before .before .before .before .before .ground-case .ensures x _ h) (c .before .before .before .before .before .before .before .before .if1 .left) (omega arith) _ _ _ _ (ran-of x _ _ (c .before .before .before .before .before .before .before .before .before .before .ground-case .ensures x _ h) (c .before .before .before .before .before .before .before .before .if1 .left) _ _ _ _ _ _ _ h (sym (length-take-le _ _ (omega arith))) (c .before .before .before .start-and-run .ensures)) refl (c .reply-of .ensures)
 
 pub check-case-spec : {M : Type 1} → statement M
 check-case-spec =

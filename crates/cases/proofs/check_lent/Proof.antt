@@ -1,9 +1,8 @@
 -- `cases::check_lent` meets its contract: the case is refused, the steps are too many, or they are run. Assumes nothing.
-use mathlib.Core.List.{[]}
 use native.Mathlib.Omega.{arith}
-use Rattle.definitions.specs.Outcome.{asNumbers}
 use Rattle.sheets.proofs.Loops.{zeros-clear}
-use Rattle.cases.specs.Replies.{call-case, call-known, call-steps, call-ran, lent-many, lent-few}
+use Rattle.cases.specs.Known.{case-in}
+use Rattle.cases.specs.Replies.{call-case, call-steps, call-ran, lent-many, lent-few}
 use borrow.Author.Needs.{needs}
 use Rattle.cases.proofs.check_lent.Statement.{statement}
 use Rattle.cases.proofs.check_lent.Tie as tie
@@ -24,7 +23,7 @@ slice-aggregate-check-case : tie.Need-slice-aggregate-check-case
 slice-aggregate-check-case c = search needs
 
 check-case-requires : tie.Need-check-case-requires
-check-case-requires c κs = record { case = call-known _ _ (asNumbers []) [] _ _ (c .before .before .before .before .before .before .read-case .ensures) (c .before .before .before .if1 .left) .0; holds = call-known _ _ (asNumbers []) [] _ _ (c .before .before .before .before .before .before .read-case .ensures) (c .before .before .before .if1 .left) .2 }
+check-case-requires c κs = case-in _ _ _ _ (c .before .before .before .before .before .before .read-case .ensures) (c .before .before .before .if1 .left)
 
 same-length : tie.Need-same-length
 same-length c = search needs

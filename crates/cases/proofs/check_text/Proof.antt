@@ -1,11 +1,11 @@
 -- `cases::check_text` meets its contract: the case is refused, the text is refused, or its steps are run. Assumes nothing.
-use mathlib.Core.Path.{sym, _∙_, ap}
+use mathlib.Core.Path.{sym}
 use mathlib.Core.List.{[]}
 use native.Mathlib.Omega.{arith}
 use lib.Seq.{length-take-le}
-use Rattle.definitions.specs.Outcome.{asNumbers}
 use Rattle.sheets.proofs.Loops.{zeros-clear}
-use Rattle.cases.specs.Replies.{call-case, call-known, call-steps, call-ran, text-refused, text-taken, text-room}
+use Rattle.cases.specs.Known.{case-in}
+use Rattle.cases.specs.Replies.{call-case, call-steps, call-ran, text-refused, text-taken, text-room}
 use borrow.Author.Needs.{needs}
 use Rattle.cases.proofs.check_text.Statement.{statement}
 use Rattle.cases.proofs.check_text.Tie as tie
@@ -41,7 +41,7 @@ slice-aggregate-check-case-2 : tie.Need-slice-aggregate-check-case-2
 slice-aggregate-check-case-2 c = sym (length-take-le _ _ (omega (arith, text-room _ [] _ _ (c .before .before .before .before .before .before .steps .ensures .0) (c .before .before .before .a2 .given .1))))
 
 check-case-requires : tie.Need-check-case-requires
-check-case-requires c κs = record { case = call-known _ _ (asNumbers []) [] _ _ (c .before .before .before .before .before .before .before .before .before .before .before .before .read-case .ensures) (c .before .before .before .before .before .before .before .before .before .if1 .left) .0; holds = call-known _ _ (asNumbers []) [] _ _ (c .before .before .before .before .before .before .before .before .before .before .before .before .read-case .ensures) (c .before .before .before .before .before .before .before .before .before .if1 .left) .2 }
+check-case-requires c κs = case-in _ _ _ _ (c .before .before .before .before .before .before .before .before .before .before .before .before .read-case .ensures) (c .before .before .before .before .before .before .before .before .before .if1 .left)
 
 returns-2 : tie.Need-returns-2
 returns-2 c = call-steps _ _ _ _ _ _ (c .before .before .before .before .before .before .before .before .before .read-case .ensures) (c .before .before .before .before .before .before .if1 .left) _ _ (text-refused _ [] _ _ _ (c .before .before .before .before .steps .ensures .0) (c .before .a .given .1))

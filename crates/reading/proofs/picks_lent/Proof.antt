@@ -1,10 +1,9 @@
 -- `reading::picks_lent` meets its contract: the case is refused, the steps are too many, or they are run. Assumes nothing.
 use native.Mathlib.Omega.{arith}
 use Rattle.sheets.proofs.Loops.{zeros-clear}
+use Rattle.cases.specs.Known.{case-in}
 use Rattle.cases.specs.Replies.{lent-many, lent-few}
-use Rattle.reading.specs.Reads.{call-case, call-in, call-steps, call-ran}
-use mathlib.Core.List.{[]}
-use Rattle.definitions.specs.Outcome.{asNumbers}
+use Rattle.reading.specs.Reads.{call-case, call-steps, call-ran}
 use borrow.Author.Needs.{needs}
 use Rattle.reading.proofs.picks_lent.Statement.{statement}
 use Rattle.reading.proofs.picks_lent.Tie as tie
@@ -25,7 +24,7 @@ slice-aggregate-read-picks : tie.Need-slice-aggregate-read-picks
 slice-aggregate-read-picks c = search needs
 
 read-picks-requires : tie.Need-read-picks-requires
-read-picks-requires c κs = call-in _ _ (asNumbers []) [] [] _ _ (c .before .before .before .before .before .before .before .read-case .ensures) (c .before .before .before .before .if1 .left)
+read-picks-requires c κs = case-in _ _ _ _ (c .before .before .before .before .before .before .before .read-case .ensures) (c .before .before .before .before .if1 .left)
 
 same-length : tie.Need-same-length
 same-length c = search needs

@@ -3,10 +3,10 @@ use mathlib.Core.Path.{sym}
 use mathlib.Core.List.{[]}
 use native.Mathlib.Omega.{arith}
 use lib.Seq.{length-take-le}
-use Rattle.definitions.specs.Outcome.{asNumbers}
 use Rattle.sheets.proofs.Loops.{zeros-clear}
+use Rattle.cases.specs.Known.{case-in}
 use Rattle.cases.specs.Replies.{text-refused, text-taken, text-room}
-use Rattle.reading.specs.Reads.{call-case, call-in, call-steps, call-ran}
+use Rattle.reading.specs.Reads.{call-case, call-steps, call-ran}
 use borrow.Author.Needs.{needs}
 use Rattle.reading.proofs.picks_text.Statement.{statement}
 use Rattle.reading.proofs.picks_text.Tie as tie
@@ -42,7 +42,7 @@ slice-aggregate-read-picks-2 : tie.Need-slice-aggregate-read-picks-2
 slice-aggregate-read-picks-2 c = sym (length-take-le _ _ (omega (arith, text-room _ [] _ _ (c .before .before .before .before .before .before .steps .ensures .0) (c .before .before .before .a2 .given .1))))
 
 read-picks-requires : tie.Need-read-picks-requires
-read-picks-requires c κs = call-in _ _ (asNumbers []) [] [] _ _ (c .before .before .before .before .before .before .before .before .before .before .before .before .before .read-case .ensures) (c .before .before .before .before .before .before .before .before .before .before .if1 .left)
+read-picks-requires c κs = case-in _ _ _ _ (c .before .before .before .before .before .before .before .before .before .before .before .before .before .read-case .ensures) (c .before .before .before .before .before .before .before .before .before .before .if1 .left)
 
 returns-2 : tie.Need-returns-2
 returns-2 c = call-steps _ _ _ _ _ _ _ (c .before .before .before .before .before .before .before .before .before .read-case .ensures) (c .before .before .before .before .before .before .if1 .left) _ _ (text-refused _ [] _ _ _ (c .before .before .before .before .steps .ensures .0) (c .before .a .given .1))

@@ -3,7 +3,8 @@ use mathlib.Core.Path.{refl, sym}
 use mathlib.Core.List.{[]}
 use native.Mathlib.Omega.{arith}
 use lib.Seq.{length-take-le}
-use Rattle.reading.specs.Reads.{reads-over, reads-few-picks, reads-few-words, reads-ran, its-read, its-table, its-atoms, its-words}
+use Rattle.cases.specs.Known.{table-is, atoms-few, words-fit}
+use Rattle.reading.specs.Reads.{reads-over, reads-few-picks, reads-few-words, reads-ran, its-read}
 use borrow.Author.Needs.{needs}
 use Rattle.reading.proofs.read_picks.Statement.{statement}
 use Rattle.reading.proofs.read_picks.Tie as tie
@@ -21,13 +22,13 @@ slice-aggregate-picks-length : tie.Need-slice-aggregate-picks-length
 slice-aggregate-picks-length c = search needs
 
 picks-length-requires : tie.Need-picks-length-requires
-picks-length-requires c κs = its-table _ _ _ (c .before .before .before .before .before .before .before .before .before .before .pre) _ _ (c .before .before .before .ground-case .ensures) (c .before .if1 .left) .fits
+picks-length-requires c κs = table-is (c .before .before .before .before .before .before .before .before .before .before .pre .case) _ _ (c .before .before .before .ground-case .ensures (c .before .before .before .before .before .before .before .before .before .before .pre .case) _ (c .before .before .before .before .before .before .before .before .before .before .pre .holds)) (c .before .if1 .left) .fits
 
 returns-2 : tie.Need-returns-2
 returns-2 c = λ x A h. reads-few-picks x _ _ _ _ _ (c .before .before .before .before .before .ground-case .ensures x _ h) (c .before .before .before .if1 .left) _ (c .before .picks-length .ensures .1) (omega arith)
 
 add-words : tie.Need-add-words
-add-words c = omega (arith, its-atoms _ _ _ (c .before .before .before .before .before .before .before .before .before .before .before .before .before .pre) _ _ (c .before .before .before .before .before .before .ground-case .ensures) (c .before .before .before .before .if1 .left))
+add-words c = omega (arith, atoms-few (c .before .before .before .before .before .before .before .before .before .before .before .before .before .pre .case) _ _ (c .before .before .before .before .before .before .ground-case .ensures (c .before .before .before .before .before .before .before .before .before .before .before .before .before .pre .case) _ (c .before .before .before .before .before .before .before .before .before .before .before .before .before .pre .holds)) (c .before .before .before .before .if1 .left))
 
 returns-3 : tie.Need-returns-3
 returns-3 c = λ x A h. reads-few-words x _ _ _ _ _ (c .before .before .before .before .before .before .before .ground-case .ensures x _ h) (c .before .before .before .before .before .if1 .left) _ (c .before .before .before .picks-length .ensures .1) (omega arith) (omega arith)
@@ -42,7 +43,7 @@ slice-aggregate-run-and-copy-2 : tie.Need-slice-aggregate-run-and-copy-2
 slice-aggregate-run-and-copy-2 c = sym (length-take-le _ _ (omega arith))
 
 run-and-copy-requires : tie.Need-run-and-copy-requires
-run-and-copy-requires c κs = (its-table _ _ _ (c .before .before .before .before .before .before .before .before .before .before .before .before .before .before .before .before .before .pre) _ _ (c .before .before .before .before .before .before .before .before .before .before .ground-case .ensures) (c .before .before .before .before .before .before .before .before .if1 .left), (its-words _ _ _ (c .before .before .before .before .before .before .before .before .before .before .before .before .before .before .before .before .before .pre) _ _ (c .before .before .before .before .before .before .before .before .before .before .ground-case .ensures) (c .before .before .before .before .before .before .before .before .if1 .left) _ (sym (length-take-le _ _ (omega arith))), omega (arith, c .before .before .before .before .before .before .picks-length .ensures .0)))
+run-and-copy-requires c κs = (table-is (c .before .before .before .before .before .before .before .before .before .before .before .before .before .before .before .before .before .pre .case) _ _ (c .before .before .before .before .before .before .before .before .before .before .ground-case .ensures (c .before .before .before .before .before .before .before .before .before .before .before .before .before .before .before .before .before .pre .case) _ (c .before .before .before .before .before .before .before .before .before .before .before .before .before .before .before .before .before .pre .holds)) (c .before .before .before .before .before .before .before .before .if1 .left), (words-fit (c .before .before .before .before .before .before .before .before .before .before .before .before .before .before .before .before .before .pre .case) _ _ (c .before .before .before .before .before .before .before .before .before .before .ground-case .ensures (c .before .before .before .before .before .before .before .before .before .before .before .before .before .before .before .before .before .pre .case) _ (c .before .before .before .before .before .before .before .before .before .before .before .before .before .before .before .before .before .pre .holds)) (c .before .before .before .before .before .before .before .before .if1 .left) _ (sym (length-take-le _ _ (omega arith))), omega (arith, c .before .before .before .before .before .before .picks-length .ensures .0)))
 
 same-length : tie.Need-same-length
 same-length c = search needs

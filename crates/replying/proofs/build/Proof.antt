@@ -2,8 +2,10 @@
 use native.Mathlib.Omega.{arith}
 use Rattle.sheets.proofs.Loops.{zeros-clear}
 use Rattle.replying.specs.Replied.{answer-as}
-use Rattle.replying.specs.Known.{case-refused, case-known}
-use Rattle.replying.specs.Planned.{plan-refused, text-refused, is-picked, text-planned}
+use Rattle.cases.specs.Known.{case-refused}
+use Rattle.cases.specs.Order.{plan-case}
+use Rattle.replying.specs.Known.{case-known}
+use Rattle.replying.specs.Planned.{text-refused, is-picked, text-planned}
 use borrow.Author.Needs.{needs}
 use Rattle.replying.proofs.build.Statement.{statement}
 use Rattle.replying.proofs.build.Tie as tie
@@ -21,7 +23,7 @@ same-length : tie.Need-same-length
 same-length c = search needs
 
 returns : tie.Need-returns
-returns c = answer-as _ _ _ _ _ (plan-refused _ _ _ _ _ (case-refused _ _ _ _ (c .before .before .before .before .before .before .before .read-case .ensures) (c .before .before .before .before .if1 .taken))) (c .before .before .refuse .ensures)
+returns c = answer-as _ _ _ _ _ (plan-case _ _ _ _ _ _ _ (case-refused _ _ _ _ (c .before .before .before .before .before .before .before .read-case .ensures) (c .before .before .before .before .if1 .taken))) (c .before .before .refuse .ensures)
 
 slice-aggregate-picks : tie.Need-slice-aggregate-picks
 slice-aggregate-picks c = search needs

@@ -3,7 +3,8 @@ use mathlib.Core.Path.{sym, _∙_}
 use native.Mathlib.Omega.{arith}
 use lib.Seq.{length-take-le}
 use Rattle.building.specs.Starts.{front-short}
-use Rattle.replying.specs.Known.{reportable, tabled, atoms-most}
+use Rattle.cases.specs.Known.{tabled, atoms-few}
+use Rattle.replying.specs.Known.{reportable}
 use Rattle.replying.specs.Planned.{built-fit, reply-over, reply-long, reply-kind, reply-false, reply-built}
 use borrow.Author.Needs.{needs}
 use Rattle.replying.proofs.build_case.Statement.{statement}
@@ -45,7 +46,7 @@ slice-aggregate-start-and-build-3 c = search needs
 start-and-build-requires : tie.Need-start-and-build-requires
 start-and-build-requires c κs = let g = c .before .before .before .before .before .before .before .ground-case .ensures (c .before .before .before .before .before .before .before .before .before .before .before .before .before .pre .0 .case) _ (c .before .before .before .before .before .before .before .before .before .before .before .before .before .pre .0 .known .holds) in
     let t = tabled _ _ _ g (c .before .before .before .before .before .if1 .left) in
-    let h = atoms-most _ _ _ g (c .before .before .before .before .before .if1 .left) in
+    let h = atoms-few _ _ _ g (c .before .before .before .before .before .if1 .left) in
     (t .fits, t .ends ∙ sym (t .atoms-are), omega (arith, h), omega (arith, h))
 
 enum-known-a : tie.Need-enum-known-a

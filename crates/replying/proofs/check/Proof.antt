@@ -6,7 +6,8 @@ use lib.Seq.{length-take-le}
 use Rattle.sheets.proofs.Loops.{zeros-clear}
 use Rattle.cases.specs.Replies.{text-refused, text-taken, text-room}
 use Rattle.replying.specs.Replied.{answer-as}
-use Rattle.replying.specs.Known.{case-refused, case-known}
+use Rattle.cases.specs.Known.{case-refused}
+use Rattle.replying.specs.Known.{case-known}
 use Rattle.replying.specs.Checked.{checked-refused, text-fault, text-checked, steps-few}
 use borrow.Author.Needs.{needs}
 use Rattle.replying.proofs.check.Statement.{statement}

@@ -1,0 +1,164 @@
+-- What is known once a case was read and its problem grounded: the refusal or the case, the facts, the table and the counts.
+-- Assumes nothing.
+use Prim.Native.Nat.{ℕ, zero, _+_, _/_, _≤_, _<_}
+use mathlib.Core.Path.{_≡_, refl, sym, ap, ap₂, subst, _∙_}
+use mathlib.Core.Bool.{Bool, true, false, _||_}
+use mathlib.Core.List.{List}
+use native.Mathlib.Omega.{arith}
+use lib.Dec.{ltb}
+use lib.ListN.{length}
+use borrow.Author.Tests.{lt-ltb, le-ltb, ltb-false}
+use Rattle.definitions.specs.Limits.{atomLimit, actionLimit}
+use Rattle.definitions.specs.Refusal.{Result, refused, accepted, refuseIf}
+use Rattle.definitions.specs.Sheets.{readQuestion}
+use Rattle.definitions.specs.Truth.{Case}
+use Rattle.definitions.specs.Atoms.{Problem, problemOf, problemWith, atoms, wordsFor}
+use Rattle.definitions.specs.Actions.{actions}
+use Rattle.definitions.specs.Outcome
+use Rattle.bits.specs.Table.{bit}
+use Rattle.laws.specs.Booleans.{T-of}
+use Rattle.laws.specs.Results.{bind-parts, not-refused}
+use Rattle.reduction.specs.Reader.{Accepted, gives-if, case-fits, QuestionFits, question-fits}
+use Rattle.reduction.specs.Building.{ground-is}
+use Rattle.initial.specs.Rows.{atomsIn}
+use Rattle.initial.specs.Initial.{FactsIn}
+use Rattle.initial.specs.Marked.{facts-in}
+use Rattle.sheets.specs.declared.Answer.{Answer}
+use Rattle.sheets.specs.declared.Answer.the-variants.{Done, Refused}
+use Rattle.sheets.specs.Reading.{answered}
+use Rattle.decode.specs.Decoded.{Grounded}
+use Rattle.opening.specs.declared.Opened.{Opened}
+use Rattle.opening.specs.Read.{Holds, CaseRead}
+use Rattle.grounding.specs.declared.Sized.{Sized}
+use Rattle.grounding.specs.Grounds.{GroundsTo, Tabled}
+use Rattle.runs.specs.declared.End.{End}
+use Rattle.checking.specs.Checks.{Ran, Runs}
+
+-- ---- the case
+
+-- some case was read from the question's text, and its facts stand in the table
+pub record CaseIn (s : List ℕ) (o : Opened) (facts : ℕ → Bool) : Type 0 where
+  pub case : Case
+  pub holds : Holds s case o facts
+
+module _ (question site : List ℕ) (o : Opened) (facts : ℕ → Bool) (read : CaseRead question (Outcome.readCase question site) o facts) where
+  pub case-refused : (o .fault ≡ 0 → ⊥) → Outcome.readCase question site ≡ refused (o .fault) (o .place)
+  unfolding CaseRead
+  case-refused z = go (Outcome.readCase question site) read
+    where
+      go : (x : Result Case) → CaseRead question x o facts → x ≡ refused (o .fault) (o .place)
+      go (refused k place) h = ap₂ refused (sym (h .number)) (sym (h .where-it-is))
+      go (accepted c) h = absurd (z (h .no-fault))
+
+  module _ (z : o .fault ≡ 0) where
+    pub case-read : (c : Case) × (Outcome.readCase question site ≡ accepted c) × Holds question c o facts
+    unfolding CaseRead
+    case-read = go (Outcome.readCase question site) refl read
+      where
+        go : (x : Result Case) → Outcome.readCase question site ≡ x → CaseRead question x o facts → (c : Case) × (Outcome.readCase question site ≡ accepted c) × Holds question c o facts
+        go (refused k place) e h = absurd (omega (arith, h .some-fault))
+        go (accepted c) e h = (c, e, h)
+
+    pub case-in : CaseIn question o facts
+    case-in = record { case = case-read .0; holds = case-read .2 }
+
+    pub case-accepted : Accepted (case-read .0)
+    case-accepted = gives-if Accepted (Outcome.readCase question site) (case-read .0) (case-read .1) (case-fits question site)
+
+-- the facts' words are those of the case's problem
+pub facts-held : (s : List ℕ) (c : Case) (o : Opened) (f : List ℕ) → Holds s c o (bit f) → FactsIn (problemOf c) f
+facts-held s c o f h =
+    let q = gives-if QuestionFits (readQuestion s) (c .question) (h .asked) (question-fits s) in
+    facts-in c s (o .sig) f (h .rels) (λ k m. q .rels-fit k m .is-static) (λ k m. q .chosen-fit k m .chosen) (subst (λ (n : ℕ). 0 < n) (h .size) (h .some-elements)) (h .facts-valid) (h .facts-are)
+
+-- the problem has the elements that were read
+pub elements-are : (s : List ℕ) (c : Case) (o : Opened) (facts : ℕ → Bool) → Holds s c o facts → o .n ≡ problemOf c .size
+unfolding problemOf problemWith
+elements-are s c o facts h = h .size
+
+-- ---- the problem
+
+-- the table of whatever case was read
+abbrev pub Grounding : List ℕ → Opened → Sized → List ℕ → Type 0
+Grounding s o m w = (c : Case) (facts : ℕ → Bool) → Holds s c o facts → GroundsTo (Outcome.ground c) m w
+
+or-false : (a b : Bool) → (a || b) ≡ false → (a ≡ false) × (b ≡ false)
+or-false true b e = absurd (T-of (sym e))
+or-false false b e = (refl, e)
+
+module _ (c : Case) (m : Sized) (w : List ℕ) (g : GroundsTo (Outcome.ground c) m w) where
+  pub case-over : m .over ≡ true → Outcome.ground c ≡ refused 11 0
+  unfolding GroundsTo
+  case-over o = go (Outcome.ground c) g
+    where
+      go : (x : Result Problem) → GroundsTo x m w → x ≡ refused 11 0
+      go (refused k place) h = ap₂ refused (h .number) (h .no-place)
+      go (accepted p) h = let z : false ≡ true = sym (h .within) ∙ o in absurd (T-of z)
+
+  module _ (o : m .over ≡ false) where
+    within : (p : Problem) × (Outcome.ground c ≡ accepted p) × Tabled p m w
+    unfolding GroundsTo
+    within = go (Outcome.ground c) refl g
+      where
+        go : (x : Result Problem) → Outcome.ground c ≡ x → GroundsTo x m w → (p : Problem) × (Outcome.ground c ≡ accepted p) × Tabled p m w
+        go (refused k place) e h = let z : false ≡ true = sym o ∙ h .over in absurd (T-of z)
+        go (accepted p) e h = (p, e, h)
+
+    -- it is the case's, and the table is its
+    pub grounds : Outcome.ground c ≡ accepted (problemOf c)
+    grounds = let (p, e, h) = within in e ∙ ap accepted (ground-is c p e)
+
+    pub tabled : Tabled (problemOf c) m w
+    tabled = let (p, e, h) = within in subst (λ (x : Problem). Tabled x m w) (ground-is c p e) h
+
+    pub table-is : Grounded w
+    table-is = record { problem = problemOf c; is = tabled .is; fits = tabled .fits }
+
+    -- there are few enough atoms and actions
+    limits : (ltb atomLimit (atoms (problemOf c)) ≡ false) × (ltb actionLimit (actions (problemOf c)) ≡ false)
+    unfolding Outcome.ground
+    limits =
+        let (u, a, e) = bind-parts (refuseIf (ltb atomLimit (atoms (problemOf c)) || ltb actionLimit (actions (problemOf c))) 11 zero) (λ _. accepted (problemOf c)) (problemOf c) grounds in
+        or-false (ltb atomLimit (atoms (problemOf c))) _ (not-refused _ 11 zero u a)
+
+    pub atoms-few : m .atoms ≤ atomLimit
+    atoms-few = subst (λ (k : ℕ). k ≤ atomLimit) (sym (tabled .atoms-are)) (ltb-false atomLimit (atoms (problemOf c)) (limits .0))
+
+    pub actions-few : actions (problemOf c) ≤ actionLimit
+    actions-few = ltb-false actionLimit (actions (problemOf c)) (limits .1)
+
+    -- the words of its state
+    pub words-are : (m .atoms + 63) / 64 ≡ Outcome.stateLength (problemOf c)
+    unfolding Outcome.stateLength wordsFor
+    words-are = ap (λ (k : ℕ). (k + 63) / 64) (tabled .atoms-are)
+
+    pub words-fit : (k : ℕ) → (m .atoms + 63) / 64 ≡ k → wordsFor (atomsIn w) ≤ k
+    unfolding wordsFor
+    words-fit k e = let q : (atomsIn w + 63) / 64 ≡ k = ap (λ (x : ℕ). (x + 63) / 64) (tabled .ends ∙ sym (tabled .atoms-are)) ∙ e in omega arith
+
+    -- what running steps in so many words gives
+    pub ran-of : (s : List ℕ) (opened : Opened) (f steps part new : List ℕ) (e : End) → Holds s c opened (bit f) → (m .atoms + 63) / 64 ≡ length part → Runs w f steps part e new → Ran (problemOf c) steps e new
+    unfolding Runs
+    ran-of s opened f steps part new e held l runs = runs (problemOf c) (tabled .is) (tabled .ends) (facts-held s c opened f held) (sym l ∙ words-are)
+
+-- ---- what a reader of a sheet answered
+
+pub sheet-refused : {A : Type 0} (f : A → ℕ) (x : Result A) (a : Answer) (k place : ℕ) → a ≡ answered f x → a ≡ Refused k place → x ≡ refused k place
+unfolding answered
+sheet-refused f (refused j at) a k place e n = cc
+sheet-refused f (accepted v) a k place e n = let z : _≡_ {A = ℕ} 0 1 = cc in absurd (omega arith)
+
+pub sheet-read : {A : Type 0} (f : A → ℕ) (x : Result A) (a : Answer) (n : ℕ) → a ≡ answered f x → a ≡ Done n → (v : A) × (x ≡ accepted v) × (f v ≡ n)
+unfolding answered
+sheet-read f (refused j at) a n e d = let z : _≡_ {A = ℕ} 0 1 = cc in absurd (omega arith)
+sheet-read f (accepted v) a n e d = (v, refl, cc)
+
+-- ---- rooms
+
+pub room-short : (needed room : ℕ) → room < needed → Outcome.roomFor needed room ≡ refused 12 needed
+unfolding Outcome.roomFor refuseIf
+room-short needed room h = rw (lt-ltb room needed h)
+
+pub room-there : (needed room : ℕ) → needed ≤ room → Outcome.roomFor needed room ≡ accepted tt
+unfolding Outcome.roomFor refuseIf
+room-there needed room h = rw (le-ltb room needed h)
