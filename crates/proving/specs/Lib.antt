@@ -4,6 +4,8 @@
 --   Following, FollowLaws    the builder's progress: state, lent steps and count
 pub mod Tries
 pub mod TryLaws
+pub mod NeedLaws
 pub mod Following
 pub mod FollowLaws
 pub mod RowLaws
+pub mod MarkLaws

@@ -24,16 +24,10 @@ use Rattle.ground.specs.OfLaws.{parts-length, may-is}
 use Rattle.ground.specs.declared.Act.{Act}
 use Rattle.states.specs.Planning.{rowIn, firstTry, tries, tryAt, stepNow}
 use Rattle.proving.specs.declared.Way.{Way}
-use Rattle.proving.specs.Tries.{actBy, wayBy, firstFrom}
+use Rattle.proving.specs.Tries.{actBy, wayBy, needBy, firstFrom, WayFits}
+use Rattle.proving.specs.TryLaws.{first-same}
 
 -- ---- the first that passes
-first-same : (f g : ℕ → Bool) (k a : ℕ) → ((i : ℕ) → i < k → f (a + i) ≡ g (a + i)) → firstFrom f a k ≡ firstFrom g a k
-unfolding firstFrom
-first-same f g zero a h = refl
-first-same f g (suc k) a h =
-    ap₂ (λ (b : Bool) (r : ℕ). if b then a else r) (ap f (sym (add-zero a)) ∙ h 0 (omega arith) ∙ ap g (add-zero a))
-    (first-same f g k (suc a) (λ i l. let e : suc a + i ≡ a + suc i = omega arith in ap f e ∙ h (suc i) (omega arith) ∙ ap g (sym e)))
-
 first-le : (f : ℕ → Bool) (k a : ℕ) → a ≤ firstFrom f a k
 unfolding firstFrom
 first-le f zero a = omega arith
@@ -176,44 +170,28 @@ module _ (p : Problem) (w : List ℕ) (is : Is p w) (element : 0 < p .size) (v :
       row-lost = subst₂ (λ (x : NodeLine) (y : Way). (r : ℕ) → First x y r → y .tries ≤ r → stepNow p s v (nodeAt p v) j ≡ none) (sym ex) (sym way-here) lost-here
 
 -- ---- what keeps the tries in the table
-pub record WayFits (w : List ℕ) (node kind : ℕ) (y : Way) : Type 0 where
-  pub row : y .row ≤ 2 ^ 32
-  pub elements : kind < 2 → y .base + y .tries ≤ sizeIn w
-  pub parts : 3 ≤ kind → y .base + y .tries ≤ nodeLine w node .many
-  pub few : y .base + y .tries ≤ 64
-  pub choices : y .choices ≤ 64
-
-way-small : (w : List ℕ) (node kind j : ℕ) → Fits w → node < 64 → j ≤ 2 ^ 32 → WayFits w node kind (wayBy (sizeIn w) kind (nodeLine w node .many) j)
+pub way-fits : (n : ℕ) (x : NodeLine) (j : ℕ) (y : Way) → 0 < n → n ≤ 64 → x .first + x .many ≤ 64 → j ≤ 2 ^ 32 → y ≡ wayBy n (x .kind) (x .many) j → WayFits n x y
 unfolding wayBy
-way-small w node kind j F l h = go (eqb kind 0) refl (eqb kind 1) refl (eqb kind 2) refl
+way-fits n x j y o s m h e = subst (WayFits n x) (sym e) (go (eqb (x .kind) 0) refl (eqb (x .kind) 1) refl (eqb (x .kind) 2) refl)
   where
-    n : ℕ
-    n = sizeIn w
-
-    m : ℕ
-    m = nodeLine w node .many
-
-    go : (b₀ : Bool) → eqb kind 0 ≡ b₀ → (b₁ : Bool) → eqb kind 1 ≡ b₁ → (b₂ : Bool) → eqb kind 2 ≡ b₂
-        → WayFits w node kind (if b₀ then record { row = j / sizeIn w; base = j % sizeIn w; tries = 1; choices = sizeIn w } else if b₁ then record { row = j; base = 0; tries = sizeIn w; choices = sizeIn w } else if b₂ then record { row = j; base = 0; tries = 1; choices = 1 } else record { row = j; base = 0; tries = nodeLine w node .many; choices = nodeLine w node .many })
+    go : (b₀ : Bool) → eqb (x .kind) 0 ≡ b₀ → (b₁ : Bool) → eqb (x .kind) 1 ≡ b₁ → (b₂ : Bool) → eqb (x .kind) 2 ≡ b₂
+        → WayFits n x (if b₀ then record { row = j / n; base = j % n; tries = 1; choices = n } else if b₁ then record { row = j; base = 0; tries = n; choices = n } else if b₂ then record { row = j; base = 0; tries = 1; choices = 1 } else record { row = j; base = 0; tries = x .many; choices = x .many })
     go true e₀ b₁ e₁ b₂ e₂ =
-        let z = eqb-true kind 0 e₀ in
-        let d = div-le-self j (sizeIn w) in
-        let q = mod-lt j (F .some) in
-        record { row = omega arith; elements = λ _. omega arith; parts = λ k. absurd (omega arith); few = omega (arith, F .size); choices = F .size }
+        let z = eqb-true (x .kind) 0 e₀ in
+        let d = div-le-self j n in
+        let q = mod-lt j o in
+        record { row = omega arith; elements = λ _. omega arith; parts = λ k. absurd (omega arith); few = omega arith; choices = s; up = λ _. refl; whole = λ k. absurd (omega arith) }
     go false e₀ true e₁ b₂ e₂ =
-        let z = eqb-true kind 1 e₁ in
-        record { row = h; elements = λ _. omega arith; parts = λ k. absurd (omega arith); few = omega (arith, F .size); choices = F .size }
+        let z = eqb-true (x .kind) 1 e₁ in
+        record { row = h; elements = λ _. omega arith; parts = λ k. absurd (omega arith); few = omega arith; choices = s; up = λ k. absurd (omega arith); whole = λ k. absurd (omega arith) }
     go false e₀ false e₁ true e₂ =
-        let z = eqb-true kind 2 e₂ in
-        record { row = h; elements = λ k. absurd (omega arith); parts = λ k. absurd (omega arith); few = omega arith; choices = omega arith }
+        let z = eqb-true (x .kind) 2 e₂ in
+        record { row = h; elements = λ k. absurd (omega arith); parts = λ k. absurd (omega arith); few = omega arith; choices = omega arith; up = λ k. absurd (omega arith); whole = λ _. refl }
     go false e₀ false e₁ false e₂ =
-        let a = eqb-false kind 0 e₀ in
-        let b = eqb-false kind 1 e₁ in
-        let q = F .node node l .parts in
-        record { row = h; elements = λ k. absurd (omega arith); parts = λ _. omega arith; few = omega arith; choices = omega arith }
-
-pub way-fits : (w : List ℕ) (node j : ℕ) → Fits w → node < 64 → j ≤ 2 ^ 32 → (x : NodeLine) (y : Way) → x ≡ nodeLine w node → y ≡ wayBy (sizeIn w) (x .kind) (x .many) j → WayFits w node (x .kind) y
-way-fits w node j F l h x y ex ey = subst (WayFits w node (x .kind)) (sym (ey ∙ ap (λ (z : NodeLine). wayBy (sizeIn w) (x .kind) (z .many) j) ex)) (way-small w node (x .kind) j F l h)
+        let a = eqb-false (x .kind) 0 e₀ in
+        let b = eqb-false (x .kind) 1 e₁ in
+        let c = eqb-false (x .kind) 2 e₂ in
+        record { row = h; elements = λ k. absurd (omega arith); parts = λ _. omega arith; few = omega arith; choices = omega arith; up = λ k. absurd (omega arith); whole = λ k. absurd (omega arith) }
 
 pub acts-small : (w : List ℕ) (node : ℕ) → Fits w → (x : NodeLine) → x ≡ nodeLine w node → x .acts ≤ 2 ^ 32
 unfolding nodeLine

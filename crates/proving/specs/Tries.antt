@@ -1,11 +1,17 @@
 -- The actions for an atom of a node by the numbers of the table, and the first of them that passes a test.
-use Prim.Native.Nat.{ℕ, zero, suc, _/_, _%_}
-use mathlib.Core.Bool.{Bool}
+use Prim.Native.Nat.{ℕ, zero, suc, _+_, _-_, _/_, _%_, _^_, _<_, _≤_}
+use mathlib.Core.Path.{_≡_}
+use mathlib.Core.Bool.{Bool, true, false}
+use mathlib.Core.List.{List}
 use lib.Dec.{eqb}
 use Rattle.definitions.specs.Lists.{if_then_else_}
+use Rattle.rows.specs.Values.{valueIn, Most}
+use Rattle.ground.specs.Numbers.{rowValues, andNeeds, orNeeds, existsNeeds, forallNeeds}
+use Rattle.ground.specs.declared.NodeLine.{NodeLine}
 use Rattle.ground.specs.declared.Act.{Act}
 use Rattle.ground.specs.declared.Act.the-variants.{And, Or, Exists, Forall}
 use Rattle.proving.specs.declared.Way.{Way}
+use Rattle.proving.specs.declared.Turn.{Turn}
 
 -- an action of a node by its kind
 unfoldable pub actBy : (kind node row choice : ℕ) → Act
@@ -14,6 +20,18 @@ actBy kind node row choice =
     else if eqb kind 1 then Exists (record { node = node; row = row; choice = choice })
     else if eqb kind 2 then And (record { node = node; row = row })
     else Or (record { node = node; row = row; choice = choice })
+
+-- what it needs, by the node's line
+unfoldable pub needBy : (n : ℕ) → List ℕ → NodeLine → (row choice : ℕ) → List ℕ
+needBy n w v row choice =
+    if eqb (v .kind) 0 then forallNeeds n w v row choice
+    else if eqb (v .kind) 1 then existsNeeds n w v row choice
+    else if eqb (v .kind) 2 then andNeeds n w v row
+    else orNeeds n w v row choice
+
+-- a part of a `forall` at z, and "true up to z−1" unless z is 0
+unfoldable pub chained : (ℕ → Bool) → (part z own : ℕ) → Bool
+chained s part z own = if s part then (if eqb z 0 then true else s (own - 1)) else false
 
 unfoldable pub wayBy : (n kind many j : ℕ) → Way
 wayBy n kind many j =
@@ -26,3 +44,22 @@ wayBy n kind many j =
 unfoldable pub firstFrom : (ℕ → Bool) → ℕ → ℕ → ℕ
 firstFrom f a zero = a
 firstFrom f a (suc k) = if f a then a else firstFrom f (suc a) k
+
+-- what keeps the tries in the table
+pub record WayFits (n : ℕ) (v : NodeLine) (y : Way) : Type 0 where
+  pub row : y .row ≤ 2 ^ 32
+  pub elements : v .kind < 2 → y .base + y .tries ≤ n
+  pub parts : 3 ≤ v .kind → y .base + y .tries ≤ v .many
+  pub few : y .base + y .tries ≤ 64
+  pub choices : y .choices ≤ 64
+  pub up : v .kind ≡ 0 → y .tries ≡ 1
+  pub whole : v .kind ≡ 2 → y .tries ≡ 1
+
+-- the values are those of the row; the way and the values are those of the atom j
+pub record TurnFits (n : ℕ) (v : NodeLine) (t : Turn) : Type 0 where
+  pub values : valueIn (t .env) ≡ rowValues n v (t .way .row)
+  pub most : Most (t .env) 64
+
+pub record TurnAt (n : ℕ) (v : NodeLine) (j : ℕ) (t : Turn) : Type 0 where
+  pub way : t .way ≡ wayBy n (v .kind) (v .many) j
+  pub fits : TurnFits n v t

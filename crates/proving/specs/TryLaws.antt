@@ -1,47 +1,15 @@
--- The actions and the way of each kind of node, and the search for the first that passes, step by step.
-use Prim.Native.Nat.{ℕ, suc, _+_, _-_, _/_, _%_, _<_, _≤_, _^_}
-use mathlib.Core.Path.{_≡_, refl, sym, ap, subst}
+-- The way of each kind of node, and the search for the first that passes, step by step.
+use Prim.Native.Nat.{ℕ, zero, suc, _+_, _-_, _/_, _%_, _<_, _≤_, _^_}
+use mathlib.Core.Path.{_≡_, refl, sym, ap, ap₂, _∙_}
 use mathlib.Core.Bool.{Bool, true, false}
 use mathlib.Core.List.{List}
 use native.Mathlib.Omega.{arith}
+use native.Mathlib.Nat.{add-zero, zero-add}
 use native.Mathlib.Numerals.{add-one}
 use lib.Dec.{eqb}
 use borrow.Author.Tests.{eq-eqb, ne-eqb, eqb-true, eqb-false}
 use Rattle.definitions.specs.Lists.{if_then_else_}
-use Rattle.ground.specs.Lines.{sizeIn, nodeLine}
-use Rattle.ground.specs.Numbers.{ActFits}
-use Rattle.ground.specs.declared.Act.{Act}
-use Rattle.ground.specs.declared.Act.the-variants.{And, Or, Exists, Forall}
-use Rattle.proving.specs.Tries.{actBy, wayBy, firstFrom}
-
-module _ (kind node row choice : ℕ) where
-  pub act-forall : kind ≡ 0 → Forall (record { node = node; row = row; choice = choice }) ≡ actBy kind node row choice
-  unfolding actBy
-  act-forall e = rw (eq-eqb kind 0 e)
-
-  pub act-exists : kind ≡ 1 → Exists (record { node = node; row = row; choice = choice }) ≡ actBy kind node row choice
-  unfolding actBy
-  act-exists e = rw (ne-eqb kind 0 (λ z. omega arith), eq-eqb kind 1 e)
-
-  pub act-and : kind ≡ 2 → And (record { node = node; row = row }) ≡ actBy kind node row choice
-  unfolding actBy
-  act-and e = rw (ne-eqb kind 0 (λ z. omega arith), ne-eqb kind 1 (λ z. omega arith), eq-eqb kind 2 e)
-
-  pub act-or : 3 ≤ kind → Or (record { node = node; row = row; choice = choice }) ≡ actBy kind node row choice
-  unfolding actBy
-  act-or h = rw (ne-eqb kind 0 (λ z. omega arith), ne-eqb kind 1 (λ z. omega arith), ne-eqb kind 2 (λ z. omega arith))
-
-  -- an action of a node is in the table
-  pub act-fits : (w : List ℕ) → node < 64 → row ≤ 2 ^ 32 → (kind < 2 → choice < sizeIn w) → (3 ≤ kind → choice < nodeLine w node .many) → (a : Act) → a ≡ actBy kind node row choice → ActFits w a
-  unfolding actBy
-  act-fits w a b c d x e = subst (ActFits w) (sym e) (go (eqb kind 0) refl (eqb kind 1) refl (eqb kind 2) refl)
-    where
-      go : (b₀ : Bool) → eqb kind 0 ≡ b₀ → (b₁ : Bool) → eqb kind 1 ≡ b₁ → (b₂ : Bool) → eqb kind 2 ≡ b₂
-          → ActFits w (if b₀ then Forall (record { node = node; row = row; choice = choice }) else if b₁ then Exists (record { node = node; row = row; choice = choice }) else if b₂ then And (record { node = node; row = row }) else Or (record { node = node; row = row; choice = choice }))
-      go true e₀ b₁ e₁ b₂ e₂ = let z = eqb-true kind 0 e₀ in (a, b, c (omega arith))
-      go false e₀ true e₁ b₂ e₂ = let z = eqb-true kind 1 e₁ in (a, b, c (omega arith))
-      go false e₀ false e₁ true e₂ = (a, b)
-      go false e₀ false e₁ false e₂ = let x = eqb-false kind 0 e₀ in let y = eqb-false kind 1 e₁ in let z = eqb-false kind 2 e₂ in (a, b, d (omega arith))
+use Rattle.proving.specs.Tries.{wayBy, firstFrom}
 
 module _ (n kind many j : ℕ) where
   pub way-forall : kind ≡ 0 → record { row = j / n; base = j % n; tries = 1; choices = n } ≡ wayBy n kind many j
@@ -76,3 +44,30 @@ module _ (f : ℕ → Bool) (k i : ℕ) where
   pub first-end : k ≤ i → i ≡ firstFrom f i (k - i)
   unfolding firstFrom
   first-end h = let m : k - i ≡ 0 = omega arith in rw m
+
+next-zero : (f : ℕ → Bool) (a : ℕ) → firstFrom f a zero ≡ a
+unfolding firstFrom
+next-zero f a = refl
+
+next-no : (f : ℕ → Bool) (a k : ℕ) → f a ≡ false → firstFrom f a (suc k) ≡ firstFrom f (suc a) k
+unfolding firstFrom
+next-no f a k e = rw e
+
+-- the first by two tests that agree; by one that nothing passes; of one
+pub first-same : (f g : ℕ → Bool) (k a : ℕ) → ((i : ℕ) → i < k → f (a + i) ≡ g (a + i)) → firstFrom f a k ≡ firstFrom g a k
+unfolding firstFrom
+first-same f g zero a h = refl
+first-same f g (suc k) a h =
+    ap₂ (λ (b : Bool) (r : ℕ). if b then a else r) (ap f (sym (add-zero a)) ∙ h 0 (omega arith) ∙ ap g (add-zero a))
+    (first-same f g k (suc a) (λ i l. let e : suc a + i ≡ a + suc i = omega arith in ap f e ∙ h (suc i) (omega arith) ∙ ap g (sym e)))
+
+pub first-none : (f : ℕ → Bool) (k : ℕ) → ((i : ℕ) → f i ≡ false) → firstFrom f 0 k ≡ k
+first-none f k h = go k 0 ∙ zero-add k
+  where
+    go : (k a : ℕ) → firstFrom f a k ≡ a + k
+    go zero a = next-zero f a ∙ sym (add-zero a)
+    go (suc k) a = let e : suc a + k ≡ a + suc k = omega arith in next-no f a k (h a) ∙ go k (suc a) ∙ e
+
+pub first-only : (f : ℕ → Bool) (b : Bool) (k : ℕ) → k ≡ 1 → f 0 ≡ b → firstFrom (λ i. b) 0 1 ≡ firstFrom f 0 k
+unfolding firstFrom
+first-only f b k o e = rw (o, e)

@@ -1,61 +1,118 @@
-use Prim.Native.Nat.{ℕ, _+_, _-_, _≤_}
-use mathlib.Core.Path.{_≡_, sym, ap, _∙_}
+use Prim.Native.Nat.{ℕ, _*_, _+_}
+use mathlib.Core.Path.{refl, sym, _∙_}
 use native.Mathlib.Omega.{arith}
-use borrow.Author.Needs.{needs}
-use Rattle.definitions.specs.Lists.{all}
 use Rattle.bits.specs.Table.{bit}
-use Rattle.ground.specs.Numbers.{needNumbers}
-use Rattle.ground.specs.declared.Act.{Act}
-use Rattle.proving.specs.Tries.{actBy, firstFrom}
-use Rattle.proving.specs.TryLaws.{act-fits, first-start, first-yes, first-no, first-end}
+use Rattle.ground.specs.NeedLaws.{times-wide}
+use Rattle.proving.specs.NeedLaws.{stride-most, none-tried, parts-tried, whole-tried, elements-tried, chain-tried}
+use borrow.Author.Needs.{needs}
 use Rattle.proving.proofs.first_try.Statement.{statement}
 use Rattle.proving.proofs.first_try.Tie as tie
+use Rattle.proving.proofs.first_try.Reads as reads
+use Rattle.proving.proofs.first_try.Lts as lts
+use Rattle.ground.proofs.test.Reads as test-reads
+use Rattle.proving.proofs.along.Reads as along-reads
+use Rattle.proving.proofs.chain_holds.Reads as chain-holds-reads
+use Rattle.proving.proofs.first_bit.Reads as first-bit-reads
+use Rattle.proving.proofs.first_part.Reads as first-part-reads
+use Rattle.proving.proofs.only_try.Reads as only-try-reads
+use Rattle.proving.proofs.parts_hold.Reads as parts-hold-reads
 
-abbrev Inv-loop : tie.InvT-loop
-Inv-loop state table kind node w i₀ i = (i ≤ w .tries) × (firstFrom (λ (x : ℕ). all (bit state) (needNumbers table (actBy kind node (w .row) (w .base + x)))) 0 (w .tries) ≡ firstFrom (λ (x : ℕ). all (bit state) (needNumbers table (actBy kind node (w .row) (w .base + x)))) i (w .tries - i))
+-- src/lib.rt:199:8
+test-requires : tie.Need-test-requires
+test-requires c κs = search needs
 
-abbrev μ-loop : tie.MeasureT-loop
-μ-loop state table kind node w i₀ i = w .tries - i
+-- src/lib.rt:201:17
+along-requires : tie.Need-along-requires
+along-requires c κs = search needs
 
-loop-holds : tie.Need-loop-holds Inv-loop μ-loop
-loop-holds c = (omega arith, first-start (λ (x : ℕ). all (bit (c .before .before .args .state .now)) (needNumbers (c .before .before .args .table .now) (actBy (c .before .before .args .kind) (c .before .before .args .node) (c .before .before .args .w .row) (c .before .before .args .w .base + x)))) (c .before .before .args .w .tries))
+-- src/lib.rt:202:31
+mul-k : tie.Need-mul-k
+mul-k c = omega (arith, stride-most (c .before .before .before .before .before .before .before .before .before .before .before .args .t .way .base) (c .before .before .along .result .stride) 64 (omega (arith, c .before .before .before .before .before .before .before .before .before .before .before .pre .4 .few)) (c .before .before .along .ensures .1))
 
-add-act : tie.Need-add-act Inv-loop μ-loop
-add-act c = omega arith
+-- src/lib.rt:202:21
+add-k : tie.Need-add-k
+add-k c = omega (arith, stride-most (c .before .before .before .before .before .before .before .before .before .before .before .before .args .t .way .base) (c .before .before .before .along .result .stride) 64 (omega (arith, c .before .before .before .before .before .before .before .before .before .before .before .before .pre .4 .few)) (c .before .before .before .along .ensures .1), c .before .before .before .along .ensures .0)
 
-act-requires : tie.Need-act-requires Inv-loop μ-loop
-act-requires c κs = search needs
+-- src/lib.rt:204:17
+first-bit-requires : tie.Need-first-bit-requires
+first-bit-requires c κs = (omega (arith, stride-most (c .before .before .before .before .before .before .before .before .before .before .before .before .before .before .args .t .way .base) (c .before .before .before .before .before .along .result .stride) 64 (omega (arith, c .before .before .before .before .before .before .before .before .before .before .before .before .before .before .pre .4 .few)) (c .before .before .before .before .before .along .ensures .1), c .before .before .before .before .before .along .ensures .0), c .before .before .before .before .before .along .ensures .1, omega (arith, c .before .before .before .before .before .before .before .before .before .before .before .before .before .before .pre .4 .few))
 
-may-take-requires : tie.Need-may-take-requires Inv-loop μ-loop
-may-take-requires c κs = (c .before .before .before .before .before .before .before .pre .0, act-fits (c .before .before .before .before .before .before .before .args .kind) (c .before .before .before .before .before .before .before .args .node) (c .before .before .before .before .before .before .before .args .w .row) (c .before .before .before .before .before .before .before .args .w .base + c .before .before .before .before .loop .i) (c .before .before .before .before .before .before .before .args .table .now) (c .before .before .before .before .before .before .before .pre .1) (c .before .before .before .before .before .before .before .pre .2) (λ k. omega (arith, c .before .before .before .before .before .before .before .pre .3 k)) (λ k. omega (arith, c .before .before .before .before .before .before .before .pre .4 k)) (c .act .result) (c .act .ensures))
+-- src/lib.rt:204:17
+returns : tie.Need-returns
+returns c = elements-tried (bit (c .before .before .before .before .before .before .before .before .before .before .before .before .before .before .before .args .state .now)) (c .before .before .before .before .before .before .before .before .before .before .before .before .before .before .before .args .n) (c .before .before .before .before .before .before .before .before .before .before .before .before .before .before .before .args .table .now) (c .before .before .before .before .before .before .before .before .before .before .before .before .before .before .before .args .v) (c .before .before .before .before .before .before .before .before .before .before .before .before .before .before .before .args .t .way .row) (c .before .before .before .before .before .before .before .before .before .before .before .before .before .before .before .args .t .env) (c .before .before .before .before .before .before .before .before .before .before .before .before .before .before .before .pre .5 .values) (c .before .before .before .before .before .before .along .result .start) (c .before .before .before .before .before .before .along .result .stride) (c .before .before .before .before .before .before .along .ensures .2) (c .before .before .before .before .before .before .before .before .before .before .before .before .before .before .before .args .t .way .base) (c .before .before .before .before .before .before .before .before .before .before .before .before .before .before .before .args .t .way .tries) (c .first-bit .result) (omega arith) (sym (c .before .before .before .before .before .before .before .before .before .before .test .ensures) ∙ c .before .before .before .before .before .before .before .before .before .if1 .taken) (c .first-bit .ensures)
 
-returns : tie.Need-returns Inv-loop μ-loop
-returns c = first-yes (λ (x : ℕ). all (bit (c .before .before .before .before .before .before .before .before .before .args .state .now)) (needNumbers (c .before .before .before .before .before .before .before .before .before .args .table .now) (actBy (c .before .before .before .before .before .before .before .before .before .args .kind) (c .before .before .before .before .before .before .before .before .before .args .node) (c .before .before .before .before .before .before .before .before .before .args .w .row) (c .before .before .before .before .before .before .before .before .before .args .w .base + x)))) (c .before .before .before .before .before .before .before .before .before .args .w .tries) (c .before .before .before .before .before .before .loop .i) (omega arith) (ap (λ (y : Act). all (bit (c .before .before .before .before .before .before .before .before .before .args .state .now)) (needNumbers (c .before .before .before .before .before .before .before .before .before .args .table .now) y)) (sym (c .before .before .act .ensures)) ∙ sym (c .before .may-take .ensures) ∙ c .if2 .taken) ∙ sym (c .before .before .before .before .before .before .loop .inv .1)
+-- src/lib.rt:206:34
+mul-own : tie.Need-mul-own
+mul-own c = omega (arith, times-wide (c .before .before .before .before .before .before .before .before .before .before .before .before .before .before .before .args .t .way .row) (c .before .before .before .before .before .before .before .before .before .before .before .before .before .before .before .args .n) (c .before .before .before .before .before .before .before .before .before .before .before .before .before .before .before .pre .4 .row) (omega (arith, c .before .before .before .before .before .before .before .before .before .before .before .before .before .before .before .pre .1, c .before .before .before .before .before .before .before .before .before .before .before .before .before .before .before .pre .0 .size)))
 
-add-i : tie.Need-add-i Inv-loop μ-loop
-add-i c = search needs
+-- src/lib.rt:206:34
+add-own : tie.Need-add-own
+add-own c = omega (arith, times-wide (c .before .before .before .before .before .before .before .before .before .before .before .before .before .before .before .before .args .t .way .row) (c .before .before .before .before .before .before .before .before .before .before .before .before .before .before .before .before .args .n) (c .before .before .before .before .before .before .before .before .before .before .before .before .before .before .before .before .pre .4 .row) (omega (arith, c .before .before .before .before .before .before .before .before .before .before .before .before .before .before .before .before .pre .1, c .before .before .before .before .before .before .before .before .before .before .before .before .before .before .before .before .pre .0 .size)), c .before .before .before .before .before .before .before .before .before .before .before .before .before .before .before .before .pre .4 .few)
 
-loop-less : tie.Need-loop-less Inv-loop μ-loop
-loop-less c = search needs
+-- src/lib.rt:206:23
+add-own-2 : tie.Need-add-own-2
+add-own-2 c = omega (arith, times-wide (c .before .before .before .before .before .before .before .before .before .before .before .before .before .before .before .before .before .args .t .way .row) (c .before .before .before .before .before .before .before .before .before .before .before .before .before .before .before .before .before .args .n) (c .before .before .before .before .before .before .before .before .before .before .before .before .before .before .before .before .before .pre .4 .row) (omega (arith, c .before .before .before .before .before .before .before .before .before .before .before .before .before .before .before .before .before .pre .1, c .before .before .before .before .before .before .before .before .before .before .before .before .before .before .before .before .before .pre .0 .size)), c .before .before .before .before .before .before .before .before .before .before .before .before .before .before .before .before .before .pre .4 .few, c .before .before .before .before .before .before .before .before .before .before .before .before .before .before .before .before .before .pre .3)
 
-loop-again : tie.Need-loop-again Inv-loop μ-loop
-loop-again c = (omega arith, c .before .before .before .before .before .before .loop .inv .1 ∙ first-no (λ (x : ℕ). all (bit (c .before .before .before .before .before .before .before .before .before .args .state .now)) (needNumbers (c .before .before .before .before .before .before .before .before .before .args .table .now) (actBy (c .before .before .before .before .before .before .before .before .before .args .kind) (c .before .before .before .before .before .before .before .before .before .args .node) (c .before .before .before .before .before .before .before .before .before .args .w .row) (c .before .before .before .before .before .before .before .before .before .args .w .base + x)))) (c .before .before .before .before .before .before .before .before .before .args .w .tries) (c .before .before .before .before .before .before .loop .i) (omega arith) (ap (λ (y : Act). all (bit (c .before .before .before .before .before .before .before .before .before .args .state .now)) (needNumbers (c .before .before .before .before .before .before .before .before .before .args .table .now) y)) (sym (c .before .before .act .ensures)) ∙ sym (c .before .may-take .ensures) ∙ c .if2 .left))
+-- src/lib.rt:207:29
+chain-holds-requires : tie.Need-chain-holds-requires
+chain-holds-requires c κs = search needs
 
-returns-2 : tie.Need-returns-2 Inv-loop μ-loop
-returns-2 c = first-end (λ (x : ℕ). all (bit (c .before .before .before .before .before .args .state .now)) (needNumbers (c .before .before .before .before .before .args .table .now) (actBy (c .before .before .before .before .before .args .kind) (c .before .before .before .before .before .args .node) (c .before .before .before .before .before .args .w .row) (c .before .before .before .before .before .args .w .base + x)))) (c .before .before .before .before .before .args .w .tries) (c .before .before .loop .i) (omega arith) ∙ sym (c .before .before .loop .inv .1)
+-- src/lib.rt:207:13
+only-try-requires : tie.Need-only-try-requires
+only-try-requires c κs = search needs
+
+-- src/lib.rt:207:13
+returns-2 : tie.Need-returns-2
+returns-2 c = chain-tried (bit (c .before .before .before .before .before .before .before .before .before .before .before .before .before .before .before .before .before .before .before .args .state .now)) (c .before .before .before .before .before .before .before .before .before .before .before .before .before .before .before .before .before .before .before .args .n) (c .before .before .before .before .before .before .before .before .before .before .before .before .before .before .before .before .before .before .before .args .table .now) (c .before .before .before .before .before .before .before .before .before .before .before .before .before .before .before .before .before .before .before .args .v) (c .before .before .before .before .before .before .before .before .before .before .before .before .before .before .before .before .before .before .before .args .t .way .row) (c .before .before .before .before .before .before .before .before .before .before .before .before .before .before .before .before .before .before .before .args .t .env) (c .before .before .before .before .before .before .before .before .before .before .before .before .before .before .before .before .before .before .before .pre .5 .values) (c .before .before .before .before .before .before .before .before .before .before .along .result .start) (c .before .before .before .before .before .before .before .before .before .before .along .result .stride) (c .before .before .before .before .before .before .before .before .before .before .along .ensures .2) (c .before .before .before .before .before .before .before .before .before .before .before .before .before .before .before .before .before .before .before .args .t .way .base) (c .before .before .before .before .before .before .before .before .before .before .before .before .before .before .before .before .before .before .before .args .t .way .tries) (c .only-try .result) (c .before .before .before .before .before .before .before .before .before .before .before .before .before .before .before .before .before .before .before .args .v .atoms + (c .before .before .before .before .before .before .before .before .before .before .before .before .before .before .before .before .before .before .before .args .t .way .row * c .before .before .before .before .before .before .before .before .before .before .before .before .before .before .before .before .before .before .before .args .n + c .before .before .before .before .before .before .before .before .before .before .before .before .before .before .before .before .before .before .before .args .t .way .base)) (c .before .chain-holds .result) (omega arith) (sym (c .before .before .before .before .before .before .before .before .before .before .before .before .before .before .test .ensures) ∙ c .before .before .before .before .before .before .before .before .before .before .before .before .before .if1 .taken) (c .before .before .before .before .before .before .before .before .before .before .before .before .before .before .before .before .before .before .before .pre .4 .up (omega arith)) refl (c .before .chain-holds .ensures) (c .only-try .ensures)
+
+-- src/lib.rt:210:29
+parts-hold-requires : tie.Need-parts-hold-requires
+parts-hold-requires c κs = search needs
+
+-- src/lib.rt:210:13
+only-try-requires-2 : tie.Need-only-try-requires-2
+only-try-requires-2 c κs = search needs
+
+-- src/lib.rt:210:13
+returns-3 : tie.Need-returns-3
+returns-3 c = whole-tried (bit (c .before .before .before .before .before .before .before .before .before .before .before .before .args .state .now)) (c .before .before .before .before .before .before .before .before .before .before .before .before .args .n) (c .before .before .before .before .before .before .before .before .before .before .before .before .args .table .now) (c .before .before .before .before .before .before .before .before .before .before .before .before .args .v) (c .before .before .before .before .before .before .before .before .before .before .before .before .args .t .way .row) (c .before .before .before .before .before .before .before .before .before .before .before .before .args .t .env) (c .before .before .before .before .before .before .before .before .before .before .before .before .pre .5 .values) (c .before .before .before .before .before .before .before .before .before .before .before .before .args .t .way .base) (c .before .before .before .before .before .before .before .before .before .before .before .before .args .t .way .tries) (c .only-try2 .result) (c .before .parts-hold .result) (omega arith) (sym (c .before .before .before .before .before .before .before .test .ensures) ∙ c .before .before .before .before .before .before .if1 .taken) (c .before .before .before .before .before .before .before .before .before .before .before .before .pre .4 .whole (omega arith)) (c .before .parts-hold .ensures) (c .only-try2 .ensures)
+
+-- src/lib.rt:212:41
+add-first-part : tie.Need-add-first-part
+add-first-part c = search needs
+
+-- src/lib.rt:212:9
+first-part-requires : tie.Need-first-part-requires
+first-part-requires c κs = (c .before .before .before .before .before .before .before .before .before .before .before .before .pre .0, omega (arith, c .before .before .before .before .before .before .before .before .before .before .before .before .pre .4 .parts (omega arith), c .before .before .before .before .before .before .before .before .before .before .before .before .pre .2 .parts), c .before .before .before .before .before .before .before .before .before .before .before .before .pre .5 .most)
+
+-- src/lib.rt:212:9
+returns-4 : tie.Need-returns-4
+returns-4 c = parts-tried (bit (c .before .before .before .before .before .before .before .before .before .before .before .before .before .args .state .now)) (c .before .before .before .before .before .before .before .before .before .before .before .before .before .args .n) (c .before .before .before .before .before .before .before .before .before .before .before .before .before .args .table .now) (c .before .before .before .before .before .before .before .before .before .before .before .before .before .args .v) (c .before .before .before .before .before .before .before .before .before .before .before .before .before .args .t .way .row) (c .before .before .before .before .before .before .before .before .before .before .before .before .before .args .t .env) (c .before .before .before .before .before .before .before .before .before .before .before .before .before .pre .5 .values) (c .before .before .before .before .before .before .before .before .before .before .before .before .before .args .t .way .base) (c .before .before .before .before .before .before .before .before .before .before .before .before .before .args .t .way .tries) (c .first-part .result) (omega arith) (sym (c .before .before .before .before .before .before .before .before .test .ensures) ∙ c .before .before .before .before .before .before .before .if1 .taken) (c .first-part .ensures)
+
+-- src/lib.rt:187:1
+returns-5 : tie.Need-returns-5
+returns-5 c = none-tried (bit (c .before .before .before .before .before .before .args .state .now)) (c .before .before .before .before .before .before .args .n) (c .before .before .before .before .before .before .args .table .now) (c .before .before .before .before .before .before .args .v) (c .before .before .before .before .before .before .args .t .way .row) (c .before .before .before .before .before .before .args .t .way .base) (c .before .before .before .before .before .before .args .t .way .tries) (sym (c .before .test .ensures) ∙ c .if1 .left)
 
 pub first-try-spec : {M : Type 1} → statement M
 first-try-spec =
     tie.close
     (tie.spec
-    Inv-loop
-    μ-loop
-    loop-holds
-    add-act
-    act-requires
-    may-take-requires
+    test-requires
+    along-requires
+    mul-k
+    add-k
+    first-bit-requires
     returns
-    add-i
-    loop-less
-    loop-again
-    returns-2)
+    mul-own
+    add-own
+    add-own-2
+    chain-holds-requires
+    only-try-requires
+    returns-2
+    parts-hold-requires
+    only-try-requires-2
+    returns-3
+    add-first-part
+    first-part-requires
+    returns-4
+    returns-5)

@@ -1,83 +1,92 @@
-use Prim.Native.Nat.{_+_}
-use mathlib.Core.Path.{_∙_}
+use Prim.Native.Nat.{_≤_}
+use mathlib.Core.Path.{refl, sym, ap, _∙_}
 use native.Mathlib.Omega.{arith}
+use lib.ListN.{length}
 use Rattle.bits.specs.Table.{bit}
+use Rattle.ground.specs.Lines.{sizeIn}
 use Rattle.proving.specs.Following.{out}
-use Rattle.proving.specs.FollowLaws.{row-some, row-none}
-use Rattle.proving.specs.TryLaws.{act-fits}
-use Rattle.proving.specs.RowLaws.{row-found, row-lost, way-fits, acts-small, row-wide}
+use Rattle.proving.specs.RowLaws.{way-fits, row-wide}
+use Rattle.proving.specs.MarkLaws.{row-marked, row-kept}
 use borrow.Author.Needs.{needs}
 use Rattle.proving.proofs.prove_row.Statement.{statement}
 use Rattle.proving.proofs.prove_row.Tie as tie
+use Rattle.proving.proofs.prove_row.Reads as reads
+use Rattle.proving.proofs.prove_row.Lts as lts
+use Rattle.proving.proofs.first_try.Reads as first-try-reads
+use Rattle.proving.proofs.mark.Reads as mark-reads
 
-shared-slice-read-n : tie.Need-shared-slice-read-n
-shared-slice-read-n c = search needs
+-- src/lib.rt:270:30
+shared-slice-read-first-try : tie.Need-shared-slice-read-first-try
+shared-slice-read-first-try c = search needs
 
-node-line-requires : tie.Need-node-line-requires
-node-line-requires c κs = search needs
-
-way-to-requires : tie.Need-way-to-requires
-way-to-requires c κs = search needs
-
+-- src/lib.rt:270:9
 first-try-requires : tie.Need-first-try-requires
-first-try-requires c κs = let f = way-fits (c .before .before .before .before .before .before .before .args .table .now) (c .before .before .before .before .before .before .before .args .node) (c .before .before .before .before .before .before .before .args .j) (c .before .before .before .before .before .before .before .pre .0) (c .before .before .before .before .before .before .before .pre .1) (c .before .before .before .before .before .before .before .pre .2) (c .before .before .node-line .result) (c .before .way-to .result) (c .before .before .node-line .ensures) (c .before .way-to .ensures) in (c .before .before .before .before .before .before .before .pre .0, c .before .before .before .before .before .before .before .pre .1, f .row, f .elements, f .parts, f .few)
+first-try-requires c κs = (c .before .before .before .before .before .before .pre .0, refl, c .before .before .before .before .before .before .pre .1, c .before .before .before .before .before .before .pre .3, way-fits (sizeIn (c .before .before .before .before .before .before .args .table .now)) (c .before .before .before .before .before .before .args .v) (c .before .before .before .before .before .before .args .j) (c .before .before .before .before .before .before .args .t .way) (c .before .before .before .before .before .before .pre .0 .some) (c .before .before .before .before .before .before .pre .0 .size) (c .before .before .before .before .before .before .pre .1 .parts) (c .before .before .before .before .before .before .pre .4) (c .before .before .before .before .before .before .pre .6 .way), c .before .before .before .before .before .before .pre .6 .fits)
 
-add-choice : tie.Need-add-choice
-add-choice c = let f = way-fits (c .before .before .before .before .before .before .before .before .before .before .before .args .table .now) (c .before .before .before .before .before .before .before .before .before .before .before .args .node) (c .before .before .before .before .before .before .before .before .before .before .before .args .j) (c .before .before .before .before .before .before .before .before .before .before .before .pre .0) (c .before .before .before .before .before .before .before .before .before .before .before .pre .1) (c .before .before .before .before .before .before .before .before .before .before .before .pre .2) (c .before .before .before .before .before .before .node-line .result) (c .before .before .before .before .before .way-to .result) (c .before .before .before .before .before .before .node-line .ensures) (c .before .before .before .before .before .way-to .ensures) in omega (arith, f .few)
+-- src/lib.rt:272:31
+mul-number : tie.Need-mul-number
+mul-number c = let f = way-fits (sizeIn (c .before .before .before .before .before .before .before .before .before .before .args .table .now)) (c .before .before .before .before .before .before .before .before .before .before .args .v) (c .before .before .before .before .before .before .before .before .before .before .args .j) (c .before .before .before .before .before .before .before .before .before .before .args .t .way) (c .before .before .before .before .before .before .before .before .before .before .pre .0 .some) (c .before .before .before .before .before .before .before .before .before .before .pre .0 .size) (c .before .before .before .before .before .before .before .before .before .before .pre .1 .parts) (c .before .before .before .before .before .before .before .before .before .before .pre .4) (c .before .before .before .before .before .before .before .before .before .before .pre .6 .way) in omega (arith, row-wide (c .before .before .before .before .before .before .before .before .before .before .args .t .way .row) (c .before .before .before .before .before .before .before .before .before .before .args .t .way .choices) 0 (f .row) (f .choices) (omega arith))
 
-act-requires : tie.Need-act-requires
-act-requires c κs = search needs
+-- src/lib.rt:272:22
+add-number : tie.Need-add-number
+add-number c = let f = way-fits (sizeIn (c .before .before .before .before .before .before .before .before .before .before .before .args .table .now)) (c .before .before .before .before .before .before .before .before .before .before .before .args .v) (c .before .before .before .before .before .before .before .before .before .before .before .args .j) (c .before .before .before .before .before .before .before .before .before .before .before .args .t .way) (c .before .before .before .before .before .before .before .before .before .before .before .pre .0 .some) (c .before .before .before .before .before .before .before .before .before .before .before .pre .0 .size) (c .before .before .before .before .before .before .before .before .before .before .before .pre .1 .parts) (c .before .before .before .before .before .before .before .before .before .before .before .pre .4) (c .before .before .before .before .before .before .before .before .before .before .before .pre .6 .way) in omega (arith, row-wide (c .before .before .before .before .before .before .before .before .before .before .before .args .t .way .row) (c .before .before .before .before .before .before .before .before .before .before .before .args .t .way .choices) 0 (f .row) (f .choices) (omega arith), c .before .before .before .before .before .before .before .before .before .before .before .pre .2)
 
-mul-step : tie.Need-mul-step
-mul-step c = let f = way-fits (c .before .before .before .before .before .before .before .before .before .before .before .before .before .before .before .args .table .now) (c .before .before .before .before .before .before .before .before .before .before .before .before .before .before .before .args .node) (c .before .before .before .before .before .before .before .before .before .before .before .before .before .before .before .args .j) (c .before .before .before .before .before .before .before .before .before .before .before .before .before .before .before .pre .0) (c .before .before .before .before .before .before .before .before .before .before .before .before .before .before .before .pre .1) (c .before .before .before .before .before .before .before .before .before .before .before .before .before .before .before .pre .2) (c .before .before .before .before .before .before .before .before .before .before .node-line .result) (c .before .before .before .before .before .before .before .before .before .way-to .result) (c .before .before .before .before .before .before .before .before .before .before .node-line .ensures) (c .before .before .before .before .before .before .before .before .before .way-to .ensures) in omega (arith, row-wide (c .before .before .before .before .before .before .before .before .before .way-to .result .row) (c .before .before .before .before .before .before .before .before .before .way-to .result .choices) 0 (f .row) (f .choices) (omega arith))
+-- src/lib.rt:272:52
+add-number-2 : tie.Need-add-number-2
+add-number-2 c = let f = way-fits (sizeIn (c .before .before .before .before .before .before .before .before .before .before .before .before .args .table .now)) (c .before .before .before .before .before .before .before .before .before .before .before .before .args .v) (c .before .before .before .before .before .before .before .before .before .before .before .before .args .j) (c .before .before .before .before .before .before .before .before .before .before .before .before .args .t .way) (c .before .before .before .before .before .before .before .before .before .before .before .before .pre .0 .some) (c .before .before .before .before .before .before .before .before .before .before .before .before .pre .0 .size) (c .before .before .before .before .before .before .before .before .before .before .before .before .pre .1 .parts) (c .before .before .before .before .before .before .before .before .before .before .before .before .pre .4) (c .before .before .before .before .before .before .before .before .before .before .before .before .pre .6 .way) in omega (arith, f .few)
 
-add-step : tie.Need-add-step
-add-step c = let f = way-fits (c .before .before .before .before .before .before .before .before .before .before .before .before .before .before .before .before .args .table .now) (c .before .before .before .before .before .before .before .before .before .before .before .before .before .before .before .before .args .node) (c .before .before .before .before .before .before .before .before .before .before .before .before .before .before .before .before .args .j) (c .before .before .before .before .before .before .before .before .before .before .before .before .before .before .before .before .pre .0) (c .before .before .before .before .before .before .before .before .before .before .before .before .before .before .before .before .pre .1) (c .before .before .before .before .before .before .before .before .before .before .before .before .before .before .before .before .pre .2) (c .before .before .before .before .before .before .before .before .before .before .before .node-line .result) (c .before .before .before .before .before .before .before .before .before .before .way-to .result) (c .before .before .before .before .before .before .before .before .before .before .before .node-line .ensures) (c .before .before .before .before .before .before .before .before .before .before .way-to .ensures) in omega (arith, row-wide (c .before .before .before .before .before .before .before .before .before .before .way-to .result .row) (c .before .before .before .before .before .before .before .before .before .before .way-to .result .choices) 0 (f .row) (f .choices) (omega arith), acts-small (c .before .before .before .before .before .before .before .before .before .before .before .before .before .before .before .before .args .table .now) (c .before .before .before .before .before .before .before .before .before .before .before .before .before .before .before .before .args .node) (c .before .before .before .before .before .before .before .before .before .before .before .before .before .before .before .before .pre .0) (c .before .before .before .before .before .before .before .before .before .before .before .node-line .result) (c .before .before .before .before .before .before .before .before .before .before .before .node-line .ensures))
+-- src/lib.rt:272:22
+add-number-3 : tie.Need-add-number-3
+add-number-3 c = let f = way-fits (sizeIn (c .before .before .before .before .before .before .before .before .before .before .before .before .args .table .now)) (c .before .before .before .before .before .before .before .before .before .before .before .before .args .v) (c .before .before .before .before .before .before .before .before .before .before .before .before .args .j) (c .before .before .before .before .before .before .before .before .before .before .before .before .args .t .way) (c .before .before .before .before .before .before .before .before .before .before .before .before .pre .0 .some) (c .before .before .before .before .before .before .before .before .before .before .before .before .pre .0 .size) (c .before .before .before .before .before .before .before .before .before .before .before .before .pre .1 .parts) (c .before .before .before .before .before .before .before .before .before .before .before .before .pre .4) (c .before .before .before .before .before .before .before .before .before .before .before .before .pre .6 .way) in omega (arith, row-wide (c .before .before .before .before .before .before .before .before .before .before .before .before .args .t .way .row) (c .before .before .before .before .before .before .before .before .before .before .before .before .args .t .way .choices) 0 (f .row) (f .choices) (omega arith), c .before .before .before .before .before .before .before .before .before .before .before .before .pre .2, f .few)
 
-add-step-2 : tie.Need-add-step-2
-add-step-2 c = let f = way-fits (c .before .before .before .before .before .before .before .before .before .before .before .before .before .before .before .before .args .table .now) (c .before .before .before .before .before .before .before .before .before .before .before .before .before .before .before .before .args .node) (c .before .before .before .before .before .before .before .before .before .before .before .before .before .before .before .before .args .j) (c .before .before .before .before .before .before .before .before .before .before .before .before .before .before .before .before .pre .0) (c .before .before .before .before .before .before .before .before .before .before .before .before .before .before .before .before .pre .1) (c .before .before .before .before .before .before .before .before .before .before .before .before .before .before .before .before .pre .2) (c .before .before .before .before .before .before .before .before .before .before .before .node-line .result) (c .before .before .before .before .before .before .before .before .before .before .way-to .result) (c .before .before .before .before .before .before .before .before .before .before .before .node-line .ensures) (c .before .before .before .before .before .before .before .before .before .before .way-to .ensures) in omega (arith, row-wide (c .before .before .before .before .before .before .before .before .before .before .way-to .result .row) (c .before .before .before .before .before .before .before .before .before .before .way-to .result .choices) 0 (f .row) (f .choices) (omega arith), acts-small (c .before .before .before .before .before .before .before .before .before .before .before .before .before .before .before .before .args .table .now) (c .before .before .before .before .before .before .before .before .before .before .before .before .before .before .before .before .args .node) (c .before .before .before .before .before .before .before .before .before .before .before .before .before .before .before .before .pre .0) (c .before .before .before .before .before .before .before .before .before .before .before .node-line .result) (c .before .before .before .before .before .before .before .before .before .before .before .node-line .ensures), f .few)
+-- src/lib.rt:273:39
+add-mark : tie.Need-add-mark
+add-mark c = search needs
 
-step-requires : tie.Need-step-requires
-step-requires c κs = let f = way-fits (c .before .before .before .before .before .before .before .before .before .before .before .before .before .before .before .before .args .table .now) (c .before .before .before .before .before .before .before .before .before .before .before .before .before .before .before .before .args .node) (c .before .before .before .before .before .before .before .before .before .before .before .before .before .before .before .before .args .j) (c .before .before .before .before .before .before .before .before .before .before .before .before .before .before .before .before .pre .0) (c .before .before .before .before .before .before .before .before .before .before .before .before .before .before .before .before .pre .1) (c .before .before .before .before .before .before .before .before .before .before .before .before .before .before .before .before .pre .2) (c .before .before .before .before .before .before .before .before .before .before .before .node-line .result) (c .before .before .before .before .before .before .before .before .before .before .way-to .result) (c .before .before .before .before .before .before .before .before .before .before .before .node-line .ensures) (c .before .before .before .before .before .before .before .before .before .before .way-to .ensures) in ((c .before .before .before .before .before .before .before .before .before .before .before .before .before .before .before .before .pre .0, c .before .before .before .before .before .before .before .before .before .before .before .before .before .before .before .before .pre .3), act-fits (c .before .before .before .before .before .before .before .before .before .before .before .node-line .result .kind) (c .before .before .before .before .before .before .before .before .before .before .before .before .before .before .before .before .args .node) (c .before .before .before .before .before .before .before .before .before .before .way-to .result .row) (c .before .before .before .before .before .before .before .before .before .before .way-to .result .base + c .before .before .before .before .before .before .before .before .first-try .result) (c .before .before .before .before .before .before .before .before .before .before .before .before .before .before .before .before .args .table .now) (c .before .before .before .before .before .before .before .before .before .before .before .before .before .before .before .before .pre .1) (f .row) (λ k. omega (arith, f .elements k)) (λ k. omega (arith, f .parts k)) (c .before .before .before .before .act .result) (c .before .before .before .before .act .ensures))
+-- src/lib.rt:273:9
+mark-requires : tie.Need-mark-requires
+mark-requires c κs = search needs
 
+-- src/lib.rt:273:9
 same-length : tie.Need-same-length
 same-length c = search needs
 
+-- src/lib.rt:273:9
 same-length-2 : tie.Need-same-length-2
 same-length-2 c = search needs
 
+-- src/lib.rt:273:9
 returns : tie.Need-returns
 returns c = (
-  omega (arith, c .before .before .before .before .step .ensures .0),
-  λ p R l h.
-      let g = row-found p (c .before .before .before .before .before .before .before .before .before .before .before .before .before .before .before .before .before .before .before .before .before .args .table .now) (R .is) (omega (arith, c .before .before .before .before .before .before .before .before .before .before .before .before .before .before .before .before .before .before .before .before .before .pre .0 .some, R .is .size)) (c .before .before .before .before .before .before .before .before .before .before .before .before .before .before .before .before .before .before .before .before .before .args .node) l (c .before .before .before .before .before .before .before .before .before .before .before .before .before .before .before .before .before .before .before .before .before .args .j) (bit (c .before .before .before .before .before .before .before .before .before .before .before .before .before .before .before .before .before .before .before .before .before .args .state .now)) h (c .before .before .before .before .before .before .before .before .before .before .before .before .before .before .before .before .node-line .result) (c .before .before .before .before .before .before .before .before .before .before .before .before .before .before .before .way-to .result) (c .before .before .before .before .before .before .before .before .before .before .before .before .before .before .before .before .node-line .ensures) (c .before .before .before .before .before .before .before .before .before .before .before .before .before .before .before .way-to .ensures) (c .before .before .before .before .before .before .before .before .before .before .before .before .before .first-try .result) (c .before .before .before .before .before .before .before .before .before .before .before .before .before .first-try .ensures) (omega arith) in
-      row-some p (c .before .before .before .before .before .before .before .before .before .before .before .before .before .before .before .before .before .before .before .before .before .args .node) (out (bit (c .before .before .before .before .before .before .before .before .before .before .before .before .before .before .before .before .before .before .before .before .before .args .state .now)) (c .before .before .before .before .before .before .before .before .before .before .before .before .before .before .before .before .before .before .before .before .before .args .steps .now) (c .before .before .before .before .before .before .before .before .before .before .before .before .before .before .before .before .before .before .before .before .before .args .at)) (c .before .before .before .before .before .before .before .before .before .before .before .before .before .before .before .before .before .before .before .before .before .args .j) (g .action) (g .step) ∙ c .before .before .before .before .step .ensures .1 p (g .action) R (g .valid) (c .before .before .before .before .before .before .before .before .before .act .ensures ∙ g .says) (g .number),
-)
+  omega (arith, c .before .before .before .before .mark .ensures .0),
+  λ p node R l e h.
+      row-marked p (c .before .before .before .before .before .before .before .before .before .before .before .before .before .before .before .before .before .before .before .before .args .table .now) (length (c .before .before .before .before .before .before .before .before .before .before .before .before .before .before .before .before .before .before .before .before .args .state .now)) R (c .before .before .before .before .before .before .before .before .before .before .before .before .before .before .before .before .before .before .before .before .pre .0 .some) node l (c .before .before .before .before .before .before .before .before .before .before .before .before .before .before .before .before .before .before .before .before .args .v) e (c .before .before .before .before .before .before .before .before .before .before .before .before .before .before .before .before .before .before .before .before .args .j) h (c .before .before .before .before .before .before .before .before .before .before .before .before .before .before .before .before .before .before .before .before .args .t .way) (c .before .before .before .before .before .before .before .before .before .before .before .before .before .before .before .before .before .before .before .before .pre .6 .way) (bit (c .before .before .before .before .before .before .before .before .before .before .before .before .before .before .before .before .before .before .before .before .args .state .now)) (c .before .before .before .before .before .before .before .before .before .before .before .before .before .before .before .before .before .before .before .before .args .steps .now) (c .before .before .before .before .before .before .before .before .before .before .before .before .before .before .before .before .before .before .before .before .args .at) (c .before .before .before .before .before .before .before .before .before .before .before .before .before .first-try .result) (c .before .before .before .before .before .before .before .before .before .before .before .before .before .first-try .ensures)
+      (bit (c .before .before .before .before .mark .last .0)) (c .before .before .before .before .mark .last .1 .0) (omega arith) (c .before .before .before .before .mark .ensures .1) (c .before .before .before .before .mark .ensures .2) ∙ ap (out (bit (c .before .before .before .before .mark .last .0)) (c .before .before .before .before .mark .last .1 .0)) (sym (c .before .before .before .before .mark .ensures .0)),
+ )
 
+-- src/lib.rt:256:1
 same-length-3 : tie.Need-same-length-3
 same-length-3 c = search needs
 
+-- src/lib.rt:256:1
 returns-2 : tie.Need-returns-2
 returns-2 c = (
   omega arith,
-  λ p R l h. row-none p (c .before .before .before .before .before .before .before .before .before .before .args .node) (out (bit (c .before .before .before .before .before .before .before .before .before .before .args .state .now)) (c .before .before .before .before .before .before .before .before .before .before .args .steps .now) (c .before .before .before .before .before .before .before .before .before .before .args .at)) (c .before .before .before .before .before .before .before .before .before .before .args .j)
-      (row-lost p (c .before .before .before .before .before .before .before .before .before .before .args .table .now) (R .is) (omega (arith, c .before .before .before .before .before .before .before .before .before .before .pre .0 .some, R .is .size)) (c .before .before .before .before .before .before .before .before .before .before .args .node) l (c .before .before .before .before .before .before .before .before .before .before .args .j) (bit (c .before .before .before .before .before .before .before .before .before .before .args .state .now)) h (c .before .before .before .before .before .node-line .result) (c .before .before .before .before .way-to .result) (c .before .before .before .before .before .node-line .ensures) (c .before .before .before .before .way-to .ensures) (c .before .before .first-try .result) (c .before .before .first-try .ensures) (omega arith)),
-)
+  λ p node R l e h. row-kept p (c .before .before .before .before .before .before .before .before .before .args .table .now) (length (c .before .before .before .before .before .before .before .before .before .args .state .now)) R (c .before .before .before .before .before .before .before .before .before .pre .0 .some) node l (c .before .before .before .before .before .before .before .before .before .args .v) e (c .before .before .before .before .before .before .before .before .before .args .j) h (c .before .before .before .before .before .before .before .before .before .args .t .way) (c .before .before .before .before .before .before .before .before .before .pre .6 .way) (bit (c .before .before .before .before .before .before .before .before .before .args .state .now)) (c .before .before .before .before .before .before .before .before .before .args .steps .now) (c .before .before .before .before .before .before .before .before .before .args .at) (c .before .before .first-try .result) (c .before .before .first-try .ensures) (omega arith),
+ )
 
 pub prove-row-spec : {M : Type 1} → statement M
 prove-row-spec =
     tie.close
     (tie.spec
-    shared-slice-read-n
-    node-line-requires
-    way-to-requires
+    shared-slice-read-first-try
     first-try-requires
-    add-choice
-    act-requires
-    mul-step
-    add-step
-    add-step-2
-    step-requires
+    mul-number
+    add-number
+    add-number-2
+    add-number-3
+    add-mark
+    mark-requires
     same-length
     same-length-2
     returns

@@ -1,0 +1,159 @@
+-- What an action of each kind needs, once the values of its row are known.
+use Prim.Native.Nat.{ℕ, zero, suc, _+_, _-_, _*_, _^_, _<_, _≤_}
+use mathlib.Core.Path.{_≡_, refl, sym, ap, ap₂, _∙_}
+use mathlib.Core.Bool.{Bool, true, false}
+use mathlib.Core.List.{List, [], _∷_, map}
+use native.Mathlib.Omega.{arith}
+use native.Mathlib.Nat.{add-zero, zero-mul, one-mul, add-mul, mul-le-mul}
+use lib.Dec.{eqb}
+use borrow.Author.Tests.{eq-eqb, ne-eqb, eqb-true, eqb-false}
+use lib.ListN.{length, getD, set}
+use Rattle.definitions.specs.Lists.{if_then_else_, all, from}
+use Rattle.definitions.specs.Actions.{Values, withValue}
+use Rattle.rows.specs.Values.{valueIn, Most}
+use Rattle.rows.specs.Laws.{set-value, within-set}
+use Rattle.ground.specs.Lines.{sizeIn, nodeLine, partLine, partNumber, partAt}
+use Rattle.ground.specs.Numbers.{rowValues, underAt, andNeeds, orNeeds, existsNeeds, forallNeeds, needNumbers}
+use Rattle.ground.specs.NeedLaws.{and-no, or-no, exists-no, forall-no, and-parts, or-part, exists-under, forall-not, forall-first, forall-next, value-times}
+use Rattle.ground.specs.declared.NodeLine.{NodeLine}
+use Rattle.ground.specs.declared.PartLine.{PartLine}
+use Rattle.ground.specs.declared.Act.the-variants.{And, Or, Exists, Forall}
+use Rattle.proving.specs.declared.Way.{Way}
+use Rattle.proving.specs.declared.Turn.{Turn}
+use Rattle.proving.specs.Tries.{actBy, wayBy, needBy, chained, firstFrom, WayFits, TurnFits}
+use Rattle.proving.specs.TryLaws.{first-same, first-none, first-only}
+
+-- ---- by the node's line
+pub need-by : (w : List ℕ) (node : ℕ) (v : NodeLine) (row choice : ℕ) → v ≡ nodeLine w node → needNumbers w (actBy (v .kind) node row choice) ≡ needBy (sizeIn w) w v row choice
+unfolding actBy needBy needNumbers
+need-by w node v row choice e = go (eqb (v .kind) 0) (eqb (v .kind) 1) (eqb (v .kind) 2)
+  where
+    go : (b₀ b₁ b₂ : Bool) → needNumbers w (if b₀ then Forall (record { node = node; row = row; choice = choice }) else if b₁ then Exists (record { node = node; row = row; choice = choice }) else if b₂ then And (record { node = node; row = row }) else Or (record { node = node; row = row; choice = choice })) ≡ (if b₀ then forallNeeds (sizeIn w) w v row choice else if b₁ then existsNeeds (sizeIn w) w v row choice else if b₂ then andNeeds (sizeIn w) w v row else orNeeds (sizeIn w) w v row choice)
+    go true b₁ b₂ = ap (λ (x : NodeLine). forallNeeds (sizeIn w) w x row choice) (sym e)
+    go false true b₂ = ap (λ (x : NodeLine). existsNeeds (sizeIn w) w x row choice) (sym e)
+    go false false true = ap (λ (x : NodeLine). andNeeds (sizeIn w) w x row) (sym e)
+    go false false false = ap (λ (x : NodeLine). orNeeds (sizeIn w) w x row choice) (sym e)
+
+module _ (s : ℕ → Bool) (n : ℕ) (w : List ℕ) (v : NodeLine) (row : ℕ) where
+  abbrev passes : ℕ → Bool
+  passes choice = all s (needBy n w v row choice)
+
+  pass-forall : v .kind ≡ 0 → (c : ℕ) → passes c ≡ all s (forallNeeds n w v row c)
+  unfolding needBy
+  pass-forall e c = rw (eq-eqb (v .kind) 0 e)
+
+  pass-exists : v .kind ≡ 1 → (c : ℕ) → passes c ≡ all s (existsNeeds n w v row c)
+  unfolding needBy
+  pass-exists e c = rw (ne-eqb (v .kind) 0 (λ z. omega arith), eq-eqb (v .kind) 1 e)
+
+  pass-and : v .kind ≡ 2 → (c : ℕ) → passes c ≡ all s (andNeeds n w v row)
+  unfolding needBy
+  pass-and e c = rw (ne-eqb (v .kind) 0 (λ z. omega arith), ne-eqb (v .kind) 1 (λ z. omega arith), eq-eqb (v .kind) 2 e)
+
+  pass-or : 3 ≤ v .kind → (c : ℕ) → passes c ≡ all s (orNeeds n w v row c)
+  unfolding needBy
+  pass-or h c = rw (ne-eqb (v .kind) 0 (λ z. omega arith), ne-eqb (v .kind) 1 (λ z. omega arith), ne-eqb (v .kind) 2 (λ z. omega arith))
+
+  -- without the proof atom none passes
+  pass-none : s 1 ≡ false → (c : ℕ) → passes c ≡ false
+  unfolding needBy
+  pass-none h c = go (eqb (v .kind) 0) (eqb (v .kind) 1) (eqb (v .kind) 2)
+    where
+      go : (b₀ b₁ b₂ : Bool) → all s (if b₀ then forallNeeds n w v row c else if b₁ then existsNeeds n w v row c else if b₂ then andNeeds n w v row else orNeeds n w v row c) ≡ false
+      go true b₁ b₂ = sym (forall-no s n w v row c h)
+      go false true b₂ = sym (exists-no s n w v row c h)
+      go false false true = sym (and-no s n w v row h)
+      go false false false = sym (or-no s n w v row c h)
+
+  pub none-tried : (base k : ℕ) → s 1 ≡ false → k ≡ firstFrom (λ i. all s (needBy n w v row (base + i))) 0 k
+  none-tried base k h = sym (first-none (λ i. passes (base + i)) k (λ i. pass-none h (base + i)))
+
+  module _ (env : List ℕ) (e : valueIn env ≡ rowValues n v row) where
+    -- `or`: the parts; `and`: all of them
+    pub parts-tried : (base k r : ℕ) → 3 ≤ v .kind → s 1 ≡ true → r ≡ firstFrom (λ i. s (partAt w (valueIn env) (v .first + base + i))) 0 k → r ≡ firstFrom (λ i. all s (needBy n w v row (base + i))) 0 k
+    parts-tried base k r h o q = q ∙ first-same _ (λ i. passes (base + i)) k 0 (λ i l.
+        let d : v .first + base + (0 + i) ≡ v .first + (base + (0 + i)) = omega arith in
+        ap (λ (x : ℕ). s (partAt w (valueIn env) x)) d ∙ or-part s n w v row env e (base + (0 + i)) _ o refl ∙ sym (pass-or h (base + (0 + i))))
+
+    pub whole-tried : (base k r : ℕ) (b : Bool) → v .kind ≡ 2 → s 1 ≡ true → k ≡ 1 → b ≡ all s (map (partAt w (valueIn env)) (from (v .first) (v .many))) → r ≡ firstFrom (λ i. b) 0 1
+        → r ≡ firstFrom (λ i. all s (needBy n w v row (base + i))) 0 k
+    whole-tried base k r b h o one a q = q ∙ first-only (λ i. passes (base + i)) b k one (pass-and h (base + 0) ∙ sym (and-parts s n w v row env e b o a))
+
+    -- quantifiers: the part at each element
+    module _ (start stride : ℕ) (along : (x : ℕ) → partAt w (withValue (valueIn env) (v .level) x) (v .first) ≡ start + x * stride) where
+      under : (x : ℕ) → start + x * stride ≡ underAt n w v row x
+      unfolding underAt
+      under x = sym (along x) ∙ ap (λ (f : Values). partAt w (withValue f (v .level) x) (v .first)) e
+
+      pub elements-tried : (base k r : ℕ) → v .kind ≡ 1 → s 1 ≡ true → r ≡ firstFrom (λ i. s (start + base * stride + i * stride)) 0 k → r ≡ firstFrom (λ i. all s (needBy n w v row (base + i))) 0 k
+      elements-tried base k r h o q = q ∙ first-same _ (λ i. passes (base + i)) k 0 (λ i l.
+          let m = add-mul base (0 + i) stride in
+          let d : start + base * stride + (0 + i) * stride ≡ start + (base + (0 + i)) * stride = omega arith in
+          exists-under s n w v row (base + (0 + i)) _ o (ap s (d ∙ under (base + (0 + i)))) ∙ sym (pass-exists h (base + (0 + i))))
+
+      chain-is : (z own : ℕ) (b : Bool) → s 1 ≡ true → own ≡ v .atoms + (row * n + z) → b ≡ chained s (start + z * stride) z own → b ≡ all s (forallNeeds n w v row z)
+      unfolding chained
+      chain-is z own b o f q = q ∙ go (s (start + z * stride)) refl (eqb z 0) refl
+        where
+          at-z : (c : Bool) → s (start + z * stride) ≡ c → s (underAt n w v row z) ≡ c
+          at-z c t = ap s (sym (under z)) ∙ t
+
+          go : (c : Bool) → s (start + z * stride) ≡ c → (d : Bool) → eqb z 0 ≡ d → (if c then (if d then true else s (own - 1)) else false) ≡ all s (forallNeeds n w v row z)
+          go false t d u = forall-not s n w v row z o (at-z false t)
+          go true t true u = forall-first s n w v row z (eqb-true z 0 u) o (at-z true t)
+          go true t false u =
+              let p = eqb-false z 0 u in
+              let l : own - 1 ≡ v .atoms + (row * n + (z - 1)) = omega arith in
+              forall-next s n w v row z _ (omega arith) o (at-z true t) (ap s l)
+
+      pub chain-tried : (base k r own : ℕ) (b : Bool) → v .kind ≡ 0 → s 1 ≡ true → k ≡ 1 → own ≡ v .atoms + (row * n + base) → b ≡ chained s (start + base * stride) base own → r ≡ firstFrom (λ i. b) 0 1
+          → r ≡ firstFrom (λ i. all s (needBy n w v row (base + i))) 0 k
+      chain-tried base k r own b h o one f a q =
+          let z : base + 0 ≡ base = add-zero base in
+          q ∙ first-only (λ i. passes (base + i)) b k one (ap passes z ∙ pass-forall h base ∙ sym (chain-is base own b o f a))
+
+-- ---- a part's atom grows with the element by the level's weight
+part-along : (e : Values) (q : PartLine) (d x : ℕ) → d < 4 → partNumber (withValue e d x) q ≡ partNumber (withValue e d 0) q + x * valueIn (q .weights) d
+unfolding partNumber withValue
+part-along e q zero x h = omega (arith, zero-mul (valueIn (q .weights) 0))
+part-along e q (suc zero) x h = omega (arith, zero-mul (valueIn (q .weights) 1))
+part-along e q (suc (suc zero)) x h = omega (arith, zero-mul (valueIn (q .weights) 2))
+part-along e q (suc (suc (suc zero))) x h = omega (arith, zero-mul (valueIn (q .weights) 3))
+part-along e q (suc (suc (suc (suc d)))) x h = absurd (omega arith)
+
+pub along-is : (w env : List ℕ) (i d start : ℕ) (q : PartLine) → q ≡ partLine w i → d < 4 → d < length env → start ≡ partNumber (valueIn (set env d 0)) q
+    → (x : ℕ) → partAt w (withValue (valueIn env) d x) i ≡ start + x * getD (q .weights) d 0
+unfolding partAt valueIn
+along-is w env i d start q e h k o x = ap (partNumber (withValue (valueIn env) d x)) (sym e) ∙ part-along (valueIn env) q d x h
+    ∙ ap (λ (a : ℕ). a + x * valueIn (q .weights) d) (sym (o ∙ ap (λ (f : Values). partNumber f q) (set-value env d 0 k)))
+
+pub part-most : (q : PartLine) (env : List ℕ) → q .start ≤ 2 ^ 32 → Most (q .weights) (2 ^ 32) → Most env 64 → partNumber (valueIn env) q ≤ 2 ^ 42
+unfolding partNumber valueIn
+part-most q env a b c = omega (arith, small 0, small 1, small 2, small 3)
+  where
+    small : (l : ℕ) → getD env l 0 * getD (q .weights) l 0 ≤ 64 * 2 ^ 32
+    small l = value-times (getD env l 0) (getD (q .weights) l 0) (c l) (b l)
+
+-- ---- one of the chained tests at a time
+module _ (s : ℕ → Bool) (part z own : ℕ) where
+  pub chain-no : s part ≡ false → false ≡ chained s part z own
+  unfolding chained
+  chain-no e = rw e
+
+  pub chain-first : s part ≡ true → z ≡ 0 → true ≡ chained s part z own
+  unfolding chained
+  chain-first e o = rw (e, eq-eqb z 0 o)
+
+  pub chain-next : (b : Bool) → s part ≡ true → 0 < z → b ≡ s (own - 1) → b ≡ chained s part z own
+  unfolding chained
+  chain-next b e h q = q ∙ rw (e, ne-eqb z 0 (λ o. omega arith))
+
+pub most-zero : (env : List ℕ) (d : ℕ) → Most env 64 → Most (set env d 0) 64
+most-zero env d m l = omega (arith, within-set 65 env d 0 (omega arith) (λ i. omega (arith, m i)) l)
+
+-- the next bit of a stride
+pub stride-next : (start i stride k : ℕ) → k ≡ start + i * stride → k + stride ≡ start + (i + 1) * stride
+stride-next start i stride k e = omega (arith, add-mul i 1 stride, one-mul stride)
+
+pub stride-most : (i stride m : ℕ) → i ≤ m → stride ≤ 2 ^ 32 → i * stride ≤ m * 2 ^ 32
+stride-most i stride m a b = mul-le-mul a b
