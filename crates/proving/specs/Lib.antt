@@ -1,10 +1,13 @@
 -- The proof phase of building.
 --   Tries, TryLaws           the actions for an atom by the table's numbers, and the first that passes
---   RowLaws                  that it is the first that may be taken
+--   NeedLaws                 what each of them needs, once the values of the row are known
+--   TurnLaws                 from one atom of a node to the next, without division
+--   RowLaws, MarkLaws        that it is the first that may be taken, and that its atom and its number are all it changes
 --   Following, FollowLaws    the builder's progress: state, lent steps and count
 pub mod Tries
 pub mod TryLaws
 pub mod NeedLaws
+pub mod TurnLaws
 pub mod Following
 pub mod FollowLaws
 pub mod RowLaws

@@ -1,8 +1,8 @@
 -- What an action of each kind needs, once the values of its row are known.
 use Prim.Native.Nat.{ℕ, zero, suc, _+_, _-_, _*_, _^_, _<_, _≤_}
-use mathlib.Core.Path.{_≡_, refl, sym, ap, ap₂, _∙_}
+use mathlib.Core.Path.{_≡_, refl, sym, ap, _∙_}
 use mathlib.Core.Bool.{Bool, true, false}
-use mathlib.Core.List.{List, [], _∷_, map}
+use mathlib.Core.List.{List, map}
 use native.Mathlib.Omega.{arith}
 use native.Mathlib.Nat.{add-zero, zero-mul, one-mul, add-mul, mul-le-mul}
 use lib.Dec.{eqb}
@@ -18,9 +18,7 @@ use Rattle.ground.specs.NeedLaws.{and-no, or-no, exists-no, forall-no, and-part
 use Rattle.ground.specs.declared.NodeLine.{NodeLine}
 use Rattle.ground.specs.declared.PartLine.{PartLine}
 use Rattle.ground.specs.declared.Act.the-variants.{And, Or, Exists, Forall}
-use Rattle.proving.specs.declared.Way.{Way}
-use Rattle.proving.specs.declared.Turn.{Turn}
-use Rattle.proving.specs.Tries.{actBy, wayBy, needBy, chained, firstFrom, WayFits, TurnFits}
+use Rattle.proving.specs.Tries.{actBy, needBy, chained, firstFrom}
 use Rattle.proving.specs.TryLaws.{first-same, first-none, first-only}
 
 -- ---- by the node's line
@@ -79,38 +77,34 @@ module _ (s : ℕ → Bool) (n : ℕ) (w : List ℕ) (v : NodeLine) (row : ℕ) 
         → r ≡ firstFrom (λ i. all s (needBy n w v row (base + i))) 0 k
     whole-tried base k r b h o one a q = q ∙ first-only (λ i. passes (base + i)) b k one (pass-and h (base + 0) ∙ sym (and-parts s n w v row env e b o a))
 
-    -- quantifiers: the part at each element
-    module _ (start stride : ℕ) (along : (x : ℕ) → partAt w (withValue (valueIn env) (v .level) x) (v .first) ≡ start + x * stride) where
-      under : (x : ℕ) → start + x * stride ≡ underAt n w v row x
-      unfolding underAt
-      under x = sym (along x) ∙ ap (λ (f : Values). partAt w (withValue f (v .level) x) (v .first)) e
+  -- quantifiers: the part at each element
+  module _ (start stride : ℕ) (under : (x : ℕ) → underAt n w v row x ≡ start + x * stride) where
+    pub elements-tried : (base k r : ℕ) → v .kind ≡ 1 → s 1 ≡ true → r ≡ firstFrom (λ i. s (start + base * stride + i * stride)) 0 k → r ≡ firstFrom (λ i. all s (needBy n w v row (base + i))) 0 k
+    elements-tried base k r h o q = q ∙ first-same _ (λ i. passes (base + i)) k 0 (λ i l.
+        let m = add-mul base (0 + i) stride in
+        let d : start + base * stride + (0 + i) * stride ≡ start + (base + (0 + i)) * stride = omega arith in
+        exists-under s n w v row (base + (0 + i)) _ o (ap s (d ∙ sym (under (base + (0 + i))))) ∙ sym (pass-exists h (base + (0 + i))))
 
-      pub elements-tried : (base k r : ℕ) → v .kind ≡ 1 → s 1 ≡ true → r ≡ firstFrom (λ i. s (start + base * stride + i * stride)) 0 k → r ≡ firstFrom (λ i. all s (needBy n w v row (base + i))) 0 k
-      elements-tried base k r h o q = q ∙ first-same _ (λ i. passes (base + i)) k 0 (λ i l.
-          let m = add-mul base (0 + i) stride in
-          let d : start + base * stride + (0 + i) * stride ≡ start + (base + (0 + i)) * stride = omega arith in
-          exists-under s n w v row (base + (0 + i)) _ o (ap s (d ∙ under (base + (0 + i)))) ∙ sym (pass-exists h (base + (0 + i))))
+    chain-is : (z own : ℕ) (b : Bool) → s 1 ≡ true → own ≡ v .atoms + (row * n + z) → b ≡ chained s (start + z * stride) z own → b ≡ all s (forallNeeds n w v row z)
+    unfolding chained
+    chain-is z own b o f q = q ∙ go (s (start + z * stride)) refl (eqb z 0) refl
+      where
+        at-z : (c : Bool) → s (start + z * stride) ≡ c → s (underAt n w v row z) ≡ c
+        at-z c t = ap s (under z) ∙ t
 
-      chain-is : (z own : ℕ) (b : Bool) → s 1 ≡ true → own ≡ v .atoms + (row * n + z) → b ≡ chained s (start + z * stride) z own → b ≡ all s (forallNeeds n w v row z)
-      unfolding chained
-      chain-is z own b o f q = q ∙ go (s (start + z * stride)) refl (eqb z 0) refl
-        where
-          at-z : (c : Bool) → s (start + z * stride) ≡ c → s (underAt n w v row z) ≡ c
-          at-z c t = ap s (sym (under z)) ∙ t
+        go : (c : Bool) → s (start + z * stride) ≡ c → (d : Bool) → eqb z 0 ≡ d → (if c then (if d then true else s (own - 1)) else false) ≡ all s (forallNeeds n w v row z)
+        go false t d u = forall-not s n w v row z o (at-z false t)
+        go true t true u = forall-first s n w v row z (eqb-true z 0 u) o (at-z true t)
+        go true t false u =
+            let p = eqb-false z 0 u in
+            let l : own - 1 ≡ v .atoms + (row * n + (z - 1)) = omega arith in
+            forall-next s n w v row z _ (omega arith) o (at-z true t) (ap s l)
 
-          go : (c : Bool) → s (start + z * stride) ≡ c → (d : Bool) → eqb z 0 ≡ d → (if c then (if d then true else s (own - 1)) else false) ≡ all s (forallNeeds n w v row z)
-          go false t d u = forall-not s n w v row z o (at-z false t)
-          go true t true u = forall-first s n w v row z (eqb-true z 0 u) o (at-z true t)
-          go true t false u =
-              let p = eqb-false z 0 u in
-              let l : own - 1 ≡ v .atoms + (row * n + (z - 1)) = omega arith in
-              forall-next s n w v row z _ (omega arith) o (at-z true t) (ap s l)
-
-      pub chain-tried : (base k r own : ℕ) (b : Bool) → v .kind ≡ 0 → s 1 ≡ true → k ≡ 1 → own ≡ v .atoms + (row * n + base) → b ≡ chained s (start + base * stride) base own → r ≡ firstFrom (λ i. b) 0 1
-          → r ≡ firstFrom (λ i. all s (needBy n w v row (base + i))) 0 k
-      chain-tried base k r own b h o one f a q =
-          let z : base + 0 ≡ base = add-zero base in
-          q ∙ first-only (λ i. passes (base + i)) b k one (ap passes z ∙ pass-forall h base ∙ sym (chain-is base own b o f a))
+    pub chain-tried : (base k r own : ℕ) (b : Bool) → v .kind ≡ 0 → s 1 ≡ true → k ≡ 1 → own ≡ v .atoms + (row * n + base) → b ≡ chained s (start + base * stride) base own → r ≡ firstFrom (λ i. b) 0 1
+        → r ≡ firstFrom (λ i. all s (needBy n w v row (base + i))) 0 k
+    chain-tried base k r own b h o one f a q =
+        let z : base + 0 ≡ base = add-zero base in
+        q ∙ first-only (λ i. passes (base + i)) b k one (ap passes z ∙ pass-forall h base ∙ sym (chain-is base own b o f a))
 
 -- ---- a part's atom grows with the element by the level's weight
 part-along : (e : Values) (q : PartLine) (d x : ℕ) → d < 4 → partNumber (withValue e d x) q ≡ partNumber (withValue e d 0) q + x * valueIn (q .weights) d
@@ -126,6 +120,12 @@ pub along-is : (w env : List ℕ) (i d start : ℕ) (q : PartLine) → q ≡ par
 unfolding partAt valueIn
 along-is w env i d start q e h k o x = ap (partNumber (withValue (valueIn env) d x)) (sym e) ∙ part-along (valueIn env) q d x h
     ∙ ap (λ (a : ℕ). a + x * valueIn (q .weights) d) (sym (o ∙ ap (λ (f : Values). partNumber f q) (set-value env d 0 k)))
+
+-- the values are those of the row
+pub under-along : (n : ℕ) (w : List ℕ) (v : NodeLine) (row start stride : ℕ) (env : List ℕ) → valueIn env ≡ rowValues n v row → ((x : ℕ) → partAt w (withValue (valueIn env) (v .level) x) (v .first) ≡ start + x * stride)
+    → (x : ℕ) → underAt n w v row x ≡ start + x * stride
+unfolding underAt
+under-along n w v row start stride env e a x = ap (λ (f : Values). partAt w (withValue f (v .level) x) (v .first)) (sym e) ∙ a x
 
 pub part-most : (q : PartLine) (env : List ℕ) → q .start ≤ 2 ^ 32 → Most (q .weights) (2 ^ 32) → Most env 64 → partNumber (valueIn env) q ≤ 2 ^ 42
 unfolding partNumber valueIn
@@ -148,8 +148,8 @@ module _ (s : ℕ → Bool) (part z own : ℕ) where
   unfolding chained
   chain-next b e h q = q ∙ rw (e, ne-eqb z 0 (λ o. omega arith))
 
-pub most-zero : (env : List ℕ) (d : ℕ) → Most env 64 → Most (set env d 0) 64
-most-zero env d m l = omega (arith, within-set 65 env d 0 (omega arith) (λ i. omega (arith, m i)) l)
+pub most-set : (env : List ℕ) (d x : ℕ) → x ≤ 64 → Most env 64 → Most (set env d x) 64
+most-set env d x h m l = omega (arith, within-set 65 env d x (omega arith) (λ i. omega (arith, m i)) l)
 
 -- the next bit of a stride
 pub stride-next : (start i stride k : ℕ) → k ≡ start + i * stride → k + stride ≡ start + (i + 1) * stride

@@ -5,7 +5,7 @@ use mathlib.Core.Bool.{Bool, true, false}
 use mathlib.Core.Option.{none, some}
 use mathlib.Core.List.{List}
 use native.Mathlib.Omega.{arith}
-use native.Mathlib.Nat.{add-zero, mod-lt, div-lt-iff-lt-mul, div-le-self, mul-le-mul}
+use native.Mathlib.Nat.{mod-lt, div-lt-iff-lt-mul, div-le-self, mul-le-mul}
 use lib.Dec.{eqb}
 use borrow.Author.Tests.{eqb-true, eqb-false}
 use lib.ListN.{length}
@@ -24,7 +24,7 @@ use Rattle.ground.specs.OfLaws.{parts-length, may-is}
 use Rattle.ground.specs.declared.Act.{Act}
 use Rattle.states.specs.Planning.{rowIn, firstTry, tries, tryAt, stepNow}
 use Rattle.proving.specs.declared.Way.{Way}
-use Rattle.proving.specs.Tries.{actBy, wayBy, needBy, firstFrom, WayFits}
+use Rattle.proving.specs.Tries.{actBy, wayBy, firstFrom, WayFits}
 use Rattle.proving.specs.TryLaws.{first-same}
 
 -- ---- the first that passes

@@ -1,12 +1,13 @@
 -- The actions for an atom of a node by the numbers of the table, and the first of them that passes a test.
-use Prim.Native.Nat.{ℕ, zero, suc, _+_, _-_, _/_, _%_, _^_, _<_, _≤_}
+use Prim.Native.Nat.{ℕ, zero, suc, _+_, _-_, _*_, _/_, _%_, _^_, _<_, _≤_}
 use mathlib.Core.Path.{_≡_}
 use mathlib.Core.Bool.{Bool, true, false}
 use mathlib.Core.List.{List}
-use lib.Dec.{eqb}
+use lib.Dec.{eqb, ltb}
+use lib.ListN.{length, getD}
 use Rattle.definitions.specs.Lists.{if_then_else_}
-use Rattle.rows.specs.Values.{valueIn, Most}
-use Rattle.ground.specs.Numbers.{rowValues, andNeeds, orNeeds, existsNeeds, forallNeeds}
+use Rattle.rows.specs.Values.{Within}
+use Rattle.ground.specs.Numbers.{underAt, andNeeds, orNeeds, existsNeeds, forallNeeds}
 use Rattle.ground.specs.declared.NodeLine.{NodeLine}
 use Rattle.ground.specs.declared.Act.{Act}
 use Rattle.ground.specs.declared.Act.the-variants.{And, Or, Exists, Forall}
@@ -40,6 +41,10 @@ wayBy n kind many j =
     else if eqb kind 2 then record { row = j; base = 0; tries = 1; choices = 1 }
     else record { row = j; base = 0; tries = many; choices = many }
 
+-- whether a `forall` goes on with z in the same row
+unfoldable pub staysBy : (n kind z : ℕ) → Bool
+staysBy n kind z = if eqb kind 0 then ltb z n else false
+
 -- the first of k numbers from a on that passes; the one past them where none does
 unfoldable pub firstFrom : (ℕ → Bool) → ℕ → ℕ → ℕ
 firstFrom f a zero = a
@@ -55,11 +60,19 @@ pub record WayFits (n : ℕ) (v : NodeLine) (y : Way) : Type 0 where
   pub up : v .kind ≡ 0 → y .tries ≡ 1
   pub whole : v .kind ≡ 2 → y .tries ≡ 1
 
--- the values are those of the row; the way and the values are those of the atom j
-pub record TurnFits (n : ℕ) (v : NodeLine) (t : Turn) : Type 0 where
-  pub values : valueIn (t .env) ≡ rowValues n v (t .way .row)
-  pub most : Most (t .env) 64
+-- the first `width` numbers are the places of a row
+abbrev pub Digits : (n width row : ℕ) → List ℕ → Type 0
+Digits n width row ds = (q : ℕ) → q < width → getD ds q 0 ≡ row / n ^ (width - suc q) % n
 
-pub record TurnAt (n : ℕ) (v : NodeLine) (j : ℕ) (t : Turn) : Type 0 where
+-- the digits and the part under a quantifier are those of the row; the way is that of the atom j
+pub record TurnFits (n : ℕ) (w : List ℕ) (v : NodeLine) (ds : List ℕ) (t : Turn) : Type 0 where
+  pub long : length ds ≡ 4
+  pub digits : Digits n (v .width) (t .way .row) ds
+  pub within : Within n ds
+  pub start : t .under .start ≤ 2 ^ 42
+  pub stride : t .under .stride ≤ 2 ^ 32
+  pub under : v .kind < 2 → (x : ℕ) → underAt n w v (t .way .row) x ≡ t .under .start + x * t .under .stride
+
+pub record TurnAt (n : ℕ) (w : List ℕ) (v : NodeLine) (j : ℕ) (ds : List ℕ) (t : Turn) : Type 0 where
   pub way : t .way ≡ wayBy n (v .kind) (v .many) j
-  pub fits : TurnFits n v t
+  pub fits : TurnFits n w v ds t

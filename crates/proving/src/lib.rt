@@ -4,17 +4,18 @@ ghost use mathlib.Core.Path.{_≡_};
 ghost use mathlib.Core.Bool.{true};
 ghost use mathlib.Core.List.{[], _∷_, map};
 ghost use Prim.Native.Nat.{ℕ, _+_, _-_, _*_, _/_, _%_, _^_, _<_, _≤_};
-ghost use lib.ListN.{length, set as «set-at»};
+ghost use lib.ListN.{length, take, set as «set-at»};
 ghost use Rattle.definitions.specs.Lists.{all, from};
-ghost use Rattle.definitions.specs.Atoms.{Problem, nodeAt, nodeWidth, atoms as «atoms-of»};
-ghost use Rattle.definitions.specs.Actions.{Action, actionNumber, withValue};
+ghost use Rattle.definitions.specs.Atoms.{Problem, placesOf, nodeAt, nodeWidth, atoms as «atoms-of»};
+ghost use Rattle.definitions.specs.Actions.{Action, actionNumber, valuesIn, withValue};
 ghost use Rattle.laws.specs.Numbers.{IsAction};
 ghost use Rattle.bits.specs.Table.{bit};
-ghost use Rattle.rows.specs.Values.{valueIn, Most};
+ghost use Rattle.rows.specs.Values.{valueIn, Within, Most};
+ghost use Rattle.tree.specs.Tables.{Levels};
 ghost use Rattle.ground.specs.Lines.{sizeIn, nodeLine, partAt, NodeFits, Fits};
-ghost use Rattle.ground.specs.Numbers.{ActFits, changed};
+ghost use Rattle.ground.specs.Numbers.{underAt, ActFits, changed};
 ghost use Rattle.ground.specs.Of.{said};
-ghost use Rattle.proving.specs.Tries.{wayBy, needBy, chained, firstFrom, WayFits, TurnFits, TurnAt};
+ghost use Rattle.proving.specs.Tries.{wayBy, needBy, chained, staysBy, firstFrom, WayFits, Digits, TurnFits, TurnAt};
 ghost use Rattle.proving.specs.Following.{Ready, out, one, provedRow, provedRows, provedNodes};
 
 // The way to the atom j of a node: the row of values, the first of the parts, elements or zs to try and how many there are, and how
@@ -26,10 +27,16 @@ pub struct Way {
     pub choices: usize,
 }
 
-// The way to an atom, and the values of its row, by level.
+// Where an element takes a part: its atom's number at element 0, and by how much that grows with the element.
+pub struct Elements {
+    pub start: usize,
+    pub stride: usize,
+}
+
+// The way to an atom, and the part under a quantifier in its row.
 pub struct Turn {
     pub way: Way,
-    pub env: [usize; 4],
+    pub under: Elements,
 }
 
 // How far b is past a; 0 where it is not.
@@ -87,12 +94,6 @@ fn way_to(n: usize, kind: usize, many: usize, j: usize) -> Way
         tries: many,
         choices: many,
     }
-}
-
-// Where an element takes a part: its atom's number at element 0, and by how much that grows with the element.
-pub struct Elements {
-    pub start: usize,
-    pub stride: usize,
 }
 
 // The atoms of a part along the elements of a level, the other values as they are.
@@ -183,6 +184,20 @@ fn only_try(holds: bool) -> usize
     1
 }
 
+// The values of the first `width` of the levels, by level.
+fn spread(levels: [usize; 4], width: usize, digits: &[usize]) -> [usize; 4]
+    requires { ⌜ (width ≤ 4) × Levels levels × (length (now digits) ≡ 4) × Most (now digits) 64 ⌝ }
+    ensures { λ r. ⌜ Most r 64 × ((n row : ℕ) → Digits n width row (now (digits .entry)) → valueIn r ≡ valuesIn (take width levels) (placesOf n width row)) ⌝ }
+{
+    let mut out = [0usize; 4];
+    let mut i = width;
+    while 0 < i {
+        i -= 1;
+        out[levels[i]] = digits[i];
+    }
+    out
+}
+
 // The first of the tries whose needs all hold; their count where there is none.
 fn first_try(
     state: &[u64],
@@ -190,15 +205,15 @@ fn first_try(
     table: &[usize],
     v: ground::NodeLine,
     t: Turn,
+    digits: &[usize],
 ) -> usize
-    requires { ⌜ Fits (now table) × (n ≡ sizeIn (now table)) × NodeFits v × (v .atoms ≤ 2 ^ 32) × WayFits n v (t .way) × TurnFits n v t ⌝ }
+    requires { ⌜ Fits (now table) × (n ≡ sizeIn (now table)) × NodeFits v × (v .atoms ≤ 2 ^ 32) × WayFits n v (t .way) × TurnFits n (now table) v (now digits) t ⌝ }
     ensures { λ r. ⌜ r ≡ firstFrom (λ i. all (bit (now (state .entry))) (needBy n (now (table .entry)) v (t .way .row) (t .way .base + i))) 0 (t .way .tries) ⌝ }
 {
     let w = t.way;
-    let env = t.env;
     if ground::test(state, 1) {
         if v.kind < 2 {
-            let a = along(table, v.first, v.level, env);
+            let a = t.under;
             let k = a.start + w.base * a.stride;
             if v.kind == 1 {
                 return first_bit(state, k, a.stride, w.tries);
@@ -206,6 +221,8 @@ fn first_try(
             let own = v.atoms + (w.row * n + w.base);
             return only_try(chain_holds(state, k, w.base, own));
         }
+        let levels = v.levels;
+        let env = spread(levels, v.width, digits);
         if v.kind == 2 {
             return only_try(parts_hold(state, table, v.first, v.many, env));
         }
@@ -243,12 +260,12 @@ fn raise(state: &mut [u64], i: usize)
 }
 
 // An atom is set and the number of its action written.
-fn mark(state: &mut [u64], steps: &mut [u32], at: usize, atom: usize, number: usize) -> usize
+fn mark(state: &mut [u64], steps: &mut [u32], at: usize, atom: usize, action: usize) -> usize
     requires { ⌜ at < 2 ^ 40 ⌝ }
-    ensures { λ r. ⌜ (r ≡ at + 1) × (atom / 64 < length (now (state .entry)) → bit (now (state .exit)) ≡ changed (bit (now (state .entry))) [] (atom ∷ [])) × (number < 2 ^ 32 → now (steps .exit) ≡ «set-at» (now (steps .entry)) at number) ⌝ }
+    ensures { λ r. ⌜ (r ≡ at + 1) × (atom / 64 < length (now (state .entry)) → bit (now (state .exit)) ≡ changed (bit (now (state .entry))) [] (atom ∷ [])) × (action < 2 ^ 32 → now (steps .exit) ≡ «set-at» (now (steps .entry)) at action) ⌝ }
 {
     raise(state, atom);
-    put(steps, at, number);
+    put(steps, at, action);
     at + 1
 }
 
@@ -260,14 +277,15 @@ fn prove_row(
     table: &[usize],
     v: ground::NodeLine,
     t: Turn,
+    digits: &[usize],
     j: usize,
 ) -> usize
-    requires { ⌜ Fits (now table) × NodeFits v × (v .acts ≤ 2 ^ 32) × (v .atoms ≤ 2 ^ 32) × (j ≤ 2 ^ 32) × (at < 2 ^ 40) × TurnAt (sizeIn (now table)) v j t ⌝ }
+    requires { ⌜ Fits (now table) × NodeFits v × (v .acts ≤ 2 ^ 32) × (v .atoms ≤ 2 ^ 32) × (j ≤ 2 ^ 32) × (at < 2 ^ 40) × TurnAt (sizeIn (now table)) (now table) v j (now digits) t ⌝ }
     ensures { λ r. ⌜ (r ≤ at + 1) × ((p : Problem) (node : ℕ) → Ready p (now (table .entry)) (length (now (state .entry))) → node < length (p .nodeList) → v ≡ nodeLine (now (table .entry)) node → j < nodeWidth (p .size) (nodeAt p node)
         → provedRow p node (out (bit (now (state .entry))) (now (steps .entry)) at) j ≡ out (bit (now (state .exit))) (now (steps .exit)) r) ⌝ }
 {
     let w = t.way;
-    let i = first_try(state, table[0], table, v, t);
+    let i = first_try(state, table[0], table, v, t, digits);
     if i < w.tries {
         let number = v.acts + w.row * w.choices + (w.base + i);
         return mark(state, steps, at, v.atoms + j, number);
@@ -275,15 +293,92 @@ fn prove_row(
     at
 }
 
-// The way and the values of a node's atom j.
-fn turn_at(n: usize, v: ground::NodeLine, j: usize) -> Turn
-    requires { ⌜ (0 < n) × (n ≤ 64) × NodeFits v ⌝ }
-    ensures { λ r. ⌜ TurnAt n v j r ⌝ }
+// The digits of the next row.
+fn advance(n: usize, width: usize, digits: &mut [usize])
+    requires { ⌜ (n ≤ 64) × (width ≤ 4) × (length (now digits) ≡ 4) × Within n (now digits) ⌝ }
+    ensures { λ r. ⌜ Within n (now (digits .exit)) × ((row : ℕ) → Digits n width row (now (digits .entry)) → Digits n width (row + 1) (now (digits .exit))) ⌝ }
 {
-    let way = way_to(n, v.kind, v.many, j);
-    let levels = v.levels;
-    let env = rows::values_of(n, levels, v.width, way.row);
-    Turn { way, env }
+    let mut i = width;
+    while 0 < i {
+        i -= 1;
+        let d = digits[i] + 1;
+        if d < n {
+            digits[i] = d;
+            return;
+        }
+        digits[i] = 0;
+    }
+}
+
+// The part under a quantifier in a row.
+fn under_at(table: &[usize], v: ground::NodeLine, digits: &[usize]) -> Elements
+    requires { ⌜ Fits (now table) × NodeFits v × (length (now digits) ≡ 4) × Within (sizeIn (now table)) (now digits) ⌝ }
+    ensures { λ r. ⌜ (r .start ≤ 2 ^ 42) × (r .stride ≤ 2 ^ 32) × ((row : ℕ) → Digits (sizeIn (now (table .entry))) (v .width) row (now (digits .entry)) → v .kind < 2 → (x : ℕ) → underAt (sizeIn (now (table .entry))) (now (table .entry)) v row x ≡ r .start + x * r .stride) ⌝ }
+{
+    if v.kind < 2 {
+        let levels = v.levels;
+        let env = spread(levels, v.width, digits);
+        return along(table, v.first, v.level, env);
+    }
+    Elements {
+        start: 0,
+        stride: 0,
+    }
+}
+
+// The turn of a node's first atom.
+fn first_turn(n: usize, table: &[usize], v: ground::NodeLine, digits: &[usize]) -> Turn
+    requires { ⌜ Fits (now table) × (n ≡ sizeIn (now table)) × NodeFits v × (now digits ≡ 0 ∷ 0 ∷ 0 ∷ 0 ∷ []) ⌝ }
+    ensures { λ r. ⌜ TurnAt n (now (table .entry)) v 0 (now (digits .entry)) r ⌝ }
+{
+    let way = way_to(n, v.kind, v.many, 0);
+    let under = under_at(table, v, digits);
+    Turn { way, under }
+}
+
+// Whether a `forall` goes on with z in the same row.
+fn stays(n: usize, kind: usize, z: usize) -> bool
+    ensures { λ r. ⌜ r ≡ staysBy n kind z ⌝ }
+{
+    if kind == 0 {
+        return z < n;
+    }
+    false
+}
+
+// The turn after that of the atom j.
+fn next_turn(
+    n: usize,
+    table: &[usize],
+    v: ground::NodeLine,
+    t: Turn,
+    digits: &mut [usize],
+    j: usize,
+) -> Turn
+    requires { ⌜ Fits (now table) × (n ≡ sizeIn (now table)) × NodeFits v × (j ≤ 2 ^ 32) × TurnAt n (now table) v j (now digits) t ⌝ }
+    ensures { λ r. ⌜ TurnAt n (now (table .entry)) v (j + 1) (now (digits .exit)) r ⌝ }
+{
+    let w = t.way;
+    let base = w.base + 1;
+    if stays(n, v.kind, base) {
+        let way = Way {
+            row: w.row,
+            base,
+            tries: w.tries,
+            choices: w.choices,
+        };
+        let under = t.under;
+        return Turn { way, under };
+    }
+    let way = Way {
+        row: w.row + 1,
+        base: 0,
+        tries: w.tries,
+        choices: w.choices,
+    };
+    advance(n, v.width, digits);
+    let under = under_at(table, v, digits);
+    Turn { way, under }
 }
 
 // The atoms of a node, in order.
@@ -301,11 +396,13 @@ fn prove_node(
 {
     let n = table[0];
     let v = ground::node_line(table, node);
+    let mut digits = [0usize; 4];
+    let mut t = first_turn(n, table, v, &digits);
     let mut k = at;
     let mut j: usize = 0;
     while j < width {
-        let t = turn_at(n, v, j);
-        k = prove_row(state, steps, k, table, v, t, j);
+        k = prove_row(state, steps, k, table, v, t, &digits, j);
+        t = next_turn(n, table, v, t, &mut digits, j);
         j += 1;
     }
     k

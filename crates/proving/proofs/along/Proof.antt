@@ -1,49 +1,39 @@
+-- `proving::along` meets its contract.
 use Prim.Native.Nat.{_≤_, _^_}
 use native.Mathlib.Omega.{arith}
-use mathlib.Core.Path.{_≡_, sym}
+use mathlib.Core.Path.{_≡_}
 use lib.ListN.{length, set}
 use Rattle.rows.specs.Values.{valueIn}
 use Rattle.ground.specs.Lines.{partNumber}
 use Rattle.ground.specs.NeedLaws.{part-small}
-use Rattle.proving.specs.NeedLaws.{most-zero, along-is, part-most}
+use Rattle.proving.specs.NeedLaws.{most-set, along-is, part-most}
 use borrow.Author.Needs.{needs}
 use Rattle.proving.proofs.along.Statement.{statement}
 use Rattle.proving.proofs.along.Tie as tie
-use Rattle.proving.proofs.along.Reads as reads
-use Rattle.proving.proofs.along.Lts as lts
-use Rattle.ground.proofs.part_line.Reads as part-line-reads
-use Rattle.ground.proofs.part_number.Reads as part-number-reads
 
--- src/lib.rt:103:9
 part-line-requires : tie.Need-part-line-requires
 part-line-requires c κs = search needs
 
--- src/lib.rt:106:5
 mul-values : tie.Need-mul-values
 mul-values c = search needs
 
--- src/lib.rt:106:5
 array-write-values : tie.Need-array-write-values
 array-write-values c = search needs
 
--- src/lib.rt:107:9
 part-number-requires : tie.Need-part-number-requires
-part-number-requires c κs = let f = part-small (c .before .before .before .args .table .now) (c .before .before .before .pre .0) (c .before .before .before .args .part) (c .before .part-line .result) (c .before .part-line .ensures) in (f .0, f .1, most-zero (c .before .before .before .args .env) (c .before .before .before .args .level) (c .before .before .before .pre .3))
+part-number-requires c κs = let f = part-small (c .before .before .before .args .table .now) (c .before .before .before .pre .0) (c .before .before .before .args .part) (c .before .part-line .result) (c .before .part-line .ensures) in (f .0, f .1, most-set (c .before .before .before .args .env) (c .before .before .before .args .level) 0 (omega arith) (c .before .before .before .pre .3))
 
--- src/lib.rt:110:17
 mul-t9 : tie.Need-mul-t9
 mul-t9 c = search needs
 
--- src/lib.rt:110:17
 array-read-t15 : tie.Need-array-read-t15
 array-read-t15 c = search needs
 
--- src/lib.rt:99:1
 returns : tie.Need-returns
-returns c = 
+returns c =
     let f = part-small (c .before .before .before .before .args .table .now) (c .before .before .before .before .pre .0) (c .before .before .before .before .args .part) (c .before .before .part-line .result) (c .before .before .part-line .ensures) in
     let len : length (c .before .before .before .before .args .env) ≡ 4 = search needs in
-    let m : partNumber (valueIn (set (c .before .before .before .before .args .env) (c .before .before .before .before .args .level) 0)) (c .before .before .part-line .result) ≤ 2 ^ 42 = part-most (c .before .before .part-line .result) (set (c .before .before .before .before .args .env) (c .before .before .before .before .args .level) 0) (f .0) (f .1) (most-zero (c .before .before .before .before .args .env) (c .before .before .before .before .args .level) (c .before .before .before .before .pre .3)) in
+    let m : partNumber (valueIn (set (c .before .before .before .before .args .env) (c .before .before .before .before .args .level) 0)) (c .before .before .part-line .result) ≤ 2 ^ 42 = part-most (c .before .before .part-line .result) (set (c .before .before .before .before .args .env) (c .before .before .before .before .args .level) 0) (f .0) (f .1) (most-set (c .before .before .before .before .args .env) (c .before .before .before .before .args .level) 0 (omega arith) (c .before .before .before .before .pre .3)) in
     (omega (arith, m, c .part-number .ensures), f .1 (c .before .before .before .before .args .level), along-is (c .before .before .before .before .args .table .now) (c .before .before .before .before .args .env) (c .before .before .before .before .args .part) (c .before .before .before .before .args .level) (c .part-number .result) (c .before .before .part-line .result) (c .before .before .part-line .ensures) (c .before .before .before .before .pre .2) (omega (arith, c .before .before .before .before .pre .2)) (c .part-number .ensures))
 
 pub along-spec : {M : Type 1} → statement M

@@ -1,3 +1,4 @@
+-- `proving::chain_holds` meets its contract.
 use native.Mathlib.Omega.{arith}
 use mathlib.Core.Path.{sym, _∙_}
 use Rattle.bits.specs.Table.{bit}
@@ -5,31 +6,22 @@ use Rattle.proving.specs.NeedLaws.{chain-no, chain-first, chain-next}
 use borrow.Author.Needs.{needs}
 use Rattle.proving.proofs.chain_holds.Statement.{statement}
 use Rattle.proving.proofs.chain_holds.Tie as tie
-use Rattle.proving.proofs.chain_holds.Reads as reads
-use Rattle.proving.proofs.chain_holds.Lts as lts
-use Rattle.ground.proofs.test.Reads as test-reads
 
--- src/lib.rt:167:8
 test-requires : tie.Need-test-requires
 test-requires c κs = search needs
 
--- src/lib.rt:169:13
 returns : tie.Need-returns
 returns c = chain-first (bit (c .before .before .before .before .args .state .now)) (c .before .before .before .before .args .part) (c .before .before .before .before .args .z) (c .before .before .before .before .args .own) (sym (c .before .before .test .ensures) ∙ c .before .if1 .taken) (omega arith)
 
--- src/lib.rt:171:36
 sub-test : tie.Need-sub-test
 sub-test c = omega (arith, c .before .before .before .before .pre (omega arith))
 
--- src/lib.rt:171:9
 test-requires-2 : tie.Need-test-requires-2
 test-requires-2 c κs = search needs
 
--- src/lib.rt:171:9
 returns-2 : tie.Need-returns-2
 returns-2 c = chain-next (bit (c .before .before .before .before .before .args .state .now)) (c .before .before .before .before .before .args .part) (c .before .before .before .before .before .args .z) (c .before .before .before .before .before .args .own) _ (sym (c .before .before .before .test .ensures) ∙ c .before .before .if1 .taken) (omega arith) (c .test2 .ensures)
 
--- src/lib.rt:163:1
 returns-3 : tie.Need-returns-3
 returns-3 c = chain-no (bit (c .before .before .before .args .state .now)) (c .before .before .before .args .part) (c .before .before .before .args .z) (c .before .before .before .args .own) (sym (c .before .test .ensures) ∙ c .if1 .left)
 

@@ -1,3 +1,4 @@
+-- `proving::first_part` meets its contract.
 use borrow.Author.Needs.{needs}
 use Prim.Native.Nat.{ℕ, _+_, _-_, _≤_}
 use mathlib.Core.Path.{_≡_, sym, _∙_}
@@ -9,9 +10,6 @@ use Rattle.proving.specs.Tries.{firstFrom}
 use Rattle.proving.specs.TryLaws.{first-start, first-yes, first-no, first-end}
 use Rattle.proving.proofs.first_part.Statement.{statement}
 use Rattle.proving.proofs.first_part.Tie as tie
-use Rattle.proving.proofs.first_part.Reads as reads
-use Rattle.proving.proofs.first_part.Lts as lts
-use Rattle.ground.proofs.part_holds.Reads as part-holds-reads
 
 abbrev Inv-loop : tie.InvT-loop
 Inv-loop state table first tries env i₀ i = (i ≤ tries) × (firstFrom (λ (x : ℕ). bit state (partAt table (valueIn env) (first + x))) 0 tries ≡ firstFrom (λ (x : ℕ). bit state (partAt table (valueIn env) (first + x))) i (tries - i))
@@ -19,35 +17,27 @@ Inv-loop state table first tries env i₀ i = (i ≤ tries) × (firstFrom (λ (x
 abbrev μ-loop : tie.MeasureT-loop
 μ-loop state table first tries env i₀ i = tries - i
 
--- src/lib.rt:137:5
 loop-holds : tie.Need-loop-holds Inv-loop μ-loop
 loop-holds c = (omega arith, first-start (λ (x : ℕ). bit (c .before .before .args .state .now) (partAt (c .before .before .args .table .now) (valueIn (c .before .before .args .env)) (c .before .before .args .first + x))) (c .before .before .args .tries))
 
--- src/lib.rt:138:45
 add-part-holds : tie.Need-add-part-holds Inv-loop μ-loop
 add-part-holds c = search needs
 
--- src/lib.rt:138:12
 part-holds-requires : tie.Need-part-holds-requires Inv-loop μ-loop
 part-holds-requires c κs = (c .before .before .before .before .pre .0, omega arith, c .before .before .before .before .pre .2)
 
--- src/lib.rt:139:13
 returns : tie.Need-returns Inv-loop μ-loop
 returns c = first-yes (λ (x : ℕ). bit (c .before .before .before .before .before .before .args .state .now) (partAt (c .before .before .before .before .before .before .args .table .now) (valueIn (c .before .before .before .before .before .before .args .env)) (c .before .before .before .before .before .before .args .first + x))) (c .before .before .before .before .before .before .args .tries) (c .before .before .before .loop .i) (omega arith) (sym (c .before .part-holds .ensures) ∙ c .if1 .taken) ∙ sym (c .before .before .before .loop .inv .1)
 
--- src/lib.rt:141:9
 add-i : tie.Need-add-i Inv-loop μ-loop
 add-i c = search needs
 
--- src/lib.rt:137:5
 loop-less : tie.Need-loop-less Inv-loop μ-loop
 loop-less c = search needs
 
--- src/lib.rt:137:5
 loop-again : tie.Need-loop-again Inv-loop μ-loop
 loop-again c = (omega arith, c .before .before .before .loop .inv .1 ∙ first-no (λ (x : ℕ). bit (c .before .before .before .before .before .before .args .state .now) (partAt (c .before .before .before .before .before .before .args .table .now) (valueIn (c .before .before .before .before .before .before .args .env)) (c .before .before .before .before .before .before .args .first + x))) (c .before .before .before .before .before .before .args .tries) (c .before .before .before .loop .i) (omega arith) (sym (c .before .part-holds .ensures) ∙ c .if1 .left))
 
--- src/lib.rt:132:1
 returns-2 : tie.Need-returns-2 Inv-loop μ-loop
 returns-2 c = first-end (λ (x : ℕ). bit (c .before .before .before .before .args .state .now) (partAt (c .before .before .before .before .args .table .now) (valueIn (c .before .before .before .before .args .env)) (c .before .before .before .before .args .first + x))) (c .before .before .before .before .args .tries) (c .before .loop .i) (omega arith) ∙ sym (c .before .loop .inv .1)
 

@@ -1,16 +1,13 @@
+-- `proving::only_try` meets its contract.
 use borrow.Author.Needs.{needs}
 use Rattle.proving.specs.Tries.{firstFrom}
 use Rattle.proving.proofs.only_try.Statement.{statement}
 use Rattle.proving.proofs.only_try.Tie as tie
-use Rattle.proving.proofs.only_try.Reads as reads
-use Rattle.proving.proofs.only_try.Lts as lts
 
--- src/lib.rt:181:9
 returns : tie.Need-returns
 unfolding firstFrom
 returns c = search needs
 
--- src/lib.rt:177:1
 returns-2 : tie.Need-returns-2
 unfolding firstFrom
 returns-2 c = search needs

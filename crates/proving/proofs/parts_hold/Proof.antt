@@ -1,3 +1,4 @@
+-- `proving::parts_hold` meets its contract.
 use borrow.Author.Needs.{needs}
 use Prim.Native.Nat.{_+_, _-_, _≤_}
 use mathlib.Core.Path.{_≡_, sym, _∙_}
@@ -11,9 +12,6 @@ use Rattle.ground.specs.Lines.{partAt}
 use Rattle.ground.specs.NeedLaws.{parts-next, parts-none, parts-start}
 use Rattle.proving.proofs.parts_hold.Statement.{statement}
 use Rattle.proving.proofs.parts_hold.Tie as tie
-use Rattle.proving.proofs.parts_hold.Reads as reads
-use Rattle.proving.proofs.parts_hold.Lts as lts
-use Rattle.ground.proofs.part_holds.Reads as part-holds-reads
 
 abbrev Inv-loop : tie.InvT-loop
 Inv-loop state table first many env k₀ k = (k ≤ many) × (all (bit state) (map (partAt table (valueIn env)) (from first many)) ≡ all (bit state) (map (partAt table (valueIn env)) (from (first + k) (many - k))))
@@ -21,35 +19,27 @@ Inv-loop state table first many env k₀ k = (k ≤ many) × (all (bit state) (m
 abbrev μ-loop : tie.MeasureT-loop
 μ-loop state table first many env k₀ k = many - k
 
--- src/lib.rt:152:5
 loop-holds : tie.Need-loop-holds Inv-loop μ-loop
 loop-holds c = (omega arith, parts-start (bit (c .before .before .args .state .now)) (partAt (c .before .before .args .table .now) (valueIn (c .before .before .args .env))) (c .before .before .args .many) (c .before .before .args .first))
 
--- src/lib.rt:153:45
 add-part-holds : tie.Need-add-part-holds Inv-loop μ-loop
 add-part-holds c = search needs
 
--- src/lib.rt:153:12
 part-holds-requires : tie.Need-part-holds-requires Inv-loop μ-loop
 part-holds-requires c κs = (c .before .before .before .before .pre .0, omega arith, c .before .before .before .before .pre .2)
 
--- src/lib.rt:154:13
 add-k : tie.Need-add-k Inv-loop μ-loop
 add-k c = search needs
 
--- src/lib.rt:152:5
 loop-less : tie.Need-loop-less Inv-loop μ-loop
 loop-less c = search needs
 
--- src/lib.rt:152:5
 loop-again : tie.Need-loop-again Inv-loop μ-loop
 loop-again c = (omega arith, c .before .before .before .loop .inv .1 ∙ parts-next (bit (c .before .before .before .before .before .before .args .state .now)) (partAt (c .before .before .before .before .before .before .args .table .now) (valueIn (c .before .before .before .before .before .before .args .env))) (c .before .before .before .loop .k) (c .before .before .before .before .before .before .args .many) (c .before .before .before .before .before .before .args .first) true (omega arith) (sym (c .before .part-holds .ensures) ∙ c .if1 .taken))
 
--- src/lib.rt:156:13
 returns : tie.Need-returns Inv-loop μ-loop
 returns c = sym (c .before .before .before .loop .inv .1 ∙ parts-next (bit (c .before .before .before .before .before .before .args .state .now)) (partAt (c .before .before .before .before .before .before .args .table .now) (valueIn (c .before .before .before .before .before .before .args .env))) (c .before .before .before .loop .k) (c .before .before .before .before .before .before .args .many) (c .before .before .before .before .before .before .args .first) false (omega arith) (sym (c .before .part-holds .ensures) ∙ c .if1 .left))
 
--- src/lib.rt:147:1
 returns-2 : tie.Need-returns-2 Inv-loop μ-loop
 returns-2 c = sym (c .before .loop .inv .1 ∙ parts-none (bit (c .before .before .before .before .args .state .now)) (partAt (c .before .before .before .before .args .table .now) (valueIn (c .before .before .before .before .args .env))) (c .before .loop .k) (c .before .before .before .before .args .many) (c .before .before .before .before .args .first) (omega arith))
 

@@ -1,4 +1,4 @@
-use Prim.Native.Nat.{_≤_}
+-- `proving::prove_row` meets its contract.
 use mathlib.Core.Path.{refl, sym, ap, _∙_}
 use native.Mathlib.Omega.{arith}
 use lib.ListN.{length}
@@ -10,70 +10,53 @@ use Rattle.proving.specs.MarkLaws.{row-marked, row-kept}
 use borrow.Author.Needs.{needs}
 use Rattle.proving.proofs.prove_row.Statement.{statement}
 use Rattle.proving.proofs.prove_row.Tie as tie
-use Rattle.proving.proofs.prove_row.Reads as reads
-use Rattle.proving.proofs.prove_row.Lts as lts
-use Rattle.proving.proofs.first_try.Reads as first-try-reads
-use Rattle.proving.proofs.mark.Reads as mark-reads
 
--- src/lib.rt:270:30
 shared-slice-read-first-try : tie.Need-shared-slice-read-first-try
 shared-slice-read-first-try c = search needs
 
--- src/lib.rt:270:9
 first-try-requires : tie.Need-first-try-requires
-first-try-requires c κs = (c .before .before .before .before .before .before .pre .0, refl, c .before .before .before .before .before .before .pre .1, c .before .before .before .before .before .before .pre .3, way-fits (sizeIn (c .before .before .before .before .before .before .args .table .now)) (c .before .before .before .before .before .before .args .v) (c .before .before .before .before .before .before .args .j) (c .before .before .before .before .before .before .args .t .way) (c .before .before .before .before .before .before .pre .0 .some) (c .before .before .before .before .before .before .pre .0 .size) (c .before .before .before .before .before .before .pre .1 .parts) (c .before .before .before .before .before .before .pre .4) (c .before .before .before .before .before .before .pre .6 .way), c .before .before .before .before .before .before .pre .6 .fits)
+first-try-requires c κs = (c .before .before .before .before .before .before .before .pre .0, refl, c .before .before .before .before .before .before .before .pre .1, c .before .before .before .before .before .before .before .pre .3, way-fits (sizeIn (c .before .before .before .before .before .before .before .args .table .now)) (c .before .before .before .before .before .before .before .args .v) (c .before .before .before .before .before .before .before .args .j) (c .before .before .before .before .before .before .before .args .t .way) (c .before .before .before .before .before .before .before .pre .0 .some) (c .before .before .before .before .before .before .before .pre .0 .size) (c .before .before .before .before .before .before .before .pre .1 .parts) (c .before .before .before .before .before .before .before .pre .4) (c .before .before .before .before .before .before .before .pre .6 .way), c .before .before .before .before .before .before .before .pre .6 .fits)
 
--- src/lib.rt:272:31
 mul-number : tie.Need-mul-number
-mul-number c = let f = way-fits (sizeIn (c .before .before .before .before .before .before .before .before .before .before .args .table .now)) (c .before .before .before .before .before .before .before .before .before .before .args .v) (c .before .before .before .before .before .before .before .before .before .before .args .j) (c .before .before .before .before .before .before .before .before .before .before .args .t .way) (c .before .before .before .before .before .before .before .before .before .before .pre .0 .some) (c .before .before .before .before .before .before .before .before .before .before .pre .0 .size) (c .before .before .before .before .before .before .before .before .before .before .pre .1 .parts) (c .before .before .before .before .before .before .before .before .before .before .pre .4) (c .before .before .before .before .before .before .before .before .before .before .pre .6 .way) in omega (arith, row-wide (c .before .before .before .before .before .before .before .before .before .before .args .t .way .row) (c .before .before .before .before .before .before .before .before .before .before .args .t .way .choices) 0 (f .row) (f .choices) (omega arith))
+mul-number c = let f = way-fits (sizeIn (c .before .before .before .before .before .before .before .before .before .before .before .args .table .now)) (c .before .before .before .before .before .before .before .before .before .before .before .args .v) (c .before .before .before .before .before .before .before .before .before .before .before .args .j) (c .before .before .before .before .before .before .before .before .before .before .before .args .t .way) (c .before .before .before .before .before .before .before .before .before .before .before .pre .0 .some) (c .before .before .before .before .before .before .before .before .before .before .before .pre .0 .size) (c .before .before .before .before .before .before .before .before .before .before .before .pre .1 .parts) (c .before .before .before .before .before .before .before .before .before .before .before .pre .4) (c .before .before .before .before .before .before .before .before .before .before .before .pre .6 .way) in omega (arith, row-wide (c .before .before .before .before .before .before .before .before .before .before .before .args .t .way .row) (c .before .before .before .before .before .before .before .before .before .before .before .args .t .way .choices) 0 (f .row) (f .choices) (omega arith))
 
--- src/lib.rt:272:22
 add-number : tie.Need-add-number
-add-number c = let f = way-fits (sizeIn (c .before .before .before .before .before .before .before .before .before .before .before .args .table .now)) (c .before .before .before .before .before .before .before .before .before .before .before .args .v) (c .before .before .before .before .before .before .before .before .before .before .before .args .j) (c .before .before .before .before .before .before .before .before .before .before .before .args .t .way) (c .before .before .before .before .before .before .before .before .before .before .before .pre .0 .some) (c .before .before .before .before .before .before .before .before .before .before .before .pre .0 .size) (c .before .before .before .before .before .before .before .before .before .before .before .pre .1 .parts) (c .before .before .before .before .before .before .before .before .before .before .before .pre .4) (c .before .before .before .before .before .before .before .before .before .before .before .pre .6 .way) in omega (arith, row-wide (c .before .before .before .before .before .before .before .before .before .before .before .args .t .way .row) (c .before .before .before .before .before .before .before .before .before .before .before .args .t .way .choices) 0 (f .row) (f .choices) (omega arith), c .before .before .before .before .before .before .before .before .before .before .before .pre .2)
+add-number c = let f = way-fits (sizeIn (c .before .before .before .before .before .before .before .before .before .before .before .before .args .table .now)) (c .before .before .before .before .before .before .before .before .before .before .before .before .args .v) (c .before .before .before .before .before .before .before .before .before .before .before .before .args .j) (c .before .before .before .before .before .before .before .before .before .before .before .before .args .t .way) (c .before .before .before .before .before .before .before .before .before .before .before .before .pre .0 .some) (c .before .before .before .before .before .before .before .before .before .before .before .before .pre .0 .size) (c .before .before .before .before .before .before .before .before .before .before .before .before .pre .1 .parts) (c .before .before .before .before .before .before .before .before .before .before .before .before .pre .4) (c .before .before .before .before .before .before .before .before .before .before .before .before .pre .6 .way) in omega (arith, row-wide (c .before .before .before .before .before .before .before .before .before .before .before .before .args .t .way .row) (c .before .before .before .before .before .before .before .before .before .before .before .before .args .t .way .choices) 0 (f .row) (f .choices) (omega arith), c .before .before .before .before .before .before .before .before .before .before .before .before .pre .2)
 
--- src/lib.rt:272:52
 add-number-2 : tie.Need-add-number-2
-add-number-2 c = let f = way-fits (sizeIn (c .before .before .before .before .before .before .before .before .before .before .before .before .args .table .now)) (c .before .before .before .before .before .before .before .before .before .before .before .before .args .v) (c .before .before .before .before .before .before .before .before .before .before .before .before .args .j) (c .before .before .before .before .before .before .before .before .before .before .before .before .args .t .way) (c .before .before .before .before .before .before .before .before .before .before .before .before .pre .0 .some) (c .before .before .before .before .before .before .before .before .before .before .before .before .pre .0 .size) (c .before .before .before .before .before .before .before .before .before .before .before .before .pre .1 .parts) (c .before .before .before .before .before .before .before .before .before .before .before .before .pre .4) (c .before .before .before .before .before .before .before .before .before .before .before .before .pre .6 .way) in omega (arith, f .few)
+add-number-2 c = let f = way-fits (sizeIn (c .before .before .before .before .before .before .before .before .before .before .before .before .before .args .table .now)) (c .before .before .before .before .before .before .before .before .before .before .before .before .before .args .v) (c .before .before .before .before .before .before .before .before .before .before .before .before .before .args .j) (c .before .before .before .before .before .before .before .before .before .before .before .before .before .args .t .way) (c .before .before .before .before .before .before .before .before .before .before .before .before .before .pre .0 .some) (c .before .before .before .before .before .before .before .before .before .before .before .before .before .pre .0 .size) (c .before .before .before .before .before .before .before .before .before .before .before .before .before .pre .1 .parts) (c .before .before .before .before .before .before .before .before .before .before .before .before .before .pre .4) (c .before .before .before .before .before .before .before .before .before .before .before .before .before .pre .6 .way) in omega (arith, f .few)
 
--- src/lib.rt:272:22
 add-number-3 : tie.Need-add-number-3
-add-number-3 c = let f = way-fits (sizeIn (c .before .before .before .before .before .before .before .before .before .before .before .before .args .table .now)) (c .before .before .before .before .before .before .before .before .before .before .before .before .args .v) (c .before .before .before .before .before .before .before .before .before .before .before .before .args .j) (c .before .before .before .before .before .before .before .before .before .before .before .before .args .t .way) (c .before .before .before .before .before .before .before .before .before .before .before .before .pre .0 .some) (c .before .before .before .before .before .before .before .before .before .before .before .before .pre .0 .size) (c .before .before .before .before .before .before .before .before .before .before .before .before .pre .1 .parts) (c .before .before .before .before .before .before .before .before .before .before .before .before .pre .4) (c .before .before .before .before .before .before .before .before .before .before .before .before .pre .6 .way) in omega (arith, row-wide (c .before .before .before .before .before .before .before .before .before .before .before .before .args .t .way .row) (c .before .before .before .before .before .before .before .before .before .before .before .before .args .t .way .choices) 0 (f .row) (f .choices) (omega arith), c .before .before .before .before .before .before .before .before .before .before .before .before .pre .2, f .few)
+add-number-3 c = let f = way-fits (sizeIn (c .before .before .before .before .before .before .before .before .before .before .before .before .before .args .table .now)) (c .before .before .before .before .before .before .before .before .before .before .before .before .before .args .v) (c .before .before .before .before .before .before .before .before .before .before .before .before .before .args .j) (c .before .before .before .before .before .before .before .before .before .before .before .before .before .args .t .way) (c .before .before .before .before .before .before .before .before .before .before .before .before .before .pre .0 .some) (c .before .before .before .before .before .before .before .before .before .before .before .before .before .pre .0 .size) (c .before .before .before .before .before .before .before .before .before .before .before .before .before .pre .1 .parts) (c .before .before .before .before .before .before .before .before .before .before .before .before .before .pre .4) (c .before .before .before .before .before .before .before .before .before .before .before .before .before .pre .6 .way) in omega (arith, row-wide (c .before .before .before .before .before .before .before .before .before .before .before .before .before .args .t .way .row) (c .before .before .before .before .before .before .before .before .before .before .before .before .before .args .t .way .choices) 0 (f .row) (f .choices) (omega arith), c .before .before .before .before .before .before .before .before .before .before .before .before .before .pre .2, f .few)
 
--- src/lib.rt:273:39
 add-mark : tie.Need-add-mark
 add-mark c = search needs
 
--- src/lib.rt:273:9
 mark-requires : tie.Need-mark-requires
 mark-requires c κs = search needs
 
--- src/lib.rt:273:9
 same-length : tie.Need-same-length
 same-length c = search needs
 
--- src/lib.rt:273:9
 same-length-2 : tie.Need-same-length-2
 same-length-2 c = search needs
 
--- src/lib.rt:273:9
 returns : tie.Need-returns
 returns c = (
   omega (arith, c .before .before .before .before .mark .ensures .0),
   λ p node R l e h.
-      row-marked p (c .before .before .before .before .before .before .before .before .before .before .before .before .before .before .before .before .before .before .before .before .args .table .now) (length (c .before .before .before .before .before .before .before .before .before .before .before .before .before .before .before .before .before .before .before .before .args .state .now)) R (c .before .before .before .before .before .before .before .before .before .before .before .before .before .before .before .before .before .before .before .before .pre .0 .some) node l (c .before .before .before .before .before .before .before .before .before .before .before .before .before .before .before .before .before .before .before .before .args .v) e (c .before .before .before .before .before .before .before .before .before .before .before .before .before .before .before .before .before .before .before .before .args .j) h (c .before .before .before .before .before .before .before .before .before .before .before .before .before .before .before .before .before .before .before .before .args .t .way) (c .before .before .before .before .before .before .before .before .before .before .before .before .before .before .before .before .before .before .before .before .pre .6 .way) (bit (c .before .before .before .before .before .before .before .before .before .before .before .before .before .before .before .before .before .before .before .before .args .state .now)) (c .before .before .before .before .before .before .before .before .before .before .before .before .before .before .before .before .before .before .before .before .args .steps .now) (c .before .before .before .before .before .before .before .before .before .before .before .before .before .before .before .before .before .before .before .before .args .at) (c .before .before .before .before .before .before .before .before .before .before .before .before .before .first-try .result) (c .before .before .before .before .before .before .before .before .before .before .before .before .before .first-try .ensures)
+      row-marked p (c .before .before .before .before .before .before .before .before .before .before .before .before .before .before .before .before .before .before .before .before .before .args .table .now) (length (c .before .before .before .before .before .before .before .before .before .before .before .before .before .before .before .before .before .before .before .before .before .args .state .now)) R (c .before .before .before .before .before .before .before .before .before .before .before .before .before .before .before .before .before .before .before .before .before .pre .0 .some) node l (c .before .before .before .before .before .before .before .before .before .before .before .before .before .before .before .before .before .before .before .before .before .args .v) e (c .before .before .before .before .before .before .before .before .before .before .before .before .before .before .before .before .before .before .before .before .before .args .j) h (c .before .before .before .before .before .before .before .before .before .before .before .before .before .before .before .before .before .before .before .before .before .args .t .way) (c .before .before .before .before .before .before .before .before .before .before .before .before .before .before .before .before .before .before .before .before .before .pre .6 .way) (bit (c .before .before .before .before .before .before .before .before .before .before .before .before .before .before .before .before .before .before .before .before .before .args .state .now)) (c .before .before .before .before .before .before .before .before .before .before .before .before .before .before .before .before .before .before .before .before .before .args .steps .now) (c .before .before .before .before .before .before .before .before .before .before .before .before .before .before .before .before .before .before .before .before .before .args .at) (c .before .before .before .before .before .before .before .before .before .before .before .before .before .first-try .result) (c .before .before .before .before .before .before .before .before .before .before .before .before .before .first-try .ensures)
       (bit (c .before .before .before .before .mark .last .0)) (c .before .before .before .before .mark .last .1 .0) (omega arith) (c .before .before .before .before .mark .ensures .1) (c .before .before .before .before .mark .ensures .2) ∙ ap (out (bit (c .before .before .before .before .mark .last .0)) (c .before .before .before .before .mark .last .1 .0)) (sym (c .before .before .before .before .mark .ensures .0)),
- )
+)
 
--- src/lib.rt:256:1
 same-length-3 : tie.Need-same-length-3
 same-length-3 c = search needs
 
--- src/lib.rt:256:1
 returns-2 : tie.Need-returns-2
 returns-2 c = (
   omega arith,
-  λ p node R l e h. row-kept p (c .before .before .before .before .before .before .before .before .before .args .table .now) (length (c .before .before .before .before .before .before .before .before .before .args .state .now)) R (c .before .before .before .before .before .before .before .before .before .pre .0 .some) node l (c .before .before .before .before .before .before .before .before .before .args .v) e (c .before .before .before .before .before .before .before .before .before .args .j) h (c .before .before .before .before .before .before .before .before .before .args .t .way) (c .before .before .before .before .before .before .before .before .before .pre .6 .way) (bit (c .before .before .before .before .before .before .before .before .before .args .state .now)) (c .before .before .before .before .before .before .before .before .before .args .steps .now) (c .before .before .before .before .before .before .before .before .before .args .at) (c .before .before .first-try .result) (c .before .before .first-try .ensures) (omega arith),
- )
+  λ p node R l e h. row-kept p (c .before .before .before .before .before .before .before .before .before .before .args .table .now) (length (c .before .before .before .before .before .before .before .before .before .before .args .state .now)) R (c .before .before .before .before .before .before .before .before .before .before .pre .0 .some) node l (c .before .before .before .before .before .before .before .before .before .before .args .v) e (c .before .before .before .before .before .before .before .before .before .before .args .j) h (c .before .before .before .before .before .before .before .before .before .before .args .t .way) (c .before .before .before .before .before .before .before .before .before .before .pre .6 .way) (bit (c .before .before .before .before .before .before .before .before .before .before .args .state .now)) (c .before .before .before .before .before .before .before .before .before .before .args .steps .now) (c .before .before .before .before .before .before .before .before .before .before .args .at) (c .before .before .first-try .result) (c .before .before .first-try .ensures) (omega arith),
+)
 
 pub prove-row-spec : {M : Type 1} → statement M
 prove-row-spec =

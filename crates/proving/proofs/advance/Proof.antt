@@ -1,0 +1,85 @@
+-- `proving::advance` meets its contract.
+use Prim.Native.Nat.{ℕ, _-_, _≤_}
+use mathlib.Core.Path.{_≡_, refl}
+use native.Mathlib.Omega.{arith}
+use borrow.Author.Needs.{needs}
+use lib.ListN.{length, length-set}
+use Rattle.rows.specs.Values.{Within}
+use Rattle.rows.specs.Laws.{within-set}
+use Rattle.proving.specs.Tries.{Digits}
+use Rattle.proving.specs.TurnLaws.{Carried, carry-start, carry-on, carry-done, carry-end}
+use Rattle.proving.proofs.advance.Statement.{statement}
+use Rattle.proving.proofs.advance.Tie as tie
+
+abbrev Inv-loop : tie.InvT-loop
+Inv-loop n width digits₀ i₀ digits i = (i ≤ width) × (length digits ≡ length digits₀) × Within n digits × ((row : ℕ) → Digits n width row digits₀ → Carried n width row i digits)
+
+abbrev μ-loop : tie.MeasureT-loop
+μ-loop n width digits₀ i₀ digits i = i
+
+loop-holds : tie.Need-loop-holds Inv-loop μ-loop
+loop-holds c = (omega arith, refl, c .pre .3, λ row D. carry-start (c .args .n) (c .args .width) row (c .args .digits .now) D)
+
+sub-i : tie.Need-sub-i Inv-loop μ-loop
+sub-i c = search needs
+
+mul-d : tie.Need-mul-d Inv-loop μ-loop
+mul-d c = search needs
+
+slice-read-d : tie.Need-slice-read-d Inv-loop μ-loop
+slice-read-d c = omega (arith, c .before .before .loop .inv .1, c .before .before .before .pre .2)
+
+add-d : tie.Need-add-d Inv-loop μ-loop
+add-d c = omega (arith, c .before .before .loop .inv .2 (c .before .before .loop .i - 1))
+
+mul-digits : tie.Need-mul-digits Inv-loop μ-loop
+mul-digits c = search needs
+
+slice-write-digits : tie.Need-slice-write-digits Inv-loop μ-loop
+slice-write-digits c = omega (arith, c .before .before .before .loop .inv .1, c .before .before .before .before .pre .2)
+
+same-length : tie.Need-same-length Inv-loop μ-loop
+same-length c = simp length-set (c .before .before .before .loop .inv .1)
+
+returns : tie.Need-returns Inv-loop μ-loop
+returns c = (within-set (c .before .before .before .before .args .n) (c .before .before .before .loop .digits) _ _ (omega arith) (c .before .before .before .loop .inv .2), λ row D. carry-done (c .before .before .before .before .args .n) (c .before .before .before .before .args .width) row (c .before .before .before .loop .i) (c .before .before .before .loop .digits) (omega (arith, c .before .before .before .before .pre .3 0)) (omega arith) (omega arith) (omega (arith, c .before .before .before .loop .inv .1, c .before .before .before .before .pre .2)) (c .before .before .before .loop .inv .3 row D) (omega arith))
+
+mul-digits-2 : tie.Need-mul-digits-2 Inv-loop μ-loop
+mul-digits-2 c = search needs
+
+slice-write-digits-2 : tie.Need-slice-write-digits-2 Inv-loop μ-loop
+slice-write-digits-2 c = omega (arith, c .before .before .before .loop .inv .1, c .before .before .before .before .pre .2)
+
+loop-less : tie.Need-loop-less Inv-loop μ-loop
+loop-less c = search needs
+
+loop-again : tie.Need-loop-again Inv-loop μ-loop
+loop-again c = (omega arith, simp length-set (c .before .before .before .loop .inv .1), within-set (c .before .before .before .before .args .n) (c .before .before .before .loop .digits) _ _ (omega (arith, c .before .before .before .before .pre .3 0)) (c .before .before .before .loop .inv .2), λ row D. carry-on (c .before .before .before .before .args .n) (c .before .before .before .before .args .width) row (c .before .before .before .loop .i) (c .before .before .before .loop .digits) (omega (arith, c .before .before .before .before .pre .3 0)) (omega arith) (omega arith) (omega (arith, c .before .before .before .loop .inv .1, c .before .before .before .before .pre .2)) (c .before .before .before .loop .inv .3 row D) (omega arith))
+
+same-length-2 : tie.Need-same-length-2 Inv-loop μ-loop
+same-length-2 c = c .before .loop .inv .1
+
+returns-2 : tie.Need-returns-2 Inv-loop μ-loop
+returns-2 c = (c .before .loop .inv .2, λ row D. carry-end (c .before .before .args .n) (c .before .before .args .width) row (c .before .loop .i) (c .before .loop .digits) (omega arith) (c .before .loop .inv .3 row D))
+
+pub advance-spec : {M : Type 1} → statement M
+advance-spec =
+    tie.close
+    (tie.spec
+    Inv-loop
+    μ-loop
+    loop-holds
+    sub-i
+    mul-d
+    slice-read-d
+    add-d
+    mul-digits
+    slice-write-digits
+    same-length
+    returns
+    mul-digits-2
+    slice-write-digits-2
+    loop-less
+    loop-again
+    same-length-2
+    returns-2)
