@@ -20,13 +20,14 @@ use Rattle.reduction.specs.Building.{ground-is}
 use Rattle.sheets.specs.declared.Answer.{Answer}
 use Rattle.sheets.specs.declared.Answer.the-variants.{Done, Refused as Bad}
 use Rattle.sheets.specs.Reading.{answered, PicksIn}
+use Rattle.sheets.proofs.Numbers.{sheet-refused, sheet-read}
 use Rattle.opening.specs.declared.Opened.{Opened}
 use Rattle.opening.specs.Read.{Holds, CaseRead}
 use Rattle.plans.specs.Answers.{planned}
 use Rattle.cases.specs.declared.Reply.{Reply}
 use Rattle.cases.specs.declared.Reply.the-variants.{Refused}
 use Rattle.cases.specs.Order
-use Rattle.cases.specs.Known.{case-refused, case-read, case-accepted, sheet-refused, sheet-read, room-there}
+use Rattle.cases.specs.Known.{case-refused, case-read, case-accepted, room-there}
 use Rattle.cases.specs.Replies.{resultOf}
 use Rattle.building.specs.Picked.{text-read, text-fits, text-are, text-front, text-clear, lent-are, lent-front}
 use Rattle.building.specs.Builds.{rest, Builds, Held}

@@ -1,5 +1,5 @@
 -- Words that hold picks: what building asks of them, for picks read from a text and for lent words.
-use Prim.Native.Nat.{ℕ, zero, suc, _+_, _-_, _*_, _/_, _%_, _^_, _≤_, _<_}
+use Prim.Native.Nat.{ℕ, zero, suc, _+_, _-_, _*_, _≤_, _<_}
 use mathlib.Core.Path.{_≡_, refl, sym, ap, ap₂, subst, _∙_}
 use mathlib.Core.Bool.{Bool, true, false, _&&_}
 use mathlib.Core.Option.{none}
@@ -7,10 +7,10 @@ use mathlib.Core.List.{List, [], _∷_, _++_, append-assoc}
 use native.Mathlib.Nat.{add-zero, zero-add}
 use native.Mathlib.Omega.{arith}
 use lib.Dec.{T, ltb}
-use lib.ListN.{length, take, drop, getD, length-take, take-append-drop, List·getD-eq-default}
-use lib.Seq.{getD-take, length-take-le, getD-append-add}
-use borrow.Author.Tests.{lt-ltb, ltb-true, ltb-false}
-use Rattle.bits.specs.Table.{bit, digit, words, Words}
+use lib.ListN.{length, take, drop, getD, take-append-drop}
+use lib.Seq.{length-take-le}
+use borrow.Author.Tests.{lt-ltb}
+use Rattle.bits.specs.Table.{bit, words, Words}
 use Rattle.bits.proofs.Laws.{bit-words, length-words, is-words}
 use Rattle.definitions.specs.Lists.{if_then_else_, filter, flatMap, from, below}
 use Rattle.definitions.specs.Refusal.{Result, accepted}
@@ -20,9 +20,9 @@ use Rattle.definitions.specs.Truth.{Case, arePicks}
 use Rattle.definitions.specs.Atoms.{Problem, problemOf, relationAt, tuplesOf, wordsFor}
 use Rattle.definitions.specs.Built.{chosenNumbers, isPicked}
 use Rattle.definitions.specs.Outcome.{relationWords, picksLength, pickWords, lentPicks, spareWord, textPicks, asText, asNumbers}
-use Rattle.laws.specs.Booleans.{T-true, T-false}
+use Rattle.laws.specs.Booleans.{T-true}
 use Rattle.laws.specs.Numbers.{noRelation}
-use Rattle.laws.specs.Words.{bit-is, bit-front, words-for}
+use Rattle.laws.specs.Words.{front-bit, back-bit, words-for}
 use Rattle.names.specs.declared.Signature.{Signature}
 use Rattle.names.specs.Signatures.{relationIn, chosenOf, relsOf}
 use Rattle.names.proofs.Laws.{length-relations, relation-at}
@@ -30,26 +30,15 @@ use Rattle.tuples.specs.Marks.{firstWord, bitOf, marks, AllValid}
 use Rattle.tuples.proofs.Rows.{power-le}
 use Rattle.tuples.proofs.Words as W
 use Rattle.reduction.specs.Reader.{Accepted}
-use Rattle.reduction.specs.Grounded.{good, count-relations, chosen-at, chosen-index, chosen-is}
+use Rattle.reduction.specs.Grounded.{good, chosen-at}
 use Rattle.reduction.specs.Building.{given-text, given-words, given-picks}
-use Rattle.reduction.specs.Lent.{words-of, words-again, pick-words}
+use Rattle.reduction.specs.Lent.{words-take, words-of, words-again, pick-words}
+use Rattle.states.specs.Kinds.{numbers-are}
 use Rattle.picks.specs.Words.{wordStart, PicksAre}
 use Rattle.sheets.specs.Reading.{Picks, PicksIn}
 use Rattle.opening.specs.declared.Opened.{Opened}
 use Rattle.opening.specs.Read.{Holds}
 use Rattle.cases.specs.Known.{elements-are}
-
--- ---- words one after another
-
-bit-back : (t u : List ℕ) (k i : ℕ) → length t ≡ k → bit (t ++ u) (64 * k + i) ≡ bit u i
-unfolding bit
-bit-back t u k i e =
-    let q : (64 * k + i) / 64 ≡ length t + i / 64 = omega arith in
-    let d : (64 * k + i) % 64 ≡ i % 64 = omega arith in
-    rw (q, d) (ap (λ (w : ℕ). digit w (i % 64)) (getD-append-add t u (i / 64) 0))
-
-front-bit : (t u : List ℕ) (i : ℕ) → i < 64 * length t → bit (t ++ u) i ≡ bit t i
-front-bit t u i h = sym (bit-is (t ++ u) i) ∙ bit-front t u i h ∙ bit-is t i
 
 -- ---- the words of picks hold them
 
@@ -105,7 +94,7 @@ module _ (p : Problem) (F : List Tuple) where
           let g′ = ap (wordStart p) next in
           let i : 64 * base + row ≡ 64 * relationWords p r + (64 * (base - relationWords p r) + row) = omega arith in
           ap₂ (λ (w : List ℕ) (x : ℕ). bit w x) (append-assoc (own r) (flatMap own (filter isOne (from (suc r) m))) rest) i
-          ∙ bit-back (own r) (flatMap own (filter isOne (from (suc r) m)) ++ rest) (relationWords p r) (64 * (base - relationWords p r) + row) (length-words _ (relationWords p r))
+          ∙ back-bit (own r) (flatMap own (filter isOne (from (suc r) m)) ++ rest) (relationWords p r) (64 * (base - relationWords p r) + row) (length-words _ (relationWords p r))
           ∙ later (base - relationWords p r) (omega arith)
       go false q later = let n = start-next r false q in later base (omega arith)
 
@@ -118,44 +107,9 @@ module _ (p : Problem) (F : List Tuple) where
       ∙ ap (λ (x : ℕ). isPicked p F x row) (zero-add r)
 
 -- a front of words is written for picks if its bits are those of the words that are
-words-take : (k : ℕ) (w : List ℕ) → Words w → Words (take k w)
-words-take k w ok j = go (ltb j k) refl
-  where
-    go : (b : Bool) → ltb j k ≡ b → getD (take k w) j 0 < 2 ^ 64
-    go true e = let q = getD-take k w j 0 (ltb-true j k e) in let h = ok j in omega arith
-    go false e = let h = ltb-false j k e in let a = length-take k w in let q = List·getD-eq-default (take k w) 0 {n = j} (omega arith) in omega arith
-
 take-words : (f : ℕ → Bool) (k : ℕ) (w : List ℕ) → Words w → k ≤ length w → bit w ≡ f → take k w ≡ words f k
 take-words f k w ok h e = is-words (take k w) f k (words-take k w ok) (length-take-le k w h) (λ i l.
     sym (ap (λ (x : List ℕ). bit x i) (sym (take-append-drop k w)) ∙ front-bit (take k w) (drop k w) i (let q = length-take-le k w h in omega arith)) ∙ ap (λ (g : ℕ → Bool). g i) e)
-
--- ---- the numbers of the `choose` relations follow all others
-
-filter-from : (f : ℕ → Bool) (b a k : ℕ) → ((i : ℕ) → i < b → f (a + i) ≡ false) → ((i : ℕ) → i < k → f (a + b + i) ≡ true) → filter f (from a (b + k)) ≡ from (a + b) k
-unfolding filter from
-filter-from f zero a zero h t = refl
-filter-from f zero a (suc k) h t =
-    let z : a + 0 ≡ a = add-zero a in
-    let n : 0 + suc k ≡ suc k = zero-add (suc k) in
-    let e : f a ≡ true = ap f (sym (add-zero a) ∙ ap (λ (x : ℕ). x + 0) (sym z)) ∙ t 0 (omega arith) in
-    rw (n, z, e) (ap (λ (l : List ℕ). a ∷ l) (ap (λ (x : ℕ). filter f (from (suc a) x)) (sym (zero-add k)) ∙ filter-from f zero (suc a) k (λ i l. absurd (omega arith)) (λ i l.
-    let q : suc a + 0 + i ≡ a + 0 + suc i = omega arith in ap f q ∙ t (suc i) (omega arith)) ∙ ap (λ (x : ℕ). from x k) (add-zero (suc a))))
-filter-from f (suc b) a k h t =
-    let n : suc b + k ≡ suc (b + k) = omega arith in
-    let m : suc a + b ≡ a + suc b = omega arith in
-    let e : f a ≡ false = ap f (sym (add-zero a)) ∙ h 0 (omega arith) in
-    rw (n, e) (filter-from f b (suc a) k (λ i l. let q : suc a + i ≡ a + suc i = omega arith in ap f q ∙ h (suc i) (omega arith)) (λ i l. ap (λ (x : ℕ). f (x + i)) m ∙ t i l) ∙ ap (λ (x : ℕ). from x k) m)
-
-module _ (c : Case) (A : Accepted c) where
-  pub numbers-are : chosenNumbers (problemOf c) ≡ from (firstChosen (c .question)) (length (c .question .chosen))
-  unfolding chosenNumbers below
-  numbers-are =
-      let f : ℕ → Bool = λ r. isChosen (relationAt (problemOf c) r .kind) in
-      ap (λ (k : ℕ). filter f (from 0 k)) (count-relations c A)
-      ∙ filter-from f (firstChosen (c .question)) 0 (length (c .question .chosen))
-      (λ i h. ap f (zero-add i) ∙ T-false (f i) (λ t. let q = chosen-index c A i (let k = count-relations c A in omega arith) t in omega (arith, q .1)))
-      (λ i h. ap (λ (x : ℕ). f (x + i)) (zero-add (firstChosen (c .question))) ∙ T-true (f (firstChosen (c .question) + i)) (chosen-is c A i h .1))
-      ∙ ap (λ (a : ℕ). from a (length (c .question .chosen))) (zero-add (firstChosen (c .question)))
 
 -- ---- picks read from a text
 

@@ -24,6 +24,7 @@ use Rattle.laws.specs.Booleans.{T-of, lt-split}
 use Rattle.laws.specs.Lists.{any-none, none-any, below-lt, from-mem, mem-from, length-below, getD-below}
 use Rattle.laws.specs.Positions.{position-none, position-at}
 use Rattle.laws.specs.Words.{bit-is}
+use Rattle.reduction.specs.Lent.{words-drop}
 use Rattle.ground.specs.Lines.{relationLine}
 use Rattle.ground.specs.Of.{Is}
 use Rattle.ground.specs.declared.RelationLine.{RelationLine}
@@ -45,9 +46,6 @@ spareIn w word x = if eqb (x .kind) 0 then false else isSpare w word (x .nots - 
 unfoldable pub told : Spare → Option ℕ
 told Clear = none
 told (Word j) = some j
-
-words-drop : (k : ℕ) (w : List ℕ) → Words w → Words (drop k w)
-words-drop k w ok j = let q = getD-drop k w j 0 in let h = ok (k + j) in omega arith
 
 module _ (p : Problem) (u : List ℕ) (ok : Words u) (r : ℕ) where
   abbrev t : ℕ

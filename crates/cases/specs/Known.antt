@@ -16,16 +16,13 @@ use Rattle.definitions.specs.Atoms.{Problem, problemOf, problemWith, atoms, wor
 use Rattle.definitions.specs.Actions.{actions}
 use Rattle.definitions.specs.Outcome
 use Rattle.bits.specs.Table.{bit}
-use Rattle.laws.specs.Booleans.{T-of}
+use Rattle.laws.specs.Booleans.{T-of, or-both}
 use Rattle.laws.specs.Results.{bind-parts, not-refused}
 use Rattle.reduction.specs.Reader.{Accepted, gives-if, case-fits, QuestionFits, question-fits}
 use Rattle.reduction.specs.Building.{ground-is}
 use Rattle.initial.specs.Rows.{atomsIn}
 use Rattle.initial.specs.Initial.{FactsIn}
 use Rattle.initial.specs.Marked.{facts-in}
-use Rattle.sheets.specs.declared.Answer.{Answer}
-use Rattle.sheets.specs.declared.Answer.the-variants.{Done, Refused}
-use Rattle.sheets.specs.Reading.{answered}
 use Rattle.decode.specs.Decoded.{Grounded}
 use Rattle.opening.specs.declared.Opened.{Opened}
 use Rattle.opening.specs.Read.{Holds, CaseRead}
@@ -82,10 +79,6 @@ elements-are s c o facts h = h .size
 abbrev pub Grounding : List ℕ → Opened → Sized → List ℕ → Type 0
 Grounding s o m w = (c : Case) (facts : ℕ → Bool) → Holds s c o facts → GroundsTo (Outcome.ground c) m w
 
-or-false : (a b : Bool) → (a || b) ≡ false → (a ≡ false) × (b ≡ false)
-or-false true b e = absurd (T-of (sym e))
-or-false false b e = (refl, e)
-
 module _ (c : Case) (m : Sized) (w : List ℕ) (g : GroundsTo (Outcome.ground c) m w) where
   pub case-over : m .over ≡ true → Outcome.ground c ≡ refused 11 0
   unfolding GroundsTo
@@ -119,7 +112,7 @@ module _ (c : Case) (m : Sized) (w : List ℕ) (g : GroundsTo (Outcome.ground c)
     unfolding Outcome.ground
     limits =
         let (u, a, e) = bind-parts (refuseIf (ltb atomLimit (atoms (problemOf c)) || ltb actionLimit (actions (problemOf c))) 11 zero) (λ _. accepted (problemOf c)) (problemOf c) grounds in
-        or-false (ltb atomLimit (atoms (problemOf c))) _ (not-refused _ 11 zero u a)
+        or-both (ltb atomLimit (atoms (problemOf c))) _ (not-refused _ 11 zero u a)
 
     pub atoms-few : m .atoms ≤ atomLimit
     atoms-few = subst (λ (k : ℕ). k ≤ atomLimit) (sym (tabled .atoms-are)) (ltb-false atomLimit (atoms (problemOf c)) (limits .0))
@@ -140,18 +133,6 @@ module _ (c : Case) (m : Sized) (w : List ℕ) (g : GroundsTo (Outcome.ground c)
     pub ran-of : (s : List ℕ) (opened : Opened) (f steps part new : List ℕ) (e : End) → Holds s c opened (bit f) → (m .atoms + 63) / 64 ≡ length part → Runs w f steps part e new → Ran (problemOf c) steps e new
     unfolding Runs
     ran-of s opened f steps part new e held l runs = runs (problemOf c) (tabled .is) (tabled .ends) (facts-held s c opened f held) (sym l ∙ words-are)
-
--- ---- what a reader of a sheet answered
-
-pub sheet-refused : {A : Type 0} (f : A → ℕ) (x : Result A) (a : Answer) (k place : ℕ) → a ≡ answered f x → a ≡ Refused k place → x ≡ refused k place
-unfolding answered
-sheet-refused f (refused j at) a k place e n = cc
-sheet-refused f (accepted v) a k place e n = let z : _≡_ {A = ℕ} 0 1 = cc in absurd (omega arith)
-
-pub sheet-read : {A : Type 0} (f : A → ℕ) (x : Result A) (a : Answer) (n : ℕ) → a ≡ answered f x → a ≡ Done n → (v : A) × (x ≡ accepted v) × (f v ≡ n)
-unfolding answered
-sheet-read f (refused j at) a n e d = let z : _≡_ {A = ℕ} 0 1 = cc in absurd (omega arith)
-sheet-read f (accepted v) a n e d = (v, refl, cc)
 
 -- ---- rooms
 

@@ -20,7 +20,7 @@ use Rattle.laws.specs.Words.{state-length}
 use Rattle.sheets.specs.declared.Answer.{Answer}
 use Rattle.sheets.specs.declared.Answer.the-variants.{Done, Refused as Bad}
 use Rattle.sheets.specs.Reading.{answered, left, Writes}
-use Rattle.sheets.proofs.Numbers.{all-room}
+use Rattle.sheets.proofs.Numbers.{sheet-refused, sheet-read, all-room}
 use Rattle.opening.specs.declared.Opened.{Opened}
 use Rattle.opening.specs.Read.{Holds, CaseRead}
 use Rattle.grounding.specs.declared.Sized.{Sized as Counted}
@@ -32,7 +32,7 @@ use Rattle.cases.specs.declared.Sizing.{Sizing}
 use Rattle.cases.specs.declared.Sizing.the-variants.{Sized, Refused as Unsized}
 use Rattle.cases.specs.declared.Reply.{Reply}
 use Rattle.cases.specs.declared.Reply.the-variants.{Accepted, Refused}
-use Rattle.cases.specs.Known.{case-refused, case-read, elements-are, case-over, grounds, tabled, words-are, sheet-refused, sheet-read, room-short, room-there}
+use Rattle.cases.specs.Known.{case-refused, case-read, elements-are, case-over, grounds, tabled, words-are, room-short, room-there}
 use Rattle.cases.specs.Order
 
 unfoldable pub resultOf : Reply → Result ℕ

@@ -2,7 +2,7 @@
 use mathlib.Core.Path.{_≡_, refl, sym, ap, _∙_, subst}
 use mathlib.Core.List.{List}
 use Prim.Native.Nat.{ℕ, zero, suc, _+_, _-_, _*_, _/_, _%_, _^_, _≤_, _<_}
-use native.Mathlib.Nat.{div-one, div-le-self, mod-lt, mul-zero, mul-one, mul-le-mul}
+use native.Mathlib.Nat.{div-one, div-le-self, mod-lt, mul-zero, mul-one}
 use native.Mathlib.Numerals.{add-one}
 use native.Mathlib.Omega.{arith}
 use lib.ListN.{length, getD}
@@ -219,10 +219,6 @@ module _ (w : List ℕ) (a : Act) where
   pub number-nothing : a ≡ Nothing → getD w (93 + 11 * nodesIn w) 0 + 1 ≡ numberIn w a
   unfolding numberIn
   number-nothing e = rw e refl
-
--- an action's row by how many choices a node has
-pub row-times : (row many : ℕ) → row ≤ 2 ^ 32 → many ≤ 64 → row * many ≤ 2 ^ 32 * 64
-row-times row many a b = mul-le-mul a b
 
 pub acts-small : (w : List ℕ) (v : ℕ) (x : NodeLine) → Fits w → x ≡ nodeLine w v → x .acts ≤ 2 ^ 32
 unfolding nodeLine

@@ -3,17 +3,17 @@ use Prim.Native.Nat.{ℕ, zero, suc, _+_, _-_, _≤_, _<_, suc-le-suc, zero-le}
 use native.Mathlib.Nat.{le-of-suc-le-suc, not-suc-le-zero}
 use native.Mathlib.Omega.{arith}
 use mathlib.Core.Path.{_≡_, refl, sym, ap, subst, _∙_}
-use mathlib.Core.Option.{Option, none, some}
-use mathlib.Core.Bool.{Bool, true, false, _&&_, _||_, or-true, or-false}
+use mathlib.Core.Option.{some}
+use mathlib.Core.Bool.{Bool, true, false, _&&_, or-true, or-false}
 use mathlib.Core.List.{List, [], _∷_, _++_, append-assoc}
-use mathlib.Core.Logic.{_⊎_, inl, inr, ⊎-elim, _↔_}
-use lib.ListN.{length, take, drop, getD, length-append, length-drop, length-take, drop-of-length-le, take-append-drop}
-use lib.Seq.{drop-cons, drop-drop, take-at, drop-at}
+use mathlib.Core.Logic.{_⊎_, inl, inr, _↔_}
+use lib.ListN.{length, take, drop, getD, length-append, drop-of-length-le, take-append-drop}
+use lib.Seq.{drop-cons, take-at, drop-at}
 use lib.Dec.{eqb, leb, lit<}
 use borrow.Author.Tests.{eq-eqb, ne-eqb, eqb-true, le-leb, lt-leb, leb-true}
 use Rattle.definitions.specs.Lists.{all}
 use Rattle.definitions.specs.Text.{isBetween, isCapital, isDigit, isSmall, isRelationName, isVariable}
-use Rattle.definitions.specs.Formula.{Join, ands, ors, Quant, somes, everys, Formula, literal, negation, implication, conjunction, disjunction, exists, forall, join, quant, Formulas, nil, cons, joinWord, quantWord, notWord, impWord, writeVars, writeList, write, writeAll, writeParts, first, inside, longest, span, Variables, no-words, a-word, WellFormed, g-lit, g-neg, g-imp, g-and, g-or, g-exists, g-forall, AllWellFormed, no-goods, a-good, Res, bad, ok, andThen, begins, want, readWord, readVar, readVars, readParts, Head, isNot, isImplies, isAnd, isOr, isExists, isForall, isOther, kindOf, close, readJoin, readQuant, readLit, readNeg, readImp, readBody, read, finish, readFormula}
+use Rattle.definitions.specs.Formula.{Join, ands, ors, Quant, somes, everys, Formula, literal, negation, implication, join, quant, Formulas, nil, cons, joinWord, quantWord, notWord, impWord, writeVars, write, writeParts, first, inside, longest, span, Variables, no-words, a-word, WellFormed, g-lit, g-neg, g-imp, g-and, g-or, g-exists, g-forall, AllWellFormed, no-goods, a-good, Res, bad, ok, andThen, begins, want, readWord, readVar, readVars, readParts, Head, isNot, isImplies, isAnd, isOr, isExists, isForall, isOther, kindOf, close, readJoin, readQuant, readLit, readNeg, readImp, readBody, read, finish, readFormula}
 
 -- ---- `begins`
 pub begins-step : (p s : List ℕ) (i j : ℕ) → i < length p → j < length s → getD p i 0 ≡ getD s j 0 → begins (drop i p) (drop j s) ≡ begins (drop (suc i) p) (drop (suc j) s)
@@ -182,7 +182,7 @@ unfolding all span
 span-all b [] e = refl
 span-all b (c ∷ l) e = span-in b c l (and-l (inside b c) (all (λ d. inside b d) l) e) ∙ ap suc (span-all b l (and-r (inside b c) (all (λ d. inside b d) l) e))
 
-no-true : {A : Type 0} → false ≡ true → A
+pub no-true : {A : Type 0} → false ≡ true → A
 no-true e = let z : _≡_ {A = ℕ} 0 1 = cc in absurd (omega arith)
 
 -- the document's names and variables are such words
@@ -622,7 +622,7 @@ not-cap c k e h = ne-eqb k c (λ q. go q (leb-true c 90 (and-r (leb 65 c) (leb c
     go : k ≡ c → c ≤ 90 → ⊥
     go q le = omega arith
 
-kind-lit : (c : ℕ) (l : List ℕ) → first false c ≡ true → kindOf (40 ∷ c ∷ l) ≡ isOther
+pub kind-lit : (c : ℕ) (l : List ℕ) → first false c ≡ true → kindOf (40 ∷ c ∷ l) ≡ isOther
 unfolding begins
 kind-lit c l e = kind-6 (40 ∷ c ∷ l) (rw (not-cap c 110 e (lit< tt))) (rw (not-cap c 105 e (lit< tt))) (rw (not-cap c 97 e (lit< tt))) (rw (not-cap c 111 e (lit< tt))) (rw (not-cap c 101 e (lit< tt))) (rw (not-cap c 102 e (lit< tt)))
 

@@ -4,7 +4,7 @@ use Prim.Native.Nat.{ℕ, zero, suc, _+_, _-_, _*_, _^_, _≤_, _<_}
 use mathlib.Core.Path.{_≡_, refl, sym, ap, ap₂, _∙_}
 use mathlib.Core.Bool.{Bool, true, false, _&&_}
 use mathlib.Core.List.{List, [], _∷_, _++_}
-use native.Mathlib.Nat.{add-zero, zero-add, add-suc, suc-add}
+use native.Mathlib.Nat.{add-zero, zero-add, add-suc}
 use native.Mathlib.Omega.{arith}
 use lib.Dec.{ltb}
 use lib.ListN.{length, take, drop, getD}
@@ -16,29 +16,12 @@ use Rattle.definitions.specs.Relations.{Relation, Tuple, static, builtIn}
 use Rattle.definitions.specs.Atoms.{Problem, relationAt, tuplesOf, wordsFor}
 use Rattle.definitions.specs.Built.{chosenNumbers, isPicked, pickedRows}
 use Rattle.definitions.specs.Desk.{printLine, countLine, pickLine}
+use Rattle.laws.specs.Lists.{below-snoc}
 use Rattle.bits.specs.Table.{bit, num, count, words}
 use Rattle.names.specs.declared.Signature.{Signature}
 use Rattle.names.specs.Signatures.{relationIn, relationsFrom, allOf}
 use Rattle.names.proofs.Laws.{all-are, relation-at}
 use Rattle.desk.specs.Report.{nameAt, rowsAt, wordAt, countAt, counts, rowLine, rowLines, picksAt, picks}
-
--- ---- numbers one after another
-
-pub from-append : (a m k : ℕ) → from a (m + k) ≡ from a m ++ from (a + m) k
-unfolding from
-from-append a zero k = rw (zero-add k, add-zero a)
-from-append a (suc m) k =
-    let e : a + suc m ≡ suc a + m = omega arith in
-    rw (suc-add m k, e) (ap (λ (l : List ℕ). a ∷ l) (from-append (suc a) m k))
-
-pub from-snoc : (a m : ℕ) → from a (suc m) ≡ from a m ++ ((a + m) ∷ [])
-unfolding from
-from-snoc a zero = rw (add-zero a)
-from-snoc a (suc m) = let e : a + suc m ≡ suc a + m = omega arith in rw e (ap (λ (l : List ℕ). a ∷ l) (from-snoc (suc a) m))
-
-below-snoc : (m : ℕ) → below (suc m) ≡ below m ++ (m ∷ [])
-unfolding below
-below-snoc m = from-snoc 0 m ∙ rw (zero-add m)
 
 -- two lists of texts, of numbers that run side by side
 flat-same : {B : Type 0} (f g : ℕ → List B) (a b m : ℕ) → ((j : ℕ) → j < m → f (a + j) ≡ g (b + j)) → flatMap f (from a m) ≡ flatMap g (from b m)

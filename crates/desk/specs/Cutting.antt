@@ -13,7 +13,7 @@ use Rattle.definitions.specs.Text.{bytes, split, linesFrom, lines, fields}
 use Rattle.definitions.specs.Desk.{isRecord, isRule, isStep, isPickOrStep, afterRule, firstPickOrStep, startsWithStep, siteAndRest, afterQuestion, cutAt, sheets}
 use Rattle.text.specs.Spans.{indexOf}
 use Rattle.records.specs.Lines.{linesAt}
-use Rattle.records.proofs.Fields.{lines-stop}
+use Rattle.records.proofs.Fields.{lines-cons, lines-stop}
 use Rattle.text.proofs.Laws.{slice-all, pieces-at, pieces-whole, end-within, split-some}
 
 -- the line at `at`: its content ends at `end`, and the other lines are those from `next` on
@@ -27,11 +27,6 @@ pub record LineAt (s : List ℕ) (at end next : ℕ) : Type 0 where
   pub lines : linesAt s at ≡ record { at = at; ended = ended; content = slice at end s } ∷ linesAt s next
 
 -- ---- the line at a place
-
-lines-cons : (at : ℕ) (p : List ℕ) (ps : List (List ℕ)) → 0 < length ps → linesFrom at (p ∷ ps) ≡ record { at = at; ended = true; content = p } ∷ linesFrom (at + length p + 1) ps
-unfolding linesFrom
-lines-cons at p [] h = absurd (omega arith)
-lines-cons at p (q ∷ qs) h = refl
 
 lines-last : (at : ℕ) (p : List ℕ) → 0 < length p → linesFrom at (p ∷ []) ≡ record { at = at; ended = false; content = p } ∷ []
 unfolding linesFrom isEmpty

@@ -1,6 +1,6 @@
 -- What the signature of an accepted question says of the case's problem: its relations, and that the names of its `choose` relations
 -- are short. Assumes nothing.
-use Prim.Native.Nat.{ℕ, zero, suc, _+_, _≤_, _<_}
+use Prim.Native.Nat.{ℕ, _+_, _≤_, _<_}
 use mathlib.Core.Path.{_≡_, refl, ap, ap₂, subst, _∙_}
 use mathlib.Core.List.{List}
 use native.Mathlib.Omega.{arith}
@@ -11,17 +11,12 @@ use Rattle.definitions.specs.Truth.{Case}
 use Rattle.definitions.specs.Atoms.{problemWith, problemOf}
 use Rattle.laws.specs.Lists.{getD-mem}
 use Rattle.names.specs.declared.Signature.{Signature}
-use Rattle.names.specs.Signatures.{relationIn, relationsFrom, relsOf, chosenOf, allOf}
-use Rattle.names.proofs.Laws.{relation-at}
+use Rattle.names.specs.Signatures.{relationIn, relsOf, chosenOf, allOf}
+use Rattle.names.proofs.Laws.{length-relations, relation-at}
 use Rattle.reduction.specs.Reader.{Accepted}
 use Rattle.desk.specs.Report.{nameAt}
 use Rattle.desk.specs.Agrees.{noRelation, part-is}
 use Rattle.desk.specs.Short.{name-short}
-
-count-from : (q : List ℕ) (g : Signature) (i m : ℕ) → length (relationsFrom q g i m) ≡ m
-unfolding relationsFrom
-count-from q g i zero = refl
-count-from q g i (suc m) = ap suc (count-from q g (suc i) m)
 
 all-relations : (c : Case) → problemOf c .relations ≡ relations (c .question .rels) (c .question .chosen)
 unfolding problemOf problemWith relationsOf
@@ -30,7 +25,7 @@ all-relations c = refl
 module _ (q : List ℕ) (g : Signature) (c : Case) (rels-are : c .question .rels ≡ relsOf q g) (chosen-are : c .question .chosen ≡ chosenOf q g) where
   chosen-count : length (c .question .chosen) ≡ g .chosen
   unfolding chosenOf
-  chosen-count = ap length chosen-are ∙ count-from q g (g .rels) (g .chosen)
+  chosen-count = ap length chosen-are ∙ length-relations q g (g .rels) (g .chosen)
 
   pub its-relations : problemOf c .relations ≡ allOf q g
   unfolding allOf

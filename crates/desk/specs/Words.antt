@@ -1,40 +1,29 @@
 -- The words that are written for picks hold them as `Agrees` asks. Assumes nothing.
-use Prim.Native.Nat.{ℕ, zero, suc, _+_, _-_, _*_, _/_, _%_, _≤_, _<_}
+use Prim.Native.Nat.{ℕ, zero, suc, _+_, _-_, _*_, _≤_, _<_}
 use mathlib.Core.Path.{_≡_, refl, sym, ap, ap₂, _∙_}
 use mathlib.Core.Bool.{Bool, _&&_}
 use mathlib.Core.List.{List, [], _∷_, _++_, append-assoc, append-nil}
 use native.Mathlib.Omega.{arith}
 use lib.Dec.{ltb}
 use lib.ListN.{length, length-append}
-use lib.Seq.{getD-append-add}
 use Rattle.definitions.specs.Lists.{flatMap, from}
 use Rattle.definitions.specs.Relations.{Tuple}
 use Rattle.definitions.specs.Sheets.{relations}
 use Rattle.definitions.specs.Atoms.{Problem, relationAt, tuplesOf, wordsFor}
 use Rattle.definitions.specs.Built.{chosenNumbers, isPicked}
 use Rattle.definitions.specs.Outcome.{relationWords, pickWords}
-use Rattle.bits.specs.Table.{bit, digit, words}
+use Rattle.bits.specs.Table.{bit, words}
 use Rattle.bits.proofs.Laws.{bit-words, length-words}
-use Rattle.laws.specs.Lists.{flat-append}
-use Rattle.laws.specs.Words.{bit-is, bit-front}
+use Rattle.laws.specs.Lists.{from-append, from-snoc, flat-append}
+use Rattle.laws.specs.Words.{front-bit, back-bit}
 use Rattle.names.specs.declared.Signature.{Signature}
 use Rattle.names.specs.Signatures.{allOf}
 use Rattle.tuples.specs.Marks.{firstWord}
 use Rattle.reduction.specs.Lent.{words-of}
 use Rattle.desk.specs.Report.{rowsAt, wordAt}
-use Rattle.desk.specs.Agrees.{Agrees, from-append, from-snoc, relation-rows}
+use Rattle.desk.specs.Agrees.{Agrees, relation-rows}
 
 -- ---- the bits of tables one after another
-
-bit-back : (t u : List ℕ) (i : ℕ) → bit (t ++ u) (64 * length t + i) ≡ bit u i
-unfolding bit
-bit-back t u i =
-    let e : (64 * length t + i) / 64 ≡ length t + i / 64 = omega arith in
-    let d : (64 * length t + i) % 64 ≡ i % 64 = omega arith in
-    rw (e, d) (ap (λ (w : ℕ). digit w (i % 64)) (getD-append-add t u (i / 64) 0))
-
-front : (t u : List ℕ) (i : ℕ) → i < 64 * length t → bit (t ++ u) i ≡ bit t i
-front t u i h = sym (bit-is (t ++ u) i) ∙ bit-front t u i h ∙ bit-is t i
 
 module _ (own : ℕ → List ℕ) (b : ℕ) where
   flat-cut : (m j : ℕ) → j < m → flatMap own (from b m) ≡ flatMap own (from b j) ++ (own (b + j) ++ flatMap own (from (suc (b + j)) (m - suc j)))
@@ -48,9 +37,9 @@ module _ (own : ℕ → List ℕ) (b : ℕ) where
       let after : List ℕ = flatMap own (from (suc (b + j)) (m - suc j)) in
       ap (λ (t : List ℕ). bit (t ++ rest) (64 * length (flatMap own (from b j)) + i)) (flat-cut m j h)
       ∙ ap (λ (t : List ℕ). bit t (64 * length (flatMap own (from b j)) + i)) (append-assoc (flatMap own (from b j)) (own (b + j) ++ after) rest)
-      ∙ bit-back (flatMap own (from b j)) ((own (b + j) ++ after) ++ rest) i
+      ∙ back-bit (flatMap own (from b j)) ((own (b + j) ++ after) ++ rest) (length (flatMap own (from b j))) i refl
       ∙ ap (λ (t : List ℕ). bit t i) (append-assoc (own (b + j)) after rest)
-      ∙ front (own (b + j)) (after ++ rest) i l
+      ∙ front-bit (own (b + j)) (after ++ rest) i l
 
   flat-length : (j : ℕ) → length (flatMap own (from b (suc j))) ≡ length (flatMap own (from b j)) + length (own (b + j))
   unfolding flatMap

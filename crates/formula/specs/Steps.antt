@@ -45,8 +45,8 @@ unfolding seen
 miss w len bad e = refl
 miss w len (ok a r) e = cc
 
-drop-front : (s p r : List ℕ) (at : ℕ) → drop at s ≡ p ++ r → drop (at + length p) s ≡ r
-drop-front s p r at e = sym (drop-drop (length p) at s) ∙ ap (λ (l : List ℕ). drop (length p) l) e ∙ drop-at p r (length p) refl
+pub front-rest : (s v r : List ℕ) (at : ℕ) → drop at s ≡ v ++ r → drop (at + length v) s ≡ r
+front-rest s v r at e = sym (drop-drop (length v) at s) ∙ ap (λ (l : List ℕ). drop (length v) l) e ∙ drop-at v r (length v) refl
 
 front-length : (s p r : List ℕ) (at : ℕ) → at ≤ length s → drop at s ≡ p ++ r → length s - length r ≡ at + length p
 front-length s p r at h e = go (sym (length-drop at s) ∙ ap length e ∙ length-append p r)
@@ -64,7 +64,7 @@ hit w s at (ok a r) next n f h e = go (f a r refl)
         let hn : next ≡ length s - length r = cc in
         let hc : n ≡ w a = cc in
         let q : length s - length r ≡ at + length (fr .front) = front-length s (fr .front) r at h (fr .is) in
-        let t : drop (at + length (fr .front)) s ≡ r = drop-front s (fr .front) r at (fr .is) in
+        let t : drop (at + length (fr .front)) s ≡ r = front-rest s (fr .front) r at (fr .is) in
         let d : next ≡ at + length (fr .front) = hn ∙ q in
         record { got = a; front = fr .front; took = fr .is ∙ ap (λ (m : List ℕ). fr .front ++ m) (sym (ap (λ (m : ℕ). drop m s) d ∙ t)); long = d; is = ap (λ (m : List ℕ). ok a m) (sym (ap (λ (m : ℕ). drop m s) d ∙ t)); counted = hc; within = omega (arith, hn); small = omega (arith, d, ap (λ (x : Facts). x .forms) hc, fr .heavy) }
 

@@ -1,6 +1,6 @@
 -- The words that a site's reader leaves, a bit for each fact, hold the facts of the case's problem.
 use mathlib.Core.Path.{_≡_, refl, sym, ap, ap₂, subst, _∙_}
-use mathlib.Core.Bool.{Bool, true, false, _||_}
+use mathlib.Core.Bool.{Bool, false, or-false}
 use mathlib.Core.List.{List, [], _∷_, _++_, List·Memᴰ}
 use mathlib.Core.Logic.{_⊎_, ⊎-elim}
 use Prim.Native.Nat.{ℕ, zero, suc, _+_, _-_, _*_, _^_, _≤_, _<_}
@@ -42,10 +42,6 @@ five = refl
 not-both : (d : Kind) → d ≡ static → T (isChosen d) → ⊥
 unfolding isChosen
 not-both d e t = subst (λ (k : Kind). T (isChosen k)) e t
-
-or-false : (b : Bool) → (b || false) ≡ b
-or-false true = refl
-or-false false = refl
 
 -- a tuple of no `rel` is not among the facts
 none-among : (g : Signature) (n m : ℕ) (t : Tuple) (ts : List Tuple) → 5 + m ≤ t .relation → AllValid g n 0 m ts → isAmong t ts ≡ false

@@ -32,6 +32,10 @@ pub or-r : (a b : Bool) → T b → T (a || b)
 or-r true b p = tt
 or-r false b p = p
 
+pub or-both : (a b : Bool) → (a || b) ≡ false → (a ≡ false) × (b ≡ false)
+or-both true b e = let z : _≡_ {A = ℕ} 0 1 = cc in absurd (omega arith)
+or-both false b e = (refl, e)
+
 pub T-true : (a : Bool) → T a → a ≡ true
 T-true true p = refl
 T-true false p = absurd p

@@ -6,7 +6,7 @@ use mathlib.Core.Bool.{Bool, true, false, not, _||_}
 use mathlib.Core.Option.{Option, none, some}
 use mathlib.Core.List.{List, [], _∷_, _++_, map, append-assoc, List·Memᴰ, List·Memᴰ·head, List·Memᴰ·tail, List·Memᴰ·not-nil, List·Memᴰ·cases-cons, List·Memᴰ·append-cases, List·Memᴰ·eq-of-singleton, Memᴰ·append-left, Memᴰ·append-right}
 use native.Mathlib.Omega.{arith}
-use native.Mathlib.Nat.{add-zero, zero-add}
+use native.Mathlib.Nat.{add-zero, zero-add, suc-add}
 use lib.Dec.{T, eqb, eqb→eq}
 use lib.ListN.{length, getD, take, drop}
 use Rattle.definitions.specs.Lists.{if_then_else_, all, any, filter, flatMap, mapFrom, from, below}
@@ -45,6 +45,22 @@ mem-below n x h = mem-from n 0 x (omega arith) (omega arith)
 pub below-lt : (n x : ℕ) → List·Memᴰ x (below n) → x < n
 unfolding below
 below-lt n x m = let h = from-mem n 0 x m .1 in omega arith
+
+pub from-append : (a m k : ℕ) → from a (m + k) ≡ from a m ++ from (a + m) k
+unfolding from
+from-append a zero k = rw (zero-add k, add-zero a)
+from-append a (suc m) k =
+    let e : a + suc m ≡ suc a + m = omega arith in
+    rw (suc-add m k, e) (ap (λ (l : List ℕ). a ∷ l) (from-append (suc a) m k))
+
+pub from-snoc : (a m : ℕ) → from a (suc m) ≡ from a m ++ ((a + m) ∷ [])
+unfolding from
+from-snoc a zero = rw (add-zero a)
+from-snoc a (suc m) = let e : a + suc m ≡ suc a + m = omega arith in rw e (ap (λ (l : List ℕ). a ∷ l) (from-snoc (suc a) m))
+
+pub below-snoc : (m : ℕ) → below (suc m) ≡ below m ++ (m ∷ [])
+unfolding below
+below-snoc m = from-snoc 0 m ∙ rw (zero-add m)
 
 pub length-from : (a n : ℕ) → length (from a n) ≡ n
 unfolding from

@@ -7,6 +7,7 @@ use native.Mathlib.Omega.{arith}
 use native.Mathlib.Nat.{add-zero}
 use lib.Dec.{eqb}
 use lib.ListN.{length, List·getD-append}
+use lib.Seq.{getD-append-add}
 use Rattle.definitions.specs.Lists.{if_then_else_, from, below}
 use Rattle.definitions.specs.Atoms.{Problem, atoms, State, wordsFor, bitsFrom, stateWords}
 use Rattle.definitions.specs.Outcome.{bitOf, stateLength}
@@ -64,7 +65,17 @@ state-bit p s i h = bit-is (stateWords p s) i ∙ ap (λ (t : List ℕ). bit t i
 pub state-length : (p : Problem) (s : State) → length (stateWords p s) ≡ stateLength p
 state-length p s = ap length (state-words p s) ∙ length-words s (stateLength p)
 
--- the bits of a table are those of its front
+-- the bits of a table are those of its front, and then those of the rest
 pub bit-front : (t u : List ℕ) (i : ℕ) → i < 64 * length t → bitOf (t ++ u) i ≡ bitOf t i
 unfolding bitOf
 bit-front t u i h = ap (λ (w : ℕ). eqb (w / 2 ^ (i % 64) % 2) 1) (List·getD-append t u 0 (i / 64) (omega arith))
+
+pub front-bit : (t u : List ℕ) (i : ℕ) → i < 64 * length t → bit (t ++ u) i ≡ bit t i
+front-bit t u i h = sym (bit-is (t ++ u) i) ∙ bit-front t u i h ∙ bit-is t i
+
+pub back-bit : (t u : List ℕ) (k i : ℕ) → length t ≡ k → bit (t ++ u) (64 * k + i) ≡ bit u i
+unfolding bit
+back-bit t u k i e =
+    let q : (64 * k + i) / 64 ≡ length t + i / 64 = omega arith in
+    let d : (64 * k + i) % 64 ≡ i % 64 = omega arith in
+    rw (q, d) (ap (λ (w : ℕ). digit w (i % 64)) (getD-append-add t u (i / 64) 0))

@@ -204,7 +204,7 @@ module _ (n : ℕ) (g : Relations) (small : n ≤ 64) (sizes : RelationsFit g) w
         set-most = most-set sets (i + 1) (st + u) st (st + u) (omega arith) (omega arith) (L .set-most);
       }
 
-most-zeros : (k b : ℕ) → Most (replicate k 0) b
+pub most-zeros : (k b : ℕ) → Most (replicate k 0) b
 most-zeros zero b r = omega arith
 most-zeros (suc k) b zero = omega arith
 most-zeros (suc k) b (suc r) = most-zeros k b r

@@ -1,7 +1,7 @@
 -- Laws of looking a relation up by its name: one relation more, the built-in ones before those declared, arities and kinds.
 use Prim.Native.Nat.{ℕ, zero, suc, _+_, _-_, _≤_, _<_}
 use mathlib.Core.Path.{_≡_, refl, sym, ap, _∙_}
-use mathlib.Core.Bool.{Bool, true, false, _&&_, _||_}
+use mathlib.Core.Bool.{Bool, true, false, _&&_, _||_, and-true, and-false}
 use mathlib.Core.Option.{Option, none, some}
 use mathlib.Core.List.{List, [], _∷_, _++_}
 use native.Mathlib.Numerals.{add-one}
@@ -15,17 +15,12 @@ use Rattle.definitions.specs.Text.{bytes}
 use Rattle.definitions.specs.Relations.{Relation, static, builtIn, numberOf, isDeclared}
 use Rattle.definitions.specs.Sheets.{relations}
 use Rattle.text.specs.Spans.{placeOf, kindOf}
-use Rattle.text.proofs.Laws.{and-false}
 use Rattle.text.specs.declared.Found.{Found}
 use Rattle.text.specs.declared.Found.the-variants.{At, Nowhere}
 use Rattle.names.specs.declared.Signature.{Signature}
 use Rattle.names.specs.Signatures.{relationIn, relationsFrom, relsOf, chosenOf, allOf, builtInTable, matches, hasArity, counted, HasArity, HasKind}
 
 -- ---- the first element that passes a test
-
-pub and-true : (b : Bool) → (b && true) ≡ b
-and-true true = refl
-and-true false = refl
 
 isSome : Option ℕ → Bool
 isSome o = option o false (λ _. true)

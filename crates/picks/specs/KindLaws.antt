@@ -5,7 +5,7 @@ use mathlib.Core.Bool.{Bool, true, _&&_, _||_}
 use mathlib.Core.Option.{Option, none, some}
 use mathlib.Core.List.{List, [], _∷_, List·Memᴰ, List·Memᴰ·head, List·Memᴰ·tail}
 use native.Mathlib.Omega.{arith}
-use native.Mathlib.Nat.{mul-one, pow-zero, pow-suc, one-mul}
+use native.Mathlib.Nat.{mul-one}
 use lib.Arith.{digits-lt}
 use lib.Dec.{T, ltb}
 use lib.ListN.{length}
@@ -20,7 +20,7 @@ use Rattle.laws.specs.Lists.{below-lt, filter-mem}
 use Rattle.reduction.specs.Reader.{Accepted}
 use Rattle.reduction.specs.Grounded.{good}
 use Rattle.reduction.specs.Picks.{picks-inside}
-use Rattle.states.specs.Kinds.{hasTwo, isCrowded, breaks, first-broken}
+use Rattle.states.specs.Kinds.{square, hasTwo, isCrowded, breaks, first-broken}
 use Rattle.picks.specs.Words.{rowsIn, PicksAre}
 
 any-same : {A : Type 0} (f g : A → Bool) (l : List A) → ((x : A) → List·Memᴰ x l → f x ≡ g x) → any f l ≡ any g l
@@ -74,6 +74,3 @@ module _ (c : Case) (A : Accepted c) (F : List Tuple) (picks : arePicks c F ≡ 
       let l = below-lt (length (problemOf c .relations)) r (q .0) in
       breaks-same (relationAt (problemOf c) r .kind) (problemOf c .size) (rowsIn (problemOf c) words r) (isPicked (problemOf c) F r) (λ f row h. same r row l (q .1) (subst (λ (k : ℕ). row < problemOf c .size ^ k) (sym (good c A .pairs r l f)) (rw (square (problemOf c .size)) h))))
       ∙ sym (first-broken c A F (picks-inside c A F (T-of picks)))
-    where
-      square : (n : ℕ) → n ^ 2 ≡ n * n
-      square n = pow-suc n 1 ∙ ap (λ (x : ℕ). x * n) (pow-suc n 0 ∙ ap (λ (x : ℕ). x * n) (pow-zero n) ∙ one-mul n)

@@ -8,11 +8,12 @@ use native.Mathlib.Omega.{arith}
 use lib.Dec.{eqb, leb}
 use lib.ListN.{length}
 use lib.Seq.{slice}
-use borrow.Author.Tests.{eq-eqb, ne-eqb, eqb-true, eqb-false, leb-false}
+use borrow.Author.Tests.{eq-eqb, ne-eqb, eqb-true, eqb-false, leb-false, not-false}
 use Rattle.definitions.specs.Lists.{if_then_else_, isEmpty}
 use Rattle.definitions.specs.Refusal.{Result, refused, accepted, _>>=_, refuseIf, given, readText}
 use Rattle.definitions.specs.Relations.{Kind, static}
 use Rattle.definitions.specs.Sheets as D
+use Rattle.laws.specs.Booleans.{or-both}
 use Rattle.records.specs.Lines.{lineBy, readAt}
 use Rattle.text.specs.Spans.{kindOf}
 use Rattle.records.specs.Entries.{entryIn, InText, Reads}
@@ -46,14 +47,6 @@ bad-tests false false at k r p h = rw (← p)
 passed : {A : Type 0} (b c : Bool) (at : ℕ) (r : Result A) → b ≡ false → c ≡ true → (refuseIf b 3 at >>= λ _. (refuseIf (not c) 4 at >>= λ _. r)) ≡ r
 unfolding refuseIf _>>=_
 passed b c at r p q = rw (p, q)
-
-or-false-both : (a b : Bool) → (a || b) ≡ false → (a ≡ false) × (b ≡ false)
-or-false-both true b p = let z : _≡_ {A = ℕ} 0 1 = cc in absurd (omega arith)
-or-false-both false b p = (refl, p)
-
-not-false-is : (a : Bool) → not a ≡ false → a ≡ true
-not-false-is true p = refl
-not-false-is false p = sym p
 
 -- ---- the draft
 
@@ -99,8 +92,8 @@ module _ (s : List ℕ) (g : Signature) (at : ℕ) (v : Sound s g) (w : Roomy g)
   unfolding Grows judgeOf entryIn given _>>=_ D.addToQuestion InText grownBy
   line-good (Rel a e k) t p =
       let b = good-tests (not (eqb (g .chosen) 0) || leb 8 (g .rels)) (newIn s g (slice a e s)) p in
-      let c = or-false-both (not (eqb (g .chosen) 0)) (leb 8 (g .rels)) (b .0) in
-      let z = eqb-true (g .chosen) 0 (not-false-is (eqb (g .chosen) 0) (c .0)) in
+      let c = or-both (not (eqb (g .chosen) 0)) (leb 8 (g .rels)) (b .0) in
+      let z = eqb-true (g .chosen) 0 (not-false (eqb (g .chosen) 0) (c .0)) in
       let l = leb-false 8 (g .rels) (c .1) in (
         rel-is s g at (slice a e s) k ∙ passed (not (eqb (g .chosen) 0) || leb 8 (g .rels)) (newIn s g (slice a e s)) at _ (b .0) (b .1) ∙ ap accepted (rel-grown s g a e k w z l),
         pushed-sound s g (g .rels) a e k 0 (g .rels + 1) (g .chosen) v w (omega arith) (omega arith) (omega arith) (omega arith) (v .chosen-le) (t .0) (t .1) (t .2) (t .3),
@@ -233,8 +226,8 @@ pub head-room : (s : List ℕ) (g : Signature) (x : Entry) (c : ℕ) → Sound s
 unfolding judgeOf
 head-room s g (Rel a e k) c v j z =
     let b = good-tests (not (eqb (g .chosen) 0) || leb 8 (g .rels)) (newIn s g (slice a e s)) (sym j ∙ z) in
-    let d = or-false-both (not (eqb (g .chosen) 0)) (leb 8 (g .rels)) (b .0) in
-    let q = eqb-true (g .chosen) 0 (not-false-is (eqb (g .chosen) 0) (d .0)) in
+    let d = or-both (not (eqb (g .chosen) 0)) (leb 8 (g .rels)) (b .0) in
+    let q = eqb-true (g .chosen) 0 (not-false (eqb (g .chosen) 0) (d .0)) in
     let l = leb-false 8 (g .rels) (d .1) in
     omega arith
 head-room s g (Choose a e k d) c v j z =

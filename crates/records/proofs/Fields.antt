@@ -472,7 +472,7 @@ named-made s a e t p p′ make r w = rw (sym r) (sym (w make))
 
 -- ---- lines
 
-lines-cons : (at : ℕ) (p : List ℕ) (ps : List (List ℕ)) → 0 < length ps → linesFrom at (p ∷ ps) ≡ record { at = at; ended = true; content = p } ∷ linesFrom (at + length p + 1) ps
+pub lines-cons : (at : ℕ) (p : List ℕ) (ps : List (List ℕ)) → 0 < length ps → linesFrom at (p ∷ ps) ≡ record { at = at; ended = true; content = p } ∷ linesFrom (at + length p + 1) ps
 unfolding linesFrom
 lines-cons at p [] h = absurd (omega arith)
 lines-cons at p (q ∷ qs) h = refl

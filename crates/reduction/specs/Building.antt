@@ -6,7 +6,7 @@ use mathlib.Core.Option.{Option, none, some}
 use mathlib.Core.List.{List, List·Memᴰ}
 use lib.Dec.{T, ltb}
 use lib.ListN.{length}
-use borrow.Author.Tests.{le-ltb, ltb-false}
+use borrow.Author.Tests.{le-ltb, ltb-false, not-false}
 use Rattle.definitions.specs.Lists.{filter, below}
 use Rattle.definitions.specs.Refusal.{Result, refused, accepted, _>>=_, refuseIf}
 use Rattle.definitions.specs.Relations.{Tuple, isChosen}
@@ -113,10 +113,6 @@ unfolding kindRefusal isAccepted
 kind-accepted none u e = refl
 kind-accepted (some i) u e = absurd (refused-accepted e)
 
-unaccepted : (b : Bool) → not b ≡ false → b ≡ true
-unaccepted true e = refl
-unaccepted false e = absurd (subst T e tt)
-
 given-from : (c : Case) (p : Problem) (g : Given) (read F : List Tuple) (u : Unit {0}) → textPicks c g ≡ accepted read → picksRoom p g ≡ accepted u → takePicks p g read ≡ accepted F → picksGiven c p g ≡ accepted F
 unfolding _>>=_
 given-from c p g read F u a b d = rw (a, b) d
@@ -153,7 +149,7 @@ plan-tells question site g stateRoom stepsRoom b e =
     let (u₅, r₅, e₉) = bind-parts (refuseIf (not (ruleIsTrue c F)) 17 zero) _ b e₈ in
     let q : record { problem = p; picks = F; steps = builtSteps p F } ≡ b = accepted-eq _ b e₉ in
     subst (λ (b : Plan). (c : Case) × (readCase question site ≡ accepted c) × (ground c ≡ accepted (b .problem)) × (picksGiven c (b .problem) g ≡ accepted (b .picks)) × (areOfKinds c (b .picks) ≡ true) × (ruleIsTrue c (b .picks) ≡ true) × (b .steps ≡ builtSteps (b .problem) (b .picks))) q
-    (c, rc, rg, given-from c p g read F u₁ rt r₁ rf, kinds-told c F (kind-accepted (firstOfOtherKind c F) u₄ r₄), unaccepted (ruleIsTrue c F) (not-refused (not (ruleIsTrue c F)) 17 zero u₅ r₅), refl)
+    (c, rc, rg, given-from c p g read F u₁ rt r₁ rf, kinds-told c F (kind-accepted (firstOfOtherKind c F) u₄ r₄), not-false (ruleIsTrue c F) (not-refused (not (ruleIsTrue c F)) 17 zero u₅ r₅), refl)
 
 -- what an accepted answer of the builder tells
 pub built-tells : (r : Result Plan) (state steps : List ℕ) (k : ℕ) → builtFrom r state steps .answer ≡ accepted k → (b : Plan) × (r ≡ accepted b) × (k ≡ length (b .steps)) × (builtFrom r state steps .steps ≡ written (b .steps) steps)

@@ -23,6 +23,11 @@ use Rattle.reduction.specs.Parts.{Bnd, bnd-with, Here, HereAll, under-fo
 use Rattle.reduction.specs.Means.{here-as, Good, means, values-bnd, forall-at, means-at}
 use Rattle.reduction.specs.Valid.{proof-or, needs-valid, after-add, after-keep, may-of}
 
+pub some-any : (p : Problem) (P : List Tuple) (ts : Trees) (w : ℕ) (e : Values) → someHolds (p .source) P e ts ≡ any (λ (q : Part). treeHolds (p .source) P e (q .tree)) (partsFrom w ts)
+unfolding someHolds any partsFrom
+some-any p P end w e = refl
+some-any p P (t then ts) w e = ap (λ (b : Bool). treeHolds (p .source) P e t || b) (some-any p P ts (w + length (nodes t)) e)
+
 module _ (p : Problem) (G : Good p) where
   -- ---- steps taken
   unfoldable pub Takes : State → List Action → Type 0
@@ -158,11 +163,6 @@ module _ (p : Problem) (G : Good p) where
         (λ i. parts-low ts k (w + length (nodes t)) e (omega arith) (tail-here p w t ts h) b (T-and-r (treeHolds (p .source) P e t) _ q) x i)
         (List·Memᴰ·cases-cons m)
 
-    some-any : (ts : Trees) (w : ℕ) (e : Values) → someHolds (p .source) P e ts ≡ any (λ (q : Part). treeHolds (p .source) P e (q .tree)) (partsFrom w ts)
-    unfolding someHolds any partsFrom
-    some-any end w e = refl
-    some-any (t then ts) w e = ap (λ (b : Bool). treeHolds (p .source) P e t || b) (some-any ts (w + length (nodes t)) e)
-
     part-first : (ts : Trees) (k w : ℕ) (e : Values) → k ≤ w → HereAll p w ts → Bnd (p .size) e → T (any (λ (q : Part). treeHolds (p .source) P e (q .tree)) (partsFrom w ts))
         → (place (λ (q : Part). treeHolds (p .source) P e (q .tree)) (partsFrom w ts) < howMany ts) × ((x : Atom) → List·Memᴰ x (take 1 (drop (place (λ (q : Part). treeHolds (p .source) P e (q .tree)) (partsFrom w ts)) (partAtoms (p .size) e (partsFrom w ts)))) → Low k x)
     unfolding any partsFrom place howMany partAtoms
@@ -196,7 +196,7 @@ module _ (p : Problem) (G : Good p) where
     or-step v row ts l e h t =
         let θ : Values = valuesAt (p .size) (orNode ts) row in
         let f : Part → Bool = λ (q : Part). treeHolds (p .source) P (valuesAt (p .size) (orNode ts) row) (q .tree) in
-        let a : T (any f (partsFrom (suc v) ts)) = subst T (some-any ts (suc v) (valuesAt (p .size) (orNode ts) row)) t in
+        let a : T (any f (partsFrom (suc v) ts)) = subst T (some-any p P ts (suc v) (valuesAt (p .size) (orNode ts) row)) t in
         let k : least f (partsFrom (suc v) ts) ≡ place f (partsFrom (suc v) ts) = least-place f (partsFrom (suc v) ts) a in
         let q = part-first ts (suc v) (suc v) (valuesAt (p .size) (orNode ts) row) (omega arith) (parts-or p v ts (here-as p G v (orNode ts) l e)) (values-bnd p G (orNode ts) row) a in
         make-step v row (proveOr v row (least f (partsFrom (suc v) ts))) (l, subst (λ (s : Tree). row < rowsOf (p .size) s) (sym e) h, (ts, e, subst (λ (i : ℕ). i < howMany ts) (sym k) (q .0))) refl

@@ -32,14 +32,14 @@ unfolding option
 option-none none x f e = (refl, e)
 option-none (some j) x f e = absurd (none-some (sym e))
 
-words-take : (k : ℕ) (w : List ℕ) → Words w → Words (take k w)
+pub words-take : (k : ℕ) (w : List ℕ) → Words w → Words (take k w)
 words-take k w ok j = go (ltb j k) refl
   where
     go : (b : Bool) → ltb j k ≡ b → getD (take k w) j 0 < 2 ^ 64
     go true e = let q = getD-take k w j 0 (ltb-true j k e) in let h = ok j in omega arith
     go false e = let h = ltb-false j k e in let a = length-take k w in let q = List·getD-eq-default (take k w) 0 {n = j} (omega arith) in omega arith
 
-words-drop : (k : ℕ) (w : List ℕ) → Words w → Words (drop k w)
+pub words-drop : (k : ℕ) (w : List ℕ) → Words w → Words (drop k w)
 words-drop k w ok j = let q = getD-drop k w j 0 in let h = ok (k + j) in omega arith
 
 module _ (p : Problem) (F : List Tuple) where

@@ -262,7 +262,7 @@ module _ (p : Problem) (G : Good p) where
       go none e t = absurd t
       go (some a) e t = (a, e, T-and-l (mayTake p s a) _ t, T-and-r (mayTake p s a) _ t)
 
-  picks-cons : (k : ℕ) (ks : List ℕ) (a : Action) → actionAt p k ≡ some a → picksOf p (k ∷ ks) ≡ pickOf p a ++ picksOf p ks
+  pub picks-cons : (k : ℕ) (ks : List ℕ) (a : Action) → actionAt p k ≡ some a → picksOf p (k ∷ ks) ≡ pickOf p a ++ picksOf p ks
   unfolding picksOf flatMap option
   picks-cons k ks a e = rw e refl
 

@@ -14,6 +14,7 @@ use Rattle.names.proofs.Laws.{all-are, length-relations, arity-built-in, arity-
 use Rattle.rows.specs.Values.{Most}
 use Rattle.ground.specs.Of.{kindNumber}
 use Rattle.layout.specs.Laid.{RelationsFit}
+use Rattle.layout.specs.LaidLaws.{most-zeros}
 use Rattle.relations.specs.Numbered.{Declared, noRelation, Numbered}
 
 -- ---- kinds
@@ -120,10 +121,5 @@ numbered g i xs ys d e u = (
   record { count = λ q. all-length q g; arity = λ q j h. u .arities j (omega arith) q; kind = λ q j h. u .kinds j (omega arith) q },
 )
 
-zeros-most : (k b : ℕ) → Most (replicate k 0) b
-zeros-most zero b i = omega arith
-zeros-most (suc k) b zero = omega arith
-zeros-most (suc k) b (suc i) = zeros-most k b i
-
 pub upto-start : (g : Signature) → Upto g 0 (replicate 17 0) (replicate 17 0)
-upto-start g = upto-none g (replicate 17 0) (replicate 17 0) (zeros-most 17 4) (zeros-most 17 5)
+upto-start g = upto-none g (replicate 17 0) (replicate 17 0) (most-zeros 17 4) (most-zeros 17 5)

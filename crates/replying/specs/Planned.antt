@@ -22,6 +22,7 @@ use Rattle.names.specs.Signatures.{chosenOf}
 use Rattle.sheets.specs.declared.Answer.{Answer as Sheet}
 use Rattle.sheets.specs.declared.Answer.the-variants.{Done, Refused as Bad}
 use Rattle.sheets.specs.Reading.{PicksIn, answered as told}
+use Rattle.sheets.proofs.Numbers.{sheet-refused, sheet-read}
 use Rattle.plans.specs.declared.Answer.{Answer}
 use Rattle.plans.specs.declared.Answer.the-variants.{Steps, OtherKind, RuleFalse}
 use Rattle.plans.specs.Answers.{planned, answered, Gives}
@@ -29,7 +30,7 @@ use Rattle.opening.specs.declared.Opened.{Opened}
 use Rattle.opening.specs.Read.{CaseRead}
 use Rattle.grounding.specs.declared.Sized.{Sized}
 use Rattle.grounding.specs.Grounds.{GroundsTo}
-use Rattle.cases.specs.Known.{facts-held, sheet-refused, sheet-read, Grounding, case-over, grounds, tabled, actions-few}
+use Rattle.cases.specs.Known.{facts-held, Grounding, case-over, grounds, tabled, actions-few}
 use Rattle.cases.specs.Order.{plan-text}
 use Rattle.building.specs.Picked.{text-read, text-are, text-front, text-picked}
 use Rattle.building.specs.Starts.{Prepared}

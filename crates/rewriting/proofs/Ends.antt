@@ -17,8 +17,7 @@ use Rattle.names.specs.Signatures.{allOf}
 use Rattle.names.specs.declared.Signature.{Signature}
 use Rattle.formula.specs.Seen.{names}
 use Rattle.formula.specs.Spans.{length-names}
-use Rattle.formula.specs.Steps.{slice-front}
-use Rattle.formula.specs.Bound.{front-rest}
+use Rattle.formula.specs.Steps.{front-rest, slice-front}
 use Rattle.formula.specs.declared.Scope.{Scope}
 use Rattle.tables.specs.Postorder.{pad, post, leafKind, leafRow}
 use Rattle.tables.specs.declared.Row.{Row}

@@ -20,7 +20,7 @@ use Rattle.definitions.specs.Tree.{Tree, Trees, andNode, end, _then_, asIs, tot
 use Rattle.text.specs.Spans.{kindOf}
 use Rattle.names.specs.Signatures.{Sound, allOf, relsOf, chosenOf, relationIn, relationsFrom}
 use Rattle.names.specs.declared.Signature.{Signature}
-use Rattle.names.proofs.Laws.{all-are}
+use Rattle.names.proofs.Laws.{all-are, length-relations}
 use Rattle.formula.specs.Seen.{ruleNumber, totalOf, names}
 use Rattle.formula.specs.Spans.{chosen-are, totals-next}
 use Rattle.formula.specs.Bound.{slice-rest, names-none}
@@ -37,7 +37,7 @@ use Rattle.rewriting.specs.Ready.{Adds, pushed, numbered, Ready, Walked}
 use Rattle.rewriting.specs.Rule.{totalityOf, oneTotality, Accepted, rootOf, IsQuestion, RowsOf, TableOf}
 use Rattle.rewriting.specs.declared.Walk.{Walk}
 use Rattle.rewriting.proofs.Tables.{adds-none, adds-push, adds-number, adds-both, adds-as}
-use Rattle.rewriting.proofs.Words.{length-all, length-from}
+use Rattle.rewriting.proofs.Words.{length-all}
 use Rattle.rewriting.proofs.Turns.{first-rows, joined as joined-adds}
 
 -- ---- one totality
@@ -307,7 +307,7 @@ and-rows T TS n m a b c d = omega arith
 
 rels-long : (s : List ℕ) (g : Signature) → length (relsOf s g) ≡ g .rels
 unfolding relsOf
-rels-long s g = length-from s g 0 (g .rels)
+rels-long s g = length-relations s g 0 (g .rels)
 
 module _ (s : List ℕ) (at stop : ℕ) (g : Signature) (c : Accepted s at stop g) (a : Formed s at stop g) (F T : List ℕ) where
   tops : treeIn true (allOf s g) (names s (record { from = F; to = T; n = 0 })) (a .f) ≡ asIs (allOf s g) [] (a .f)
@@ -346,7 +346,7 @@ module _ (s : List ℕ) (at stop : ℕ) (g : Signature) (c : Accepted s at stop 
 
   chosen-long : length (chosenOf s g) ≡ g .chosen
   unfolding chosenOf
-  chosen-long = length-from s g (g .rels) (g .chosen)
+  chosen-long = length-relations s g (g .rels) (g .chosen)
 
   -- ---- no totality
   pub of-plain : (t : Rows) (r : Walk) → t .len ≡ 0 → t .nodes ≡ 0 → totals (chosenOf s g) ≡ 0 → Walked true s at g (record { from = F; to = T; n = 0 }) t (a .f) r → RowsOf s at stop g (r .rows)

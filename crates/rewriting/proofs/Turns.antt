@@ -14,7 +14,7 @@ use Rattle.names.specs.Signatures.{allOf}
 use Rattle.names.specs.declared.Signature.{Signature}
 use Rattle.formula.specs.Seen.{names}
 use Rattle.formula.specs.Spans.{length-names}
-use Rattle.formula.specs.Bound.{front-rest}
+use Rattle.formula.specs.Steps.{front-rest}
 use Rattle.formula.specs.declared.Scope.{Scope}
 use Rattle.tables.specs.Postorder.{post, postAll, joinRow}
 use Rattle.tables.specs.Whole.{nodes-le}

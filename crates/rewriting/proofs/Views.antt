@@ -1,17 +1,14 @@
 -- A formula of its form by its kind: its parts, their places in the text, and that they are accepted too. Assumes nothing.
-use Prim.Native.Nat.{ℕ, _+_, _-_, _≤_, _<_, max}
+use Prim.Native.Nat.{ℕ, _+_, _-_, _≤_, max}
 use native.Mathlib.Omega.{arith}
 use mathlib.Core.Path.{_≡_, refl, sym, ap, _∙_}
 use mathlib.Core.Bool.{Bool, true, false, _&&_}
 use mathlib.Core.List.{List, _∷_, _++_, append-assoc}
 use lib.ListN.{length, length-append}
-use lib.Dec.{eqb, leb, lit<}
-use borrow.Author.Tests.{ne-eqb, leb-true}
-use Rattle.definitions.specs.Text.{isRelationName, isCapital, isBetween}
+use Rattle.definitions.specs.Text.{isRelationName}
 use Rattle.definitions.specs.Relations.{Relation}
-use Rattle.definitions.specs.Formula.{Formula, Formulas, literal, negation, implication, conjunction, disjunction, exists, forall, cons, Join, ands, ors, Quant, somes, everys, join, quant, writeVars, write, Variables, WellFormed, g-lit, g-neg, g-imp, g-and, g-or, g-exists, g-forall, AllWellFormed, a-good, begins, first, Head, isNot, isImplies, isAnd, isOr, isExists, isForall, isOther, kindOf, forms, formsAll, nesting, nestingAll, isKnown, areKnown}
-use Rattle.definitions.specs.Writing.{name-is, kind-6}
-use Rattle.rewriting.specs.Sizes.{both-left, both-right}
+use Rattle.definitions.specs.Formula.{Formula, Formulas, literal, negation, implication, conjunction, disjunction, exists, forall, cons, Join, ands, ors, Quant, somes, everys, join, quant, writeVars, write, Variables, WellFormed, g-lit, g-neg, g-imp, g-and, g-or, g-exists, g-forall, AllWellFormed, a-good, begins, Head, isNot, isImplies, isAnd, isOr, isExists, isForall, isOther, kindOf, forms, formsAll, nesting, nestingAll, isKnown, areKnown}
+use Rattle.definitions.specs.Writing.{and-l, and-r, name-is, kind-lit}
 use Rattle.rewriting.specs.Ready.{asJoin, asQuant, joinHead, quantHead, Fine, AllFine}
 
 -- ---- the kind
@@ -24,18 +21,6 @@ formHead (disjunction fs) = isOr
 formHead (exists vs f) = isExists
 formHead (forall vs f) = isForall
 
--- a capital is no keyword's first byte
-no-keyword : (c k : ℕ) → first false c ≡ true → 90 < k → eqb k c ≡ false
-unfolding isCapital isBetween
-no-keyword c k e h = ne-eqb k c (λ q. go q (leb-true c 90 (both-right (leb 65 c) (leb c 90) e)))
-  where
-    go : k ≡ c → c ≤ 90 → ⊥
-    go q le = omega arith
-
-kind-name : (c : ℕ) (l : List ℕ) → first false c ≡ true → kindOf (40 ∷ c ∷ l) ≡ isOther
-unfolding begins
-kind-name c l e = kind-6 (40 ∷ c ∷ l) (rw (no-keyword c 110 e (lit< tt))) (rw (no-keyword c 105 e (lit< tt))) (rw (no-keyword c 97 e (lit< tt))) (rw (no-keyword c 111 e (lit< tt))) (rw (no-keyword c 101 e (lit< tt))) (rw (no-keyword c 102 e (lit< tt)))
-
 pub lay-literal : (n : List ℕ) (vs : List (List ℕ)) (m : List ℕ) → write (literal n vs) ++ m ≡ 40 ∷ (n ++ (writeVars vs ++ (41 ∷ m)))
 unfolding write
 lay-literal n vs m = simp append-assoc
@@ -44,7 +29,7 @@ kind-literal : (n : List ℕ) (vs : List (List ℕ)) (r : List ℕ) → isRelati
 kind-literal n vs r h =
     let w = name-is n h in
     ap (λ (l : List ℕ). kindOf l) (lay-literal n vs r ∙ ap (λ (m : List ℕ). 40 ∷ (m ++ (writeVars vs ++ (41 ∷ r)))) (w .is))
-    ∙ kind-name (w .head) (w .tail ++ (writeVars vs ++ (41 ∷ r))) (w .starts)
+    ∙ kind-lit (w .head) (w .tail ++ (writeVars vs ++ (41 ∷ r))) (w .starts)
 
 pub kind-of : {k : ℕ} {f : Formula} → WellFormed k f → (r : List ℕ) → kindOf (write f ++ r) ≡ formHead f
 unfolding formHead kindOf begins write
@@ -216,25 +201,25 @@ module _ (rs : List Relation) (sc : List (List ℕ)) (n m : ℕ) where
 
   pub fine-imp-1 : (f g : Formula) → Fine rs sc n m (implication f g) → Fine rs sc n (m + 1) f
   unfolding forms nesting isKnown
-  fine-imp-1 f g w = let d = deep-imp (w .good) .0 in record { depth = d .depth; good = d .good; rows = omega (arith, w .rows); nodes = omega (arith, w .nodes); deep = omega (arith, w .deep); known = both-left (isKnown rs f) (isKnown rs g) (w .known) }
+  fine-imp-1 f g w = let d = deep-imp (w .good) .0 in record { depth = d .depth; good = d .good; rows = omega (arith, w .rows); nodes = omega (arith, w .nodes); deep = omega (arith, w .deep); known = and-l (isKnown rs f) (isKnown rs g) (w .known) }
 
   pub fine-imp-2 : (f g : Formula) (n′ m′ : ℕ) → n′ ≤ n + forms f → m′ ≤ (m + 1) + forms f → Fine rs sc n m (implication f g) → Fine rs sc n′ m′ g
   unfolding forms nesting isKnown
-  fine-imp-2 f g n′ m′ a b w = let d = deep-imp (w .good) .1 in record { depth = d .depth; good = d .good; rows = omega (arith, w .rows); nodes = omega (arith, w .nodes); deep = omega (arith, w .deep); known = both-right (isKnown rs f) (isKnown rs g) (w .known) }
+  fine-imp-2 f g n′ m′ a b w = let d = deep-imp (w .good) .1 in record { depth = d .depth; good = d .good; rows = omega (arith, w .rows); nodes = omega (arith, w .nodes); deep = omega (arith, w .deep); known = and-r (isKnown rs f) (isKnown rs g) (w .known) }
 
   pub fine-join-1 : (j : Join) (f : Formula) (fs : Formulas) → Fine rs sc n m (join j (cons f fs)) → Fine rs sc n (m + 1) f
-  fine-join-1 j f fs w = let d = deep-join j f fs (w .good) .0 in record { depth = d .depth; good = d .good; rows = omega (arith, w .rows, join-forms j f fs); nodes = omega (arith, w .nodes, join-forms j f fs); deep = omega (arith, w .deep, join-nesting j f fs); known = both-left (isKnown rs f) (areKnown rs fs) (sym (join-known rs j f fs) ∙ w .known) }
+  fine-join-1 j f fs w = let d = deep-join j f fs (w .good) .0 in record { depth = d .depth; good = d .good; rows = omega (arith, w .rows, join-forms j f fs); nodes = omega (arith, w .nodes, join-forms j f fs); deep = omega (arith, w .deep, join-nesting j f fs); known = and-l (isKnown rs f) (areKnown rs fs) (sym (join-known rs j f fs) ∙ w .known) }
 
   pub fine-join-2 : (j : Join) (f : Formula) (fs : Formulas) (n′ m′ : ℕ) → n′ ≤ n + forms f → m′ ≤ (m + 1) + forms f → Fine rs sc n m (join j (cons f fs)) → AllFine rs sc n′ m′ fs
-  fine-join-2 j f fs n′ m′ a b w = let d = deep-join j f fs (w .good) .1 in record { depth = d .depth; good = d .good; rows = omega (arith, w .rows, join-forms j f fs); nodes = omega (arith, w .nodes, join-forms j f fs); deep = omega (arith, w .deep, join-nesting j f fs); known = both-right (isKnown rs f) (areKnown rs fs) (sym (join-known rs j f fs) ∙ w .known) }
+  fine-join-2 j f fs n′ m′ a b w = let d = deep-join j f fs (w .good) .1 in record { depth = d .depth; good = d .good; rows = omega (arith, w .rows, join-forms j f fs); nodes = omega (arith, w .nodes, join-forms j f fs); deep = omega (arith, w .deep, join-nesting j f fs); known = and-r (isKnown rs f) (areKnown rs fs) (sym (join-known rs j f fs) ∙ w .known) }
 
   pub fine-quant : (q : Quant) (vs : List (List ℕ)) (f : Formula) (sc′ : List (List ℕ)) → sc′ ≡ sc ++ vs → Fine rs sc n m (quant q vs f) → Fine rs sc′ n (m + length vs) f
   fine-quant q vs f sc′ e w = let d = deep-quant q vs f (w .good) in record { depth = d .depth; good = d .good; rows = omega (arith, w .rows, quant-forms q vs f); nodes = omega (arith, w .nodes, quant-forms q vs f); deep = omega (arith, w .deep, quant-nesting q vs f, ap length e, length-append sc vs); known = sym (quant-known rs q vs f) ∙ w .known }
 
   pub fine-part : (f : Formula) (fs : Formulas) → AllFine rs sc n m (cons f fs) → Fine rs sc n m f
   unfolding forms nesting isKnown
-  fine-part f fs w = let d = deep-parts (w .good) .0 in record { depth = d .depth; good = d .good; rows = omega (arith, w .rows); nodes = omega (arith, w .nodes); deep = omega (arith, w .deep); known = both-left (isKnown rs f) (areKnown rs fs) (w .known) }
+  fine-part f fs w = let d = deep-parts (w .good) .0 in record { depth = d .depth; good = d .good; rows = omega (arith, w .rows); nodes = omega (arith, w .nodes); deep = omega (arith, w .deep); known = and-l (isKnown rs f) (areKnown rs fs) (w .known) }
 
   pub fine-parts : (f : Formula) (fs : Formulas) (n′ m′ : ℕ) → n′ ≤ n + forms f → m′ ≤ m + forms f → AllFine rs sc n m (cons f fs) → AllFine rs sc n′ m′ fs
   unfolding forms nesting isKnown
-  fine-parts f fs n′ m′ a b w = let d = deep-parts (w .good) .1 in record { depth = d .depth; good = d .good; rows = omega (arith, w .rows); nodes = omega (arith, w .nodes); deep = omega (arith, w .deep); known = both-right (isKnown rs f) (areKnown rs fs) (w .known) }
+  fine-parts f fs n′ m′ a b w = let d = deep-parts (w .good) .1 in record { depth = d .depth; good = d .good; rows = omega (arith, w .rows); nodes = omega (arith, w .nodes); deep = omega (arith, w .deep); known = and-r (isKnown rs f) (areKnown rs fs) (w .known) }

@@ -16,11 +16,11 @@ use Rattle.text.specs.Spans.{placeOf}
 use Rattle.text.specs.declared.Found.the-variants.{At, Nowhere}
 use Rattle.names.specs.Signatures.{allOf, relationsFrom}
 use Rattle.names.specs.declared.Signature.{Signature}
-use Rattle.names.proofs.Laws.{position-some, all-are}
+use Rattle.names.proofs.Laws.{position-some, all-are, length-relations}
 use Rattle.formula.specs.Seen.{names, spans}
 use Rattle.formula.specs.Spans.{spans-next, spans-push}
-use Rattle.formula.specs.Steps.{slice-front}
-use Rattle.formula.specs.Bound.{var-ends, front-rest}
+use Rattle.formula.specs.Steps.{front-rest, slice-front}
+use Rattle.formula.specs.Bound.{var-ends}
 use Rattle.formula.specs.declared.Scope.{Scope}
 use Rattle.tables.specs.Postorder.{leafRow}
 use Rattle.tables.specs.Free.{pad-more}
@@ -61,17 +61,12 @@ module _ (s F T v : List ℕ) (n i : ℕ) where
   level-end h = let e : n - i ≡ 0 = omega arith in rw e
 
 -- ---- `number`
-pub length-from : (q : List ℕ) (g : Signature) (i m : ℕ) → length (relationsFrom q g i m) ≡ m
-unfolding relationsFrom
-length-from q g i zero = refl
-length-from q g i (suc m) = ap suc (length-from q g (suc i) m)
-
 five : length builtIn ≡ 5
 unfolding builtIn
 five = refl
 
 pub length-all : (q : List ℕ) (g : Signature) → length (allOf q g) ≡ 5 + (g .rels + g .chosen)
-length-all q g = omega (arith, ap length (all-are q g), length-append builtIn (relationsFrom q g 0 (g .rels + g .chosen)), length-from q g 0 (g .rels + g .chosen), five)
+length-all q g = omega (arith, ap length (all-are q g), length-append builtIn (relationsFrom q g 0 (g .rels + g .chosen)), length-relations q g 0 (g .rels + g .chosen), five)
 
 number-found : (x : Option ℕ) (k : ℕ) → At k ≡ placeOf x → x ≡ some k
 number-found none k e = let z : _≡_ {A = ℕ} 0 1 = cc in absurd (omega arith)

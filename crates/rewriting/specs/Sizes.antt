@@ -12,6 +12,7 @@ use Rattle.definitions.specs.Lists.{any, same, option, position}
 use Rattle.definitions.specs.Relations.{Relation, static, numberOf}
 use Rattle.definitions.specs.Formula.{Formula, Formulas, literal, negation, implication, conjunction, disjunction, exists, forall, nil, cons, Join, ands, ors, Quant, somes, everys, nesting, nestingAll, isKnown, areKnown}
 use Rattle.definitions.specs.Tree.{Tree, Trees, end, _then_, nest, leafOf}
+use Rattle.definitions.specs.Writing.{and-l, and-r}
 use Rattle.names.proofs.Laws.{position-some}
 use Rattle.tables.specs.Postorder.{Small, AllSmall}
 use Rattle.rewriting.specs.Trees.{treeIn, treesIn, joinNode, quantNode, tree-lit, tree-neg, tree-imp, tree-join, trees-nil, trees-cons, tree-quant}
@@ -74,14 +75,6 @@ small-two : (rels : ℕ) (t u : Tree) → Small rels t → Small rels u → AllS
 unfolding Small
 small-two rels t u a b = (a, (b, tt))
 
-pub both-left : (a b : Bool) → (a && b) ≡ true → a ≡ true
-both-left true b e = refl
-both-left false b e = e
-
-pub both-right : (a b : Bool) → (a && b) ≡ true → b ≡ true
-both-right true b e = e
-both-right false b e = let z : _≡_ {A = ℕ} 0 1 = cc in absurd (omega arith)
-
 module _ (rs : List Relation) (few : FewPlaces rs) (some-rels : 0 < length rs) where
   small-lit : (b : Bool) (sc : List (List ℕ)) (n : List ℕ) (vs : List (List ℕ)) → any (λ (k : Relation). same (k .name) n && eqb (k .arity) (length vs)) rs ≡ true → length sc ≤ 4 → Small (length rs) (leafOf b rs sc n vs)
   unfolding leafOf Small numberOf
@@ -93,7 +86,7 @@ module _ (rs : List Relation) (few : FewPlaces rs) (some-rels : 0 < length rs) w
     pub tree-small : (b : Bool) (sc : List (List ℕ)) (f : Formula) → isKnown rs f ≡ true → length sc + nesting f ≤ 4 → Small (length rs) (treeIn b rs sc f)
     tree-small b sc (literal n vs) e h = rw (tree-lit rs sc b n vs) (small-lit b sc n vs e (omega arith))
     tree-small b sc (negation f) e h = rw (tree-neg rs sc b f) (tree-small (not b) sc f e h)
-    tree-small b sc (implication f g) e h = rw (tree-imp rs sc b f g) (small-join (length rs) b ors (treeIn (not b) rs sc f then treeIn b rs sc g then end) (small-two (length rs) (treeIn (not b) rs sc f) (treeIn b rs sc g) (tree-small (not b) sc f (both-left (isKnown rs f) (isKnown rs g) e) (omega arith)) (tree-small b sc g (both-right (isKnown rs f) (isKnown rs g) e) (omega arith))))
+    tree-small b sc (implication f g) e h = rw (tree-imp rs sc b f g) (small-join (length rs) b ors (treeIn (not b) rs sc f then treeIn b rs sc g then end) (small-two (length rs) (treeIn (not b) rs sc f) (treeIn b rs sc g) (tree-small (not b) sc f (and-l (isKnown rs f) (isKnown rs g) e) (omega arith)) (tree-small b sc g (and-r (isKnown rs f) (isKnown rs g) e) (omega arith))))
     tree-small b sc (conjunction fs) e h = rw (tree-join rs sc b ands fs) (small-join (length rs) b ands (treesIn b rs sc fs) (trees-small b sc fs e h))
     tree-small b sc (disjunction fs) e h = rw (tree-join rs sc b ors fs) (small-join (length rs) b ors (treesIn b rs sc fs) (trees-small b sc fs e h))
     tree-small b sc (exists vs f) e h = rw (tree-quant rs sc b somes vs f) (small-nest (length rs) b somes (length sc) (length vs) (treeIn b rs (sc ++ vs) f) (omega arith) (tree-small b (sc ++ vs) f e (omega (arith, length-append sc vs))))
@@ -101,4 +94,4 @@ module _ (rs : List Relation) (few : FewPlaces rs) (some-rels : 0 < length rs) w
 
     trees-small : (b : Bool) (sc : List (List ℕ)) (fs : Formulas) → areKnown rs fs ≡ true → length sc + nestingAll fs ≤ 4 → AllSmall (length rs) (treesIn b rs sc fs)
     trees-small b sc nil e h = rw (trees-nil rs sc b) tt
-    trees-small b sc (cons f fs) e h = rw (trees-cons rs sc b f fs) (tree-small b sc f (both-left (isKnown rs f) (areKnown rs fs) e) (omega arith), trees-small b sc fs (both-right (isKnown rs f) (areKnown rs fs) e) (omega arith))
+    trees-small b sc (cons f fs) e h = rw (trees-cons rs sc b f fs) (tree-small b sc f (and-l (isKnown rs f) (areKnown rs fs) e) (omega arith), trees-small b sc fs (and-r (isKnown rs f) (areKnown rs fs) e) (omega arith))

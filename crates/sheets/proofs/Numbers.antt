@@ -200,23 +200,23 @@ steps-few s ks p = let v = steps-told s ks p in omega (arith, lines-long ks, ap 
 
 -- ---- the whole
 
-done-is : (r : Result (List ℕ)) (a : Answer) (n : ℕ) → a ≡ Done n → a ≡ answered length r → (ks : List ℕ) × (r ≡ accepted ks) × (length ks ≡ n)
+pub sheet-read : {A : Type 0} (f : A → ℕ) (r : Result A) (a : Answer) (n : ℕ) → a ≡ answered f r → a ≡ Done n → (v : A) × (r ≡ accepted v) × (f v ≡ n)
 unfolding answered
-done-is (refused k place) a n p q = let z : _≡_ {A = ℕ} 0 1 = cc in absurd (omega arith)
-done-is (accepted ks) a n p q = (ks, refl, cc)
+sheet-read f (refused k place) a n e d = let z : _≡_ {A = ℕ} 0 1 = cc in absurd (omega arith)
+sheet-read f (accepted v) a n e d = (v, refl, cc)
 
-refused-is : (r : Result (List ℕ)) (a : Answer) (k place : ℕ) → a ≡ Refused k place → a ≡ answered length r → r ≡ refused k place
+pub sheet-refused : {A : Type 0} (f : A → ℕ) (r : Result A) (a : Answer) (k place : ℕ) → a ≡ answered f r → a ≡ Refused k place → r ≡ refused k place
 unfolding answered
-refused-is (refused k′ place′) a k place p q = cc
-refused-is (accepted ks) a k place p q = let z : _≡_ {A = ℕ} 0 1 = cc in absurd (omega arith)
+sheet-refused f (refused j at) a k place e n = cc
+sheet-refused f (accepted v) a k place e n = let z : _≡_ {A = ℕ} 0 1 = cc in absurd (omega arith)
 
 module _ (s : List ℕ) (a : Answer) (w : a ≡ answered length (D.readSteps s)) where
   pub all-room : (n room : ℕ) → a ≡ Done n → 9362 ≤ room → Writes (D.readSteps s) room
   unfolding Writes
   all-room n room p h =
-      let d = done-is (D.readSteps s) a n p w in
+      let d = sheet-read length (D.readSteps s) a n w p in
       rw (d .1) (omega (arith, steps-few s (d .0) (d .1)))
 
   pub all-refused : (k place : ℕ) (out : List ℕ) → a ≡ Refused k place → (Refused k place ≡ answered length (D.readSteps s)) × (out ≡ left (D.readSteps s) out)
   unfolding left
-  all-refused k place out p = (sym p ∙ w, rw (refused-is (D.readSteps s) a k place p w))
+  all-refused k place out p = (sym p ∙ w, rw (sheet-refused length (D.readSteps s) a k place w p))

@@ -115,7 +115,7 @@ module _ (p : Problem) (F : List Tuple) (r a b : ℕ) (A B : Tuple → ℕ) (cel
   two-crowd = T-ext (two r A B F) (isCrowded (isPicked p F r) (p .size) a b) to-crowd from-crowd
 
 -- ---- of a relation of pairs
-square : (n : ℕ) → n ^ 2 ≡ n * n
+pub square : (n : ℕ) → n ^ 2 ≡ n * n
 square n = pow-suc n 1 ∙ ap (λ (x : ℕ). x * n) (pow-suc n 0 ∙ ap (λ (x : ℕ). x * n) (pow-zero n) ∙ one-mul n)
 
 module _ (p : Problem) (G : Good p) (F : List Tuple) (inside : (t : Tuple) → List·Memᴰ t F → Inside p G t) (r : ℕ) (l : r < length (p .relations)) where
@@ -177,7 +177,8 @@ filter-all f a (suc k) h =
     rw e (ap (λ (l : List ℕ). a ∷ l) (filter-all f (suc a) k (λ i l. let q : suc a + i ≡ a + suc i = omega arith in ap f q ∙ h (suc i) (omega arith))))
 
 module _ (c : Case) (A : Accepted c) where
-  numbers-are : chosenNumbers (problemOf c) ≡ from (firstChosen (c .question)) (length (c .question .chosen))
+  -- their numbers follow all others
+  pub numbers-are : chosenNumbers (problemOf c) ≡ from (firstChosen (c .question)) (length (c .question .chosen))
   unfolding chosenNumbers below
   numbers-are =
       let f : ℕ → Bool = λ r. isChosen (relationAt (problemOf c) r .kind) in

@@ -16,14 +16,15 @@ use Rattle.definitions.specs.Lists.{if_then_else_, any, filter, option, positio
 use Rattle.definitions.specs.Relations.{Tuple}
 use Rattle.definitions.specs.Tree.{Tree, Trees, leaf, forallNode, existsNode, andNode, orNode, end, _then_, nodes, Part, partsFrom, parts, howMany, isForall}
 use Rattle.definitions.specs.Atoms.{Problem, nodeAt, rowsOf, nodeWidth, Atom, guess, proof, goal, tuple, notTuple, freeDomain, freeRange, holdsNode, atomNumber, State}
-use Rattle.definitions.specs.Actions.{Action, proveAnd, proveOr, proveExists, proveForall, choices, proveNode, Values, withValue, valuesAt, adds, removes}
+use Rattle.definitions.specs.Actions.{Action, proveAnd, proveOr, proveExists, proveForall, choices, proveNode, withValue, valuesAt, adds, removes}
 use Rattle.definitions.specs.Strips.{mayTake, after}
-use Rattle.definitions.specs.Built.{treeHolds, someHolds, isTrueAt, least, stepFor, trueRows, nodeSteps}
+use Rattle.definitions.specs.Built.{treeHolds, isTrueAt, least, stepFor, trueRows, nodeSteps}
 use Rattle.laws.specs.Booleans.{and-T, T-and-l, T-and-r, T-or, or-l, or-r, T-of, T-true, T-ext, lt-split}
 use Rattle.laws.specs.Lists.{length-below, getD-below}
 use Rattle.laws.specs.Positions.{place, position-place, place-lt, least-place, least-below, position-none}
 use Rattle.laws.specs.Numbers.{IsAtom, IsAction, noNode}
 use Rattle.reduction.specs.Means.{Good, means}
+use Rattle.reduction.specs.Does.{some-any}
 use Rattle.states.specs.Changes.{sort, whose, which, sameAtom, after-at, stays}
 use Rattle.states.specs.Deciding.{isProofAtom, Decided, says, Knows, and-may, or-may, exists-may, forall-may}
 
@@ -114,11 +115,6 @@ length-parts end w = refl
 length-parts (t then ts) w = ap suc (length-parts ts (w + length (nodes t)))
 
 module _ (p : Problem) (G : Good p) (F : List Tuple) where
-  some-parts : (ts : Trees) (w : ℕ) (e : Values) → someHolds (p .source) F e ts ≡ any (λ (q : Part). treeHolds (p .source) F e (q .tree)) (partsFrom w ts)
-  unfolding someHolds any partsFrom
-  some-parts end w e = refl
-  some-parts (t then ts) w e = ap (λ (b : Bool). treeHolds (p .source) F e t || b) (some-parts ts (w + length (nodes t)) e)
-
   abbrev noPart : Part
   noPart = record { node = zero; tree = noNode }
 
@@ -161,7 +157,7 @@ module _ (p : Problem) (G : Good p) (F : List Tuple) where
         ∙ position-same (λ i. mayTake p s (proveOr v j (zero + i))) g ps noPart 0 (λ i k. ap (λ (m : ℕ). mayTake p s (proveOr v j m)) (zero-add (0 + i) ∙ zero-add i) ∙ or-may p G F D s K v l later j i ts noPart e h (subst (λ (m : ℕ). i < m) n k)))
         (fun-ext (λ x. ap (proveOr v j) (zero-add x)))
         ∙ first-is g ps (proveOr v j)
-        ∙ ap (λ (b : Bool). when b (proveOr v j (least g ps))) (sym (some-parts ts (suc v) (valuesAt (p .size) (orNode ts) j)))
+        ∙ ap (λ (b : Bool). when b (proveOr v j (least g ps))) (sym (some-any p F ts (suc v) (valuesAt (p .size) (orNode ts) j)))
 
     pub step-now : (t : Tree) → nodeAt p v ≡ t → (j : ℕ) → j < nodeWidth (p .size) t → ((i : ℕ) → i < j → D v i ≡ true) → stepNow p s v t j ≡ when (isTrueAt p F t j) (stepFor p F v t j)
     unfolding stepNow isTrueAt when tries isForall choices position below from option
@@ -182,7 +178,7 @@ module _ (p : Problem) (G : Good p) (F : List Tuple) where
   step-is v (andNode ts) l e j h t = (l, subst (λ (x : Tree). j < rowsOf (p .size) x) (sym e) h, (ts, e))
   step-is v (orNode ts) l e j h t =
       let g : Part → Bool = λ (q : Part). treeHolds (p .source) F (valuesAt (p .size) (orNode ts) j) (q .tree) in
-      let a : T (any g (partsFrom (suc v) ts)) = subst T (some-parts ts (suc v) (valuesAt (p .size) (orNode ts) j)) t in
+      let a : T (any g (partsFrom (suc v) ts)) = subst T (some-any p F ts (suc v) (valuesAt (p .size) (orNode ts) j)) t in
       let k : place g (partsFrom (suc v) ts) < howMany ts = subst (λ (n : ℕ). place g (partsFrom (suc v) ts) < n) (length-parts ts (suc v)) (place-lt g (partsFrom (suc v) ts) a) in
       (l, subst (λ (x : Tree). j < rowsOf (p .size) x) (sym e) h, (ts, e, subst (λ (n : ℕ). n < howMany ts) (sym (least-place g (partsFrom (suc v) ts) a)) k))
 

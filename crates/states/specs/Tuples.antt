@@ -22,7 +22,7 @@ use Rattle.laws.specs.Booleans.{and-T, T-and-l, T-and-r, T-ext, T-false}
 use Rattle.laws.specs.Tuples.{sameTuple-eq, sameTuple-refl}
 use Rattle.laws.specs.Numbers.{IsAtom, IsAction, action-is}
 use Rattle.reduction.specs.Means.{Good}
-use Rattle.reduction.specs.Sound.{holds-empty, tupleAt, same-row, initial-at}
+use Rattle.reduction.specs.Sound.{picks-cons, holds-empty, tupleAt, same-row, initial-at}
 use Rattle.states.specs.Changes.{sort, whose, which, sameAtom, after-at, free-sort, any-append, stays}
 
 -- all steps were taken, whether the goal holds or not
@@ -58,10 +58,6 @@ module _ (p : Problem) (G : Good p) where
   picks-nil : picksOf p [] ≡ []
   unfolding picksOf flatMap
   picks-nil = refl
-
-  picks-cons : (k : ℕ) (ks : List ℕ) (a : Action) → actionAt p k ≡ some a → picksOf p (k ∷ ks) ≡ pickOf p a ++ picksOf p ks
-  unfolding picksOf flatMap option
-  picks-cons k ks a e = rw e refl
 
   -- two rows are the same tuple only if they are the same
   pub same-tuple : (r row r′ row′ : ℕ) → row < tuplesOf (p .size) (relationAt p r) → row′ < tuplesOf (p .size) (relationAt p r′)
@@ -118,7 +114,7 @@ module _ (p : Problem) (G : Good p) where
         ∙ tuples-run ks (after p s a) (suc i) (subst (λ (q : Run). T (areTaken (q .answer))) (f .runs) t)
         ∙ ap (λ (b : Bool). b || isPicked p (picksOf p ks) r row) (tuple-step s a v)
         ∙ or-assoc (s (atomNumber p (tuple r row))) (isPicked p (pickOf p a) r row) (isPicked p (picksOf p ks) r row)
-        ∙ ap (λ (b : Bool). s (atomNumber p (tuple r row)) || b) (sym (ap (λ (P : List Tuple). isPicked p P r row) (picks-cons k ks a (f .at)) ∙ picked-append (pickOf p a) (picksOf p ks)))
+        ∙ ap (λ (b : Bool). s (atomNumber p (tuple r row)) || b) (sym (ap (λ (P : List Tuple). isPicked p P r row) (picks-cons p G k ks a (f .at)) ∙ picked-append (pickOf p a) (picksOf p ks)))
 
     -- none of a `choose` holds at first
     not-at-first : T (isChosen (relationAt p r .kind)) → initial p (atomNumber p (tuple r row)) ≡ false

@@ -3,7 +3,7 @@ use Prim.Native.Nat.{ℕ, zero, suc, _+_, _-_, _≤_, _<_}
 use native.Mathlib.Numerals.{add-one}
 use native.Mathlib.Omega.{arith}
 use mathlib.Core.Path.{_≡_, refl, sym, ap, subst, _∙_}
-use mathlib.Core.Bool.{Bool, true, false, not, _&&_, _||_}
+use mathlib.Core.Bool.{Bool, false, not, _&&_, _||_, or-false, or-assoc}
 use mathlib.Core.List.{List, [], _∷_, _++_}
 use lib.ListN.{length, getD, take, drop, set, length-take, length-set, length-replicate, replicate, drop-of-length-le}
 use lib.Seq.{sets, slice, slice-cons, slice-empty, length-slice, drop-cons, getD-take, take-take, take-suc-set, length-take-le}
@@ -83,10 +83,6 @@ module _ (stack parts₀ : List PartRow) (height placed₀ base : ℕ) where
       none (suc (suc (suc (suc (suc l))))) = refl
 
   module _ (parts : List PartRow) (placed : ℕ) (marks : List Bool) (j : ℕ) (n : Inner stack parts₀ height placed₀ base parts placed marks j) where
-    or-assoc : (a b c : Bool) → (a || (b || c)) ≡ ((a || b) || c)
-    or-assoc true b c = refl
-    or-assoc false b c = refl
-
     pub inner-again : (p : PartRow) (more : List Bool) → j < height → height ≤ length stack → p ≡ getD stack j noPart → ((l : ℕ) → l < 4 → getD more l false ≡ (getD marks l false || hasLevel l p)) → Inner stack parts₀ height placed₀ base (set parts placed p) (placed + 1) more (j + 1)
     unfolding any
     inner-again p more h k e f = record {
@@ -94,7 +90,7 @@ module _ (stack parts₀ : List PartRow) (height placed₀ base : ℕ) where
       high = omega arith;
       count = omega (arith, n .count);
       moved = n .moved ∙ ap (λ (l : List PartRow). sets parts placed l) first ∙ rw (add-one placed);
-      marked = λ l q. n .marked l q ∙ ap (λ (x : List PartRow). getD marks l false || any (hasLevel l) x) first ∙ or-assoc (getD marks l false) (hasLevel l p) (any (hasLevel l) (slice (j + 1) height stack)) ∙ ap (λ (b : Bool). b || any (hasLevel l) (slice (j + 1) height stack)) (sym (f l q));
+      marked = λ l q. n .marked l q ∙ ap (λ (x : List PartRow). getD marks l false || any (hasLevel l) x) first ∙ sym (or-assoc (getD marks l false) (hasLevel l p) (any (hasLevel l) (slice (j + 1) height stack))) ∙ ap (λ (b : Bool). b || any (hasLevel l) (slice (j + 1) height stack)) (sym (f l q));
       parts-length = length-set parts placed p ∙ n .parts-length;
     }
       where
@@ -110,11 +106,7 @@ module _ (stack parts₀ : List PartRow) (height placed₀ base : ℕ) where
 
       inner-marks : (l : ℕ) → l < 4 → any (hasLevel l) (slice base height stack) ≡ getD marks l false
       unfolding any
-      inner-marks l h = n .marked l h ∙ ap (λ (x : List PartRow). getD marks l false || any (hasLevel l) x) none-left ∙ or-none (getD marks l false)
-        where
-          or-none : (b : Bool) → (b || false) ≡ b
-          or-none true = refl
-          or-none false = refl
+      inner-marks l h = n .marked l h ∙ ap (λ (x : List PartRow). getD marks l false || any (hasLevel l) x) none-left ∙ or-false (getD marks l false)
 
       -- the free levels of the node of a row
       inner-free : (row : Row) → levelsOf (filter (λ l. not (isOwn row l) && getD marks l false) (below 4)) ≡ levelsOf (freeWith row (slice base height stack))

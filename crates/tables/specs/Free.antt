@@ -4,7 +4,7 @@ use native.Mathlib.Nat.{le-of-suc-le-suc, not-suc-le-zero}
 use native.Mathlib.Decide.{decLt}
 use native.Mathlib.Omega.{arith}
 use mathlib.Core.Path.{_≡_, refl, sym, ap, _∙_}
-use mathlib.Core.Bool.{Bool, true, false, not, _&&_, _||_}
+use mathlib.Core.Bool.{Bool, true, false, not, _&&_, _||_, or-false}
 use mathlib.Core.List.{List, [], _∷_, _++_}
 use lib.ListN.{length, getD, take, set}
 use lib.Dec.{eqb, ltb}
@@ -131,15 +131,11 @@ module _ (rels l : ℕ) (h : l < 4) where
   has-heads v end s = refl
   has-heads v (t then ts) s = rw (has-part v t (s .0), has-heads (v + length (nodes t)) ts (s .1))
 
-or-none : (b : Bool) → (b || false) ≡ b
-or-none true = refl
-or-none false = refl
-
 -- a quantifier's, and those of a node with several parts
 module _ (rels v : ℕ) where
   one-part : (k : ℕ) (d : ℕ) (t : Tree) → ltb k 2 ≡ true → Small rels t → (l : ℕ) → l < 4 → (not (isOwn (quantRow k v d) l) && any (hasLevel l) (partOf (suc v) t ∷ [])) ≡ (not (eqb l d) && occurs l t)
   unfolding pad any
-  one-part k d t e s l h = rw e (ap (λ (b : Bool). not (eqb l d) && b) (or-none (hasLevel l (partOf (suc v) t)) ∙ has-part rels l h (suc v) t s))
+  one-part k d t e s l h = rw e (ap (λ (b : Bool). not (eqb l d) && b) (or-false (hasLevel l (partOf (suc v) t)) ∙ has-part rels l h (suc v) t s))
 
   pub free-forall : (d : ℕ) (t : Tree) → Small rels t → freeWith (quantRow 0 v d) (partOf (suc v) t ∷ []) ≡ free (forallNode d t)
   unfolding freeWith free below occurs

@@ -1,7 +1,7 @@
 -- Laws of spans and of `split`: a scan a byte at a time, the pieces of a span by the place of its first separator, equal spans.
 use Prim.Native.Nat.{ℕ, zero, suc, _+_, _-_, _≤_, _<_}
 use mathlib.Core.Path.{_≡_, refl, sym, ap, ap₂, _∙_}
-use mathlib.Core.Bool.{Bool, true, false, _&&_}
+use mathlib.Core.Bool.{Bool, true, false, and-false}
 use mathlib.Core.List.{List, [], _∷_, _++_}
 use native.Mathlib.Numerals.{add-one}
 use native.Mathlib.Nat.{zero-add, suc-add}
@@ -168,10 +168,6 @@ same-miss x y i h k q = rw (drop-next x i h, drop-next y i k) (simp (ne-eqb (get
 pub same-end : (x y : List ℕ) (i : ℕ) → length x ≤ i → length y ≤ i → same (drop i x) (drop i y) ≡ true
 unfolding same
 same-end x y i h k = rw (drop-of-length-le x h, drop-of-length-le y k)
-
-pub and-false : (u : Bool) → (u && false) ≡ false
-and-false true = refl
-and-false false = refl
 
 pub same-length : (x y : List ℕ) → (length x ≡ length y → ⊥) → same x y ≡ false
 unfolding same

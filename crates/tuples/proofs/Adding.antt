@@ -13,6 +13,7 @@ use Rattle.definitions.specs.Refusal.{refused, accepted, _>>=_, refuseIf, given
 use Rattle.definitions.specs.Relations.{Relation, Tuple, isAmong}
 use Rattle.definitions.specs.Atoms.{wordsFor}
 use Rattle.definitions.specs.Sheets as D
+use Rattle.definitions.specs.Writing.{and-r}
 use Rattle.bits.specs.Table.{bit, put}
 use Rattle.text.specs.Spans.{placeOf}
 use Rattle.text.specs.declared.Found.{Found}
@@ -57,11 +58,7 @@ used-is rs first lo name k o e = rw (← e) (go (position (λ (r : Relation). sa
 
 match-arity : (q : List ℕ) (g : Signature) (name : List ℕ) (k i : ℕ) → matches name false k (relationIn q g i) ≡ true → getD (g .arity) i 0 ≡ k
 unfolding matches relationIn
-match-arity q g name k i p = eqb-true (getD (g .arity) i 0) k (second (same (relationIn q g i .name) name) (eqb (getD (g .arity) i 0) k) p)
-  where
-    second : (a b : Bool) → (a && b) ≡ true → b ≡ true
-    second true b p = p
-    second false b p = let z : _≡_ {A = ℕ} 0 1 = cc in absurd (omega arith)
+match-arity q g name k i p = eqb-true (getD (g .arity) i 0) k (and-r (same (relationIn q g i .name) name) (eqb (getD (g .arity) i 0) k) p)
 
 -- ---- the bit
 

@@ -1,7 +1,7 @@
 -- Tuples as bits: no two tuples share one, so a tuple's bit says whether it is among the tuples marked, and marking one more sets its bit.
 use Prim.Native.Nat.{ℕ, zero, suc, _+_, _-_, _*_, _^_, _≤_, _<_}
 use mathlib.Core.Path.{_≡_, refl, sym, ap, ap₂, subst, _∙_, fun-ext}
-use mathlib.Core.Bool.{Bool, true, false, cond, _||_}
+use mathlib.Core.Bool.{Bool, true, false, cond, _||_, or-false}
 use mathlib.Core.List.{List, [], _∷_, _++_}
 use native.Mathlib.Decide.{ℕ-discrete, decLt}
 use native.Mathlib.Omega.{arith}
@@ -96,10 +96,6 @@ module _ (g : Signature) (n lo m : ℕ) where
   valid-snoc (u ∷ us) t w v = (w .0, valid-snoc us t (w .1) v)
 
 -- ---- marking one more
-
-or-false : (b : Bool) → (b || false) ≡ b
-or-false true = refl
-or-false false = refl
 
 or-true : (b : Bool) → (b || true) ≡ true
 or-true true = refl

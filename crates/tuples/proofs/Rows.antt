@@ -1,7 +1,7 @@
 -- Rows of elements, one place at a time and for any number of places; the powers of at most 16 elements.
 use Prim.Native.Nat.{ℕ, suc, _+_, _-_, _*_, _^_, _≤_, _<_}
 use mathlib.Core.Path.{_≡_, refl, sym, ap₂, subst, _∙_}
-use mathlib.Core.Bool.{Bool, true, false, _&&_}
+use mathlib.Core.Bool.{true, _&&_, and-true, and-false, and-assoc}
 use mathlib.Core.List.{List, [], _∷_, _++_}
 use native.Mathlib.Nat.{pow-suc, pow-zero, pow-le-pow-left, pow-le-pow-right, le-trans, mul-le-mul, mul-one, mul-assoc, add-mul}
 use native.Mathlib.Decide.{decLt}
@@ -49,20 +49,8 @@ row-snoc n (y ∷ xs) x =
 
 below-snoc : (n : ℕ) (xs : List ℕ) (x : ℕ) → areBelow n (xs ++ (x ∷ [])) ≡ (areBelow n xs && ltb x n)
 unfolding areBelow all
-below-snoc n [] x = go (ltb x n)
-  where
-    go : (b : Bool) → (b && true) ≡ b
-    go true = refl
-    go false = refl
-below-snoc n (y ∷ xs) x = rw (below-snoc n xs x) (go (ltb y n) (areBelow n xs) (ltb x n))
-  where
-    go : (a b c : Bool) → (a && (b && c)) ≡ ((a && b) && c)
-    go true b c = refl
-    go false b c = refl
-
-and-false : (b : Bool) → (b && false) ≡ false
-and-false true = refl
-and-false false = refl
+below-snoc n [] x = and-true (ltb x n)
+below-snoc n (y ∷ xs) x = rw (below-snoc n xs x) (sym (and-assoc (ltb y n) (areBelow n xs) (ltb x n)))
 
 module _ (n : ℕ) (f : Found) (x : ℕ) (xs : List ℕ) (w : InRow n xs f) where
   pub more-outside : f ≡ Nowhere → InRow n (xs ++ (x ∷ [])) Nowhere

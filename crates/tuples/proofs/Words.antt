@@ -17,7 +17,7 @@ use Rattle.definitions.specs.Outcome.{relationWords, picksLength, pickWords}
 use Rattle.bits.specs.Table.{word, words}
 use Rattle.bits.proofs.Laws.{length-words, words-fit, bit-words, is-words}
 use Rattle.laws.specs.Booleans.{T-true}
-use Rattle.laws.specs.Lists.{flat-append}
+use Rattle.laws.specs.Lists.{from-snoc, flat-append}
 use Rattle.laws.specs.Rows as R
 use Rattle.laws.specs.Words.{words-are}
 use Rattle.names.specs.declared.Signature.{Signature}
@@ -113,11 +113,6 @@ words-append p (suc a) b =
     let z : suc a + b ≡ suc (a + b) = omega arith in
     rw z (ap (λ (ws : List ℕ). word p 64 ∷ ws) (words-append (λ i. p (64 + i)) a b
     ∙ ap (λ (ws : List ℕ). words (λ i. p (64 + i)) a ++ ws) (words-same (λ i. p (64 + (64 * a + i))) (λ i. p (64 * suc a + i)) b (λ i h. let y : 64 + (64 * a + i) ≡ 64 * suc a + i = omega arith in ap p y))))
-
-from-snoc : (a n : ℕ) → from a (suc n) ≡ from a n ++ ((a + n) ∷ [])
-unfolding from
-from-snoc a zero = let z : a ≡ a + 0 = omega arith in ap (λ (x : ℕ). x ∷ []) z
-from-snoc a (suc n) = let z : suc a + n ≡ a + suc n = omega arith in ap (λ (xs : List ℕ). a ∷ xs) (from-snoc (suc a) n ∙ ap (λ (x : ℕ). from (suc a) n ++ (x ∷ [])) z)
 
 -- the tuples of the m relations from lo on, relation by relation
 module _ (g : Signature) (n lo m : ℕ) (h : 0 < n) (ts : List Tuple) (w : AllValid g n lo m ts) where

@@ -7,14 +7,11 @@ use borrow.Author.Needs.{needs}
 use Rattle.ground.specs.Lines.{sizeIn, nodesIn}
 use Rattle.ground.specs.NeedLaws.{fits-of, node-small}
 use Rattle.ground.specs.declared.Act.the-variants.{Set, And, Or, Exists, Forall}
-use Rattle.decode.specs.Found.{number-of, number-set, number-begin, number-and, number-or, number-exists, number-forall, number-goal, number-nothing, row-times, acts-small, sets-small}
+use Rattle.rows.specs.Laws.{times-most}
+use Rattle.decode.specs.Found.{number-of, number-set, number-begin, number-and, number-or, number-exists, number-forall, number-goal, number-nothing, acts-small, sets-small}
 use borrow.Author.Needs.{needs}
 use Rattle.decode.proofs.number_of.Statement.{statement}
 use Rattle.decode.proofs.number_of.Tie as tie
-use Rattle.decode.proofs.number_of.Reads as reads
-use Rattle.decode.proofs.number_of.Lts as lts
-use Rattle.ground.proofs.node_line.Reads as node-line-reads
-use Rattle.ground.proofs.relation_line.Reads as relation-line-reads
 
 shared-slice-read-n : tie.Need-shared-slice-read-n
 shared-slice-read-n c = search needs
@@ -88,21 +85,21 @@ mul-result-3 c =
     let f = fits-of (c .before .before .before .before .before .before .before .before .before .before .args .table .now) (c .before .before .before .before .before .before .before .before .before .before .args .a) (Or (c .before .before .before .before .a3 .given .0 .0)) (c .before .before .before .before .a3 .given .1) (c .before .before .before .before .before .before .before .before .before .before .pre .1) in
     let q = node-small (c .before .before .before .before .before .before .before .before .before .before .args .table .now) (c .before .before .before .before .before .before .before .before .before .before .pre .0) (c .before .before .before .before .a3 .given .0 .0 .node) (c .before .before .node-line2 .result) (c .before .before .node-line2 .ensures) (f .0) in
     let b = q .0 .parts in
-    omega (arith, row-times (c .before .before .before .before .a3 .given .0 .0 .row) (c .before .before .node-line2 .result .many) (f .1) (omega arith))
+    omega (arith, times-most (c .before .before .before .before .a3 .given .0 .0 .row) (c .before .before .node-line2 .result .many) (f .1) (omega arith))
 
 add-result-4 : tie.Need-add-result-4
 add-result-4 c =
     let f = fits-of (c .before .before .before .before .before .before .before .before .before .before .before .args .table .now) (c .before .before .before .before .before .before .before .before .before .before .before .args .a) (Or (c .before .before .before .before .before .a3 .given .0 .0)) (c .before .before .before .before .before .a3 .given .1) (c .before .before .before .before .before .before .before .before .before .before .before .pre .1) in
     let q = node-small (c .before .before .before .before .before .before .before .before .before .before .before .args .table .now) (c .before .before .before .before .before .before .before .before .before .before .before .pre .0) (c .before .before .before .before .before .a3 .given .0 .0 .node) (c .before .before .before .node-line2 .result) (c .before .before .before .node-line2 .ensures) (f .0) in
     let b = q .0 .parts in
-    omega (arith, row-times (c .before .before .before .before .before .a3 .given .0 .0 .row) (c .before .before .before .node-line2 .result .many) (f .1) (omega arith), subst (λ (y : NodeLine). c .before .before .before .before .before .a3 .given .0 .0 .choice < y .many) (sym (c .before .before .before .node-line2 .ensures)) (f .2))
+    omega (arith, times-most (c .before .before .before .before .before .a3 .given .0 .0 .row) (c .before .before .before .node-line2 .result .many) (f .1) (omega arith), subst (λ (y : NodeLine). c .before .before .before .before .before .a3 .given .0 .0 .choice < y .many) (sym (c .before .before .before .node-line2 .ensures)) (f .2))
 
 add-result-5 : tie.Need-add-result-5
 add-result-5 c =
     let f = fits-of (c .before .before .before .before .before .before .before .before .before .before .before .before .args .table .now) (c .before .before .before .before .before .before .before .before .before .before .before .before .args .a) (Or (c .before .before .before .before .before .before .a3 .given .0 .0)) (c .before .before .before .before .before .before .a3 .given .1) (c .before .before .before .before .before .before .before .before .before .before .before .before .pre .1) in
     let q = node-small (c .before .before .before .before .before .before .before .before .before .before .before .before .args .table .now) (c .before .before .before .before .before .before .before .before .before .before .before .before .pre .0) (c .before .before .before .before .before .before .a3 .given .0 .0 .node) (c .before .before .before .before .node-line2 .result) (c .before .before .before .before .node-line2 .ensures) (f .0) in
     let b = q .0 .parts in
-    omega (arith, row-times (c .before .before .before .before .before .before .a3 .given .0 .0 .row) (c .before .before .before .before .node-line2 .result .many) (f .1) (omega arith), subst (λ (y : NodeLine). c .before .before .before .before .before .before .a3 .given .0 .0 .choice < y .many) (sym (c .before .before .before .before .node-line2 .ensures)) (f .2), acts-small (c .before .before .before .before .before .before .before .before .before .before .before .before .args .table .now) (c .before .before .before .before .before .before .a3 .given .0 .0 .node) (c .before .before .before .before .node-line2 .result) (c .before .before .before .before .before .before .before .before .before .before .before .before .pre .0) (c .before .before .before .before .node-line2 .ensures))
+    omega (arith, times-most (c .before .before .before .before .before .before .a3 .given .0 .0 .row) (c .before .before .before .before .node-line2 .result .many) (f .1) (omega arith), subst (λ (y : NodeLine). c .before .before .before .before .before .before .a3 .given .0 .0 .choice < y .many) (sym (c .before .before .before .before .node-line2 .ensures)) (f .2), acts-small (c .before .before .before .before .before .before .before .before .before .before .before .before .args .table .now) (c .before .before .before .before .before .before .a3 .given .0 .0 .node) (c .before .before .before .before .node-line2 .result) (c .before .before .before .before .before .before .before .before .before .before .before .before .pre .0) (c .before .before .before .before .node-line2 .ensures))
 
 returns-4 : tie.Need-returns-4
 returns-4 c = number-of (c .before .before .before .before .before .before .before .before .before .before .before .before .args .table .now) (c .before .before .before .before .before .before .before .before .before .before .before .before .args .a) _ (number-or (c .before .before .before .before .before .before .before .before .before .before .before .before .args .table .now) (c .before .before .before .before .before .before .before .before .before .before .before .before .args .a) (c .before .before .before .before .before .before .a3 .given .0 .0) (c .before .before .before .before .node-line2 .result) (c .before .before .before .before .before .before .a3 .given .1) (c .before .before .before .before .node-line2 .ensures))
@@ -118,17 +115,17 @@ node-line-requires-3 c κs =
 mul-result-4 : tie.Need-mul-result-4
 mul-result-4 c =
     let f = fits-of (c .before .before .before .before .before .before .before .before .before .args .table .now) (c .before .before .before .before .before .before .before .before .before .args .a) (Exists (c .before .before .before .a4 .given .0 .0)) (c .before .before .before .a4 .given .1) (c .before .before .before .before .before .before .before .before .before .pre .1) in
-    omega (arith, row-times (c .before .before .before .a4 .given .0 .0 .row) (sizeIn (c .before .before .before .before .before .before .before .before .before .args .table .now)) (f .1) (c .before .before .before .before .before .before .before .before .before .pre .0 .size))
+    omega (arith, times-most (c .before .before .before .a4 .given .0 .0 .row) (sizeIn (c .before .before .before .before .before .before .before .before .before .args .table .now)) (f .1) (c .before .before .before .before .before .before .before .before .before .pre .0 .size))
 
 add-result-6 : tie.Need-add-result-6
 add-result-6 c =
     let f = fits-of (c .before .before .before .before .before .before .before .before .before .before .args .table .now) (c .before .before .before .before .before .before .before .before .before .before .args .a) (Exists (c .before .before .before .before .a4 .given .0 .0)) (c .before .before .before .before .a4 .given .1) (c .before .before .before .before .before .before .before .before .before .before .pre .1) in
-    omega (arith, row-times (c .before .before .before .before .a4 .given .0 .0 .row) (sizeIn (c .before .before .before .before .before .before .before .before .before .before .args .table .now)) (f .1) (c .before .before .before .before .before .before .before .before .before .before .pre .0 .size), f .2, c .before .before .before .before .before .before .before .before .before .before .pre .0 .size)
+    omega (arith, times-most (c .before .before .before .before .a4 .given .0 .0 .row) (sizeIn (c .before .before .before .before .before .before .before .before .before .before .args .table .now)) (f .1) (c .before .before .before .before .before .before .before .before .before .before .pre .0 .size), f .2, c .before .before .before .before .before .before .before .before .before .before .pre .0 .size)
 
 add-result-7 : tie.Need-add-result-7
 add-result-7 c =
     let f = fits-of (c .before .before .before .before .before .before .before .before .before .before .before .args .table .now) (c .before .before .before .before .before .before .before .before .before .before .before .args .a) (Exists (c .before .before .before .before .before .a4 .given .0 .0)) (c .before .before .before .before .before .a4 .given .1) (c .before .before .before .before .before .before .before .before .before .before .before .pre .1) in
-    omega (arith, row-times (c .before .before .before .before .before .a4 .given .0 .0 .row) (sizeIn (c .before .before .before .before .before .before .before .before .before .before .before .args .table .now)) (f .1) (c .before .before .before .before .before .before .before .before .before .before .before .pre .0 .size), f .2, c .before .before .before .before .before .before .before .before .before .before .before .pre .0 .size, acts-small (c .before .before .before .before .before .before .before .before .before .before .before .args .table .now) (c .before .before .before .before .before .a4 .given .0 .0 .node) (c .before .before .before .node-line3 .result) (c .before .before .before .before .before .before .before .before .before .before .before .pre .0) (c .before .before .before .node-line3 .ensures))
+    omega (arith, times-most (c .before .before .before .before .before .a4 .given .0 .0 .row) (sizeIn (c .before .before .before .before .before .before .before .before .before .before .before .args .table .now)) (f .1) (c .before .before .before .before .before .before .before .before .before .before .before .pre .0 .size), f .2, c .before .before .before .before .before .before .before .before .before .before .before .pre .0 .size, acts-small (c .before .before .before .before .before .before .before .before .before .before .before .args .table .now) (c .before .before .before .before .before .a4 .given .0 .0 .node) (c .before .before .before .node-line3 .result) (c .before .before .before .before .before .before .before .before .before .before .before .pre .0) (c .before .before .before .node-line3 .ensures))
 
 returns-5 : tie.Need-returns-5
 returns-5 c = number-of (c .before .before .before .before .before .before .before .before .before .before .before .args .table .now) (c .before .before .before .before .before .before .before .before .before .before .before .args .a) _ (number-exists (c .before .before .before .before .before .before .before .before .before .before .before .args .table .now) (c .before .before .before .before .before .before .before .before .before .before .before .args .a) (c .before .before .before .before .before .a4 .given .0 .0) (c .before .before .before .node-line3 .result) (c .before .before .before .before .before .a4 .given .1) (c .before .before .before .node-line3 .ensures))
@@ -144,17 +141,17 @@ node-line-requires-4 c κs =
 mul-result-5 : tie.Need-mul-result-5
 mul-result-5 c =
     let f = fits-of (c .before .before .before .before .before .before .before .before .before .args .table .now) (c .before .before .before .before .before .before .before .before .before .args .a) (Forall (c .before .before .before .a5 .given .0 .0)) (c .before .before .before .a5 .given .1) (c .before .before .before .before .before .before .before .before .before .pre .1) in
-    omega (arith, row-times (c .before .before .before .a5 .given .0 .0 .row) (sizeIn (c .before .before .before .before .before .before .before .before .before .args .table .now)) (f .1) (c .before .before .before .before .before .before .before .before .before .pre .0 .size))
+    omega (arith, times-most (c .before .before .before .a5 .given .0 .0 .row) (sizeIn (c .before .before .before .before .before .before .before .before .before .args .table .now)) (f .1) (c .before .before .before .before .before .before .before .before .before .pre .0 .size))
 
 add-result-8 : tie.Need-add-result-8
 add-result-8 c =
     let f = fits-of (c .before .before .before .before .before .before .before .before .before .before .args .table .now) (c .before .before .before .before .before .before .before .before .before .before .args .a) (Forall (c .before .before .before .before .a5 .given .0 .0)) (c .before .before .before .before .a5 .given .1) (c .before .before .before .before .before .before .before .before .before .before .pre .1) in
-    omega (arith, row-times (c .before .before .before .before .a5 .given .0 .0 .row) (sizeIn (c .before .before .before .before .before .before .before .before .before .before .args .table .now)) (f .1) (c .before .before .before .before .before .before .before .before .before .before .pre .0 .size), f .2, c .before .before .before .before .before .before .before .before .before .before .pre .0 .size)
+    omega (arith, times-most (c .before .before .before .before .a5 .given .0 .0 .row) (sizeIn (c .before .before .before .before .before .before .before .before .before .before .args .table .now)) (f .1) (c .before .before .before .before .before .before .before .before .before .before .pre .0 .size), f .2, c .before .before .before .before .before .before .before .before .before .before .pre .0 .size)
 
 add-result-9 : tie.Need-add-result-9
 add-result-9 c =
     let f = fits-of (c .before .before .before .before .before .before .before .before .before .before .before .args .table .now) (c .before .before .before .before .before .before .before .before .before .before .before .args .a) (Forall (c .before .before .before .before .before .a5 .given .0 .0)) (c .before .before .before .before .before .a5 .given .1) (c .before .before .before .before .before .before .before .before .before .before .before .pre .1) in
-    omega (arith, row-times (c .before .before .before .before .before .a5 .given .0 .0 .row) (sizeIn (c .before .before .before .before .before .before .before .before .before .before .before .args .table .now)) (f .1) (c .before .before .before .before .before .before .before .before .before .before .before .pre .0 .size), f .2, c .before .before .before .before .before .before .before .before .before .before .before .pre .0 .size, acts-small (c .before .before .before .before .before .before .before .before .before .before .before .args .table .now) (c .before .before .before .before .before .a5 .given .0 .0 .node) (c .before .before .before .node-line4 .result) (c .before .before .before .before .before .before .before .before .before .before .before .pre .0) (c .before .before .before .node-line4 .ensures))
+    omega (arith, times-most (c .before .before .before .before .before .a5 .given .0 .0 .row) (sizeIn (c .before .before .before .before .before .before .before .before .before .before .before .args .table .now)) (f .1) (c .before .before .before .before .before .before .before .before .before .before .before .pre .0 .size), f .2, c .before .before .before .before .before .before .before .before .before .before .before .pre .0 .size, acts-small (c .before .before .before .before .before .before .before .before .before .before .before .args .table .now) (c .before .before .before .before .before .a5 .given .0 .0 .node) (c .before .before .before .node-line4 .result) (c .before .before .before .before .before .before .before .before .before .before .before .pre .0) (c .before .before .before .node-line4 .ensures))
 
 returns-6 : tie.Need-returns-6
 returns-6 c = number-of (c .before .before .before .before .before .before .before .before .before .before .before .args .table .now) (c .before .before .before .before .before .before .before .before .before .before .before .args .a) _ (number-forall (c .before .before .before .before .before .before .before .before .before .before .before .args .table .now) (c .before .before .before .before .before .before .before .before .before .before .before .args .a) (c .before .before .before .before .before .a5 .given .0 .0) (c .before .before .before .node-line4 .result) (c .before .before .before .before .before .a5 .given .1) (c .before .before .before .node-line4 .ensures))
