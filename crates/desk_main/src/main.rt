@@ -3,7 +3,7 @@
 fn main() {
     let mut input = [0u8; 16385];
     let count = io::read_full(0, &mut input);
-    let mut out = [0u8; replying::ROOM];
-    let length = replying::reply(&input[..count], &mut out);
+    let mut out = [0u8; desk::ROOM];
+    let length = desk::reply(&input[..count], &mut out);
     io::write_all(1, &out[..length]);
 }

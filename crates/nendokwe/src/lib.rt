@@ -294,9 +294,9 @@ pub extern "C" fn nendokwe_build(
 
 // What the desk program prints for an input, and how many bytes that is. As many are lent as it can print at the most: 573,952.
 #[no_mangle]
-pub extern "C" fn nendokwe_desk(input: &[u8], out: &mut [u8; replying::ROOM]) -> usize
+pub extern "C" fn nendokwe_desk(input: &[u8], out: &mut [u8; desk::ROOM]) -> usize
     ensures { λ r. ⌜ r ≡ length (desk (now (input .entry))) ⌝ }
     ensures { λ r. ⌜ now (out .exit) ≡ written (desk (now (input .entry))) (now (out .entry)) ⌝ }
 {
-    replying::reply(input, out)
+    desk::reply(input, out)
 }

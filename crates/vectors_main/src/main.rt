@@ -23,8 +23,8 @@ fn length_in(head: [u8; 11]) -> usize {
 
 // Writes an input's name and reply.
 fn write_reply(name: &[u8], input: &[u8]) {
-    let mut out = [0u8; replying::ROOM];
-    let length = replying::reply(input, &mut out);
+    let mut out = [0u8; desk::ROOM];
+    let length = desk::reply(input, &mut out);
     io::write_all(1, name);
     io::write_all(1, b"\n");
     io::write_all(1, &out[..length]);

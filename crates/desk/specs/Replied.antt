@@ -1,0 +1,106 @@
+-- What a part of the program leaves: a text at the front of the lent bytes. A refusal's line and a report fit. Assumes nothing.
+use Prim.Native.Nat.{ℕ, _+_, _*_, _^_, _≤_, _<_}
+use mathlib.Core.Path.{_≡_, refl, sym, ap, subst, _∙_}
+use mathlib.Core.List.{List, [], _∷_, _++_}
+use native.Mathlib.Nat.{zero-add}
+use native.Mathlib.Omega.{arith}
+use lib.ListN.{length, take, drop, getD, length-append}
+use lib.Seq.{take-length}
+use Rattle.definitions.specs.Lists.{flatMap}
+use Rattle.definitions.specs.Text.{bytes, decimal}
+use Rattle.definitions.specs.Refusal.{Result, refused}
+use Rattle.definitions.specs.Outcome.{written, Plan}
+use Rattle.definitions.specs.Desk.{printLine, stepLine, printed}
+use Rattle.names.specs.Signatures.{Sound}
+use Rattle.opening.specs.declared.Opened.{Opened}
+use Rattle.grounding.specs.declared.Sized.{Sized}
+use Rattle.printing.specs.Printed.{Prints, print-is, Left, begin, recut, left-length, room-for, next, finish}
+use Rattle.reporting.specs.Report.{nameAt, headOf}
+use Rattle.reporting.specs.Short.{no-short, ok-short, steps-short}
+use Rattle.reporting.specs.Answers.{head-short}
+
+-- the bytes lent, before and after, and how many were written
+pub record Replies (text old new : List ℕ) (r : ℕ) : Type 0 where
+  pub count : r ≡ length text
+  pub table : new ≡ written text old
+
+pub replies : (text old new : List ℕ) (r : ℕ) → length text ≤ length old → Prints text old 0 new r → Replies text old new r
+unfolding written
+replies text old new r h p =
+    let z = zero-add (length text) in
+    record {
+      count = p .place ∙ z;
+      table = p .table ∙ print-is old 0 text (omega arith) ∙ ap (λ (k : ℕ). text ++ drop k old) z;
+    }
+
+-- the same answer, said in another way
+pub answer-as : (a b : Result Plan) (old new : List ℕ) (r : ℕ) → b ≡ a → Replies (printed a) old new r → Replies (printed b) old new r
+answer-as a b old new r e h = subst (λ (x : Result Plan). Replies (printed x) old new r) (sym e) h
+
+pub text-as : (t : List ℕ) (b : Result Plan) (old new : List ℕ) (r : ℕ) → printed b ≡ t → Replies t old new r → Replies (printed b) old new r
+text-as t b old new r e h = subst (λ (x : List ℕ). Replies x old new r) (sym e) h
+
+-- ---- a refusal
+
+pub line-fits : (k place : ℕ) → length (printed (refused k place)) ≤ 45
+unfolding printed
+line-fits k place = no-short k place
+
+-- ---- a report
+
+unfoldable pub reportOf : List ℕ → Opened → Sized → (words steps : List ℕ) → List ℕ
+reportOf q o m words steps =
+    headOf q (o .sig) (o .n) (m .atoms) (m .actions) (m .bound) words ++ (flatMap stepLine steps ++ printLine (bytes "ok" ∷ decimal (length steps) ∷ []))
+
+-- what the report asks: sound relations with short names, few elements, words for every `choose`, and few steps
+pub record Reportable (q : List ℕ) (o : Opened) (room : ℕ) (steps : List ℕ) : Type 0 where
+  pub sound : Sound q (o .sig)
+  pub some-elements : 1 ≤ o .n
+  pub few-elements : o .n ≤ 16
+  pub named : (j : ℕ) → j < o .sig .chosen → length (nameAt q (o .sig) (o .sig .rels + j)) ≤ 12
+  pub words-fit : 64 * o .sig .chosen ≤ room
+  pub few-steps : length steps ≤ 8192
+
+module _ (q : List ℕ) (o : Opened) (m : Sized) (k : ℕ) (words steps : List ℕ) (R : Reportable q o k steps) where
+  abbrev head : List ℕ
+  head = headOf q (o .sig) (o .n) (m .atoms) (m .actions) (m .bound) words
+
+  abbrev okLine : List ℕ
+  okLine = printLine (bytes "ok" ∷ decimal (length steps) ∷ [])
+
+  head-long : length head ≤ 442618
+  head-long = omega (arith, head-short q (o .sig) (o .n) (m .atoms) (m .actions) (m .bound) words (R .sound) (R .some-elements) (R .few-elements) (R .named))
+
+  pub head-fits : length head ≤ 573952
+  head-fits = omega (arith, head-long)
+
+  -- printed part by part: once the head is, the steps are left, and then their count
+  module _ (u : (i : ℕ) → getD steps i 0 < 2 ^ 32) (old new : List ℕ) (place : ℕ) (room : 573952 ≤ length old) (headed : Prints head old 0 new place) where
+    report-fits : length (reportOf q o m words steps) ≤ length old
+    unfolding reportOf
+    report-fits =
+        let c = length-append head (flatMap stepLine steps ++ okLine) in
+        let d = length-append (flatMap stepLine steps) okLine in
+        omega (arith, head-long, ok-short (length steps), R .few-steps, steps-short steps u)
+
+    steps-left : Left (reportOf q o m words steps) old 0 (flatMap stepLine (take (length steps) steps) ++ okLine) new place
+    unfolding reportOf
+    steps-left =
+        let e : flatMap stepLine steps ++ okLine ≡ flatMap stepLine (take (length steps) steps) ++ okLine = rw (take-length steps) refl in
+        recut e (next head (flatMap stepLine steps ++ okLine) (begin {at = 0} old refl (omega (arith, report-fits))) headed)
+
+    pub steps-room : place + length (flatMap stepLine (take (length steps) steps)) ≤ length new
+    steps-room = room-for (flatMap stepLine (take (length steps) steps)) okLine steps-left
+
+    module _ (more : List ℕ) (after : ℕ) (listed : Prints (flatMap stepLine (take (length steps) steps)) new place more after) where
+      count-left : Left (reportOf q o m words steps) old 0 okLine more after
+      count-left = next (flatMap stepLine (take (length steps) steps)) okLine steps-left listed
+
+      -- for any number, so that only the text decides which one is printed
+      pub count-room : (k : ℕ) → after + length (printLine (bytes "ok" ∷ decimal k ∷ [])) ≤ length more
+      count-room k =
+          let e = ap (λ (ks : List ℕ). length (flatMap stepLine ks)) (take-length steps) in
+          omega (arith, ok-short k, head-long, headed .place, R .few-steps, steps-short steps u, listed .place, left-length count-left)
+
+      pub reported : (last : List ℕ) (r : ℕ) → Prints okLine more after last r → Replies (reportOf q o m words steps) old last r
+      reported last r counted = replies (reportOf q o m words steps) old last r report-fits (finish okLine count-left counted)

@@ -1,0 +1,98 @@
+-- `reporting::count` meets its contract.
+use native.Mathlib.Omega.{arith}
+use Rattle.printing.specs.Printed.{begin, finish}
+use Rattle.tuples.proofs.Rows.{power-le}
+use Rattle.reporting.specs.Report.{count-is, its-arity, its-name, its-index, arities-before}
+use borrow.Author.Needs.{needs}
+use Rattle.reporting.proofs.count.Statement.{statement}
+use Rattle.reporting.proofs.count.Tie as tie
+
+add-i : tie.Need-add-i
+add-i c = search needs
+
+first-word-requires : tie.Need-first-word-requires
+first-word-requires c κs =
+    let a = c .before .before .before .args in
+    let p = c .before .before .before .pre in
+    (p .2, omega arith, omega (arith, its-index (a .q .now) (a .t4) (p .0) (a .j) (p .3)), arities-before (a .q .now) (a .t4) (p .0) (a .j) (p .3))
+
+mul-k : tie.Need-mul-k
+mul-k c = search needs
+
+element-copy-out-k : tie.Need-element-copy-out-k
+element-copy-out-k c = search needs
+
+power-requires : tie.Need-power-requires
+power-requires c κs =
+    let a = c .before .before .before .before .before .args in
+    let p = c .before .before .before .before .before .pre in
+    (p .1, omega (arith, power-le (a .n) _ (p .2) (its-arity (a .q .now) (a .t4) (p .0) (a .j) (p .3))))
+
+add-ones : tie.Need-add-ones
+add-ones c =
+    let a = c .before .before .before .before .before .before .args in
+    let p = c .before .before .before .before .before .before .pre in
+    omega (arith, c .power .ensures, power-le (a .n) _ (p .2) (its-arity (a .q .now) (a .t4) (p .0) (a .j) (p .3)))
+
+ones-requires : tie.Need-ones-requires
+ones-requires c κs =
+    let a = c .before .before .before .before .before .before .args in
+    let p = c .before .before .before .before .before .before .pre in
+    let w = power-le (a .n) _ (p .2) (its-arity (a .q .now) (a .t4) (p .0) (a .j) (p .3)) in
+    (omega (arith, c .power .ensures, c .before .before .first-word .ensures .1, p .3, p .4), omega (arith, c .power .ensures))
+
+mul-a : tie.Need-mul-a
+mul-a c = search needs
+
+element-copy-out-a : tie.Need-element-copy-out-a
+element-copy-out-a c = search needs
+
+mul-e : tie.Need-mul-e
+mul-e c = search needs
+
+element-copy-out-e : tie.Need-element-copy-out-e
+element-copy-out-e c = search needs
+
+sub-count-line : tie.Need-sub-count-line
+sub-count-line c = let a = c .before .before .before .before .before .before .before .before .before .before .args in let p = c .before .before .before .before .before .before .before .before .before .before .pre in its-name (a .q .now) (a .t4) (p .0) (a .j) (p .3) .0
+
+part-count-line-start : tie.Need-part-count-line-start
+part-count-line-start c = let a = c .before .before .before .before .before .before .before .before .before .before .args in let p = c .before .before .before .before .before .before .before .before .before .before .pre in its-name (a .q .now) (a .t4) (p .0) (a .j) (p .3) .0
+
+part-count-line-end : tie.Need-part-count-line-end
+part-count-line-end c = let a = c .before .before .before .before .before .before .before .before .before .before .args in let p = c .before .before .before .before .before .before .before .before .before .before .pre in its-name (a .q .now) (a .t4) (p .0) (a .j) (p .3) .1
+
+count-line-requires : tie.Need-count-line-requires
+count-line-requires c κs =
+    let a = c .before .before .before .before .before .before .before .before .before .before .before .args in
+    begin (a .out .now) (count-is (a .q .now) (a .t4) (a .n) (a .words .now) (a .j) (c .before .before .before .before .before .before .before .first-word .result) (c .before .before .before .before .before .power .result) (c .before .before .before .before .before .before .before .first-word .ensures .0) (c .before .before .before .before .before .power .ensures) (c .before .before .before .before .ones .result) (c .before .before .before .before .ones .ensures)) (c .before .before .before .before .before .before .before .before .before .before .before .pre .5) .room
+
+same-length : tie.Need-same-length
+same-length c = search needs
+
+returns : tie.Need-returns
+returns c =
+    let a = c .before .before .before .before .before .before .before .before .before .before .before .before .before .before .args in
+    finish _ (begin (a .out .now) (count-is (a .q .now) (a .t4) (a .n) (a .words .now) (a .j) (c .before .before .before .before .before .before .before .before .before .before .first-word .result) (c .before .before .before .before .before .before .before .before .power .result) (c .before .before .before .before .before .before .before .before .before .before .first-word .ensures .0) (c .before .before .before .before .before .before .before .before .power .ensures) (c .before .before .before .before .before .before .before .ones .result) (c .before .before .before .before .before .before .before .ones .ensures)) (c .before .before .before .before .before .before .before .before .before .before .before .before .before .before .pre .5)) (c .before .before .count-line .ensures)
+
+pub count-spec : {M : Type 1} → statement M
+count-spec =
+    tie.close
+    (tie.spec
+    add-i
+    first-word-requires
+    mul-k
+    element-copy-out-k
+    power-requires
+    add-ones
+    ones-requires
+    mul-a
+    element-copy-out-a
+    mul-e
+    element-copy-out-e
+    sub-count-line
+    part-count-line-start
+    part-count-line-end
+    count-line-requires
+    same-length
+    returns)

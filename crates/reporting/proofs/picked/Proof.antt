@@ -1,0 +1,94 @@
+-- `reporting::picked` meets its contract.
+use native.Mathlib.Omega.{arith}
+use Rattle.printing.specs.Printed.{begin, finish}
+use Rattle.tuples.proofs.Rows.{power-le}
+use Rattle.reporting.specs.Report.{picks-is, its-arity, its-name, its-index, arities-before}
+use borrow.Author.Needs.{needs}
+use Rattle.reporting.proofs.picked.Statement.{statement}
+use Rattle.reporting.proofs.picked.Tie as tie
+
+add-i : tie.Need-add-i
+add-i c = search needs
+
+first-word-requires : tie.Need-first-word-requires
+first-word-requires c κs =
+    let a = c .before .before .before .args in
+    let p = c .before .before .before .pre in
+    (p .2, omega arith, omega (arith, its-index (a .q .now) (a .t4) (p .0) (a .j) (p .3)), arities-before (a .q .now) (a .t4) (p .0) (a .j) (p .3))
+
+mul-k : tie.Need-mul-k
+mul-k c = search needs
+
+element-copy-out-k : tie.Need-element-copy-out-k
+element-copy-out-k c = search needs
+
+power-requires : tie.Need-power-requires
+power-requires c κs =
+    let a = c .before .before .before .before .before .args in
+    let p = c .before .before .before .before .before .pre in
+    (p .1, omega (arith, power-le (a .n) _ (p .2) (its-arity (a .q .now) (a .t4) (p .0) (a .j) (p .3))))
+
+mul-a : tie.Need-mul-a
+mul-a c = search needs
+
+element-copy-out-a : tie.Need-element-copy-out-a
+element-copy-out-a c = search needs
+
+mul-e : tie.Need-mul-e
+mul-e c = search needs
+
+element-copy-out-e : tie.Need-element-copy-out-e
+element-copy-out-e c = search needs
+
+mul-row-lines : tie.Need-mul-row-lines
+mul-row-lines c = omega (arith, c .before .before .before .before .before .first-word .ensures .1, c .before .before .before .before .before .before .before .before .before .pre .0 .chosen-le, c .before .before .before .before .before .before .before .before .before .pre .3)
+
+sub-row-lines : tie.Need-sub-row-lines
+sub-row-lines c = let a = c .before .before .before .before .before .before .before .before .before .args in let p = c .before .before .before .before .before .before .before .before .before .pre in its-name (a .q .now) (a .t4) (p .0) (a .j) (p .3) .0
+
+part-row-lines-start : tie.Need-part-row-lines-start
+part-row-lines-start c = let a = c .before .before .before .before .before .before .before .before .before .args in let p = c .before .before .before .before .before .before .before .before .before .pre in its-name (a .q .now) (a .t4) (p .0) (a .j) (p .3) .0
+
+part-row-lines-end : tie.Need-part-row-lines-end
+part-row-lines-end c = let a = c .before .before .before .before .before .before .before .before .before .args in let p = c .before .before .before .before .before .before .before .before .before .pre in its-name (a .q .now) (a .t4) (p .0) (a .j) (p .3) .1
+
+row-lines-requires : tie.Need-row-lines-requires
+row-lines-requires c κs =
+    let a = c .before .before .before .before .before .before .before .before .before .before .args in
+    let p = c .before .before .before .before .before .before .before .before .before .before .pre in
+    let w = power-le (a .n) _ (p .2) (its-arity (a .q .now) (a .t4) (p .0) (a .j) (p .3)) in (
+      p .1,
+      c .before .before .before .before .power .ensures,
+      omega (arith, c .before .before .before .before .power .ensures, c .before .before .before .before .before .before .first-word .ensures .1, p .3, p .4),
+      omega (arith, c .before .before .before .before .power .ensures, c .before .before .before .before .before .before .first-word .ensures .1, p .3, p .0 .chosen-le),
+      begin (a .out .now) (picks-is (a .q .now) (a .t4) (a .n) (a .words .now) (a .j) (c .before .before .before .before .before .before .first-word .result) (c .before .before .before .before .power .result) (c .before .before .before .before .before .before .first-word .ensures .0) (c .before .before .before .before .power .ensures)) (p .5) .room,
+    )
+
+same-length : tie.Need-same-length
+same-length c = search needs
+
+returns : tie.Need-returns
+returns c =
+    let a = c .before .before .before .before .before .before .before .before .before .before .before .before .before .args in
+    finish _ (begin (a .out .now) (picks-is (a .q .now) (a .t4) (a .n) (a .words .now) (a .j) (c .before .before .before .before .before .before .before .before .before .first-word .result) (c .before .before .before .before .before .before .before .power .result) (c .before .before .before .before .before .before .before .before .before .first-word .ensures .0) (c .before .before .before .before .before .before .before .power .ensures)) (c .before .before .before .before .before .before .before .before .before .before .before .before .before .pre .5)) (c .before .before .row-lines .ensures)
+
+pub picked-spec : {M : Type 1} → statement M
+picked-spec =
+    tie.close
+    (tie.spec
+    add-i
+    first-word-requires
+    mul-k
+    element-copy-out-k
+    power-requires
+    mul-a
+    element-copy-out-a
+    mul-e
+    element-copy-out-e
+    mul-row-lines
+    sub-row-lines
+    part-row-lines-start
+    part-row-lines-end
+    row-lines-requires
+    same-length
+    returns)

@@ -1,0 +1,37 @@
+-- `reporting::row_line` meets its contract.
+use mathlib.Core.Path.{sym, _∙_}
+use mathlib.Core.List.{[]}
+use native.Mathlib.Omega.{arith}
+use Rattle.printing.specs.Printed.{begin, finish, finished}
+use Rattle.reporting.specs.Report.{row-set, row-clear}
+use borrow.Author.Needs.{needs}
+use Rattle.reporting.proofs.row_line.Statement.{statement}
+use Rattle.reporting.proofs.row_line.Tie as tie
+
+add-get : tie.Need-add-get
+add-get c = search needs
+
+get-requires : tie.Need-get-requires
+get-requires c κs = search needs
+
+pick-line-requires : tie.Need-pick-line-requires
+pick-line-requires c κs =
+    let a = c .before .before .before .before .before .before .args in
+    (c .before .before .before .before .before .before .pre .0, c .before .before .before .before .before .before .pre .1, begin (a .out .now) (row-set (a .words .now) (a .first) (a .name .now) (a .n) (a .arity) (a .row) (sym (c .before .before .get .ensures) ∙ c .before .if1 .taken)) (c .before .before .before .before .before .before .pre .4) .room)
+
+same-length : tie.Need-same-length
+same-length c = search needs
+
+returns : tie.Need-returns
+returns c =
+    let a = c .before .before .before .before .before .before .before .before .before .args in
+    finish _ (begin (a .out .now) (row-set (a .words .now) (a .first) (a .name .now) (a .n) (a .arity) (a .row) (sym (c .before .before .before .before .before .get .ensures) ∙ c .before .before .before .before .if1 .taken)) (c .before .before .before .before .before .before .before .before .before .pre .4)) (c .before .before .pick-line .ensures)
+
+returns-2 : tie.Need-returns-2
+returns-2 c =
+    let a = c .before .before .before .before .before .args in
+    finished (begin (a .out .now) (row-clear (a .words .now) (a .first) (a .name .now) (a .n) (a .arity) (a .row) (sym (c .before .get .ensures) ∙ c .if1 .left)) (c .before .before .before .before .before .pre .4))
+
+pub row-line-spec : {M : Type 1} → statement M
+row-line-spec =
+    tie.close (tie.spec add-get get-requires pick-line-requires same-length returns returns-2)

@@ -1,0 +1,77 @@
+-- `reporting::site_end` meets its contract. Among the lines that the loop has passed none is a `pick` or `step` line.
+use Prim.Native.Nat.{_-_, _≤_}
+use mathlib.Core.Path.{_≡_, refl, sym, ap, _∙_}
+use native.Mathlib.Omega.{arith}
+use borrow.Author.Needs.{needs}
+use lib.ListN.{length}
+use Rattle.definitions.specs.Text.{lines}
+use Rattle.definitions.specs.Desk.{firstPickOrStep}
+use Rattle.records.specs.Lines.{linesAt}
+use Rattle.reporting.specs.Cutting.{lines-start, pick-here, step-here, pick-later, no-pick}
+use Rattle.reporting.proofs.site_end.Statement.{statement}
+use Rattle.reporting.proofs.site_end.Tie as tie
+
+abbrev Inv-loop : tie.InvT-loop
+Inv-loop s n at₀ t5 t6 at = (at ≤ length s) × (firstPickOrStep (length s) (lines s) ≡ firstPickOrStep (length s) (linesAt s at))
+
+abbrev μ-loop : tie.MeasureT-loop
+μ-loop s n at₀ t5 t6 at = length s - at
+
+loop-holds : tie.Need-loop-holds Inv-loop μ-loop
+loop-holds c = let a = c .before .args in (omega arith, ap (firstPickOrStep (length (a .s .now))) (lines-start (a .s .now)))
+
+line-requires : tie.Need-line-requires Inv-loop μ-loop
+line-requires c κs = omega arith
+
+slice-aggregate-is-record : tie.Need-slice-aggregate-is-record Inv-loop μ-loop
+slice-aggregate-is-record c = search needs
+
+is-record-requires : tie.Need-is-record-requires Inv-loop μ-loop
+is-record-requires c κs = (c .before .line .ensures .begins, c .before .line .ensures .ends)
+
+returns : tie.Need-returns Inv-loop μ-loop
+returns c =
+    let s = c .before .before .before .before .before .before .before .args .s .now in
+    (omega arith, sym (c .before .before .before .before .before .loop .inv .1 ∙ pick-here s (c .before .before .before .before .before .loop .at) (c .before .before .before .line .result .end) (c .before .before .before .line .result .next) (c .before .before .before .line .ensures) (sym (c .before .is-record .ensures) ∙ c .if1 .taken)))
+
+slice-aggregate-is-record-2 : tie.Need-slice-aggregate-is-record-2 Inv-loop μ-loop
+slice-aggregate-is-record-2 c = search needs
+
+is-record-requires-2 : tie.Need-is-record-requires-2 Inv-loop μ-loop
+is-record-requires-2 c κs = (c .before .before .before .before .line .ensures .begins, c .before .before .before .before .line .ensures .ends)
+
+returns-2 : tie.Need-returns-2 Inv-loop μ-loop
+returns-2 c =
+    let s = c .before .before .before .before .before .before .before .before .before .before .args .s .now in
+    (omega arith, sym (c .before .before .before .before .before .before .before .before .loop .inv .1 ∙ step-here s (c .before .before .before .before .before .before .before .before .loop .at) (c .before .before .before .before .before .before .line .result .end) (c .before .before .before .before .before .before .line .result .next) (c .before .before .before .before .before .before .line .ensures) (sym (c .before .before .before .before .is-record .ensures) ∙ c .before .before .before .if1 .left) (sym (c .before .is-record2 .ensures) ∙ c .if2 .taken)))
+
+loop-less : tie.Need-loop-less Inv-loop μ-loop
+loop-less c = omega (arith, c .before .before .before .before .before .before .line .ensures .further, c .before .before .before .before .before .before .line .ensures .within)
+
+loop-again : tie.Need-loop-again Inv-loop μ-loop
+loop-again c =
+    let s = c .before .before .before .before .before .before .before .before .before .before .args .s .now in
+    (c .before .before .before .before .before .before .line .ensures .within, c .before .before .before .before .before .before .before .before .loop .inv .1 ∙ pick-later s (c .before .before .before .before .before .before .before .before .loop .at) (c .before .before .before .before .before .before .line .result .end) (c .before .before .before .before .before .before .line .result .next) (c .before .before .before .before .before .before .line .ensures) (sym (c .before .before .before .before .is-record .ensures) ∙ c .before .before .before .if1 .left) (sym (c .before .is-record2 .ensures) ∙ c .if2 .left))
+
+returns-3 : tie.Need-returns-3 Inv-loop μ-loop
+returns-3 c =
+    let s = c .before .before .before .args .s .now in
+    (omega arith, sym (c .before .loop .inv .1 ∙ no-pick s (c .before .loop .at) (omega arith)))
+
+pub site-end-spec : {M : Type 1} → statement M
+site-end-spec =
+    tie.close
+    (tie.spec
+    Inv-loop
+    μ-loop
+    loop-holds
+    line-requires
+    slice-aggregate-is-record
+    is-record-requires
+    returns
+    slice-aggregate-is-record-2
+    is-record-requires-2
+    returns-2
+    loop-less
+    loop-again
+    returns-3)

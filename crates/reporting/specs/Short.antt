@@ -1,0 +1,155 @@
+-- How long what is printed can be: names have at most 12 bytes, elements at most 2 digits, steps of 32 bits at most 10, and any
+-- number at most 20. Assumes nothing.
+use Prim.Native.Nat.{ℕ, zero, suc, _+_, _*_, _/_, _%_, _^_, _≤_, _<_}
+use mathlib.Core.Path.{_≡_, _∙_}
+use mathlib.Core.Bool.{Bool, true, false, _&&_, _||_}
+use mathlib.Core.List.{List, [], _∷_, _++_, map}
+use native.Mathlib.Nat.{add-zero, add-comm, suc-mul, mod-lt}
+use native.Mathlib.Omega.{arith}
+use lib.Dec.{T, eqb, leb, leb→le}
+use lib.ListN.{length, getD, length-append}
+use Rattle.definitions.specs.Lists.{if_then_else_, all, flatMap, from, below}
+use Rattle.definitions.specs.Text.{bytes, isCapital, isDigit, isRelationName, decimalIn, decimal}
+use Rattle.definitions.specs.Atoms.{placesOf}
+use Rattle.definitions.specs.Outcome.{Sizes}
+use Rattle.definitions.specs.Desk.{printLine, sizesLine, stepLine}
+use Rattle.bits.specs.Table.{bit, count}
+use Rattle.laws.specs.Booleans.{T-and-r}
+use Rattle.names.specs.declared.Signature.{Signature}
+use Rattle.names.specs.Signatures.{Sound}
+use Rattle.tuples.proofs.Rows.{power-le}
+use Rattle.printing.specs.Decimals.{decimal-length}
+use Rattle.printing.specs.Lines.{field, elements, no-is, ok-is, step-is, sizes-is, count-is, pick-is}
+use Rattle.reporting.specs.Report.{nameAt, wordAt, countAt, counts, rowLine, rowLines, picksAt, picks}
+
+-- ---- numbers and names
+
+digits-most : (f k : ℕ) → length (decimalIn f k) ≤ f
+unfolding decimalIn
+digits-most zero k = omega arith
+digits-most (suc f) k = go (leb k 9) (digits-most f (k / 10))
+  where
+    go : (b : Bool) → length (decimalIn f (k / 10)) ≤ f → length (if b then (k + 48) ∷ [] else decimalIn f (k / 10) ++ ((k % 10 + 48) ∷ [])) ≤ suc f
+    go true h = omega arith
+    go false h = rw (length-append (decimalIn f (k / 10)) ((k % 10 + 48) ∷ [])) (omega arith)
+
+field-most : (k : ℕ) → length (field k) ≤ 21
+unfolding field decimal
+field-most k = let h = digits-most 20 k in omega arith
+
+field-short : (n k : ℕ) → k < 10 ^ suc n → length (field k) ≤ suc (suc n)
+unfolding field
+field-short n k h = let l = decimal-length n k h in omega arith
+
+pub name-short : (name : List ℕ) → T (isRelationName name) → length name ≤ 12
+unfolding isRelationName
+name-short [] t = absurd t
+name-short (b ∷ bs) t = leb→le (length (b ∷ bs)) 12 (T-and-r (isCapital b && all (λ c. isCapital c || isDigit c || eqb c 95) bs) (leb (length (b ∷ bs)) 12) t)
+
+-- ---- lines
+
+pub no-short : (k place : ℕ) → length (printLine (bytes "no" ∷ decimal k ∷ decimal place ∷ [])) ≤ 45
+no-short k place =
+    let a = field-most k in
+    let b = field-most place in
+    let c = length-append (field k) (field place ++ (10 ∷ [])) in
+    let d = length-append (field place) (10 ∷ []) in
+    rw (no-is k place) (omega arith)
+
+pub ok-short : (k : ℕ) → length (printLine (bytes "ok" ∷ decimal k ∷ [])) ≤ 24
+ok-short k =
+    let a = field-most k in
+    let c = length-append (field k) (10 ∷ []) in
+    rw (ok-is k) (omega arith)
+
+pub sizes-short : (s : Sizes) → length (sizesLine s) ≤ 90
+sizes-short s =
+    let a = field-most (s .elements) in
+    let b = field-most (s .atomCount) in
+    let c = field-most (s .actionCount) in
+    let d = field-most (s .stepBound) in
+    let e = length-append (field (s .elements)) (field (s .atomCount) ++ (field (s .actionCount) ++ (field (s .stepBound) ++ (10 ∷ [])))) in
+    let f = length-append (field (s .atomCount)) (field (s .actionCount) ++ (field (s .stepBound) ++ (10 ∷ []))) in
+    let g = length-append (field (s .actionCount)) (field (s .stepBound) ++ (10 ∷ [])) in
+    let h = length-append (field (s .stepBound)) (10 ∷ []) in
+    rw (sizes-is s) (omega arith)
+
+count-short : (name : List ℕ) (k : ℕ) → length name ≤ 12 → length (printLine (bytes "count" ∷ name ∷ decimal k ∷ [])) ≤ 40
+count-short name k l =
+    let a = field-most k in
+    let c = length-append name (field k ++ (10 ∷ [])) in
+    let d = length-append (field k) (10 ∷ []) in
+    rw (count-is name k) (omega arith)
+
+step-short : (k : ℕ) → k < 2 ^ 32 → length (stepLine k) ≤ 16
+step-short k h =
+    let a = field-short 9 k (omega arith) in
+    let c = length-append (field k) (10 ∷ []) in
+    rw (step-is k) (omega arith)
+
+elements-short : (n k row : ℕ) → 0 < n → n ≤ 16 → length (elements (placesOf n k row)) ≤ 3 * k
+unfolding elements flatMap placesOf
+elements-short n zero row h l = omega arith
+elements-short n (suc k) row h l =
+    let m : row / n ^ k % n < n = mod-lt (row / n ^ k) h in
+    let a = field-short 1 (row / n ^ k % n) (omega arith) in
+    let b = elements-short n k row h l in
+    let c = length-append (field (row / n ^ k % n)) (flatMap field (placesOf n k row)) in
+    omega arith
+
+pick-short : (name : List ℕ) (n k row : ℕ) → length name ≤ 12 → 0 < n → n ≤ 16 → k ≤ 3 → length (printLine (bytes "pick" ∷ name ∷ map decimal (placesOf n k row))) ≤ 27
+pick-short name n k row l p h m =
+    let a = elements-short n k row p h in
+    let c = length-append name (elements (placesOf n k row) ++ (10 ∷ [])) in
+    let d = length-append (elements (placesOf n k row)) (10 ∷ []) in
+    rw (pick-is name (placesOf n k row)) (omega arith)
+
+line-short : (words : List ℕ) (first : ℕ) (name : List ℕ) (n k row : ℕ) → length name ≤ 12 → 0 < n → n ≤ 16 → k ≤ 3 → length (rowLine words first name n k row) ≤ 27
+unfolding rowLine
+line-short words first name n k row l p h m = go (bit words (first + row))
+  where
+    go : (b : Bool) → length (if b then printLine (bytes "pick" ∷ name ∷ map decimal (placesOf n k row)) else []) ≤ 27
+    go true = pick-short name n k row l p h m
+    go false = omega arith
+
+-- ---- lines one after another
+
+flat-short : (f : ℕ → List ℕ) (b a m : ℕ) → ((i : ℕ) → i < m → length (f (a + i)) ≤ b) → length (flatMap f (from a m)) ≤ m * b
+unfolding flatMap from
+flat-short f b a zero h = omega arith
+flat-short f b a (suc m) h =
+    let r = flat-short f b (suc a) m (λ i l. let e : a + suc i ≡ suc a + i = omega arith in rw e at (h (suc i) (omega arith))) in
+    let s : length (f a) ≤ b = rw (add-zero a) at (h 0 (omega arith)) in
+    let c = length-append (f a) (flatMap f (from (suc a) m)) in
+    let z : suc m * b ≡ b + m * b = suc-mul m b ∙ add-comm (m * b) b in
+    omega arith
+
+pub steps-short : (ks : List ℕ) → ((i : ℕ) → getD ks i 0 < 2 ^ 32) → length (flatMap stepLine ks) ≤ 16 * length ks
+unfolding flatMap
+steps-short [] h = omega arith
+steps-short (k ∷ ks) h =
+    let a = step-short k (h 0) in
+    let b = steps-short ks (λ i. h (suc i)) in
+    let c = length-append (stepLine k) (flatMap stepLine ks) in
+    omega arith
+
+module _ (q : List ℕ) (g : Signature) (n : ℕ) (words : List ℕ) (s : Sound q g) (p : 1 ≤ n) (l : n ≤ 16) (named : (j : ℕ) → j < g .chosen → length (nameAt q g (g .rels + j)) ≤ 12) where
+  pub counts-short : length (counts q g n words) ≤ 160
+  unfolding counts countAt below
+  counts-short = let h = flat-short (countAt q g n words) 40 0 (g .chosen) (λ j h. let z : 0 + j ≡ j = omega arith in rw z (count-short (nameAt q g (g .rels + j)) _ (named j h))) in let c = s .chosen-le in omega arith
+
+  rows-short : (j : ℕ) → j < g .chosen → length (picksAt q g n words j) ≤ 4096 * 27
+  unfolding picksAt rowLines below
+  rows-short j h =
+      let k : ℕ = getD (g .arity) (g .rels + j) 0 in
+      let m : k ≤ 3 = s .arities (g .rels + j) (omega arith) .1 in
+      let r = flat-short (rowLine words (64 * wordAt g n j) (nameAt q g (g .rels + j)) n k) 27 0 (n ^ k) (λ i u. let z : 0 + i ≡ i = omega arith in rw z (row-short i (named j h) m)) in
+      let w = power-le n k l m in
+      omega arith
+    where
+      row-short : (i : ℕ) → length (nameAt q g (g .rels + j)) ≤ 12 → getD (g .arity) (g .rels + j) 0 ≤ 3 → length (rowLine words (64 * wordAt g n j) (nameAt q g (g .rels + j)) n (getD (g .arity) (g .rels + j) 0) i) ≤ 27
+      row-short i a m = line-short words (64 * wordAt g n j) (nameAt q g (g .rels + j)) n (getD (g .arity) (g .rels + j) 0) i a p l m
+
+  pub picks-short : length (picks q g n words) ≤ 16384 * 27
+  unfolding picks below
+  picks-short = let h = flat-short (picksAt q g n words) (4096 * 27) 0 (g .chosen) (λ j h. let z : 0 + j ≡ j = omega arith in rw z (rows-short j h)) in let c = s .chosen-le in omega arith
