@@ -2,7 +2,7 @@
 use Prim.Native.Nat.{ℕ, zero, suc, _+_, _-_, _/_, _%_, _<_, _≤_}
 use mathlib.Core.Path.{_≡_, refl, sym, ap, subst, _∙_, fun-ext}
 use mathlib.Core.Logic.{⊎-elim}
-use mathlib.Core.Bool.{Bool, true, false}
+use mathlib.Core.Bool.{Bool, true, false, or-true}
 use mathlib.Core.List.{List, _++_}
 use native.Mathlib.Omega.{arith}
 use lib.Dec.{ltb, ltb→lt, nltb→le}
@@ -11,7 +11,7 @@ use lib.Seq.{take-length, length-take-le, take-at, getD-append-add, getD-drop, p
 use native.Mathlib.Nat.{zero-add}
 use native.Mathlib.Numerals.{add-one}
 use Rattle.bits.specs.Table.{digit, bit, Words}
-use Rattle.definitions.specs.Lists.{all}
+use Rattle.definitions.specs.Lists.{all, any}
 use Rattle.definitions.specs.Atoms.{Problem, State, atoms, wordsFor, stateWords}
 use Rattle.definitions.specs.Actions.{actionNumber, beginProof, proveGoal}
 use Rattle.definitions.specs.Strips.{mayTake}
@@ -19,9 +19,9 @@ use Rattle.definitions.specs.Outcome.{written, stateLength}
 use Rattle.laws.specs.Booleans.{T-dec}
 use Rattle.laws.specs.Numbers.{IsAction, three-atoms}
 use Rattle.ground.specs.Lines.{relationLine, relationsIn, nodesIn, nodeLine}
-use Rattle.ground.specs.Numbers.{needNumbers}
+use Rattle.ground.specs.Numbers.{needNumbers, addNumbers, removeNumbers, changed}
 use Rattle.ground.specs.Of.{Is, said}
-use Rattle.ground.specs.OfLaws.{may-is}
+use Rattle.ground.specs.OfLaws.{may-is, after-is}
 use Rattle.ground.specs.declared.RelationLine.{RelationLine}
 use Rattle.ground.specs.declared.NodeLine.{NodeLine}
 use Rattle.ground.specs.declared.Act.the-variants.{Begin, Goal}
@@ -42,6 +42,11 @@ module _ (p : Problem) (w : List ℕ) (is : Is p w) where
   pub goal-test : (s : State) (b : Bool) → b ≡ all s (needNumbers w Goal) → b ≡ mayTake p s proveGoal
   unfolding said IsAction
   goal-test s b e = e ∙ may-is p w is s proveGoal tt
+
+  -- once the proof has begun, its atom holds
+  pub begun : (o o′ : Out) → one p o beginProof ≡ o′ → o′ .state 1 ≡ true
+  unfolding one said IsAction addNumbers removeNumbers changed any
+  begun o o′ e = ap (λ (x : Out). x .state 1) (sym e) ∙ ap (λ (s : State). s 1) (sym (after-is p w is (o .state) beginProof tt)) ∙ or-true _
 
 pub begin-is : (p : Problem) → IsAction p beginProof
 unfolding IsAction

@@ -52,6 +52,25 @@ module _ (p : Problem) (v : ℕ) where
   unfolding provedRows
   rows-end o j k h = let m : k - j ≡ 0 = omega arith in rw m
 
+  -- several rows at once
+  rows-split : (o : Out) (j n m : ℕ) → provedRows p v o j (n + m) ≡ provedRows p v (provedRows p v o j n) (j + n) m
+  unfolding provedRows
+  rows-split o j zero m = let a : 0 + m ≡ m = omega arith in let b : j + 0 ≡ j = omega arith in rw (a, b)
+  rows-split o j (suc n) m = let a : suc n + m ≡ suc (n + m) = omega arith in let b : j + suc n ≡ suc j + n = omega arith in rw (a, b) (rows-split (provedRow p v o j) (suc j) n m)
+
+  pub rows-on : (o o′ : Out) (j n k : ℕ) → j + n ≤ k → provedRows p v o j n ≡ o′ → provedRows p v o j (k - j) ≡ provedRows p v o′ (j + n) (k - (j + n))
+  rows-on o o′ j n k h e = let m : k - j ≡ n + (k - (j + n)) = omega arith in rw m (rows-split o j n (k - (j + n)) ∙ ap (λ (x : Out). provedRows p v x (j + n) (k - (j + n))) e)
+
+  -- one row of several from j on
+  pub some-start : (o : Out) (j n : ℕ) → provedRows p v o j n ≡ provedRows p v o (j + 0) (j + n - (j + 0))
+  some-start o j n = let a : j ≡ j + 0 = omega arith in let b : n ≡ j + n - (j + 0) = omega arith in ap₂ (provedRows p v o) a b
+
+  pub some-next : (o o′ : Out) (j n z : ℕ) → z < n → provedRow p v o (j + z) ≡ o′ → provedRows p v o (j + z) (j + n - (j + z)) ≡ provedRows p v o′ (j + (z + 1)) (j + n - (j + (z + 1)))
+  some-next o o′ j n z h e = let a : j + z + 1 ≡ j + (z + 1) = omega arith in rows-next o o′ (j + z) (j + n) (omega arith) e ∙ ap (λ (x : ℕ). provedRows p v o′ x (j + n - x)) a
+
+  pub some-end : (o : Out) (j n z : ℕ) → n ≤ z → provedRows p v o (j + z) (j + n - (j + z)) ≡ o
+  some-end o j n z h = rows-end o (j + z) (j + n) (omega arith)
+
 -- ---- nodes, from the last to the first
 pub nodes-next : (p : Problem) (o o′ : Out) (v k : ℕ) → 0 < v → k ≡ nodeWidth (p .size) (nodeAt p (v - 1)) → provedRows p (v - 1) o 0 k ≡ o′ → provedNodes p o v ≡ provedNodes p o′ (v - 1)
 unfolding provedNodes

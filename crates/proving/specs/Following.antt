@@ -1,19 +1,41 @@
 -- The builder's progress: the state, the lent steps and how many are written; and its way as folds over it.
-use Prim.Native.Nat.{ℕ, zero, suc, _*_, _^_, _≤_}
+use Prim.Native.Nat.{ℕ, zero, suc, _+_, _*_, _^_, _≤_, _<_}
+use mathlib.Core.Path.{_≡_}
+use mathlib.Core.Bool.{true}
 use mathlib.Core.List.{List}
-use lib.ListN.{set}
+use lib.ListN.{length, set}
 use Rattle.definitions.specs.Lists.{option}
 use Rattle.definitions.specs.Atoms.{Problem, State, nodeAt, nodeWidth, atoms}
 use Rattle.definitions.specs.Actions.{Action, actions, actionNumber}
 use Rattle.definitions.specs.Strips.{after}
 use Rattle.states.specs.Planning.{stepNow}
+use Rattle.ground.specs.Lines.{sizeIn, nodeLine}
+use Rattle.ground.specs.Numbers.{underAt}
 use Rattle.ground.specs.Of.{Is}
+use Rattle.ground.specs.declared.NodeLine.{NodeLine}
+use Rattle.proving.specs.declared.Elements.{Elements}
 
 -- the table is the problem's, a state of k words has room for its atoms, and its action numbers fit a step
 pub record Ready (p : Problem) (w : List ℕ) (k : ℕ) : Type 0 where
   pub is : Is p w
   pub room : atoms p ≤ 64 * k
   pub few : actions p ≤ 2 ^ 32
+
+-- x is the line of the node v in such a table
+pub record NodeOf (p : Problem) (w : List ℕ) (k v : ℕ) (x : NodeLine) : Type 0 where
+  pub ready : Ready p w k
+  pub element : 0 < sizeIn w
+  pub here : v < length (p .nodeList)
+  pub line : x ≡ nodeLine w v
+
+-- it is a `forall`; its row has the n atoms from j on, and the part under it stands where `under` says
+pub record Chain (p : Problem) (w : List ℕ) (k v : ℕ) (x : NodeLine) (n row j : ℕ) (under : Elements) : Type 0 where
+  pub node : NodeOf p w k v x
+  pub size : n ≡ sizeIn w
+  pub kind : x .kind ≡ 0
+  pub first : j ≡ row * n
+  pub inside : j + n ≤ nodeWidth (p .size) (nodeAt p v)
+  pub part : (z : ℕ) → underAt n w x row z ≡ under .start + z * under .stride
 
 pub record Out : Type 0 where
   pub state : State
@@ -22,6 +44,10 @@ pub record Out : Type 0 where
 
 abbrev pub out : State → List ℕ → ℕ → Out
 out s b k = record { state = s; steps = b; count = k }
+
+-- o is this progress, and the proof has begun
+abbrev pub Goes : Out → State → List ℕ → ℕ → Type 0
+Goes o s b k = (o ≡ out s b k) × (s 1 ≡ true)
 
 -- one action more is taken and its number written
 unfoldable pub one : Problem → Out → Action → Out

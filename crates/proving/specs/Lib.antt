@@ -1,7 +1,7 @@
 -- The proof phase of building.
 --   Tries, TryLaws           the actions for an atom by the table's numbers, and the first that passes
 --   NeedLaws                 what each of them needs, once the values of the row are known
---   TurnLaws                 from one atom of a node to the next, without division
+--   TurnLaws                 from one row of a node to the next, without division
 --   RowLaws, MarkLaws        that it is the first that may be taken, and that its atom and its number are all it changes
 --   Following, FollowLaws    the builder's progress: state, lent steps and count
 pub mod Tries

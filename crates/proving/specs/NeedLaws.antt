@@ -14,12 +14,12 @@ use Rattle.rows.specs.Values.{valueIn, Most}
 use Rattle.rows.specs.Laws.{set-value, within-set}
 use Rattle.ground.specs.Lines.{sizeIn, nodeLine, partLine, partNumber, partAt}
 use Rattle.ground.specs.Numbers.{rowValues, underAt, andNeeds, orNeeds, existsNeeds, forallNeeds, needNumbers}
-use Rattle.ground.specs.NeedLaws.{and-no, or-no, exists-no, forall-no, and-parts, or-part, exists-under, forall-not, forall-first, forall-next, value-times}
+use Rattle.ground.specs.NeedLaws.{and-parts, or-part, exists-under, forall-not, forall-first, forall-next, value-times}
 use Rattle.ground.specs.declared.NodeLine.{NodeLine}
 use Rattle.ground.specs.declared.PartLine.{PartLine}
 use Rattle.ground.specs.declared.Act.the-variants.{And, Or, Exists, Forall}
-use Rattle.proving.specs.Tries.{actBy, needBy, chained, firstFrom}
-use Rattle.proving.specs.TryLaws.{first-same, first-none, first-only}
+use Rattle.proving.specs.Tries.{actBy, needBy, chained, firstFrom, firstAt, firstBy}
+use Rattle.proving.specs.TryLaws.{way-exists, way-and, way-or, first-same, first-only}
 
 -- ---- by the node's line
 pub need-by : (w : List ℕ) (node : ℕ) (v : NodeLine) (row choice : ℕ) → v ≡ nodeLine w node → needNumbers w (actBy (v .kind) node row choice) ≡ needBy (sizeIn w) w v row choice
@@ -52,38 +52,22 @@ module _ (s : ℕ → Bool) (n : ℕ) (w : List ℕ) (v : NodeLine) (row : ℕ) 
   unfolding needBy
   pass-or h c = rw (ne-eqb (v .kind) 0 (λ z. omega arith), ne-eqb (v .kind) 1 (λ z. omega arith), ne-eqb (v .kind) 2 (λ z. omega arith))
 
-  -- without the proof atom none passes
-  pass-none : s 1 ≡ false → (c : ℕ) → passes c ≡ false
-  unfolding needBy
-  pass-none h c = go (eqb (v .kind) 0) (eqb (v .kind) 1) (eqb (v .kind) 2)
-    where
-      go : (b₀ b₁ b₂ : Bool) → all s (if b₀ then forallNeeds n w v row c else if b₁ then existsNeeds n w v row c else if b₂ then andNeeds n w v row else orNeeds n w v row c) ≡ false
-      go true b₁ b₂ = sym (forall-no s n w v row c h)
-      go false true b₂ = sym (exists-no s n w v row c h)
-      go false false true = sym (and-no s n w v row h)
-      go false false false = sym (or-no s n w v row c h)
-
-  pub none-tried : (base k : ℕ) → s 1 ≡ false → k ≡ firstFrom (λ i. all s (needBy n w v row (base + i))) 0 k
-  none-tried base k h = sym (first-none (λ i. passes (base + i)) k (λ i. pass-none h (base + i)))
-
   module _ (env : List ℕ) (e : valueIn env ≡ rowValues n v row) where
     -- `or`: the parts; `and`: all of them
-    pub parts-tried : (base k r : ℕ) → 3 ≤ v .kind → s 1 ≡ true → r ≡ firstFrom (λ i. s (partAt w (valueIn env) (v .first + base + i))) 0 k → r ≡ firstFrom (λ i. all s (needBy n w v row (base + i))) 0 k
-    parts-tried base k r h o q = q ∙ first-same _ (λ i. passes (base + i)) k 0 (λ i l.
-        let d : v .first + base + (0 + i) ≡ v .first + (base + (0 + i)) = omega arith in
-        ap (λ (x : ℕ). s (partAt w (valueIn env) x)) d ∙ or-part s n w v row env e (base + (0 + i)) _ o refl ∙ sym (pass-or h (base + (0 + i))))
+    pub parts-tried : (r : ℕ) → 3 ≤ v .kind → s 1 ≡ true → r ≡ firstFrom (λ i. s (partAt w (valueIn env) (v .first + i))) 0 (v .many) → r ≡ firstBy s n w v row
+    parts-tried r h o q = q ∙ first-same _ (λ i. passes (0 + i)) (v .many) 0 (λ i l.
+        let d : v .first + (0 + i) ≡ v .first + (0 + (0 + i)) = omega arith in
+        ap (λ (x : ℕ). s (partAt w (valueIn env) x)) d ∙ or-part s n w v row env e (0 + (0 + i)) _ o refl ∙ sym (pass-or h (0 + (0 + i)))) ∙ ap (firstAt s n w v) (way-or n (v .kind) (v .many) row h)
 
-    pub whole-tried : (base k r : ℕ) (b : Bool) → v .kind ≡ 2 → s 1 ≡ true → k ≡ 1 → b ≡ all s (map (partAt w (valueIn env)) (from (v .first) (v .many))) → r ≡ firstFrom (λ i. b) 0 1
-        → r ≡ firstFrom (λ i. all s (needBy n w v row (base + i))) 0 k
-    whole-tried base k r b h o one a q = q ∙ first-only (λ i. passes (base + i)) b k one (pass-and h (base + 0) ∙ sym (and-parts s n w v row env e b o a))
+    pub whole-tried : (r : ℕ) (b : Bool) → v .kind ≡ 2 → s 1 ≡ true → b ≡ all s (map (partAt w (valueIn env)) (from (v .first) (v .many))) → r ≡ firstFrom (λ i. b) 0 1 → r ≡ firstBy s n w v row
+    whole-tried r b h o a q = q ∙ first-only (λ i. passes (0 + i)) b 1 refl (pass-and h (0 + 0) ∙ sym (and-parts s n w v row env e b o a)) ∙ ap (firstAt s n w v) (way-and n (v .kind) (v .many) row h)
 
   -- quantifiers: the part at each element
   module _ (start stride : ℕ) (under : (x : ℕ) → underAt n w v row x ≡ start + x * stride) where
-    pub elements-tried : (base k r : ℕ) → v .kind ≡ 1 → s 1 ≡ true → r ≡ firstFrom (λ i. s (start + base * stride + i * stride)) 0 k → r ≡ firstFrom (λ i. all s (needBy n w v row (base + i))) 0 k
-    elements-tried base k r h o q = q ∙ first-same _ (λ i. passes (base + i)) k 0 (λ i l.
-        let m = add-mul base (0 + i) stride in
-        let d : start + base * stride + (0 + i) * stride ≡ start + (base + (0 + i)) * stride = omega arith in
-        exists-under s n w v row (base + (0 + i)) _ o (ap s (d ∙ sym (under (base + (0 + i))))) ∙ sym (pass-exists h (base + (0 + i))))
+    pub elements-tried : (r : ℕ) → v .kind ≡ 1 → s 1 ≡ true → r ≡ firstFrom (λ i. s (start + i * stride)) 0 n → r ≡ firstBy s n w v row
+    elements-tried r h o q = q ∙ first-same _ (λ i. passes (0 + i)) n 0 (λ i l.
+        let d : 0 + (0 + i) ≡ 0 + i = omega arith in
+        exists-under s n w v row (0 + i) _ o (ap s (sym (under (0 + i)))) ∙ sym (pass-exists h (0 + i)) ∙ ap passes (sym d)) ∙ ap (firstAt s n w v) (way-exists n (v .kind) (v .many) row h)
 
     chain-is : (z own : ℕ) (b : Bool) → s 1 ≡ true → own ≡ v .atoms + (row * n + z) → b ≡ chained s (start + z * stride) z own → b ≡ all s (forallNeeds n w v row z)
     unfolding chained
@@ -100,11 +84,9 @@ module _ (s : ℕ → Bool) (n : ℕ) (w : List ℕ) (v : NodeLine) (row : ℕ) 
             let l : own - 1 ≡ v .atoms + (row * n + (z - 1)) = omega arith in
             forall-next s n w v row z _ (omega arith) o (at-z true t) (ap s l)
 
-    pub chain-tried : (base k r own : ℕ) (b : Bool) → v .kind ≡ 0 → s 1 ≡ true → k ≡ 1 → own ≡ v .atoms + (row * n + base) → b ≡ chained s (start + base * stride) base own → r ≡ firstFrom (λ i. b) 0 1
-        → r ≡ firstFrom (λ i. all s (needBy n w v row (base + i))) 0 k
-    chain-tried base k r own b h o one f a q =
-        let z : base + 0 ≡ base = add-zero base in
-        q ∙ first-only (λ i. passes (base + i)) b k one (ap passes z ∙ pass-forall h base ∙ sym (chain-is base own b o f a))
+    pub chain-tried : (z own : ℕ) (b : Bool) → v .kind ≡ 0 → s 1 ≡ true → own ≡ v .atoms + (row * n + z) → b ≡ chained s (start + z * stride) z own
+        → firstFrom (λ i. b) 0 1 ≡ firstAt s n w v (record { row = row; base = z; tries = 1; choices = n })
+    chain-tried z own b h o f a = first-only (λ i. passes (z + i)) b 1 refl (ap passes (add-zero z) ∙ pass-forall h z ∙ sym (chain-is z own b o f a))
 
 -- ---- a part's atom grows with the element by the level's weight
 part-along : (e : Values) (q : PartLine) (d x : ℕ) → d < 4 → partNumber (withValue e d x) q ≡ partNumber (withValue e d 0) q + x * valueIn (q .weights) d

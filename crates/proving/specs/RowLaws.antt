@@ -5,9 +5,7 @@ use mathlib.Core.Bool.{Bool, true, false}
 use mathlib.Core.Option.{none, some}
 use mathlib.Core.List.{List}
 use native.Mathlib.Omega.{arith}
-use native.Mathlib.Nat.{mod-lt, div-lt-iff-lt-mul, div-le-self, mul-le-mul}
-use lib.Dec.{eqb}
-use borrow.Author.Tests.{eqb-true, eqb-false}
+use native.Mathlib.Nat.{mod-lt, div-lt-iff-lt-mul, mul-le-mul}
 use lib.ListN.{length}
 use Rattle.definitions.specs.Lists.{if_then_else_, all, option, position, from, below}
 use Rattle.definitions.specs.Tree.{Tree, leaf, forallNode, existsNode, andNode, orNode, parts, isForall}
@@ -23,8 +21,7 @@ use Rattle.ground.specs.Of.{Is, said}
 use Rattle.ground.specs.OfLaws.{parts-length, may-is}
 use Rattle.ground.specs.declared.Act.{Act}
 use Rattle.states.specs.Planning.{rowIn, firstTry, tries, tryAt, stepNow}
-use Rattle.proving.specs.declared.Way.{Way}
-use Rattle.proving.specs.Tries.{actBy, wayBy, firstFrom, WayFits}
+use Rattle.proving.specs.Tries.{Way, actBy, wayBy, firstFrom}
 use Rattle.proving.specs.TryLaws.{first-same}
 
 -- ---- the first that passes
@@ -169,30 +166,7 @@ module _ (p : Problem) (w : List ℕ) (is : Is p w) (element : 0 < p .size) (v :
       pub row-lost : (r : ℕ) → First x y r → y .tries ≤ r → stepNow p s v (nodeAt p v) j ≡ none
       row-lost = subst₂ (λ (x : NodeLine) (y : Way). (r : ℕ) → First x y r → y .tries ≤ r → stepNow p s v (nodeAt p v) j ≡ none) (sym ex) (sym way-here) lost-here
 
--- ---- what keeps the tries in the table
-pub way-fits : (n : ℕ) (x : NodeLine) (j : ℕ) (y : Way) → 0 < n → n ≤ 64 → x .first + x .many ≤ 64 → j ≤ 2 ^ 32 → y ≡ wayBy n (x .kind) (x .many) j → WayFits n x y
-unfolding wayBy
-way-fits n x j y o s m h e = subst (WayFits n x) (sym e) (go (eqb (x .kind) 0) refl (eqb (x .kind) 1) refl (eqb (x .kind) 2) refl)
-  where
-    go : (b₀ : Bool) → eqb (x .kind) 0 ≡ b₀ → (b₁ : Bool) → eqb (x .kind) 1 ≡ b₁ → (b₂ : Bool) → eqb (x .kind) 2 ≡ b₂
-        → WayFits n x (if b₀ then record { row = j / n; base = j % n; tries = 1; choices = n } else if b₁ then record { row = j; base = 0; tries = n; choices = n } else if b₂ then record { row = j; base = 0; tries = 1; choices = 1 } else record { row = j; base = 0; tries = x .many; choices = x .many })
-    go true e₀ b₁ e₁ b₂ e₂ =
-        let z = eqb-true (x .kind) 0 e₀ in
-        let d = div-le-self j n in
-        let q = mod-lt j o in
-        record { row = omega arith; elements = λ _. omega arith; parts = λ k. absurd (omega arith); few = omega arith; choices = s; up = λ _. refl; whole = λ k. absurd (omega arith) }
-    go false e₀ true e₁ b₂ e₂ =
-        let z = eqb-true (x .kind) 1 e₁ in
-        record { row = h; elements = λ _. omega arith; parts = λ k. absurd (omega arith); few = omega arith; choices = s; up = λ k. absurd (omega arith); whole = λ k. absurd (omega arith) }
-    go false e₀ false e₁ true e₂ =
-        let z = eqb-true (x .kind) 2 e₂ in
-        record { row = h; elements = λ k. absurd (omega arith); parts = λ k. absurd (omega arith); few = omega arith; choices = omega arith; up = λ k. absurd (omega arith); whole = λ _. refl }
-    go false e₀ false e₁ false e₂ =
-        let a = eqb-false (x .kind) 0 e₀ in
-        let b = eqb-false (x .kind) 1 e₁ in
-        let c = eqb-false (x .kind) 2 e₂ in
-        record { row = h; elements = λ k. absurd (omega arith); parts = λ _. omega arith; few = omega arith; choices = omega arith; up = λ k. absurd (omega arith); whole = λ k. absurd (omega arith) }
-
+-- ---- what keeps numbers in range
 pub acts-small : (w : List ℕ) (node : ℕ) → Fits w → (x : NodeLine) → x ≡ nodeLine w node → x .acts ≤ 2 ^ 32
 unfolding nodeLine
 acts-small w node F x e = rw e (F .entry (93 + 11 * node))

@@ -3,11 +3,12 @@ use Prim.Native.Nat.{ℕ, zero, suc, _+_, _-_, _/_, _%_, _<_, _≤_}
 use mathlib.Core.Path.{_≡_, refl, sym, ap, ap₂, _∙_}
 use mathlib.Core.Bool.{Bool, true, false}
 use native.Mathlib.Omega.{arith}
-use native.Mathlib.Nat.{add-zero, zero-add}
+use native.Mathlib.Nat.{add-zero}
 use native.Mathlib.Numerals.{add-one}
+use lib.Dec.{eqb}
 use borrow.Author.Tests.{eq-eqb, ne-eqb}
 use Rattle.definitions.specs.Lists.{if_then_else_}
-use Rattle.proving.specs.Tries.{wayBy, firstFrom}
+use Rattle.proving.specs.Tries.{FlatAt, wayBy, firstFrom}
 
 module _ (n kind many j : ℕ) where
   pub way-forall : kind ≡ 0 → record { row = j / n; base = j % n; tries = 1; choices = n } ≡ wayBy n kind many j
@@ -26,6 +27,15 @@ module _ (n kind many j : ℕ) where
   unfolding wayBy
   way-or h = rw (ne-eqb kind 0 (λ z. omega arith), ne-eqb kind 1 (λ z. omega arith), ne-eqb kind 2 (λ z. omega arith))
 
+  pub way-flat : 0 < kind → FlatAt (wayBy n kind many j) j
+  unfolding wayBy
+  way-flat h = rw (ne-eqb kind 0 (λ z. omega arith)) (go (eqb kind 1) (eqb kind 2))
+    where
+      go : (b₁ b₂ : Bool) → FlatAt (if b₁ then record { row = j; base = 0; tries = n; choices = n } else if b₂ then record { row = j; base = 0; tries = 1; choices = 1 } else record { row = j; base = 0; tries = many; choices = many }) j
+      go true b₂ = record { row = refl; base = refl }
+      go false true = record { row = refl; base = refl }
+      go false false = record { row = refl; base = refl }
+
 -- ---- the search
 pub first-start : (f : ℕ → Bool) (k : ℕ) → firstFrom f 0 k ≡ firstFrom f 0 (k - 0)
 first-start f k = let m : k ≡ k - 0 = omega arith in ap (firstFrom f 0) m
@@ -43,15 +53,7 @@ module _ (f : ℕ → Bool) (k i : ℕ) where
   unfolding firstFrom
   first-end h = let m : k - i ≡ 0 = omega arith in rw m
 
-next-zero : (f : ℕ → Bool) (a : ℕ) → firstFrom f a zero ≡ a
-unfolding firstFrom
-next-zero f a = refl
-
-next-no : (f : ℕ → Bool) (a k : ℕ) → f a ≡ false → firstFrom f a (suc k) ≡ firstFrom f (suc a) k
-unfolding firstFrom
-next-no f a k e = rw e
-
--- the first by two tests that agree; by one that nothing passes; of one
+-- the first by two tests that agree; of one
 pub first-same : (f g : ℕ → Bool) (k a : ℕ) → ((i : ℕ) → i < k → f (a + i) ≡ g (a + i)) → firstFrom f a k ≡ firstFrom g a k
 unfolding firstFrom
 first-same f g zero a h = refl
@@ -59,13 +61,14 @@ first-same f g (suc k) a h =
     ap₂ (λ (b : Bool) (r : ℕ). if b then a else r) (ap f (sym (add-zero a)) ∙ h 0 (omega arith) ∙ ap g (add-zero a))
     (first-same f g k (suc a) (λ i l. let e : suc a + i ≡ a + suc i = omega arith in ap f e ∙ h (suc i) (omega arith) ∙ ap g (sym e)))
 
-pub first-none : (f : ℕ → Bool) (k : ℕ) → ((i : ℕ) → f i ≡ false) → firstFrom f 0 k ≡ k
-first-none f k h = go k 0 ∙ zero-add k
-  where
-    go : (k a : ℕ) → firstFrom f a k ≡ a + k
-    go zero a = next-zero f a ∙ sym (add-zero a)
-    go (suc k) a = let e : suc a + k ≡ a + suc k = omega arith in next-no f a k (h a) ∙ go k (suc a) ∙ e
-
 pub first-only : (f : ℕ → Bool) (b : Bool) (k : ℕ) → k ≡ 1 → f 0 ≡ b → firstFrom (λ i. b) 0 1 ≡ firstFrom f 0 k
 unfolding firstFrom
 first-only f b k o e = rw (o, e)
+
+pub only-yes : (b : Bool) → b ≡ true → 0 ≡ firstFrom (λ i. b) 0 1
+unfolding firstFrom
+only-yes b e = rw e
+
+pub only-no : (b : Bool) → b ≡ false → 1 ≡ firstFrom (λ i. b) 0 1
+unfolding firstFrom
+only-no b e = rw e

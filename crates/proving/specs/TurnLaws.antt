@@ -1,6 +1,6 @@
--- From one atom of a node to the next: the digits of the next row, and the way.
+-- From one row of a node to the next: its digits, and their values.
 use Prim.Native.Nat.{ℕ, zero, suc, _+_, _-_, _*_, _/_, _%_, _^_, _<_, _≤_}
-use mathlib.Core.Path.{_≡_, refl, sym, ap, ap₂, subst, _∙_}
+use mathlib.Core.Path.{_≡_, refl, sym, ap, subst, _∙_, fun-ext}
 use mathlib.Core.Bool.{Bool, true, false}
 use mathlib.Core.List.{List, [], _∷_}
 use native.Mathlib.Omega.{arith}
@@ -8,20 +8,16 @@ use native.Mathlib.Nat.{div-add-mod', mod-lt, pow-suc, pow-zero, div-one, div-di
 use lib.Arith.{digits-div, digits-mod}
 use lib.Dec.{eqb, ltb}
 use lib.Seq.{getD-set-same, getD-set-other}
-use borrow.Author.Tests.{eq-eqb, ne-eqb, eqb-true, eqb-false, ltb-true, ltb-false}
-use lib.ListN.{length, getD, take, drop, set}
+use borrow.Author.Tests.{eqb-true, eqb-false, ltb-true, ltb-false}
+use lib.ListN.{length, getD, take, drop, set, length-set}
 use Rattle.definitions.specs.Lists.{if_then_else_}
 use Rattle.definitions.specs.Atoms.{placesOf}
-use Rattle.definitions.specs.Actions.{valuesIn}
-use Rattle.rows.specs.Values.{valueIn, Within}
-use Rattle.rows.specs.Laws.{values-next, within-zeros}
-use Rattle.ground.specs.Numbers.{underAt}
-use Rattle.ground.specs.declared.NodeLine.{NodeLine}
-use Rattle.proving.specs.declared.Way.{Way}
-use Rattle.proving.specs.declared.Elements.{Elements}
-use Rattle.proving.specs.declared.Turn.{Turn}
-use Rattle.proving.specs.Tries.{wayBy, staysBy, Digits, TurnFits, TurnAt}
-use Rattle.proving.specs.TryLaws.{way-forall, way-exists, way-and, way-or}
+use Rattle.definitions.specs.Actions.{Values, valuesIn, withValue}
+use Rattle.rows.specs.Values.{valueIn, Most}
+use Rattle.rows.specs.Laws.{set-value, within-zeros, value-zeros, values-next, values-all}
+use Rattle.tree.specs.Tables.{Levels}
+use Rattle.proving.specs.Tries.{Digits, Rest, Spread, spreadOf}
+use Rattle.proving.specs.NeedLaws.{most-set}
 
 -- ---- the next of a number, by its quotient and rest
 module _ (n x : ℕ) (o : 0 < n) where
@@ -123,114 +119,77 @@ spread-next n w i row out ls ds p h l k D v =
     let d : getD ds (i - 1) 0 ≡ row / n ^ (w - i) % n = D (i - 1) (omega arith) ∙ ap (λ (q : ℕ). row / n ^ (w - q) % n) s in
     ap (λ (x : ℕ). valueIn (set out (getD ls (i - 1) 0) x)) d ∙ values-next n w i row (row / n ^ (w - i)) out ls p h l k refl v .0
 
+-- ... past the width nothing has a value
+nothing : (n w i row : ℕ) (ls : List ℕ) → w ≤ i → valuesIn (drop i (take w ls)) (placesOf n (w - i) row) ≡ (λ _. 0)
+unfolding valuesIn placesOf
+nothing n w i row ls h = let e : w - i ≡ 0 = omega arith in rw e (fun-ext (nil (drop i (take w ls))))
+  where
+    nil : (ls : List ℕ) (l : ℕ) → valuesIn ls [] l ≡ 0
+    nil [] l = refl
+    nil (d ∷ ds) l = refl
+
+nothing-set : (d : ℕ) → withValue (λ _. 0) d 0 ≡ (λ _. 0)
+unfolding withValue
+nothing-set d = fun-ext (λ l. same (eqb l d))
+  where
+    same : (b : Bool) → _≡_ {A = ℕ} (if b then 0 else 0) 0
+    same true = refl
+    same false = refl
+
+pub place-next : (n w i row : ℕ) (out ls ds : List ℕ) → w ≤ length ls → getD ls i 0 < length out → Digits n w row ds → Rest w ds → Spread n w row ls (i + 1) out → Spread n w row ls i (set out (getD ls i 0) (getD ds i 0))
+place-next n w i row out ls ds k m D z v = go (ltb i w) refl
+  where
+    go : (b : Bool) → ltb i w ≡ b → Spread n w row ls i (set out (getD ls i 0) (getD ds i 0))
+    go true e =
+        let l = ltb-true i w e in
+        let o : i + 1 - 1 ≡ i = omega arith in
+        rw o at (spread-next n w (i + 1) row out ls ds (omega arith) (omega arith) k (rw o m) D v)
+    go false e =
+        let l = ltb-false i w e in
+        ap (λ (x : ℕ). valueIn (set out (getD ls i 0) x)) (z i l) ∙ set-value out (getD ls i 0) 0 m ∙ ap (λ (f : Values). withValue f (getD ls i 0) 0) (v ∙ nothing n w (i + 1) row ls (omega arith)) ∙ nothing-set (getD ls i 0) ∙ sym (nothing n w i row ls l)
+
+-- all four places, the last first
+module _ (n w row : ℕ) (ls ds : List ℕ) (few : w ≤ 4) (four : length ls ≡ 4) (low : Levels ls) (D : Digits n w row ds) (z : Rest w ds) where
+  more : (i : ℕ) (out : List ℕ) → length out ≡ 4 → Spread n w row ls (i + 1) out → (length (set out (getD ls i 0) (getD ds i 0)) ≡ 4) × Spread n w row ls i (set out (getD ls i 0) (getD ds i 0))
+  more i out l v = (length-set out (getD ls i 0) (getD ds i 0) ∙ l, place-next n w i row out ls ds (omega arith) (omega (arith, low i)) D z v)
+
+  pub spread-all : valueIn (spreadOf ls ds) ≡ valuesIn (take w ls) (placesOf n w row)
+  spread-all =
+      let a = more 3 (0 ∷ 0 ∷ 0 ∷ 0 ∷ []) refl (value-zeros ∙ sym (nothing n w 4 row ls few)) in
+      let b = more 2 _ (a .0) (a .1) in
+      let c = more 1 _ (b .0) (b .1) in
+      let d = more 0 _ (c .0) (c .1) in
+      values-all n w 0 row _ ls (omega arith) (d .1)
+
+module _ (ls ds : List ℕ) (m : Most ds 64) where
+  abbrev at : ℕ → List ℕ → List ℕ
+  at i out = set out (getD ls i 0) (getD ds i 0)
+
+  put : (i : ℕ) (out : List ℕ) → Most out 64 → Most (at i out) 64
+  put i out k = most-set out (getD ls i 0) (getD ds i 0) (m i) k
+
+  zeros : Most (0 ∷ 0 ∷ 0 ∷ 0 ∷ []) 64
+  zeros l = omega (arith, within-zeros 1 (omega arith) l)
+
+  pub spread-most : Most (spreadOf ls ds) 64
+  spread-most = put 0 (at 1 (at 2 (at 3 (0 ∷ 0 ∷ 0 ∷ 0 ∷ [])))) (put 1 (at 2 (at 3 (0 ∷ 0 ∷ 0 ∷ 0 ∷ []))) (put 2 (at 3 (0 ∷ 0 ∷ 0 ∷ 0 ∷ [])) (put 3 (0 ∷ 0 ∷ 0 ∷ 0 ∷ []) zeros)))
+
+-- the places past the width stay 0
+pub rest-set : (w i x : ℕ) (ds : List ℕ) → i < w → Rest w ds → Rest w (set ds i x)
+rest-set w i x ds h z q l = getD-set-other ds i q x 0 (λ e. omega arith) ∙ z q l
+
+pub rest-zeros : (w : ℕ) → Rest w (0 ∷ 0 ∷ 0 ∷ 0 ∷ [])
+unfolding valueIn
+rest-zeros w q l = ap (λ (f : Values). f q) value-zeros
+
 -- ---- the first row
-pub zero-digits : (n w row : ℕ) → row ≡ 0 → Digits n w row (0 ∷ 0 ∷ 0 ∷ 0 ∷ [])
-zero-digits n w row e q l = rw e (zeros q ∙ sym (ap (λ (x : ℕ). x % n) (zero-div (n ^ (w - suc q))) ∙ zero-mod n))
-  where
-    zeros : (q : ℕ) → _≡_ {A = ℕ} (getD (0 ∷ 0 ∷ 0 ∷ 0 ∷ []) q 0) 0
-    zeros zero = refl
-    zeros (suc zero) = refl
-    zeros (suc (suc zero)) = refl
-    zeros (suc (suc (suc zero))) = refl
-    zeros (suc (suc (suc (suc q)))) = refl
+pub zero-digits : (n w : ℕ) → Digits n w 0 (0 ∷ 0 ∷ 0 ∷ 0 ∷ [])
+zero-digits n w q l = rest-zeros 0 q (omega arith) ∙ sym (ap (λ (x : ℕ). x % n) (zero-div (n ^ (w - suc q))) ∙ zero-mod n)
 
-pub first-row : (n kind many : ℕ) (y : Way) → y ≡ wayBy n kind many 0 → y .row ≡ 0
-unfolding wayBy
-first-row n kind many y e = go (eqb kind 0) (eqb kind 1) (eqb kind 2) y e
-  where
-    go : (b₀ b₁ b₂ : Bool) (y : Way) → y ≡ (if b₀ then record { row = 0 / n; base = 0 % n; tries = 1; choices = n } else if b₁ then record { row = 0; base = 0; tries = n; choices = n } else if b₂ then record { row = 0; base = 0; tries = 1; choices = 1 } else record { row = 0; base = 0; tries = many; choices = many }) → y .row ≡ 0
-    go true b₁ b₂ y e = ap (λ (u : Way). u .row) e ∙ zero-div n
-    go false true b₂ y e = ap (λ (u : Way). u .row) e
-    go false false true y e = ap (λ (u : Way). u .row) e
-    go false false false y e = ap (λ (u : Way). u .row) e
-
--- ---- the next way
-abbrev stayed : Way → Way
-stayed u = record { row = u .row; base = u .base + 1; tries = u .tries; choices = u .choices }
-
-abbrev turned : Way → Way
-turned u = record { row = u .row + 1; base = 0; tries = u .tries; choices = u .choices }
-
-module _ (n kind many j : ℕ) (o : 0 < n) (y : Way) (e : y ≡ wayBy n kind many j) where
-  along : kind ≡ 0 → y ≡ record { row = j / n; base = j % n; tries = 1; choices = n }
-  along k = e ∙ sym (way-forall n kind many j k)
-
-  pub way-stays : staysBy n kind (y .base + 1) ≡ true → stayed y ≡ wayBy n kind many (j + 1)
-  unfolding staysBy
-  way-stays s = go (eqb kind 0) refl s
-    where
-      go : (b : Bool) → eqb kind 0 ≡ b → (if b then ltb (y .base + 1) n else false) ≡ true → stayed y ≡ wayBy n kind many (j + 1)
-      go true k s =
-          let z = eqb-true kind 0 k in
-          let l = ltb-true (y .base + 1) n s in
-          let b = ap (λ (u : Way). u .base) (along z) in
-          let g = next-stays n j o (omega arith) in
-          ap stayed (along z) ∙ ap₂ (λ (r x : ℕ). record { row = r; base = x; tries = 1; choices = n }) (sym (g .0)) (sym (g .1)) ∙ way-forall n kind many (j + 1) z
-      go false k s = let z : _≡_ {A = ℕ} 0 1 = ap (λ (b : Bool). if b then 1 else 0) s in absurd (omega arith)
-
-  pub way-turns : staysBy n kind (y .base + 1) ≡ false → turned y ≡ wayBy n kind many (j + 1)
-  unfolding staysBy
-  way-turns s = go (eqb kind 0) refl s (eqb kind 1) refl (eqb kind 2) refl
-    where
-      go : (b₀ : Bool) → eqb kind 0 ≡ b₀ → (if b₀ then ltb (y .base + 1) n else false) ≡ false → (b₁ : Bool) → eqb kind 1 ≡ b₁ → (b₂ : Bool) → eqb kind 2 ≡ b₂ → turned y ≡ wayBy n kind many (j + 1)
-      go true k s b₁ k₁ b₂ k₂ =
-          let z = eqb-true kind 0 k in
-          let l = ltb-false (y .base + 1) n s in
-          let b = ap (λ (u : Way). u .base) (along z) in
-          let g = next-turns n j o (omega arith) in
-          ap turned (along z) ∙ ap₂ (λ (r x : ℕ). record { row = r; base = x; tries = 1; choices = n }) (sym (g .0)) (sym (g .1)) ∙ way-forall n kind many (j + 1) z
-      go false k s true k₁ b₂ k₂ = let z = eqb-true kind 1 k₁ in ap turned (e ∙ sym (way-exists n kind many j z)) ∙ way-exists n kind many (j + 1) z
-      go false k s false k₁ true k₂ = let z = eqb-true kind 2 k₂ in ap turned (e ∙ sym (way-and n kind many j z)) ∙ way-and n kind many (j + 1) z
-      go false k s false k₁ false k₂ =
-          let a = eqb-false kind 0 k in
-          let b = eqb-false kind 1 k₁ in
-          let c = eqb-false kind 2 k₂ in
-          let z : 3 ≤ kind = omega arith in
-          ap turned (e ∙ sym (way-or n kind many j z)) ∙ way-or n kind many (j + 1) z
-
--- ---- whether the row stays
-pub stays-at : (n kind z : ℕ) (b : Bool) → kind ≡ 0 → b ≡ ltb z n → b ≡ staysBy n kind z
-unfolding staysBy
-stays-at n kind z b k e = rw (eq-eqb kind 0 k) e
-
-pub stays-not : (n kind z : ℕ) → (kind ≡ 0 → ⊥) → false ≡ staysBy n kind z
-unfolding staysBy
-stays-not n kind z k = rw (ne-eqb kind 0 k)
-
--- ---- the turns
-module _ (w : List ℕ) (v : NodeLine) (n m : ℕ) (e : n ≡ m) where
-  abbrev UnderIs : List ℕ → Elements → Type 0
-  UnderIs ds u = (u .start ≤ 2 ^ 42) × (u .stride ≤ 2 ^ 32) × ((row : ℕ) → Digits m (v .width) row ds → v .kind < 2 → (x : ℕ) → underAt m w v row x ≡ u .start + x * u .stride)
-
-  fits-at : (ds : List ℕ) (y : Way) (u : Elements) → length ds ≡ 4 → Within n ds → Digits n (v .width) (y .row) ds → UnderIs ds u → TurnFits n w v ds (record { way = y; under = u })
-  fits-at ds y u l i d f = record {
-    long = l;
-    digits = d;
-    within = i;
-    start = f .0;
-    stride = f .1;
-    under = λ k x. ap (λ (z : ℕ). underAt z w v (y .row) x) e ∙ f .2 (y .row) (subst (λ (z : ℕ). Digits z (v .width) (y .row) ds) e d) k x;
-  }
-
-  module _ (o : 0 < n) where
-    pub first-at : (ds : List ℕ) (y : Way) (u : Elements) → ds ≡ 0 ∷ 0 ∷ 0 ∷ 0 ∷ [] → y ≡ wayBy n (v .kind) (v .many) 0 → UnderIs ds u → TurnAt n w v 0 ds (record { way = y; under = u })
-    first-at ds y u z ey f = record {
-      way = ey;
-      fits = fits-at ds y u (ap length z) (subst (Within n) (sym z) (within-zeros n o)) (subst (Digits n (v .width) (y .row)) (sym z) (zero-digits n (v .width) (y .row) (first-row n (v .kind) (v .many) y ey))) f;
-    }
-
-    module _ (j : ℕ) (t : Turn) (ds : List ℕ) (at : TurnAt n w v j ds t) where
-      pub stays-turn : staysBy n (v .kind) (t .way .base + 1) ≡ true → TurnAt n w v (j + 1) ds (record { way = stayed (t .way); under = t .under })
-      stays-turn s =
-          let f = at .fits in
-          record {
-            way = way-stays n (v .kind) (v .many) j o (t .way) (at .way) s;
-            fits = record { long = f .long; digits = f .digits; within = f .within; start = f .start; stride = f .stride; under = f .under };
-          }
-
-      pub turns : (ds′ : List ℕ) (u : Elements) → staysBy n (v .kind) (t .way .base + 1) ≡ false → length ds′ ≡ length ds → Within n ds′
-          → ((row : ℕ) → Digits n (v .width) row ds → Digits n (v .width) (row + 1) ds′) → UnderIs ds′ u → TurnAt n w v (j + 1) ds′ (record { way = turned (t .way); under = u })
-      turns ds′ u s l i d f = record {
-        way = way-turns n (v .kind) (v .many) j o (t .way) (at .way) s;
-        fits = fits-at ds′ (turned (t .way)) u (l ∙ at .fits .long) i (d (t .way .row) (at .fits .digits)) f;
-      }
+-- ---- the first atom of the next row of a `forall`
+pub row-on : (n j : ℕ) → 0 < n → j ≡ j / n * n → ((j + n) / n ≡ j / n + 1) × (j + n ≡ (j + n) / n * n)
+row-on n j o e =
+    let a : j + n ≡ (j / n + 1) * n + 0 = omega (arith, add-mul (j / n) 1 n, one-mul n) in
+    let b : (j + n) / n ≡ j / n + 1 = ap (λ (x : ℕ). x / n) a ∙ digits-div (j / n + 1) o in
+    let c : (j / n + 1) * n + 0 ≡ (j / n + 1) * n = omega arith in
+    (b, a ∙ c ∙ ap (λ (q : ℕ). q * n) (sym b))

@@ -2,7 +2,7 @@
 // state and its number written to the lent steps.
 ghost use mathlib.Core.Path.{_≡_};
 ghost use mathlib.Core.Bool.{true};
-ghost use mathlib.Core.List.{[], _∷_, map};
+ghost use mathlib.Core.List.{List, [], _∷_, map};
 ghost use Prim.Native.Nat.{ℕ, _+_, _-_, _*_, _/_, _%_, _^_, _<_, _≤_};
 ghost use lib.ListN.{length, take, set as «set-at»};
 ghost use Rattle.definitions.specs.Lists.{all, from};
@@ -13,30 +13,16 @@ ghost use Rattle.bits.specs.Table.{bit};
 ghost use Rattle.rows.specs.Values.{valueIn, Within, Most};
 ghost use Rattle.tree.specs.Tables.{Levels};
 ghost use Rattle.ground.specs.Lines.{sizeIn, nodeLine, partAt, NodeFits, Fits};
+ghost use Rattle.ground.specs.declared.NodeLine.{NodeLine};
 ghost use Rattle.ground.specs.Numbers.{underAt, ActFits, changed};
 ghost use Rattle.ground.specs.Of.{said};
-ghost use Rattle.proving.specs.Tries.{wayBy, needBy, chained, staysBy, firstFrom, WayFits, Digits, TurnFits, TurnAt};
-ghost use Rattle.proving.specs.Following.{Ready, out, one, provedRow, provedRows, provedNodes};
-
-// The way to the atom j of a node: the row of values, the first of the parts, elements or zs to try and how many there are, and how
-// many actions each row has.
-pub struct Way {
-    pub row: usize,
-    pub base: usize,
-    pub tries: usize,
-    pub choices: usize,
-}
+ghost use Rattle.proving.specs.Tries.{wayBy, chained, firstFrom, firstBy, Digits, Rest};
+ghost use Rattle.proving.specs.Following.{Ready, NodeOf, Chain, Goes, out, one, provedRow, provedRows, provedNodes};
 
 // Where an element takes a part: its atom's number at element 0, and by how much that grows with the element.
 pub struct Elements {
     pub start: usize,
     pub stride: usize,
-}
-
-// The way to an atom, and the part under a quantifier in its row.
-pub struct Turn {
-    pub way: Way,
-    pub under: Elements,
 }
 
 // How far b is past a; 0 where it is not.
@@ -57,42 +43,6 @@ fn put(steps: &mut [u32], at: usize, k: usize)
         if k < 4294967296 {
             steps[at] = k as u32;
         }
-    }
-}
-
-fn way_to(n: usize, kind: usize, many: usize, j: usize) -> Way
-    requires { ⌜ 0 < n ⌝ }
-    ensures { λ r. ⌜ r ≡ wayBy n kind many j ⌝ }
-{
-    if kind == 0 {
-        return Way {
-            row: j / n,
-            base: j % n,
-            tries: 1,
-            choices: n,
-        };
-    }
-    if kind == 1 {
-        return Way {
-            row: j,
-            base: 0,
-            tries: n,
-            choices: n,
-        };
-    }
-    if kind == 2 {
-        return Way {
-            row: j,
-            base: 0,
-            tries: 1,
-            choices: 1,
-        };
-    }
-    Way {
-        row: j,
-        base: 0,
-        tries: many,
-        choices: many,
     }
 }
 
@@ -184,51 +134,55 @@ fn only_try(holds: bool) -> usize
     1
 }
 
-// The values of the first `width` of the levels, by level.
+// The values of the first `width` of the levels, by level. All four places are written, the last first, since a loop over them would
+// cost a tenth of building; those past the width are 0, and what they write a place before them writes again.
 fn spread(levels: [usize; 4], width: usize, digits: &[usize]) -> [usize; 4]
-    requires { ⌜ (width ≤ 4) × Levels levels × (length (now digits) ≡ 4) × Most (now digits) 64 ⌝ }
+    requires { ⌜ (width ≤ 4) × Levels levels × (length (now digits) ≡ 4) × Most (now digits) 64 × Rest width (now digits) ⌝ }
     ensures { λ r. ⌜ Most r 64 × ((n row : ℕ) → Digits n width row (now (digits .entry)) → valueIn r ≡ valuesIn (take width levels) (placesOf n width row)) ⌝ }
 {
-    let mut out = [0usize; 4];
-    let mut i = width;
-    while 0 < i {
-        i -= 1;
-        out[levels[i]] = digits[i];
-    }
-    out
+    let mut values = [0usize; 4];
+    values[levels[3]] = digits[3];
+    values[levels[2]] = digits[2];
+    values[levels[1]] = digits[1];
+    values[levels[0]] = digits[0];
+    values
 }
 
-// The first of the tries whose needs all hold; their count where there is none.
+// How many actions a row of an `exists`, `and` or `or` has.
+fn tries(n: usize, kind: usize, many: usize) -> usize
+    requires { ⌜ (0 < kind) × (n ≤ 64) × (many ≤ 64) ⌝ }
+    ensures { λ r. ⌜ (r ≤ 64) × ((j : ℕ) → (r ≡ wayBy n kind many j .tries) × (r ≡ wayBy n kind many j .choices)) ⌝ }
+{
+    if kind == 1 {
+        return n;
+    }
+    if kind == 2 {
+        return 1;
+    }
+    many
+}
+
+// The first action of a row of an `exists`, `and` or `or` whose needs all hold; their count where there is none.
 fn first_try(
     state: &[u64],
     n: usize,
     table: &[usize],
     v: ground::NodeLine,
-    t: Turn,
     digits: &[usize],
 ) -> usize
-    requires { ⌜ Fits (now table) × (n ≡ sizeIn (now table)) × NodeFits v × (v .atoms ≤ 2 ^ 32) × WayFits n v (t .way) × TurnFits n (now table) v (now digits) t ⌝ }
-    ensures { λ r. ⌜ r ≡ firstFrom (λ i. all (bit (now (state .entry))) (needBy n (now (table .entry)) v (t .way .row) (t .way .base + i))) 0 (t .way .tries) ⌝ }
+    requires { ⌜ Fits (now table) × (n ≡ sizeIn (now table)) × NodeFits v × (0 < v .kind) × (length (now digits) ≡ 4) × Within n (now digits) × Rest (v .width) (now digits) ⌝ }
+    ensures { λ r. ⌜ ((row : ℕ) → Digits n (v .width) row (now (digits .entry)) → bit (now (state .entry)) 1 ≡ true → r ≡ firstBy (bit (now (state .entry))) n (now (table .entry)) v row) ⌝ }
 {
-    let w = t.way;
-    if ground::test(state, 1) {
-        if v.kind < 2 {
-            let a = t.under;
-            let k = a.start + w.base * a.stride;
-            if v.kind == 1 {
-                return first_bit(state, k, a.stride, w.tries);
-            }
-            let own = v.atoms + (w.row * n + w.base);
-            return only_try(chain_holds(state, k, w.base, own));
-        }
-        let levels = v.levels;
-        let env = spread(levels, v.width, digits);
-        if v.kind == 2 {
-            return only_try(parts_hold(state, table, v.first, v.many, env));
-        }
-        return first_part(state, table, v.first + w.base, w.tries, env);
+    let levels = v.levels;
+    let env = spread(levels, v.width, digits);
+    if v.kind == 1 {
+        let a = along(table, v.first, v.level, env);
+        return first_bit(state, a.start, a.stride, n);
     }
-    w.tries
+    if v.kind == 2 {
+        return only_try(parts_hold(state, table, v.first, v.many, env));
+    }
+    first_part(state, table, v.first, v.many, env)
 }
 
 // An action is taken and its number written.
@@ -269,34 +223,34 @@ fn mark(state: &mut [u64], steps: &mut [u32], at: usize, atom: usize, action: us
     at + 1
 }
 
-// The atom j of a node is proved, if some action that does so may be taken.
+// The atom of a row of an `exists`, `and` or `or` is proved, if one of its `tries` actions may be taken.
 fn prove_row(
     state: &mut [u64],
     steps: &mut [u32],
     at: usize,
     table: &[usize],
     v: ground::NodeLine,
-    t: Turn,
+    tries: usize,
     digits: &[usize],
-    j: usize,
+    row: usize,
 ) -> usize
-    requires { ⌜ Fits (now table) × NodeFits v × (v .acts ≤ 2 ^ 32) × (v .atoms ≤ 2 ^ 32) × (j ≤ 2 ^ 32) × (at < 2 ^ 40) × TurnAt (sizeIn (now table)) (now table) v j (now digits) t ⌝ }
-    ensures { λ r. ⌜ (r ≤ at + 1) × ((p : Problem) (node : ℕ) → Ready p (now (table .entry)) (length (now (state .entry))) → node < length (p .nodeList) → v ≡ nodeLine (now (table .entry)) node → j < nodeWidth (p .size) (nodeAt p node)
-        → provedRow p node (out (bit (now (state .entry))) (now (steps .entry)) at) j ≡ out (bit (now (state .exit))) (now (steps .exit)) r) ⌝ }
+    requires { ⌜ Fits (now table) × NodeFits v × (v .acts ≤ 2 ^ 32) × (v .atoms ≤ 2 ^ 32) × (row ≤ 2 ^ 32) × (at < 2 ^ 40) × (0 < v .kind) × (tries ≤ 64) × (length (now digits) ≡ 4) × Within (sizeIn (now table)) (now digits) × Rest (v .width) (now digits) ⌝ }
+    ensures { λ r. ⌜ (r ≤ at + 1) × ((p : Problem) (node : ℕ) → NodeOf p (now (table .entry)) (length (now (state .entry))) node v
+        → (tries ≡ wayBy (sizeIn (now (table .entry))) (v .kind) (v .many) row .tries) × (tries ≡ wayBy (sizeIn (now (table .entry))) (v .kind) (v .many) row .choices)
+        → Digits (sizeIn (now (table .entry))) (v .width) row (now (digits .entry)) → row < nodeWidth (p .size) (nodeAt p node) → bit (now (state .entry)) 1 ≡ true
+        → Goes (provedRow p node (out (bit (now (state .entry))) (now (steps .entry)) at) row) (bit (now (state .exit))) (now (steps .exit)) r) ⌝ }
 {
-    let w = t.way;
-    let i = first_try(state, table[0], table, v, t, digits);
-    if i < w.tries {
-        let number = v.acts + w.row * w.choices + (w.base + i);
-        return mark(state, steps, at, v.atoms + j, number);
+    let i = first_try(state, table[0], table, v, digits);
+    if i < tries {
+        return mark(state, steps, at, v.atoms + row, v.acts + row * tries + i);
     }
     at
 }
 
 // The digits of the next row.
 fn advance(n: usize, width: usize, digits: &mut [usize])
-    requires { ⌜ (n ≤ 64) × (width ≤ 4) × (length (now digits) ≡ 4) × Within n (now digits) ⌝ }
-    ensures { λ r. ⌜ Within n (now (digits .exit)) × ((row : ℕ) → Digits n width row (now (digits .entry)) → Digits n width (row + 1) (now (digits .exit))) ⌝ }
+    requires { ⌜ (n ≤ 64) × (width ≤ 4) × (length (now digits) ≡ 4) × Within n (now digits) × Rest width (now digits) ⌝ }
+    ensures { λ r. ⌜ Within n (now (digits .exit)) × Rest width (now (digits .exit)) × ((row : ℕ) → Digits n width row (now (digits .entry)) → Digits n width (row + 1) (now (digits .exit))) ⌝ }
 {
     let mut i = width;
     while 0 < i {
@@ -312,7 +266,7 @@ fn advance(n: usize, width: usize, digits: &mut [usize])
 
 // The part under a quantifier in a row.
 fn under_at(table: &[usize], v: ground::NodeLine, digits: &[usize]) -> Elements
-    requires { ⌜ Fits (now table) × NodeFits v × (length (now digits) ≡ 4) × Within (sizeIn (now table)) (now digits) ⌝ }
+    requires { ⌜ Fits (now table) × NodeFits v × (length (now digits) ≡ 4) × Within (sizeIn (now table)) (now digits) × Rest (v .width) (now digits) ⌝ }
     ensures { λ r. ⌜ (r .start ≤ 2 ^ 42) × (r .stride ≤ 2 ^ 32) × ((row : ℕ) → Digits (sizeIn (now (table .entry))) (v .width) row (now (digits .entry)) → v .kind < 2 → (x : ℕ) → underAt (sizeIn (now (table .entry))) (now (table .entry)) v row x ≡ r .start + x * r .stride) ⌝ }
 {
     if v.kind < 2 {
@@ -326,59 +280,110 @@ fn under_at(table: &[usize], v: ground::NodeLine, digits: &[usize]) -> Elements
     }
 }
 
-// The turn of a node's first atom.
-fn first_turn(n: usize, table: &[usize], v: ground::NodeLine, digits: &[usize]) -> Turn
-    requires { ⌜ Fits (now table) × (n ≡ sizeIn (now table)) × NodeFits v × (now digits ≡ 0 ∷ 0 ∷ 0 ∷ 0 ∷ []) ⌝ }
-    ensures { λ r. ⌜ TurnAt n (now (table .entry)) v 0 (now (digits .entry)) r ⌝ }
+// One atom of a `forall`, "true up to z", is proved, if its part holds and unless z is 0, the atom before it does.
+fn prove_link(
+    state: &mut [u64],
+    steps: &mut [u32],
+    at: usize,
+    part: usize,
+    z: usize,
+    own: usize,
+    action: usize,
+) -> usize
+    requires { ⌜ (at < 2 ^ 40) × (0 < z → 0 < own) ⌝ }
+    ensures { λ r. ⌜ (r ≤ at + 1) × ((p : Problem) (w : List ℕ) (node : ℕ) (v : NodeLine) (n row j : ℕ) (under : Elements) → Chain p w (length (now (state .entry))) node v n row j under → z < n
+        → part ≡ under .start + z * under .stride → own ≡ v .atoms + (j + z) → action ≡ v .acts + (j + z) → bit (now (state .entry)) 1 ≡ true
+        → Goes (provedRow p node (out (bit (now (state .entry))) (now (steps .entry)) at) (j + z)) (bit (now (state .exit))) (now (steps .exit)) r) ⌝ }
 {
-    let way = way_to(n, v.kind, v.many, 0);
-    let under = under_at(table, v, digits);
-    Turn { way, under }
-}
-
-// Whether a `forall` goes on with z in the same row.
-fn stays(n: usize, kind: usize, z: usize) -> bool
-    ensures { λ r. ⌜ r ≡ staysBy n kind z ⌝ }
-{
-    if kind == 0 {
-        return z < n;
+    if chain_holds(state, part, z, own) {
+        return mark(state, steps, at, own, action);
     }
-    false
+    at
 }
 
-// The turn after that of the atom j.
-fn next_turn(
+// The atoms of a `forall` in one row, from atom j on: z after z.
+fn prove_chain(
+    state: &mut [u64],
+    steps: &mut [u32],
+    at: usize,
     n: usize,
+    v: ground::NodeLine,
+    under: Elements,
+    j: usize,
+) -> usize
+    requires { ⌜ (n ≤ 64) × (v .acts ≤ 2 ^ 32) × (v .atoms ≤ 2 ^ 32) × (j ≤ 2 ^ 32) × (at + 64 ≤ 2 ^ 40) × (under .start ≤ 2 ^ 42) × (under .stride ≤ 2 ^ 32) ⌝ }
+    ensures { λ r. ⌜ (r ≤ at + n) × ((p : Problem) (w : List ℕ) (node row : ℕ) → Chain p w (length (now (state .entry))) node v n row j under → bit (now (state .entry)) 1 ≡ true
+        → Goes (provedRows p node (out (bit (now (state .entry))) (now (steps .entry)) at) j n) (bit (now (state .exit))) (now (steps .exit)) r) ⌝ }
+{
+    let mut k = at;
+    let mut part = under.start;
+    let mut z: usize = 0;
+    while z < n {
+        k = prove_link(
+            state,
+            steps,
+            k,
+            part,
+            z,
+            v.atoms + (j + z),
+            v.acts + (j + z),
+        );
+        part += under.stride;
+        z += 1;
+    }
+    k
+}
+
+// The atoms of a `forall`, row by row.
+fn prove_chains(
+    state: &mut [u64],
+    steps: &mut [u32],
+    at: usize,
     table: &[usize],
     v: ground::NodeLine,
-    t: Turn,
-    digits: &mut [usize],
-    j: usize,
-) -> Turn
-    requires { ⌜ Fits (now table) × (n ≡ sizeIn (now table)) × NodeFits v × (j ≤ 2 ^ 32) × TurnAt n (now table) v j (now digits) t ⌝ }
-    ensures { λ r. ⌜ TurnAt n (now (table .entry)) v (j + 1) (now (digits .exit)) r ⌝ }
+    width: usize,
+) -> usize
+    requires { ⌜ Fits (now table) × NodeFits v × (v .acts ≤ 2 ^ 32) × (v .atoms ≤ 2 ^ 32) × (v .kind ≡ 0) × (width ≤ 2 ^ 32) × (at < 2 ^ 39) ⌝ }
+    ensures { λ r. ⌜ (r ≤ at + width) × ((p : Problem) (node : ℕ) → NodeOf p (now (table .entry)) (length (now (state .entry))) node v → width ≡ nodeWidth (p .size) (nodeAt p node) → bit (now (state .entry)) 1 ≡ true
+        → Goes (provedRows p node (out (bit (now (state .entry))) (now (steps .entry)) at) 0 width) (bit (now (state .exit))) (now (steps .exit)) r) ⌝ }
 {
-    let w = t.way;
-    let base = w.base + 1;
-    if stays(n, v.kind, base) {
-        let way = Way {
-            row: w.row,
-            base,
-            tries: w.tries,
-            choices: w.choices,
-        };
-        let under = t.under;
-        return Turn { way, under };
+    let n = table[0];
+    let mut digits = [0usize; 4];
+    let mut k = at;
+    let mut j: usize = 0;
+    while j + n <= width {
+        let under = under_at(table, v, &digits);
+        k = prove_chain(state, steps, k, n, v, under, j);
+        advance(n, v.width, &mut digits);
+        j += n;
     }
-    let way = Way {
-        row: w.row + 1,
-        base: 0,
-        tries: w.tries,
-        choices: w.choices,
-    };
-    advance(n, v.width, digits);
-    let under = under_at(table, v, digits);
-    Turn { way, under }
+    k
+}
+
+// The atoms of an `exists`, `and` or `or`, a row each.
+fn prove_rows(
+    state: &mut [u64],
+    steps: &mut [u32],
+    at: usize,
+    table: &[usize],
+    v: ground::NodeLine,
+    width: usize,
+) -> usize
+    requires { ⌜ Fits (now table) × NodeFits v × (v .acts ≤ 2 ^ 32) × (v .atoms ≤ 2 ^ 32) × (0 < v .kind) × (width ≤ 2 ^ 32) × (at < 2 ^ 39) ⌝ }
+    ensures { λ r. ⌜ (r ≤ at + width) × ((p : Problem) (node : ℕ) → NodeOf p (now (table .entry)) (length (now (state .entry))) node v → width ≡ nodeWidth (p .size) (nodeAt p node) → bit (now (state .entry)) 1 ≡ true
+        → Goes (provedRows p node (out (bit (now (state .entry))) (now (steps .entry)) at) 0 width) (bit (now (state .exit))) (now (steps .exit)) r) ⌝ }
+{
+    let n = table[0];
+    let m = tries(n, v.kind, v.many);
+    let mut digits = [0usize; 4];
+    let mut k = at;
+    let mut row: usize = 0;
+    while row < width {
+        k = prove_row(state, steps, k, table, v, m, &digits, row);
+        advance(n, v.width, &mut digits);
+        row += 1;
+    }
+    k
 }
 
 // The atoms of a node, in order.
@@ -391,21 +396,14 @@ fn prove_node(
     width: usize,
 ) -> usize
     requires { ⌜ Fits (now table) × (node < 64) × (width ≤ 2 ^ 32) × (at < 2 ^ 39) ⌝ }
-    ensures { λ r. ⌜ (r ≤ at + width) × ((p : Problem) → Ready p (now (table .entry)) (length (now (state .entry))) → node < length (p .nodeList) → width ≡ nodeWidth (p .size) (nodeAt p node)
-        → provedRows p node (out (bit (now (state .entry))) (now (steps .entry)) at) 0 width ≡ out (bit (now (state .exit))) (now (steps .exit)) r) ⌝ }
+    ensures { λ r. ⌜ (r ≤ at + width) × ((p : Problem) → Ready p (now (table .entry)) (length (now (state .entry))) → node < length (p .nodeList) → width ≡ nodeWidth (p .size) (nodeAt p node) → bit (now (state .entry)) 1 ≡ true
+        → Goes (provedRows p node (out (bit (now (state .entry))) (now (steps .entry)) at) 0 width) (bit (now (state .exit))) (now (steps .exit)) r) ⌝ }
 {
-    let n = table[0];
     let v = ground::node_line(table, node);
-    let mut digits = [0usize; 4];
-    let mut t = first_turn(n, table, v, &digits);
-    let mut k = at;
-    let mut j: usize = 0;
-    while j < width {
-        k = prove_row(state, steps, k, table, v, t, &digits, j);
-        t = next_turn(n, table, v, t, &mut digits, j);
-        j += 1;
+    if v.kind == 0 {
+        return prove_chains(state, steps, at, table, v, width);
     }
-    k
+    prove_rows(state, steps, at, table, v, width)
 }
 
 // The atoms of all nodes, later nodes first; `atoms` is where the last one's end.
@@ -417,7 +415,7 @@ pub fn prove_nodes(
     atoms: usize,
 ) -> usize
     requires { ⌜ Fits (now table) × (atoms ≤ 2 ^ 32) × (at ≤ 2 ^ 37) ⌝ }
-    ensures { λ r. ⌜ (r ≤ at + 64 * 2 ^ 32) × ((p : Problem) → Ready p (now (table .entry)) (length (now (state .entry))) → atoms ≡ «atoms-of» p
+    ensures { λ r. ⌜ (r ≤ at + 64 * 2 ^ 32) × ((p : Problem) → Ready p (now (table .entry)) (length (now (state .entry))) → atoms ≡ «atoms-of» p → bit (now (state .entry)) 1 ≡ true
         → provedNodes p (out (bit (now (state .entry))) (now (steps .entry)) at) (length (p .nodeList)) ≡ out (bit (now (state .exit))) (now (steps .exit)) r) ⌝ }
 {
     let mut k = at;

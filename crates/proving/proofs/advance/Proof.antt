@@ -6,19 +6,19 @@ use borrow.Author.Needs.{needs}
 use lib.ListN.{length, length-set}
 use Rattle.rows.specs.Values.{Within}
 use Rattle.rows.specs.Laws.{within-set}
-use Rattle.proving.specs.Tries.{Digits}
-use Rattle.proving.specs.TurnLaws.{Carried, carry-start, carry-on, carry-done, carry-end}
+use Rattle.proving.specs.Tries.{Digits, Rest}
+use Rattle.proving.specs.TurnLaws.{Carried, rest-set, carry-start, carry-on, carry-done, carry-end}
 use Rattle.proving.proofs.advance.Statement.{statement}
 use Rattle.proving.proofs.advance.Tie as tie
 
 abbrev Inv-loop : tie.InvT-loop
-Inv-loop n width digits₀ i₀ digits i = (i ≤ width) × (length digits ≡ length digits₀) × Within n digits × ((row : ℕ) → Digits n width row digits₀ → Carried n width row i digits)
+Inv-loop n width digits₀ i₀ digits i = (i ≤ width) × (length digits ≡ length digits₀) × Within n digits × Rest width digits × ((row : ℕ) → Digits n width row digits₀ → Carried n width row i digits)
 
 abbrev μ-loop : tie.MeasureT-loop
 μ-loop n width digits₀ i₀ digits i = i
 
 loop-holds : tie.Need-loop-holds Inv-loop μ-loop
-loop-holds c = (omega arith, refl, c .pre .3, λ row D. carry-start (c .args .n) (c .args .width) row (c .args .digits .now) D)
+loop-holds c = (omega arith, refl, c .pre .3, c .pre .4, λ row D. carry-start (c .args .n) (c .args .width) row (c .args .digits .now) D)
 
 sub-i : tie.Need-sub-i Inv-loop μ-loop
 sub-i c = search needs
@@ -42,7 +42,7 @@ same-length : tie.Need-same-length Inv-loop μ-loop
 same-length c = simp length-set (c .before .before .before .loop .inv .1)
 
 returns : tie.Need-returns Inv-loop μ-loop
-returns c = (within-set (c .before .before .before .before .args .n) (c .before .before .before .loop .digits) _ _ (omega arith) (c .before .before .before .loop .inv .2), λ row D. carry-done (c .before .before .before .before .args .n) (c .before .before .before .before .args .width) row (c .before .before .before .loop .i) (c .before .before .before .loop .digits) (omega (arith, c .before .before .before .before .pre .3 0)) (omega arith) (omega arith) (omega (arith, c .before .before .before .loop .inv .1, c .before .before .before .before .pre .2)) (c .before .before .before .loop .inv .3 row D) (omega arith))
+returns c = (within-set (c .before .before .before .before .args .n) (c .before .before .before .loop .digits) _ _ (omega arith) (c .before .before .before .loop .inv .2), rest-set (c .before .before .before .before .args .width) (c .before .before .before .loop .i - 1) _ (c .before .before .before .loop .digits) (omega arith) (c .before .before .before .loop .inv .3), λ row D. carry-done (c .before .before .before .before .args .n) (c .before .before .before .before .args .width) row (c .before .before .before .loop .i) (c .before .before .before .loop .digits) (omega (arith, c .before .before .before .before .pre .3 0)) (omega arith) (omega arith) (omega (arith, c .before .before .before .loop .inv .1, c .before .before .before .before .pre .2)) (c .before .before .before .loop .inv .4 row D) (omega arith))
 
 mul-digits-2 : tie.Need-mul-digits-2 Inv-loop μ-loop
 mul-digits-2 c = search needs
@@ -54,13 +54,13 @@ loop-less : tie.Need-loop-less Inv-loop μ-loop
 loop-less c = search needs
 
 loop-again : tie.Need-loop-again Inv-loop μ-loop
-loop-again c = (omega arith, simp length-set (c .before .before .before .loop .inv .1), within-set (c .before .before .before .before .args .n) (c .before .before .before .loop .digits) _ _ (omega (arith, c .before .before .before .before .pre .3 0)) (c .before .before .before .loop .inv .2), λ row D. carry-on (c .before .before .before .before .args .n) (c .before .before .before .before .args .width) row (c .before .before .before .loop .i) (c .before .before .before .loop .digits) (omega (arith, c .before .before .before .before .pre .3 0)) (omega arith) (omega arith) (omega (arith, c .before .before .before .loop .inv .1, c .before .before .before .before .pre .2)) (c .before .before .before .loop .inv .3 row D) (omega arith))
+loop-again c = (omega arith, simp length-set (c .before .before .before .loop .inv .1), within-set (c .before .before .before .before .args .n) (c .before .before .before .loop .digits) _ _ (omega (arith, c .before .before .before .before .pre .3 0)) (c .before .before .before .loop .inv .2), rest-set (c .before .before .before .before .args .width) (c .before .before .before .loop .i - 1) _ (c .before .before .before .loop .digits) (omega arith) (c .before .before .before .loop .inv .3), λ row D. carry-on (c .before .before .before .before .args .n) (c .before .before .before .before .args .width) row (c .before .before .before .loop .i) (c .before .before .before .loop .digits) (omega (arith, c .before .before .before .before .pre .3 0)) (omega arith) (omega arith) (omega (arith, c .before .before .before .loop .inv .1, c .before .before .before .before .pre .2)) (c .before .before .before .loop .inv .4 row D) (omega arith))
 
 same-length-2 : tie.Need-same-length-2 Inv-loop μ-loop
 same-length-2 c = c .before .loop .inv .1
 
 returns-2 : tie.Need-returns-2 Inv-loop μ-loop
-returns-2 c = (c .before .loop .inv .2, λ row D. carry-end (c .before .before .args .n) (c .before .before .args .width) row (c .before .loop .i) (c .before .loop .digits) (omega arith) (c .before .loop .inv .3 row D))
+returns-2 c = (c .before .loop .inv .2, c .before .loop .inv .3, λ row D. carry-end (c .before .before .args .n) (c .before .before .args .width) row (c .before .loop .i) (c .before .loop .digits) (omega arith) (c .before .loop .inv .4 row D))
 
 pub advance-spec : {M : Type 1} → statement M
 advance-spec =

@@ -1,5 +1,7 @@
+-- `proving::prove_nodes` meets its contract.
 use Prim.Native.Nat.{_+_, _-_, _*_, _^_, _≤_}
 use mathlib.Core.Path.{_≡_, refl, sym, ap, _∙_}
+use mathlib.Core.Bool.{true}
 use native.Mathlib.Omega.{arith}
 use borrow.Author.Needs.{needs}
 use lib.ListN.{length}
@@ -13,7 +15,8 @@ use Rattle.proving.proofs.prove_nodes.Statement.{statement}
 use Rattle.proving.proofs.prove_nodes.Tie as tie
 
 abbrev Inv-loop : tie.InvT-loop
-Inv-loop state₀ steps₀ at table atoms k₀ end₀ v₀ state steps k end v = (v ≤ nodesIn table) × (end ≤ 2 ^ 32) × (k ≤ at + (nodesIn table - v) * 2 ^ 32) × (length state ≡ length state₀) × (length steps ≡ length steps₀) × ((p : Problem) → Ready p table (length state₀) → atoms ≡ atomsOf p → (end ≡ nodeStart p v) × (provedNodes p (out (bit state₀) steps₀ at) (length (p .nodeList)) ≡ provedNodes p (out (bit state) steps k) v))
+Inv-loop state₀ steps₀ at table atoms k₀ end₀ v₀ state steps k end v = (v ≤ nodesIn table) × (end ≤ 2 ^ 32) × (k ≤ at + (nodesIn table - v) * 2 ^ 32) × (length state ≡ length state₀) × (length steps ≡ length steps₀)
+    × ((p : Problem) → Ready p table (length state₀) → atoms ≡ atomsOf p → bit state₀ 1 ≡ true → (end ≡ nodeStart p v) × (provedNodes p (out (bit state₀) steps₀ at) (length (p .nodeList)) ≡ provedNodes p (out (bit state) steps k) v) × (bit state 1 ≡ true))
 
 abbrev μ-loop : tie.MeasureT-loop
 μ-loop state₀ steps₀ at table atoms k₀ end₀ v₀ state steps k end v = v
@@ -22,7 +25,7 @@ shared-slice-read-v : tie.Need-shared-slice-read-v Inv-loop μ-loop
 shared-slice-read-v c = omega (arith, c .before .before .before .before .pre .0 .whole)
 
 loop-holds : tie.Need-loop-holds Inv-loop μ-loop
-loop-holds c = (omega arith, c .before .before .before .before .pre .1, omega arith, refl, refl, λ p R e. (end-start p (c .before .before .before .before .args .table .now) (R .is) (c .before .before .before .before .args .atoms) e, ap (provedNodes p (out (bit (c .before .before .before .before .args .state .now)) (c .before .before .before .before .args .steps .now) (c .before .before .before .before .args .at))) (sym (R .is .nodes))))
+loop-holds c = (omega arith, c .before .before .before .before .pre .1, omega arith, refl, refl, λ p R e o. (end-start p (c .before .before .before .before .args .table .now) (R .is) (c .before .before .before .before .args .atoms) e, ap (provedNodes p (out (bit (c .before .before .before .before .args .state .now)) (c .before .before .before .before .args .steps .now) (c .before .before .before .before .args .at))) (sym (R .is .nodes)), o))
 
 sub-v : tie.Need-sub-v Inv-loop μ-loop
 sub-v c = omega arith
@@ -46,12 +49,13 @@ loop-again c = (
   omega (arith, c .before .before .before .before .prove-node .ensures .0, c .before .before .before .before .before .gap .ensures),
   c .before .before .before .before .prove-node .kept .0 ∙ c .before .before .before .before .before .before .before .before .before .before .loop .inv .3,
   c .before .before .before .before .prove-node .kept .1 .0 ∙ c .before .before .before .before .before .before .before .before .before .before .loop .inv .4,
-  λ p R e.
-      let I = c .before .before .before .before .before .before .before .before .before .before .loop .inv .5 p R e in
-      let g = width-before p (c .before .before .before .before .before .before .before .before .before .before .before .before .before .before .before .args .table .now) (R .is) (c .before .before .before .before .before .before .before .before .before .before .loop .v) (c .before .before .before .before .before .before .before .before .before .before .loop .end) (c .before .before .before .before .before .before .before .before .node-line .result) (c .before .before .before .before .before .before .before .before .node-line .ensures) (omega arith) (omega arith) (I .0) (c .before .before .before .before .before .gap .result) (c .before .before .before .before .before .gap .ensures) in (
+  λ p R e o.
+      let I = c .before .before .before .before .before .before .before .before .before .before .loop .inv .5 p R e o in
+      let g = width-before p (c .before .before .before .before .before .before .before .before .before .before .before .before .before .before .before .args .table .now) (R .is) (c .before .before .before .before .before .before .before .before .before .before .loop .v) (c .before .before .before .before .before .before .before .before .before .before .loop .end) (c .before .before .before .before .before .before .before .before .node-line .result) (c .before .before .before .before .before .before .before .before .node-line .ensures) (omega arith) (omega arith) (I .0) (c .before .before .before .before .before .gap .result) (c .before .before .before .before .before .gap .ensures) in
+      let G = c .before .before .before .before .prove-node .ensures .1 p (record { is = R .is; room = omega (arith, R .room, c .before .before .before .before .before .before .before .before .before .before .loop .inv .3); few = R .few }) (omega (arith, R .is .nodes)) g (I .2) in (
         start-before p (c .before .before .before .before .before .before .before .before .before .before .before .before .before .before .before .args .table .now) (R .is) (c .before .before .before .before .before .before .before .before .before .before .loop .v) (c .before .before .before .before .before .before .before .before .node-line .result) (c .before .before .before .before .before .before .before .before .node-line .ensures) (omega arith) (omega arith),
-        I .1 ∙ nodes-next p (out (bit (c .before .before .before .before .before .before .before .before .before .before .loop .state)) (c .before .before .before .before .before .before .before .before .before .before .loop .steps) (c .before .before .before .before .before .before .before .before .before .before .loop .k)) (out (bit (c .before .before .before .before .prove-node .last .0)) (c .before .before .before .before .prove-node .last .1 .0) (c .before .before .before .before .prove-node .result)) (c .before .before .before .before .before .before .before .before .before .before .loop .v) (c .before .before .before .before .before .gap .result) (omega arith) g
-            (c .before .before .before .before .prove-node .ensures .1 p (record { is = R .is; room = omega (arith, R .room, c .before .before .before .before .before .before .before .before .before .before .loop .inv .3); few = R .few }) (omega (arith, R .is .nodes)) g),
+        I .1 ∙ nodes-next p (out (bit (c .before .before .before .before .before .before .before .before .before .before .loop .state)) (c .before .before .before .before .before .before .before .before .before .before .loop .steps) (c .before .before .before .before .before .before .before .before .before .before .loop .k)) (out (bit (c .before .before .before .before .prove-node .last .0)) (c .before .before .before .before .prove-node .last .1 .0) (c .before .before .before .before .prove-node .result)) (c .before .before .before .before .before .before .before .before .before .before .loop .v) (c .before .before .before .before .before .gap .result) (omega arith) g (G .0),
+        G .1,
       ),
 )
 
@@ -62,7 +66,7 @@ same-length-2 : tie.Need-same-length-2 Inv-loop μ-loop
 same-length-2 c = search needs
 
 returns : tie.Need-returns Inv-loop μ-loop
-returns c = (omega (arith, c .before .before .before .before .before .before .pre .0 .nodes), λ p R e. c .before .loop .inv .5 p R e .1 ∙ nodes-end p (out (bit (c .before .loop .state)) (c .before .loop .steps) (c .before .loop .k)) (c .before .loop .v) (omega arith))
+returns c = (omega (arith, c .before .before .before .before .before .before .pre .0 .nodes), λ p R e o. c .before .loop .inv .5 p R e o .1 ∙ nodes-end p (out (bit (c .before .loop .state)) (c .before .loop .steps) (c .before .loop .k)) (c .before .loop .v) (omega arith))
 
 pub prove-nodes-spec : {M : Type 1} → statement M
 prove-nodes-spec =

@@ -1,3 +1,4 @@
+-- `proving::step` meets its contract.
 use mathlib.Core.Path.{refl}
 use lib.ListN.{length}
 use Rattle.bits.specs.Table.{bit}

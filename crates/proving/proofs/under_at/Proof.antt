@@ -8,7 +8,7 @@ use Rattle.proving.proofs.under_at.Statement.{statement}
 use Rattle.proving.proofs.under_at.Tie as tie
 
 spread-requires : tie.Need-spread-requires
-spread-requires c κs = (c .before .before .before .before .before .pre .1 .width, c .before .before .before .before .before .pre .1 .levels, c .before .before .before .before .before .pre .2, within-most (sizeIn (c .before .before .before .before .before .args .table .now)) (c .before .before .before .before .before .args .digits .now) (c .before .before .before .before .before .pre .0 .size) (c .before .before .before .before .before .pre .3))
+spread-requires c κs = (c .before .before .before .before .before .pre .1 .width, c .before .before .before .before .before .pre .1 .levels, c .before .before .before .before .before .pre .2, within-most (sizeIn (c .before .before .before .before .before .args .table .now)) (c .before .before .before .before .before .args .digits .now) (c .before .before .before .before .before .pre .0 .size) (c .before .before .before .before .before .pre .3), c .before .before .before .before .before .pre .4)
 
 along-requires : tie.Need-along-requires
 along-requires c κs = search needs
