@@ -2,7 +2,7 @@
 use Prim.Native.Nat.{ℕ, zero, suc, _+_, _-_, _/_, _%_, _<_, _≤_}
 use mathlib.Core.Path.{_≡_, refl, sym, ap, subst, _∙_, fun-ext}
 use mathlib.Core.Logic.{⊎-elim}
-use mathlib.Core.Bool.{Bool, true, false, or-true}
+use mathlib.Core.Bool.{Bool, true, false, _&&_, or-true}
 use mathlib.Core.List.{List, _++_}
 use native.Mathlib.Omega.{arith}
 use lib.Dec.{ltb, ltb→lt, nltb→le}
@@ -46,7 +46,7 @@ module _ (p : Problem) (w : List ℕ) (is : Is p w) where
   -- once the proof has begun, its atom holds
   pub begun : (o o′ : Out) → one p o beginProof ≡ o′ → o′ .state 1 ≡ true
   unfolding one said IsAction addNumbers removeNumbers changed any
-  begun o o′ e = ap (λ (x : Out). x .state 1) (sym e) ∙ ap (λ (s : State). s 1) (sym (after-is p w is (o .state) beginProof tt)) ∙ or-true _
+  begun o o′ e = ap (λ (x : Out). x .state 1) (sym e) ∙ ap (λ (s : State). s 1) (sym (after-is p w is (o .state) beginProof tt)) ∙ or-true (o .state 1 && true)
 
 pub begin-is : (p : Problem) → IsAction p beginProof
 unfolding IsAction
