@@ -52,7 +52,7 @@ fn fill_nodes(table: &mut [usize], t: Nodes, l: Layout)
     ensures { λ r. ⌜ (now (table .exit) ≡ splice 93 (nodeLines t l) (now (table .entry))) × ((v : ℕ) → v < 64 → Most (nodeNumbers t l v) (2 ^ 32)) ⌝ }
 {
     let mut v: usize = 0;
-    while v < 64 {
+    while v < t.count {
         let x = t.rows[v];
         let ls = x.levels;
         let kind = wide(x.kind);
@@ -60,20 +60,20 @@ fn fill_nodes(table: &mut [usize], t: Nodes, l: Layout)
             l.act[v],
             l.node[v],
             kind,
-            x.level,
-            x.first,
-            x.many,
-            x.width,
-            ls[0],
-            ls[1],
-            ls[2],
-            ls[3],
+            wide(x.level),
+            wide(x.first),
+            wide(x.many),
+            wide(x.width),
+            wide(ls[0]),
+            wide(ls[1]),
+            wide(ls[2]),
+            wide(ls[3]),
         ];
         store(table, 93 + 11 * v, &line);
         v += 1;
     }
-    let last = [l.act[64], l.node[64], 0, 0, 0, 0, 0, 0, 0, 0, 0];
-    store(table, 797, &last);
+    let last = [l.act[v], l.node[v], 0, 0, 0, 0, 0, 0, 0, 0, 0];
+    store(table, 93 + 11 * v, &last);
 }
 
 // Where the atoms of a part's relation or node start; the arrays of a layout come as slices, so that no call copies it.
@@ -96,7 +96,7 @@ fn part_numbers(n: usize, start: usize, q: PartRow) -> [usize; 5]
     ensures { λ r. ⌜ (r ≡ numbersFrom n start q) × Most r (2 ^ 32) ⌝ }
 {
     let levels = q.levels;
-    let w = rows::weights(n, levels, q.width);
+    let w = rows::weights(n, levels, wide(q.width));
     if q.tag == 2 {
         return [start + (n - 1), w[0] * n, w[1] * n, w[2] * n, w[3] * n];
     }
@@ -113,15 +113,15 @@ fn fill_parts(table: &mut [usize], n: usize, t: Nodes, l: Layout)
     let neg = l.neg;
     let node = l.node;
     let mut i: usize = 0;
-    while i < 64 {
+    while i < t.placed {
         let q = t.parts[i];
-        let start = start_of(&rel, &neg, &node, q.tag, q.which);
+        let start = start_of(&rel, &neg, &node, q.tag, wide(q.which));
         let line = part_numbers(n, start, q);
         store(table, 808 + 5 * i, &line);
         i += 1;
     }
     let q = t.root;
-    let start = start_of(&rel, &neg, &node, q.tag, q.which);
+    let start = start_of(&rel, &neg, &node, q.tag, wide(q.which));
     let last = part_numbers(n, start, q);
     store(table, 1128, &last);
 }

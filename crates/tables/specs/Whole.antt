@@ -11,14 +11,13 @@ use Rattle.tree.specs.Tables.{noNode, headFrom, headOf, headIn, IsNode, IsTable
 use Rattle.tree.specs.declared.PartRow.{PartRow}
 use Rattle.tree.specs.declared.NodeRow.{NodeRow}
 use Rattle.tree.specs.declared.Nodes.{Nodes}
-use Rattle.tables.specs.Postorder.{post, postAll, inner, innerAll, partOf, kidsOf, heads, rowsIn, Small, AllSmall}
+use Rattle.tables.specs.Postorder.{post, postAll, inner, innerAll, partOf, kidsOf, heads, Rows, rowsIn, Small, AllSmall}
 use Rattle.tables.specs.Pass.{Laid, blank, run, Ranged}
 use Rattle.tables.specs.Free.{take-pad, free-few}
 use Rattle.tables.specs.Laid.{laid, run-post}
 use Rattle.tables.specs.Shown.{Shown, Grows, laid-grows}
 use Rattle.tables.specs.Bounds.{Each, each-at, each-append, Sound, part-good, laid-sound, blank-sound}
 use Rattle.tables.specs.declared.Row.{Row}
-use Rattle.tables.specs.declared.Rows.{Rows}
 
 -- the rows are those of a tree that a table can hold, over `rels` relations
 pub record Of (rels : ℕ) (root : Tree) (rows : Rows) : Type 0 where
