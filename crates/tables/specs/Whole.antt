@@ -125,7 +125,7 @@ shown-is rels v t row l s h = subst (λ (r : NodeRow). IsNode v t r (l .parts)) 
 })
 
 abbrev pub tableOf : Laid → Tree → Nodes
-tableOf l root = record { count = length (nodes root); rows = l .rows; parts = l .parts; root = partOf 0 root }
+tableOf l root = record { count = length (nodes root); placed = l .placed; rows = l .rows; parts = l .parts; root = partOf 0 root }
 
 module _ (rels : ℕ) (root : Tree) (o : 0 < rels) (b : rels ≤ 17) (s : Small rels root) (h : suc (inner root) ≤ 64) where
   few : length (nodes root) ≤ 64
@@ -158,6 +158,7 @@ module _ (rels : ℕ) (root : Tree) (o : 0 < rels) (b : rels ≤ 17) (s : Small 
   pub table-fits : Fits (tableOf (laid 0 root blank) root)
   table-fits = record {
     few = few;
+    few-parts = omega (arith, grows .placed);
     parts = record { parts-length = sound .parts-length; part = λ i. sound .parts i .fits };
     nodes = record { rows-length = sound .rows-length; node = λ i. sound .rows i };
     root = part-good rels (length (nodes root)) b few 0 root s (omega arith) .fits;

@@ -50,12 +50,6 @@ fn wide(x: u8) -> usize
     x as usize
 }
 
-fn or(a: bool, b: bool) -> bool
-    ensures { λ r. ⌜ r ≡ (a || b) ⌝ }
-{
-    if a { true } else { b }
-}
-
 // The levels of a part are marked too.
 fn also(m: Marks, p: PartRow) -> Marks
     ensures { λ r. ⌜ ((l : ℕ) → l < 4 → getD (r .at) l false ≡ (getD (m .at) l false || hasLevel l p)) ⌝ }
@@ -89,7 +83,7 @@ fn is_own(row: Row, l: usize) -> bool
 
 // One level more, if it is marked and not the row's own.
 fn listed(r: Levels, l: usize, own: bool, marked: bool) -> Levels
-    requires { ⌜ r .width < 4 ⌝ }
+    requires { ⌜ (r .width < 4) × (l < 4) ⌝ }
     ensures { λ q. ⌜ q ≡ listedOf r l (not own && marked) ⌝ }
 {
     if own {
@@ -144,6 +138,7 @@ fn node_tag(kind: u8) -> u8
 
 // A node as a part.
 fn node_part(row: Row, free: Levels) -> PartRow
+    requires { ⌜ free .width ≤ 4 ⌝ }
     ensures { λ r. ⌜ r ≡ nodePart row free ⌝ }
 {
     let levels = free.at;
@@ -158,6 +153,7 @@ fn node_part(row: Row, free: Levels) -> PartRow
 
 // A node's row of the table; its parts stand from `first` on.
 fn node_row(row: Row, free: Levels, first: usize) -> NodeRow
+    requires { ⌜ (free .width ≤ 4) × (first ≤ 64) ⌝ }
     ensures { λ r. ⌜ r ≡ nodeRow row free first ⌝ }
 {
     let levels = free.at;
