@@ -7,9 +7,10 @@ ghost use Rattle.tree.specs.Tables.{noPart, PartFits, Fits};
 ghost use Rattle.rows.specs.Values.{Most};
 ghost use Rattle.ground.specs.Lines.{tableLength};
 ghost use Rattle.layout.specs.Laid.{RelationsFit, Small};
-ghost use Rattle.table.specs.Filled.{splice, nodeNumbers, startIn, numbersFrom, partNumbers, relationLines, nodeLines, partLines, tableOf, Filled};
+ghost use Rattle.table.specs.Filled.{splice, nodeFrom, nodeNumbers, startIn, numbersFrom, partNumbers, relationLines, nodeLines, partLines, tableOf, Filled};
 use layout::Layout;
 use layout::Relations;
+use tree::NodeRow;
 use tree::Nodes;
 use tree::PartRow;
 
@@ -40,35 +41,43 @@ fn fill_relations(table: &mut [usize], g: Relations, l: Layout)
     store(table, 88, &last);
 }
 
+// A byte as a number.
 fn wide(x: u8) -> usize
     ensures { λ r. ⌜ (r ≡ x) × (r < 256) ⌝ }
 {
     x as usize
 }
 
-// The lines of the nodes.
+// The line of a node whose actions and atoms start there.
+fn node_numbers(act: usize, node: usize, x: NodeRow) -> [usize; 11]
+    requires { ⌜ (act ≤ actionLimit) × (node ≤ actionLimit) ⌝ }
+    ensures { λ r. ⌜ (r ≡ nodeFrom act node x) × Most r (2 ^ 32) ⌝ }
+{
+    let ls = x.levels;
+    [
+        act,
+        node,
+        wide(x.kind),
+        wide(x.level),
+        wide(x.first),
+        wide(x.many),
+        wide(x.width),
+        wide(ls[0]),
+        wide(ls[1]),
+        wide(ls[2]),
+        wide(ls[3]),
+    ]
+}
+
+// The lines of the nodes, and the line past the last.
 fn fill_nodes(table: &mut [usize], t: Nodes, l: Layout)
     requires { ⌜ (length (now table) ≡ tableLength) × Fits t × Small l actionLimit ⌝ }
-    ensures { λ r. ⌜ (now (table .exit) ≡ splice 93 (nodeLines t l) (now (table .entry))) × ((v : ℕ) → v < 64 → Most (nodeNumbers t l v) (2 ^ 32)) ⌝ }
+    ensures { λ r. ⌜ (now (table .exit) ≡ splice 93 (nodeLines t l) (now (table .entry))) × ((v : ℕ) → v < t .count → Most (nodeNumbers t l v) (2 ^ 32)) ⌝ }
 {
     let mut v: usize = 0;
     while v < t.count {
         let x = t.rows[v];
-        let ls = x.levels;
-        let kind = wide(x.kind);
-        let line = [
-            l.act[v],
-            l.node[v],
-            kind,
-            wide(x.level),
-            wide(x.first),
-            wide(x.many),
-            wide(x.width),
-            wide(ls[0]),
-            wide(ls[1]),
-            wide(ls[2]),
-            wide(ls[3]),
-        ];
+        let line = node_numbers(l.act[v], l.node[v], x);
         store(table, 93 + 11 * v, &line);
         v += 1;
     }
@@ -106,8 +115,8 @@ fn part_numbers(n: usize, start: usize, q: PartRow) -> [usize; 5]
 // The lines of the parts, and the root's.
 fn fill_parts(table: &mut [usize], n: usize, t: Nodes, l: Layout)
     requires { ⌜ (length (now table) ≡ tableLength) × (0 < n) × (n ≤ 64) × Fits t × Small l actionLimit ⌝ }
-    ensures { λ r. ⌜ (now (table .exit) ≡ splice 808 (partLines n t l) (now (table .entry)))
-        × ((i : ℕ) → i < 64 → Most (partNumbers n l (getD (t .parts) i noPart)) (2 ^ 32)) × Most (partNumbers n l (t .root)) (2 ^ 32) ⌝ }
+    ensures { λ r. ⌜ (now (table .exit) ≡ splice 1128 (partNumbers n l (t .root)) (splice 808 (partLines n t l) (now (table .entry))))
+        × ((i : ℕ) → i < t .placed → Most (partNumbers n l (getD (t .parts) i noPart)) (2 ^ 32)) × Most (partNumbers n l (t .root)) (2 ^ 32) ⌝ }
 {
     let rel = l.rel;
     let neg = l.neg;
@@ -126,9 +135,9 @@ fn fill_parts(table: &mut [usize], n: usize, t: Nodes, l: Layout)
     store(table, 1128, &last);
 }
 
-// The whole table.
+// The whole table, in place of zeros: the lines of nodes and parts that there are not stay as they were.
 pub fn fill(table: &mut [usize], n: usize, g: Relations, t: Nodes, l: Layout)
-    requires { ⌜ (length (now table) ≡ tableLength) × (0 < n) × (n ≤ 64) × RelationsFit g × Fits t × Small l actionLimit ⌝ }
+    requires { ⌜ (length (now table) ≡ tableLength) × Most (now table) 0 × (0 < n) × (n ≤ 64) × RelationsFit g × Fits t × Small l actionLimit ⌝ }
     ensures { λ r. ⌜ (now (table .exit) ≡ tableOf n g t l (now (table .entry))) × Filled n g t l (now (table .exit)) ⌝ }
 {
     table[0] = n;
