@@ -1,13 +1,13 @@
 -- `table::fill_parts` meets its contract.
 use Prim.Native.Nat.{ℕ, _-_, _^_, _≤_, _<_}
-use mathlib.Core.Path.{_≡_, refl, ap, _∙_, subst}
+use mathlib.Core.Path.{_≡_, refl, _∙_, subst}
 use mathlib.Core.List.{List}
 use native.Mathlib.Omega.{arith}
 use borrow.Author.Needs.{needs}
 use lib.ListN.{length, getD}
 use Rattle.tree.specs.Tables.{noPart}
 use Rattle.rows.specs.Values.{Most}
-use Rattle.table.specs.Filled.{splice, tab, startIn, numbersIn}
+use Rattle.table.specs.Filled.{splice, tab, numbersIn}
 use Rattle.table.specs.SpliceLaws.{tab-none}
 use Rattle.table.specs.PartLaws.{line-from, start-most}
 use Rattle.table.specs.TurnLaws.{part-turn, part-last, one-more}
@@ -81,9 +81,7 @@ loop-again c =
     let s = c .before .before .before .before .before .before .before .before .before .before .before .before .before .before .before .before .before .before in
     let l = c .before .before .before .before .before .before .before .before .before .before .before .before .before .loop in
     let p = c .before .before .before .before .before .part-numbers .ensures in
-    let line =
-    line-from (s .args .n) (s .args .l .rel) (s .args .l .neg) (s .args .l .node) (getD (s .args .t3 .parts) (l .i) noPart) _ _
-    (c .before .before .before .before .before .before .start-of .ensures ∙ ap (startIn (s .args .l .rel) (s .args .l .neg) (s .args .l .node) (getD (s .args .t3 .parts) (l .i) noPart .tag)) (c .before .before .before .before .before .before .before .wide .ensures .0)) (p .0) in
+    let line = line-from (s .args .n) (s .args .l .rel) (s .args .l .neg) (s .args .l .node) (getD (s .args .t3 .parts) (l .i) noPart) _ _ _ (c .before .before .before .before .before .before .before .wide .ensures .0) (c .before .before .before .before .before .before .start-of .ensures) (p .0) in
     let k = c .before .before .before .before .before .before .before .before .before .before .before .before .loop-test .taken in (
       omega (arith, k),
       c .before .before .store .kept .0 ∙ l .inv .1,
@@ -132,9 +130,7 @@ returns c =
     let s = c .before .before .before .before .before .before .before .before .before .before .before .before .before .before .before .before .before .before in
     let l = c .before .before .before .before .before .before .before .before .before .before .before .before .before .loop in
     let p = c .before .before .before .before .before .part-numbers2 .ensures in
-    let line =
-    line-from (s .args .n) (s .args .l .rel) (s .args .l .neg) (s .args .l .node) (s .args .t3 .root) _ _
-    (c .before .before .before .before .before .before .start-of2 .ensures ∙ ap (startIn (s .args .l .rel) (s .args .l .neg) (s .args .l .node) (s .args .t3 .root .tag)) (c .before .before .before .before .before .before .before .wide2 .ensures .0)) (p .0) in
+    let line = line-from (s .args .n) (s .args .l .rel) (s .args .l .neg) (s .args .l .node) (s .args .t3 .root) _ _ _ (c .before .before .before .before .before .before .before .wide2 .ensures .0) (c .before .before .before .before .before .before .start-of2 .ensures) (p .0) in
     let e : l .i ≡ s .args .t3 .placed = omega (arith, c .before .before .before .before .before .before .before .before .before .before .before .before .loop-test .left, l .inv .0) in (
       part-last (s .args .n) (s .args .t3) (s .args .l) (l .table) (s .args .table .now) (c .before .before .store2 .last .0) (l .i) _ e line (l .inv .2) (c .before .before .store2 .ensures),
       λ u h. l .inv .3 u (omega (arith, e)),
