@@ -29,9 +29,9 @@ tab f (suc k) = tab f k ++ f k
 unfoldable pub relationNumbers : Relations → Layout → ℕ → List ℕ
 relationNumbers g l r = getD (l .set) r 0 ∷ getD (l .rel) r 0 ∷ getD (l .neg) r 0 ∷ getD (l .dom) r 0 ∷ getD (g .kind) r 0 ∷ []
 
--- past the last of 17 relations
-unfoldable pub relationEnd : Layout → List ℕ
-relationEnd l = getD (l .set) 17 0 ∷ getD (l .rel) 17 0 ∷ 0 ∷ 0 ∷ 0 ∷ []
+-- past the last of r relations
+unfoldable pub relationEnd : Layout → ℕ → List ℕ
+relationEnd l r = getD (l .set) r 0 ∷ getD (l .rel) r 0 ∷ 0 ∷ 0 ∷ 0 ∷ []
 
 -- the line of a node whose actions and atoms start there
 unfoldable pub nodeFrom : (act node : ℕ) → NodeRow → List ℕ
@@ -78,7 +78,7 @@ partNumbers n l q = numbersIn n (l .rel) (l .neg) (l .node) q
 
 -- the lines of all relations, of all nodes, and of all parts
 unfoldable pub relationLines : Relations → Layout → List ℕ
-relationLines g l = tab (relationNumbers g l) 17 ++ relationEnd l
+relationLines g l = tab (relationNumbers g l) (g .count) ++ relationEnd l (g .count)
 
 unfoldable pub nodeLines : Nodes → Layout → List ℕ
 nodeLines t l = tab (nodeNumbers t l) (t .count) ++ nodeIn l (t .count) noNode

@@ -34,9 +34,9 @@ pub length-relation : (g : Relations) (l : Layout) (r : ℕ) → length (relatio
 unfolding relationNumbers
 length-relation g l r = refl
 
-pub length-relation-end : (l : Layout) → length (relationEnd l) ≡ 5
+pub length-relation-end : (l : Layout) (r : ℕ) → length (relationEnd l r) ≡ 5
 unfolding relationEnd
-length-relation-end l = refl
+length-relation-end l r = refl
 
 pub length-line : (act node : ℕ) (x : NodeRow) → length (nodeFrom act node x) ≡ 11
 unfolding nodeFrom
@@ -51,9 +51,9 @@ unfolding relationNumbers
 relation-most g l r f s =
     each-most (2 ^ 32) (relationNumbers g l r) (omega (arith, s .set r), (omega (arith, s .rel r), (omega (arith, s .neg r), (omega (arith, s .dom r), (omega (arith, f .kind r), tt)))))
 
-relation-end-most : (l : Layout) → Small l actionLimit → Most (relationEnd l) (2 ^ 32)
+relation-end-most : (l : Layout) (r : ℕ) → Small l actionLimit → Most (relationEnd l r) (2 ^ 32)
 unfolding relationEnd
-relation-end-most l s = each-most (2 ^ 32) (relationEnd l) (omega (arith, s .set 17), (omega (arith, s .rel 17), (omega arith, (omega arith, (omega arith, tt)))))
+relation-end-most l r s = each-most (2 ^ 32) (relationEnd l r) (omega (arith, s .set r), (omega (arith, s .rel r), (omega arith, (omega arith, (omega arith, tt)))))
 
 node-end-most : (l : Layout) (v : ℕ) → Small l actionLimit → Most (nodeIn l v noNode) (2 ^ 32)
 unfolding nodeFrom
@@ -139,7 +139,7 @@ end-zero act node j h = go j h
     go (suc (suc (suc (suc (suc (suc (suc (suc (suc (suc zero)))))))))) h = refl
     go (suc (suc (suc (suc (suc (suc (suc (suc (suc (suc (suc j))))))))))) h = refl
 
-module _ (n : ℕ) (g : Relations) (t : Nodes) (l : Layout) (d : List ℕ) (len : length d ≡ tableLength) (zeros : Most d 0) (ft : TreeFits t) where
+module _ (n : ℕ) (g : Relations) (t : Nodes) (l : Layout) (d : List ℕ) (len : length d ≡ tableLength) (zeros : Most d 0) (fg : RelationsFit g) (ft : TreeFits t) where
   abbrev R : List ℕ
   R = relationLines g l
 
@@ -168,9 +168,11 @@ module _ (n : ℕ) (g : Relations) (t : Nodes) (l : Layout) (d : List ℕ) (len 
   T = splice 1128 Q T₃
 
   -- ---- lengths
-  length-R : length R ≡ 90
+  length-R : length R ≡ 5 * g .count + 5
   unfolding relationLines
-  length-R = length-append (tab (relationNumbers g l) 17) (relationEnd l) ∙ ap₂ (λ (x y : ℕ). x + y) (length-tab (relationNumbers g l) 5 (length-relation g l) 17) (length-relation-end l)
+  length-R =
+      length-append (tab (relationNumbers g l) (g .count)) (relationEnd l (g .count))
+      ∙ ap₂ (λ (x y : ℕ). x + y) (length-tab (relationNumbers g l) 5 (length-relation g l) (g .count)) (length-relation-end l (g .count))
 
   length-N : length N ≡ 11 * t .count + 11
   unfolding nodeLines
@@ -189,7 +191,7 @@ module _ (n : ℕ) (g : Relations) (t : Nodes) (l : Layout) (d : List ℕ) (len 
   length-T₀ = length-set (set (set d 0 n) 1 (g .count)) 2 (t .count) ∙ length-set (set d 0 n) 1 (g .count) ∙ length-set d 0 n ∙ len
 
   room₁ : 3 + length R ≤ length T₀
-  room₁ = omega (arith, length-R, length-T₀)
+  room₁ = omega (arith, length-R, length-T₀, fg .count)
 
   length-T₁ : length T₁ ≡ 1133
   length-T₁ = length-splice 3 R T₀ room₁ ∙ length-T₀
@@ -219,7 +221,7 @@ module _ (n : ℕ) (g : Relations) (t : Nodes) (l : Layout) (d : List ℕ) (len 
       ∙ getD-set-other d 0 i n 0 (λ e. omega arith) ∙ omega (arith, zeros i)
 
   zero-T₁ : ZeroFrom 93 T₁
-  zero-T₁ = zeros-after 3 R T₀ room₁ 93 (omega (arith, length-R)) zero-T₀
+  zero-T₁ = zeros-after 3 R T₀ room₁ 93 (omega (arith, length-R, fg .count)) zero-T₀
 
   zero-T₂ : ZeroFrom 808 T₂
   zero-T₂ = zeros-after 93 N T₁ room₂ 808 (omega (arith, length-N, ft .few)) zero-T₁
@@ -228,7 +230,7 @@ module _ (n : ℕ) (g : Relations) (t : Nodes) (l : Layout) (d : List ℕ) (len 
   in-R : (j : ℕ) → j < 90 → getD T (3 + j) 0 ≡ getD R j 0
   in-R j h =
       read-before 1128 Q T₃ room₄ (3 + j) (omega arith) ∙ read-before 808 P T₂ room₃ (3 + j) (omega arith) ∙ read-before 93 N T₁ room₂ (3 + j) (omega arith)
-      ∙ read-in 3 R T₀ room₁ j (omega (arith, length-R))
+      ∙ read-from 3 R T₀ room₁ zero-T₀ j
 
   in-N : (j : ℕ) → j < 715 → getD T (93 + j) 0 ≡ getD N j 0
   in-N j h = read-before 1128 Q T₃ room₄ (93 + j) (omega arith) ∙ read-before 808 P T₂ room₃ (93 + j) (omega arith) ∙ read-from 93 N T₁ room₂ zero-T₁ j
@@ -259,14 +261,16 @@ module _ (n : ℕ) (g : Relations) (t : Nodes) (l : Layout) (d : List ℕ) (len 
       ∙ getD-set-same (set (set d 0 n) 1 (g .count)) 2 (t .count) 0 (omega (arith, len, length-set d 0 n, length-set (set d 0 n) 1 (g .count)))
 
   -- ---- lines
-  relation-at : (r j i : ℕ) → r < 17 → j < 5 → i ≡ 3 + (5 * r + j) → getD T i 0 ≡ getD (relationNumbers g l r) j 0
+  relation-at : (r j i : ℕ) → r < g .count → j < 5 → i ≡ 3 + (5 * r + j) → getD T i 0 ≡ getD (relationNumbers g l r) j 0
   unfolding relationLines
   relation-at r j i h k e =
-      ap (λ (x : ℕ). getD T x 0) e ∙ in-R (5 * r + j) (omega arith) ∙ lines-at (relationNumbers g l) 5 (length-relation g l) 17 (relationEnd l) r j h k
+      ap (λ (x : ℕ). getD T x 0) e ∙ in-R (5 * r + j) (omega (arith, fg .count))
+      ∙ lines-at (relationNumbers g l) 5 (length-relation g l) (g .count) (relationEnd l (g .count)) r j h k
 
-  relation-end : (j i : ℕ) → j < 5 → i ≡ 3 + (5 * 17 + j) → getD T i 0 ≡ getD (relationEnd l) j 0
+  relation-past : (j i : ℕ) → 5 * g .count + j < 90 → i ≡ 3 + (5 * g .count + j) → getD T i 0 ≡ getD (relationEnd l (g .count)) j 0
   unfolding relationLines
-  relation-end j i k e = ap (λ (x : ℕ). getD T x 0) e ∙ in-R (5 * 17 + j) (omega arith) ∙ end-at (relationNumbers g l) 5 (length-relation g l) 17 (relationEnd l) j
+  relation-past j i k e =
+      ap (λ (x : ℕ). getD T x 0) e ∙ in-R (5 * g .count + j) k ∙ end-at (relationNumbers g l) 5 (length-relation g l) (g .count) (relationEnd l (g .count)) j
 
   node-at : (v j i : ℕ) → v < t .count → j < 11 → i ≡ 93 + (11 * v + j) → getD T i 0 ≡ getD (nodeNumbers t l v) j 0
   unfolding nodeLines
@@ -290,27 +294,27 @@ module _ (n : ℕ) (g : Relations) (t : Nodes) (l : Layout) (d : List ℕ) (len 
   root-at j i h e = ap (λ (x : ℕ). getD T x 0) e ∙ in-Q j h
 
   -- what the code reads as a line
-  sets-at : (r : ℕ) → r ≤ 17 → relationLine T r .sets ≡ getD (l .set) r 0
+  sets-at : (r : ℕ) → r ≤ g .count → relationLine T r .sets ≡ getD (l .set) r 0
   unfolding relationLine relationNumbers relationEnd
-  sets-at r h = go (decLt r 17)
+  sets-at r h = go (decLt r (g .count))
     where
-      go : Dec (r < 17) → getD T (3 + 5 * r) 0 ≡ getD (l .set) r 0
+      go : Dec (r < g .count) → getD T (3 + 5 * r) 0 ≡ getD (l .set) r 0
       go (yes q) = relation-at r 0 (3 + 5 * r) q (omega arith) (omega arith)
-      go (no q) = let e : r ≡ 17 = omega arith in rw e (relation-end 0 (3 + 5 * 17) (omega arith) (omega arith))
+      go (no q) = let e : r ≡ g .count = omega arith in rw e (relation-past 0 (3 + 5 * g .count) (omega (arith, fg .count)) (omega arith))
 
-  tuples-at : (r : ℕ) → r < 17 → relationLine T r .tuples ≡ getD (l .rel) r 0
+  tuples-at : (r : ℕ) → r < g .count → relationLine T r .tuples ≡ getD (l .rel) r 0
   unfolding relationLine relationNumbers
   tuples-at r h = relation-at r 1 (3 + 5 * r + 1) h (omega arith) (omega arith)
 
-  nots-at : (r : ℕ) → r < 17 → relationLine T r .nots ≡ getD (l .neg) r 0
+  nots-at : (r : ℕ) → r < g .count → relationLine T r .nots ≡ getD (l .neg) r 0
   unfolding relationLine relationNumbers
   nots-at r h = relation-at r 2 (3 + 5 * r + 2) h (omega arith) (omega arith)
 
-  free-at : (r : ℕ) → r < 17 → relationLine T r .free ≡ getD (l .dom) r 0
+  free-at : (r : ℕ) → r < g .count → relationLine T r .free ≡ getD (l .dom) r 0
   unfolding relationLine relationNumbers
   free-at r h = relation-at r 3 (3 + 5 * r + 3) h (omega arith) (omega arith)
 
-  kind-at : (r : ℕ) → r < 17 → relationLine T r .kind ≡ getD (g .kind) r 0
+  kind-at : (r : ℕ) → r < g .count → relationLine T r .kind ≡ getD (g .kind) r 0
   unfolding relationLine relationNumbers
   kind-at r h = relation-at r 4 (3 + 5 * r + 4) h (omega arith) (omega arith)
 
@@ -379,12 +383,12 @@ module _ (n : ℕ) (g : Relations) (t : Nodes) (l : Layout) (d : List ℕ) (len 
       ) refl
 
   -- ---- ranges
-  module _ (some : 0 < n) (small : n ≤ 64) (fg : RelationsFit g) (sl : Small l actionLimit) (nm : (v : ℕ) → v < t .count → Most (nodeNumbers t l v) (2 ^ 32))
+  module _ (some : 0 < n) (small : n ≤ 64) (sl : Small l actionLimit) (nm : (v : ℕ) → v < t .count → Most (nodeNumbers t l v) (2 ^ 32))
       (pm : (i : ℕ) → i < t .placed → Most (partNumbers n l (getD (t .parts) i noPart)) (2 ^ 32)) (rm : Most (partNumbers n l (t .root)) (2 ^ 32)) where
     most-R : Most R (2 ^ 32)
     unfolding relationLines
     most-R =
-        append-most (tab (relationNumbers g l) 17) (relationEnd l) (2 ^ 32) (tab-most (relationNumbers g l) 17 (2 ^ 32) (λ r h. relation-most g l r fg sl)) (relation-end-most l sl)
+        append-most (tab (relationNumbers g l) (g .count)) (relationEnd l (g .count)) (2 ^ 32) (tab-most (relationNumbers g l) (g .count) (2 ^ 32) (λ r h. relation-most g l r fg sl)) (relation-end-most l (g .count) sl)
 
     most-N : Most N (2 ^ 32)
     unfolding nodeLines
@@ -439,24 +443,21 @@ module _ (n : ℕ) (g : Relations) (t : Nodes) (l : Layout) (d : List ℕ) (len 
         }
 
 -- ---- of the problem
-module _ (p : Problem) (g : Relations) (t : Nodes) (l : Layout) (d : List ℕ) (len : length d ≡ tableLength) (zeros : Most d 0) (ft : TreeFits t) (inputs : Inputs p (p .size) g t) (starts : Starts p l) (fg : RelationsFit g) where
+module _ (p : Problem) (g : Relations) (t : Nodes) (l : Layout) (d : List ℕ) (len : length d ≡ tableLength) (zeros : Most d 0) (fg : RelationsFit g) (ft : TreeFits t) (inputs : Inputs p (p .size) g t) (starts : Starts p l) where
   abbrev W : List ℕ
-  W = T (p .size) g t l d len zeros ft
-
-  few : length (p .relations) ≤ 17
-  few = omega (arith, inputs .count, fg .count)
+  W = T (p .size) g t l d len zeros fg ft
 
   counted : t .count ≡ length (p .nodeList)
   counted = count-is p g t inputs
 
   relation-of : (r : ℕ) → r < length (p .relations) → IsRelation p r (relationLine W r)
   relation-of r h =
-      let b : r < 17 = omega (arith, few) in
+      let b : r < g .count = omega (arith, inputs .count) in
       record {
-        tuples = tuples-at (p .size) g t l d len zeros ft r b ∙ starts .rel r (omega arith);
-        nots = nots-at (p .size) g t l d len zeros ft r b ∙ starts .neg r h;
-        free = free-at (p .size) g t l d len zeros ft r b ∙ starts .dom r h;
-        kind = kind-at (p .size) g t l d len zeros ft r b ∙ inputs .kind r (omega (arith, inputs .count));
+        tuples = tuples-at (p .size) g t l d len zeros fg ft r b ∙ starts .rel r (omega arith);
+        nots = nots-at (p .size) g t l d len zeros fg ft r b ∙ starts .neg r h;
+        free = free-at (p .size) g t l d len zeros fg ft r b ∙ starts .dom r h;
+        kind = kind-at (p .size) g t l d len zeros fg ft r b ∙ inputs .kind r b;
       }
 
   values-of : (v row act node : ℕ) (u : Tree) (x : NodeRow) (ps : List PartRow) → IsRow v u x ps → x .width ≤ 4 → rowValues (p .size) (lineFrom act node x) row ≡ valuesAt (p .size) u row
@@ -471,7 +472,7 @@ module _ (p : Problem) (g : Relations) (t : Nodes) (l : Layout) (d : List ℕ) (
       let x = getD (t .rows) v noNode in
       let i = node-is p g t inputs v b in
       let m : x .many ≡ length (parts v (nodeAt p v)) = many-are v (nodeAt p v) x (t .parts) i (in-parts p g t inputs ft v) in
-      subst (IsNode p W v (nodeAt p v)) (sym (line-is (p .size) g t l d len zeros ft v b))
+      subst (IsNode p W v (nodeAt p v)) (sym (line-is (p .size) g t l d len zeros fg ft v b))
       (record {
         atoms = starts .node v (omega arith);
         kind = i .kind;
@@ -480,7 +481,7 @@ module _ (p : Problem) (g : Relations) (t : Nodes) (l : Layout) (d : List ℕ) (
         many = m;
         part = λ k q.
             let c : x .first + k < t .placed = omega (arith, ft .nodes .node v .parts, m) in
-            subst (λ (y : PartLine). IsPart p y (getD (parts v (nodeAt p v)) k noTreePart .node) (getD (parts v (nodeAt p v)) k noTreePart .tree)) (sym (part-line (p .size) g t l d len zeros ft (x .first + k) c))
+            subst (λ (y : PartLine). IsPart p y (getD (parts v (nodeAt p v)) k noTreePart .node) (getD (parts v (nodeAt p v)) k noTreePart .tree)) (sym (part-line (p .size) g t l d len zeros fg ft (x .first + k) c))
             (part-is p l starts (g .count) (t .count) (inputs .count) counted (getD (t .parts) (x .first + k) noPart) (getD (parts v (nodeAt p v)) k noTreePart .node) (getD (parts v (nodeAt p v)) k noTreePart .tree)
             (ft .parts .part (x .first + k)) (inputs .tree .within (x .first + k))
             (ap headIn (sym (getD-drop (x .first) (t .parts) k noPart)) ∙ heads-at (drop (x .first) (t .parts)) (x .many) (parts v (nodeAt p v)) (i .parts) k q));
@@ -489,21 +490,21 @@ module _ (p : Problem) (g : Relations) (t : Nodes) (l : Layout) (d : List ℕ) (
   is-of : Is p W
   is-of =
       record {
-        size = size-at (p .size) g t l d len zeros ft;
-        relations = relations-at (p .size) g t l d len zeros ft ∙ inputs .count;
-        nodes = nodes-at (p .size) g t l d len zeros ft ∙ counted;
-        sets = λ r h. sets-at (p .size) g t l d len zeros ft r (omega (arith, few)) ∙ starts .set r h;
+        size = size-at (p .size) g t l d len zeros fg ft;
+        relations = relations-at (p .size) g t l d len zeros fg ft ∙ inputs .count;
+        nodes = nodes-at (p .size) g t l d len zeros fg ft ∙ counted;
+        sets = λ r h. sets-at (p .size) g t l d len zeros fg ft r (omega (arith, inputs .count)) ∙ starts .set r h;
         relation = relation-of;
-        acts = λ v h. acts-at (p .size) g t l d len zeros ft v (omega (arith, counted)) ∙ starts .act v h;
+        acts = λ v h. acts-at (p .size) g t l d len zeros fg ft v (omega (arith, counted)) ∙ starts .act v h;
         node = node-of;
-        root = subst (λ (y : PartLine). IsPart p y 0 (p .root)) (sym (root-line (p .size) g t l d len zeros ft))
+        root = subst (λ (y : PartLine). IsPart p y 0 (p .root)) (sym (root-line (p .size) g t l d len zeros fg ft))
             (part-is p l starts (g .count) (t .count) (inputs .count) counted (t .root) 0 (p .root) (ft .root) (inputs .tree .top-within) (inputs .tree .top));
       }
 
   ends-of : nodeLine W (nodesIn W) .atoms ≡ atoms p
   ends-of =
-      let e : nodesIn W ≡ length (p .nodeList) = nodes-at (p .size) g t l d len zeros ft ∙ counted in
-      ap (λ (v : ℕ). nodeLine W v .atoms) e ∙ atoms-at (p .size) g t l d len zeros ft (length (p .nodeList)) (omega (arith, counted)) ∙ starts .node (length (p .nodeList)) (omega arith) ∙ atoms-end p
+      let e : nodesIn W ≡ length (p .nodeList) = nodes-at (p .size) g t l d len zeros fg ft ∙ counted in
+      ap (λ (v : ℕ). nodeLine W v .atoms) e ∙ atoms-at (p .size) g t l d len zeros fg ft (length (p .nodeList)) (omega (arith, counted)) ∙ starts .node (length (p .nodeList)) (omega arith) ∙ atoms-end p
 
 pub filled : (n : ℕ) (g : Relations) (t : Nodes) (l : Layout) (d w : List ℕ) → length d ≡ tableLength → Most d 0 → 0 < n → n ≤ 64 → RelationsFit g → TreeFits t → Small l actionLimit → w ≡ tableOf n g t l d
     → ((v : ℕ) → v < t .count → Most (nodeNumbers t l v) (2 ^ 32)) → ((i : ℕ) → i < t .placed → Most (partNumbers n l (getD (t .parts) i noPart)) (2 ^ 32)) → Most (partNumbers n l (t .root)) (2 ^ 32) → Filled n g t l w
@@ -511,9 +512,9 @@ unfolding tableOf
 filled n g t l d w len zeros some small fg ft sl e nm pm rm =
     subst (Filled n g t l) (sym e)
     (record {
-      fits = fits n g t l d len zeros ft some small fg sl nm pm rm;
-      is = λ p i s. subst (λ (m : ℕ). Is p (tableOf m g t l d)) (sym (i .size)) (is-of p g t l d len zeros ft (subst (λ (m : ℕ). Inputs p m g t) (i .size) i) s fg);
-      ends = λ p i s. subst (λ (m : ℕ). nodeLine (tableOf m g t l d) (nodesIn (tableOf m g t l d)) .atoms ≡ atoms p) (sym (i .size)) (ends-of p g t l d len zeros ft (subst (λ (m : ℕ). Inputs p m g t) (i .size) i) s fg);
+      fits = fits n g t l d len zeros fg ft some small sl nm pm rm;
+      is = λ p i s. subst (λ (m : ℕ). Is p (tableOf m g t l d)) (sym (i .size)) (is-of p g t l d len zeros fg ft (subst (λ (m : ℕ). Inputs p m g t) (i .size) i) s);
+      ends = λ p i s. subst (λ (m : ℕ). nodeLine (tableOf m g t l d) (nodesIn (tableOf m g t l d)) .atoms ≡ atoms p) (sym (i .size)) (ends-of p g t l d len zeros fg ft (subst (λ (m : ℕ). Inputs p m g t) (i .size) i) s);
     })
 
 -- the table after each part is filled

@@ -24,9 +24,11 @@ module _ (g : Relations) (l : Layout) (w d z : List ℕ) (len : length d ≡ tab
   unfolding relationNumbers
   relation-turn r h e q = tab-next (relationNumbers g l) 5 (length-relation g l) 3 r (relationNumbers g l r) w d z (omega arith) refl e q
 
-  pub relation-last : (r : ℕ) → r ≡ 17 → w ≡ splice 3 (tab (relationNumbers g l) r) d → z ≡ splice 88 (getD (l .set) 17 0 ∷ getD (l .rel) 17 0 ∷ 0 ∷ 0 ∷ 0 ∷ []) w → z ≡ splice 3 (relationLines g l) d
+  pub relation-last : (r : ℕ) → r ≤ 17 → r ≡ g .count → w ≡ splice 3 (tab (relationNumbers g l) r) d → z ≡ splice (3 + 5 * r) (getD (l .set) r 0 ∷ getD (l .rel) r 0 ∷ 0 ∷ 0 ∷ 0 ∷ []) w → z ≡ splice 3 (relationLines g l) d
   unfolding relationLines relationEnd
-  relation-last r h e q = q ∙ tab-end (relationNumbers g l) 5 (length-relation g l) 3 17 (relationEnd l) w d (omega (arith, length-relation-end l)) (rw h at e)
+  relation-last r b h e q =
+      q ∙ tab-end (relationNumbers g l) 5 (length-relation g l) 3 r (relationEnd l r) w d (omega (arith, length-relation-end l r)) e
+      ∙ ap (λ (k : ℕ). splice 3 (tab (relationNumbers g l) k ++ relationEnd l k) d) h
 
 module _ (t : Nodes) (l : Layout) (w d z : List ℕ) (len : length d ≡ tableLength) where
   pub node-turn : (v : ℕ) (line : List ℕ) → v < 64 → line ≡ nodeNumbers t l v → w ≡ splice 93 (tab (nodeNumbers t l) v) d → z ≡ splice (93 + 11 * v) line w → z ≡ splice 93 (tab (nodeNumbers t l) (v + 1)) d

@@ -26,19 +26,19 @@ fn store(table: &mut [usize], at: usize, line: &[usize])
     }
 }
 
-// The lines of the relations.
+// The lines of the relations, and the line past the last.
 fn fill_relations(table: &mut [usize], g: Relations, l: Layout)
-    requires { ⌜ length (now table) ≡ tableLength ⌝ }
+    requires { ⌜ (length (now table) ≡ tableLength) × RelationsFit g ⌝ }
     ensures { λ r. ⌜ now (table .exit) ≡ splice 3 (relationLines g l) (now (table .entry)) ⌝ }
 {
     let mut r: usize = 0;
-    while r < 17 {
+    while r < g.count {
         let line = [l.set[r], l.rel[r], l.neg[r], l.dom[r], g.kind[r]];
         store(table, 3 + 5 * r, &line);
         r += 1;
     }
-    let last = [l.set[17], l.rel[17], 0, 0, 0];
-    store(table, 88, &last);
+    let last = [l.set[r], l.rel[r], 0, 0, 0];
+    store(table, 3 + 5 * r, &last);
 }
 
 // A byte as a number.
@@ -135,7 +135,7 @@ fn fill_parts(table: &mut [usize], n: usize, t: Nodes, l: Layout)
     store(table, 1128, &last);
 }
 
-// The whole table, in place of zeros: the lines of nodes and parts that there are not stay as they were.
+// The whole table, in place of zeros: the lines past the last relation, node and part stay as they were.
 pub fn fill(table: &mut [usize], n: usize, g: Relations, t: Nodes, l: Layout)
     requires { ⌜ (length (now table) ≡ tableLength) × Most (now table) 0 × (0 < n) × (n ≤ 64) × RelationsFit g × Fits t × Small l actionLimit ⌝ }
     ensures { λ r. ⌜ (now (table .exit) ≡ tableOf n g t l (now (table .entry))) × Filled n g t l (now (table .exit)) ⌝ }

@@ -15,7 +15,9 @@ slice-write-table-3 : tie.Need-slice-write-table-3
 slice-write-table-3 c = search needs
 
 fill-relations-requires : tie.Need-fill-relations-requires
-fill-relations-requires c κs = search needs
+fill-relations-requires c κs =
+    let s = c .before .before in
+    (three-set (s .args .table .now) (s .args .n) (s .args .g .count) (s .args .t .count) ∙ s .pre .0, s .pre .4)
 
 fill-nodes-requires : tie.Need-fill-nodes-requires
 fill-nodes-requires c κs =
