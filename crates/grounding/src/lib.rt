@@ -5,6 +5,7 @@ ghost use mathlib.Core.Bool.{Bool};
 ghost use lib.ListN.{length};
 ghost use Rattle.definitions.specs.Truth.{Case};
 ghost use Rattle.definitions.specs.Outcome.{ground as «ground-of»};
+ghost use Rattle.rows.specs.Values.{Most};
 ghost use Rattle.ground.specs.Lines.{tableLength};
 ghost use Rattle.opening.specs.Read.{Holds};
 ghost use Rattle.grounding.specs.Grounds.{Read, GroundsTo};
@@ -18,9 +19,9 @@ pub struct Sized {
     pub bound: usize,
 }
 
-// Fills the lent table, unless there are too many atoms or actions.
+// Fills the lent table of zeros, unless there are too many atoms or actions.
 pub fn ground_case(question: &[u8], o: Opened, table: &mut [usize]) -> Sized
-    requires { ⌜ (length (now table) ≡ tableLength) ⌝ }
+    requires { ⌜ (length (now table) ≡ tableLength) × Most (now table) 0 ⌝ }
     requires { ⌜ Read (now question) o ⌝ }
     ensures { λ r. ⌜ ((c : Case) (facts : ℕ → Bool) → Holds (now (question .entry)) c o facts → GroundsTo («ground-of» c) r (now (table .exit))) ⌝ }
 {

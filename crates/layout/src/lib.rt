@@ -180,9 +180,9 @@ fn node_starts(n: usize, t: tree::Nodes, from: usize, first: usize) -> NodeStart
     while v < t.count {
         let row = t.rows[v];
         let kind = wide(row.kind);
-        let rows = rows::power(n, row.width);
+        let rows = rows::power(n, wide(row.width));
         at = at + node_width(n, rows, kind);
-        acts = acts + rows * choices(n, kind, row.many);
+        acts = acts + rows * choices(n, kind, wide(row.many));
         v += 1;
         node[v] = at;
         act[v] = acts;

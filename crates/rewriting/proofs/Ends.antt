@@ -19,18 +19,16 @@ use Rattle.formula.specs.Seen.{names}
 use Rattle.formula.specs.Spans.{length-names}
 use Rattle.formula.specs.Steps.{front-rest, slice-front}
 use Rattle.formula.specs.declared.Scope.{Scope}
-use Rattle.tables.specs.Postorder.{pad, post, leafKind, leafRow}
+use Rattle.tables.specs.Postorder.{pad, post, Rows, leafKind, leafRow}
 use Rattle.tables.specs.declared.Row.{Row}
-use Rattle.tables.specs.declared.Rows.{Rows}
 use Rattle.rewriting.specs.Trees.{treeIn, quantNode, quantKind, chain, tree-lit, tree-quant, post-nest, nodes-nest}
 use Rattle.rewriting.specs.Sizes.{known-few}
 use Rattle.rewriting.specs.Ready.{levelOf, Adds, pushed, numbered, Fine, Ready, ListReady, VarsReady, Walked, Opened, Filled}
-use Rattle.rewriting.specs.declared.Walk.{Walk}
 use Rattle.rewriting.specs.declared.Bound.{Bound}
 use Rattle.rewriting.specs.declared.Leaf.{Leaf}
 use Rattle.rewriting.proofs.Tables.{adds-push, adds-number, adds-both, adds-as}
 use Rattle.rewriting.proofs.Views.{lay-literal, IsLit, IsQuant, fine-quant, quant-forms, quant-nesting}
-use Rattle.rewriting.proofs.Turns.{lay-quant, len-quant, quant-nine, fine-in, long-in, moved, as-tree, ready-few, ready-rows, walked-len}
+use Rattle.rewriting.proofs.Turns.{lay-quant, len-quant, quant-nine, moved, as-tree, ready-few, ready-rows, walked-len}
 use Rattle.rewriting.proofs.Words.{vars-in}
 
 -- ---- a quantifier
@@ -40,7 +38,7 @@ regroup v vs m = simp append-assoc
 nest-rows : {t p x u : Rows} (b : Bool) (q : Quant) (d k : ℕ) (T : Tree) → Adds t [] k p → Adds p (post (p .nodes) T) (length (nodes T)) x → Adds x (chain (quantKind b q) (t .nodes) d k) 0 u → Adds t (post (t .nodes) (nest (quantNode b q) d k T)) (length (nodes (nest (quantNode b q) d k T))) u
 nest-rows {t} {p} {x} {u} b q d k T a c e = adds-as (ap (λ (n : ℕ). post n T ++ chain (quantKind b q) (t .nodes) d k) (a .nodes) ∙ sym (post-nest b q (t .nodes) d k T)) (omega (arith, nodes-nest b q d k T)) (adds-both a (adds-both c e))
 
-module _ (s : List ℕ) (at : ℕ) (g : Signature) (sc : Scope) (t : Rows) (q : Quant) (w : Ready s at g sc t) (v : IsQuant q (w .f)) where
+module _ {s : List ℕ} {at : ℕ} {g : Signature} {sc : Scope} {t : Rows} (q : Quant) (w : Ready s at g sc t) (v : IsQuant q (w .f)) where
   pub quant-fine : Fine (allOf s g) (names s sc) (t .len) (t .nodes) (quant q (v .v ∷ v .vs) (v .g))
   quant-fine = subst (λ (f : Formula). Fine (allOf s g) (names s sc) (t .len) (t .nodes) f) (v .is) (w .fine)
 
@@ -57,7 +55,7 @@ module _ (s : List ℕ) (at : ℕ) (g : Signature) (sc : Scope) (t : Rows) (q : 
     fits = omega (arith, quant-fine .deep, quant-nesting q (v .v ∷ v .vs) (v .g), length-names s sc);
   }
 
-  module _ (d : Bound) (D : Opened s (at + 9) sc (v .v) (v .vs) d) (k : ℕ) (ek : k ≡ d .scope .n - sc .n) (p : Rows) (e : p ≡ numbered t k) where
+  module _ (d : Bound) (D : Opened s (at + 9) sc (v .v) (v .vs) d) (k : ℕ) (ek : k ≡ d .scope .n - sc .n) where
     pub quant-many : k ≡ length (v .v ∷ v .vs)
     quant-many = omega (arith, D .count)
 
@@ -66,13 +64,13 @@ module _ (s : List ℕ) (at : ℕ) (g : Signature) (sc : Scope) (t : Rows) (q : 
         ap (λ (n : ℕ). drop (at + 9 + n) s) (sym (length-append (writeList (v .v ∷ v .vs)) (41 ∷ 32 ∷ [])))
         ∙ front-rest s (writeList (v .v ∷ v .vs) ++ (41 ∷ 32 ∷ [])) (write (v .g) ++ (41 ∷ w .rest)) (at + 9) (quant-text ∙ sym (regroup (v .v) (writeVars (v .vs)) (write (v .g) ++ (41 ∷ w .rest))))
 
-    abbrev pub quant-ready : Ready s (d .at) g (d .scope) p
+    abbrev pub quant-ready : Ready s (d .at) g (d .scope) (numbered t k)
     quant-ready = record {
       f = v .g;
       rest = 41 ∷ w .rest;
       is = ap (λ (n : ℕ). drop n s) (D .place) ∙ after-list;
-      fine = fine-in t k p e (subst (λ (n : ℕ). Fine (allOf s g) (names s (d .scope)) (t .len) (t .nodes + n) (v .g)) (sym quant-many) (fine-quant (allOf s g) (names s sc) (t .len) (t .nodes) q (v .v ∷ v .vs) (v .g) (names s (d .scope)) (D .scope) quant-fine));
-      fixed = moved p (w .fixed) (long-in t k p e (w .fixed .long));
+      fine = subst (λ (n : ℕ). Fine (allOf s g) (names s (d .scope)) (t .len) (t .nodes + n) (v .g)) (sym quant-many) (fine-quant (allOf s g) (names s sc) (t .len) (t .nodes) q (v .v ∷ v .vs) (v .g) (names s (d .scope)) (D .scope) quant-fine);
+      fixed = moved (numbered t k) (w .fixed) (w .fixed .long);
     }
 
     pub quant-nodes : t .nodes + k ≤ 64
@@ -81,18 +79,18 @@ module _ (s : List ℕ) (at : ℕ) (g : Signature) (sc : Scope) (t : Rows) (q : 
     pub quant-levels : sc .n + k ≤ 4
     quant-levels = omega (arith, quant-fine .deep, quant-nesting q (v .v ∷ v .vs) (v .g), length-names s sc, quant-many)
 
-    module _ (b : Bool) (x : Walk) (X : Walked b s (d .at) g (d .scope) p (v .g) x) where
-      pub quant-place : x .at + 1 ≡ at + length (write (w .f))
+    module _ (b : Bool) (x-end : ℕ) (x : Rows) (X : Walked b s (d .at) g (d .scope) (numbered t k) (v .g) x-end x) where
+      pub quant-place : x-end + 1 ≡ at + length (write (w .f))
       quant-place = omega (arith, X .place, D .place, ap (λ (f : Formula). length (write f)) (v .is), len-quant q (v .v) (v .vs) (v .g))
 
-      pub quant-space : x .rows .len + k ≤ 64
-      quant-space = omega (arith, walked-len b (v .g) x X, quant-fine .rows, quant-forms q (v .v ∷ v .vs) (v .g), quant-many, ap (λ (r : Rows). r .len) e)
+      pub quant-space : x .len + k ≤ 64
+      quant-space = omega (arith, walked-len b (v .g) x-end x X, quant-fine .rows, quant-forms q (v .v ∷ v .vs) (v .g), quant-many)
 
-      pub quant-done : (u : Rows) → Adds (x .rows) (chain (quantKind b q) (t .nodes) (sc .n) k) 0 u → Walked b s at g sc t (w .f) (record { rows = u; at = x .at + 1 })
+      pub quant-done : (u : Rows) → Adds x (chain (quantKind b q) (t .nodes) (sc .n) k) 0 u → Walked b s at g sc t (w .f) (x-end + 1) u
       quant-done u U = record {
         place = quant-place;
         adds = as-tree (ap (λ (f : Formula). treeIn b (allOf s g) (names s sc) f) (v .is) ∙ tree-quant (allOf s g) (names s sc) b q (v .v ∷ v .vs) (v .g) ∙ same)
-            (nest-rows b q (sc .n) k (treeIn b (allOf s g) (names s (d .scope)) (v .g)) (adds-number t p k (w .fixed .long) e) (X .adds) U);
+            (nest-rows b q (sc .n) k (treeIn b (allOf s g) (names s (d .scope)) (v .g)) (adds-number t k (w .fixed .long)) (X .adds) U);
       }
         where
           same : nest (quantNode b q) (length (names s sc)) (length (v .v ∷ v .vs)) (treeIn b (allOf s g) (names s sc ++ (v .v ∷ v .vs)) (v .g)) ≡ nest (quantNode b q) (sc .n) k (treeIn b (allOf s g) (names s (d .scope)) (v .g))
@@ -122,7 +120,7 @@ leaf-adds : (b : Bool) (rs : List Relation) (scope : List (List ℕ)) (n : List 
 unfolding leafOf post nodes
 leaf-adds b rs scope n vs t u row h k er eu = adds-as (ap (λ (x : Row). x ∷ []) er) refl (adds-push t u row h k eu)
 
-module _ (s : List ℕ) (at : ℕ) (g : Signature) (sc : Scope) (t : Rows) (w : Ready s at g sc t) (v : IsLit (w .f)) (a : ℕ) (ea : a ≡ (at + 1) + span false (drop (at + 1) s)) where
+module _ {s : List ℕ} {at : ℕ} {g : Signature} {sc : Scope} {t : Rows} (w : Ready s at g sc t) (v : IsLit (w .f)) (a : ℕ) (ea : a ≡ (at + 1) + span false (drop (at + 1) s)) where
   lit-text : drop (at + 1) s ≡ v .n ++ (writeVars (v .v ∷ v .vs) ++ (41 ∷ w .rest))
   lit-text = sym (drop-drop 1 at s) ∙ ap (λ (l : List ℕ). drop 1 l) (w .is ∙ ap (λ (f : Formula). write f ++ w .rest) (v .is) ∙ lay-literal (v .n) (v .v ∷ v .vs) (w .rest))
 
@@ -155,7 +153,7 @@ module _ (s : List ℕ) (at : ℕ) (g : Signature) (sc : Scope) (t : Rows) (w : 
     pub lit-place : l .at + 1 ≡ at + length (write (w .f))
     lit-place = omega (arith, L .place, lit-name-end, ap (λ (f : Formula). length (write f)) (v .is), len-literal (v .n) (v .v ∷ v .vs))
 
-    pub lit-done : (u : Rows) → u ≡ pushed t (l .row) → Walked b s at g sc t (w .f) (record { rows = u; at = l .at + 1 })
+    pub lit-done : (u : Rows) → u ≡ pushed t (l .row) → Walked b s at g sc t (w .f) (l .at + 1) u
     lit-done u eu = record {
       place = lit-place;
       adds = as-tree (ap (λ (f : Formula). treeIn b (allOf s g) (names s sc) f) (v .is) ∙ tree-lit (allOf s g) (names s sc) b (v .n) (v .v ∷ v .vs))

@@ -6,7 +6,7 @@ use mathlib.Core.Path.{_≡_, refl, sym, ap, subst, _∙_}
 use mathlib.Core.Bool.{Bool, true, false, not, _||_}
 use mathlib.Core.Option.{Option, none, some}
 use mathlib.Core.List.{List, [], _∷_, _++_, append-nil}
-use lib.ListN.{length, getD, take, drop}
+use lib.ListN.{length, getD, set, take, drop}
 use lib.Seq.{slice}
 use lib.Dec.{eqb, ltb}
 use borrow.Author.Tests.{ltb-false, ne-eqb}
@@ -26,28 +26,26 @@ use Rattle.formula.specs.Spans.{chosen-are, totals-next}
 use Rattle.formula.specs.Bound.{slice-rest, names-none}
 use Rattle.tree.specs.Tables.{IsTable, Fits}
 use Rattle.tree.specs.declared.Nodes.{Nodes}
-use Rattle.tables.specs.Postorder.{post, postAll, inner, innerAll, rowsIn, Small, AllSmall, leafRow, quantRow, joinRow}
+use Rattle.tables.specs.Postorder.{post, postAll, inner, innerAll, Rows, rowsIn, Small, AllSmall, leafRow, quantRow, joinRow}
 use Rattle.tables.specs.Pass.{Ranged}
 use Rattle.tables.specs.Whole.{Of, tree-ranged}
 use Rattle.tables.specs.declared.Row.{Row}
-use Rattle.tables.specs.declared.Rows.{Rows}
 use Rattle.rewriting.specs.Trees.{treeIn, length-post, length-postAll, rows-le}
 use Rattle.rewriting.specs.Sizes.{FewPlaces, tree-small}
 use Rattle.rewriting.specs.Ready.{Adds, pushed, numbered, Ready, Walked}
 use Rattle.rewriting.specs.Rule.{totalityOf, oneTotality, Accepted, rootOf, IsQuestion, RowsOf, TableOf}
-use Rattle.rewriting.specs.declared.Walk.{Walk}
-use Rattle.rewriting.proofs.Tables.{adds-none, adds-push, adds-number, adds-both, adds-as}
+use Rattle.rewriting.proofs.Tables.{adds-none, adds-push, adds-at, adds-number, adds-both, adds-as}
 use Rattle.rewriting.proofs.Words.{length-all}
 use Rattle.rewriting.proofs.Turns.{first-rows, joined as joined-adds}
 
 -- ---- one totality
-pub totality-adds : (t p u x y : Rows) (r : ℕ) (a b c : Row) → length (t .at) ≡ 64 → t .len + 3 ≤ 64 → p ≡ numbered t 2 → a ≡ leafRow true r (0 ∷ 1 ∷ []) → u ≡ pushed p a → b ≡ quantRow 1 (t .nodes + 1) 1 → x ≡ pushed u b → c ≡ quantRow 0 (t .nodes) 0 → y ≡ pushed x c → Adds t (post (t .nodes) (totalityOf r)) 2 y
+pub totality-adds : (t u x y : Rows) (r : ℕ) (a b c : Row) → length (t .at) ≡ 64 → t .len + 3 ≤ 64 → a ≡ leafRow true r (0 ∷ 1 ∷ []) → u ≡ pushed (numbered t 2) a → b ≡ quantRow 1 (t .nodes + 1) 1 → x ≡ record { at = set (u .at) (t .len + 1) b; len = t .len + 2; nodes = u .nodes } → c ≡ quantRow 0 (t .nodes) 0 → y ≡ record { at = set (x .at) (t .len + 2) c; len = t .len + 3; nodes = x .nodes } → Adds t (post (t .nodes) (totalityOf r)) 2 y
 unfolding post
-totality-adds t p u x y r a b c h l ep ea eu eb ex ec ey =
-    let P = adds-number t p 2 h ep in
-    let U = adds-push p u a (P .long) (omega (arith, P .len)) eu in
-    let X = adds-push u x b (U .long) (omega (arith, P .len, U .len)) ex in
-    let Y = adds-push x y c (X .long) (omega (arith, P .len, U .len, X .len)) ey in
+totality-adds t u x y r a b c h l ea eu eb ex ec ey =
+    let P = adds-number t 2 h in
+    let U = adds-push (numbered t 2) u a h (omega arith) eu in
+    let X = adds-at u x b (t .len + 1) (t .len + 2) (U .long) (omega (arith, U .len)) (omega (arith, U .len)) (omega (arith, U .len)) ex in
+    let Y = adds-at x y c (t .len + 2) (t .len + 3) (X .long) (omega (arith, U .len, X .len)) (omega (arith, U .len, X .len)) (omega (arith, U .len, X .len)) ey in
     adds-as (rows a b c ea eb ec) (omega arith) (adds-both P (adds-both U (adds-both X Y)))
   where
     rows : (a b c : Row) → a ≡ leafRow true r (0 ∷ 1 ∷ []) → b ≡ quantRow 1 (t .nodes + 1) 1 → c ≡ quantRow 0 (t .nodes) 0 → _≡_ {A = List Row} (a ∷ b ∷ c ∷ []) (leafRow true r (0 ∷ 1 ∷ []) ∷ quantRow 1 (suc (t .nodes)) 1 ∷ quantRow 0 (t .nodes) 0 ∷ [])
@@ -349,28 +347,28 @@ module _ (s : List ℕ) (at stop : ℕ) (g : Signature) (c : Accepted s at stop 
   chosen-long = length-relations s g (g .rels) (g .chosen)
 
   -- ---- no totality
-  pub of-plain : (t : Rows) (r : Walk) → t .len ≡ 0 → t .nodes ≡ 0 → totals (chosenOf s g) ≡ 0 → Walked true s at g (record { from = F; to = T; n = 0 }) t (a .f) r → RowsOf s at stop g (r .rows)
-  of-plain t r e h z w = record {
+  pub of-plain : (t : Rows) (after : ℕ) (r : Rows) → t .len ≡ 0 → t .nodes ≡ 0 → totals (chosenOf s g) ≡ 0 → Walked true s at g (record { from = F; to = T; n = 0 }) t (a .f) after r → RowsOf s at stop g r
+  of-plain t after r e h z w = record {
     long = w .adds .long;
     few = omega (arith, w .adds .len, length-post (t .nodes) (treeIn true (allOf s g) (names s (record { from = F; to = T; n = 0 })) (a .f)), rows-le true (allOf s g) (names s (record { from = F; to = T; n = 0 })) (a .f), plain-forms);
-    of = λ f q. subst (λ (x : Formula). Of (length (allOf s g)) (rootOf s g x) (r .rows)) (sym (same-formed s at stop g a f q))
-        (subst (λ (x : Tree). Of (length (allOf s g)) x (r .rows)) (sym root)
-        (of-adds t (r .rows) (length (allOf s g)) (asIs (allOf s g) [] (a .f)) e h (subst (λ (x : Tree). Adds t (post (t .nodes) x) (length (nodes x)) (r .rows)) tops (w .adds)) tops-small (omega (arith, tops-rows, plain-forms)) rels-some rels-few));
+    of = λ f q. subst (λ (x : Formula). Of (length (allOf s g)) (rootOf s g x) r) (sym (same-formed s at stop g a f q))
+        (subst (λ (x : Tree). Of (length (allOf s g)) x r) (sym root)
+        (of-adds t r (length (allOf s g)) (asIs (allOf s g) [] (a .f)) e h (subst (λ (x : Tree). Adds t (post (t .nodes) x) (length (nodes x)) r) tops (w .adds)) tops-small (omega (arith, tops-rows, plain-forms)) rels-some rels-few));
   }
     where
       root : rootOf s g (a .f) ≡ asIs (allOf s g) [] (a .f)
       root = joined-none (asIs (allOf s g) [] (a .f)) (totalities (5 + g .rels) (chosenOf s g)) (totals (chosenOf s g)) (all-totals .many) z
 
   -- ---- some
-  module _ (h : totals (chosenOf s g) ≡ 0 → ⊥) (t p z : Rows) (r : Walk) (el : t .len ≡ 0) (en : t .nodes ≡ 0) (long : length (t .at) ≡ 64) (ep : p ≡ numbered t 1) (w : Walked true s at g (record { from = F; to = T; n = 0 }) p (a .f) r) (A : Adds (r .rows) (postAll (r .rows .nodes) (totalities (5 + g .rels) (chosenOf s g))) (length (nodesAll (totalities (5 + g .rels) (chosenOf s g)))) z) where
-    walk-adds : Adds p (post (p .nodes) (asIs (allOf s g) [] (a .f))) (length (nodes (asIs (allOf s g) [] (a .f)))) (r .rows)
-    walk-adds = subst (λ (x : Tree). Adds p (post (p .nodes) x) (length (nodes x)) (r .rows)) tops (w .adds)
+  module _ (h : totals (chosenOf s g) ≡ 0 → ⊥) (t z : Rows) (after : ℕ) (r : Rows) (el : t .len ≡ 0) (en : t .nodes ≡ 0) (long : length (t .at) ≡ 64) (w : Walked true s at g (record { from = F; to = T; n = 0 }) (numbered t 1) (a .f) after r) (A : Adds r (postAll (r .nodes) (totalities (5 + g .rels) (chosenOf s g))) (length (nodesAll (totalities (5 + g .rels) (chosenOf s g)))) z) where
+    walk-adds : Adds (numbered t 1) (post (t .nodes + 1) (asIs (allOf s g) [] (a .f))) (length (nodes (asIs (allOf s g) [] (a .f)))) r
+    walk-adds = subst (λ (x : Tree). Adds (numbered t 1) (post (t .nodes + 1) x) (length (nodes x)) r) tops (w .adds)
 
-    parts-rows : length (postAll (r .rows .nodes) (totalities (5 + g .rels) (chosenOf s g))) ≡ 3 * totals (chosenOf s g)
-    parts-rows = omega (arith, length-postAll (r .rows .nodes) (totalities (5 + g .rels) (chosenOf s g)), all-totals .many, all-totals .rows)
+    parts-rows : length (postAll (r .nodes) (totalities (5 + g .rels) (chosenOf s g))) ≡ 3 * totals (chosenOf s g)
+    parts-rows = omega (arith, length-postAll (r .nodes) (totalities (5 + g .rels) (chosenOf s g)), all-totals .many, all-totals .rows)
 
     pub joined-space : z .len + 1 ≤ 64
-    joined-space = omega (arith, joined-forms h, tops-rows, walk-adds .len, length-post (p .nodes) (asIs (allOf s g) [] (a .f)), A .len, parts-rows, ap (λ (x : Rows). x .len) ep)
+    joined-space = omega (arith, joined-forms h, tops-rows, walk-adds .len, length-post (t .nodes + 1) (asIs (allOf s g) [] (a .f)), A .len, parts-rows)
 
     pub of-joined : (u : Rows) (row : Row) → row ≡ joinRow 2 0 (totals (chosenOf s g) + 1) → u ≡ pushed z row → RowsOf s at stop g u
     of-joined u row er eu = record {
@@ -385,7 +383,7 @@ module _ (s : List ℕ) (at stop : ℕ) (g : Signature) (c : Accepted s at stop 
         root = joined-some (asIs (allOf s g) [] (a .f)) (totalities (5 + g .rels) (chosenOf s g)) (totals (chosenOf s g)) (all-totals .many) h
 
         all : Adds t (post (t .nodes) (andNode (asIs (allOf s g) [] (a .f) then totalities (5 + g .rels) (chosenOf s g)))) (length (nodes (andNode (asIs (allOf s g) [] (a .f) then totalities (5 + g .rels) (chosenOf s g))))) u
-        all = joined-adds {t = t} {z = z} true ands (asIs (allOf s g) [] (a .f) then totalities (5 + g .rels) (chosenOf s g)) row u (er ∙ rw (en) (ap (λ (n : ℕ). joinRow 2 0 n) (joined-many (asIs (allOf s g) [] (a .f)) (totalities (5 + g .rels) (chosenOf s g)) (totals (chosenOf s g)) (all-totals .many)))) eu (omega (arith, joined-space)) (first-rows (asIs (allOf s g) [] (a .f)) (totalities (5 + g .rels) (chosenOf s g)) (adds-number t p 1 long ep) walk-adds A)
+        all = joined-adds {t = t} {z = z} true ands (asIs (allOf s g) [] (a .f) then totalities (5 + g .rels) (chosenOf s g)) row u (er ∙ rw (en) (ap (λ (n : ℕ). joinRow 2 0 n) (joined-many (asIs (allOf s g) [] (a .f)) (totalities (5 + g .rels) (chosenOf s g)) (totals (chosenOf s g)) (all-totals .many)))) eu (omega (arith, joined-space)) (first-rows (asIs (allOf s g) [] (a .f)) (totalities (5 + g .rels) (chosenOf s g)) (adds-number t 1 long) walk-adds A)
 
         root-small : Small (length (allOf s g)) (andNode (asIs (allOf s g) [] (a .f) then totalities (5 + g .rels) (chosenOf s g)))
         root-small = small-and (length (allOf s g)) (asIs (allOf s g) [] (a .f)) (totalities (5 + g .rels) (chosenOf s g)) tops-small (all-totals .small (omega (arith, chosen-long, length-all s g)))

@@ -6,9 +6,8 @@ use mathlib.Core.Path.{_≡_, refl, sym, ap, subst, _∙_}
 use mathlib.Core.List.{List, [], _∷_, _++_, append-assoc, append-nil}
 use lib.ListN.{length, set, take, length-set, length-append}
 use lib.Seq.{take-suc-set}
-use Rattle.tables.specs.Postorder.{rowsIn, quantRow}
+use Rattle.tables.specs.Postorder.{Rows, rowsIn, quantRow}
 use Rattle.tables.specs.declared.Row.{Row}
-use Rattle.tables.specs.declared.Rows.{Rows}
 use Rattle.rewriting.specs.Trees.{chain}
 use Rattle.rewriting.specs.Ready.{Adds, pushed, numbered}
 
@@ -31,8 +30,12 @@ adds-push t u row h k e = subst (λ (x : Rows). Adds t (row ∷ []) 0 x) (sym e)
   long = length-set (t .at) (t .len) row ∙ h;
 })
 
-pub adds-number : (t u : Rows) (k : ℕ) → length (t .at) ≡ 64 → u ≡ numbered t k → Adds t [] k u
-adds-number t u k h e = subst (λ (x : Rows). Adds t [] k x) (sym e) (record { is = rows-number t k; len = omega arith; nodes = refl; long = h })
+-- ... at a place, and with a length, that are known to be right
+pub adds-at : (t u : Rows) (row : Row) (i n : ℕ) → length (t .at) ≡ 64 → t .len < 64 → i ≡ t .len → n ≡ t .len + 1 → u ≡ record { at = set (t .at) i row; len = n; nodes = t .nodes } → Adds t (row ∷ []) 0 u
+adds-at t u row i n h k ei en e = adds-push t u row h k (e ∙ ap (λ (j : ℕ). record { at = set (t .at) j row; len = n; nodes = t .nodes }) ei ∙ ap (λ (m : ℕ). record { at = set (t .at) (t .len) row; len = m; nodes = t .nodes }) en)
+
+pub adds-number : (t : Rows) (k : ℕ) → length (t .at) ≡ 64 → Adds t [] k (numbered t k)
+adds-number t k h = record { is = rows-number t k; len = omega arith; nodes = refl; long = h }
 
 pub adds-both : {t u w : Rows} {R Q : List Row} {n m : ℕ} → Adds t R n u → Adds u Q m w → Adds t (R ++ Q) (n + m) w
 adds-both {t} {u} {w} {R} {Q} a b = record {

@@ -8,7 +8,6 @@ use mathlib.Core.List.{List, [], _∷_, _++_, append-assoc, append-nil}
 use lib.ListN.{length, getD, drop, length-append, length-drop}
 use lib.Seq.{drop-drop}
 use Rattle.definitions.specs.Formula.{Formula, Formulas, literal, negation, implication, conjunction, disjunction, exists, forall, nil, cons, Join, ands, ors, Quant, somes, everys, join, quant, joinWord, quantWord, notWord, impWord, writeVars, writeList, write, writeParts, isNot, isImplies, isOther, kindOf, forms, formsAll}
-use Rattle.definitions.specs.Relations.{Relation}
 use Rattle.definitions.specs.Tree.{Tree, Trees, end, _then_, nodes, nodesAll, howMany}
 use Rattle.names.specs.Signatures.{allOf}
 use Rattle.names.specs.declared.Signature.{Signature}
@@ -16,14 +15,11 @@ use Rattle.formula.specs.Seen.{names}
 use Rattle.formula.specs.Spans.{length-names}
 use Rattle.formula.specs.Steps.{front-rest}
 use Rattle.formula.specs.declared.Scope.{Scope}
-use Rattle.tables.specs.Postorder.{post, postAll, joinRow}
+use Rattle.tables.specs.Postorder.{post, postAll, Rows, joinRow}
 use Rattle.tables.specs.Whole.{nodes-le}
 use Rattle.tables.specs.declared.Row.{Row}
-use Rattle.tables.specs.declared.Rows.{Rows}
 use Rattle.rewriting.specs.Trees.{treeIn, treesIn, joinNode, joinKind, tree-neg, tree-imp, tree-join, trees-nil, trees-cons, post-join, nodes-join, length-post, length-postAll, rows-le, rows-le-all}
 use Rattle.rewriting.specs.Ready.{asJoin, asQuant, joinHead, quantHead, Adds, pushed, numbered, Fine, AllFine, Fixed, Ready, PartsReady, Walked, WalkedParts}
-use Rattle.rewriting.specs.declared.Walk.{Walk}
-use Rattle.rewriting.specs.declared.Pieces.{Pieces}
 use Rattle.rewriting.proofs.Tables.{adds-none, adds-push, adds-number, adds-both, adds-as}
 use Rattle.rewriting.proofs.Words.{first-byte}
 use Rattle.rewriting.proofs.Views.{join-forms, formHead, kind-of, IsLit, IsNeg, IsImp, IsJoin, IsQuant, as-lit, as-neg, as-imp, as-join, as-quant, fine-neg, fine-imp-1, fine-imp-2, fine-join-1, fine-join-2, fine-part, fine-parts}
@@ -130,14 +126,14 @@ module _ {s : List ℕ} {at : ℕ} {g : Signature} {sc : Scope} {t : Rows} where
   lit-view w e = as-lit (w .fine .good) (sym (ready-head w) ∙ e)
 
   -- rows and nodes that a part adds are no more than its forms, and one at least
-  pub walked-len : (b : Bool) (f : Formula) (r : Walk) → Walked b s at g sc t f r → r .rows .len ≤ t .len + forms f
-  walked-len b f r w = omega (arith, w .adds .len, length-post (t .nodes) (treeIn b (allOf s g) (names s sc) f), rows-le b (allOf s g) (names s sc) f)
+  pub walked-len : (b : Bool) (f : Formula) (after : ℕ) (u : Rows) → Walked b s at g sc t f after u → u .len ≤ t .len + forms f
+  walked-len b f after u w = omega (arith, w .adds .len, length-post (t .nodes) (treeIn b (allOf s g) (names s sc) f), rows-le b (allOf s g) (names s sc) f)
 
-  pub walked-more : (b : Bool) (f : Formula) (r : Walk) → Walked b s at g sc t f r → t .len < r .rows .len
-  walked-more b f r w = omega (arith, w .adds .len, length-post (t .nodes) (treeIn b (allOf s g) (names s sc) f))
+  pub walked-more : (b : Bool) (f : Formula) (after : ℕ) (u : Rows) → Walked b s at g sc t f after u → t .len < u .len
+  walked-more b f after u w = omega (arith, w .adds .len, length-post (t .nodes) (treeIn b (allOf s g) (names s sc) f))
 
-  pub walked-nodes : (b : Bool) (f : Formula) (r : Walk) → Walked b s at g sc t f r → r .rows .nodes ≤ t .nodes + forms f
-  walked-nodes b f r w = omega (arith, w .adds .nodes, nodes-le (treeIn b (allOf s g) (names s sc) f), rows-le b (allOf s g) (names s sc) f)
+  pub walked-nodes : (b : Bool) (f : Formula) (after : ℕ) (u : Rows) → Walked b s at g sc t f after u → u .nodes ≤ t .nodes + forms f
+  walked-nodes b f after u w = omega (arith, w .adds .nodes, nodes-le (treeIn b (allOf s g) (names s sc) f), rows-le b (allOf s g) (names s sc) f)
 
 -- another table in its place
 pub moved : {s : List ℕ} {g : Signature} {t : Rows} (u : Rows) → Fixed s g t → length (u .at) ≡ 64 → Fixed s g u
@@ -145,12 +141,6 @@ moved u f h = record { few = f .few; places = f .places; long = h }
 
 pub as-tree : {t u : Rows} {T U : Tree} → U ≡ T → Adds t (post (t .nodes) T) (length (nodes T)) u → Adds t (post (t .nodes) U) (length (nodes U)) u
 as-tree {t} {u} {T} {U} e a = subst (λ (x : Tree). Adds t (post (t .nodes) x) (length (nodes x)) u) (sym e) a
-
-pub fine-in : {rs : List Relation} {sc : List (List ℕ)} {f : Formula} (t : Rows) (k : ℕ) (p : Rows) → p ≡ numbered t k → Fine rs sc (t .len) (t .nodes + k) f → Fine rs sc (p .len) (p .nodes) f
-fine-in {rs} {sc} {f} t k p e h = subst (λ (x : Rows). Fine rs sc (x .len) (x .nodes) f) (sym e) h
-
-pub long-in : (t : Rows) (k : ℕ) (p : Rows) → p ≡ numbered t k → length (t .at) ≡ 64 → length (p .at) ≡ 64
-long-in t k p e h = ap (λ (x : Rows). length (x .at)) e ∙ h
 
 imp-forms : (f g : Formula) → forms (implication f g) ≡ 1 + forms f + forms g
 unfolding forms
@@ -199,13 +189,13 @@ unfolding post nodes howMany
 no-trees t m TS e h = rw e (adds-none t h, omega arith)
 
 module _ {s : List ℕ} {at : ℕ} {g : Signature} {sc : Scope} {t : Rows} where
-  pub parts-len : (b : Bool) (m : ℕ) (fs : Formulas) (r : Pieces) → WalkedParts b s at g sc t m fs r → r .rows .len ≤ t .len + formsAll fs
-  parts-len b m fs r w = omega (arith, w .adds .len, length-postAll (t .nodes) (treesIn b (allOf s g) (names s sc) fs), rows-le-all b (allOf s g) (names s sc) fs)
+  pub parts-len : (b : Bool) (m : ℕ) (fs : Formulas) (after n : ℕ) (u : Rows) → WalkedParts b s at g sc t m fs after n u → u .len ≤ t .len + formsAll fs
+  parts-len b m fs after n u w = omega (arith, w .adds .len, length-postAll (t .nodes) (treesIn b (allOf s g) (names s sc) fs), rows-le-all b (allOf s g) (names s sc) fs)
 
-  pub parts-many : (b : Bool) (m : ℕ) (fs : Formulas) (r : Pieces) → WalkedParts b s at g sc t m fs r → m ≤ t .len → r .many ≤ r .rows .len
-  parts-many b m fs r w h = omega (arith, w .adds .len, length-postAll (t .nodes) (treesIn b (allOf s g) (names s sc) fs), w .count)
+  pub parts-many : (b : Bool) (m : ℕ) (fs : Formulas) (after n : ℕ) (u : Rows) → WalkedParts b s at g sc t m fs after n u → m ≤ t .len → n ≤ u .len
+  parts-many b m fs after n u w h = omega (arith, w .adds .len, length-postAll (t .nodes) (treesIn b (allOf s g) (names s sc) fs), w .counted)
 
-module _ (s : List ℕ) (at : ℕ) (g : Signature) (sc : Scope) (t : Rows) where
+module _ {s : List ℕ} {at : ℕ} {g : Signature} {sc : Scope} {t : Rows} where
   -- ---- a negation
   abbrev pub neg-ready : (w : Ready s at g sc t) → IsNeg (w .f) → Ready s (at + 5) g sc t
   neg-ready w v = record {
@@ -219,107 +209,107 @@ module _ (s : List ℕ) (at : ℕ) (g : Signature) (sc : Scope) (t : Rows) where
   pub neg-place : (w : Ready s at g sc t) (v : IsNeg (w .f)) (a : ℕ) → a ≡ at + 5 + length (write (v .g)) → a + 1 ≡ at + length (write (w .f))
   neg-place w v a e = omega (arith, ap (λ (f : Formula). length (write f)) (v .is), len-neg (v .g))
 
-  pub neg-done : (b : Bool) (w : Ready s at g sc t) (v : IsNeg (w .f)) (r : Walk) → Walked (not b) s (at + 5) g sc t (v .g) r → Walked b s at g sc t (w .f) (record { rows = r .rows; at = r .at + 1 })
-  neg-done b w v r x = record {
-    place = neg-place w v (r .at) (x .place);
+  pub neg-done : (b : Bool) (w : Ready s at g sc t) (v : IsNeg (w .f)) (after : ℕ) (u : Rows) → Walked (not b) s (at + 5) g sc t (v .g) after u → Walked b s at g sc t (w .f) (after + 1) u
+  neg-done b w v after u x = record {
+    place = neg-place w v after (x .place);
     adds = as-tree (ap (λ (f : Formula). treeIn b (allOf s g) (names s sc) f) (v .is) ∙ tree-neg (allOf s g) (names s sc) b (v .g)) (x .adds);
   }
 
   -- ---- an implication
-  module _ (w : Ready s at g sc t) (v : IsImp (w .f)) (p : Rows) (e : p ≡ numbered t 1) where
+  module _ (w : Ready s at g sc t) (v : IsImp (w .f)) where
     pub imp-fine : Fine (allOf s g) (names s sc) (t .len) (t .nodes) (implication (v .g) (v .h))
     imp-fine = subst (λ (f : Formula). Fine (allOf s g) (names s sc) (t .len) (t .nodes) f) (v .is) (w .fine)
 
     pub imp-text : drop at s ≡ impWord ++ (write (v .g) ++ (32 ∷ (write (v .h) ++ (41 ∷ w .rest))))
     imp-text = w .is ∙ ap (λ (f : Formula). write f ++ w .rest) (v .is) ∙ lay-imp (v .g) (v .h) (w .rest)
 
-    abbrev pub imp-ready-1 : Ready s (at + 9) g sc p
+    abbrev pub imp-ready-1 : Ready s (at + 9) g sc (numbered t 1)
     imp-ready-1 = record {
       f = v .g;
       rest = 32 ∷ (write (v .h) ++ (41 ∷ w .rest));
       is = front-rest s impWord (write (v .g) ++ (32 ∷ (write (v .h) ++ (41 ∷ w .rest)))) at imp-text;
-      fine = fine-in t 1 p e (fine-imp-1 (allOf s g) (names s sc) (t .len) (t .nodes) (v .g) (v .h) imp-fine);
-      fixed = moved p (w .fixed) (long-in t 1 p e (w .fixed .long));
+      fine = fine-imp-1 (allOf s g) (names s sc) (t .len) (t .nodes) (v .g) (v .h) imp-fine;
+      fixed = moved (numbered t 1) (w .fixed) (w .fixed .long);
     }
 
-    module _ (b : Bool) (x : Walk) (X : Walked (not b) s (at + 9) g sc p (v .g) x) where
-      pub imp-rest : drop (x .at + 1) s ≡ write (v .h) ++ (41 ∷ w .rest)
+    module _ (b : Bool) (x-end : ℕ) (x : Rows) (X : Walked (not b) s (at + 9) g sc (numbered t 1) (v .g) x-end x) where
+      pub imp-rest : drop (x-end + 1) s ≡ write (v .h) ++ (41 ∷ w .rest)
       imp-rest =
           ap (λ (a : ℕ). drop (a + 1) s) (X .place)
           ∙ sym (drop-drop 1 (at + 9 + length (write (v .g))) s)
           ∙ ap (λ (l : List ℕ). drop 1 l) (front-rest s (write (v .g)) (32 ∷ (write (v .h) ++ (41 ∷ w .rest))) (at + 9) (imp-ready-1 .is))
 
-      abbrev pub imp-ready-2 : Ready s (x .at + 1) g sc (x .rows)
+      abbrev pub imp-ready-2 : Ready s (x-end + 1) g sc x
       imp-ready-2 = record {
         f = v .h;
         rest = 41 ∷ w .rest;
         is = imp-rest;
-        fine = fine-imp-2 (allOf s g) (names s sc) (t .len) (t .nodes) (v .g) (v .h) (x .rows .len) (x .rows .nodes) (omega (arith, walked-len (not b) (v .g) x X, ap (λ (r : Rows). r .len) e)) (omega (arith, walked-nodes (not b) (v .g) x X, ap (λ (r : Rows). r .nodes) e)) imp-fine;
-        fixed = moved (x .rows) (w .fixed) (X .adds .long);
+        fine = fine-imp-2 (allOf s g) (names s sc) (t .len) (t .nodes) (v .g) (v .h) (x .len) (x .nodes) (omega (arith, walked-len (not b) (v .g) x-end x X)) (omega (arith, walked-nodes (not b) (v .g) x-end x X)) imp-fine;
+        fixed = moved x (w .fixed) (X .adds .long);
       }
 
-      module _ (y : Walk) (Y : Walked b s (x .at + 1) g sc (x .rows) (v .h) y) where
-        pub imp-place : y .at + 1 ≡ at + length (write (w .f))
+      module _ (y-end : ℕ) (y : Rows) (Y : Walked b s (x-end + 1) g sc x (v .h) y-end y) where
+        pub imp-place : y-end + 1 ≡ at + length (write (w .f))
         imp-place = omega (arith, X .place, Y .place, ap (λ (f : Formula). length (write f)) (v .is), len-imp (v .g) (v .h))
 
-        pub imp-space : y .rows .len < 64
-        imp-space = omega (arith, walked-len (not b) (v .g) x X, walked-len b (v .h) y Y, imp-fine .rows, imp-forms (v .g) (v .h), ap (λ (r : Rows). r .len) e)
+        pub imp-space : y .len < 64
+        imp-space = omega (arith, walked-len (not b) (v .g) x-end x X, walked-len b (v .h) y-end y Y, imp-fine .rows, imp-forms (v .g) (v .h))
 
-        pub imp-done : (u : Rows) (row : Row) → row ≡ joinRow (joinKind b ors) (t .nodes) 2 → u ≡ pushed (y .rows) row → Walked b s at g sc t (w .f) (record { rows = u; at = y .at + 1 })
+        pub imp-done : (u : Rows) (row : Row) → row ≡ joinRow (joinKind b ors) (t .nodes) 2 → u ≡ pushed y row → Walked b s at g sc t (w .f) (y-end + 1) u
         unfolding howMany
         imp-done u row er eu = record {
           place = imp-place;
           adds = as-tree (ap (λ (f : Formula). treeIn b (allOf s g) (names s sc) f) (v .is) ∙ tree-imp (allOf s g) (names s sc) b (v .g) (v .h))
               (joined b ors (treeIn (not b) (allOf s g) (names s sc) (v .g) then treeIn b (allOf s g) (names s sc) (v .h) then end) row u er eu imp-space
-              (two-rows (treeIn (not b) (allOf s g) (names s sc) (v .g)) (treeIn b (allOf s g) (names s sc) (v .h)) (adds-number t p 1 (w .fixed .long) e) (X .adds) (Y .adds)));
+              (two-rows (treeIn (not b) (allOf s g) (names s sc) (v .g)) (treeIn b (allOf s g) (names s sc) (v .h)) (adds-number t 1 (w .fixed .long)) (X .adds) (Y .adds)));
         }
 
   -- ---- `and`, `or`
-  module _ (j : Join) (w : Ready s at g sc t) (v : IsJoin j (w .f)) (p : Rows) (e : p ≡ numbered t 1) (a : ℕ) (ea : a ≡ at + length (joinWord j)) where
+  module _ (j : Join) (w : Ready s at g sc t) (v : IsJoin j (w .f)) (a : ℕ) (ea : a ≡ at + length (joinWord j)) where
     pub join-fine : Fine (allOf s g) (names s sc) (t .len) (t .nodes) (join j (cons (v .g) (v .gs)))
     join-fine = subst (λ (f : Formula). Fine (allOf s g) (names s sc) (t .len) (t .nodes) f) (v .is) (w .fine)
 
     pub join-text : drop at s ≡ joinWord j ++ (write (v .g) ++ (writeParts (v .gs) ++ (41 ∷ w .rest)))
     join-text = w .is ∙ ap (λ (f : Formula). write f ++ w .rest) (v .is) ∙ lay-join j (v .g) (v .gs) (w .rest)
 
-    abbrev pub join-ready : Ready s a g sc p
+    abbrev pub join-ready : Ready s a g sc (numbered t 1)
     join-ready = record {
       f = v .g;
       rest = writeParts (v .gs) ++ (41 ∷ w .rest);
       is = ap (λ (x : ℕ). drop x s) ea ∙ front-rest s (joinWord j) (write (v .g) ++ (writeParts (v .gs) ++ (41 ∷ w .rest))) at join-text;
-      fine = fine-in t 1 p e (fine-join-1 (allOf s g) (names s sc) (t .len) (t .nodes) j (v .g) (v .gs) join-fine);
-      fixed = moved p (w .fixed) (long-in t 1 p e (w .fixed .long));
+      fine = fine-join-1 (allOf s g) (names s sc) (t .len) (t .nodes) j (v .g) (v .gs) join-fine;
+      fixed = moved (numbered t 1) (w .fixed) (w .fixed .long);
     }
 
-    module _ (b : Bool) (x : Walk) (X : Walked b s a g sc p (v .g) x) where
-      pub join-rest : drop (x .at) s ≡ writeParts (v .gs) ++ (41 ∷ w .rest)
+    module _ (b : Bool) (x-end : ℕ) (x : Rows) (X : Walked b s a g sc (numbered t 1) (v .g) x-end x) where
+      pub join-rest : drop x-end s ≡ writeParts (v .gs) ++ (41 ∷ w .rest)
       join-rest = ap (λ (n : ℕ). drop n s) (X .place) ∙ front-rest s (write (v .g)) (writeParts (v .gs) ++ (41 ∷ w .rest)) a (join-ready .is)
 
-      abbrev pub join-parts : PartsReady s (x .at) g sc (x .rows)
+      abbrev pub join-parts : PartsReady s x-end g sc x
       join-parts = record {
         fs = v .gs;
         rest = w .rest;
         is = join-rest;
-        fine = fine-join-2 (allOf s g) (names s sc) (t .len) (t .nodes) j (v .g) (v .gs) (x .rows .len) (x .rows .nodes) (omega (arith, walked-len b (v .g) x X, ap (λ (r : Rows). r .len) e)) (omega (arith, walked-nodes b (v .g) x X, ap (λ (r : Rows). r .nodes) e)) join-fine;
-        fixed = moved (x .rows) (w .fixed) (X .adds .long);
+        fine = fine-join-2 (allOf s g) (names s sc) (t .len) (t .nodes) j (v .g) (v .gs) (x .len) (x .nodes) (omega (arith, walked-len b (v .g) x-end x X)) (omega (arith, walked-nodes b (v .g) x-end x X)) join-fine;
+        fixed = moved x (w .fixed) (X .adds .long);
       }
 
-      pub join-one : 1 ≤ x .rows .len
-      join-one = omega (arith, walked-more b (v .g) x X)
+      pub join-one : 1 ≤ x .len
+      join-one = omega (arith, walked-more b (v .g) x-end x X)
 
-      module _ (y : Pieces) (Y : WalkedParts b s (x .at) g sc (x .rows) 1 (v .gs) y) where
-        pub join-place : y .at + 1 ≡ at + length (write (w .f))
+      module _ (y-end many : ℕ) (y : Rows) (Y : WalkedParts b s x-end g sc x 1 (v .gs) y-end many y) where
+        pub join-place : y-end + 1 ≡ at + length (write (w .f))
         join-place = omega (arith, X .place, Y .place, ea, ap (λ (f : Formula). length (write f)) (v .is), len-join j (v .g) (v .gs))
 
-        pub join-space : y .rows .len < 64
-        join-space = omega (arith, walked-len b (v .g) x X, parts-len b 1 (v .gs) y Y, join-fine .rows, join-forms j (v .g) (v .gs), ap (λ (r : Rows). r .len) e)
+        pub join-space : y .len < 64
+        join-space = omega (arith, walked-len b (v .g) x-end x X, parts-len b 1 (v .gs) y-end many y Y, join-fine .rows, join-forms j (v .g) (v .gs))
 
-        pub join-done : (u : Rows) (row : Row) → row ≡ joinRow (joinKind b j) (t .nodes) (y .many) → u ≡ pushed (y .rows) row → Walked b s at g sc t (w .f) (record { rows = u; at = y .at + 1 })
+        pub join-done : (u : Rows) (row : Row) → row ≡ joinRow (joinKind b j) (t .nodes) many → u ≡ pushed y row → Walked b s at g sc t (w .f) (y-end + 1) u
         join-done u row er eu = record {
           place = join-place;
           adds = as-tree (ap (λ (f : Formula). treeIn b (allOf s g) (names s sc) f) (v .is) ∙ tree-join (allOf s g) (names s sc) b j (cons (v .g) (v .gs)) ∙ ap (λ (ts : Trees). joinNode b j ts) (trees-cons (allOf s g) (names s sc) b (v .g) (v .gs)))
-              (joined b j (treeIn b (allOf s g) (names s sc) (v .g) then treesIn b (allOf s g) (names s sc) (v .gs)) row u (er ∙ ap (λ (n : ℕ). joinRow (joinKind b j) (t .nodes) n) (count-trees (treeIn b (allOf s g) (names s sc) (v .g)) (treesIn b (allOf s g) (names s sc) (v .gs)) (y .many) (Y .count))) eu join-space
-              (first-rows (treeIn b (allOf s g) (names s sc) (v .g)) (treesIn b (allOf s g) (names s sc) (v .gs)) (adds-number t p 1 (w .fixed .long) e) (X .adds) (Y .adds)));
+              (joined b j (treeIn b (allOf s g) (names s sc) (v .g) then treesIn b (allOf s g) (names s sc) (v .gs)) row u (er ∙ ap (λ (n : ℕ). joinRow (joinKind b j) (t .nodes) n) (count-trees (treeIn b (allOf s g) (names s sc) (v .g)) (treesIn b (allOf s g) (names s sc) (v .gs)) many (Y .counted))) eu join-space
+              (first-rows (treeIn b (allOf s g) (names s sc) (v .g)) (treesIn b (allOf s g) (names s sc) (v .gs)) (adds-number t 1 (w .fixed .long)) (X .adds) (Y .adds)));
         }
 
 -- ---- further parts
@@ -328,7 +318,7 @@ pub record IsCons (fs : Formulas) : Type 0 where
   pub gs : Formulas
   pub is : fs ≡ cons f gs
 
-module _ (s : List ℕ) (at : ℕ) (g : Signature) (sc : Scope) (t : Rows) (w : PartsReady s at g sc t) where
+module _ {s : List ℕ} {at : ℕ} {g : Signature} {sc : Scope} {t : Rows} (w : PartsReady s at g sc t) where
   pub parts-in : at < length s
   unfolding write
   parts-in = go (w .fs) (w .is)
@@ -353,7 +343,7 @@ module _ (s : List ℕ) (at : ℕ) (g : Signature) (sc : Scope) (t : Rows) (w : 
       go nil e = absurd (omega (arith, first-byte s at 41 _ e .0))
       go (cons f gs) e = record { f = f; gs = gs; is = refl }
 
-  pub parts-end : (b : Bool) (many : ℕ) → (getD s at 0 ≡ 32 → ⊥) → WalkedParts b s at g sc t many (w .fs) (record { rows = t; at = at; many = many })
+  pub parts-end : (b : Bool) (many : ℕ) → (getD s at 0 ≡ 32 → ⊥) → WalkedParts b s at g sc t many (w .fs) at many t
   unfolding write
   parts-end b many h =
       let e : w .fs ≡ nil = parts-none h in
@@ -361,7 +351,7 @@ module _ (s : List ℕ) (at : ℕ) (g : Signature) (sc : Scope) (t : Rows) (w : 
       record {
         place = place (ap (λ (fs : Formulas). length (writeParts fs)) e);
         adds = z .0;
-        count = z .1;
+        counted = z .1;
       }
     where
       place : length (writeParts (w .fs)) ≡ 0 → at ≡ at + length (writeParts (w .fs))
@@ -383,21 +373,21 @@ module _ (s : List ℕ) (at : ℕ) (g : Signature) (sc : Scope) (t : Rows) (w : 
       fixed = w .fixed;
     }
 
-    module _ (b : Bool) (x : Walk) (X : Walked b s (at + 1) g sc t (v .f) x) where
-      abbrev pub part-next : PartsReady s (x .at) g sc (x .rows)
+    module _ (b : Bool) (x-end : ℕ) (x : Rows) (X : Walked b s (at + 1) g sc t (v .f) x-end x) where
+      abbrev pub part-next : PartsReady s x-end g sc x
       part-next = record {
         fs = v .gs;
         rest = w .rest;
         is = ap (λ (n : ℕ). drop n s) (X .place) ∙ front-rest s (write (v .f)) (writeParts (v .gs) ++ (41 ∷ w .rest)) (at + 1) part-text;
-        fine = fine-parts (allOf s g) (names s sc) (t .len) (t .nodes) (v .f) (v .gs) (x .rows .len) (x .rows .nodes) (walked-len b (v .f) x X) (walked-nodes b (v .f) x X) part-fine;
-        fixed = moved (x .rows) (w .fixed) (X .adds .long);
+        fine = fine-parts (allOf s g) (names s sc) (t .len) (t .nodes) (v .f) (v .gs) (x .len) (x .nodes) (walked-len b (v .f) x-end x X) (walked-nodes b (v .f) x-end x X) part-fine;
+        fixed = moved x (w .fixed) (X .adds .long);
       }
 
-      pub parts-done : (many : ℕ) (r : Pieces) → WalkedParts b s (x .at) g sc (x .rows) (many + 1) (v .gs) r → WalkedParts b s at g sc t many (w .fs) r
-      parts-done many r R =
+      pub parts-done : (many after n : ℕ) (u : Rows) → WalkedParts b s x-end g sc x (many + 1) (v .gs) after n u → WalkedParts b s at g sc t many (w .fs) after n u
+      parts-done many after n u R =
           let e : treesIn b (allOf s g) (names s sc) (w .fs) ≡ (treeIn b (allOf s g) (names s sc) (v .f) then treesIn b (allOf s g) (names s sc) (v .gs)) = ap (λ (fs : Formulas). treesIn b (allOf s g) (names s sc) fs) (v .is) ∙ trees-cons (allOf s g) (names s sc) b (v .f) (v .gs) in
           record {
             place = omega (arith, R .place, X .place, ap (λ (fs : Formulas). length (writeParts fs)) (v .is), len-parts (v .f) (v .gs));
             adds = as-trees e (next-rows (treeIn b (allOf s g) (names s sc) (v .f)) (treesIn b (allOf s g) (names s sc) (v .gs)) (X .adds) (R .adds));
-            count = more-trees (treeIn b (allOf s g) (names s sc) (v .f)) (treesIn b (allOf s g) (names s sc) (v .gs)) (r .many) many (R .count) ∙ ap (λ (ts : Trees). many + howMany ts) (sym e);
+            counted = more-trees (treeIn b (allOf s g) (names s sc) (v .f)) (treesIn b (allOf s g) (names s sc) (v .gs)) n many (R .counted) ∙ ap (λ (ts : Trees). many + howMany ts) (sym e);
           }

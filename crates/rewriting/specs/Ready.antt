@@ -12,13 +12,10 @@ use Rattle.names.specs.Signatures.{allOf}
 use Rattle.names.specs.declared.Signature.{Signature}
 use Rattle.formula.specs.Seen.{names}
 use Rattle.formula.specs.declared.Scope.{Scope}
-use Rattle.tables.specs.Postorder.{post, postAll, rowsIn, leafRow}
+use Rattle.tables.specs.Postorder.{post, postAll, Rows, rowsIn, leafRow}
 use Rattle.tables.specs.declared.Row.{Row}
-use Rattle.tables.specs.declared.Rows.{Rows}
 use Rattle.rewriting.specs.Trees.{treeIn, treesIn}
 use Rattle.rewriting.specs.Sizes.{FewPlaces}
-use Rattle.rewriting.specs.declared.Walk.{Walk}
-use Rattle.rewriting.specs.declared.Pieces.{Pieces}
 use Rattle.rewriting.specs.declared.Bound.{Bound}
 use Rattle.rewriting.specs.declared.Leaf.{Leaf}
 
@@ -114,14 +111,21 @@ pub record VarsReady (s : List ℕ) (at : ℕ) (sc : Scope) (n : ℕ) : Type 0 w
   pub small : sc .n ≤ 4
 
 -- ---- what is given: the place after, and the rows of the tree
-pub record Walked (b : Bool) (s : List ℕ) (at : ℕ) (g : Signature) (sc : Scope) (t : Rows) (f : Formula) (r : Walk) : Type 0 where
-  pub place : r .at ≡ at + length (write f)
-  pub adds : Adds t (post (t .nodes) (treeIn b (allOf s g) (names s sc) f)) (length (nodes (treeIn b (allOf s g) (names s sc) f))) (r .rows)
+pub record Walked (b : Bool) (s : List ℕ) (at : ℕ) (g : Signature) (sc : Scope) (t : Rows) (f : Formula) (after : ℕ) (u : Rows) : Type 0 where
+  pub place : after ≡ at + length (write f)
+  pub adds : Adds t (post (t .nodes) (treeIn b (allOf s g) (names s sc) f)) (length (nodes (treeIn b (allOf s g) (names s sc) f))) u
 
-pub record WalkedParts (b : Bool) (s : List ℕ) (at : ℕ) (g : Signature) (sc : Scope) (t : Rows) (many : ℕ) (fs : Formulas) (r : Pieces) : Type 0 where
-  pub place : r .at ≡ at + length (writeParts fs)
-  pub adds : Adds t (postAll (t .nodes) (treesIn b (allOf s g) (names s sc) fs)) (length (nodesAll (treesIn b (allOf s g) (names s sc) fs))) (r .rows)
-  pub count : r .many ≡ many + howMany (treesIn b (allOf s g) (names s sc) fs)
+pub record WalkedParts (b : Bool) (s : List ℕ) (at : ℕ) (g : Signature) (sc : Scope) (t : Rows) (many : ℕ) (fs : Formulas) (after count : ℕ) (u : Rows) : Type 0 where
+  pub place : after ≡ at + length (writeParts fs)
+  pub adds : Adds t (postAll (t .nodes) (treesIn b (allOf s g) (names s sc) fs)) (length (nodesAll (treesIn b (allOf s g) (names s sc) fs))) u
+  pub counted : count ≡ many + howMany (treesIn b (allOf s g) (names s sc) fs)
+
+-- ... whatever was written there
+abbrev pub Walks : Bool → List ℕ → ℕ → Signature → Scope → Rows → ℕ → Rows → Type 0
+Walks b s at g sc t after u = (w : Ready s at g sc t) → Walked b s at g sc t (w .f) after u
+
+abbrev pub WalksParts : Bool → List ℕ → ℕ → Signature → Scope → Rows → ℕ → ℕ → ℕ → Rows → Type 0
+WalksParts b s at g sc t many after count u = (w : PartsReady s at g sc t) → WalkedParts b s at g sc t many (w .fs) after count u
 
 pub record Opened (s : List ℕ) (at : ℕ) (sc : Scope) (v : List ℕ) (vs : List (List ℕ)) (r : Bound) : Type 0 where
   pub place : r .at ≡ at + (length (writeList (v ∷ vs)) + 2)

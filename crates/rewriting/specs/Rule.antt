@@ -18,7 +18,7 @@ use Rattle.formula.specs.Seen.{ruleNumber}
 use Rattle.tree.specs.Tables.{IsTable, Fits}
 use Rattle.tree.specs.declared.Nodes.{Nodes}
 use Rattle.tables.specs.Whole.{Of}
-use Rattle.tables.specs.declared.Rows.{Rows}
+use Rattle.tables.specs.Postorder.{Rows}
 
 -- "for all a some b" of a relation; what a relation adds by the number of its kind
 abbrev pub totalityOf : ℕ → Tree

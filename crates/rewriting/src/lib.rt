@@ -11,27 +11,34 @@ ghost use Rattle.definitions.specs.Formula.{kindOf, isImplies, isOther, joinWor
 ghost use Rattle.definitions.specs.Tree.{nodesAll, totalities as totalitiesOf};
 ghost use Rattle.names.specs.Signatures.{allOf, chosenOf};
 ghost use Rattle.formula.specs.Seen.{names, totalOf};
-ghost use Rattle.tables.specs.Postorder.{post, postAll, leafKind, leafRow, quantRow, joinRow};
+ghost use Rattle.tables.specs.Postorder.{post, postAll, leafKind, leafRow, quantRow, joinRow, rowsFrom};
 ghost use Rattle.rewriting.specs.Trees.{joinKind, quantKind, chain as chainOf};
-ghost use Rattle.rewriting.specs.Ready.{asJoin, asQuant, joinHead, quantHead, levelOf, pushed, numbered as numberedOf, Adds, Ready, PartsReady, ListReady, VarsReady, Walked, WalkedParts, Opened, Filled};
+ghost use Rattle.rewriting.specs.Ready.{asJoin, asQuant, joinHead, quantHead, levelOf, Adds, Ready, PartsReady, ListReady, VarsReady, Walks, WalksParts, Opened, Filled};
 ghost use Rattle.rewriting.specs.Rule.{totalityOf, oneTotality, Accepted, RowsOf, TableOf};
 use formula::Kind;
 use formula::Scope;
 use names::Signature;
 use tables::Row;
-use tables::Rows;
 use text::Found;
 use tree::Nodes;
 
-// Rows, and the place after what they are of.
+// How many rows of a lent table are in use, and how many preorder numbers are taken.
+struct Used {
+    len: usize,
+    nodes: usize,
+}
+
+// ... and the place after what the rows are of.
 struct Walk {
-    rows: Rows,
+    len: usize,
+    nodes: usize,
     at: usize,
 }
 
 // ... and how many parts they are of.
 struct Pieces {
-    rows: Rows,
+    len: usize,
+    nodes: usize,
     at: usize,
     many: usize,
 }
@@ -52,29 +59,6 @@ fn wide(x: u8) -> usize
     ensures { λ r. ⌜ r ≡ x ⌝ }
 {
     x as usize
-}
-
-// One row more.
-fn push(t: Rows, row: Row) -> Rows
-    requires { ⌜ t .len < 64 ⌝ }
-    ensures { λ r. ⌜ r ≡ pushed t row ⌝ }
-{
-    let n = t.len;
-    let mut u = t;
-    u.at[n] = row;
-    u.len = n + 1;
-    u
-}
-
-// The next k preorder numbers are taken.
-fn numbered(t: Rows, k: usize) -> Rows
-    requires { ⌜ t .nodes + k ≤ 64 ⌝ }
-    ensures { λ r. ⌜ r ≡ numberedOf t k ⌝ }
-{
-    let n = t.nodes;
-    let mut u = t;
-    u.nodes = n + k;
-    u
 }
 
 // A literal's kind: a tuple, or a not-tuple.
@@ -133,16 +117,16 @@ fn quant_row(kind: u8, which: usize, level: usize) -> Row
 }
 
 // The rows of k quantifiers one inside the other, the innermost first; the outermost has number `which` and `level`.
-fn chain(t: Rows, kind: u8, which: usize, level: usize, k: usize) -> Rows
-    requires { ⌜ (t .len + k ≤ 64) × (which + k ≤ 64) × (level + k ≤ 64) × (length (t .at) ≡ 64) ⌝ }
-    ensures { λ r. ⌜ Adds t (chainOf kind which level k) 0 r ⌝ }
+fn chain(rows: &mut [u8], len: usize, kind: u8, which: usize, level: usize, k: usize)
+    requires { ⌜ (len + k ≤ 64) × (which + k ≤ 64) × (level + k ≤ 64) × (length (now rows) ≡ 448) ⌝ }
+    ensures { λ r. ⌜ ((nodes : ℕ) → Adds (rowsFrom (now (rows .entry)) len nodes) (chainOf kind which level k) 0 (rowsFrom (now (rows .exit)) (len + k) nodes)) ⌝ }
 {
     if k == 0 {
-        return t;
+        return;
     }
     let row = quant_row(kind, which + (k - 1), level + (k - 1));
-    let u = push(t, row);
-    chain(u, kind, which, level, k - 1)
+    tables::put_row(rows, len, row);
+    chain(rows, len + 1, kind, which, level, k - 1);
 }
 
 // How many quantifiers stand around the one that binds the variable from `a` to `e`; 0 if none does.
@@ -212,10 +196,20 @@ fn bind(s: &[u8], at: usize, sc: Scope) -> Bound
 }
 
 // The literal at `at`.
-fn literal(s: &[u8], at: usize, pos: bool, sig: Signature, sc: Scope, t: Rows) -> Walk
-    requires { ⌜ Ready (now s) at sig sc t ⌝ }
+fn literal(
+    s: &[u8],
+    at: usize,
+    pos: bool,
+    sig: Signature,
+    sc: Scope,
+    rows: &mut [u8],
+    len: usize,
+    nodes: usize,
+) -> Walk
+    requires { ⌜ length (now rows) ≡ 448 ⌝ }
+    requires { ⌜ Ready (now s) at sig sc (rowsFrom (now rows) len nodes) ⌝ }
     requires { ⌜ kindOf (drop at (now s)) ≡ isOther ⌝ }
-    ensures { λ r. ⌜ ((w : Ready (now (s .entry)) at sig sc t) → Walked pos (now (s .entry)) at sig sc t (w .f) r) ⌝ }
+    ensures { λ r. ⌜ Walks pos (now (s .entry)) at sig sc (rowsFrom (now (rows .entry)) len nodes) (r .at) (rowsFrom (now (rows .exit)) (r .len) (r .nodes)) ⌝ }
 {
     let a = formula::run(s, at + 1, false);
     let which = number(s, sig, at + 1, a);
@@ -230,87 +224,128 @@ fn literal(s: &[u8], at: usize, pos: bool, sig: Signature, sc: Scope, t: Rows) -
     let l = fill(s, a, none, sc);
     let row = l.row;
     let end = l.at;
-    let u = push(t, row);
+    tables::put_row(rows, len, row);
     Walk {
-        rows: u,
+        len: len + 1,
+        nodes,
         at: end + 1,
     }
 }
 
 // The formula at `at` as it stands.
-fn positive(s: &[u8], at: usize, sig: Signature, sc: Scope, t: Rows) -> Walk
-    requires { ⌜ Ready (now s) at sig sc t ⌝ }
-    ensures { λ r. ⌜ ((w : Ready (now (s .entry)) at sig sc t) → Walked true (now (s .entry)) at sig sc t (w .f) r) ⌝ }
+fn positive(
+    s: &[u8],
+    at: usize,
+    sig: Signature,
+    sc: Scope,
+    rows: &mut [u8],
+    len: usize,
+    nodes: usize,
+) -> Walk
+    requires { ⌜ length (now rows) ≡ 448 ⌝ }
+    requires { ⌜ Ready (now s) at sig sc (rowsFrom (now rows) len nodes) ⌝ }
+    ensures { λ r. ⌜ Walks true (now (s .entry)) at sig sc (rowsFrom (now (rows .entry)) len nodes) (r .at) (rowsFrom (now (rows .exit)) (r .len) (r .nodes)) ⌝ }
 {
     let k = formula::kind_at(s, at);
     match k {
         Kind::Not => {
-            let w = negative(s, at + 5, sig, sc, t);
-            let rows = w.rows;
-            let end = w.at;
-            Walk { rows, at: end + 1 }
+            let w = negative(s, at + 5, sig, sc, rows, len, nodes);
+            Walk {
+                len: w.len,
+                nodes: w.nodes,
+                at: w.at + 1,
+            }
         }
-        Kind::Implies => arrow(s, at, true, sig, sc, t),
-        Kind::And => gather(s, at, true, true, sig, sc, t),
-        Kind::Or => gather(s, at, false, true, sig, sc, t),
-        Kind::Exists => under(s, at, true, true, sig, sc, t),
-        Kind::Forall => under(s, at, false, true, sig, sc, t),
-        Kind::Other => literal(s, at, true, sig, sc, t),
+        Kind::Implies => arrow(s, at, true, sig, sc, rows, len, nodes),
+        Kind::And => gather(s, at, true, true, sig, sc, rows, len, nodes),
+        Kind::Or => gather(s, at, false, true, sig, sc, rows, len, nodes),
+        Kind::Exists => under(s, at, true, true, sig, sc, rows, len, nodes),
+        Kind::Forall => under(s, at, false, true, sig, sc, rows, len, nodes),
+        Kind::Other => literal(s, at, true, sig, sc, rows, len, nodes),
     }
 }
 
 // The formula at `at` under a negation.
-fn negative(s: &[u8], at: usize, sig: Signature, sc: Scope, t: Rows) -> Walk
-    requires { ⌜ Ready (now s) at sig sc t ⌝ }
-    ensures { λ r. ⌜ ((w : Ready (now (s .entry)) at sig sc t) → Walked false (now (s .entry)) at sig sc t (w .f) r) ⌝ }
+fn negative(
+    s: &[u8],
+    at: usize,
+    sig: Signature,
+    sc: Scope,
+    rows: &mut [u8],
+    len: usize,
+    nodes: usize,
+) -> Walk
+    requires { ⌜ length (now rows) ≡ 448 ⌝ }
+    requires { ⌜ Ready (now s) at sig sc (rowsFrom (now rows) len nodes) ⌝ }
+    ensures { λ r. ⌜ Walks false (now (s .entry)) at sig sc (rowsFrom (now (rows .entry)) len nodes) (r .at) (rowsFrom (now (rows .exit)) (r .len) (r .nodes)) ⌝ }
 {
     let k = formula::kind_at(s, at);
     match k {
         Kind::Not => {
-            let w = positive(s, at + 5, sig, sc, t);
-            let rows = w.rows;
-            let end = w.at;
-            Walk { rows, at: end + 1 }
+            let w = positive(s, at + 5, sig, sc, rows, len, nodes);
+            Walk {
+                len: w.len,
+                nodes: w.nodes,
+                at: w.at + 1,
+            }
         }
-        Kind::Implies => arrow(s, at, false, sig, sc, t),
-        Kind::And => gather(s, at, true, false, sig, sc, t),
-        Kind::Or => gather(s, at, false, false, sig, sc, t),
-        Kind::Exists => under(s, at, true, false, sig, sc, t),
-        Kind::Forall => under(s, at, false, false, sig, sc, t),
-        Kind::Other => literal(s, at, false, sig, sc, t),
+        Kind::Implies => arrow(s, at, false, sig, sc, rows, len, nodes),
+        Kind::And => gather(s, at, true, false, sig, sc, rows, len, nodes),
+        Kind::Or => gather(s, at, false, false, sig, sc, rows, len, nodes),
+        Kind::Exists => under(s, at, true, false, sig, sc, rows, len, nodes),
+        Kind::Forall => under(s, at, false, false, sig, sc, rows, len, nodes),
+        Kind::Other => literal(s, at, false, sig, sc, rows, len, nodes),
     }
 }
 
 // A part, as it stands or under a negation.
-fn part(s: &[u8], at: usize, pos: bool, sig: Signature, sc: Scope, t: Rows) -> Walk
-    requires { ⌜ Ready (now s) at sig sc t ⌝ }
-    ensures { λ r. ⌜ ((w : Ready (now (s .entry)) at sig sc t) → Walked pos (now (s .entry)) at sig sc t (w .f) r) ⌝ }
+fn part(
+    s: &[u8],
+    at: usize,
+    pos: bool,
+    sig: Signature,
+    sc: Scope,
+    rows: &mut [u8],
+    len: usize,
+    nodes: usize,
+) -> Walk
+    requires { ⌜ length (now rows) ≡ 448 ⌝ }
+    requires { ⌜ Ready (now s) at sig sc (rowsFrom (now rows) len nodes) ⌝ }
+    ensures { λ r. ⌜ Walks pos (now (s .entry)) at sig sc (rowsFrom (now (rows .entry)) len nodes) (r .at) (rowsFrom (now (rows .exit)) (r .len) (r .nodes)) ⌝ }
 {
     if pos {
-        positive(s, at, sig, sc, t)
+        positive(s, at, sig, sc, rows, len, nodes)
     } else {
-        negative(s, at, sig, sc, t)
+        negative(s, at, sig, sc, rows, len, nodes)
     }
 }
 
 // An implication: an `or` whose first part is negated, and under a negation an `and` whose second is.
-fn arrow(s: &[u8], at: usize, pos: bool, sig: Signature, sc: Scope, t: Rows) -> Walk
-    requires { ⌜ Ready (now s) at sig sc t ⌝ }
+fn arrow(
+    s: &[u8],
+    at: usize,
+    pos: bool,
+    sig: Signature,
+    sc: Scope,
+    rows: &mut [u8],
+    len: usize,
+    nodes: usize,
+) -> Walk
+    requires { ⌜ length (now rows) ≡ 448 ⌝ }
+    requires { ⌜ Ready (now s) at sig sc (rowsFrom (now rows) len nodes) ⌝ }
     requires { ⌜ kindOf (drop at (now s)) ≡ isImplies ⌝ }
-    ensures { λ r. ⌜ ((w : Ready (now (s .entry)) at sig sc t) → Walked pos (now (s .entry)) at sig sc t (w .f) r) ⌝ }
+    ensures { λ r. ⌜ Walks pos (now (s .entry)) at sig sc (rowsFrom (now (rows .entry)) len nodes) (r .at) (rowsFrom (now (rows .exit)) (r .len) (r .nodes)) ⌝ }
 {
-    let which = t.nodes;
-    let p = numbered(t, 1);
-    let x = part(s, at + 9, !pos, sig, sc, p);
-    let u = x.rows;
-    let a = x.at;
-    let y = part(s, a + 1, pos, sig, sc, u);
-    let z = y.rows;
-    let b = y.at;
+    let x = part(s, at + 9, !pos, sig, sc, rows, len, nodes + 1);
+    let y = part(s, x.at + 1, pos, sig, sc, rows, x.len, x.nodes);
     let kind = join_kind(pos, false);
-    let row = join_row(kind, which, 2);
-    let rows = push(z, row);
-    Walk { rows, at: b + 1 }
+    let row = join_row(kind, nodes, 2);
+    tables::put_row(rows, y.len, row);
+    Walk {
+        len: y.len + 1,
+        nodes: y.nodes,
+        at: y.at + 1,
+    }
 }
 
 // How long `(and ` and `(or ` are.
@@ -321,25 +356,33 @@ fn join_word(conj: bool) -> usize
 }
 
 // `and`, `or`.
-fn gather(s: &[u8], at: usize, conj: bool, pos: bool, sig: Signature, sc: Scope, t: Rows) -> Walk
-    requires { ⌜ Ready (now s) at sig sc t ⌝ }
+fn gather(
+    s: &[u8],
+    at: usize,
+    conj: bool,
+    pos: bool,
+    sig: Signature,
+    sc: Scope,
+    rows: &mut [u8],
+    len: usize,
+    nodes: usize,
+) -> Walk
+    requires { ⌜ length (now rows) ≡ 448 ⌝ }
+    requires { ⌜ Ready (now s) at sig sc (rowsFrom (now rows) len nodes) ⌝ }
     requires { ⌜ kindOf (drop at (now s)) ≡ joinHead conj ⌝ }
-    ensures { λ r. ⌜ ((w : Ready (now (s .entry)) at sig sc t) → Walked pos (now (s .entry)) at sig sc t (w .f) r) ⌝ }
+    ensures { λ r. ⌜ Walks pos (now (s .entry)) at sig sc (rowsFrom (now (rows .entry)) len nodes) (r .at) (rowsFrom (now (rows .exit)) (r .len) (r .nodes)) ⌝ }
 {
-    let which = t.nodes;
-    let p = numbered(t, 1);
     let skip = join_word(conj);
-    let x = part(s, at + skip, pos, sig, sc, p);
-    let u = x.rows;
-    let a = x.at;
-    let y = further(s, a, pos, 1, sig, sc, u);
-    let z = y.rows;
-    let b = y.at;
-    let many = y.many;
+    let x = part(s, at + skip, pos, sig, sc, rows, len, nodes + 1);
+    let y = further(s, x.at, pos, 1, sig, sc, rows, x.len, x.nodes);
     let kind = join_kind(pos, conj);
-    let row = join_row(kind, which, many);
-    let rows = push(z, row);
-    Walk { rows, at: b + 1 }
+    let row = join_row(kind, nodes, y.many);
+    tables::put_row(rows, y.len, row);
+    Walk {
+        len: y.len + 1,
+        nodes: y.nodes,
+        at: y.at + 1,
+    }
 }
 
 // Further parts, each after a space, `many` having come before.
@@ -350,41 +393,58 @@ fn further(
     many: usize,
     sig: Signature,
     sc: Scope,
-    t: Rows,
+    rows: &mut [u8],
+    len: usize,
+    nodes: usize,
 ) -> Pieces
-    requires { ⌜ PartsReady (now s) at sig sc t ⌝ }
-    requires { ⌜ many ≤ t .len ⌝ }
-    ensures { λ r. ⌜ ((w : PartsReady (now (s .entry)) at sig sc t) → WalkedParts pos (now (s .entry)) at sig sc t many (w .fs) r) ⌝ }
+    requires { ⌜ length (now rows) ≡ 448 ⌝ }
+    requires { ⌜ PartsReady (now s) at sig sc (rowsFrom (now rows) len nodes) ⌝ }
+    requires { ⌜ many ≤ len ⌝ }
+    ensures { λ r. ⌜ WalksParts pos (now (s .entry)) at sig sc (rowsFrom (now (rows .entry)) len nodes) many (r .at) (r .many) (rowsFrom (now (rows .exit)) (r .len) (r .nodes)) ⌝ }
 {
     if s[at] == 32 {
-        let x = part(s, at + 1, pos, sig, sc, t);
-        let u = x.rows;
-        let a = x.at;
-        further(s, a, pos, many + 1, sig, sc, u)
+        let x = part(s, at + 1, pos, sig, sc, rows, len, nodes);
+        further(s, x.at, pos, many + 1, sig, sc, rows, x.len, x.nodes)
     } else {
-        Pieces { rows: t, at, many }
+        Pieces {
+            len,
+            nodes,
+            at,
+            many,
+        }
     }
 }
 
 // `exists`, `forall`.
-fn under(s: &[u8], at: usize, some: bool, pos: bool, sig: Signature, sc: Scope, t: Rows) -> Walk
-    requires { ⌜ Ready (now s) at sig sc t ⌝ }
+fn under(
+    s: &[u8],
+    at: usize,
+    some: bool,
+    pos: bool,
+    sig: Signature,
+    sc: Scope,
+    rows: &mut [u8],
+    len: usize,
+    nodes: usize,
+) -> Walk
+    requires { ⌜ length (now rows) ≡ 448 ⌝ }
+    requires { ⌜ Ready (now s) at sig sc (rowsFrom (now rows) len nodes) ⌝ }
     requires { ⌜ kindOf (drop at (now s)) ≡ quantHead some ⌝ }
-    ensures { λ r. ⌜ ((w : Ready (now (s .entry)) at sig sc t) → Walked pos (now (s .entry)) at sig sc t (w .f) r) ⌝ }
+    ensures { λ r. ⌜ Walks pos (now (s .entry)) at sig sc (rowsFrom (now (rows .entry)) len nodes) (r .at) (rowsFrom (now (rows .exit)) (r .len) (r .nodes)) ⌝ }
 {
-    let which = t.nodes;
     let level = sc.n;
     let d = bind(s, at + 9, sc);
     let inner = d.scope;
     let a = d.at;
     let k = inner.n - level;
-    let p = numbered(t, k);
-    let x = part(s, a, pos, sig, inner, p);
-    let u = x.rows;
-    let b = x.at;
+    let x = part(s, a, pos, sig, inner, rows, len, nodes + k);
     let kind = quant_kind(pos, some);
-    let rows = chain(u, kind, which, level, k);
-    Walk { rows, at: b + 1 }
+    chain(rows, x.len, kind, nodes, level, k);
+    Walk {
+        len: x.len + k,
+        nodes: x.nodes,
+        at: x.at + 1,
+    }
 }
 
 // The literal of a totality.
@@ -402,65 +462,56 @@ fn pair_row(relation: usize) -> Row
 }
 
 // "For all a some b" of a relation.
-fn totality(t: Rows, relation: usize) -> Rows
-    requires { ⌜ (t .len + 3 ≤ 64) × (t .nodes + 3 ≤ 64) × (relation ≤ 64) × (length (t .at) ≡ 64) ⌝ }
-    ensures { λ r. ⌜ Adds t (post (t .nodes) (totalityOf relation)) 2 r ⌝ }
+fn totality(rows: &mut [u8], len: usize, nodes: usize, relation: usize)
+    requires { ⌜ (len + 3 ≤ 64) × (nodes + 3 ≤ 64) × (relation ≤ 64) × (length (now rows) ≡ 448) ⌝ }
+    ensures { λ r. ⌜ Adds (rowsFrom (now (rows .entry)) len nodes) (post nodes (totalityOf relation)) 2 (rowsFrom (now (rows .exit)) (len + 3) (nodes + 2)) ⌝ }
 {
-    let which = t.nodes;
-    let p = numbered(t, 2);
     let a = pair_row(relation);
-    let u = push(p, a);
-    let b = quant_row(1, which + 1, 1);
-    let x = push(u, b);
-    let c = quant_row(0, which, 0);
-    push(x, c)
+    tables::put_row(rows, len, a);
+    let b = quant_row(1, nodes + 1, 1);
+    tables::put_row(rows, len + 1, b);
+    let c = quant_row(0, nodes, 0);
+    tables::put_row(rows, len + 2, c);
 }
 
 // ... if it is of a total kind.
-fn totality_by_kind(t: Rows, kind: u32, relation: usize) -> Rows
-    requires { ⌜ (t .len + 3 * totalOf kind ≤ 64) × (t .nodes + 3 * totalOf kind ≤ 64) × (relation ≤ 64) × (length (t .at) ≡ 64) ⌝ }
-    ensures { λ r. ⌜ Adds t (postAll (t .nodes) (oneTotality kind relation)) (length (nodesAll (oneTotality kind relation))) r ⌝ }
+fn totality_by_kind(rows: &mut [u8], len: usize, nodes: usize, kind: u32, relation: usize) -> Used
+    requires { ⌜ (len + 3 * totalOf kind ≤ 64) × (nodes + 3 * totalOf kind ≤ 64) × (relation ≤ 64) × (length (now rows) ≡ 448) ⌝ }
+    ensures { λ r. ⌜ Adds (rowsFrom (now (rows .entry)) len nodes) (postAll nodes (oneTotality kind relation)) (length (nodesAll (oneTotality kind relation))) (rowsFrom (now (rows .exit)) (r .len) (r .nodes)) ⌝ }
 {
     if formula::total(kind) == 0 {
-        return t;
+        return Used { len, nodes };
     }
-    totality(t, relation)
+    totality(rows, len, nodes, relation);
+    Used {
+        len: len + 3,
+        nodes: nodes + 2,
+    }
 }
 
 // The totalities of all chosen relations.
-fn totalities(t: Rows, sig: Signature) -> Rows
-    requires { ⌜ (sig .rels + sig .chosen ≤ 12) × (length (t .at) ≡ 64) ⌝ }
-    requires { ⌜ ((q : List ℕ) → (t .len + 3 * totals (chosenOf q sig) ≤ 64) × (t .nodes + 3 * totals (chosenOf q sig) ≤ 64)) ⌝ }
-    ensures { λ r. ⌜ ((q : List ℕ) → Adds t (postAll (t .nodes) (totalitiesOf (5 + sig .rels) (chosenOf q sig))) (length (nodesAll (totalitiesOf (5 + sig .rels) (chosenOf q sig)))) r) ⌝ }
+fn totalities(rows: &mut [u8], len: usize, nodes: usize, sig: Signature) -> Used
+    requires { ⌜ (sig .rels + sig .chosen ≤ 12) × (length (now rows) ≡ 448) ⌝ }
+    requires { ⌜ ((q : List ℕ) → (len + 3 * totals (chosenOf q sig) ≤ 64) × (nodes + 3 * totals (chosenOf q sig) ≤ 64)) ⌝ }
+    ensures { λ r. ⌜ ((q : List ℕ) → Adds (rowsFrom (now (rows .entry)) len nodes) (postAll nodes (totalitiesOf (5 + sig .rels) (chosenOf q sig))) (length (nodesAll (totalitiesOf (5 + sig .rels) (chosenOf q sig)))) (rowsFrom (now (rows .exit)) (r .len) (r .nodes))) ⌝ }
 {
-    let mut r = t;
+    let mut u = Used { len, nodes };
     let mut i = sig.rels;
     let end = sig.rels + sig.chosen;
     while i < end {
         let kind = sig.kind[i];
-        r = totality_by_kind(r, kind, 5 + i);
+        u = totality_by_kind(rows, u.len, u.nodes, kind, 5 + i);
         i += 1;
     }
-    r
+    u
 }
 
 // The rows of the tree of an accepted rule, totalities and the joining `and` included.
-fn rows_of(text: &[u8], at: usize, end: usize, sig: Signature) -> Rows
+fn rows_of(text: &[u8], at: usize, end: usize, sig: Signature, rows: &mut [u8]) -> Used
     requires { ⌜ Accepted (now text) at end sig ⌝ }
-    ensures { λ r. ⌜ RowsOf (now (text .entry)) at end sig r ⌝ }
+    requires { ⌜ length (now rows) ≡ 448 ⌝ }
+    ensures { λ r. ⌜ RowsOf (now (text .entry)) at end sig (rowsFrom (now (rows .exit)) (r .len) (r .nodes)) ⌝ }
 {
-    let none = Row {
-        kind: 0,
-        which: 0,
-        many: 0,
-        width: 0,
-        levels: [0u8; 3],
-    };
-    let t = Rows {
-        at: [none; 64],
-        len: 0,
-        nodes: 0,
-    };
     let sc = Scope {
         from: [0usize; 4],
         to: [0usize; 4],
@@ -468,15 +519,20 @@ fn rows_of(text: &[u8], at: usize, end: usize, sig: Signature) -> Rows
     };
     let total = formula::totalities(sig);
     if total == 0 {
-        let w = positive(text, at, sig, sc, t);
-        return w.rows;
+        let w = positive(text, at, sig, sc, rows, 0, 0);
+        return Used {
+            len: w.len,
+            nodes: w.nodes,
+        };
     }
-    let p = numbered(t, 1);
-    let w = positive(text, at, sig, sc, p);
-    let u = w.rows;
-    let z = totalities(u, sig);
+    let w = positive(text, at, sig, sc, rows, 0, 1);
+    let u = totalities(rows, w.len, w.nodes, sig);
     let row = join_row(2, 0, total + 1);
-    push(z, row)
+    tables::put_row(rows, u.len, row);
+    Used {
+        len: u.len + 1,
+        nodes: u.nodes,
+    }
 }
 
 // The node table of the question whose rule, from `at` to `end`, was accepted.
@@ -484,6 +540,7 @@ pub fn nodes_of(text: &[u8], at: usize, end: usize, sig: Signature) -> Nodes
     requires { ⌜ Accepted (now text) at end sig ⌝ }
     ensures { λ r. ⌜ TableOf (now (text .entry)) at end sig r ⌝ }
 {
-    let rows = rows_of(text, at, end, sig);
-    tables::tabulate(rows)
+    let mut rows = [0u8; tables::BYTES];
+    let u = rows_of(text, at, end, sig, &mut rows);
+    tables::tabulate(&rows, u.len, u.nodes)
 }

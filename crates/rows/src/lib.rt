@@ -48,7 +48,7 @@ fn times(w: [usize; 4], n: usize) -> [usize; 4]
 }
 
 // By how much a row of the first `width` of the levels grows with the value of each level.
-pub fn weights(n: usize, levels: [usize; 4], width: usize) -> [usize; 4]
+pub fn weights(n: usize, levels: [u8; 4], width: usize) -> [usize; 4]
     requires { ⌜ (0 < n) × (n ≤ 64) × (width ≤ 4) ⌝ }
     requires { ⌜ Levels levels ⌝ }
     ensures { λ r. ⌜ (valueIn r ≡ weightOf n (take width levels)) × Most r (65 ^ 4) ⌝ }
@@ -57,7 +57,7 @@ pub fn weights(n: usize, levels: [usize; 4], width: usize) -> [usize; 4]
     let mut i: usize = 0;
     while i < width {
         w = times(w, n);
-        let l = levels[i];
+        let l = levels[i] as usize;
         w[l] += 1;
         i += 1;
     }

@@ -8,6 +8,7 @@ use Rattle.definitions.specs.Lists.{if_then_else_}
 use Rattle.definitions.specs.Atoms.{Problem, atoms}
 use Rattle.tree.specs.Tables.{noPart, noNode}
 use Rattle.tree.specs.declared.PartRow.{PartRow}
+use Rattle.tree.specs.declared.NodeRow.{NodeRow}
 use Rattle.tree.specs.declared.Nodes.{Nodes}
 use Rattle.rows.specs.Values.{weightOf}
 use Rattle.ground.specs.Lines.{nodesIn, nodeLine, Fits}
@@ -28,15 +29,15 @@ tab f (suc k) = tab f k ++ f k
 unfoldable pub relationNumbers : Relations → Layout → ℕ → List ℕ
 relationNumbers g l r = getD (l .set) r 0 ∷ getD (l .rel) r 0 ∷ getD (l .neg) r 0 ∷ getD (l .dom) r 0 ∷ getD (g .kind) r 0 ∷ []
 
--- past the last of 17 relations
-unfoldable pub relationEnd : Layout → List ℕ
-relationEnd l = getD (l .set) 17 0 ∷ getD (l .rel) 17 0 ∷ 0 ∷ 0 ∷ 0 ∷ []
+-- past the last of r relations
+unfoldable pub relationEnd : Layout → ℕ → List ℕ
+relationEnd l r = getD (l .set) r 0 ∷ getD (l .rel) r 0 ∷ 0 ∷ 0 ∷ 0 ∷ []
 
-unfoldable pub nodeNumbers : Nodes → Layout → ℕ → List ℕ
-nodeNumbers t l v =
-    let x = getD (t .rows) v noNode in
-    getD (l .act) v 0
-    ∷ getD (l .node) v 0
+-- the line of a node whose actions and atoms start there
+unfoldable pub nodeFrom : (act node : ℕ) → NodeRow → List ℕ
+nodeFrom act node x =
+    act
+    ∷ node
     ∷ x .kind
     ∷ x .level
     ∷ x .first
@@ -48,9 +49,12 @@ nodeNumbers t l v =
     ∷ getD (x .levels) 3 0
     ∷ []
 
--- past the last of 64 nodes
-unfoldable pub nodeEnd : Layout → List ℕ
-nodeEnd l = getD (l .act) 64 0 ∷ getD (l .node) 64 0 ∷ 0 ∷ 0 ∷ 0 ∷ 0 ∷ 0 ∷ 0 ∷ 0 ∷ 0 ∷ 0 ∷ []
+-- the line at place v, of a node or past the last
+abbrev pub nodeIn : Layout → ℕ → NodeRow → List ℕ
+nodeIn l v x = nodeFrom (getD (l .act) v 0) (getD (l .node) v 0) x
+
+abbrev pub nodeNumbers : Nodes → Layout → ℕ → List ℕ
+nodeNumbers t l v = nodeIn l v (getD (t .rows) v noNode)
 
 -- where the atoms of a part's relation or node start, by the part's tag, among the starts of tuples, of not-tuples and of nodes
 unfoldable pub startIn : (rel neg node : List ℕ) → ℕ → ℕ → ℕ
@@ -72,19 +76,19 @@ numbersIn n rel neg node q = numbersFrom n (startIn rel neg node (q .tag) (q .wh
 abbrev pub partNumbers : ℕ → Layout → PartRow → List ℕ
 partNumbers n l q = numbersIn n (l .rel) (l .neg) (l .node) q
 
--- the lines of all relations, of all nodes, and of all parts with the root
+-- the lines of all relations, of all nodes, and of all parts
 unfoldable pub relationLines : Relations → Layout → List ℕ
-relationLines g l = tab (relationNumbers g l) 17 ++ relationEnd l
+relationLines g l = tab (relationNumbers g l) (g .count) ++ relationEnd l (g .count)
 
 unfoldable pub nodeLines : Nodes → Layout → List ℕ
-nodeLines t l = tab (nodeNumbers t l) 64 ++ nodeEnd l
+nodeLines t l = tab (nodeNumbers t l) (t .count) ++ nodeIn l (t .count) noNode
 
 unfoldable pub partLines : ℕ → Nodes → Layout → List ℕ
-partLines n t l = tab (λ (i : ℕ). partNumbers n l (getD (t .parts) i noPart)) 64 ++ partNumbers n l (t .root)
+partLines n t l = tab (λ (i : ℕ). partNumbers n l (getD (t .parts) i noPart)) (t .placed)
 
--- all of it, in place of w
+-- all of it, the root's line last, in place of w
 unfoldable pub tableOf : ℕ → Relations → Nodes → Layout → List ℕ → List ℕ
-tableOf n g t l w = splice 808 (partLines n t l) (splice 93 (nodeLines t l) (splice 3 (relationLines g l) (set (set (set w 0 n) 1 (g .count)) 2 (t .count))))
+tableOf n g t l w = splice 1128 (partNumbers n l (t .root)) (splice 808 (partLines n t l) (splice 93 (nodeLines t l) (splice 3 (relationLines g l) (set (set (set w 0 n) 1 (g .count)) 2 (t .count)))))
 
 -- the table is that of every problem whose elements, relations, nodes and starts these are, and all its numbers are in range
 pub record Filled (n : ℕ) (g : Relations) (t : Nodes) (l : Layout) (w : List ℕ) : Type 0 where

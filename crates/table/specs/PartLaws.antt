@@ -79,9 +79,9 @@ module _ (n : ℕ) (rel neg node : List ℕ) (q : PartRow) where
   length-part = length-from n (startIn rel neg node (q .tag) (q .which)) q
 
   -- the line made from the part's start is the part's
-  pub line-from : (s : ℕ) (line : List ℕ) → s ≡ startIn rel neg node (q .tag) (q .which) → line ≡ numbersFrom n s q → line ≡ numbersIn n rel neg node q
+  pub line-from : (s k : ℕ) (line : List ℕ) → k ≡ q .which → s ≡ startIn rel neg node (q .tag) k → line ≡ numbersFrom n s q → line ≡ numbersIn n rel neg node q
   unfolding numbersIn
-  line-from s line e f = f ∙ ap (λ (x : ℕ). numbersFrom n x q) e
+  line-from s k line w e f = f ∙ ap (λ (x : ℕ). numbersFrom n x q) (e ∙ ap (startIn rel neg node (q .tag)) w)
 
 -- ---- the number that a head stands for
 unfoldable pub rowBy : ℕ → ℕ → ℕ → ℕ

@@ -6,10 +6,14 @@ use native.Mathlib.Nat.{mul-zero, mul-suc, add-zero, mul-le-mul}
 use native.Mathlib.Numerals.{add-one}
 use native.Mathlib.Decide.{decLt}
 use native.Mathlib.Omega.{arith}
-use lib.ListN.{length, getD, take, drop, length-append, length-drop, take-append-drop, List·getD-append}
+use lib.ListN.{length, getD, take, drop, length-append, length-drop, take-append-drop, List·getD-append, List·getD-eq-default}
 use lib.Seq.{take-length, drop-append-add, take-at, getD-append-add, getD-take, getD-drop, length-take-le, drop-drop, paste}
 use Rattle.rows.specs.Values.{Most}
 use Rattle.table.specs.Filled.{splice, tab}
+
+-- zeros stand from place k on
+abbrev pub ZeroFrom : ℕ → List ℕ → Type 0
+ZeroFrom k d = (i : ℕ) → k ≤ i → getD d i 0 ≡ 0
 
 -- ---- one piece
 pub splice-all : (d : List ℕ) (at : ℕ) (s : List ℕ) (j : ℕ) → length s ≤ j → j ≤ length s → paste d at s j ≡ splice at s d
@@ -49,6 +53,17 @@ module _ (at : ℕ) (s d : List ℕ) (room : at + length s ≤ length d) where
       ap (λ (x : ℕ). getD (take at d ++ (s ++ drop (at + length s) d)) x 0) e
       ∙ getD-append-add (take at d) (s ++ drop (at + length s) d) (length s + k) 0 ∙ getD-append-add s (drop (at + length s) d) k 0
       ∙ getD-drop (at + length s) d k 0 ∙ ap (λ (x : ℕ). getD d x 0) f
+
+  -- in place of zeros: past the piece, too, one reads what a list has past its end
+  pub read-from : ZeroFrom at d → (j : ℕ) → getD (splice at s d) (at + j) 0 ≡ getD s j 0
+  read-from h j = go (decLt j (length s))
+    where
+      go : Dec (j < length s) → getD (splice at s d) (at + j) 0 ≡ getD s j 0
+      go (yes k) = read-in j k
+      go (no k) = read-after (at + j) (omega arith) ∙ h (at + j) (omega arith) ∙ sym (List·getD-eq-default s 0 (omega arith))
+
+  pub zeros-after : (k : ℕ) → at + length s ≤ k → ZeroFrom at d → ZeroFrom k (splice at s d)
+  zeros-after k h q i b = read-after i (omega arith) ∙ q i (omega arith)
 
   -- a piece right after it
   pub splice-next : (u : List ℕ) → at + length s + length u ≤ length d → splice (at + length s) u (splice at s d) ≡ splice at (s ++ u) d
@@ -109,16 +124,15 @@ module _ (f : ℕ → List ℕ) (s : ℕ) (each : (i : ℕ) → length (f i) ≡
   pub end-at : (k : ℕ) (u : List ℕ) (j : ℕ) → getD (tab f k ++ u) (s * k + j) 0 ≡ getD u j 0
   end-at k u j = last-at k j u
 
-  pub tab-next : (at k : ℕ) (w d : List ℕ) → at + s * (k + 1) ≤ length d → w ≡ splice at (tab f k) d → splice (at + s * k) (f k) w ≡ splice at (tab f (k + 1)) d
-  tab-next at k w d room e =
+  pub tab-next : (at k : ℕ) (line w d z : List ℕ) → at + s * (k + 1) ≤ length d → line ≡ f k → w ≡ splice at (tab f k) d → z ≡ splice (at + s * k) line w → z ≡ splice at (tab f (k + 1)) d
+  tab-next at k line w d z room c e q =
       let b = length-tab k in
-      let c = mul-suc s k in
-      let o = add-one k in
-      let m : s * (k + 1) ≡ s * suc k = ap (λ (x : ℕ). s * x) o in
+      let m : s * (k + 1) ≡ s * suc k = ap (λ (x : ℕ). s * x) (add-one k) in
+      let u = mul-suc s k in
       let g = each k in
-      ap₂ (λ (x : ℕ) (y : List ℕ). splice (at + x) (f k) y) (sym b) e
+      q ∙ ap₂ (λ (x : List ℕ) (y : List ℕ). splice (at + s * k) x y) c e ∙ ap (λ (x : ℕ). splice (at + x) (f k) (splice at (tab f k) d)) (sym b)
       ∙ splice-next at (tab f k) d (omega arith) (f k) (omega arith)
-      ∙ ap (λ (x : List ℕ). splice at x d) (sym (tab-suc k) ∙ ap (tab f) (sym o))
+      ∙ ap (λ (x : List ℕ). splice at x d) (sym (tab-suc k) ∙ ap (tab f) (sym (add-one k)))
 
   pub tab-end : (at k : ℕ) (u w d : List ℕ) → at + s * k + length u ≤ length d → w ≡ splice at (tab f k) d → splice (at + s * k) u w ≡ splice at (tab f k ++ u) d
   tab-end at k u w d room e =

@@ -7,9 +7,10 @@ ghost use Rattle.tree.specs.Tables.{noPart, PartFits, Fits};
 ghost use Rattle.rows.specs.Values.{Most};
 ghost use Rattle.ground.specs.Lines.{tableLength};
 ghost use Rattle.layout.specs.Laid.{RelationsFit, Small};
-ghost use Rattle.table.specs.Filled.{splice, nodeNumbers, startIn, numbersFrom, partNumbers, relationLines, nodeLines, partLines, tableOf, Filled};
+ghost use Rattle.table.specs.Filled.{splice, nodeFrom, nodeNumbers, startIn, numbersFrom, partNumbers, relationLines, nodeLines, partLines, tableOf, Filled};
 use layout::Layout;
 use layout::Relations;
+use tree::NodeRow;
 use tree::Nodes;
 use tree::PartRow;
 
@@ -25,55 +26,63 @@ fn store(table: &mut [usize], at: usize, line: &[usize])
     }
 }
 
-// The lines of the relations.
+// The lines of the relations, and the line past the last.
 fn fill_relations(table: &mut [usize], g: Relations, l: Layout)
-    requires { ⌜ length (now table) ≡ tableLength ⌝ }
+    requires { ⌜ (length (now table) ≡ tableLength) × RelationsFit g ⌝ }
     ensures { λ r. ⌜ now (table .exit) ≡ splice 3 (relationLines g l) (now (table .entry)) ⌝ }
 {
     let mut r: usize = 0;
-    while r < 17 {
+    while r < g.count {
         let line = [l.set[r], l.rel[r], l.neg[r], l.dom[r], g.kind[r]];
         store(table, 3 + 5 * r, &line);
         r += 1;
     }
-    let last = [l.set[17], l.rel[17], 0, 0, 0];
-    store(table, 88, &last);
+    let last = [l.set[r], l.rel[r], 0, 0, 0];
+    store(table, 3 + 5 * r, &last);
 }
 
+// A byte as a number.
 fn wide(x: u8) -> usize
     ensures { λ r. ⌜ (r ≡ x) × (r < 256) ⌝ }
 {
     x as usize
 }
 
-// The lines of the nodes.
+// The line of a node whose actions and atoms start there.
+fn node_numbers(act: usize, node: usize, x: NodeRow) -> [usize; 11]
+    requires { ⌜ (act ≤ actionLimit) × (node ≤ actionLimit) ⌝ }
+    ensures { λ r. ⌜ (r ≡ nodeFrom act node x) × Most r (2 ^ 32) ⌝ }
+{
+    let ls = x.levels;
+    [
+        act,
+        node,
+        wide(x.kind),
+        wide(x.level),
+        wide(x.first),
+        wide(x.many),
+        wide(x.width),
+        wide(ls[0]),
+        wide(ls[1]),
+        wide(ls[2]),
+        wide(ls[3]),
+    ]
+}
+
+// The lines of the nodes, and the line past the last.
 fn fill_nodes(table: &mut [usize], t: Nodes, l: Layout)
     requires { ⌜ (length (now table) ≡ tableLength) × Fits t × Small l actionLimit ⌝ }
-    ensures { λ r. ⌜ (now (table .exit) ≡ splice 93 (nodeLines t l) (now (table .entry))) × ((v : ℕ) → v < 64 → Most (nodeNumbers t l v) (2 ^ 32)) ⌝ }
+    ensures { λ r. ⌜ (now (table .exit) ≡ splice 93 (nodeLines t l) (now (table .entry))) × ((v : ℕ) → v < t .count → Most (nodeNumbers t l v) (2 ^ 32)) ⌝ }
 {
     let mut v: usize = 0;
-    while v < 64 {
+    while v < t.count {
         let x = t.rows[v];
-        let ls = x.levels;
-        let kind = wide(x.kind);
-        let line = [
-            l.act[v],
-            l.node[v],
-            kind,
-            x.level,
-            x.first,
-            x.many,
-            x.width,
-            ls[0],
-            ls[1],
-            ls[2],
-            ls[3],
-        ];
+        let line = node_numbers(l.act[v], l.node[v], x);
         store(table, 93 + 11 * v, &line);
         v += 1;
     }
-    let last = [l.act[64], l.node[64], 0, 0, 0, 0, 0, 0, 0, 0, 0];
-    store(table, 797, &last);
+    let last = [l.act[v], l.node[v], 0, 0, 0, 0, 0, 0, 0, 0, 0];
+    store(table, 93 + 11 * v, &last);
 }
 
 // Where the atoms of a part's relation or node start; the arrays of a layout come as slices, so that no call copies it.
@@ -96,7 +105,7 @@ fn part_numbers(n: usize, start: usize, q: PartRow) -> [usize; 5]
     ensures { λ r. ⌜ (r ≡ numbersFrom n start q) × Most r (2 ^ 32) ⌝ }
 {
     let levels = q.levels;
-    let w = rows::weights(n, levels, q.width);
+    let w = rows::weights(n, levels, wide(q.width));
     if q.tag == 2 {
         return [start + (n - 1), w[0] * n, w[1] * n, w[2] * n, w[3] * n];
     }
@@ -106,29 +115,29 @@ fn part_numbers(n: usize, start: usize, q: PartRow) -> [usize; 5]
 // The lines of the parts, and the root's.
 fn fill_parts(table: &mut [usize], n: usize, t: Nodes, l: Layout)
     requires { ⌜ (length (now table) ≡ tableLength) × (0 < n) × (n ≤ 64) × Fits t × Small l actionLimit ⌝ }
-    ensures { λ r. ⌜ (now (table .exit) ≡ splice 808 (partLines n t l) (now (table .entry)))
-        × ((i : ℕ) → i < 64 → Most (partNumbers n l (getD (t .parts) i noPart)) (2 ^ 32)) × Most (partNumbers n l (t .root)) (2 ^ 32) ⌝ }
+    ensures { λ r. ⌜ (now (table .exit) ≡ splice 1128 (partNumbers n l (t .root)) (splice 808 (partLines n t l) (now (table .entry))))
+        × ((i : ℕ) → i < t .placed → Most (partNumbers n l (getD (t .parts) i noPart)) (2 ^ 32)) × Most (partNumbers n l (t .root)) (2 ^ 32) ⌝ }
 {
     let rel = l.rel;
     let neg = l.neg;
     let node = l.node;
     let mut i: usize = 0;
-    while i < 64 {
+    while i < t.placed {
         let q = t.parts[i];
-        let start = start_of(&rel, &neg, &node, q.tag, q.which);
+        let start = start_of(&rel, &neg, &node, q.tag, wide(q.which));
         let line = part_numbers(n, start, q);
         store(table, 808 + 5 * i, &line);
         i += 1;
     }
     let q = t.root;
-    let start = start_of(&rel, &neg, &node, q.tag, q.which);
+    let start = start_of(&rel, &neg, &node, q.tag, wide(q.which));
     let last = part_numbers(n, start, q);
     store(table, 1128, &last);
 }
 
-// The whole table.
+// The whole table, in place of zeros: the lines past the last relation, node and part stay as they were.
 pub fn fill(table: &mut [usize], n: usize, g: Relations, t: Nodes, l: Layout)
-    requires { ⌜ (length (now table) ≡ tableLength) × (0 < n) × (n ≤ 64) × RelationsFit g × Fits t × Small l actionLimit ⌝ }
+    requires { ⌜ (length (now table) ≡ tableLength) × Most (now table) 0 × (0 < n) × (n ≤ 64) × RelationsFit g × Fits t × Small l actionLimit ⌝ }
     ensures { λ r. ⌜ (now (table .exit) ≡ tableOf n g t l (now (table .entry))) × Filled n g t l (now (table .exit)) ⌝ }
 {
     table[0] = n;

@@ -1,12 +1,13 @@
 -- Laws of the loops over a part's levels and over the marked levels. Assumes nothing.
 use Prim.Native.Nat.{ℕ, suc, _+_, _-_, _≤_, _<_}
 use native.Mathlib.Numerals.{add-one}
-use native.Mathlib.Decide.{decLt}
+use native.Mathlib.Decide.{ℕ-discrete}
 use native.Mathlib.Omega.{arith}
-use mathlib.Core.Path.{_≡_, refl, sym, ap, subst, _∙_}
-use mathlib.Core.Bool.{Bool, true, false, not, _&&_, _||_}
+use mathlib.Core.Path.{_≡_, refl, sym, ap, _∙_}
+use mathlib.Core.Bool.{Bool, true, false, not, _&&_, _||_, or-false, or-true, or-assoc}
+use mathlib.Core.Logic.{_⊎_, inl, inr}
 use mathlib.Core.List.{List, [], _∷_, _++_, append-assoc, append-nil}
-use lib.ListN.{length, getD, take, drop, set, length-take, length-append, drop-of-length-le}
+use lib.ListN.{length, getD, take, drop, set, length-take, length-set, length-append, drop-of-length-le}
 use lib.Seq.{drop-cons, getD-take, getD-set-same, getD-set-other}
 use lib.Dec.{eqb, ltb}
 use borrow.Author.Tests.{eq-eqb, ne-eqb, lt-ltb, le-ltb}
@@ -16,27 +17,51 @@ use Rattle.tables.specs.Pass.{levelsOf, listedOf}
 use Rattle.tables.specs.Free.{pad-more}
 use Rattle.tables.specs.declared.Levels.{Levels}
 
--- ---- `has`
-module _ (l w i : ℕ) (ls : List ℕ) where
-  pub has-stop : i ≡ w → any (eqb l) (drop i (take w ls)) ≡ false
+-- ---- `also`: the levels of a part before level i are marked
+pub record Marked (m r : List Bool) (w : ℕ) (ls : List ℕ) (i : ℕ) : Type 0 where
+  pub low : i ≤ 4
+  pub within : i ≤ w
+  pub is : (l : ℕ) → l < 4 → (getD m l false || any (eqb l) (take w ls)) ≡ (getD r l false || any (eqb l) (drop i (take w ls)))
+  pub marks-length : length r ≡ 4
+
+pub mark-start : (m : List Bool) (w : ℕ) (ls : List ℕ) → length m ≡ 4 → Marked m m w ls 0
+mark-start m w ls e = record { low = omega arith; within = omega arith; is = λ l h. refl; marks-length = e }
+
+module _ (m r : List Bool) (w : ℕ) (ls : List ℕ) (four : length ls ≡ 4) (i : ℕ) (k : Marked m r w ls i) where
+  -- no level is left
+  pub mark-end : (i ≡ w) ⊎ (4 ≤ i) → (l : ℕ) → l < 4 → getD r l false ≡ (getD m l false || any (eqb l) (take w ls))
   unfolding any
-  has-stop e = ap (λ (x : List ℕ). any (eqb l) x) (drop-of-length-le (take w ls) {i = i} (omega (arith, length-take w ls)))
+  mark-end e l h = sym (k .is l h ∙ ap (λ (x : List ℕ). getD r l false || any (eqb l) x) none ∙ or-false (getD r l false))
+    where
+      past : (i ≡ w) ⊎ (4 ≤ i) → length (take w ls) ≤ i
+      past (inl q) = omega (arith, length-take w ls)
+      past (inr q) = omega (arith, length-take w ls)
 
-  pub has-end : length ls ≤ i → any (eqb l) (drop i (take w ls)) ≡ false
-  unfolding any
-  has-end h = ap (λ (x : List ℕ). any (eqb l) x) (drop-of-length-le (take w ls) {i = i} (omega (arith, length-take w ls)))
+      none : drop i (take w ls) ≡ []
+      none = drop-of-length-le (take w ls) {i = i} (past e)
 
-  module _ (h : i < w) (k : i < length ls) where
-    has-first : drop i (take w ls) ≡ getD ls i 0 ∷ drop (i + 1) (take w ls)
-    has-first = drop-cons (take w ls) i 0 (omega (arith, length-take w ls)) ∙ rw (getD-take w ls i 0 h, add-one i)
+  module _ (h : i < 4) (n : i ≡ w → ⊥) (x : ℕ) (e : x ≡ getD ls i 0) (s : List Bool) where
+    next : drop i (take w ls) ≡ x ∷ drop (i + 1) (take w ls)
+    next = drop-cons (take w ls) i 0 (omega (arith, length-take w ls, k .within)) ∙ rw (getD-take w ls i 0 (omega (arith, k .within)), e, add-one i)
 
-    pub has-yes : l ≡ getD ls i 0 → any (eqb l) (drop i (take w ls)) ≡ true
+    mark-next : ((l : ℕ) → l < 4 → getD s l false ≡ (getD r l false || eqb l x)) → length s ≡ 4 → Marked m s w ls (i + 1)
     unfolding any
-    has-yes e = ap (λ (x : List ℕ). any (eqb l) x) has-first ∙ ap (λ (b : Bool). b || any (eqb l) (drop (i + 1) (take w ls))) (eq-eqb l (getD ls i 0) e)
+    mark-next f z = record {
+      low = omega arith;
+      within = omega (arith, k .within);
+      is = λ l q. k .is l q ∙ ap (λ (y : List ℕ). getD r l false || any (eqb l) y) next ∙ sym (or-assoc (getD r l false) (eqb l x) (any (eqb l) (drop (i + 1) (take w ls)))) ∙ ap (λ (b : Bool). b || any (eqb l) (drop (i + 1) (take w ls))) (sym (f l q));
+      marks-length = z;
+    }
 
-    pub has-no : (l ≡ getD ls i 0 → ⊥) → any (eqb l) (drop i (take w ls)) ≡ any (eqb l) (drop (i + 1) (take w ls))
-    unfolding any
-    has-no e = ap (λ (x : List ℕ). any (eqb l) x) has-first ∙ ap (λ (b : Bool). b || any (eqb l) (drop (i + 1) (take w ls))) (ne-eqb l (getD ls i 0) e)
+    pub mark-yes : x < 4 → s ≡ set r x true → Marked m s w ls (i + 1)
+    mark-yes c z = mark-next (λ l q. ap (λ (y : List Bool). getD y l false) z ∙ on l (ℕ-discrete l x)) (ap (λ (y : List Bool). length y) z ∙ length-set r x true ∙ k .marks-length)
+      where
+        on : (l : ℕ) → Dec (l ≡ x) → getD (set r x true) l false ≡ (getD r l false || eqb l x)
+        on l (yes q) = ap (λ (j : ℕ). getD (set r x true) j false) q ∙ getD-set-same r x true false (omega (arith, k .marks-length)) ∙ sym (ap (λ (b : Bool). getD r l false || b) (eq-eqb l x q) ∙ or-true (getD r l false))
+        on l (no q) = getD-set-other r x l true false q ∙ sym (ap (λ (b : Bool). getD r l false || b) (ne-eqb l x q) ∙ or-false (getD r l false))
+
+    pub mark-no : 4 ≤ x → s ≡ r → Marked m s w ls (i + 1)
+    mark-no c z = mark-next (λ l q. ap (λ (y : List Bool). getD y l false) z ∙ sym (ap (λ (b : Bool). getD r l false || b) (ne-eqb l x (λ u. omega arith)) ∙ or-false (getD r l false))) (ap (λ (y : List Bool). length y) z ∙ k .marks-length)
 
 -- ---- `listed`
 module _ (r : Levels) (l : ℕ) where
@@ -114,11 +139,3 @@ tag-forall k e = rw e
 
 pub tag-other : (k : ℕ) → (k ≡ 0 → ⊥) → _≡_ {A = ℕ} 3 (if eqb k 0 then 2 else 3)
 tag-other k e = rw (ne-eqb k 0 e)
-
--- ---- `also`
-pub mark-again : (r : List Bool) (l : ℕ) (x : Bool) (f : ℕ → Bool) → l < length r → x ≡ f l → ((k : ℕ) → k < l → getD r k false ≡ f k) → (k : ℕ) → k < l + 1 → getD (set r l x) k false ≡ f k
-mark-again r l x f h e g k q = go (decLt k l)
-  where
-    go : Dec (k < l) → getD (set r l x) k false ≡ f k
-    go (yes c) = getD-set-other r l k x false (λ z. omega arith) ∙ g k c
-    go (no c) = let z : l ≡ k = omega arith in subst (λ (j : ℕ). getD (set r l x) j false ≡ f j) z (getD-set-same r l x false h ∙ e)

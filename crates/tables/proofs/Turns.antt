@@ -14,18 +14,14 @@ use Rattle.tree.specs.Tables.{noPart, IsTable, Fits}
 use Rattle.tree.specs.declared.Nodes.{Nodes}
 use Rattle.tree.specs.declared.PartRow.{PartRow}
 use Rattle.tree.specs.declared.NodeRow.{NodeRow}
-use Rattle.tables.specs.Postorder.{rowsIn, partOf}
+use Rattle.tables.specs.Postorder.{Rows, rowsIn, rowAt, rowsFrom, partOf}
 use Rattle.tables.specs.Laid.{laid}
+use Rattle.tables.specs.Lent.{noRow, rows-many, row-there}
 use Rattle.tables.specs.Whole.{Of, tableOf, table-is, table-fits, run-whole}
 use Rattle.tables.specs.Pass.{hasLevel, isOwn, freeWith, levelsOf, leafPart, nodePart, nodeRow, State, leafStep, layRow, nodeStep, step, run, blank, blankPart, blankRow, Ranged}
-use Rattle.tables.specs.Free.{filter-ext}
+use Rattle.tables.specs.Free.{filter-le, filter-ext}
 use Rattle.tables.specs.declared.Row.{Row}
-use Rattle.tables.specs.declared.Rows.{Rows}
 use Rattle.tables.specs.declared.Levels.{Levels}
-
--- what stands past the end of the rows
-abbrev pub noRow : Row
-noRow = record { kind = 0; which = 0; many = 0; width = 0; levels = [] }
 
 abbrev pub start : State
 start = record { stack = []; laid = blank }
@@ -113,36 +109,47 @@ module _ (stack parts₀ : List PartRow) (height placed₀ base : ℕ) where
       unfolding freeWith below
       inner-free row = ap (λ (l : List ℕ). levelsOf l) (filter-ext (λ l. not (isOwn row l) && getD marks l false) (λ l. not (isOwn row l) && any (hasLevel l) (slice base height stack)) 4 0 (λ l h. ap (λ (b : Bool). not (isOwn row l) && b) (sym (inner-marks l (omega arith)))))
 
-module _ (from : Rows) (fits : from .len ≤ 64) (len : length (from .at) ≡ 64) where
-  next-row : (i : ℕ) → i < from .len → drop i (rowsIn from) ≡ getD (from .at) i noRow ∷ drop (i + 1) (rowsIn from)
+pub free-width : (p : ℕ → Bool) (free : Levels) → free ≡ levelsOf (filter p (below 4)) → free .width ≤ 4
+unfolding below
+free-width p free e = rw e (filter-le p 4 0)
+
+-- the rows that bytes hold
+module _ (b : List ℕ) (n nodes : ℕ) (fits : n ≤ 64) where
+  abbrev from : Rows
+  from = rowsFrom b n nodes
+
+  next-row : (i : ℕ) → i < n → drop i (rowsIn from) ≡ rowAt b i ∷ drop (i + 1) (rowsIn from)
   unfolding rowsIn
-  next-row i h = drop-cons (take (from .len) (from .at)) i noRow (omega (arith, length-take (from .len) (from .at))) ∙ rw (getD-take (from .len) (from .at) i noRow h, add-one i)
+  next-row i h = drop-cons (take n (from .at)) i noRow (omega (arith, length-take n (from .at), rows-many b n nodes)) ∙ rw (getD-take n (from .at) i noRow h, row-there b n nodes i (omega arith), add-one i)
 
-  module _ (stack parts : List PartRow) (rows : List NodeRow) (height placed i : ℕ) (o : Outer from stack parts rows height placed i) (h : i < from .len) where
-    at-row : Ranged height placed (getD (from .at) i noRow ∷ drop (i + 1) (rowsIn from))
-    at-row = subst (λ (l : List Row). Ranged height placed l) (next-row i h) (o .ranged)
+  module _ (stack parts : List PartRow) (rows : List NodeRow) (height placed i : ℕ) (o : Outer from stack parts rows height placed i) (h : i < n) (row : Row) (there : row ≡ rowAt b i) where
+    now-row : drop i (rowsIn from) ≡ row ∷ drop (i + 1) (rowsIn from)
+    now-row = next-row i h ∙ ap (λ (r : Row). r ∷ drop (i + 1) (rowsIn from)) (sym there)
 
-    one-step : run (rowsIn from) start ≡ run (drop (i + 1) (rowsIn from)) (step (getD (from .at) i noRow) (held stack height parts placed rows))
+    at-row : Ranged height placed (row ∷ drop (i + 1) (rowsIn from))
+    at-row = subst (λ (l : List Row). Ranged height placed l) now-row (o .ranged)
+
+    one-step : run (rowsIn from) start ≡ run (drop (i + 1) (rowsIn from)) (step row (held stack height parts placed rows))
     unfolding run
-    one-step = o .runs ∙ ap (λ (l : List Row). run l (held stack height parts placed rows)) (next-row i h)
+    one-step = o .runs ∙ ap (λ (l : List Row). run l (held stack height parts placed rows)) now-row
 
     -- ---- a literal
-    module _ (k : 4 ≤ getD (from .at) i noRow .kind) where
-      leaf-ranged : (height < 64) × (4 ≤ getD (from .at) i noRow .kind) × Ranged (height + 1) placed (drop (i + 1) (rowsIn from))
+    module _ (k : 4 ≤ row .kind) where
+      leaf-ranged : (height < 64) × (4 ≤ row .kind) × Ranged (height + 1) placed (drop (i + 1) (rowsIn from))
       unfolding Ranged
-      leaf-ranged = rw (le-ltb (getD (from .at) i noRow .kind) 4 k, Ranged) at at-row
+      leaf-ranged = rw (le-ltb (row .kind) 4 k, Ranged) at at-row
 
       pub leaf-room : height < 64
       leaf-room = leaf-ranged .0
 
-      leaf-turn : (p : PartRow) → p ≡ leafPart (getD (from .at) i noRow) → step (getD (from .at) i noRow) (held stack height parts placed rows) ≡ held (set stack height p) (height + 1) parts placed rows
+      leaf-turn : (p : PartRow) → p ≡ leafPart row → step row (held stack height parts placed rows) ≡ held (set stack height p) (height + 1) parts placed rows
       unfolding step leafStep
       leaf-turn p e =
-          rw (le-ltb (getD (from .at) i noRow .kind) 4 k)
+          rw (le-ltb (row .kind) 4 k)
           (ap (λ (l : List PartRow). record { stack = l; laid = record { parts = parts; placed = placed; rows = rows } })
           (ap (λ (q : PartRow). take height stack ++ (q ∷ [])) (sym e) ∙ sym (take-suc-set stack height p (omega (arith, leaf-room, o .stack-length))) ∙ ap (λ (n : ℕ). take n (set stack height p)) (sym (add-one height))))
 
-      pub outer-leaf : (p : PartRow) → p ≡ leafPart (getD (from .at) i noRow) → Outer from (set stack height p) parts rows (height + 1) placed (i + 1)
+      pub outer-leaf : (p : PartRow) → p ≡ leafPart row → Outer from (set stack height p) parts rows (height + 1) placed (i + 1)
       outer-leaf p e = record {
         low = omega arith;
         tall = omega (arith, leaf-room);
@@ -154,36 +161,33 @@ module _ (from : Rows) (fits : from .len ≤ 64) (len : length (from .at) ≡ 64
       }
 
     -- ---- a node
-    module _ (k : getD (from .at) i noRow .kind < 4) where
-      node-ranged : (getD (from .at) i noRow .many ≤ height) × (placed + getD (from .at) i noRow .many ≤ 64) × (getD (from .at) i noRow .which < 64) × (height - getD (from .at) i noRow .many < 64) × Ranged (height - getD (from .at) i noRow .many + 1) (placed + getD (from .at) i noRow .many) (drop (i + 1) (rowsIn from))
+    module _ (k : row .kind < 4) where
+      node-ranged : (row .many ≤ height) × (placed + row .many ≤ 64) × (row .which < 64) × (height - row .many < 64) × Ranged (height - row .many + 1) (placed + row .many) (drop (i + 1) (rowsIn from))
       unfolding Ranged
-      node-ranged = rw (lt-ltb (getD (from .at) i noRow .kind) 4 k, Ranged) at at-row
+      node-ranged = rw (lt-ltb (row .kind) 4 k, Ranged) at at-row
 
-      pub node-many : getD (from .at) i noRow .many ≤ height
+      pub node-many : row .many ≤ height
       node-many = node-ranged .0
 
-      pub node-space : placed + getD (from .at) i noRow .many ≤ 64
+      pub node-space : placed + row .many ≤ 64
       node-space = node-ranged .1
 
-      pub node-which : getD (from .at) i noRow .which < 64
+      pub node-which : row .which < 64
       node-which = node-ranged .2
 
-      module _ (base : ℕ) (e : base ≡ height - getD (from .at) i noRow .many) where
+      module _ (base : ℕ) (e : base ≡ height - row .many) where
         pub base-room : base < 64
         base-room = omega (arith, node-ranged .3)
 
-        kids-many : length (slice base height stack) ≡ getD (from .at) i noRow .many
+        kids-many : length (slice base height stack) ≡ row .many
         kids-many = omega (arith, length-slice base height stack (omega (arith, o .tall, o .stack-length)), node-ranged .0)
 
-        node-turn : (free : Levels) → free ≡ levelsOf (freeWith (getD (from .at) i noRow) (slice base height stack)) → step (getD (from .at) i noRow) (held stack height parts placed rows) ≡ held (set stack base (nodePart (getD (from .at) i noRow) free)) (base + 1) (sets parts placed (slice base height stack)) (placed + length (slice base height stack)) (set rows (getD (from .at) i noRow .which) (nodeRow (getD (from .at) i noRow) free placed))
+        node-turn : (free : Levels) → free ≡ levelsOf (freeWith row (slice base height stack)) → step row (held stack height parts placed rows) ≡ held (set stack base (nodePart row free)) (base + 1) (sets parts placed (slice base height stack)) (placed + length (slice base height stack)) (set rows (row .which) (nodeRow row free placed))
         unfolding step nodeStep layRow
-        node-turn free f = rw (lt-ltb (getD (from .at) i noRow .kind) 4 k) (go (length (take height stack) - getD (from .at) i noRow .many) at)
+        node-turn free f = rw (lt-ltb (row .kind) 4 k) (go (length (take height stack) - row .many) at)
           where
-            at : length (take height stack) - getD (from .at) i noRow .many ≡ base
+            at : length (take height stack) - row .many ≡ base
             at = omega (arith, length-take-le height stack (omega (arith, o .tall, o .stack-length)))
-
-            row : Row
-            row = getD (from .at) i noRow
 
             tops : take base (take height stack) ++ (nodePart row (levelsOf (freeWith row (slice base height stack))) ∷ []) ≡ take (base + 1) (set stack base (nodePart row free))
             tops =
@@ -195,27 +199,27 @@ module _ (from : Rows) (fits : from .len ≤ 64) (len : length (from .at) ≡ 64
             go : (n : ℕ) → n ≡ base → _≡_ {A = State} (record { stack = take n (take height stack) ++ (nodePart row (levelsOf (freeWith row (drop n (take height stack)))) ∷ []); laid = record { parts = sets parts placed (drop n (take height stack)); placed = placed + length (drop n (take height stack)); rows = set rows (row .which) (nodeRow row (levelsOf (freeWith row (drop n (take height stack)))) placed) } }) (held (set stack base (nodePart row free)) (base + 1) (sets parts placed (slice base height stack)) (placed + length (slice base height stack)) (set rows (row .which) (nodeRow row free placed)))
             go n q = rw q (ap (λ (l : List PartRow). record { stack = l; laid = record { parts = sets parts placed (slice base height stack); placed = placed + length (slice base height stack); rows = set rows (row .which) (nodeRow row (levelsOf (freeWith row (slice base height stack))) placed) } }) tops ∙ ap (λ (g : Levels). record { stack = take (base + 1) (set stack base (nodePart row free)); laid = record { parts = sets parts placed (slice base height stack); placed = placed + length (slice base height stack); rows = set rows (row .which) (nodeRow row g placed) } }) (sym f))
 
-        pub outer-node : (parts′ : List PartRow) (placed′ : ℕ) (marks : List Bool) (j : ℕ) → Inner stack parts height placed base parts′ placed′ marks j → height ≤ j → (free : Levels) (v : ℕ) (r : NodeRow) (q : PartRow) → free ≡ levelsOf (filter (λ l. not (isOwn (getD (from .at) i noRow) l) && getD marks l false) (below 4)) → v ≡ getD (from .at) i noRow .which → r ≡ nodeRow (getD (from .at) i noRow) free placed → q ≡ nodePart (getD (from .at) i noRow) free → Outer from (set stack base q) parts′ (set rows v r) (base + 1) placed′ (i + 1)
+        pub outer-node : (parts′ : List PartRow) (placed′ : ℕ) (marks : List Bool) (j : ℕ) → Inner stack parts height placed base parts′ placed′ marks j → height ≤ j → (free : Levels) (v : ℕ) (r : NodeRow) (q : PartRow) → free ≡ levelsOf (filter (λ l. not (isOwn row l) && getD marks l false) (below 4)) → v ≡ row .which → r ≡ nodeRow row free placed → q ≡ nodePart row free → Outer from (set stack base q) parts′ (set rows v r) (base + 1) placed′ (i + 1)
         outer-node parts′ placed′ marks j n z free v r q ef ev er eq = record {
           low = omega arith;
           tall = omega (arith, node-ranged .3);
-          runs = one-step ∙ ap (λ (s : State). run (drop (i + 1) (rowsIn from)) s) (node-turn free (ef ∙ inner-free stack parts height placed base parts′ placed′ marks j n z (getD (from .at) i noRow)) ∙ turned);
-          ranged = subst (λ (m : ℕ). Ranged (base + 1) m (drop (i + 1) (rowsIn from))) (sym all-placed) (subst (λ (b : ℕ). Ranged (b + 1) (placed + getD (from .at) i noRow .many) (drop (i + 1) (rowsIn from))) (sym e) (node-ranged .4));
+          runs = one-step ∙ ap (λ (s : State). run (drop (i + 1) (rowsIn from)) s) (node-turn free (ef ∙ inner-free stack parts height placed base parts′ placed′ marks j n z row) ∙ turned);
+          ranged = subst (λ (m : ℕ). Ranged (base + 1) m (drop (i + 1) (rowsIn from))) (sym all-placed) (subst (λ (b : ℕ). Ranged (b + 1) (placed + row .many) (drop (i + 1) (rowsIn from))) (sym e) (node-ranged .4));
           stack-length = length-set stack base q ∙ o .stack-length;
           parts-length = n .parts-length ∙ o .parts-length;
           rows-length = length-set rows v r ∙ o .rows-length;
         }
           where
-            all-placed : placed′ ≡ placed + getD (from .at) i noRow .many
+            all-placed : placed′ ≡ placed + row .many
             all-placed = omega (arith, n .count, n .high, node-ranged .0)
 
-            turned : held (set stack base (nodePart (getD (from .at) i noRow) free)) (base + 1) (sets parts placed (slice base height stack)) (placed + length (slice base height stack)) (set rows (getD (from .at) i noRow .which) (nodeRow (getD (from .at) i noRow) free placed)) ≡ held (set stack base q) (base + 1) parts′ placed′ (set rows v r)
+            turned : held (set stack base (nodePart row free)) (base + 1) (sets parts placed (slice base height stack)) (placed + length (slice base height stack)) (set rows (row .which) (nodeRow row free placed)) ≡ held (set stack base q) (base + 1) parts′ placed′ (set rows v r)
             turned = rw (ev, er, eq, inner-parts stack parts height placed base parts′ placed′ marks j n z, kids-many, all-placed)
 
   -- ---- the end
-  pub outer-end : (stack parts : List PartRow) (rows : List NodeRow) (height placed i : ℕ) → Outer from stack parts rows height placed i → from .len ≤ i → run (rowsIn from) start ≡ held stack height parts placed rows
+  pub outer-end : (stack parts : List PartRow) (rows : List NodeRow) (height placed i : ℕ) → Outer from stack parts rows height placed i → n ≤ i → run (rowsIn from) start ≡ held stack height parts placed rows
   unfolding rowsIn run
-  outer-end stack parts rows height placed i o h = o .runs ∙ ap (λ (l : List Row). run l (held stack height parts placed rows)) (drop-of-length-le (take (from .len) (from .at)) {i = i} (omega (arith, length-take (from .len) (from .at))))
+  outer-end stack parts rows height placed i o h = o .runs ∙ ap (λ (l : List Row). run l (held stack height parts placed rows)) (drop-of-length-le (take (n) (from .at)) {i = i} (omega (arith, length-take (n) (from .at))))
 
 take-first : {A : Type 0} (n : ℕ) (l : List A) (x d : A) → take n l ≡ x ∷ [] → getD l 0 d ≡ x
 take-first zero [] x d e = let z : _≡_ {A = ℕ} 0 1 = cc in absurd (omega arith)
@@ -223,14 +227,14 @@ take-first zero (y ∷ l) x d e = let z : _≡_ {A = ℕ} 0 1 = cc in absurd (om
 take-first (suc n) [] x d e = let z : _≡_ {A = ℕ} 0 1 = cc in absurd (omega arith)
 take-first (suc n) (y ∷ l) x d e = cc
 
-pub table-of : (from : Rows) (stack parts : List PartRow) (rows : List NodeRow) (height placed : ℕ) → run (rowsIn from) start ≡ held stack height parts placed rows → (rels : ℕ) (root : Tree) → Of rels root from → IsTable rels root (record { count = from .nodes; rows = rows; parts = parts; root = getD stack 0 noPart }) × Fits (record { count = from .nodes; rows = rows; parts = parts; root = getD stack 0 noPart })
+pub table-of : (from : Rows) (stack parts : List PartRow) (rows : List NodeRow) (height placed : ℕ) → run (rowsIn from) start ≡ held stack height parts placed rows → (rels : ℕ) (root : Tree) → Of rels root from → IsTable rels root (record { count = from .nodes; placed = placed; rows = rows; parts = parts; root = getD stack 0 noPart }) × Fits (record { count = from .nodes; placed = placed; rows = rows; parts = parts; root = getD stack 0 noPart })
 table-of from stack parts rows height placed e rels root o = subst (λ (x : Nodes). IsTable rels root x × Fits x) (sym is) (table-is rels root (o .some-rels) (o .few-rels) (o .small) (o .fits), table-fits rels root (o .some-rels) (o .few-rels) (o .small) (o .fits))
   where
     left : held stack height parts placed rows ≡ record { stack = partOf 0 root ∷ []; laid = laid 0 root blank }
     left = sym e ∙ ap (λ (x : List Row). run x start) (o .is) ∙ run-whole rels root (o .some-rels) (o .few-rels) (o .small) (o .fits)
 
-    is : record { count = from .nodes; rows = rows; parts = parts; root = getD stack 0 noPart } ≡ tableOf (laid 0 root blank) root
+    is : record { count = from .nodes; placed = placed; rows = rows; parts = parts; root = getD stack 0 noPart } ≡ tableOf (laid 0 root blank) root
     is =
-        ap (λ (q : PartRow). record { count = from .nodes; rows = rows; parts = parts; root = q }) (take-first height stack (partOf 0 root) noPart (ap (λ (s : State). s .stack) left))
-        ∙ ap (λ (s : State). record { count = from .nodes; rows = s .laid .rows; parts = s .laid .parts; root = partOf 0 root }) left
-        ∙ ap (λ (n : ℕ). record { count = n; rows = laid 0 root blank .rows; parts = laid 0 root blank .parts; root = partOf 0 root }) (o .count)
+        ap (λ (q : PartRow). record { count = from .nodes; placed = placed; rows = rows; parts = parts; root = q }) (take-first height stack (partOf 0 root) noPart (ap (λ (s : State). s .stack) left))
+        ∙ ap (λ (s : State). record { count = from .nodes; placed = s .laid .placed; rows = s .laid .rows; parts = s .laid .parts; root = partOf 0 root }) left
+        ∙ ap (λ (n : ℕ). record { count = n; placed = laid 0 root blank .placed; rows = laid 0 root blank .rows; parts = laid 0 root blank .parts; root = partOf 0 root }) (o .count)

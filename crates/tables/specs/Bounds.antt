@@ -10,6 +10,7 @@ use lib.Seq.{sets}
 use Rattle.definitions.specs.Tree.{Tree, Trees, leaf, forallNode, existsNode, andNode, orNode, end, _then_, nodes, nodesAll, parts, partsFrom, free}
 use Rattle.tree.specs.Tables.{noPart, noNode, nodeLevel, PartIn, PartFits, NodeFits}
 use Rattle.tree.specs.declared.PartRow.{PartRow}
+use Rattle.tree.specs.declared.NodeRow.{NodeRow}
 use Rattle.tables.specs.Postorder.{inner, innerAll, pad, partOf, kidsOf, heads, rowOf, Small, AllSmall}
 use Rattle.tables.specs.Pass.{Laid, blank, blankPart, blankRow}
 use Rattle.tables.specs.Free.{pad-below, free-few, free-below}
@@ -92,18 +93,22 @@ blank-good rels count h = record {
   within = record { relation = λ _. h; node = λ n. absurd (omega arith) };
 }
 
-row-fits : (t : Tree) (first many : ℕ) → nodeLevel t < 4 → first + many ≤ 64 → NodeFits (rowOf t first many)
-row-fits t first many h b = record { width = free-few t; levels = pad-below 4 4 (free t) (omega arith) (free-below t); level = h; parts = b }
+row-fits : (placed : ℕ) (t : Tree) (first many : ℕ) → nodeLevel t < 4 → first + many ≤ placed → NodeFits placed (rowOf t first many)
+row-fits placed t first many h b = record { width = free-few t; levels = pad-below 4 4 (free t) (omega arith) (free-below t); level = h; parts = b }
 
-none-fits : NodeFits noNode
-none-fits = record { width = omega arith; levels = λ i. zero-at i; level = omega arith; parts = omega arith }
+-- parts that are placed stay so
+fits-more : (p q : ℕ) (v : NodeRow) → p ≤ q → NodeFits p v → NodeFits q v
+fits-more p q v h f = record { width = f .width; levels = f .levels; level = f .level; parts = omega (arith, f .parts) }
+
+none-fits : (placed : ℕ) → NodeFits placed noNode
+none-fits placed = record { width = omega arith; levels = λ i. zero-at i; level = omega arith; parts = omega arith }
   where
     zero-at : (i : ℕ) → getD [] i 0 < 4
     zero-at zero = omega arith
     zero-at (suc i) = omega arith
 
-blank-fits : NodeFits blankRow
-blank-fits = record { width = omega arith; levels = blank-levels 4; level = omega arith; parts = omega arith }
+blank-fits : (placed : ℕ) → NodeFits placed blankRow
+blank-fits placed = record { width = omega arith; levels = blank-levels 4; level = omega arith; parts = omega arith }
 
 module _ (rels count : ℕ) (b : rels ≤ 17) (c : count ≤ 64) where
   pub part-good : (v : ℕ) (t : Tree) → Small rels t → v + length (nodes t) ≤ count → Good rels count (partOf v t)
@@ -123,14 +128,14 @@ module _ (rels count : ℕ) (b : rels ≤ 17) (c : count ≤ 64) where
   -- ---- the table
   pub record Sound (l : Laid) : Type 0 where
     pub parts : All (Good rels count) noPart (l .parts)
-    pub rows : All NodeFits noNode (l .rows)
+    pub rows : All (NodeFits (l .placed)) noNode (l .rows)
     pub parts-length : length (l .parts) ≡ 64
     pub rows-length : length (l .rows) ≡ 64
 
   sound-node : (v : ℕ) (t : Tree) (N : List Tree) (l m : Laid) (k : ℕ) → Grows v N l (lay v t m) k → length (l .parts) ≡ 64 → length (l .rows) ≡ 64 → l .placed + k ≤ 64 → nodeLevel t < 4 → Each (Good rels count) noPart (kidsOf v t) → Sound m → Sound (lay v t m)
   sound-node v t N l m k g x y h d e s = record {
     parts = all-sets (Good rels count) noPart (kidsOf v t) (m .parts) (m .placed) e (s .parts);
-    rows = all-set NodeFits noNode (m .rows) v (rowOf t (m .placed) (length (kidsOf v t))) (row-fits t (m .placed) (length (kidsOf v t)) d (omega (arith, g .placed))) (s .rows);
+    rows = all-set (NodeFits (m .placed + length (kidsOf v t))) noNode (m .rows) v (rowOf t (m .placed) (length (kidsOf v t))) (row-fits (m .placed + length (kidsOf v t)) t (m .placed) (length (kidsOf v t)) d (omega arith)) (λ i. fits-more (m .placed) (m .placed + length (kidsOf v t)) (getD (m .rows) i noNode) (omega arith) (s .rows i));
     parts-length = g .parts-length ∙ x;
     rows-length = g .rows-length ∙ y;
   }
@@ -163,7 +168,7 @@ module _ (rels count : ℕ) (b : rels ≤ 17) (c : count ≤ 64) where
   pub blank-sound : 0 < rels → Sound blank
   blank-sound h = record {
     parts = all-same (Good rels count) noPart 64 blankPart (blank-good rels count h) (none-good rels count h);
-    rows = all-same NodeFits noNode 64 blankRow blank-fits none-fits;
+    rows = all-same (NodeFits 0) noNode 64 blankRow (blank-fits 0) (none-fits 0);
     parts-length = length-replicate 64 blankPart;
     rows-length = length-replicate 64 blankRow;
   }

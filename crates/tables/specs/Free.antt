@@ -46,7 +46,7 @@ pad-below (suc n) b (x ∷ xs) o h (suc i) = pad-below n b xs o (λ j. h (suc j)
 
 -- ---- filters of the numbers from a on
 module _ (p : ℕ → Bool) where
-  filter-le : (n a : ℕ) → length (filter p (from a n)) ≤ n
+  pub filter-le : (n a : ℕ) → length (filter p (from a n)) ≤ n
   unfolding filter from
   filter-le zero a = zero-le
   filter-le (suc n) a = go (p a) (filter-le n (suc a))

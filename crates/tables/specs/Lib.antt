@@ -3,6 +3,7 @@
 --   Free                   the free levels of a node from those of its parts
 --   Laid, Shown, Bounds    what the pass leaves, that each node has its row there, that all is in range
 --   Whole                  the table is the tree's
+--   Lent                   rows that are lent as bytes
 pub mod Postorder
 pub mod Pass
 pub mod Free
@@ -10,3 +11,4 @@ pub mod Laid
 pub mod Shown
 pub mod Bounds
 pub mod Whole
+pub mod Lent

@@ -1,14 +1,14 @@
 -- The rows of a tree in postorder, and the parts and rows that its table has. Definitions only.
-use Prim.Native.Nat.{ℕ, zero, suc, _+_, _≤_, _<_}
+use Prim.Native.Nat.{ℕ, zero, suc, _+_, _*_, _≤_, _<_}
 use mathlib.Core.Bool.{Bool, true, false}
 use mathlib.Core.List.{List, [], _∷_, _++_, map}
-use lib.ListN.{length, getD, take}
+use lib.ListN.{length, getD, take, set}
+use Rattle.definitions.specs.Lists.{below}
 use Rattle.definitions.specs.Tree.{Tree, Trees, leaf, forallNode, existsNode, andNode, orNode, end, _then_, Part, parts, partsFrom, nodes, howMany, free}
 use Rattle.tree.specs.Tables.{nodeKind, nodeLevel}
 use Rattle.tree.specs.declared.PartRow.{PartRow}
 use Rattle.tree.specs.declared.NodeRow.{NodeRow}
 use Rattle.tables.specs.declared.Row.{Row}
-use Rattle.tables.specs.declared.Rows.{Rows}
 
 -- the first n elements, zeros where there are fewer
 unfoldable pub pad : ℕ → List ℕ → List ℕ
@@ -55,9 +55,27 @@ unfoldable mutual
   innerAll end = 0
   innerAll (t then ts) = inner t + innerAll ts
 
+-- a table of rows: the first `len` are in use, `nodes` of them nodes
+pub record Rows : Type 0 where
+  pub at : List Row
+  pub len : ℕ
+  pub nodes : ℕ
+
 -- the rows that are in use
 unfoldable pub rowsIn : Rows → List Row
 rowsIn r = take (r .len) (r .at)
+
+-- row i becomes `row`
+abbrev pub withRow : Rows → ℕ → Row → Rows
+withRow t i row = record { at = set (t .at) i row; len = t .len; nodes = t .nodes }
+
+-- row i of a table that is lent as bytes, seven to a row
+unfoldable pub rowAt : List ℕ → ℕ → Row
+rowAt b i = record { kind = getD b (7 * i) 0; which = getD b (7 * i + 1) 0; many = getD b (7 * i + 2) 0; width = getD b (7 * i + 3) 0; levels = getD b (7 * i + 4) 0 ∷ getD b (7 * i + 5) 0 ∷ getD b (7 * i + 6) 0 ∷ [] }
+
+-- that table
+abbrev pub rowsFrom : List ℕ → ℕ → ℕ → Rows
+rowsFrom b len nodes = record { at = map (rowAt b) (below 64); len = len; nodes = nodes }
 
 -- what the table's parts need: literals of the first `rels` relations, with 3 levels at the most, all levels below 4
 unfoldable mutual

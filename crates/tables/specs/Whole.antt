@@ -11,14 +11,13 @@ use Rattle.tree.specs.Tables.{noNode, headFrom, headOf, headIn, IsNode, IsTable
 use Rattle.tree.specs.declared.PartRow.{PartRow}
 use Rattle.tree.specs.declared.NodeRow.{NodeRow}
 use Rattle.tree.specs.declared.Nodes.{Nodes}
-use Rattle.tables.specs.Postorder.{post, postAll, inner, innerAll, partOf, kidsOf, heads, rowsIn, Small, AllSmall}
+use Rattle.tables.specs.Postorder.{post, postAll, inner, innerAll, partOf, kidsOf, heads, Rows, rowsIn, Small, AllSmall}
 use Rattle.tables.specs.Pass.{Laid, blank, run, Ranged}
 use Rattle.tables.specs.Free.{take-pad, free-few}
 use Rattle.tables.specs.Laid.{laid, run-post}
 use Rattle.tables.specs.Shown.{Shown, Grows, laid-grows}
 use Rattle.tables.specs.Bounds.{Each, each-at, each-append, Sound, part-good, laid-sound, blank-sound}
 use Rattle.tables.specs.declared.Row.{Row}
-use Rattle.tables.specs.declared.Rows.{Rows}
 
 -- the rows are those of a tree that a table can hold, over `rels` relations
 pub record Of (rels : ℕ) (root : Tree) (rows : Rows) : Type 0 where
@@ -126,7 +125,7 @@ shown-is rels v t row l s h = subst (λ (r : NodeRow). IsNode v t r (l .parts)) 
 })
 
 abbrev pub tableOf : Laid → Tree → Nodes
-tableOf l root = record { count = length (nodes root); rows = l .rows; parts = l .parts; root = partOf 0 root }
+tableOf l root = record { count = length (nodes root); placed = l .placed; rows = l .rows; parts = l .parts; root = partOf 0 root }
 
 module _ (rels : ℕ) (root : Tree) (o : 0 < rels) (b : rels ≤ 17) (s : Small rels root) (h : suc (inner root) ≤ 64) where
   few : length (nodes root) ≤ 64
@@ -159,6 +158,7 @@ module _ (rels : ℕ) (root : Tree) (o : 0 < rels) (b : rels ≤ 17) (s : Small 
   pub table-fits : Fits (tableOf (laid 0 root blank) root)
   table-fits = record {
     few = few;
+    few-parts = omega (arith, grows .placed);
     parts = record { parts-length = sound .parts-length; part = λ i. sound .parts i .fits };
     nodes = record { rows-length = sound .rows-length; node = λ i. sound .rows i };
     root = part-good rels (length (nodes root)) b few 0 root s (omega arith) .fits;

@@ -7,7 +7,7 @@ ghost use lib.Dec.{eqb};
 ghost use Rattle.definitions.specs.Lists.{if_then_else_, filter, below};
 ghost use Rattle.definitions.specs.Tree.{Tree};
 ghost use Rattle.tree.specs.Tables.{IsTable, Fits};
-ghost use Rattle.tables.specs.Postorder.{rowsIn};
+ghost use Rattle.tables.specs.Postorder.{rowsIn, rowAt, rowsFrom, withRow};
 ghost use Rattle.tables.specs.Pass.{hasLevel, isOwn, levelsOf, listedOf, leafPart, nodePart, nodeRow, blankPart, blankRow, Ranged};
 ghost use Rattle.tables.specs.Whole.{Of};
 use tree::NodeRow;
@@ -28,12 +28,10 @@ pub struct Row {
     pub levels: [u8; 3],
 }
 
-// The rows of a tree in postorder, and how many of them are nodes.
-pub struct Rows {
-    pub at: [Row; ROWS],
-    pub len: usize,
-    pub nodes: usize,
-}
+// How many bytes a row has in a lent table of rows, and how many such a table has.
+const WIDTH: usize = 7;
+
+pub const BYTES: usize = WIDTH * ROWS;
 
 // Which levels occur.
 struct Marks {
@@ -42,7 +40,7 @@ struct Marks {
 
 // Levels in order; the first `width` count, the others are 0.
 struct Levels {
-    at: [usize; 4],
+    at: [u8; 4],
     width: usize,
 }
 
@@ -52,40 +50,22 @@ fn wide(x: u8) -> usize
     x as usize
 }
 
-fn or(a: bool, b: bool) -> bool
-    ensures { λ r. ⌜ r ≡ (a || b) ⌝ }
-{
-    if a { true } else { b }
-}
-
-// Is l one of a part's levels.
-fn has(p: PartRow, l: usize) -> bool
-    ensures { λ r. ⌜ r ≡ hasLevel l p ⌝ }
-{
-    let mut i = 0;
-    while i < 4 {
-        if i == p.width {
-            return false;
-        }
-        if l == p.levels[i] {
-            return true;
-        }
-        i += 1;
-    }
-    false
-}
-
 // The levels of a part are marked too.
 fn also(m: Marks, p: PartRow) -> Marks
     ensures { λ r. ⌜ ((l : ℕ) → l < 4 → getD (r .at) l false ≡ (getD (m .at) l false || hasLevel l p)) ⌝ }
 {
     let mut r = m;
-    let mut l = 0;
-    while l < 4 {
-        let old = m.at[l];
-        let h = has(p, l);
-        r.at[l] = or(old, h);
-        l += 1;
+    let width = wide(p.width);
+    let mut i = 0;
+    while i < 4 {
+        if i == width {
+            return r;
+        }
+        let l = wide(p.levels[i]);
+        if l < 4 {
+            r.at[l] = true;
+        }
+        i += 1;
     }
     r
 }
@@ -103,7 +83,7 @@ fn is_own(row: Row, l: usize) -> bool
 
 // One level more, if it is marked and not the row's own.
 fn listed(r: Levels, l: usize, own: bool, marked: bool) -> Levels
-    requires { ⌜ r .width < 4 ⌝ }
+    requires { ⌜ (r .width < 4) × (l < 4) ⌝ }
     ensures { λ q. ⌜ q ≡ listedOf r l (not own && marked) ⌝ }
 {
     if own {
@@ -112,7 +92,7 @@ fn listed(r: Levels, l: usize, own: bool, marked: bool) -> Levels
     if marked {
         let n = r.width;
         let mut q = r;
-        q.at[n] = l;
+        q.at[n] = l as u8;
         q.width = n + 1;
         return q;
     }
@@ -124,7 +104,7 @@ fn free_levels(m: Marks, row: Row) -> Levels
     ensures { λ r. ⌜ r ≡ levelsOf (filter (λ l. not (isOwn row l) && getD (m .at) l false) (below 4)) ⌝ }
 {
     let mut r = Levels {
-        at: [0usize; 4],
+        at: [0u8; 4],
         width: 0,
     };
     let mut l = 0;
@@ -144,14 +124,9 @@ fn leaf_part(row: Row) -> PartRow
 {
     PartRow {
         tag: row.kind - 4,
-        which: wide(row.which),
-        levels: [
-            wide(row.levels[0]),
-            wide(row.levels[1]),
-            wide(row.levels[2]),
-            0,
-        ],
-        width: wide(row.width),
+        which: row.which,
+        levels: [row.levels[0], row.levels[1], row.levels[2], 0],
+        width: row.width,
     }
 }
 
@@ -163,30 +138,32 @@ fn node_tag(kind: u8) -> u8
 
 // A node as a part.
 fn node_part(row: Row, free: Levels) -> PartRow
+    requires { ⌜ free .width ≤ 4 ⌝ }
     ensures { λ r. ⌜ r ≡ nodePart row free ⌝ }
 {
     let levels = free.at;
     let tag = node_tag(row.kind);
     PartRow {
         tag,
-        which: wide(row.which),
+        which: row.which,
         levels,
-        width: free.width,
+        width: free.width as u8,
     }
 }
 
 // A node's row of the table; its parts stand from `first` on.
 fn node_row(row: Row, free: Levels, first: usize) -> NodeRow
+    requires { ⌜ (free .width ≤ 4) × (first ≤ 64) ⌝ }
     ensures { λ r. ⌜ r ≡ nodeRow row free first ⌝ }
 {
     let levels = free.at;
     NodeRow {
         kind: row.kind,
-        level: wide(row.levels[0]),
+        level: row.levels[0],
         levels,
-        width: free.width,
-        first,
-        many: wide(row.many),
+        width: free.width as u8,
+        first: first as u8,
+        many: row.many,
     }
 }
 
@@ -196,7 +173,7 @@ fn no_part() -> PartRow
     PartRow {
         tag: 0,
         which: 0,
-        levels: [0usize; 4],
+        levels: [0u8; 4],
         width: 0,
     }
 }
@@ -207,17 +184,48 @@ fn no_row() -> NodeRow
     NodeRow {
         kind: 0,
         level: 0,
-        levels: [0usize; 4],
+        levels: [0u8; 4],
         width: 0,
         first: 0,
         many: 0,
     }
 }
 
-// The table of the tree that these are the rows of.
-pub fn tabulate(from: Rows) -> Nodes
-    requires { ⌜ (length (from .at) ≡ 64) × (from .len ≤ 64) × Ranged 0 0 (rowsIn from) ⌝ }
-    ensures { λ r. ⌜ ((rels : ℕ) (root : Tree) → Of rels root from → IsTable rels root r × Fits r) ⌝ }
+// Row i of a lent table.
+fn row_at(rows: &[u8], i: usize) -> Row
+    requires { ⌜ (length (now rows) ≡ 448) × (i < 64) ⌝ }
+    ensures { λ r. ⌜ r ≡ rowAt (now (rows .entry)) i ⌝ }
+{
+    let at = WIDTH * i;
+    Row {
+        kind: rows[at],
+        which: rows[at + 1],
+        many: rows[at + 2],
+        width: rows[at + 3],
+        levels: [rows[at + 4], rows[at + 5], rows[at + 6]],
+    }
+}
+
+// Row i of a lent table becomes `row`.
+pub fn put_row(rows: &mut [u8], i: usize, row: Row)
+    requires { ⌜ (length (now rows) ≡ 448) × (i < 64) ⌝ }
+    ensures { λ r. ⌜ (length (now (rows .exit)) ≡ 448) × ((len nodes : ℕ) → rowsFrom (now (rows .exit)) len nodes ≡ withRow (rowsFrom (now (rows .entry)) len nodes) i row) ⌝ }
+{
+    let at = WIDTH * i;
+    let levels = row.levels;
+    rows[at] = row.kind;
+    rows[at + 1] = row.which;
+    rows[at + 2] = row.many;
+    rows[at + 3] = row.width;
+    rows[at + 4] = levels[0];
+    rows[at + 5] = levels[1];
+    rows[at + 6] = levels[2];
+}
+
+// The table of the tree of which these are the first `len` rows, `count` of them nodes.
+pub fn tabulate(from: &[u8], len: usize, count: usize) -> Nodes
+    requires { ⌜ (length (now from) ≡ 448) × (len ≤ 64) × Ranged 0 0 (rowsIn (rowsFrom (now from) len count)) ⌝ }
+    ensures { λ r. ⌜ ((rels : ℕ) (root : Tree) → Of rels root (rowsFrom (now (from .entry)) len count) → IsTable rels root r × Fits r) ⌝ }
 {
     let blank = no_part();
     let blank_row = no_row();
@@ -227,8 +235,8 @@ pub fn tabulate(from: Rows) -> Nodes
     let mut height = 0;
     let mut placed = 0;
     let mut i = 0;
-    while i < from.len {
-        let row = from.at[i];
+    while i < len {
+        let row = row_at(from, i);
         i += 1;
         if row.kind >= 4 {
             stack[height] = leaf_part(row);
@@ -253,9 +261,9 @@ pub fn tabulate(from: Rows) -> Nodes
         height = base + 1;
     }
     let root = stack[0];
-    let count = from.nodes;
     Nodes {
         count,
+        placed,
         rows,
         parts,
         root,

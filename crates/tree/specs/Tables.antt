@@ -88,11 +88,12 @@ pub record PartFits (q : PartRow) : Type 0 where
   pub relation : q .tag < 2 → q .which < 17
   pub node : 2 ≤ q .tag → q .which < 64
 
-pub record NodeFits (v : NodeRow) : Type 0 where
+-- ... of a node whose parts are among the first `placed`
+pub record NodeFits (placed : ℕ) (v : NodeRow) : Type 0 where
   pub width : v .width ≤ 4
   pub levels : Levels (v .levels)
   pub level : v .level < 4
-  pub parts : v .first + v .many ≤ 64
+  pub parts : v .first + v .many ≤ placed
 
 pub record PartsFit (t : Nodes) : Type 0 where
   pub parts-length : length (t .parts) ≡ 64
@@ -100,10 +101,11 @@ pub record PartsFit (t : Nodes) : Type 0 where
 
 pub record NodesFit (t : Nodes) : Type 0 where
   pub rows-length : length (t .rows) ≡ 64
-  pub node : (i : ℕ) → NodeFits (getD (t .rows) i noNode)
+  pub node : (i : ℕ) → NodeFits (t .placed) (getD (t .rows) i noNode)
 
 pub record Fits (t : Nodes) : Type 0 where
   pub few : t .count ≤ 64
+  pub few-parts : t .placed ≤ 64
   pub parts : PartsFit t
   pub nodes : NodesFit t
   pub root : PartFits (t .root)

@@ -3,6 +3,7 @@ use mathlib.Core.Path.{sym, _∙_}
 use native.Mathlib.Omega.{arith}
 use lib.Seq.{length-take-le}
 use Rattle.definitions.specs.Atoms.{problemOf}
+use Rattle.layout.specs.LaidLaws.{most-zeros}
 use Rattle.cases.specs.Known.{tabled, atoms-few}
 use Rattle.building.specs.Builds.{builds-over, builds-picks, builds-state, builds-steps, builds-spare, builds-built}
 use borrow.Author.Needs.{needs}
@@ -13,7 +14,7 @@ slice-aggregate-ground-case : tie.Need-slice-aggregate-ground-case
 slice-aggregate-ground-case c = search needs
 
 ground-case-requires : tie.Need-ground-case-requires
-ground-case-requires c κs = search needs
+ground-case-requires c κs = ((search needs, most-zeros 1133 0), search needs)
 
 returns : tie.Need-returns
 returns c = record {

@@ -1,6 +1,7 @@
 -- `cases::sizes` meets its contract: the case is refused, it is over the limits, or its counts are the problem's. Assumes nothing.
 use native.Mathlib.Omega.{arith}
 use Rattle.sheets.proofs.Loops.{zeros-clear}
+use Rattle.layout.specs.LaidLaws.{most-zeros}
 use Rattle.cases.specs.Known.{case-read}
 use Rattle.cases.specs.Replies.{sizingOf, sizes-case, sizes-over, sizes-are}
 use borrow.Author.Needs.{needs}
@@ -20,7 +21,7 @@ slice-aggregate-ground-case : tie.Need-slice-aggregate-ground-case
 slice-aggregate-ground-case c = search needs
 
 ground-case-requires : tie.Need-ground-case-requires
-ground-case-requires c κs = (search needs, record { case = case-read _ _ _ _ (c .before .before .before .before .read-case .ensures) (c .before .if1 .left) .0; facts = _; holds = case-read _ _ _ _ (c .before .before .before .before .read-case .ensures) (c .before .if1 .left) .2 })
+ground-case-requires c κs = ((search needs, most-zeros 1133 0), record { case = case-read _ _ _ _ (c .before .before .before .before .read-case .ensures) (c .before .if1 .left) .0; facts = _; holds = case-read _ _ _ _ (c .before .before .before .before .read-case .ensures) (c .before .if1 .left) .2 })
 
 returns-2 : tie.Need-returns-2
 returns-2 c = sizes-over _ _ _ _ (c .before .before .before .before .before .before .before .read-case .ensures) (c .before .before .before .before .if1 .left) _ _ (λ x h. c .before .before .ground-case .ensures x _ h) (c .if2 .taken)

@@ -1,10 +1,11 @@
 -- `layout::node_starts` meets its contract.
-use Prim.Native.Nat.{ℕ, _-_, _≤_, _^_}
-use mathlib.Core.Path.{_≡_, refl, ap, _∙_, subst}
+use Prim.Native.Nat.{ℕ, _-_, _*_, _≤_, _^_}
+use mathlib.Core.Path.{_≡_, refl, ap, ap₂, _∙_, subst}
 use native.Mathlib.Omega.{arith}
 use borrow.Author.Needs.{needs}
 use lib.ListN.{length, getD, length-set}
 use Rattle.tree.specs.Tables.{noNode}
+use Rattle.tree.specs.declared.NodeRow.{NodeRow}
 use Rattle.layout.specs.Laid.{NodesLaid, nodeWidth, choicesOf}
 use Rattle.layout.specs.LaidLaws.{nodes-first, nodes-next, node-bound, act-bound, acts-le, node-width-le, pow-fits, size-most}
 use Rattle.layout.proofs.node_starts.Statement.{statement}
@@ -22,15 +23,34 @@ Inv-loop n from first t node₀ act₀ at₀ acts₀ v₀ node act at acts v = (
 abbrev μ-loop : tie.MeasureT-loop
 μ-loop n from first t node₀ act₀ at₀ acts₀ v₀ node act at acts v = t .count - v
 
--- how many values the free variables of node v have, where the loop stands
+-- the row of the node where the loop stands
+abbrev row : tie.In-loop Inv-loop μ-loop → NodeRow
+row c = getD (c .before .before .args .t2 .rows) (c .before .loop .v) noNode
+
+-- how many values its free variables have
+rows-are : (c : tie.After-power Inv-loop μ-loop) → c .power .result ≡ c .before .before .before .before .before .before .args .n ^ row (c .before .before .before .before) .width
+rows-are c = c .power .ensures ∙ ap (λ (k : ℕ). c .before .before .before .before .before .before .args .n ^ k) (c .before .wide2 .ensures)
+
 rows-small : (c : tie.After-power Inv-loop μ-loop) → c .power .result ≤ 64 ^ 4
 rows-small c =
-    let s = c .before .before .before .before .before in
-    let v = c .before .before .before .before .loop .v in
-    size-most (s .args .n) (getD (s .args .t2 .rows) v noNode .width) (c .power .result) (c .power .ensures) (s .pre .1) (s .pre .2 .nodes .node v .width)
+    let s = c .before .before .before .before .before .before in
+    let v = c .before .before .before .before .before .loop .v in
+    size-most (s .args .n) (row (c .before .before .before .before) .width) (c .power .result) (rows-are c) (s .pre .1) (s .pre .2 .nodes .node v .width)
 
-row-choices : (c : tie.After-choices Inv-loop μ-loop) → c .choices .result ≡ choicesOf (c .before .before .before .before .before .before .before .args .n) (getD (c .before .before .before .before .before .before .before .args .t2 .rows) (c .before .before .before .before .before .before .loop .v) noNode .kind) (getD (c .before .before .before .before .before .before .before .args .t2 .rows) (c .before .before .before .before .before .before .loop .v) noNode .many)
-row-choices c = c .choices .ensures ∙ ap (λ (k : ℕ). choicesOf (c .before .before .before .before .before .before .before .args .n) k (getD (c .before .before .before .before .before .before .before .args .t2 .rows) (c .before .before .before .before .before .before .loop .v) noNode .many)) (c .before .before .before .wide .ensures)
+-- how many actions it has at each of these, and in all
+row-choices : (c : tie.After-choices Inv-loop μ-loop)
+    → let s = c .before .before .before .before .before .before .before in c .choices .result ≡ choicesOf (s .before .before .args .n) (row s .kind) (row s .many)
+row-choices c = let s = c .before .before .before .before .before .before .before in c .choices .ensures ∙ ap₂ (choicesOf (s .before .before .args .n)) (c .before .before .before .before .before .wide .ensures) (c .before .wide3 .ensures)
+
+acts-small : (c : tie.After-choices Inv-loop μ-loop) → c .before .before .before .power .result * c .choices .result ≤ 64 ^ 4 * 64
+acts-small c =
+    let s = c .before .before .before .before .before .before .before .before .before in
+    acts-le (s .args .n) (s .args .t2) (s .args .from) (s .args .first) (s .pre .1) (s .pre .2) (c .before .before .before .before .before .before .before .before .loop .v) (c .before .before .before .power .result) (c .choices .result) (rows-are (c .before .before .before)) (row-choices c)
+
+-- how many atoms it has
+row-width : (c : tie.After-node-width Inv-loop μ-loop)
+    → let s = c .before .before .before .before .before in c .node-width .result ≡ nodeWidth (s .before .before .args .n) (c .before .power .result) (row s .kind)
+row-width c = c .node-width .ensures ∙ ap (nodeWidth (c .before .before .before .before .before .before .before .args .n) (c .before .power .result)) (c .before .before .before .wide .ensures)
 
 array-write-node : tie.Need-array-write-node Inv-loop μ-loop
 array-write-node c = omega arith
@@ -50,52 +70,65 @@ element-copy-out-row c = omega (arith, c .before .before .pre .2 .few)
 wide-requires : tie.Need-wide-requires Inv-loop μ-loop
 wide-requires c κs = search needs
 
+wide-requires-2 : tie.Need-wide-requires-2 Inv-loop μ-loop
+wide-requires-2 c κs = search needs
+
 power-requires : tie.Need-power-requires Inv-loop μ-loop
-power-requires c κs = (c .before .before .before .before .pre .0, pow-fits (c .before .before .before .before .args .n) (getD (c .before .before .before .before .args .t2 .rows) (c .before .before .before .loop .v) noNode .width) (c .before .before .before .before .pre .1) (c .before .before .before .before .pre .2 .nodes .node (c .before .before .before .loop .v) .width))
+power-requires c κs =
+    let s = c .before .before .before .before .before in
+    let w = c .wide2 .ensures in
+    (s .pre .0, pow-fits (s .args .n) (c .wide2 .result) (s .pre .1) (omega (arith, w, s .pre .2 .nodes .node (c .before .before .before .before .loop .v) .width)))
 
 node-width-requires : tie.Need-node-width-requires Inv-loop μ-loop
-node-width-requires c κs = (c .before .before .before .before .before .pre .1, rows-small c)
+node-width-requires c κs = (c .before .before .before .before .before .before .pre .1, rows-small c)
 
 add-at : tie.Need-add-at Inv-loop μ-loop
 add-at c =
-    let w = c .node-width .ensures ∙ ap (nodeWidth (c .before .before .before .before .before .before .args .n) (c .before .power .result)) (c .before .before .wide .ensures) in
-    omega (arith, c .before .before .before .before .before .loop .inv .3 .at-is, node-bound (c .before .before .before .before .before .before .args .n) (c .before .before .before .before .before .before .args .t2) (c .before .before .before .before .before .before .args .from) (c .before .before .before .before .before .before .args .first) (c .before .before .before .before .before .before .pre .1) (c .before .before .before .before .before .before .pre .2) (c .before .before .before .before .before .loop .v), c .before .before .before .before .before .before .pre .2 .few, w, node-width-le (c .before .before .before .before .before .before .args .n) (c .before .power .result) (getD (c .before .before .before .before .before .before .args .t2 .rows) (c .before .before .before .before .before .loop .v) noNode .kind) (c .before .before .before .before .before .before .pre .1) (rows-small (c .before)))
+    let s = c .before .before .before .before .before .before .before in
+    omega (arith, c .before .before .before .before .before .before .loop .inv .3 .at-is, node-bound (s .args .n) (s .args .t2) (s .args .from) (s .args .first) (s .pre .1) (s .pre .2) (c .before .before .before .before .before .before .loop .v), s .pre .2 .few, row-width c, node-width-le (s .args .n) (c .before .power .result) (row (c .before .before .before .before .before) .kind) (s .pre .1) (rows-small (c .before)))
+
+wide-requires-3 : tie.Need-wide-requires-3 Inv-loop μ-loop
+wide-requires-3 c κs = search needs
 
 choices-requires : tie.Need-choices-requires Inv-loop μ-loop
 choices-requires c κs = search needs
 
 mul-acts : tie.Need-mul-acts Inv-loop μ-loop
-mul-acts c = omega (arith, acts-le (c .before .before .before .before .before .before .before .args .n) (c .before .before .before .before .before .before .before .args .t2) (c .before .before .before .before .before .before .before .args .from) (c .before .before .before .before .before .before .before .args .first) (c .before .before .before .before .before .before .before .pre .1) (c .before .before .before .before .before .before .before .pre .2) (c .before .before .before .before .before .before .loop .v) (c .before .before .power .result) (c .choices .result) (c .before .before .power .ensures) (row-choices c))
+mul-acts c = omega (arith, acts-small c)
 
 add-acts : tie.Need-add-acts Inv-loop μ-loop
-add-acts c = omega (arith, c .before .before .before .before .before .before .loop .inv .3 .act-is, act-bound (c .before .before .before .before .before .before .before .args .n) (c .before .before .before .before .before .before .before .args .t2) (c .before .before .before .before .before .before .before .args .from) (c .before .before .before .before .before .before .before .args .first) (c .before .before .before .before .before .before .before .pre .1) (c .before .before .before .before .before .before .before .pre .2) (c .before .before .before .before .before .before .loop .v), c .before .before .before .before .before .before .before .pre .2 .few, acts-le (c .before .before .before .before .before .before .before .args .n) (c .before .before .before .before .before .before .before .args .t2) (c .before .before .before .before .before .before .before .args .from) (c .before .before .before .before .before .before .before .args .first) (c .before .before .before .before .before .before .before .pre .1) (c .before .before .before .before .before .before .before .pre .2) (c .before .before .before .before .before .before .loop .v) (c .before .before .power .result) (c .choices .result) (c .before .before .power .ensures) (row-choices c))
+add-acts c =
+    let s = c .before .before .before .before .before .before .before .before .before in
+    omega (arith, c .before .before .before .before .before .before .before .before .loop .inv .3 .act-is, act-bound (s .args .n) (s .args .t2) (s .args .from) (s .args .first) (s .pre .1) (s .pre .2) (c .before .before .before .before .before .before .before .before .loop .v), s .pre .2 .few, acts-small c)
 
 add-v : tie.Need-add-v Inv-loop μ-loop
-add-v c = omega (arith, c .before .before .before .before .before .before .before .pre .2 .few)
+add-v c = omega (arith, c .before .before .before .before .before .before .before .before .before .pre .2 .few)
 
 mul-node : tie.Need-mul-node Inv-loop μ-loop
-mul-node c = omega (arith, c .before .before .before .before .before .before .before .pre .2 .few)
+mul-node c = omega (arith, c .before .before .before .before .before .before .before .before .before .pre .2 .few)
 
 array-write-node-2 : tie.Need-array-write-node-2 Inv-loop μ-loop
-array-write-node-2 c = omega (arith, c .before .before .before .before .before .before .before .pre .2 .few)
+array-write-node-2 c = omega (arith, c .before .before .before .before .before .before .before .before .before .pre .2 .few)
 
 mul-act : tie.Need-mul-act Inv-loop μ-loop
-mul-act c = omega (arith, c .before .before .before .before .before .before .before .pre .2 .few)
+mul-act c = omega (arith, c .before .before .before .before .before .before .before .before .before .pre .2 .few)
 
 array-write-act-2 : tie.Need-array-write-act-2 Inv-loop μ-loop
-array-write-act-2 c = omega (arith, c .before .before .before .before .before .before .before .pre .2 .few)
+array-write-act-2 c = omega (arith, c .before .before .before .before .before .before .before .before .before .pre .2 .few)
 
 loop-less : tie.Need-loop-less Inv-loop μ-loop
-loop-less c = omega (arith, c .before .before .before .before .before .before .before .pre .2 .few)
+loop-less c = omega (arith, c .before .before .before .before .before .before .before .before .before .pre .2 .few)
 
 loop-again : tie.Need-loop-again Inv-loop μ-loop
-loop-again c = (
-  omega arith,
-  length-set (c .before .before .before .before .before .before .loop .node) _ _ ∙ c .before .before .before .before .before .before .loop .inv .1,
-  length-set (c .before .before .before .before .before .before .loop .act) _ _ ∙ c .before .before .before .before .before .before .loop .inv .2,
-  nodes-next (c .before .before .before .before .before .before .before .args .n) (c .before .before .before .before .before .before .before .args .t2) (c .before .before .before .before .before .before .before .args .from) (c .before .before .before .before .before .before .before .args .first) (c .before .before .before .before .before .before .before .pre .1) (c .before .before .before .before .before .before .before .pre .2) (c .before .before .before .before .before .before .loop .v) (c .before .before .before .before .before .before .loop .node) (c .before .before .before .before .before .before .loop .act) (c .before .before .before .before .before .before .loop .at) (c .before .before .before .before .before .before .loop .acts) (c .before .before .power .result) (c .before .node-width .result) (c .choices .result) (omega (arith, c .before .before .before .before .before .before .before .pre .2 .few))
-      (c .before .before .before .before .before .before .loop .inv .1) (c .before .before .before .before .before .before .loop .inv .2) (c .before .before .power .ensures) (c .before .node-width .ensures ∙ ap (nodeWidth (c .before .before .before .before .before .before .before .args .n) (c .before .before .power .result)) (c .before .before .before .wide .ensures)) (row-choices c) (c .before .before .before .before .before .before .loop .inv .3),
-)
+loop-again c =
+    let s = c .before .before .before .before .before .before .before .before .before in
+    let l = c .before .before .before .before .before .before .before .before .loop in (
+      omega arith,
+      length-set (l .node) _ _ ∙ l .inv .1,
+      length-set (l .act) _ _ ∙ l .inv .2,
+      nodes-next (s .args .n) (s .args .t2) (s .args .from) (s .args .first) (s .pre .1) (s .pre .2) (l .v) (l .node) (l .act) (l .at) (l .acts) (c .before .before .before .power .result) (c .before .before .node-width .result) (c .choices .result) (omega (arith, s .pre .2 .few))
+          (l .inv .1) (l .inv .2) (rows-are (c .before .before .before)) (row-width (c .before .before)) (row-choices c) (l .inv .3),
+    )
 
 returns : tie.Need-returns Inv-loop μ-loop
 returns c =
@@ -114,9 +147,11 @@ node-starts-spec =
     mul-row
     element-copy-out-row
     wide-requires
+    wide-requires-2
     power-requires
     node-width-requires
     add-at
+    wide-requires-3
     choices-requires
     mul-acts
     add-acts

@@ -3,6 +3,7 @@ use mathlib.Core.Path.{refl, sym}
 use mathlib.Core.List.{[]}
 use native.Mathlib.Omega.{arith}
 use lib.Seq.{length-take-le}
+use Rattle.layout.specs.LaidLaws.{most-zeros}
 use Rattle.cases.specs.Known.{table-is, atoms-few, words-fit}
 use Rattle.reading.specs.Reads.{reads-over, reads-few-picks, reads-few-words, reads-ran, its-read}
 use borrow.Author.Needs.{needs}
@@ -13,7 +14,7 @@ slice-aggregate-ground-case : tie.Need-slice-aggregate-ground-case
 slice-aggregate-ground-case c = search needs
 
 ground-case-requires : tie.Need-ground-case-requires
-ground-case-requires c κs = search needs
+ground-case-requires c κs = ((search needs, most-zeros 1133 0), search needs)
 
 returns : tie.Need-returns
 returns c = λ x A h. reads-over x _ _ _ _ _ (c .before .before .ground-case .ensures x _ h) (c .if1 .taken)

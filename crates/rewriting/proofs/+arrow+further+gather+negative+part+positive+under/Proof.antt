@@ -7,9 +7,9 @@ use borrow.Author.Needs.{needs}
 use Prim.Native.Nat.{_+_, _-_, _*_}
 use lib.ListN.{length}
 use Rattle.formula.specs.Seen.{headOf}
-use Rattle.tables.specs.Postorder.{joinRow}
+use Rattle.tables.specs.Postorder.{joinRow, rowsFrom}
 use Rattle.rewriting.specs.Trees.{chain as chainOf}
-use Rattle.rewriting.specs.Ready.{asJoin, asQuant, Adds, Walked, numbered as numberedOf}
+use Rattle.rewriting.specs.Ready.{asJoin, asQuant, Adds, Walked}
 use Rattle.rewriting.proofs.Words.{list-in}
 use Rattle.rewriting.proofs.Turns.{ready-in, ready-end, ready-nodes, neg-view, imp-view, join-view, quant-view, walked-more, parts-many, neg-ready, neg-place, neg-done, imp-ready-1, imp-ready-2, imp-place, imp-space, imp-done, join-ready, join-parts, join-one, join-place, join-space, join-done, join-some, parts-in, parts-some, parts-end, part-ready, part-next, parts-done}
 use Rattle.rewriting.proofs.Ends.{quant-list, quant-ready, quant-nodes, quant-levels, quant-place, quant-space, quant-done}
@@ -44,216 +44,219 @@ use Rattle.rewriting.proofs.join_kind.Reads as join-kind-reads
 use Rattle.rewriting.proofs.join_row.Reads as join-row-reads
 use Rattle.rewriting.proofs.join_word.Reads as join-word-reads
 use Rattle.rewriting.proofs.literal.Reads as literal-reads
-use Rattle.rewriting.proofs.numbered.Reads as numbered-reads
-use Rattle.rewriting.proofs.push.Reads as push-reads
 use Rattle.rewriting.proofs.quant_kind.Reads as quant-kind-reads
+use Rattle.tables.proofs.put_row.Reads as put-row-reads
 use Rattle.rewriting.proofs.+arrow+further+gather+negative+part+positive+under.{statement}
 use Rattle.rewriting.proofs.+arrow+further+gather+negative+part+positive+under.Tie.{close}
 
-abbrev μ-arrow : Measures 1 arrow-kinds.ps ℕ
+abbrev μ-arrow : Measures 2 arrow-kinds.ps ℕ
 μ-arrow κs a = (length (a .0 .now) - a .1 .0) * 4 + 0
 
-abbrev μ-further : Measures 1 further-kinds.ps ℕ
+abbrev μ-further : Measures 2 further-kinds.ps ℕ
 μ-further κs a = (length (a .0 .now) - a .1 .0) * 4 + 0
 
-abbrev μ-gather : Measures 1 gather-kinds.ps ℕ
+abbrev μ-gather : Measures 2 gather-kinds.ps ℕ
 μ-gather κs a = (length (a .0 .now) - a .1 .0) * 4 + 0
 
-abbrev μ-negative : Measures 1 negative-kinds.ps ℕ
+abbrev μ-negative : Measures 2 negative-kinds.ps ℕ
 μ-negative κs a = (length (a .0 .now) - a .1 .0) * 4 + 1
 
-abbrev μ-part : Measures 1 part-kinds.ps ℕ
+abbrev μ-part : Measures 2 part-kinds.ps ℕ
 μ-part κs a = (length (a .0 .now) - a .1 .0) * 4 + 2
 
-abbrev μ-positive : Measures 1 positive-kinds.ps ℕ
+abbrev μ-positive : Measures 2 positive-kinds.ps ℕ
 μ-positive κs a = (length (a .0 .now) - a .1 .0) * 4 + 1
 
-abbrev μ-under : Measures 1 under-kinds.ps ℕ
+abbrev μ-under : Measures 2 under-kinds.ps ℕ
 μ-under κs a = (length (a .0 .now) - a .1 .0) * 4 + 0
 
-abbrev arrow-at : ℕ → In 1 arrow-kinds.ps
-arrow-at t = and 1 arrow-kinds.ps (is 1 arrow-kinds.ps μ-arrow t) arrow.Pre
+abbrev arrow-at : ℕ → In 2 arrow-kinds.ps
+arrow-at t = and 2 arrow-kinds.ps (is 2 arrow-kinds.ps μ-arrow t) arrow.Pre
 
-abbrev arrow-below : ℕ → In 1 arrow-kinds.ps
-arrow-below t = and 1 arrow-kinds.ps (falls 1 arrow-kinds.ps _<_ μ-arrow t) arrow.Pre
+abbrev arrow-below : ℕ → In 2 arrow-kinds.ps
+arrow-below t = and 2 arrow-kinds.ps (falls 2 arrow-kinds.ps _<_ μ-arrow t) arrow.Pre
 
-abbrev further-at : ℕ → In 1 further-kinds.ps
-further-at t = and 1 further-kinds.ps (is 1 further-kinds.ps μ-further t) further.Pre
+abbrev further-at : ℕ → In 2 further-kinds.ps
+further-at t = and 2 further-kinds.ps (is 2 further-kinds.ps μ-further t) further.Pre
 
-abbrev further-below : ℕ → In 1 further-kinds.ps
-further-below t = and 1 further-kinds.ps (falls 1 further-kinds.ps _<_ μ-further t) further.Pre
+abbrev further-below : ℕ → In 2 further-kinds.ps
+further-below t = and 2 further-kinds.ps (falls 2 further-kinds.ps _<_ μ-further t) further.Pre
 
-abbrev gather-at : ℕ → In 1 gather-kinds.ps
-gather-at t = and 1 gather-kinds.ps (is 1 gather-kinds.ps μ-gather t) gather.Pre
+abbrev gather-at : ℕ → In 2 gather-kinds.ps
+gather-at t = and 2 gather-kinds.ps (is 2 gather-kinds.ps μ-gather t) gather.Pre
 
-abbrev gather-below : ℕ → In 1 gather-kinds.ps
-gather-below t = and 1 gather-kinds.ps (falls 1 gather-kinds.ps _<_ μ-gather t) gather.Pre
+abbrev gather-below : ℕ → In 2 gather-kinds.ps
+gather-below t = and 2 gather-kinds.ps (falls 2 gather-kinds.ps _<_ μ-gather t) gather.Pre
 
-abbrev negative-at : ℕ → In 1 negative-kinds.ps
-negative-at t = and 1 negative-kinds.ps (is 1 negative-kinds.ps μ-negative t) negative.Pre
+abbrev negative-at : ℕ → In 2 negative-kinds.ps
+negative-at t = and 2 negative-kinds.ps (is 2 negative-kinds.ps μ-negative t) negative.Pre
 
-abbrev negative-below : ℕ → In 1 negative-kinds.ps
+abbrev negative-below : ℕ → In 2 negative-kinds.ps
 negative-below t =
-    and 1 negative-kinds.ps (falls 1 negative-kinds.ps _<_ μ-negative t) negative.Pre
+    and 2 negative-kinds.ps (falls 2 negative-kinds.ps _<_ μ-negative t) negative.Pre
 
-abbrev part-at : ℕ → In 1 part-kinds.ps
-part-at t = and 1 part-kinds.ps (is 1 part-kinds.ps μ-part t) part.Pre
+abbrev part-at : ℕ → In 2 part-kinds.ps
+part-at t = and 2 part-kinds.ps (is 2 part-kinds.ps μ-part t) part.Pre
 
-abbrev part-below : ℕ → In 1 part-kinds.ps
-part-below t = and 1 part-kinds.ps (falls 1 part-kinds.ps _<_ μ-part t) part.Pre
+abbrev part-below : ℕ → In 2 part-kinds.ps
+part-below t = and 2 part-kinds.ps (falls 2 part-kinds.ps _<_ μ-part t) part.Pre
 
-abbrev positive-at : ℕ → In 1 positive-kinds.ps
-positive-at t = and 1 positive-kinds.ps (is 1 positive-kinds.ps μ-positive t) positive.Pre
+abbrev positive-at : ℕ → In 2 positive-kinds.ps
+positive-at t = and 2 positive-kinds.ps (is 2 positive-kinds.ps μ-positive t) positive.Pre
 
-abbrev positive-below : ℕ → In 1 positive-kinds.ps
+abbrev positive-below : ℕ → In 2 positive-kinds.ps
 positive-below t =
-    and 1 positive-kinds.ps (falls 1 positive-kinds.ps _<_ μ-positive t) positive.Pre
+    and 2 positive-kinds.ps (falls 2 positive-kinds.ps _<_ μ-positive t) positive.Pre
 
-abbrev under-at : ℕ → In 1 under-kinds.ps
-under-at t = and 1 under-kinds.ps (is 1 under-kinds.ps μ-under t) under.Pre
+abbrev under-at : ℕ → In 2 under-kinds.ps
+under-at t = and 2 under-kinds.ps (is 2 under-kinds.ps μ-under t) under.Pre
 
-abbrev under-below : ℕ → In 1 under-kinds.ps
-under-below t = and 1 under-kinds.ps (falls 1 under-kinds.ps _<_ μ-under t) under.Pre
-
-arrow-numbered-requires : (t : ℕ) → arrow-lts.Need-numbered-requires (
-  numbered-reads.Asked,
-  numbered-reads.Learnt,
-  part-below t,
-  part.Post,
-  join-kind-reads.Asked,
-  join-kind-reads.Learnt,
-  join-row-reads.Asked,
-  join-row-reads.Learnt,
-  push-reads.Asked,
-  push-reads.Learnt,
-) (arrow-at t) arrow.Post
-arrow-numbered-requires t c κs = omega (arith, ready-nodes (c .before .pre .1 .0))
+abbrev under-below : ℕ → In 2 under-kinds.ps
+under-below t = and 2 under-kinds.ps (falls 2 under-kinds.ps _<_ μ-under t) under.Pre
 
 arrow-add-part : (t : ℕ) → arrow-lts.Need-add-part (
-  numbered-reads.Asked,
-  numbered-reads.Learnt,
   part-below t,
   part.Post,
   join-kind-reads.Asked,
   join-kind-reads.Learnt,
   join-row-reads.Asked,
   join-row-reads.Learnt,
-  push-reads.Asked,
-  push-reads.Learnt,
+  put-row-reads.Asked,
+  put-row-reads.Learnt,
 ) (arrow-at t) arrow.Post
-arrow-add-part t c = omega (arith, ready-in (imp-ready-1 (c .before .before .args .s .now) (c .before .before .args .at) (c .before .before .args .sig) (c .before .before .args .sc) (c .before .before .args .t) (c .before .before .pre .1 .0) (imp-view (c .before .before .pre .1 .0) (c .before .before .pre .1 .1)) (c .numbered .result) (c .numbered .ensures)), c .before .before .good .0 .0)
-
-arrow-part-requires : (t : ℕ) → arrow-lts.Need-part-requires (
-  numbered-reads.Asked,
-  numbered-reads.Learnt,
-  part-below t,
-  part.Post,
-  join-kind-reads.Asked,
-  join-kind-reads.Learnt,
-  join-row-reads.Asked,
-  join-row-reads.Learnt,
-  push-reads.Asked,
-  push-reads.Learnt,
-) (arrow-at t) arrow.Post
-arrow-part-requires t c κs = (omega (arith, c .before .before .pre .0, ready-in (imp-ready-1 (c .before .before .args .s .now) (c .before .before .args .at) (c .before .before .args .sig) (c .before .before .args .sc) (c .before .before .args .t) (c .before .before .pre .1 .0) (imp-view (c .before .before .pre .1 .0) (c .before .before .pre .1 .1)) (c .numbered .result) (c .numbered .ensures))), (imp-ready-1 (c .before .before .args .s .now) (c .before .before .args .at) (c .before .before .args .sig) (c .before .before .args .sc) (c .before .before .args .t) (c .before .before .pre .1 .0) (imp-view (c .before .before .pre .1 .0) (c .before .before .pre .1 .1)) (c .numbered .result) (c .numbered .ensures)))
+arrow-add-part t c = let w = c .before .before .pre .1 .1 .0 in let v = imp-view w (c .before .before .pre .1 .1 .1) in omega (arith, ready-in (imp-ready-1 w v), c .before .before .good .0 .0)
 
 arrow-add-part-2 : (t : ℕ) → arrow-lts.Need-add-part-2 (
-  numbered-reads.Asked,
-  numbered-reads.Learnt,
   part-below t,
   part.Post,
   join-kind-reads.Asked,
   join-kind-reads.Learnt,
   join-row-reads.Asked,
   join-row-reads.Learnt,
-  push-reads.Asked,
-  push-reads.Learnt,
+  put-row-reads.Asked,
+  put-row-reads.Learnt,
 ) (arrow-at t) arrow.Post
-arrow-add-part-2 t c = omega (arith, ready-in (imp-ready-2 (c .before .before .before .before .args .s .now) (c .before .before .before .before .args .at) (c .before .before .before .before .args .sig) (c .before .before .before .before .args .sc) (c .before .before .before .before .args .t) (c .before .before .before .before .pre .1 .0) (imp-view (c .before .before .before .before .pre .1 .0) (c .before .before .before .before .pre .1 .1)) (c .before .before .numbered .result) (c .before .before .numbered .ensures) (c .before .before .before .before .args .pos) (c .before .part .result) (c .before .part .ensures (imp-ready-1 (c .before .before .before .before .args .s .now) (c .before .before .before .before .args .at) (c .before .before .before .before .args .sig) (c .before .before .before .before .args .sc) (c .before .before .before .before .args .t) (c .before .before .before .before .pre .1 .0) (imp-view (c .before .before .before .before .pre .1 .0) (c .before .before .before .before .pre .1 .1)) (c .before .before .numbered .result) (c .before .before .numbered .ensures)))), c .before .before .before .before .good .0 .0)
+arrow-add-part-2 t c = omega (arith, ready-nodes (c .before .before .before .pre .1 .1 .0))
+
+arrow-part-requires : (t : ℕ) → arrow-lts.Need-part-requires (
+  part-below t,
+  part.Post,
+  join-kind-reads.Asked,
+  join-kind-reads.Learnt,
+  join-row-reads.Asked,
+  join-row-reads.Learnt,
+  put-row-reads.Asked,
+  put-row-reads.Learnt,
+) (arrow-at t) arrow.Post
+arrow-part-requires t c κs = let w = c .before .before .before .pre .1 .1 .0 in let v = imp-view w (c .before .before .before .pre .1 .1 .1) in (omega (arith, c .before .before .before .pre .0, ready-in (imp-ready-1 w v)), (c .before .before .before .pre .1 .0, imp-ready-1 w v))
+
+arrow-add-part-3 : (t : ℕ) → arrow-lts.Need-add-part-3 (
+  part-below t,
+  part.Post,
+  join-kind-reads.Asked,
+  join-kind-reads.Learnt,
+  join-row-reads.Asked,
+  join-row-reads.Learnt,
+  put-row-reads.Asked,
+  put-row-reads.Learnt,
+) (arrow-at t) arrow.Post
+arrow-add-part-3 t c = let w = c .before .before .before .before .before .before .before .pre .1 .1 .0 in let v = imp-view w (c .before .before .before .before .before .before .before .pre .1 .1 .1) in let X = c .before .before .before .part .ensures (imp-ready-1 w v) in omega (arith, ready-in (imp-ready-2 w v (c .before .before .before .before .before .before .before .args .pos) _ _ X), c .before .before .before .before .before .before .before .good .0 .0)
 
 arrow-part-requires-2 : (t : ℕ) → arrow-lts.Need-part-requires-2 (
-  numbered-reads.Asked,
-  numbered-reads.Learnt,
   part-below t,
   part.Post,
   join-kind-reads.Asked,
   join-kind-reads.Learnt,
   join-row-reads.Asked,
   join-row-reads.Learnt,
-  push-reads.Asked,
-  push-reads.Learnt,
+  put-row-reads.Asked,
+  put-row-reads.Learnt,
 ) (arrow-at t) arrow.Post
-arrow-part-requires-2 t c κs = (omega (arith, c .before .before .before .before .pre .0, ready-in (imp-ready-2 (c .before .before .before .before .args .s .now) (c .before .before .before .before .args .at) (c .before .before .before .before .args .sig) (c .before .before .before .before .args .sc) (c .before .before .before .before .args .t) (c .before .before .before .before .pre .1 .0) (imp-view (c .before .before .before .before .pre .1 .0) (c .before .before .before .before .pre .1 .1)) (c .before .before .numbered .result) (c .before .before .numbered .ensures) (c .before .before .before .before .args .pos) (c .before .part .result) (c .before .part .ensures (imp-ready-1 (c .before .before .before .before .args .s .now) (c .before .before .before .before .args .at) (c .before .before .before .before .args .sig) (c .before .before .before .before .args .sc) (c .before .before .before .before .args .t) (c .before .before .before .before .pre .1 .0) (imp-view (c .before .before .before .before .pre .1 .0) (c .before .before .before .before .pre .1 .1)) (c .before .before .numbered .result) (c .before .before .numbered .ensures)))), c .before .part .ensures (imp-ready-1 (c .before .before .before .before .args .s .now) (c .before .before .before .before .args .at) (c .before .before .before .before .args .sig) (c .before .before .before .before .args .sc) (c .before .before .before .before .args .t) (c .before .before .before .before .pre .1 .0) (imp-view (c .before .before .before .before .pre .1 .0) (c .before .before .before .before .pre .1 .1)) (c .before .before .numbered .result) (c .before .before .numbered .ensures)) .place), (imp-ready-2 (c .before .before .before .before .args .s .now) (c .before .before .before .before .args .at) (c .before .before .before .before .args .sig) (c .before .before .before .before .args .sc) (c .before .before .before .before .args .t) (c .before .before .before .before .pre .1 .0) (imp-view (c .before .before .before .before .pre .1 .0) (c .before .before .before .before .pre .1 .1)) (c .before .before .numbered .result) (c .before .before .numbered .ensures) (c .before .before .before .before .args .pos) (c .before .part .result) (c .before .part .ensures (imp-ready-1 (c .before .before .before .before .args .s .now) (c .before .before .before .before .args .at) (c .before .before .before .before .args .sig) (c .before .before .before .before .args .sc) (c .before .before .before .before .args .t) (c .before .before .before .before .pre .1 .0) (imp-view (c .before .before .before .before .pre .1 .0) (c .before .before .before .before .pre .1 .1)) (c .before .before .numbered .result) (c .before .before .numbered .ensures)))))
+arrow-part-requires-2 t c κs = let w = c .before .before .before .before .before .before .before .before .pre .1 .1 .0 in let v = imp-view w (c .before .before .before .before .before .before .before .before .pre .1 .1 .1) in let X = c .before .before .before .before .part .ensures (imp-ready-1 w v) in (omega (arith, c .before .before .before .before .before .before .before .before .pre .0, ready-in (imp-ready-2 w v (c .before .before .before .before .before .before .before .before .args .pos) _ _ X), X .place), (c .before .before .before .before .part .kept .1 .1 .1 .1 .1 .0 ∙ c .before .before .before .before .before .before .before .before .pre .1 .0, imp-ready-2 w v (c .before .before .before .before .before .before .before .before .args .pos) _ _ X))
 
 arrow-join-kind-requires : (t : ℕ) → arrow-lts.Need-join-kind-requires (
-  numbered-reads.Asked,
-  numbered-reads.Learnt,
   part-below t,
   part.Post,
   join-kind-reads.Asked,
   join-kind-reads.Learnt,
   join-row-reads.Asked,
   join-row-reads.Learnt,
-  push-reads.Asked,
-  push-reads.Learnt,
+  put-row-reads.Asked,
+  put-row-reads.Learnt,
 ) (arrow-at t) arrow.Post
 arrow-join-kind-requires t c κs = search needs
 
 arrow-join-row-requires : (t : ℕ) → arrow-lts.Need-join-row-requires (
-  numbered-reads.Asked,
-  numbered-reads.Learnt,
   part-below t,
   part.Post,
   join-kind-reads.Asked,
   join-kind-reads.Learnt,
   join-row-reads.Asked,
   join-row-reads.Learnt,
-  push-reads.Asked,
-  push-reads.Learnt,
+  put-row-reads.Asked,
+  put-row-reads.Learnt,
 ) (arrow-at t) arrow.Post
-arrow-join-row-requires t c κs = (omega (arith, ready-nodes (c .before .before .before .before .before .before .before .pre .1 .0)), omega arith)
+arrow-join-row-requires t c κs = (omega (arith, ready-nodes (c .before .before .before .before .before .before .before .before .before .before .before .before .pre .1 .1 .0)), omega arith)
 
-arrow-push-requires : (t : ℕ) → arrow-lts.Need-push-requires (
-  numbered-reads.Asked,
-  numbered-reads.Learnt,
+arrow-put-row-requires : (t : ℕ) → arrow-lts.Need-put-row-requires (
   part-below t,
   part.Post,
   join-kind-reads.Asked,
   join-kind-reads.Learnt,
   join-row-reads.Asked,
   join-row-reads.Learnt,
-  push-reads.Asked,
-  push-reads.Learnt,
+  put-row-reads.Asked,
+  put-row-reads.Learnt,
 ) (arrow-at t) arrow.Post
-arrow-push-requires t c κs = imp-space (c .before .before .before .before .before .before .before .before .args .s .now) (c .before .before .before .before .before .before .before .before .args .at) (c .before .before .before .before .before .before .before .before .args .sig) (c .before .before .before .before .before .before .before .before .args .sc) (c .before .before .before .before .before .before .before .before .args .t) (c .before .before .before .before .before .before .before .before .pre .1 .0) (imp-view (c .before .before .before .before .before .before .before .before .pre .1 .0) (c .before .before .before .before .before .before .before .before .pre .1 .1)) (c .before .before .before .before .before .before .numbered .result) (c .before .before .before .before .before .before .numbered .ensures) (c .before .before .before .before .before .before .before .before .args .pos) (c .before .before .before .before .before .part .result) (c .before .before .before .before .before .part .ensures (imp-ready-1 (c .before .before .before .before .before .before .before .before .args .s .now) (c .before .before .before .before .before .before .before .before .args .at) (c .before .before .before .before .before .before .before .before .args .sig) (c .before .before .before .before .before .before .before .before .args .sc) (c .before .before .before .before .before .before .before .before .args .t) (c .before .before .before .before .before .before .before .before .pre .1 .0) (imp-view (c .before .before .before .before .before .before .before .before .pre .1 .0) (c .before .before .before .before .before .before .before .before .pre .1 .1)) (c .before .before .before .before .before .before .numbered .result) (c .before .before .before .before .before .before .numbered .ensures))) (c .before .before .before .part2 .result) (c .before .before .before .part2 .ensures (imp-ready-2 (c .before .before .before .before .before .before .before .before .args .s .now) (c .before .before .before .before .before .before .before .before .args .at) (c .before .before .before .before .before .before .before .before .args .sig) (c .before .before .before .before .before .before .before .before .args .sc) (c .before .before .before .before .before .before .before .before .args .t) (c .before .before .before .before .before .before .before .before .pre .1 .0) (imp-view (c .before .before .before .before .before .before .before .before .pre .1 .0) (c .before .before .before .before .before .before .before .before .pre .1 .1)) (c .before .before .before .before .before .before .numbered .result) (c .before .before .before .before .before .before .numbered .ensures) (c .before .before .before .before .before .before .before .before .args .pos) (c .before .before .before .before .before .part .result) (c .before .before .before .before .before .part .ensures (imp-ready-1 (c .before .before .before .before .before .before .before .before .args .s .now) (c .before .before .before .before .before .before .before .before .args .at) (c .before .before .before .before .before .before .before .before .args .sig) (c .before .before .before .before .before .before .before .before .args .sc) (c .before .before .before .before .before .before .before .before .args .t) (c .before .before .before .before .before .before .before .before .pre .1 .0) (imp-view (c .before .before .before .before .before .before .before .before .pre .1 .0) (c .before .before .before .before .before .before .before .before .pre .1 .1)) (c .before .before .before .before .before .before .numbered .result) (c .before .before .before .before .before .before .numbered .ensures)))))
+arrow-put-row-requires t c κs = let w = c .before .before .before .before .before .before .before .before .before .before .before .before .before .before .pre .1 .1 .0 in let v = imp-view w (c .before .before .before .before .before .before .before .before .before .before .before .before .before .before .pre .1 .1 .1) in let X = c .before .before .before .before .before .before .before .before .before .before .part .ensures (imp-ready-1 w v) in let Y = c .before .before .before .before .before .part2 .ensures (imp-ready-2 w v (c .before .before .before .before .before .before .before .before .before .before .before .before .before .before .args .pos) _ _ X) in (c .before .before .before .before .before .part2 .kept .1 .1 .1 .1 .1 .0 ∙ c .before .before .before .before .before .before .before .before .before .before .part .kept .1 .1 .1 .1 .1 .0 ∙ c .before .before .before .before .before .before .before .before .before .before .before .before .before .before .pre .1 .0, imp-space w v (c .before .before .before .before .before .before .before .before .before .before .before .before .before .before .args .pos) _ _ X _ _ Y)
 
-arrow-add-t18 : (t : ℕ) → arrow-lts.Need-add-t18 (
-  numbered-reads.Asked,
-  numbered-reads.Learnt,
+arrow-add-t17 : (t : ℕ) → arrow-lts.Need-add-t17 (
   part-below t,
   part.Post,
   join-kind-reads.Asked,
   join-kind-reads.Learnt,
   join-row-reads.Asked,
   join-row-reads.Learnt,
-  push-reads.Asked,
-  push-reads.Learnt,
+  put-row-reads.Asked,
+  put-row-reads.Learnt,
 ) (arrow-at t) arrow.Post
-arrow-add-t18 t c = omega (arith, imp-place (c .before .before .before .before .before .before .before .before .before .args .s .now) (c .before .before .before .before .before .before .before .before .before .args .at) (c .before .before .before .before .before .before .before .before .before .args .sig) (c .before .before .before .before .before .before .before .before .before .args .sc) (c .before .before .before .before .before .before .before .before .before .args .t) (c .before .before .before .before .before .before .before .before .before .pre .1 .0) (imp-view (c .before .before .before .before .before .before .before .before .before .pre .1 .0) (c .before .before .before .before .before .before .before .before .before .pre .1 .1)) (c .before .before .before .before .before .before .before .numbered .result) (c .before .before .before .before .before .before .before .numbered .ensures) (c .before .before .before .before .before .before .before .before .before .args .pos) (c .before .before .before .before .before .before .part .result) (c .before .before .before .before .before .before .part .ensures (imp-ready-1 (c .before .before .before .before .before .before .before .before .before .args .s .now) (c .before .before .before .before .before .before .before .before .before .args .at) (c .before .before .before .before .before .before .before .before .before .args .sig) (c .before .before .before .before .before .before .before .before .before .args .sc) (c .before .before .before .before .before .before .before .before .before .args .t) (c .before .before .before .before .before .before .before .before .before .pre .1 .0) (imp-view (c .before .before .before .before .before .before .before .before .before .pre .1 .0) (c .before .before .before .before .before .before .before .before .before .pre .1 .1)) (c .before .before .before .before .before .before .before .numbered .result) (c .before .before .before .before .before .before .before .numbered .ensures))) (c .before .before .before .before .part2 .result) (c .before .before .before .before .part2 .ensures (imp-ready-2 (c .before .before .before .before .before .before .before .before .before .args .s .now) (c .before .before .before .before .before .before .before .before .before .args .at) (c .before .before .before .before .before .before .before .before .before .args .sig) (c .before .before .before .before .before .before .before .before .before .args .sc) (c .before .before .before .before .before .before .before .before .before .args .t) (c .before .before .before .before .before .before .before .before .before .pre .1 .0) (imp-view (c .before .before .before .before .before .before .before .before .before .pre .1 .0) (c .before .before .before .before .before .before .before .before .before .pre .1 .1)) (c .before .before .before .before .before .before .before .numbered .result) (c .before .before .before .before .before .before .before .numbered .ensures) (c .before .before .before .before .before .before .before .before .before .args .pos) (c .before .before .before .before .before .before .part .result) (c .before .before .before .before .before .before .part .ensures (imp-ready-1 (c .before .before .before .before .before .before .before .before .before .args .s .now) (c .before .before .before .before .before .before .before .before .before .args .at) (c .before .before .before .before .before .before .before .before .before .args .sig) (c .before .before .before .before .before .before .before .before .before .args .sc) (c .before .before .before .before .before .before .before .before .before .args .t) (c .before .before .before .before .before .before .before .before .before .pre .1 .0) (imp-view (c .before .before .before .before .before .before .before .before .before .pre .1 .0) (c .before .before .before .before .before .before .before .before .before .pre .1 .1)) (c .before .before .before .before .before .before .before .numbered .result) (c .before .before .before .before .before .before .before .numbered .ensures))))), ready-end (c .before .before .before .before .before .before .before .before .before .pre .1 .0), c .before .before .before .before .before .before .before .before .before .good .0 .0)
+arrow-add-t17 t c = let w = c .before .before .before .before .before .before .before .before .before .before .before .before .before .before .before .before .before .before .pre .1 .1 .0 in let v = imp-view w (c .before .before .before .before .before .before .before .before .before .before .before .before .before .before .before .before .before .before .pre .1 .1 .1) in let X = c .before .before .before .before .before .before .before .before .before .before .before .before .before .before .part .ensures (imp-ready-1 w v) in let Y = c .before .before .before .before .before .before .before .before .before .part2 .ensures (imp-ready-2 w v (c .before .before .before .before .before .before .before .before .before .before .before .before .before .before .before .before .before .before .args .pos) _ _ X) in omega (arith, imp-space w v (c .before .before .before .before .before .before .before .before .before .before .before .before .before .before .before .before .before .before .args .pos) _ _ X _ _ Y)
+
+arrow-add-t13 : (t : ℕ) → arrow-lts.Need-add-t13 (
+  part-below t,
+  part.Post,
+  join-kind-reads.Asked,
+  join-kind-reads.Learnt,
+  join-row-reads.Asked,
+  join-row-reads.Learnt,
+  put-row-reads.Asked,
+  put-row-reads.Learnt,
+) (arrow-at t) arrow.Post
+arrow-add-t13 t c = let w = c .before .before .before .before .before .before .before .before .before .before .before .before .before .before .before .before .before .before .before .pre .1 .1 .0 in let v = imp-view w (c .before .before .before .before .before .before .before .before .before .before .before .before .before .before .before .before .before .before .before .pre .1 .1 .1) in let X = c .before .before .before .before .before .before .before .before .before .before .before .before .before .before .before .part .ensures (imp-ready-1 w v) in let Y = c .before .before .before .before .before .before .before .before .before .before .part2 .ensures (imp-ready-2 w v (c .before .before .before .before .before .before .before .before .before .before .before .before .before .before .before .before .before .before .before .args .pos) _ _ X) in omega (arith, imp-place w v (c .before .before .before .before .before .before .before .before .before .before .before .before .before .before .before .before .before .before .before .args .pos) _ _ X _ _ Y, ready-end w, c .before .before .before .before .before .before .before .before .before .before .before .before .before .before .before .before .before .before .before .good .0 .0)
+
+arrow-same-length : (t : ℕ) → arrow-lts.Need-same-length (
+  part-below t,
+  part.Post,
+  join-kind-reads.Asked,
+  join-kind-reads.Learnt,
+  join-row-reads.Asked,
+  join-row-reads.Learnt,
+  put-row-reads.Asked,
+  put-row-reads.Learnt,
+) (arrow-at t) arrow.Post
+arrow-same-length t c = c .before .before .before .before .put-row .kept .0 ∙ c .before .before .before .before .before .before .before .before .before .before .part2 .kept .1 .1 .1 .1 .1 .0 ∙ c .before .before .before .before .before .before .before .before .before .before .before .before .before .before .before .part .kept .1 .1 .1 .1 .1 .0
 
 arrow-returns : (t : ℕ) → arrow-lts.Need-returns (
-  numbered-reads.Asked,
-  numbered-reads.Learnt,
   part-below t,
   part.Post,
   join-kind-reads.Asked,
   join-kind-reads.Learnt,
   join-row-reads.Asked,
   join-row-reads.Learnt,
-  push-reads.Asked,
-  push-reads.Learnt,
+  put-row-reads.Asked,
+  put-row-reads.Learnt,
 ) (arrow-at t) arrow.Post
-arrow-returns t c = λ w. imp-done (c .before .before .before .before .before .before .before .before .before .args .s .now) (c .before .before .before .before .before .before .before .before .before .args .at) (c .before .before .before .before .before .before .before .before .before .args .sig) (c .before .before .before .before .before .before .before .before .before .args .sc) (c .before .before .before .before .before .before .before .before .before .args .t) w (imp-view w (c .before .before .before .before .before .before .before .before .before .pre .1 .1)) (c .before .before .before .before .before .before .before .numbered .result) (c .before .before .before .before .before .before .before .numbered .ensures) (c .before .before .before .before .before .before .before .before .before .args .pos) (c .before .before .before .before .before .before .part .result) (c .before .before .before .before .before .before .part .ensures (imp-ready-1 (c .before .before .before .before .before .before .before .before .before .args .s .now) (c .before .before .before .before .before .before .before .before .before .args .at) (c .before .before .before .before .before .before .before .before .before .args .sig) (c .before .before .before .before .before .before .before .before .before .args .sc) (c .before .before .before .before .before .before .before .before .before .args .t) w (imp-view w (c .before .before .before .before .before .before .before .before .before .pre .1 .1)) (c .before .before .before .before .before .before .before .numbered .result) (c .before .before .before .before .before .before .before .numbered .ensures))) (c .before .before .before .before .part2 .result) (c .before .before .before .before .part2 .ensures (imp-ready-2 (c .before .before .before .before .before .before .before .before .before .args .s .now) (c .before .before .before .before .before .before .before .before .before .args .at) (c .before .before .before .before .before .before .before .before .before .args .sig) (c .before .before .before .before .before .before .before .before .before .args .sc) (c .before .before .before .before .before .before .before .before .before .args .t) w (imp-view w (c .before .before .before .before .before .before .before .before .before .pre .1 .1)) (c .before .before .before .before .before .before .before .numbered .result) (c .before .before .before .before .before .before .before .numbered .ensures) (c .before .before .before .before .before .before .before .before .before .args .pos) (c .before .before .before .before .before .before .part .result) (c .before .before .before .before .before .before .part .ensures (imp-ready-1 (c .before .before .before .before .before .before .before .before .before .args .s .now) (c .before .before .before .before .before .before .before .before .before .args .at) (c .before .before .before .before .before .before .before .before .before .args .sig) (c .before .before .before .before .before .before .before .before .before .args .sc) (c .before .before .before .before .before .before .before .before .before .args .t) w (imp-view w (c .before .before .before .before .before .before .before .before .before .pre .1 .1)) (c .before .before .before .before .before .before .before .numbered .result) (c .before .before .before .before .before .before .before .numbered .ensures))))) (c .push .result) (c .before .join-row .result) (c .before .join-row .ensures ∙ ap (λ n. joinRow n (c .before .before .before .before .before .before .before .before .before .args .t .nodes) 2) (c .before .before .join-kind .ensures)) (c .push .ensures)
+arrow-returns t c = λ w. let v = imp-view w (c .before .before .before .before .before .before .before .before .before .before .before .before .before .before .before .before .before .before .before .pre .1 .1 .1) in let X = c .before .before .before .before .before .before .before .before .before .before .before .before .before .before .before .part .ensures (imp-ready-1 w v) in let Y = c .before .before .before .before .before .before .before .before .before .before .part2 .ensures (imp-ready-2 w v (c .before .before .before .before .before .before .before .before .before .before .before .before .before .before .before .before .before .before .before .args .pos) _ _ X) in imp-done w v (c .before .before .before .before .before .before .before .before .before .before .before .before .before .before .before .before .before .before .before .args .pos) _ _ X _ _ Y _ (c .before .before .before .before .before .before .join-row .result) (c .before .before .before .before .before .before .join-row .ensures ∙ ap (λ n. joinRow n (c .before .before .before .before .before .before .before .before .before .before .before .before .before .before .before .before .before .before .before .args .nodes) 2) (c .before .before .before .before .before .before .before .join-kind .ensures)) (c .before .before .before .before .put-row .ensures .1 (c .before .before .before .before .before .before .before .before .before .before .part2 .result .len + 1) (c .before .before .before .before .before .before .before .before .before .before .part2 .result .nodes))
 
 further-shared-slice-read-if1 : (t : ℕ) → further-lts.Need-shared-slice-read-if1 (
   part-below t,
@@ -261,7 +264,7 @@ further-shared-slice-read-if1 : (t : ℕ) → further-lts.Need-shared-slice-read
   further-below t,
   further.Post,
 ) (further-at t) further.Post
-further-shared-slice-read-if1 t c = parts-in (c .before .before .args .s .now) (c .before .before .args .at) (c .before .before .args .sig) (c .before .before .args .sc) (c .before .before .args .t) (c .before .before .pre .1 .0)
+further-shared-slice-read-if1 t c = parts-in (c .before .before .before .pre .1 .1 .0)
 
 further-add-part : (t : ℕ) → further-lts.Need-add-part (
   part-below t,
@@ -269,7 +272,7 @@ further-add-part : (t : ℕ) → further-lts.Need-add-part (
   further-below t,
   further.Post,
 ) (further-at t) further.Post
-further-add-part t c = omega (arith, parts-in (c .before .before .before .args .s .now) (c .before .before .before .args .at) (c .before .before .before .args .sig) (c .before .before .before .args .sc) (c .before .before .before .args .t) (c .before .before .before .pre .1 .0), c .before .before .before .good .0 .0)
+further-add-part t c = omega (arith, parts-in (c .before .before .before .before .pre .1 .1 .0), c .before .before .before .before .good .0 .0)
 
 further-part-requires : (t : ℕ) → further-lts.Need-part-requires (
   part-below t,
@@ -277,7 +280,7 @@ further-part-requires : (t : ℕ) → further-lts.Need-part-requires (
   further-below t,
   further.Post,
 ) (further-at t) further.Post
-further-part-requires t c κs = (omega (arith, c .before .before .before .pre .0, ready-in (part-ready (c .before .before .before .args .s .now) (c .before .before .before .args .at) (c .before .before .before .args .sig) (c .before .before .before .args .sc) (c .before .before .before .args .t) (c .before .before .before .pre .1 .0) (parts-some (c .before .before .before .args .s .now) (c .before .before .before .args .at) (c .before .before .before .args .sig) (c .before .before .before .args .sc) (c .before .before .before .args .t) (c .before .before .before .pre .1 .0) (c .if1 .taken)))), (part-ready (c .before .before .before .args .s .now) (c .before .before .before .args .at) (c .before .before .before .args .sig) (c .before .before .before .args .sc) (c .before .before .before .args .t) (c .before .before .before .pre .1 .0) (parts-some (c .before .before .before .args .s .now) (c .before .before .before .args .at) (c .before .before .before .args .sig) (c .before .before .before .args .sc) (c .before .before .before .args .t) (c .before .before .before .pre .1 .0) (c .if1 .taken))))
+further-part-requires t c κs = let w = c .before .before .before .before .before .pre .1 .1 .0 in let v = parts-some w (c .before .if1 .taken) in (omega (arith, c .before .before .before .before .before .pre .0, ready-in (part-ready w v)), (c .before .before .before .before .before .pre .1 .0, part-ready w v))
 
 further-add-further : (t : ℕ) → further-lts.Need-add-further (
   part-below t,
@@ -285,7 +288,7 @@ further-add-further : (t : ℕ) → further-lts.Need-add-further (
   further-below t,
   further.Post,
 ) (further-at t) further.Post
-further-add-further t c = omega (arith, c .before .before .before .before .before .pre .1 .1, (c .before .before .before .before .before .pre .1 .0) .fine .rows)
+further-add-further t c = omega (arith, c .before .before .before .before .before .before .before .before .pre .1 .1 .1, (c .before .before .before .before .before .before .before .before .pre .1 .1 .0) .fine .rows)
 
 further-further-requires : (t : ℕ) → further-lts.Need-further-requires (
   part-below t,
@@ -293,7 +296,15 @@ further-further-requires : (t : ℕ) → further-lts.Need-further-requires (
   further-below t,
   further.Post,
 ) (further-at t) further.Post
-further-further-requires t c κs = (omega (arith, c .before .before .before .before .before .pre .0, ready-in (part-ready (c .before .before .before .before .before .args .s .now) (c .before .before .before .before .before .args .at) (c .before .before .before .before .before .args .sig) (c .before .before .before .before .before .args .sc) (c .before .before .before .before .before .args .t) (c .before .before .before .before .before .pre .1 .0) (parts-some (c .before .before .before .before .before .args .s .now) (c .before .before .before .before .before .args .at) (c .before .before .before .before .before .args .sig) (c .before .before .before .before .before .args .sc) (c .before .before .before .before .before .args .t) (c .before .before .before .before .before .pre .1 .0) (c .before .before .if1 .taken))), c .before .part .ensures (part-ready (c .before .before .before .before .before .args .s .now) (c .before .before .before .before .before .args .at) (c .before .before .before .before .before .args .sig) (c .before .before .before .before .before .args .sc) (c .before .before .before .before .before .args .t) (c .before .before .before .before .before .pre .1 .0) (parts-some (c .before .before .before .before .before .args .s .now) (c .before .before .before .before .before .args .at) (c .before .before .before .before .before .args .sig) (c .before .before .before .before .before .args .sc) (c .before .before .before .before .before .args .t) (c .before .before .before .before .before .pre .1 .0) (c .before .before .if1 .taken))) .place), ((part-next (c .before .before .before .before .before .args .s .now) (c .before .before .before .before .before .args .at) (c .before .before .before .before .before .args .sig) (c .before .before .before .before .before .args .sc) (c .before .before .before .before .before .args .t) (c .before .before .before .before .before .pre .1 .0) (parts-some (c .before .before .before .before .before .args .s .now) (c .before .before .before .before .before .args .at) (c .before .before .before .before .before .args .sig) (c .before .before .before .before .before .args .sc) (c .before .before .before .before .before .args .t) (c .before .before .before .before .before .pre .1 .0) (c .before .before .if1 .taken)) (c .before .before .before .before .before .args .pos) (c .before .part .result) (c .before .part .ensures (part-ready (c .before .before .before .before .before .args .s .now) (c .before .before .before .before .before .args .at) (c .before .before .before .before .before .args .sig) (c .before .before .before .before .before .args .sc) (c .before .before .before .before .before .args .t) (c .before .before .before .before .before .pre .1 .0) (parts-some (c .before .before .before .before .before .args .s .now) (c .before .before .before .before .before .args .at) (c .before .before .before .before .before .args .sig) (c .before .before .before .before .before .args .sc) (c .before .before .before .before .before .args .t) (c .before .before .before .before .before .pre .1 .0) (c .before .before .if1 .taken))))), omega (arith, c .before .before .before .before .before .pre .1 .1, walked-more (c .before .before .before .before .before .args .pos) _ (c .before .part .result) (c .before .part .ensures (part-ready (c .before .before .before .before .before .args .s .now) (c .before .before .before .before .before .args .at) (c .before .before .before .before .before .args .sig) (c .before .before .before .before .before .args .sc) (c .before .before .before .before .before .args .t) (c .before .before .before .before .before .pre .1 .0) (parts-some (c .before .before .before .before .before .args .s .now) (c .before .before .before .before .before .args .at) (c .before .before .before .before .before .args .sig) (c .before .before .before .before .before .args .sc) (c .before .before .before .before .before .args .t) (c .before .before .before .before .before .pre .1 .0) (c .before .before .if1 .taken)))))))
+further-further-requires t c κs = let w = c .before .before .before .before .before .before .before .before .before .pre .1 .1 .0 in let v = parts-some w (c .before .before .before .before .before .if1 .taken) in let X = c .before .before .before .part .ensures (part-ready w v) in (omega (arith, c .before .before .before .before .before .before .before .before .before .pre .0, ready-in (part-ready w v), X .place), (c .before .before .before .part .kept .1 .1 .1 .1 .1 .0 ∙ c .before .before .before .before .before .before .before .before .before .pre .1 .0, (part-next w v (c .before .before .before .before .before .before .before .before .before .args .pos) _ _ X, omega (arith, c .before .before .before .before .before .before .before .before .before .pre .1 .1 .1, walked-more (c .before .before .before .before .before .before .before .before .before .args .pos) _ _ _ X))))
+
+further-same-length : (t : ℕ) → further-lts.Need-same-length (
+  part-below t,
+  part.Post,
+  further-below t,
+  further.Post,
+) (further-at t) further.Post
+further-same-length t c = c .before .before .further .kept .1 .1 .1 .1 .1 .1 .0 ∙ c .before .before .before .before .before .before .part .kept .1 .1 .1 .1 .1 .0
 
 further-returns : (t : ℕ) → further-lts.Need-returns (
   part-below t,
@@ -301,7 +312,7 @@ further-returns : (t : ℕ) → further-lts.Need-returns (
   further-below t,
   further.Post,
 ) (further-at t) further.Post
-further-returns t c = λ w. parts-done (c .before .before .before .before .before .before .args .s .now) (c .before .before .before .before .before .before .args .at) (c .before .before .before .before .before .before .args .sig) (c .before .before .before .before .before .before .args .sc) (c .before .before .before .before .before .before .args .t) w (parts-some (c .before .before .before .before .before .before .args .s .now) (c .before .before .before .before .before .before .args .at) (c .before .before .before .before .before .before .args .sig) (c .before .before .before .before .before .before .args .sc) (c .before .before .before .before .before .before .args .t) w (c .before .before .before .if1 .taken)) (c .before .before .before .before .before .before .args .pos) (c .before .before .part .result) (c .before .before .part .ensures (part-ready (c .before .before .before .before .before .before .args .s .now) (c .before .before .before .before .before .before .args .at) (c .before .before .before .before .before .before .args .sig) (c .before .before .before .before .before .before .args .sc) (c .before .before .before .before .before .before .args .t) w (parts-some (c .before .before .before .before .before .before .args .s .now) (c .before .before .before .before .before .before .args .at) (c .before .before .before .before .before .before .args .sig) (c .before .before .before .before .before .before .args .sc) (c .before .before .before .before .before .before .args .t) w (c .before .before .before .if1 .taken)))) (c .before .before .before .before .before .before .args .many) (c .further .result) (c .further .ensures (part-next (c .before .before .before .before .before .before .args .s .now) (c .before .before .before .before .before .before .args .at) (c .before .before .before .before .before .before .args .sig) (c .before .before .before .before .before .before .args .sc) (c .before .before .before .before .before .before .args .t) w (parts-some (c .before .before .before .before .before .before .args .s .now) (c .before .before .before .before .before .before .args .at) (c .before .before .before .before .before .before .args .sig) (c .before .before .before .before .before .before .args .sc) (c .before .before .before .before .before .before .args .t) w (c .before .before .before .if1 .taken)) (c .before .before .before .before .before .before .args .pos) (c .before .before .part .result) (c .before .before .part .ensures (part-ready (c .before .before .before .before .before .before .args .s .now) (c .before .before .before .before .before .before .args .at) (c .before .before .before .before .before .before .args .sig) (c .before .before .before .before .before .before .args .sc) (c .before .before .before .before .before .before .args .t) w (parts-some (c .before .before .before .before .before .before .args .s .now) (c .before .before .before .before .before .before .args .at) (c .before .before .before .before .before .before .args .sig) (c .before .before .before .before .before .before .args .sc) (c .before .before .before .before .before .before .args .t) w (c .before .before .before .if1 .taken))))))
+further-returns t c = λ w. let v = parts-some w (c .before .before .before .before .before .before .before .before .if1 .taken) in let X = c .before .before .before .before .before .before .part .ensures (part-ready w v) in parts-done w v (c .before .before .before .before .before .before .before .before .before .before .before .before .args .pos) _ _ X (c .before .before .before .before .before .before .before .before .before .before .before .before .args .many) _ _ _ (c .before .before .further .ensures (part-next w v (c .before .before .before .before .before .before .before .before .before .before .before .before .args .pos) _ _ X))
 
 further-returns-2 : (t : ℕ) → further-lts.Need-returns-2 (
   part-below t,
@@ -309,29 +320,9 @@ further-returns-2 : (t : ℕ) → further-lts.Need-returns-2 (
   further-below t,
   further.Post,
 ) (further-at t) further.Post
-further-returns-2 t c = λ w. parts-end (c .before .before .before .args .s .now) (c .before .before .before .args .at) (c .before .before .before .args .sig) (c .before .before .before .args .sc) (c .before .before .before .args .t) w (c .before .before .before .args .pos) (c .before .before .before .args .many) (c .if1 .left)
-
-gather-numbered-requires : (t : ℕ) → gather-lts.Need-numbered-requires (
-  numbered-reads.Asked,
-  numbered-reads.Learnt,
-  join-word-reads.Asked,
-  join-word-reads.Learnt,
-  part-below t,
-  part.Post,
-  further-below t,
-  further.Post,
-  join-kind-reads.Asked,
-  join-kind-reads.Learnt,
-  join-row-reads.Asked,
-  join-row-reads.Learnt,
-  push-reads.Asked,
-  push-reads.Learnt,
-) (gather-at t) gather.Post
-gather-numbered-requires t c κs = omega (arith, ready-nodes (c .before .pre .1 .0))
+further-returns-2 t c = λ w. parts-end w (c .before .before .before .before .args .pos) (c .before .before .before .before .args .many) (c .if1 .left)
 
 gather-join-word-requires : (t : ℕ) → gather-lts.Need-join-word-requires (
-  numbered-reads.Asked,
-  numbered-reads.Learnt,
   join-word-reads.Asked,
   join-word-reads.Learnt,
   part-below t,
@@ -342,14 +333,12 @@ gather-join-word-requires : (t : ℕ) → gather-lts.Need-join-word-requires (
   join-kind-reads.Learnt,
   join-row-reads.Asked,
   join-row-reads.Learnt,
-  push-reads.Asked,
-  push-reads.Learnt,
+  put-row-reads.Asked,
+  put-row-reads.Learnt,
 ) (gather-at t) gather.Post
 gather-join-word-requires t c κs = search needs
 
 gather-add-part : (t : ℕ) → gather-lts.Need-add-part (
-  numbered-reads.Asked,
-  numbered-reads.Learnt,
   join-word-reads.Asked,
   join-word-reads.Learnt,
   part-below t,
@@ -360,14 +349,28 @@ gather-add-part : (t : ℕ) → gather-lts.Need-add-part (
   join-kind-reads.Learnt,
   join-row-reads.Asked,
   join-row-reads.Learnt,
-  push-reads.Asked,
-  push-reads.Learnt,
+  put-row-reads.Asked,
+  put-row-reads.Learnt,
 ) (gather-at t) gather.Post
-gather-add-part t c = omega (arith, ready-in (join-ready (c .before .before .before .args .s .now) (c .before .before .before .args .at) (c .before .before .before .args .sig) (c .before .before .before .args .sc) (c .before .before .before .args .t) (asJoin (c .before .before .before .args .conj)) (c .before .before .before .pre .1 .0) (join-view (c .before .before .before .args .conj) (c .before .before .before .pre .1 .0) (c .before .before .before .pre .1 .1)) (c .before .numbered .result) (c .before .numbered .ensures) (c .before .before .before .args .at + c .join-word .result) (ap (λ n. c .before .before .before .args .at + n) (c .join-word .ensures))), c .before .before .before .good .0 .0)
+gather-add-part t c = let w = c .before .before .before .pre .1 .1 .0 in let v = join-view (c .before .before .before .args .conj) w (c .before .before .before .pre .1 .1 .1) in let e = ap (λ n. c .before .before .before .args .at + n) (c .join-word .ensures) in omega (arith, ready-in (join-ready (asJoin (c .before .before .before .args .conj)) w v _ e), c .before .before .before .good .0 .0)
+
+gather-add-part-2 : (t : ℕ) → gather-lts.Need-add-part-2 (
+  join-word-reads.Asked,
+  join-word-reads.Learnt,
+  part-below t,
+  part.Post,
+  further-below t,
+  further.Post,
+  join-kind-reads.Asked,
+  join-kind-reads.Learnt,
+  join-row-reads.Asked,
+  join-row-reads.Learnt,
+  put-row-reads.Asked,
+  put-row-reads.Learnt,
+) (gather-at t) gather.Post
+gather-add-part-2 t c = omega (arith, ready-nodes (c .before .before .before .before .pre .1 .1 .0))
 
 gather-part-requires : (t : ℕ) → gather-lts.Need-part-requires (
-  numbered-reads.Asked,
-  numbered-reads.Learnt,
   join-word-reads.Asked,
   join-word-reads.Learnt,
   part-below t,
@@ -378,14 +381,12 @@ gather-part-requires : (t : ℕ) → gather-lts.Need-part-requires (
   join-kind-reads.Learnt,
   join-row-reads.Asked,
   join-row-reads.Learnt,
-  push-reads.Asked,
-  push-reads.Learnt,
+  put-row-reads.Asked,
+  put-row-reads.Learnt,
 ) (gather-at t) gather.Post
-gather-part-requires t c κs = (omega (arith, c .before .before .before .pre .0, ready-in (join-ready (c .before .before .before .args .s .now) (c .before .before .before .args .at) (c .before .before .before .args .sig) (c .before .before .before .args .sc) (c .before .before .before .args .t) (asJoin (c .before .before .before .args .conj)) (c .before .before .before .pre .1 .0) (join-view (c .before .before .before .args .conj) (c .before .before .before .pre .1 .0) (c .before .before .before .pre .1 .1)) (c .before .numbered .result) (c .before .numbered .ensures) (c .before .before .before .args .at + c .join-word .result) (ap (λ n. c .before .before .before .args .at + n) (c .join-word .ensures))), join-some (c .before .before .before .args .conj), c .join-word .ensures), (join-ready (c .before .before .before .args .s .now) (c .before .before .before .args .at) (c .before .before .before .args .sig) (c .before .before .before .args .sc) (c .before .before .before .args .t) (asJoin (c .before .before .before .args .conj)) (c .before .before .before .pre .1 .0) (join-view (c .before .before .before .args .conj) (c .before .before .before .pre .1 .0) (c .before .before .before .pre .1 .1)) (c .before .numbered .result) (c .before .numbered .ensures) (c .before .before .before .args .at + c .join-word .result) (ap (λ n. c .before .before .before .args .at + n) (c .join-word .ensures))))
+gather-part-requires t c κs = let w = c .before .before .before .before .pre .1 .1 .0 in let v = join-view (c .before .before .before .before .args .conj) w (c .before .before .before .before .pre .1 .1 .1) in let e = ap (λ n. c .before .before .before .before .args .at + n) (c .before .join-word .ensures) in (omega (arith, c .before .before .before .before .pre .0, ready-in (join-ready (asJoin (c .before .before .before .before .args .conj)) w v _ e), join-some (c .before .before .before .before .args .conj), c .before .join-word .ensures), (c .before .before .before .before .pre .1 .0, join-ready (asJoin (c .before .before .before .before .args .conj)) w v _ e))
 
 gather-further-requires : (t : ℕ) → gather-lts.Need-further-requires (
-  numbered-reads.Asked,
-  numbered-reads.Learnt,
   join-word-reads.Asked,
   join-word-reads.Learnt,
   part-below t,
@@ -396,14 +397,12 @@ gather-further-requires : (t : ℕ) → gather-lts.Need-further-requires (
   join-kind-reads.Learnt,
   join-row-reads.Asked,
   join-row-reads.Learnt,
-  push-reads.Asked,
-  push-reads.Learnt,
+  put-row-reads.Asked,
+  put-row-reads.Learnt,
 ) (gather-at t) gather.Post
-gather-further-requires t c κs = (omega (arith, c .before .before .before .before .before .pre .0, ready-in (c .before .before .before .before .before .pre .1 .0), c .before .part .ensures (join-ready (c .before .before .before .before .before .args .s .now) (c .before .before .before .before .before .args .at) (c .before .before .before .before .before .args .sig) (c .before .before .before .before .before .args .sc) (c .before .before .before .before .before .args .t) (asJoin (c .before .before .before .before .before .args .conj)) (c .before .before .before .before .before .pre .1 .0) (join-view (c .before .before .before .before .before .args .conj) (c .before .before .before .before .before .pre .1 .0) (c .before .before .before .before .before .pre .1 .1)) (c .before .before .before .numbered .result) (c .before .before .before .numbered .ensures) (c .before .before .before .before .before .args .at + c .before .before .join-word .result) (ap (λ n. c .before .before .before .before .before .args .at + n) (c .before .before .join-word .ensures))) .place, join-some (c .before .before .before .before .before .args .conj), c .before .before .join-word .ensures), ((join-parts (c .before .before .before .before .before .args .s .now) (c .before .before .before .before .before .args .at) (c .before .before .before .before .before .args .sig) (c .before .before .before .before .before .args .sc) (c .before .before .before .before .before .args .t) (asJoin (c .before .before .before .before .before .args .conj)) (c .before .before .before .before .before .pre .1 .0) (join-view (c .before .before .before .before .before .args .conj) (c .before .before .before .before .before .pre .1 .0) (c .before .before .before .before .before .pre .1 .1)) (c .before .before .before .numbered .result) (c .before .before .before .numbered .ensures) (c .before .before .before .before .before .args .at + c .before .before .join-word .result) (ap (λ n. c .before .before .before .before .before .args .at + n) (c .before .before .join-word .ensures)) (c .before .before .before .before .before .args .pos) (c .before .part .result) (c .before .part .ensures (join-ready (c .before .before .before .before .before .args .s .now) (c .before .before .before .before .before .args .at) (c .before .before .before .before .before .args .sig) (c .before .before .before .before .before .args .sc) (c .before .before .before .before .before .args .t) (asJoin (c .before .before .before .before .before .args .conj)) (c .before .before .before .before .before .pre .1 .0) (join-view (c .before .before .before .before .before .args .conj) (c .before .before .before .before .before .pre .1 .0) (c .before .before .before .before .before .pre .1 .1)) (c .before .before .before .numbered .result) (c .before .before .before .numbered .ensures) (c .before .before .before .before .before .args .at + c .before .before .join-word .result) (ap (λ n. c .before .before .before .before .before .args .at + n) (c .before .before .join-word .ensures))))), join-one (c .before .before .before .before .before .args .s .now) (c .before .before .before .before .before .args .at) (c .before .before .before .before .before .args .sig) (c .before .before .before .before .before .args .sc) (c .before .before .before .before .before .args .t) (asJoin (c .before .before .before .before .before .args .conj)) (c .before .before .before .before .before .pre .1 .0) (join-view (c .before .before .before .before .before .args .conj) (c .before .before .before .before .before .pre .1 .0) (c .before .before .before .before .before .pre .1 .1)) (c .before .before .before .numbered .result) (c .before .before .before .numbered .ensures) (c .before .before .before .before .before .args .at + c .before .before .join-word .result) (ap (λ n. c .before .before .before .before .before .args .at + n) (c .before .before .join-word .ensures)) (c .before .before .before .before .before .args .pos) (c .before .part .result) (c .before .part .ensures (join-ready (c .before .before .before .before .before .args .s .now) (c .before .before .before .before .before .args .at) (c .before .before .before .before .before .args .sig) (c .before .before .before .before .before .args .sc) (c .before .before .before .before .before .args .t) (asJoin (c .before .before .before .before .before .args .conj)) (c .before .before .before .before .before .pre .1 .0) (join-view (c .before .before .before .before .before .args .conj) (c .before .before .before .before .before .pre .1 .0) (c .before .before .before .before .before .pre .1 .1)) (c .before .before .before .numbered .result) (c .before .before .before .numbered .ensures) (c .before .before .before .before .before .args .at + c .before .before .join-word .result) (ap (λ n. c .before .before .before .before .before .args .at + n) (c .before .before .join-word .ensures))))))
+gather-further-requires t c κs = let w = c .before .before .before .before .before .before .before .before .pre .1 .1 .0 in let v = join-view (c .before .before .before .before .before .before .before .before .args .conj) w (c .before .before .before .before .before .before .before .before .pre .1 .1 .1) in let e = ap (λ n. c .before .before .before .before .before .before .before .before .args .at + n) (c .before .before .before .before .before .join-word .ensures) in let X = c .before .before .before .part .ensures (join-ready (asJoin (c .before .before .before .before .before .before .before .before .args .conj)) w v _ e) in (omega (arith, c .before .before .before .before .before .before .before .before .pre .0, ready-in w, X .place, join-some (c .before .before .before .before .before .before .before .before .args .conj), c .before .before .before .before .before .join-word .ensures), (c .before .before .before .part .kept .1 .1 .1 .1 .1 .0 ∙ c .before .before .before .before .before .before .before .before .pre .1 .0, (join-parts (asJoin (c .before .before .before .before .before .before .before .before .args .conj)) w v _ e (c .before .before .before .before .before .before .before .before .args .pos) _ _ X, join-one (asJoin (c .before .before .before .before .before .before .before .before .args .conj)) w v _ e (c .before .before .before .before .before .before .before .before .args .pos) _ _ X)))
 
 gather-join-kind-requires : (t : ℕ) → gather-lts.Need-join-kind-requires (
-  numbered-reads.Asked,
-  numbered-reads.Learnt,
   join-word-reads.Asked,
   join-word-reads.Learnt,
   part-below t,
@@ -414,14 +413,12 @@ gather-join-kind-requires : (t : ℕ) → gather-lts.Need-join-kind-requires (
   join-kind-reads.Learnt,
   join-row-reads.Asked,
   join-row-reads.Learnt,
-  push-reads.Asked,
-  push-reads.Learnt,
+  put-row-reads.Asked,
+  put-row-reads.Learnt,
 ) (gather-at t) gather.Post
 gather-join-kind-requires t c κs = search needs
 
 gather-join-row-requires : (t : ℕ) → gather-lts.Need-join-row-requires (
-  numbered-reads.Asked,
-  numbered-reads.Learnt,
   join-word-reads.Asked,
   join-word-reads.Learnt,
   part-below t,
@@ -432,14 +429,12 @@ gather-join-row-requires : (t : ℕ) → gather-lts.Need-join-row-requires (
   join-kind-reads.Learnt,
   join-row-reads.Asked,
   join-row-reads.Learnt,
-  push-reads.Asked,
-  push-reads.Learnt,
+  put-row-reads.Asked,
+  put-row-reads.Learnt,
 ) (gather-at t) gather.Post
-gather-join-row-requires t c κs = (omega (arith, ready-nodes (c .before .before .before .before .before .before .before .before .pre .1 .0)), omega (arith, parts-many (c .before .before .before .before .before .before .before .before .args .pos) 1 _ (c .before .before .further .result) (c .before .before .further .ensures (join-parts (c .before .before .before .before .before .before .before .before .args .s .now) (c .before .before .before .before .before .before .before .before .args .at) (c .before .before .before .before .before .before .before .before .args .sig) (c .before .before .before .before .before .before .before .before .args .sc) (c .before .before .before .before .before .before .before .before .args .t) (asJoin (c .before .before .before .before .before .before .before .before .args .conj)) (c .before .before .before .before .before .before .before .before .pre .1 .0) (join-view (c .before .before .before .before .before .before .before .before .args .conj) (c .before .before .before .before .before .before .before .before .pre .1 .0) (c .before .before .before .before .before .before .before .before .pre .1 .1)) (c .before .before .before .before .before .before .numbered .result) (c .before .before .before .before .before .before .numbered .ensures) (c .before .before .before .before .before .before .before .before .args .at + c .before .before .before .before .before .join-word .result) (ap (λ n. c .before .before .before .before .before .before .before .before .args .at + n) (c .before .before .before .before .before .join-word .ensures)) (c .before .before .before .before .before .before .before .before .args .pos) (c .before .before .before .before .part .result) (c .before .before .before .before .part .ensures (join-ready (c .before .before .before .before .before .before .before .before .args .s .now) (c .before .before .before .before .before .before .before .before .args .at) (c .before .before .before .before .before .before .before .before .args .sig) (c .before .before .before .before .before .before .before .before .args .sc) (c .before .before .before .before .before .before .before .before .args .t) (asJoin (c .before .before .before .before .before .before .before .before .args .conj)) (c .before .before .before .before .before .before .before .before .pre .1 .0) (join-view (c .before .before .before .before .before .before .before .before .args .conj) (c .before .before .before .before .before .before .before .before .pre .1 .0) (c .before .before .before .before .before .before .before .before .pre .1 .1)) (c .before .before .before .before .before .before .numbered .result) (c .before .before .before .before .before .before .numbered .ensures) (c .before .before .before .before .before .before .before .before .args .at + c .before .before .before .before .before .join-word .result) (ap (λ n. c .before .before .before .before .before .before .before .before .args .at + n) (c .before .before .before .before .before .join-word .ensures)))))) (join-one (c .before .before .before .before .before .before .before .before .args .s .now) (c .before .before .before .before .before .before .before .before .args .at) (c .before .before .before .before .before .before .before .before .args .sig) (c .before .before .before .before .before .before .before .before .args .sc) (c .before .before .before .before .before .before .before .before .args .t) (asJoin (c .before .before .before .before .before .before .before .before .args .conj)) (c .before .before .before .before .before .before .before .before .pre .1 .0) (join-view (c .before .before .before .before .before .before .before .before .args .conj) (c .before .before .before .before .before .before .before .before .pre .1 .0) (c .before .before .before .before .before .before .before .before .pre .1 .1)) (c .before .before .before .before .before .before .numbered .result) (c .before .before .before .before .before .before .numbered .ensures) (c .before .before .before .before .before .before .before .before .args .at + c .before .before .before .before .before .join-word .result) (ap (λ n. c .before .before .before .before .before .before .before .before .args .at + n) (c .before .before .before .before .before .join-word .ensures)) (c .before .before .before .before .before .before .before .before .args .pos) (c .before .before .before .before .part .result) (c .before .before .before .before .part .ensures (join-ready (c .before .before .before .before .before .before .before .before .args .s .now) (c .before .before .before .before .before .before .before .before .args .at) (c .before .before .before .before .before .before .before .before .args .sig) (c .before .before .before .before .before .before .before .before .args .sc) (c .before .before .before .before .before .before .before .before .args .t) (asJoin (c .before .before .before .before .before .before .before .before .args .conj)) (c .before .before .before .before .before .before .before .before .pre .1 .0) (join-view (c .before .before .before .before .before .before .before .before .args .conj) (c .before .before .before .before .before .before .before .before .pre .1 .0) (c .before .before .before .before .before .before .before .before .pre .1 .1)) (c .before .before .before .before .before .before .numbered .result) (c .before .before .before .before .before .before .numbered .ensures) (c .before .before .before .before .before .before .before .before .args .at + c .before .before .before .before .before .join-word .result) (ap (λ n. c .before .before .before .before .before .before .before .before .args .at + n) (c .before .before .before .before .before .join-word .ensures))))), join-space (c .before .before .before .before .before .before .before .before .args .s .now) (c .before .before .before .before .before .before .before .before .args .at) (c .before .before .before .before .before .before .before .before .args .sig) (c .before .before .before .before .before .before .before .before .args .sc) (c .before .before .before .before .before .before .before .before .args .t) (asJoin (c .before .before .before .before .before .before .before .before .args .conj)) (c .before .before .before .before .before .before .before .before .pre .1 .0) (join-view (c .before .before .before .before .before .before .before .before .args .conj) (c .before .before .before .before .before .before .before .before .pre .1 .0) (c .before .before .before .before .before .before .before .before .pre .1 .1)) (c .before .before .before .before .before .before .numbered .result) (c .before .before .before .before .before .before .numbered .ensures) (c .before .before .before .before .before .before .before .before .args .at + c .before .before .before .before .before .join-word .result) (ap (λ n. c .before .before .before .before .before .before .before .before .args .at + n) (c .before .before .before .before .before .join-word .ensures)) (c .before .before .before .before .before .before .before .before .args .pos) (c .before .before .before .before .part .result) (c .before .before .before .before .part .ensures (join-ready (c .before .before .before .before .before .before .before .before .args .s .now) (c .before .before .before .before .before .before .before .before .args .at) (c .before .before .before .before .before .before .before .before .args .sig) (c .before .before .before .before .before .before .before .before .args .sc) (c .before .before .before .before .before .before .before .before .args .t) (asJoin (c .before .before .before .before .before .before .before .before .args .conj)) (c .before .before .before .before .before .before .before .before .pre .1 .0) (join-view (c .before .before .before .before .before .before .before .before .args .conj) (c .before .before .before .before .before .before .before .before .pre .1 .0) (c .before .before .before .before .before .before .before .before .pre .1 .1)) (c .before .before .before .before .before .before .numbered .result) (c .before .before .before .before .before .before .numbered .ensures) (c .before .before .before .before .before .before .before .before .args .at + c .before .before .before .before .before .join-word .result) (ap (λ n. c .before .before .before .before .before .before .before .before .args .at + n) (c .before .before .before .before .before .join-word .ensures)))) (c .before .before .further .result) (c .before .before .further .ensures (join-parts (c .before .before .before .before .before .before .before .before .args .s .now) (c .before .before .before .before .before .before .before .before .args .at) (c .before .before .before .before .before .before .before .before .args .sig) (c .before .before .before .before .before .before .before .before .args .sc) (c .before .before .before .before .before .before .before .before .args .t) (asJoin (c .before .before .before .before .before .before .before .before .args .conj)) (c .before .before .before .before .before .before .before .before .pre .1 .0) (join-view (c .before .before .before .before .before .before .before .before .args .conj) (c .before .before .before .before .before .before .before .before .pre .1 .0) (c .before .before .before .before .before .before .before .before .pre .1 .1)) (c .before .before .before .before .before .before .numbered .result) (c .before .before .before .before .before .before .numbered .ensures) (c .before .before .before .before .before .before .before .before .args .at + c .before .before .before .before .before .join-word .result) (ap (λ n. c .before .before .before .before .before .before .before .before .args .at + n) (c .before .before .before .before .before .join-word .ensures)) (c .before .before .before .before .before .before .before .before .args .pos) (c .before .before .before .before .part .result) (c .before .before .before .before .part .ensures (join-ready (c .before .before .before .before .before .before .before .before .args .s .now) (c .before .before .before .before .before .before .before .before .args .at) (c .before .before .before .before .before .before .before .before .args .sig) (c .before .before .before .before .before .before .before .before .args .sc) (c .before .before .before .before .before .before .before .before .args .t) (asJoin (c .before .before .before .before .before .before .before .before .args .conj)) (c .before .before .before .before .before .before .before .before .pre .1 .0) (join-view (c .before .before .before .before .before .before .before .before .args .conj) (c .before .before .before .before .before .before .before .before .pre .1 .0) (c .before .before .before .before .before .before .before .before .pre .1 .1)) (c .before .before .before .before .before .before .numbered .result) (c .before .before .before .before .before .before .numbered .ensures) (c .before .before .before .before .before .before .before .before .args .at + c .before .before .before .before .before .join-word .result) (ap (λ n. c .before .before .before .before .before .before .before .before .args .at + n) (c .before .before .before .before .before .join-word .ensures))))))))
+gather-join-row-requires t c κs = let w = c .before .before .before .before .before .before .before .before .before .before .before .before .pre .1 .1 .0 in let v = join-view (c .before .before .before .before .before .before .before .before .before .before .before .before .args .conj) w (c .before .before .before .before .before .before .before .before .before .before .before .before .pre .1 .1 .1) in let e = ap (λ n. c .before .before .before .before .before .before .before .before .before .before .before .before .args .at + n) (c .before .before .before .before .before .before .before .before .before .join-word .ensures) in let X = c .before .before .before .before .before .before .before .part .ensures (join-ready (asJoin (c .before .before .before .before .before .before .before .before .before .before .before .before .args .conj)) w v _ e) in let Y = c .before .before .before .further .ensures (join-parts (asJoin (c .before .before .before .before .before .before .before .before .before .before .before .before .args .conj)) w v _ e (c .before .before .before .before .before .before .before .before .before .before .before .before .args .pos) _ _ X) in (omega (arith, ready-nodes w), omega (arith, parts-many (c .before .before .before .before .before .before .before .before .before .before .before .before .args .pos) 1 _ _ _ _ Y (join-one (asJoin (c .before .before .before .before .before .before .before .before .before .before .before .before .args .conj)) w v _ e (c .before .before .before .before .before .before .before .before .before .before .before .before .args .pos) _ _ X), join-space (asJoin (c .before .before .before .before .before .before .before .before .before .before .before .before .args .conj)) w v _ e (c .before .before .before .before .before .before .before .before .before .before .before .before .args .pos) _ _ X _ _ _ Y))
 
-gather-push-requires : (t : ℕ) → gather-lts.Need-push-requires (
-  numbered-reads.Asked,
-  numbered-reads.Learnt,
+gather-put-row-requires : (t : ℕ) → gather-lts.Need-put-row-requires (
   join-word-reads.Asked,
   join-word-reads.Learnt,
   part-below t,
@@ -450,14 +445,12 @@ gather-push-requires : (t : ℕ) → gather-lts.Need-push-requires (
   join-kind-reads.Learnt,
   join-row-reads.Asked,
   join-row-reads.Learnt,
-  push-reads.Asked,
-  push-reads.Learnt,
+  put-row-reads.Asked,
+  put-row-reads.Learnt,
 ) (gather-at t) gather.Post
-gather-push-requires t c κs = join-space (c .before .before .before .before .before .before .before .before .before .args .s .now) (c .before .before .before .before .before .before .before .before .before .args .at) (c .before .before .before .before .before .before .before .before .before .args .sig) (c .before .before .before .before .before .before .before .before .before .args .sc) (c .before .before .before .before .before .before .before .before .before .args .t) (asJoin (c .before .before .before .before .before .before .before .before .before .args .conj)) (c .before .before .before .before .before .before .before .before .before .pre .1 .0) (join-view (c .before .before .before .before .before .before .before .before .before .args .conj) (c .before .before .before .before .before .before .before .before .before .pre .1 .0) (c .before .before .before .before .before .before .before .before .before .pre .1 .1)) (c .before .before .before .before .before .before .before .numbered .result) (c .before .before .before .before .before .before .before .numbered .ensures) (c .before .before .before .before .before .before .before .before .before .args .at + c .before .before .before .before .before .before .join-word .result) (ap (λ n. c .before .before .before .before .before .before .before .before .before .args .at + n) (c .before .before .before .before .before .before .join-word .ensures)) (c .before .before .before .before .before .before .before .before .before .args .pos) (c .before .before .before .before .before .part .result) (c .before .before .before .before .before .part .ensures (join-ready (c .before .before .before .before .before .before .before .before .before .args .s .now) (c .before .before .before .before .before .before .before .before .before .args .at) (c .before .before .before .before .before .before .before .before .before .args .sig) (c .before .before .before .before .before .before .before .before .before .args .sc) (c .before .before .before .before .before .before .before .before .before .args .t) (asJoin (c .before .before .before .before .before .before .before .before .before .args .conj)) (c .before .before .before .before .before .before .before .before .before .pre .1 .0) (join-view (c .before .before .before .before .before .before .before .before .before .args .conj) (c .before .before .before .before .before .before .before .before .before .pre .1 .0) (c .before .before .before .before .before .before .before .before .before .pre .1 .1)) (c .before .before .before .before .before .before .before .numbered .result) (c .before .before .before .before .before .before .before .numbered .ensures) (c .before .before .before .before .before .before .before .before .before .args .at + c .before .before .before .before .before .before .join-word .result) (ap (λ n. c .before .before .before .before .before .before .before .before .before .args .at + n) (c .before .before .before .before .before .before .join-word .ensures)))) (c .before .before .before .further .result) (c .before .before .before .further .ensures (join-parts (c .before .before .before .before .before .before .before .before .before .args .s .now) (c .before .before .before .before .before .before .before .before .before .args .at) (c .before .before .before .before .before .before .before .before .before .args .sig) (c .before .before .before .before .before .before .before .before .before .args .sc) (c .before .before .before .before .before .before .before .before .before .args .t) (asJoin (c .before .before .before .before .before .before .before .before .before .args .conj)) (c .before .before .before .before .before .before .before .before .before .pre .1 .0) (join-view (c .before .before .before .before .before .before .before .before .before .args .conj) (c .before .before .before .before .before .before .before .before .before .pre .1 .0) (c .before .before .before .before .before .before .before .before .before .pre .1 .1)) (c .before .before .before .before .before .before .before .numbered .result) (c .before .before .before .before .before .before .before .numbered .ensures) (c .before .before .before .before .before .before .before .before .before .args .at + c .before .before .before .before .before .before .join-word .result) (ap (λ n. c .before .before .before .before .before .before .before .before .before .args .at + n) (c .before .before .before .before .before .before .join-word .ensures)) (c .before .before .before .before .before .before .before .before .before .args .pos) (c .before .before .before .before .before .part .result) (c .before .before .before .before .before .part .ensures (join-ready (c .before .before .before .before .before .before .before .before .before .args .s .now) (c .before .before .before .before .before .before .before .before .before .args .at) (c .before .before .before .before .before .before .before .before .before .args .sig) (c .before .before .before .before .before .before .before .before .before .args .sc) (c .before .before .before .before .before .before .before .before .before .args .t) (asJoin (c .before .before .before .before .before .before .before .before .before .args .conj)) (c .before .before .before .before .before .before .before .before .before .pre .1 .0) (join-view (c .before .before .before .before .before .before .before .before .before .args .conj) (c .before .before .before .before .before .before .before .before .before .pre .1 .0) (c .before .before .before .before .before .before .before .before .before .pre .1 .1)) (c .before .before .before .before .before .before .before .numbered .result) (c .before .before .before .before .before .before .before .numbered .ensures) (c .before .before .before .before .before .before .before .before .before .args .at + c .before .before .before .before .before .before .join-word .result) (ap (λ n. c .before .before .before .before .before .before .before .before .before .args .at + n) (c .before .before .before .before .before .before .join-word .ensures))))))
+gather-put-row-requires t c κs = let w = c .before .before .before .before .before .before .before .before .before .before .before .before .before .before .pre .1 .1 .0 in let v = join-view (c .before .before .before .before .before .before .before .before .before .before .before .before .before .before .args .conj) w (c .before .before .before .before .before .before .before .before .before .before .before .before .before .before .pre .1 .1 .1) in let e = ap (λ n. c .before .before .before .before .before .before .before .before .before .before .before .before .before .before .args .at + n) (c .before .before .before .before .before .before .before .before .before .before .before .join-word .ensures) in let X = c .before .before .before .before .before .before .before .before .before .part .ensures (join-ready (asJoin (c .before .before .before .before .before .before .before .before .before .before .before .before .before .before .args .conj)) w v _ e) in let Y = c .before .before .before .before .before .further .ensures (join-parts (asJoin (c .before .before .before .before .before .before .before .before .before .before .before .before .before .before .args .conj)) w v _ e (c .before .before .before .before .before .before .before .before .before .before .before .before .before .before .args .pos) _ _ X) in (c .before .before .before .before .before .further .kept .1 .1 .1 .1 .1 .1 .0 ∙ c .before .before .before .before .before .before .before .before .before .part .kept .1 .1 .1 .1 .1 .0 ∙ c .before .before .before .before .before .before .before .before .before .before .before .before .before .before .pre .1 .0, join-space (asJoin (c .before .before .before .before .before .before .before .before .before .before .before .before .before .before .args .conj)) w v _ e (c .before .before .before .before .before .before .before .before .before .before .before .before .before .before .args .pos) _ _ X _ _ _ Y)
 
-gather-add-t21 : (t : ℕ) → gather-lts.Need-add-t21 (
-  numbered-reads.Asked,
-  numbered-reads.Learnt,
+gather-add-t15 : (t : ℕ) → gather-lts.Need-add-t15 (
   join-word-reads.Asked,
   join-word-reads.Learnt,
   part-below t,
@@ -468,14 +461,44 @@ gather-add-t21 : (t : ℕ) → gather-lts.Need-add-t21 (
   join-kind-reads.Learnt,
   join-row-reads.Asked,
   join-row-reads.Learnt,
-  push-reads.Asked,
-  push-reads.Learnt,
+  put-row-reads.Asked,
+  put-row-reads.Learnt,
 ) (gather-at t) gather.Post
-gather-add-t21 t c = omega (arith, join-place (c .before .before .before .before .before .before .before .before .before .before .args .s .now) (c .before .before .before .before .before .before .before .before .before .before .args .at) (c .before .before .before .before .before .before .before .before .before .before .args .sig) (c .before .before .before .before .before .before .before .before .before .before .args .sc) (c .before .before .before .before .before .before .before .before .before .before .args .t) (asJoin (c .before .before .before .before .before .before .before .before .before .before .args .conj)) (c .before .before .before .before .before .before .before .before .before .before .pre .1 .0) (join-view (c .before .before .before .before .before .before .before .before .before .before .args .conj) (c .before .before .before .before .before .before .before .before .before .before .pre .1 .0) (c .before .before .before .before .before .before .before .before .before .before .pre .1 .1)) (c .before .before .before .before .before .before .before .before .numbered .result) (c .before .before .before .before .before .before .before .before .numbered .ensures) (c .before .before .before .before .before .before .before .before .before .before .args .at + c .before .before .before .before .before .before .before .join-word .result) (ap (λ n. c .before .before .before .before .before .before .before .before .before .before .args .at + n) (c .before .before .before .before .before .before .before .join-word .ensures)) (c .before .before .before .before .before .before .before .before .before .before .args .pos) (c .before .before .before .before .before .before .part .result) (c .before .before .before .before .before .before .part .ensures (join-ready (c .before .before .before .before .before .before .before .before .before .before .args .s .now) (c .before .before .before .before .before .before .before .before .before .before .args .at) (c .before .before .before .before .before .before .before .before .before .before .args .sig) (c .before .before .before .before .before .before .before .before .before .before .args .sc) (c .before .before .before .before .before .before .before .before .before .before .args .t) (asJoin (c .before .before .before .before .before .before .before .before .before .before .args .conj)) (c .before .before .before .before .before .before .before .before .before .before .pre .1 .0) (join-view (c .before .before .before .before .before .before .before .before .before .before .args .conj) (c .before .before .before .before .before .before .before .before .before .before .pre .1 .0) (c .before .before .before .before .before .before .before .before .before .before .pre .1 .1)) (c .before .before .before .before .before .before .before .before .numbered .result) (c .before .before .before .before .before .before .before .before .numbered .ensures) (c .before .before .before .before .before .before .before .before .before .before .args .at + c .before .before .before .before .before .before .before .join-word .result) (ap (λ n. c .before .before .before .before .before .before .before .before .before .before .args .at + n) (c .before .before .before .before .before .before .before .join-word .ensures)))) (c .before .before .before .before .further .result) (c .before .before .before .before .further .ensures (join-parts (c .before .before .before .before .before .before .before .before .before .before .args .s .now) (c .before .before .before .before .before .before .before .before .before .before .args .at) (c .before .before .before .before .before .before .before .before .before .before .args .sig) (c .before .before .before .before .before .before .before .before .before .before .args .sc) (c .before .before .before .before .before .before .before .before .before .before .args .t) (asJoin (c .before .before .before .before .before .before .before .before .before .before .args .conj)) (c .before .before .before .before .before .before .before .before .before .before .pre .1 .0) (join-view (c .before .before .before .before .before .before .before .before .before .before .args .conj) (c .before .before .before .before .before .before .before .before .before .before .pre .1 .0) (c .before .before .before .before .before .before .before .before .before .before .pre .1 .1)) (c .before .before .before .before .before .before .before .before .numbered .result) (c .before .before .before .before .before .before .before .before .numbered .ensures) (c .before .before .before .before .before .before .before .before .before .before .args .at + c .before .before .before .before .before .before .before .join-word .result) (ap (λ n. c .before .before .before .before .before .before .before .before .before .before .args .at + n) (c .before .before .before .before .before .before .before .join-word .ensures)) (c .before .before .before .before .before .before .before .before .before .before .args .pos) (c .before .before .before .before .before .before .part .result) (c .before .before .before .before .before .before .part .ensures (join-ready (c .before .before .before .before .before .before .before .before .before .before .args .s .now) (c .before .before .before .before .before .before .before .before .before .before .args .at) (c .before .before .before .before .before .before .before .before .before .before .args .sig) (c .before .before .before .before .before .before .before .before .before .before .args .sc) (c .before .before .before .before .before .before .before .before .before .before .args .t) (asJoin (c .before .before .before .before .before .before .before .before .before .before .args .conj)) (c .before .before .before .before .before .before .before .before .before .before .pre .1 .0) (join-view (c .before .before .before .before .before .before .before .before .before .before .args .conj) (c .before .before .before .before .before .before .before .before .before .before .pre .1 .0) (c .before .before .before .before .before .before .before .before .before .before .pre .1 .1)) (c .before .before .before .before .before .before .before .before .numbered .result) (c .before .before .before .before .before .before .before .before .numbered .ensures) (c .before .before .before .before .before .before .before .before .before .before .args .at + c .before .before .before .before .before .before .before .join-word .result) (ap (λ n. c .before .before .before .before .before .before .before .before .before .before .args .at + n) (c .before .before .before .before .before .before .before .join-word .ensures)))))), ready-end (c .before .before .before .before .before .before .before .before .before .before .pre .1 .0), c .before .before .before .before .before .before .before .before .before .before .good .0 .0)
+gather-add-t15 t c = let w = c .before .before .before .before .before .before .before .before .before .before .before .before .before .before .before .before .before .before .pre .1 .1 .0 in let v = join-view (c .before .before .before .before .before .before .before .before .before .before .before .before .before .before .before .before .before .before .args .conj) w (c .before .before .before .before .before .before .before .before .before .before .before .before .before .before .before .before .before .before .pre .1 .1 .1) in let e = ap (λ n. c .before .before .before .before .before .before .before .before .before .before .before .before .before .before .before .before .before .before .args .at + n) (c .before .before .before .before .before .before .before .before .before .before .before .before .before .before .before .join-word .ensures) in let X = c .before .before .before .before .before .before .before .before .before .before .before .before .before .part .ensures (join-ready (asJoin (c .before .before .before .before .before .before .before .before .before .before .before .before .before .before .before .before .before .before .args .conj)) w v _ e) in let Y = c .before .before .before .before .before .before .before .before .before .further .ensures (join-parts (asJoin (c .before .before .before .before .before .before .before .before .before .before .before .before .before .before .before .before .before .before .args .conj)) w v _ e (c .before .before .before .before .before .before .before .before .before .before .before .before .before .before .before .before .before .before .args .pos) _ _ X) in omega (arith, join-space (asJoin (c .before .before .before .before .before .before .before .before .before .before .before .before .before .before .before .before .before .before .args .conj)) w v _ e (c .before .before .before .before .before .before .before .before .before .before .before .before .before .before .before .before .before .before .args .pos) _ _ X _ _ _ Y)
+
+gather-add-t18 : (t : ℕ) → gather-lts.Need-add-t18 (
+  join-word-reads.Asked,
+  join-word-reads.Learnt,
+  part-below t,
+  part.Post,
+  further-below t,
+  further.Post,
+  join-kind-reads.Asked,
+  join-kind-reads.Learnt,
+  join-row-reads.Asked,
+  join-row-reads.Learnt,
+  put-row-reads.Asked,
+  put-row-reads.Learnt,
+) (gather-at t) gather.Post
+gather-add-t18 t c = let w = c .before .before .before .before .before .before .before .before .before .before .before .before .before .before .before .before .before .before .before .pre .1 .1 .0 in let v = join-view (c .before .before .before .before .before .before .before .before .before .before .before .before .before .before .before .before .before .before .before .args .conj) w (c .before .before .before .before .before .before .before .before .before .before .before .before .before .before .before .before .before .before .before .pre .1 .1 .1) in let e = ap (λ n. c .before .before .before .before .before .before .before .before .before .before .before .before .before .before .before .before .before .before .before .args .at + n) (c .before .before .before .before .before .before .before .before .before .before .before .before .before .before .before .before .join-word .ensures) in let X = c .before .before .before .before .before .before .before .before .before .before .before .before .before .before .part .ensures (join-ready (asJoin (c .before .before .before .before .before .before .before .before .before .before .before .before .before .before .before .before .before .before .before .args .conj)) w v _ e) in let Y = c .before .before .before .before .before .before .before .before .before .before .further .ensures (join-parts (asJoin (c .before .before .before .before .before .before .before .before .before .before .before .before .before .before .before .before .before .before .before .args .conj)) w v _ e (c .before .before .before .before .before .before .before .before .before .before .before .before .before .before .before .before .before .before .before .args .pos) _ _ X) in omega (arith, join-place (asJoin (c .before .before .before .before .before .before .before .before .before .before .before .before .before .before .before .before .before .before .before .args .conj)) w v _ e (c .before .before .before .before .before .before .before .before .before .before .before .before .before .before .before .before .before .before .before .args .pos) _ _ X _ _ _ Y, ready-end w, c .before .before .before .before .before .before .before .before .before .before .before .before .before .before .before .before .before .before .before .good .0 .0)
+
+gather-same-length : (t : ℕ) → gather-lts.Need-same-length (
+  join-word-reads.Asked,
+  join-word-reads.Learnt,
+  part-below t,
+  part.Post,
+  further-below t,
+  further.Post,
+  join-kind-reads.Asked,
+  join-kind-reads.Learnt,
+  join-row-reads.Asked,
+  join-row-reads.Learnt,
+  put-row-reads.Asked,
+  put-row-reads.Learnt,
+) (gather-at t) gather.Post
+gather-same-length t c = c .before .before .before .before .put-row .kept .0 ∙ c .before .before .before .before .before .before .before .before .before .before .further .kept .1 .1 .1 .1 .1 .1 .0 ∙ c .before .before .before .before .before .before .before .before .before .before .before .before .before .before .part .kept .1 .1 .1 .1 .1 .0
 
 gather-returns : (t : ℕ) → gather-lts.Need-returns (
-  numbered-reads.Asked,
-  numbered-reads.Learnt,
   join-word-reads.Asked,
   join-word-reads.Learnt,
   part-below t,
@@ -486,10 +509,10 @@ gather-returns : (t : ℕ) → gather-lts.Need-returns (
   join-kind-reads.Learnt,
   join-row-reads.Asked,
   join-row-reads.Learnt,
-  push-reads.Asked,
-  push-reads.Learnt,
+  put-row-reads.Asked,
+  put-row-reads.Learnt,
 ) (gather-at t) gather.Post
-gather-returns t c = λ w. join-done (c .before .before .before .before .before .before .before .before .before .before .args .s .now) (c .before .before .before .before .before .before .before .before .before .before .args .at) (c .before .before .before .before .before .before .before .before .before .before .args .sig) (c .before .before .before .before .before .before .before .before .before .before .args .sc) (c .before .before .before .before .before .before .before .before .before .before .args .t) (asJoin (c .before .before .before .before .before .before .before .before .before .before .args .conj)) w (join-view (c .before .before .before .before .before .before .before .before .before .before .args .conj) w (c .before .before .before .before .before .before .before .before .before .before .pre .1 .1)) (c .before .before .before .before .before .before .before .before .numbered .result) (c .before .before .before .before .before .before .before .before .numbered .ensures) (c .before .before .before .before .before .before .before .before .before .before .args .at + c .before .before .before .before .before .before .before .join-word .result) (ap (λ n. c .before .before .before .before .before .before .before .before .before .before .args .at + n) (c .before .before .before .before .before .before .before .join-word .ensures)) (c .before .before .before .before .before .before .before .before .before .before .args .pos) (c .before .before .before .before .before .before .part .result) (c .before .before .before .before .before .before .part .ensures (join-ready (c .before .before .before .before .before .before .before .before .before .before .args .s .now) (c .before .before .before .before .before .before .before .before .before .before .args .at) (c .before .before .before .before .before .before .before .before .before .before .args .sig) (c .before .before .before .before .before .before .before .before .before .before .args .sc) (c .before .before .before .before .before .before .before .before .before .before .args .t) (asJoin (c .before .before .before .before .before .before .before .before .before .before .args .conj)) w (join-view (c .before .before .before .before .before .before .before .before .before .before .args .conj) w (c .before .before .before .before .before .before .before .before .before .before .pre .1 .1)) (c .before .before .before .before .before .before .before .before .numbered .result) (c .before .before .before .before .before .before .before .before .numbered .ensures) (c .before .before .before .before .before .before .before .before .before .before .args .at + c .before .before .before .before .before .before .before .join-word .result) (ap (λ n. c .before .before .before .before .before .before .before .before .before .before .args .at + n) (c .before .before .before .before .before .before .before .join-word .ensures)))) (c .before .before .before .before .further .result) (c .before .before .before .before .further .ensures (join-parts (c .before .before .before .before .before .before .before .before .before .before .args .s .now) (c .before .before .before .before .before .before .before .before .before .before .args .at) (c .before .before .before .before .before .before .before .before .before .before .args .sig) (c .before .before .before .before .before .before .before .before .before .before .args .sc) (c .before .before .before .before .before .before .before .before .before .before .args .t) (asJoin (c .before .before .before .before .before .before .before .before .before .before .args .conj)) w (join-view (c .before .before .before .before .before .before .before .before .before .before .args .conj) w (c .before .before .before .before .before .before .before .before .before .before .pre .1 .1)) (c .before .before .before .before .before .before .before .before .numbered .result) (c .before .before .before .before .before .before .before .before .numbered .ensures) (c .before .before .before .before .before .before .before .before .before .before .args .at + c .before .before .before .before .before .before .before .join-word .result) (ap (λ n. c .before .before .before .before .before .before .before .before .before .before .args .at + n) (c .before .before .before .before .before .before .before .join-word .ensures)) (c .before .before .before .before .before .before .before .before .before .before .args .pos) (c .before .before .before .before .before .before .part .result) (c .before .before .before .before .before .before .part .ensures (join-ready (c .before .before .before .before .before .before .before .before .before .before .args .s .now) (c .before .before .before .before .before .before .before .before .before .before .args .at) (c .before .before .before .before .before .before .before .before .before .before .args .sig) (c .before .before .before .before .before .before .before .before .before .before .args .sc) (c .before .before .before .before .before .before .before .before .before .before .args .t) (asJoin (c .before .before .before .before .before .before .before .before .before .before .args .conj)) w (join-view (c .before .before .before .before .before .before .before .before .before .before .args .conj) w (c .before .before .before .before .before .before .before .before .before .before .pre .1 .1)) (c .before .before .before .before .before .before .before .before .numbered .result) (c .before .before .before .before .before .before .before .before .numbered .ensures) (c .before .before .before .before .before .before .before .before .before .before .args .at + c .before .before .before .before .before .before .before .join-word .result) (ap (λ n. c .before .before .before .before .before .before .before .before .before .before .args .at + n) (c .before .before .before .before .before .before .before .join-word .ensures)))))) (c .push .result) (c .before .join-row .result) (c .before .join-row .ensures ∙ ap (λ n. joinRow n (c .before .before .before .before .before .before .before .before .before .before .args .t .nodes) (c .before .before .before .before .further .result .many)) (c .before .before .join-kind .ensures)) (c .push .ensures)
+gather-returns t c = λ w. let v = join-view (c .before .before .before .before .before .before .before .before .before .before .before .before .before .before .before .before .before .before .before .args .conj) w (c .before .before .before .before .before .before .before .before .before .before .before .before .before .before .before .before .before .before .before .pre .1 .1 .1) in let e = ap (λ n. c .before .before .before .before .before .before .before .before .before .before .before .before .before .before .before .before .before .before .before .args .at + n) (c .before .before .before .before .before .before .before .before .before .before .before .before .before .before .before .before .join-word .ensures) in let X = c .before .before .before .before .before .before .before .before .before .before .before .before .before .before .part .ensures (join-ready (asJoin (c .before .before .before .before .before .before .before .before .before .before .before .before .before .before .before .before .before .before .before .args .conj)) w v _ e) in let Y = c .before .before .before .before .before .before .before .before .before .before .further .ensures (join-parts (asJoin (c .before .before .before .before .before .before .before .before .before .before .before .before .before .before .before .before .before .before .before .args .conj)) w v _ e (c .before .before .before .before .before .before .before .before .before .before .before .before .before .before .before .before .before .before .before .args .pos) _ _ X) in join-done (asJoin (c .before .before .before .before .before .before .before .before .before .before .before .before .before .before .before .before .before .before .before .args .conj)) w v _ e (c .before .before .before .before .before .before .before .before .before .before .before .before .before .before .before .before .before .before .before .args .pos) _ _ X _ _ _ Y _ (c .before .before .before .before .before .before .join-row .result) (c .before .before .before .before .before .before .join-row .ensures ∙ ap (λ n. joinRow n (c .before .before .before .before .before .before .before .before .before .before .before .before .before .before .before .before .before .before .before .args .nodes) (c .before .before .before .before .before .before .before .before .before .before .further .result .many)) (c .before .before .before .before .before .before .before .join-kind .ensures)) (c .before .before .before .before .put-row .ensures .1 (c .before .before .before .before .before .before .before .before .before .before .further .result .len + 1) (c .before .before .before .before .before .before .before .before .before .before .further .result .nodes))
 
 negative-kind-at-requires : (t : ℕ) → negative-lts.Need-kind-at-requires (
   kind-at-reads.Asked,
@@ -505,7 +528,7 @@ negative-kind-at-requires : (t : ℕ) → negative-lts.Need-kind-at-requires (
   literal-reads.Asked,
   literal-reads.Learnt,
 ) (negative-at t) negative.Post
-negative-kind-at-requires t c κs = omega (arith, ready-in (c .before .pre .1))
+negative-kind-at-requires t c κs = omega (arith, ready-in (c .before .before .pre .1 .1))
 
 negative-enum-told : (t : ℕ) → negative-lts.Need-enum-told (
   kind-at-reads.Asked,
@@ -537,7 +560,7 @@ negative-add-positive : (t : ℕ) → negative-lts.Need-add-positive (
   literal-reads.Asked,
   literal-reads.Learnt,
 ) (negative-at t) negative.Post
-negative-add-positive t c = omega (arith, ready-in (neg-ready (c .before .before .before .before .args .s .now) (c .before .before .before .before .args .at) (c .before .before .before .before .args .sig) (c .before .before .before .before .args .sc) (c .before .before .before .before .args .t) (c .before .before .before .before .pre .1) (neg-view (c .before .before .before .before .pre .1) (sym (c .before .before .kind-at .ensures) ∙ ap headOf (c .enum-told .given .1)))), c .before .before .before .before .good .0 .0)
+negative-add-positive t c = let w = c .before .before .before .before .before .pre .1 .1 in let v = neg-view w (sym (c .before .before .kind-at .ensures) ∙ ap headOf (c .enum-told .given .1)) in omega (arith, ready-in (neg-ready w v), c .before .before .before .before .before .good .0 .0)
 
 negative-positive-requires : (t : ℕ) → negative-lts.Need-positive-requires (
   kind-at-reads.Asked,
@@ -553,7 +576,7 @@ negative-positive-requires : (t : ℕ) → negative-lts.Need-positive-requires (
   literal-reads.Asked,
   literal-reads.Learnt,
 ) (negative-at t) negative.Post
-negative-positive-requires t c κs = (omega (arith, c .before .before .before .before .pre .0, ready-in (neg-ready (c .before .before .before .before .args .s .now) (c .before .before .before .before .args .at) (c .before .before .before .before .args .sig) (c .before .before .before .before .args .sc) (c .before .before .before .before .args .t) (c .before .before .before .before .pre .1) (neg-view (c .before .before .before .before .pre .1) (sym (c .before .before .kind-at .ensures) ∙ ap headOf (c .enum-told .given .1))))), (neg-ready (c .before .before .before .before .args .s .now) (c .before .before .before .before .args .at) (c .before .before .before .before .args .sig) (c .before .before .before .before .args .sc) (c .before .before .before .before .args .t) (c .before .before .before .before .pre .1) (neg-view (c .before .before .before .before .pre .1) (sym (c .before .before .kind-at .ensures) ∙ ap headOf (c .enum-told .given .1)))))
+negative-positive-requires t c κs = let w = c .before .before .before .before .before .before .pre .1 .1 in let v = neg-view w (sym (c .before .before .before .kind-at .ensures) ∙ ap headOf (c .before .enum-told .given .1)) in (omega (arith, c .before .before .before .before .before .before .pre .0, ready-in (neg-ready w v)), (c .before .before .before .before .before .before .pre .1 .0, neg-ready w v))
 
 negative-add-t11 : (t : ℕ) → negative-lts.Need-add-t11 (
   kind-at-reads.Asked,
@@ -569,7 +592,7 @@ negative-add-t11 : (t : ℕ) → negative-lts.Need-add-t11 (
   literal-reads.Asked,
   literal-reads.Learnt,
 ) (negative-at t) negative.Post
-negative-add-t11 t c = omega (arith, neg-place (c .before .before .before .before .before .before .args .s .now) (c .before .before .before .before .before .before .args .at) (c .before .before .before .before .before .before .args .sig) (c .before .before .before .before .before .before .args .sc) (c .before .before .before .before .before .before .args .t) (c .before .before .before .before .before .before .pre .1) (neg-view (c .before .before .before .before .before .before .pre .1) (sym (c .before .before .before .before .kind-at .ensures) ∙ ap headOf (c .before .before .enum-told .given .1))) (c .before .positive .result .at) (c .before .positive .ensures (neg-ready (c .before .before .before .before .before .before .args .s .now) (c .before .before .before .before .before .before .args .at) (c .before .before .before .before .before .before .args .sig) (c .before .before .before .before .before .before .args .sc) (c .before .before .before .before .before .before .args .t) (c .before .before .before .before .before .before .pre .1) (neg-view (c .before .before .before .before .before .before .pre .1) (sym (c .before .before .before .before .kind-at .ensures) ∙ ap headOf (c .before .before .enum-told .given .1)))) .place), ready-end (c .before .before .before .before .before .before .pre .1), c .before .before .before .before .before .before .good .0 .0)
+negative-add-t11 t c = let w = c .before .before .before .before .before .before .before .before .before .before .pre .1 .1 in let v = neg-view w (sym (c .before .before .before .before .before .before .before .kind-at .ensures) ∙ ap headOf (c .before .before .before .before .before .enum-told .given .1)) in omega (arith, neg-place w v _ ((c .before .before .before .positive .ensures (neg-ready w v)) .place), ready-end w, c .before .before .before .before .before .before .before .before .before .before .good .0 .0)
 
 negative-enum-told-2 : (t : ℕ) → negative-lts.Need-enum-told-2 (
   kind-at-reads.Asked,
@@ -601,7 +624,7 @@ negative-arrow-requires : (t : ℕ) → negative-lts.Need-arrow-requires (
   literal-reads.Asked,
   literal-reads.Learnt,
 ) (negative-at t) negative.Post
-negative-arrow-requires t c κs = (omega (arith, c .before .before .before .before .pre .0), ((c .before .before .before .before .pre .1), (sym (c .before .before .kind-at .ensures) ∙ ap headOf (c .enum-told2 .given .1))))
+negative-arrow-requires t c κs = (omega (arith, c .before .before .before .before .before .before .pre .0), (c .before .before .before .before .before .before .pre .1 .0, (c .before .before .before .before .before .before .pre .1 .1, (sym (c .before .before .before .kind-at .ensures) ∙ ap headOf (c .before .enum-told2 .given .1)))))
 
 negative-enum-told-3 : (t : ℕ) → negative-lts.Need-enum-told-3 (
   kind-at-reads.Asked,
@@ -633,7 +656,7 @@ negative-gather-requires : (t : ℕ) → negative-lts.Need-gather-requires (
   literal-reads.Asked,
   literal-reads.Learnt,
 ) (negative-at t) negative.Post
-negative-gather-requires t c κs = (omega (arith, c .before .before .before .before .pre .0), ((c .before .before .before .before .pre .1), (sym (c .before .before .kind-at .ensures) ∙ ap headOf (c .enum-told3 .given .1))))
+negative-gather-requires t c κs = (omega (arith, c .before .before .before .before .before .before .pre .0), (c .before .before .before .before .before .before .pre .1 .0, (c .before .before .before .before .before .before .pre .1 .1, (sym (c .before .before .before .kind-at .ensures) ∙ ap headOf (c .before .enum-told3 .given .1)))))
 
 negative-enum-told-4 : (t : ℕ) → negative-lts.Need-enum-told-4 (
   kind-at-reads.Asked,
@@ -665,7 +688,7 @@ negative-gather-requires-2 : (t : ℕ) → negative-lts.Need-gather-requires-2 (
   literal-reads.Asked,
   literal-reads.Learnt,
 ) (negative-at t) negative.Post
-negative-gather-requires-2 t c κs = (omega (arith, c .before .before .before .before .pre .0), ((c .before .before .before .before .pre .1), (sym (c .before .before .kind-at .ensures) ∙ ap headOf (c .enum-told4 .given .1))))
+negative-gather-requires-2 t c κs = (omega (arith, c .before .before .before .before .before .before .pre .0), (c .before .before .before .before .before .before .pre .1 .0, (c .before .before .before .before .before .before .pre .1 .1, (sym (c .before .before .before .kind-at .ensures) ∙ ap headOf (c .before .enum-told4 .given .1)))))
 
 negative-enum-told-5 : (t : ℕ) → negative-lts.Need-enum-told-5 (
   kind-at-reads.Asked,
@@ -697,7 +720,7 @@ negative-under-requires : (t : ℕ) → negative-lts.Need-under-requires (
   literal-reads.Asked,
   literal-reads.Learnt,
 ) (negative-at t) negative.Post
-negative-under-requires t c κs = (omega (arith, c .before .before .before .before .pre .0), ((c .before .before .before .before .pre .1), (sym (c .before .before .kind-at .ensures) ∙ ap headOf (c .enum-told5 .given .1))))
+negative-under-requires t c κs = (omega (arith, c .before .before .before .before .before .before .pre .0), (c .before .before .before .before .before .before .pre .1 .0, (c .before .before .before .before .before .before .pre .1 .1, (sym (c .before .before .before .kind-at .ensures) ∙ ap headOf (c .before .enum-told5 .given .1)))))
 
 negative-enum-told-6 : (t : ℕ) → negative-lts.Need-enum-told-6 (
   kind-at-reads.Asked,
@@ -729,7 +752,7 @@ negative-under-requires-2 : (t : ℕ) → negative-lts.Need-under-requires-2 (
   literal-reads.Asked,
   literal-reads.Learnt,
 ) (negative-at t) negative.Post
-negative-under-requires-2 t c κs = (omega (arith, c .before .before .before .before .pre .0), ((c .before .before .before .before .pre .1), (sym (c .before .before .kind-at .ensures) ∙ ap headOf (c .enum-told6 .given .1))))
+negative-under-requires-2 t c κs = (omega (arith, c .before .before .before .before .before .before .pre .0), (c .before .before .before .before .before .before .pre .1 .0, (c .before .before .before .before .before .before .pre .1 .1, (sym (c .before .before .before .kind-at .ensures) ∙ ap headOf (c .before .enum-told6 .given .1)))))
 
 negative-enum-told-7 : (t : ℕ) → negative-lts.Need-enum-told-7 (
   kind-at-reads.Asked,
@@ -761,7 +784,23 @@ negative-literal-requires : (t : ℕ) → negative-lts.Need-literal-requires (
   literal-reads.Asked,
   literal-reads.Learnt,
 ) (negative-at t) negative.Post
-negative-literal-requires t c κs = ((c .before .before .before .before .pre .1), (sym (c .before .before .kind-at .ensures) ∙ ap headOf (c .enum-told7 .given .1)))
+negative-literal-requires t c κs = (c .before .before .before .before .before .before .pre .1 .0, (c .before .before .before .before .before .before .pre .1 .1, (sym (c .before .before .before .kind-at .ensures) ∙ ap headOf (c .before .enum-told7 .given .1))))
+
+negative-same-length : (t : ℕ) → negative-lts.Need-same-length (
+  kind-at-reads.Asked,
+  kind-at-reads.Learnt,
+  positive-below t,
+  positive.Post,
+  arrow-below t,
+  arrow.Post,
+  gather-below t,
+  gather.Post,
+  under-below t,
+  under.Post,
+  literal-reads.Asked,
+  literal-reads.Learnt,
+) (negative-at t) negative.Post
+negative-same-length t c = c .before .before .before .positive .kept .1 .1 .1 .1 .0
 
 negative-returns : (t : ℕ) → negative-lts.Need-returns (
   kind-at-reads.Asked,
@@ -777,7 +816,23 @@ negative-returns : (t : ℕ) → negative-lts.Need-returns (
   literal-reads.Asked,
   literal-reads.Learnt,
 ) (negative-at t) negative.Post
-negative-returns t c = λ w. neg-done (c .before .before .before .before .before .before .args .s .now) (c .before .before .before .before .before .before .args .at) (c .before .before .before .before .before .before .args .sig) (c .before .before .before .before .before .before .args .sc) (c .before .before .before .before .before .before .args .t) false w (neg-view w (sym (c .before .before .before .before .kind-at .ensures) ∙ ap headOf (c .before .before .enum-told .given .1))) (c .before .positive .result) (c .before .positive .ensures (neg-ready (c .before .before .before .before .before .before .args .s .now) (c .before .before .before .before .before .before .args .at) (c .before .before .before .before .before .before .args .sig) (c .before .before .before .before .before .before .args .sc) (c .before .before .before .before .before .before .args .t) w (neg-view w (sym (c .before .before .before .before .kind-at .ensures) ∙ ap headOf (c .before .before .enum-told .given .1)))))
+negative-returns t c = λ w. let v = neg-view w (sym (c .before .before .before .before .before .before .before .kind-at .ensures) ∙ ap headOf (c .before .before .before .before .before .enum-told .given .1)) in neg-done false w v _ _ (c .before .before .before .positive .ensures (neg-ready w v))
+
+negative-same-length-2 : (t : ℕ) → negative-lts.Need-same-length-2 (
+  kind-at-reads.Asked,
+  kind-at-reads.Learnt,
+  positive-below t,
+  positive.Post,
+  arrow-below t,
+  arrow.Post,
+  gather-below t,
+  gather.Post,
+  under-below t,
+  under.Post,
+  literal-reads.Asked,
+  literal-reads.Learnt,
+) (negative-at t) negative.Post
+negative-same-length-2 t c = c .before .before .arrow .kept .1 .1 .1 .1 .1 .0
 
 negative-returns-2 : (t : ℕ) → negative-lts.Need-returns-2 (
   kind-at-reads.Asked,
@@ -793,7 +848,23 @@ negative-returns-2 : (t : ℕ) → negative-lts.Need-returns-2 (
   literal-reads.Asked,
   literal-reads.Learnt,
 ) (negative-at t) negative.Post
-negative-returns-2 t c = c .arrow .ensures
+negative-returns-2 t c = c .before .before .arrow .ensures
+
+negative-same-length-3 : (t : ℕ) → negative-lts.Need-same-length-3 (
+  kind-at-reads.Asked,
+  kind-at-reads.Learnt,
+  positive-below t,
+  positive.Post,
+  arrow-below t,
+  arrow.Post,
+  gather-below t,
+  gather.Post,
+  under-below t,
+  under.Post,
+  literal-reads.Asked,
+  literal-reads.Learnt,
+) (negative-at t) negative.Post
+negative-same-length-3 t c = c .before .before .gather .kept .1 .1 .1 .1 .1 .1 .0
 
 negative-returns-3 : (t : ℕ) → negative-lts.Need-returns-3 (
   kind-at-reads.Asked,
@@ -809,7 +880,23 @@ negative-returns-3 : (t : ℕ) → negative-lts.Need-returns-3 (
   literal-reads.Asked,
   literal-reads.Learnt,
 ) (negative-at t) negative.Post
-negative-returns-3 t c = c .gather .ensures
+negative-returns-3 t c = c .before .before .gather .ensures
+
+negative-same-length-4 : (t : ℕ) → negative-lts.Need-same-length-4 (
+  kind-at-reads.Asked,
+  kind-at-reads.Learnt,
+  positive-below t,
+  positive.Post,
+  arrow-below t,
+  arrow.Post,
+  gather-below t,
+  gather.Post,
+  under-below t,
+  under.Post,
+  literal-reads.Asked,
+  literal-reads.Learnt,
+) (negative-at t) negative.Post
+negative-same-length-4 t c = c .before .before .gather2 .kept .1 .1 .1 .1 .1 .1 .0
 
 negative-returns-4 : (t : ℕ) → negative-lts.Need-returns-4 (
   kind-at-reads.Asked,
@@ -825,7 +912,23 @@ negative-returns-4 : (t : ℕ) → negative-lts.Need-returns-4 (
   literal-reads.Asked,
   literal-reads.Learnt,
 ) (negative-at t) negative.Post
-negative-returns-4 t c = c .gather2 .ensures
+negative-returns-4 t c = c .before .before .gather2 .ensures
+
+negative-same-length-5 : (t : ℕ) → negative-lts.Need-same-length-5 (
+  kind-at-reads.Asked,
+  kind-at-reads.Learnt,
+  positive-below t,
+  positive.Post,
+  arrow-below t,
+  arrow.Post,
+  gather-below t,
+  gather.Post,
+  under-below t,
+  under.Post,
+  literal-reads.Asked,
+  literal-reads.Learnt,
+) (negative-at t) negative.Post
+negative-same-length-5 t c = c .before .before .under .kept .1 .1 .1 .1 .1 .1 .0
 
 negative-returns-5 : (t : ℕ) → negative-lts.Need-returns-5 (
   kind-at-reads.Asked,
@@ -841,7 +944,23 @@ negative-returns-5 : (t : ℕ) → negative-lts.Need-returns-5 (
   literal-reads.Asked,
   literal-reads.Learnt,
 ) (negative-at t) negative.Post
-negative-returns-5 t c = c .under .ensures
+negative-returns-5 t c = c .before .before .under .ensures
+
+negative-same-length-6 : (t : ℕ) → negative-lts.Need-same-length-6 (
+  kind-at-reads.Asked,
+  kind-at-reads.Learnt,
+  positive-below t,
+  positive.Post,
+  arrow-below t,
+  arrow.Post,
+  gather-below t,
+  gather.Post,
+  under-below t,
+  under.Post,
+  literal-reads.Asked,
+  literal-reads.Learnt,
+) (negative-at t) negative.Post
+negative-same-length-6 t c = c .before .before .under2 .kept .1 .1 .1 .1 .1 .1 .0
 
 negative-returns-6 : (t : ℕ) → negative-lts.Need-returns-6 (
   kind-at-reads.Asked,
@@ -857,7 +976,23 @@ negative-returns-6 : (t : ℕ) → negative-lts.Need-returns-6 (
   literal-reads.Asked,
   literal-reads.Learnt,
 ) (negative-at t) negative.Post
-negative-returns-6 t c = c .under2 .ensures
+negative-returns-6 t c = c .before .before .under2 .ensures
+
+negative-same-length-7 : (t : ℕ) → negative-lts.Need-same-length-7 (
+  kind-at-reads.Asked,
+  kind-at-reads.Learnt,
+  positive-below t,
+  positive.Post,
+  arrow-below t,
+  arrow.Post,
+  gather-below t,
+  gather.Post,
+  under-below t,
+  under.Post,
+  literal-reads.Asked,
+  literal-reads.Learnt,
+) (negative-at t) negative.Post
+negative-same-length-7 t c = c .before .before .literal .kept .1 .1 .1 .1 .1 .0
 
 negative-returns-7 : (t : ℕ) → negative-lts.Need-returns-7 (
   kind-at-reads.Asked,
@@ -873,7 +1008,7 @@ negative-returns-7 : (t : ℕ) → negative-lts.Need-returns-7 (
   literal-reads.Asked,
   literal-reads.Learnt,
 ) (negative-at t) negative.Post
-negative-returns-7 t c = c .literal .ensures
+negative-returns-7 t c = c .before .before .literal .ensures
 
 part-positive-requires : (t : ℕ) → part-lts.Need-positive-requires (
   positive-below t,
@@ -881,7 +1016,7 @@ part-positive-requires : (t : ℕ) → part-lts.Need-positive-requires (
   negative-below t,
   negative.Post,
 ) (part-at t) part.Post
-part-positive-requires t c κs = (omega (arith, c .before .before .pre .0), (c .before .before .pre .1))
+part-positive-requires t c κs = (omega (arith, c .before .before .before .before .pre .0), c .before .before .before .before .pre .1)
 
 part-negative-requires : (t : ℕ) → part-lts.Need-negative-requires (
   positive-below t,
@@ -889,7 +1024,15 @@ part-negative-requires : (t : ℕ) → part-lts.Need-negative-requires (
   negative-below t,
   negative.Post,
 ) (part-at t) part.Post
-part-negative-requires t c κs = (omega (arith, c .before .before .pre .0), (c .before .before .pre .1))
+part-negative-requires t c κs = (omega (arith, c .before .before .before .before .pre .0), c .before .before .before .before .pre .1)
+
+part-same-length : (t : ℕ) → part-lts.Need-same-length (
+  positive-below t,
+  positive.Post,
+  negative-below t,
+  negative.Post,
+) (part-at t) part.Post
+part-same-length t c = c .before .before .positive .kept .1 .1 .1 .1 .0
 
 part-returns : (t : ℕ) → part-lts.Need-returns (
   positive-below t,
@@ -897,7 +1040,15 @@ part-returns : (t : ℕ) → part-lts.Need-returns (
   negative-below t,
   negative.Post,
 ) (part-at t) part.Post
-part-returns t c = λ w. subst (λ (b : Bool). Walked b (c .before .before .before .args .s .now) (c .before .before .before .args .at) (c .before .before .before .args .sig) (c .before .before .before .args .sc) (c .before .before .before .args .t) (w .f) (c .positive .result)) (sym (c .before .if1 .taken)) (c .positive .ensures w)
+part-returns t c = λ w. subst (λ (b : Bool). Walked b (c .before .before .before .before .before .before .before .args .s .now) (c .before .before .before .before .before .before .before .args .at) (c .before .before .before .before .before .before .before .args .sig) (c .before .before .before .before .before .before .before .args .sc) (rowsFrom (c .before .before .before .before .before .before .before .args .rows .now) (c .before .before .before .before .before .before .before .args .len) (c .before .before .before .before .before .before .before .args .nodes)) (w .f) (c .before .before .positive .result .at) (rowsFrom (c .before .before .positive .last .1 .1 .1 .1 .0) (c .before .before .positive .result .len) (c .before .before .positive .result .nodes))) (sym (c .before .before .before .before .if1 .taken)) (c .before .before .positive .ensures w)
+
+part-same-length-2 : (t : ℕ) → part-lts.Need-same-length-2 (
+  positive-below t,
+  positive.Post,
+  negative-below t,
+  negative.Post,
+) (part-at t) part.Post
+part-same-length-2 t c = c .before .before .negative .kept .1 .1 .1 .1 .0
 
 part-returns-2 : (t : ℕ) → part-lts.Need-returns-2 (
   positive-below t,
@@ -905,7 +1056,7 @@ part-returns-2 : (t : ℕ) → part-lts.Need-returns-2 (
   negative-below t,
   negative.Post,
 ) (part-at t) part.Post
-part-returns-2 t c = λ w. subst (λ (b : Bool). Walked b (c .before .before .before .args .s .now) (c .before .before .before .args .at) (c .before .before .before .args .sig) (c .before .before .before .args .sc) (c .before .before .before .args .t) (w .f) (c .negative .result)) (sym (c .before .if1 .left)) (c .negative .ensures w)
+part-returns-2 t c = λ w. subst (λ (b : Bool). Walked b (c .before .before .before .before .before .before .before .args .s .now) (c .before .before .before .before .before .before .before .args .at) (c .before .before .before .before .before .before .before .args .sig) (c .before .before .before .before .before .before .before .args .sc) (rowsFrom (c .before .before .before .before .before .before .before .args .rows .now) (c .before .before .before .before .before .before .before .args .len) (c .before .before .before .before .before .before .before .args .nodes)) (w .f) (c .before .before .negative .result .at) (rowsFrom (c .before .before .negative .last .1 .1 .1 .1 .0) (c .before .before .negative .result .len) (c .before .before .negative .result .nodes))) (sym (c .before .before .before .before .if1 .left)) (c .before .before .negative .ensures w)
 
 positive-kind-at-requires : (t : ℕ) → positive-lts.Need-kind-at-requires (
   kind-at-reads.Asked,
@@ -921,7 +1072,7 @@ positive-kind-at-requires : (t : ℕ) → positive-lts.Need-kind-at-requires (
   literal-reads.Asked,
   literal-reads.Learnt,
 ) (positive-at t) positive.Post
-positive-kind-at-requires t c κs = omega (arith, ready-in (c .before .pre .1))
+positive-kind-at-requires t c κs = omega (arith, ready-in (c .before .before .pre .1 .1))
 
 positive-enum-told : (t : ℕ) → positive-lts.Need-enum-told (
   kind-at-reads.Asked,
@@ -953,7 +1104,7 @@ positive-add-negative : (t : ℕ) → positive-lts.Need-add-negative (
   literal-reads.Asked,
   literal-reads.Learnt,
 ) (positive-at t) positive.Post
-positive-add-negative t c = omega (arith, ready-in (neg-ready (c .before .before .before .before .args .s .now) (c .before .before .before .before .args .at) (c .before .before .before .before .args .sig) (c .before .before .before .before .args .sc) (c .before .before .before .before .args .t) (c .before .before .before .before .pre .1) (neg-view (c .before .before .before .before .pre .1) (sym (c .before .before .kind-at .ensures) ∙ ap headOf (c .enum-told .given .1)))), c .before .before .before .before .good .0 .0)
+positive-add-negative t c = let w = c .before .before .before .before .before .pre .1 .1 in let v = neg-view w (sym (c .before .before .kind-at .ensures) ∙ ap headOf (c .enum-told .given .1)) in omega (arith, ready-in (neg-ready w v), c .before .before .before .before .before .good .0 .0)
 
 positive-negative-requires : (t : ℕ) → positive-lts.Need-negative-requires (
   kind-at-reads.Asked,
@@ -969,7 +1120,7 @@ positive-negative-requires : (t : ℕ) → positive-lts.Need-negative-requires (
   literal-reads.Asked,
   literal-reads.Learnt,
 ) (positive-at t) positive.Post
-positive-negative-requires t c κs = (omega (arith, c .before .before .before .before .pre .0, ready-in (neg-ready (c .before .before .before .before .args .s .now) (c .before .before .before .before .args .at) (c .before .before .before .before .args .sig) (c .before .before .before .before .args .sc) (c .before .before .before .before .args .t) (c .before .before .before .before .pre .1) (neg-view (c .before .before .before .before .pre .1) (sym (c .before .before .kind-at .ensures) ∙ ap headOf (c .enum-told .given .1))))), (neg-ready (c .before .before .before .before .args .s .now) (c .before .before .before .before .args .at) (c .before .before .before .before .args .sig) (c .before .before .before .before .args .sc) (c .before .before .before .before .args .t) (c .before .before .before .before .pre .1) (neg-view (c .before .before .before .before .pre .1) (sym (c .before .before .kind-at .ensures) ∙ ap headOf (c .enum-told .given .1)))))
+positive-negative-requires t c κs = let w = c .before .before .before .before .before .before .pre .1 .1 in let v = neg-view w (sym (c .before .before .before .kind-at .ensures) ∙ ap headOf (c .before .enum-told .given .1)) in (omega (arith, c .before .before .before .before .before .before .pre .0, ready-in (neg-ready w v)), (c .before .before .before .before .before .before .pre .1 .0, neg-ready w v))
 
 positive-add-t11 : (t : ℕ) → positive-lts.Need-add-t11 (
   kind-at-reads.Asked,
@@ -985,7 +1136,7 @@ positive-add-t11 : (t : ℕ) → positive-lts.Need-add-t11 (
   literal-reads.Asked,
   literal-reads.Learnt,
 ) (positive-at t) positive.Post
-positive-add-t11 t c = omega (arith, neg-place (c .before .before .before .before .before .before .args .s .now) (c .before .before .before .before .before .before .args .at) (c .before .before .before .before .before .before .args .sig) (c .before .before .before .before .before .before .args .sc) (c .before .before .before .before .before .before .args .t) (c .before .before .before .before .before .before .pre .1) (neg-view (c .before .before .before .before .before .before .pre .1) (sym (c .before .before .before .before .kind-at .ensures) ∙ ap headOf (c .before .before .enum-told .given .1))) (c .before .negative .result .at) (c .before .negative .ensures (neg-ready (c .before .before .before .before .before .before .args .s .now) (c .before .before .before .before .before .before .args .at) (c .before .before .before .before .before .before .args .sig) (c .before .before .before .before .before .before .args .sc) (c .before .before .before .before .before .before .args .t) (c .before .before .before .before .before .before .pre .1) (neg-view (c .before .before .before .before .before .before .pre .1) (sym (c .before .before .before .before .kind-at .ensures) ∙ ap headOf (c .before .before .enum-told .given .1)))) .place), ready-end (c .before .before .before .before .before .before .pre .1), c .before .before .before .before .before .before .good .0 .0)
+positive-add-t11 t c = let w = c .before .before .before .before .before .before .before .before .before .before .pre .1 .1 in let v = neg-view w (sym (c .before .before .before .before .before .before .before .kind-at .ensures) ∙ ap headOf (c .before .before .before .before .before .enum-told .given .1)) in omega (arith, neg-place w v _ ((c .before .before .before .negative .ensures (neg-ready w v)) .place), ready-end w, c .before .before .before .before .before .before .before .before .before .before .good .0 .0)
 
 positive-enum-told-2 : (t : ℕ) → positive-lts.Need-enum-told-2 (
   kind-at-reads.Asked,
@@ -1017,7 +1168,7 @@ positive-arrow-requires : (t : ℕ) → positive-lts.Need-arrow-requires (
   literal-reads.Asked,
   literal-reads.Learnt,
 ) (positive-at t) positive.Post
-positive-arrow-requires t c κs = (omega (arith, c .before .before .before .before .pre .0), ((c .before .before .before .before .pre .1), (sym (c .before .before .kind-at .ensures) ∙ ap headOf (c .enum-told2 .given .1))))
+positive-arrow-requires t c κs = (omega (arith, c .before .before .before .before .before .before .pre .0), (c .before .before .before .before .before .before .pre .1 .0, (c .before .before .before .before .before .before .pre .1 .1, (sym (c .before .before .before .kind-at .ensures) ∙ ap headOf (c .before .enum-told2 .given .1)))))
 
 positive-enum-told-3 : (t : ℕ) → positive-lts.Need-enum-told-3 (
   kind-at-reads.Asked,
@@ -1049,7 +1200,7 @@ positive-gather-requires : (t : ℕ) → positive-lts.Need-gather-requires (
   literal-reads.Asked,
   literal-reads.Learnt,
 ) (positive-at t) positive.Post
-positive-gather-requires t c κs = (omega (arith, c .before .before .before .before .pre .0), ((c .before .before .before .before .pre .1), (sym (c .before .before .kind-at .ensures) ∙ ap headOf (c .enum-told3 .given .1))))
+positive-gather-requires t c κs = (omega (arith, c .before .before .before .before .before .before .pre .0), (c .before .before .before .before .before .before .pre .1 .0, (c .before .before .before .before .before .before .pre .1 .1, (sym (c .before .before .before .kind-at .ensures) ∙ ap headOf (c .before .enum-told3 .given .1)))))
 
 positive-enum-told-4 : (t : ℕ) → positive-lts.Need-enum-told-4 (
   kind-at-reads.Asked,
@@ -1081,7 +1232,7 @@ positive-gather-requires-2 : (t : ℕ) → positive-lts.Need-gather-requires-2 (
   literal-reads.Asked,
   literal-reads.Learnt,
 ) (positive-at t) positive.Post
-positive-gather-requires-2 t c κs = (omega (arith, c .before .before .before .before .pre .0), ((c .before .before .before .before .pre .1), (sym (c .before .before .kind-at .ensures) ∙ ap headOf (c .enum-told4 .given .1))))
+positive-gather-requires-2 t c κs = (omega (arith, c .before .before .before .before .before .before .pre .0), (c .before .before .before .before .before .before .pre .1 .0, (c .before .before .before .before .before .before .pre .1 .1, (sym (c .before .before .before .kind-at .ensures) ∙ ap headOf (c .before .enum-told4 .given .1)))))
 
 positive-enum-told-5 : (t : ℕ) → positive-lts.Need-enum-told-5 (
   kind-at-reads.Asked,
@@ -1113,7 +1264,7 @@ positive-under-requires : (t : ℕ) → positive-lts.Need-under-requires (
   literal-reads.Asked,
   literal-reads.Learnt,
 ) (positive-at t) positive.Post
-positive-under-requires t c κs = (omega (arith, c .before .before .before .before .pre .0), ((c .before .before .before .before .pre .1), (sym (c .before .before .kind-at .ensures) ∙ ap headOf (c .enum-told5 .given .1))))
+positive-under-requires t c κs = (omega (arith, c .before .before .before .before .before .before .pre .0), (c .before .before .before .before .before .before .pre .1 .0, (c .before .before .before .before .before .before .pre .1 .1, (sym (c .before .before .before .kind-at .ensures) ∙ ap headOf (c .before .enum-told5 .given .1)))))
 
 positive-enum-told-6 : (t : ℕ) → positive-lts.Need-enum-told-6 (
   kind-at-reads.Asked,
@@ -1145,7 +1296,7 @@ positive-under-requires-2 : (t : ℕ) → positive-lts.Need-under-requires-2 (
   literal-reads.Asked,
   literal-reads.Learnt,
 ) (positive-at t) positive.Post
-positive-under-requires-2 t c κs = (omega (arith, c .before .before .before .before .pre .0), ((c .before .before .before .before .pre .1), (sym (c .before .before .kind-at .ensures) ∙ ap headOf (c .enum-told6 .given .1))))
+positive-under-requires-2 t c κs = (omega (arith, c .before .before .before .before .before .before .pre .0), (c .before .before .before .before .before .before .pre .1 .0, (c .before .before .before .before .before .before .pre .1 .1, (sym (c .before .before .before .kind-at .ensures) ∙ ap headOf (c .before .enum-told6 .given .1)))))
 
 positive-enum-told-7 : (t : ℕ) → positive-lts.Need-enum-told-7 (
   kind-at-reads.Asked,
@@ -1177,7 +1328,23 @@ positive-literal-requires : (t : ℕ) → positive-lts.Need-literal-requires (
   literal-reads.Asked,
   literal-reads.Learnt,
 ) (positive-at t) positive.Post
-positive-literal-requires t c κs = ((c .before .before .before .before .pre .1), (sym (c .before .before .kind-at .ensures) ∙ ap headOf (c .enum-told7 .given .1)))
+positive-literal-requires t c κs = (c .before .before .before .before .before .before .pre .1 .0, (c .before .before .before .before .before .before .pre .1 .1, (sym (c .before .before .before .kind-at .ensures) ∙ ap headOf (c .before .enum-told7 .given .1))))
+
+positive-same-length : (t : ℕ) → positive-lts.Need-same-length (
+  kind-at-reads.Asked,
+  kind-at-reads.Learnt,
+  negative-below t,
+  negative.Post,
+  arrow-below t,
+  arrow.Post,
+  gather-below t,
+  gather.Post,
+  under-below t,
+  under.Post,
+  literal-reads.Asked,
+  literal-reads.Learnt,
+) (positive-at t) positive.Post
+positive-same-length t c = c .before .before .before .negative .kept .1 .1 .1 .1 .0
 
 positive-returns : (t : ℕ) → positive-lts.Need-returns (
   kind-at-reads.Asked,
@@ -1193,7 +1360,23 @@ positive-returns : (t : ℕ) → positive-lts.Need-returns (
   literal-reads.Asked,
   literal-reads.Learnt,
 ) (positive-at t) positive.Post
-positive-returns t c = λ w. neg-done (c .before .before .before .before .before .before .args .s .now) (c .before .before .before .before .before .before .args .at) (c .before .before .before .before .before .before .args .sig) (c .before .before .before .before .before .before .args .sc) (c .before .before .before .before .before .before .args .t) true w (neg-view w (sym (c .before .before .before .before .kind-at .ensures) ∙ ap headOf (c .before .before .enum-told .given .1))) (c .before .negative .result) (c .before .negative .ensures (neg-ready (c .before .before .before .before .before .before .args .s .now) (c .before .before .before .before .before .before .args .at) (c .before .before .before .before .before .before .args .sig) (c .before .before .before .before .before .before .args .sc) (c .before .before .before .before .before .before .args .t) w (neg-view w (sym (c .before .before .before .before .kind-at .ensures) ∙ ap headOf (c .before .before .enum-told .given .1)))))
+positive-returns t c = λ w. let v = neg-view w (sym (c .before .before .before .before .before .before .before .kind-at .ensures) ∙ ap headOf (c .before .before .before .before .before .enum-told .given .1)) in neg-done true w v _ _ (c .before .before .before .negative .ensures (neg-ready w v))
+
+positive-same-length-2 : (t : ℕ) → positive-lts.Need-same-length-2 (
+  kind-at-reads.Asked,
+  kind-at-reads.Learnt,
+  negative-below t,
+  negative.Post,
+  arrow-below t,
+  arrow.Post,
+  gather-below t,
+  gather.Post,
+  under-below t,
+  under.Post,
+  literal-reads.Asked,
+  literal-reads.Learnt,
+) (positive-at t) positive.Post
+positive-same-length-2 t c = c .before .before .arrow .kept .1 .1 .1 .1 .1 .0
 
 positive-returns-2 : (t : ℕ) → positive-lts.Need-returns-2 (
   kind-at-reads.Asked,
@@ -1209,7 +1392,23 @@ positive-returns-2 : (t : ℕ) → positive-lts.Need-returns-2 (
   literal-reads.Asked,
   literal-reads.Learnt,
 ) (positive-at t) positive.Post
-positive-returns-2 t c = c .arrow .ensures
+positive-returns-2 t c = c .before .before .arrow .ensures
+
+positive-same-length-3 : (t : ℕ) → positive-lts.Need-same-length-3 (
+  kind-at-reads.Asked,
+  kind-at-reads.Learnt,
+  negative-below t,
+  negative.Post,
+  arrow-below t,
+  arrow.Post,
+  gather-below t,
+  gather.Post,
+  under-below t,
+  under.Post,
+  literal-reads.Asked,
+  literal-reads.Learnt,
+) (positive-at t) positive.Post
+positive-same-length-3 t c = c .before .before .gather .kept .1 .1 .1 .1 .1 .1 .0
 
 positive-returns-3 : (t : ℕ) → positive-lts.Need-returns-3 (
   kind-at-reads.Asked,
@@ -1225,7 +1424,23 @@ positive-returns-3 : (t : ℕ) → positive-lts.Need-returns-3 (
   literal-reads.Asked,
   literal-reads.Learnt,
 ) (positive-at t) positive.Post
-positive-returns-3 t c = c .gather .ensures
+positive-returns-3 t c = c .before .before .gather .ensures
+
+positive-same-length-4 : (t : ℕ) → positive-lts.Need-same-length-4 (
+  kind-at-reads.Asked,
+  kind-at-reads.Learnt,
+  negative-below t,
+  negative.Post,
+  arrow-below t,
+  arrow.Post,
+  gather-below t,
+  gather.Post,
+  under-below t,
+  under.Post,
+  literal-reads.Asked,
+  literal-reads.Learnt,
+) (positive-at t) positive.Post
+positive-same-length-4 t c = c .before .before .gather2 .kept .1 .1 .1 .1 .1 .1 .0
 
 positive-returns-4 : (t : ℕ) → positive-lts.Need-returns-4 (
   kind-at-reads.Asked,
@@ -1241,7 +1456,23 @@ positive-returns-4 : (t : ℕ) → positive-lts.Need-returns-4 (
   literal-reads.Asked,
   literal-reads.Learnt,
 ) (positive-at t) positive.Post
-positive-returns-4 t c = c .gather2 .ensures
+positive-returns-4 t c = c .before .before .gather2 .ensures
+
+positive-same-length-5 : (t : ℕ) → positive-lts.Need-same-length-5 (
+  kind-at-reads.Asked,
+  kind-at-reads.Learnt,
+  negative-below t,
+  negative.Post,
+  arrow-below t,
+  arrow.Post,
+  gather-below t,
+  gather.Post,
+  under-below t,
+  under.Post,
+  literal-reads.Asked,
+  literal-reads.Learnt,
+) (positive-at t) positive.Post
+positive-same-length-5 t c = c .before .before .under .kept .1 .1 .1 .1 .1 .1 .0
 
 positive-returns-5 : (t : ℕ) → positive-lts.Need-returns-5 (
   kind-at-reads.Asked,
@@ -1257,7 +1488,23 @@ positive-returns-5 : (t : ℕ) → positive-lts.Need-returns-5 (
   literal-reads.Asked,
   literal-reads.Learnt,
 ) (positive-at t) positive.Post
-positive-returns-5 t c = c .under .ensures
+positive-returns-5 t c = c .before .before .under .ensures
+
+positive-same-length-6 : (t : ℕ) → positive-lts.Need-same-length-6 (
+  kind-at-reads.Asked,
+  kind-at-reads.Learnt,
+  negative-below t,
+  negative.Post,
+  arrow-below t,
+  arrow.Post,
+  gather-below t,
+  gather.Post,
+  under-below t,
+  under.Post,
+  literal-reads.Asked,
+  literal-reads.Learnt,
+) (positive-at t) positive.Post
+positive-same-length-6 t c = c .before .before .under2 .kept .1 .1 .1 .1 .1 .1 .0
 
 positive-returns-6 : (t : ℕ) → positive-lts.Need-returns-6 (
   kind-at-reads.Asked,
@@ -1273,7 +1520,23 @@ positive-returns-6 : (t : ℕ) → positive-lts.Need-returns-6 (
   literal-reads.Asked,
   literal-reads.Learnt,
 ) (positive-at t) positive.Post
-positive-returns-6 t c = c .under2 .ensures
+positive-returns-6 t c = c .before .before .under2 .ensures
+
+positive-same-length-7 : (t : ℕ) → positive-lts.Need-same-length-7 (
+  kind-at-reads.Asked,
+  kind-at-reads.Learnt,
+  negative-below t,
+  negative.Post,
+  arrow-below t,
+  arrow.Post,
+  gather-below t,
+  gather.Post,
+  under-below t,
+  under.Post,
+  literal-reads.Asked,
+  literal-reads.Learnt,
+) (positive-at t) positive.Post
+positive-same-length-7 t c = c .before .before .literal .kept .1 .1 .1 .1 .1 .0
 
 positive-returns-7 : (t : ℕ) → positive-lts.Need-returns-7 (
   kind-at-reads.Asked,
@@ -1289,13 +1552,11 @@ positive-returns-7 : (t : ℕ) → positive-lts.Need-returns-7 (
   literal-reads.Asked,
   literal-reads.Learnt,
 ) (positive-at t) positive.Post
-positive-returns-7 t c = c .literal .ensures
+positive-returns-7 t c = c .before .before .literal .ensures
 
 under-add-bind : (t : ℕ) → under-lts.Need-add-bind (
   bind-reads.Asked,
   bind-reads.Learnt,
-  numbered-reads.Asked,
-  numbered-reads.Learnt,
   part-below t,
   part.Post,
   quant-kind-reads.Asked,
@@ -1303,13 +1564,11 @@ under-add-bind : (t : ℕ) → under-lts.Need-add-bind (
   chain-reads.Asked,
   chain-reads.Learnt,
 ) (under-at t) under.Post
-under-add-bind t c = omega (arith, list-in (c .before .args .s .now) (c .before .args .at + 9) (c .before .args .sc) (quant-list (c .before .args .s .now) (c .before .args .at) (c .before .args .sig) (c .before .args .sc) (c .before .args .t) (asQuant (c .before .args .some)) (c .before .pre .1 .0) (quant-view (c .before .args .some) (c .before .pre .1 .0) (c .before .pre .1 .1))), c .before .good .0 .0)
+under-add-bind t c = let w = c .before .before .pre .1 .1 .0 in let v = quant-view (c .before .before .args .some) w (c .before .before .pre .1 .1 .1) in omega (arith, list-in (c .before .before .args .s .now) (c .before .before .args .at + 9) (c .before .before .args .sc) (quant-list (asQuant (c .before .before .args .some)) w v), c .before .before .good .0 .0)
 
 under-bind-requires : (t : ℕ) → under-lts.Need-bind-requires (
   bind-reads.Asked,
   bind-reads.Learnt,
-  numbered-reads.Asked,
-  numbered-reads.Learnt,
   part-below t,
   part.Post,
   quant-kind-reads.Asked,
@@ -1317,13 +1576,11 @@ under-bind-requires : (t : ℕ) → under-lts.Need-bind-requires (
   chain-reads.Asked,
   chain-reads.Learnt,
 ) (under-at t) under.Post
-under-bind-requires t c κs = (quant-list (c .before .args .s .now) (c .before .args .at) (c .before .args .sig) (c .before .args .sc) (c .before .args .t) (asQuant (c .before .args .some)) (c .before .pre .1 .0) (quant-view (c .before .args .some) (c .before .pre .1 .0) (c .before .pre .1 .1)))
+under-bind-requires t c κs = let w = c .before .before .pre .1 .1 .0 in let v = quant-view (c .before .before .args .some) w (c .before .before .pre .1 .1 .1) in quant-list (asQuant (c .before .before .args .some)) w v
 
 under-sub-k : (t : ℕ) → under-lts.Need-sub-k (
   bind-reads.Asked,
   bind-reads.Learnt,
-  numbered-reads.Asked,
-  numbered-reads.Learnt,
   part-below t,
   part.Post,
   quant-kind-reads.Asked,
@@ -1331,13 +1588,11 @@ under-sub-k : (t : ℕ) → under-lts.Need-sub-k (
   chain-reads.Asked,
   chain-reads.Learnt,
 ) (under-at t) under.Post
-under-sub-k t c = omega (arith, c .before .before .bind .ensures (quant-list (c .before .before .before .before .args .s .now) (c .before .before .before .before .args .at) (c .before .before .before .before .args .sig) (c .before .before .before .before .args .sc) (c .before .before .before .before .args .t) (asQuant (c .before .before .before .before .args .some)) (c .before .before .before .before .pre .1 .0) (quant-view (c .before .before .before .before .args .some) (c .before .before .before .before .pre .1 .0) (c .before .before .before .before .pre .1 .1))) .count)
+under-sub-k t c = let w = c .before .before .before .before .before .pre .1 .1 .0 in let v = quant-view (c .before .before .before .before .before .args .some) w (c .before .before .before .before .before .pre .1 .1 .1) in let D = c .before .before .bind .ensures (quant-list (asQuant (c .before .before .before .before .before .args .some)) w v) in omega (arith, D .count)
 
-under-numbered-requires : (t : ℕ) → under-lts.Need-numbered-requires (
+under-add-part : (t : ℕ) → under-lts.Need-add-part (
   bind-reads.Asked,
   bind-reads.Learnt,
-  numbered-reads.Asked,
-  numbered-reads.Learnt,
   part-below t,
   part.Post,
   quant-kind-reads.Asked,
@@ -1345,13 +1600,11 @@ under-numbered-requires : (t : ℕ) → under-lts.Need-numbered-requires (
   chain-reads.Asked,
   chain-reads.Learnt,
 ) (under-at t) under.Post
-under-numbered-requires t c κs = quant-nodes (c .before .before .before .before .args .s .now) (c .before .before .before .before .args .at) (c .before .before .before .before .args .sig) (c .before .before .before .before .args .sc) (c .before .before .before .before .args .t) (asQuant (c .before .before .before .before .args .some)) (c .before .before .before .before .pre .1 .0) (quant-view (c .before .before .before .before .args .some) (c .before .before .before .before .pre .1 .0) (c .before .before .before .before .pre .1 .1)) (c .before .before .bind .result) (c .before .before .bind .ensures (quant-list (c .before .before .before .before .args .s .now) (c .before .before .before .before .args .at) (c .before .before .before .before .args .sig) (c .before .before .before .before .args .sc) (c .before .before .before .before .args .t) (asQuant (c .before .before .before .before .args .some)) (c .before .before .before .before .pre .1 .0) (quant-view (c .before .before .before .before .args .some) (c .before .before .before .before .pre .1 .0) (c .before .before .before .before .pre .1 .1)))) (c .before .before .bind .result .scope .n - c .before .before .before .before .args .sc .n) refl (numberedOf (c .before .before .before .before .args .t) (c .before .before .bind .result .scope .n - c .before .before .before .before .args .sc .n)) refl
+under-add-part t c = let w = c .before .before .before .before .before .before .pre .1 .1 .0 in let v = quant-view (c .before .before .before .before .before .before .args .some) w (c .before .before .before .before .before .before .pre .1 .1 .1) in let D = c .before .before .before .bind .ensures (quant-list (asQuant (c .before .before .before .before .before .before .args .some)) w v) in omega (arith, quant-nodes (asQuant (c .before .before .before .before .before .before .args .some)) w v _ D (c .before .before .before .bind .result .scope .n - c .before .before .before .before .before .before .args .sc .n) refl)
 
 under-part-requires : (t : ℕ) → under-lts.Need-part-requires (
   bind-reads.Asked,
   bind-reads.Learnt,
-  numbered-reads.Asked,
-  numbered-reads.Learnt,
   part-below t,
   part.Post,
   quant-kind-reads.Asked,
@@ -1359,13 +1612,11 @@ under-part-requires : (t : ℕ) → under-lts.Need-part-requires (
   chain-reads.Asked,
   chain-reads.Learnt,
 ) (under-at t) under.Post
-under-part-requires t c κs = (omega (arith, c .before .before .before .before .before .pre .0, ready-in (quant-ready (c .before .before .before .before .before .args .s .now) (c .before .before .before .before .before .args .at) (c .before .before .before .before .before .args .sig) (c .before .before .before .before .before .args .sc) (c .before .before .before .before .before .args .t) (asQuant (c .before .before .before .before .before .args .some)) (c .before .before .before .before .before .pre .1 .0) (quant-view (c .before .before .before .before .before .args .some) (c .before .before .before .before .before .pre .1 .0) (c .before .before .before .before .before .pre .1 .1)) (c .before .before .before .bind .result) (c .before .before .before .bind .ensures (quant-list (c .before .before .before .before .before .args .s .now) (c .before .before .before .before .before .args .at) (c .before .before .before .before .before .args .sig) (c .before .before .before .before .before .args .sc) (c .before .before .before .before .before .args .t) (asQuant (c .before .before .before .before .before .args .some)) (c .before .before .before .before .before .pre .1 .0) (quant-view (c .before .before .before .before .before .args .some) (c .before .before .before .before .before .pre .1 .0) (c .before .before .before .before .before .pre .1 .1)))) (c .before .before .before .bind .result .scope .n - c .before .before .before .before .before .args .sc .n) refl (c .numbered .result) (c .numbered .ensures)), c .before .before .before .bind .ensures (quant-list (c .before .before .before .before .before .args .s .now) (c .before .before .before .before .before .args .at) (c .before .before .before .before .before .args .sig) (c .before .before .before .before .before .args .sc) (c .before .before .before .before .before .args .t) (asQuant (c .before .before .before .before .before .args .some)) (c .before .before .before .before .before .pre .1 .0) (quant-view (c .before .before .before .before .before .args .some) (c .before .before .before .before .before .pre .1 .0) (c .before .before .before .before .before .pre .1 .1))) .place), (quant-ready (c .before .before .before .before .before .args .s .now) (c .before .before .before .before .before .args .at) (c .before .before .before .before .before .args .sig) (c .before .before .before .before .before .args .sc) (c .before .before .before .before .before .args .t) (asQuant (c .before .before .before .before .before .args .some)) (c .before .before .before .before .before .pre .1 .0) (quant-view (c .before .before .before .before .before .args .some) (c .before .before .before .before .before .pre .1 .0) (c .before .before .before .before .before .pre .1 .1)) (c .before .before .before .bind .result) (c .before .before .before .bind .ensures (quant-list (c .before .before .before .before .before .args .s .now) (c .before .before .before .before .before .args .at) (c .before .before .before .before .before .args .sig) (c .before .before .before .before .before .args .sc) (c .before .before .before .before .before .args .t) (asQuant (c .before .before .before .before .before .args .some)) (c .before .before .before .before .before .pre .1 .0) (quant-view (c .before .before .before .before .before .args .some) (c .before .before .before .before .before .pre .1 .0) (c .before .before .before .before .before .pre .1 .1)))) (c .before .before .before .bind .result .scope .n - c .before .before .before .before .before .args .sc .n) refl (c .numbered .result) (c .numbered .ensures)))
+under-part-requires t c κs = let w = c .before .before .before .before .before .before .pre .1 .1 .0 in let v = quant-view (c .before .before .before .before .before .before .args .some) w (c .before .before .before .before .before .before .pre .1 .1 .1) in let D = c .before .before .before .bind .ensures (quant-list (asQuant (c .before .before .before .before .before .before .args .some)) w v) in (omega (arith, c .before .before .before .before .before .before .pre .0, ready-in (quant-ready (asQuant (c .before .before .before .before .before .before .args .some)) w v _ D (c .before .before .before .bind .result .scope .n - c .before .before .before .before .before .before .args .sc .n) refl), D .place), (c .before .before .before .before .before .before .pre .1 .0, quant-ready (asQuant (c .before .before .before .before .before .before .args .some)) w v _ D (c .before .before .before .bind .result .scope .n - c .before .before .before .before .before .before .args .sc .n) refl))
 
 under-quant-kind-requires : (t : ℕ) → under-lts.Need-quant-kind-requires (
   bind-reads.Asked,
   bind-reads.Learnt,
-  numbered-reads.Asked,
-  numbered-reads.Learnt,
   part-below t,
   part.Post,
   quant-kind-reads.Asked,
@@ -1378,8 +1629,6 @@ under-quant-kind-requires t c κs = search needs
 under-chain-requires : (t : ℕ) → under-lts.Need-chain-requires (
   bind-reads.Asked,
   bind-reads.Learnt,
-  numbered-reads.Asked,
-  numbered-reads.Learnt,
   part-below t,
   part.Post,
   quant-kind-reads.Asked,
@@ -1387,13 +1636,11 @@ under-chain-requires : (t : ℕ) → under-lts.Need-chain-requires (
   chain-reads.Asked,
   chain-reads.Learnt,
 ) (under-at t) under.Post
-under-chain-requires t c κs = (quant-space (c .before .before .before .before .before .before .before .before .args .s .now) (c .before .before .before .before .before .before .before .before .args .at) (c .before .before .before .before .before .before .before .before .args .sig) (c .before .before .before .before .before .before .before .before .args .sc) (c .before .before .before .before .before .before .before .before .args .t) (asQuant (c .before .before .before .before .before .before .before .before .args .some)) (c .before .before .before .before .before .before .before .before .pre .1 .0) (quant-view (c .before .before .before .before .before .before .before .before .args .some) (c .before .before .before .before .before .before .before .before .pre .1 .0) (c .before .before .before .before .before .before .before .before .pre .1 .1)) (c .before .before .before .before .before .before .bind .result) (c .before .before .before .before .before .before .bind .ensures (quant-list (c .before .before .before .before .before .before .before .before .args .s .now) (c .before .before .before .before .before .before .before .before .args .at) (c .before .before .before .before .before .before .before .before .args .sig) (c .before .before .before .before .before .before .before .before .args .sc) (c .before .before .before .before .before .before .before .before .args .t) (asQuant (c .before .before .before .before .before .before .before .before .args .some)) (c .before .before .before .before .before .before .before .before .pre .1 .0) (quant-view (c .before .before .before .before .before .before .before .before .args .some) (c .before .before .before .before .before .before .before .before .pre .1 .0) (c .before .before .before .before .before .before .before .before .pre .1 .1)))) (c .before .before .before .before .before .before .bind .result .scope .n - c .before .before .before .before .before .before .before .before .args .sc .n) refl (c .before .before .before .numbered .result) (c .before .before .before .numbered .ensures) (c .before .before .before .before .before .before .before .before .args .pos) (c .before .before .part .result) (c .before .before .part .ensures (quant-ready (c .before .before .before .before .before .before .before .before .args .s .now) (c .before .before .before .before .before .before .before .before .args .at) (c .before .before .before .before .before .before .before .before .args .sig) (c .before .before .before .before .before .before .before .before .args .sc) (c .before .before .before .before .before .before .before .before .args .t) (asQuant (c .before .before .before .before .before .before .before .before .args .some)) (c .before .before .before .before .before .before .before .before .pre .1 .0) (quant-view (c .before .before .before .before .before .before .before .before .args .some) (c .before .before .before .before .before .before .before .before .pre .1 .0) (c .before .before .before .before .before .before .before .before .pre .1 .1)) (c .before .before .before .before .before .before .bind .result) (c .before .before .before .before .before .before .bind .ensures (quant-list (c .before .before .before .before .before .before .before .before .args .s .now) (c .before .before .before .before .before .before .before .before .args .at) (c .before .before .before .before .before .before .before .before .args .sig) (c .before .before .before .before .before .before .before .before .args .sc) (c .before .before .before .before .before .before .before .before .args .t) (asQuant (c .before .before .before .before .before .before .before .before .args .some)) (c .before .before .before .before .before .before .before .before .pre .1 .0) (quant-view (c .before .before .before .before .before .before .before .before .args .some) (c .before .before .before .before .before .before .before .before .pre .1 .0) (c .before .before .before .before .before .before .before .before .pre .1 .1)))) (c .before .before .before .before .before .before .bind .result .scope .n - c .before .before .before .before .before .before .before .before .args .sc .n) refl (c .before .before .before .numbered .result) (c .before .before .before .numbered .ensures))), quant-nodes (c .before .before .before .before .before .before .before .before .args .s .now) (c .before .before .before .before .before .before .before .before .args .at) (c .before .before .before .before .before .before .before .before .args .sig) (c .before .before .before .before .before .before .before .before .args .sc) (c .before .before .before .before .before .before .before .before .args .t) (asQuant (c .before .before .before .before .before .before .before .before .args .some)) (c .before .before .before .before .before .before .before .before .pre .1 .0) (quant-view (c .before .before .before .before .before .before .before .before .args .some) (c .before .before .before .before .before .before .before .before .pre .1 .0) (c .before .before .before .before .before .before .before .before .pre .1 .1)) (c .before .before .before .before .before .before .bind .result) (c .before .before .before .before .before .before .bind .ensures (quant-list (c .before .before .before .before .before .before .before .before .args .s .now) (c .before .before .before .before .before .before .before .before .args .at) (c .before .before .before .before .before .before .before .before .args .sig) (c .before .before .before .before .before .before .before .before .args .sc) (c .before .before .before .before .before .before .before .before .args .t) (asQuant (c .before .before .before .before .before .before .before .before .args .some)) (c .before .before .before .before .before .before .before .before .pre .1 .0) (quant-view (c .before .before .before .before .before .before .before .before .args .some) (c .before .before .before .before .before .before .before .before .pre .1 .0) (c .before .before .before .before .before .before .before .before .pre .1 .1)))) (c .before .before .before .before .before .before .bind .result .scope .n - c .before .before .before .before .before .before .before .before .args .sc .n) refl (c .before .before .before .numbered .result) (c .before .before .before .numbered .ensures), omega (arith, quant-levels (c .before .before .before .before .before .before .before .before .args .s .now) (c .before .before .before .before .before .before .before .before .args .at) (c .before .before .before .before .before .before .before .before .args .sig) (c .before .before .before .before .before .before .before .before .args .sc) (c .before .before .before .before .before .before .before .before .args .t) (asQuant (c .before .before .before .before .before .before .before .before .args .some)) (c .before .before .before .before .before .before .before .before .pre .1 .0) (quant-view (c .before .before .before .before .before .before .before .before .args .some) (c .before .before .before .before .before .before .before .before .pre .1 .0) (c .before .before .before .before .before .before .before .before .pre .1 .1)) (c .before .before .before .before .before .before .bind .result) (c .before .before .before .before .before .before .bind .ensures (quant-list (c .before .before .before .before .before .before .before .before .args .s .now) (c .before .before .before .before .before .before .before .before .args .at) (c .before .before .before .before .before .before .before .before .args .sig) (c .before .before .before .before .before .before .before .before .args .sc) (c .before .before .before .before .before .before .before .before .args .t) (asQuant (c .before .before .before .before .before .before .before .before .args .some)) (c .before .before .before .before .before .before .before .before .pre .1 .0) (quant-view (c .before .before .before .before .before .before .before .before .args .some) (c .before .before .before .before .before .before .before .before .pre .1 .0) (c .before .before .before .before .before .before .before .before .pre .1 .1)))) (c .before .before .before .before .before .before .bind .result .scope .n - c .before .before .before .before .before .before .before .before .args .sc .n) refl (c .before .before .before .numbered .result) (c .before .before .before .numbered .ensures)), c .before .before .part .ensures (quant-ready (c .before .before .before .before .before .before .before .before .args .s .now) (c .before .before .before .before .before .before .before .before .args .at) (c .before .before .before .before .before .before .before .before .args .sig) (c .before .before .before .before .before .before .before .before .args .sc) (c .before .before .before .before .before .before .before .before .args .t) (asQuant (c .before .before .before .before .before .before .before .before .args .some)) (c .before .before .before .before .before .before .before .before .pre .1 .0) (quant-view (c .before .before .before .before .before .before .before .before .args .some) (c .before .before .before .before .before .before .before .before .pre .1 .0) (c .before .before .before .before .before .before .before .before .pre .1 .1)) (c .before .before .before .before .before .before .bind .result) (c .before .before .before .before .before .before .bind .ensures (quant-list (c .before .before .before .before .before .before .before .before .args .s .now) (c .before .before .before .before .before .before .before .before .args .at) (c .before .before .before .before .before .before .before .before .args .sig) (c .before .before .before .before .before .before .before .before .args .sc) (c .before .before .before .before .before .before .before .before .args .t) (asQuant (c .before .before .before .before .before .before .before .before .args .some)) (c .before .before .before .before .before .before .before .before .pre .1 .0) (quant-view (c .before .before .before .before .before .before .before .before .args .some) (c .before .before .before .before .before .before .before .before .pre .1 .0) (c .before .before .before .before .before .before .before .before .pre .1 .1)))) (c .before .before .before .before .before .before .bind .result .scope .n - c .before .before .before .before .before .before .before .before .args .sc .n) refl (c .before .before .before .numbered .result) (c .before .before .before .numbered .ensures)) .adds .long)
+under-chain-requires t c κs = let w = c .before .before .before .before .before .before .before .before .before .before .before .pre .1 .1 .0 in let v = quant-view (c .before .before .before .before .before .before .before .before .before .before .before .args .some) w (c .before .before .before .before .before .before .before .before .before .before .before .pre .1 .1 .1) in let D = c .before .before .before .before .before .before .before .before .bind .ensures (quant-list (asQuant (c .before .before .before .before .before .before .before .before .before .before .before .args .some)) w v) in let X = c .before .before .before .before .part .ensures (quant-ready (asQuant (c .before .before .before .before .before .before .before .before .before .before .before .args .some)) w v _ D (c .before .before .before .before .before .before .before .before .bind .result .scope .n - c .before .before .before .before .before .before .before .before .before .before .before .args .sc .n) refl) in (quant-space (asQuant (c .before .before .before .before .before .before .before .before .before .before .before .args .some)) w v _ D (c .before .before .before .before .before .before .before .before .bind .result .scope .n - c .before .before .before .before .before .before .before .before .before .before .before .args .sc .n) refl (c .before .before .before .before .before .before .before .before .before .before .before .args .pos) _ _ X, quant-nodes (asQuant (c .before .before .before .before .before .before .before .before .before .before .before .args .some)) w v _ D (c .before .before .before .before .before .before .before .before .bind .result .scope .n - c .before .before .before .before .before .before .before .before .before .before .before .args .sc .n) refl, omega (arith, quant-levels (asQuant (c .before .before .before .before .before .before .before .before .before .before .before .args .some)) w v _ D (c .before .before .before .before .before .before .before .before .bind .result .scope .n - c .before .before .before .before .before .before .before .before .before .before .before .args .sc .n) refl), c .before .before .before .before .part .kept .1 .1 .1 .1 .1 .0 ∙ c .before .before .before .before .before .before .before .before .before .before .before .pre .1 .0)
 
-under-add-t20 : (t : ℕ) → under-lts.Need-add-t20 (
+under-add-t17 : (t : ℕ) → under-lts.Need-add-t17 (
   bind-reads.Asked,
   bind-reads.Learnt,
-  numbered-reads.Asked,
-  numbered-reads.Learnt,
   part-below t,
   part.Post,
   quant-kind-reads.Asked,
@@ -1401,13 +1648,35 @@ under-add-t20 : (t : ℕ) → under-lts.Need-add-t20 (
   chain-reads.Asked,
   chain-reads.Learnt,
 ) (under-at t) under.Post
-under-add-t20 t c = omega (arith, quant-place (c .before .before .before .before .before .before .before .before .before .args .s .now) (c .before .before .before .before .before .before .before .before .before .args .at) (c .before .before .before .before .before .before .before .before .before .args .sig) (c .before .before .before .before .before .before .before .before .before .args .sc) (c .before .before .before .before .before .before .before .before .before .args .t) (asQuant (c .before .before .before .before .before .before .before .before .before .args .some)) (c .before .before .before .before .before .before .before .before .before .pre .1 .0) (quant-view (c .before .before .before .before .before .before .before .before .before .args .some) (c .before .before .before .before .before .before .before .before .before .pre .1 .0) (c .before .before .before .before .before .before .before .before .before .pre .1 .1)) (c .before .before .before .before .before .before .before .bind .result) (c .before .before .before .before .before .before .before .bind .ensures (quant-list (c .before .before .before .before .before .before .before .before .before .args .s .now) (c .before .before .before .before .before .before .before .before .before .args .at) (c .before .before .before .before .before .before .before .before .before .args .sig) (c .before .before .before .before .before .before .before .before .before .args .sc) (c .before .before .before .before .before .before .before .before .before .args .t) (asQuant (c .before .before .before .before .before .before .before .before .before .args .some)) (c .before .before .before .before .before .before .before .before .before .pre .1 .0) (quant-view (c .before .before .before .before .before .before .before .before .before .args .some) (c .before .before .before .before .before .before .before .before .before .pre .1 .0) (c .before .before .before .before .before .before .before .before .before .pre .1 .1)))) (c .before .before .before .before .before .before .before .bind .result .scope .n - c .before .before .before .before .before .before .before .before .before .args .sc .n) refl (c .before .before .before .before .numbered .result) (c .before .before .before .before .numbered .ensures) (c .before .before .before .before .before .before .before .before .before .args .pos) (c .before .before .before .part .result) (c .before .before .before .part .ensures (quant-ready (c .before .before .before .before .before .before .before .before .before .args .s .now) (c .before .before .before .before .before .before .before .before .before .args .at) (c .before .before .before .before .before .before .before .before .before .args .sig) (c .before .before .before .before .before .before .before .before .before .args .sc) (c .before .before .before .before .before .before .before .before .before .args .t) (asQuant (c .before .before .before .before .before .before .before .before .before .args .some)) (c .before .before .before .before .before .before .before .before .before .pre .1 .0) (quant-view (c .before .before .before .before .before .before .before .before .before .args .some) (c .before .before .before .before .before .before .before .before .before .pre .1 .0) (c .before .before .before .before .before .before .before .before .before .pre .1 .1)) (c .before .before .before .before .before .before .before .bind .result) (c .before .before .before .before .before .before .before .bind .ensures (quant-list (c .before .before .before .before .before .before .before .before .before .args .s .now) (c .before .before .before .before .before .before .before .before .before .args .at) (c .before .before .before .before .before .before .before .before .before .args .sig) (c .before .before .before .before .before .before .before .before .before .args .sc) (c .before .before .before .before .before .before .before .before .before .args .t) (asQuant (c .before .before .before .before .before .before .before .before .before .args .some)) (c .before .before .before .before .before .before .before .before .before .pre .1 .0) (quant-view (c .before .before .before .before .before .before .before .before .before .args .some) (c .before .before .before .before .before .before .before .before .before .pre .1 .0) (c .before .before .before .before .before .before .before .before .before .pre .1 .1)))) (c .before .before .before .before .before .before .before .bind .result .scope .n - c .before .before .before .before .before .before .before .before .before .args .sc .n) refl (c .before .before .before .before .numbered .result) (c .before .before .before .before .numbered .ensures))), ready-end (c .before .before .before .before .before .before .before .before .before .pre .1 .0), c .before .before .before .before .before .before .before .before .before .good .0 .0)
+under-add-t17 t c = let w = c .before .before .before .before .before .before .before .before .before .before .before .before .before .before .before .pre .1 .1 .0 in let v = quant-view (c .before .before .before .before .before .before .before .before .before .before .before .before .before .before .before .args .some) w (c .before .before .before .before .before .before .before .before .before .before .before .before .before .before .before .pre .1 .1 .1) in let D = c .before .before .before .before .before .before .before .before .before .before .before .before .bind .ensures (quant-list (asQuant (c .before .before .before .before .before .before .before .before .before .before .before .before .before .before .before .args .some)) w v) in let X = c .before .before .before .before .before .before .before .before .part .ensures (quant-ready (asQuant (c .before .before .before .before .before .before .before .before .before .before .before .before .before .before .before .args .some)) w v _ D (c .before .before .before .before .before .before .before .before .before .before .before .before .bind .result .scope .n - c .before .before .before .before .before .before .before .before .before .before .before .before .before .before .before .args .sc .n) refl) in omega (arith, quant-space (asQuant (c .before .before .before .before .before .before .before .before .before .before .before .before .before .before .before .args .some)) w v _ D (c .before .before .before .before .before .before .before .before .before .before .before .before .bind .result .scope .n - c .before .before .before .before .before .before .before .before .before .before .before .before .before .before .before .args .sc .n) refl (c .before .before .before .before .before .before .before .before .before .before .before .before .before .before .before .args .pos) _ _ X)
+
+under-add-t23 : (t : ℕ) → under-lts.Need-add-t23 (
+  bind-reads.Asked,
+  bind-reads.Learnt,
+  part-below t,
+  part.Post,
+  quant-kind-reads.Asked,
+  quant-kind-reads.Learnt,
+  chain-reads.Asked,
+  chain-reads.Learnt,
+) (under-at t) under.Post
+under-add-t23 t c = let w = c .before .before .before .before .before .before .before .before .before .before .before .before .before .before .before .before .pre .1 .1 .0 in let v = quant-view (c .before .before .before .before .before .before .before .before .before .before .before .before .before .before .before .before .args .some) w (c .before .before .before .before .before .before .before .before .before .before .before .before .before .before .before .before .pre .1 .1 .1) in let D = c .before .before .before .before .before .before .before .before .before .before .before .before .before .bind .ensures (quant-list (asQuant (c .before .before .before .before .before .before .before .before .before .before .before .before .before .before .before .before .args .some)) w v) in let X = c .before .before .before .before .before .before .before .before .before .part .ensures (quant-ready (asQuant (c .before .before .before .before .before .before .before .before .before .before .before .before .before .before .before .before .args .some)) w v _ D (c .before .before .before .before .before .before .before .before .before .before .before .before .before .bind .result .scope .n - c .before .before .before .before .before .before .before .before .before .before .before .before .before .before .before .before .args .sc .n) refl) in omega (arith, quant-place (asQuant (c .before .before .before .before .before .before .before .before .before .before .before .before .before .before .before .before .args .some)) w v _ D (c .before .before .before .before .before .before .before .before .before .before .before .before .before .bind .result .scope .n - c .before .before .before .before .before .before .before .before .before .before .before .before .before .before .before .before .args .sc .n) refl (c .before .before .before .before .before .before .before .before .before .before .before .before .before .before .before .before .args .pos) _ _ X, ready-end w, c .before .before .before .before .before .before .before .before .before .before .before .before .before .before .before .before .good .0 .0)
+
+under-same-length : (t : ℕ) → under-lts.Need-same-length (
+  bind-reads.Asked,
+  bind-reads.Learnt,
+  part-below t,
+  part.Post,
+  quant-kind-reads.Asked,
+  quant-kind-reads.Learnt,
+  chain-reads.Asked,
+  chain-reads.Learnt,
+) (under-at t) under.Post
+under-same-length t c = c .before .before .before .before .chain .kept .0 ∙ c .before .before .before .before .before .before .before .before .before .part .kept .1 .1 .1 .1 .1 .0
 
 under-returns : (t : ℕ) → under-lts.Need-returns (
   bind-reads.Asked,
   bind-reads.Learnt,
-  numbered-reads.Asked,
-  numbered-reads.Learnt,
   part-below t,
   part.Post,
   quant-kind-reads.Asked,
@@ -1415,33 +1684,33 @@ under-returns : (t : ℕ) → under-lts.Need-returns (
   chain-reads.Asked,
   chain-reads.Learnt,
 ) (under-at t) under.Post
-under-returns t c = λ w. quant-done (c .before .before .before .before .before .before .before .before .before .args .s .now) (c .before .before .before .before .before .before .before .before .before .args .at) (c .before .before .before .before .before .before .before .before .before .args .sig) (c .before .before .before .before .before .before .before .before .before .args .sc) (c .before .before .before .before .before .before .before .before .before .args .t) (asQuant (c .before .before .before .before .before .before .before .before .before .args .some)) w (quant-view (c .before .before .before .before .before .before .before .before .before .args .some) w (c .before .before .before .before .before .before .before .before .before .pre .1 .1)) (c .before .before .before .before .before .before .before .bind .result) (c .before .before .before .before .before .before .before .bind .ensures (quant-list (c .before .before .before .before .before .before .before .before .before .args .s .now) (c .before .before .before .before .before .before .before .before .before .args .at) (c .before .before .before .before .before .before .before .before .before .args .sig) (c .before .before .before .before .before .before .before .before .before .args .sc) (c .before .before .before .before .before .before .before .before .before .args .t) (asQuant (c .before .before .before .before .before .before .before .before .before .args .some)) w (quant-view (c .before .before .before .before .before .before .before .before .before .args .some) w (c .before .before .before .before .before .before .before .before .before .pre .1 .1)))) (c .before .before .before .before .before .before .before .bind .result .scope .n - c .before .before .before .before .before .before .before .before .before .args .sc .n) refl (c .before .before .before .before .numbered .result) (c .before .before .before .before .numbered .ensures) (c .before .before .before .before .before .before .before .before .before .args .pos) (c .before .before .before .part .result) (c .before .before .before .part .ensures (quant-ready (c .before .before .before .before .before .before .before .before .before .args .s .now) (c .before .before .before .before .before .before .before .before .before .args .at) (c .before .before .before .before .before .before .before .before .before .args .sig) (c .before .before .before .before .before .before .before .before .before .args .sc) (c .before .before .before .before .before .before .before .before .before .args .t) (asQuant (c .before .before .before .before .before .before .before .before .before .args .some)) w (quant-view (c .before .before .before .before .before .before .before .before .before .args .some) w (c .before .before .before .before .before .before .before .before .before .pre .1 .1)) (c .before .before .before .before .before .before .before .bind .result) (c .before .before .before .before .before .before .before .bind .ensures (quant-list (c .before .before .before .before .before .before .before .before .before .args .s .now) (c .before .before .before .before .before .before .before .before .before .args .at) (c .before .before .before .before .before .before .before .before .before .args .sig) (c .before .before .before .before .before .before .before .before .before .args .sc) (c .before .before .before .before .before .before .before .before .before .args .t) (asQuant (c .before .before .before .before .before .before .before .before .before .args .some)) w (quant-view (c .before .before .before .before .before .before .before .before .before .args .some) w (c .before .before .before .before .before .before .before .before .before .pre .1 .1)))) (c .before .before .before .before .before .before .before .bind .result .scope .n - c .before .before .before .before .before .before .before .before .before .args .sc .n) refl (c .before .before .before .before .numbered .result) (c .before .before .before .before .numbered .ensures))) (c .chain .result) (subst (λ n. Adds (c .before .before .before .part .result .rows) (chainOf n (c .before .before .before .before .before .before .before .before .before .args .t .nodes) (c .before .before .before .before .before .before .before .before .before .args .sc .n) (c .before .before .before .before .before .before .before .bind .result .scope .n - c .before .before .before .before .before .before .before .before .before .args .sc .n)) 0 (c .chain .result)) (c .before .quant-kind .ensures) (c .chain .ensures))
+under-returns t c = λ w. let v = quant-view (c .before .before .before .before .before .before .before .before .before .before .before .before .before .before .before .before .args .some) w (c .before .before .before .before .before .before .before .before .before .before .before .before .before .before .before .before .pre .1 .1 .1) in let D = c .before .before .before .before .before .before .before .before .before .before .before .before .before .bind .ensures (quant-list (asQuant (c .before .before .before .before .before .before .before .before .before .before .before .before .before .before .before .before .args .some)) w v) in let X = c .before .before .before .before .before .before .before .before .before .part .ensures (quant-ready (asQuant (c .before .before .before .before .before .before .before .before .before .before .before .before .before .before .before .before .args .some)) w v _ D (c .before .before .before .before .before .before .before .before .before .before .before .before .before .bind .result .scope .n - c .before .before .before .before .before .before .before .before .before .before .before .before .before .before .before .before .args .sc .n) refl) in quant-done (asQuant (c .before .before .before .before .before .before .before .before .before .before .before .before .before .before .before .before .args .some)) w v _ D (c .before .before .before .before .before .before .before .before .before .before .before .before .before .bind .result .scope .n - c .before .before .before .before .before .before .before .before .before .before .before .before .before .before .before .before .args .sc .n) refl (c .before .before .before .before .before .before .before .before .before .before .before .before .before .before .before .before .args .pos) _ _ X _ (subst (λ n. Adds (rowsFrom (c .before .before .before .before .before .before .before .before .before .part .last .1 .1 .1 .1 .1 .0) (c .before .before .before .before .before .before .before .before .before .part .result .len) (c .before .before .before .before .before .before .before .before .before .part .result .nodes)) (chainOf n (c .before .before .before .before .before .before .before .before .before .before .before .before .before .before .before .before .args .nodes) (c .before .before .before .before .before .before .before .before .before .before .before .before .before .before .before .before .args .sc .n) (c .before .before .before .before .before .before .before .before .before .before .before .before .before .bind .result .scope .n - c .before .before .before .before .before .before .before .before .before .before .before .before .before .before .before .before .args .sc .n)) 0 (rowsFrom (c .before .before .before .before .chain .last .0) (c .before .before .before .before .before .before .before .before .before .part .result .len + (c .before .before .before .before .before .before .before .before .before .before .before .before .before .bind .result .scope .n - c .before .before .before .before .before .before .before .before .before .before .before .before .before .before .before .before .args .sc .n)) (c .before .before .before .before .before .before .before .before .before .part .result .nodes))) (c .before .before .before .before .before .before .quant-kind .ensures) (c .before .before .before .before .chain .ensures (c .before .before .before .before .before .before .before .before .before .part .result .nodes)))
 
 pub +arrow+further+gather+negative+part+positive+under-spec : {M : Type 1} → statement M
 +arrow+further+gather+negative+part+positive+under-spec =
     close μ-arrow μ-further μ-gather μ-negative μ-part μ-positive μ-under (λ t. arrow-lts.spec (
-      numbered-reads.Asked,
-      numbered-reads.Learnt,
       part-below t,
       part.Post,
       join-kind-reads.Asked,
       join-kind-reads.Learnt,
       join-row-reads.Asked,
       join-row-reads.Learnt,
-      push-reads.Asked,
-      push-reads.Learnt,
+      put-row-reads.Asked,
+      put-row-reads.Learnt,
     )
     (arrow-at t)
     arrow.Post
-    (arrow-numbered-requires t)
     (arrow-add-part t)
-    (arrow-part-requires t)
     (arrow-add-part-2 t)
+    (arrow-part-requires t)
+    (arrow-add-part-3 t)
     (arrow-part-requires-2 t)
     (arrow-join-kind-requires t)
     (arrow-join-row-requires t)
-    (arrow-push-requires t)
-    (arrow-add-t18 t)
+    (arrow-put-row-requires t)
+    (arrow-add-t17 t)
+    (arrow-add-t13 t)
+    (arrow-same-length t)
     (arrow-returns t))
     (λ t. further-lts.spec
     (part-below t, part.Post, further-below t, further.Post)
@@ -1452,11 +1721,10 @@ pub +arrow+further+gather+negative+part+positive+under-spec : {M : Type 1} → s
     (further-part-requires t)
     (further-add-further t)
     (further-further-requires t)
+    (further-same-length t)
     (further-returns t)
     (further-returns-2 t))
     (λ t. gather-lts.spec (
-      numbered-reads.Asked,
-      numbered-reads.Learnt,
       join-word-reads.Asked,
       join-word-reads.Learnt,
       part-below t,
@@ -1467,20 +1735,22 @@ pub +arrow+further+gather+negative+part+positive+under-spec : {M : Type 1} → s
       join-kind-reads.Learnt,
       join-row-reads.Asked,
       join-row-reads.Learnt,
-      push-reads.Asked,
-      push-reads.Learnt,
+      put-row-reads.Asked,
+      put-row-reads.Learnt,
     )
     (gather-at t)
     gather.Post
-    (gather-numbered-requires t)
     (gather-join-word-requires t)
     (gather-add-part t)
+    (gather-add-part-2 t)
     (gather-part-requires t)
     (gather-further-requires t)
     (gather-join-kind-requires t)
     (gather-join-row-requires t)
-    (gather-push-requires t)
-    (gather-add-t21 t)
+    (gather-put-row-requires t)
+    (gather-add-t15 t)
+    (gather-add-t18 t)
+    (gather-same-length t)
     (gather-returns t))
     (λ t. negative-lts.spec (
       kind-at-reads.Asked,
@@ -1515,12 +1785,19 @@ pub +arrow+further+gather+negative+part+positive+under-spec : {M : Type 1} → s
     (negative-under-requires-2 t)
     (negative-enum-told-7 t)
     (negative-literal-requires t)
+    (negative-same-length t)
     (negative-returns t)
+    (negative-same-length-2 t)
     (negative-returns-2 t)
+    (negative-same-length-3 t)
     (negative-returns-3 t)
+    (negative-same-length-4 t)
     (negative-returns-4 t)
+    (negative-same-length-5 t)
     (negative-returns-5 t)
+    (negative-same-length-6 t)
     (negative-returns-6 t)
+    (negative-same-length-7 t)
     (negative-returns-7 t))
     (λ t. part-lts.spec
     (positive-below t, positive.Post, negative-below t, negative.Post)
@@ -1528,7 +1805,9 @@ pub +arrow+further+gather+negative+part+positive+under-spec : {M : Type 1} → s
     part.Post
     (part-positive-requires t)
     (part-negative-requires t)
+    (part-same-length t)
     (part-returns t)
+    (part-same-length-2 t)
     (part-returns-2 t))
     (λ t. positive-lts.spec (
       kind-at-reads.Asked,
@@ -1563,18 +1842,23 @@ pub +arrow+further+gather+negative+part+positive+under-spec : {M : Type 1} → s
     (positive-under-requires-2 t)
     (positive-enum-told-7 t)
     (positive-literal-requires t)
+    (positive-same-length t)
     (positive-returns t)
+    (positive-same-length-2 t)
     (positive-returns-2 t)
+    (positive-same-length-3 t)
     (positive-returns-3 t)
+    (positive-same-length-4 t)
     (positive-returns-4 t)
+    (positive-same-length-5 t)
     (positive-returns-5 t)
+    (positive-same-length-6 t)
     (positive-returns-6 t)
+    (positive-same-length-7 t)
     (positive-returns-7 t))
     λ t. under-lts.spec (
       bind-reads.Asked,
       bind-reads.Learnt,
-      numbered-reads.Asked,
-      numbered-reads.Learnt,
       part-below t,
       part.Post,
       quant-kind-reads.Asked,
@@ -1587,9 +1871,11 @@ pub +arrow+further+gather+negative+part+positive+under-spec : {M : Type 1} → s
     (under-add-bind t)
     (under-bind-requires t)
     (under-sub-k t)
-    (under-numbered-requires t)
+    (under-add-part t)
     (under-part-requires t)
     (under-quant-kind-requires t)
     (under-chain-requires t)
-    (under-add-t20 t)
+    (under-add-t17 t)
+    (under-add-t23 t)
+    (under-same-length t)
     (under-returns t)

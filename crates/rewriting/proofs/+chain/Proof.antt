@@ -1,9 +1,11 @@
 -- `chain` meets its contract; the quantifiers that are left fall.
-use mathlib.Core.Path.{ap, _∙_}
+use mathlib.Core.Path.{_≡_, subst, _∙_}
 use native.Mathlib.Omega.{arith}
 use Prim.Native.Nat.{_+_, _-_}
-use lib.ListN.{length, length-set}
-use Rattle.tables.specs.declared.Rows.{Rows}
+use Rattle.tables.specs.Lent.{rows-many}
+use Rattle.tables.specs.Postorder.{rowsFrom}
+use Rattle.rewriting.specs.Trees.{chain as chainOf}
+use Rattle.rewriting.specs.Ready.{Adds}
 use Rattle.rewriting.proofs.Tables.{chain-none, chain-more}
 use Prim.Native.Nat.{ℕ, _<_}
 use borrow.Fn.Kinds.{In}
@@ -11,35 +13,35 @@ use borrow.Fn.PlainCycle.{Measures, is, falls, and}
 use Rattle.rewriting.proofs.chain.Reads as chain
 use Rattle.rewriting.proofs.chain.Kinds as chain-kinds
 use Rattle.rewriting.proofs.+chain.Lts-chain as chain-lts
-use Rattle.rewriting.proofs.push.Reads as push-reads
 use Rattle.rewriting.proofs.quant_row.Reads as quant-row-reads
+use Rattle.tables.proofs.put_row.Reads as put-row-reads
 use Rattle.rewriting.proofs.+chain.{statement}
 use Rattle.rewriting.proofs.+chain.Tie.{close}
 
-abbrev μ-chain : Measures 0 chain-kinds.ps ℕ
-μ-chain κs a = a .1 .1 .1 .1 .0
+abbrev μ-chain : Measures 1 chain-kinds.ps ℕ
+μ-chain κs a = a .1 .1 .1 .1 .1 .0
 
-abbrev chain-at : ℕ → In 0 chain-kinds.ps
-chain-at t = and 0 chain-kinds.ps (is 0 chain-kinds.ps μ-chain t) chain.Pre
+abbrev chain-at : ℕ → In 1 chain-kinds.ps
+chain-at t = and 1 chain-kinds.ps (is 1 chain-kinds.ps μ-chain t) chain.Pre
 
-abbrev chain-below : ℕ → In 0 chain-kinds.ps
-chain-below t = and 0 chain-kinds.ps (falls 0 chain-kinds.ps _<_ μ-chain t) chain.Pre
+abbrev chain-below : ℕ → In 1 chain-kinds.ps
+chain-below t = and 1 chain-kinds.ps (falls 1 chain-kinds.ps _<_ μ-chain t) chain.Pre
 
 chain-returns : (t : ℕ) → chain-lts.Need-returns (
   quant-row-reads.Asked,
   quant-row-reads.Learnt,
-  push-reads.Asked,
-  push-reads.Learnt,
+  put-row-reads.Asked,
+  put-row-reads.Learnt,
   chain-below t,
   chain.Post,
 ) (chain-at t) chain.Post
-chain-returns t c = chain-none (c .before .args .kind) (c .before .args .which) (c .before .args .level) (c .before .args .k) (c .before .args .t) (c .if1 .taken) (c .before .pre .1 .3)
+chain-returns t c = λ nodes. let z = c .before .before in let e : z .args .len ≡ z .args .len + z .args .k = omega arith in subst (λ (l : ℕ). Adds (rowsFrom (z .args .rows .now) (z .args .len) nodes) (chainOf (z .args .kind) (z .args .which) (z .args .level) (z .args .k)) 0 (rowsFrom (z .args .rows .now) l nodes)) e (chain-none (z .args .kind) (z .args .which) (z .args .level) (z .args .k) (rowsFrom (z .args .rows .now) (z .args .len) nodes) (c .if1 .taken) (rows-many (z .args .rows .now) (z .args .len) nodes))
 
 chain-sub-quant-row : (t : ℕ) → chain-lts.Need-sub-quant-row (
   quant-row-reads.Asked,
   quant-row-reads.Learnt,
-  push-reads.Asked,
-  push-reads.Learnt,
+  put-row-reads.Asked,
+  put-row-reads.Learnt,
   chain-below t,
   chain.Post,
 ) (chain-at t) chain.Post
@@ -48,18 +50,18 @@ chain-sub-quant-row t c = omega arith
 chain-add-quant-row : (t : ℕ) → chain-lts.Need-add-quant-row (
   quant-row-reads.Asked,
   quant-row-reads.Learnt,
-  push-reads.Asked,
-  push-reads.Learnt,
+  put-row-reads.Asked,
+  put-row-reads.Learnt,
   chain-below t,
   chain.Post,
 ) (chain-at t) chain.Post
-chain-add-quant-row t c = omega (arith, c .before .pre .1 .1)
+chain-add-quant-row t c = omega (arith, c .before .before .pre .1 .1)
 
 chain-sub-quant-row-2 : (t : ℕ) → chain-lts.Need-sub-quant-row-2 (
   quant-row-reads.Asked,
   quant-row-reads.Learnt,
-  push-reads.Asked,
-  push-reads.Learnt,
+  put-row-reads.Asked,
+  put-row-reads.Learnt,
   chain-below t,
   chain.Post,
 ) (chain-at t) chain.Post
@@ -68,38 +70,48 @@ chain-sub-quant-row-2 t c = omega arith
 chain-add-quant-row-2 : (t : ℕ) → chain-lts.Need-add-quant-row-2 (
   quant-row-reads.Asked,
   quant-row-reads.Learnt,
-  push-reads.Asked,
-  push-reads.Learnt,
+  put-row-reads.Asked,
+  put-row-reads.Learnt,
   chain-below t,
   chain.Post,
 ) (chain-at t) chain.Post
-chain-add-quant-row-2 t c = omega (arith, c .before .pre .1 .2)
+chain-add-quant-row-2 t c = omega (arith, c .before .before .pre .1 .2)
 
 chain-quant-row-requires : (t : ℕ) → chain-lts.Need-quant-row-requires (
   quant-row-reads.Asked,
   quant-row-reads.Learnt,
-  push-reads.Asked,
-  push-reads.Learnt,
+  put-row-reads.Asked,
+  put-row-reads.Learnt,
   chain-below t,
   chain.Post,
 ) (chain-at t) chain.Post
-chain-quant-row-requires t c κs = (omega (arith, c .before .pre .1 .1), omega (arith, c .before .pre .1 .2))
+chain-quant-row-requires t c κs = (omega (arith, c .before .before .pre .1 .1), omega (arith, c .before .before .pre .1 .2))
 
-chain-push-requires : (t : ℕ) → chain-lts.Need-push-requires (
+chain-put-row-requires : (t : ℕ) → chain-lts.Need-put-row-requires (
   quant-row-reads.Asked,
   quant-row-reads.Learnt,
-  push-reads.Asked,
-  push-reads.Learnt,
+  put-row-reads.Asked,
+  put-row-reads.Learnt,
   chain-below t,
   chain.Post,
 ) (chain-at t) chain.Post
-chain-push-requires t c κs = omega (arith, c .before .before .pre .1 .0, c .before .if1 .left)
+chain-put-row-requires t c κs = (c .before .before .before .before .pre .1 .3, omega (arith, c .before .before .before .before .pre .1 .0, c .before .before .if1 .left))
+
+chain-add-chain : (t : ℕ) → chain-lts.Need-add-chain (
+  quant-row-reads.Asked,
+  quant-row-reads.Learnt,
+  put-row-reads.Asked,
+  put-row-reads.Learnt,
+  chain-below t,
+  chain.Post,
+) (chain-at t) chain.Post
+chain-add-chain t c = omega (arith, c .before .before .before .before .before .before .before .before .pre .1 .0)
 
 chain-sub-chain : (t : ℕ) → chain-lts.Need-sub-chain (
   quant-row-reads.Asked,
   quant-row-reads.Learnt,
-  push-reads.Asked,
-  push-reads.Learnt,
+  put-row-reads.Asked,
+  put-row-reads.Learnt,
   chain-below t,
   chain.Post,
 ) (chain-at t) chain.Post
@@ -108,29 +120,39 @@ chain-sub-chain t c = omega arith
 chain-chain-requires : (t : ℕ) → chain-lts.Need-chain-requires (
   quant-row-reads.Asked,
   quant-row-reads.Learnt,
-  push-reads.Asked,
-  push-reads.Learnt,
+  put-row-reads.Asked,
+  put-row-reads.Learnt,
   chain-below t,
   chain.Post,
 ) (chain-at t) chain.Post
-chain-chain-requires t c κs = (omega (arith, c .before .before .before .pre .0, c .before .before .if1 .left), (omega (arith, ap (λ (x : Rows). x .len) (c .push .ensures), c .before .before .before .pre .1 .0, c .before .before .if1 .left), omega (arith, c .before .before .before .pre .1 .1), omega (arith, c .before .before .before .pre .1 .2), ap (λ (x : Rows). length (x .at)) (c .push .ensures) ∙ length-set (c .before .before .before .args .t .at) (c .before .before .before .args .t .len) (c .before .quant-row .result) ∙ c .before .before .before .pre .1 .3))
+chain-chain-requires t c κs = (omega (arith, c .before .before .before .before .before .before .before .before .pre .0, c .before .before .before .before .before .before .if1 .left), (omega (arith, c .before .before .before .before .before .before .before .before .pre .1 .0, c .before .before .before .before .before .before .if1 .left), omega (arith, c .before .before .before .before .before .before .before .before .pre .1 .1), omega (arith, c .before .before .before .before .before .before .before .before .pre .1 .2), c .before .before .before .put-row .ensures .0))
+
+chain-same-length : (t : ℕ) → chain-lts.Need-same-length (
+  quant-row-reads.Asked,
+  quant-row-reads.Learnt,
+  put-row-reads.Asked,
+  put-row-reads.Learnt,
+  chain-below t,
+  chain.Post,
+) (chain-at t) chain.Post
+chain-same-length t c = c .before .before .chain .kept .0 ∙ c .before .before .before .before .before .before .put-row .kept .0
 
 chain-returns-2 : (t : ℕ) → chain-lts.Need-returns-2 (
   quant-row-reads.Asked,
   quant-row-reads.Learnt,
-  push-reads.Asked,
-  push-reads.Learnt,
+  put-row-reads.Asked,
+  put-row-reads.Learnt,
   chain-below t,
   chain.Post,
 ) (chain-at t) chain.Post
-chain-returns-2 t c = chain-more (c .before .before .before .before .args .kind) (c .before .before .before .before .args .which) (c .before .before .before .before .args .level) (c .before .before .before .before .args .k) (c .before .before .before .before .args .t) (c .before .push .result) (c .chain .result) (c .before .before .quant-row .result) (c .before .before .before .if1 .left) (c .before .before .before .before .pre .1 .3) (omega (arith, c .before .before .before .before .pre .1 .0, c .before .before .before .if1 .left)) (c .before .before .quant-row .ensures) (c .before .push .ensures) (c .chain .ensures)
+chain-returns-2 t c = λ nodes. let z = c .before .before .before .before .before .before .before .before .before .before .before in let e : (z .args .len + 1) + (z .args .k - 1) ≡ z .args .len + z .args .k = omega (arith, c .before .before .before .before .before .before .before .before .before .if1 .left) in chain-more (z .args .kind) (z .args .which) (z .args .level) (z .args .k) (rowsFrom (z .args .rows .now) (z .args .len) nodes) (rowsFrom (c .before .before .before .before .before .before .put-row .last .0) (z .args .len + 1) nodes) (rowsFrom (c .before .before .chain .last .0) (z .args .len + z .args .k) nodes) (c .before .before .before .before .before .before .before .before .quant-row .result) (c .before .before .before .before .before .before .before .before .before .if1 .left) (rows-many (z .args .rows .now) (z .args .len) nodes) (omega (arith, z .pre .1 .0, c .before .before .before .before .before .before .before .before .before .if1 .left)) (c .before .before .before .before .before .before .before .before .quant-row .ensures) (c .before .before .before .before .before .before .put-row .ensures .1 (z .args .len + 1) nodes) (subst (λ (l : ℕ). Adds (rowsFrom (c .before .before .before .before .before .before .put-row .last .0) (z .args .len + 1) nodes) (chainOf (z .args .kind) (z .args .which) (z .args .level) (z .args .k - 1)) 0 (rowsFrom (c .before .before .chain .last .0) l nodes)) e (c .before .before .chain .ensures nodes))
 
 pub +chain-spec : {M : Type 1} → statement M
 +chain-spec = close μ-chain λ t. chain-lts.spec (
   quant-row-reads.Asked,
   quant-row-reads.Learnt,
-  push-reads.Asked,
-  push-reads.Learnt,
+  put-row-reads.Asked,
+  put-row-reads.Learnt,
   chain-below t,
   chain.Post,
 )
@@ -142,7 +164,9 @@ pub +chain-spec : {M : Type 1} → statement M
     (chain-sub-quant-row-2 t)
     (chain-add-quant-row-2 t)
     (chain-quant-row-requires t)
-    (chain-push-requires t)
+    (chain-put-row-requires t)
+    (chain-add-chain t)
     (chain-sub-chain t)
     (chain-chain-requires t)
+    (chain-same-length t)
     (chain-returns-2 t)

@@ -1,15 +1,16 @@
 -- `rows_of` meets its contract.
-use mathlib.Core.Path.{refl, sym, ap, _∙_}
+use mathlib.Core.Path.{_≡_, refl, sym, ap, _∙_}
 use mathlib.Core.List.{[], _∷_}
 use mathlib.Core.Bool.{true}
 use native.Mathlib.Omega.{arith}
-use borrow.Author.Needs.{needs}
 use Prim.Native.Nat.{_+_}
-use lib.ListN.{length}
-use Rattle.tables.specs.Postorder.{joinRow}
-use Rattle.tables.specs.declared.Rows.{Rows}
+use Rattle.definitions.specs.Formula.{totals}
+use Rattle.names.specs.Signatures.{chosenOf}
+use Rattle.tables.specs.Lent.{rows-many}
+use Rattle.tables.specs.Postorder.{joinRow, rowsFrom}
 use Rattle.rewriting.proofs.Turns.{walked-len, walked-nodes}
 use Rattle.rewriting.proofs.Root.{formed, top-ready, plain-forms, joined-forms, of-plain, joined-space, of-joined}
+use borrow.Author.Needs.{needs}
 use Rattle.rewriting.proofs.rows_of.Statement.{statement}
 use Rattle.rewriting.proofs.rows_of.Tie as tie
 
@@ -17,19 +18,19 @@ totalities-requires : tie.Need-totalities-requires
 totalities-requires c κs = search needs
 
 positive-requires : tie.Need-positive-requires
-positive-requires c κs = (top-ready (c .before .before .before .args .text .now) (c .before .before .before .args .at) (c .before .before .before .args .end) (c .before .before .before .args .sig) _ _ _ (c .before .before .before .pre) (formed (c .before .before .before .args .text .now) (c .before .before .before .args .at) (c .before .before .before .args .end) (c .before .before .before .args .sig) (c .before .before .before .pre)) refl (omega (arith, plain-forms (c .before .before .before .args .text .now) (c .before .before .before .args .at) (c .before .before .before .args .end) (c .before .before .before .args .sig) (c .before .before .before .pre) (formed (c .before .before .before .args .text .now) (c .before .before .before .args .at) (c .before .before .before .args .end) (c .before .before .before .args .sig) (c .before .before .before .pre)) [] [])) (omega (arith, plain-forms (c .before .before .before .args .text .now) (c .before .before .before .args .at) (c .before .before .before .args .end) (c .before .before .before .args .sig) (c .before .before .before .pre) (formed (c .before .before .before .args .text .now) (c .before .before .before .args .at) (c .before .before .before .args .end) (c .before .before .before .args .sig) (c .before .before .before .pre)) [] [])))
+positive-requires c κs = let z = c .before .before .before .before .before in let a = formed (z .args .text .now) (z .args .at) (z .args .end) (z .args .sig) (z .pre .0) in let w = top-ready (z .args .text .now) (z .args .at) (z .args .end) (z .args .sig) (0 ∷ 0 ∷ 0 ∷ 0 ∷ []) (0 ∷ 0 ∷ 0 ∷ 0 ∷ []) (rowsFrom (z .args .rows .now) 0 0) (z .pre .0) a (rows-many (z .args .rows .now) 0 0) (omega (arith, plain-forms (z .args .text .now) (z .args .at) (z .args .end) (z .args .sig) (z .pre .0) a [] [])) (omega (arith, plain-forms (z .args .text .now) (z .args .at) (z .args .end) (z .args .sig) (z .pre .0) a [] [])) in (z .pre .1, w)
+
+same-length : tie.Need-same-length
+same-length c = c .before .before .positive .kept .1 .1 .1 .1 .0
 
 returns : tie.Need-returns
-returns c = of-plain (c .before .before .before .before .before .args .text .now) (c .before .before .before .before .before .args .at) (c .before .before .before .before .before .args .end) (c .before .before .before .before .before .args .sig) (c .before .before .before .before .before .pre) (formed (c .before .before .before .before .before .args .text .now) (c .before .before .before .before .before .args .at) (c .before .before .before .before .before .args .end) (c .before .before .before .before .before .args .sig) (c .before .before .before .before .before .pre)) _ _ _ (c .before .positive .result) refl refl (sym (c .before .before .before .totalities .ensures .0 (c .before .before .before .before .before .args .text .now)) ∙ c .before .before .if1 .taken) (c .before .positive .ensures (top-ready (c .before .before .before .before .before .args .text .now) (c .before .before .before .before .before .args .at) (c .before .before .before .before .before .args .end) (c .before .before .before .before .before .args .sig) _ _ _ (c .before .before .before .before .before .pre) (formed (c .before .before .before .before .before .args .text .now) (c .before .before .before .before .before .args .at) (c .before .before .before .before .before .args .end) (c .before .before .before .before .before .args .sig) (c .before .before .before .before .before .pre)) refl (omega (arith, plain-forms (c .before .before .before .before .before .args .text .now) (c .before .before .before .before .before .args .at) (c .before .before .before .before .before .args .end) (c .before .before .before .before .before .args .sig) (c .before .before .before .before .before .pre) (formed (c .before .before .before .before .before .args .text .now) (c .before .before .before .before .before .args .at) (c .before .before .before .before .before .args .end) (c .before .before .before .before .before .args .sig) (c .before .before .before .before .before .pre)) [] [])) (omega (arith, plain-forms (c .before .before .before .before .before .args .text .now) (c .before .before .before .before .before .args .at) (c .before .before .before .before .before .args .end) (c .before .before .before .before .before .args .sig) (c .before .before .before .before .before .pre) (formed (c .before .before .before .before .before .args .text .now) (c .before .before .before .before .before .args .at) (c .before .before .before .before .before .args .end) (c .before .before .before .before .before .args .sig) (c .before .before .before .before .before .pre)) [] []))))
-
-numbered-requires : tie.Need-numbered-requires
-numbered-requires c κs = search needs
+returns c = let z = c .before .before .before .before .before .before .before .before in let a = formed (z .args .text .now) (z .args .at) (z .args .end) (z .args .sig) (z .pre .0) in let w = top-ready (z .args .text .now) (z .args .at) (z .args .end) (z .args .sig) (0 ∷ 0 ∷ 0 ∷ 0 ∷ []) (0 ∷ 0 ∷ 0 ∷ 0 ∷ []) (rowsFrom (z .args .rows .now) 0 0) (z .pre .0) a (rows-many (z .args .rows .now) 0 0) (omega (arith, plain-forms (z .args .text .now) (z .args .at) (z .args .end) (z .args .sig) (z .pre .0) a [] [])) (omega (arith, plain-forms (z .args .text .now) (z .args .at) (z .args .end) (z .args .sig) (z .pre .0) a [] [])) in of-plain (z .args .text .now) (z .args .at) (z .args .end) (z .args .sig) (z .pre .0) a _ _ _ _ _ refl refl (sym (c .before .before .before .before .before .totalities .ensures .0 (z .args .text .now)) ∙ c .before .before .before .before .if1 .taken) (c .before .before .positive .ensures w)
 
 positive-requires-2 : tie.Need-positive-requires-2
-positive-requires-2 c κs = (top-ready (c .before .before .before .before .args .text .now) (c .before .before .before .before .args .at) (c .before .before .before .before .args .end) (c .before .before .before .before .args .sig) (0 ∷ 0 ∷ 0 ∷ 0 ∷ []) (0 ∷ 0 ∷ 0 ∷ 0 ∷ []) (c .numbered .result) (c .before .before .before .before .pre) (formed (c .before .before .before .before .args .text .now) (c .before .before .before .before .args .at) (c .before .before .before .before .args .end) (c .before .before .before .before .args .sig) (c .before .before .before .before .pre)) (ap (λ (x : Rows). length (x .at)) (c .numbered .ensures)) (omega (arith, plain-forms (c .before .before .before .before .args .text .now) (c .before .before .before .before .args .at) (c .before .before .before .before .args .end) (c .before .before .before .before .args .sig) (c .before .before .before .before .pre) (formed (c .before .before .before .before .args .text .now) (c .before .before .before .before .args .at) (c .before .before .before .before .args .end) (c .before .before .before .before .args .sig) (c .before .before .before .before .pre)) [] [], ap (λ (x : Rows). x .len) (c .numbered .ensures))) (omega (arith, joined-forms (c .before .before .before .before .args .text .now) (c .before .before .before .before .args .at) (c .before .before .before .before .args .end) (c .before .before .before .before .args .sig) (c .before .before .before .before .pre) (formed (c .before .before .before .before .args .text .now) (c .before .before .before .before .args .at) (c .before .before .before .before .args .end) (c .before .before .before .before .args .sig) (c .before .before .before .before .pre)) [] [] (λ e. c .before .if1 .left (c .before .before .totalities .ensures .0 (c .before .before .before .before .args .text .now) ∙ e)), ap (λ (x : Rows). x .nodes) (c .numbered .ensures))))
+positive-requires-2 c κs = let z = c .before .before .before .before .before in let a = formed (z .args .text .now) (z .args .at) (z .args .end) (z .args .sig) (z .pre .0) in let h : totals (chosenOf (z .args .text .now) (z .args .sig)) ≡ 0 → ⊥ = λ e. c .before .if1 .left (c .before .before .totalities .ensures .0 (z .args .text .now) ∙ e) in let w = top-ready (z .args .text .now) (z .args .at) (z .args .end) (z .args .sig) (0 ∷ 0 ∷ 0 ∷ 0 ∷ []) (0 ∷ 0 ∷ 0 ∷ 0 ∷ []) (rowsFrom (z .args .rows .now) 0 1) (z .pre .0) a (rows-many (z .args .rows .now) 0 1) (omega (arith, plain-forms (z .args .text .now) (z .args .at) (z .args .end) (z .args .sig) (z .pre .0) a [] [])) (omega (arith, joined-forms (z .args .text .now) (z .args .at) (z .args .end) (z .args .sig) (z .pre .0) a [] [] h)) in (z .pre .1, w)
 
 totalities-requires-2 : tie.Need-totalities-requires-2
-totalities-requires-2 c κs = ((omega (arith, (c .before .before .before .before .before .before .pre) .sound .rels-le, (c .before .before .before .before .before .before .pre) .sound .chosen-le), (c .before .positive2 .ensures (top-ready (c .before .before .before .before .before .before .args .text .now) (c .before .before .before .before .before .before .args .at) (c .before .before .before .before .before .before .args .end) (c .before .before .before .before .before .before .args .sig) (0 ∷ 0 ∷ 0 ∷ 0 ∷ []) (0 ∷ 0 ∷ 0 ∷ 0 ∷ []) (c .before .before .numbered .result) (c .before .before .before .before .before .before .pre) (formed (c .before .before .before .before .before .before .args .text .now) (c .before .before .before .before .before .before .args .at) (c .before .before .before .before .before .before .args .end) (c .before .before .before .before .before .before .args .sig) (c .before .before .before .before .before .before .pre)) (ap (λ (x : Rows). length (x .at)) (c .before .before .numbered .ensures)) (omega (arith, plain-forms (c .before .before .before .before .before .before .args .text .now) (c .before .before .before .before .before .before .args .at) (c .before .before .before .before .before .before .args .end) (c .before .before .before .before .before .before .args .sig) (c .before .before .before .before .before .before .pre) (formed (c .before .before .before .before .before .before .args .text .now) (c .before .before .before .before .before .before .args .at) (c .before .before .before .before .before .before .args .end) (c .before .before .before .before .before .before .args .sig) (c .before .before .before .before .before .before .pre)) [] [], ap (λ (x : Rows). x .len) (c .before .before .numbered .ensures))) (omega (arith, joined-forms (c .before .before .before .before .before .before .args .text .now) (c .before .before .before .before .before .before .args .at) (c .before .before .before .before .before .before .args .end) (c .before .before .before .before .before .before .args .sig) (c .before .before .before .before .before .before .pre) (formed (c .before .before .before .before .before .before .args .text .now) (c .before .before .before .before .before .before .args .at) (c .before .before .before .before .before .before .args .end) (c .before .before .before .before .before .before .args .sig) (c .before .before .before .before .before .before .pre)) [] [] (λ e. c .before .before .before .if1 .left (c .before .before .before .before .totalities .ensures .0 (c .before .before .before .before .before .before .args .text .now) ∙ e)), ap (λ (x : Rows). x .nodes) (c .before .before .numbered .ensures))))) .adds .long), λ q. (omega (arith, walked-len true ((formed (c .before .before .before .before .before .before .args .text .now) (c .before .before .before .before .before .before .args .at) (c .before .before .before .before .before .before .args .end) (c .before .before .before .before .before .before .args .sig) (c .before .before .before .before .before .before .pre)) .f) (c .before .positive2 .result) (c .before .positive2 .ensures (top-ready (c .before .before .before .before .before .before .args .text .now) (c .before .before .before .before .before .before .args .at) (c .before .before .before .before .before .before .args .end) (c .before .before .before .before .before .before .args .sig) (0 ∷ 0 ∷ 0 ∷ 0 ∷ []) (0 ∷ 0 ∷ 0 ∷ 0 ∷ []) (c .before .before .numbered .result) (c .before .before .before .before .before .before .pre) (formed (c .before .before .before .before .before .before .args .text .now) (c .before .before .before .before .before .before .args .at) (c .before .before .before .before .before .before .args .end) (c .before .before .before .before .before .before .args .sig) (c .before .before .before .before .before .before .pre)) (ap (λ (x : Rows). length (x .at)) (c .before .before .numbered .ensures)) (omega (arith, plain-forms (c .before .before .before .before .before .before .args .text .now) (c .before .before .before .before .before .before .args .at) (c .before .before .before .before .before .before .args .end) (c .before .before .before .before .before .before .args .sig) (c .before .before .before .before .before .before .pre) (formed (c .before .before .before .before .before .before .args .text .now) (c .before .before .before .before .before .before .args .at) (c .before .before .before .before .before .before .args .end) (c .before .before .before .before .before .before .args .sig) (c .before .before .before .before .before .before .pre)) [] [], ap (λ (x : Rows). x .len) (c .before .before .numbered .ensures))) (omega (arith, joined-forms (c .before .before .before .before .before .before .args .text .now) (c .before .before .before .before .before .before .args .at) (c .before .before .before .before .before .before .args .end) (c .before .before .before .before .before .before .args .sig) (c .before .before .before .before .before .before .pre) (formed (c .before .before .before .before .before .before .args .text .now) (c .before .before .before .before .before .before .args .at) (c .before .before .before .before .before .before .args .end) (c .before .before .before .before .before .before .args .sig) (c .before .before .before .before .before .before .pre)) [] [] (λ e. c .before .before .before .if1 .left (c .before .before .before .before .totalities .ensures .0 (c .before .before .before .before .before .before .args .text .now) ∙ e)), ap (λ (x : Rows). x .nodes) (c .before .before .numbered .ensures))))), joined-forms (c .before .before .before .before .before .before .args .text .now) (c .before .before .before .before .before .before .args .at) (c .before .before .before .before .before .before .args .end) (c .before .before .before .before .before .before .args .sig) (c .before .before .before .before .before .before .pre) (formed (c .before .before .before .before .before .before .args .text .now) (c .before .before .before .before .before .before .args .at) (c .before .before .before .before .before .before .args .end) (c .before .before .before .before .before .before .args .sig) (c .before .before .before .before .before .before .pre)) [] [] (λ e. c .before .before .before .if1 .left (c .before .before .before .before .totalities .ensures .0 (c .before .before .before .before .before .before .args .text .now) ∙ e)), ap (λ (x : Rows). x .len) (c .before .before .numbered .ensures), c .before .before .before .before .totalities .ensures .0 q, c .before .before .before .before .totalities .ensures .0 (c .before .before .before .before .before .before .args .text .now)), omega (arith, walked-nodes true ((formed (c .before .before .before .before .before .before .args .text .now) (c .before .before .before .before .before .before .args .at) (c .before .before .before .before .before .before .args .end) (c .before .before .before .before .before .before .args .sig) (c .before .before .before .before .before .before .pre)) .f) (c .before .positive2 .result) (c .before .positive2 .ensures (top-ready (c .before .before .before .before .before .before .args .text .now) (c .before .before .before .before .before .before .args .at) (c .before .before .before .before .before .before .args .end) (c .before .before .before .before .before .before .args .sig) (0 ∷ 0 ∷ 0 ∷ 0 ∷ []) (0 ∷ 0 ∷ 0 ∷ 0 ∷ []) (c .before .before .numbered .result) (c .before .before .before .before .before .before .pre) (formed (c .before .before .before .before .before .before .args .text .now) (c .before .before .before .before .before .before .args .at) (c .before .before .before .before .before .before .args .end) (c .before .before .before .before .before .before .args .sig) (c .before .before .before .before .before .before .pre)) (ap (λ (x : Rows). length (x .at)) (c .before .before .numbered .ensures)) (omega (arith, plain-forms (c .before .before .before .before .before .before .args .text .now) (c .before .before .before .before .before .before .args .at) (c .before .before .before .before .before .before .args .end) (c .before .before .before .before .before .before .args .sig) (c .before .before .before .before .before .before .pre) (formed (c .before .before .before .before .before .before .args .text .now) (c .before .before .before .before .before .before .args .at) (c .before .before .before .before .before .before .args .end) (c .before .before .before .before .before .before .args .sig) (c .before .before .before .before .before .before .pre)) [] [], ap (λ (x : Rows). x .len) (c .before .before .numbered .ensures))) (omega (arith, joined-forms (c .before .before .before .before .before .before .args .text .now) (c .before .before .before .before .before .before .args .at) (c .before .before .before .before .before .before .args .end) (c .before .before .before .before .before .before .args .sig) (c .before .before .before .before .before .before .pre) (formed (c .before .before .before .before .before .before .args .text .now) (c .before .before .before .before .before .before .args .at) (c .before .before .before .before .before .before .args .end) (c .before .before .before .before .before .before .args .sig) (c .before .before .before .before .before .before .pre)) [] [] (λ e. c .before .before .before .if1 .left (c .before .before .before .before .totalities .ensures .0 (c .before .before .before .before .before .before .args .text .now) ∙ e)), ap (λ (x : Rows). x .nodes) (c .before .before .numbered .ensures))))), joined-forms (c .before .before .before .before .before .before .args .text .now) (c .before .before .before .before .before .before .args .at) (c .before .before .before .before .before .before .args .end) (c .before .before .before .before .before .before .args .sig) (c .before .before .before .before .before .before .pre) (formed (c .before .before .before .before .before .before .args .text .now) (c .before .before .before .before .before .before .args .at) (c .before .before .before .before .before .before .args .end) (c .before .before .before .before .before .before .args .sig) (c .before .before .before .before .before .before .pre)) [] [] (λ e. c .before .before .before .if1 .left (c .before .before .before .before .totalities .ensures .0 (c .before .before .before .before .before .before .args .text .now) ∙ e)), ap (λ (x : Rows). x .nodes) (c .before .before .numbered .ensures), c .before .before .before .before .totalities .ensures .0 q, c .before .before .before .before .totalities .ensures .0 (c .before .before .before .before .before .before .args .text .now))))
+totalities-requires-2 c κs = let z = c .before .before .before .before .before .before .before .before .before in let a = formed (z .args .text .now) (z .args .at) (z .args .end) (z .args .sig) (z .pre .0) in let h : totals (chosenOf (z .args .text .now) (z .args .sig)) ≡ 0 → ⊥ = λ e. c .before .before .before .before .before .if1 .left (c .before .before .before .before .before .before .totalities .ensures .0 (z .args .text .now) ∙ e) in let w = top-ready (z .args .text .now) (z .args .at) (z .args .end) (z .args .sig) (0 ∷ 0 ∷ 0 ∷ 0 ∷ []) (0 ∷ 0 ∷ 0 ∷ 0 ∷ []) (rowsFrom (z .args .rows .now) 0 1) (z .pre .0) a (rows-many (z .args .rows .now) 0 1) (omega (arith, plain-forms (z .args .text .now) (z .args .at) (z .args .end) (z .args .sig) (z .pre .0) a [] [])) (omega (arith, joined-forms (z .args .text .now) (z .args .at) (z .args .end) (z .args .sig) (z .pre .0) a [] [] h)) in let W = c .before .before .before .positive2 .ensures w in ((omega (arith, (z .pre .0) .sound .rels-le, (z .pre .0) .sound .chosen-le), c .before .before .before .positive2 .kept .1 .1 .1 .1 .0 ∙ z .pre .1), λ q. (omega (arith, walked-len true (a .f) _ _ W, joined-forms (z .args .text .now) (z .args .at) (z .args .end) (z .args .sig) (z .pre .0) a [] [] h, c .before .before .before .before .before .before .totalities .ensures .0 q, c .before .before .before .before .before .before .totalities .ensures .0 (z .args .text .now)), omega (arith, walked-nodes true (a .f) _ _ W, joined-forms (z .args .text .now) (z .args .at) (z .args .end) (z .args .sig) (z .pre .0) a [] [] h, c .before .before .before .before .before .before .totalities .ensures .0 q, c .before .before .before .before .before .before .totalities .ensures .0 (z .args .text .now))))
 
 add-join-row : tie.Need-add-join-row
 add-join-row c = search needs
@@ -37,11 +38,17 @@ add-join-row c = search needs
 join-row-requires : tie.Need-join-row-requires
 join-row-requires c κs = search needs
 
-push-requires : tie.Need-push-requires
-push-requires c κs = omega (arith, joined-space (c .before .before .before .before .before .before .before .before .args .text .now) (c .before .before .before .before .before .before .before .before .args .at) (c .before .before .before .before .before .before .before .before .args .end) (c .before .before .before .before .before .before .before .before .args .sig) (c .before .before .before .before .before .before .before .before .pre) (formed (c .before .before .before .before .before .before .before .before .args .text .now) (c .before .before .before .before .before .before .before .before .args .at) (c .before .before .before .before .before .before .before .before .args .end) (c .before .before .before .before .before .before .before .before .args .sig) (c .before .before .before .before .before .before .before .before .pre)) _ _ (λ e. c .before .before .before .before .before .if1 .left (c .before .before .before .before .before .before .totalities .ensures .0 (c .before .before .before .before .before .before .before .before .args .text .now) ∙ e)) _ (c .before .before .before .before .numbered .result) (c .before .totalities2 .result) (c .before .before .before .positive2 .result) refl refl refl (c .before .before .before .before .numbered .ensures) (c .before .before .before .positive2 .ensures (top-ready (c .before .before .before .before .before .before .before .before .args .text .now) (c .before .before .before .before .before .before .before .before .args .at) (c .before .before .before .before .before .before .before .before .args .end) (c .before .before .before .before .before .before .before .before .args .sig) (0 ∷ 0 ∷ 0 ∷ 0 ∷ []) (0 ∷ 0 ∷ 0 ∷ 0 ∷ []) (c .before .before .before .before .numbered .result) (c .before .before .before .before .before .before .before .before .pre) (formed (c .before .before .before .before .before .before .before .before .args .text .now) (c .before .before .before .before .before .before .before .before .args .at) (c .before .before .before .before .before .before .before .before .args .end) (c .before .before .before .before .before .before .before .before .args .sig) (c .before .before .before .before .before .before .before .before .pre)) (ap (λ (x : Rows). length (x .at)) (c .before .before .before .before .numbered .ensures)) (omega (arith, plain-forms (c .before .before .before .before .before .before .before .before .args .text .now) (c .before .before .before .before .before .before .before .before .args .at) (c .before .before .before .before .before .before .before .before .args .end) (c .before .before .before .before .before .before .before .before .args .sig) (c .before .before .before .before .before .before .before .before .pre) (formed (c .before .before .before .before .before .before .before .before .args .text .now) (c .before .before .before .before .before .before .before .before .args .at) (c .before .before .before .before .before .before .before .before .args .end) (c .before .before .before .before .before .before .before .before .args .sig) (c .before .before .before .before .before .before .before .before .pre)) [] [], ap (λ (x : Rows). x .len) (c .before .before .before .before .numbered .ensures))) (omega (arith, joined-forms (c .before .before .before .before .before .before .before .before .args .text .now) (c .before .before .before .before .before .before .before .before .args .at) (c .before .before .before .before .before .before .before .before .args .end) (c .before .before .before .before .before .before .before .before .args .sig) (c .before .before .before .before .before .before .before .before .pre) (formed (c .before .before .before .before .before .before .before .before .args .text .now) (c .before .before .before .before .before .before .before .before .args .at) (c .before .before .before .before .before .before .before .before .args .end) (c .before .before .before .before .before .before .before .before .args .sig) (c .before .before .before .before .before .before .before .before .pre)) [] [] (λ e. c .before .before .before .before .before .if1 .left (c .before .before .before .before .before .before .totalities .ensures .0 (c .before .before .before .before .before .before .before .before .args .text .now) ∙ e)), ap (λ (x : Rows). x .nodes) (c .before .before .before .before .numbered .ensures))))) (c .before .totalities2 .ensures (c .before .before .before .before .before .before .before .before .args .text .now)))
+put-row-requires : tie.Need-put-row-requires
+put-row-requires c κs = let z = c .before .before .before .before .before .before .before .before .before .before .before .before .before .before in let a = formed (z .args .text .now) (z .args .at) (z .args .end) (z .args .sig) (z .pre .0) in let h : totals (chosenOf (z .args .text .now) (z .args .sig)) ≡ 0 → ⊥ = λ e. c .before .before .before .before .before .before .before .before .before .before .if1 .left (c .before .before .before .before .before .before .before .before .before .before .before .totalities .ensures .0 (z .args .text .now) ∙ e) in let w = top-ready (z .args .text .now) (z .args .at) (z .args .end) (z .args .sig) (0 ∷ 0 ∷ 0 ∷ 0 ∷ []) (0 ∷ 0 ∷ 0 ∷ 0 ∷ []) (rowsFrom (z .args .rows .now) 0 1) (z .pre .0) a (rows-many (z .args .rows .now) 0 1) (omega (arith, plain-forms (z .args .text .now) (z .args .at) (z .args .end) (z .args .sig) (z .pre .0) a [] [])) (omega (arith, joined-forms (z .args .text .now) (z .args .at) (z .args .end) (z .args .sig) (z .pre .0) a [] [] h)) in let W = c .before .before .before .before .before .before .before .before .positive2 .ensures w in (c .before .before .before .before .totalities2 .kept .0 ∙ c .before .before .before .before .before .before .before .before .positive2 .kept .1 .1 .1 .1 .0 ∙ z .pre .1, omega (arith, joined-space (z .args .text .now) (z .args .at) (z .args .end) (z .args .sig) (z .pre .0) a (0 ∷ 0 ∷ 0 ∷ 0 ∷ []) (0 ∷ 0 ∷ 0 ∷ 0 ∷ []) h (rowsFrom (z .args .rows .now) 0 0) _ _ _ refl refl (rows-many (z .args .rows .now) 0 0) W (c .before .before .before .before .totalities2 .ensures (z .args .text .now))))
+
+add-t21 : tie.Need-add-t21
+add-t21 c = let z = c .before .before .before .before .before .before .before .before .before .before .before .before .before .before .before .before .before .before in let a = formed (z .args .text .now) (z .args .at) (z .args .end) (z .args .sig) (z .pre .0) in let h : totals (chosenOf (z .args .text .now) (z .args .sig)) ≡ 0 → ⊥ = λ e. c .before .before .before .before .before .before .before .before .before .before .before .before .before .before .if1 .left (c .before .before .before .before .before .before .before .before .before .before .before .before .before .before .before .totalities .ensures .0 (z .args .text .now) ∙ e) in let w = top-ready (z .args .text .now) (z .args .at) (z .args .end) (z .args .sig) (0 ∷ 0 ∷ 0 ∷ 0 ∷ []) (0 ∷ 0 ∷ 0 ∷ 0 ∷ []) (rowsFrom (z .args .rows .now) 0 1) (z .pre .0) a (rows-many (z .args .rows .now) 0 1) (omega (arith, plain-forms (z .args .text .now) (z .args .at) (z .args .end) (z .args .sig) (z .pre .0) a [] [])) (omega (arith, joined-forms (z .args .text .now) (z .args .at) (z .args .end) (z .args .sig) (z .pre .0) a [] [] h)) in let W = c .before .before .before .before .before .before .before .before .before .before .before .before .positive2 .ensures w in omega (arith, joined-space (z .args .text .now) (z .args .at) (z .args .end) (z .args .sig) (z .pre .0) a (0 ∷ 0 ∷ 0 ∷ 0 ∷ []) (0 ∷ 0 ∷ 0 ∷ 0 ∷ []) h (rowsFrom (z .args .rows .now) 0 0) _ _ _ refl refl (rows-many (z .args .rows .now) 0 0) W (c .before .before .before .before .before .before .before .before .totalities2 .ensures (z .args .text .now)))
+
+same-length-2 : tie.Need-same-length-2
+same-length-2 c = c .before .before .before .put-row .kept .0 ∙ c .before .before .before .before .before .before .before .before .totalities2 .kept .0 ∙ c .before .before .before .before .before .before .before .before .before .before .before .before .positive2 .kept .1 .1 .1 .1 .0
 
 returns-2 : tie.Need-returns-2
-returns-2 c = of-joined (c .before .before .before .before .before .before .before .before .before .args .text .now) (c .before .before .before .before .before .before .before .before .before .args .at) (c .before .before .before .before .before .before .before .before .before .args .end) (c .before .before .before .before .before .before .before .before .before .args .sig) (c .before .before .before .before .before .before .before .before .before .pre) (formed (c .before .before .before .before .before .before .before .before .before .args .text .now) (c .before .before .before .before .before .before .before .before .before .args .at) (c .before .before .before .before .before .before .before .before .before .args .end) (c .before .before .before .before .before .before .before .before .before .args .sig) (c .before .before .before .before .before .before .before .before .before .pre)) _ _ (λ e. c .before .before .before .before .before .before .if1 .left (c .before .before .before .before .before .before .before .totalities .ensures .0 (c .before .before .before .before .before .before .before .before .before .args .text .now) ∙ e)) _ (c .before .before .before .before .before .numbered .result) (c .before .before .totalities2 .result) (c .before .before .before .before .positive2 .result) refl refl refl (c .before .before .before .before .before .numbered .ensures) (c .before .before .before .before .positive2 .ensures (top-ready (c .before .before .before .before .before .before .before .before .before .args .text .now) (c .before .before .before .before .before .before .before .before .before .args .at) (c .before .before .before .before .before .before .before .before .before .args .end) (c .before .before .before .before .before .before .before .before .before .args .sig) (0 ∷ 0 ∷ 0 ∷ 0 ∷ []) (0 ∷ 0 ∷ 0 ∷ 0 ∷ []) (c .before .before .before .before .before .numbered .result) (c .before .before .before .before .before .before .before .before .before .pre) (formed (c .before .before .before .before .before .before .before .before .before .args .text .now) (c .before .before .before .before .before .before .before .before .before .args .at) (c .before .before .before .before .before .before .before .before .before .args .end) (c .before .before .before .before .before .before .before .before .before .args .sig) (c .before .before .before .before .before .before .before .before .before .pre)) (ap (λ (x : Rows). length (x .at)) (c .before .before .before .before .before .numbered .ensures)) (omega (arith, plain-forms (c .before .before .before .before .before .before .before .before .before .args .text .now) (c .before .before .before .before .before .before .before .before .before .args .at) (c .before .before .before .before .before .before .before .before .before .args .end) (c .before .before .before .before .before .before .before .before .before .args .sig) (c .before .before .before .before .before .before .before .before .before .pre) (formed (c .before .before .before .before .before .before .before .before .before .args .text .now) (c .before .before .before .before .before .before .before .before .before .args .at) (c .before .before .before .before .before .before .before .before .before .args .end) (c .before .before .before .before .before .before .before .before .before .args .sig) (c .before .before .before .before .before .before .before .before .before .pre)) [] [], ap (λ (x : Rows). x .len) (c .before .before .before .before .before .numbered .ensures))) (omega (arith, joined-forms (c .before .before .before .before .before .before .before .before .before .args .text .now) (c .before .before .before .before .before .before .before .before .before .args .at) (c .before .before .before .before .before .before .before .before .before .args .end) (c .before .before .before .before .before .before .before .before .before .args .sig) (c .before .before .before .before .before .before .before .before .before .pre) (formed (c .before .before .before .before .before .before .before .before .before .args .text .now) (c .before .before .before .before .before .before .before .before .before .args .at) (c .before .before .before .before .before .before .before .before .before .args .end) (c .before .before .before .before .before .before .before .before .before .args .sig) (c .before .before .before .before .before .before .before .before .before .pre)) [] [] (λ e. c .before .before .before .before .before .before .if1 .left (c .before .before .before .before .before .before .before .totalities .ensures .0 (c .before .before .before .before .before .before .before .before .before .args .text .now) ∙ e)), ap (λ (x : Rows). x .nodes) (c .before .before .before .before .before .numbered .ensures))))) (c .before .before .totalities2 .ensures (c .before .before .before .before .before .before .before .before .before .args .text .now)) (c .push .result) (c .before .join-row .result) (c .before .join-row .ensures ∙ ap (λ n. joinRow 2 0 (n + 1)) (c .before .before .before .before .before .before .before .totalities .ensures .0 (c .before .before .before .before .before .before .before .before .before .args .text .now))) (c .push .ensures)
+returns-2 c = let z = c .before .before .before .before .before .before .before .before .before .before .before .before .before .before .before .before .before .before in let a = formed (z .args .text .now) (z .args .at) (z .args .end) (z .args .sig) (z .pre .0) in let h : totals (chosenOf (z .args .text .now) (z .args .sig)) ≡ 0 → ⊥ = λ e. c .before .before .before .before .before .before .before .before .before .before .before .before .before .before .if1 .left (c .before .before .before .before .before .before .before .before .before .before .before .before .before .before .before .totalities .ensures .0 (z .args .text .now) ∙ e) in let w = top-ready (z .args .text .now) (z .args .at) (z .args .end) (z .args .sig) (0 ∷ 0 ∷ 0 ∷ 0 ∷ []) (0 ∷ 0 ∷ 0 ∷ 0 ∷ []) (rowsFrom (z .args .rows .now) 0 1) (z .pre .0) a (rows-many (z .args .rows .now) 0 1) (omega (arith, plain-forms (z .args .text .now) (z .args .at) (z .args .end) (z .args .sig) (z .pre .0) a [] [])) (omega (arith, joined-forms (z .args .text .now) (z .args .at) (z .args .end) (z .args .sig) (z .pre .0) a [] [] h)) in let W = c .before .before .before .before .before .before .before .before .before .before .before .before .positive2 .ensures w in of-joined (z .args .text .now) (z .args .at) (z .args .end) (z .args .sig) (z .pre .0) a (0 ∷ 0 ∷ 0 ∷ 0 ∷ []) (0 ∷ 0 ∷ 0 ∷ 0 ∷ []) h (rowsFrom (z .args .rows .now) 0 0) _ _ _ refl refl (rows-many (z .args .rows .now) 0 0) W (c .before .before .before .before .before .before .before .before .totalities2 .ensures (z .args .text .now)) _ (c .before .before .before .before .before .join-row .result) (c .before .before .before .before .before .join-row .ensures ∙ ap (λ n. joinRow 2 0 (n + 1)) (c .before .before .before .before .before .before .before .before .before .before .before .before .before .before .before .totalities .ensures .0 (z .args .text .now))) (c .before .before .before .put-row .ensures .1 (c .before .before .before .before .before .before .before .before .totalities2 .result .len + 1) (c .before .before .before .before .before .before .before .before .totalities2 .result .nodes))
 
 pub rows-of-spec : {M : Type 1} → statement M
 rows-of-spec =
@@ -49,11 +56,13 @@ rows-of-spec =
     (tie.spec
     totalities-requires
     positive-requires
+    same-length
     returns
-    numbered-requires
     positive-requires-2
     totalities-requires-2
     add-join-row
     join-row-requires
-    push-requires
+    put-row-requires
+    add-t21
+    same-length-2
     returns-2)

@@ -1,20 +1,17 @@
 -- `totality` meets its contract.
-use mathlib.Core.Path.{ap}
-use native.Mathlib.Omega.{arith}
-use Rattle.tables.specs.declared.Rows.{Rows}
+use Prim.Native.Nat.{_+_}
+use Rattle.tables.specs.Lent.{rows-many}
+use Rattle.tables.specs.Postorder.{rowsFrom}
 use Rattle.rewriting.proofs.Root.{totality-adds}
 use borrow.Author.Needs.{needs}
 use Rattle.rewriting.proofs.totality.Statement.{statement}
 use Rattle.rewriting.proofs.totality.Tie as tie
 
-numbered-requires : tie.Need-numbered-requires
-numbered-requires c κs = search needs
-
 pair-row-requires : tie.Need-pair-row-requires
 pair-row-requires c κs = search needs
 
-push-requires : tie.Need-push-requires
-push-requires c κs = omega (arith, ap (λ (x : Rows). x .len) (c .before .numbered .ensures), c .before .before .pre .0)
+put-row-requires : tie.Need-put-row-requires
+put-row-requires c κs = search needs
 
 add-quant-row : tie.Need-add-quant-row
 add-quant-row c = search needs
@@ -22,28 +19,39 @@ add-quant-row c = search needs
 quant-row-requires : tie.Need-quant-row-requires
 quant-row-requires c κs = search needs
 
-push-requires-2 : tie.Need-push-requires-2
-push-requires-2 c κs = omega (arith, ap (λ (x : Rows). x .len) (c .before .before .before .numbered .ensures), ap (λ (x : Rows). x .len) (c .before .push .ensures), c .before .before .before .before .pre .0)
+add-put-row : tie.Need-add-put-row
+add-put-row c = search needs
+
+put-row-requires-2 : tie.Need-put-row-requires-2
+put-row-requires-2 c κs = search needs
 
 quant-row-requires-2 : tie.Need-quant-row-requires-2
 quant-row-requires-2 c κs = search needs
 
-push-requires-3 : tie.Need-push-requires-3
-push-requires-3 c κs = omega (arith, ap (λ (x : Rows). x .len) (c .before .before .before .before .before .numbered .ensures), ap (λ (x : Rows). x .len) (c .before .before .before .push .ensures), ap (λ (x : Rows). x .len) (c .before .push2 .ensures), c .before .before .before .before .before .before .pre .0)
+add-put-row-2 : tie.Need-add-put-row-2
+add-put-row-2 c = search needs
+
+put-row-requires-3 : tie.Need-put-row-requires-3
+put-row-requires-3 c κs = search needs
+
+same-length : tie.Need-same-length
+same-length c = search needs
 
 returns : tie.Need-returns
-returns c = totality-adds (c .before .before .before .before .before .before .before .args .t) (c .before .before .before .before .before .before .numbered .result) (c .before .before .before .before .push .result) (c .before .before .push2 .result) (c .push3 .result) (c .before .before .before .before .before .before .before .args .relation) (c .before .before .before .before .before .pair-row .result) (c .before .before .before .quant-row .result) (c .before .quant-row2 .result) (c .before .before .before .before .before .before .before .pre .3) (c .before .before .before .before .before .before .before .pre .0) (c .before .before .before .before .before .before .numbered .ensures) (c .before .before .before .before .before .pair-row .ensures) (c .before .before .before .before .push .ensures) (c .before .before .before .quant-row .ensures) (c .before .before .push2 .ensures) (c .before .quant-row2 .ensures) (c .push3 .ensures)
+returns c = let z = c .before .before .before .before .before .before .before .before .before .before .before .before .before .before .before .before in totality-adds (rowsFrom (z .args .rows .now) (z .args .len) (z .args .nodes)) (rowsFrom (c .before .before .before .before .before .before .before .before .before .before .before .before .put-row .last .0) (z .args .len + 1) (z .args .nodes + 2)) (rowsFrom (c .before .before .before .before .before .before .before .put-row2 .last .0) (z .args .len + 2) (z .args .nodes + 2)) (rowsFrom (c .before .before .put-row3 .last .0) (z .args .len + 3) (z .args .nodes + 2)) (z .args .relation) (c .before .before .before .before .before .before .before .before .before .before .before .before .before .before .pair-row .result) (c .before .before .before .before .before .before .before .before .before .quant-row .result) (c .before .before .before .before .quant-row2 .result) (rows-many (z .args .rows .now) (z .args .len) (z .args .nodes)) (z .pre .0) (c .before .before .before .before .before .before .before .before .before .before .before .before .before .before .pair-row .ensures) (c .before .before .before .before .before .before .before .before .before .before .before .before .put-row .ensures .1 (z .args .len + 1) (z .args .nodes + 2)) (c .before .before .before .before .before .before .before .before .before .quant-row .ensures) (c .before .before .before .before .before .before .before .put-row2 .ensures .1 (z .args .len + 2) (z .args .nodes + 2)) (c .before .before .before .before .quant-row2 .ensures) (c .before .before .put-row3 .ensures .1 (z .args .len + 3) (z .args .nodes + 2))
 
 pub totality-spec : {M : Type 1} → statement M
 totality-spec =
     tie.close
     (tie.spec
-    numbered-requires
     pair-row-requires
-    push-requires
+    put-row-requires
     add-quant-row
     quant-row-requires
-    push-requires-2
+    add-put-row
+    put-row-requires-2
     quant-row-requires-2
-    push-requires-3
+    add-put-row-2
+    put-row-requires-3
+    same-length
     returns)

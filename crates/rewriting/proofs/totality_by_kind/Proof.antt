@@ -1,5 +1,6 @@
 -- `totality_by_kind` meets its contract.
 use mathlib.Core.Path.{sym, _∙_}
+use Rattle.tables.specs.Lent.{rows-many}
 use Rattle.rewriting.proofs.Root.{one-none, one-some}
 use borrow.Author.Needs.{needs}
 use Rattle.rewriting.proofs.totality_by_kind.Statement.{statement}
@@ -9,13 +10,24 @@ total-requires : tie.Need-total-requires
 total-requires c κs = search needs
 
 returns : tie.Need-returns
-returns c = one-none (c .before .before .args .kind) (c .before .before .args .relation) (c .before .before .args .t) (c .before .before .pre .3) (sym (c .before .total .ensures) ∙ c .if1 .taken)
+returns c = one-none (c .before .before .before .args .kind) (c .before .before .before .args .relation) _ (rows-many (c .before .before .before .args .rows .now) (c .before .before .before .args .len) (c .before .before .before .args .nodes)) (sym (c .before .total .ensures) ∙ c .if1 .taken)
 
 totality-requires : tie.Need-totality-requires
 totality-requires c κs = search needs
 
+add-t6 : tie.Need-add-t6
+add-t6 c = search needs
+
+add-t11 : tie.Need-add-t11
+add-t11 c = search needs
+
+same-length : tie.Need-same-length
+same-length c = search needs
+
 returns-2 : tie.Need-returns-2
-returns-2 c = one-some (c .before .before .before .args .kind) (c .before .before .before .args .relation) (c .before .before .before .args .t) (c .totality .result) (λ e. c .before .if1 .left (c .before .before .total .ensures ∙ e)) (c .totality .ensures)
+returns-2 c = one-some (c .before .before .before .before .before .before .before .args .kind) (c .before .before .before .before .before .before .before .args .relation) _ _ (λ e. c .before .before .before .before .if1 .left (c .before .before .before .before .before .total .ensures ∙ e)) (c .before .before .totality .ensures)
 
 pub totality-by-kind-spec : {M : Type 1} → statement M
-totality-by-kind-spec = tie.close (tie.spec total-requires returns totality-requires returns-2)
+totality-by-kind-spec =
+    tie.close
+    (tie.spec total-requires returns totality-requires add-t6 add-t11 same-length returns-2)

@@ -26,11 +26,11 @@ times-requires c κs =
     let len : length (c .before .before .args .t2) ≡ 4 = search needs in
     (omega arith, λ l. omega (arith, value-most (c .before .loop .w) (weightOf (c .before .before .args .n) (take (c .before .loop .i) (c .before .before .args .t2))) (65 ^ 4) (c .before .loop .inv .2) (weight-most (c .before .before .args .n) (c .before .loop .i) (c .before .before .args .t2) (omega arith) (omega arith) (omega arith) (omega arith)) l))
 
-mul-l : tie.Need-mul-l Inv-loop μ-loop
-mul-l c = search needs
-
 array-read-l : tie.Need-array-read-l Inv-loop μ-loop
 array-read-l c = search needs
+
+cast-l : tie.Need-cast-l Inv-loop μ-loop
+cast-l c = search needs
 
 mul-w : tie.Need-mul-w Inv-loop μ-loop
 mul-w c = omega (arith, c .before .before .before .pre .1 (c .before .before .loop .i))
@@ -84,8 +84,8 @@ weights-spec =
     μ-loop
     loop-holds
     times-requires
-    mul-l
     array-read-l
+    cast-l
     mul-w
     array-read-w
     add-w

@@ -1,105 +1,110 @@
 -- `table::fill_nodes` meets its contract.
 use Prim.Native.Nat.{ℕ, _-_, _^_, _≤_, _<_}
-use mathlib.Core.Path.{_≡_, refl, _∙_}
+use mathlib.Core.Path.{_≡_, refl, _∙_, subst}
+use mathlib.Core.List.{List}
 use native.Mathlib.Omega.{arith}
 use borrow.Author.Needs.{needs}
 use lib.ListN.{length}
 use Rattle.rows.specs.Values.{Most}
 use Rattle.table.specs.Filled.{splice, tab, nodeNumbers}
 use Rattle.table.specs.SpliceLaws.{tab-none}
-use Rattle.table.specs.TurnLaws.{node-turn, node-last, node-most, one-more}
+use Rattle.table.specs.TurnLaws.{node-turn, node-last, one-more}
 use Rattle.table.proofs.fill_nodes.Statement.{statement}
 use Rattle.table.proofs.fill_nodes.Tie as tie
-use Rattle.table.proofs.fill_nodes.Reads as reads
-use Rattle.table.proofs.fill_nodes.Lts as lts
-use Rattle.table.proofs.store.Reads as store-reads
-use Rattle.table.proofs.wide.Reads as wide-reads
 
 abbrev Inv-loop : tie.InvT-loop
-Inv-loop table₀ t l v₀ table v = (v ≤ 64) × (length table ≡ length table₀) × (table ≡ splice 93 (tab (nodeNumbers t l) v) table₀) × ((u : ℕ) → u < v → Most (nodeNumbers t l u) (2 ^ 32))
+Inv-loop table₀ t l v₀ table v = (v ≤ t .count) × (length table ≡ length table₀) × (table ≡ splice 93 (tab (nodeNumbers t l) v) table₀) × ((u : ℕ) → u < v → Most (nodeNumbers t l u) (2 ^ 32))
 
 abbrev μ-loop : tie.MeasureT-loop
-μ-loop table₀ t l v₀ table v = 64 - v
+μ-loop table₀ t l v₀ table v = t .count - v
 
 loop-holds : tie.Need-loop-holds Inv-loop μ-loop
 loop-holds c = (omega arith, refl, tab-none (nodeNumbers (c .before .args .t2) (c .before .args .t3)) 93 (c .before .args .table .now), λ u h. absurd (omega arith))
 
 mul-x : tie.Need-mul-x Inv-loop μ-loop
-mul-x c = search needs
+mul-x c = omega (arith, c .before .before .before .pre .1 .few)
 
 element-copy-out-x : tie.Need-element-copy-out-x Inv-loop μ-loop
-element-copy-out-x c = search needs
+element-copy-out-x c = omega (arith, c .before .before .before .pre .1 .few)
 
-wide-requires : tie.Need-wide-requires Inv-loop μ-loop
-wide-requires c κs = search needs
+mul-node-numbers : tie.Need-mul-node-numbers Inv-loop μ-loop
+mul-node-numbers c = omega (arith, c .before .before .before .before .pre .1 .few)
 
-mul-t13 : tie.Need-mul-t13 Inv-loop μ-loop
-mul-t13 c = search needs
+element-copy-out-node-numbers : tie.Need-element-copy-out-node-numbers Inv-loop μ-loop
+element-copy-out-node-numbers c = omega (arith, c .before .before .before .before .pre .1 .few)
 
-element-copy-out-t19 : tie.Need-element-copy-out-t19 Inv-loop μ-loop
-element-copy-out-t19 c = search needs
+mul-node-numbers-2 : tie.Need-mul-node-numbers-2 Inv-loop μ-loop
+mul-node-numbers-2 c = omega (arith, c .before .before .before .before .before .pre .1 .few)
 
-mul-t20 : tie.Need-mul-t20 Inv-loop μ-loop
-mul-t20 c = search needs
+element-copy-out-node-numbers-2 : tie.Need-element-copy-out-node-numbers-2 Inv-loop μ-loop
+element-copy-out-node-numbers-2 c = omega (arith, c .before .before .before .before .before .pre .1 .few)
 
-element-copy-out-t23 : tie.Need-element-copy-out-t23 Inv-loop μ-loop
-element-copy-out-t23 c = search needs
-
-array-read-t26 : tie.Need-array-read-t26 Inv-loop μ-loop
-array-read-t26 c = search needs
-
-array-read-t29 : tie.Need-array-read-t29 Inv-loop μ-loop
-array-read-t29 c = search needs
-
-array-read-t32 : tie.Need-array-read-t32 Inv-loop μ-loop
-array-read-t32 c = search needs
-
-array-read-store : tie.Need-array-read-store Inv-loop μ-loop
-array-read-store c = search needs
+node-numbers-requires : tie.Need-node-numbers-requires Inv-loop μ-loop
+node-numbers-requires c κs = (c .before .before .before .before .before .before .pre .2 .act _, c .before .before .before .before .before .before .pre .2 .node _)
 
 mul-store : tie.Need-mul-store Inv-loop μ-loop
-mul-store c = search needs
+mul-store c = omega (arith, c .before .before .before .before .before .before .before .before .pre .1 .few)
 
 add-store : tie.Need-add-store Inv-loop μ-loop
-add-store c = search needs
+add-store c = omega (arith, c .before .before .before .before .before .before .before .before .pre .1 .few)
 
 slice-aggregate-store : tie.Need-slice-aggregate-store Inv-loop μ-loop
 slice-aggregate-store c = search needs
 
 store-requires : tie.Need-store-requires Inv-loop μ-loop
-store-requires c κs = omega (arith, c .before .before .before .before .before .before .before .before .loop .inv .1, c .before .before .before .before .before .before .before .before .before .before .pre .0)
+store-requires c κs = omega (arith, c .before .before .before .before .before .before .before .before .before .pre .1 .few, c .before .before .before .before .before .before .before .before .before .pre .0, c .before .before .before .before .before .before .before .loop .inv .1)
 
 add-v : tie.Need-add-v Inv-loop μ-loop
-add-v c = search needs
+add-v c = omega (arith, c .before .before .before .before .before .before .before .before .before .before .before .before .pre .1 .few)
 
 loop-less : tie.Need-loop-less Inv-loop μ-loop
-loop-less c = search needs
+loop-less c = omega (arith, c .before .before .before .before .before .before .before .before .before .before .before .before .pre .1 .few)
 
 loop-again : tie.Need-loop-again Inv-loop μ-loop
-loop-again c = (
-  omega arith,
-  c .before .before .store .kept .0 ∙ c .before .before .before .before .before .before .before .before .before .before .before .loop .inv .1,
-  node-turn (c .before .before .before .before .before .before .before .before .before .before .before .before .before .args .t2) (c .before .before .before .before .before .before .before .before .before .before .before .before .before .args .t3) (c .before .before .before .before .before .before .before .before .before .before .before .loop .table) (c .before .before .before .before .before .before .before .before .before .before .before .before .before .args .table .now) (c .before .before .store .last .0) (c .before .before .before .before .before .before .before .before .before .before .before .before .before .pre .0) (c .before .before .before .before .before .before .before .before .before .before .before .loop .v) (c .before .before .before .before .before .before .before .wide .result) (omega arith) (c .before .before .before .before .before .before .before .wide .ensures .0) (c .before .before .before .before .before .before .before .before .before .before .before .loop .inv .2) (c .before .before .store .ensures),
-  one-more (λ (u : ℕ). Most (nodeNumbers (c .before .before .before .before .before .before .before .before .before .before .before .before .before .args .t2) (c .before .before .before .before .before .before .before .before .before .before .before .before .before .args .t3) u) (2 ^ 32)) (c .before .before .before .before .before .before .before .before .before .before .before .loop .v) (c .before .before .before .before .before .before .before .before .before .before .before .loop .inv .3) (node-most (c .before .before .before .before .before .before .before .before .before .before .before .before .before .args .t2) (c .before .before .before .before .before .before .before .before .before .before .before .before .before .args .t3) (c .before .before .before .before .before .before .before .before .before .before .before .loop .table) (c .before .before .before .before .before .before .before .before .before .before .before .before .before .args .table .now) (c .before .before .store .last .0) (c .before .before .before .before .before .before .before .before .before .before .before .before .before .pre .0) (c .before .before .before .before .before .before .before .before .before .before .before .loop .v) (c .before .before .before .before .before .before .before .wide .result) (c .before .before .before .before .before .before .before .before .before .before .before .before .before .pre .1) (c .before .before .before .before .before .before .before .before .before .before .before .before .before .pre .2) (c .before .before .before .before .before .before .before .wide .ensures .1) (c .before .before .before .before .before .before .before .wide .ensures .0)),
-)
+loop-again c =
+    let s = c .before .before .before .before .before .before .before .before .before .before .before .before in
+    let l = c .before .before .before .before .before .before .before .before .before .before .loop in
+    let e = c .before .before .before .before .before .node-numbers .ensures in (
+      omega arith,
+      c .before .before .store .kept .0 ∙ l .inv .1,
+      node-turn (s .args .t2) (s .args .t3) (l .table) (s .args .table .now) (c .before .before .store .last .0) (s .pre .0) (l .v) _ (omega (arith, s .pre .1 .few)) (e .0) (l .inv .2) (c .before .before .store .ensures),
+      one-more (λ (u : ℕ). Most (nodeNumbers (s .args .t2) (s .args .t3) u) (2 ^ 32)) (l .v) (l .inv .3) (subst (λ (xs : List ℕ). Most xs (2 ^ 32)) (e .0) (e .1)),
+    )
 
-element-copy-out-t43 : tie.Need-element-copy-out-t43 Inv-loop μ-loop
-element-copy-out-t43 c = search needs
+mul-t28 : tie.Need-mul-t28 Inv-loop μ-loop
+mul-t28 c = omega (arith, c .before .before .before .pre .1 .few)
 
-element-copy-out-t46 : tie.Need-element-copy-out-t46 Inv-loop μ-loop
-element-copy-out-t46 c = search needs
+element-copy-out-t31 : tie.Need-element-copy-out-t31 Inv-loop μ-loop
+element-copy-out-t31 c = omega (arith, c .before .before .before .pre .1 .few)
+
+mul-store-2 : tie.Need-mul-store-2 Inv-loop μ-loop
+mul-store-2 c = omega (arith, c .before .before .before .before .pre .1 .few)
+
+element-copy-out-store : tie.Need-element-copy-out-store Inv-loop μ-loop
+element-copy-out-store c = omega (arith, c .before .before .before .before .pre .1 .few)
+
+mul-store-3 : tie.Need-mul-store-3 Inv-loop μ-loop
+mul-store-3 c = omega (arith, c .before .before .before .before .before .before .pre .1 .few)
+
+add-store-2 : tie.Need-add-store-2 Inv-loop μ-loop
+add-store-2 c = omega (arith, c .before .before .before .before .before .before .pre .1 .few)
 
 slice-aggregate-store-2 : tie.Need-slice-aggregate-store-2 Inv-loop μ-loop
 slice-aggregate-store-2 c = search needs
 
 store-requires-2 : tie.Need-store-requires-2 Inv-loop μ-loop
-store-requires-2 c κs = omega (arith, c .before .before .before .before .before .loop .inv .1, c .before .before .before .before .before .before .before .pre .0)
+store-requires-2 c κs = omega (arith, c .before .before .before .before .before .before .before .pre .1 .few, c .before .before .before .before .before .before .before .pre .0, c .before .before .before .before .before .loop .inv .1)
 
 same-length : tie.Need-same-length Inv-loop μ-loop
 same-length c = search needs
 
 returns : tie.Need-returns Inv-loop μ-loop
-returns c = (node-last (c .before .before .before .before .before .before .before .before .before .before .args .t2) (c .before .before .before .before .before .before .before .before .before .before .args .t3) (c .before .before .before .before .before .before .before .before .loop .table) (c .before .before .before .before .before .before .before .before .before .before .args .table .now) (c .before .before .store2 .last .0) (c .before .before .before .before .before .before .before .before .before .before .pre .0) (c .before .before .before .before .before .before .before .before .loop .v) (omega arith) (c .before .before .before .before .before .before .before .before .loop .inv .2) (c .before .before .store2 .ensures), λ u h. c .before .before .before .before .before .before .before .before .loop .inv .3 u (omega arith))
+returns c =
+    let s = c .before .before .before .before .before .before .before .before .before .before in
+    let l = c .before .before .before .before .before .before .before .before .loop in (
+      node-last (s .args .t2) (s .args .t3) (l .table) (s .args .table .now) (c .before .before .store2 .last .0) (s .pre .0) (l .v) (omega (arith, s .pre .1 .few)) (omega arith) (l .inv .2) (c .before .before .store2 .ensures),
+      λ u h. l .inv .3 u (omega arith),
+    )
 
 pub fill-nodes-spec : {M : Type 1} → statement M
 fill-nodes-spec =
@@ -110,15 +115,11 @@ fill-nodes-spec =
     loop-holds
     mul-x
     element-copy-out-x
-    wide-requires
-    mul-t13
-    element-copy-out-t19
-    mul-t20
-    element-copy-out-t23
-    array-read-t26
-    array-read-t29
-    array-read-t32
-    array-read-store
+    mul-node-numbers
+    element-copy-out-node-numbers
+    mul-node-numbers-2
+    element-copy-out-node-numbers-2
+    node-numbers-requires
     mul-store
     add-store
     slice-aggregate-store
@@ -126,8 +127,12 @@ fill-nodes-spec =
     add-v
     loop-less
     loop-again
-    element-copy-out-t43
-    element-copy-out-t46
+    mul-t28
+    element-copy-out-t31
+    mul-store-2
+    element-copy-out-store
+    mul-store-3
+    add-store-2
     slice-aggregate-store-2
     store-requires-2
     same-length

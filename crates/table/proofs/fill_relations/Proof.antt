@@ -9,87 +9,105 @@ use Rattle.table.specs.SpliceLaws.{tab-none}
 use Rattle.table.specs.TurnLaws.{relation-turn, relation-last}
 use Rattle.table.proofs.fill_relations.Statement.{statement}
 use Rattle.table.proofs.fill_relations.Tie as tie
-use Rattle.table.proofs.fill_relations.Reads as reads
-use Rattle.table.proofs.fill_relations.Lts as lts
-use Rattle.table.proofs.store.Reads as store-reads
 
 abbrev Inv-loop : tie.InvT-loop
-Inv-loop table₀ g l r₀ table r = (r ≤ 17) × (length table ≡ length table₀) × (table ≡ splice 3 (tab (relationNumbers g l) r) table₀)
+Inv-loop table₀ g l r₀ table r = (r ≤ g .count) × (length table ≡ length table₀) × (table ≡ splice 3 (tab (relationNumbers g l) r) table₀)
 
 abbrev μ-loop : tie.MeasureT-loop
-μ-loop table₀ g l r₀ table r = 17 - r
+μ-loop table₀ g l r₀ table r = g .count - r
 
 loop-holds : tie.Need-loop-holds Inv-loop μ-loop
 loop-holds c = (omega arith, refl, tab-none (relationNumbers (c .before .args .t2) (c .before .args .t3)) 3 (c .before .args .table .now))
 
-mul-t10 : tie.Need-mul-t10 Inv-loop μ-loop
-mul-t10 c = search needs
+mul-t9 : tie.Need-mul-t9 Inv-loop μ-loop
+mul-t9 c = omega (arith, c .before .before .before .pre .1 .count)
 
 element-copy-out-t13 : tie.Need-element-copy-out-t13 Inv-loop μ-loop
-element-copy-out-t13 c = search needs
+element-copy-out-t13 c = omega (arith, c .before .before .before .pre .1 .count)
 
 mul-t14 : tie.Need-mul-t14 Inv-loop μ-loop
-mul-t14 c = search needs
+mul-t14 c = omega (arith, c .before .before .before .before .pre .1 .count)
 
 element-copy-out-t17 : tie.Need-element-copy-out-t17 Inv-loop μ-loop
-element-copy-out-t17 c = search needs
+element-copy-out-t17 c = omega (arith, c .before .before .before .before .pre .1 .count)
 
 mul-t18 : tie.Need-mul-t18 Inv-loop μ-loop
-mul-t18 c = search needs
+mul-t18 c = omega (arith, c .before .before .before .before .before .pre .1 .count)
 
 element-copy-out-t21 : tie.Need-element-copy-out-t21 Inv-loop μ-loop
-element-copy-out-t21 c = search needs
+element-copy-out-t21 c = omega (arith, c .before .before .before .before .before .pre .1 .count)
 
 mul-t22 : tie.Need-mul-t22 Inv-loop μ-loop
-mul-t22 c = search needs
+mul-t22 c = omega (arith, c .before .before .before .before .before .before .pre .1 .count)
 
 element-copy-out-t25 : tie.Need-element-copy-out-t25 Inv-loop μ-loop
-element-copy-out-t25 c = search needs
+element-copy-out-t25 c = omega (arith, c .before .before .before .before .before .before .pre .1 .count)
 
 mul-store : tie.Need-mul-store Inv-loop μ-loop
-mul-store c = search needs
+mul-store c = omega (arith, c .before .before .before .before .before .before .before .pre .1 .count)
 
 element-copy-out-store : tie.Need-element-copy-out-store Inv-loop μ-loop
-element-copy-out-store c = search needs
+element-copy-out-store c = omega (arith, c .before .before .before .before .before .before .before .pre .1 .count)
 
 mul-store-2 : tie.Need-mul-store-2 Inv-loop μ-loop
-mul-store-2 c = search needs
+mul-store-2 c = omega (arith, c .before .before .before .before .before .before .before .before .before .pre .1 .count)
 
 add-store : tie.Need-add-store Inv-loop μ-loop
-add-store c = search needs
+add-store c = omega (arith, c .before .before .before .before .before .before .before .before .before .pre .1 .count)
 
 slice-aggregate-store : tie.Need-slice-aggregate-store Inv-loop μ-loop
 slice-aggregate-store c = search needs
 
 store-requires : tie.Need-store-requires Inv-loop μ-loop
-store-requires c κs = omega (arith, c .before .before .before .before .before .before .before .before .loop .inv .1, c .before .before .before .before .before .before .before .before .before .before .pre)
+store-requires c κs = omega (arith, c .before .before .before .before .before .before .before .before .before .before .pre .1 .count, c .before .before .before .before .before .before .before .before .before .before .pre .0, c .before .before .before .before .before .before .before .before .loop .inv .1)
 
 add-r : tie.Need-add-r Inv-loop μ-loop
-add-r c = search needs
+add-r c = omega (arith, c .before .before .before .before .before .before .before .before .before .before .before .before .before .pre .1 .count)
 
 loop-less : tie.Need-loop-less Inv-loop μ-loop
-loop-less c = search needs
+loop-less c = omega (arith, c .before .before .before .before .before .before .before .before .before .before .before .before .before .pre .1 .count)
 
 loop-again : tie.Need-loop-again Inv-loop μ-loop
-loop-again c = (omega arith, c .before .before .store .kept .0 ∙ c .before .before .before .before .before .before .before .before .before .before .before .loop .inv .1, relation-turn (c .before .before .before .before .before .before .before .before .before .before .before .before .before .args .t2) (c .before .before .before .before .before .before .before .before .before .before .before .before .before .args .t3) (c .before .before .before .before .before .before .before .before .before .before .before .loop .table) (c .before .before .before .before .before .before .before .before .before .before .before .before .before .args .table .now) (c .before .before .store .last .0) (c .before .before .before .before .before .before .before .before .before .before .before .before .before .pre) (c .before .before .before .before .before .before .before .before .before .before .before .loop .r) (omega arith) (c .before .before .before .before .before .before .before .before .before .before .before .loop .inv .2) (c .before .before .store .ensures))
+loop-again c =
+    let s = c .before .before .before .before .before .before .before .before .before .before .before .before .before in
+    let l = c .before .before .before .before .before .before .before .before .before .before .before .loop in (
+      omega arith,
+      c .before .before .store .kept .0 ∙ l .inv .1,
+      relation-turn (s .args .t2) (s .args .t3) (l .table) (s .args .table .now) (c .before .before .store .last .0) (s .pre .0) (l .r) (omega (arith, s .pre .1 .count)) (l .inv .2) (c .before .before .store .ensures),
+    )
 
-element-copy-out-t37 : tie.Need-element-copy-out-t37 Inv-loop μ-loop
-element-copy-out-t37 c = search needs
+mul-t35 : tie.Need-mul-t35 Inv-loop μ-loop
+mul-t35 c = omega (arith, c .before .before .before .pre .1 .count)
 
-element-copy-out-t40 : tie.Need-element-copy-out-t40 Inv-loop μ-loop
-element-copy-out-t40 c = search needs
+element-copy-out-t38 : tie.Need-element-copy-out-t38 Inv-loop μ-loop
+element-copy-out-t38 c = omega (arith, c .before .before .before .pre .1 .count)
+
+mul-store-3 : tie.Need-mul-store-3 Inv-loop μ-loop
+mul-store-3 c = omega (arith, c .before .before .before .before .pre .1 .count)
+
+element-copy-out-store-2 : tie.Need-element-copy-out-store-2 Inv-loop μ-loop
+element-copy-out-store-2 c = omega (arith, c .before .before .before .before .pre .1 .count)
+
+mul-store-4 : tie.Need-mul-store-4 Inv-loop μ-loop
+mul-store-4 c = omega (arith, c .before .before .before .before .before .before .pre .1 .count)
+
+add-store-2 : tie.Need-add-store-2 Inv-loop μ-loop
+add-store-2 c = omega (arith, c .before .before .before .before .before .before .pre .1 .count)
 
 slice-aggregate-store-2 : tie.Need-slice-aggregate-store-2 Inv-loop μ-loop
 slice-aggregate-store-2 c = search needs
 
 store-requires-2 : tie.Need-store-requires-2 Inv-loop μ-loop
-store-requires-2 c κs = omega (arith, c .before .before .before .before .before .loop .inv .1, c .before .before .before .before .before .before .before .pre)
+store-requires-2 c κs = omega (arith, c .before .before .before .before .before .before .before .pre .1 .count, c .before .before .before .before .before .before .before .pre .0, c .before .before .before .before .before .loop .inv .1)
 
 same-length : tie.Need-same-length Inv-loop μ-loop
 same-length c = search needs
 
 returns : tie.Need-returns Inv-loop μ-loop
-returns c = relation-last (c .before .before .before .before .before .before .before .before .before .before .args .t2) (c .before .before .before .before .before .before .before .before .before .before .args .t3) (c .before .before .before .before .before .before .before .before .loop .table) (c .before .before .before .before .before .before .before .before .before .before .args .table .now) (c .before .before .store2 .last .0) (c .before .before .before .before .before .before .before .before .before .before .pre) (c .before .before .before .before .before .before .before .before .loop .r) (omega arith) (c .before .before .before .before .before .before .before .before .loop .inv .2) (c .before .before .store2 .ensures)
+returns c =
+    let s = c .before .before .before .before .before .before .before .before .before .before in
+    let l = c .before .before .before .before .before .before .before .before .loop in
+    relation-last (s .args .t2) (s .args .t3) (l .table) (s .args .table .now) (c .before .before .store2 .last .0) (s .pre .0) (l .r) (omega (arith, s .pre .1 .count)) (omega arith) (l .inv .2) (c .before .before .store2 .ensures)
 
 pub fill-relations-spec : {M : Type 1} → statement M
 fill-relations-spec =
@@ -98,7 +116,7 @@ fill-relations-spec =
     Inv-loop
     μ-loop
     loop-holds
-    mul-t10
+    mul-t9
     element-copy-out-t13
     mul-t14
     element-copy-out-t17
@@ -115,8 +133,12 @@ fill-relations-spec =
     add-r
     loop-less
     loop-again
-    element-copy-out-t37
-    element-copy-out-t40
+    mul-t35
+    element-copy-out-t38
+    mul-store-3
+    element-copy-out-store-2
+    mul-store-4
+    add-store-2
     slice-aggregate-store-2
     store-requires-2
     same-length

@@ -1,50 +1,59 @@
 -- `table::part_numbers` meets its contract.
-use Prim.Native.Nat.{ℕ, _*_, _^_, _≤_}
+use Prim.Native.Nat.{ℕ}
+use mathlib.Core.Path.{_∙_, ap}
 use native.Mathlib.Omega.{arith}
 use borrow.Author.Needs.{needs}
-use lib.ListN.{getD}
+use lib.ListN.{getD, take}
+use Rattle.rows.specs.Values.{weightOf}
 use Rattle.table.specs.PartLaws.{line-last, line-plain, last-most, plain-most, weight-times}
 use Rattle.table.proofs.part_numbers.Statement.{statement}
 use Rattle.table.proofs.part_numbers.Tie as tie
 
+wide-requires : tie.Need-wide-requires
+wide-requires c κs = search needs
+
 weights-requires : tie.Need-weights-requires
-weights-requires c κs = search needs
+weights-requires c κs = (search needs, search needs)
 
-sub-t8 : tie.Need-sub-t8
-sub-t8 c = search needs
+sub-t9 : tie.Need-sub-t9
+sub-t9 c = search needs
 
-add-t9 : tie.Need-add-t9
-add-t9 c = search needs
+add-t10 : tie.Need-add-t10
+add-t10 c = search needs
 
-array-read-t12 : tie.Need-array-read-t12
-array-read-t12 c = search needs
+array-read-t13 : tie.Need-array-read-t13
+array-read-t13 c = search needs
 
-mul-t13 : tie.Need-mul-t13
-mul-t13 c = omega (arith, weight-times (getD (c .before .before .weights .result) 0 0) (c .before .before .before .before .args .n) (c .before .before .weights .ensures .1 0) (c .before .before .before .before .pre .1))
+mul-t14 : tie.Need-mul-t14
+mul-t14 c = omega (arith, weight-times (getD (c .before .before .weights .result) 0 0) (c .before .before .before .before .before .args .n) (c .before .before .weights .ensures .1 0) (c .before .before .before .before .before .pre .1))
 
-array-read-t16 : tie.Need-array-read-t16
-array-read-t16 c = search needs
+array-read-t17 : tie.Need-array-read-t17
+array-read-t17 c = search needs
 
-mul-t17 : tie.Need-mul-t17
-mul-t17 c = omega (arith, weight-times (getD (c .before .before .weights .result) 1 0) (c .before .before .before .before .args .n) (c .before .before .weights .ensures .1 1) (c .before .before .before .before .pre .1))
+mul-t18 : tie.Need-mul-t18
+mul-t18 c = omega (arith, weight-times (getD (c .before .before .weights .result) 1 0) (c .before .before .before .before .before .args .n) (c .before .before .weights .ensures .1 1) (c .before .before .before .before .before .pre .1))
 
-array-read-t20 : tie.Need-array-read-t20
-array-read-t20 c = search needs
+array-read-t21 : tie.Need-array-read-t21
+array-read-t21 c = search needs
 
-mul-t21 : tie.Need-mul-t21
-mul-t21 c = omega (arith, weight-times (getD (c .before .before .weights .result) 2 0) (c .before .before .before .before .args .n) (c .before .before .weights .ensures .1 2) (c .before .before .before .before .pre .1))
+mul-t22 : tie.Need-mul-t22
+mul-t22 c = omega (arith, weight-times (getD (c .before .before .weights .result) 2 0) (c .before .before .before .before .before .args .n) (c .before .before .weights .ensures .1 2) (c .before .before .before .before .before .pre .1))
 
-array-read-t24 : tie.Need-array-read-t24
-array-read-t24 c = search needs
+array-read-t25 : tie.Need-array-read-t25
+array-read-t25 c = search needs
 
-mul-t25 : tie.Need-mul-t25
-mul-t25 c = omega (arith, weight-times (getD (c .before .before .weights .result) 3 0) (c .before .before .before .before .args .n) (c .before .before .weights .ensures .1 3) (c .before .before .before .before .pre .1))
+mul-t26 : tie.Need-mul-t26
+mul-t26 c = omega (arith, weight-times (getD (c .before .before .weights .result) 3 0) (c .before .before .before .before .before .args .n) (c .before .before .weights .ensures .1 3) (c .before .before .before .before .before .pre .1))
 
 returns : tie.Need-returns
-returns c = (line-last (c .before .before .before .before .args .n) (c .before .before .before .before .args .start) (c .before .before .before .before .args .q) (c .before .before .weights .result) (c .before .before .weights .ensures .0) (omega arith), last-most (c .before .before .before .before .args .n) (c .before .before .before .before .args .start) (c .before .before .weights .result) (c .before .before .before .before .pre .1) (c .before .before .before .before .pre .3) (c .before .before .weights .ensures .1))
+returns c =
+    let s = c .before .before .before .before .before in
+    let w = c .before .before .weights .ensures in
+    let e = w .0 ∙ ap (λ (k : ℕ). weightOf (s .args .n) (take k (s .args .q .levels))) (c .before .before .before .wide .ensures .0) in
+    (line-last (s .args .n) (s .args .start) (s .args .q) (c .before .before .weights .result) e (omega arith), last-most (s .args .n) (s .args .start) (c .before .before .weights .result) (s .pre .1) (s .pre .3) (w .1))
 
-array-read-t28 : tie.Need-array-read-t28
-array-read-t28 c = search needs
+array-read-t7 : tie.Need-array-read-t7
+array-read-t7 c = search needs
 
 array-read-t31 : tie.Need-array-read-t31
 array-read-t31 c = search needs
@@ -56,25 +65,30 @@ array-read-t37 : tie.Need-array-read-t37
 array-read-t37 c = search needs
 
 returns-2 : tie.Need-returns-2
-returns-2 c = (line-plain (c .before .before .before .before .args .n) (c .before .before .before .before .args .start) (c .before .before .before .before .args .q) (c .before .before .weights .result) (c .before .before .weights .ensures .0) (λ e. omega arith), plain-most (c .before .before .before .before .args .n) (c .before .before .before .before .args .start) (c .before .before .weights .result) (c .before .before .before .before .pre .1) (c .before .before .before .before .pre .3) (c .before .before .weights .ensures .1))
+returns-2 c =
+    let s = c .before .before .before .before .before in
+    let w = c .before .before .weights .ensures in
+    let e = w .0 ∙ ap (λ (k : ℕ). weightOf (s .args .n) (take k (s .args .q .levels))) (c .before .before .before .wide .ensures .0) in
+    (line-plain (s .args .n) (s .args .start) (s .args .q) (c .before .before .weights .result) e (λ e. omega arith), plain-most (s .args .n) (s .args .start) (c .before .before .weights .result) (s .pre .1) (s .pre .3) (w .1))
 
 pub part-numbers-spec : {M : Type 1} → statement M
 part-numbers-spec =
     tie.close
     (tie.spec
+    wide-requires
     weights-requires
-    sub-t8
-    add-t9
-    array-read-t12
-    mul-t13
-    array-read-t16
-    mul-t17
-    array-read-t20
-    mul-t21
-    array-read-t24
-    mul-t25
+    sub-t9
+    add-t10
+    array-read-t13
+    mul-t14
+    array-read-t17
+    mul-t18
+    array-read-t21
+    mul-t22
+    array-read-t25
+    mul-t26
     returns
-    array-read-t28
+    array-read-t7
     array-read-t31
     array-read-t34
     array-read-t37

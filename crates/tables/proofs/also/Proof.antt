@@ -1,49 +1,51 @@
 -- `also` meets its contract.
-use mathlib.Core.Path.{_≡_, refl, ap, _∙_}
-use mathlib.Core.Bool.{false, _||_}
-use Prim.Native.Nat.{ℕ, _-_, _≤_, _<_}
-use lib.ListN.{length, getD, length-set}
-use native.Mathlib.Nat.{not-suc-le-zero}
+use mathlib.Core.Path.{ap}
+use mathlib.Core.Logic.{⊎-elim, inl, inr}
+use Prim.Native.Nat.{_-_}
 use native.Mathlib.Omega.{arith}
 use borrow.Author.Needs.{needs}
-use Rattle.tables.specs.Pass.{hasLevel}
-use Rattle.tables.proofs.Laws.{mark-again}
+use Rattle.tables.proofs.Laws.{Marked, mark-start, mark-end, mark-yes, mark-no}
 use Rattle.tables.proofs.also.Statement.{statement}
 use Rattle.tables.proofs.also.Tie as tie
 
 abbrev Inv-loop : tie.InvT-loop
-Inv-loop p m r₀ l₀ r l = (l ≤ 4) × ((k : ℕ) → k < l → getD (r .at) k false ≡ (getD (m .at) k false || hasLevel k p)) × (length (r .at) ≡ length (m .at))
+Inv-loop p r₀ width i₀ r i = Marked (r₀ .at) (r .at) (p .width) (p .levels) i
 
 abbrev μ-loop : tie.MeasureT-loop
-μ-loop p m r₀ l₀ r l = 4 - l
+μ-loop p r₀ width i₀ r i = 4 - i
+
+wide-requires : tie.Need-wide-requires Inv-loop μ-loop
+wide-requires c κs = search needs
 
 loop-holds : tie.Need-loop-holds Inv-loop μ-loop
-loop-holds c = (omega arith, λ k h. absurd (not-suc-le-zero h), refl)
+loop-holds c = mark-start _ _ _ (search needs)
 
-element-copy-out-old : tie.Need-element-copy-out-old Inv-loop μ-loop
-element-copy-out-old c = omega arith
+returns : tie.Need-returns Inv-loop μ-loop
+returns c = mark-end _ _ _ _ (search needs) _ (c .before .before .loop .inv) (inl (omega (arith, c .if1 .taken, c .before .before .before .wide .ensures)))
 
-has-requires : tie.Need-has-requires Inv-loop μ-loop
-has-requires c κs = search needs
+element-copy-out-wide : tie.Need-element-copy-out-wide Inv-loop μ-loop
+element-copy-out-wide c = search needs
 
-or-requires : tie.Need-or-requires Inv-loop μ-loop
-or-requires c κs = search needs
+wide-requires-2 : tie.Need-wide-requires-2 Inv-loop μ-loop
+wide-requires-2 c κs = search needs
 
 element-write-r : tie.Need-element-write-r Inv-loop μ-loop
-element-write-r c = search needs
+element-write-r c = omega (arith, c .before .before .before .before .before .loop .inv .marks-length)
 
-add-l : tie.Need-add-l Inv-loop μ-loop
-add-l c = omega arith
+add-i : tie.Need-add-i Inv-loop μ-loop
+add-i c = omega arith
 
 loop-less : tie.Need-loop-less Inv-loop μ-loop
 loop-less c = omega arith
 
 loop-again : tie.Need-loop-again Inv-loop μ-loop
-loop-again c = let len : length (c .before .before .before .before .before .args .t1 .at) ≡ 4 = search needs in
-    (omega arith, mark-again (c .before .before .before .before .loop .r .at) (c .before .before .before .before .loop .l) (c .or .result) (λ k. getD (c .before .before .before .before .before .args .t1 .at) k false || hasLevel k (c .before .before .before .before .before .args .p)) (omega (arith, c .before .before .before .before .loop .inv .2)) (c .or .ensures ∙ ap (λ b. getD (c .before .before .before .before .before .args .t1 .at) (c .before .before .before .before .loop .l) false || b) (c .before .has .ensures)) (c .before .before .before .before .loop .inv .1), length-set (c .before .before .before .before .loop .r .at) (c .before .before .before .before .loop .l) (c .or .result) ∙ c .before .before .before .before .loop .inv .2)
+loop-again c = ⊎-elim
+    (λ w. mark-yes _ _ _ _ (search needs) _ (c .before .before .before .before .before .loop .inv) (omega arith) (λ e. c .before .before .before .if1 .left (omega (arith, c .before .before .before .before .before .before .wide .ensures))) (c .before .wide2 .result) (c .before .wide2 .ensures) _ (w .0 .taken) (ap (λ m. m .at) (w .1)))
+    (λ w. mark-no _ _ _ _ (search needs) _ (c .before .before .before .before .before .loop .inv) (omega arith) (λ e. c .before .before .before .if1 .left (omega (arith, c .before .before .before .before .before .before .wide .ensures))) (c .before .wide2 .result) (c .before .wide2 .ensures) _ (omega (arith, w .0 .left)) (ap (λ m. m .at) (w .1)))
+    (c .if2 .came)
 
-returns : tie.Need-returns Inv-loop μ-loop
-returns c = λ l h. c .before .loop .inv .1 l (omega arith)
+returns-2 : tie.Need-returns-2 Inv-loop μ-loop
+returns-2 c = mark-end _ _ _ _ (search needs) _ (c .before .loop .inv) (inr (omega arith))
 
 pub also-spec : {M : Type 1} → statement M
 also-spec =
@@ -51,12 +53,13 @@ also-spec =
     (tie.spec
     Inv-loop
     μ-loop
+    wide-requires
     loop-holds
-    element-copy-out-old
-    has-requires
-    or-requires
+    returns
+    element-copy-out-wide
+    wide-requires-2
     element-write-r
-    add-l
+    add-i
     loop-less
     loop-again
-    returns)
+    returns-2)

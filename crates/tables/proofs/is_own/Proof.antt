@@ -13,7 +13,7 @@ wide-requires : tie.Need-wide-requires
 wide-requires c κs = search needs
 
 returns : tie.Need-returns
-returns c = own-quant (c .before .before .before .args .t1 .kind) (c .before .before .before .args .l) (getD (c .before .before .before .args .t1 .levels) 0 0) (c .wide .result) (c .before .before .if1 .taken) (c .wide .ensures)
+returns c = own-quant (c .before .before .before .args .t1 .kind) (c .before .before .before .args .l) (getD (c .before .before .before .args .t1 .levels) 0 0) (c .wide .result) (omega (arith, c .before .before .if1 .taken)) (c .wide .ensures)
 
 returns-2 : tie.Need-returns-2
 returns-2 c = own-none (c .before .args .t1 .kind) (c .before .args .l) (getD (c .before .args .t1 .levels) 0 0) (omega arith)

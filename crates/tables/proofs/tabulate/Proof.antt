@@ -3,21 +3,22 @@ use Prim.Native.Nat.{_-_}
 use mathlib.Core.Path.{refl, ap}
 use native.Mathlib.Omega.{arith}
 use borrow.Author.Needs.{needs}
-use Rattle.tables.proofs.Turns.{Outer, Inner, outer-start, inner-start, inner-again, leaf-room, outer-leaf, node-many, node-space, node-which, base-room, outer-node, outer-end, table-of}
+use Rattle.tables.specs.Postorder.{rowsFrom}
+use Rattle.tables.proofs.Turns.{Outer, Inner, outer-start, inner-start, inner-again, free-width, leaf-room, outer-leaf, node-many, node-space, node-which, base-room, outer-node, outer-end, table-of}
 use Rattle.tables.proofs.tabulate.Statement.{statement}
 use Rattle.tables.proofs.tabulate.Tie as tie
 
 abbrev Inv-loop2 : tie.InvT-loop2
-Inv-loop2 from stack parts₀ rows height placed₀ i row first base marks₀ j₀ parts placed marks j = Inner stack parts₀ height placed₀ base parts placed (marks .at) j
+Inv-loop2 from len count stack parts₀ rows height placed₀ i row first base marks₀ j₀ parts placed marks j = Inner stack parts₀ height placed₀ base parts placed (marks .at) j
 
 abbrev μ-loop2 : tie.MeasureT-loop2
-μ-loop2 from stack parts₀ rows height placed₀ i row first base marks₀ j₀ parts placed marks j = height - j
+μ-loop2 from len count stack parts₀ rows height placed₀ i row first base marks₀ j₀ parts placed marks j = height - j
 
 abbrev Inv-loop : tie.InvT-loop
-Inv-loop from stack₀ parts₀ rows₀ height₀ placed₀ i₀ stack parts rows height placed i = Outer from stack parts rows height placed i
+Inv-loop from len count stack₀ parts₀ rows₀ height₀ placed₀ i₀ stack parts rows height placed i = Outer (rowsFrom from len count) stack parts rows height placed i
 
 abbrev μ-loop : tie.MeasureT-loop
-μ-loop from stack₀ parts₀ rows₀ height₀ placed₀ i₀ stack parts rows height placed i = from .len - i
+μ-loop from len count stack₀ parts₀ rows₀ height₀ placed₀ i₀ stack parts rows height placed i = len - i
 
 no-part-requires : tie.Need-no-part-requires Inv-loop2 μ-loop2 Inv-loop μ-loop
 no-part-requires c κs = search needs
@@ -26,13 +27,10 @@ no-row-requires : tie.Need-no-row-requires Inv-loop2 μ-loop2 Inv-loop μ-loop
 no-row-requires c κs = search needs
 
 loop-holds : tie.Need-loop-holds Inv-loop2 μ-loop2 Inv-loop μ-loop
-loop-holds c = outer-start (c .before .before .args .t1) (c .before .no-part .result) (c .no-row .result) (c .before .no-part .ensures) (c .no-row .ensures) (c .before .before .pre .2)
+loop-holds c = outer-start _ (c .before .no-part .result) (c .no-row .result) (c .before .no-part .ensures) (c .no-row .ensures) (c .before .before .before .pre .2)
 
-mul-row : tie.Need-mul-row Inv-loop2 μ-loop2 Inv-loop μ-loop
-mul-row c = omega arith
-
-element-copy-out-row : tie.Need-element-copy-out-row Inv-loop2 μ-loop2 Inv-loop μ-loop
-element-copy-out-row c = omega (arith, c .loop-test .taken, c .before .before .before .before .pre .1)
+row-at-requires : tie.Need-row-at-requires Inv-loop2 μ-loop2 Inv-loop μ-loop
+row-at-requires c κs = (c .before .before .before .before .before .pre .0, omega (arith, c .loop-test .taken, c .before .before .before .before .before .pre .1))
 
 add-i : tie.Need-add-i Inv-loop2 μ-loop2 Inv-loop μ-loop
 add-i c = omega arith
@@ -41,25 +39,25 @@ leaf-part-requires : tie.Need-leaf-part-requires Inv-loop2 μ-loop2 Inv-loop μ-
 leaf-part-requires c κs = omega (arith, c .if1 .taken)
 
 mul-stack : tie.Need-mul-stack Inv-loop2 μ-loop2 Inv-loop μ-loop
-mul-stack c = omega (arith, leaf-room (c .before .before .before .before .before .before .before .before .args .t1) (c .before .before .before .before .before .before .before .before .pre .1) (c .before .before .before .before .before .before .before .before .pre .0) (c .before .before .before .before .before .loop .stack) (c .before .before .before .before .before .loop .parts) (c .before .before .before .before .before .loop .rows) (c .before .before .before .before .before .loop .height) (c .before .before .before .before .before .loop .placed) (c .before .before .before .before .before .loop .i) (c .before .before .before .before .before .loop .inv) (c .before .before .before .before .loop-test .taken) (omega (arith, c .before .if1 .taken)))
+mul-stack c = omega (arith, leaf-room _ _ _ (c .before .before .before .before .before .before .before .before .before .pre .1) _ _ _ _ _ _ (c .before .before .before .before .before .loop .inv) (c .before .before .before .before .loop-test .taken) (c .before .before .before .row-at .result) (c .before .before .before .row-at .ensures) (omega (arith, c .before .if1 .taken)))
 
 array-set-from-stack : tie.Need-array-set-from-stack Inv-loop2 μ-loop2 Inv-loop μ-loop
-array-set-from-stack c = omega (arith, leaf-room (c .before .before .before .before .before .before .before .before .args .t1) (c .before .before .before .before .before .before .before .before .pre .1) (c .before .before .before .before .before .before .before .before .pre .0) (c .before .before .before .before .before .loop .stack) (c .before .before .before .before .before .loop .parts) (c .before .before .before .before .before .loop .rows) (c .before .before .before .before .before .loop .height) (c .before .before .before .before .before .loop .placed) (c .before .before .before .before .before .loop .i) (c .before .before .before .before .before .loop .inv) (c .before .before .before .before .loop-test .taken) (omega (arith, c .before .if1 .taken)))
+array-set-from-stack c = omega (arith, leaf-room _ _ _ (c .before .before .before .before .before .before .before .before .before .pre .1) _ _ _ _ _ _ (c .before .before .before .before .before .loop .inv) (c .before .before .before .before .loop-test .taken) (c .before .before .before .row-at .result) (c .before .before .before .row-at .ensures) (omega (arith, c .before .if1 .taken)))
 
 add-height : tie.Need-add-height Inv-loop2 μ-loop2 Inv-loop μ-loop
-add-height c = omega (arith, leaf-room (c .before .before .before .before .before .before .before .before .args .t1) (c .before .before .before .before .before .before .before .before .pre .1) (c .before .before .before .before .before .before .before .before .pre .0) (c .before .before .before .before .before .loop .stack) (c .before .before .before .before .before .loop .parts) (c .before .before .before .before .before .loop .rows) (c .before .before .before .before .before .loop .height) (c .before .before .before .before .before .loop .placed) (c .before .before .before .before .before .loop .i) (c .before .before .before .before .before .loop .inv) (c .before .before .before .before .loop-test .taken) (omega (arith, c .before .if1 .taken)))
+add-height c = omega (arith, leaf-room _ _ _ (c .before .before .before .before .before .before .before .before .before .pre .1) _ _ _ _ _ _ (c .before .before .before .before .before .loop .inv) (c .before .before .before .before .loop-test .taken) (c .before .before .before .row-at .result) (c .before .before .before .row-at .ensures) (omega (arith, c .before .if1 .taken)))
 
 loop-less : tie.Need-loop-less Inv-loop2 μ-loop2 Inv-loop μ-loop
 loop-less c = omega arith
 
 loop-again : tie.Need-loop-again Inv-loop2 μ-loop2 Inv-loop μ-loop
-loop-again c = outer-leaf (c .before .before .before .before .before .before .before .before .args .t1) (c .before .before .before .before .before .before .before .before .pre .1) (c .before .before .before .before .before .before .before .before .pre .0) (c .before .before .before .before .before .loop .stack) (c .before .before .before .before .before .loop .parts) (c .before .before .before .before .before .loop .rows) (c .before .before .before .before .before .loop .height) (c .before .before .before .before .before .loop .placed) (c .before .before .before .before .before .loop .i) (c .before .before .before .before .before .loop .inv) (c .before .before .before .before .loop-test .taken) (omega (arith, c .before .if1 .taken)) (c .leaf-part .result) (c .leaf-part .ensures)
+loop-again c = outer-leaf _ _ _ (c .before .before .before .before .before .before .before .before .before .pre .1) _ _ _ _ _ _ (c .before .before .before .before .before .loop .inv) (c .before .before .before .before .loop-test .taken) (c .before .before .before .row-at .result) (c .before .before .before .row-at .ensures) (omega (arith, c .before .if1 .taken)) (c .leaf-part .result) (c .leaf-part .ensures)
 
 wide-requires : tie.Need-wide-requires Inv-loop2 μ-loop2 Inv-loop μ-loop
 wide-requires c κs = search needs
 
 sub-base : tie.Need-sub-base Inv-loop2 μ-loop2 Inv-loop μ-loop
-sub-base c = omega (arith, c .wide .ensures, node-many (c .before .before .before .before .before .before .before .before .args .t1) (c .before .before .before .before .before .before .before .before .pre .1) (c .before .before .before .before .before .before .before .before .pre .0) (c .before .before .before .before .before .loop .stack) (c .before .before .before .before .before .loop .parts) (c .before .before .before .before .before .loop .rows) (c .before .before .before .before .before .loop .height) (c .before .before .before .before .before .loop .placed) (c .before .before .before .before .before .loop .i) (c .before .before .before .before .before .loop .inv) (c .before .before .before .before .loop-test .taken) (omega (arith, c .before .if1 .left)))
+sub-base c = omega (arith, c .wide .ensures, node-many _ _ _ (c .before .before .before .before .before .before .before .before .before .pre .1) _ _ _ _ _ _ (c .before .before .before .before .before .loop .inv) (c .before .before .before .before .loop-test .taken) (c .before .before .before .row-at .result) (c .before .before .before .row-at .ensures) (omega (arith, c .before .if1 .left)))
 
 loop2-holds : tie.Need-loop2-holds Inv-loop2 μ-loop2 Inv-loop μ-loop
 loop2-holds c = inner-start (c .before .before .before .before .before .loop .stack) (c .before .before .before .before .before .loop .parts) (c .before .before .before .before .before .loop .height) (c .before .before .before .before .before .loop .placed) _ (omega arith)
@@ -71,16 +69,16 @@ array-copy-out-p : tie.Need-array-copy-out-p Inv-loop2 μ-loop2 Inv-loop μ-loop
 array-copy-out-p c = omega (arith, c .loop2-test .taken, c .before .before .before .before .before .before .before .loop .inv .tall)
 
 mul-parts : tie.Need-mul-parts Inv-loop2 μ-loop2 Inv-loop μ-loop
-mul-parts c = omega (arith, node-space (c .before .before .before .before .before .before .before .before .before .before .before .args .t1) (c .before .before .before .before .before .before .before .before .before .before .before .pre .1) (c .before .before .before .before .before .before .before .before .before .before .before .pre .0) (c .before .before .before .before .before .before .before .before .loop .stack) (c .before .before .before .before .before .before .before .before .loop .parts) (c .before .before .before .before .before .before .before .before .loop .rows) (c .before .before .before .before .before .before .before .before .loop .height) (c .before .before .before .before .before .before .before .before .loop .placed) (c .before .before .before .before .before .before .before .before .loop .i) (c .before .before .before .before .before .before .before .before .loop .inv) (c .before .before .before .before .before .before .before .loop-test .taken) (omega (arith, c .before .before .before .before .if1 .left)), node-many (c .before .before .before .before .before .before .before .before .before .before .before .args .t1) (c .before .before .before .before .before .before .before .before .before .before .before .pre .1) (c .before .before .before .before .before .before .before .before .before .before .before .pre .0) (c .before .before .before .before .before .before .before .before .loop .stack) (c .before .before .before .before .before .before .before .before .loop .parts) (c .before .before .before .before .before .before .before .before .loop .rows) (c .before .before .before .before .before .before .before .before .loop .height) (c .before .before .before .before .before .before .before .before .loop .placed) (c .before .before .before .before .before .before .before .before .loop .i) (c .before .before .before .before .before .before .before .before .loop .inv) (c .before .before .before .before .before .before .before .loop-test .taken) (omega (arith, c .before .before .before .before .if1 .left)), c .before .before .loop2 .inv .count, c .before .before .loop2 .inv .low, c .before .loop2-test .taken, c .before .before .before .wide .ensures)
+mul-parts c = omega (arith, node-space _ _ _ (c .before .before .before .before .before .before .before .before .before .before .before .before .pre .1) _ _ _ _ _ _ (c .before .before .before .before .before .before .before .before .loop .inv) (c .before .before .before .before .before .before .before .loop-test .taken) (c .before .before .before .before .before .before .row-at .result) (c .before .before .before .before .before .before .row-at .ensures) (omega (arith, c .before .before .before .before .if1 .left)), node-many _ _ _ (c .before .before .before .before .before .before .before .before .before .before .before .before .pre .1) _ _ _ _ _ _ (c .before .before .before .before .before .before .before .before .loop .inv) (c .before .before .before .before .before .before .before .loop-test .taken) (c .before .before .before .before .before .before .row-at .result) (c .before .before .before .before .before .before .row-at .ensures) (omega (arith, c .before .before .before .before .if1 .left)), c .before .before .loop2 .inv .count, c .before .before .loop2 .inv .low, c .before .loop2-test .taken, c .before .before .before .wide .ensures)
 
 array-set-from-parts : tie.Need-array-set-from-parts Inv-loop2 μ-loop2 Inv-loop μ-loop
-array-set-from-parts c = omega (arith, node-space (c .before .before .before .before .before .before .before .before .before .before .before .args .t1) (c .before .before .before .before .before .before .before .before .before .before .before .pre .1) (c .before .before .before .before .before .before .before .before .before .before .before .pre .0) (c .before .before .before .before .before .before .before .before .loop .stack) (c .before .before .before .before .before .before .before .before .loop .parts) (c .before .before .before .before .before .before .before .before .loop .rows) (c .before .before .before .before .before .before .before .before .loop .height) (c .before .before .before .before .before .before .before .before .loop .placed) (c .before .before .before .before .before .before .before .before .loop .i) (c .before .before .before .before .before .before .before .before .loop .inv) (c .before .before .before .before .before .before .before .loop-test .taken) (omega (arith, c .before .before .before .before .if1 .left)), node-many (c .before .before .before .before .before .before .before .before .before .before .before .args .t1) (c .before .before .before .before .before .before .before .before .before .before .before .pre .1) (c .before .before .before .before .before .before .before .before .before .before .before .pre .0) (c .before .before .before .before .before .before .before .before .loop .stack) (c .before .before .before .before .before .before .before .before .loop .parts) (c .before .before .before .before .before .before .before .before .loop .rows) (c .before .before .before .before .before .before .before .before .loop .height) (c .before .before .before .before .before .before .before .before .loop .placed) (c .before .before .before .before .before .before .before .before .loop .i) (c .before .before .before .before .before .before .before .before .loop .inv) (c .before .before .before .before .before .before .before .loop-test .taken) (omega (arith, c .before .before .before .before .if1 .left)), c .before .before .loop2 .inv .count, c .before .before .loop2 .inv .low, c .before .loop2-test .taken, c .before .before .before .wide .ensures)
+array-set-from-parts c = omega (arith, node-space _ _ _ (c .before .before .before .before .before .before .before .before .before .before .before .before .pre .1) _ _ _ _ _ _ (c .before .before .before .before .before .before .before .before .loop .inv) (c .before .before .before .before .before .before .before .loop-test .taken) (c .before .before .before .before .before .before .row-at .result) (c .before .before .before .before .before .before .row-at .ensures) (omega (arith, c .before .before .before .before .if1 .left)), node-many _ _ _ (c .before .before .before .before .before .before .before .before .before .before .before .before .pre .1) _ _ _ _ _ _ (c .before .before .before .before .before .before .before .before .loop .inv) (c .before .before .before .before .before .before .before .loop-test .taken) (c .before .before .before .before .before .before .row-at .result) (c .before .before .before .before .before .before .row-at .ensures) (omega (arith, c .before .before .before .before .if1 .left)), c .before .before .loop2 .inv .count, c .before .before .loop2 .inv .low, c .before .loop2-test .taken, c .before .before .before .wide .ensures)
 
 also-requires : tie.Need-also-requires Inv-loop2 μ-loop2 Inv-loop μ-loop
 also-requires c κs = search needs
 
 add-placed : tie.Need-add-placed Inv-loop2 μ-loop2 Inv-loop μ-loop
-add-placed c = omega (arith, node-space (c .before .before .before .before .before .before .before .before .before .before .before .before .args .t1) (c .before .before .before .before .before .before .before .before .before .before .before .before .pre .1) (c .before .before .before .before .before .before .before .before .before .before .before .before .pre .0) (c .before .before .before .before .before .before .before .before .before .loop .stack) (c .before .before .before .before .before .before .before .before .before .loop .parts) (c .before .before .before .before .before .before .before .before .before .loop .rows) (c .before .before .before .before .before .before .before .before .before .loop .height) (c .before .before .before .before .before .before .before .before .before .loop .placed) (c .before .before .before .before .before .before .before .before .before .loop .i) (c .before .before .before .before .before .before .before .before .before .loop .inv) (c .before .before .before .before .before .before .before .before .loop-test .taken) (omega (arith, c .before .before .before .before .before .if1 .left)), node-many (c .before .before .before .before .before .before .before .before .before .before .before .before .args .t1) (c .before .before .before .before .before .before .before .before .before .before .before .before .pre .1) (c .before .before .before .before .before .before .before .before .before .before .before .before .pre .0) (c .before .before .before .before .before .before .before .before .before .loop .stack) (c .before .before .before .before .before .before .before .before .before .loop .parts) (c .before .before .before .before .before .before .before .before .before .loop .rows) (c .before .before .before .before .before .before .before .before .before .loop .height) (c .before .before .before .before .before .before .before .before .before .loop .placed) (c .before .before .before .before .before .before .before .before .before .loop .i) (c .before .before .before .before .before .before .before .before .before .loop .inv) (c .before .before .before .before .before .before .before .before .loop-test .taken) (omega (arith, c .before .before .before .before .before .if1 .left)), c .before .before .before .loop2 .inv .count, c .before .before .before .loop2 .inv .low, c .before .before .loop2-test .taken, c .before .before .before .before .wide .ensures)
+add-placed c = omega (arith, node-space _ _ _ (c .before .before .before .before .before .before .before .before .before .before .before .before .before .pre .1) _ _ _ _ _ _ (c .before .before .before .before .before .before .before .before .before .loop .inv) (c .before .before .before .before .before .before .before .before .loop-test .taken) (c .before .before .before .before .before .before .before .row-at .result) (c .before .before .before .before .before .before .before .row-at .ensures) (omega (arith, c .before .before .before .before .before .if1 .left)), node-many _ _ _ (c .before .before .before .before .before .before .before .before .before .before .before .before .before .pre .1) _ _ _ _ _ _ (c .before .before .before .before .before .before .before .before .before .loop .inv) (c .before .before .before .before .before .before .before .before .loop-test .taken) (c .before .before .before .before .before .before .before .row-at .result) (c .before .before .before .before .before .before .before .row-at .ensures) (omega (arith, c .before .before .before .before .before .if1 .left)), c .before .before .before .loop2 .inv .count, c .before .before .before .loop2 .inv .low, c .before .before .loop2-test .taken, c .before .before .before .before .wide .ensures)
 
 add-j : tie.Need-add-j Inv-loop2 μ-loop2 Inv-loop μ-loop
 add-j c = omega (arith, c .before .before .loop2-test .taken, c .before .before .before .before .before .before .before .before .before .loop .inv .tall)
@@ -98,37 +96,37 @@ wide-requires-2 : tie.Need-wide-requires-2 Inv-loop2 μ-loop2 Inv-loop μ-loop
 wide-requires-2 c κs = search needs
 
 node-row-requires : tie.Need-node-row-requires Inv-loop2 μ-loop2 Inv-loop μ-loop
-node-row-requires c κs = search needs
+node-row-requires c κs = (free-width _ _ (c .before .free-levels .ensures), omega (arith, node-space _ _ _ (c .before .before .before .before .before .before .before .before .before .before .before .before .before .pre .1) _ _ _ _ _ _ (c .before .before .before .before .before .before .before .before .before .loop .inv) (c .before .before .before .before .before .before .before .before .loop-test .taken) (c .before .before .before .before .before .before .before .row-at .result) (c .before .before .before .before .before .before .before .row-at .ensures) (omega (arith, c .before .before .before .before .before .if1 .left))))
 
 mul-rows : tie.Need-mul-rows Inv-loop2 μ-loop2 Inv-loop μ-loop
-mul-rows c = omega (arith, c .before .wide2 .ensures, node-which (c .before .before .before .before .before .before .before .before .before .before .before .before .before .args .t1) (c .before .before .before .before .before .before .before .before .before .before .before .before .before .pre .1) (c .before .before .before .before .before .before .before .before .before .before .before .before .before .pre .0) (c .before .before .before .before .before .before .before .before .before .before .loop .stack) (c .before .before .before .before .before .before .before .before .before .before .loop .parts) (c .before .before .before .before .before .before .before .before .before .before .loop .rows) (c .before .before .before .before .before .before .before .before .before .before .loop .height) (c .before .before .before .before .before .before .before .before .before .before .loop .placed) (c .before .before .before .before .before .before .before .before .before .before .loop .i) (c .before .before .before .before .before .before .before .before .before .before .loop .inv) (c .before .before .before .before .before .before .before .before .before .loop-test .taken) (omega (arith, c .before .before .before .before .before .before .if1 .left)))
+mul-rows c = omega (arith, c .before .wide2 .ensures, node-which _ _ _ (c .before .before .before .before .before .before .before .before .before .before .before .before .before .before .pre .1) _ _ _ _ _ _ (c .before .before .before .before .before .before .before .before .before .before .loop .inv) (c .before .before .before .before .before .before .before .before .before .loop-test .taken) (c .before .before .before .before .before .before .before .before .row-at .result) (c .before .before .before .before .before .before .before .before .row-at .ensures) (omega (arith, c .before .before .before .before .before .before .if1 .left)))
 
 array-set-from-rows : tie.Need-array-set-from-rows Inv-loop2 μ-loop2 Inv-loop μ-loop
-array-set-from-rows c = omega (arith, c .before .wide2 .ensures, node-which (c .before .before .before .before .before .before .before .before .before .before .before .before .before .args .t1) (c .before .before .before .before .before .before .before .before .before .before .before .before .before .pre .1) (c .before .before .before .before .before .before .before .before .before .before .before .before .before .pre .0) (c .before .before .before .before .before .before .before .before .before .before .loop .stack) (c .before .before .before .before .before .before .before .before .before .before .loop .parts) (c .before .before .before .before .before .before .before .before .before .before .loop .rows) (c .before .before .before .before .before .before .before .before .before .before .loop .height) (c .before .before .before .before .before .before .before .before .before .before .loop .placed) (c .before .before .before .before .before .before .before .before .before .before .loop .i) (c .before .before .before .before .before .before .before .before .before .before .loop .inv) (c .before .before .before .before .before .before .before .before .before .loop-test .taken) (omega (arith, c .before .before .before .before .before .before .if1 .left)))
+array-set-from-rows c = omega (arith, c .before .wide2 .ensures, node-which _ _ _ (c .before .before .before .before .before .before .before .before .before .before .before .before .before .before .pre .1) _ _ _ _ _ _ (c .before .before .before .before .before .before .before .before .before .before .loop .inv) (c .before .before .before .before .before .before .before .before .before .loop-test .taken) (c .before .before .before .before .before .before .before .before .row-at .result) (c .before .before .before .before .before .before .before .before .row-at .ensures) (omega (arith, c .before .before .before .before .before .before .if1 .left)))
 
 node-part-requires : tie.Need-node-part-requires Inv-loop2 μ-loop2 Inv-loop μ-loop
-node-part-requires c κs = search needs
+node-part-requires c κs = free-width _ _ (c .before .before .free-levels .ensures)
 
 mul-stack-2 : tie.Need-mul-stack-2 Inv-loop2 μ-loop2 Inv-loop μ-loop
-mul-stack-2 c = omega (arith, base-room (c .before .before .before .before .before .before .before .before .before .before .before .before .before .before .args .t1) (c .before .before .before .before .before .before .before .before .before .before .before .before .before .before .pre .1) (c .before .before .before .before .before .before .before .before .before .before .before .before .before .before .pre .0) (c .before .before .before .before .before .before .before .before .before .before .before .loop .stack) (c .before .before .before .before .before .before .before .before .before .before .before .loop .parts) (c .before .before .before .before .before .before .before .before .before .before .before .loop .rows) (c .before .before .before .before .before .before .before .before .before .before .before .loop .height) (c .before .before .before .before .before .before .before .before .before .before .before .loop .placed) (c .before .before .before .before .before .before .before .before .before .before .before .loop .i) (c .before .before .before .before .before .before .before .before .before .before .before .loop .inv) (c .before .before .before .before .before .before .before .before .before .before .loop-test .taken) (omega (arith, c .before .before .before .before .before .before .before .if1 .left)) (c .before .before .before .before .before .before .before .before .before .before .before .loop .height - c .before .before .before .before .before .before .wide .result) (ap (λ m. c .before .before .before .before .before .before .before .before .before .before .before .loop .height - m) (c .before .before .before .before .before .before .wide .ensures)))
+mul-stack-2 c = omega (arith, base-room _ _ _ (c .before .before .before .before .before .before .before .before .before .before .before .before .before .before .before .pre .1) _ _ _ _ _ _ (c .before .before .before .before .before .before .before .before .before .before .before .loop .inv) (c .before .before .before .before .before .before .before .before .before .before .loop-test .taken) (c .before .before .before .before .before .before .before .before .before .row-at .result) (c .before .before .before .before .before .before .before .before .before .row-at .ensures) (omega (arith, c .before .before .before .before .before .before .before .if1 .left)) (c .before .before .before .before .before .before .before .before .before .before .before .loop .height - c .before .before .before .before .before .before .wide .result) (ap (λ m. c .before .before .before .before .before .before .before .before .before .before .before .loop .height - m) (c .before .before .before .before .before .before .wide .ensures)))
 
 array-set-from-stack-2 : tie.Need-array-set-from-stack-2 Inv-loop2 μ-loop2 Inv-loop μ-loop
-array-set-from-stack-2 c = omega (arith, base-room (c .before .before .before .before .before .before .before .before .before .before .before .before .before .before .args .t1) (c .before .before .before .before .before .before .before .before .before .before .before .before .before .before .pre .1) (c .before .before .before .before .before .before .before .before .before .before .before .before .before .before .pre .0) (c .before .before .before .before .before .before .before .before .before .before .before .loop .stack) (c .before .before .before .before .before .before .before .before .before .before .before .loop .parts) (c .before .before .before .before .before .before .before .before .before .before .before .loop .rows) (c .before .before .before .before .before .before .before .before .before .before .before .loop .height) (c .before .before .before .before .before .before .before .before .before .before .before .loop .placed) (c .before .before .before .before .before .before .before .before .before .before .before .loop .i) (c .before .before .before .before .before .before .before .before .before .before .before .loop .inv) (c .before .before .before .before .before .before .before .before .before .before .loop-test .taken) (omega (arith, c .before .before .before .before .before .before .before .if1 .left)) (c .before .before .before .before .before .before .before .before .before .before .before .loop .height - c .before .before .before .before .before .before .wide .result) (ap (λ m. c .before .before .before .before .before .before .before .before .before .before .before .loop .height - m) (c .before .before .before .before .before .before .wide .ensures)))
+array-set-from-stack-2 c = omega (arith, base-room _ _ _ (c .before .before .before .before .before .before .before .before .before .before .before .before .before .before .before .pre .1) _ _ _ _ _ _ (c .before .before .before .before .before .before .before .before .before .before .before .loop .inv) (c .before .before .before .before .before .before .before .before .before .before .loop-test .taken) (c .before .before .before .before .before .before .before .before .before .row-at .result) (c .before .before .before .before .before .before .before .before .before .row-at .ensures) (omega (arith, c .before .before .before .before .before .before .before .if1 .left)) (c .before .before .before .before .before .before .before .before .before .before .before .loop .height - c .before .before .before .before .before .before .wide .result) (ap (λ m. c .before .before .before .before .before .before .before .before .before .before .before .loop .height - m) (c .before .before .before .before .before .before .wide .ensures)))
 
 add-height-2 : tie.Need-add-height-2 Inv-loop2 μ-loop2 Inv-loop μ-loop
-add-height-2 c = omega (arith, base-room (c .before .before .before .before .before .before .before .before .before .before .before .before .before .before .args .t1) (c .before .before .before .before .before .before .before .before .before .before .before .before .before .before .pre .1) (c .before .before .before .before .before .before .before .before .before .before .before .before .before .before .pre .0) (c .before .before .before .before .before .before .before .before .before .before .before .loop .stack) (c .before .before .before .before .before .before .before .before .before .before .before .loop .parts) (c .before .before .before .before .before .before .before .before .before .before .before .loop .rows) (c .before .before .before .before .before .before .before .before .before .before .before .loop .height) (c .before .before .before .before .before .before .before .before .before .before .before .loop .placed) (c .before .before .before .before .before .before .before .before .before .before .before .loop .i) (c .before .before .before .before .before .before .before .before .before .before .before .loop .inv) (c .before .before .before .before .before .before .before .before .before .before .loop-test .taken) (omega (arith, c .before .before .before .before .before .before .before .if1 .left)) (c .before .before .before .before .before .before .before .before .before .before .before .loop .height - c .before .before .before .before .before .before .wide .result) (ap (λ m. c .before .before .before .before .before .before .before .before .before .before .before .loop .height - m) (c .before .before .before .before .before .before .wide .ensures)))
+add-height-2 c = omega (arith, base-room _ _ _ (c .before .before .before .before .before .before .before .before .before .before .before .before .before .before .before .pre .1) _ _ _ _ _ _ (c .before .before .before .before .before .before .before .before .before .before .before .loop .inv) (c .before .before .before .before .before .before .before .before .before .before .loop-test .taken) (c .before .before .before .before .before .before .before .before .before .row-at .result) (c .before .before .before .before .before .before .before .before .before .row-at .ensures) (omega (arith, c .before .before .before .before .before .before .before .if1 .left)) (c .before .before .before .before .before .before .before .before .before .before .before .loop .height - c .before .before .before .before .before .before .wide .result) (ap (λ m. c .before .before .before .before .before .before .before .before .before .before .before .loop .height - m) (c .before .before .before .before .before .before .wide .ensures)))
 
 loop-less-2 : tie.Need-loop-less-2 Inv-loop2 μ-loop2 Inv-loop μ-loop
 loop-less-2 c = omega (arith, c .before .before .before .before .before .before .before .before .before .before .loop-test .taken)
 
 loop-again-2 : tie.Need-loop-again-2 Inv-loop2 μ-loop2 Inv-loop μ-loop
-loop-again-2 c = outer-node (c .before .before .before .before .before .before .before .before .before .before .before .before .before .before .args .t1) (c .before .before .before .before .before .before .before .before .before .before .before .before .before .before .pre .1) (c .before .before .before .before .before .before .before .before .before .before .before .before .before .before .pre .0) (c .before .before .before .before .before .before .before .before .before .before .before .loop .stack) (c .before .before .before .before .before .before .before .before .before .before .before .loop .parts) (c .before .before .before .before .before .before .before .before .before .before .before .loop .rows) (c .before .before .before .before .before .before .before .before .before .before .before .loop .height) (c .before .before .before .before .before .before .before .before .before .before .before .loop .placed) (c .before .before .before .before .before .before .before .before .before .before .before .loop .i) (c .before .before .before .before .before .before .before .before .before .before .before .loop .inv) (c .before .before .before .before .before .before .before .before .before .before .loop-test .taken) (omega (arith, c .before .before .before .before .before .before .before .if1 .left)) (c .before .before .before .before .before .before .before .before .before .before .before .loop .height - c .before .before .before .before .before .before .wide .result) (ap (λ m. c .before .before .before .before .before .before .before .before .before .before .before .loop .height - m) (c .before .before .before .before .before .before .wide .ensures)) (c .before .before .before .before .before .loop2 .parts) (c .before .before .before .before .before .loop2 .placed) (c .before .before .before .before .before .loop2 .marks .at) (c .before .before .before .before .before .loop2 .j) (c .before .before .before .before .before .loop2 .inv) (omega (arith, c .before .before .before .before .loop2-test .left)) (c .before .before .before .free-levels .result) (c .before .before .wide2 .result) (c .before .node-row .result) (c .node-part .result) (c .before .before .before .free-levels .ensures) (c .before .before .wide2 .ensures) (c .before .node-row .ensures) (c .node-part .ensures)
+loop-again-2 c = outer-node _ _ _ (c .before .before .before .before .before .before .before .before .before .before .before .before .before .before .before .pre .1) _ _ _ _ _ _ (c .before .before .before .before .before .before .before .before .before .before .before .loop .inv) (c .before .before .before .before .before .before .before .before .before .before .loop-test .taken) (c .before .before .before .before .before .before .before .before .before .row-at .result) (c .before .before .before .before .before .before .before .before .before .row-at .ensures) (omega (arith, c .before .before .before .before .before .before .before .if1 .left)) (c .before .before .before .before .before .before .before .before .before .before .before .loop .height - c .before .before .before .before .before .before .wide .result) (ap (λ m. c .before .before .before .before .before .before .before .before .before .before .before .loop .height - m) (c .before .before .before .before .before .before .wide .ensures)) (c .before .before .before .before .before .loop2 .parts) (c .before .before .before .before .before .loop2 .placed) (c .before .before .before .before .before .loop2 .marks .at) (c .before .before .before .before .before .loop2 .j) (c .before .before .before .before .before .loop2 .inv) (omega (arith, c .before .before .before .before .loop2-test .left)) (c .before .before .before .free-levels .result) (c .before .before .wide2 .result) (c .before .node-row .result) (c .node-part .result) (c .before .before .before .free-levels .ensures) (c .before .before .wide2 .ensures) (c .before .node-row .ensures) (c .node-part .ensures)
 
 array-copy-out-root : tie.Need-array-copy-out-root Inv-loop2 μ-loop2 Inv-loop μ-loop
 array-copy-out-root c = search needs
 
 returns : tie.Need-returns Inv-loop2 μ-loop2 Inv-loop μ-loop
-returns c = table-of (c .before .before .before .before .before .args .t1) (c .before .before .loop .stack) (c .before .before .loop .parts) (c .before .before .loop .rows) (c .before .before .loop .height) (c .before .before .loop .placed) (outer-end (c .before .before .before .before .before .args .t1) (c .before .before .before .before .before .pre .1) (c .before .before .before .before .before .pre .0) (c .before .before .loop .stack) (c .before .before .loop .parts) (c .before .before .loop .rows) (c .before .before .loop .height) (c .before .before .loop .placed) (c .before .before .loop .i) (c .before .before .loop .inv) (omega (arith, c .before .loop-test .left)))
+returns c = table-of _ (c .before .before .loop .stack) (c .before .before .loop .parts) (c .before .before .loop .rows) (c .before .before .loop .height) (c .before .before .loop .placed) (outer-end _ _ _ (c .before .before .before .before .before .before .pre .1) _ _ _ _ _ _ (c .before .before .loop .inv) (omega (arith, c .before .loop-test .left)))
 
 pub tabulate-spec : {M : Type 1} → statement M
 tabulate-spec =
@@ -141,8 +139,7 @@ tabulate-spec =
     no-part-requires
     no-row-requires
     loop-holds
-    mul-row
-    element-copy-out-row
+    row-at-requires
     add-i
     leaf-part-requires
     mul-stack
