@@ -2,6 +2,7 @@
 use mathlib.Core.Path.{sym, _∙_}
 use native.Mathlib.Omega.{arith}
 use lib.Seq.{length-take-le}
+use Rattle.layout.specs.LaidLaws.{most-zeros}
 use Rattle.building.specs.Starts.{front-short}
 use Rattle.cases.specs.Known.{tabled, atoms-few}
 use Rattle.desk.specs.Known.{reportable}
@@ -14,7 +15,7 @@ slice-aggregate-ground-case : tie.Need-slice-aggregate-ground-case
 slice-aggregate-ground-case c = search needs
 
 ground-case-requires : tie.Need-ground-case-requires
-ground-case-requires c κs = search needs
+ground-case-requires c κs = ((search needs, most-zeros 1133 0), search needs)
 
 refuse-requires : tie.Need-refuse-requires
 refuse-requires c κs = search needs
