@@ -7,13 +7,13 @@ use mathlib.Core.Path.{_≡_, refl, sym, ap, subst, _∙_}
 use mathlib.Core.Bool.{Bool, true, false, _&&_}
 use mathlib.Core.List.{List, [], _∷_, _++_}
 use lib.ListN.{length, take, drop, getD, length-append, length-drop, drop-of-length-le}
-use lib.Seq.{slice, take-nil, drop-cons, drop-drop, take-at, drop-at}
+use lib.Seq.{slice, take-nil, drop-cons, drop-drop, take-at, drop-at, getD-drop}
 use lib.Dec.{leb, lit≤}
 use borrow.Author.Tests.{le-leb, lt-leb}
 use Rattle.definitions.specs.Lists.{all}
 use Rattle.definitions.specs.Text.{isVariable}
 use Rattle.definitions.specs.Relations.{Relation}
-use Rattle.definitions.specs.Formula.{isBound, Join, ands, ors, Quant, somes, everys, Formula, literal, negation, implication, conjunction, disjunction, exists, forall, join, quant, Formulas, nil, cons, joinWord, quantWord, notWord, impWord, writeVars, writeList, write, writeAll, writeParts, forms, formsAll, first, inside, longest, span, Res, bad, ok, andThen, begins, want, readWord, readVar, readVars, readParts, Head, kindOf, close, readJoin, readQuant, readLit, readNeg, readImp, readBody, read}
+use Rattle.definitions.specs.Formula.{isBound, Join, ands, ors, Quant, somes, everys, Formula, literal, negation, implication, conjunction, disjunction, exists, forall, join, quant, Formulas, nil, cons, joinWord, quantWord, notWord, impWord, writeVars, writeList, write, writeAll, writeParts, forms, formsAll, first, inside, longest, span, Res, bad, ok, andThen, begins, want, readWord, readVar, readVars, readParts, Head, isNot, isImplies, isAnd, isOr, isExists, isForall, isOther, kindOf, close, readJoin, readQuant, readLit, readNeg, readImp, readBody, read}
 use Rattle.definitions.specs.Writing.{begins-is, var-is, sound-word, span-le, sound-var, sound-vars, sound, sound-parts, span-in, span-out, word-yes, word-no, word-nil, vars-none, parts-none, KindIs, kind-is}
 use Rattle.formula.specs.Seen.{seen, nought, shutOf, facts, factsAll, varFacts, varsFacts, bothFacts, oneMore, litFacts}
 use Rattle.formula.specs.Said.{neg-facts, imp-facts, join-facts, all-facts, nil-facts, lit-facts, vars-facts}
@@ -430,6 +430,22 @@ module _ (rs : List Relation) (sc : List (List ℕ)) (s : List ℕ) (at : ℕ) w
             where
               is-lit : (w : List ℕ) → slice (at + 1) a s ≡ w → (x : List ℕ) (us : List (List ℕ)) → y ≡ varFacts sc x → m ≡ varsFacts sc us → litFacts rs (slice (at + 1) a s) (bothFacts y m) ≡ facts rs sc (literal w (x ∷ us))
               is-lit w q x us i j = ap (λ (l : List ℕ). litFacts rs l (bothFacts y m)) q ∙ ap (λ (f : Facts). litFacts rs w f) (two i j ∙ sym (vars-facts rs sc x us)) ∙ sym (lit-facts rs sc w (x ∷ us) le)
+
+-- ---- a formula whose second byte is no small letter is none of the six forms with a word
+second : (a b : ℕ) (p l : List ℕ) → begins (a ∷ b ∷ p) l ≡ true → getD l 1 0 ≡ b
+second a b p l e = ap (λ (m : List ℕ). getD m 1 0) (begins-is (a ∷ b ∷ p) l e)
+
+no-word : (d : Head) (l : List ℕ) → getD l 1 0 < 97 → KindIs d l → d ≡ isOther
+no-word isNot l h e = absurd (omega (arith, second 40 110 _ l e))
+no-word isImplies l h e = absurd (omega (arith, second 40 105 _ l e))
+no-word isAnd l h e = absurd (omega (arith, second 40 97 _ l e))
+no-word isOr l h e = absurd (omega (arith, second 40 111 _ l e))
+no-word isExists l h e = absurd (omega (arith, second 40 101 _ l e))
+no-word isForall l h e = absurd (omega (arith, second 40 102 _ l e))
+no-word isOther l h e = refl
+
+pub kind-other : (s : List ℕ) (at : ℕ) → getD s (at + 1) 0 < 97 → kindOf (drop at s) ≡ isOther
+kind-other s at h = no-word (kindOf (drop at s)) (drop at s) (omega (arith, getD-drop at s 1 0)) (kind-is (drop at s))
 
 -- ---- a formula, by its kind
 module _ (rs : List Relation) (sc : List (List ℕ)) (s : List ℕ) (at k : ℕ) where

@@ -5,7 +5,7 @@ ghost use mathlib.Core.List.{List, [], _∷_};
 ghost use Prim.Native.Nat.{ℕ, _+_, _-_, _^_, _≤_, _<_};
 ghost use lib.ListN.{length, drop};
 ghost use lib.Seq.{slice};
-ghost use Rattle.definitions.specs.Formula.{begins, kindOf, first, inside, longest, span, readWord, readVar, readVars, readParts, readLit, readNeg, readImp, readJoin, readQuant, read, Join, Quant, isBound, totals};
+ghost use Rattle.definitions.specs.Formula.{begins, kindOf, isOther, first, inside, longest, span, readWord, readVar, readVars, readParts, readLit, readNeg, readImp, readJoin, readQuant, read, Join, Quant, isBound, totals};
 ghost use Rattle.names.specs.Signatures.{allOf, chosenOf};
 ghost use Rattle.formula.specs.Seen.{totalOf, joinOf, headOf, okOf, seen, nought, shutOf, varFacts, varsFacts, bothFacts, oneMore, quantFacts, verdictOf, names, facts, factsAll, Grows, listed, verdictNumber, ruleNumber, litFacts};
 use names::Signature;
@@ -79,10 +79,25 @@ pub fn starts(s: &[u8], at: usize, p: &[u8]) -> bool
     true
 }
 
+// Whether no form's word begins at `at`, by one byte alone: after its bracket each word has a small letter.
+fn has_no_word(s: &[u8], at: usize) -> bool
+    requires { ⌜ at ≤ length (now s) ⌝ }
+    ensures { λ r. ⌜ (r ≡ true → kindOf (drop at (now (s .entry))) ≡ isOther) ⌝ }
+{
+    if s.len() - at < 2 {
+        return true;
+    }
+    s[at + 1] < 97
+}
+
+// The form that begins at `at`. Most often it is a literal, and then one byte tells.
 pub fn kind_at(s: &[u8], at: usize) -> Kind
     requires { ⌜ at ≤ length (now s) ⌝ }
     ensures { λ r. ⌜ headOf r ≡ kindOf (drop at (now (s .entry))) ⌝ }
 {
+    if has_no_word(s, at) {
+        return Kind::Other;
+    }
     if starts(s, at, b"(not ") {
         return Kind::Not;
     }

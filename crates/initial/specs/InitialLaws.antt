@@ -23,9 +23,9 @@ use Rattle.laws.specs.Rows.{pair-places}
 use Rattle.laws.specs.Words.{words-for, state-words}
 use Rattle.ground.specs.Lines.{sizeIn, relationsIn, relationLine, Fits}
 use Rattle.ground.specs.Of.{kindNumber, Is}
-use Rattle.initial.specs.Rows.{atomsIn, holdsAt, rowsIn, freeIn, tuplesPut, relationPut, wordsIn, firstIn, relationsPut, RelationRoom, Room}
-use Rattle.initial.specs.RowLaws.{is-pair, is-one, is-fact, is-unpicked}
-use Rattle.initial.specs.Parts.{lt-or-le, cut, over, cut-three, cut-first, cut-all, words-over, whole-over}
+use Rattle.initial.specs.Rows.{atomsIn, holdsAt, rowsIn, freeIn, relationPut, wordsIn, firstIn, relationsPut, RelationRoom, Room}
+use Rattle.initial.specs.RowLaws.{is-pair, is-one, is-fact, is-unpicked, tuples-both}
+use Rattle.initial.specs.Parts.{lt-or-le, cut, over, cut-clear, cut-three, cut-first, cut-all, words-over, whole-over}
 use Rattle.initial.specs.Initial.{factWord, FactsIn, Begins, Begun}
 
 -- ---- a relation's free atoms
@@ -244,12 +244,21 @@ module _ (p : Problem) (w f : List ℕ) (fits : Fits w) (is : Is p w) (F : Facts
   module _ (old : ℕ → Bool) (m : ℕ) (room : atoms p ≤ m) where
     relation-is : (r : ℕ) → r < length (p .relations)
         → relationPut f w r (factWord p r) (over old m (cut (initial p) (relationStart p r))) ≡ over old m (cut (initial p) (relationStart p (suc r)))
-    unfolding relationPut tuplesPut
+    unfolding relationPut
     relation-is r l =
         let a = relation-ends p r l in
         let b = relation-le p (suc r) (omega arith) in
         let c = node-le p 0 (omega arith) in
-        rw (rows-is r l, free-is r l, a)
+        let clear : (i : ℕ) → relationStart p r ≤ i → i < relationStart p (suc r) → over old m (cut (initial p) (relationStart p r)) i ≡ false =
+        λ i h k. cut-clear old m (initial p) (relationStart p r) i h (omega arith) in
+        rw (
+          rows-is r l,
+          free-is r l,
+          a,
+          tuples-both f (sizeIn w) r (relationLine w r) (factWord p r) (over old m (cut (initial p) (relationStart p r))) (tuplesOf (p .size) (relationAt p r)) (omega (arith, is .relation r l .tuples, is .relation r l .nots))
+              (λ i h. clear (relationLine w r .tuples + i) (omega (arith, is .relation r l .tuples)) (omega (arith, is .relation r l .tuples)))
+              (λ i h. clear (relationLine w r .nots + i) (omega (arith, is .relation r l .nots)) (omega (arith, is .relation r l .nots))),
+        )
         (cut-three old m (initial p) (relationStart p r) (tuplesOf (p .size) (relationAt p r)) (freeIn (p .size) (kindNumber (relationAt p r .kind)))
         (relationLine w r .tuples) (relationLine w r .nots) (relationLine w r .free) (holdsAt f (sizeIn w) r (relationLine w r .kind) (factWord p r)) _
         (is .relation r l .tuples) (is .relation r l .nots) (omega (arith, is .relation r l .free)) (omega arith)

@@ -63,6 +63,10 @@ module _ (old : ℕ → Bool) (m : ℕ) (s : ℕ → Bool) where
       go j (yes p) (no q) = outside j (λ z. q (z .1)) (cut-out s a j p ∙ sym (cut-out s (a + w) j (omega arith)))
       go j (no p) q = outside j (λ z. p (z .0)) (cut-in s a j (omega arith) ∙ sym (cut-in s (a + w) j (omega arith)))
 
+  -- nothing is set yet in a part that comes later
+  pub cut-clear : (a i : ℕ) → a ≤ i → i < m → over old m (cut s a) i ≡ false
+  cut-clear a i h l = over-in old m (cut s a) i l ∙ cut-out s a i h
+
   -- three parts, one after another
   pub cut-three : (a c w t o u : ℕ) (g h : ℕ → Bool) → t ≡ a → o ≡ a + c → u ≡ a + c + c → a + c + c + w ≤ m
       → ((i : ℕ) → i < c → g i ≡ s (a + i)) → ((i : ℕ) → i < c → h i ≡ s (a + c + i)) → ((i : ℕ) → i < w → true ≡ s (a + c + c + i))

@@ -19,7 +19,7 @@ use Rattle.bits.proofs.Laws.{put-same, put-other, paste-out, paste-zero, paste-
 use Rattle.ground.specs.Lines.{sizeIn, nodesIn, relationLine, nodeLine, Fits}
 use Rattle.ground.specs.declared.NodeLine.{NodeLine}
 use Rattle.ground.specs.declared.RelationLine.{RelationLine}
-use Rattle.initial.specs.Rows.{atomsIn, holdsAt, rowsIn, freeIn, tuplesPut, relationPut, wordsIn, firstIn, relationsPut, RelationRoom}
+use Rattle.initial.specs.Rows.{atomsIn, holdsAt, holdingAt, rowsIn, freeIn, tuplesPut, relationPut, wordsIn, firstIn, relationsPut, RelationRoom}
 
 -- ---- built-in relations
 module _ (n r x y : ℕ) where
@@ -104,6 +104,24 @@ module _ (n kind : ℕ) where
   unfolding freeIn
   free-two h = let l : 2 ≤ kind = omega arith in rw (le-ltb kind 2 l, le-ltb kind 4 h) refl
 
+-- ---- of a tuple and its not-tuple, the one that holds
+module _ (f : List ℕ) (n r : ℕ) (k : RelationLine) (first row : ℕ) where
+  pub is-tuple : holdsAt f n r (k .kind) first row ≡ true → k .tuples + row ≡ holdingAt f n r k first row
+  unfolding holdingAt
+  is-tuple e = rw e refl
+
+  pub is-not : holdsAt f n r (k .kind) first row ≡ false → k .nots + row ≡ holdingAt f n r k first row
+  unfolding holdingAt
+  is-not e = rw e refl
+
+  pub holding-in : row < rowsIn k → holdingAt f n r k first row < k .nots + rowsIn k
+  unfolding holdingAt
+  holding-in l = go (holdsAt f n r (k .kind) first row)
+    where
+      go : (b : Bool) → (if b then k .tuples + row else k .nots + row) < k .nots + rowsIn k
+      go true = omega (arith, row-in k row l)
+      go false = omega arith
+
 -- ---- a bit written beside a range, and two ranges written side by side
 put-paste : (s : ℕ → Bool) (to k i : ℕ) (g : ℕ → Bool) (b : Bool) → ((to ≤ i) × (i < to + k) → ⊥) → put (paste s to g 0 k) i b ≡ paste (put s i b) to g 0 k
 unfolding paste
@@ -119,6 +137,19 @@ put-paste s to k i g b out = fun-ext (λ j. go j (ℕ-discrete j i))
 pub range-step : (s : ℕ → Bool) (to : ℕ) (g : ℕ → Bool) (k : ℕ) {d d′ : ℕ → Bool} {b : Bool} → d ≡ paste s to g 0 k → d′ ≡ put d (to + k) b → b ≡ g k → d′ ≡ paste s to g 0 (k + 1)
 range-step s to g k e e′ h = paste-step s to g 0 k e e′ (h ∙ ap g (sym (zero-add k)))
 
+-- clearing a clear bit changes nothing
+put-clear : (s : ℕ → Bool) (i : ℕ) → s i ≡ false → put s i false ≡ s
+put-clear s i e = fun-ext (λ j. go j (ℕ-discrete j i))
+  where
+    go : (j : ℕ) → Dec (j ≡ i) → put s i false j ≡ s j
+    go j (yes q) = ap (put s i false) q ∙ put-same s i false ∙ sym e ∙ ap s (sym q)
+    go j (no q) = put-other s i false j q
+
+-- of two clear bits one is set: both are written
+one-of : (s : ℕ → Bool) (i j : ℕ) (b : Bool) → j ≢ i → s i ≡ false → s j ≡ false → put s (if b then i else j) true ≡ put (put s i b) j (not b)
+one-of s i j true n ei ej = sym (put-clear (put s i true) j (put-other s i true j n ∙ ej))
+one-of s i j false n ei ej = ap (λ (z : ℕ → Bool). put z j true) (sym (put-clear s i ei))
+
 module _ (f : List ℕ) (n r : ℕ) (k : RelationLine) (first : ℕ) (s : ℕ → Bool) where
   abbrev g : ℕ → Bool
   g = holdsAt f n r (k .kind) first
@@ -126,17 +157,34 @@ module _ (f : List ℕ) (n r : ℕ) (k : RelationLine) (first : ℕ) (s : ℕ �
   abbrev h : ℕ → Bool
   h = λ row. not (holdsAt f n r (k .kind) first row)
 
+  abbrev both : ℕ → ℕ → Bool
+  both c = paste (paste s (k .tuples) g 0 c) (k .nots) h 0 c
+
   pub tuples-none : s ≡ tuplesPut f n r k first 0 s
   unfolding tuplesPut
-  tuples-none = paste-zero s (k .tuples) g 0 ∙ paste-zero (paste s (k .tuples) g 0 0) (k .nots) h 0
+  tuples-none = refl
 
-  pub tuples-step : (c : ℕ) {d d₁ d₂ : ℕ → Bool} (x : Bool) → c < rowsIn k → d ≡ tuplesPut f n r k first c s → x ≡ g c → d₁ ≡ put d (k .tuples + c) x → d₂ ≡ put d₁ (k .nots + c) (not x)
-      → d₂ ≡ tuplesPut f n r k first (c + 1) s
-  unfolding tuplesPut rowsIn
-  tuples-step c x l e ex e₁ e₂ =
-      let a = e₁ ∙ ap (λ (z : ℕ → Bool). put z (k .tuples + c) x) e ∙ put-paste (paste s (k .tuples) g 0 c) (k .nots) c (k .tuples + c) h x (λ q. omega (arith, q .0)) in
-      let b = range-step s (k .tuples) g c refl refl ex in
-      range-step (paste s (k .tuples) g 0 (c + 1)) (k .nots) h c (a ∙ ap (λ (z : ℕ → Bool). paste z (k .nots) h 0 c) b) e₂ (ap not ex)
+  pub tuples-step : (c : ℕ) {d d′ : ℕ → Bool} {i : ℕ} → d ≡ tuplesPut f n r k first c s → i ≡ holdingAt f n r k first c → d′ ≡ put d i true → d′ ≡ tuplesPut f n r k first (c + 1) s
+  unfolding tuplesPut
+  tuples-step c e ei e′ = rw (add-one c) (e′ ∙ ap₂ (λ (z : ℕ → Bool) (x : ℕ). put z x true) e ei)
+
+  -- where both ranges were clear, they are written
+  both-step : (c : ℕ) → k .tuples + suc c ≤ k .nots → s (k .tuples + c) ≡ false → s (k .nots + c) ≡ false → put (both c) (holdingAt f n r k first c) true ≡ both (suc c)
+  unfolding holdingAt
+  both-step c l et en =
+      let t : both c (k .tuples + c) ≡ false = paste-out (paste s (k .tuples) g 0 c) (k .nots) h 0 c (k .tuples + c) (λ q. omega (arith, q .0)) ∙ paste-out s (k .tuples) g 0 c (k .tuples + c) (λ q. omega (arith, q .1)) ∙ et in
+      let o : both c (k .nots + c) ≡ false = paste-out (paste s (k .tuples) g 0 c) (k .nots) h 0 c (k .nots + c) (λ q. omega (arith, q .1)) ∙ paste-out s (k .tuples) g 0 c (k .nots + c) (λ q. omega (arith, q .1)) ∙ en in
+      let a = one-of (both c) (k .tuples + c) (k .nots + c) (g c) (λ q. omega arith) t o in
+      let b = put-paste (paste s (k .tuples) g 0 c) (k .nots) c (k .tuples + c) h (g c) (λ q. omega (arith, q .0)) in
+      let d = range-step s (k .tuples) g c refl refl refl in
+      rw (sym (add-one c)) (range-step (paste s (k .tuples) g 0 (c + 1)) (k .nots) h c (b ∙ ap (λ (z : ℕ → Bool). paste z (k .nots) h 0 c) d) a refl)
+
+  pub tuples-both : (c : ℕ) → k .tuples + c ≤ k .nots → ((i : ℕ) → i < c → s (k .tuples + i) ≡ false) → ((i : ℕ) → i < c → s (k .nots + i) ≡ false) → tuplesPut f n r k first c s ≡ both c
+  unfolding tuplesPut
+  tuples-both zero l et en = paste-zero s (k .tuples) g 0 ∙ paste-zero (paste s (k .tuples) g 0 0) (k .nots) h 0
+  tuples-both (suc c) l et en =
+      ap (λ (z : ℕ → Bool). put z (holdingAt f n r k first c) true) (tuples-both c (omega arith) (λ i q. et i (omega arith)) (λ i q. en i (omega arith)))
+      ∙ both-step c l (et c (omega arith)) (en c (omega arith))
 
 -- ---- a relation, and all of them
 pub line-few : (w : List ℕ) → Fits w → (r : ℕ) (k : RelationLine) → k ≡ relationLine w r → (k .tuples ≤ 4294967296) × (k .nots ≤ 4294967296) × (k .free ≤ 4294967296)

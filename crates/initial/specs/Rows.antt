@@ -1,12 +1,12 @@
 -- What is written for each relation, by the table of a grounded problem. A state is spoken of by the predicate of its bits.
-use mathlib.Core.Bool.{Bool, true, false, not}
+use mathlib.Core.Bool.{Bool, true, false}
 use mathlib.Core.List.{List}
 use Prim.Native.Nat.{ℕ, zero, suc, _+_, _-_, _*_, _/_, _%_, _≤_, _<_}
 use lib.Dec.{ltb, eqb}
 use Rattle.definitions.specs.Lists.{if_then_else_}
 use Rattle.definitions.specs.Relations.{builtInHolds}
 use Rattle.definitions.specs.Atoms.{wordsFor}
-use Rattle.bits.specs.Table.{bit, paste}
+use Rattle.bits.specs.Table.{bit, put, paste}
 use Rattle.ground.specs.Lines.{sizeIn, relationsIn, nodesIn, relationLine, nodeLine}
 use Rattle.ground.specs.declared.RelationLine.{RelationLine}
 
@@ -30,10 +30,14 @@ rowsIn k = k .nots - k .tuples
 unfoldable pub freeIn : (n kind : ℕ) → ℕ
 freeIn n kind = if ltb kind 2 then 0 else if ltb kind 4 then n else 2 * n
 
--- a state in which, of a relation's first c tuples, each or its not-tuple holds
+-- of a tuple and its not-tuple, the one that holds
+unfoldable pub holdingAt : List ℕ → (n r : ℕ) → RelationLine → (first row : ℕ) → ℕ
+holdingAt f n r k first row = if holdsAt f n r (k .kind) first row then k .tuples + row else k .nots + row
+
+-- the state s, but of a relation's first c tuples each or its not-tuple is set
 unfoldable pub tuplesPut : List ℕ → (n r : ℕ) → RelationLine → (first c : ℕ) → (ℕ → Bool) → ℕ → Bool
-tuplesPut f n r k first c s =
-    paste (paste s (k .tuples) (holdsAt f n r (k .kind) first) 0 c) (k .nots) (λ row. not (holdsAt f n r (k .kind) first row)) 0 c
+tuplesPut f n r k first zero s = s
+tuplesPut f n r k first (suc c) s = put (tuplesPut f n r k first c s) (holdingAt f n r k first c) true
 
 -- a state in which all atoms of a relation are as they begin
 unfoldable pub relationPut : List ℕ → List ℕ → (r first : ℕ) → (ℕ → Bool) → ℕ → Bool

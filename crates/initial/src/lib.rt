@@ -7,7 +7,7 @@ ghost use Rattle.definitions.specs.Relations.{builtInHolds};
 ghost use Rattle.definitions.specs.Atoms.{wordsFor};
 ghost use Rattle.bits.specs.Table.{bit, put, paste};
 ghost use Rattle.ground.specs.Lines.{relationsIn, relationLine, Fits};
-ghost use Rattle.initial.specs.Rows.{holdsAt, rowsIn, freeIn, tuplesPut, relationPut, RelationRoom, wordsIn, relationsPut, Room, atomsIn};
+ghost use Rattle.initial.specs.Rows.{holdsAt, holdingAt, rowsIn, freeIn, tuplesPut, relationPut, RelationRoom, wordsIn, relationsPut, Room, atomsIn};
 ghost use Rattle.initial.specs.Initial.{Begun};
 use ground::RelationLine;
 
@@ -49,12 +49,23 @@ fn tuple_holds(facts: &[u64], n: usize, r: usize, kind: usize, first: usize, row
     false
 }
 
-// Bit i becomes b, where it is in the table.
-fn write(state: &mut [u64], i: usize, b: bool)
-    ensures { λ r. ⌜ (i / 64 < length (now (state .entry)) → bit (now (state .exit)) ≡ put (bit (now (state .entry))) i b) ⌝ }
+// Of a tuple and its not-tuple, the number of the one that holds.
+fn holding(facts: &[u64], n: usize, r: usize, k: RelationLine, first: usize, row: usize) -> usize
+    requires { ⌜ (0 < n) × (first ≤ 2 ^ 32) × (k .tuples ≤ 2 ^ 32) × (k .nots ≤ 2 ^ 32) × (row ≤ 2 ^ 32) ⌝ }
+    ensures { λ i. ⌜ i ≡ holdingAt (now (facts .entry)) n r k first row ⌝ }
+{
+    if tuple_holds(facts, n, r, k.kind, first, row) {
+        return k.tuples + row;
+    }
+    k.nots + row
+}
+
+// Bit i is set, where it is in the state.
+fn raise(state: &mut [u64], i: usize)
+    ensures { λ r. ⌜ (i / 64 < length (now (state .entry)) → bit (now (state .exit)) ≡ put (bit (now (state .entry))) i true) ⌝ }
 {
     if i / 64 < state.len() {
-        bits::write(state, i, b);
+        bits::set(state, i);
     }
 }
 
@@ -82,7 +93,7 @@ fn free(n: usize, kind: usize) -> usize
     2 * n
 }
 
-// Of each tuple of a relation, it or its not-tuple holds.
+// Of each tuple of a relation, it or its not-tuple holds; the state was clear, so that one bit says both.
 fn put_tuples(state: &mut [u64], facts: &[u64], n: usize, r: usize, k: RelationLine, first: usize)
     requires { ⌜ (0 < n) × (first ≤ 2 ^ 32) × (k .tuples ≤ 2 ^ 32) × (k .nots ≤ 2 ^ 32) ⌝ }
     ensures { λ u. ⌜ (k .nots + rowsIn k ≤ 64 * length (now (state .entry))
@@ -91,9 +102,7 @@ fn put_tuples(state: &mut [u64], facts: &[u64], n: usize, r: usize, k: RelationL
     let count = rows(k);
     let mut row: usize = 0;
     while row < count {
-        let b = tuple_holds(facts, n, r, k.kind, first, row);
-        write(state, k.tuples + row, b);
-        write(state, k.nots + row, !b);
+        raise(state, holding(facts, n, r, k, first, row));
         row += 1;
     }
 }
@@ -106,7 +115,7 @@ fn put_free(state: &mut [u64], from: usize, count: usize)
 {
     let mut k: usize = 0;
     while k < count {
-        write(state, from + k, true);
+        raise(state, from + k);
         k += 1;
     }
 }
@@ -160,6 +169,6 @@ pub fn initial_state(table: &[usize], facts: &[u64], state: &mut [u64])
 {
     let end = ground::node_line(table, table[2]);
     bits::fill(state, (end.atoms + 63) / 64);
-    write(state, 0, true);
+    raise(state, 0);
     put_relations(state, facts, table);
 }

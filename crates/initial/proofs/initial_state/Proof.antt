@@ -26,8 +26,8 @@ fill-requires c κs =
     let line = c .before .before .node-line in
     omega (arith, atoms-words (start .args .table .now) (line .result) (line .ensures), start .pre .1)
 
-write-requires : tie.Need-write-requires
-write-requires c κs = search needs
+raise-requires : tie.Need-raise-requires
+raise-requires c κs = search needs
 
 put-relations-requires : tie.Need-put-relations-requires
 put-relations-requires c κs = search needs
@@ -40,7 +40,7 @@ returns c =
     let start = c .before .before .before .before .before .before .before .before .before .before .before .before .before .before .before .before .before .before in
     let line = c .before .before .before .before .before .before .before .before .before .before .before .before .before .node-line in
     let filled = c .before .before .before .before .before .before .before .before .before .before .fill in
-    let wrote = c .before .before .before .before .before .before .write in
+    let wrote = c .before .before .before .before .before .before .raise in
     let w = start .args .table .now in
     let m = atoms-words w (line .result) (line .ensures) in
     begun w (start .args .facts .now) (start .args .state .now) _ ((line .result .atoms + 63) / 64) (start .pre .0)
@@ -57,7 +57,7 @@ initial-state-spec =
     node-line-requires
     add-fill
     fill-requires
-    write-requires
+    raise-requires
     put-relations-requires
     same-length
     returns)

@@ -21,11 +21,11 @@ loop-holds c =
     let start = c .before in
     (omega arith, refl, λ h. paste-zero (bit (start .args .state .now)) (start .args .from) (λ i. true) 0)
 
-add-write : tie.Need-add-write Inv-loop μ-loop
-add-write c = search needs
+add-raise : tie.Need-add-raise Inv-loop μ-loop
+add-raise c = search needs
 
-write-requires : tie.Need-write-requires Inv-loop μ-loop
-write-requires c κs = search needs
+raise-requires : tie.Need-raise-requires Inv-loop μ-loop
+raise-requires c κs = search needs
 
 add-k : tie.Need-add-k Inv-loop μ-loop
 add-k c = search needs
@@ -37,7 +37,7 @@ loop-again : tie.Need-loop-again Inv-loop μ-loop
 loop-again c =
     let start = c .before .before .before .before .before .before .before in
     let l = c .before .before .before .before .before .loop in
-    let wrote = c .before .before .write in (
+    let wrote = c .before .before .raise in (
       omega arith,
       wrote .kept .0 ∙ l .inv .1,
       λ h.
@@ -59,8 +59,8 @@ put-free-spec =
     Inv-loop
     μ-loop
     loop-holds
-    add-write
-    write-requires
+    add-raise
+    raise-requires
     add-k
     loop-less
     loop-again

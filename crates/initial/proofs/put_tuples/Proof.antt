@@ -5,7 +5,7 @@ use native.Mathlib.Omega.{arith}
 use lib.ListN.{length}
 use Rattle.bits.specs.Table.{bit}
 use Rattle.initial.specs.Rows.{rowsIn, tuplesPut}
-use Rattle.initial.specs.RowLaws.{tuples-none, tuples-step, row-in, rows-le}
+use Rattle.initial.specs.RowLaws.{tuples-none, tuples-step, holding-in, rows-le}
 use Rattle.initial.proofs.put_tuples.Statement.{statement}
 use Rattle.initial.proofs.put_tuples.Tie as tie
 
@@ -20,23 +20,16 @@ rows-requires c κs = search needs
 
 loop-holds : tie.Need-loop-holds Inv-loop μ-loop
 loop-holds c =
-    let start = c .before .before .before in
-    (omega arith, refl, λ h. tuples-none (start .args .facts .now) (start .args .n) (start .args .r) (start .args .k) (start .args .first) (bit (start .args .state .now)))
+    let a = c .before .before .before .args in
+    (omega arith, refl, λ h. tuples-none (a .facts .now) (a .n) (a .r) (a .k) (a .first) (bit (a .state .now)))
 
-tuple-holds-requires : tie.Need-tuple-holds-requires Inv-loop μ-loop
-tuple-holds-requires c κs = (omega arith, omega arith, omega (arith, c .before .before .rows .ensures, rows-le (c .before .before .before .before .before .args .k)))
+holding-requires : tie.Need-holding-requires Inv-loop μ-loop
+holding-requires c κs =
+    let a = c .before .before .before .before .before .before .args in
+    (omega arith, omega arith, omega arith, omega arith, omega (arith, c .before .before .before .rows .ensures, rows-le (a .k)))
 
-add-write : tie.Need-add-write Inv-loop μ-loop
-add-write c = omega (arith, c .before .before .before .before .before .rows .ensures, rows-le (c .before .before .before .before .before .before .before .before .args .k))
-
-write-requires : tie.Need-write-requires Inv-loop μ-loop
-write-requires c κs = search needs
-
-add-write-2 : tie.Need-add-write-2 Inv-loop μ-loop
-add-write-2 c = omega (arith, c .before .before .before .before .before .before .before .before .before .before .rows .ensures, rows-le (c .before .before .before .before .before .before .before .before .before .before .before .before .before .args .k))
-
-write-requires-2 : tie.Need-write-requires-2 Inv-loop μ-loop
-write-requires-2 c κs = search needs
+raise-requires : tie.Need-raise-requires Inv-loop μ-loop
+raise-requires c κs = search needs
 
 add-row : tie.Need-add-row Inv-loop μ-loop
 add-row c = search needs
@@ -46,17 +39,17 @@ loop-less c = search needs
 
 loop-again : tie.Need-loop-again Inv-loop μ-loop
 loop-again c =
-    let start = c .before .before .before .before .before .before .before .before .before .before .before .before .before .before .before .before in
-    let l = c .before .before .before .before .before .before .before .before .before .before .before .before .loop in
-    let wrote = c .before .before .before .before .before .before .before .write in (
+    let a = c .before .before .before .before .before .before .before .before .before .before .args in
+    let count = c .before .before .before .before .before .before .before .rows in
+    let l = c .before .before .before .before .before .before .loop in
+    let held = c .before .before .before .holding in
+    let raised = c .before .before .raise in (
       omega arith,
-      c .before .before .write2 .kept .0 ∙ wrote .kept .0 ∙ l .inv .1,
+      raised .kept .0 ∙ l .inv .1,
       λ h.
-          let q = row-in (start .args .k) (l .row) (omega (arith, c .before .before .before .before .before .before .before .before .before .before .before .before .before .rows .ensures)) in
-          tuples-step (start .args .facts .now) (start .args .n) (start .args .r) (start .args .k) (start .args .first) (bit (start .args .state .now)) (l .row) (c .before .before .before .before .before .before .before .before .before .before .tuple-holds .result)
-          (omega (arith, c .before .before .before .before .before .before .before .before .before .before .before .before .before .rows .ensures)) (l .inv .2 h) (c .before .before .before .before .before .before .before .before .before .before .tuple-holds .ensures)
-          (wrote .ensures (omega (arith, l .inv .1)))
-          (c .before .before .write2 .ensures (omega (arith, l .inv .1, wrote .kept .0, c .before .before .before .before .before .before .before .before .before .before .before .before .before .rows .ensures))),
+          let q = holding-in (a .facts .now) (a .n) (a .r) (a .k) (a .first) (l .row) (omega (arith, count .ensures)) in
+          tuples-step (a .facts .now) (a .n) (a .r) (a .k) (a .first) (bit (a .state .now)) (l .row) (l .inv .2 h) (held .ensures)
+          (raised .ensures (omega (arith, l .inv .1, held .ensures))),
     )
 
 same-length : tie.Need-same-length Inv-loop μ-loop
@@ -75,11 +68,8 @@ put-tuples-spec =
     μ-loop
     rows-requires
     loop-holds
-    tuple-holds-requires
-    add-write
-    write-requires
-    add-write-2
-    write-requires-2
+    holding-requires
+    raise-requires
     add-row
     loop-less
     loop-again
