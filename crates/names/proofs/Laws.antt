@@ -18,7 +18,7 @@ use Rattle.text.specs.Spans.{placeOf, kindOf}
 use Rattle.text.specs.declared.Found.{Found}
 use Rattle.text.specs.declared.Found.the-variants.{At, Nowhere}
 use Rattle.names.specs.declared.Signature.{Signature}
-use Rattle.names.specs.Signatures.{relationIn, relationsFrom, relsOf, chosenOf, allOf, builtInTable, matches, hasArity, counted, HasArity, HasKind}
+use Rattle.names.specs.Signatures.{withArrays, Lent, relationIn, relationsFrom, relsOf, chosenOf, allOf, builtInTable, matches, hasArity, counted, HasArity, HasKind}
 
 -- ---- the first element that passes a test
 
@@ -165,13 +165,13 @@ module _ (q : List ℕ) (g : Signature) (p : Relation → Bool) where
     unfolding option
     in-built-in i e = let w : position p (allOf q g) ≡ some i = in-all ∙ rw (found-some (position p builtIn) i b e among-built-in) in sym (ap placeOf w)
 
-    module _ (e : b ≡ Nowhere) (d : Found) (v : d ≡ placeOf (counted 0 (position p (relationsFrom q g 0 (g .rels + g .chosen))))) where
+    module _ (e : b ≡ Nowhere) (m : ℕ) (all : m ≡ g .rels + g .chosen) (d : Found) (v : d ≡ placeOf (counted 0 (position p (relationsFrom q g 0 m)))) where
       past-built-in : position p (allOf q g) ≡ counted 5 (position p (relationsFrom q g 0 (g .rels + g .chosen)))
       unfolding option
       past-built-in = in-all ∙ rw (found-none (position p builtIn) b e among-built-in)
 
       among-declared : d ≡ placeOf (position p (relationsFrom q g 0 (g .rels + g .chosen)))
-      among-declared = v ∙ ap placeOf (counted-zero _)
+      among-declared = v ∙ ap placeOf (counted-zero _ ∙ ap (λ (n : ℕ). position p (relationsFrom q g 0 n)) all)
 
       pub in-declared : (i : ℕ) → d ≡ At i → At (5 + i) ≡ placeOf (position p (allOf q g))
       unfolding counted option
@@ -245,6 +245,23 @@ module _ (rs : List Relation) (name : List ℕ) where
 
     pub not-known : f ≡ Nowhere → false ≡ any (hasArity name k) rs
     not-known e = any-missed (matches name false k) (hasArity name k) (one-arity k) rs (found-none _ f e w)
+
+-- ---- names alone: the arities do not matter
+
+same-names : (p : List ℕ → Bool) (q : List ℕ) (g : Signature) (A : List ℕ) (i m : ℕ) → position (λ (r : Relation). p (r .name)) (relationsFrom q (withArrays g (g .from) (g .to) A) i m) ≡ position (λ (r : Relation). p (r .name)) (relationsFrom q g i m)
+unfolding position relationsFrom relationIn
+same-names p q g A i zero = refl
+same-names p q g A i (suc m) = rw (same-names p q g A (suc i) m)
+
+same-number : (q : List ℕ) (g : Signature) (A name : List ℕ) → numberOf (allOf q (withArrays g (g .from) (g .to) A)) name ≡ numberOf (allOf q g) name
+unfolding numberOf
+same-number q g A name =
+    in-all q (withArrays g (g .from) (g .to) A) (λ (r : Relation). same (r .name) name)
+    ∙ ap (λ (o : Option ℕ). option (position (λ (r : Relation). same (r .name) name) builtIn) (counted 5 o) (λ i. some i)) (same-names (λ (n : List ℕ). same n name) q g A 0 (g .rels + g .chosen))
+    ∙ sym (in-all q g (λ (r : Relation). same (r .name) name))
+
+pub by-lent : (q : List ℕ) (g : Signature) (F T A : List ℕ) (m : ℕ) (name : List ℕ) (f : Found) → Lent g F T m → f ≡ placeOf (position (matches name true 0) (allOf q (withArrays g F T A))) → f ≡ placeOf (numberOf (allOf q g) name)
+by-lent q g F T A m name f l w = by-name (allOf q (withArrays g F T A)) name f w ∙ ap placeOf (ap (λ (x : List ℕ). numberOf (allOf q (withArrays g x T A)) name) (l .from-is) ∙ ap (λ (x : List ℕ). numberOf (allOf q (withArrays g (g .from) x A)) name) (l .to-is) ∙ same-number q g A name)
 
 -- ---- arities and kinds by number
 

@@ -17,6 +17,12 @@ use Rattle.names.specs.declared.Signature.{Signature}
 abbrev pub withArrays : Signature → (from to arity : List ℕ) → Signature
 withArrays g from to arity = record { rels = g .rels; chosen = g .chosen; from = from; to = to; arity = arity; kind = g .kind }
 
+-- the signature's names, and how many relations it has
+pub record Lent (g : Signature) (from to : List ℕ) (m : ℕ) : Type 0 where
+  pub from-is : from ≡ g .from
+  pub to-is : to ≡ g .to
+  pub count : m ≡ g .rels + g .chosen
+
 -- relation i of the signature, whose names are spans of q
 unfoldable pub relationIn : List ℕ → Signature → ℕ → Relation
 relationIn q g i = record { name = slice (getD (g .from) i 0) (getD (g .to) i 0) q; arity = getD (g .arity) i 0; kind = kindOf (getD (g .kind) i 0) }

@@ -8,7 +8,7 @@ ghost use lib.Seq.{slice};
 ghost use Rattle.definitions.specs.Lists.{same, any as anyOf, position};
 ghost use Rattle.definitions.specs.Relations.{numberOf, isDeclared};
 ghost use Rattle.text.specs.Spans.{placeOf};
-ghost use Rattle.names.specs.Signatures.{relationsFrom, allOf, withArrays, matches, hasArity, counted, HasArity, HasKind};
+ghost use Rattle.names.specs.Signatures.{relationsFrom, allOf, withArrays, Lent, matches, hasArity, counted, HasArity, HasKind};
 use text::Found;
 
 // How many relations a question declares at the most.
@@ -84,10 +84,22 @@ pub fn lookup(
     Found::Nowhere
 }
 
-// The number of the first relation of all that has the name and, unless any will do, the arity k.
-fn search(s: &[u8], g: Signature, a: usize, e: usize, any: bool, k: usize) -> Found
-    requires { ⌜ g .rels + g .chosen ≤ 12 ⌝ }
-    ensures { λ r. ⌜ r ≡ placeOf (position (matches (slice a e (now (s .entry))) any k) (allOf (now (s .entry)) g)) ⌝ }
+// The number of the first relation of all that has the name and, unless any will do, the arity k. Declared are the m of a signature
+// whose arrays are lent.
+fn search(
+    s: &[u8],
+    from: &[usize],
+    to: &[usize],
+    arity: &[usize],
+    m: usize,
+    a: usize,
+    e: usize,
+    any: bool,
+    k: usize,
+) -> Found
+    requires { ⌜ (m ≤ 12) × (12 ≤ length (now from)) × (12 ≤ length (now to)) × (12 ≤ length (now arity)) ⌝ }
+    ensures { λ r. ⌜ ((g : Signature) → m ≡ g .rels + g .chosen → r ≡ placeOf (position (matches (slice a e (now (s .entry))) any k)
+        (allOf (now (s .entry)) (withArrays g (now (from .entry)) (now (to .entry)) (now (arity .entry)))))) ⌝ }
 {
     let b = lookup(
         b"EQLTSUCZEROMAX",
@@ -105,11 +117,7 @@ fn search(s: &[u8], g: Signature, a: usize, e: usize, any: bool, k: usize) -> Fo
     match b {
         Found::At(i) => Found::At(i),
         Found::Nowhere => {
-            let n = g.rels + g.chosen;
-            let from = g.from;
-            let to = g.to;
-            let arity = g.arity;
-            let d = lookup(s, &from, &to, &arity, 0, n, s, a, e, any, k);
+            let d = lookup(s, from, to, arity, 0, m, s, a, e, any, k);
             match d {
                 Found::At(i) => Found::At(5 + i),
                 Found::Nowhere => Found::Nowhere,
@@ -118,12 +126,13 @@ fn search(s: &[u8], g: Signature, a: usize, e: usize, any: bool, k: usize) -> Fo
     }
 }
 
-// The number of the relation that the span names.
-pub fn relation(s: &[u8], g: Signature, a: usize, e: usize) -> Found
-    requires { ⌜ g .rels + g .chosen ≤ 12 ⌝ }
-    ensures { λ r. ⌜ r ≡ placeOf (numberOf (allOf (now (s .entry)) g) (slice a e (now (s .entry)))) ⌝ }
+// The number of the relation that the span names, in a signature whose names and count are lent. Any arity will do, so that no array
+// of arities is looked at.
+pub fn relation(s: &[u8], from: &[usize], to: &[usize], m: usize, a: usize, e: usize) -> Found
+    requires { ⌜ (m ≤ 12) × (12 ≤ length (now from)) × (12 ≤ length (now to)) ⌝ }
+    ensures { λ r. ⌜ ((g : Signature) → Lent g (now (from .entry)) (now (to .entry)) m → r ≡ placeOf (numberOf (allOf (now (s .entry)) g) (slice a e (now (s .entry))))) ⌝ }
 {
-    search(s, g, a, e, true, 0)
+    search(s, from, to, from, m, a, e, true, 0)
 }
 
 // Whether the span names a relation.
@@ -131,7 +140,11 @@ pub fn is_declared(s: &[u8], g: Signature, a: usize, e: usize) -> bool
     requires { ⌜ g .rels + g .chosen ≤ 12 ⌝ }
     ensures { λ r. ⌜ r ≡ isDeclared (allOf (now (s .entry)) g) (slice a e (now (s .entry))) ⌝ }
 {
-    let f = search(s, g, a, e, true, 0);
+    let m = g.rels + g.chosen;
+    let from = g.from;
+    let to = g.to;
+    let arity = g.arity;
+    let f = search(s, &from, &to, &arity, m, a, e, true, 0);
     match f {
         Found::At(_) => true,
         Found::Nowhere => false,
@@ -143,7 +156,11 @@ pub fn known(s: &[u8], g: Signature, a: usize, e: usize, count: usize) -> bool
     requires { ⌜ g .rels + g .chosen ≤ 12 ⌝ }
     ensures { λ r. ⌜ r ≡ anyOf (hasArity (slice a e (now (s .entry))) count) (allOf (now (s .entry)) g) ⌝ }
 {
-    let f = search(s, g, a, e, false, count);
+    let m = g.rels + g.chosen;
+    let from = g.from;
+    let to = g.to;
+    let arity = g.arity;
+    let f = search(s, &from, &to, &arity, m, a, e, false, count);
     match f {
         Found::At(_) => true,
         Found::Nowhere => false,

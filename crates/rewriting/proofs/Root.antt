@@ -24,6 +24,7 @@ use Rattle.names.proofs.Laws.{all-are, length-relations}
 use Rattle.formula.specs.Seen.{ruleNumber, totalOf, names}
 use Rattle.formula.specs.Spans.{chosen-are, totals-next}
 use Rattle.formula.specs.Bound.{slice-rest, names-none}
+use Rattle.formula.specs.declared.Scope.{Scope}
 use Rattle.tree.specs.Tables.{IsTable, Fits}
 use Rattle.tree.specs.declared.Nodes.{Nodes}
 use Rattle.tables.specs.Postorder.{post, postAll, inner, innerAll, Rows, rowsIn, Small, AllSmall, leafRow, quantRow, joinRow}
@@ -32,11 +33,11 @@ use Rattle.tables.specs.Whole.{Of, tree-ranged}
 use Rattle.tables.specs.declared.Row.{Row}
 use Rattle.rewriting.specs.Trees.{treeIn, length-post, length-postAll, rows-le}
 use Rattle.rewriting.specs.Sizes.{FewPlaces, tree-small}
-use Rattle.rewriting.specs.Ready.{Adds, pushed, numbered, Ready, Walked}
+use Rattle.rewriting.specs.Ready.{Adds, pushed, numbered, Ready, ReadyIn, Walked}
 use Rattle.rewriting.specs.Rule.{totalityOf, oneTotality, Accepted, rootOf, IsQuestion, RowsOf, TableOf}
 use Rattle.rewriting.proofs.Tables.{adds-none, adds-push, adds-at, adds-number, adds-both, adds-as}
 use Rattle.rewriting.proofs.Words.{length-all}
-use Rattle.rewriting.proofs.Turns.{first-rows, joined as joined-adds}
+use Rattle.rewriting.proofs.Turns.{over, first-rows, joined as joined-adds}
 
 -- ---- one totality
 pub totality-adds : (t u x y : Rows) (r : ℕ) (a b c : Row) → length (t .at) ≡ 64 → t .len + 3 ≤ 64 → a ≡ leafRow true r (0 ∷ 1 ∷ []) → u ≡ pushed (numbered t 2) a → b ≡ quantRow 1 (t .nodes + 1) 1 → x ≡ record { at = set (u .at) (t .len + 1) b; len = t .len + 2; nodes = u .nodes } → c ≡ quantRow 0 (t .nodes) 0 → y ≡ record { at = set (x .at) (t .len + 2) c; len = t .len + 3; nodes = x .nodes } → Adds t (post (t .nodes) (totalityOf r)) 2 y
@@ -215,6 +216,10 @@ top-ready s at stop g F T t c a h n m = record {
   };
   fixed = record { few = omega (arith, c .sound .rels-le, c .sound .chosen-le); places = few-places s g (c .sound); long = h };
 }
+
+-- ... over the names and the count of the signature itself
+abbrev pub own : {s : List ℕ} {at : ℕ} {g : Signature} {sc : Scope} {t : Rows} → Ready s at g sc t → ReadyIn s at (g .from) (g .to) (g .rels + g .chosen) sc t
+own w = over (record { from-is = refl; to-is = refl; count = refl }) w
 
 -- ---- the tree with its totalities
 totals-some : (k : Relation) (ds : List Relation) → totals (k ∷ ds) ≡ (if isTotal (k .kind) then 1 else 0) + totals ds

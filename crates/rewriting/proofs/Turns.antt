@@ -9,7 +9,7 @@ use lib.ListN.{length, getD, drop, length-append, length-drop}
 use lib.Seq.{drop-drop}
 use Rattle.definitions.specs.Formula.{Formula, Formulas, literal, negation, implication, conjunction, disjunction, exists, forall, nil, cons, Join, ands, ors, Quant, somes, everys, join, quant, joinWord, quantWord, notWord, impWord, writeVars, writeList, write, writeParts, isNot, isImplies, isOther, kindOf, forms, formsAll}
 use Rattle.definitions.specs.Tree.{Tree, Trees, end, _then_, nodes, nodesAll, howMany}
-use Rattle.names.specs.Signatures.{allOf}
+use Rattle.names.specs.Signatures.{Lent, allOf}
 use Rattle.names.specs.declared.Signature.{Signature}
 use Rattle.formula.specs.Seen.{names}
 use Rattle.formula.specs.Spans.{length-names}
@@ -19,7 +19,7 @@ use Rattle.tables.specs.Postorder.{post, postAll, Rows, joinRow}
 use Rattle.tables.specs.Whole.{nodes-le}
 use Rattle.tables.specs.declared.Row.{Row}
 use Rattle.rewriting.specs.Trees.{treeIn, treesIn, joinNode, joinKind, tree-neg, tree-imp, tree-join, trees-nil, trees-cons, post-join, nodes-join, length-post, length-postAll, rows-le, rows-le-all}
-use Rattle.rewriting.specs.Ready.{asJoin, asQuant, joinHead, quantHead, Adds, pushed, numbered, Fine, AllFine, Fixed, Ready, PartsReady, Walked, WalkedParts}
+use Rattle.rewriting.specs.Ready.{asJoin, asQuant, joinHead, quantHead, Adds, pushed, numbered, Fine, AllFine, Fixed, Ready, PartsReady, ReadyIn, PartsReadyIn, Walked, WalkedParts}
 use Rattle.rewriting.proofs.Tables.{adds-none, adds-push, adds-number, adds-both, adds-as}
 use Rattle.rewriting.proofs.Words.{first-byte}
 use Rattle.rewriting.proofs.Views.{join-forms, formHead, kind-of, IsLit, IsNeg, IsImp, IsJoin, IsQuant, as-lit, as-neg, as-imp, as-join, as-quant, fine-neg, fine-imp-1, fine-imp-2, fine-join-1, fine-join-2, fine-part, fine-parts}
@@ -134,6 +134,13 @@ module _ {s : List ℕ} {at : ℕ} {g : Signature} {sc : Scope} {t : Rows} where
 
   pub walked-nodes : (b : Bool) (f : Formula) (after : ℕ) (u : Rows) → Walked b s at g sc t f after u → u .nodes ≤ t .nodes + forms f
   walked-nodes b f after u w = omega (arith, w .adds .nodes, nodes-le (treeIn b (allOf s g) (names s sc) f), rows-le b (allOf s g) (names s sc) f)
+
+-- over the signature whose names are lent
+abbrev pub over : {s : List ℕ} {at : ℕ} {g : Signature} {F T : List ℕ} {m : ℕ} {sc : Scope} {t : Rows} → Lent g F T m → Ready s at g sc t → ReadyIn s at F T m sc t
+over {g = g} l w = record { g = g; lent = l; ready = w }
+
+abbrev pub over-parts : {s : List ℕ} {at : ℕ} {g : Signature} {F T : List ℕ} {m : ℕ} {sc : Scope} {t : Rows} → Lent g F T m → PartsReady s at g sc t → PartsReadyIn s at F T m sc t
+over-parts {g = g} l w = record { g = g; lent = l; ready = w }
 
 -- another table in its place
 pub moved : {s : List ℕ} {g : Signature} {t : Rows} (u : Rows) → Fixed s g t → length (u .at) ≡ 64 → Fixed s g u

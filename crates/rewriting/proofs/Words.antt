@@ -14,7 +14,7 @@ use Rattle.definitions.specs.Formula.{span, writeVars, Variables, a-word}
 use Rattle.definitions.specs.Writing.{vars-stop}
 use Rattle.text.specs.Spans.{placeOf}
 use Rattle.text.specs.declared.Found.the-variants.{At, Nowhere}
-use Rattle.names.specs.Signatures.{allOf, relationsFrom}
+use Rattle.names.specs.Signatures.{Lent, allOf, relationsFrom}
 use Rattle.names.specs.declared.Signature.{Signature}
 use Rattle.names.proofs.Laws.{position-some, all-are, length-relations}
 use Rattle.formula.specs.Seen.{names, spans}
@@ -76,9 +76,13 @@ number-lost : (x : Option ℕ) → Nowhere ≡ placeOf x → x ≡ none
 number-lost none e = refl
 number-lost (some j) e = let z : _≡_ {A = ℕ} 0 1 = cc in absurd (omega arith)
 
-pub number-low : (q : List ℕ) (g : Signature) (w : List ℕ) (k : ℕ) → g .rels + g .chosen ≤ 12 → At k ≡ placeOf (numberOf (allOf q g) w) → k < 17
+number-low : (q : List ℕ) (g : Signature) (w : List ℕ) (k : ℕ) → g .rels + g .chosen ≤ 12 → At k ≡ placeOf (numberOf (allOf q g) w) → k < 17
 unfolding numberOf
 number-low q g w k h e = omega (arith, length-all q g, position-some (λ (r : Relation). same (r .name) w) (allOf q g) k (record { name = []; arity = 0; kind = static }) (number-found (numberOf (allOf q g) w) k e) .0)
+
+-- ... of any signature whose names and count are lent
+pub lent-low : (q F T w : List ℕ) (m k : ℕ) → m ≤ 12 → ((g : Signature) → Lent g F T m → At k ≡ placeOf (numberOf (allOf q g) w)) → k < 17
+lent-low q F T w m k h e = let g : Signature = record { rels = m; chosen = 0; from = F; to = T; arity = []; kind = [] } in number-low q g w k (omega arith) (e g (record { from-is = refl; to-is = refl; count = omega arith }))
 
 pub number-at : (x : Option ℕ) (k : ℕ) → At k ≡ placeOf x → k ≡ option x zero (λ j. j)
 unfolding option

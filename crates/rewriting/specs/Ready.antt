@@ -8,7 +8,7 @@ use Rattle.definitions.specs.Lists.{same, option, position}
 use Rattle.definitions.specs.Relations.{Relation}
 use Rattle.definitions.specs.Formula.{Formula, Formulas, write, writeVars, writeList, writeParts, WellFormed, AllWellFormed, Variables, Join, ands, ors, Quant, somes, everys, Head, isAnd, isOr, isExists, isForall, forms, formsAll, nesting, nestingAll, isKnown, areKnown}
 use Rattle.definitions.specs.Tree.{nodes, nodesAll, howMany}
-use Rattle.names.specs.Signatures.{allOf}
+use Rattle.names.specs.Signatures.{Lent, allOf}
 use Rattle.names.specs.declared.Signature.{Signature}
 use Rattle.formula.specs.Seen.{names}
 use Rattle.formula.specs.declared.Scope.{Scope}
@@ -92,6 +92,17 @@ pub record PartsReady (s : List ℕ) (at : ℕ) (g : Signature) (sc : Scope) (t 
   pub fine : AllFine (allOf s g) (names s sc) (t .len) (t .nodes) fs
   pub fixed : Fixed s g t
 
+-- ... both over a signature whose names and count are lent
+pub record ReadyIn (s : List ℕ) (at : ℕ) (from to : List ℕ) (m : ℕ) (sc : Scope) (t : Rows) : Type 0 where
+  pub g : Signature
+  pub lent : Lent g from to m
+  pub ready : Ready s at g sc t
+
+pub record PartsReadyIn (s : List ℕ) (at : ℕ) (from to : List ℕ) (m : ℕ) (sc : Scope) (t : Rows) : Type 0 where
+  pub g : Signature
+  pub lent : Lent g from to m
+  pub ready : PartsReady s at g sc t
+
 -- ... a quantifier's variables, and its bracket and space
 pub record ListReady (s : List ℕ) (at : ℕ) (sc : Scope) : Type 0 where
   pub v : List ℕ
@@ -120,12 +131,12 @@ pub record WalkedParts (b : Bool) (s : List ℕ) (at : ℕ) (g : Signature) (sc 
   pub adds : Adds t (postAll (t .nodes) (treesIn b (allOf s g) (names s sc) fs)) (length (nodesAll (treesIn b (allOf s g) (names s sc) fs))) u
   pub counted : count ≡ many + howMany (treesIn b (allOf s g) (names s sc) fs)
 
--- ... whatever was written there
-abbrev pub Walks : Bool → List ℕ → ℕ → Signature → Scope → Rows → ℕ → Rows → Type 0
-Walks b s at g sc t after u = (w : Ready s at g sc t) → Walked b s at g sc t (w .f) after u
+-- ... whatever was written there, over whatever signature
+abbrev pub Walks : Bool → List ℕ → ℕ → (from to : List ℕ) → ℕ → Scope → Rows → ℕ → Rows → Type 0
+Walks b s at from to m sc t after u = (w : ReadyIn s at from to m sc t) → Walked b s at (w .g) sc t (w .ready .f) after u
 
-abbrev pub WalksParts : Bool → List ℕ → ℕ → Signature → Scope → Rows → ℕ → ℕ → ℕ → Rows → Type 0
-WalksParts b s at g sc t many after count u = (w : PartsReady s at g sc t) → WalkedParts b s at g sc t many (w .fs) after count u
+abbrev pub WalksParts : Bool → List ℕ → ℕ → (from to : List ℕ) → ℕ → Scope → Rows → ℕ → ℕ → ℕ → Rows → Type 0
+WalksParts b s at from to m sc t many after count u = (w : PartsReadyIn s at from to m sc t) → WalkedParts b s at (w .g) sc t many (w .ready .fs) after count u
 
 pub record Opened (s : List ℕ) (at : ℕ) (sc : Scope) (v : List ℕ) (vs : List (List ℕ)) (r : Bound) : Type 0 where
   pub place : r .at ≡ at + (length (writeList (v ∷ vs)) + 2)

@@ -9,11 +9,11 @@ ghost use Rattle.definitions.specs.Lists.{option};
 ghost use Rattle.definitions.specs.Relations.{numberOf};
 ghost use Rattle.definitions.specs.Formula.{kindOf, isImplies, isOther, joinWord, totals};
 ghost use Rattle.definitions.specs.Tree.{nodesAll, totalities as totalitiesOf};
-ghost use Rattle.names.specs.Signatures.{allOf, chosenOf};
+ghost use Rattle.names.specs.Signatures.{Lent, allOf, chosenOf};
 ghost use Rattle.formula.specs.Seen.{names, totalOf};
 ghost use Rattle.tables.specs.Postorder.{post, postAll, leafKind, leafRow, quantRow, joinRow, rowsFrom};
 ghost use Rattle.rewriting.specs.Trees.{joinKind, quantKind, chain as chainOf};
-ghost use Rattle.rewriting.specs.Ready.{asJoin, asQuant, joinHead, quantHead, levelOf, Adds, Ready, PartsReady, ListReady, VarsReady, Walks, WalksParts, Opened, Filled};
+ghost use Rattle.rewriting.specs.Ready.{asJoin, asQuant, joinHead, quantHead, levelOf, Adds, ReadyIn, PartsReadyIn, ListReady, VarsReady, Walks, WalksParts, Opened, Filled};
 ghost use Rattle.rewriting.specs.Rule.{totalityOf, oneTotality, Accepted, RowsOf, TableOf};
 use formula::Kind;
 use formula::Scope;
@@ -144,12 +144,12 @@ fn level(s: &[u8], a: usize, e: usize, sc: Scope) -> u8
     0
 }
 
-// The number of the relation that is named from `a` to `e`; 0 if there is none.
-fn number(s: &[u8], g: Signature, a: usize, e: usize) -> u8
-    requires { ⌜ g .rels + g .chosen ≤ 12 ⌝ }
-    ensures { λ r. ⌜ r ≡ option (numberOf (allOf (now (s .entry)) g) (slice a e (now (s .entry)))) zero (λ k. k) ⌝ }
+// The number of the relation that is named from `a` to `e`, in a signature whose names and count are lent; 0 if there is none.
+fn number(s: &[u8], from: &[usize], to: &[usize], m: usize, a: usize, e: usize) -> u8
+    requires { ⌜ (m ≤ 12) × (12 ≤ length (now from)) × (12 ≤ length (now to)) ⌝ }
+    ensures { λ r. ⌜ ((g : Signature) → Lent g (now (from .entry)) (now (to .entry)) m → r ≡ option (numberOf (allOf (now (s .entry)) g) (slice a e (now (s .entry)))) zero (λ k. k)) ⌝ }
 {
-    let f = names::relation(s, g, a, e);
+    let f = names::relation(s, from, to, m, a, e);
     match f {
         Found::At(k) => k as u8,
         Found::Nowhere => 0,
@@ -200,19 +200,21 @@ fn literal(
     s: &[u8],
     at: usize,
     pos: bool,
-    sig: Signature,
+    from: &[usize],
+    to: &[usize],
+    m: usize,
     sc: Scope,
     rows: &mut [u8],
     len: usize,
     nodes: usize,
 ) -> Walk
-    requires { ⌜ length (now rows) ≡ 448 ⌝ }
-    requires { ⌜ Ready (now s) at sig sc (rowsFrom (now rows) len nodes) ⌝ }
+    requires { ⌜ (12 ≤ length (now from)) × (12 ≤ length (now to)) × (length (now rows) ≡ 448) ⌝ }
+    requires { ⌜ ReadyIn (now s) at (now from) (now to) m sc (rowsFrom (now rows) len nodes) ⌝ }
     requires { ⌜ kindOf (drop at (now s)) ≡ isOther ⌝ }
-    ensures { λ r. ⌜ Walks pos (now (s .entry)) at sig sc (rowsFrom (now (rows .entry)) len nodes) (r .at) (rowsFrom (now (rows .exit)) (r .len) (r .nodes)) ⌝ }
+    ensures { λ r. ⌜ Walks pos (now (s .entry)) at (now (from .entry)) (now (to .entry)) m sc (rowsFrom (now (rows .entry)) len nodes) (r .at) (rowsFrom (now (rows .exit)) (r .len) (r .nodes)) ⌝ }
 {
     let a = formula::run(s, at + 1, false);
-    let which = number(s, sig, at + 1, a);
+    let which = number(s, from, to, m, at + 1, a);
     let kind = leaf_kind(pos);
     let none = Row {
         kind,
@@ -236,32 +238,34 @@ fn literal(
 fn positive(
     s: &[u8],
     at: usize,
-    sig: Signature,
+    from: &[usize],
+    to: &[usize],
+    m: usize,
     sc: Scope,
     rows: &mut [u8],
     len: usize,
     nodes: usize,
 ) -> Walk
-    requires { ⌜ length (now rows) ≡ 448 ⌝ }
-    requires { ⌜ Ready (now s) at sig sc (rowsFrom (now rows) len nodes) ⌝ }
-    ensures { λ r. ⌜ Walks true (now (s .entry)) at sig sc (rowsFrom (now (rows .entry)) len nodes) (r .at) (rowsFrom (now (rows .exit)) (r .len) (r .nodes)) ⌝ }
+    requires { ⌜ (12 ≤ length (now from)) × (12 ≤ length (now to)) × (length (now rows) ≡ 448) ⌝ }
+    requires { ⌜ ReadyIn (now s) at (now from) (now to) m sc (rowsFrom (now rows) len nodes) ⌝ }
+    ensures { λ r. ⌜ Walks true (now (s .entry)) at (now (from .entry)) (now (to .entry)) m sc (rowsFrom (now (rows .entry)) len nodes) (r .at) (rowsFrom (now (rows .exit)) (r .len) (r .nodes)) ⌝ }
 {
     let k = formula::kind_at(s, at);
     match k {
         Kind::Not => {
-            let w = negative(s, at + 5, sig, sc, rows, len, nodes);
+            let w = negative(s, at + 5, from, to, m, sc, rows, len, nodes);
             Walk {
                 len: w.len,
                 nodes: w.nodes,
                 at: w.at + 1,
             }
         }
-        Kind::Implies => arrow(s, at, true, sig, sc, rows, len, nodes),
-        Kind::And => gather(s, at, true, true, sig, sc, rows, len, nodes),
-        Kind::Or => gather(s, at, false, true, sig, sc, rows, len, nodes),
-        Kind::Exists => under(s, at, true, true, sig, sc, rows, len, nodes),
-        Kind::Forall => under(s, at, false, true, sig, sc, rows, len, nodes),
-        Kind::Other => literal(s, at, true, sig, sc, rows, len, nodes),
+        Kind::Implies => arrow(s, at, true, from, to, m, sc, rows, len, nodes),
+        Kind::And => gather(s, at, true, true, from, to, m, sc, rows, len, nodes),
+        Kind::Or => gather(s, at, false, true, from, to, m, sc, rows, len, nodes),
+        Kind::Exists => under(s, at, true, true, from, to, m, sc, rows, len, nodes),
+        Kind::Forall => under(s, at, false, true, from, to, m, sc, rows, len, nodes),
+        Kind::Other => literal(s, at, true, from, to, m, sc, rows, len, nodes),
     }
 }
 
@@ -269,32 +273,34 @@ fn positive(
 fn negative(
     s: &[u8],
     at: usize,
-    sig: Signature,
+    from: &[usize],
+    to: &[usize],
+    m: usize,
     sc: Scope,
     rows: &mut [u8],
     len: usize,
     nodes: usize,
 ) -> Walk
-    requires { ⌜ length (now rows) ≡ 448 ⌝ }
-    requires { ⌜ Ready (now s) at sig sc (rowsFrom (now rows) len nodes) ⌝ }
-    ensures { λ r. ⌜ Walks false (now (s .entry)) at sig sc (rowsFrom (now (rows .entry)) len nodes) (r .at) (rowsFrom (now (rows .exit)) (r .len) (r .nodes)) ⌝ }
+    requires { ⌜ (12 ≤ length (now from)) × (12 ≤ length (now to)) × (length (now rows) ≡ 448) ⌝ }
+    requires { ⌜ ReadyIn (now s) at (now from) (now to) m sc (rowsFrom (now rows) len nodes) ⌝ }
+    ensures { λ r. ⌜ Walks false (now (s .entry)) at (now (from .entry)) (now (to .entry)) m sc (rowsFrom (now (rows .entry)) len nodes) (r .at) (rowsFrom (now (rows .exit)) (r .len) (r .nodes)) ⌝ }
 {
     let k = formula::kind_at(s, at);
     match k {
         Kind::Not => {
-            let w = positive(s, at + 5, sig, sc, rows, len, nodes);
+            let w = positive(s, at + 5, from, to, m, sc, rows, len, nodes);
             Walk {
                 len: w.len,
                 nodes: w.nodes,
                 at: w.at + 1,
             }
         }
-        Kind::Implies => arrow(s, at, false, sig, sc, rows, len, nodes),
-        Kind::And => gather(s, at, true, false, sig, sc, rows, len, nodes),
-        Kind::Or => gather(s, at, false, false, sig, sc, rows, len, nodes),
-        Kind::Exists => under(s, at, true, false, sig, sc, rows, len, nodes),
-        Kind::Forall => under(s, at, false, false, sig, sc, rows, len, nodes),
-        Kind::Other => literal(s, at, false, sig, sc, rows, len, nodes),
+        Kind::Implies => arrow(s, at, false, from, to, m, sc, rows, len, nodes),
+        Kind::And => gather(s, at, true, false, from, to, m, sc, rows, len, nodes),
+        Kind::Or => gather(s, at, false, false, from, to, m, sc, rows, len, nodes),
+        Kind::Exists => under(s, at, true, false, from, to, m, sc, rows, len, nodes),
+        Kind::Forall => under(s, at, false, false, from, to, m, sc, rows, len, nodes),
+        Kind::Other => literal(s, at, false, from, to, m, sc, rows, len, nodes),
     }
 }
 
@@ -303,20 +309,22 @@ fn part(
     s: &[u8],
     at: usize,
     pos: bool,
-    sig: Signature,
+    from: &[usize],
+    to: &[usize],
+    m: usize,
     sc: Scope,
     rows: &mut [u8],
     len: usize,
     nodes: usize,
 ) -> Walk
-    requires { ⌜ length (now rows) ≡ 448 ⌝ }
-    requires { ⌜ Ready (now s) at sig sc (rowsFrom (now rows) len nodes) ⌝ }
-    ensures { λ r. ⌜ Walks pos (now (s .entry)) at sig sc (rowsFrom (now (rows .entry)) len nodes) (r .at) (rowsFrom (now (rows .exit)) (r .len) (r .nodes)) ⌝ }
+    requires { ⌜ (12 ≤ length (now from)) × (12 ≤ length (now to)) × (length (now rows) ≡ 448) ⌝ }
+    requires { ⌜ ReadyIn (now s) at (now from) (now to) m sc (rowsFrom (now rows) len nodes) ⌝ }
+    ensures { λ r. ⌜ Walks pos (now (s .entry)) at (now (from .entry)) (now (to .entry)) m sc (rowsFrom (now (rows .entry)) len nodes) (r .at) (rowsFrom (now (rows .exit)) (r .len) (r .nodes)) ⌝ }
 {
     if pos {
-        positive(s, at, sig, sc, rows, len, nodes)
+        positive(s, at, from, to, m, sc, rows, len, nodes)
     } else {
-        negative(s, at, sig, sc, rows, len, nodes)
+        negative(s, at, from, to, m, sc, rows, len, nodes)
     }
 }
 
@@ -325,19 +333,21 @@ fn arrow(
     s: &[u8],
     at: usize,
     pos: bool,
-    sig: Signature,
+    from: &[usize],
+    to: &[usize],
+    m: usize,
     sc: Scope,
     rows: &mut [u8],
     len: usize,
     nodes: usize,
 ) -> Walk
-    requires { ⌜ length (now rows) ≡ 448 ⌝ }
-    requires { ⌜ Ready (now s) at sig sc (rowsFrom (now rows) len nodes) ⌝ }
+    requires { ⌜ (12 ≤ length (now from)) × (12 ≤ length (now to)) × (length (now rows) ≡ 448) ⌝ }
+    requires { ⌜ ReadyIn (now s) at (now from) (now to) m sc (rowsFrom (now rows) len nodes) ⌝ }
     requires { ⌜ kindOf (drop at (now s)) ≡ isImplies ⌝ }
-    ensures { λ r. ⌜ Walks pos (now (s .entry)) at sig sc (rowsFrom (now (rows .entry)) len nodes) (r .at) (rowsFrom (now (rows .exit)) (r .len) (r .nodes)) ⌝ }
+    ensures { λ r. ⌜ Walks pos (now (s .entry)) at (now (from .entry)) (now (to .entry)) m sc (rowsFrom (now (rows .entry)) len nodes) (r .at) (rowsFrom (now (rows .exit)) (r .len) (r .nodes)) ⌝ }
 {
-    let x = part(s, at + 9, !pos, sig, sc, rows, len, nodes + 1);
-    let y = part(s, x.at + 1, pos, sig, sc, rows, x.len, x.nodes);
+    let x = part(s, at + 9, !pos, from, to, m, sc, rows, len, nodes + 1);
+    let y = part(s, x.at + 1, pos, from, to, m, sc, rows, x.len, x.nodes);
     let kind = join_kind(pos, false);
     let row = join_row(kind, nodes, 2);
     tables::put_row(rows, y.len, row);
@@ -361,20 +371,22 @@ fn gather(
     at: usize,
     conj: bool,
     pos: bool,
-    sig: Signature,
+    from: &[usize],
+    to: &[usize],
+    m: usize,
     sc: Scope,
     rows: &mut [u8],
     len: usize,
     nodes: usize,
 ) -> Walk
-    requires { ⌜ length (now rows) ≡ 448 ⌝ }
-    requires { ⌜ Ready (now s) at sig sc (rowsFrom (now rows) len nodes) ⌝ }
+    requires { ⌜ (12 ≤ length (now from)) × (12 ≤ length (now to)) × (length (now rows) ≡ 448) ⌝ }
+    requires { ⌜ ReadyIn (now s) at (now from) (now to) m sc (rowsFrom (now rows) len nodes) ⌝ }
     requires { ⌜ kindOf (drop at (now s)) ≡ joinHead conj ⌝ }
-    ensures { λ r. ⌜ Walks pos (now (s .entry)) at sig sc (rowsFrom (now (rows .entry)) len nodes) (r .at) (rowsFrom (now (rows .exit)) (r .len) (r .nodes)) ⌝ }
+    ensures { λ r. ⌜ Walks pos (now (s .entry)) at (now (from .entry)) (now (to .entry)) m sc (rowsFrom (now (rows .entry)) len nodes) (r .at) (rowsFrom (now (rows .exit)) (r .len) (r .nodes)) ⌝ }
 {
     let skip = join_word(conj);
-    let x = part(s, at + skip, pos, sig, sc, rows, len, nodes + 1);
-    let y = further(s, x.at, pos, 1, sig, sc, rows, x.len, x.nodes);
+    let x = part(s, at + skip, pos, from, to, m, sc, rows, len, nodes + 1);
+    let y = further(s, x.at, pos, 1, from, to, m, sc, rows, x.len, x.nodes);
     let kind = join_kind(pos, conj);
     let row = join_row(kind, nodes, y.many);
     tables::put_row(rows, y.len, row);
@@ -391,20 +403,34 @@ fn further(
     at: usize,
     pos: bool,
     many: usize,
-    sig: Signature,
+    from: &[usize],
+    to: &[usize],
+    m: usize,
     sc: Scope,
     rows: &mut [u8],
     len: usize,
     nodes: usize,
 ) -> Pieces
-    requires { ⌜ length (now rows) ≡ 448 ⌝ }
-    requires { ⌜ PartsReady (now s) at sig sc (rowsFrom (now rows) len nodes) ⌝ }
+    requires { ⌜ (12 ≤ length (now from)) × (12 ≤ length (now to)) × (length (now rows) ≡ 448) ⌝ }
+    requires { ⌜ PartsReadyIn (now s) at (now from) (now to) m sc (rowsFrom (now rows) len nodes) ⌝ }
     requires { ⌜ many ≤ len ⌝ }
-    ensures { λ r. ⌜ WalksParts pos (now (s .entry)) at sig sc (rowsFrom (now (rows .entry)) len nodes) many (r .at) (r .many) (rowsFrom (now (rows .exit)) (r .len) (r .nodes)) ⌝ }
+    ensures { λ r. ⌜ WalksParts pos (now (s .entry)) at (now (from .entry)) (now (to .entry)) m sc (rowsFrom (now (rows .entry)) len nodes) many (r .at) (r .many) (rowsFrom (now (rows .exit)) (r .len) (r .nodes)) ⌝ }
 {
     if s[at] == 32 {
-        let x = part(s, at + 1, pos, sig, sc, rows, len, nodes);
-        further(s, x.at, pos, many + 1, sig, sc, rows, x.len, x.nodes)
+        let x = part(s, at + 1, pos, from, to, m, sc, rows, len, nodes);
+        further(
+            s,
+            x.at,
+            pos,
+            many + 1,
+            from,
+            to,
+            m,
+            sc,
+            rows,
+            x.len,
+            x.nodes,
+        )
     } else {
         Pieces {
             len,
@@ -421,23 +447,25 @@ fn under(
     at: usize,
     some: bool,
     pos: bool,
-    sig: Signature,
+    from: &[usize],
+    to: &[usize],
+    m: usize,
     sc: Scope,
     rows: &mut [u8],
     len: usize,
     nodes: usize,
 ) -> Walk
-    requires { ⌜ length (now rows) ≡ 448 ⌝ }
-    requires { ⌜ Ready (now s) at sig sc (rowsFrom (now rows) len nodes) ⌝ }
+    requires { ⌜ (12 ≤ length (now from)) × (12 ≤ length (now to)) × (length (now rows) ≡ 448) ⌝ }
+    requires { ⌜ ReadyIn (now s) at (now from) (now to) m sc (rowsFrom (now rows) len nodes) ⌝ }
     requires { ⌜ kindOf (drop at (now s)) ≡ quantHead some ⌝ }
-    ensures { λ r. ⌜ Walks pos (now (s .entry)) at sig sc (rowsFrom (now (rows .entry)) len nodes) (r .at) (rowsFrom (now (rows .exit)) (r .len) (r .nodes)) ⌝ }
+    ensures { λ r. ⌜ Walks pos (now (s .entry)) at (now (from .entry)) (now (to .entry)) m sc (rowsFrom (now (rows .entry)) len nodes) (r .at) (rowsFrom (now (rows .exit)) (r .len) (r .nodes)) ⌝ }
 {
     let level = sc.n;
     let d = bind(s, at + 9, sc);
     let inner = d.scope;
     let a = d.at;
     let k = inner.n - level;
-    let x = part(s, a, pos, sig, inner, rows, len, nodes + k);
+    let x = part(s, a, pos, from, to, m, inner, rows, len, nodes + k);
     let kind = quant_kind(pos, some);
     chain(rows, x.len, kind, nodes, level, k);
     Walk {
@@ -517,15 +545,18 @@ fn rows_of(text: &[u8], at: usize, end: usize, sig: Signature, rows: &mut [u8]) 
         to: [0usize; 4],
         n: 0,
     };
+    let from = sig.from;
+    let to = sig.to;
+    let m = sig.rels + sig.chosen;
     let total = formula::totalities(sig);
     if total == 0 {
-        let w = positive(text, at, sig, sc, rows, 0, 0);
+        let w = positive(text, at, &from, &to, m, sc, rows, 0, 0);
         return Used {
             len: w.len,
             nodes: w.nodes,
         };
     }
-    let w = positive(text, at, sig, sc, rows, 0, 1);
+    let w = positive(text, at, &from, &to, m, sc, rows, 0, 1);
     let u = totalities(rows, w.len, w.nodes, sig);
     let row = join_row(2, 0, total + 1);
     tables::put_row(rows, u.len, row);

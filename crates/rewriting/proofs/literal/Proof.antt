@@ -9,37 +9,37 @@ use Rattle.rewriting.proofs.literal.Statement.{statement}
 use Rattle.rewriting.proofs.literal.Tie as tie
 
 add-run : tie.Need-add-run
-add-run c = omega (arith, ready-in (c .before .before .pre .1 .0), c .before .before .good .0 .0)
+add-run c = omega (arith, ready-in ((c .before .before .before .before .pre .1 .0) .ready), c .before .before .before .before .good .0 .0)
 
 run-requires : tie.Need-run-requires
-run-requires c κs = omega (arith, ready-in (c .before .before .pre .1 .0))
+run-requires c κs = omega (arith, ready-in ((c .before .before .before .before .pre .1 .0) .ready))
 
 add-number : tie.Need-add-number
-add-number c = omega (arith, ready-in (c .before .before .before .pre .1 .0), c .before .before .before .good .0 .0)
+add-number c = omega (arith, ready-in ((c .before .before .before .before .before .pre .1 .0) .ready), c .before .before .before .before .before .good .0 .0)
 
 number-requires : tie.Need-number-requires
-number-requires c κs = (c .before .before .before .pre .1 .0) .fixed .few
+number-requires c κs = (omega (arith, (c .before .before .before .before .before .pre .1 .0) .lent .count, (c .before .before .before .before .before .pre .1 .0) .ready .fixed .few), c .before .before .before .before .before .pre .0 .0, c .before .before .before .before .before .pre .0 .1)
 
 leaf-kind-requires : tie.Need-leaf-kind-requires
 leaf-kind-requires c κs = search needs
 
 fill-requires : tie.Need-fill-requires
-fill-requires c κs = lit-vars (c .before .before .before .before .before .pre .1 .0) (lit-view (c .before .before .before .before .before .pre .1 .0) (c .before .before .before .before .before .pre .1 .1)) (c .before .before .run .result) (c .before .before .run .ensures)
+fill-requires c κs = let W = c .before .before .before .before .before .before .before .pre .1 .0 in let w = W .ready in let v = lit-view w (c .before .before .before .before .before .before .before .pre .1 .1) in lit-vars w v (c .before .before .run .result) (c .before .before .run .ensures)
 
 put-row-requires : tie.Need-put-row-requires
-put-row-requires c κs = (c .before .before .before .before .before .before .before .before .pre .0, ready-rows (c .before .before .before .before .before .before .before .before .pre .1 .0))
+put-row-requires c κs = (c .before .before .before .before .before .before .before .before .before .before .pre .0 .2, ready-rows ((c .before .before .before .before .before .before .before .before .before .before .pre .1 .0) .ready))
 
-add-t16 : tie.Need-add-t16
-add-t16 c = omega (arith, ready-rows (c .before .before .before .before .before .before .before .before .before .before .before .pre .1 .0))
+add-t18 : tie.Need-add-t18
+add-t18 c = omega (arith, ready-rows ((c .before .before .before .before .before .before .before .before .before .before .before .before .before .pre .1 .0) .ready))
 
-add-t21 : tie.Need-add-t21
-add-t21 c = omega (arith, lit-place (c .before .before .before .before .before .before .before .before .before .before .before .pre .1 .0) (lit-view (c .before .before .before .before .before .before .before .before .before .before .before .pre .1 .0) (c .before .before .before .before .before .before .before .before .before .before .before .pre .1 .1)) (c .before .before .before .before .before .before .before .before .run .result) (c .before .before .before .before .before .before .before .before .run .ensures) (c .before .before .before .before .before .before .before .before .before .before .before .args .pos) (c .before .before .before .before .before .before .before .number .result) (c .before .before .before .before .before .before .before .number .ensures) (c .before .before .before .before .before .fill .result) (c .before .before .before .before .before .fill .ensures (c .before .before .before .before .before .before .before .before .before .before .before .args .pos) (c .before .before .before .before .before .before .before .number .result) [] (lit-vars (c .before .before .before .before .before .before .before .before .before .before .before .pre .1 .0) (lit-view (c .before .before .before .before .before .before .before .before .before .before .before .pre .1 .0) (c .before .before .before .before .before .before .before .before .before .before .before .pre .1 .1)) (c .before .before .before .before .before .before .before .before .run .result) (c .before .before .before .before .before .before .before .before .run .ensures)) (none-row (c .before .before .before .before .before .before .before .before .before .before .before .args .pos) (c .before .before .before .before .before .before .leaf-kind .result) (c .before .before .before .before .before .before .before .number .result) (c .before .before .before .before .before .before .leaf-kind .ensures))), ready-end (c .before .before .before .before .before .before .before .before .before .before .before .pre .1 .0), c .before .before .before .before .before .before .before .before .before .before .before .good .0 .0)
+add-t23 : tie.Need-add-t23
+add-t23 c = let W = c .before .before .before .before .before .before .before .before .before .before .before .before .before .pre .1 .0 in let w = W .ready in let v = lit-view w (c .before .before .before .before .before .before .before .before .before .before .before .before .before .pre .1 .1) in omega (arith, lit-place w v (c .before .before .before .before .before .before .before .before .run .result) (c .before .before .before .before .before .before .before .before .run .ensures) (c .before .before .before .before .before .before .before .before .before .before .before .before .before .args .pos) (c .before .before .before .before .before .before .before .number .result) (c .before .before .before .before .before .before .before .number .ensures (W .g) (W .lent)) (c .before .before .before .before .before .fill .result) (c .before .before .before .before .before .fill .ensures (c .before .before .before .before .before .before .before .before .before .before .before .before .before .args .pos) (c .before .before .before .before .before .before .before .number .result) [] (lit-vars w v (c .before .before .before .before .before .before .before .before .run .result) (c .before .before .before .before .before .before .before .before .run .ensures)) (none-row (c .before .before .before .before .before .before .before .before .before .before .before .before .before .args .pos) (c .before .before .before .before .before .before .leaf-kind .result) (c .before .before .before .before .before .before .before .number .result) (c .before .before .before .before .before .before .leaf-kind .ensures))), ready-end w, c .before .before .before .before .before .before .before .before .before .before .before .before .before .good .0 .0)
 
 same-length : tie.Need-same-length
 same-length c = search needs
 
 returns : tie.Need-returns
-returns c = λ w. lit-done w (lit-view w (c .before .before .before .before .before .before .before .before .before .before .before .pre .1 .1)) (c .before .before .before .before .before .before .before .before .run .result) (c .before .before .before .before .before .before .before .before .run .ensures) (c .before .before .before .before .before .before .before .before .before .before .before .args .pos) (c .before .before .before .before .before .before .before .number .result) (c .before .before .before .before .before .before .before .number .ensures) (c .before .before .before .before .before .fill .result) (c .before .before .before .before .before .fill .ensures (c .before .before .before .before .before .before .before .before .before .before .before .args .pos) (c .before .before .before .before .before .before .before .number .result) [] (lit-vars w (lit-view w (c .before .before .before .before .before .before .before .before .before .before .before .pre .1 .1)) (c .before .before .before .before .before .before .before .before .run .result) (c .before .before .before .before .before .before .before .before .run .ensures)) (none-row (c .before .before .before .before .before .before .before .before .before .before .before .args .pos) (c .before .before .before .before .before .before .leaf-kind .result) (c .before .before .before .before .before .before .before .number .result) (c .before .before .before .before .before .before .leaf-kind .ensures))) _ (c .before .before .put-row .ensures .1 (c .before .before .before .before .before .before .before .before .before .before .before .args .len + 1) (c .before .before .before .before .before .before .before .before .before .before .before .args .nodes))
+returns c = λ W. let w = W .ready in let v = lit-view w (c .before .before .before .before .before .before .before .before .before .before .before .before .before .pre .1 .1) in lit-done w v (c .before .before .before .before .before .before .before .before .run .result) (c .before .before .before .before .before .before .before .before .run .ensures) (c .before .before .before .before .before .before .before .before .before .before .before .before .before .args .pos) (c .before .before .before .before .before .before .before .number .result) (c .before .before .before .before .before .before .before .number .ensures (W .g) (W .lent)) (c .before .before .before .before .before .fill .result) (c .before .before .before .before .before .fill .ensures (c .before .before .before .before .before .before .before .before .before .before .before .before .before .args .pos) (c .before .before .before .before .before .before .before .number .result) [] (lit-vars w v (c .before .before .before .before .before .before .before .before .run .result) (c .before .before .before .before .before .before .before .before .run .ensures)) (none-row (c .before .before .before .before .before .before .before .before .before .before .before .before .before .args .pos) (c .before .before .before .before .before .before .leaf-kind .result) (c .before .before .before .before .before .before .before .number .result) (c .before .before .before .before .before .before .leaf-kind .ensures))) _ (c .before .before .put-row .ensures .1 (c .before .before .before .before .before .before .before .before .before .before .before .before .before .args .len + 1) (c .before .before .before .before .before .before .before .before .before .before .before .before .before .args .nodes))
 
 pub literal-spec : {M : Type 1} → statement M
 literal-spec =
@@ -52,7 +52,7 @@ literal-spec =
     leaf-kind-requires
     fill-requires
     put-row-requires
-    add-t16
-    add-t21
+    add-t18
+    add-t23
     same-length
     returns)

@@ -4,33 +4,49 @@ use mathlib.Core.List.{[], _∷_}
 use mathlib.Core.Bool.{true}
 use native.Mathlib.Omega.{arith}
 use Prim.Native.Nat.{_+_}
+use lib.ListN.{length}
 use Rattle.definitions.specs.Formula.{totals}
 use Rattle.names.specs.Signatures.{chosenOf}
 use Rattle.tables.specs.Lent.{rows-many}
 use Rattle.tables.specs.Postorder.{joinRow, rowsFrom}
 use Rattle.rewriting.proofs.Turns.{walked-len, walked-nodes}
-use Rattle.rewriting.proofs.Root.{formed, top-ready, plain-forms, joined-forms, of-plain, joined-space, of-joined}
+use Rattle.rewriting.proofs.Root.{formed, own, top-ready, plain-forms, joined-forms, of-plain, joined-space, of-joined}
 use borrow.Author.Needs.{needs}
 use Rattle.rewriting.proofs.rows_of.Statement.{statement}
 use Rattle.rewriting.proofs.rows_of.Tie as tie
 
+add-m : tie.Need-add-m
+add-m c = search needs
+
 totalities-requires : tie.Need-totalities-requires
 totalities-requires c κs = search needs
 
+slice-aggregate-positive : tie.Need-slice-aggregate-positive
+slice-aggregate-positive c = search needs
+
+slice-aggregate-positive-2 : tie.Need-slice-aggregate-positive-2
+slice-aggregate-positive-2 c = search needs
+
 positive-requires : tie.Need-positive-requires
-positive-requires c κs = let z = c .before .before .before .before .before in let a = formed (z .args .text .now) (z .args .at) (z .args .end) (z .args .sig) (z .pre .0) in let w = top-ready (z .args .text .now) (z .args .at) (z .args .end) (z .args .sig) (0 ∷ 0 ∷ 0 ∷ 0 ∷ []) (0 ∷ 0 ∷ 0 ∷ 0 ∷ []) (rowsFrom (z .args .rows .now) 0 0) (z .pre .0) a (rows-many (z .args .rows .now) 0 0) (omega (arith, plain-forms (z .args .text .now) (z .args .at) (z .args .end) (z .args .sig) (z .pre .0) a [] [])) (omega (arith, plain-forms (z .args .text .now) (z .args .at) (z .args .end) (z .args .sig) (z .pre .0) a [] [])) in (z .pre .1, w)
+positive-requires c κs = let z = c .before .before .before .before .before .before .before .before .before .before in let a = formed (z .args .text .now) (z .args .at) (z .args .end) (z .args .sig) (z .pre .0) in let w = own (top-ready (z .args .text .now) (z .args .at) (z .args .end) (z .args .sig) (0 ∷ 0 ∷ 0 ∷ 0 ∷ []) (0 ∷ 0 ∷ 0 ∷ 0 ∷ []) (rowsFrom (z .args .rows .now) 0 0) (z .pre .0) a (rows-many (z .args .rows .now) 0 0) (omega (arith, plain-forms (z .args .text .now) (z .args .at) (z .args .end) (z .args .sig) (z .pre .0) a [] [])) (omega (arith, plain-forms (z .args .text .now) (z .args .at) (z .args .end) (z .args .sig) (z .pre .0) a [] []))) in let p : length (z .args .sig .from) ≡ 12 = search needs in let q : length (z .args .sig .to) ≡ 12 = search needs in ((omega arith, omega arith, z .pre .1), w)
 
 same-length : tie.Need-same-length
-same-length c = c .before .before .positive .kept .1 .1 .1 .1 .0
+same-length c = c .before .before .positive .kept .1 .1 .1 .1 .1 .1 .0
 
 returns : tie.Need-returns
-returns c = let z = c .before .before .before .before .before .before .before .before in let a = formed (z .args .text .now) (z .args .at) (z .args .end) (z .args .sig) (z .pre .0) in let w = top-ready (z .args .text .now) (z .args .at) (z .args .end) (z .args .sig) (0 ∷ 0 ∷ 0 ∷ 0 ∷ []) (0 ∷ 0 ∷ 0 ∷ 0 ∷ []) (rowsFrom (z .args .rows .now) 0 0) (z .pre .0) a (rows-many (z .args .rows .now) 0 0) (omega (arith, plain-forms (z .args .text .now) (z .args .at) (z .args .end) (z .args .sig) (z .pre .0) a [] [])) (omega (arith, plain-forms (z .args .text .now) (z .args .at) (z .args .end) (z .args .sig) (z .pre .0) a [] [])) in of-plain (z .args .text .now) (z .args .at) (z .args .end) (z .args .sig) (z .pre .0) a _ _ _ _ _ refl refl (sym (c .before .before .before .before .before .totalities .ensures .0 (z .args .text .now)) ∙ c .before .before .before .before .if1 .taken) (c .before .before .positive .ensures w)
+returns c = let z = c .before .before .before .before .before .before .before .before .before .before .before .before .before in let a = formed (z .args .text .now) (z .args .at) (z .args .end) (z .args .sig) (z .pre .0) in let w = own (top-ready (z .args .text .now) (z .args .at) (z .args .end) (z .args .sig) (0 ∷ 0 ∷ 0 ∷ 0 ∷ []) (0 ∷ 0 ∷ 0 ∷ 0 ∷ []) (rowsFrom (z .args .rows .now) 0 0) (z .pre .0) a (rows-many (z .args .rows .now) 0 0) (omega (arith, plain-forms (z .args .text .now) (z .args .at) (z .args .end) (z .args .sig) (z .pre .0) a [] [])) (omega (arith, plain-forms (z .args .text .now) (z .args .at) (z .args .end) (z .args .sig) (z .pre .0) a [] []))) in of-plain (z .args .text .now) (z .args .at) (z .args .end) (z .args .sig) (z .pre .0) a _ _ _ _ _ refl refl (sym (c .before .before .before .before .before .before .before .totalities .ensures .0 (z .args .text .now)) ∙ c .before .before .before .before .before .before .if1 .taken) (c .before .before .positive .ensures w)
+
+slice-aggregate-positive-3 : tie.Need-slice-aggregate-positive-3
+slice-aggregate-positive-3 c = search needs
+
+slice-aggregate-positive-4 : tie.Need-slice-aggregate-positive-4
+slice-aggregate-positive-4 c = search needs
 
 positive-requires-2 : tie.Need-positive-requires-2
-positive-requires-2 c κs = let z = c .before .before .before .before .before in let a = formed (z .args .text .now) (z .args .at) (z .args .end) (z .args .sig) (z .pre .0) in let h : totals (chosenOf (z .args .text .now) (z .args .sig)) ≡ 0 → ⊥ = λ e. c .before .if1 .left (c .before .before .totalities .ensures .0 (z .args .text .now) ∙ e) in let w = top-ready (z .args .text .now) (z .args .at) (z .args .end) (z .args .sig) (0 ∷ 0 ∷ 0 ∷ 0 ∷ []) (0 ∷ 0 ∷ 0 ∷ 0 ∷ []) (rowsFrom (z .args .rows .now) 0 1) (z .pre .0) a (rows-many (z .args .rows .now) 0 1) (omega (arith, plain-forms (z .args .text .now) (z .args .at) (z .args .end) (z .args .sig) (z .pre .0) a [] [])) (omega (arith, joined-forms (z .args .text .now) (z .args .at) (z .args .end) (z .args .sig) (z .pre .0) a [] [] h)) in (z .pre .1, w)
+positive-requires-2 c κs = let z = c .before .before .before .before .before .before .before .before .before .before in let a = formed (z .args .text .now) (z .args .at) (z .args .end) (z .args .sig) (z .pre .0) in let h : totals (chosenOf (z .args .text .now) (z .args .sig)) ≡ 0 → ⊥ = λ e. c .before .before .before .if1 .left (c .before .before .before .before .totalities .ensures .0 (z .args .text .now) ∙ e) in let w = own (top-ready (z .args .text .now) (z .args .at) (z .args .end) (z .args .sig) (0 ∷ 0 ∷ 0 ∷ 0 ∷ []) (0 ∷ 0 ∷ 0 ∷ 0 ∷ []) (rowsFrom (z .args .rows .now) 0 1) (z .pre .0) a (rows-many (z .args .rows .now) 0 1) (omega (arith, plain-forms (z .args .text .now) (z .args .at) (z .args .end) (z .args .sig) (z .pre .0) a [] [])) (omega (arith, joined-forms (z .args .text .now) (z .args .at) (z .args .end) (z .args .sig) (z .pre .0) a [] [] h))) in let p : length (z .args .sig .from) ≡ 12 = search needs in let q : length (z .args .sig .to) ≡ 12 = search needs in ((omega arith, omega arith, z .pre .1), w)
 
 totalities-requires-2 : tie.Need-totalities-requires-2
-totalities-requires-2 c κs = let z = c .before .before .before .before .before .before .before .before .before in let a = formed (z .args .text .now) (z .args .at) (z .args .end) (z .args .sig) (z .pre .0) in let h : totals (chosenOf (z .args .text .now) (z .args .sig)) ≡ 0 → ⊥ = λ e. c .before .before .before .before .before .if1 .left (c .before .before .before .before .before .before .totalities .ensures .0 (z .args .text .now) ∙ e) in let w = top-ready (z .args .text .now) (z .args .at) (z .args .end) (z .args .sig) (0 ∷ 0 ∷ 0 ∷ 0 ∷ []) (0 ∷ 0 ∷ 0 ∷ 0 ∷ []) (rowsFrom (z .args .rows .now) 0 1) (z .pre .0) a (rows-many (z .args .rows .now) 0 1) (omega (arith, plain-forms (z .args .text .now) (z .args .at) (z .args .end) (z .args .sig) (z .pre .0) a [] [])) (omega (arith, joined-forms (z .args .text .now) (z .args .at) (z .args .end) (z .args .sig) (z .pre .0) a [] [] h)) in let W = c .before .before .before .positive2 .ensures w in ((omega (arith, (z .pre .0) .sound .rels-le, (z .pre .0) .sound .chosen-le), c .before .before .before .positive2 .kept .1 .1 .1 .1 .0 ∙ z .pre .1), λ q. (omega (arith, walked-len true (a .f) _ _ W, joined-forms (z .args .text .now) (z .args .at) (z .args .end) (z .args .sig) (z .pre .0) a [] [] h, c .before .before .before .before .before .before .totalities .ensures .0 q, c .before .before .before .before .before .before .totalities .ensures .0 (z .args .text .now)), omega (arith, walked-nodes true (a .f) _ _ W, joined-forms (z .args .text .now) (z .args .at) (z .args .end) (z .args .sig) (z .pre .0) a [] [] h, c .before .before .before .before .before .before .totalities .ensures .0 q, c .before .before .before .before .before .before .totalities .ensures .0 (z .args .text .now))))
+totalities-requires-2 c κs = let z = c .before .before .before .before .before .before .before .before .before .before .before .before .before .before in let a = formed (z .args .text .now) (z .args .at) (z .args .end) (z .args .sig) (z .pre .0) in let h : totals (chosenOf (z .args .text .now) (z .args .sig)) ≡ 0 → ⊥ = λ e. c .before .before .before .before .before .before .before .if1 .left (c .before .before .before .before .before .before .before .before .totalities .ensures .0 (z .args .text .now) ∙ e) in let w = own (top-ready (z .args .text .now) (z .args .at) (z .args .end) (z .args .sig) (0 ∷ 0 ∷ 0 ∷ 0 ∷ []) (0 ∷ 0 ∷ 0 ∷ 0 ∷ []) (rowsFrom (z .args .rows .now) 0 1) (z .pre .0) a (rows-many (z .args .rows .now) 0 1) (omega (arith, plain-forms (z .args .text .now) (z .args .at) (z .args .end) (z .args .sig) (z .pre .0) a [] [])) (omega (arith, joined-forms (z .args .text .now) (z .args .at) (z .args .end) (z .args .sig) (z .pre .0) a [] [] h))) in let W = c .before .before .before .positive2 .ensures w in ((omega (arith, (z .pre .0) .sound .rels-le, (z .pre .0) .sound .chosen-le), c .before .before .before .positive2 .kept .1 .1 .1 .1 .1 .1 .0 ∙ z .pre .1), λ q. (omega (arith, walked-len true (a .f) _ _ W, joined-forms (z .args .text .now) (z .args .at) (z .args .end) (z .args .sig) (z .pre .0) a [] [] h, c .before .before .before .before .before .before .before .before .totalities .ensures .0 q, c .before .before .before .before .before .before .before .before .totalities .ensures .0 (z .args .text .now)), omega (arith, walked-nodes true (a .f) _ _ W, joined-forms (z .args .text .now) (z .args .at) (z .args .end) (z .args .sig) (z .pre .0) a [] [] h, c .before .before .before .before .before .before .before .before .totalities .ensures .0 q, c .before .before .before .before .before .before .before .before .totalities .ensures .0 (z .args .text .now))))
 
 add-join-row : tie.Need-add-join-row
 add-join-row c = search needs
@@ -39,30 +55,35 @@ join-row-requires : tie.Need-join-row-requires
 join-row-requires c κs = search needs
 
 put-row-requires : tie.Need-put-row-requires
-put-row-requires c κs = let z = c .before .before .before .before .before .before .before .before .before .before .before .before .before .before in let a = formed (z .args .text .now) (z .args .at) (z .args .end) (z .args .sig) (z .pre .0) in let h : totals (chosenOf (z .args .text .now) (z .args .sig)) ≡ 0 → ⊥ = λ e. c .before .before .before .before .before .before .before .before .before .before .if1 .left (c .before .before .before .before .before .before .before .before .before .before .before .totalities .ensures .0 (z .args .text .now) ∙ e) in let w = top-ready (z .args .text .now) (z .args .at) (z .args .end) (z .args .sig) (0 ∷ 0 ∷ 0 ∷ 0 ∷ []) (0 ∷ 0 ∷ 0 ∷ 0 ∷ []) (rowsFrom (z .args .rows .now) 0 1) (z .pre .0) a (rows-many (z .args .rows .now) 0 1) (omega (arith, plain-forms (z .args .text .now) (z .args .at) (z .args .end) (z .args .sig) (z .pre .0) a [] [])) (omega (arith, joined-forms (z .args .text .now) (z .args .at) (z .args .end) (z .args .sig) (z .pre .0) a [] [] h)) in let W = c .before .before .before .before .before .before .before .before .positive2 .ensures w in (c .before .before .before .before .totalities2 .kept .0 ∙ c .before .before .before .before .before .before .before .before .positive2 .kept .1 .1 .1 .1 .0 ∙ z .pre .1, omega (arith, joined-space (z .args .text .now) (z .args .at) (z .args .end) (z .args .sig) (z .pre .0) a (0 ∷ 0 ∷ 0 ∷ 0 ∷ []) (0 ∷ 0 ∷ 0 ∷ 0 ∷ []) h (rowsFrom (z .args .rows .now) 0 0) _ _ _ refl refl (rows-many (z .args .rows .now) 0 0) W (c .before .before .before .before .totalities2 .ensures (z .args .text .now))))
+put-row-requires c κs = let z = c .before .before .before .before .before .before .before .before .before .before .before .before .before .before .before .before .before .before .before in let a = formed (z .args .text .now) (z .args .at) (z .args .end) (z .args .sig) (z .pre .0) in let h : totals (chosenOf (z .args .text .now) (z .args .sig)) ≡ 0 → ⊥ = λ e. c .before .before .before .before .before .before .before .before .before .before .before .before .if1 .left (c .before .before .before .before .before .before .before .before .before .before .before .before .before .totalities .ensures .0 (z .args .text .now) ∙ e) in let w = own (top-ready (z .args .text .now) (z .args .at) (z .args .end) (z .args .sig) (0 ∷ 0 ∷ 0 ∷ 0 ∷ []) (0 ∷ 0 ∷ 0 ∷ 0 ∷ []) (rowsFrom (z .args .rows .now) 0 1) (z .pre .0) a (rows-many (z .args .rows .now) 0 1) (omega (arith, plain-forms (z .args .text .now) (z .args .at) (z .args .end) (z .args .sig) (z .pre .0) a [] [])) (omega (arith, joined-forms (z .args .text .now) (z .args .at) (z .args .end) (z .args .sig) (z .pre .0) a [] [] h))) in let W = c .before .before .before .before .before .before .before .before .positive2 .ensures w in (c .before .before .before .before .totalities2 .kept .0 ∙ c .before .before .before .before .before .before .before .before .positive2 .kept .1 .1 .1 .1 .1 .1 .0 ∙ z .pre .1, omega (arith, joined-space (z .args .text .now) (z .args .at) (z .args .end) (z .args .sig) (z .pre .0) a (0 ∷ 0 ∷ 0 ∷ 0 ∷ []) (0 ∷ 0 ∷ 0 ∷ 0 ∷ []) h (rowsFrom (z .args .rows .now) 0 0) _ _ _ refl refl (rows-many (z .args .rows .now) 0 0) W (c .before .before .before .before .totalities2 .ensures (z .args .text .now))))
 
-add-t21 : tie.Need-add-t21
-add-t21 c = let z = c .before .before .before .before .before .before .before .before .before .before .before .before .before .before .before .before .before .before in let a = formed (z .args .text .now) (z .args .at) (z .args .end) (z .args .sig) (z .pre .0) in let h : totals (chosenOf (z .args .text .now) (z .args .sig)) ≡ 0 → ⊥ = λ e. c .before .before .before .before .before .before .before .before .before .before .before .before .before .before .if1 .left (c .before .before .before .before .before .before .before .before .before .before .before .before .before .before .before .totalities .ensures .0 (z .args .text .now) ∙ e) in let w = top-ready (z .args .text .now) (z .args .at) (z .args .end) (z .args .sig) (0 ∷ 0 ∷ 0 ∷ 0 ∷ []) (0 ∷ 0 ∷ 0 ∷ 0 ∷ []) (rowsFrom (z .args .rows .now) 0 1) (z .pre .0) a (rows-many (z .args .rows .now) 0 1) (omega (arith, plain-forms (z .args .text .now) (z .args .at) (z .args .end) (z .args .sig) (z .pre .0) a [] [])) (omega (arith, joined-forms (z .args .text .now) (z .args .at) (z .args .end) (z .args .sig) (z .pre .0) a [] [] h)) in let W = c .before .before .before .before .before .before .before .before .before .before .before .before .positive2 .ensures w in omega (arith, joined-space (z .args .text .now) (z .args .at) (z .args .end) (z .args .sig) (z .pre .0) a (0 ∷ 0 ∷ 0 ∷ 0 ∷ []) (0 ∷ 0 ∷ 0 ∷ 0 ∷ []) h (rowsFrom (z .args .rows .now) 0 0) _ _ _ refl refl (rows-many (z .args .rows .now) 0 0) W (c .before .before .before .before .before .before .before .before .totalities2 .ensures (z .args .text .now)))
+add-t32 : tie.Need-add-t32
+add-t32 c = let z = c .before .before .before .before .before .before .before .before .before .before .before .before .before .before .before .before .before .before .before .before .before .before .before in let a = formed (z .args .text .now) (z .args .at) (z .args .end) (z .args .sig) (z .pre .0) in let h : totals (chosenOf (z .args .text .now) (z .args .sig)) ≡ 0 → ⊥ = λ e. c .before .before .before .before .before .before .before .before .before .before .before .before .before .before .before .before .if1 .left (c .before .before .before .before .before .before .before .before .before .before .before .before .before .before .before .before .before .totalities .ensures .0 (z .args .text .now) ∙ e) in let w = own (top-ready (z .args .text .now) (z .args .at) (z .args .end) (z .args .sig) (0 ∷ 0 ∷ 0 ∷ 0 ∷ []) (0 ∷ 0 ∷ 0 ∷ 0 ∷ []) (rowsFrom (z .args .rows .now) 0 1) (z .pre .0) a (rows-many (z .args .rows .now) 0 1) (omega (arith, plain-forms (z .args .text .now) (z .args .at) (z .args .end) (z .args .sig) (z .pre .0) a [] [])) (omega (arith, joined-forms (z .args .text .now) (z .args .at) (z .args .end) (z .args .sig) (z .pre .0) a [] [] h))) in let W = c .before .before .before .before .before .before .before .before .before .before .before .before .positive2 .ensures w in omega (arith, joined-space (z .args .text .now) (z .args .at) (z .args .end) (z .args .sig) (z .pre .0) a (0 ∷ 0 ∷ 0 ∷ 0 ∷ []) (0 ∷ 0 ∷ 0 ∷ 0 ∷ []) h (rowsFrom (z .args .rows .now) 0 0) _ _ _ refl refl (rows-many (z .args .rows .now) 0 0) W (c .before .before .before .before .before .before .before .before .totalities2 .ensures (z .args .text .now)))
 
 same-length-2 : tie.Need-same-length-2
-same-length-2 c = c .before .before .before .put-row .kept .0 ∙ c .before .before .before .before .before .before .before .before .totalities2 .kept .0 ∙ c .before .before .before .before .before .before .before .before .before .before .before .before .positive2 .kept .1 .1 .1 .1 .0
+same-length-2 c = c .before .before .before .put-row .kept .0 ∙ c .before .before .before .before .before .before .before .before .totalities2 .kept .0 ∙ c .before .before .before .before .before .before .before .before .before .before .before .before .positive2 .kept .1 .1 .1 .1 .1 .1 .0
 
 returns-2 : tie.Need-returns-2
-returns-2 c = let z = c .before .before .before .before .before .before .before .before .before .before .before .before .before .before .before .before .before .before in let a = formed (z .args .text .now) (z .args .at) (z .args .end) (z .args .sig) (z .pre .0) in let h : totals (chosenOf (z .args .text .now) (z .args .sig)) ≡ 0 → ⊥ = λ e. c .before .before .before .before .before .before .before .before .before .before .before .before .before .before .if1 .left (c .before .before .before .before .before .before .before .before .before .before .before .before .before .before .before .totalities .ensures .0 (z .args .text .now) ∙ e) in let w = top-ready (z .args .text .now) (z .args .at) (z .args .end) (z .args .sig) (0 ∷ 0 ∷ 0 ∷ 0 ∷ []) (0 ∷ 0 ∷ 0 ∷ 0 ∷ []) (rowsFrom (z .args .rows .now) 0 1) (z .pre .0) a (rows-many (z .args .rows .now) 0 1) (omega (arith, plain-forms (z .args .text .now) (z .args .at) (z .args .end) (z .args .sig) (z .pre .0) a [] [])) (omega (arith, joined-forms (z .args .text .now) (z .args .at) (z .args .end) (z .args .sig) (z .pre .0) a [] [] h)) in let W = c .before .before .before .before .before .before .before .before .before .before .before .before .positive2 .ensures w in of-joined (z .args .text .now) (z .args .at) (z .args .end) (z .args .sig) (z .pre .0) a (0 ∷ 0 ∷ 0 ∷ 0 ∷ []) (0 ∷ 0 ∷ 0 ∷ 0 ∷ []) h (rowsFrom (z .args .rows .now) 0 0) _ _ _ refl refl (rows-many (z .args .rows .now) 0 0) W (c .before .before .before .before .before .before .before .before .totalities2 .ensures (z .args .text .now)) _ (c .before .before .before .before .before .join-row .result) (c .before .before .before .before .before .join-row .ensures ∙ ap (λ n. joinRow 2 0 (n + 1)) (c .before .before .before .before .before .before .before .before .before .before .before .before .before .before .before .totalities .ensures .0 (z .args .text .now))) (c .before .before .before .put-row .ensures .1 (c .before .before .before .before .before .before .before .before .totalities2 .result .len + 1) (c .before .before .before .before .before .before .before .before .totalities2 .result .nodes))
+returns-2 c = let z = c .before .before .before .before .before .before .before .before .before .before .before .before .before .before .before .before .before .before .before .before .before .before .before in let a = formed (z .args .text .now) (z .args .at) (z .args .end) (z .args .sig) (z .pre .0) in let h : totals (chosenOf (z .args .text .now) (z .args .sig)) ≡ 0 → ⊥ = λ e. c .before .before .before .before .before .before .before .before .before .before .before .before .before .before .before .before .if1 .left (c .before .before .before .before .before .before .before .before .before .before .before .before .before .before .before .before .before .totalities .ensures .0 (z .args .text .now) ∙ e) in let w = own (top-ready (z .args .text .now) (z .args .at) (z .args .end) (z .args .sig) (0 ∷ 0 ∷ 0 ∷ 0 ∷ []) (0 ∷ 0 ∷ 0 ∷ 0 ∷ []) (rowsFrom (z .args .rows .now) 0 1) (z .pre .0) a (rows-many (z .args .rows .now) 0 1) (omega (arith, plain-forms (z .args .text .now) (z .args .at) (z .args .end) (z .args .sig) (z .pre .0) a [] [])) (omega (arith, joined-forms (z .args .text .now) (z .args .at) (z .args .end) (z .args .sig) (z .pre .0) a [] [] h))) in let W = c .before .before .before .before .before .before .before .before .before .before .before .before .positive2 .ensures w in of-joined (z .args .text .now) (z .args .at) (z .args .end) (z .args .sig) (z .pre .0) a (0 ∷ 0 ∷ 0 ∷ 0 ∷ []) (0 ∷ 0 ∷ 0 ∷ 0 ∷ []) h (rowsFrom (z .args .rows .now) 0 0) _ _ _ refl refl (rows-many (z .args .rows .now) 0 0) W (c .before .before .before .before .before .before .before .before .totalities2 .ensures (z .args .text .now)) _ (c .before .before .before .before .before .join-row .result) (c .before .before .before .before .before .join-row .ensures ∙ ap (λ n. joinRow 2 0 (n + 1)) (c .before .before .before .before .before .before .before .before .before .before .before .before .before .before .before .before .before .totalities .ensures .0 (z .args .text .now))) (c .before .before .before .put-row .ensures .1 (c .before .before .before .before .before .before .before .before .totalities2 .result .len + 1) (c .before .before .before .before .before .before .before .before .totalities2 .result .nodes))
 
 pub rows-of-spec : {M : Type 1} → statement M
 rows-of-spec =
     tie.close
     (tie.spec
+    add-m
     totalities-requires
+    slice-aggregate-positive
+    slice-aggregate-positive-2
     positive-requires
     same-length
     returns
+    slice-aggregate-positive-3
+    slice-aggregate-positive-4
     positive-requires-2
     totalities-requires-2
     add-join-row
     join-row-requires
     put-row-requires
-    add-t21
+    add-t32
     same-length-2
     returns-2)
