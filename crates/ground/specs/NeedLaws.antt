@@ -166,9 +166,6 @@ module _ (s : ℕ → Bool) (n : ℕ) (t : List ℕ) (v : NodeLine) (row : ℕ) 
       go zero h f = absurd (omega arith)
       go (suc z) h f = let d : suc z - 1 ≡ z = omega arith in rw d at f ∙ all-one s (v .atoms + (row * n + z))
 
-pub times-wide : (r n : ℕ) → r ≤ 2 ^ 32 → n ≤ 64 → r * n ≤ 2 ^ 32 * 64
-times-wide r n a b = mul-le-mul a b
-
 -- ---- by the action
 module _ (s : ℕ → Bool) (t : List ℕ) (a : Act) (b : Bool) where
   pub need-set : (x : TupleAct) (k : RelationLine) → a ≡ Set x → k ≡ relationLine t (x .relation) → b ≡ all s (setNeeds (sizeIn t) k (x .row)) → b ≡ all s (needNumbers t a)

@@ -179,7 +179,13 @@ fn may_set(state: &[u64], n: usize, k: RelationLine, row: usize) -> bool
 }
 
 // Whether the atoms of `many` parts hold, from part `first` on.
-fn parts_hold(state: &[u64], table: &[usize], first: usize, many: usize, env: [usize; 4]) -> bool
+pub fn parts_hold(
+    state: &[u64],
+    table: &[usize],
+    first: usize,
+    many: usize,
+    env: [usize; 4],
+) -> bool
     requires { ⌜ Fits (now table) × (first + many ≤ 64) × Most env 64 ⌝ }
     ensures { λ r. ⌜ r ≡ all (bit (now (state .entry))) (map (partAt (now (table .entry)) (valueIn env)) (from first many)) ⌝ }
 {
@@ -325,7 +331,7 @@ fn clear(words: &mut [u64], i: usize)
 }
 
 // Bit i is set, where it is in the table.
-fn raise(words: &mut [u64], i: usize)
+pub fn raise(words: &mut [u64], i: usize)
     ensures { λ r. ⌜ (i / 64 < length (now (words .entry)) → bit (now (words .exit)) ≡ changed (bit (now (words .entry))) [] (i ∷ [])) ⌝ }
 {
     if i / 64 < words.len() {

@@ -2,10 +2,9 @@
 // state and its number written to the lent steps.
 ghost use mathlib.Core.Path.{_≡_};
 ghost use mathlib.Core.Bool.{true};
-ghost use mathlib.Core.List.{List, [], _∷_, map};
+ghost use mathlib.Core.List.{List, [], _∷_};
 ghost use Prim.Native.Nat.{ℕ, _+_, _-_, _*_, _/_, _%_, _^_, _<_, _≤_};
 ghost use lib.ListN.{length, take, set as «set-at»};
-ghost use Rattle.definitions.specs.Lists.{all, from};
 ghost use Rattle.definitions.specs.Atoms.{Problem, placesOf, nodeAt, nodeWidth, atoms as «atoms-of»};
 ghost use Rattle.definitions.specs.Actions.{Action, actionNumber, valuesIn, withValue};
 ghost use Rattle.laws.specs.Numbers.{IsAction};
@@ -94,22 +93,6 @@ fn first_part(state: &[u64], table: &[usize], first: usize, tries: usize, env: [
     i
 }
 
-// Whether the atoms of `many` parts hold, from part `first` on.
-fn parts_hold(state: &[u64], table: &[usize], first: usize, many: usize, env: [usize; 4]) -> bool
-    requires { ⌜ Fits (now table) × (first + many ≤ 64) × Most env 64 ⌝ }
-    ensures { λ r. ⌜ r ≡ all (bit (now (state .entry))) (map (partAt (now (table .entry)) (valueIn env)) (from first many)) ⌝ }
-{
-    let mut k: usize = 0;
-    while k < many {
-        if ground::part_holds(state, table, first + k, env) {
-            k += 1;
-        } else {
-            return false;
-        }
-    }
-    true
-}
-
 // Whether the part of a `forall` holds at z, and unless z is 0, "true up to z−1" does, the atom before `own`.
 fn chain_holds(state: &[u64], part: usize, z: usize, own: usize) -> bool
     requires { ⌜ (0 < z → 0 < own) ⌝ }
@@ -180,7 +163,7 @@ fn first_try(
         return first_bit(state, a.start, a.stride, n);
     }
     if v.kind == 2 {
-        return only_try(parts_hold(state, table, v.first, v.many, env));
+        return only_try(ground::parts_hold(state, table, v.first, v.many, env));
     }
     first_part(state, table, v.first, v.many, env)
 }
@@ -204,21 +187,12 @@ pub fn step(
     at + 1
 }
 
-// Bit i is set, where it is in the state.
-fn raise(state: &mut [u64], i: usize)
-    ensures { λ r. ⌜ (i / 64 < length (now (state .entry)) → bit (now (state .exit)) ≡ changed (bit (now (state .entry))) [] (i ∷ [])) ⌝ }
-{
-    if i / 64 < state.len() {
-        bits::set(state, i);
-    }
-}
-
 // An atom is set and the number of its action written.
 fn mark(state: &mut [u64], steps: &mut [u32], at: usize, atom: usize, action: usize) -> usize
     requires { ⌜ at < 2 ^ 40 ⌝ }
     ensures { λ r. ⌜ (r ≡ at + 1) × (atom / 64 < length (now (state .entry)) → bit (now (state .exit)) ≡ changed (bit (now (state .entry))) [] (atom ∷ [])) × (action < 2 ^ 32 → now (steps .exit) ≡ «set-at» (now (steps .entry)) at action) ⌝ }
 {
-    raise(state, atom);
+    ground::raise(state, atom);
     put(steps, at, action);
     at + 1
 }

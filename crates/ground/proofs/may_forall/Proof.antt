@@ -3,11 +3,12 @@ use mathlib.Core.Path.{sym, _∙_}
 use native.Mathlib.Omega.{arith}
 use borrow.Author.Needs.{needs}
 use Rattle.bits.specs.Table.{bit}
-use Rattle.ground.specs.NeedLaws.{forall-no, forall-not, forall-first, forall-next, times-wide}
+use Rattle.ground.specs.NeedLaws.{forall-no, forall-not, forall-first, forall-next}
 use borrow.Author.Needs.{needs}
 use Rattle.ground.proofs.may_forall.Statement.{statement}
 use Rattle.ground.proofs.may_forall.Tie as tie
 use Rattle.ground.proofs.may_forall.Reads as reads
+use Rattle.rows.specs.Laws.{times-most}
 use Rattle.ground.proofs.may_forall.Lts as lts
 use Rattle.ground.proofs.test.Reads as test-reads
 use Rattle.ground.proofs.under_holds.Reads as under-holds-reads
@@ -22,16 +23,16 @@ returns : tie.Need-returns
 returns c = forall-first (bit (c .before .before .before .before .before .before .before .args .state .now)) (c .before .before .before .before .before .before .before .args .n) (c .before .before .before .before .before .before .before .args .table .now) (c .before .before .before .before .before .before .before .args .v) (c .before .before .before .before .before .before .before .args .row) (c .before .before .before .before .before .before .before .args .z) (omega arith) (sym (c .before .before .before .before .test .ensures) ∙ c .before .before .before .if1 .taken) (sym (c .before .before .under-holds .ensures) ∙ c .before .if2 .taken)
 
 mul-test : tie.Need-mul-test
-mul-test c = omega (arith, times-wide (c .before .before .before .before .before .before .before .args .row) (c .before .before .before .before .before .before .before .args .n) (c .before .before .before .before .before .before .before .pre .5) (c .before .before .before .before .before .before .before .pre .1))
+mul-test c = omega (arith, times-most (c .before .before .before .before .before .before .before .args .row) (c .before .before .before .before .before .before .before .args .n) (c .before .before .before .before .before .before .before .pre .5) (c .before .before .before .before .before .before .before .pre .1))
 
 sub-test : tie.Need-sub-test
 sub-test c = search needs
 
 add-test : tie.Need-add-test
-add-test c = omega (arith, times-wide (c .before .before .before .before .before .before .before .args .row) (c .before .before .before .before .before .before .before .args .n) (c .before .before .before .before .before .before .before .pre .5) (c .before .before .before .before .before .before .before .pre .1))
+add-test c = omega (arith, times-most (c .before .before .before .before .before .before .before .args .row) (c .before .before .before .before .before .before .before .args .n) (c .before .before .before .before .before .before .before .pre .5) (c .before .before .before .before .before .before .before .pre .1))
 
 add-test-2 : tie.Need-add-test-2
-add-test-2 c = omega (arith, times-wide (c .before .before .before .before .before .before .before .before .args .row) (c .before .before .before .before .before .before .before .before .args .n) (c .before .before .before .before .before .before .before .before .pre .5) (c .before .before .before .before .before .before .before .before .pre .1))
+add-test-2 c = omega (arith, times-most (c .before .before .before .before .before .before .before .before .args .row) (c .before .before .before .before .before .before .before .before .args .n) (c .before .before .before .before .before .before .before .before .pre .5) (c .before .before .before .before .before .before .before .before .pre .1))
 
 test-requires-2 : tie.Need-test-requires-2
 test-requires-2 c κs = search needs

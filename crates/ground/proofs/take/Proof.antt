@@ -8,7 +8,7 @@ use borrow.Author.Needs.{needs}
 use lib.ListN.{length, getD}
 use Rattle.bits.specs.Table.{bit}
 use Rattle.ground.specs.Numbers.{changed}
-use Rattle.ground.specs.NeedLaws.{fits-of, relation-small, node-small, times-wide}
+use Rattle.ground.specs.NeedLaws.{fits-of, relation-small, node-small}
 use Rattle.ground.specs.ChangeLaws.{take-set, take-begin, take-and, take-or, take-exists, take-forall, take-goal, take-nothing, gone-then-come}
 use Rattle.ground.specs.declared.Act.the-variants.{Set, And, Or, Exists, Forall}
 use borrow.Author.Needs.{needs}
@@ -18,6 +18,7 @@ use Rattle.ground.proofs.take.Reads as reads
 use Rattle.ground.proofs.take.Lts as lts
 use Rattle.ground.proofs.clear.Reads as clear-reads
 use Rattle.ground.proofs.node_line.Reads as node-line-reads
+use Rattle.rows.specs.Laws.{times-most}
 use Rattle.ground.proofs.raise.Reads as raise-reads
 use Rattle.ground.proofs.relation_line.Reads as relation-line-reads
 use Rattle.ground.proofs.take_set.Reads as take-set-reads
@@ -141,18 +142,18 @@ node-line-requires-4 c κs =
 mul-raise : tie.Need-mul-raise
 mul-raise c =
     let f = fits-of (c .before .before .before .before .before .before .before .before .before .args .table .now) (c .before .before .before .before .before .before .before .before .before .args .a) (Forall (c .before .before .before .before .a5 .given .0 .0)) (c .before .before .before .before .a5 .given .1) (c .before .before .before .before .before .before .before .before .before .pre .1) in
-    omega (arith, times-wide (c .before .before .before .before .a5 .given .0 .0 .row) (getD (c .before .before .before .before .before .before .before .before .before .args .table .now) 0 0) (f .1) (c .before .before .before .before .before .before .before .before .before .pre .0 .size))
+    omega (arith, times-most (c .before .before .before .before .a5 .given .0 .0 .row) (getD (c .before .before .before .before .before .before .before .before .before .args .table .now) 0 0) (f .1) (c .before .before .before .before .before .before .before .before .before .pre .0 .size))
 
 add-raise-4 : tie.Need-add-raise-4
 add-raise-4 c =
     let f = fits-of (c .before .before .before .before .before .before .before .before .before .before .args .table .now) (c .before .before .before .before .before .before .before .before .before .before .args .a) (Forall (c .before .before .before .before .before .a5 .given .0 .0)) (c .before .before .before .before .before .a5 .given .1) (c .before .before .before .before .before .before .before .before .before .before .pre .1) in
-    omega (arith, times-wide (c .before .before .before .before .before .a5 .given .0 .0 .row) (getD (c .before .before .before .before .before .before .before .before .before .before .args .table .now) 0 0) (f .1) (c .before .before .before .before .before .before .before .before .before .before .pre .0 .size), f .2, c .before .before .before .before .before .before .before .before .before .before .pre .0 .size)
+    omega (arith, times-most (c .before .before .before .before .before .a5 .given .0 .0 .row) (getD (c .before .before .before .before .before .before .before .before .before .before .args .table .now) 0 0) (f .1) (c .before .before .before .before .before .before .before .before .before .before .pre .0 .size), f .2, c .before .before .before .before .before .before .before .before .before .before .pre .0 .size)
 
 add-raise-5 : tie.Need-add-raise-5
 add-raise-5 c =
     let f = fits-of (c .before .before .before .before .before .before .before .before .before .before .before .args .table .now) (c .before .before .before .before .before .before .before .before .before .before .before .args .a) (Forall (c .before .before .before .before .before .before .a5 .given .0 .0)) (c .before .before .before .before .before .before .a5 .given .1) (c .before .before .before .before .before .before .before .before .before .before .before .pre .1) in
     let q = node-small (c .before .before .before .before .before .before .before .before .before .before .before .args .table .now) (c .before .before .before .before .before .before .before .before .before .before .before .pre .0) (c .before .before .before .before .before .before .a5 .given .0 .0 .node) (c .before .before .before .before .node-line4 .result) (c .before .before .before .before .node-line4 .ensures) (f .0) in
-    omega (arith, times-wide (c .before .before .before .before .before .before .a5 .given .0 .0 .row) (getD (c .before .before .before .before .before .before .before .before .before .before .before .args .table .now) 0 0) (f .1) (c .before .before .before .before .before .before .before .before .before .before .before .pre .0 .size), f .2, q .1, c .before .before .before .before .before .before .before .before .before .before .before .pre .0 .size)
+    omega (arith, times-most (c .before .before .before .before .before .before .a5 .given .0 .0 .row) (getD (c .before .before .before .before .before .before .before .before .before .before .before .args .table .now) 0 0) (f .1) (c .before .before .before .before .before .before .before .before .before .before .before .pre .0 .size), f .2, q .1, c .before .before .before .before .before .before .before .before .before .before .before .pre .0 .size)
 
 raise-requires-5 : tie.Need-raise-requires-5
 raise-requires-5 c κs = search needs
