@@ -5,7 +5,7 @@ use mathlib.Core.Path.{_≡_, sym, ap, subst, _∙_}
 use mathlib.Core.Bool.{true}
 use mathlib.Core.List.{List, _++_}
 use lib.ListN.{length, take, drop, length-take}
-use lib.Seq.{length-take-le, take-append-seam, length-front}
+use lib.Seq.{take-append-seam, length-front}
 use Rattle.definitions.specs.Relations.{Tuple}
 use Rattle.definitions.specs.Truth.{Case, arePicks}
 use Rattle.definitions.specs.Atoms.{problemOf, initial, atoms, wordsFor}
@@ -46,9 +46,6 @@ started c F table facts words count room G e old new rest begun lo ln =
 -- a table whose front was lent and came back is as long as before
 pub front-fits : (k : ℕ) (t new : List ℕ) → length new ≡ length (take k t) → k ≤ length t → k ≤ length (new ++ drop k t)
 front-fits k t new e h = subst (λ (n : ℕ). k ≤ n) (sym (length-front t new k e)) h
-
-pub front-long : (k : ℕ) (t : List ℕ) → k ≤ length t → k ≤ length (take k t)
-front-long k t h = omega (arith, length-take-le k t h)
 
 pub front-short : (k m : ℕ) (t : List ℕ) → k ≤ m → length (take k t) ≤ m
 front-short k m t h = omega (arith, length-take k t)

@@ -79,7 +79,7 @@ pub fn start_and_build(
     let mut start = [0u64; plans::WORDS];
     let words = (atoms + 63) / 64;
     initial::initial_state(table, facts, &mut start[..words]);
-    plans::build(state, steps, &mut start[..words], table, atoms, picks)
+    plans::build(state, steps, &start[..words], table, atoms, picks)
 }
 
 // What was built, as a reply.

@@ -1,19 +1,22 @@
--- The way from part to part: begin-proof and prove-goal by the table, and copies of words.
-use Prim.Native.Nat.{ℕ, _+_, _-_, _/_, _<_, _≤_}
-use mathlib.Core.Path.{_≡_, refl, sym, ap, _∙_}
+-- The way from part to part: begin-proof and prove-goal by the table, and a fresh table that holds a lent state.
+use Prim.Native.Nat.{ℕ, zero, suc, _+_, _-_, _/_, _%_, _<_, _≤_}
+use mathlib.Core.Path.{_≡_, refl, sym, ap, subst, _∙_, fun-ext}
+use mathlib.Core.Logic.{⊎-elim}
 use mathlib.Core.Bool.{Bool, true, false, _&&_, or-true}
 use mathlib.Core.List.{List, _++_}
 use native.Mathlib.Omega.{arith}
-use lib.ListN.{length, take, drop, getD, set, length-append}
-use lib.Seq.{length-take-le, take-at, paste, paste-suc}
+use lib.Dec.{ltb, ltb→lt, nltb→le}
+use lib.ListN.{length, take, drop, getD, set, replicate, length-append, List·getD-append, List·getD-eq-default}
+use lib.Seq.{take-length, length-take-le, take-at, getD-append-add, getD-drop, paste, paste-suc}
 use native.Mathlib.Nat.{zero-add}
 use native.Mathlib.Numerals.{add-one}
-use Rattle.bits.specs.Table.{bit, Words}
+use Rattle.bits.specs.Table.{digit, bit, Words}
 use Rattle.definitions.specs.Lists.{all, any}
 use Rattle.definitions.specs.Atoms.{Problem, State, atoms, wordsFor, stateWords}
 use Rattle.definitions.specs.Actions.{actionNumber, beginProof, proveGoal}
 use Rattle.definitions.specs.Strips.{mayTake}
 use Rattle.definitions.specs.Outcome.{written, stateLength}
+use Rattle.laws.specs.Booleans.{T-dec}
 use Rattle.laws.specs.Numbers.{IsAction, three-atoms}
 use Rattle.ground.specs.Lines.{relationLine, relationsIn, nodesIn, nodeLine}
 use Rattle.ground.specs.Numbers.{needNumbers, addNumbers, removeNumbers, changed}
@@ -22,7 +25,7 @@ use Rattle.ground.specs.OfLaws.{may-is, after-is}
 use Rattle.ground.specs.declared.RelationLine.{RelationLine}
 use Rattle.ground.specs.declared.NodeLine.{NodeLine}
 use Rattle.ground.specs.declared.Act.the-variants.{Begin, Goal}
-use Rattle.proving.specs.Following.{Out, one, provedNodes}
+use Rattle.proving.specs.Following.{Out, out, one, provedNodes}
 use Rattle.setting.specs.Setting.{setRelations}
 use Rattle.plans.specs.Following.{proved, Follows}
 use Rattle.plans.specs.BuiltLaws.{front-words}
@@ -83,7 +86,30 @@ pub copy-end : (d s x : List ℕ) (k : ℕ) → k ≤ length s → x ≡ paste d
 unfolding written
 copy-end d s x k h e = e ∙ ap (λ (n : ℕ). take k s ++ drop n d) (zero-add k ∙ sym (length-take-le k s h))
 
+-- ---- a table of zeros into whose front words are written has their bits
+zeros-at : (k j : ℕ) → _≡_ {A = ℕ} (getD (replicate k 0) j 0) 0
+zeros-at zero j = refl
+zeros-at (suc k) zero = refl
+zeros-at (suc k) (suc j) = zeros-at k j
+
+pub fresh-bits : (t : List ℕ) (k : ℕ) → bit (written (take (length t) t) (replicate k 0)) ≡ bit t
+unfolding written bit
+fresh-bits t k = fun-ext (λ i. ap (λ (w : ℕ). digit w (i % 64)) (front (i / 64)))
+  where
+    front : (j : ℕ) → getD (take (length t) t ++ drop (length (take (length t) t)) (replicate k 0)) j 0 ≡ getD t j 0
+    front j = ap (λ (u : List ℕ). getD (u ++ drop (length u) (replicate k 0)) j 0) (take-length t) ∙ ⊎-elim
+        (λ h. List·getD-append t (drop (length t) (replicate k 0)) 0 j (ltb→lt j (length t) h))
+        (λ h.
+        let q = nltb→le j (length t) h in
+        let m : length t + (j - length t) ≡ j = omega arith in
+        ap (λ (n : ℕ). getD (t ++ drop (length t) (replicate k 0)) n 0) (sym m) ∙ getD-append-add t (drop (length t) (replicate k 0)) (j - length t) 0
+        ∙ getD-drop (length t) (replicate k 0) (j - length t) 0 ∙ zeros-at k (length t + (j - length t)) ∙ sym (List·getD-eq-default t 0 q))
+        (T-dec (ltb j (length t)))
+
 -- ---- what the code has after the way
+pub from-fresh : (p : Problem) (f : ℕ → ℕ → Bool) (t u : List ℕ) (k : ℕ) (b : List ℕ) (o : Out) (h : Bool) → u ≡ written (take (length t) t) (replicate k 0) → Follows p f (out (bit u) b 0) o h → Follows p f (out (bit t) b 0) o h
+from-fresh p f t u k b o h e W = subst (λ (s : State). Follows p f (out s b 0) o h) (ap bit e ∙ fresh-bits t k) W
+
 pub words-some : (p : Problem) (m : ℕ) → m ≡ atoms p → 0 < (m + 63) / 64
 words-some p m e = let h = three-atoms p in omega arith
 

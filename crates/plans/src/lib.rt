@@ -99,25 +99,28 @@ pub enum Answer {
     RuleFalse,
 }
 
-// Steps from picks of the declared kinds. They are taken in `left`, the initial state, and written to `made`; if the goal was proved,
-// both are copied to what is lent.
+// Steps from picks of the declared kinds. They are taken in a state of its own and written to `made`; if the goal was proved, both are
+// copied to what is lent.
 fn build_in(
     made: &mut [u32],
     state: &mut [u64],
     steps: &mut [u32],
-    left: &mut [u64],
+    start: &[u64],
     table: &[usize],
     atoms: usize,
     picks: &[u64],
 ) -> Answer
-    requires { ⌜ Fits (now table) × (atoms ≤ 2 ^ 16) × ((atoms + 63) / 64 ≤ length (now left)) × ((atoms + 63) / 64 ≤ length (now state)) × (atoms ≤ length (now made)) ⌝ }
-    ensures { λ r. ⌜ ((c : Case) (F : List Tuple) → Asked c F (now (table .entry)) (now (picks .entry)) (bit (now (left .entry))) atoms (length (now (steps .entry)))
+    requires { ⌜ Fits (now table) × (atoms ≤ 2 ^ 16) × (length (now start) ≤ 1024) × ((atoms + 63) / 64 ≤ length (now state)) × (atoms ≤ length (now made)) ⌝ }
+    ensures { λ r. ⌜ ((c : Case) (F : List Tuple) → Asked c F (now (table .entry)) (now (picks .entry)) (bit (now (start .entry))) atoms (length (now (steps .entry)))
         → Gives c (problemOf c) F (now (state .entry)) (now (steps .entry)) r (now (state .exit)) (now (steps .exit))) ⌝ }
 {
-    let f = follow(left, made, table, atoms, picks);
+    let mut left = [0u64; WORDS];
+    let k = start.len();
+    copy(&mut left, start, k);
+    let f = follow(&mut left, made, table, atoms, picks);
     if f.holds {
         let words = (atoms + 63) / 64;
-        copy(state, left, words);
+        copy(state, &left, words);
         copy_steps(steps, made, f.count);
         return Answer::Steps(f.count);
     }
@@ -128,48 +131,48 @@ fn build_in(
 fn build_small(
     state: &mut [u64],
     steps: &mut [u32],
-    left: &mut [u64],
+    start: &[u64],
     table: &[usize],
     atoms: usize,
     picks: &[u64],
 ) -> Answer
-    requires { ⌜ Fits (now table) × (atoms ≤ 1024) × ((atoms + 63) / 64 ≤ length (now left)) × ((atoms + 63) / 64 ≤ length (now state)) ⌝ }
-    ensures { λ r. ⌜ ((c : Case) (F : List Tuple) → Asked c F (now (table .entry)) (now (picks .entry)) (bit (now (left .entry))) atoms (length (now (steps .entry)))
+    requires { ⌜ Fits (now table) × (atoms ≤ 1024) × (length (now start) ≤ 1024) × ((atoms + 63) / 64 ≤ length (now state)) ⌝ }
+    ensures { λ r. ⌜ ((c : Case) (F : List Tuple) → Asked c F (now (table .entry)) (now (picks .entry)) (bit (now (start .entry))) atoms (length (now (steps .entry)))
         → Gives c (problemOf c) F (now (state .entry)) (now (steps .entry)) r (now (state .exit)) (now (steps .exit))) ⌝ }
 {
     let mut made = [0u32; SMALL];
-    build_in(&mut made, state, steps, left, table, atoms, picks)
+    build_in(&mut made, state, steps, start, table, atoms, picks)
 }
 
 // The same for any problem.
 fn build_large(
     state: &mut [u64],
     steps: &mut [u32],
-    left: &mut [u64],
+    start: &[u64],
     table: &[usize],
     atoms: usize,
     picks: &[u64],
 ) -> Answer
-    requires { ⌜ Fits (now table) × (atoms ≤ 2 ^ 16) × ((atoms + 63) / 64 ≤ length (now left)) × ((atoms + 63) / 64 ≤ length (now state)) ⌝ }
-    ensures { λ r. ⌜ ((c : Case) (F : List Tuple) → Asked c F (now (table .entry)) (now (picks .entry)) (bit (now (left .entry))) atoms (length (now (steps .entry)))
+    requires { ⌜ Fits (now table) × (atoms ≤ 2 ^ 16) × (length (now start) ≤ 1024) × ((atoms + 63) / 64 ≤ length (now state)) ⌝ }
+    ensures { λ r. ⌜ ((c : Case) (F : List Tuple) → Asked c F (now (table .entry)) (now (picks .entry)) (bit (now (start .entry))) atoms (length (now (steps .entry)))
         → Gives c (problemOf c) F (now (state .entry)) (now (steps .entry)) r (now (state .exit)) (now (steps .exit))) ⌝ }
 {
     let mut made = [0u32; LARGE];
-    build_in(&mut made, state, steps, left, table, atoms, picks)
+    build_in(&mut made, state, steps, start, table, atoms, picks)
 }
 
-// The steps built from picks and the state that they leave, from the initial state on, which stands in `left` and is used up.
+// The steps built from picks and the state that they leave, from the initial state `start` on.
 pub fn build(
     state: &mut [u64],
     steps: &mut [u32],
-    left: &mut [u64],
+    start: &[u64],
     table: &[usize],
     atoms: usize,
     picks: &[u64],
 ) -> Answer
-    requires { ⌜ Fits (now table) × (atoms ≤ 2 ^ 16) × ((atoms + 63) / 64 ≤ length (now left)) × ((atoms + 63) / 64 ≤ length (now state)) ⌝ }
+    requires { ⌜ Fits (now table) × (atoms ≤ 2 ^ 16) × (length (now start) ≤ 1024) × ((atoms + 63) / 64 ≤ length (now state)) ⌝ }
     ensures { λ r. ⌜ ((c : Case) (F : List Tuple) → Accepted c → arePicks c F ≡ true → Is (problemOf c) (now (table .entry)) → PicksAre (problemOf c) (now (picks .entry)) F
-        → atoms ≡ «atoms-of» (problemOf c) → actions (problemOf c) ≤ 2 ^ 32 → bit (now (left .entry)) ≡ initial (problemOf c) → bound (problemOf c) ≤ length (now (steps .entry))
+        → atoms ≡ «atoms-of» (problemOf c) → actions (problemOf c) ≤ 2 ^ 32 → bit (now (start .entry)) ≡ initial (problemOf c) → bound (problemOf c) ≤ length (now (steps .entry))
         → Gives c (problemOf c) F (now (state .entry)) (now (steps .entry)) r (now (state .exit)) (now (steps .exit))) ⌝ }
 {
     let kinds = picks::test_kinds(table, picks);
@@ -179,9 +182,9 @@ pub fn build(
         }
         picks::Kinds::Kept => {
             if atoms <= SMALL {
-                return build_small(state, steps, left, table, atoms, picks);
+                return build_small(state, steps, start, table, atoms, picks);
             }
-            return build_large(state, steps, left, table, atoms, picks);
+            return build_large(state, steps, start, table, atoms, picks);
         }
     }
 }

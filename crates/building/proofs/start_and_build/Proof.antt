@@ -1,9 +1,9 @@
--- `building::start_and_build` meets its contract: what `initial_state` leaves in just the words that are needed, `build` starts from.
+-- `building::start_and_build` meets its contract: what `initial_state` leaves in just the words that are needed, `build` starts from. Assumes nothing.
 use Prim.Native.Nat.{_+_, _/_}
 use native.Mathlib.Omega.{arith}
 use mathlib.Core.Path.{sym, _∙_}
 use lib.Seq.{length-take-le}
-use Rattle.building.specs.Starts.{words-enough, started, front-fits, front-long}
+use Rattle.building.specs.Starts.{words-enough, started, front-fits, front-short}
 use borrow.Author.Needs.{needs}
 use Rattle.building.proofs.start_and_build.Statement.{statement}
 use Rattle.building.proofs.start_and_build.Tie as tie
@@ -20,14 +20,14 @@ slice-aggregate-initial-state c = sym (length-take-le _ _ (omega arith))
 initial-state-requires : tie.Need-initial-state-requires
 initial-state-requires c κs = (c .before .before .before .before .before .before .pre .0, words-enough _ _ _ (c .before .before .before .before .before .before .pre .1) (sym (length-take-le _ _ (omega arith))))
 
-array-borrow-prefix-start-2 : tie.Need-array-borrow-prefix-start-2
-array-borrow-prefix-start-2 c = front-fits _ _ (c .before .before .before .initial-state .last .1 .1 .0) (c .before .before .before .initial-state .kept .1 .1 .0) (omega arith)
+array-share-prefix-start : tie.Need-array-share-prefix-start
+array-share-prefix-start c = front-fits _ _ (c .before .before .before .initial-state .last .1 .1 .0) (c .before .before .before .initial-state .kept .1 .1 .0) (omega arith)
 
 slice-aggregate-build : tie.Need-slice-aggregate-build
 slice-aggregate-build c = sym (length-take-le _ _ (front-fits _ _ (c .before .before .before .before .initial-state .last .1 .1 .0) (c .before .before .before .before .initial-state .kept .1 .1 .0) (omega arith)))
 
 build-requires : tie.Need-build-requires
-build-requires c κs = (c .before .before .before .before .before .before .before .before .before .before .before .pre .0, c .before .before .before .before .before .before .before .before .before .before .before .pre .2, front-long _ _ (front-fits _ _ (c .before .before .before .before .initial-state .last .1 .1 .0) (c .before .before .before .before .initial-state .kept .1 .1 .0) (omega arith)), c .before .before .before .before .before .before .before .before .before .before .before .pre .3)
+build-requires c κs = (c .before .before .before .before .before .before .before .before .before .before .before .pre .0, c .before .before .before .before .before .before .before .before .before .before .before .pre .2, front-short ((c .before .before .before .before .before .before .before .before .before .before .before .args .atoms + 63) / 64) 1024 _ (omega arith), c .before .before .before .before .before .before .before .before .before .before .before .pre .3)
 
 same-length : tie.Need-same-length
 same-length c = search needs
@@ -36,7 +36,7 @@ same-length-2 : tie.Need-same-length-2
 same-length-2 c = search needs
 
 returns : tie.Need-returns
-returns c = λ x F G. c .before .before .before .before .before .build .ensures x F (G .case) (G .picks) (G .is) (G .picked) (G .atoms-are) (G .few) (started x F _ _ _ _ _ G (c .before .before .before .before .before .before .before .before .before .before .before .before .before .before .before .before .before .pre .1) _ _ _ (c .before .before .before .before .before .before .before .before .before .before .initial-state .ensures) (length-take-le _ _ (omega arith)) (c .before .before .before .before .before .before .before .before .before .before .initial-state .kept .1 .1 .0 ∙ length-take-le _ _ (omega arith))) (G .steps-room)
+returns c = λ x F G. c .before .before .before .before .build .ensures x F (G .case) (G .picks) (G .is) (G .picked) (G .atoms-are) (G .few) (started x F _ _ _ _ _ G (c .before .before .before .before .before .before .before .before .before .before .before .before .before .before .before .before .pre .1) _ _ _ (c .before .before .before .before .before .before .before .before .before .initial-state .ensures) (length-take-le _ _ (omega arith)) (c .before .before .before .before .before .before .before .before .before .initial-state .kept .1 .1 .0 ∙ length-take-le _ _ (omega arith))) (G .steps-room)
 
 pub start-and-build-spec : {M : Type 1} → statement M
 start-and-build-spec =
@@ -46,7 +46,7 @@ start-and-build-spec =
     array-borrow-prefix-start
     slice-aggregate-initial-state
     initial-state-requires
-    array-borrow-prefix-start-2
+    array-share-prefix-start
     slice-aggregate-build
     build-requires
     same-length
