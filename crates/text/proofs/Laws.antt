@@ -42,6 +42,10 @@ span-hit b i e s h k q = ap (indexOf b) (slice-next i e s h k) ∙ indexOf-hit b
 pub span-miss : (b i e : ℕ) (s : List ℕ) → i < e → e ≤ length s → (getD s i 0 ≡ b → ⊥) → indexOf b (slice i e s) ≡ suc (indexOf b (slice (i + 1) e s))
 span-miss b i e s h k q = ap (indexOf b) (slice-next i e s h k) ∙ indexOf-miss b (getD s i 0) (slice (i + 1) e s) q
 
+-- k bytes from i on are others, and one more
+pub span-more : (b i k e : ℕ) (s : List ℕ) → i + k < e → e ≤ length s → (getD s (i + k) 0 ≡ b → ⊥) → indexOf b (slice i e s) ≡ k + indexOf b (slice (i + k) e s) → indexOf b (slice i e s) ≡ k + 1 + indexOf b (slice (i + (k + 1)) e s)
+span-more b i k e s h l q p = let a : i + k + 1 ≡ i + (k + 1) = omega arith in omega (arith, rw a at (span-miss b (i + k) e s h l q), p)
+
 pub span-none : (b i e : ℕ) (s : List ℕ) → i ≤ e → e ≤ i → indexOf b (slice i e s) ≡ 0
 unfolding indexOf
 span-none b i e s h k = ap (indexOf b) (slice-done i e s h k)
