@@ -3,7 +3,6 @@ use Prim.Native.Nat.{ℕ, _+_, _/_, _≤_, _<_}
 use mathlib.Core.Path.{_≡_, refl, sym, ap, ap₂, subst, _∙_}
 use mathlib.Core.Bool.{Bool, true, false}
 use mathlib.Core.List.{List, _++_}
-use native.Mathlib.Omega.{arith}
 use lib.ListN.{length, take, drop}
 use lib.Seq.{take-append-seam}
 use borrow.Author.Tests.{lt-ltb, le-ltb}
@@ -19,7 +18,7 @@ use Rattle.definitions.specs.Outcome
 use Rattle.laws.specs.Words.{state-length}
 use Rattle.sheets.specs.declared.Answer.{Answer}
 use Rattle.sheets.specs.declared.Answer.the-variants.{Done, Refused as Bad}
-use Rattle.sheets.specs.Reading.{answered, left, Writes}
+use Rattle.sheets.specs.Reading.{answered, left, RoomFor, Writes}
 use Rattle.sheets.proofs.Numbers.{sheet-refused, sheet-read, all-room}
 use Rattle.opening.specs.declared.Opened.{Opened}
 use Rattle.opening.specs.Read.{Holds, CaseRead}
@@ -127,12 +126,12 @@ module _ (t out : List ℕ) where
       let f : list ≡ ks ++ drop (length ks) out = l ∙ ap (λ (x : Result (List ℕ)). left x out) d in
       d ∙ ap accepted (sym (ap₂ take (sym z) f ∙ take-append-seam ks (drop (length ks) out)))
 
-  -- and they fit a table of 9,362 entries, since a step line has at least 7 bytes
-  pub text-room : (a : Answer) (k : ℕ) → a ≡ answered length (readSteps t) → a ≡ Done k → k ≤ 9362
+  -- and they fit it, where it has room
+  pub text-room : (a : Answer) (k room : ℕ) → a ≡ answered length (readSteps t) → a ≡ Done k → RoomFor t room → k ≤ room
   unfolding Writes
-  text-room a k e q =
+  text-room a k room e q h =
       let (ks, d, z) = sheet-read length (readSteps t) a k e q in
-      subst (λ (n : ℕ). n ≤ 9362) z (subst (λ (x : Result (List ℕ)). Writes x 9362) d (all-room t a e k 9362 q (omega arith)))
+      subst (λ (n : ℕ). n ≤ room) z (subst (λ (x : Result (List ℕ)). Writes x room) d (all-room t a e k room q h))
 
 -- ---- sizes
 

@@ -1,13 +1,17 @@
 // The public calls. Each takes texts and lent buffers of any kind and any length, and answers; none asks anything of its caller.
 // What a call returns, and what each buffer then holds, is what `definitions`, `Outcome`, says of it.
 ghost use mathlib.Core.Path.{_≡_};
+ghost use mathlib.Core.List.{List};
+ghost use Prim.Native.Nat.{ℕ};
+ghost use lib.ListN.{length};
 ghost use Rattle.definitions.specs.Truth.{Case};
-ghost use Rattle.definitions.specs.Outcome.{asText, asNumbers, checkSteps, sizes as «sizes-of», action as «action-of»};
+ghost use Rattle.definitions.specs.Outcome.{readCase, asText, asNumbers, checkSteps, sizes as «sizes-of», action as «action-of»};
 ghost use Rattle.bits.specs.Table.{bit};
-ghost use Rattle.opening.specs.Read.{Holds};
+ghost use Rattle.sheets.specs.Reading.{RoomFor};
+ghost use Rattle.opening.specs.Read.{Holds, CaseRead};
 ghost use Rattle.runs.specs.Ended.{ended};
 ghost use Rattle.cases.specs.Known.{CaseIn};
-ghost use Rattle.cases.specs.Replies.{resultOf, sizingOf, Checks};
+ghost use Rattle.cases.specs.Replies.{resultOf, sizingOf, Checks, Checked};
 ghost use Rattle.cases.specs.Asked.{actionOf, found};
 use opening::Opened;
 use runs::End;
@@ -110,6 +114,27 @@ fn check_case(question: &[u8], o: Opened, facts: &[u64], steps: &[u32], state: &
     reply_of(e)
 }
 
+// Steps of a case that was read, as a text: they are read into the list, which has room for them, and checked.
+fn check_listed(
+    question: &[u8],
+    o: Opened,
+    facts: &[u64],
+    steps: &[u8],
+    list: &mut [u32],
+    state: &mut [u64],
+) -> Reply
+    requires { ⌜ CaseIn (now question) o (bit (now facts)) ⌝ }
+    requires { ⌜ RoomFor (now steps) (length (now list)) ⌝ }
+    ensures { λ r. ⌜ ((site : List ℕ) → CaseRead (now (question .entry)) (readCase (now (question .entry)) site) o (bit (now (facts .entry))) → o .fault ≡ 0
+        → Checked (now (question .entry)) site (asText (now (steps .entry))) (now (state .entry)) r (now (state .exit))) ⌝ }
+{
+    let a = sheets::steps(steps, list);
+    match a {
+        Answer::Refused(k, place) => Reply::Refused(k, place),
+        Answer::Done(count) => check_case(question, o, facts, &list[..count], state),
+    }
+}
+
 // Checks steps that are handed over as a text.
 pub fn check_text(question: &[u8], site: &[u8], steps: &[u8], state: &mut [u64]) -> Reply
     ensures answer { λ r. ⌜ resultOf r ≡ checkSteps (now (question .entry)) (now (site .entry)) (asText (now (steps .entry))) (now (state .entry)) .answer ⌝ }
@@ -120,12 +145,12 @@ pub fn check_text(question: &[u8], site: &[u8], steps: &[u8], state: &mut [u64])
     if o.fault != 0 {
         return Reply::Refused(o.fault, o.place);
     }
-    let mut list = [0u32; 9362];
-    let a = sheets::steps(steps, &mut list);
-    match a {
-        Answer::Refused(k, place) => Reply::Refused(k, place),
-        Answer::Done(count) => check_case(question, o, &facts, &list[..count], state),
+    if steps.len() <= sheets::SHORT {
+        let mut few = [0u32; sheets::FEW];
+        return check_listed(question, o, &facts, steps, &mut few, state);
     }
+    let mut list = [0u32; sheets::STEPS];
+    check_listed(question, o, &facts, steps, &mut list, state)
 }
 
 // Checks steps that are lent as numbers.

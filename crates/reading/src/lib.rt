@@ -2,25 +2,27 @@
 // They are cut out of the state word by word, since a relation's tuples may start anywhere in a word there.
 ghost use mathlib.Core.Path.{_≡_};
 ghost use mathlib.Core.Bool.{_&&_};
-ghost use Prim.Native.Nat.{_+_, _^_, _≤_};
+ghost use mathlib.Core.List.{List};
+ghost use Prim.Native.Nat.{ℕ, _+_, _^_, _≤_};
 ghost use lib.Dec.{ltb};
 ghost use lib.ListN.{length, getD};
 ghost use lib.Seq.{sets};
 ghost use Rattle.definitions.specs.Truth.{Case};
 ghost use Rattle.definitions.specs.Atoms.{Problem, wordsFor};
-ghost use Rattle.definitions.specs.Outcome.{asText, asNumbers, picksLength, picksFromSteps};
+ghost use Rattle.definitions.specs.Outcome.{readCase, asText, asNumbers, picksLength, picksFromSteps};
 ghost use Rattle.reduction.specs.Reader.{Accepted};
 ghost use Rattle.bits.specs.Table.{bit, word as «word-of»};
 ghost use Rattle.ground.specs.Lines.{Fits};
 ghost use Rattle.ground.specs.Of.{Is};
 ghost use Rattle.decode.specs.Decoded.{Grounded};
 ghost use Rattle.initial.specs.Rows.{atomsIn};
-ghost use Rattle.opening.specs.Read.{Holds};
+ghost use Rattle.sheets.specs.Reading.{RoomFor};
+ghost use Rattle.opening.specs.Read.{Holds, CaseRead};
 ghost use Rattle.picks.specs.Words.{wordsIn};
 ghost use Rattle.cases.specs.Known.{CaseIn};
 ghost use Rattle.cases.specs.Replies.{resultOf};
 ghost use Rattle.reading.specs.Copies.{lineWords, picksIn, Copied};
-ghost use Rattle.reading.specs.Reads.{ReadBy, Reads};
+ghost use Rattle.reading.specs.Reads.{ReadBy, Reads, PicksRead};
 use cases::Reply;
 use ground::RelationLine;
 use opening::Opened;
@@ -150,6 +152,28 @@ fn read_picks(
     run_and_copy(&table, facts, steps, picks, &mut state[..words])
 }
 
+// Picks of the steps of a case that was read, as a text: they are read into the list, which has room for them.
+fn read_listed(
+    question: &[u8],
+    o: Opened,
+    facts: &[u64],
+    steps: &[u8],
+    list: &mut [u32],
+    picks: &mut [u64],
+    state: &mut [u64],
+) -> Reply
+    requires { ⌜ CaseIn (now question) o (bit (now facts)) ⌝ }
+    requires { ⌜ RoomFor (now steps) (length (now list)) ⌝ }
+    ensures { λ r. ⌜ ((site : List ℕ) → CaseRead (now (question .entry)) (readCase (now (question .entry)) site) o (bit (now (facts .entry))) → o .fault ≡ 0
+        → PicksRead (now (question .entry)) site (asText (now (steps .entry))) (now (picks .entry)) (now (state .entry)) r (now (picks .exit)) (now (state .exit))) ⌝ }
+{
+    let a = sheets::steps(steps, list);
+    match a {
+        Answer::Refused(k, place) => Reply::Refused(k, place),
+        Answer::Done(count) => read_picks(question, o, facts, &list[..count], picks, state),
+    }
+}
+
 // Reads picks from steps that are handed over as a text.
 pub fn picks_text(
     question: &[u8],
@@ -167,12 +191,12 @@ pub fn picks_text(
     if o.fault != 0 {
         return Reply::Refused(o.fault, o.place);
     }
-    let mut list = [0u32; 9362];
-    let a = sheets::steps(steps, &mut list);
-    match a {
-        Answer::Refused(k, place) => Reply::Refused(k, place),
-        Answer::Done(count) => read_picks(question, o, &facts, &list[..count], picks, state),
+    if steps.len() <= sheets::SHORT {
+        let mut few = [0u32; sheets::FEW];
+        return read_listed(question, o, &facts, steps, &mut few, picks, state);
     }
+    let mut list = [0u32; sheets::STEPS];
+    read_listed(question, o, &facts, steps, &mut list, picks, state)
 }
 
 // Reads picks from steps that are lent as numbers.

@@ -21,7 +21,7 @@ use Rattle.records.specs.declared.Entry.{Entry}
 use Rattle.records.specs.declared.Entry.the-variants.{Wrong, Rel, Choose, Rule, Size, Fact, Pick, Step}
 use Rattle.records.proofs.Runs.{read-long, read-start, read-stop, read-went, read-halted}
 use Rattle.reduction.specs.Told.{steps-told}
-use Rattle.sheets.specs.Reading.{answered, verdictOf, Writes, left}
+use Rattle.sheets.specs.Reading.{answered, verdictOf, RoomFor, Writes, left}
 use Rattle.sheets.specs.declared.Verdict.the-variants.{Number, Fault}
 use Rattle.sheets.specs.declared.Answer.{Answer}
 use Rattle.sheets.specs.declared.Answer.the-variants.{Done, Refused}
@@ -176,7 +176,7 @@ module _ (s old : List ℕ) (at n : ℕ) (out : List ℕ) (w : Writes (D.readSte
       let z = accepted-is (r .0) (q .0) (sym (r .2 ∙ read-stop D.addToSteps s at (r .0) e) ∙ q .1) in
       rw (q .1) (r .3 ∙ rw (← z, r .1))
 
--- ---- a step line has at least 7 bytes, so the longest text has no more than 9362
+-- ---- a step line has at least 7 bytes, so a text has no more steps than a seventh of its bytes
 
 some-digit : (k n : ℕ) → 1 ≤ length (decimalIn (suc k) n)
 unfolding decimalIn
@@ -195,8 +195,8 @@ unfolding flatMap
 lines-long [] = omega arith
 lines-long (k ∷ ks) = omega (arith, step-long k, lines-long ks, length-append (stepLine k) (flatMap stepLine ks))
 
-steps-few : (s ks : List ℕ) → D.readSteps s ≡ accepted ks → length ks ≤ 9362
-steps-few s ks p = let v = steps-told s ks p in omega (arith, lines-long ks, ap length (v .0), v .1)
+steps-few : (s ks : List ℕ) (room : ℕ) → D.readSteps s ≡ accepted ks → RoomFor s room → length ks ≤ room
+steps-few s ks room p h = let v = steps-told s ks p in omega (arith, lines-long ks, ap length (v .0), h (v .1))
 
 -- ---- the whole
 
@@ -211,11 +211,11 @@ sheet-refused f (refused j at) a k place e n = cc
 sheet-refused f (accepted v) a k place e n = let z : _≡_ {A = ℕ} 0 1 = cc in absurd (omega arith)
 
 module _ (s : List ℕ) (a : Answer) (w : a ≡ answered length (D.readSteps s)) where
-  pub all-room : (n room : ℕ) → a ≡ Done n → 9362 ≤ room → Writes (D.readSteps s) room
+  pub all-room : (n room : ℕ) → a ≡ Done n → RoomFor s room → Writes (D.readSteps s) room
   unfolding Writes
   all-room n room p h =
       let d = sheet-read length (D.readSteps s) a n w p in
-      rw (d .1) (omega (arith, steps-few s (d .0) (d .1)))
+      rw (d .1) (steps-few s (d .0) room (d .1) h)
 
   pub all-refused : (k place : ℕ) (out : List ℕ) → a ≡ Refused k place → (Refused k place ≡ answered length (D.readSteps s)) × (out ≡ left (D.readSteps s) out)
   unfolding left

@@ -1,10 +1,11 @@
 -- What the readers of a site, of picks and of steps answer and leave, by what the definitions read.
-use Prim.Native.Nat.{ℕ, zero, suc, _+_, _≤_}
+use Prim.Native.Nat.{ℕ, zero, suc, _+_, _*_, _≤_}
 use mathlib.Core.Path.{_≡_}
 use mathlib.Core.Bool.{Bool, false}
 use mathlib.Core.List.{List, []}
 use mathlib.Core.Option.{Option, none, some}
 use lib.ListN.{length}
+use Rattle.definitions.specs.Limits.{textLimit}
 use Rattle.definitions.specs.Refusal.{Result, refused, accepted, _>>=_, given}
 use Rattle.definitions.specs.Relations.{Tuple}
 use Rattle.definitions.specs.Sheets as D
@@ -96,6 +97,10 @@ verdictOf (Size n) = Bad 3
 verdictOf (Fact a e p) = Bad 3
 verdictOf (Pick a e p) = Bad 3
 verdictOf (Step k) = Number k
+
+-- room for the steps of a text, whatever it says: a step line has at least 7 bytes, and a text over the limit is refused
+abbrev pub RoomFor : List ℕ → ℕ → Type 0
+RoomFor s room = length s ≤ textLimit → length s ≤ 7 * room + 6
 
 -- the sheet is accepted, and there is room for its numbers
 unfoldable pub Writes : Result (List ℕ) → ℕ → Type 0

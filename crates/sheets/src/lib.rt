@@ -7,9 +7,17 @@ ghost use Rattle.bits.specs.Table.{bit};
 ghost use Rattle.definitions.specs.Sheets.{readSite, readPicks, readSteps};
 ghost use Rattle.names.specs.Signatures.{Sound, withArrays, relsOf, chosenOf};
 ghost use Rattle.tuples.specs.Marks.{Arrays};
-ghost use Rattle.sheets.specs.Reading.{answered, sizeIn, SiteTurned, GotSite, FactsIn, PickTurned, GotPicks, PicksIn, verdictOf, Writes, left};
+ghost use Rattle.sheets.specs.Reading.{answered, sizeIn, SiteTurned, GotSite, FactsIn, PickTurned, GotPicks, PicksIn, verdictOf, RoomFor, Writes, left};
 use names::Signature;
 use records::Entry;
+
+// The most steps that a text has: a step line has at least 7 bytes, and a text at most 65,536.
+pub const STEPS: usize = 9362;
+
+// Most texts are short: a list of FEW numbers holds the steps of a text of SHORT bytes, and no long list is cleared for it.
+pub const FEW: usize = 512;
+
+pub const SHORT: usize = 7 * FEW;
 
 // A site's size, a count of picks or of steps; or a refusal's number and place.
 pub enum Answer {
@@ -265,9 +273,9 @@ fn write(s: &[u8], out: &mut [u32])
     }
 }
 
-// Reads a whole sheet of steps to the front of `out`, which has room for those of the longest text; validates first, then writes.
+// Reads a whole sheet of steps to the front of `out`, which has room for as many as its bytes allow; validates first, then writes.
 pub fn steps(s: &[u8], out: &mut [u32]) -> Answer
-    requires { ⌜ 9362 ≤ length (now out) ⌝ }
+    requires { ⌜ RoomFor (now s) (length (now out)) ⌝ }
     ensures { λ r. ⌜ (r ≡ answered length (readSteps (now (s .entry)))) × (now (out .exit) ≡ left (readSteps (now (s .entry))) (now (out .entry))) ⌝ }
 {
     let a = scan(s);

@@ -1,11 +1,8 @@
--- `cases::check_text` meets its contract: the case is refused, the text is refused, or its steps are run. Assumes nothing.
-use mathlib.Core.Path.{sym}
-use mathlib.Core.List.{[]}
+-- `cases::check_text` meets its contract: the case is refused, or a list is lent that has room for the steps of the text. Assumes nothing.
 use native.Mathlib.Omega.{arith}
-use lib.Seq.{length-take-le}
 use Rattle.sheets.proofs.Loops.{zeros-clear}
 use Rattle.cases.specs.Known.{case-in}
-use Rattle.cases.specs.Replies.{call-case, call-steps, call-ran, text-refused, text-taken, text-room}
+use Rattle.cases.specs.Replies.{call-case}
 use borrow.Author.Needs.{needs}
 use Rattle.cases.proofs.check_text.Statement.{statement}
 use Rattle.cases.proofs.check_text.Tie as tie
@@ -19,38 +16,35 @@ read-case-requires c κs = (omega arith, zeros-clear 512)
 returns : tie.Need-returns
 returns c = call-case _ _ _ _ _ _ (c .before .before .before .read-case .ensures) (c .if1 .taken)
 
-slice-aggregate-steps : tie.Need-slice-aggregate-steps
-slice-aggregate-steps c = search needs
+slice-aggregate-check-listed : tie.Need-slice-aggregate-check-listed
+slice-aggregate-check-listed c = search needs
 
-steps-requires : tie.Need-steps-requires
-steps-requires c κs = search needs
+slice-aggregate-check-listed-2 : tie.Need-slice-aggregate-check-listed-2
+slice-aggregate-check-listed-2 c = search needs
 
-enum-known-a : tie.Need-enum-known-a
-enum-known-a c = search needs
-
-enum-known-a-2 : tie.Need-enum-known-a-2
-enum-known-a-2 c = search needs
-
-slice-aggregate-check-case : tie.Need-slice-aggregate-check-case
-slice-aggregate-check-case c = search needs
-
-array-share-prefix-list : tie.Need-array-share-prefix-list
-array-share-prefix-list c = omega (arith, text-room _ [] _ _ (c .before .before .before .before .before .steps .ensures .0) (c .before .before .a2 .given .1))
-
-slice-aggregate-check-case-2 : tie.Need-slice-aggregate-check-case-2
-slice-aggregate-check-case-2 c = sym (length-take-le _ _ (omega (arith, text-room _ [] _ _ (c .before .before .before .before .before .before .steps .ensures .0) (c .before .before .before .a2 .given .1))))
-
-check-case-requires : tie.Need-check-case-requires
-check-case-requires c κs = case-in _ _ _ _ (c .before .before .before .before .before .before .before .before .before .before .before .before .read-case .ensures) (c .before .before .before .before .before .before .before .before .before .if1 .left)
-
-returns-2 : tie.Need-returns-2
-returns-2 c = call-steps _ _ _ _ _ _ (c .before .before .before .before .before .before .before .before .before .read-case .ensures) (c .before .before .before .before .before .before .if1 .left) _ _ (text-refused _ [] _ _ _ (c .before .before .before .before .steps .ensures .0) (c .before .a .given .1))
+check-listed-requires : tie.Need-check-listed-requires
+check-listed-requires c κs = (case-in _ _ _ _ (c .before .before .before .before .before .before .before .read-case .ensures) (c .before .before .before .before .if1 .left), λ few. omega arith)
 
 same-length : tie.Need-same-length
 same-length c = search needs
 
+returns-2 : tie.Need-returns-2
+returns-2 c = c .before .before .before .check-listed .ensures _ (c .before .before .before .before .before .before .before .before .before .before .before .read-case .ensures) (c .before .before .before .before .before .before .before .before .if1 .left)
+
+slice-aggregate-check-listed-3 : tie.Need-slice-aggregate-check-listed-3
+slice-aggregate-check-listed-3 c = search needs
+
+slice-aggregate-check-listed-4 : tie.Need-slice-aggregate-check-listed-4
+slice-aggregate-check-listed-4 c = search needs
+
+check-listed-requires-2 : tie.Need-check-listed-requires-2
+check-listed-requires-2 c κs = (case-in _ _ _ _ (c .before .before .before .before .before .before .before .read-case .ensures) (c .before .before .before .before .if1 .left), λ few. omega arith)
+
+same-length-2 : tie.Need-same-length-2
+same-length-2 c = search needs
+
 returns-3 : tie.Need-returns-3
-returns-3 c = call-ran _ _ _ _ _ _ (c .before .before .before .before .before .before .before .before .before .before .before .before .before .before .before .read-case .ensures) (c .before .before .before .before .before .before .before .before .before .before .before .before .if1 .left) _ (text-taken _ _ _ _ (c .before .before .before .before .before .before .before .before .before .before .steps .ensures .0) (c .before .before .before .before .before .before .before .a2 .given .1) _ (c .before .before .before .before .before .before .before .before .before .before .steps .ensures .1)) _ _ (c .before .before .check-case .ensures)
+returns-3 c = c .before .before .before .check-listed2 .ensures _ (c .before .before .before .before .before .before .before .before .before .before .before .read-case .ensures) (c .before .before .before .before .before .before .before .before .if1 .left)
 
 pub check-text-spec : {M : Type 1} → statement M
 check-text-spec =
@@ -59,14 +53,13 @@ check-text-spec =
     slice-aggregate-read-case
     read-case-requires
     returns
-    slice-aggregate-steps
-    steps-requires
-    enum-known-a
-    enum-known-a-2
-    slice-aggregate-check-case
-    array-share-prefix-list
-    slice-aggregate-check-case-2
-    check-case-requires
-    returns-2
+    slice-aggregate-check-listed
+    slice-aggregate-check-listed-2
+    check-listed-requires
     same-length
+    returns-2
+    slice-aggregate-check-listed-3
+    slice-aggregate-check-listed-4
+    check-listed-requires-2
+    same-length-2
     returns-3)

@@ -47,10 +47,10 @@ slice-aggregate-check-case : tie.Need-slice-aggregate-check-case
 slice-aggregate-check-case c = search needs
 
 array-share-prefix-steps : tie.Need-array-share-prefix-steps
-array-share-prefix-steps c = omega (arith, text-room _ [] _ _ (c .before .before .before .before .before .before .steps2 .ensures .0) (c .before .before .before .a2 .given .1))
+array-share-prefix-steps c = omega (arith, text-room _ [] _ _ 9362 (c .before .before .before .before .before .before .steps2 .ensures .0) (c .before .before .before .a2 .given .1) (λ h. omega arith))
 
 slice-aggregate-check-case-2 : tie.Need-slice-aggregate-check-case-2
-slice-aggregate-check-case-2 c = sym (length-take-le _ _ (omega (arith, text-room _ [] _ _ (c .before .before .before .before .before .before .before .steps2 .ensures .0) (c .before .before .before .before .a2 .given .1))))
+slice-aggregate-check-case-2 c = sym (length-take-le _ _ (omega (arith, text-room _ [] _ _ 9362 (c .before .before .before .before .before .before .before .steps2 .ensures .0) (c .before .before .before .before .a2 .given .1) (λ h. omega arith))))
 
 check-case-requires : tie.Need-check-case-requires
 check-case-requires c κs = (case-known _ _ _ _ (c .before .before .before .before .before .before .before .before .before .before .before .before .read-case .ensures) (c .before .before .before .before .before .before .before .before .before .if1 .left), steps-few _ _ (text-taken _ _ _ _ (c .before .before .before .before .before .before .before .steps2 .ensures .0) (c .before .before .before .before .a2 .given .1) _ (c .before .before .before .before .before .before .before .steps2 .ensures .1)) (c .before .before .before .before .before .before .before .before .before .before .before .before .before .before .before .before .before .before .pre .0), c .before .before .before .before .before .before .before .before .before .before .before .before .before .before .before .before .before .before .pre .1)
