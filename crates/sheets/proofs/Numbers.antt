@@ -163,12 +163,6 @@ module _ (s old : List ℕ) (at n : ℕ) (out : List ℕ) (w : Writes (D.readSte
     rw (r .3, drop-cons old n 0 (write-room next x k h p), add-one) (set-at (r .0) _ (drop (suc n) old) k n (r .1) ∙ sym (append-assoc (r .0) (k ∷ []) (drop (suc n) old))),
   )
 
-  pub write-fault : (next : ℕ) (x : Entry) (k : ℕ) → Reads s at next x → verdictOf x ≡ Fault k → ⊥
-  unfolding Written
-  write-fault next x k h p =
-      let q = writes-is (D.readSteps s) (length old) w in
-      clash k at (q .0) (sym (r .2 ∙ line-fault s at next (r .0) x k h p) ∙ q .1)
-
   pub write-stop : at ≡ length s → out ≡ left (D.readSteps s) old
   unfolding Written left written
   write-stop e =
@@ -217,6 +211,5 @@ module _ (s : List ℕ) (a : Answer) (w : a ≡ answered length (D.readSteps s))
       let d = sheet-read length (D.readSteps s) a n w p in
       rw (d .1) (steps-few s (d .0) room (d .1) h)
 
-  pub all-refused : (k place : ℕ) (out : List ℕ) → a ≡ Refused k place → (Refused k place ≡ answered length (D.readSteps s)) × (out ≡ left (D.readSteps s) out)
-  unfolding left
-  all-refused k place out p = (sym p ∙ w, rw (sheet-refused length (D.readSteps s) a k place w p))
+pub not-done : {A : Type 0} (k place n : ℕ) → Refused k place ≡ Done n → A
+not-done k place n p = let z : _≡_ {A = ℕ} 0 1 = cc in absurd (omega arith)

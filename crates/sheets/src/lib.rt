@@ -1,13 +1,14 @@
 // The readers of the site, of picks and of steps: a value, or the refusal's number and place (1 to 3, 7, 9, 10).
 ghost use mathlib.Core.Path.{_≡_};
 ghost use mathlib.Core.Bool.{false};
-ghost use Prim.Native.Nat.{_+_, _*_, _≤_};
-ghost use lib.ListN.{length};
+ghost use Prim.Native.Nat.{ℕ, _+_, _*_, _≤_};
+ghost use lib.ListN.{length, set as «set-at»};
 ghost use Rattle.bits.specs.Table.{bit};
 ghost use Rattle.definitions.specs.Sheets.{readSite, readPicks, readSteps};
 ghost use Rattle.names.specs.Signatures.{Sound, withArrays, relsOf, chosenOf};
 ghost use Rattle.tuples.specs.Marks.{Arrays};
-ghost use Rattle.sheets.specs.Reading.{answered, sizeIn, SiteTurned, GotSite, FactsIn, PickTurned, GotPicks, PicksIn, verdictOf, RoomFor, Writes, left};
+ghost use Rattle.sheets.specs.Reading.{answered, sizeIn, SiteTurned, GotSite, FactsIn, PickTurned, GotPicks, PicksIn, verdictOf, RoomFor, left};
+ghost use Rattle.sheets.specs.declared.Answer.the-variants.{Done};
 use names::Signature;
 use records::Entry;
 
@@ -223,9 +224,20 @@ fn judge(x: Entry) -> Verdict
     }
 }
 
-// How many steps the sheet has, or its refusal.
-fn scan(s: &[u8]) -> Answer
-    ensures { λ r. ⌜ r ≡ answered length (readSteps (now (s .entry))) ⌝ }
+// Entry n becomes k, where there is such an entry.
+fn put(out: &mut [u32], n: usize, k: u32)
+    ensures { λ r. ⌜ now (out .exit) ≡ «set-at» (now (out .entry)) n k ⌝ }
+{
+    if n < out.len() {
+        out[n] = k;
+    }
+}
+
+// Reads a whole sheet of steps to the front of `out`, which has room for as many as its bytes allow. What is in front of a line that is
+// refused stands there too.
+pub fn steps(s: &[u8], out: &mut [u32]) -> Answer
+    requires { ⌜ RoomFor (now s) (length (now out)) ⌝ }
+    ensures { λ r. ⌜ (r ≡ answered length (readSteps (now (s .entry)))) × ((n : ℕ) → r ≡ Done n → now (out .exit) ≡ left (readSteps (now (s .entry))) (now (out .entry))) ⌝ }
 {
     if 65536 < s.len() {
         return Answer::Refused(1, 0);
@@ -237,7 +249,8 @@ fn scan(s: &[u8]) -> Answer
         let x = l.entry;
         let v = judge(x);
         match v {
-            Verdict::Number(_) => {
+            Verdict::Number(k) => {
+                put(out, n, k);
                 n += 1;
             }
             Verdict::Fault(a) => {
@@ -247,43 +260,4 @@ fn scan(s: &[u8]) -> Answer
         at = l.next;
     }
     Answer::Done(n)
-}
-
-// Writes the numbers of a sheet that is accepted to the front of `out`.
-fn write(s: &[u8], out: &mut [u32])
-    requires { ⌜ Writes (readSteps (now s)) (length (now out)) ⌝ }
-    ensures { λ _. ⌜ now (out .exit) ≡ left (readSteps (now (s .entry))) (now (out .entry)) ⌝ }
-{
-    let mut at = 0;
-    let mut n = 0;
-    while at < s.len() {
-        let l = records::line(s, at);
-        let x = l.entry;
-        let v = judge(x);
-        match v {
-            Verdict::Number(k) => {
-                out[n] = k;
-                n += 1;
-            }
-            Verdict::Fault(_) => {
-                return;
-            }
-        }
-        at = l.next;
-    }
-}
-
-// Reads a whole sheet of steps to the front of `out`, which has room for as many as its bytes allow; validates first, then writes.
-pub fn steps(s: &[u8], out: &mut [u32]) -> Answer
-    requires { ⌜ RoomFor (now s) (length (now out)) ⌝ }
-    ensures { λ r. ⌜ (r ≡ answered length (readSteps (now (s .entry)))) × (now (out .exit) ≡ left (readSteps (now (s .entry))) (now (out .entry))) ⌝ }
-{
-    let a = scan(s);
-    match a {
-        Answer::Done(n) => {
-            write(s, out);
-            Answer::Done(n)
-        }
-        Answer::Refused(k, p) => Answer::Refused(k, p),
-    }
 }

@@ -39,7 +39,7 @@ same-length-3 : tie.Need-same-length-3
 same-length-3 c = search needs
 
 returns-2 : tie.Need-returns-2
-returns-2 c = λ site read z. call-ran _ _ _ _ _ _ read z _ (text-taken _ _ _ _ (c .before .before .before .before .before .before .before .before .before .before .steps .ensures .0) (c .before .before .before .before .before .before .a2 .given .1) _ (c .before .before .before .before .before .before .before .before .before .before .steps .ensures .1)) _ _ (c .before .before .check-case .ensures)
+returns-2 c = λ site read z. call-ran _ _ _ _ _ _ read z _ (text-taken _ _ _ _ (c .before .before .before .before .before .before .before .before .before .before .steps .ensures .0) (c .before .before .before .before .before .before .a2 .given .1) _ (c .before .before .before .before .before .before .before .before .before .before .steps .ensures .1 _ (c .before .before .before .before .before .before .a2 .given .1))) _ _ (c .before .before .check-case .ensures)
 
 pub check-listed-spec : {M : Type 1} → statement M
 check-listed-spec =

@@ -53,7 +53,7 @@ slice-aggregate-check-case-2 : tie.Need-slice-aggregate-check-case-2
 slice-aggregate-check-case-2 c = sym (length-take-le _ _ (omega (arith, text-room _ [] _ _ 9362 (c .before .before .before .before .before .before .before .steps2 .ensures .0) (c .before .before .before .before .a2 .given .1) (λ h. omega arith))))
 
 check-case-requires : tie.Need-check-case-requires
-check-case-requires c κs = (case-known _ _ _ _ (c .before .before .before .before .before .before .before .before .before .before .before .before .read-case .ensures) (c .before .before .before .before .before .before .before .before .before .if1 .left), steps-few _ _ (text-taken _ _ _ _ (c .before .before .before .before .before .before .before .steps2 .ensures .0) (c .before .before .before .before .a2 .given .1) _ (c .before .before .before .before .before .before .before .steps2 .ensures .1)) (c .before .before .before .before .before .before .before .before .before .before .before .before .before .before .before .before .before .before .pre .0), c .before .before .before .before .before .before .before .before .before .before .before .before .before .before .before .before .before .before .pre .1)
+check-case-requires c κs = (case-known _ _ _ _ (c .before .before .before .before .before .before .before .before .before .before .before .before .read-case .ensures) (c .before .before .before .before .before .before .before .before .before .if1 .left), steps-few _ _ (text-taken _ _ _ _ (c .before .before .before .before .before .before .before .steps2 .ensures .0) (c .before .before .before .before .a2 .given .1) _ (c .before .before .before .before .before .before .before .steps2 .ensures .1 _ (c .before .before .before .before .a2 .given .1))) (c .before .before .before .before .before .before .before .before .before .before .before .before .before .before .before .before .before .before .pre .0), c .before .before .before .before .before .before .before .before .before .before .before .before .before .before .before .before .before .before .pre .1)
 
 same-length-2 : tie.Need-same-length-2
 same-length-2 c = search needs
@@ -65,7 +65,7 @@ same-length-3 : tie.Need-same-length-3
 same-length-3 c = search needs
 
 returns-3 : tie.Need-returns-3
-returns-3 c = text-checked _ _ _ _ _ (c .before .before .before .before .before .before .before .before .before .before .before .before .before .before .before .read-case .ensures) (c .before .before .before .before .before .before .before .before .before .before .before .before .if1 .left) _ (text-taken _ _ _ _ (c .before .before .before .before .before .before .before .before .before .before .steps2 .ensures .0) (c .before .before .before .before .before .before .before .a2 .given .1) _ (c .before .before .before .before .before .before .before .before .before .before .steps2 .ensures .1)) _ _ _ (c .before .before .check-case .ensures)
+returns-3 c = text-checked _ _ _ _ _ (c .before .before .before .before .before .before .before .before .before .before .before .before .before .before .before .read-case .ensures) (c .before .before .before .before .before .before .before .before .before .before .before .before .if1 .left) _ (text-taken _ _ _ _ (c .before .before .before .before .before .before .before .before .before .before .steps2 .ensures .0) (c .before .before .before .before .before .before .before .a2 .given .1) _ (c .before .before .before .before .before .before .before .before .before .before .steps2 .ensures .1 _ (c .before .before .before .before .before .before .before .a2 .given .1))) _ _ _ (c .before .before .check-case .ensures)
 
 pub check-spec : {M : Type 1} → statement M
 check-spec =

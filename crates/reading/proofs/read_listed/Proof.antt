@@ -43,7 +43,7 @@ same-length-4 : tie.Need-same-length-4
 same-length-4 c = search needs
 
 returns-2 : tie.Need-returns-2
-returns-2 c = λ site read z. call-ran _ _ _ _ _ _ _ read z _ (text-taken _ _ _ _ (c .before .before .before .before .before .before .before .before .before .before .before .before .before .steps .ensures .0) (c .before .before .before .before .before .before .before .before .before .a2 .given .1) _ (c .before .before .before .before .before .before .before .before .before .before .before .before .before .steps .ensures .1)) _ _ _ (c .before .before .before .before .read-picks .ensures)
+returns-2 c = λ site read z. call-ran _ _ _ _ _ _ _ read z _ (text-taken _ _ _ _ (c .before .before .before .before .before .before .before .before .before .before .before .before .before .steps .ensures .0) (c .before .before .before .before .before .before .before .before .before .a2 .given .1) _ (c .before .before .before .before .before .before .before .before .before .before .before .before .before .steps .ensures .1 _ (c .before .before .before .before .before .before .before .before .before .a2 .given .1))) _ _ _ (c .before .before .before .before .read-picks .ensures)
 
 pub read-listed-spec : {M : Type 1} → statement M
 read-listed-spec =

@@ -1,39 +1,84 @@
--- `sheets::steps` meets its contract. A text has no more steps than there is room for.
-use mathlib.Core.Path.{sym, _∙_}
+-- `sheets::steps` meets its contract. The lines up to `at` gave n steps; if the sheet is accepted, they stand at the front of `out`.
+use Prim.Native.Nat.{ℕ, _+_, _-_, _≤_}
+use mathlib.Core.Path.{_≡_, refl, sym, subst, _∙_}
+use mathlib.Core.List.{List}
+use native.Mathlib.Omega.{arith}
+use lib.ListN.{length}
 use borrow.Author.Needs.{needs}
-use Rattle.sheets.proofs.Numbers.{all-room, all-refused}
+use Rattle.definitions.specs.Sheets.{readSteps}
+use Rattle.sheets.specs.Reading.{Writes}
+use Rattle.sheets.specs.declared.Answer.the-variants.{Done}
+use Rattle.sheets.proofs.Numbers.{Reached, long-answer, reach-start, reach-number, reach-fault, reach-stop, Written, write-start, write-number, write-stop, all-room, not-done}
 use Rattle.sheets.proofs.steps.Statement.{statement}
 use Rattle.sheets.proofs.steps.Tie as tie
 
-scan-requires : tie.Need-scan-requires
-scan-requires c κs = search needs
+abbrev Inv-loop : tie.InvT-loop
+Inv-loop s out₀ at₀ n₀ out at n = (at ≤ length s) × (n ≤ at) × (length out ≡ length out₀) × Reached s at n × (Writes (readSteps s) (length out₀) → Written s out₀ at n out)
 
-enum-known-a : tie.Need-enum-known-a
-enum-known-a c = search needs
+abbrev μ-loop : tie.MeasureT-loop
+μ-loop s out₀ at₀ n₀ out at n = length s - at
 
-write-requires : tie.Need-write-requires
-write-requires c κs = all-room (c .before .before .before .before .before .before .before .args .s .now) (c .before .before .before .before .scan .result) (c .before .before .before .before .scan .ensures) _ _ (c .before .before .a .given .1) (c .before .before .before .before .before .before .before .pre)
+returns : tie.Need-returns Inv-loop μ-loop
+returns c = (long-answer (c .before .before .before .args .s .now) (c .if1 .taken), λ n p. not-done 1 0 n p)
 
-enum-known-a-2 : tie.Need-enum-known-a-2
-enum-known-a-2 c = search needs
+loop-holds : tie.Need-loop-holds Inv-loop μ-loop
+loop-holds c = (omega arith, omega arith, refl, reach-start (c .before .before .before .args .s .now) (omega arith), λ w. write-start (c .before .before .before .args .s .now) (c .before .before .before .args .out .now) w)
 
-same-length : tie.Need-same-length
-same-length c = search needs
+line-requires : tie.Need-line-requires Inv-loop μ-loop
+line-requires c κs = search needs
 
-returns : tie.Need-returns
-returns c = (sym (c .before .before .before .before .before .a .given .1) ∙ c .before .before .before .before .before .before .before .scan .ensures, c .before .before .write .ensures)
+judge-requires : tie.Need-judge-requires Inv-loop μ-loop
+judge-requires c κs = search needs
 
-returns-2 : tie.Need-returns-2
-returns-2 c = all-refused (c .before .before .before .before .before .before .args .s .now) (c .before .before .before .scan .result) (c .before .before .before .scan .ensures) _ _ _ (c .before .a2 .given .1)
+enum-known-v : tie.Need-enum-known-v Inv-loop μ-loop
+enum-known-v c = search needs
+
+put-requires : tie.Need-put-requires Inv-loop μ-loop
+put-requires c κs = search needs
+
+add-n : tie.Need-add-n Inv-loop μ-loop
+add-n c = omega arith
+
+enum-known-v-2 : tie.Need-enum-known-v-2 Inv-loop μ-loop
+enum-known-v-2 c = search needs
+
+same-length : tie.Need-same-length Inv-loop μ-loop
+same-length c = c .before .before .before .before .before .before .loop .inv .2
+
+returns-2 : tie.Need-returns-2 Inv-loop μ-loop
+returns-2 c = (reach-fault (c .before .before .before .before .before .before .before .before .before .before .args .s .now) (c .before .before .before .before .before .before .loop .at) (c .before .before .before .before .before .before .loop .n) (c .before .before .before .before .before .before .loop .inv .3) (c .before .before .before .before .line .result .next) (c .before .before .before .before .line .result .entry) _ (c .before .before .before .before .line .ensures .2) (sym (c .before .before .before .judge .ensures) ∙ c .before .v2 .given .1), λ n p. not-done _ _ n p)
+
+loop-less : tie.Need-loop-less Inv-loop μ-loop
+loop-less c = omega (arith, c .before .before .before .before .before .before .before .before .line .ensures .0, c .before .before .before .before .before .before .before .before .line .ensures .1)
+
+loop-again : tie.Need-loop-again Inv-loop μ-loop
+loop-again c = (c .before .before .before .before .before .before .before .before .line .ensures .1, omega (arith, c .before .before .before .before .before .before .before .before .line .ensures .0), c .before .before .put .kept .0 ∙ c .before .before .before .before .before .before .before .before .before .before .loop .inv .2, reach-number (c .before .before .before .before .before .before .before .before .before .before .before .before .before .before .args .s .now) (c .before .before .before .before .before .before .before .before .before .before .loop .at) (c .before .before .before .before .before .before .before .before .before .before .loop .n) (c .before .before .before .before .before .before .before .before .before .before .loop .inv .3) (c .before .before .before .before .before .before .before .before .line .result .next) (c .before .before .before .before .before .before .before .before .line .result .entry) _ (c .before .before .before .before .before .before .before .before .line .ensures .2) (sym (c .before .before .before .before .before .before .before .judge .ensures) ∙ c .before .before .before .before .before .v .given .1), λ w. subst (λ (o : List ℕ). Written (c .before .before .before .before .before .before .before .before .before .before .before .before .before .before .args .s .now) (c .before .before .before .before .before .before .before .before .before .before .before .before .before .before .args .out .now) (c .before .before .before .before .before .before .before .before .line .result .next) (c .before .before .before .before .before .before .before .before .before .before .loop .n + 1) o) (sym (c .before .before .put .ensures)) (write-number (c .before .before .before .before .before .before .before .before .before .before .before .before .before .before .args .s .now) (c .before .before .before .before .before .before .before .before .before .before .before .before .before .before .args .out .now) (c .before .before .before .before .before .before .before .before .before .before .loop .at) (c .before .before .before .before .before .before .before .before .before .before .loop .n) (c .before .before .before .before .before .before .before .before .before .before .loop .out) w (c .before .before .before .before .before .before .before .before .before .before .loop .inv .4 w) (c .before .before .before .before .before .before .before .before .line .result .next) (c .before .before .before .before .before .before .before .before .line .result .entry) _ (c .before .before .before .before .before .before .before .before .line .ensures .2) (sym (c .before .before .before .before .before .before .before .judge .ensures) ∙ c .before .before .before .before .before .v .given .1)))
+
+same-length-2 : tie.Need-same-length-2 Inv-loop μ-loop
+same-length-2 c = c .before .loop .inv .2
+
+returns-3 : tie.Need-returns-3 Inv-loop μ-loop
+returns-3 c = 
+    let a = reach-stop (c .before .before .before .before .before .args .s .now) (c .before .loop .at) (c .before .loop .n) (c .before .loop .inv .3) (omega arith) in
+    (a, λ n p. let w = all-room (c .before .before .before .before .before .args .s .now) (Done (c .before .loop .n)) a (c .before .loop .n) (length (c .before .before .before .before .before .args .out .now)) refl (c .before .before .before .before .before .pre) in write-stop (c .before .before .before .before .before .args .s .now) (c .before .before .before .before .before .args .out .now) (c .before .loop .at) (c .before .loop .n) (c .before .loop .out) w (c .before .loop .inv .4 w) (omega arith))
 
 pub steps-spec : {M : Type 1} → statement M
 steps-spec =
     tie.close
     (tie.spec
-    scan-requires
-    enum-known-a
-    write-requires
-    enum-known-a-2
-    same-length
+    Inv-loop
+    μ-loop
     returns
-    returns-2)
+    loop-holds
+    line-requires
+    judge-requires
+    enum-known-v
+    put-requires
+    add-n
+    enum-known-v-2
+    same-length
+    returns-2
+    loop-less
+    loop-again
+    same-length-2
+    returns-3)
