@@ -30,9 +30,6 @@ slice-aggregate-steps c = sym (length-take-le _ _ (omega arith))
 steps-requires : tie.Need-steps-requires
 steps-requires c κs = search needs
 
-end-requires : tie.Need-end-requires
-end-requires c κs = search needs
-
 returns-2 : tie.Need-returns-2
 returns-2 c = search needs
 
@@ -48,5 +45,4 @@ built-spec =
     add-steps
     slice-aggregate-steps
     steps-requires
-    end-requires
     returns-2)
