@@ -17,7 +17,8 @@
 //     build_text STATE STEPS    builds the steps of the text's picks: of 16 words the first STATE are lent, of 200 steps the first STEPS
 //     build_lent STATE STEPS    builds the steps of the lent picks
 //
-// Of the steps that were built one more than was lent is written. Any other line ends the run, and is written with a word that says so.
+// Of the steps that were built one more than was lent is written. Any other line ends the run, and is written, with all that follows it,
+// under a word that says so. A script has 65,536 bytes at the most; what follows them is not read.
 ghost use Prim.Native.Nat.{_≤_, _<_};
 ghost use lib.ListN.{length};
 use cases::Asked;
@@ -54,6 +55,7 @@ fn number(n: u64) {
     io::print_decimal(1, n);
 }
 
+// A reply: `ok` and a count, or a refusal's number and place.
 fn reply(what: &[u8], r: Reply) {
     io::write_all(1, what);
     match r {
@@ -68,6 +70,7 @@ fn reply(what: &[u8], r: Reply) {
     }
 }
 
+// Words after the name of their buffer.
 fn words(what: &[u8], w: &[u64]) {
     io::write_all(1, what);
     let mut i = 0;
@@ -77,10 +80,12 @@ fn words(what: &[u8], w: &[u64]) {
     }
 }
 
+// One step.
 fn step(k: u32) {
     number(k as u64);
 }
 
+// Steps after their name.
 fn steps(w: &[u32]) {
     io::write_all(1, b" steps");
     let mut i = 0;
@@ -90,6 +95,7 @@ fn steps(w: &[u32]) {
     }
 }
 
+// The sizes of a case.
 fn sizes(question: &[u8], site: &[u8]) {
     io::write_all(1, b"sizes");
     match cases::sizes(question, site) {
@@ -107,6 +113,7 @@ fn sizes(question: &[u8], site: &[u8]) {
     }
 }
 
+// A kind of action with a choice, and its numbers.
 fn chosen(kind: &[u8], a: ChoiceAct) {
     io::write_all(1, kind);
     number(a.node as u64);
@@ -114,6 +121,7 @@ fn chosen(kind: &[u8], a: ChoiceAct) {
     number(a.choice as u64);
 }
 
+// An action's kind and its numbers.
 fn details(a: Act) {
     match a {
         Act::Set(x) => {
@@ -141,6 +149,7 @@ fn details(a: Act) {
     }
 }
 
+// The action of a number.
 fn action(question: &[u8], site: &[u8], k: usize) {
     io::write_all(1, b"action");
     match cases::action(question, site, k) {
@@ -152,11 +161,13 @@ fn action(question: &[u8], site: &[u8], k: usize) {
     }
 }
 
+// What checking gave.
 fn checked(r: Reply, state: &[u64]) {
     reply(b"check", r);
     words(b" state", state);
 }
 
+// What reading picks gave.
 fn read(r: Reply, picks: &[u64], state: &[u64]) {
     reply(b"picks", r);
     words(b" picks", picks);
@@ -183,6 +194,7 @@ fn check_text(question: &[u8], site: &[u8], text: &[u8], state: &mut [u64], room
     true
 }
 
+// Checks lent steps.
 fn check_lent(question: &[u8], site: &[u8], list: &[u32], state: &mut [u64], room: usize) -> bool {
     if state.len() < room {
         return false;
@@ -192,6 +204,7 @@ fn check_lent(question: &[u8], site: &[u8], list: &[u32], state: &mut [u64], roo
     true
 }
 
+// Picks from the steps of a text, with the first words of both buffers lent.
 fn picks_text(
     question: &[u8],
     site: &[u8],
@@ -218,6 +231,7 @@ fn picks_text(
     true
 }
 
+// Picks from lent steps.
 fn picks_lent(
     question: &[u8],
     site: &[u8],
@@ -244,6 +258,7 @@ fn picks_lent(
     true
 }
 
+// Steps from the picks of a text, with the first words and the first steps lent.
 fn build_text(
     question: &[u8],
     site: &[u8],
@@ -270,6 +285,7 @@ fn build_text(
     true
 }
 
+// Steps from lent picks.
 fn build_lent(
     question: &[u8],
     site: &[u8],
@@ -409,6 +425,7 @@ fn call_on_text(question: &[u8], site: &[u8], text: &[u8], name: u32, a: usize, 
     }
     build_text(question, site, text, &mut state, a, &mut list, b)
 }
+
 // The call on lent picks, with two lengths.
 fn call_on_picks(question: &[u8], site: &[u8], lent: &[u64], a: usize, b: usize) -> bool {
     let mut state = [7u64; 16];
@@ -427,20 +444,8 @@ fn wanted(name: u32) -> usize {
     2
 }
 
-// The number of a line's first word, which ends at w: 0 where it is none of a script, 13 for a comment.
-fn name(line: &[u8], w: usize) -> u32 {
-    if text::word(line, 0, w, b"question") {
-        return 1;
-    }
-    if text::word(line, 0, w, b"site") {
-        return 2;
-    }
-    if text::word(line, 0, w, b"text") {
-        return 3;
-    }
-    if text::word(line, 0, w, b"lent") {
-        return 4;
-    }
+// The number of the call that a word names, which ends at w; 0 where it names none.
+fn call_name(line: &[u8], w: usize) -> u32 {
     if text::word(line, 0, w, b"sizes") {
         return 5;
     }
@@ -465,13 +470,30 @@ fn name(line: &[u8], w: usize) -> u32 {
     if text::word(line, 0, w, b"build_lent") {
         return 12;
     }
+    0
+}
+
+// The number of a line's first word, which ends at w: 0 where it is none of a script, 13 for a comment.
+fn name(line: &[u8], w: usize) -> u32 {
+    if text::word(line, 0, w, b"question") {
+        return 1;
+    }
+    if text::word(line, 0, w, b"site") {
+        return 2;
+    }
+    if text::word(line, 0, w, b"text") {
+        return 3;
+    }
+    if text::word(line, 0, w, b"lent") {
+        return 4;
+    }
     if text::word(line, 0, w, b"#") {
         return 13;
     }
-    if text::word(line, 0, w, b"") {
+    if w == 0 {
         return 13;
     }
-    0
+    call_name(line, w)
 }
 
 // Makes the call of a line, whose numbers go to `lengths`, and those that are lent to `lent`.
@@ -638,6 +660,7 @@ fn run(s: &[u8]) -> Found {
     Found::At(t.from)
 }
 
+// Runs the script.
 fn main() {
     let mut script = [0u8; 65536];
     let count = io::read_full(0, &mut script);

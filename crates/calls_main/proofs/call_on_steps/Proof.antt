@@ -1,14 +1,10 @@
+-- `calls_main::call_on_steps` runs safely.
 use mathlib.Core.Path.{sym}
 use lib.Seq.{length-take-le}
 use native.Mathlib.Omega.{arith}
 use borrow.Author.Needs.{needs}
 use Rattle.calls_main.proofs.call_on_steps.Statement.{statement}
 use Rattle.calls_main.proofs.call_on_steps.Tie as tie
-use Rattle.calls_main.proofs.call_on_steps.Reads as reads
-use Rattle.calls_main.proofs.call_on_steps.Lts as lts
-use Rattle.calls_main.proofs.check_lent.Reads as check-lent-reads
-use Rattle.calls_main.proofs.narrow.Reads as narrow-reads
-use Rattle.calls_main.proofs.picks_lent.Reads as picks-lent-reads
 
 returns : tie.Need-returns
 returns c = search needs

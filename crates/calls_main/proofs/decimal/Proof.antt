@@ -1,11 +1,9 @@
+-- `calls_main::decimal` runs safely.
 use Prim.Native.Nat.{_-_, _≤_}
-use native.Mathlib.Omega.{arith}
 use lib.ListN.{length}
 use borrow.Author.Needs.{needs}
 use Rattle.calls_main.proofs.decimal.Statement.{statement}
 use Rattle.calls_main.proofs.decimal.Tie as tie
-use Rattle.calls_main.proofs.decimal.Reads as reads
-use Rattle.calls_main.proofs.decimal.Lts as lts
 
 abbrev Inv-loop : tie.InvT-loop
 Inv-loop w v₀ i₀ v i = i ≤ length w

@@ -1,15 +1,10 @@
+-- `calls_main::make` runs safely.
 use mathlib.Core.Path.{sym}
 use lib.Seq.{length-take-le}
 use native.Mathlib.Omega.{arith}
 use borrow.Author.Needs.{needs}
 use Rattle.calls_main.proofs.make.Statement.{statement}
 use Rattle.calls_main.proofs.make.Tie as tie
-use Rattle.calls_main.proofs.make.Reads as reads
-use Rattle.calls_main.proofs.make.Lts as lts
-use Rattle.calls_main.proofs.call.Reads as call-reads
-use Rattle.calls_main.proofs.numbers.Reads as numbers-reads
-use Rattle.calls_main.proofs.part.Reads as part-reads
-use Rattle.calls_main.proofs.wanted.Reads as wanted-reads
 
 numbers-requires : tie.Need-numbers-requires
 numbers-requires c κs = search needs

@@ -1,12 +1,10 @@
+-- `calls_main::narrow` runs safely.
 use mathlib.Core.Path.{_≡_}
 use Prim.Native.Nat.{_-_, _≤_}
-use native.Mathlib.Omega.{arith}
 use lib.ListN.{length}
 use borrow.Author.Needs.{needs}
 use Rattle.calls_main.proofs.narrow.Statement.{statement}
 use Rattle.calls_main.proofs.narrow.Tie as tie
-use Rattle.calls_main.proofs.narrow.Reads as reads
-use Rattle.calls_main.proofs.narrow.Lts as lts
 
 abbrev Inv-loop : tie.InvT-loop
 Inv-loop from out₀ i₀ out i = (i ≤ length from) × (length out ≡ length out₀)

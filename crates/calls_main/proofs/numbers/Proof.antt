@@ -1,15 +1,10 @@
+-- `calls_main::numbers` runs safely.
 use mathlib.Core.Path.{_≡_}
 use Prim.Native.Nat.{_-_, _≤_}
-use native.Mathlib.Omega.{arith}
 use lib.ListN.{length}
 use borrow.Author.Needs.{needs}
 use Rattle.calls_main.proofs.numbers.Statement.{statement}
 use Rattle.calls_main.proofs.numbers.Tie as tie
-use Rattle.calls_main.proofs.numbers.Reads as reads
-use Rattle.calls_main.proofs.numbers.Lts as lts
-use Rattle.calls_main.proofs.decimal.Reads as decimal-reads
-use Rattle.calls_main.proofs.part.Reads as part-reads
-use Rattle.text.proofs.find.Reads as find-reads
 
 abbrev Inv-loop : tie.InvT-loop
 Inv-loop line from out₀ at₀ n₀ out at n = length out ≡ length out₀

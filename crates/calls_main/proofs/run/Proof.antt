@@ -1,13 +1,9 @@
+-- `calls_main::run` runs safely.
 use Prim.Native.Nat.{_-_, _≤_}
-use native.Mathlib.Omega.{arith}
 use lib.ListN.{length}
 use borrow.Author.Needs.{needs}
 use Rattle.calls_main.proofs.run.Statement.{statement}
 use Rattle.calls_main.proofs.run.Tie as tie
-use Rattle.calls_main.proofs.run.Reads as reads
-use Rattle.calls_main.proofs.run.Lts as lts
-use Rattle.calls_main.proofs.turn.Reads as turn-reads
-use Rattle.text.proofs.find.Reads as find-reads
 
 abbrev Inv-loop : tie.InvT-loop
 Inv-loop s t₀ at₀ t at = Unit {0}

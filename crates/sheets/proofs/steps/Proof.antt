@@ -58,7 +58,7 @@ same-length-2 : tie.Need-same-length-2 Inv-loop μ-loop
 same-length-2 c = c .before .loop .inv .2
 
 returns-3 : tie.Need-returns-3 Inv-loop μ-loop
-returns-3 c = 
+returns-3 c =
     let a = reach-stop (c .before .before .before .before .before .args .s .now) (c .before .loop .at) (c .before .loop .n) (c .before .loop .inv .3) (omega arith) in
     (a, λ n p. let w = all-room (c .before .before .before .before .before .args .s .now) (Done (c .before .loop .n)) a (c .before .loop .n) (length (c .before .before .before .before .before .args .out .now)) refl (c .before .before .before .before .before .pre) in write-stop (c .before .before .before .before .before .args .s .now) (c .before .before .before .before .before .args .out .now) (c .before .loop .at) (c .before .loop .n) (c .before .loop .out) w (c .before .loop .inv .4 w) (omega arith))
 
