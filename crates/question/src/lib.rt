@@ -179,21 +179,28 @@ fn no_relations() -> Signature
     }
 }
 
+// What is known of a question that is refused before its rule.
+fn stopped(fault: u32, place: usize, g: Signature, span: Span) -> Head
+    ensures { λ r. ⌜ r ≡ record { fault = fault; place = place; sig = g; span = span; next = 0 } ⌝ }
+{
+    Head {
+        fault,
+        place,
+        sig: g,
+        span,
+        next: 0,
+    }
+}
+
 // Reads a question up to its rule's line.
 fn question_head(s: &[u8]) -> Head
     ensures { λ r. ⌜ Headed (now (s .entry)) r ⌝ }
 {
     let end = s.len();
+    let none = Span { from: 0, to: 0 };
     let mut g = no_relations();
     if 65536 < end {
-        let none = Span { from: 0, to: 0 };
-        return Head {
-            fault: 1,
-            place: 0,
-            sig: g,
-            span: none,
-            next: 0,
-        };
+        return stopped(1, 0, g, none);
     }
     let mut at = 0;
     while at < end {
@@ -211,25 +218,12 @@ fn question_head(s: &[u8]) -> Head
                     next: l.next,
                 };
             }
-            return Head {
-                fault: c,
-                place: at,
-                sig: g,
-                span: p,
-                next: 0,
-            };
+            return stopped(c, at, g, p);
         }
         g = grow(g, x);
         at = l.next;
     }
-    let none = Span { from: 0, to: 0 };
-    Head {
-        fault: 3,
-        place: end,
-        sig: g,
-        span: none,
-        next: 0,
-    }
+    stopped(3, end, g, none)
 }
 
 // What a line after the rule gets: whatever it is, it is refused.

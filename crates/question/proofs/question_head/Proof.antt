@@ -7,20 +7,25 @@ use borrow.Author.Needs.{needs}
 use Rattle.names.specs.declared.Signature.{Signature}
 use Rattle.question.proofs.Growing.{none-rels, none-chosen, none-roomy}
 use Rattle.question.proofs.Heading.{HeadAt, headed-long, head-start, head-sound, head-rule, head-bad, head-room, head-next, head-missing}
+use Rattle.question.specs.Drafts.{Headed}
+use Rattle.question.specs.declared.Head.{Head}
 use Rattle.question.proofs.question_head.Statement.{statement}
 use Rattle.question.proofs.question_head.Tie as tie
 
 abbrev Inv-loop : tie.InvT-loop
-Inv-loop s end g₀ at₀ g at = (at ≤ length s) × HeadAt s g at
+Inv-loop s end none g₀ at₀ g at = (at ≤ length s) × HeadAt s g at
 
 abbrev μ-loop : tie.MeasureT-loop
-μ-loop s end g₀ at₀ g at = end - at
+μ-loop s end none g₀ at₀ g at = end - at
 
 no-relations-requires : tie.Need-no-relations-requires Inv-loop μ-loop
 no-relations-requires c κs = search needs
 
+stopped-requires : tie.Need-stopped-requires Inv-loop μ-loop
+stopped-requires c κs = search needs
+
 returns : tie.Need-returns Inv-loop μ-loop
-returns c = headed-long (c .before .before .before .args .s .now) _ _ _ (none-rels (c .before .no-relations .result) (c .before .no-relations .ensures)) (none-chosen (c .before .no-relations .result) (c .before .no-relations .ensures)) (c .if1 .taken)
+returns c = subst (λ (h : Head). Headed (c .before .before .before .before .args .s .now) h) (sym (c .stopped .ensures)) (headed-long (c .before .before .before .before .args .s .now) _ _ _ (none-rels (c .before .before .no-relations .result) (c .before .before .no-relations .ensures)) (none-chosen (c .before .before .no-relations .result) (c .before .before .no-relations .ensures)) (c .before .if1 .taken))
 
 loop-holds : tie.Need-loop-holds Inv-loop μ-loop
 loop-holds c = (omega arith, head-start (c .before .before .before .args .s .now) _ (none-rels (c .before .no-relations .result) (c .before .no-relations .ensures)) (none-chosen (c .before .no-relations .result) (c .before .no-relations .ensures)) (none-roomy (c .before .no-relations .result) (c .before .no-relations .ensures)) (omega arith))
@@ -37,8 +42,11 @@ rule-span-requires c κs = search needs
 returns-2 : tie.Need-returns-2 Inv-loop μ-loop
 returns-2 c = head-rule (c .before .before .before .before .before .before .before .before .before .before .args .s .now) (c .before .before .before .before .before .before .loop .g) (c .before .before .before .before .before .before .loop .at) (c .before .before .before .before .before .before .loop .inv .1) (c .before .before .before .before .line .result .next) (c .before .before .before .before .line .result .entry) (c .before .before .before .before .line .ensures .2) (c .before .before .before .before .line .ensures .3) (c .before .before .before .judge .result) (c .before .before .before .judge .ensures) (c .if3 .taken) (c .before .before .before .before .line .ensures .1) _ (c .before .rule-span .ensures)
 
+stopped-requires-2 : tie.Need-stopped-requires-2 Inv-loop μ-loop
+stopped-requires-2 c κs = search needs
+
 returns-3 : tie.Need-returns-3 Inv-loop μ-loop
-returns-3 c = head-bad (c .before .before .before .before .before .before .before .before .before .before .args .s .now) (c .before .before .before .before .before .before .loop .g) (c .before .before .before .before .before .before .loop .at) (c .before .before .before .before .before .before .loop .inv .1) (c .before .before .before .before .line .result .next) (c .before .before .before .before .line .result .entry) (c .before .before .before .before .line .ensures .2) (c .before .before .before .before .line .ensures .3) (c .before .before .before .judge .result) (c .before .before .before .judge .ensures) (c .before .before .if2 .taken) (c .if3 .left) _ _
+returns-3 c = subst (λ (h : Head). Headed (c .before .before .before .before .before .before .before .before .before .before .before .args .s .now) h) (sym (c .stopped2 .ensures)) (head-bad (c .before .before .before .before .before .before .before .before .before .before .before .args .s .now) (c .before .before .before .before .before .before .before .loop .g) (c .before .before .before .before .before .before .before .loop .at) (c .before .before .before .before .before .before .before .loop .inv .1) (c .before .before .before .before .before .line .result .next) (c .before .before .before .before .before .line .result .entry) (c .before .before .before .before .before .line .ensures .2) (c .before .before .before .before .before .line .ensures .3) (c .before .before .before .before .judge .result) (c .before .before .before .before .judge .ensures) (c .before .before .before .if2 .taken) (c .before .if3 .left) _ _)
 
 grow-requires : tie.Need-grow-requires Inv-loop μ-loop
 grow-requires c κs = head-room (c .before .before .before .before .before .before .before .before .args .s .now) (c .before .before .before .before .loop .g) (c .before .before .line .result .entry) (c .before .judge .result) (head-sound (c .before .before .before .before .before .before .before .before .args .s .now) (c .before .before .before .before .loop .g) (c .before .before .before .before .loop .at) (c .before .before .before .before .loop .inv .1)) (c .before .judge .ensures) (omega arith)
@@ -49,8 +57,11 @@ loop-less c = omega (arith, c .before .before .before .line .ensures .0, c .befo
 loop-again : tie.Need-loop-again Inv-loop μ-loop
 loop-again c = (c .before .before .before .line .ensures .1, subst (λ (g : Signature). HeadAt (c .before .before .before .before .before .before .before .before .before .args .s .now) g (c .before .before .before .line .result .next)) (sym (c .grow .ensures)) (head-next (c .before .before .before .before .before .before .before .before .before .args .s .now) (c .before .before .before .before .before .loop .g) (c .before .before .before .before .before .loop .at) (c .before .before .before .before .before .loop .inv .1) (c .before .before .before .line .result .next) (c .before .before .before .line .result .entry) (c .before .before .before .line .ensures .2) (c .before .before .before .line .ensures .3) (c .before .before .judge .result) (c .before .before .judge .ensures) (omega arith)))
 
+stopped-requires-3 : tie.Need-stopped-requires-3 Inv-loop μ-loop
+stopped-requires-3 c κs = search needs
+
 returns-4 : tie.Need-returns-4 Inv-loop μ-loop
-returns-4 c = head-missing (c .before .before .before .before .before .args .s .now) (c .before .loop .g) (c .before .loop .at) (c .before .loop .inv .1) (omega arith) _ _
+returns-4 c = subst (λ (h : Head). Headed (c .before .before .before .before .before .before .args .s .now) h) (sym (c .stopped3 .ensures)) (head-missing (c .before .before .before .before .before .before .args .s .now) (c .before .before .loop .g) (c .before .before .loop .at) (c .before .before .loop .inv .1) (omega arith) _ _)
 
 pub question-head-spec : {M : Type 1} → statement M
 question-head-spec =
@@ -59,14 +70,17 @@ question-head-spec =
     Inv-loop
     μ-loop
     no-relations-requires
+    stopped-requires
     returns
     loop-holds
     line-requires
     judge-requires
     rule-span-requires
     returns-2
+    stopped-requires-2
     returns-3
     grow-requires
     loop-less
     loop-again
+    stopped-requires-3
     returns-4)
