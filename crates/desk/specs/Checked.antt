@@ -1,25 +1,23 @@
 -- A third sheet of steps: the order of refusals, the run, and the report. Assumes nothing.
-use Prim.Native.Nat.{ℕ, _+_, _*_, _/_, _≤_}
+use Prim.Native.Nat.{ℕ, _+_, _/_, _≤_}
 use mathlib.Core.Path.{_≡_, refl, sym, ap, subst₂, _∙_}
 use mathlib.Core.Bool.{Bool, true, false}
-use mathlib.Core.List.{List, [], _∷_, _++_}
+use mathlib.Core.List.{List, _++_}
 use native.Mathlib.Omega.{arith}
 use lib.Dec.{ltb}
-use lib.ListN.{length, take, length-append}
+use lib.ListN.{length, take}
 use lib.Seq.{take-append-seam}
 use borrow.Author.Tests.{le-ltb}
-use Rattle.definitions.specs.Lists.{flatMap}
 use Rattle.definitions.specs.Limits.{deskWords}
 use Rattle.definitions.specs.Refusal.{Result, refused, accepted, _>>=_, refuseIf}
 use Rattle.definitions.specs.Truth.{Case}
 use Rattle.definitions.specs.Atoms.{Problem, problemOf, atoms}
 use Rattle.definitions.specs.Strips.{run, picksOf}
 use Rattle.definitions.specs.Outcome.{readCase, ground, roomFor, stateLength, asText, takeSteps, readyToRun, Plan, written}
-use Rattle.definitions.specs.Desk.{stepLine, printed, checkedPlan}
+use Rattle.definitions.specs.Desk.{printed, checkedPlan}
 use Rattle.laws.specs.Words.{state-length}
 use Rattle.reduction.specs.Told.{steps-told}
 use Rattle.reduction.specs.Grounded.{good}
-use Rattle.printing.specs.Lines.{step-is}
 use Rattle.bits.specs.Table.{bit}
 use Rattle.opening.specs.declared.Opened.{Opened}
 use Rattle.opening.specs.Read.{CaseRead}
@@ -34,6 +32,7 @@ use Rattle.cases.specs.Replies.{readied}
 use Rattle.reading.specs.Copies.{picksIn, Copied}
 use Rattle.reading.specs.CopyLaws.{picks-in, copied-done}
 use Rattle.building.specs.Picked.{text-fits}
+use Rattle.sheets.proofs.Numbers.{lines-long}
 use Rattle.desk.specs.Replied.{Replies, answer-as, text-as, reportOf}
 use Rattle.desk.specs.Known.{Known, IsKnown, known-read, front-agrees, report-as, state-fits}
 
@@ -66,15 +65,7 @@ module _ (question site text : List ℕ) (o : Opened) (facts : ℕ → Bool) (ca
       → Replies (printed (checkedPlan question site text)) old new r
   text-checked ks t old new r h = let (c, q, K) = known-read question site o facts case z in answer-as _ _ old new r (steps-read question site text c q ks t) (h c K)
 
--- a step has a line of four bytes at least, so there are few of them
-step-long : (k : ℕ) → 4 ≤ length (stepLine k)
-step-long k = rw (step-is k) (omega arith)
-
-lines-long : (ks : List ℕ) → 4 * length ks ≤ length (flatMap stepLine ks)
-unfolding flatMap
-lines-long [] = omega arith
-lines-long (k ∷ ks) = omega (arith, step-long k, lines-long ks, length-append (stepLine k) (flatMap stepLine ks))
-
+-- a step has a line of seven bytes at least, so there are few of them
 pub steps-few : (text ks : List ℕ) → takeSteps (asText text) ≡ accepted ks → length text ≤ 16384 → length ks ≤ 8192
 unfolding takeSteps
 steps-few text ks e h = omega (arith, ap length (steps-told text ks e .0), lines-long ks)

@@ -184,7 +184,7 @@ step-long : (k : ℕ) → 7 ≤ length (stepLine k)
 unfolding stepLine printLine decimal bytes
 step-long k = omega (arith, some-digit 19 k, length-append (decimalIn 20 k) (10 ∷ []))
 
-lines-long : (ks : List ℕ) → 7 * length ks ≤ length (flatMap stepLine ks)
+pub lines-long : (ks : List ℕ) → 7 * length ks ≤ length (flatMap stepLine ks)
 unfolding flatMap
 lines-long [] = omega arith
 lines-long (k ∷ ks) = omega (arith, step-long k, lines-long ks, length-append (stepLine k) (flatMap stepLine ks))
