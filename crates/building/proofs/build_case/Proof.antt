@@ -10,9 +10,6 @@ use borrow.Author.Needs.{needs}
 use Rattle.building.proofs.build_case.Statement.{statement}
 use Rattle.building.proofs.build_case.Tie as tie
 
-slice-aggregate-ground-case : tie.Need-slice-aggregate-ground-case
-slice-aggregate-ground-case c = search needs
-
 ground-case-requires : tie.Need-ground-case-requires
 ground-case-requires c κs = ((search needs, most-zeros 1133 0), search needs)
 
@@ -21,9 +18,6 @@ returns c = record {
   fit = λ j. omega (arith, c .before .before .before .before .before .before .shared-slice-known3 .given j);
   builds = λ x F h A held. builds-over x _ F _ _ _ _ (c .before .before .ground-case .ensures x _ h) (c .if1 .taken);
 }
-
-slice-aggregate-picks-length : tie.Need-slice-aggregate-picks-length
-slice-aggregate-picks-length c = search needs
 
 picks-length-requires : tie.Need-picks-length-requires
 picks-length-requires c κs = tabled (c .before .before .before .before .before .before .before .before .before .before .pre .case) _ _ (c .before .before .before .ground-case .ensures (c .before .before .before .before .before .before .before .before .before .before .pre .case) _ (c .before .before .before .before .before .before .before .before .before .before .pre .holds)) (c .before .if1 .left) .fits
@@ -55,20 +49,8 @@ returns-4 c = record {
       builds-steps x _ F _ _ _ _ g (c .before .before .before .before .before .before .if1 .left) _ (c .before .before .before .before .picks-length .ensures .1 (problemOf x) (tabled x _ _ g (c .before .before .before .before .before .before .if1 .left) .is)) (omega arith) (omega arith) (c .if4 .taken);
 }
 
-slice-aggregate-spare-word : tie.Need-slice-aggregate-spare-word
-slice-aggregate-spare-word c = search needs
-
 spare-word-requires : tie.Need-spare-word-requires
 spare-word-requires c κs = tabled (c .before .before .before .before .before .before .before .before .before .before .before .before .before .before .before .before .pre .case) _ _ (c .before .before .before .before .before .before .before .before .before .ground-case .ensures (c .before .before .before .before .before .before .before .before .before .before .before .before .before .before .before .before .pre .case) _ (c .before .before .before .before .before .before .before .before .before .before .before .before .before .before .before .before .pre .holds)) (c .before .before .before .before .before .before .before .if1 .left) .fits
-
-enum-known-s : tie.Need-enum-known-s
-enum-known-s c = search needs
-
-enum-told : tie.Need-enum-told
-enum-told c = search needs
-
-slice-aggregate-start-and-build : tie.Need-slice-aggregate-start-and-build
-slice-aggregate-start-and-build c = search needs
 
 slice-aggregate-start-and-build-2 : tie.Need-slice-aggregate-start-and-build-2
 slice-aggregate-start-and-build-2 c = sym (length-take-le _ _ (omega arith))
@@ -79,9 +61,6 @@ start-and-build-requires c κs =
     let t = tabled (c .before .before .before .before .before .before .before .before .before .before .before .before .before .before .before .before .before .before .before .before .before .before .before .pre .case) _ _ g (c .before .before .before .before .before .before .before .before .before .before .before .before .before .before .if1 .left) in
     (t .fits, t .ends ∙ sym (t .atoms-are), omega (arith, atoms-few (c .before .before .before .before .before .before .before .before .before .before .before .before .before .before .before .before .before .before .before .before .before .before .before .pre .case) _ _ g (c .before .before .before .before .before .before .before .before .before .before .before .before .before .before .if1 .left)), omega arith)
 
-reply-of-requires : tie.Need-reply-of-requires
-reply-of-requires c κs = search needs
-
 returns-5 : tie.Need-returns-5
 returns-5 c = record {
   fit = λ j. omega (arith, c .before .before .before .before .before .before .before .before .before .before .before .before .before .before .before .before .before .shared-slice-known3 .given j);
@@ -90,12 +69,6 @@ returns-5 c = record {
       let is = tabled x _ _ g (c .before .before .before .before .before .before .before .before .before .before .before .if1 .left) .is in
       builds-spare x _ F _ _ _ _ g (c .before .before .before .before .before .before .before .before .before .before .before .if1 .left) _ (c .before .before .before .before .before .before .before .before .before .picks-length .ensures .1 (problemOf x) is) (omega arith) (omega arith) (omega arith) _ (c .before .before .before .spare-word .ensures (problemOf x) is) _ (c .before .s .given .1);
 }
-
-same-length : tie.Need-same-length
-same-length c = search needs
-
-same-length-2 : tie.Need-same-length-2
-same-length-2 c = search needs
 
 returns-6 : tie.Need-returns-6
 returns-6 c = record {
@@ -110,24 +83,24 @@ pub build-case-spec : {M : Type 1} → statement M
 build-case-spec =
     tie.close
     (tie.spec
-    slice-aggregate-ground-case
+    (λ c. search needs)
     ground-case-requires
     returns
-    slice-aggregate-picks-length
+    (λ c. search needs)
     picks-length-requires
     returns-2
     add-words
     returns-3
     returns-4
-    slice-aggregate-spare-word
+    (λ c. search needs)
     spare-word-requires
-    enum-known-s
-    enum-told
-    slice-aggregate-start-and-build
+    (λ c. search needs)
+    (λ c. search needs)
+    (λ c. search needs)
     slice-aggregate-start-and-build-2
     start-and-build-requires
-    reply-of-requires
+    (λ c κs. search needs)
     returns-5
-    same-length
-    same-length-2
+    (λ c. search needs)
+    (λ c. search needs)
     returns-6)

@@ -6,15 +6,6 @@ use borrow.Author.Needs.{needs}
 use Rattle.building.proofs.reply_of.Statement.{statement}
 use Rattle.building.proofs.reply_of.Tie as tie
 
-enum-known-a : tie.Need-enum-known-a
-enum-known-a c = search needs
-
-enum-known-a-2 : tie.Need-enum-known-a-2
-enum-known-a-2 c = search needs
-
-enum-told : tie.Need-enum-told
-enum-told c = search needs
-
 returns : tie.Need-returns
 unfolding resultOf answered
 returns c = sym (ap answered (c .before .a .given .1))
@@ -29,4 +20,4 @@ returns-3 c = sym (ap answered (c .enum-told .given .1))
 
 pub reply-of-spec : {M : Type 1} → statement M
 reply-of-spec =
-    tie.close (tie.spec enum-known-a enum-known-a-2 enum-told returns returns-2 returns-3)
+    tie.close (tie.spec (λ c. search needs) (λ c. search needs) (λ c. search needs) returns returns-2 returns-3)

@@ -32,9 +32,6 @@ relation-line-requires c κs = (c .before .before .before .before .before .pre .
 has-spare-requires : tie.Need-has-spare-requires Inv-loop μ-loop
 has-spare-requires c κs = (omega (arith, c .before .before .before .before .before .before .pre .relations), words-few _ _ (c .before .before .before .before .before .before .pre) _ (c .relation-line .ensures) .2)
 
-tuples-in-requires : tie.Need-tuples-in-requires Inv-loop μ-loop
-tuples-in-requires c κs = search needs
-
 add-t12 : tie.Need-add-t12 Inv-loop μ-loop
 add-t12 c = omega (arith, c .before .before .before .before .before .before .before .before .before .pre .relations, c .tuples-in .ensures, words-few _ _ (c .before .before .before .before .before .before .before .before .before .pre) _ (c .before .before .before .relation-line .ensures) .2)
 
@@ -50,9 +47,6 @@ add-word c = omega (arith, c .before .before .before .before .before .before .be
 
 add-r : tie.Need-add-r Inv-loop μ-loop
 add-r c = omega (arith, c .before .before .before .before .before .before .before .before .before .pre .relations)
-
-loop-less : tie.Need-loop-less Inv-loop μ-loop
-loop-less c = omega arith
 
 loop-again : tie.Need-loop-again Inv-loop μ-loop
 loop-again c = (omega arith, omega (arith, c .words-in .ensures, words-few _ _ (c .before .before .before .before .before .before .before .before .before .pre) _ (c .before .before .before .relation-line .ensures) .3), λ p is. c .before .before .before .before .before .before .loop .inv .2 p is ∙ spare-no p _ (λ j. omega (arith, c .before .before .before .before .before .before .before .shared-slice-known2 .given j)) _ _ (omega (arith, is .relations)) _ is _ (c .before .before .before .relation-line .ensures) (sym (c .before .before .has-spare .ensures) ∙ c .before .if2 .left) _ (c .words-in .ensures))
@@ -71,12 +65,12 @@ spare-word-spec =
     shared-slice-read-if1
     relation-line-requires
     has-spare-requires
-    tuples-in-requires
+    (λ c κs. search needs)
     add-t12
     returns
     words-in-requires
     add-word
     add-r
-    loop-less
+    (λ c. omega arith)
     loop-again
     returns-2)

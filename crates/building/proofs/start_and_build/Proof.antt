@@ -8,12 +8,6 @@ use borrow.Author.Needs.{needs}
 use Rattle.building.proofs.start_and_build.Statement.{statement}
 use Rattle.building.proofs.start_and_build.Tie as tie
 
-add-words : tie.Need-add-words
-add-words c = search needs
-
-array-borrow-prefix-start : tie.Need-array-borrow-prefix-start
-array-borrow-prefix-start c = search needs
-
 slice-aggregate-initial-state : tie.Need-slice-aggregate-initial-state
 slice-aggregate-initial-state c = sym (length-take-le _ _ (omega arith))
 
@@ -29,12 +23,6 @@ slice-aggregate-build c = sym (length-take-le _ _ (front-fits _ _ (c .before .be
 build-requires : tie.Need-build-requires
 build-requires c κs = (c .before .before .before .before .before .before .before .before .before .before .before .pre .0, c .before .before .before .before .before .before .before .before .before .before .before .pre .2, front-short ((c .before .before .before .before .before .before .before .before .before .before .before .args .atoms + 63) / 64) 1024 _ (omega arith), c .before .before .before .before .before .before .before .before .before .before .before .pre .3)
 
-same-length : tie.Need-same-length
-same-length c = search needs
-
-same-length-2 : tie.Need-same-length-2
-same-length-2 c = search needs
-
 returns : tie.Need-returns
 returns c = λ x F G. c .before .before .before .before .build .ensures x F (G .case) (G .picks) (G .is) (G .picked) (G .atoms-are) (G .few) (started x F _ _ _ _ _ G (c .before .before .before .before .before .before .before .before .before .before .before .before .before .before .before .before .pre .1) _ _ _ (c .before .before .before .before .before .before .before .before .before .initial-state .ensures) (length-take-le _ _ (omega arith)) (c .before .before .before .before .before .before .before .before .before .initial-state .kept .1 .1 .0 ∙ length-take-le _ _ (omega arith))) (G .steps-room)
 
@@ -42,13 +30,13 @@ pub start-and-build-spec : {M : Type 1} → statement M
 start-and-build-spec =
     tie.close
     (tie.spec
-    add-words
-    array-borrow-prefix-start
+    (λ c. search needs)
+    (λ c. search needs)
     slice-aggregate-initial-state
     initial-state-requires
     array-share-prefix-start
     slice-aggregate-build
     build-requires
-    same-length
-    same-length-2
+    (λ c. search needs)
+    (λ c. search needs)
     returns)

@@ -8,26 +8,17 @@ use borrow.Author.Needs.{needs}
 use Rattle.cases.proofs.action.Statement.{statement}
 use Rattle.cases.proofs.action.Tie as tie
 
-slice-aggregate-read-case : tie.Need-slice-aggregate-read-case
-slice-aggregate-read-case c = search needs
-
 read-case-requires : tie.Need-read-case-requires
 read-case-requires c κs = (omega arith, zeros-clear 512)
 
 returns : tie.Need-returns
 returns c = asked-case _ _ _ _ _ (c .before .before .before .read-case .ensures) (c .if1 .taken)
 
-slice-aggregate-ground-case : tie.Need-slice-aggregate-ground-case
-slice-aggregate-ground-case c = search needs
-
 ground-case-requires : tie.Need-ground-case-requires
 ground-case-requires c κs = ((search needs, most-zeros 1133 0), record { case = case-read _ _ _ _ (c .before .before .before .before .read-case .ensures) (c .before .if1 .left) .0; facts = _; holds = case-read _ _ _ _ (c .before .before .before .before .read-case .ensures) (c .before .if1 .left) .2 })
 
 returns-2 : tie.Need-returns-2
 returns-2 c = asked-over _ _ _ _ _ (c .before .before .before .before .before .before .before .read-case .ensures) (c .before .before .before .before .if1 .left) _ _ (λ x h. c .before .before .ground-case .ensures x _ h) (c .if2 .taken)
-
-slice-aggregate-action-at : tie.Need-slice-aggregate-action-at
-slice-aggregate-action-at c = search needs
 
 action-at-requires : tie.Need-action-at-requires
 action-at-requires c κs = asked-table _ _ 0 _ _ (c .before .before .before .before .before .before .before .before .before .before .read-case .ensures) (c .before .before .before .before .before .before .before .if1 .left) _ _ (λ x h. c .before .before .before .before .before .ground-case .ensures x _ h) (c .before .before .before .if2 .left)
@@ -42,13 +33,13 @@ pub action-spec : {M : Type 1} → statement M
 action-spec =
     tie.close
     (tie.spec
-    slice-aggregate-read-case
+    (λ c. search needs)
     read-case-requires
     returns
-    slice-aggregate-ground-case
+    (λ c. search needs)
     ground-case-requires
     returns-2
-    slice-aggregate-action-at
+    (λ c. search needs)
     action-at-requires
     returns-3
     returns-4)

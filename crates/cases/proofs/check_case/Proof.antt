@@ -9,9 +9,6 @@ use borrow.Author.Needs.{needs}
 use Rattle.cases.proofs.check_case.Statement.{statement}
 use Rattle.cases.proofs.check_case.Tie as tie
 
-slice-aggregate-ground-case : tie.Need-slice-aggregate-ground-case
-slice-aggregate-ground-case c = search needs
-
 ground-case-requires : tie.Need-ground-case-requires
 ground-case-requires c κs = ((search needs, most-zeros 1133 0), search needs)
 
@@ -24,23 +21,11 @@ add-words c = omega (arith, atoms-few (c .before .before .before .before .before
 returns-2 : tie.Need-returns-2
 returns-2 c = λ x h. checks-short x _ _ _ _ (c .before .before .before .before .ground-case .ensures x _ h) (c .before .before .if1 .left) (c .if2 .taken)
 
-slice-aggregate-start-and-run : tie.Need-slice-aggregate-start-and-run
-slice-aggregate-start-and-run c = search needs
-
-slice-relend-prefix-start-and-run : tie.Need-slice-relend-prefix-start-and-run
-slice-relend-prefix-start-and-run c = search needs
-
 slice-aggregate-start-and-run-2 : tie.Need-slice-aggregate-start-and-run-2
 slice-aggregate-start-and-run-2 c = sym (length-take-le _ _ (omega arith))
 
 start-and-run-requires : tie.Need-start-and-run-requires
 start-and-run-requires c κs = (table-is (c .before .before .before .before .before .before .before .before .before .before .before .before .pre .case) _ _ (c .before .before .before .before .before .before .ground-case .ensures (c .before .before .before .before .before .before .before .before .before .before .before .before .pre .case) _ (c .before .before .before .before .before .before .before .before .before .before .before .before .pre .holds)) (c .before .before .before .before .if1 .left), words-fit (c .before .before .before .before .before .before .before .before .before .before .before .before .pre .case) _ _ (c .before .before .before .before .before .before .ground-case .ensures (c .before .before .before .before .before .before .before .before .before .before .before .before .pre .case) _ (c .before .before .before .before .before .before .before .before .before .before .before .before .pre .holds)) (c .before .before .before .before .if1 .left) _ (sym (length-take-le _ _ (omega arith))))
-
-reply-of-requires : tie.Need-reply-of-requires
-reply-of-requires c κs = search needs
-
-same-length : tie.Need-same-length
-same-length c = search needs
 
 returns-3 : tie.Need-returns-3
 returns-3 c = λ x h. checks-ran x _ _ _ _ (c .before .before .before .before .before .before .before .before .before .before .ground-case .ensures x _ h) (c .before .before .before .before .before .before .before .before .if1 .left) (omega arith) _ _ _ _ (ran-of x _ _ (c .before .before .before .before .before .before .before .before .before .before .ground-case .ensures x _ h) (c .before .before .before .before .before .before .before .before .if1 .left) _ _ _ _ _ _ _ h (sym (length-take-le _ _ (omega arith))) (c .before .before .before .start-and-run .ensures)) refl (c .reply-of .ensures)
@@ -49,15 +34,15 @@ pub check-case-spec : {M : Type 1} → statement M
 check-case-spec =
     tie.close
     (tie.spec
-    slice-aggregate-ground-case
+    (λ c. search needs)
     ground-case-requires
     returns
     add-words
     returns-2
-    slice-aggregate-start-and-run
-    slice-relend-prefix-start-and-run
+    (λ c. search needs)
+    (λ c. search needs)
     slice-aggregate-start-and-run-2
     start-and-run-requires
-    reply-of-requires
-    same-length
+    (λ c κs. search needs)
+    (λ c. search needs)
     returns-3)

@@ -7,9 +7,6 @@ use borrow.Author.Needs.{needs}
 use Rattle.cases.proofs.check_lent.Statement.{statement}
 use Rattle.cases.proofs.check_lent.Tie as tie
 
-slice-aggregate-read-case : tie.Need-slice-aggregate-read-case
-slice-aggregate-read-case c = search needs
-
 read-case-requires : tie.Need-read-case-requires
 read-case-requires c κs = (omega arith, zeros-clear 512)
 
@@ -19,14 +16,8 @@ returns c = call-case _ _ _ _ _ _ (c .before .before .before .read-case .ensures
 returns-2 : tie.Need-returns-2
 returns-2 c = call-steps _ _ _ _ _ _ (c .before .before .before .before .read-case .ensures) (c .before .if1 .left) _ _ (lent-many _ (c .if2 .taken))
 
-slice-aggregate-check-case : tie.Need-slice-aggregate-check-case
-slice-aggregate-check-case c = search needs
-
 check-case-requires : tie.Need-check-case-requires
 check-case-requires c κs = case-in _ _ _ _ (c .before .before .before .before .before .before .read-case .ensures) (c .before .before .before .if1 .left)
-
-same-length : tie.Need-same-length
-same-length c = search needs
 
 returns-3 : tie.Need-returns-3
 returns-3 c = call-ran _ _ _ _ _ _ (c .before .before .before .before .before .before .before .before .before .read-case .ensures) (c .before .before .before .before .before .before .if1 .left) _ (lent-few _ (omega arith)) _ _ (c .before .before .check-case .ensures)
@@ -35,11 +26,11 @@ pub check-lent-spec : {M : Type 1} → statement M
 check-lent-spec =
     tie.close
     (tie.spec
-    slice-aggregate-read-case
+    (λ c. search needs)
     read-case-requires
     returns
     returns-2
-    slice-aggregate-check-case
+    (λ c. search needs)
     check-case-requires
-    same-length
+    (λ c. search needs)
     returns-3)

@@ -6,18 +6,6 @@ use borrow.Author.Needs.{needs}
 use Rattle.cases.proofs.reply_of.Statement.{statement}
 use Rattle.cases.proofs.reply_of.Tie as tie
 
-enum-known-e : tie.Need-enum-known-e
-enum-known-e c = search needs
-
-enum-known-e-2 : tie.Need-enum-known-e-2
-enum-known-e-2 c = search needs
-
-enum-known-e-3 : tie.Need-enum-known-e-3
-enum-known-e-3 c = search needs
-
-enum-known-e-4 : tie.Need-enum-known-e-4
-enum-known-e-4 c = search needs
-
 returns : tie.Need-returns
 unfolding resultOf ended
 returns c = sym (ap ended (c .before .e .given .1))
@@ -38,10 +26,10 @@ pub reply-of-spec : {M : Type 1} → statement M
 reply-of-spec =
     tie.close
     (tie.spec
-    enum-known-e
-    enum-known-e-2
-    enum-known-e-3
-    enum-known-e-4
+    (λ c. search needs)
+    (λ c. search needs)
+    (λ c. search needs)
+    (λ c. search needs)
     returns
     returns-2
     returns-3

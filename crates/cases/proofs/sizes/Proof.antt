@@ -8,17 +8,11 @@ use borrow.Author.Needs.{needs}
 use Rattle.cases.proofs.sizes.Statement.{statement}
 use Rattle.cases.proofs.sizes.Tie as tie
 
-slice-aggregate-read-case : tie.Need-slice-aggregate-read-case
-slice-aggregate-read-case c = search needs
-
 read-case-requires : tie.Need-read-case-requires
 read-case-requires c κs = (omega arith, zeros-clear 512)
 
 returns : tie.Need-returns
 returns c = sizes-case _ _ _ _ (c .before .before .before .read-case .ensures) (c .if1 .taken)
-
-slice-aggregate-ground-case : tie.Need-slice-aggregate-ground-case
-slice-aggregate-ground-case c = search needs
 
 ground-case-requires : tie.Need-ground-case-requires
 ground-case-requires c κs = ((search needs, most-zeros 1133 0), record { case = case-read _ _ _ _ (c .before .before .before .before .read-case .ensures) (c .before .if1 .left) .0; facts = _; holds = case-read _ _ _ _ (c .before .before .before .before .read-case .ensures) (c .before .if1 .left) .2 })
@@ -34,10 +28,10 @@ pub sizes-spec : {M : Type 1} → statement M
 sizes-spec =
     tie.close
     (tie.spec
-    slice-aggregate-read-case
+    (λ c. search needs)
     read-case-requires
     returns
-    slice-aggregate-ground-case
+    (λ c. search needs)
     ground-case-requires
     returns-2
     returns-3)

@@ -5,17 +5,8 @@ use borrow.Author.Needs.{needs}
 use Rattle.checking.proofs.start_and_run.Statement.{statement}
 use Rattle.checking.proofs.start_and_run.Tie as tie
 
-initial-state-requires : tie.Need-initial-state-requires
-initial-state-requires c κs = search needs
-
-run-requires : tie.Need-run-requires
-run-requires c κs = search needs
-
-same-length : tie.Need-same-length
-same-length c = search needs
-
 returns : tie.Need-returns
 returns c = runs _ _ _ _ _ _ _ (c .before .before .before .before .before .before .initial-state .ensures) (search needs) (search needs) (λ j. omega (arith, c .slice-known3 .given j)) (c .before .before .run .ensures)
 
 pub start-and-run-spec : {M : Type 1} → statement M
-start-and-run-spec = tie.close (tie.spec initial-state-requires run-requires same-length returns)
+start-and-run-spec = tie.close (tie.spec (λ c κs. search needs) (λ c κs. search needs) (λ c. search needs) returns)

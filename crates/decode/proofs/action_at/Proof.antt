@@ -17,56 +17,8 @@ use Rattle.decode.proofs.proof_of.Reads as proof-of-reads
 use Rattle.ground.proofs.node_line.Reads as node-line-reads
 use Rattle.rows.proofs.locate.Reads as locate-reads
 
-shared-slice-read-n : tie.Need-shared-slice-read-n
-shared-slice-read-n c = search needs
-
-shared-slice-read-rels : tie.Need-shared-slice-read-rels
-shared-slice-read-rels c = search needs
-
-shared-slice-read-nodes : tie.Need-shared-slice-read-nodes
-shared-slice-read-nodes c = search needs
-
-mul-begin : tie.Need-mul-begin
-mul-begin c = search needs
-
-add-begin : tie.Need-add-begin
-add-begin c = search needs
-
-mul-begin-2 : tie.Need-mul-begin-2
-mul-begin-2 c = search needs
-
-shared-slice-read-begin : tie.Need-shared-slice-read-begin
-shared-slice-read-begin c = search needs
-
-mul-goal : tie.Need-mul-goal
-mul-goal c = search needs
-
-add-goal : tie.Need-add-goal
-add-goal c = search needs
-
-mul-goal-2 : tie.Need-mul-goal-2
-mul-goal-2 c = search needs
-
-shared-slice-read-goal : tie.Need-shared-slice-read-goal
-shared-slice-read-goal c = search needs
-
 locate-requires : tie.Need-locate-requires
 locate-requires c κs = (omega (arith, c .before .before .before .before .before .before .before .pre .fits .whole, c .before .before .before .before .before .before .before .pre .fits .relations), omega (arith, sets-begin (c .before .before .before .before .before .before .before .pre .problem) (c .before .before .before .before .before .before .before .args .table .now) (c .before .before .before .before .before .before .before .pre .is)), c .if1 .taken)
-
-mul-row : tie.Need-mul-row
-mul-row c = search needs
-
-add-row : tie.Need-add-row
-add-row c = search needs
-
-mul-row-2 : tie.Need-mul-row-2
-mul-row-2 c = search needs
-
-shared-slice-read-row : tie.Need-shared-slice-read-row
-shared-slice-read-row c = search needs
-
-sub-row : tie.Need-sub-row
-sub-row c = search needs
 
 returns : tie.Need-returns
 returns c =
@@ -80,24 +32,6 @@ returns-2 c = (tt, λ p is. found-begin p (c .before .before .before .before .be
 
 locate-requires-2 : tie.Need-locate-requires-2
 locate-requires-2 c κs = (omega (arith, c .before .before .before .before .before .before .before .before .before .pre .fits .whole, c .before .before .before .before .before .before .before .before .before .pre .fits .nodes), omega (arith, acts-begin (c .before .before .before .before .before .before .before .before .before .pre .problem) (c .before .before .before .before .before .before .before .before .before .args .table .now) (c .before .before .before .before .before .before .before .before .before .pre .is)), c .if3 .taken)
-
-mul-off : tie.Need-mul-off
-mul-off c = search needs
-
-add-off : tie.Need-add-off
-add-off c = search needs
-
-mul-off-2 : tie.Need-mul-off-2
-mul-off-2 c = search needs
-
-shared-slice-read-off : tie.Need-shared-slice-read-off
-shared-slice-read-off c = search needs
-
-sub-off : tie.Need-sub-off
-sub-off c = search needs
-
-node-line-requires : tie.Need-node-line-requires
-node-line-requires c κs = search needs
 
 proof-of-requires : tie.Need-proof-of-requires
 proof-of-requires c κs =
@@ -124,32 +58,32 @@ pub action-at-spec : {M : Type 1} → statement M
 action-at-spec =
     tie.close
     (tie.spec
-    shared-slice-read-n
-    shared-slice-read-rels
-    shared-slice-read-nodes
-    mul-begin
-    add-begin
-    mul-begin-2
-    shared-slice-read-begin
-    mul-goal
-    add-goal
-    mul-goal-2
-    shared-slice-read-goal
+    (λ c. search needs)
+    (λ c. search needs)
+    (λ c. search needs)
+    (λ c. search needs)
+    (λ c. search needs)
+    (λ c. search needs)
+    (λ c. search needs)
+    (λ c. search needs)
+    (λ c. search needs)
+    (λ c. search needs)
+    (λ c. search needs)
     locate-requires
-    mul-row
-    add-row
-    mul-row-2
-    shared-slice-read-row
-    sub-row
+    (λ c. search needs)
+    (λ c. search needs)
+    (λ c. search needs)
+    (λ c. search needs)
+    (λ c. search needs)
     returns
     returns-2
     locate-requires-2
-    mul-off
-    add-off
-    mul-off-2
-    shared-slice-read-off
-    sub-off
-    node-line-requires
+    (λ c. search needs)
+    (λ c. search needs)
+    (λ c. search needs)
+    (λ c. search needs)
+    (λ c. search needs)
+    (λ c κs. search needs)
     proof-of-requires
     returns-3
     returns-4

@@ -13,18 +13,6 @@ use borrow.Author.Needs.{needs}
 use Rattle.decode.proofs.number_of.Statement.{statement}
 use Rattle.decode.proofs.number_of.Tie as tie
 
-shared-slice-read-n : tie.Need-shared-slice-read-n
-shared-slice-read-n c = search needs
-
-shared-slice-read-rels : tie.Need-shared-slice-read-rels
-shared-slice-read-rels c = search needs
-
-shared-slice-read-nodes : tie.Need-shared-slice-read-nodes
-shared-slice-read-nodes c = search needs
-
-enum-known-a : tie.Need-enum-known-a
-enum-known-a c = search needs
-
 relation-line-requires : tie.Need-relation-line-requires
 relation-line-requires c κs =
     let f = fits-of (c .before .before .before .before .before .before .before .args .table .now) (c .before .before .before .before .before .before .before .args .a) (Set (c .before .a .given .0 .0)) (c .before .a .given .1) (c .before .before .before .before .before .before .before .pre .1) in
@@ -38,26 +26,8 @@ add-result c =
 returns : tie.Need-returns
 returns c = number-of (c .before .before .before .before .before .before .before .before .before .before .args .table .now) (c .before .before .before .before .before .before .before .before .before .before .args .a) _ (number-set (c .before .before .before .before .before .before .before .before .before .before .args .table .now) (c .before .before .before .before .before .before .before .before .before .before .args .a) (c .before .before .before .before .a .given .0 .0) (c .before .before .relation-line .result) (c .before .before .before .before .a .given .1) (c .before .before .relation-line .ensures))
 
-enum-told : tie.Need-enum-told
-enum-told c = search needs
-
-mul-result : tie.Need-mul-result
-mul-result c = search needs
-
-add-result-2 : tie.Need-add-result-2
-add-result-2 c = search needs
-
-mul-result-2 : tie.Need-mul-result-2
-mul-result-2 c = search needs
-
-shared-slice-read-result : tie.Need-shared-slice-read-result
-shared-slice-read-result c = search needs
-
 returns-2 : tie.Need-returns-2
 returns-2 c = number-of (c .before .before .before .before .before .before .before .args .table .now) (c .before .before .before .before .before .before .before .args .a) _ (number-begin (c .before .before .before .before .before .before .before .args .table .now) (c .before .before .before .before .before .before .before .args .a) (c .before .enum-told .given .1))
-
-enum-known-a-2 : tie.Need-enum-known-a-2
-enum-known-a-2 c = search needs
 
 node-line-requires : tie.Need-node-line-requires
 node-line-requires c κs =
@@ -71,9 +41,6 @@ add-result-3 c =
 
 returns-3 : tie.Need-returns-3
 returns-3 c = number-of (c .before .before .before .before .before .before .before .before .before .before .args .table .now) (c .before .before .before .before .before .before .before .before .before .before .args .a) _ (number-and (c .before .before .before .before .before .before .before .before .before .before .args .table .now) (c .before .before .before .before .before .before .before .before .before .before .args .a) (c .before .before .before .before .a2 .given .0 .0) (c .before .before .node-line .result) (c .before .before .before .before .a2 .given .1) (c .before .before .node-line .ensures))
-
-enum-known-a-3 : tie.Need-enum-known-a-3
-enum-known-a-3 c = search needs
 
 node-line-requires-2 : tie.Need-node-line-requires-2
 node-line-requires-2 c κs =
@@ -104,9 +71,6 @@ add-result-5 c =
 returns-4 : tie.Need-returns-4
 returns-4 c = number-of (c .before .before .before .before .before .before .before .before .before .before .before .before .args .table .now) (c .before .before .before .before .before .before .before .before .before .before .before .before .args .a) _ (number-or (c .before .before .before .before .before .before .before .before .before .before .before .before .args .table .now) (c .before .before .before .before .before .before .before .before .before .before .before .before .args .a) (c .before .before .before .before .before .before .a3 .given .0 .0) (c .before .before .before .before .node-line2 .result) (c .before .before .before .before .before .before .a3 .given .1) (c .before .before .before .before .node-line2 .ensures))
 
-enum-known-a-4 : tie.Need-enum-known-a-4
-enum-known-a-4 c = search needs
-
 node-line-requires-3 : tie.Need-node-line-requires-3
 node-line-requires-3 c κs =
     let f = fits-of (c .before .before .before .before .before .before .before .args .table .now) (c .before .before .before .before .before .before .before .args .a) (Exists (c .before .a4 .given .0 .0)) (c .before .a4 .given .1) (c .before .before .before .before .before .before .before .pre .1) in
@@ -129,9 +93,6 @@ add-result-7 c =
 
 returns-5 : tie.Need-returns-5
 returns-5 c = number-of (c .before .before .before .before .before .before .before .before .before .before .before .args .table .now) (c .before .before .before .before .before .before .before .before .before .before .before .args .a) _ (number-exists (c .before .before .before .before .before .before .before .before .before .before .before .args .table .now) (c .before .before .before .before .before .before .before .before .before .before .before .args .a) (c .before .before .before .before .before .a4 .given .0 .0) (c .before .before .before .node-line3 .result) (c .before .before .before .before .before .a4 .given .1) (c .before .before .before .node-line3 .ensures))
-
-enum-known-a-5 : tie.Need-enum-known-a-5
-enum-known-a-5 c = search needs
 
 node-line-requires-4 : tie.Need-node-line-requires-4
 node-line-requires-4 c κs =
@@ -156,38 +117,8 @@ add-result-9 c =
 returns-6 : tie.Need-returns-6
 returns-6 c = number-of (c .before .before .before .before .before .before .before .before .before .before .before .args .table .now) (c .before .before .before .before .before .before .before .before .before .before .before .args .a) _ (number-forall (c .before .before .before .before .before .before .before .before .before .before .before .args .table .now) (c .before .before .before .before .before .before .before .before .before .before .before .args .a) (c .before .before .before .before .before .a5 .given .0 .0) (c .before .before .before .node-line4 .result) (c .before .before .before .before .before .a5 .given .1) (c .before .before .before .node-line4 .ensures))
 
-enum-told-2 : tie.Need-enum-told-2
-enum-told-2 c = search needs
-
-mul-result-6 : tie.Need-mul-result-6
-mul-result-6 c = search needs
-
-add-result-10 : tie.Need-add-result-10
-add-result-10 c = search needs
-
-mul-result-7 : tie.Need-mul-result-7
-mul-result-7 c = search needs
-
-shared-slice-read-result-2 : tie.Need-shared-slice-read-result-2
-shared-slice-read-result-2 c = search needs
-
 returns-7 : tie.Need-returns-7
 returns-7 c = number-of (c .before .before .before .before .before .before .before .args .table .now) (c .before .before .before .before .before .before .before .args .a) _ (number-goal (c .before .before .before .before .before .before .before .args .table .now) (c .before .before .before .before .before .before .before .args .a) (c .before .enum-told2 .given .1))
-
-enum-told-3 : tie.Need-enum-told-3
-enum-told-3 c = search needs
-
-mul-result-8 : tie.Need-mul-result-8
-mul-result-8 c = search needs
-
-add-result-11 : tie.Need-add-result-11
-add-result-11 c = search needs
-
-mul-result-9 : tie.Need-mul-result-9
-mul-result-9 c = search needs
-
-shared-slice-read-result-3 : tie.Need-shared-slice-read-result-3
-shared-slice-read-result-3 c = search needs
 
 add-result-12 : tie.Need-add-result-12
 add-result-12 c = omega (arith, c .before .before .before .before .before .before .before .pre .0 .entry (93 + 11 * nodesIn (c .before .before .before .before .before .before .before .args .table .now)))
@@ -199,51 +130,51 @@ pub number-of-spec : {M : Type 1} → statement M
 number-of-spec =
     tie.close
     (tie.spec
-    shared-slice-read-n
-    shared-slice-read-rels
-    shared-slice-read-nodes
-    enum-known-a
+    (λ c. search needs)
+    (λ c. search needs)
+    (λ c. search needs)
+    (λ c. search needs)
     relation-line-requires
     add-result
     returns
-    enum-told
-    mul-result
-    add-result-2
-    mul-result-2
-    shared-slice-read-result
+    (λ c. search needs)
+    (λ c. search needs)
+    (λ c. search needs)
+    (λ c. search needs)
+    (λ c. search needs)
     returns-2
-    enum-known-a-2
+    (λ c. search needs)
     node-line-requires
     add-result-3
     returns-3
-    enum-known-a-3
+    (λ c. search needs)
     node-line-requires-2
     mul-result-3
     add-result-4
     add-result-5
     returns-4
-    enum-known-a-4
+    (λ c. search needs)
     node-line-requires-3
     mul-result-4
     add-result-6
     add-result-7
     returns-5
-    enum-known-a-5
+    (λ c. search needs)
     node-line-requires-4
     mul-result-5
     add-result-8
     add-result-9
     returns-6
-    enum-told-2
-    mul-result-6
-    add-result-10
-    mul-result-7
-    shared-slice-read-result-2
+    (λ c. search needs)
+    (λ c. search needs)
+    (λ c. search needs)
+    (λ c. search needs)
+    (λ c. search needs)
     returns-7
-    enum-told-3
-    mul-result-8
-    add-result-11
-    mul-result-9
-    shared-slice-read-result-3
+    (λ c. search needs)
+    (λ c. search needs)
+    (λ c. search needs)
+    (λ c. search needs)
+    (λ c. search needs)
     add-result-12
     returns-8)

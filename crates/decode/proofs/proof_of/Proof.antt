@@ -8,20 +8,8 @@ use Rattle.decode.proofs.proof_of.Tie as tie
 use Rattle.decode.proofs.proof_of.Reads as reads
 use Rattle.decode.proofs.proof_of.Lts as lts
 
-div-t7 : tie.Need-div-t7
-div-t7 c = search needs
-
-rem-t8 : tie.Need-rem-t8
-rem-t8 c = search needs
-
 returns : tie.Need-returns
 returns c = in-forall (c .before .before .args .n) (c .before .before .args .v) (c .before .before .args .off) (c .before .before .args .line) (omega arith)
-
-div-t10 : tie.Need-div-t10
-div-t10 c = search needs
-
-rem-t11 : tie.Need-rem-t11
-rem-t11 c = search needs
 
 returns-2 : tie.Need-returns-2
 returns-2 c = in-exists (c .before .before .before .before .args .n) (c .before .before .before .before .args .v) (c .before .before .before .before .args .off) (c .before .before .before .before .args .line) (omega arith)
@@ -41,4 +29,4 @@ returns-4 c = in-or (c .before .before .before .before .before .before .args .n)
 pub proof-of-spec : {M : Type 1} → statement M
 proof-of-spec =
     tie.close
-    (tie.spec div-t7 rem-t8 returns div-t10 rem-t11 returns-2 returns-3 div-t14 rem-t15 returns-4)
+    (tie.spec (λ c. search needs) (λ c. search needs) returns (λ c. search needs) (λ c. search needs) returns-2 returns-3 div-t14 rem-t15 returns-4)

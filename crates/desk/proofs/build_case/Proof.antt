@@ -11,47 +11,20 @@ use borrow.Author.Needs.{needs}
 use Rattle.desk.proofs.build_case.Statement.{statement}
 use Rattle.desk.proofs.build_case.Tie as tie
 
-slice-aggregate-ground-case : tie.Need-slice-aggregate-ground-case
-slice-aggregate-ground-case c = search needs
-
 ground-case-requires : tie.Need-ground-case-requires
 ground-case-requires c κs = ((search needs, most-zeros 1133 0), search needs)
-
-refuse-requires : tie.Need-refuse-requires
-refuse-requires c κs = search needs
-
-same-length : tie.Need-same-length
-same-length c = search needs
 
 returns : tie.Need-returns
 returns c = λ x F k P. reply-over _ _ _ _ (λ j. omega (arith, c .before .before .before .before .before .before .before .before .shared-slice-known3 .given j)) (c .before .before .before .before .before .before .before .before .before .before .before .before .pre .1) _ _ (c .before .before .before .before .before .before .ground-case .ensures) x F k P _ _ _ (c .before .before .before .before .if1 .taken) (c .before .before .refuse .ensures)
 
-refuse-requires-2 : tie.Need-refuse-requires-2
-refuse-requires-2 c κs = search needs
-
-same-length-2 : tie.Need-same-length-2
-same-length-2 c = search needs
-
 returns-2 : tie.Need-returns-2
 returns-2 c = λ x F k P. reply-long _ _ _ _ (λ j. omega (arith, c .before .before .before .before .before .before .before .before .before .before .shared-slice-known3 .given j)) (c .before .before .before .before .before .before .before .before .before .before .before .before .before .before .pre .1) _ _ (c .before .before .before .before .before .before .before .before .ground-case .ensures) x F k P _ _ _ (c .before .before .before .before .before .before .if1 .left) (omega (arith, c .before .before .before .before .if2 .taken)) (c .before .before .refuse2 .ensures)
-
-slice-aggregate-start-and-build : tie.Need-slice-aggregate-start-and-build
-slice-aggregate-start-and-build c = search needs
-
-slice-aggregate-start-and-build-2 : tie.Need-slice-aggregate-start-and-build-2
-slice-aggregate-start-and-build-2 c = search needs
-
-slice-aggregate-start-and-build-3 : tie.Need-slice-aggregate-start-and-build-3
-slice-aggregate-start-and-build-3 c = search needs
 
 start-and-build-requires : tie.Need-start-and-build-requires
 start-and-build-requires c κs = let g = c .before .before .before .before .before .before .before .ground-case .ensures (c .before .before .before .before .before .before .before .before .before .before .before .before .before .pre .0 .case) _ (c .before .before .before .before .before .before .before .before .before .before .before .before .before .pre .0 .known .holds) in
     let t = tabled _ _ _ g (c .before .before .before .before .before .if1 .left) in
     let h = atoms-few _ _ _ g (c .before .before .before .before .before .if1 .left) in
     (t .fits, t .ends ∙ sym (t .atoms-are), omega (arith, h), omega (arith, h))
-
-enum-known-a : tie.Need-enum-known-a
-enum-known-a c = search needs
 
 array-share-prefix-steps : tie.Need-array-share-prefix-steps
 array-share-prefix-steps c = omega (arith, built-fit _ _ _ _ (λ j. omega (arith, c .before .before .before .before .before .before .before .before .before .before .before .before .before .before .before .before .shared-slice-known3 .given j)) (c .before .before .before .before .before .before .before .before .before .before .before .before .before .before .before .before .before .before .before .before .pre .1) _ _ (c .before .before .before .before .before .before .before .before .before .before .before .before .before .before .ground-case .ensures) _ _ _ _ _ (c .before .before .before .before .before .before .start-and-build .ensures) (omega arith) (c .before .before .before .before .before .before .before .before .before .before .before .before .before .before .before .before .before .before .before .before .pre .0) (c .before .before .before .before .before .before .before .before .before .before .before .before .if1 .left) (omega (arith, c .before .before .before .before .before .before .before .before .before .before .if2 .left)) _ (c .before .before .a .given .1))
@@ -63,32 +36,11 @@ report-requires : tie.Need-report-requires
 report-requires c κs = let h = built-fit _ _ _ _ (λ j. omega (arith, c .before .before .before .before .before .before .before .before .before .before .before .before .before .before .before .before .before .shared-slice-known3 .given j)) (c .before .before .before .before .before .before .before .before .before .before .before .before .before .before .before .before .before .before .before .before .before .pre .1) _ _ (c .before .before .before .before .before .before .before .before .before .before .before .before .before .before .before .ground-case .ensures) _ _ _ _ _ (c .before .before .before .before .before .before .before .start-and-build .ensures) (omega arith) (c .before .before .before .before .before .before .before .before .before .before .before .before .before .before .before .before .before .before .before .before .before .pre .0) (c .before .before .before .before .before .before .before .before .before .before .before .before .before .if1 .left) (omega (arith, c .before .before .before .before .before .before .before .before .before .before .before .if2 .left)) _ (c .before .before .before .a .given .1) in
     (reportable _ _ _ _ (c .before .before .before .before .before .before .before .before .before .before .before .before .before .before .before .before .before .before .before .before .before .pre .0 .known) _ _ (c .before .before .before .before .before .before .before .before .before .before .before .before .before .before .before .before .before .before .before .before .before .pre .1) (front-short (c .before .before .before .a .given .0 .0) _ _ (omega arith)), c .before .before .before .before .before .before .before .before .before .before .before .before .before .before .before .before .before .before .before .before .before .pre .2)
 
-enum-known-a-2 : tie.Need-enum-known-a-2
-enum-known-a-2 c = search needs
-
-refuse-requires-3 : tie.Need-refuse-requires-3
-refuse-requires-3 c κs = search needs
-
-enum-told : tie.Need-enum-told
-enum-told c = search needs
-
-refuse-requires-4 : tie.Need-refuse-requires-4
-refuse-requires-4 c κs = search needs
-
-same-length-3 : tie.Need-same-length-3
-same-length-3 c = search needs
-
 returns-3 : tie.Need-returns-3
 returns-3 c = λ x F k P. reply-built _ _ _ _ (λ j. omega (arith, c .before .before .before .before .before .before .before .before .before .before .before .before .before .before .before .before .before .before .before .before .shared-slice-known3 .given j)) (c .before .before .before .before .before .before .before .before .before .before .before .before .before .before .before .before .before .before .before .before .before .before .before .before .pre .1) _ _ (c .before .before .before .before .before .before .before .before .before .before .before .before .before .before .before .before .before .before .ground-case .ensures) x F k P _ _ _ (c .before .before .before .before .before .before .before .before .before .before .before .before .before .before .before .before .if1 .left) (omega (arith, c .before .before .before .before .before .before .before .before .before .before .before .before .before .before .if2 .left)) _ _ _ _ _ (c .before .before .before .before .before .before .before .before .before .before .start-and-build .ensures) (omega arith) _ (c .before .before .before .before .before .before .a .given .1) (c .before .before .report .ensures)
 
-same-length-4 : tie.Need-same-length-4
-same-length-4 c = search needs
-
 returns-4 : tie.Need-returns-4
 returns-4 c = λ x F k P. reply-kind _ _ _ _ (λ j. omega (arith, c .before .before .before .before .before .before .before .before .before .before .before .before .before .before .before .before .before .before .before .shared-slice-known3 .given j)) (c .before .before .before .before .before .before .before .before .before .before .before .before .before .before .before .before .before .before .before .before .before .before .before .pre .1) _ _ (c .before .before .before .before .before .before .before .before .before .before .before .before .before .before .before .before .before .ground-case .ensures) x F k P _ _ _ (c .before .before .before .before .before .before .before .before .before .before .before .before .before .before .before .if1 .left) (omega (arith, c .before .before .before .before .before .before .before .before .before .before .before .before .before .if2 .left)) _ _ _ _ _ (c .before .before .before .before .before .before .before .before .before .start-and-build .ensures) (omega arith) _ (c .before .before .before .before .before .a2 .given .1) (c .before .before .refuse3 .ensures)
-
-same-length-5 : tie.Need-same-length-5
-same-length-5 c = search needs
 
 returns-5 : tie.Need-returns-5
 returns-5 c = λ x F k P. reply-false _ _ _ _ (λ j. omega (arith, c .before .before .before .before .before .before .before .before .before .before .before .before .before .before .before .before .before .before .shared-slice-known3 .given j)) (c .before .before .before .before .before .before .before .before .before .before .before .before .before .before .before .before .before .before .before .before .before .before .pre .1) _ _ (c .before .before .before .before .before .before .before .before .before .before .before .before .before .before .before .before .ground-case .ensures) x F k P _ _ _ (c .before .before .before .before .before .before .before .before .before .before .before .before .before .before .if1 .left) (omega (arith, c .before .before .before .before .before .before .before .before .before .before .before .before .if2 .left)) _ _ _ _ _ (c .before .before .before .before .before .before .before .before .start-and-build .ensures) (omega arith) (c .before .before .before .before .enum-told .given .1) (c .before .before .refuse4 .ensures)
@@ -97,29 +49,29 @@ pub build-case-spec : {M : Type 1} → statement M
 build-case-spec =
     tie.close
     (tie.spec
-    slice-aggregate-ground-case
+    (λ c. search needs)
     ground-case-requires
-    refuse-requires
-    same-length
+    (λ c κs. search needs)
+    (λ c. search needs)
     returns
-    refuse-requires-2
-    same-length-2
+    (λ c κs. search needs)
+    (λ c. search needs)
     returns-2
-    slice-aggregate-start-and-build
-    slice-aggregate-start-and-build-2
-    slice-aggregate-start-and-build-3
+    (λ c. search needs)
+    (λ c. search needs)
+    (λ c. search needs)
     start-and-build-requires
-    enum-known-a
+    (λ c. search needs)
     array-share-prefix-steps
     slice-aggregate-report
     report-requires
-    enum-known-a-2
-    refuse-requires-3
-    enum-told
-    refuse-requires-4
-    same-length-3
+    (λ c. search needs)
+    (λ c κs. search needs)
+    (λ c. search needs)
+    (λ c κs. search needs)
+    (λ c. search needs)
     returns-3
-    same-length-4
+    (λ c. search needs)
     returns-4
-    same-length-5
+    (λ c. search needs)
     returns-5)

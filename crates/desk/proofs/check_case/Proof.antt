@@ -11,26 +11,14 @@ use borrow.Author.Needs.{needs}
 use Rattle.desk.proofs.check_case.Statement.{statement}
 use Rattle.desk.proofs.check_case.Tie as tie
 
-slice-aggregate-ground-case : tie.Need-slice-aggregate-ground-case
-slice-aggregate-ground-case c = search needs
-
 ground-case-requires : tie.Need-ground-case-requires
 ground-case-requires c κs = ((search needs, most-zeros 1133 0), search needs)
-
-refuse-requires : tie.Need-refuse-requires
-refuse-requires c κs = search needs
-
-same-length : tie.Need-same-length
-same-length c = search needs
 
 returns : tie.Need-returns
 returns c = λ x k. reply-over _ _ _ _ _ _ (c .before .before .before .before .before .before .ground-case .ensures) x k _ _ _ (c .before .before .before .before .if1 .taken) (c .before .before .refuse .ensures)
 
 add-words : tie.Need-add-words
 add-words c = omega (arith, atoms-few _ _ _ (c .before .before .before .ground-case .ensures (c .before .before .before .before .before .before .before .before .before .pre .0 .case) _ (c .before .before .before .before .before .before .before .before .before .pre .0 .known .holds)) (c .before .if1 .left))
-
-slice-aggregate-start-and-run : tie.Need-slice-aggregate-start-and-run
-slice-aggregate-start-and-run c = search needs
 
 array-borrow-prefix-state : tie.Need-array-borrow-prefix-state
 array-borrow-prefix-state c = omega (arith, atoms-few _ _ _ (c .before .before .before .before .ground-case .ensures (c .before .before .before .before .before .before .before .before .before .before .pre .0 .case) _ (c .before .before .before .before .before .before .before .before .before .before .pre .0 .known .holds)) (c .before .before .if1 .left))
@@ -42,71 +30,29 @@ start-and-run-requires : tie.Need-start-and-run-requires
 start-and-run-requires c κs = let g = c .before .before .before .before .before .ground-case .ensures (c .before .before .before .before .before .before .before .before .before .before .before .pre .0 .case) _ (c .before .before .before .before .before .before .before .before .before .before .before .pre .0 .known .holds) in
     (table-is _ _ _ g (c .before .before .before .if1 .left), words-fit _ _ _ g (c .before .before .before .if1 .left) _ (sym (length-take-le _ _ (omega (arith, atoms-few _ _ _ g (c .before .before .before .if1 .left))))))
 
-enum-told : tie.Need-enum-told
-enum-told c = search needs
-
-slice-aggregate-copy-picks : tie.Need-slice-aggregate-copy-picks
-slice-aggregate-copy-picks c = search needs
-
 array-share-prefix-state : tie.Need-array-share-prefix-state
 array-share-prefix-state c = front-fits _ _ (c .before .before .before .before .start-and-run .last .1 .1 .1 .0) (c .before .before .before .before .start-and-run .kept .1 .1 .1 .0) (omega (arith, atoms-few _ _ _ (c .before .before .before .before .before .before .before .before .before .before .ground-case .ensures (c .before .before .before .before .before .before .before .before .before .before .before .before .before .before .before .before .pre .0 .case) _ (c .before .before .before .before .before .before .before .before .before .before .before .before .before .before .before .before .pre .0 .known .holds)) (c .before .before .before .before .before .before .before .before .if1 .left)))
 
 slice-aggregate-copy-picks-2 : tie.Need-slice-aggregate-copy-picks-2
 slice-aggregate-copy-picks-2 c = sym (length-take-le _ _ (front-fits _ _ (c .before .before .before .before .before .start-and-run .last .1 .1 .1 .0) (c .before .before .before .before .before .start-and-run .kept .1 .1 .1 .0) (omega (arith, atoms-few _ _ _ (c .before .before .before .before .before .before .before .before .before .before .before .ground-case .ensures (c .before .before .before .before .before .before .before .before .before .before .before .before .before .before .before .before .before .pre .0 .case) _ (c .before .before .before .before .before .before .before .before .before .before .before .before .before .before .before .before .before .pre .0 .known .holds)) (c .before .before .before .before .before .before .before .before .before .if1 .left)))))
 
-slice-aggregate-copy-picks-3 : tie.Need-slice-aggregate-copy-picks-3
-slice-aggregate-copy-picks-3 c = search needs
-
 copy-picks-requires : tie.Need-copy-picks-requires
 copy-picks-requires c κs = (tabled _ _ _ (c .before .before .before .before .before .before .before .before .before .before .before .before .ground-case .ensures (c .before .before .before .before .before .before .before .before .before .before .before .before .before .before .before .before .before .before .pre .0 .case) _ (c .before .before .before .before .before .before .before .before .before .before .before .before .before .before .before .before .before .before .pre .0 .known .holds)) (c .before .before .before .before .before .before .before .before .before .before .if1 .left) .fits, picks-fit _ _ _ (c .before .before .before .before .before .before .before .before .before .before .before .before .before .before .before .before .before .before .pre .0) _ _ (c .before .before .before .before .before .before .before .before .before .before .before .before .ground-case .ensures) (c .before .before .before .before .before .before .before .before .before .before .if1 .left))
 
-slice-aggregate-report : tie.Need-slice-aggregate-report
-slice-aggregate-report c = search needs
-
 report-requires : tie.Need-report-requires
 report-requires c κs = (reportable _ _ _ _ (c .before .before .before .before .before .before .before .before .before .before .before .before .before .before .before .before .before .before .before .before .before .before .pre .0 .known) _ _ (omega arith) (c .before .before .before .before .before .before .before .before .before .before .before .before .before .before .before .before .before .before .before .before .before .before .pre .1), c .before .before .before .before .before .before .before .before .before .before .before .before .before .before .before .before .before .before .before .before .before .before .pre .2)
-
-enum-known-e : tie.Need-enum-known-e
-enum-known-e c = search needs
-
-refuse-requires-2 : tie.Need-refuse-requires-2
-refuse-requires-2 c κs = search needs
-
-enum-known-e-2 : tie.Need-enum-known-e-2
-enum-known-e-2 c = search needs
-
-refuse-requires-3 : tie.Need-refuse-requires-3
-refuse-requires-3 c κs = search needs
-
-enum-known-e-3 : tie.Need-enum-known-e-3
-enum-known-e-3 c = search needs
-
-refuse-requires-4 : tie.Need-refuse-requires-4
-refuse-requires-4 c κs = search needs
-
-same-length-2 : tie.Need-same-length-2
-same-length-2 c = search needs
 
 returns-2 : tie.Need-returns-2
 returns-2 c = λ x k. let h = atoms-few _ _ _ (c .before .before .before .before .before .before .before .before .before .before .before .before .before .before .before .before .before .before .before .ground-case .ensures x _ (k .holds)) (c .before .before .before .before .before .before .before .before .before .before .before .before .before .before .before .before .before .if1 .left) in
     reply-done _ _ _ _ _ _ (c .before .before .before .before .before .before .before .before .before .before .before .before .before .before .before .before .before .before .before .ground-case .ensures) x k _ _ _ (c .before .before .before .before .before .before .before .before .before .before .before .before .before .before .before .before .before .if1 .left) _ _ _ (sym (length-take-le _ _ (omega arith))) (c .before .before .before .before .before .before .before .before .before .before .before .before .before .start-and-run .ensures) _ (c .before .before .before .before .before .before .before .before .before .before .enum-told .given .1) _ _ _ (c .before .before .before .before .before .before .copy-picks .ensures) (c .before .before .report .ensures)
 
-same-length-3 : tie.Need-same-length-3
-same-length-3 c = search needs
-
 returns-3 : tie.Need-returns-3
 returns-3 c = λ x k. let h = atoms-few _ _ _ (c .before .before .before .before .before .before .before .before .before .before .before .before .before .before .ground-case .ensures x _ (k .holds)) (c .before .before .before .before .before .before .before .before .before .before .before .before .if1 .left) in
     reply-unknown _ _ _ _ _ _ (c .before .before .before .before .before .before .before .before .before .before .before .before .before .before .ground-case .ensures) x k _ _ _ (c .before .before .before .before .before .before .before .before .before .before .before .before .if1 .left) _ _ _ (sym (length-take-le _ _ (omega arith))) (c .before .before .before .before .before .before .before .before .start-and-run .ensures) _ (c .before .before .before .before .before .e .given .1) (c .before .before .refuse2 .ensures)
 
-same-length-4 : tie.Need-same-length-4
-same-length-4 c = search needs
-
 returns-4 : tie.Need-returns-4
 returns-4 c = λ x k. let h = atoms-few _ _ _ (c .before .before .before .before .before .before .before .before .before .before .before .before .before .before .ground-case .ensures x _ (k .holds)) (c .before .before .before .before .before .before .before .before .before .before .before .before .if1 .left) in
     reply-early _ _ _ _ _ _ (c .before .before .before .before .before .before .before .before .before .before .before .before .before .before .ground-case .ensures) x k _ _ _ (c .before .before .before .before .before .before .before .before .before .before .before .before .if1 .left) _ _ _ (sym (length-take-le _ _ (omega arith))) (c .before .before .before .before .before .before .before .before .start-and-run .ensures) _ (c .before .before .before .before .before .e2 .given .1) (c .before .before .refuse3 .ensures)
-
-same-length-5 : tie.Need-same-length-5
-same-length-5 c = search needs
 
 returns-5 : tie.Need-returns-5
 returns-5 c = λ x k. let h = atoms-few _ _ _ (c .before .before .before .before .before .before .before .before .before .before .before .before .before .before .ground-case .ensures x _ (k .holds)) (c .before .before .before .before .before .before .before .before .before .before .before .before .if1 .left) in
@@ -116,35 +62,35 @@ pub check-case-spec : {M : Type 1} → statement M
 check-case-spec =
     tie.close
     (tie.spec
-    slice-aggregate-ground-case
+    (λ c. search needs)
     ground-case-requires
-    refuse-requires
-    same-length
+    (λ c κs. search needs)
+    (λ c. search needs)
     returns
     add-words
-    slice-aggregate-start-and-run
+    (λ c. search needs)
     array-borrow-prefix-state
     slice-aggregate-start-and-run-2
     start-and-run-requires
-    enum-told
-    slice-aggregate-copy-picks
+    (λ c. search needs)
+    (λ c. search needs)
     array-share-prefix-state
     slice-aggregate-copy-picks-2
-    slice-aggregate-copy-picks-3
+    (λ c. search needs)
     copy-picks-requires
-    slice-aggregate-report
+    (λ c. search needs)
     report-requires
-    enum-known-e
-    refuse-requires-2
-    enum-known-e-2
-    refuse-requires-3
-    enum-known-e-3
-    refuse-requires-4
-    same-length-2
+    (λ c. search needs)
+    (λ c κs. search needs)
+    (λ c. search needs)
+    (λ c κs. search needs)
+    (λ c. search needs)
+    (λ c κs. search needs)
+    (λ c. search needs)
     returns-2
-    same-length-3
+    (λ c. search needs)
     returns-3
-    same-length-4
+    (λ c. search needs)
     returns-4
-    same-length-5
+    (λ c. search needs)
     returns-5)

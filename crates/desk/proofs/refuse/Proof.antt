@@ -10,12 +10,9 @@ no-line-requires : tie.Need-no-line-requires
 unfolding printed
 no-line-requires c κs = omega (arith, line-fits (c .before .before .args .number) (c .before .before .args .place))
 
-same-length : tie.Need-same-length
-same-length c = search needs
-
 returns : tie.Need-returns
 unfolding printed
 returns c = replies _ _ _ _ (omega (arith, line-fits (c .before .before .before .before .before .args .number) (c .before .before .before .before .before .args .place))) (c .before .before .no-line .ensures)
 
 pub refuse-spec : {M : Type 1} → statement M
-refuse-spec = tie.close (tie.spec no-line-requires same-length returns)
+refuse-spec = tie.close (tie.spec no-line-requires (λ c. search needs) returns)

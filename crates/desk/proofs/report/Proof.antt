@@ -14,12 +14,9 @@ step-lines-requires c κs = (omega arith, steps-room _ _ (c .before .before .bef
 ok-line-requires : tie.Need-ok-line-requires
 ok-line-requires c κs = count-room _ _ (c .before .before .before .before .before .before .before .before .before .before .before .before .before .before .args .m) _ _ _ (c .before .before .before .before .before .before .before .before .before .before .before .before .before .before .pre .0) (λ j. omega (arith, c .before .before .before .before .before .before .before .before .before .before .shared-slice-known3 .given j)) _ _ _ (c .before .before .before .before .before .before .before .before .before .before .before .before .before .before .pre .1) (c .before .before .before .before .before .before .before .head .ensures) _ _ (c .before .before .before .step-lines .ensures) _
 
-same-length : tie.Need-same-length
-same-length c = search needs
-
 returns : tie.Need-returns
 returns c = reported _ _ _ _ _ _ (c .before .before .before .before .before .before .before .before .before .before .before .before .before .before .before .before .before .pre .0) (λ j. omega (arith, c .before .before .before .before .before .before .before .before .before .before .before .before .before .shared-slice-known3 .given j)) _ _ _ (c .before .before .before .before .before .before .before .before .before .before .before .before .before .before .before .before .before .pre .1) (c .before .before .before .before .before .before .before .before .before .before .head .ensures) _ _ (c .before .before .before .before .before .before .step-lines .ensures) _ _ (c .before .before .ok-line .ensures)
 
 pub report-spec : {M : Type 1} → statement M
 report-spec =
-    tie.close (tie.spec head-requires step-lines-requires ok-line-requires same-length returns)
+    tie.close (tie.spec head-requires step-lines-requires ok-line-requires (λ c. search needs) returns)

@@ -11,12 +11,6 @@ use Rattle.ground.proofs.clear.Reads as reads
 use Rattle.ground.proofs.clear.Lts as lts
 use Rattle.bits.proofs.clear.Reads as clear-reads
 
-clear-requires : tie.Need-clear-requires
-clear-requires c κs = search needs
-
-same-length : tie.Need-same-length
-same-length c = search needs
-
 returns : tie.Need-returns
 returns c = c .before .before .clear .ensures ∙ put-clear (bit (c .before .before .before .before .before .before .args .words .now)) (c .before .before .before .before .before .before .args .i)
 
@@ -24,4 +18,4 @@ returns-2 : tie.Need-returns-2
 returns-2 c = clear-past (c .before .before .args .words .now) (c .before .before .args .i) (omega arith)
 
 pub clear-spec : {M : Type 1} → statement M
-clear-spec = tie.close (tie.spec clear-requires same-length returns returns-2)
+clear-spec = tie.close (tie.spec (λ c κs. search needs) (λ c. search needs) returns returns-2)

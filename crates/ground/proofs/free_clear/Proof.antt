@@ -18,37 +18,16 @@ use Rattle.ground.proofs.clear.Reads as clear-reads
 returns : tie.Need-returns
 returns c = clear-none (bit (c .before .before .args .state .now)) (c .before .before .args .n) (c .before .before .args .kind) (c .before .before .args .free) (c .before .before .args .row) (omega arith)
 
-div-clear : tie.Need-div-clear
-div-clear c = search needs
-
 add-clear : tie.Need-add-clear
 add-clear c = omega (arith, div-le-self (c .before .before .before .args .row) (c .before .before .before .args .n))
 
-clear-requires : tie.Need-clear-requires
-clear-requires c κs = search needs
-
-same-length : tie.Need-same-length
-same-length c = search needs
-
 returns-2 : tie.Need-returns-2
 returns-2 c = c .before .before .before .clear .ensures ∙ clear-domain (bit (c .before .before .before .before .before .before .before .args .state .now)) (c .before .before .before .before .before .before .before .args .n) (c .before .before .before .before .before .before .before .args .kind) (c .before .before .before .before .before .before .before .args .free) (c .before .before .before .before .before .before .before .args .row) (omega arith) (omega arith)
-
-add-clear-2 : tie.Need-add-clear-2
-add-clear-2 c = search needs
-
-rem-clear : tie.Need-rem-clear
-rem-clear c = search needs
 
 add-clear-3 : tie.Need-add-clear-3
 add-clear-3 c =
     let h : 0 < c .before .before .before .before .before .before .before .before .args .n = omega arith in
     omega (arith, mod-lt (c .before .before .before .before .before .before .before .before .args .row) h)
-
-clear-requires-2 : tie.Need-clear-requires-2
-clear-requires-2 c κs = search needs
-
-same-length-2 : tie.Need-same-length-2
-same-length-2 c = search needs
 
 returns-3 : tie.Need-returns-3
 returns-3 c = c .before .before .clear2 .ensures ∙ ap (λ s. changed s ((c .before .before .before .before .before .before .before .before .before .before .before .args .free + c .before .before .before .before .before .before .before .before .before .before .before .args .n + c .before .before .before .before .before .before .before .before .before .before .before .args .row % c .before .before .before .before .before .before .before .before .before .before .before .args .n) ∷ []) []) (c .before .before .before .before .before .before .before .clear .ensures) ∙ clear-both (bit (c .before .before .before .before .before .before .before .before .before .before .before .args .state .now)) (c .before .before .before .before .before .before .before .before .before .before .before .args .n) (c .before .before .before .before .before .before .before .before .before .before .before .args .kind) (c .before .before .before .before .before .before .before .before .before .before .before .args .free) (c .before .before .before .before .before .before .before .before .before .before .before .args .row) (omega arith)
@@ -58,14 +37,14 @@ free-clear-spec =
     tie.close
     (tie.spec
     returns
-    div-clear
+    (λ c. search needs)
     add-clear
-    clear-requires
-    same-length
+    (λ c κs. search needs)
+    (λ c. search needs)
     returns-2
-    add-clear-2
-    rem-clear
+    (λ c. search needs)
+    (λ c. search needs)
     add-clear-3
-    clear-requires-2
-    same-length-2
+    (λ c κs. search needs)
+    (λ c. search needs)
     returns-3)

@@ -16,31 +16,16 @@ use Rattle.ground.proofs.test.Reads as test-reads
 returns : tie.Need-returns
 returns c = free-none (bit (c .before .before .args .state .now)) (c .before .before .args .n) (c .before .before .args .kind) (c .before .before .args .free) (c .before .before .args .row) (omega arith)
 
-div-test : tie.Need-div-test
-div-test c = search needs
-
 add-test : tie.Need-add-test
 add-test c = omega (arith, div-le-self (c .before .before .args .row) (c .before .before .args .n))
 
-test-requires : tie.Need-test-requires
-test-requires c κs = search needs
-
 returns-2 : tie.Need-returns-2
 returns-2 c = free-domain (bit (c .before .before .before .before .before .args .state .now)) (c .before .before .before .before .before .args .n) (c .before .before .before .before .before .args .kind) (c .before .before .before .before .before .args .free) (c .before .before .before .before .before .args .row) (omega arith) (omega arith) (sym (c .before .before .test .ensures) ∙ c .before .if2 .taken)
-
-add-test-2 : tie.Need-add-test-2
-add-test-2 c = search needs
-
-rem-test : tie.Need-rem-test
-rem-test c = search needs
 
 add-test-3 : tie.Need-add-test-3
 add-test-3 c =
     let h : 0 < c .before .before .before .before .before .args .n = omega arith in
     omega (arith, mod-lt (c .before .before .before .before .before .args .row) h)
-
-test-requires-2 : tie.Need-test-requires-2
-test-requires-2 c κs = search needs
 
 returns-3 : tie.Need-returns-3
 returns-3 c = free-both (bit (c .before .before .before .before .before .before .args .state .now)) (c .before .before .before .before .before .before .args .n) (c .before .before .before .before .before .before .args .kind) (c .before .before .before .before .before .before .args .free) (c .before .before .before .before .before .before .args .row) (c .test2 .result) (omega arith) (sym (c .before .before .before .test .ensures) ∙ c .before .before .if2 .taken) (c .test2 .ensures)
@@ -53,13 +38,13 @@ free-hold-spec =
     tie.close
     (tie.spec
     returns
-    div-test
+    (λ c. search needs)
     add-test
-    test-requires
+    (λ c κs. search needs)
     returns-2
-    add-test-2
-    rem-test
+    (λ c. search needs)
+    (λ c. search needs)
     add-test-3
-    test-requires-2
+    (λ c κs. search needs)
     returns-3
     returns-4)

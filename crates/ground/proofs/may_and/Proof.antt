@@ -12,12 +12,6 @@ use Rattle.ground.proofs.parts_hold.Reads as parts-hold-reads
 use Rattle.ground.proofs.test.Reads as test-reads
 use Rattle.rows.proofs.values_of.Reads as values-of-reads
 
-values-of-requires : tie.Need-values-of-requires
-values-of-requires c κs = search needs
-
-test-requires : tie.Need-test-requires
-test-requires c κs = search needs
-
 parts-hold-requires : tie.Need-parts-hold-requires
 parts-hold-requires c κs = (c .before .before .before .before .before .before .pre .2, c .before .before .before .before .before .before .pre .3 .parts, within-most (c .before .before .before .before .before .before .args .n) (c .before .before .values-of .result) (c .before .before .before .before .before .before .pre .1) (c .before .before .values-of .ensures .1))
 
@@ -29,4 +23,4 @@ returns-2 c = and-no (bit (c .before .before .before .before .before .before .ar
 
 pub may-and-spec : {M : Type 1} → statement M
 may-and-spec =
-    tie.close (tie.spec values-of-requires test-requires parts-hold-requires returns returns-2)
+    tie.close (tie.spec (λ c κs. search needs) (λ c κs. search needs) parts-hold-requires returns returns-2)

@@ -11,12 +11,6 @@ use Rattle.ground.proofs.may_exists.Lts as lts
 use Rattle.ground.proofs.test.Reads as test-reads
 use Rattle.ground.proofs.under_holds.Reads as under-holds-reads
 
-test-requires : tie.Need-test-requires
-test-requires c κs = search needs
-
-under-holds-requires : tie.Need-under-holds-requires
-under-holds-requires c κs = search needs
-
 returns : tie.Need-returns
 returns c = exists-under (bit (c .before .before .before .before .before .args .state .now)) (c .before .before .before .before .before .args .n) (c .before .before .before .before .before .args .table .now) (c .before .before .before .before .before .args .v) (c .before .before .before .before .before .args .row) (c .before .before .before .before .before .args .x) (c .under-holds .result) (sym (c .before .before .test .ensures) ∙ c .before .if1 .taken) (c .under-holds .ensures)
 
@@ -24,4 +18,4 @@ returns-2 : tie.Need-returns-2
 returns-2 c = exists-no (bit (c .before .before .before .before .args .state .now)) (c .before .before .before .before .args .n) (c .before .before .before .before .args .table .now) (c .before .before .before .before .args .v) (c .before .before .before .before .args .row) (c .before .before .before .before .args .x) (sym (c .before .test .ensures) ∙ c .if1 .left)
 
 pub may-exists-spec : {M : Type 1} → statement M
-may-exists-spec = tie.close (tie.spec test-requires under-holds-requires returns returns-2)
+may-exists-spec = tie.close (tie.spec (λ c κs. search needs) (λ c κs. search needs) returns returns-2)

@@ -13,29 +13,17 @@ use Rattle.ground.proofs.may_forall.Lts as lts
 use Rattle.ground.proofs.test.Reads as test-reads
 use Rattle.ground.proofs.under_holds.Reads as under-holds-reads
 
-test-requires : tie.Need-test-requires
-test-requires c κs = search needs
-
-under-holds-requires : tie.Need-under-holds-requires
-under-holds-requires c κs = search needs
-
 returns : tie.Need-returns
 returns c = forall-first (bit (c .before .before .before .before .before .before .before .args .state .now)) (c .before .before .before .before .before .before .before .args .n) (c .before .before .before .before .before .before .before .args .table .now) (c .before .before .before .before .before .before .before .args .v) (c .before .before .before .before .before .before .before .args .row) (c .before .before .before .before .before .before .before .args .z) (omega arith) (sym (c .before .before .before .before .test .ensures) ∙ c .before .before .before .if1 .taken) (sym (c .before .before .under-holds .ensures) ∙ c .before .if2 .taken)
 
 mul-test : tie.Need-mul-test
 mul-test c = omega (arith, times-most (c .before .before .before .before .before .before .before .args .row) (c .before .before .before .before .before .before .before .args .n) (c .before .before .before .before .before .before .before .pre .5) (c .before .before .before .before .before .before .before .pre .1))
 
-sub-test : tie.Need-sub-test
-sub-test c = search needs
-
 add-test : tie.Need-add-test
 add-test c = omega (arith, times-most (c .before .before .before .before .before .before .before .args .row) (c .before .before .before .before .before .before .before .args .n) (c .before .before .before .before .before .before .before .pre .5) (c .before .before .before .before .before .before .before .pre .1))
 
 add-test-2 : tie.Need-add-test-2
 add-test-2 c = omega (arith, times-most (c .before .before .before .before .before .before .before .before .args .row) (c .before .before .before .before .before .before .before .before .args .n) (c .before .before .before .before .before .before .before .before .pre .5) (c .before .before .before .before .before .before .before .before .pre .1))
-
-test-requires-2 : tie.Need-test-requires-2
-test-requires-2 c κs = search needs
 
 returns-2 : tie.Need-returns-2
 returns-2 c = forall-next (bit (c .before .before .before .before .before .before .before .before .before .args .state .now)) (c .before .before .before .before .before .before .before .before .before .args .n) (c .before .before .before .before .before .before .before .before .before .args .table .now) (c .before .before .before .before .before .before .before .before .before .args .v) (c .before .before .before .before .before .before .before .before .before .args .row) (c .before .before .before .before .before .before .before .before .before .args .z) (c .test2 .result) (omega arith) (sym (c .before .before .before .before .before .before .test .ensures) ∙ c .before .before .before .before .before .if1 .taken) (sym (c .before .before .before .before .under-holds .ensures) ∙ c .before .before .before .if2 .taken) (c .test2 .ensures)
@@ -50,14 +38,14 @@ pub may-forall-spec : {M : Type 1} → statement M
 may-forall-spec =
     tie.close
     (tie.spec
-    test-requires
-    under-holds-requires
+    (λ c κs. search needs)
+    (λ c κs. search needs)
     returns
     mul-test
-    sub-test
+    (λ c. search needs)
     add-test
     add-test-2
-    test-requires-2
+    (λ c κs. search needs)
     returns-2
     returns-3
     returns-4)

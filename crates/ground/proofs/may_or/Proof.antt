@@ -13,15 +13,6 @@ use Rattle.ground.proofs.part_holds.Reads as part-holds-reads
 use Rattle.ground.proofs.test.Reads as test-reads
 use Rattle.rows.proofs.values_of.Reads as values-of-reads
 
-values-of-requires : tie.Need-values-of-requires
-values-of-requires c κs = search needs
-
-test-requires : tie.Need-test-requires
-test-requires c κs = search needs
-
-add-part-holds : tie.Need-add-part-holds
-add-part-holds c = search needs
-
 part-holds-requires : tie.Need-part-holds-requires
 part-holds-requires c κs = (c .before .before .before .before .before .before .before .pre .2, omega (arith, c .before .before .before .before .before .before .before .pre .3 .parts), within-most (c .before .before .before .before .before .before .before .args .n) (c .before .before .before .values-of .result) (c .before .before .before .before .before .before .before .pre .1) (c .before .before .before .values-of .ensures .1))
 
@@ -35,9 +26,9 @@ pub may-or-spec : {M : Type 1} → statement M
 may-or-spec =
     tie.close
     (tie.spec
-    values-of-requires
-    test-requires
-    add-part-holds
+    (λ c κs. search needs)
+    (λ c κs. search needs)
+    (λ c. search needs)
     part-holds-requires
     returns
     returns-2)

@@ -11,18 +11,6 @@ use Rattle.ground.proofs.may_set.Lts as lts
 use Rattle.ground.proofs.free_hold.Reads as free-hold-reads
 use Rattle.ground.proofs.test.Reads as test-reads
 
-test-requires : tie.Need-test-requires
-test-requires c κs = search needs
-
-add-test : tie.Need-add-test
-add-test c = search needs
-
-test-requires-2 : tie.Need-test-requires-2
-test-requires-2 c κs = search needs
-
-free-hold-requires : tie.Need-free-hold-requires
-free-hold-requires c κs = search needs
-
 returns : tie.Need-returns
 returns c = set-free (bit (c .before .before .before .before .before .before .before .args .state .now)) (c .before .before .before .before .before .before .before .args .n) (c .before .before .before .before .before .before .before .args .k) (c .before .before .before .before .before .before .before .args .row) (c .free-hold .result) (sym (c .before .before .before .before .before .test .ensures) ∙ c .before .before .before .before .if1 .taken) (sym (c .before .before .test2 .ensures) ∙ c .before .if2 .taken) (c .free-hold .ensures)
 
@@ -36,10 +24,10 @@ pub may-set-spec : {M : Type 1} → statement M
 may-set-spec =
     tie.close
     (tie.spec
-    test-requires
-    add-test
-    test-requires-2
-    free-hold-requires
+    (λ c κs. search needs)
+    (λ c. search needs)
+    (λ c κs. search needs)
+    (λ c κs. search needs)
     returns
     returns-2
     returns-3)

@@ -22,12 +22,6 @@ use Rattle.ground.proofs.node_line.Reads as node-line-reads
 use Rattle.ground.proofs.relation_line.Reads as relation-line-reads
 use Rattle.ground.proofs.test.Reads as test-reads
 
-shared-slice-read-n : tie.Need-shared-slice-read-n
-shared-slice-read-n c = search needs
-
-enum-known-a : tie.Need-enum-known-a
-enum-known-a c = search needs
-
 relation-line-requires : tie.Need-relation-line-requires
 relation-line-requires c κs =
     let f = fits-of (c .before .before .before .before .before .before .args .table .now) (c .before .before .before .before .before .before .args .a) (Set (c .before .a .given .0 .0)) (c .before .a .given .1) (c .before .before .before .before .before .before .pre .1) in
@@ -42,17 +36,8 @@ may-set-requires c κs =
 returns : tie.Need-returns
 returns c = need-set (bit (c .before .before .before .before .before .before .before .before .args .state .now)) (c .before .before .before .before .before .before .before .before .args .table .now) (c .before .before .before .before .before .before .before .before .args .a) (c .may-set .result) (c .before .before .before .a .given .0 .0) (c .before .relation-line .result) (c .before .before .before .a .given .1) (c .before .relation-line .ensures) (c .may-set .ensures)
 
-enum-told : tie.Need-enum-told
-enum-told c = search needs
-
-test-requires : tie.Need-test-requires
-test-requires c κs = search needs
-
 returns-2 : tie.Need-returns-2
 returns-2 c = need-begin (bit (c .before .before .before .before .before .before .args .state .now)) (c .before .before .before .before .before .before .args .table .now) (c .before .before .before .before .before .before .args .a) (c .test .result) (c .before .enum-told .given .1) (c .test .ensures)
-
-enum-known-a-2 : tie.Need-enum-known-a-2
-enum-known-a-2 c = search needs
 
 node-line-requires : tie.Need-node-line-requires
 node-line-requires c κs =
@@ -68,9 +53,6 @@ may-and-requires c κs =
 returns-3 : tie.Need-returns-3
 returns-3 c = need-and (bit (c .before .before .before .before .before .before .before .before .args .state .now)) (c .before .before .before .before .before .before .before .before .args .table .now) (c .before .before .before .before .before .before .before .before .args .a) (c .may-and .result) (c .before .before .before .a2 .given .0 .0) (c .before .node-line .result) (c .before .before .before .a2 .given .1) (c .before .node-line .ensures) (c .may-and .ensures)
 
-enum-known-a-3 : tie.Need-enum-known-a-3
-enum-known-a-3 c = search needs
-
 node-line-requires-2 : tie.Need-node-line-requires-2
 node-line-requires-2 c κs =
     let f = fits-of (c .before .before .before .before .before .before .args .table .now) (c .before .before .before .before .before .before .args .a) (Or (c .before .a3 .given .0 .0)) (c .before .a3 .given .1) (c .before .before .before .before .before .before .pre .1) in
@@ -84,9 +66,6 @@ may-or-requires c κs =
 
 returns-4 : tie.Need-returns-4
 returns-4 c = need-or (bit (c .before .before .before .before .before .before .before .before .args .state .now)) (c .before .before .before .before .before .before .before .before .args .table .now) (c .before .before .before .before .before .before .before .before .args .a) (c .may-or .result) (c .before .before .before .a3 .given .0 .0) (c .before .node-line2 .result) (c .before .before .before .a3 .given .1) (c .before .node-line2 .ensures) (c .may-or .ensures)
-
-enum-known-a-4 : tie.Need-enum-known-a-4
-enum-known-a-4 c = search needs
 
 node-line-requires-3 : tie.Need-node-line-requires-3
 node-line-requires-3 c κs =
@@ -102,9 +81,6 @@ may-exists-requires c κs =
 returns-5 : tie.Need-returns-5
 returns-5 c = need-exists (bit (c .before .before .before .before .before .before .before .before .args .state .now)) (c .before .before .before .before .before .before .before .before .args .table .now) (c .before .before .before .before .before .before .before .before .args .a) (c .may-exists .result) (c .before .before .before .a4 .given .0 .0) (c .before .node-line3 .result) (c .before .before .before .a4 .given .1) (c .before .node-line3 .ensures) (c .may-exists .ensures)
 
-enum-known-a-5 : tie.Need-enum-known-a-5
-enum-known-a-5 c = search needs
-
 node-line-requires-4 : tie.Need-node-line-requires-4
 node-line-requires-4 c κs =
     let f = fits-of (c .before .before .before .before .before .before .args .table .now) (c .before .before .before .before .before .before .args .a) (Forall (c .before .a5 .given .0 .0)) (c .before .a5 .given .1) (c .before .before .before .before .before .before .pre .1) in
@@ -119,17 +95,8 @@ may-forall-requires c κs =
 returns-6 : tie.Need-returns-6
 returns-6 c = need-forall (bit (c .before .before .before .before .before .before .before .before .args .state .now)) (c .before .before .before .before .before .before .before .before .args .table .now) (c .before .before .before .before .before .before .before .before .args .a) (c .may-forall .result) (c .before .before .before .a5 .given .0 .0) (c .before .node-line4 .result) (c .before .before .before .a5 .given .1) (c .before .node-line4 .ensures) (c .may-forall .ensures)
 
-enum-told-2 : tie.Need-enum-told-2
-enum-told-2 c = search needs
-
-may-goal-requires : tie.Need-may-goal-requires
-may-goal-requires c κs = search needs
-
 returns-7 : tie.Need-returns-7
 returns-7 c = need-goal (bit (c .before .before .before .before .before .before .args .state .now)) (c .before .before .before .before .before .before .args .table .now) (c .before .before .before .before .before .before .args .a) (c .may-goal .result) (c .before .enum-told2 .given .1) (c .may-goal .ensures)
-
-enum-told-3 : tie.Need-enum-told-3
-enum-told-3 c = search needs
 
 returns-8 : tie.Need-returns-8
 returns-8 c = need-nothing (bit (c .before .before .before .before .before .args .state .now)) (c .before .before .before .before .before .args .table .now) (c .before .before .before .before .before .args .a) (c .enum-told3 .given .1)
@@ -138,32 +105,32 @@ pub may-take-spec : {M : Type 1} → statement M
 may-take-spec =
     tie.close
     (tie.spec
-    shared-slice-read-n
-    enum-known-a
+    (λ c. search needs)
+    (λ c. search needs)
     relation-line-requires
     may-set-requires
     returns
-    enum-told
-    test-requires
+    (λ c. search needs)
+    (λ c κs. search needs)
     returns-2
-    enum-known-a-2
+    (λ c. search needs)
     node-line-requires
     may-and-requires
     returns-3
-    enum-known-a-3
+    (λ c. search needs)
     node-line-requires-2
     may-or-requires
     returns-4
-    enum-known-a-4
+    (λ c. search needs)
     node-line-requires-3
     may-exists-requires
     returns-5
-    enum-known-a-5
+    (λ c. search needs)
     node-line-requires-4
     may-forall-requires
     returns-6
-    enum-told-2
-    may-goal-requires
+    (λ c. search needs)
+    (λ c κs. search needs)
     returns-7
-    enum-told-3
+    (λ c. search needs)
     returns-8)

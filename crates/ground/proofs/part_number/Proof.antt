@@ -13,38 +13,14 @@ use Rattle.ground.proofs.part_number.Lts as lts
 small : (c : tie.Start) (l : ℕ) → getD (c .args .t2) l 0 * getD (c .args .q .weights) l 0 ≤ 64 * 2 ^ 32
 small c l = value-times (getD (c .args .t2) l 0) (getD (c .args .q .weights) l 0) (c .pre .2 l) (c .pre .1 l)
 
-array-read-result : tie.Need-array-read-result
-array-read-result c = search needs
-
-array-read-result-2 : tie.Need-array-read-result-2
-array-read-result-2 c = search needs
-
 mul-result : tie.Need-mul-result
 mul-result c = omega (arith, small (c .before) 0)
-
-array-read-result-3 : tie.Need-array-read-result-3
-array-read-result-3 c = search needs
-
-array-read-result-4 : tie.Need-array-read-result-4
-array-read-result-4 c = search needs
 
 mul-result-2 : tie.Need-mul-result-2
 mul-result-2 c = omega (arith, small (c .before) 1)
 
-array-read-result-5 : tie.Need-array-read-result-5
-array-read-result-5 c = search needs
-
-array-read-result-6 : tie.Need-array-read-result-6
-array-read-result-6 c = search needs
-
 mul-result-3 : tie.Need-mul-result-3
 mul-result-3 c = omega (arith, small (c .before) 2)
-
-array-read-result-7 : tie.Need-array-read-result-7
-array-read-result-7 c = search needs
-
-array-read-result-8 : tie.Need-array-read-result-8
-array-read-result-8 c = search needs
 
 mul-result-4 : tie.Need-mul-result-4
 mul-result-4 c = omega (arith, small (c .before) 3)
@@ -68,17 +44,17 @@ pub part-number-spec : {M : Type 1} → statement M
 part-number-spec =
     tie.close
     (tie.spec
-    array-read-result
-    array-read-result-2
+    (λ c. search needs)
+    (λ c. search needs)
     mul-result
-    array-read-result-3
-    array-read-result-4
+    (λ c. search needs)
+    (λ c. search needs)
     mul-result-2
-    array-read-result-5
-    array-read-result-6
+    (λ c. search needs)
+    (λ c. search needs)
     mul-result-3
-    array-read-result-7
-    array-read-result-8
+    (λ c. search needs)
+    (λ c. search needs)
     mul-result-4
     add-result
     add-result-2

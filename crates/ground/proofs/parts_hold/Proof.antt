@@ -25,17 +25,8 @@ abbrev μ-loop : tie.MeasureT-loop
 loop-holds : tie.Need-loop-holds Inv-loop μ-loop
 loop-holds c = (omega arith, parts-start (bit (c .before .before .args .state .now)) (partAt (c .before .before .args .table .now) (valueIn (c .before .before .args .env))) (c .before .before .args .many) (c .before .before .args .first))
 
-add-part-holds : tie.Need-add-part-holds Inv-loop μ-loop
-add-part-holds c = search needs
-
 part-holds-requires : tie.Need-part-holds-requires Inv-loop μ-loop
 part-holds-requires c κs = (c .before .before .before .before .pre .0, omega arith, c .before .before .before .before .pre .2)
-
-add-k : tie.Need-add-k Inv-loop μ-loop
-add-k c = search needs
-
-loop-less : tie.Need-loop-less Inv-loop μ-loop
-loop-less c = search needs
 
 loop-again : tie.Need-loop-again Inv-loop μ-loop
 loop-again c = (omega arith, c .before .before .before .loop .inv .1 ∙ parts-next (bit (c .before .before .before .before .before .before .args .state .now)) (partAt (c .before .before .before .before .before .before .args .table .now) (valueIn (c .before .before .before .before .before .before .args .env))) (c .before .before .before .loop .k) (c .before .before .before .before .before .before .args .many) (c .before .before .before .before .before .before .args .first) true (omega arith) (sym (c .before .part-holds .ensures) ∙ c .if1 .taken))
@@ -53,10 +44,10 @@ parts-hold-spec =
     Inv-loop
     μ-loop
     loop-holds
-    add-part-holds
+    (λ c. search needs)
     part-holds-requires
-    add-k
-    loop-less
+    (λ c. search needs)
+    (λ c. search needs)
     loop-again
     returns
     returns-2)

@@ -11,12 +11,6 @@ use Rattle.ground.proofs.raise.Reads as reads
 use Rattle.ground.proofs.raise.Lts as lts
 use Rattle.bits.proofs.set.Reads as set-reads
 
-set-requires : tie.Need-set-requires
-set-requires c κs = search needs
-
-same-length : tie.Need-same-length
-same-length c = search needs
-
 returns : tie.Need-returns
 returns c = λ h. c .before .before .set .ensures ∙ put-raise (bit (c .before .before .before .before .before .before .args .words .now)) (c .before .before .before .before .before .before .args .i)
 
@@ -24,4 +18,4 @@ returns-2 : tie.Need-returns-2
 returns-2 c = λ h. absurd (omega arith)
 
 pub raise-spec : {M : Type 1} → statement M
-raise-spec = tie.close (tie.spec set-requires same-length returns returns-2)
+raise-spec = tie.close (tie.spec (λ c κs. search needs) (λ c. search needs) returns returns-2)

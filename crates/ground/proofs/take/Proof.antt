@@ -23,12 +23,6 @@ use Rattle.ground.proofs.raise.Reads as raise-reads
 use Rattle.ground.proofs.relation_line.Reads as relation-line-reads
 use Rattle.ground.proofs.take_set.Reads as take-set-reads
 
-shared-slice-read-n : tie.Need-shared-slice-read-n
-shared-slice-read-n c = search needs
-
-enum-known-a : tie.Need-enum-known-a
-enum-known-a c = search needs
-
 relation-line-requires : tie.Need-relation-line-requires
 relation-line-requires c κs =
     let f = fits-of (c .before .before .before .before .before .before .args .table .now) (c .before .before .before .before .before .before .args .a) (Set (c .before .a .given .0 .0)) (c .before .a .given .1) (c .before .before .before .before .before .before .pre .1) in
@@ -40,30 +34,12 @@ take-set-requires c κs =
     let q = relation-small (c .before .before .before .before .before .before .before .before .args .table .now) (c .before .before .before .before .before .before .before .before .pre .0) (c .before .before .before .a .given .0 .0 .relation) (c .before .relation-line .result) (c .before .relation-line .ensures) in
     (c .before .before .before .before .before .before .before .before .pre .0 .some, c .before .before .before .before .before .before .before .before .pre .0 .size, q .0, q .1, q .2, f .1)
 
-same-length : tie.Need-same-length
-same-length c = search needs
-
 returns : tie.Need-returns
 returns c = take-set (bit (c .before .before .before .before .before .before .before .before .before .before .before .args .state .now)) _ (length (c .before .before .before .before .before .before .before .before .before .before .before .args .state .now)) (c .before .before .before .before .before .before .before .before .before .before .before .args .table .now) (c .before .before .before .before .before .before .before .before .before .before .before .args .a) (c .before .before .before .before .before .before .a .given .0 .0) (c .before .before .before .before .relation-line .result) (c .before .before .before .before .before .before .a .given .1) (c .before .before .before .before .relation-line .ensures) (c .before .before .take-set .ensures)
-
-enum-told : tie.Need-enum-told
-enum-told c = search needs
-
-clear-requires : tie.Need-clear-requires
-clear-requires c κs = search needs
-
-raise-requires : tie.Need-raise-requires
-raise-requires c κs = search needs
-
-same-length-2 : tie.Need-same-length-2
-same-length-2 c = search needs
 
 returns-2 : tie.Need-returns-2
 returns-2 c = take-begin (bit (c .before .before .before .before .before .before .before .before .before .before .before .before .before .args .state .now)) _ (length (c .before .before .before .before .before .before .before .before .before .before .before .before .before .args .state .now)) (c .before .before .before .before .before .before .before .before .before .before .before .before .before .args .table .now) (c .before .before .before .before .before .before .before .before .before .before .before .before .before .args .a) (c .before .before .before .before .before .before .before .before .enum-told .given .1)
     (λ h. c .before .before .raise .ensures (omega arith) ∙ ap (λ (z : ℕ → Bool). changed z [] (1 ∷ [])) (c .before .before .before .before .before .before .clear .ensures) ∙ gone-then-come (bit (c .before .before .before .before .before .before .before .before .before .before .before .before .before .args .state .now)) (0 ∷ []) (1 ∷ []))
-
-enum-known-a-2 : tie.Need-enum-known-a-2
-enum-known-a-2 c = search needs
 
 node-line-requires : tie.Need-node-line-requires
 node-line-requires c κs =
@@ -76,17 +52,8 @@ add-raise c =
     let q = node-small (c .before .before .before .before .before .before .before .before .before .before .args .table .now) (c .before .before .before .before .before .before .before .before .before .before .pre .0) (c .before .before .before .before .before .a2 .given .0 .0 .node) (c .before .before .before .node-line .result) (c .before .before .before .node-line .ensures) (f .0) in
     omega (arith, f .1, q .1)
 
-raise-requires-2 : tie.Need-raise-requires-2
-raise-requires-2 c κs = search needs
-
-same-length-3 : tie.Need-same-length-3
-same-length-3 c = search needs
-
 returns-3 : tie.Need-returns-3
 returns-3 c = take-and (bit (c .before .before .before .before .before .before .before .before .before .before .before .before .before .args .state .now)) _ (length (c .before .before .before .before .before .before .before .before .before .before .before .before .before .args .state .now)) (c .before .before .before .before .before .before .before .before .before .before .before .before .before .args .table .now) (c .before .before .before .before .before .before .before .before .before .before .before .before .before .args .a) (c .before .before .before .before .before .before .before .before .a2 .given .0 .0) (c .before .before .before .before .before .before .node-line .result) (c .before .before .before .before .before .before .before .before .a2 .given .1) (c .before .before .before .before .before .before .node-line .ensures) (c .before .before .raise2 .ensures)
-
-enum-known-a-3 : tie.Need-enum-known-a-3
-enum-known-a-3 c = search needs
 
 node-line-requires-2 : tie.Need-node-line-requires-2
 node-line-requires-2 c κs =
@@ -99,17 +66,8 @@ add-raise-2 c =
     let q = node-small (c .before .before .before .before .before .before .before .before .before .before .args .table .now) (c .before .before .before .before .before .before .before .before .before .before .pre .0) (c .before .before .before .before .before .a3 .given .0 .0 .node) (c .before .before .before .node-line2 .result) (c .before .before .before .node-line2 .ensures) (f .0) in
     omega (arith, f .1, q .1)
 
-raise-requires-3 : tie.Need-raise-requires-3
-raise-requires-3 c κs = search needs
-
-same-length-4 : tie.Need-same-length-4
-same-length-4 c = search needs
-
 returns-4 : tie.Need-returns-4
 returns-4 c = take-or (bit (c .before .before .before .before .before .before .before .before .before .before .before .before .before .args .state .now)) _ (length (c .before .before .before .before .before .before .before .before .before .before .before .before .before .args .state .now)) (c .before .before .before .before .before .before .before .before .before .before .before .before .before .args .table .now) (c .before .before .before .before .before .before .before .before .before .before .before .before .before .args .a) (c .before .before .before .before .before .before .before .before .a3 .given .0 .0) (c .before .before .before .before .before .before .node-line2 .result) (c .before .before .before .before .before .before .before .before .a3 .given .1) (c .before .before .before .before .before .before .node-line2 .ensures) (c .before .before .raise3 .ensures)
-
-enum-known-a-4 : tie.Need-enum-known-a-4
-enum-known-a-4 c = search needs
 
 node-line-requires-3 : tie.Need-node-line-requires-3
 node-line-requires-3 c κs =
@@ -122,17 +80,8 @@ add-raise-3 c =
     let q = node-small (c .before .before .before .before .before .before .before .before .before .before .args .table .now) (c .before .before .before .before .before .before .before .before .before .before .pre .0) (c .before .before .before .before .before .a4 .given .0 .0 .node) (c .before .before .before .node-line3 .result) (c .before .before .before .node-line3 .ensures) (f .0) in
     omega (arith, f .1, q .1)
 
-raise-requires-4 : tie.Need-raise-requires-4
-raise-requires-4 c κs = search needs
-
-same-length-5 : tie.Need-same-length-5
-same-length-5 c = search needs
-
 returns-5 : tie.Need-returns-5
 returns-5 c = take-exists (bit (c .before .before .before .before .before .before .before .before .before .before .before .before .before .args .state .now)) _ (length (c .before .before .before .before .before .before .before .before .before .before .before .before .before .args .state .now)) (c .before .before .before .before .before .before .before .before .before .before .before .before .before .args .table .now) (c .before .before .before .before .before .before .before .before .before .before .before .before .before .args .a) (c .before .before .before .before .before .before .before .before .a4 .given .0 .0) (c .before .before .before .before .before .before .node-line3 .result) (c .before .before .before .before .before .before .before .before .a4 .given .1) (c .before .before .before .before .before .before .node-line3 .ensures) (c .before .before .raise4 .ensures)
-
-enum-known-a-5 : tie.Need-enum-known-a-5
-enum-known-a-5 c = search needs
 
 node-line-requires-4 : tie.Need-node-line-requires-4
 node-line-requires-4 c κs =
@@ -155,29 +104,11 @@ add-raise-5 c =
     let q = node-small (c .before .before .before .before .before .before .before .before .before .before .before .args .table .now) (c .before .before .before .before .before .before .before .before .before .before .before .pre .0) (c .before .before .before .before .before .before .a5 .given .0 .0 .node) (c .before .before .before .before .node-line4 .result) (c .before .before .before .before .node-line4 .ensures) (f .0) in
     omega (arith, times-most (c .before .before .before .before .before .before .a5 .given .0 .0 .row) (getD (c .before .before .before .before .before .before .before .before .before .before .before .args .table .now) 0 0) (f .1) (c .before .before .before .before .before .before .before .before .before .before .before .pre .0 .size), f .2, q .1, c .before .before .before .before .before .before .before .before .before .before .before .pre .0 .size)
 
-raise-requires-5 : tie.Need-raise-requires-5
-raise-requires-5 c κs = search needs
-
-same-length-6 : tie.Need-same-length-6
-same-length-6 c = search needs
-
 returns-6 : tie.Need-returns-6
 returns-6 c = take-forall (bit (c .before .before .before .before .before .before .before .before .before .before .before .before .before .before .args .state .now)) _ (length (c .before .before .before .before .before .before .before .before .before .before .before .before .before .before .args .state .now)) (c .before .before .before .before .before .before .before .before .before .before .before .before .before .before .args .table .now) (c .before .before .before .before .before .before .before .before .before .before .before .before .before .before .args .a) (c .before .before .before .before .before .before .before .before .before .a5 .given .0 .0) (c .before .before .before .before .before .before .before .node-line4 .result) (c .before .before .before .before .before .before .before .before .before .a5 .given .1) (c .before .before .before .before .before .before .before .node-line4 .ensures) (c .before .before .raise5 .ensures)
 
-enum-told-2 : tie.Need-enum-told-2
-enum-told-2 c = search needs
-
-raise-requires-6 : tie.Need-raise-requires-6
-raise-requires-6 c κs = search needs
-
-same-length-7 : tie.Need-same-length-7
-same-length-7 c = search needs
-
 returns-7 : tie.Need-returns-7
 returns-7 c = take-goal (bit (c .before .before .before .before .before .before .before .before .before .args .state .now)) _ (length (c .before .before .before .before .before .before .before .before .before .args .state .now)) (c .before .before .before .before .before .before .before .before .before .args .table .now) (c .before .before .before .before .before .before .before .before .before .args .a) (c .before .before .before .before .enum-told2 .given .1) (c .before .before .raise6 .ensures)
-
-enum-told-3 : tie.Need-enum-told-3
-enum-told-3 c = search needs
 
 returns-8 : tie.Need-returns-8
 returns-8 c = take-nothing (bit (c .before .before .before .before .before .args .state .now)) (length (c .before .before .before .before .before .args .state .now)) (c .before .before .before .before .before .args .table .now) (c .before .before .before .before .before .args .a) (c .enum-told3 .given .1)
@@ -186,46 +117,46 @@ pub take-spec : {M : Type 1} → statement M
 take-spec =
     tie.close
     (tie.spec
-    shared-slice-read-n
-    enum-known-a
+    (λ c. search needs)
+    (λ c. search needs)
     relation-line-requires
     take-set-requires
-    same-length
+    (λ c. search needs)
     returns
-    enum-told
-    clear-requires
-    raise-requires
-    same-length-2
+    (λ c. search needs)
+    (λ c κs. search needs)
+    (λ c κs. search needs)
+    (λ c. search needs)
     returns-2
-    enum-known-a-2
+    (λ c. search needs)
     node-line-requires
     add-raise
-    raise-requires-2
-    same-length-3
+    (λ c κs. search needs)
+    (λ c. search needs)
     returns-3
-    enum-known-a-3
+    (λ c. search needs)
     node-line-requires-2
     add-raise-2
-    raise-requires-3
-    same-length-4
+    (λ c κs. search needs)
+    (λ c. search needs)
     returns-4
-    enum-known-a-4
+    (λ c. search needs)
     node-line-requires-3
     add-raise-3
-    raise-requires-4
-    same-length-5
+    (λ c κs. search needs)
+    (λ c. search needs)
     returns-5
-    enum-known-a-5
+    (λ c. search needs)
     node-line-requires-4
     mul-raise
     add-raise-4
     add-raise-5
-    raise-requires-5
-    same-length-6
+    (λ c κs. search needs)
+    (λ c. search needs)
     returns-6
-    enum-told-2
-    raise-requires-6
-    same-length-7
+    (λ c. search needs)
+    (λ c κs. search needs)
+    (λ c. search needs)
     returns-7
-    enum-told-3
+    (λ c. search needs)
     returns-8)

@@ -17,24 +17,6 @@ use Rattle.ground.proofs.clear.Reads as clear-reads
 use Rattle.ground.proofs.free_clear.Reads as free-clear-reads
 use Rattle.ground.proofs.raise.Reads as raise-reads
 
-add-clear : tie.Need-add-clear
-add-clear c = search needs
-
-clear-requires : tie.Need-clear-requires
-clear-requires c κs = search needs
-
-free-clear-requires : tie.Need-free-clear-requires
-free-clear-requires c κs = search needs
-
-add-raise : tie.Need-add-raise
-add-raise c = search needs
-
-raise-requires : tie.Need-raise-requires
-raise-requires c κs = search needs
-
-same-length : tie.Need-same-length
-same-length c = search needs
-
 returns : tie.Need-returns
 returns c = λ h.
     let k = c .before .before .before .before .before .before .before .before .before .before .before .before .before .before .before .args .k in
@@ -48,10 +30,10 @@ pub take-set-spec : {M : Type 1} → statement M
 take-set-spec =
     tie.close
     (tie.spec
-    add-clear
-    clear-requires
-    free-clear-requires
-    add-raise
-    raise-requires
-    same-length
+    (λ c. search needs)
+    (λ c κs. search needs)
+    (λ c κs. search needs)
+    (λ c. search needs)
+    (λ c κs. search needs)
+    (λ c. search needs)
     returns)

@@ -10,14 +10,8 @@ use Rattle.ground.proofs.test.Reads as reads
 use Rattle.ground.proofs.test.Lts as lts
 use Rattle.bits.proofs.get.Reads as get-reads
 
-get-requires : tie.Need-get-requires
-get-requires c κs = search needs
-
-returns : tie.Need-returns
-returns c = search needs
-
 returns-2 : tie.Need-returns-2
 returns-2 c = sym (bit-past (c .before .before .args .words .now) (c .before .before .args .i) (omega arith))
 
 pub test-spec : {M : Type 1} → statement M
-test-spec = tie.close (tie.spec get-requires returns returns-2)
+test-spec = tie.close (tie.spec (λ c κs. search needs) (λ c. search needs) returns-2)

@@ -14,15 +14,6 @@ use Rattle.ground.proofs.under_holds.Lts as lts
 use Rattle.ground.proofs.part_holds.Reads as part-holds-reads
 use Rattle.rows.proofs.values_of.Reads as values-of-reads
 
-values-of-requires : tie.Need-values-of-requires
-values-of-requires c κs = search needs
-
-mul-env : tie.Need-mul-env
-mul-env c = search needs
-
-array-write-env : tie.Need-array-write-env
-array-write-env c = search needs
-
 part-holds-requires : tie.Need-part-holds-requires
 part-holds-requires c κs = (c .before .before .before .before .pre .2, omega (arith, c .before .before .before .before .pre .3 .parts), within-most (c .before .before .before .before .args .n) (set (c .values-of .result) (c .before .before .before .before .args .v .level) (c .before .before .before .before .args .x)) (c .before .before .before .before .pre .1) (within-set (c .before .before .before .before .args .n) (c .values-of .result) (c .before .before .before .before .args .v .level) (c .before .before .before .before .args .x) (c .before .before .before .before .pre .4) (c .values-of .ensures .1)))
 
@@ -33,4 +24,4 @@ returns c =
 
 pub under-holds-spec : {M : Type 1} → statement M
 under-holds-spec =
-    tie.close (tie.spec values-of-requires mul-env array-write-env part-holds-requires returns)
+    tie.close (tie.spec (λ c κs. search needs) (λ c. search needs) (λ c. search needs) part-holds-requires returns)

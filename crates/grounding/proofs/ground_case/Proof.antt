@@ -12,17 +12,11 @@ relations-of-requires c κs = declared _ _ _ _ (c .before .before .before .befor
 nodes-of-requires : tie.Need-nodes-of-requires
 nodes-of-requires c κs = rule-fine _ _ _ _ (c .before .before .before .before .before .pre .1 .holds)
 
-lay-out-requires : tie.Need-lay-out-requires
-lay-out-requires c κs = search needs
-
 returns : tie.Need-returns
 returns c = λ x facts h. grounds-over x _ _ _ (c .before .lay-out .ensures (problemOf x) (inputs _ _ x facts h _ _ (c .before .before .before .relations-of .ensures .1) (c .before .before .nodes-of .ensures))) (c .if1 .taken) refl
 
 fill-requires : tie.Need-fill-requires
 fill-requires c κs = (search needs, c .before .before .before .before .before .before .before .before .before .before .pre .0 .1, search needs, search needs, c .before .before .before .before .before .relations-of .ensures .0, c .before .before .before .before .nodes-of .ensures .fits, c .before .before .before .lay-out .ensures (problemOf (c .before .before .before .before .before .before .before .before .before .before .pre .1 .case)) (inputs _ _ _ _ (c .before .before .before .before .before .before .before .before .before .before .pre .1 .holds) _ _ (c .before .before .before .before .before .relations-of .ensures .1) (c .before .before .before .before .nodes-of .ensures)) .small (c .before .before .if1 .left))
-
-same-length : tie.Need-same-length
-same-length c = search needs
 
 returns-2 : tie.Need-returns-2
 returns-2 c = λ x facts h.
@@ -36,8 +30,8 @@ ground-case-spec =
     (tie.spec
     relations-of-requires
     nodes-of-requires
-    lay-out-requires
+    (λ c κs. search needs)
     returns
     fill-requires
-    same-length
+    (λ c. search needs)
     returns-2)

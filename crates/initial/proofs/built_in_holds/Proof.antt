@@ -14,9 +14,6 @@ returns-2 c =
     let start = c .before .before in
     is-lt (start .args .n) (start .args .r) (start .args .x) (start .args .y) (omega arith)
 
-add-result : tie.Need-add-result
-add-result c = search needs
-
 returns-3 : tie.Need-returns-3
 returns-3 c =
     let start = c .before .before .before in
@@ -27,9 +24,6 @@ returns-4 c =
     let start = c .before .before .before .before in
     is-zero (start .args .n) (start .args .r) (start .args .x) (start .args .y) (omega arith)
 
-add-result-2 : tie.Need-add-result-2
-add-result-2 c = search needs
-
 returns-5 : tie.Need-returns-5
 returns-5 c =
     let start = c .before .before .before .before in
@@ -37,4 +31,4 @@ returns-5 c =
 
 pub built-in-holds-spec : {M : Type 1} → statement M
 built-in-holds-spec =
-    tie.close (tie.spec returns returns-2 add-result returns-3 returns-4 add-result-2 returns-5)
+    tie.close (tie.spec returns returns-2 (λ c. search needs) returns-3 returns-4 (λ c. search needs) returns-5)

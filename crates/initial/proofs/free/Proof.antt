@@ -14,13 +14,10 @@ returns-2 c =
     let start = c .before .before in
     free-one (start .args .n) (start .args .kind) (omega arith) (omega arith)
 
-mul-result : tie.Need-mul-result
-mul-result c = search needs
-
 returns-3 : tie.Need-returns-3
 returns-3 c =
     let start = c .before .before in
     free-two (start .args .n) (start .args .kind) (omega arith)
 
 pub free-spec : {M : Type 1} → statement M
-free-spec = tie.close (tie.spec returns returns-2 mul-result returns-3)
+free-spec = tie.close (tie.spec returns returns-2 (λ c. search needs) returns-3)

@@ -4,19 +4,10 @@ use borrow.Author.Needs.{needs}
 use Rattle.initial.proofs.holding.Statement.{statement}
 use Rattle.initial.proofs.holding.Tie as tie
 
-tuple-holds-requires : tie.Need-tuple-holds-requires
-tuple-holds-requires c κs = search needs
-
-add-result : tie.Need-add-result
-add-result c = search needs
-
 returns : tie.Need-returns
 returns c =
     let a = c .before .before .before .before .args in
     is-tuple (a .facts .now) (a .n) (a .r) (a .k) (a .first) (a .row) (sym (c .before .before .tuple-holds .ensures) ∙ c .before .if1 .taken)
-
-add-result-2 : tie.Need-add-result-2
-add-result-2 c = search needs
 
 returns-2 : tie.Need-returns-2
 returns-2 c =
@@ -24,4 +15,4 @@ returns-2 c =
     is-not (a .facts .now) (a .n) (a .r) (a .k) (a .first) (a .row) (sym (c .before .before .tuple-holds .ensures) ∙ c .before .if1 .left)
 
 pub holding-spec : {M : Type 1} → statement M
-holding-spec = tie.close (tie.spec tuple-holds-requires add-result returns add-result-2 returns-2)
+holding-spec = tie.close (tie.spec (λ c κs. search needs) (λ c. search needs) returns (λ c. search needs) returns-2)

@@ -8,12 +8,6 @@ use borrow.Author.Needs.{needs}
 use Rattle.initial.proofs.initial_state.Statement.{statement}
 use Rattle.initial.proofs.initial_state.Tie as tie
 
-shared-slice-read-node-line : tie.Need-shared-slice-read-node-line
-shared-slice-read-node-line c = search needs
-
-node-line-requires : tie.Need-node-line-requires
-node-line-requires c κs = search needs
-
 add-fill : tie.Need-add-fill
 add-fill c =
     let start = c .before .before .before .before .before .before .before in
@@ -25,15 +19,6 @@ fill-requires c κs =
     let start = c .before .before .before .before .before .before .before in
     let line = c .before .before .node-line in
     omega (arith, atoms-words (start .args .table .now) (line .result) (line .ensures), start .pre .1)
-
-raise-requires : tie.Need-raise-requires
-raise-requires c κs = search needs
-
-put-relations-requires : tie.Need-put-relations-requires
-put-relations-requires c κs = search needs
-
-same-length : tie.Need-same-length
-same-length c = search needs
 
 returns : tie.Need-returns
 returns c =
@@ -53,11 +38,11 @@ pub initial-state-spec : {M : Type 1} → statement M
 initial-state-spec =
     tie.close
     (tie.spec
-    shared-slice-read-node-line
-    node-line-requires
+    (λ c. search needs)
+    (λ c κs. search needs)
     add-fill
     fill-requires
-    raise-requires
-    put-relations-requires
-    same-length
+    (λ c κs. search needs)
+    (λ c κs. search needs)
+    (λ c. search needs)
     returns)

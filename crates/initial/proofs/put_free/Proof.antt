@@ -21,18 +21,6 @@ loop-holds c =
     let start = c .before in
     (omega arith, refl, λ h. paste-zero (bit (start .args .state .now)) (start .args .from) (λ i. true) 0)
 
-add-raise : tie.Need-add-raise Inv-loop μ-loop
-add-raise c = search needs
-
-raise-requires : tie.Need-raise-requires Inv-loop μ-loop
-raise-requires c κs = search needs
-
-add-k : tie.Need-add-k Inv-loop μ-loop
-add-k c = search needs
-
-loop-less : tie.Need-loop-less Inv-loop μ-loop
-loop-less c = search needs
-
 loop-again : tie.Need-loop-again Inv-loop μ-loop
 loop-again c =
     let start = c .before .before .before .before .before .before .before in
@@ -59,10 +47,10 @@ put-free-spec =
     Inv-loop
     μ-loop
     loop-holds
-    add-raise
-    raise-requires
-    add-k
-    loop-less
+    (λ c. search needs)
+    (λ c κs. search needs)
+    (λ c. search needs)
+    (λ c. search needs)
     loop-again
     same-length
     returns)

@@ -6,12 +6,6 @@ use Rattle.initial.specs.RowLaws.{line-few, free-le, relation-put}
 use Rattle.initial.proofs.put_relation.Statement.{statement}
 use Rattle.initial.proofs.put_relation.Tie as tie
 
-shared-slice-read-n : tie.Need-shared-slice-read-n
-shared-slice-read-n c = search needs
-
-relation-line-requires : tie.Need-relation-line-requires
-relation-line-requires c κs = search needs
-
 put-tuples-requires : tie.Need-put-tuples-requires
 put-tuples-requires c κs =
     let start = c .before .before .before .before .before .before in
@@ -19,18 +13,12 @@ put-tuples-requires c κs =
     let q = line-few (start .args .table .now) (start .pre .0) (start .args .r) (line .result) (line .ensures) in
     (start .pre .0 .some, omega arith, q .0, q .1)
 
-free-requires : tie.Need-free-requires
-free-requires c κs = search needs
-
 put-free-requires : tie.Need-put-free-requires
 put-free-requires c κs =
     let start = c .before .before .before .before .before .before .before .before .before .before .before in
     let line = c .before .before .before .before .before .before .relation-line in
     let q = line-few (start .args .table .now) (start .pre .0) (start .args .r) (line .result) (line .ensures) in
     (q .2, omega (arith, c .before .free .ensures, free-le (sizeIn (start .args .table .now)) (line .result .kind), start .pre .0 .size))
-
-same-length : tie.Need-same-length
-same-length c = search needs
 
 returns : tie.Need-returns
 returns c =
@@ -43,10 +31,10 @@ pub put-relation-spec : {M : Type 1} → statement M
 put-relation-spec =
     tie.close
     (tie.spec
-    shared-slice-read-n
-    relation-line-requires
+    (λ c. search needs)
+    (λ c κs. search needs)
     put-tuples-requires
-    free-requires
+    (λ c κs. search needs)
     put-free-requires
-    same-length
+    (λ c. search needs)
     returns)

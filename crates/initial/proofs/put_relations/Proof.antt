@@ -41,12 +41,6 @@ add-first c =
     let l = c .before .before .before .before .before .before .loop in
     omega (arith, start .pre .relations, l .inv .2, c .words .ensures, first-step (start .args .table .now) (l .r), first-few (start .args .table .now) (start .pre) (l .r + 1))
 
-add-r : tie.Need-add-r Inv-loop μ-loop
-add-r c = search needs
-
-loop-less : tie.Need-loop-less Inv-loop μ-loop
-loop-less c = search needs
-
 loop-again : tie.Need-loop-again Inv-loop μ-loop
 loop-again c =
     let start = c .before .before .before .before .before .before .before .before .before .before .before in
@@ -78,8 +72,8 @@ put-relations-spec =
     put-relation-requires
     words-requires
     add-first
-    add-r
-    loop-less
+    (λ c. search needs)
+    (λ c. search needs)
     loop-again
     same-length
     returns)

@@ -15,9 +15,6 @@ Inv-loop state₀ facts n r k first count row₀ state row = (row ≤ count) × 
 abbrev μ-loop : tie.MeasureT-loop
 μ-loop state₀ facts n r k first count row₀ state row = count - row
 
-rows-requires : tie.Need-rows-requires Inv-loop μ-loop
-rows-requires c κs = search needs
-
 loop-holds : tie.Need-loop-holds Inv-loop μ-loop
 loop-holds c =
     let a = c .before .before .before .args in
@@ -27,15 +24,6 @@ holding-requires : tie.Need-holding-requires Inv-loop μ-loop
 holding-requires c κs =
     let a = c .before .before .before .before .before .before .args in
     (omega arith, omega arith, omega arith, omega arith, omega (arith, c .before .before .before .rows .ensures, rows-le (a .k)))
-
-raise-requires : tie.Need-raise-requires Inv-loop μ-loop
-raise-requires c κs = search needs
-
-add-row : tie.Need-add-row Inv-loop μ-loop
-add-row c = search needs
-
-loop-less : tie.Need-loop-less Inv-loop μ-loop
-loop-less c = search needs
 
 loop-again : tie.Need-loop-again Inv-loop μ-loop
 loop-again c =
@@ -66,12 +54,12 @@ put-tuples-spec =
     (tie.spec
     Inv-loop
     μ-loop
-    rows-requires
+    (λ c κs. search needs)
     loop-holds
     holding-requires
-    raise-requires
-    add-row
-    loop-less
+    (λ c κs. search needs)
+    (λ c. search needs)
+    (λ c. search needs)
     loop-again
     same-length
     returns)

@@ -4,9 +4,6 @@ use borrow.Author.Needs.{needs}
 use Rattle.initial.proofs.rows.Statement.{statement}
 use Rattle.initial.proofs.rows.Tie as tie
 
-sub-result : tie.Need-sub-result
-sub-result c = search needs
-
 returns : tie.Need-returns
 returns c = rows-are (c .before .before .before .args .k)
 
@@ -14,4 +11,4 @@ returns-2 : tie.Need-returns-2
 returns-2 c = rows-none (c .before .before .args .k) (omega arith)
 
 pub rows-spec : {M : Type 1} → statement M
-rows-spec = tie.close (tie.spec sub-result returns returns-2)
+rows-spec = tie.close (tie.spec (λ c. search needs) returns returns-2)

@@ -6,12 +6,6 @@ use borrow.Author.Needs.{needs}
 use Rattle.initial.proofs.tuple_holds.Statement.{statement}
 use Rattle.initial.proofs.tuple_holds.Tie as tie
 
-div-built-in-holds : tie.Need-div-built-in-holds
-div-built-in-holds c = search needs
-
-rem-built-in-holds : tie.Need-rem-built-in-holds
-rem-built-in-holds c = search needs
-
 built-in-holds-requires : tie.Need-built-in-holds-requires
 built-in-holds-requires c κs =
     let start = c .before .before in
@@ -22,22 +16,10 @@ returns c =
     let start = c .before .before .before in
     c .built-in-holds .ensures ∙ is-pair (start .args .facts .now) (start .args .n) (start .args .r) (start .args .kind) (start .args .first) (start .args .row) (omega arith)
 
-built-in-holds-requires-2 : tie.Need-built-in-holds-requires-2
-built-in-holds-requires-2 c κs = search needs
-
 returns-2 : tie.Need-returns-2
 returns-2 c =
     let start = c .before .before .before .before in
     c .built-in-holds2 .ensures ∙ is-one (start .args .facts .now) (start .args .n) (start .args .r) (start .args .kind) (start .args .first) (start .args .row) (omega arith) (omega arith)
-
-mul-test : tie.Need-mul-test
-mul-test c = search needs
-
-add-test : tie.Need-add-test
-add-test c = search needs
-
-test-requires : tie.Need-test-requires
-test-requires c κs = search needs
 
 returns-3 : tie.Need-returns-3
 returns-3 c =
@@ -53,14 +35,14 @@ pub tuple-holds-spec : {M : Type 1} → statement M
 tuple-holds-spec =
     tie.close
     (tie.spec
-    div-built-in-holds
-    rem-built-in-holds
+    (λ c. search needs)
+    (λ c. search needs)
     built-in-holds-requires
     returns
-    built-in-holds-requires-2
+    (λ c κs. search needs)
     returns-2
-    mul-test
-    add-test
-    test-requires
+    (λ c. search needs)
+    (λ c. search needs)
+    (λ c κs. search needs)
     returns-3
     returns-4)

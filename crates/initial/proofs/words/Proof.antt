@@ -12,12 +12,6 @@ returns c =
     let start = c .before .before in
     words-none (start .args .table .now) (start .args .r) (omega arith)
 
-relation-line-requires : tie.Need-relation-line-requires
-relation-line-requires c κs = search needs
-
-rows-requires : tie.Need-rows-requires
-rows-requires c κs = search needs
-
 add-result : tie.Need-add-result
 add-result c =
     let start = c .before .before .before .before in
@@ -29,4 +23,4 @@ returns-2 c =
     ap (λ (x : ℕ). (x + 63) / 64) (c .rows .ensures ∙ ap rowsIn (c .before .relation-line .ensures)) ∙ words-are (start .args .table .now) (start .args .r) (omega arith)
 
 pub words-spec : {M : Type 1} → statement M
-words-spec = tie.close (tie.spec returns relation-line-requires rows-requires add-result returns-2)
+words-spec = tie.close (tie.spec returns (λ c κs. search needs) (λ c κs. search needs) add-result returns-2)

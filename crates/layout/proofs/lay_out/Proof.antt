@@ -13,9 +13,6 @@ use Rattle.layout.proofs.node_starts.Reads as node-starts-reads
 use Rattle.layout.proofs.relation_starts.Reads as relation-starts-reads
 use Rattle.layout.proofs.too_many.Reads as too-many-reads
 
-relation-starts-requires : tie.Need-relation-starts-requires
-relation-starts-requires c κs = search needs
-
 add-first : tie.Need-add-first
 add-first c = omega (arith, c .before .relation-starts .ensures .set-is, set-bound (c .before .before .args .n) (c .before .before .args .g) (c .before .before .pre .1) (c .before .before .pre .2) (c .before .before .args .g .count), c .before .before .pre .2 .count)
 
@@ -34,9 +31,6 @@ add-bound c = omega (arith, c .before .before .before .before .before .relation-
 add-bound-2 : tie.Need-add-bound-2
 add-bound-2 c = omega (arith, c .before .before .before .before .before .relation-starts .ensures .at-is, rel-bound (c .before .before .before .before .before .before .args .n) (c .before .before .before .before .before .before .args .g) (c .before .before .before .before .before .before .pre .1) (c .before .before .before .before .before .before .pre .2) (c .before .before .before .before .before .before .args .g .count), c .before .before .before .before .before .before .pre .2 .count, c .before .before .before .node-starts .ensures .at-is, node-bound (c .before .before .before .before .before .before .args .n) (c .before .before .before .before .before .before .args .t) (c .before .before .before .before .before .relation-starts .result .at) (c .before .before .before .before .before .relation-starts .result .sets + 1) (c .before .before .before .before .before .before .pre .1) (c .before .before .before .before .before .before .pre .3) (c .before .before .before .before .before .before .args .t .count), c .before .before .before .before .before .before .pre .3 .few, c .before .before .before .before .before .relation-starts .ensures .picks-are, pick-bound (c .before .before .before .before .before .before .args .n) (c .before .before .before .before .before .before .args .g) (c .before .before .before .before .before .before .pre .1) (c .before .before .before .before .before .before .pre .2) (c .before .before .before .before .before .before .args .g .count))
 
-too-many-requires : tie.Need-too-many-requires
-too-many-requires c κs = search needs
-
 returns : tie.Need-returns
 returns c = λ p is. laid (c .before .before .before .before .before .before .before .before .before .before .before .before .before .args .n) p (c .before .before .before .before .before .before .before .before .before .before .before .before .before .args .g) (c .before .before .before .before .before .before .before .before .before .before .before .before .before .args .t) is (c .before .before .before .before .before .before .before .before .before .before .before .before .before .pre .3) (c .before .before .before .before .before .before .before .before .before .before .before .before .relation-starts .result .rel) (c .before .before .before .before .before .before .before .before .before .before .before .before .relation-starts .result .neg) (c .before .before .before .before .before .before .before .before .before .before .before .before .relation-starts .result .dom) (c .before .before .before .before .before .before .before .before .before .before .before .before .relation-starts .result .set) (c .before .before .before .before .before .before .before .before .before .before .node-starts .result .node) (c .before .before .before .before .before .before .before .before .before .before .node-starts .result .act) (c .before .before .before .before .before .before .before .before .before .before .before .before .relation-starts .result .at) (c .before .before .before .before .before .before .before .before .before .before .before .before .relation-starts .result .sets) (c .before .before .before .before .before .before .before .before .before .before .before .before .relation-starts .result .picks) (c .before .before .before .before .before .before .before .before .before .before .node-starts .result .at) (c .before .before .before .before .before .before .before .before .before .before .node-starts .result .acts) (c .before .before .before .before .before .before .too-many .result)
     (c .before .before .before .before .before .before .before .before .before .before .before .before .relation-starts .ensures) (c .before .before .before .before .before .before .before .before .before .before .node-starts .ensures) (c .before .before .before .before .before .before .too-many .ensures)
@@ -45,12 +39,12 @@ pub lay-out-spec : {M : Type 1} → statement M
 lay-out-spec =
     tie.close
     (tie.spec
-    relation-starts-requires
+    (λ c κs. search needs)
     add-first
     node-starts-requires
     add-actions
     sub-bound
     add-bound
     add-bound-2
-    too-many-requires
+    (λ c κs. search needs)
     returns)

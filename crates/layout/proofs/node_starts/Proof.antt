@@ -52,12 +52,6 @@ row-width : (c : tie.After-node-width Inv-loop μ-loop)
     → let s = c .before .before .before .before .before in c .node-width .result ≡ nodeWidth (s .before .before .args .n) (c .before .power .result) (row s .kind)
 row-width c = c .node-width .ensures ∙ ap (nodeWidth (c .before .before .before .before .before .before .before .args .n) (c .before .power .result)) (c .before .before .before .wide .ensures)
 
-array-write-node : tie.Need-array-write-node Inv-loop μ-loop
-array-write-node c = omega arith
-
-array-write-act : tie.Need-array-write-act Inv-loop μ-loop
-array-write-act c = omega arith
-
 loop-holds : tie.Need-loop-holds Inv-loop μ-loop
 loop-holds c = (omega arith, refl, refl, nodes-first (c .args .n) (c .args .t2) (c .args .from) (c .args .first))
 
@@ -66,12 +60,6 @@ mul-row c = omega (arith, c .before .before .pre .2 .few)
 
 element-copy-out-row : tie.Need-element-copy-out-row Inv-loop μ-loop
 element-copy-out-row c = omega (arith, c .before .before .pre .2 .few)
-
-wide-requires : tie.Need-wide-requires Inv-loop μ-loop
-wide-requires c κs = search needs
-
-wide-requires-2 : tie.Need-wide-requires-2 Inv-loop μ-loop
-wide-requires-2 c κs = search needs
 
 power-requires : tie.Need-power-requires Inv-loop μ-loop
 power-requires c κs =
@@ -86,12 +74,6 @@ add-at : tie.Need-add-at Inv-loop μ-loop
 add-at c =
     let s = c .before .before .before .before .before .before .before in
     omega (arith, c .before .before .before .before .before .before .loop .inv .3 .at-is, node-bound (s .args .n) (s .args .t2) (s .args .from) (s .args .first) (s .pre .1) (s .pre .2) (c .before .before .before .before .before .before .loop .v), s .pre .2 .few, row-width c, node-width-le (s .args .n) (c .before .power .result) (row (c .before .before .before .before .before) .kind) (s .pre .1) (rows-small (c .before)))
-
-wide-requires-3 : tie.Need-wide-requires-3 Inv-loop μ-loop
-wide-requires-3 c κs = search needs
-
-choices-requires : tie.Need-choices-requires Inv-loop μ-loop
-choices-requires c κs = search needs
 
 mul-acts : tie.Need-mul-acts Inv-loop μ-loop
 mul-acts c = omega (arith, acts-small c)
@@ -141,18 +123,18 @@ node-starts-spec =
     (tie.spec
     Inv-loop
     μ-loop
-    array-write-node
-    array-write-act
+    (λ c. omega arith)
+    (λ c. omega arith)
     loop-holds
     mul-row
     element-copy-out-row
-    wide-requires
-    wide-requires-2
+    (λ c κs. search needs)
+    (λ c κs. search needs)
     power-requires
     node-width-requires
     add-at
-    wide-requires-3
-    choices-requires
+    (λ c κs. search needs)
+    (λ c κs. search needs)
     mul-acts
     add-acts
     add-v

@@ -28,9 +28,6 @@ size-small c =
     let i = c .before .before .before .before .loop .i in
     size-most (s .args .n) (getD (s .args .t2 .arity) i 0) (c .power .result) (c .power .ensures) (s .pre .1) (s .pre .2 .arity i)
 
-array-write-rel : tie.Need-array-write-rel Inv-loop μ-loop
-array-write-rel c = omega arith
-
 loop-holds : tie.Need-loop-holds Inv-loop μ-loop
 loop-holds c = (omega arith, refl, refl, refl, refl, rels-first (c .args .n) (c .args .t2))
 
@@ -76,14 +73,8 @@ relation-width-requires c κs = (c .before .before .before .before .before .pre 
 add-at : tie.Need-add-at Inv-loop μ-loop
 add-at c = omega (arith, c .before .before .before .before .before .loop .inv .5 .at-is, rel-bound (c .before .before .before .before .before .before .args .n) (c .before .before .before .before .before .before .args .t2) (c .before .before .before .before .before .before .pre .1) (c .before .before .before .before .before .before .pre .2) (c .before .before .before .before .before .loop .i), c .before .before .before .before .before .before .pre .2 .count, c .relation-width .ensures, width-le (c .before .before .before .before .before .before .args .n) (c .before .power .result) (getD (c .before .before .before .before .before .before .args .t2 .kind) (c .before .before .before .before .before .loop .i) 0) (c .before .before .before .before .before .before .pre .1) (size-small (c .before)) .1)
 
-set-width-requires : tie.Need-set-width-requires Inv-loop μ-loop
-set-width-requires c κs = search needs
-
 add-sets : tie.Need-add-sets Inv-loop μ-loop
 add-sets c = omega (arith, c .before .before .before .before .before .before .loop .inv .5 .set-is, set-bound (c .before .before .before .before .before .before .before .args .n) (c .before .before .before .before .before .before .before .args .t2) (c .before .before .before .before .before .before .before .pre .1) (c .before .before .before .before .before .before .before .pre .2) (c .before .before .before .before .before .before .loop .i), c .before .before .before .before .before .before .before .pre .2 .count, c .set-width .ensures, set-width-le (c .before .before .power .result) (getD (c .before .before .before .before .before .before .before .args .t2 .kind) (c .before .before .before .before .before .before .loop .i) 0), size-small (c .before .before))
-
-most-width-requires : tie.Need-most-width-requires Inv-loop μ-loop
-most-width-requires c κs = search needs
 
 add-picks : tie.Need-add-picks Inv-loop μ-loop
 add-picks c = omega (arith, c .before .before .before .before .before .before .before .loop .inv .5 .picks-are, pick-bound (c .before .before .before .before .before .before .before .before .args .n) (c .before .before .before .before .before .before .before .before .args .t2) (c .before .before .before .before .before .before .before .before .pre .1) (c .before .before .before .before .before .before .before .before .pre .2) (c .before .before .before .before .before .before .before .loop .i), c .before .before .before .before .before .before .before .before .pre .2 .count, c .most-width .ensures, most-width-le (c .before .before .before .before .before .before .before .before .args .n) (c .before .before .before .power .result) (getD (c .before .before .before .before .before .before .before .before .args .t2 .kind) (c .before .before .before .before .before .before .before .loop .i) 0) (c .before .before .before .before .before .before .before .before .pre .1) (size-small (c .before .before .before)))
@@ -128,7 +119,7 @@ relation-starts-spec =
     (tie.spec
     Inv-loop
     μ-loop
-    array-write-rel
+    (λ c. omega arith)
     loop-holds
     mul-kind
     element-copy-out-kind
@@ -144,9 +135,9 @@ relation-starts-spec =
     array-write-dom
     relation-width-requires
     add-at
-    set-width-requires
+    (λ c κs. search needs)
     add-sets
-    most-width-requires
+    (λ c κs. search needs)
     add-picks
     add-i
     mul-rel

@@ -8,29 +8,11 @@ use Rattle.layout.proofs.relation_width.Tie as tie
 use Rattle.layout.proofs.relation_width.Reads as reads
 use Rattle.layout.proofs.relation_width.Lts as lts
 
-add-result : tie.Need-add-result
-add-result c = search needs
-
 returns : tie.Need-returns
 returns c = width-plain (c .before .args .n) (c .before .args .size) (c .before .args .kind) (omega arith)
 
-add-result-2 : tie.Need-add-result-2
-add-result-2 c = search needs
-
-add-result-3 : tie.Need-add-result-3
-add-result-3 c = search needs
-
 returns-2 : tie.Need-returns-2
 returns-2 c = width-function (c .before .before .args .n) (c .before .before .args .size) (c .before .before .args .kind) (omega arith) (omega arith)
-
-add-result-4 : tie.Need-add-result-4
-add-result-4 c = search needs
-
-add-result-5 : tie.Need-add-result-5
-add-result-5 c = search needs
-
-add-result-6 : tie.Need-add-result-6
-add-result-6 c = search needs
 
 returns-3 : tie.Need-returns-3
 returns-3 c = width-injective (c .before .before .args .n) (c .before .before .args .size) (c .before .before .args .kind) (omega arith)
@@ -39,12 +21,12 @@ pub relation-width-spec : {M : Type 1} → statement M
 relation-width-spec =
     tie.close
     (tie.spec
-    add-result
+    (λ c. search needs)
     returns
-    add-result-2
-    add-result-3
+    (λ c. search needs)
+    (λ c. search needs)
     returns-2
-    add-result-4
-    add-result-5
-    add-result-6
+    (λ c. search needs)
+    (λ c. search needs)
+    (λ c. search needs)
     returns-3)

@@ -4,18 +4,6 @@ use borrow.Author.Needs.{needs}
 use Rattle.nendokwe.proofs.nendokwe_action.Statement.{statement}
 use Rattle.nendokwe.proofs.nendokwe_action.Tie as tie
 
-action-requires : tie.Need-action-requires
-action-requires c κs = search needs
-
-enum-known-r : tie.Need-enum-known-r
-enum-known-r c = search needs
-
-in-numbers-requires : tie.Need-in-numbers-requires
-in-numbers-requires c κs = search needs
-
-enum-known-r-2 : tie.Need-enum-known-r-2
-enum-known-r-2 c = search needs
-
 returns : tie.Need-returns
 returns c = action-told _ _ (c .before .before .before .before .action .ensures) _ _ _ _ _ (c .before .before .r .given .1) _ (c .in-numbers .ensures)
 
@@ -25,4 +13,4 @@ returns-2 c = action-refused _ _ (c .before .before .before .action .ensures) _ 
 pub nendokwe-action-spec : {M : Type 1} → statement M
 nendokwe-action-spec =
     tie.close
-    (tie.spec action-requires enum-known-r in-numbers-requires enum-known-r-2 returns returns-2)
+    (tie.spec (λ c κs. search needs) (λ c. search needs) (λ c κs. search needs) (λ c. search needs) returns returns-2)

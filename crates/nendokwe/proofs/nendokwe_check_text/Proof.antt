@@ -5,18 +5,9 @@ use borrow.Author.Needs.{needs}
 use Rattle.nendokwe.proofs.nendokwe_check_text.Statement.{statement}
 use Rattle.nendokwe.proofs.nendokwe_check_text.Tie as tie
 
-check-text-requires : tie.Need-check-text-requires
-check-text-requires c κs = search needs
-
-tell-requires : tie.Need-tell-requires
-tell-requires c κs = search needs
-
-same-length : tie.Need-same-length
-same-length c = search needs
-
 returns : tie.Need-returns
 returns c = (c .tell .ensures .0 ∙ ap replyNumber (c .before .before .before .before .before .check-text .ensures .0), (c .tell .ensures .1 ∙ ap replyPlace (c .before .before .before .before .before .check-text .ensures .0), c .before .before .before .before .before .check-text .ensures .1))
 
 pub nendokwe-check-text-spec : {M : Type 1} → statement M
 nendokwe-check-text-spec =
-    tie.close (tie.spec check-text-requires tell-requires same-length returns)
+    tie.close (tie.spec (λ c κs. search needs) (λ c κs. search needs) (λ c. search needs) returns)

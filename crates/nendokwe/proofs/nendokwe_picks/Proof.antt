@@ -5,21 +5,9 @@ use borrow.Author.Needs.{needs}
 use Rattle.nendokwe.proofs.nendokwe_picks.Statement.{statement}
 use Rattle.nendokwe.proofs.nendokwe_picks.Tie as tie
 
-picks-lent-requires : tie.Need-picks-lent-requires
-picks-lent-requires c κs = search needs
-
-tell-requires : tie.Need-tell-requires
-tell-requires c κs = search needs
-
-same-length : tie.Need-same-length
-same-length c = search needs
-
-same-length-2 : tie.Need-same-length-2
-same-length-2 c = search needs
-
 returns : tie.Need-returns
 returns c = (c .tell .ensures .0 ∙ ap replyNumber (c .before .before .before .before .before .before .before .picks-lent .ensures .0), (c .tell .ensures .1 ∙ ap replyPlace (c .before .before .before .before .before .before .before .picks-lent .ensures .0), c .before .before .before .before .before .before .before .picks-lent .ensures .1))
 
 pub nendokwe-picks-spec : {M : Type 1} → statement M
 nendokwe-picks-spec =
-    tie.close (tie.spec picks-lent-requires tell-requires same-length same-length-2 returns)
+    tie.close (tie.spec (λ c κs. search needs) (λ c κs. search needs) (λ c. search needs) (λ c. search needs) returns)

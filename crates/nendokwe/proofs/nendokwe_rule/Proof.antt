@@ -5,9 +5,6 @@ use borrow.Author.Needs.{needs}
 use Rattle.nendokwe.proofs.nendokwe_rule.Statement.{statement}
 use Rattle.nendokwe.proofs.nendokwe_rule.Tie as tie
 
-question-requires : tie.Need-question-requires
-question-requires c κs = search needs
-
 sub-length : tie.Need-sub-length
 sub-length c = part-in _ _ (c .before .before .question .ensures) .0
 
@@ -15,4 +12,4 @@ returns : tie.Need-returns
 returns c = rule-told _ _ (c .before .before .question .ensures)
 
 pub nendokwe-rule-spec : {M : Type 1} → statement M
-nendokwe-rule-spec = tie.close (tie.spec question-requires sub-length returns)
+nendokwe-rule-spec = tie.close (tie.spec (λ c κs. search needs) sub-length returns)

@@ -4,15 +4,6 @@ use borrow.Author.Needs.{needs}
 use Rattle.nendokwe.proofs.nendokwe_sizes.Statement.{statement}
 use Rattle.nendokwe.proofs.nendokwe_sizes.Tie as tie
 
-sizes-requires : tie.Need-sizes-requires
-sizes-requires c κs = search needs
-
-enum-known-r : tie.Need-enum-known-r
-enum-known-r c = search needs
-
-enum-known-r-2 : tie.Need-enum-known-r-2
-enum-known-r-2 c = search needs
-
 returns : tie.Need-returns
 returns c = sizes-told _ _ (c .before .before .before .sizes .ensures) _ _ _ _ _ (c .before .r .given .1)
 
@@ -21,4 +12,4 @@ returns-2 c = sizes-refused _ _ (c .before .before .before .sizes .ensures) _ _ 
 
 pub nendokwe-sizes-spec : {M : Type 1} → statement M
 nendokwe-sizes-spec =
-    tie.close (tie.spec sizes-requires enum-known-r enum-known-r-2 returns returns-2)
+    tie.close (tie.spec (λ c κs. search needs) (λ c. search needs) (λ c. search needs) returns returns-2)

@@ -6,12 +6,6 @@ use borrow.Author.Needs.{needs}
 use Rattle.nendokwe.proofs.tell.Statement.{statement}
 use Rattle.nendokwe.proofs.tell.Tie as tie
 
-enum-known-r : tie.Need-enum-known-r
-enum-known-r c = search needs
-
-enum-known-r-2 : tie.Need-enum-known-r-2
-enum-known-r-2 c = search needs
-
 returns : tie.Need-returns
 unfolding replyNumber resultOf replyPlace
 returns c = (sym (ap (λ (x : _). replyNumber (resultOf x)) (c .before .r .given .1)), sym (ap (λ (x : _). replyPlace (resultOf x)) (c .before .r .given .1)))
@@ -21,4 +15,4 @@ unfolding replyNumber resultOf replyPlace
 returns-2 c = (sym (ap (λ (x : _). replyNumber (resultOf x)) (c .before .r2 .given .1)), sym (ap (λ (x : _). replyPlace (resultOf x)) (c .before .r2 .given .1)))
 
 pub tell-spec : {M : Type 1} → statement M
-tell-spec = tie.close (tie.spec enum-known-r enum-known-r-2 returns returns-2)
+tell-spec = tie.close (tie.spec (λ c. search needs) (λ c. search needs) returns returns-2)

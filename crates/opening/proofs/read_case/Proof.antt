@@ -5,35 +5,14 @@ use borrow.Author.Needs.{needs}
 use Rattle.opening.proofs.read_case.Statement.{statement}
 use Rattle.opening.proofs.read_case.Tie as tie
 
-question-requires : tie.Need-question-requires
-question-requires c κs = search needs
-
-refusal-requires : tie.Need-refusal-requires
-refusal-requires c κs = search needs
-
 returns : tie.Need-returns
 returns c = question-refused _ _ _ _ (c .before .before .question .ensures) (c .before .if1 .taken) _ (c .refusal .ensures)
 
 site-requires : tie.Need-site-requires
 site-requires c κs = (known-sound _ _ (c .before .before .before .question .ensures) (c .before .before .if1 .left), search needs, search needs)
 
-enum-known-s : tie.Need-enum-known-s
-enum-known-s c = search needs
-
-refusal-requires-2 : tie.Need-refusal-requires-2
-refusal-requires-2 c κs = search needs
-
-enum-known-s-2 : tie.Need-enum-known-s-2
-enum-known-s-2 c = search needs
-
-same-length : tie.Need-same-length
-same-length c = search needs
-
 returns-2 : tie.Need-returns-2
 returns-2 c = site-refused _ _ _ _ (c .before .before .before .before .before .before .before .before .before .before .question .ensures) (c .before .before .before .before .before .before .before .before .before .if1 .left) _ _ (sym (c .before .before .before .before .before .before .site .ensures .0) ∙ c .before .before .s .given .1) _ (c .refusal2 .ensures)
-
-same-length-2 : tie.Need-same-length-2
-same-length-2 c = search needs
 
 returns-3 : tie.Need-returns-3
 unfolding opened
@@ -43,14 +22,14 @@ pub read-case-spec : {M : Type 1} → statement M
 read-case-spec =
     tie.close
     (tie.spec
-    question-requires
-    refusal-requires
+    (λ c κs. search needs)
+    (λ c κs. search needs)
     returns
     site-requires
-    enum-known-s
-    refusal-requires-2
-    enum-known-s-2
-    same-length
+    (λ c. search needs)
+    (λ c κs. search needs)
+    (λ c. search needs)
+    (λ c. search needs)
     returns-2
-    same-length-2
+    (λ c. search needs)
     returns-3)

@@ -10,21 +10,15 @@ use Rattle.picks.proofs.breaks_kind.Tie as tie
 returns : tie.Need-returns
 returns c = breaks-none (c .before .before .args .kind) (c .before .before .args .n) (λ (i : ℕ). bit (c .before .before .args .picks .now) (c .before .before .args .start + i)) (omega arith)
 
-crowded-requires : tie.Need-crowded-requires
-crowded-requires c κs = search needs
-
 returns-2 : tie.Need-returns-2
 returns-2 c = breaks-first (c .before .before .before .before .args .kind) (c .before .before .before .before .args .n) (λ (i : ℕ). bit (c .before .before .before .before .args .picks .now) (c .before .before .before .before .args .start + i)) (omega arith) (sym (c .before .crowded .ensures) ∙ c .if2 .taken)
 
 returns-3 : tie.Need-returns-3
 returns-3 c = breaks-fun (c .before .before .before .before .before .args .kind) (c .before .before .before .before .before .args .n) (λ (i : ℕ). bit (c .before .before .before .before .before .args .picks .now) (c .before .before .before .before .before .args .start + i)) (omega arith) (omega arith) (sym (c .before .before .crowded .ensures) ∙ c .before .if2 .left)
 
-crowded-requires-2 : tie.Need-crowded-requires-2
-crowded-requires-2 c κs = search needs
-
 returns-4 : tie.Need-returns-4
 returns-4 c = breaks-second (c .before .before .before .before .before .before .args .kind) (c .before .before .before .before .before .before .args .n) (λ (i : ℕ). bit (c .before .before .before .before .before .before .args .picks .now) (c .before .before .before .before .before .before .args .start + i)) _ (omega arith) (sym (c .before .before .before .crowded .ensures) ∙ c .before .before .if2 .left) (c .crowded2 .ensures)
 
 pub breaks-kind-spec : {M : Type 1} → statement M
 breaks-kind-spec =
-    tie.close (tie.spec returns crowded-requires returns-2 returns-3 crowded-requires-2 returns-4)
+    tie.close (tie.spec returns (λ c κs. search needs) returns-2 returns-3 (λ c κs. search needs) returns-4)

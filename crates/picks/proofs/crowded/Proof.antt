@@ -33,12 +33,6 @@ tally-requires c κs = let i : c .before .loop .x ≤ 64 = omega arith in (omega
 returns : tie.Need-returns Inv-loop μ-loop
 returns c = sym (c .before .before .before .loop .inv .1 ∙ any-yes (rowTwo (c .before .before .before .before .before .args .picks .now) (c .before .before .before .before .before .args .start) (c .before .before .before .before .before .args .n) (c .before .before .before .before .before .args .a) (c .before .before .before .before .before .args .b)) (c .before .before .before .before .before .args .n) (c .before .before .before .loop .x) (omega arith) (row-two (c .before .before .before .before .before .args .picks .now) (c .before .before .before .before .before .args .start) (c .before .before .before .before .before .args .n) (c .before .before .before .before .before .args .a) (c .before .before .before .before .before .args .b) (c .before .before .before .loop .x) (c .before .tally .result) true (c .before .tally .ensures) (lt-ltb 1 (c .before .tally .result) (omega arith))))
 
-add-x : tie.Need-add-x Inv-loop μ-loop
-add-x c = search needs
-
-loop-less : tie.Need-loop-less Inv-loop μ-loop
-loop-less c = search needs
-
 loop-again : tie.Need-loop-again Inv-loop μ-loop
 loop-again c = (omega arith, c .before .before .before .loop .inv .1 ∙ any-no (rowTwo (c .before .before .before .before .before .args .picks .now) (c .before .before .before .before .before .args .start) (c .before .before .before .before .before .args .n) (c .before .before .before .before .before .args .a) (c .before .before .before .before .before .args .b)) (c .before .before .before .before .before .args .n) (c .before .before .before .loop .x) (omega arith) (row-two (c .before .before .before .before .before .args .picks .now) (c .before .before .before .before .before .args .start) (c .before .before .before .before .before .args .n) (c .before .before .before .before .before .args .a) (c .before .before .before .before .before .args .b) (c .before .before .before .loop .x) (c .before .tally .result) false (c .before .tally .ensures) (le-ltb 1 (c .before .tally .result) (omega arith))))
 
@@ -56,7 +50,7 @@ crowded-spec =
     add-tally
     tally-requires
     returns
-    add-x
-    loop-less
+    (λ c. search needs)
+    (λ c. search needs)
     loop-again
     returns-2)

@@ -5,9 +5,6 @@ use borrow.Author.Needs.{needs}
 use Rattle.picks.proofs.digit.Statement.{statement}
 use Rattle.picks.proofs.digit.Tie as tie
 
-test-requires : tie.Need-test-requires
-test-requires c κs = search needs
-
 returns : tie.Need-returns
 returns c = ap (λ (b : Bool). num b) (sym (c .if1 .taken) ∙ c .before .test .ensures)
 
@@ -15,4 +12,4 @@ returns-2 : tie.Need-returns-2
 returns-2 c = ap (λ (b : Bool). num b) (sym (c .if1 .left) ∙ c .before .test .ensures)
 
 pub digit-spec : {M : Type 1} → statement M
-digit-spec = tie.close (tie.spec test-requires returns returns-2)
+digit-spec = tie.close (tie.spec (λ c κs. search needs) returns returns-2)

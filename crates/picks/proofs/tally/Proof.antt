@@ -23,17 +23,8 @@ mul-digit c = let i : c .before .loop .i ≤ 64 = omega arith in omega (arith, m
 add-digit : tie.Need-add-digit Inv-loop μ-loop
 add-digit c = let i : c .before .loop .i ≤ 64 = omega arith in omega (arith, mul-le-mul i (c .before .before .before .pre .1))
 
-digit-requires : tie.Need-digit-requires Inv-loop μ-loop
-digit-requires c κs = search needs
-
 add-sum : tie.Need-add-sum Inv-loop μ-loop
 add-sum c = omega (arith, c .before .before .loop .inv .1, count-le (λ (y : ℕ). bit (c .before .before .before .before .args .picks .now) (c .before .before .before .before .args .start + y * c .before .before .before .before .args .stride)) (c .before .before .loop .i), c .digit .ensures, num-le (bit (c .before .before .before .before .args .picks .now) (c .before .before .before .before .args .start + c .before .before .loop .i * c .before .before .before .before .args .stride)))
-
-add-i : tie.Need-add-i Inv-loop μ-loop
-add-i c = search needs
-
-loop-less : tie.Need-loop-less Inv-loop μ-loop
-loop-less c = search needs
 
 loop-again : tie.Need-loop-again Inv-loop μ-loop
 loop-again c = (omega arith, count-next (λ (y : ℕ). bit (c .before .before .before .before .args .picks .now) (c .before .before .before .before .args .start + y * c .before .before .before .before .args .stride)) (c .before .before .loop .i) (c .before .before .loop .sum) (c .digit .result) (c .before .before .loop .inv .1) (c .digit .ensures))
@@ -50,9 +41,9 @@ tally-spec =
     loop-holds
     mul-digit
     add-digit
-    digit-requires
+    (λ c κs. search needs)
     add-sum
-    add-i
-    loop-less
+    (λ c. search needs)
+    (λ c. search needs)
     loop-again
     returns)

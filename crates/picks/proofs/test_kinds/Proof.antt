@@ -46,17 +46,11 @@ words-in-requires c κs = words-few (c .before .before .before .before .before .
 add-word : tie.Need-add-word Inv-loop μ-loop
 add-word c = omega (arith, c .before .before .before .before .before .before .before .before .before .before .pre .relations, c .words-in .ensures, words-few (c .before .before .before .before .before .before .before .before .before .before .args .table .now) (c .before .before .before .before .before .before .loop .r) (c .before .before .before .before .before .before .before .before .before .before .pre) (c .before .before .before .relation-line .result) (c .before .before .before .relation-line .ensures) .3)
 
-chosen-requires : tie.Need-chosen-requires Inv-loop μ-loop
-chosen-requires c κs = search needs
-
 add-i : tie.Need-add-i Inv-loop μ-loop
 add-i c = omega (arith, c .before .before .before .before .before .before .before .before .before .before .before .pre .relations, c .chosen .ensures, chosen-le (c .before .before .before .before .relation-line .result .kind))
 
 add-r : tie.Need-add-r Inv-loop μ-loop
 add-r c = omega (arith, c .before .before .before .before .before .before .before .before .before .before .before .pre .relations)
-
-loop-less : tie.Need-loop-less Inv-loop μ-loop
-loop-less c = omega arith
 
 loop-again : tie.Need-loop-again Inv-loop μ-loop
 loop-again c = (
@@ -89,9 +83,9 @@ test-kinds-spec =
     returns
     words-in-requires
     add-word
-    chosen-requires
+    (λ c κs. search needs)
     add-i
     add-r
-    loop-less
+    (λ c. omega arith)
     loop-again
     returns-2)

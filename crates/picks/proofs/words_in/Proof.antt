@@ -7,9 +7,6 @@ use Rattle.picks.proofs.words_in.Tie as tie
 returns : tie.Need-returns
 returns c = no-words (c .before .before .args .k) (omega arith)
 
-tuples-in-requires : tie.Need-tuples-in-requires
-tuples-in-requires c κs = search needs
-
 add-result : tie.Need-add-result
 add-result c = omega (arith, c .tuples-in .ensures)
 
@@ -17,4 +14,4 @@ returns-2 : tie.Need-returns-2
 returns-2 c = some-words (c .before .before .before .args .k) (omega arith) (c .tuples-in .result) (c .tuples-in .ensures)
 
 pub words-in-spec : {M : Type 1} → statement M
-words-in-spec = tie.close (tie.spec returns tuples-in-requires add-result returns-2)
+words-in-spec = tie.close (tie.spec returns (λ c κs. search needs) add-result returns-2)

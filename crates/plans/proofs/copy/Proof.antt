@@ -18,29 +18,8 @@ abbrev μ-loop : tie.MeasureT-loop
 loop-holds : tie.Need-loop-holds Inv-loop μ-loop
 loop-holds c = (omega arith, refl, paste-zero (c .args .dst .now) 0 (c .args .src .now), λ h. absurd (omega arith))
 
-mul-dst : tie.Need-mul-dst Inv-loop μ-loop
-mul-dst c = search needs
-
-shared-slice-read-dst : tie.Need-shared-slice-read-dst Inv-loop μ-loop
-shared-slice-read-dst c = search needs
-
-mul-dst-2 : tie.Need-mul-dst-2 Inv-loop μ-loop
-mul-dst-2 c = search needs
-
-slice-write-dst : tie.Need-slice-write-dst Inv-loop μ-loop
-slice-write-dst c = search needs
-
-add-i : tie.Need-add-i Inv-loop μ-loop
-add-i c = search needs
-
-loop-less : tie.Need-loop-less Inv-loop μ-loop
-loop-less c = search needs
-
 loop-again : tie.Need-loop-again Inv-loop μ-loop
 loop-again c = (omega arith, length-set (c .before .before .loop .dst) (c .before .before .loop .i) (getD (c .before .before .before .args .src .now) (c .before .before .loop .i) 0) ∙ c .before .before .loop .inv .1, copy-next (c .before .before .before .args .dst .now) (c .before .before .before .args .src .now) (c .before .before .loop .dst) (c .before .before .loop .i) (omega arith) (omega arith) (c .before .before .loop .inv .2), λ h j. omega (arith, c .shared-slice-known .given j))
-
-same-length : tie.Need-same-length Inv-loop μ-loop
-same-length c = search needs
 
 returns : tie.Need-returns Inv-loop μ-loop
 returns c = let e : c .before .loop .i ≡ c .before .before .args .k = omega arith in (copy-end (c .before .before .args .dst .now) (c .before .before .args .src .now) (c .before .loop .dst) (c .before .before .args .k) (omega arith) (rw e at (c .before .loop .inv .2)), λ h. c .before .loop .inv .3 (omega arith))
@@ -52,12 +31,12 @@ copy-spec =
     Inv-loop
     μ-loop
     loop-holds
-    mul-dst
-    shared-slice-read-dst
-    mul-dst-2
-    slice-write-dst
-    add-i
-    loop-less
+    (λ c. search needs)
+    (λ c. search needs)
+    (λ c. search needs)
+    (λ c. search needs)
+    (λ c. search needs)
+    (λ c. search needs)
     loop-again
-    same-length
+    (λ c. search needs)
     returns)

@@ -24,29 +24,8 @@ returns-2 c = λ _ h. absurd (omega arith)
 loop-holds : tie.Need-loop-holds Inv-loop μ-loop
 loop-holds c = (omega arith, omega arith, omega arith, refl, paste-zero (c .before .before .args .dst .now) 0 (c .before .before .args .src .now))
 
-mul-dst : tie.Need-mul-dst Inv-loop μ-loop
-mul-dst c = search needs
-
-shared-slice-read-dst : tie.Need-shared-slice-read-dst Inv-loop μ-loop
-shared-slice-read-dst c = search needs
-
-mul-dst-2 : tie.Need-mul-dst-2 Inv-loop μ-loop
-mul-dst-2 c = search needs
-
-slice-write-dst : tie.Need-slice-write-dst Inv-loop μ-loop
-slice-write-dst c = search needs
-
-add-i : tie.Need-add-i Inv-loop μ-loop
-add-i c = search needs
-
-loop-less : tie.Need-loop-less Inv-loop μ-loop
-loop-less c = search needs
-
 loop-again : tie.Need-loop-again Inv-loop μ-loop
 loop-again c = (omega arith, omega arith, omega arith, length-set (c .before .before .loop .dst) (c .before .before .loop .i) (getD (c .before .before .before .before .before .args .src .now) (c .before .before .loop .i) 0) ∙ c .before .before .loop .inv .3, copy-next (c .before .before .before .before .before .args .dst .now) (c .before .before .before .before .before .args .src .now) (c .before .before .loop .dst) (c .before .before .loop .i) (omega arith) (omega arith) (c .before .before .loop .inv .4))
-
-same-length : tie.Need-same-length Inv-loop μ-loop
-same-length c = search needs
 
 returns-3 : tie.Need-returns-3 Inv-loop μ-loop
 returns-3 c = let e : c .before .loop .i ≡ c .before .before .before .before .args .k = omega arith in λ _ _. copy-end (c .before .before .before .before .args .dst .now) (c .before .before .before .before .args .src .now) (c .before .loop .dst) (c .before .before .before .before .args .k) (omega arith) (rw e at (c .before .loop .inv .4))
@@ -60,12 +39,12 @@ copy-steps-spec =
     returns
     returns-2
     loop-holds
-    mul-dst
-    shared-slice-read-dst
-    mul-dst-2
-    slice-write-dst
-    add-i
-    loop-less
+    (λ c. search needs)
+    (λ c. search needs)
+    (λ c. search needs)
+    (λ c. search needs)
+    (λ c. search needs)
+    (λ c. search needs)
     loop-again
-    same-length
+    (λ c. search needs)
     returns-3)

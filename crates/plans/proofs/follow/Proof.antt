@@ -10,21 +10,6 @@ use borrow.Author.Needs.{needs}
 use Rattle.plans.proofs.follow.Statement.{statement}
 use Rattle.plans.proofs.follow.Tie as tie
 
-shared-slice-read-relations : tie.Need-shared-slice-read-relations
-shared-slice-read-relations c = search needs
-
-shared-slice-read-nodes : tie.Need-shared-slice-read-nodes
-shared-slice-read-nodes c = search needs
-
-relation-line-requires : tie.Need-relation-line-requires
-relation-line-requires c κs = search needs
-
-node-line-requires : tie.Need-node-line-requires
-node-line-requires c κs = search needs
-
-set-picks-requires : tie.Need-set-picks-requires
-set-picks-requires c κs = search needs
-
 step-requires : tie.Need-step-requires
 step-requires c κs = ((c .before .before .before .before .before .before .before .before .before .before .before .before .before .before .before .before .before .pre .0, omega (arith, c .before .before .before .before .before .before .set-picks .ensures .0)), tt)
 
@@ -37,12 +22,6 @@ may-take-requires c κs = (c .before .before .before .before .before .before .be
 step-requires-2 : tie.Need-step-requires-2
 step-requires-2 c κs = ((c .before .before .before .before .before .before .before .before .before .before .before .before .before .before .before .before .before .before .before .before .before .before .before .before .before .before .before .before .before .before .before .before .before .before .pre .0, omega (arith, c .before .before .before .before .before .before .before .before .before .before .before .before .before .before .before .before .before .before .before .before .before .before .before .set-picks .ensures .0, c .before .before .before .before .before .before .before .before .before .before .before .before .before .before .before .before .step .ensures .0, c .before .before .before .before .before .before .before .before .before .prove-nodes .ensures .0)), tt)
 
-same-length : tie.Need-same-length
-same-length c = search needs
-
-same-length-2 : tie.Need-same-length-2
-same-length-2 c = search needs
-
 returns : tie.Need-returns
 returns c = λ p R e.
     let R₁ : Ready p (c .before .before .before .before .before .before .before .before .before .before .before .before .before .before .before .before .before .before .before .before .before .before .before .before .before .before .before .before .before .before .before .before .before .before .before .before .before .before .before .args .table .now) (length (c .before .before .before .before .before .before .before .before .before .before .before .before .before .before .before .before .before .before .before .before .before .before .before .before .before .before .before .before .set-picks .last .0)) = record { is = R .is; room = omega (arith, R .room, c .before .before .before .before .before .before .before .before .before .before .before .before .before .before .before .before .before .before .before .before .before .before .before .before .before .before .before .before .set-picks .kept .0); few = R .few } in
@@ -53,12 +32,6 @@ returns c = λ p R e.
     (c .before .before .before .before .before .before .before .before .before .before .before .before .before .before .before .before .before .before .before .before .before .before .before .before .before .before .before .before .set-picks .ensures .1 p R) B (c .before .before .before .before .before .before .before .before .before .before .before .before .before .before .prove-nodes .ensures .1 p R₂ e (begun p (c .before .before .before .before .before .before .before .before .before .before .before .before .before .before .before .before .before .before .before .before .before .before .before .before .before .before .before .before .before .before .before .before .before .before .before .before .before .before .before .args .table .now) (R .is) _ _ B))
     (c .before .before .before .before .before .before .before .before .may-take .result) (out (bit (c .before .before .before .before .step2 .last .0)) (c .before .before .before .before .step2 .last .1 .0) (c .before .before .before .before .step2 .result)) (goal-test p (c .before .before .before .before .before .before .before .before .before .before .before .before .before .before .before .before .before .before .before .before .before .before .before .before .before .before .before .before .before .before .before .before .before .before .before .before .before .before .before .args .table .now) (R .is) (bit (c .before .before .before .before .before .before .before .before .before .before .before .before .before .before .prove-nodes .last .0)) (c .before .before .before .before .before .before .before .before .may-take .result) (c .before .before .before .before .before .before .before .before .may-take .ensures)) (c .before .before .before .before .before .before .before .if1 .taken)
     (c .before .before .before .before .step2 .ensures .1 p proveGoal R₃ (goal-is p) goal-said (goal-number p (c .before .before .before .before .before .before .before .before .before .before .before .before .before .before .before .before .before .before .before .before .before .before .before .before .before .before .before .before .before .before .before .before .before .before .before .before .before .before .before .args .table .now) (R .is) (c .before .before .before .before .before .before .before .before .before .before .before .before .before .before .before .before .before .before .before .before .before .before .before .before .before .before .before .before .before .before .before .node-line .result) (c .before .before .before .before .before .before .before .before .before .before .before .before .before .before .before .before .before .before .before .before .before .before .before .before .before .before .before .before .before .before .before .node-line .ensures)))
-
-same-length-3 : tie.Need-same-length-3
-same-length-3 c = search needs
-
-same-length-4 : tie.Need-same-length-4
-same-length-4 c = search needs
 
 returns-2 : tie.Need-returns-2
 returns-2 c = λ p R e.
@@ -73,18 +46,18 @@ pub follow-spec : {M : Type 1} → statement M
 follow-spec =
     tie.close
     (tie.spec
-    shared-slice-read-relations
-    shared-slice-read-nodes
-    relation-line-requires
-    node-line-requires
-    set-picks-requires
+    (λ c. search needs)
+    (λ c. search needs)
+    (λ c κs. search needs)
+    (λ c κs. search needs)
+    (λ c κs. search needs)
     step-requires
     prove-nodes-requires
     may-take-requires
     step-requires-2
-    same-length
-    same-length-2
+    (λ c. search needs)
+    (λ c. search needs)
     returns
-    same-length-3
-    same-length-4
+    (λ c. search needs)
+    (λ c. search needs)
     returns-2)

@@ -4,17 +4,8 @@ use Rattle.printing.specs.Printed.{prints-byte}
 use Rattle.printing.proofs.byte.Statement.{statement}
 use Rattle.printing.proofs.byte.Tie as tie
 
-slice-write-out : tie.Need-slice-write-out
-slice-write-out c = search needs
-
-add-result : tie.Need-add-result
-add-result c = search needs
-
-same-length : tie.Need-same-length
-same-length c = search needs
-
 returns : tie.Need-returns
 returns c = prints-byte _ _ _
 
 pub byte-spec : {M : Type 1} → statement M
-byte-spec = tie.close (tie.spec slice-write-out add-result same-length returns)
+byte-spec = tie.close (tie.spec (λ c. search needs) (λ c. search needs) (λ c. search needs) returns)

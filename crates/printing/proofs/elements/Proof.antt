@@ -19,28 +19,16 @@ abbrev μ-loop : tie.MeasureT-loop
 loop-holds : tie.Need-loop-holds Inv-loop μ-loop
 loop-holds c = (c .before .pre .1, begin _ refl (c .before .pre .2))
 
-div-width : tie.Need-div-width Inv-loop μ-loop
-div-width c = omega arith
-
 div-field : tie.Need-div-field Inv-loop μ-loop
 div-field c =
     let a = c .before .before .before .before .args in
     omega (arith, narrower (a .n) (c .before .before .loop .left) (c .before .before .loop .width) (omega arith) (omega arith) (c .before .before .loop .inv .0), one-le-pow (c .before .before .loop .left - 1) (a .n) (omega arith))
-
-rem-field : tie.Need-rem-field Inv-loop μ-loop
-rem-field c = omega arith
 
 field-requires : tie.Need-field-requires Inv-loop μ-loop
 field-requires c κs =
     let a = c .before .before .before .before .args in
     rw (narrower (a .n) (c .before .before .loop .left) (c .before .before .loop .width) (omega arith) (omega arith) (c .before .before .loop .inv .0))
     (room-for (field (a .row / (a .n ^ (c .before .before .loop .left - 1)) % a .n)) _ (recut (next-place (a .n) (c .before .before .loop .left) (a .row) (omega arith)) (c .before .before .loop .inv .1)))
-
-sub-left : tie.Need-sub-left Inv-loop μ-loop
-sub-left c = omega arith
-
-loop-less : tie.Need-loop-less Inv-loop μ-loop
-loop-less c = omega arith
 
 loop-again : tie.Need-loop-again Inv-loop μ-loop
 loop-again c =
@@ -61,12 +49,12 @@ elements-spec =
     Inv-loop
     μ-loop
     loop-holds
-    div-width
+    (λ c. omega arith)
     div-field
-    rem-field
+    (λ c. omega arith)
     field-requires
-    sub-left
-    loop-less
+    (λ c. omega arith)
+    (λ c. omega arith)
     loop-again
     same-length
     returns)

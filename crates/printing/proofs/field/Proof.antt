@@ -21,9 +21,6 @@ decimal-requires c κs =
     let l1 = then (9 ∷ []) _ l0 (c .before .before .before .byte .ensures) in
     l1 .room
 
-same-length : tie.Need-same-length
-same-length c = search needs
-
 returns : tie.Need-returns
 returns c =
     let S = c .before .before .before .before .before .before .before .before .before in
@@ -32,4 +29,4 @@ returns c =
     finish _ l1 (c .before .before .decimal .ensures)
 
 pub field-spec : {M : Type 1} → statement M
-field-spec = tie.close (tie.spec byte-requires decimal-requires same-length returns)
+field-spec = tie.close (tie.spec byte-requires decimal-requires (λ c. search needs) returns)

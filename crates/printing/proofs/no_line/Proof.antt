@@ -37,12 +37,6 @@ byte-requires c κs =
     let l3 = then (field (S .args .place)) _ l2 (c .before .before .before .field2 .ensures) in
     omega (arith, room-for (10 ∷ []) _ l3)
 
-slice-aggregate-text : tie.Need-slice-aggregate-text
-slice-aggregate-text c = search needs
-
-same-length : tie.Need-same-length
-same-length c = search needs
-
 returns : tie.Need-returns
 returns c =
     let S = c .before .before .before .before .before .before .before .before .before .before .before .before .before .before .before .before .before .before in
@@ -53,4 +47,4 @@ returns c =
     finish _ l3 (c .before .before .byte .ensures)
 
 pub no-line-spec : {M : Type 1} → statement M
-no-line-spec = tie.close (tie.spec slice-aggregate-text text-requires field-requires field-requires-2 byte-requires same-length returns)
+no-line-spec = tie.close (tie.spec (λ c. search needs) text-requires field-requires field-requires-2 byte-requires (λ c. search needs) returns)

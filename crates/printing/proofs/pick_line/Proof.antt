@@ -38,12 +38,6 @@ byte-requires c κs =
     let l3 = then (elements (placesOf (S .args .n) (S .args .arity) (S .args .row))) _ l2 (c .before .before .before .elements .ensures) in
     omega (arith, room-for (10 ∷ []) _ l3)
 
-slice-aggregate-text : tie.Need-slice-aggregate-text
-slice-aggregate-text c = search needs
-
-same-length : tie.Need-same-length
-same-length c = search needs
-
 returns : tie.Need-returns
 returns c =
     let S = c .before .before .before .before .before .before .before .before .before .before .before .before .before .before .before .before .before .before .before in
@@ -54,4 +48,4 @@ returns c =
     finish _ l3 (c .before .before .byte .ensures)
 
 pub pick-line-spec : {M : Type 1} → statement M
-pick-line-spec = tie.close (tie.spec slice-aggregate-text text-requires text-requires-2 elements-requires byte-requires same-length returns)
+pick-line-spec = tie.close (tie.spec (λ c. search needs) text-requires text-requires-2 elements-requires byte-requires (λ c. search needs) returns)

@@ -58,12 +58,6 @@ byte-requires c κs =
     let l5 = then (field (S .args .bound)) _ l4 (c .before .before .before .field4 .ensures) in
     omega (arith, room-for (10 ∷ []) _ l5)
 
-slice-aggregate-text : tie.Need-slice-aggregate-text
-slice-aggregate-text c = search needs
-
-same-length : tie.Need-same-length
-same-length c = search needs
-
 returns : tie.Need-returns
 returns c =
     let S = c .before .before .before .before .before .before .before .before .before .before .before .before .before .before .before .before .before .before .before .before .before .before .before .before .before .before in
@@ -76,4 +70,4 @@ returns c =
     finish _ l5 (c .before .before .byte .ensures)
 
 pub sizes-line-spec : {M : Type 1} → statement M
-sizes-line-spec = tie.close (tie.spec slice-aggregate-text text-requires field-requires field-requires-2 field-requires-3 field-requires-4 byte-requires same-length returns)
+sizes-line-spec = tie.close (tie.spec (λ c. search needs) text-requires field-requires field-requires-2 field-requires-3 field-requires-4 byte-requires (λ c. search needs) returns)

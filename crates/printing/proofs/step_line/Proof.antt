@@ -28,12 +28,6 @@ byte-requires c κs =
     let l2 = then (field (S .args .k)) _ l1 (c .before .before .before .field .ensures) in
     omega (arith, room-for (10 ∷ []) _ l2)
 
-slice-aggregate-text : tie.Need-slice-aggregate-text
-slice-aggregate-text c = search needs
-
-same-length : tie.Need-same-length
-same-length c = search needs
-
 returns : tie.Need-returns
 returns c =
     let S = c .before .before .before .before .before .before .before .before .before .before .before .before .before .before in
@@ -43,4 +37,4 @@ returns c =
     finish _ l2 (c .before .before .byte .ensures)
 
 pub step-line-spec : {M : Type 1} → statement M
-step-line-spec = tie.close (tie.spec slice-aggregate-text text-requires field-requires byte-requires same-length returns)
+step-line-spec = tie.close (tie.spec (λ c. search needs) text-requires field-requires byte-requires (λ c. search needs) returns)

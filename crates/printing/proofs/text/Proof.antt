@@ -19,19 +19,10 @@ abbrev μ-loop : tie.MeasureT-loop
 loop-holds : tie.Need-loop-holds Inv-loop μ-loop
 loop-holds c = (omega arith, begin _ refl (c .before .before .pre))
 
-shared-slice-read-byte : tie.Need-shared-slice-read-byte Inv-loop μ-loop
-shared-slice-read-byte c = search needs
-
 byte-requires : tie.Need-byte-requires Inv-loop μ-loop
 byte-requires c κs =
     let L = c .before .before .before in
     omega (arith, room-for (_ ∷ []) _ (recut (next-byte (L .before .before .before .args .s .now) (L .loop .i) (omega arith)) (L .loop .inv .1)))
-
-add-i : tie.Need-add-i Inv-loop μ-loop
-add-i c = search needs
-
-loop-less : tie.Need-loop-less Inv-loop μ-loop
-loop-less c = omega arith
 
 loop-again : tie.Need-loop-again Inv-loop μ-loop
 loop-again c =
@@ -47,4 +38,4 @@ returns c =
     finished (recut (no-byte (L .before .before .before .args .s .now) (L .loop .i) (omega arith)) (L .loop .inv .1))
 
 pub text-spec : {M : Type 1} → statement M
-text-spec = tie.close (tie.spec Inv-loop μ-loop loop-holds shared-slice-read-byte byte-requires add-i loop-less loop-again same-length returns)
+text-spec = tie.close (tie.spec Inv-loop μ-loop loop-holds (λ c. search needs) byte-requires (λ c. search needs) (λ c. omega arith) loop-again same-length returns)

@@ -20,20 +20,11 @@ abbrev μ-loop : tie.MeasureT-loop
 loop-holds : tie.Need-loop-holds Inv-loop μ-loop
 loop-holds c = (omega arith, refl, c .pre .3, c .pre .4, λ row D. carry-start (c .args .n) (c .args .width) row (c .args .digits .now) D)
 
-sub-i : tie.Need-sub-i Inv-loop μ-loop
-sub-i c = search needs
-
-mul-d : tie.Need-mul-d Inv-loop μ-loop
-mul-d c = search needs
-
 slice-read-d : tie.Need-slice-read-d Inv-loop μ-loop
 slice-read-d c = omega (arith, c .before .before .loop .inv .1, c .before .before .before .pre .2)
 
 add-d : tie.Need-add-d Inv-loop μ-loop
 add-d c = omega (arith, c .before .before .loop .inv .2 (c .before .before .loop .i - 1))
-
-mul-digits : tie.Need-mul-digits Inv-loop μ-loop
-mul-digits c = search needs
 
 slice-write-digits : tie.Need-slice-write-digits Inv-loop μ-loop
 slice-write-digits c = omega (arith, c .before .before .before .loop .inv .1, c .before .before .before .before .pre .2)
@@ -44,14 +35,8 @@ same-length c = simp length-set (c .before .before .before .loop .inv .1)
 returns : tie.Need-returns Inv-loop μ-loop
 returns c = (within-set (c .before .before .before .before .args .n) (c .before .before .before .loop .digits) _ _ (omega arith) (c .before .before .before .loop .inv .2), rest-set (c .before .before .before .before .args .width) (c .before .before .before .loop .i - 1) _ (c .before .before .before .loop .digits) (omega arith) (c .before .before .before .loop .inv .3), λ row D. carry-done (c .before .before .before .before .args .n) (c .before .before .before .before .args .width) row (c .before .before .before .loop .i) (c .before .before .before .loop .digits) (omega (arith, c .before .before .before .before .pre .3 0)) (omega arith) (omega arith) (omega (arith, c .before .before .before .loop .inv .1, c .before .before .before .before .pre .2)) (c .before .before .before .loop .inv .4 row D) (omega arith))
 
-mul-digits-2 : tie.Need-mul-digits-2 Inv-loop μ-loop
-mul-digits-2 c = search needs
-
 slice-write-digits-2 : tie.Need-slice-write-digits-2 Inv-loop μ-loop
 slice-write-digits-2 c = omega (arith, c .before .before .before .loop .inv .1, c .before .before .before .before .pre .2)
-
-loop-less : tie.Need-loop-less Inv-loop μ-loop
-loop-less c = search needs
 
 loop-again : tie.Need-loop-again Inv-loop μ-loop
 loop-again c = (omega arith, simp length-set (c .before .before .before .loop .inv .1), within-set (c .before .before .before .before .args .n) (c .before .before .before .loop .digits) _ _ (omega (arith, c .before .before .before .before .pre .3 0)) (c .before .before .before .loop .inv .2), rest-set (c .before .before .before .before .args .width) (c .before .before .before .loop .i - 1) _ (c .before .before .before .loop .digits) (omega arith) (c .before .before .before .loop .inv .3), λ row D. carry-on (c .before .before .before .before .args .n) (c .before .before .before .before .args .width) row (c .before .before .before .loop .i) (c .before .before .before .loop .digits) (omega (arith, c .before .before .before .before .pre .3 0)) (omega arith) (omega arith) (omega (arith, c .before .before .before .loop .inv .1, c .before .before .before .before .pre .2)) (c .before .before .before .loop .inv .4 row D) (omega arith))
@@ -69,17 +54,17 @@ advance-spec =
     Inv-loop
     μ-loop
     loop-holds
-    sub-i
-    mul-d
+    (λ c. search needs)
+    (λ c. search needs)
     slice-read-d
     add-d
-    mul-digits
+    (λ c. search needs)
     slice-write-digits
     same-length
     returns
-    mul-digits-2
+    (λ c. search needs)
     slice-write-digits-2
-    loop-less
+    (λ c. search needs)
     loop-again
     same-length-2
     returns-2)

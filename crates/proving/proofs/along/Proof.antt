@@ -11,23 +11,8 @@ use borrow.Author.Needs.{needs}
 use Rattle.proving.proofs.along.Statement.{statement}
 use Rattle.proving.proofs.along.Tie as tie
 
-part-line-requires : tie.Need-part-line-requires
-part-line-requires c κs = search needs
-
-mul-values : tie.Need-mul-values
-mul-values c = search needs
-
-array-write-values : tie.Need-array-write-values
-array-write-values c = search needs
-
 part-number-requires : tie.Need-part-number-requires
 part-number-requires c κs = let f = part-small (c .before .before .before .args .table .now) (c .before .before .before .pre .0) (c .before .before .before .args .part) (c .before .part-line .result) (c .before .part-line .ensures) in (f .0, f .1, most-set (c .before .before .before .args .env) (c .before .before .before .args .level) 0 (omega arith) (c .before .before .before .pre .3))
-
-mul-t9 : tie.Need-mul-t9
-mul-t9 c = search needs
-
-array-read-t15 : tie.Need-array-read-t15
-array-read-t15 c = search needs
 
 returns : tie.Need-returns
 returns c =
@@ -40,10 +25,10 @@ pub along-spec : {M : Type 1} → statement M
 along-spec =
     tie.close
     (tie.spec
-    part-line-requires
-    mul-values
-    array-write-values
+    (λ c κs. search needs)
+    (λ c. search needs)
+    (λ c. search needs)
     part-number-requires
-    mul-t9
-    array-read-t15
+    (λ c. search needs)
+    (λ c. search needs)
     returns)

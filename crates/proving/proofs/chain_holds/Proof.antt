@@ -7,17 +7,11 @@ use borrow.Author.Needs.{needs}
 use Rattle.proving.proofs.chain_holds.Statement.{statement}
 use Rattle.proving.proofs.chain_holds.Tie as tie
 
-test-requires : tie.Need-test-requires
-test-requires c κs = search needs
-
 returns : tie.Need-returns
 returns c = chain-first (bit (c .before .before .before .before .args .state .now)) (c .before .before .before .before .args .part) (c .before .before .before .before .args .z) (c .before .before .before .before .args .own) (sym (c .before .before .test .ensures) ∙ c .before .if1 .taken) (omega arith)
 
 sub-test : tie.Need-sub-test
 sub-test c = omega (arith, c .before .before .before .before .pre (omega arith))
-
-test-requires-2 : tie.Need-test-requires-2
-test-requires-2 c κs = search needs
 
 returns-2 : tie.Need-returns-2
 returns-2 c = chain-next (bit (c .before .before .before .before .before .args .state .now)) (c .before .before .before .before .before .args .part) (c .before .before .before .before .before .args .z) (c .before .before .before .before .before .args .own) _ (sym (c .before .before .before .test .ensures) ∙ c .before .before .if1 .taken) (omega arith) (c .test2 .ensures)
@@ -27,4 +21,4 @@ returns-3 c = chain-no (bit (c .before .before .before .args .state .now)) (c .b
 
 pub chain-holds-spec : {M : Type 1} → statement M
 chain-holds-spec =
-    tie.close (tie.spec test-requires returns sub-test test-requires-2 returns-2 returns-3)
+    tie.close (tie.spec (λ c κs. search needs) returns sub-test (λ c κs. search needs) returns-2 returns-3)

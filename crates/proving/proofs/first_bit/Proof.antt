@@ -20,20 +20,11 @@ abbrev μ-loop : tie.MeasureT-loop
 loop-holds : tie.Need-loop-holds Inv-loop μ-loop
 loop-holds c = (omega arith, omega (arith, zero-mul (c .before .args .stride)), first-start (λ (x : ℕ). bit (c .before .args .state .now) (c .before .args .start + x * c .before .args .stride)) (c .before .args .tries))
 
-test-requires : tie.Need-test-requires Inv-loop μ-loop
-test-requires c κs = search needs
-
 returns : tie.Need-returns Inv-loop μ-loop
 returns c = first-yes (λ (x : ℕ). bit (c .before .before .before .before .before .args .state .now) (c .before .before .before .before .before .args .start + x * c .before .before .before .before .before .args .stride)) (c .before .before .before .before .before .args .tries) (c .before .before .before .loop .i) (omega arith) (ap (bit (c .before .before .before .before .before .args .state .now)) (sym (c .before .before .before .loop .inv .1)) ∙ sym (c .before .test .ensures) ∙ c .if1 .taken) ∙ sym (c .before .before .before .loop .inv .2)
 
 add-k : tie.Need-add-k Inv-loop μ-loop
 add-k c = omega (arith, stride-most (c .before .before .before .loop .i) (c .before .before .before .before .before .args .stride) 64 (omega arith) (c .before .before .before .before .before .pre .1))
-
-add-i : tie.Need-add-i Inv-loop μ-loop
-add-i c = search needs
-
-loop-less : tie.Need-loop-less Inv-loop μ-loop
-loop-less c = search needs
 
 loop-again : tie.Need-loop-again Inv-loop μ-loop
 loop-again c = (omega arith, stride-next (c .before .before .before .before .before .args .start) (c .before .before .before .loop .i) (c .before .before .before .before .before .args .stride) (c .before .before .before .loop .k) (c .before .before .before .loop .inv .1), c .before .before .before .loop .inv .2 ∙ first-no (λ (x : ℕ). bit (c .before .before .before .before .before .args .state .now) (c .before .before .before .before .before .args .start + x * c .before .before .before .before .before .args .stride)) (c .before .before .before .before .before .args .tries) (c .before .before .before .loop .i) (omega arith) (ap (bit (c .before .before .before .before .before .args .state .now)) (sym (c .before .before .before .loop .inv .1)) ∙ sym (c .before .test .ensures) ∙ c .if1 .left))
@@ -48,10 +39,10 @@ first-bit-spec =
     Inv-loop
     μ-loop
     loop-holds
-    test-requires
+    (λ c κs. search needs)
     returns
     add-k
-    add-i
-    loop-less
+    (λ c. search needs)
+    (λ c. search needs)
     loop-again
     returns-2)

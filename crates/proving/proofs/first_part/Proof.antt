@@ -20,20 +20,11 @@ abbrev μ-loop : tie.MeasureT-loop
 loop-holds : tie.Need-loop-holds Inv-loop μ-loop
 loop-holds c = (omega arith, first-start (λ (x : ℕ). bit (c .before .before .args .state .now) (partAt (c .before .before .args .table .now) (valueIn (c .before .before .args .env)) (c .before .before .args .first + x))) (c .before .before .args .tries))
 
-add-part-holds : tie.Need-add-part-holds Inv-loop μ-loop
-add-part-holds c = search needs
-
 part-holds-requires : tie.Need-part-holds-requires Inv-loop μ-loop
 part-holds-requires c κs = (c .before .before .before .before .pre .0, omega arith, c .before .before .before .before .pre .2)
 
 returns : tie.Need-returns Inv-loop μ-loop
 returns c = first-yes (λ (x : ℕ). bit (c .before .before .before .before .before .before .args .state .now) (partAt (c .before .before .before .before .before .before .args .table .now) (valueIn (c .before .before .before .before .before .before .args .env)) (c .before .before .before .before .before .before .args .first + x))) (c .before .before .before .before .before .before .args .tries) (c .before .before .before .loop .i) (omega arith) (sym (c .before .part-holds .ensures) ∙ c .if1 .taken) ∙ sym (c .before .before .before .loop .inv .1)
-
-add-i : tie.Need-add-i Inv-loop μ-loop
-add-i c = search needs
-
-loop-less : tie.Need-loop-less Inv-loop μ-loop
-loop-less c = search needs
 
 loop-again : tie.Need-loop-again Inv-loop μ-loop
 loop-again c = (omega arith, c .before .before .before .loop .inv .1 ∙ first-no (λ (x : ℕ). bit (c .before .before .before .before .before .before .args .state .now) (partAt (c .before .before .before .before .before .before .args .table .now) (valueIn (c .before .before .before .before .before .before .args .env)) (c .before .before .before .before .before .before .args .first + x))) (c .before .before .before .before .before .before .args .tries) (c .before .before .before .loop .i) (omega arith) (sym (c .before .part-holds .ensures) ∙ c .if1 .left))
@@ -48,10 +39,10 @@ first-part-spec =
     Inv-loop
     μ-loop
     loop-holds
-    add-part-holds
+    (λ c. search needs)
     part-holds-requires
     returns
-    add-i
-    loop-less
+    (λ c. search needs)
+    (λ c. search needs)
     loop-again
     returns-2)

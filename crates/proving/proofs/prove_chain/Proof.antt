@@ -25,29 +25,11 @@ abbrev μ-loop : tie.MeasureT-loop
 loop-holds : tie.Need-loop-holds Inv-loop μ-loop
 loop-holds c = (omega arith, omega arith, refl, refl, omega (arith, zero-mul (c .before .before .args .under .stride)), λ p w node row C o. (some-start p node (out (bit (c .before .before .args .state .now)) (c .before .before .args .steps .now) (c .before .before .args .at)) (c .before .before .args .j) (c .before .before .args .n), o))
 
-add-prove-link : tie.Need-add-prove-link Inv-loop μ-loop
-add-prove-link c = search needs
-
-add-prove-link-2 : tie.Need-add-prove-link-2 Inv-loop μ-loop
-add-prove-link-2 c = search needs
-
-add-prove-link-3 : tie.Need-add-prove-link-3 Inv-loop μ-loop
-add-prove-link-3 c = search needs
-
-add-prove-link-4 : tie.Need-add-prove-link-4 Inv-loop μ-loop
-add-prove-link-4 c = search needs
-
 prove-link-requires : tie.Need-prove-link-requires Inv-loop μ-loop
 prove-link-requires c κs = (omega (arith, c .before .before .before .before .before .before .before .before .pre .4, c .before .before .before .before .before .loop .inv .1), λ h. omega arith)
 
 add-part : tie.Need-add-part Inv-loop μ-loop
 add-part c = omega (arith, stride-most (c .before .before .before .before .before .before .before .before .before .before .before .loop .z) (c .before .before .before .before .before .before .before .before .before .before .before .before .before .before .args .under .stride) 64 (omega arith) (c .before .before .before .before .before .before .before .before .before .before .before .before .before .before .pre .6), c .before .before .before .before .before .before .before .before .before .before .before .loop .inv .4)
-
-add-z : tie.Need-add-z Inv-loop μ-loop
-add-z c = search needs
-
-loop-less : tie.Need-loop-less Inv-loop μ-loop
-loop-less c = search needs
 
 loop-again : tie.Need-loop-again Inv-loop μ-loop
 loop-again c = (
@@ -63,12 +45,6 @@ loop-again c = (
       (I .0 ∙ some-next p node (out (bit (c .before .before .before .before .before .before .before .before .before .before .before .loop .state)) (c .before .before .before .before .before .before .before .before .before .before .before .loop .steps) (c .before .before .before .before .before .before .before .before .before .before .before .loop .k)) (out (bit (c .before .before .before .before .before .prove-link .last .0)) (c .before .before .before .before .before .prove-link .last .1 .0) (c .before .before .before .before .before .prove-link .result)) (c .before .before .before .before .before .before .before .before .before .before .before .before .before .before .args .j) (c .before .before .before .before .before .before .before .before .before .before .before .before .before .before .args .n) (c .before .before .before .before .before .before .before .before .before .before .before .loop .z) (omega arith) (G .0), G .1),
 )
 
-same-length : tie.Need-same-length Inv-loop μ-loop
-same-length c = search needs
-
-same-length-2 : tie.Need-same-length-2 Inv-loop μ-loop
-same-length-2 c = search needs
-
 returns : tie.Need-returns Inv-loop μ-loop
 returns c = (omega arith, λ p w node row C o. let I = c .before .loop .inv .5 p w node row C o in (I .0 ∙ some-end p node (out (bit (c .before .loop .state)) (c .before .loop .steps) (c .before .loop .k)) (c .before .before .before .before .args .j) (c .before .before .before .before .args .n) (c .before .loop .z) (omega arith), I .1))
 
@@ -79,15 +55,15 @@ prove-chain-spec =
     Inv-loop
     μ-loop
     loop-holds
-    add-prove-link
-    add-prove-link-2
-    add-prove-link-3
-    add-prove-link-4
+    (λ c. search needs)
+    (λ c. search needs)
+    (λ c. search needs)
+    (λ c. search needs)
     prove-link-requires
     add-part
-    add-z
-    loop-less
+    (λ c. search needs)
+    (λ c. search needs)
     loop-again
-    same-length
-    same-length-2
+    (λ c. search needs)
+    (λ c. search needs)
     returns)

@@ -38,17 +38,11 @@ loop-holds c =
 add-loop : tie.Need-add-loop Inv-loop μ-loop
 add-loop c = omega (arith, c .before .before .before .before .before .pre .5, c .before .before .before .before .before .pre .0 .size)
 
-slice-aggregate-under-at : tie.Need-slice-aggregate-under-at Inv-loop μ-loop
-slice-aggregate-under-at c = search needs
-
 under-at-requires : tie.Need-under-at-requires Inv-loop μ-loop
 under-at-requires c κs = (c .before .before .before .before .before .before .before .pre .0, c .before .before .before .before .before .before .before .pre .1, c .before .before .loop .inv .4, c .before .before .loop .inv .5, c .before .before .loop .inv .6)
 
 prove-chain-requires : tie.Need-prove-chain-requires Inv-loop μ-loop
 prove-chain-requires c κs = (c .before .before .before .before .before .before .before .before .before .before .pre .0 .size, c .before .before .before .before .before .before .before .before .before .before .pre .2, c .before .before .before .before .before .before .before .before .before .before .pre .3, omega (arith, c .before .before .before .before .before .before .before .before .before .before .pre .5), omega (arith, c .before .before .before .before .before .before .before .before .before .before .pre .6, c .before .before .before .before .before .before .before .before .before .before .pre .5), c .before .before .under-at .ensures .0, c .before .before .under-at .ensures .1)
-
-slice-aggregate-advance : tie.Need-slice-aggregate-advance Inv-loop μ-loop
-slice-aggregate-advance c = search needs
 
 advance-requires : tie.Need-advance-requires Inv-loop μ-loop
 advance-requires c κs = (c .before .before .before .before .before .before .before .before .before .before .before .before .before .before .before .before .pre .0 .size, c .before .before .before .before .before .before .before .before .before .before .before .before .before .before .before .before .pre .1 .width, c .before .before .before .before .before .before .before .before .before .before .before .loop .inv .4, c .before .before .before .before .before .before .before .before .before .before .before .loop .inv .5, c .before .before .before .before .before .before .before .before .before .before .before .loop .inv .6)
@@ -86,12 +80,6 @@ loop-again c =
           (I .0 ∙ rows-on p node (out (bit (c .before .before .before .before .before .before .before .before .before .before .before .before .before .loop .state)) (c .before .before .before .before .before .before .before .before .before .before .before .before .before .loop .steps) (c .before .before .before .before .before .before .before .before .before .before .before .before .before .loop .k)) (out (bit (c .before .before .before .before .before .before .before .prove-chain .last .0)) (c .before .before .before .before .before .before .before .prove-chain .last .1 .0) (c .before .before .before .before .before .before .before .prove-chain .result)) (c .before .before .before .before .before .before .before .before .before .before .before .before .before .loop .j) (sizeIn (c .before .before .before .before .before .before .before .before .before .before .before .before .before .before .before .before .before .before .args .table .now)) (c .before .before .before .before .before .before .before .before .before .before .before .before .before .before .before .before .before .before .args .width) (omega arith) (G .0), G .1),
     )
 
-same-length : tie.Need-same-length Inv-loop μ-loop
-same-length c = search needs
-
-same-length-2 : tie.Need-same-length-2 Inv-loop μ-loop
-same-length-2 c = search needs
-
 returns : tie.Need-returns Inv-loop μ-loop
 returns c = (
   omega arith,
@@ -111,14 +99,14 @@ prove-chains-spec =
     shared-slice-read-n
     loop-holds
     add-loop
-    slice-aggregate-under-at
+    (λ c. search needs)
     under-at-requires
     prove-chain-requires
-    slice-aggregate-advance
+    (λ c. search needs)
     advance-requires
     add-j
     loop-less
     loop-again
-    same-length
-    same-length-2
+    (λ c. search needs)
+    (λ c. search needs)
     returns)

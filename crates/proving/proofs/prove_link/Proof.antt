@@ -9,18 +9,6 @@ use borrow.Author.Needs.{needs}
 use Rattle.proving.proofs.prove_link.Statement.{statement}
 use Rattle.proving.proofs.prove_link.Tie as tie
 
-chain-holds-requires : tie.Need-chain-holds-requires
-chain-holds-requires c κs = search needs
-
-mark-requires : tie.Need-mark-requires
-mark-requires c κs = search needs
-
-same-length : tie.Need-same-length
-same-length c = search needs
-
-same-length-2 : tie.Need-same-length-2
-same-length-2 c = search needs
-
 returns : tie.Need-returns
 returns c = (
   omega (arith, c .before .before .before .before .mark .ensures .0),
@@ -29,9 +17,6 @@ returns c = (
       (q .0 ∙ ap (out (bit (c .before .before .before .before .mark .last .0)) (c .before .before .before .before .mark .last .1 .0)) (sym (c .before .before .before .before .mark .ensures .0)), q .1),
 )
 
-same-length-3 : tie.Need-same-length-3
-same-length-3 c = search needs
-
 returns-2 : tie.Need-returns-2
 returns-2 c = (omega arith, λ p w node v n row j under C l ep eo ea o. chain-kept p w (length (c .before .before .before .before .before .args .state .now)) node v n row j under C (c .before .before .before .before .before .args .z) l (c .before .before .before .before .before .args .part) (c .before .before .before .before .before .args .own) (c .before .before .before .before .before .args .action) ep eo ea (bit (c .before .before .before .before .before .args .state .now)) o (c .before .before .before .before .before .args .steps .now) (c .before .before .before .before .before .args .at) (c .before .chain-holds .result) (c .before .chain-holds .ensures) (c .if1 .left))
 
@@ -39,10 +24,10 @@ pub prove-link-spec : {M : Type 1} → statement M
 prove-link-spec =
     tie.close
     (tie.spec
-    chain-holds-requires
-    mark-requires
-    same-length
-    same-length-2
+    (λ c κs. search needs)
+    (λ c κs. search needs)
+    (λ c. search needs)
+    (λ c. search needs)
     returns
-    same-length-3
+    (λ c. search needs)
     returns-2)

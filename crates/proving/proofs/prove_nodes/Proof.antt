@@ -27,20 +27,11 @@ shared-slice-read-v c = omega (arith, c .before .before .before .before .pre .0 
 loop-holds : tie.Need-loop-holds Inv-loop μ-loop
 loop-holds c = (omega arith, c .before .before .before .before .pre .1, omega arith, refl, refl, λ p R e o. (end-start p (c .before .before .before .before .args .table .now) (R .is) (c .before .before .before .before .args .atoms) e, ap (provedNodes p (out (bit (c .before .before .before .before .args .state .now)) (c .before .before .before .before .args .steps .now) (c .before .before .before .before .args .at))) (sym (R .is .nodes)), o))
 
-sub-v : tie.Need-sub-v Inv-loop μ-loop
-sub-v c = omega arith
-
 node-line-requires : tie.Need-node-line-requires Inv-loop μ-loop
 node-line-requires c κs = (c .before .before .before .before .before .before .pre .0 .whole, omega (arith, c .before .before .before .before .before .before .pre .0 .nodes))
 
-gap-requires : tie.Need-gap-requires Inv-loop μ-loop
-gap-requires c κs = search needs
-
 prove-node-requires : tie.Need-prove-node-requires Inv-loop μ-loop
 prove-node-requires c κs = (c .before .before .before .before .before .before .before .before .before .before .pre .0, omega (arith, c .before .before .before .before .before .before .before .before .before .before .pre .0 .nodes), omega (arith, c .gap .ensures), omega (arith, c .before .before .before .before .before .before .before .before .before .before .pre .0 .nodes))
-
-loop-less : tie.Need-loop-less Inv-loop μ-loop
-loop-less c = omega arith
 
 loop-again : tie.Need-loop-again Inv-loop μ-loop
 loop-again c = (
@@ -59,12 +50,6 @@ loop-again c = (
       ),
 )
 
-same-length : tie.Need-same-length Inv-loop μ-loop
-same-length c = search needs
-
-same-length-2 : tie.Need-same-length-2 Inv-loop μ-loop
-same-length-2 c = search needs
-
 returns : tie.Need-returns Inv-loop μ-loop
 returns c = (omega (arith, c .before .before .before .before .before .before .pre .0 .nodes), λ p R e o. c .before .loop .inv .5 p R e o .1 ∙ nodes-end p (out (bit (c .before .loop .state)) (c .before .loop .steps) (c .before .loop .k)) (c .before .loop .v) (omega arith))
 
@@ -76,12 +61,12 @@ prove-nodes-spec =
     μ-loop
     shared-slice-read-v
     loop-holds
-    sub-v
+    (λ c. omega arith)
     node-line-requires
-    gap-requires
+    (λ c κs. search needs)
     prove-node-requires
-    loop-less
+    (λ c. omega arith)
     loop-again
-    same-length
-    same-length-2
+    (λ c. search needs)
+    (λ c. search needs)
     returns)

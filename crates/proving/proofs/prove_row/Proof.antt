@@ -12,15 +12,6 @@ use borrow.Author.Needs.{needs}
 use Rattle.proving.proofs.prove_row.Statement.{statement}
 use Rattle.proving.proofs.prove_row.Tie as tie
 
-shared-slice-read-first-try : tie.Need-shared-slice-read-first-try
-shared-slice-read-first-try c = search needs
-
-first-try-requires : tie.Need-first-try-requires
-first-try-requires c κs = search needs
-
-add-mark : tie.Need-add-mark
-add-mark c = search needs
-
 mul-mark : tie.Need-mul-mark
 mul-mark c = omega (arith, row-wide (c .before .before .before .before .before .before .before .before .before .before .before .args .row) (c .before .before .before .before .before .before .before .before .before .before .before .args .tries) 0 (c .before .before .before .before .before .before .before .before .before .before .before .pre .4) (c .before .before .before .before .before .before .before .before .before .before .before .pre .7) (omega arith))
 
@@ -30,15 +21,6 @@ add-mark-2 c = omega (arith, row-wide (c .before .before .before .before .before
 add-mark-3 : tie.Need-add-mark-3
 add-mark-3 c = omega (arith, row-wide (c .before .before .before .before .before .before .before .before .before .before .before .before .args .row) (c .before .before .before .before .before .before .before .before .before .before .before .before .args .tries) 0 (c .before .before .before .before .before .before .before .before .before .before .before .before .pre .4) (c .before .before .before .before .before .before .before .before .before .before .before .before .pre .7) (omega arith), c .before .before .before .before .before .before .before .before .before .before .before .before .pre .2, c .before .before .before .before .before .before .before .before .before .before .before .before .pre .7)
 
-mark-requires : tie.Need-mark-requires
-mark-requires c κs = search needs
-
-same-length : tie.Need-same-length
-same-length c = search needs
-
-same-length-2 : tie.Need-same-length-2
-same-length-2 c = search needs
-
 returns : tie.Need-returns
 returns c = (
   omega (arith, c .before .before .before .before .mark .ensures .0),
@@ -47,9 +29,6 @@ returns c = (
       (q .0 ∙ ap (out (bit (c .before .before .before .before .mark .last .0)) (c .before .before .before .before .mark .last .1 .0)) (sym (c .before .before .before .before .mark .ensures .0)), q .1),
 )
 
-same-length-3 : tie.Need-same-length-3
-same-length-3 c = search needs
-
 returns-2 : tie.Need-returns-2
 returns-2 c = (omega arith, λ p node N t D h o. flat-kept p (c .before .before .before .before .before .before .before .before .args .table .now) (length (c .before .before .before .before .before .before .before .before .args .state .now)) node (c .before .before .before .before .before .before .before .before .args .v) N (c .before .before .before .before .before .before .before .before .args .row) h (c .before .before .before .before .before .before .before .before .args .tries) t (way-flat (sizeIn (c .before .before .before .before .before .before .before .before .args .table .now)) (c .before .before .before .before .before .before .before .before .args .v .kind) (c .before .before .before .before .before .before .before .before .args .v .many) (c .before .before .before .before .before .before .before .before .args .row) (c .before .before .before .before .before .before .before .before .pre .6)) (bit (c .before .before .before .before .before .before .before .before .args .state .now)) o (c .before .before .before .before .before .before .before .before .args .steps .now) (c .before .before .before .before .before .before .before .before .args .at) (c .before .first-try .result) (c .before .first-try .ensures (c .before .before .before .before .before .before .before .before .args .row) D o) (omega arith))
 
@@ -57,15 +36,15 @@ pub prove-row-spec : {M : Type 1} → statement M
 prove-row-spec =
     tie.close
     (tie.spec
-    shared-slice-read-first-try
-    first-try-requires
-    add-mark
+    (λ c. search needs)
+    (λ c κs. search needs)
+    (λ c. search needs)
     mul-mark
     add-mark-2
     add-mark-3
-    mark-requires
-    same-length
-    same-length-2
+    (λ c κs. search needs)
+    (λ c. search needs)
+    (λ c. search needs)
     returns
-    same-length-3
+    (λ c. search needs)
     returns-2)

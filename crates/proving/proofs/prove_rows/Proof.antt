@@ -32,23 +32,14 @@ tries-requires c κs = (c .before .before .before .before .pre .4, c .before .be
 loop-holds : tie.Need-loop-holds Inv-loop μ-loop
 loop-holds c = (omega arith, omega arith, refl, refl, refl, within-zeros _ (c .before .before .before .before .before .pre .0 .some), rest-zeros (c .before .before .before .before .before .args .v .width), zero-digits _ (c .before .before .before .before .before .args .v .width), λ p node N e o. (rows-start p node (out (bit (c .before .before .before .before .before .args .state .now)) (c .before .before .before .before .before .args .steps .now) (c .before .before .before .before .before .args .at)) (c .before .before .before .before .before .args .width), o))
 
-slice-aggregate-prove-row : tie.Need-slice-aggregate-prove-row Inv-loop μ-loop
-slice-aggregate-prove-row c = search needs
-
 prove-row-requires : tie.Need-prove-row-requires Inv-loop μ-loop
 prove-row-requires c κs = (c .before .before .before .before .before .before .before .before .before .before .pre .0, c .before .before .before .before .before .before .before .before .before .before .pre .1, c .before .before .before .before .before .before .before .before .before .before .pre .2, c .before .before .before .before .before .before .before .before .before .before .pre .3, omega (arith, c .before .before .before .before .before .before .before .before .before .before .pre .5), omega (arith, c .before .before .before .before .before .before .before .before .before .before .pre .6, c .before .before .before .before .before .before .before .before .before .before .pre .5), c .before .before .before .before .before .before .before .before .before .before .pre .4, c .before .before .before .before .before .tries .ensures .0, c .before .before .before .before .loop .inv .4, c .before .before .before .before .loop .inv .5, c .before .before .before .before .loop .inv .6)
-
-slice-aggregate-advance : tie.Need-slice-aggregate-advance Inv-loop μ-loop
-slice-aggregate-advance c = search needs
 
 advance-requires : tie.Need-advance-requires Inv-loop μ-loop
 advance-requires c κs = (c .before .before .before .before .before .before .before .before .before .before .before .before .before .before .before .before .pre .0 .size, c .before .before .before .before .before .before .before .before .before .before .before .before .before .before .before .before .pre .1 .width, c .before .before .before .before .before .before .before .before .before .before .loop .inv .4, c .before .before .before .before .before .before .before .before .before .before .loop .inv .5, c .before .before .before .before .before .before .before .before .before .before .loop .inv .6)
 
 add-row : tie.Need-add-row Inv-loop μ-loop
 add-row c = omega (arith, c .before .before .before .before .before .before .before .before .before .before .before .before .before .before .before .before .before .before .pre .5)
-
-loop-less : tie.Need-loop-less Inv-loop μ-loop
-loop-less c = search needs
 
 loop-again : tie.Need-loop-again Inv-loop μ-loop
 loop-again c = (
@@ -67,12 +58,6 @@ loop-again c = (
       (I .0 ∙ rows-next p node (out (bit (c .before .before .before .before .before .before .before .before .before .before .before .before .loop .state)) (c .before .before .before .before .before .before .before .before .before .before .before .before .loop .steps) (c .before .before .before .before .before .before .before .before .before .before .before .before .loop .k)) (out (bit (c .before .before .before .before .before .before .before .prove-row .last .0)) (c .before .before .before .before .before .before .before .prove-row .last .1 .0) (c .before .before .before .before .before .before .before .prove-row .result)) (c .before .before .before .before .before .before .before .before .before .before .before .before .loop .row) (c .before .before .before .before .before .before .before .before .before .before .before .before .before .before .before .before .before .before .args .width) (omega arith) (G .0), G .1),
 )
 
-same-length : tie.Need-same-length Inv-loop μ-loop
-same-length c = search needs
-
-same-length-2 : tie.Need-same-length-2 Inv-loop μ-loop
-same-length-2 c = search needs
-
 returns : tie.Need-returns Inv-loop μ-loop
 returns c = (omega arith, λ p node N e o. let I = c .before .loop .inv .8 p node N e o in (I .0 ∙ rows-end p node (out (bit (c .before .loop .state)) (c .before .loop .steps) (c .before .loop .k)) (c .before .loop .row) (c .before .before .before .before .before .before .before .args .width) (omega arith), I .1))
 
@@ -85,13 +70,13 @@ prove-rows-spec =
     shared-slice-read-n
     tries-requires
     loop-holds
-    slice-aggregate-prove-row
+    (λ c. search needs)
     prove-row-requires
-    slice-aggregate-advance
+    (λ c. search needs)
     advance-requires
     add-row
-    loop-less
+    (λ c. search needs)
     loop-again
-    same-length
-    same-length-2
+    (λ c. search needs)
+    (λ c. search needs)
     returns)

@@ -6,21 +6,6 @@ use borrow.Author.Needs.{needs}
 use Rattle.proving.proofs.put.Statement.{statement}
 use Rattle.proving.proofs.put.Tie as tie
 
-cast-steps : tie.Need-cast-steps
-cast-steps c = search needs
-
-mul-steps : tie.Need-mul-steps
-mul-steps c = search needs
-
-slice-write-steps : tie.Need-slice-write-steps
-slice-write-steps c = search needs
-
-same-length : tie.Need-same-length
-same-length c = search needs
-
-returns : tie.Need-returns
-returns c = search needs
-
 returns-2 : tie.Need-returns-2
 returns-2 c = λ h. absurd (omega arith)
 
@@ -30,4 +15,4 @@ returns-3 c = λ h. sym (set-out _ _ _ (omega arith))
 pub put-spec : {M : Type 1} → statement M
 put-spec =
     tie.close
-    (tie.spec cast-steps mul-steps slice-write-steps same-length returns returns-2 returns-3)
+    (tie.spec (λ c. search needs) (λ c. search needs) (λ c. search needs) (λ c. search needs) (λ c. search needs) returns-2 returns-3)

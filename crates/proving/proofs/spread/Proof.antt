@@ -7,23 +7,11 @@ use borrow.Author.Needs.{needs}
 use Rattle.proving.proofs.spread.Statement.{statement}
 use Rattle.proving.proofs.spread.Tie as tie
 
-shared-slice-read-values : tie.Need-shared-slice-read-values
-shared-slice-read-values c = search needs
-
-array-read-values : tie.Need-array-read-values
-array-read-values c = search needs
-
 mul-values : tie.Need-mul-values
 mul-values c = omega (arith, c .before .pre .1 3)
 
 array-write-values : tie.Need-array-write-values
 array-write-values c = omega (arith, c .before .pre .1 3)
-
-shared-slice-read-values-2 : tie.Need-shared-slice-read-values-2
-shared-slice-read-values-2 c = search needs
-
-array-read-values-2 : tie.Need-array-read-values-2
-array-read-values-2 c = search needs
 
 mul-values-2 : tie.Need-mul-values-2
 mul-values-2 c = omega (arith, c .before .before .pre .1 2)
@@ -31,23 +19,11 @@ mul-values-2 c = omega (arith, c .before .before .pre .1 2)
 array-write-values-2 : tie.Need-array-write-values-2
 array-write-values-2 c = omega (arith, c .before .before .pre .1 2)
 
-shared-slice-read-values-3 : tie.Need-shared-slice-read-values-3
-shared-slice-read-values-3 c = search needs
-
-array-read-values-3 : tie.Need-array-read-values-3
-array-read-values-3 c = search needs
-
 mul-values-3 : tie.Need-mul-values-3
 mul-values-3 c = omega (arith, c .before .before .before .pre .1 1)
 
 array-write-values-3 : tie.Need-array-write-values-3
 array-write-values-3 c = omega (arith, c .before .before .before .pre .1 1)
-
-shared-slice-read-values-4 : tie.Need-shared-slice-read-values-4
-shared-slice-read-values-4 c = search needs
-
-array-read-values-4 : tie.Need-array-read-values-4
-array-read-values-4 c = search needs
 
 mul-values-4 : tie.Need-mul-values-4
 mul-values-4 c = omega (arith, c .before .before .before .before .pre .1 0)
@@ -64,20 +40,20 @@ pub spread-spec : {M : Type 1} → statement M
 spread-spec =
     tie.close
     (tie.spec
-    shared-slice-read-values
-    array-read-values
+    (λ c. search needs)
+    (λ c. search needs)
     mul-values
     array-write-values
-    shared-slice-read-values-2
-    array-read-values-2
+    (λ c. search needs)
+    (λ c. search needs)
     mul-values-2
     array-write-values-2
-    shared-slice-read-values-3
-    array-read-values-3
+    (λ c. search needs)
+    (λ c. search needs)
     mul-values-3
     array-write-values-3
-    shared-slice-read-values-4
-    array-read-values-4
+    (λ c. search needs)
+    (λ c. search needs)
     mul-values-4
     array-write-values-4
     returns)

@@ -10,14 +10,8 @@ use Rattle.proving.proofs.under_at.Tie as tie
 spread-requires : tie.Need-spread-requires
 spread-requires c κs = (c .before .before .before .before .before .pre .1 .width, c .before .before .before .before .before .pre .1 .levels, c .before .before .before .before .before .pre .2, within-most (sizeIn (c .before .before .before .before .before .args .table .now)) (c .before .before .before .before .before .args .digits .now) (c .before .before .before .before .before .pre .0 .size) (c .before .before .before .before .before .pre .3), c .before .before .before .before .before .pre .4)
 
-along-requires : tie.Need-along-requires
-along-requires c κs = search needs
-
 returns : tie.Need-returns
 returns c = (c .along .ensures .0, c .along .ensures .1, λ row D k. under-along (sizeIn (c .before .before .before .before .before .before .before .args .table .now)) (c .before .before .before .before .before .before .before .args .table .now) (c .before .before .before .before .before .before .before .args .v) row (c .along .result .start) (c .along .result .stride) (c .before .spread .result) (c .before .spread .ensures .1 (sizeIn (c .before .before .before .before .before .before .before .args .table .now)) row D ∙ row-values (sizeIn (c .before .before .before .before .before .before .before .args .table .now)) (c .before .before .before .before .before .before .before .args .v) row) (c .along .ensures .2))
 
-returns-2 : tie.Need-returns-2
-returns-2 c = search needs
-
 pub under-at-spec : {M : Type 1} → statement M
-under-at-spec = tie.close (tie.spec spread-requires along-requires returns returns-2)
+under-at-spec = tie.close (tie.spec spread-requires (λ c κs. search needs) returns (λ c. search needs))

@@ -6,51 +6,6 @@ use Rattle.question.specs.Drafts.{grownBy}
 use Rattle.question.proofs.grow.Statement.{statement}
 use Rattle.question.proofs.grow.Tie as tie
 
-enum-told : tie.Need-enum-told
-enum-told c = search needs
-
-enum-known-x : tie.Need-enum-known-x
-enum-known-x c = search needs
-
-cast-push : tie.Need-cast-push
-cast-push c = search needs
-
-add-push : tie.Need-add-push
-add-push c = search needs
-
-push-requires : tie.Need-push-requires
-push-requires c κs = search needs
-
-enum-known-x-2 : tie.Need-enum-known-x-2
-enum-known-x-2 c = search needs
-
-add-push-2 : tie.Need-add-push-2
-add-push-2 c = search needs
-
-cast-push-2 : tie.Need-cast-push-2
-cast-push-2 c = search needs
-
-add-push-3 : tie.Need-add-push-3
-add-push-3 c = search needs
-
-push-requires-2 : tie.Need-push-requires-2
-push-requires-2 c κs = search needs
-
-enum-told-2 : tie.Need-enum-told-2
-enum-told-2 c = search needs
-
-enum-told-3 : tie.Need-enum-told-3
-enum-told-3 c = search needs
-
-enum-told-4 : tie.Need-enum-told-4
-enum-told-4 c = search needs
-
-enum-told-5 : tie.Need-enum-told-5
-enum-told-5 c = search needs
-
-enum-told-6 : tie.Need-enum-told-6
-enum-told-6 c = search needs
-
 returns : tie.Need-returns
 unfolding grownBy
 returns c = sym (ap (grownBy (c .before .before .args .g)) (c .enum-told .given .1))
@@ -87,21 +42,21 @@ pub grow-spec : {M : Type 1} → statement M
 grow-spec =
     tie.close
     (tie.spec
-    enum-told
-    enum-known-x
-    cast-push
-    add-push
-    push-requires
-    enum-known-x-2
-    add-push-2
-    cast-push-2
-    add-push-3
-    push-requires-2
-    enum-told-2
-    enum-told-3
-    enum-told-4
-    enum-told-5
-    enum-told-6
+    (λ c. search needs)
+    (λ c. search needs)
+    (λ c. search needs)
+    (λ c. search needs)
+    (λ c κs. search needs)
+    (λ c. search needs)
+    (λ c. search needs)
+    (λ c. search needs)
+    (λ c. search needs)
+    (λ c κs. search needs)
+    (λ c. search needs)
+    (λ c. search needs)
+    (λ c. search needs)
+    (λ c. search needs)
+    (λ c. search needs)
     returns
     returns-2
     returns-3

@@ -7,12 +7,6 @@ use Rattle.question.proofs.Judging.{in-rel, in-choose, judge-wrong, rel
 use Rattle.question.proofs.judge.Statement.{statement}
 use Rattle.question.proofs.judge.Tie as tie
 
-enum-told : tie.Need-enum-told
-enum-told c = search needs
-
-enum-known-x : tie.Need-enum-known-x
-enum-known-x c = search needs
-
 returns : tie.Need-returns
 returns c = rel-late (c .before .before .before .before .before .before .args .s .now) (c .before .before .before .before .before .before .args .g) (c .before .before .before .before .before .before .args .x) _ _ _ (c .before .before .before .x .given .1) (c .if1 .taken)
 
@@ -25,9 +19,6 @@ new-name-requires c κs = (omega (arith, c .before .before .before .before .befo
 returns-3 : tie.Need-returns-3
 returns-3 c = rel-new (c .before .before .before .before .before .before .before .before .before .before .args .s .now) (c .before .before .before .before .before .before .before .before .before .before .args .g) (c .before .before .before .before .before .before .before .before .before .before .args .x) _ _ _ (c .before .before .before .before .before .before .before .x .given .1) (omega arith) (omega arith) (sym (c .before .new-name .ensures) ∙ c .if3 .taken)
 
-enum-known-x-2 : tie.Need-enum-known-x-2
-enum-known-x-2 c = search needs
-
 returns-4 : tie.Need-returns-4
 returns-4 c = choose-many (c .before .before .before .before .before .before .args .s .now) (c .before .before .before .before .before .before .args .g) (c .before .before .before .before .before .before .args .x) _ _ _ _ (c .before .before .before .x2 .given .1) (c .if4 .taken)
 
@@ -37,23 +28,8 @@ new-name-requires-2 c κs = (omega (arith, c .before .before .before .before .be
 returns-5 : tie.Need-returns-5
 returns-5 c = choose-new (c .before .before .before .before .before .before .before .before .args .s .now) (c .before .before .before .before .before .before .before .before .args .g) (c .before .before .before .before .before .before .before .before .args .x) _ _ _ _ (c .before .before .before .before .before .x2 .given .1) (omega arith) (sym (c .before .new-name2 .ensures) ∙ c .if5 .taken)
 
-enum-told-2 : tie.Need-enum-told-2
-enum-told-2 c = search needs
-
 returns-6 : tie.Need-returns-6
 returns-6 c = rule-early (c .before .before .before .before .before .args .s .now) (c .before .before .before .before .before .args .g) (c .before .before .before .before .before .args .x) _ _ (c .before .before .enum-told2 .given .1) (c .if6 .taken)
-
-enum-told-3 : tie.Need-enum-told-3
-enum-told-3 c = search needs
-
-enum-told-4 : tie.Need-enum-told-4
-enum-told-4 c = search needs
-
-enum-told-5 : tie.Need-enum-told-5
-enum-told-5 c = search needs
-
-enum-told-6 : tie.Need-enum-told-6
-enum-told-6 c = search needs
 
 returns-7 : tie.Need-returns-7
 returns-7 c = judge-wrong (c .before .before .before .args .s .now) (c .before .before .before .args .g) (c .before .before .before .args .x) (c .enum-told .given .1)
@@ -83,22 +59,22 @@ pub judge-spec : {M : Type 1} → statement M
 judge-spec =
     tie.close
     (tie.spec
-    enum-told
-    enum-known-x
+    (λ c. search needs)
+    (λ c. search needs)
     returns
     returns-2
     new-name-requires
     returns-3
-    enum-known-x-2
+    (λ c. search needs)
     returns-4
     new-name-requires-2
     returns-5
-    enum-told-2
+    (λ c. search needs)
     returns-6
-    enum-told-3
-    enum-told-4
-    enum-told-5
-    enum-told-6
+    (λ c. search needs)
+    (λ c. search needs)
+    (λ c. search needs)
+    (λ c. search needs)
     returns-7
     returns-8
     returns-9

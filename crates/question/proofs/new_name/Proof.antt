@@ -6,12 +6,6 @@ use Rattle.question.proofs.Judging.{new-malformed, new-declared, new-go
 use Rattle.question.proofs.new_name.Statement.{statement}
 use Rattle.question.proofs.new_name.Tie as tie
 
-is-relation-name-requires : tie.Need-is-relation-name-requires
-is-relation-name-requires c κs = search needs
-
-is-declared-requires : tie.Need-is-declared-requires
-is-declared-requires c κs = search needs
-
 returns : tie.Need-returns
 returns c = new-declared (c .before .before .before .before .before .args .s .now) (c .before .before .before .before .before .args .g) (slice (c .before .before .before .before .before .args .a) (c .before .before .before .before .before .args .e) (c .before .before .before .before .before .args .s .now)) (sym (c .before .before .before .is-relation-name .ensures) ∙ c .before .before .if1 .taken) (sym (c .before .is-declared .ensures) ∙ c .if2 .taken)
 
@@ -23,4 +17,4 @@ returns-3 c = new-malformed (c .before .before .before .args .s .now) (c .before
 
 pub new-name-spec : {M : Type 1} → statement M
 new-name-spec =
-    tie.close (tie.spec is-relation-name-requires is-declared-requires returns returns-2 returns-3)
+    tie.close (tie.spec (λ c κs. search needs) (λ c κs. search needs) returns returns-2 returns-3)

@@ -8,35 +8,14 @@ use Rattle.question.proofs.Ending.{rule-in, end-fault, end-verdict, end
 use Rattle.question.proofs.question.Statement.{statement}
 use Rattle.question.proofs.question.Tie as tie
 
-question-head-requires : tie.Need-question-head-requires
-question-head-requires c κs = search needs
-
-refusal-requires : tie.Need-refusal-requires
-refusal-requires c κs = search needs
-
 returns : tie.Need-returns
 returns c = end-fault (c .before .before .before .before .args .s .now) (c .before .before .question-head .result) (c .before .before .question-head .ensures) (c .before .if1 .taken) _ (c .refusal .ensures)
 
 rule-verdict-requires : tie.Need-rule-verdict-requires
 rule-verdict-requires c κs = let r = rule-in (c .before .before .before .before .before .args .s .now) (c .before .before .before .question-head .result) (c .before .before .before .question-head .ensures) (c .before .before .if1 .left) in (r .0, r .1, r .2)
 
-number-of-requires : tie.Need-number-of-requires
-number-of-requires c κs = search needs
-
-refusal-requires-2 : tie.Need-refusal-requires-2
-refusal-requires-2 c κs = search needs
-
 returns-2 : tie.Need-returns-2
 returns-2 c = end-verdict (c .before .before .before .before .before .before .before .before .before .args .s .now) (c .before .before .before .before .before .before .before .question-head .result) (c .before .before .before .before .before .before .before .question-head .ensures) (c .before .before .before .before .before .before .if1 .left) (c .before .before .number-of .result) (c .before .before .number-of .ensures ∙ c .before .before .before .rule-verdict .ensures) (c .before .if2 .taken) _ (c .refusal2 .ensures)
-
-line-requires : tie.Need-line-requires
-line-requires c κs = search needs
-
-after-rule-requires : tie.Need-after-rule-requires
-after-rule-requires c κs = search needs
-
-refusal-requires-3 : tie.Need-refusal-requires-3
-refusal-requires-3 c κs = search needs
 
 returns-3 : tie.Need-returns-3
 returns-3 c = end-later (c .before .before .before .before .before .before .before .before .before .before .before .before .args .s .now) (c .before .before .before .before .before .before .before .before .before .before .question-head .result) (c .before .before .before .before .before .before .before .before .before .before .question-head .ensures) (c .before .before .before .before .before .before .before .before .before .if1 .left) (c .before .before .before .before .before .number-of .result) (c .before .before .before .before .before .number-of .ensures ∙ c .before .before .before .before .before .before .rule-verdict .ensures) (c .before .before .before .before .if2 .left) (c .before .before .line .result .next) (c .before .before .line .result .entry) (c .before .before .line .ensures .2) _ (c .refusal3 .ensures ∙ ap (λ (k : ℕ). refusedWith k (c .before .before .before .before .before .before .before .before .before .before .question-head .result .next)) (c .before .after-rule .ensures))
@@ -48,15 +27,15 @@ pub question-spec : {M : Type 1} → statement M
 question-spec =
     tie.close
     (tie.spec
-    question-head-requires
-    refusal-requires
+    (λ c κs. search needs)
+    (λ c κs. search needs)
     returns
     rule-verdict-requires
-    number-of-requires
-    refusal-requires-2
+    (λ c κs. search needs)
+    (λ c κs. search needs)
     returns-2
-    line-requires
-    after-rule-requires
-    refusal-requires-3
+    (λ c κs. search needs)
+    (λ c κs. search needs)
+    (λ c κs. search needs)
     returns-3
     returns-4)

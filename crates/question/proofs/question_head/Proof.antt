@@ -18,32 +18,17 @@ Inv-loop s end none g₀ at₀ g at = (at ≤ length s) × HeadAt s g at
 abbrev μ-loop : tie.MeasureT-loop
 μ-loop s end none g₀ at₀ g at = end - at
 
-no-relations-requires : tie.Need-no-relations-requires Inv-loop μ-loop
-no-relations-requires c κs = search needs
-
-stopped-requires : tie.Need-stopped-requires Inv-loop μ-loop
-stopped-requires c κs = search needs
-
 returns : tie.Need-returns Inv-loop μ-loop
 returns c = subst (λ (h : Head). Headed (c .before .before .before .before .args .s .now) h) (sym (c .stopped .ensures)) (headed-long (c .before .before .before .before .args .s .now) _ _ _ (none-rels (c .before .before .no-relations .result) (c .before .before .no-relations .ensures)) (none-chosen (c .before .before .no-relations .result) (c .before .before .no-relations .ensures)) (c .before .if1 .taken))
 
 loop-holds : tie.Need-loop-holds Inv-loop μ-loop
 loop-holds c = (omega arith, head-start (c .before .before .before .args .s .now) _ (none-rels (c .before .no-relations .result) (c .before .no-relations .ensures)) (none-chosen (c .before .no-relations .result) (c .before .no-relations .ensures)) (none-roomy (c .before .no-relations .result) (c .before .no-relations .ensures)) (omega arith))
 
-line-requires : tie.Need-line-requires Inv-loop μ-loop
-line-requires c κs = search needs
-
 judge-requires : tie.Need-judge-requires Inv-loop μ-loop
 judge-requires c κs = (head-sound (c .before .before .before .before .before .before .args .s .now) (c .before .before .loop .g) (c .before .before .loop .at) (c .before .before .loop .inv .1), c .line .ensures .3)
 
-rule-span-requires : tie.Need-rule-span-requires Inv-loop μ-loop
-rule-span-requires c κs = search needs
-
 returns-2 : tie.Need-returns-2 Inv-loop μ-loop
 returns-2 c = head-rule (c .before .before .before .before .before .before .before .before .before .before .args .s .now) (c .before .before .before .before .before .before .loop .g) (c .before .before .before .before .before .before .loop .at) (c .before .before .before .before .before .before .loop .inv .1) (c .before .before .before .before .line .result .next) (c .before .before .before .before .line .result .entry) (c .before .before .before .before .line .ensures .2) (c .before .before .before .before .line .ensures .3) (c .before .before .before .judge .result) (c .before .before .before .judge .ensures) (c .if3 .taken) (c .before .before .before .before .line .ensures .1) _ (c .before .rule-span .ensures)
-
-stopped-requires-2 : tie.Need-stopped-requires-2 Inv-loop μ-loop
-stopped-requires-2 c κs = search needs
 
 returns-3 : tie.Need-returns-3 Inv-loop μ-loop
 returns-3 c = subst (λ (h : Head). Headed (c .before .before .before .before .before .before .before .before .before .before .before .args .s .now) h) (sym (c .stopped2 .ensures)) (head-bad (c .before .before .before .before .before .before .before .before .before .before .before .args .s .now) (c .before .before .before .before .before .before .before .loop .g) (c .before .before .before .before .before .before .before .loop .at) (c .before .before .before .before .before .before .before .loop .inv .1) (c .before .before .before .before .before .line .result .next) (c .before .before .before .before .before .line .result .entry) (c .before .before .before .before .before .line .ensures .2) (c .before .before .before .before .before .line .ensures .3) (c .before .before .before .before .judge .result) (c .before .before .before .before .judge .ensures) (c .before .before .before .if2 .taken) (c .before .if3 .left) _ _)
@@ -57,9 +42,6 @@ loop-less c = omega (arith, c .before .before .before .line .ensures .0, c .befo
 loop-again : tie.Need-loop-again Inv-loop μ-loop
 loop-again c = (c .before .before .before .line .ensures .1, subst (λ (g : Signature). HeadAt (c .before .before .before .before .before .before .before .before .before .args .s .now) g (c .before .before .before .line .result .next)) (sym (c .grow .ensures)) (head-next (c .before .before .before .before .before .before .before .before .before .args .s .now) (c .before .before .before .before .before .loop .g) (c .before .before .before .before .before .loop .at) (c .before .before .before .before .before .loop .inv .1) (c .before .before .before .line .result .next) (c .before .before .before .line .result .entry) (c .before .before .before .line .ensures .2) (c .before .before .before .line .ensures .3) (c .before .before .judge .result) (c .before .before .judge .ensures) (omega arith)))
 
-stopped-requires-3 : tie.Need-stopped-requires-3 Inv-loop μ-loop
-stopped-requires-3 c κs = search needs
-
 returns-4 : tie.Need-returns-4 Inv-loop μ-loop
 returns-4 c = subst (λ (h : Head). Headed (c .before .before .before .before .before .before .args .s .now) h) (sym (c .stopped3 .ensures)) (head-missing (c .before .before .before .before .before .before .args .s .now) (c .before .before .loop .g) (c .before .before .loop .at) (c .before .before .loop .inv .1) (omega arith) _ _)
 
@@ -69,18 +51,18 @@ question-head-spec =
     (tie.spec
     Inv-loop
     μ-loop
-    no-relations-requires
-    stopped-requires
+    (λ c κs. search needs)
+    (λ c κs. search needs)
     returns
     loop-holds
-    line-requires
+    (λ c κs. search needs)
     judge-requires
-    rule-span-requires
+    (λ c κs. search needs)
     returns-2
-    stopped-requires-2
+    (λ c κs. search needs)
     returns-3
     grow-requires
     loop-less
     loop-again
-    stopped-requires-3
+    (λ c κs. search needs)
     returns-4)

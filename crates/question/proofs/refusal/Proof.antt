@@ -6,12 +6,9 @@ use Rattle.question.specs.Drafts.{refusedWith}
 use Rattle.question.proofs.refusal.Statement.{statement}
 use Rattle.question.proofs.refusal.Tie as tie
 
-no-relations-requires : tie.Need-no-relations-requires
-no-relations-requires c κs = search needs
-
 returns : tie.Need-returns
 unfolding refusedWith
 returns c = ap (λ (g : Signature). record { fault = c .before .args .fault; place = c .before .args .place; sig = g; rule = record { from = 0; to = 0 } }) (c .no-relations .ensures)
 
 pub refusal-spec : {M : Type 1} → statement M
-refusal-spec = tie.close (tie.spec no-relations-requires returns)
+refusal-spec = tie.close (tie.spec (λ c κs. search needs) returns)

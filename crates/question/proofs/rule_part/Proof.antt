@@ -5,9 +5,6 @@ use Rattle.question.proofs.Ending.{part-in, part-is}
 use Rattle.question.proofs.rule_part.Statement.{statement}
 use Rattle.question.proofs.rule_part.Tie as tie
 
-question-requires : tie.Need-question-requires
-question-requires c κs = search needs
-
 sub-result : tie.Need-sub-result
 sub-result c = part-in (c .before .before .before .args .s .now) (c .before .question .result) (c .before .question .ensures) .0
 
@@ -22,4 +19,4 @@ returns c = part-is (c .before .before .before .before .args .s .now) (c .before
 
 pub rule-part-spec : {M : Type 1} → statement M
 rule-part-spec =
-    tie.close (tie.spec question-requires sub-result part-result-start part-result-end returns)
+    tie.close (tie.spec (λ c κs. search needs) sub-result part-result-start part-result-end returns)

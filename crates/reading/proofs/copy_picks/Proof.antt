@@ -40,9 +40,6 @@ add-word c = omega (arith, c .words-in .ensures, c .before .before .before .befo
 add-r : tie.Need-add-r Inv-loop μ-loop
 add-r c = omega (arith, c .before .before .before .before .before .before .before .before .before .before .before .before .pre .0 .relations)
 
-loop-less : tie.Need-loop-less Inv-loop μ-loop
-loop-less c = omega arith
-
 loop-again : tie.Need-loop-again Inv-loop μ-loop
 loop-again c = (
   omega arith,
@@ -50,9 +47,6 @@ loop-again c = (
   omega (arith, c .before .before .before .before .before .before .before .before .loop .inv .2, c .words-in .ensures, count-next (c .before .before .before .before .before .before .before .before .before .before .before .before .args .table .now) (c .before .before .before .before .before .before .before .before .loop .r) _ (c .before .before .before .before .before .before .before .before .loop .word) (c .before .before .before .before .before .relation-line .result) (c .before .before .before .before .before .relation-line .ensures) (c .before .before .before .before .before .before .if1 .taken)),
   c .before .before .before .before .before .before .before .before .loop .inv .3 ∙ copy-next (c .before .before .before .before .before .before .before .before .before .before .before .before .args .table .now) (bit (c .before .before .before .before .before .before .before .before .before .before .before .before .args .state .now)) (c .before .before .before .before .before .before .before .before .loop .r) (relationsIn (c .before .before .before .before .before .before .before .before .before .before .before .before .args .table .now)) (c .before .before .before .before .before .before .before .before .loop .word) (c .words-in .result) (c .before .before .before .before .before .relation-line .result) (c .before .before .before .before .before .before .before .before .loop .picks) _ (c .before .before .before .before .before .relation-line .ensures) (c .before .before .before .before .before .before .if1 .taken) (c .before .before .before .copy-relation .ensures) (c .words-in .ensures),
 )
-
-same-length : tie.Need-same-length Inv-loop μ-loop
-same-length c = search needs
 
 returns : tie.Need-returns Inv-loop μ-loop
 returns c = copied _ _ _ _ (c .before .before .before .before .before .before .pre .1) (sym (c .before .before .loop .inv .3 ∙ copy-end (c .before .before .before .before .before .before .args .table .now) (bit (c .before .before .before .before .before .before .args .state .now)) (c .before .before .loop .r) (relationsIn (c .before .before .before .before .before .before .args .table .now)) (c .before .before .loop .word) (c .before .before .loop .picks) (omega arith)))
@@ -70,7 +64,7 @@ copy-picks-spec =
     words-in-requires
     add-word
     add-r
-    loop-less
+    (λ c. omega arith)
     loop-again
-    same-length
+    (λ c. search needs)
     returns)

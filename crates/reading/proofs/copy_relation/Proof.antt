@@ -17,12 +17,6 @@ Inv-loop state line picks₀ word count tuples j₀ picks j = (j ≤ count) × (
 abbrev μ-loop : tie.MeasureT-loop
 μ-loop state line picks₀ word count tuples j₀ picks j = count - j
 
-words-in-requires : tie.Need-words-in-requires Inv-loop μ-loop
-words-in-requires c κs = search needs
-
-tuples-in-requires : tie.Need-tuples-in-requires Inv-loop μ-loop
-tuples-in-requires c κs = search needs
-
 loop-holds : tie.Need-loop-holds Inv-loop μ-loop
 loop-holds c = (omega arith, refl, line-start (bit (c .before .before .before .before .args .state .now)) (c .before .before .before .before .args .line) (c .before .words-in .result) (c .before .before .before .before .args .word) (c .before .before .before .before .args .picks .now) (c .before .words-in .ensures))
 
@@ -38,9 +32,6 @@ mul-cut-2 c = omega (arith, line-tuples (bit (c .before .before .before .before 
 sub-cut : tie.Need-sub-cut Inv-loop μ-loop
 sub-cut c = omega (arith, line-tuples (bit (c .before .before .before .before .before .before .before .args .state .now)) (c .before .before .before .before .before .before .before .args .line) (c .before .before .before .before .words-in .result) (c .before .before .before .tuples-in .result) (c .before .before .loop .j) (c .before .before .before .before .words-in .ensures) (c .before .before .before .tuples-in .ensures) (omega arith), c .before .before .before .tuples-in .ensures)
 
-cut-requires : tie.Need-cut-requires Inv-loop μ-loop
-cut-requires c κs = search needs
-
 add-picks : tie.Need-add-picks Inv-loop μ-loop
 add-picks c = omega (arith, c .before .before .before .before .before .words-in .ensures)
 
@@ -53,18 +44,12 @@ slice-write-picks c = omega (arith, c .before .before .before .before .before .w
 add-j : tie.Need-add-j Inv-loop μ-loop
 add-j c = omega (arith, c .before .before .before .before .before .words-in .ensures)
 
-loop-less : tie.Need-loop-less Inv-loop μ-loop
-loop-less c = omega arith
-
 loop-again : tie.Need-loop-again Inv-loop μ-loop
 loop-again c = (
   omega arith,
   length-set (c .before .before .before .loop .picks) (c .before .before .before .before .before .before .before .before .args .word + c .before .before .before .loop .j) (c .cut .result) ∙ c .before .before .before .loop .inv .1,
   c .before .before .before .loop .inv .2 ∙ line-next (bit (c .before .before .before .before .before .before .before .before .args .state .now)) (c .before .before .before .before .before .before .before .before .args .line) (c .before .before .before .before .before .words-in .result) (c .before .before .before .before .tuples-in .result) (c .before .before .before .before .before .before .before .before .args .word) (c .before .before .before .loop .j) (c .cut .result) (c .before .before .before .loop .picks) (c .before .before .before .before .tuples-in .ensures) (line-tuples (bit (c .before .before .before .before .before .before .before .before .args .state .now)) (c .before .before .before .before .before .before .before .before .args .line) (c .before .before .before .before .before .words-in .result) (c .before .before .before .before .tuples-in .result) (c .before .before .before .loop .j) (c .before .before .before .before .before .words-in .ensures) (c .before .before .before .before .tuples-in .ensures) (omega arith)) (omega arith) (c .cut .ensures),
 )
-
-same-length : tie.Need-same-length Inv-loop μ-loop
-same-length c = search needs
 
 returns : tie.Need-returns Inv-loop μ-loop
 returns c = sym (c .before .loop .inv .2 ∙ line-end (bit (c .before .before .before .before .before .before .args .state .now)) (c .before .before .before .before .before .before .args .line) (c .before .before .before .words-in .result) (c .before .before .before .before .before .before .args .word) (c .before .loop .j) (c .before .loop .picks) (omega arith))
@@ -75,19 +60,19 @@ copy-relation-spec =
     (tie.spec
     Inv-loop
     μ-loop
-    words-in-requires
-    tuples-in-requires
+    (λ c κs. search needs)
+    (λ c κs. search needs)
     loop-holds
     mul-cut
     add-cut
     mul-cut-2
     sub-cut
-    cut-requires
+    (λ c κs. search needs)
     add-picks
     mul-picks
     slice-write-picks
     add-j
-    loop-less
+    (λ c. omega arith)
     loop-again
-    same-length
+    (λ c. search needs)
     returns)

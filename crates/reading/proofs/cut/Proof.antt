@@ -6,27 +6,6 @@ use borrow.Author.Needs.{needs}
 use Rattle.reading.proofs.cut.Statement.{statement}
 use Rattle.reading.proofs.cut.Tie as tie
 
-word-at-requires : tie.Need-word-at-requires
-word-at-requires c κs = search needs
-
-shr-low : tie.Need-shr-low
-shr-low c = search needs
-
-add-word-at : tie.Need-add-word-at
-add-word-at c = search needs
-
-word-at-requires-2 : tie.Need-word-at-requires-2
-word-at-requires-2 c κs = search needs
-
-sub-high : tie.Need-sub-high
-sub-high c = search needs
-
-shl-high : tie.Need-shl-high
-shl-high c = search needs
-
-shl-result : tie.Need-shl-result
-shl-result c = search needs
-
 sub-result : tie.Need-sub-result
 sub-result c = mask-fits _ (omega arith)
 
@@ -42,13 +21,13 @@ pub cut-spec : {M : Type 1} → statement M
 cut-spec =
     tie.close
     (tie.spec
-    word-at-requires
-    shr-low
-    add-word-at
-    word-at-requires-2
-    sub-high
-    shl-high
-    shl-result
+    (λ c κs. search needs)
+    (λ c. search needs)
+    (λ c. search needs)
+    (λ c κs. search needs)
+    (λ c. search needs)
+    (λ c. search needs)
+    (λ c. search needs)
     sub-result
     returns
     returns-2)

@@ -33,9 +33,6 @@ add-sum c = omega (arith, c .before .before .before .before .before .before .pre
 add-r : tie.Need-add-r Inv-loop μ-loop
 add-r c = omega (arith, c .before .before .before .before .before .before .pre .relations)
 
-loop-less : tie.Need-loop-less Inv-loop μ-loop
-loop-less c = omega arith
-
 loop-again : tie.Need-loop-again Inv-loop μ-loop
 loop-again c = (
   omega arith,
@@ -58,6 +55,6 @@ picks-length-spec =
     words-in-requires
     add-sum
     add-r
-    loop-less
+    (λ c. omega arith)
     loop-again
     returns)

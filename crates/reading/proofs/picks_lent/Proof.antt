@@ -8,9 +8,6 @@ use borrow.Author.Needs.{needs}
 use Rattle.reading.proofs.picks_lent.Statement.{statement}
 use Rattle.reading.proofs.picks_lent.Tie as tie
 
-slice-aggregate-read-case : tie.Need-slice-aggregate-read-case
-slice-aggregate-read-case c = search needs
-
 read-case-requires : tie.Need-read-case-requires
 read-case-requires c κs = (omega arith, zeros-clear 512)
 
@@ -20,17 +17,8 @@ returns c = call-case _ _ _ _ _ _ _ (c .before .before .before .read-case .ensur
 returns-2 : tie.Need-returns-2
 returns-2 c = call-steps _ _ _ _ _ _ _ (c .before .before .before .before .read-case .ensures) (c .before .if1 .left) _ _ (lent-many _ (omega arith))
 
-slice-aggregate-read-picks : tie.Need-slice-aggregate-read-picks
-slice-aggregate-read-picks c = search needs
-
 read-picks-requires : tie.Need-read-picks-requires
 read-picks-requires c κs = case-in _ _ _ _ (c .before .before .before .before .before .before .before .read-case .ensures) (c .before .before .before .before .if1 .left)
-
-same-length : tie.Need-same-length
-same-length c = search needs
-
-same-length-2 : tie.Need-same-length-2
-same-length-2 c = search needs
 
 returns-3 : tie.Need-returns-3
 returns-3 c = call-ran _ _ _ _ _ _ _ (c .before .before .before .before .before .before .before .before .before .before .before .before .read-case .ensures) (c .before .before .before .before .before .before .before .before .before .if1 .left) _ (lent-few _ (omega arith)) _ _ _ (c .before .before .before .before .read-picks .ensures)
@@ -39,12 +27,12 @@ pub picks-lent-spec : {M : Type 1} → statement M
 picks-lent-spec =
     tie.close
     (tie.spec
-    slice-aggregate-read-case
+    (λ c. search needs)
     read-case-requires
     returns
     returns-2
-    slice-aggregate-read-picks
+    (λ c. search needs)
     read-picks-requires
-    same-length
-    same-length-2
+    (λ c. search needs)
+    (λ c. search needs)
     returns-3)

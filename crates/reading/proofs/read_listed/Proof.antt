@@ -9,38 +9,14 @@ use borrow.Author.Needs.{needs}
 use Rattle.reading.proofs.read_listed.Statement.{statement}
 use Rattle.reading.proofs.read_listed.Tie as tie
 
-steps-requires : tie.Need-steps-requires
-steps-requires c κs = search needs
-
-enum-known-a : tie.Need-enum-known-a
-enum-known-a c = search needs
-
-enum-known-a-2 : tie.Need-enum-known-a-2
-enum-known-a-2 c = search needs
-
 slice-reshare-prefix-read-picks : tie.Need-slice-reshare-prefix-read-picks
 slice-reshare-prefix-read-picks c = omega (arith, c .before .before .before .before .list .given, text-room _ [] _ _ _ (c .before .before .before .before .before .steps .ensures .0) (c .before .a2 .given .1) (c .before .before .before .before .before .before .before .before .before .before .before .before .before .pre .1))
 
 slice-aggregate-read-picks : tie.Need-slice-aggregate-read-picks
 slice-aggregate-read-picks c = sym (length-take-le _ _ (omega (arith, c .before .before .before .before .before .list .given, text-room _ [] _ _ _ (c .before .before .before .before .before .before .steps .ensures .0) (c .before .before .a2 .given .1) (c .before .before .before .before .before .before .before .before .before .before .before .before .before .before .pre .1))))
 
-read-picks-requires : tie.Need-read-picks-requires
-read-picks-requires c κs = search needs
-
-same-length : tie.Need-same-length
-same-length c = search needs
-
 returns : tie.Need-returns
 returns c = λ site read z. call-steps _ _ _ _ _ _ _ read z _ _ (text-refused _ [] _ _ _ (c .before .before .before .before .before .steps .ensures .0) (c .before .a .given .1))
-
-same-length-2 : tie.Need-same-length-2
-same-length-2 c = search needs
-
-same-length-3 : tie.Need-same-length-3
-same-length-3 c = search needs
-
-same-length-4 : tie.Need-same-length-4
-same-length-4 c = search needs
 
 returns-2 : tie.Need-returns-2
 returns-2 c = λ site read z. call-ran _ _ _ _ _ _ _ read z _ (text-taken _ _ _ _ (c .before .before .before .before .before .before .before .before .before .before .before .before .before .steps .ensures .0) (c .before .before .before .before .before .before .before .before .before .a2 .given .1) _ (c .before .before .before .before .before .before .before .before .before .before .before .before .before .steps .ensures .1 _ (c .before .before .before .before .before .before .before .before .before .a2 .given .1))) _ _ _ (c .before .before .before .before .read-picks .ensures)
@@ -49,15 +25,15 @@ pub read-listed-spec : {M : Type 1} → statement M
 read-listed-spec =
     tie.close
     (tie.spec
-    steps-requires
-    enum-known-a
-    enum-known-a-2
+    (λ c κs. search needs)
+    (λ c. search needs)
+    (λ c. search needs)
     slice-reshare-prefix-read-picks
     slice-aggregate-read-picks
-    read-picks-requires
-    same-length
+    (λ c κs. search needs)
+    (λ c. search needs)
     returns
-    same-length-2
-    same-length-3
-    same-length-4
+    (λ c. search needs)
+    (λ c. search needs)
+    (λ c. search needs)
     returns-2)

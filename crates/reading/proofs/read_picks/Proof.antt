@@ -10,17 +10,11 @@ use borrow.Author.Needs.{needs}
 use Rattle.reading.proofs.read_picks.Statement.{statement}
 use Rattle.reading.proofs.read_picks.Tie as tie
 
-slice-aggregate-ground-case : tie.Need-slice-aggregate-ground-case
-slice-aggregate-ground-case c = search needs
-
 ground-case-requires : tie.Need-ground-case-requires
 ground-case-requires c κs = ((search needs, most-zeros 1133 0), search needs)
 
 returns : tie.Need-returns
 returns c = λ x A h. reads-over x _ _ _ _ _ (c .before .before .ground-case .ensures x _ h) (c .if1 .taken)
-
-slice-aggregate-picks-length : tie.Need-slice-aggregate-picks-length
-slice-aggregate-picks-length c = search needs
 
 picks-length-requires : tie.Need-picks-length-requires
 picks-length-requires c κs = table-is (c .before .before .before .before .before .before .before .before .before .before .pre .case) _ _ (c .before .before .before .ground-case .ensures (c .before .before .before .before .before .before .before .before .before .before .pre .case) _ (c .before .before .before .before .before .before .before .before .before .before .pre .holds)) (c .before .if1 .left) .fits
@@ -34,23 +28,11 @@ add-words c = omega (arith, atoms-few (c .before .before .before .before .before
 returns-3 : tie.Need-returns-3
 returns-3 c = λ x A h. reads-few-words x _ _ _ _ _ (c .before .before .before .before .before .before .before .ground-case .ensures x _ h) (c .before .before .before .before .before .if1 .left) _ (c .before .before .before .picks-length .ensures .1) (omega arith) (omega arith)
 
-slice-aggregate-run-and-copy : tie.Need-slice-aggregate-run-and-copy
-slice-aggregate-run-and-copy c = search needs
-
-slice-relend-prefix-run-and-copy : tie.Need-slice-relend-prefix-run-and-copy
-slice-relend-prefix-run-and-copy c = search needs
-
 slice-aggregate-run-and-copy-2 : tie.Need-slice-aggregate-run-and-copy-2
 slice-aggregate-run-and-copy-2 c = sym (length-take-le _ _ (omega arith))
 
 run-and-copy-requires : tie.Need-run-and-copy-requires
 run-and-copy-requires c κs = (table-is (c .before .before .before .before .before .before .before .before .before .before .before .before .before .before .before .before .before .pre .case) _ _ (c .before .before .before .before .before .before .before .before .before .before .ground-case .ensures (c .before .before .before .before .before .before .before .before .before .before .before .before .before .before .before .before .before .pre .case) _ (c .before .before .before .before .before .before .before .before .before .before .before .before .before .before .before .before .before .pre .holds)) (c .before .before .before .before .before .before .before .before .if1 .left), (words-fit (c .before .before .before .before .before .before .before .before .before .before .before .before .before .before .before .before .before .pre .case) _ _ (c .before .before .before .before .before .before .before .before .before .before .ground-case .ensures (c .before .before .before .before .before .before .before .before .before .before .before .before .before .before .before .before .before .pre .case) _ (c .before .before .before .before .before .before .before .before .before .before .before .before .before .before .before .before .before .pre .holds)) (c .before .before .before .before .before .before .before .before .if1 .left) _ (sym (length-take-le _ _ (omega arith))), omega (arith, c .before .before .before .before .before .before .picks-length .ensures .0)))
-
-same-length : tie.Need-same-length
-same-length c = search needs
-
-same-length-2 : tie.Need-same-length-2
-same-length-2 c = search needs
 
 returns-4 : tie.Need-returns-4
 returns-4 c = λ x A h. reads-ran x _ _ _ _ _ (c .before .before .before .before .before .before .before .before .before .before .before .before .before .before .before .ground-case .ensures x _ h) (c .before .before .before .before .before .before .before .before .before .before .before .before .before .if1 .left) _ (c .before .before .before .before .before .before .before .before .before .before .before .picks-length .ensures .1) (omega arith) (omega arith) _ _ _ _ (its-read x _ _ [] _ _ (c .before .before .before .before .before .before .before .before .before .before .before .before .before .before .before .ground-case .ensures x _ h) (c .before .before .before .before .before .before .before .before .before .before .before .before .before .if1 .left) A _ _ _ _ h (sym (length-take-le _ _ (omega arith))) _ _ _ (c .before .before .before .before .run-and-copy .ensures)) refl
@@ -59,18 +41,18 @@ pub read-picks-spec : {M : Type 1} → statement M
 read-picks-spec =
     tie.close
     (tie.spec
-    slice-aggregate-ground-case
+    (λ c. search needs)
     ground-case-requires
     returns
-    slice-aggregate-picks-length
+    (λ c. search needs)
     picks-length-requires
     returns-2
     add-words
     returns-3
-    slice-aggregate-run-and-copy
-    slice-relend-prefix-run-and-copy
+    (λ c. search needs)
+    (λ c. search needs)
     slice-aggregate-run-and-copy-2
     run-and-copy-requires
-    same-length
-    same-length-2
+    (λ c. search needs)
+    (λ c. search needs)
     returns-4)

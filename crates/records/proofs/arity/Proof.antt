@@ -8,15 +8,6 @@ use Rattle.records.proofs.Fields.{num-is, num-bad, arity-bad, arity-low
 use Rattle.records.proofs.arity.Statement.{statement}
 use Rattle.records.proofs.arity.Tie as tie
 
-number-requires : tie.Need-number-requires
-number-requires c κs = search needs
-
-enum-told : tie.Need-enum-told
-enum-told c = search needs
-
-enum-known-n : tie.Need-enum-known-n
-enum-known-n c = search needs
-
 returns : tie.Need-returns
 returns c = (sym (ap numOf (arity-low _ _ (num-is _ _ _ (c .before .before .n .given .1) (c .before .before .before .before .number .ensures)) (omega arith))), arity-no)
 
@@ -32,4 +23,4 @@ returns-4 c = (sym (ap numOf (arity-good _ _ (num-is _ _ _ (c .before .before .b
 pub arity-spec : {M : Type 1} → statement M
 arity-spec =
     tie.close
-    (tie.spec number-requires enum-told enum-known-n returns returns-2 returns-3 returns-4)
+    (tie.spec (λ c κs. search needs) (λ c. search needs) (λ c. search needs) returns returns-2 returns-3 returns-4)

@@ -7,15 +7,6 @@ use Rattle.records.proofs.Made.{in-wrong, in-choose, in-kind, choose-no
 use Rattle.records.proofs.choose_entry.Statement.{statement}
 use Rattle.records.proofs.choose_entry.Tie as tie
 
-two-requires : tie.Need-two-requires
-two-requires c κs = search needs
-
-enum-told : tie.Need-enum-told
-enum-told c = search needs
-
-enum-known-f : tie.Need-enum-known-f
-enum-known-f c = search needs
-
 add-kind-word : tie.Need-add-kind-word
 add-kind-word c = omega (arith, two-bounds (c .before .before .before .before .before .args .s .now) (c .before .before .before .before .before .args .a) (c .before .before .before .before .before .args .e) _ (c .before .before .before .two .result) (c .before .f .given .1) (c .before .before .before .two .ensures))
 
@@ -27,12 +18,6 @@ add-arity c = omega (arith, two-bounds (c .before .before .before .before .befor
 
 arity-requires : tie.Need-arity-requires
 arity-requires c κs = omega (arith, two-bounds (c .before .before .before .before .before .before .before .args .s .now) (c .before .before .before .before .before .before .before .args .a) (c .before .before .before .before .before .before .before .args .e) _ (c .before .before .before .before .before .two .result) (c .before .before .before .f .given .1) (c .before .before .before .before .before .two .ensures))
-
-enum-told-2 : tie.Need-enum-told-2
-enum-told-2 c = search needs
-
-enum-known-n : tie.Need-enum-known-n
-enum-known-n c = search needs
 
 returns : tie.Need-returns
 returns c = (choose-bad (c .before .before .before .before .before .before .before .before .before .before .args .s .now) (c .before .before .before .before .before .before .before .before .before .before .args .a) (c .before .before .before .before .before .before .before .before .before .before .args .e) _ (c .before .before .before .before .before .before .before .before .two .ensures) _ (c .before .before .before .before .before .before .f .given .1) _ (c .before .before .arity .ensures .0) (sym (c .before .before .before .if1 .taken) ∙ c .before .before .before .before .kind-word .ensures) (c .enum-told2 .given .1), in-wrong (c .before .before .before .before .before .before .before .before .before .before .args .s .now))
@@ -50,15 +35,15 @@ pub choose-entry-spec : {M : Type 1} → statement M
 choose-entry-spec =
     tie.close
     (tie.spec
-    two-requires
-    enum-told
-    enum-known-f
+    (λ c κs. search needs)
+    (λ c. search needs)
+    (λ c. search needs)
     add-kind-word
     kind-word-requires
     add-arity
     arity-requires
-    enum-told-2
-    enum-known-n
+    (λ c. search needs)
+    (λ c. search needs)
     returns
     returns-2
     returns-3

@@ -5,21 +5,6 @@ use Rattle.records.proofs.Made.{in-wrong, in-fact, fact-bad, fact-1, fa
 use Rattle.records.proofs.fact_entry.Statement.{statement}
 use Rattle.records.proofs.fact_entry.Tie as tie
 
-named-requires : tie.Need-named-requires
-named-requires c κs = search needs
-
-enum-told : tie.Need-enum-told
-enum-told c = search needs
-
-enum-known-p : tie.Need-enum-known-p
-enum-known-p c = search needs
-
-enum-known-p-2 : tie.Need-enum-known-p-2
-enum-known-p-2 c = search needs
-
-enum-known-p-3 : tie.Need-enum-known-p-3
-enum-known-p-3 c = search needs
-
 returns : tie.Need-returns
 returns c = (fact-bad (c .before .before .before .before .args .s .now) (c .before .before .before .before .args .a) (c .before .before .before .before .args .e) _ _ (c .before .before .named .ensures .0) (c .enum-told .given .1), in-wrong (c .before .before .before .before .args .s .now))
 
@@ -36,11 +21,11 @@ pub fact-entry-spec : {M : Type 1} → statement M
 fact-entry-spec =
     tie.close
     (tie.spec
-    named-requires
-    enum-told
-    enum-known-p
-    enum-known-p-2
-    enum-known-p-3
+    (λ c κs. search needs)
+    (λ c. search needs)
+    (λ c. search needs)
+    (λ c. search needs)
+    (λ c. search needs)
     returns
     returns-2
     returns-3

@@ -5,38 +5,14 @@ use Rattle.records.proofs.Fields.{kind-2, kind-3, kind-4, kind-5, kind-
 use Rattle.records.proofs.kind_word.Statement.{statement}
 use Rattle.records.proofs.kind_word.Tie as tie
 
-slice-aggregate-word : tie.Need-slice-aggregate-word
-slice-aggregate-word c = search needs
-
-word-requires : tie.Need-word-requires
-word-requires c κs = search needs
-
 returns : tie.Need-returns
 returns c = sym (kind-2 _ (sym (c .before .word .ensures) ∙ c .if1 .taken))
-
-slice-aggregate-word-2 : tie.Need-slice-aggregate-word-2
-slice-aggregate-word-2 c = search needs
-
-word-requires-2 : tie.Need-word-requires-2
-word-requires-2 c κs = search needs
 
 returns-2 : tie.Need-returns-2
 returns-2 c = sym (kind-3 _ (sym (c .before .before .before .before .word .ensures) ∙ c .before .before .before .if1 .left) (sym (c .before .word2 .ensures) ∙ c .if2 .taken))
 
-slice-aggregate-word-3 : tie.Need-slice-aggregate-word-3
-slice-aggregate-word-3 c = search needs
-
-word-requires-3 : tie.Need-word-requires-3
-word-requires-3 c κs = search needs
-
 returns-3 : tie.Need-returns-3
 returns-3 c = sym (kind-4 _ (sym (c .before .before .before .before .before .before .before .word .ensures) ∙ c .before .before .before .before .before .before .if1 .left) (sym (c .before .before .before .before .word2 .ensures) ∙ c .before .before .before .if2 .left) (sym (c .before .word3 .ensures) ∙ c .if3 .taken))
-
-slice-aggregate-word-4 : tie.Need-slice-aggregate-word-4
-slice-aggregate-word-4 c = search needs
-
-word-requires-4 : tie.Need-word-requires-4
-word-requires-4 c κs = search needs
 
 returns-4 : tie.Need-returns-4
 returns-4 c = sym (kind-5 _ (sym (c .before .before .before .before .before .before .before .before .before .before .word .ensures) ∙ c .before .before .before .before .before .before .before .before .before .if1 .left) (sym (c .before .before .before .before .before .before .before .word2 .ensures) ∙ c .before .before .before .before .before .before .if2 .left) (sym (c .before .before .before .before .word3 .ensures) ∙ c .before .before .before .if3 .left) (sym (c .before .word4 .ensures) ∙ c .if4 .taken))
@@ -48,16 +24,16 @@ pub kind-word-spec : {M : Type 1} → statement M
 kind-word-spec =
     tie.close
     (tie.spec
-    slice-aggregate-word
-    word-requires
+    (λ c. search needs)
+    (λ c κs. search needs)
     returns
-    slice-aggregate-word-2
-    word-requires-2
+    (λ c. search needs)
+    (λ c κs. search needs)
     returns-2
-    slice-aggregate-word-3
-    word-requires-3
+    (λ c. search needs)
+    (λ c κs. search needs)
     returns-3
-    slice-aggregate-word-4
-    word-requires-4
+    (λ c. search needs)
+    (λ c κs. search needs)
     returns-4
     returns-5)

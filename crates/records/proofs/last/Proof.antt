@@ -6,17 +6,8 @@ use Rattle.records.proofs.Fields.{num-is, num-bad, last-bad, last-over,
 use Rattle.records.proofs.last.Statement.{statement}
 use Rattle.records.proofs.last.Tie as tie
 
-find-requires : tie.Need-find-requires
-find-requires c κs = search needs
-
 element-requires : tie.Need-element-requires
 element-requires c κs = omega (arith, c .find .ensures, end-within 9 (c .before .before .args .a) (c .before .before .args .e) (c .before .before .args .s .now) (omega arith) (omega arith))
-
-enum-told : tie.Need-enum-told
-enum-told c = search needs
-
-enum-known-n : tie.Need-enum-known-n
-enum-known-n c = search needs
 
 returns : tie.Need-returns
 returns c = last-over (c .before .before .before .before .before .before .before .args .s .now) (c .before .before .before .before .before .before .before .args .a) (c .before .before .before .before .before .before .before .args .e) (omega arith) (omega arith) (c .before .before .before .before .before .find .result) (c .before .before .before .before .before .find .ensures) (c .before .before .before .before .before .before .before .args .x) (c .before .before .before .before .before .before .before .args .y) (omega arith)
@@ -30,4 +21,4 @@ returns-3 c = last-good (c .before .before .before .before .before .before .befo
 pub last-spec : {M : Type 1} → statement M
 last-spec =
     tie.close
-    (tie.spec find-requires element-requires enum-told enum-known-n returns returns-2 returns-3)
+    (tie.spec (λ c κs. search needs) element-requires (λ c. search needs) (λ c. search needs) returns returns-2 returns-3)

@@ -8,23 +8,8 @@ use Rattle.records.proofs.Fields.{num-is, num-bad, more-bad, more-good,
 use Rattle.records.proofs.more.Statement.{statement}
 use Rattle.records.proofs.more.Tie as tie
 
-find-requires : tie.Need-find-requires
-find-requires c κs = search needs
-
 element-requires : tie.Need-element-requires
 element-requires c κs = omega (arith, c .find .ensures, end-within 9 (c .before .before .args .a) (c .before .before .args .e) (c .before .before .args .s .now) (omega arith) (omega arith))
-
-enum-told : tie.Need-enum-told
-enum-told c = search needs
-
-enum-known-n : tie.Need-enum-known-n
-enum-known-n c = search needs
-
-add-last : tie.Need-add-last
-add-last c = search needs
-
-last-requires : tie.Need-last-requires
-last-requires c κs = search needs
 
 returns : tie.Need-returns
 returns c = c .last .ensures ∙ sym (ap (consed (c .before .before .before .before .before .before .before .before .args .x)) (places-next (c .before .before .before .before .before .before .before .before .args .s .now) (c .before .before .before .before .before .before .before .before .args .a) (c .before .before .before .before .before .before .before .before .args .e) (omega arith) (omega arith) (c .before .before .before .before .before .before .find .result) (c .before .before .before .before .before .before .find .ensures) 1 _ (num-is _ _ _ (c .before .before .before .n .given .1) (c .before .before .before .before .before .element .ensures)) (omega arith)))
@@ -39,12 +24,12 @@ pub more-spec : {M : Type 1} → statement M
 more-spec =
     tie.close
     (tie.spec
-    find-requires
+    (λ c κs. search needs)
     element-requires
-    enum-told
-    enum-known-n
-    add-last
-    last-requires
+    (λ c. search needs)
+    (λ c. search needs)
+    (λ c. search needs)
+    (λ c κs. search needs)
     returns
     returns-2
     returns-3)

@@ -6,9 +6,6 @@ use Rattle.records.proofs.Fields.{named-none, named-some}
 use Rattle.records.proofs.named.Statement.{statement}
 use Rattle.records.proofs.named.Tie as tie
 
-find-requires : tie.Need-find-requires
-find-requires c κs = search needs
-
 returns : tie.Need-returns
 returns c = (named-none (c .before .before .before .args .s .now) (c .before .before .before .args .a) (c .before .before .before .args .e) (omega arith) (omega arith) (c .before .find .result) (c .before .find .ensures) (omega arith), omega arith, omega arith)
 
@@ -22,4 +19,4 @@ returns-2 : tie.Need-returns-2
 returns-2 c = (named-some (c .before .before .before .before .args .s .now) (c .before .before .before .before .args .a) (c .before .before .before .before .args .e) (omega arith) (omega arith) (c .before .before .find .result) (c .before .before .find .ensures) (omega (arith, c .before .before .find .ensures, end-within 9 (c .before .before .before .before .args .a) (c .before .before .before .before .args .e) (c .before .before .before .before .args .s .now) (omega arith) (omega arith))) _ (c .numbers .ensures), omega (arith, c .before .before .find .ensures, end-within 9 (c .before .before .before .before .args .a) (c .before .before .before .before .args .e) (c .before .before .before .before .args .s .now) (omega arith) (omega arith)), omega (arith, c .before .before .find .ensures, end-within 9 (c .before .before .before .before .args .a) (c .before .before .before .before .args .e) (c .before .before .before .before .args .s .now) (omega arith) (omega arith)))
 
 pub named-spec : {M : Type 1} → statement M
-named-spec = tie.close (tie.spec find-requires returns add-numbers numbers-requires returns-2)
+named-spec = tie.close (tie.spec (λ c κs. search needs) returns add-numbers numbers-requires returns-2)

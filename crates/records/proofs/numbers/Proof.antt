@@ -7,23 +7,8 @@ use Rattle.records.proofs.Fields.{num-is, num-bad, numbers-bad, numbers
 use Rattle.records.proofs.numbers.Statement.{statement}
 use Rattle.records.proofs.numbers.Tie as tie
 
-find-requires : tie.Need-find-requires
-find-requires c κs = search needs
-
 element-requires : tie.Need-element-requires
 element-requires c κs = omega (arith, c .find .ensures, end-within 9 (c .before .before .args .a) (c .before .before .args .e) (c .before .before .args .s .now) (omega arith) (omega arith))
-
-enum-told : tie.Need-enum-told
-enum-told c = search needs
-
-enum-known-n : tie.Need-enum-known-n
-enum-known-n c = search needs
-
-add-more : tie.Need-add-more
-add-more c = search needs
-
-more-requires : tie.Need-more-requires
-more-requires c κs = search needs
 
 returns : tie.Need-returns
 returns c = c .more .ensures ∙ sym (places-next (c .before .before .before .before .before .before .before .before .args .s .now) (c .before .before .before .before .before .before .before .before .args .a) (c .before .before .before .before .before .before .before .before .args .e) (omega arith) (omega arith) (c .before .before .before .before .before .before .find .result) (c .before .before .before .before .before .before .find .ensures) 2 _ (num-is _ _ _ (c .before .before .before .n .given .1) (c .before .before .before .before .before .element .ensures)) (omega arith))
@@ -38,12 +23,12 @@ pub numbers-spec : {M : Type 1} → statement M
 numbers-spec =
     tie.close
     (tie.spec
-    find-requires
+    (λ c κs. search needs)
     element-requires
-    enum-told
-    enum-known-n
-    add-more
-    more-requires
+    (λ c. search needs)
+    (λ c. search needs)
+    (λ c. search needs)
+    (λ c κs. search needs)
     returns
     returns-2
     returns-3)

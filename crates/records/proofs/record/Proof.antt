@@ -8,9 +8,6 @@ use Rattle.records.proofs.Fields.{record-alone, record-0, record-1, rec
 use Rattle.records.proofs.record.Statement.{statement}
 use Rattle.records.proofs.record.Tie as tie
 
-find-requires : tie.Need-find-requires
-find-requires c κs = search needs
-
 returns : tie.Need-returns
 returns c = (record-alone (c .before .before .before .args .s .now) (c .before .before .before .args .a) (c .before .before .before .args .e) (omega arith) (omega arith) (c .before .find .result) (c .before .find .ensures) (omega arith), in-wrong (c .before .before .before .args .s .now) _)
 
@@ -87,7 +84,7 @@ pub record-spec : {M : Type 1} → statement M
 record-spec =
     tie.close
     (tie.spec
-    find-requires
+    (λ c κs. search needs)
     returns
     record-word-requires
     add-rel-entry

@@ -6,26 +6,11 @@ use Rattle.records.proofs.Made.{in-wrong, in-rel, rel-none, rel-bad, re
 use Rattle.records.proofs.rel_entry.Statement.{statement}
 use Rattle.records.proofs.rel_entry.Tie as tie
 
-two-requires : tie.Need-two-requires
-two-requires c κs = search needs
-
-enum-told : tie.Need-enum-told
-enum-told c = search needs
-
-enum-known-f : tie.Need-enum-known-f
-enum-known-f c = search needs
-
 add-arity : tie.Need-add-arity
 add-arity c = omega (arith, two-bounds (c .before .before .before .before .before .args .s .now) (c .before .before .before .before .before .args .a) (c .before .before .before .before .before .args .e) _ (c .before .before .before .two .result) (c .before .f .given .1) (c .before .before .before .two .ensures))
 
 arity-requires : tie.Need-arity-requires
 arity-requires c κs = omega (arith, two-bounds (c .before .before .before .before .before .args .s .now) (c .before .before .before .before .before .args .a) (c .before .before .before .before .before .args .e) _ (c .before .before .before .two .result) (c .before .f .given .1) (c .before .before .before .two .ensures))
-
-enum-told-2 : tie.Need-enum-told-2
-enum-told-2 c = search needs
-
-enum-known-n : tie.Need-enum-known-n
-enum-known-n c = search needs
 
 returns : tie.Need-returns
 returns c = (rel-none (c .before .before .before .before .args .s .now) (c .before .before .before .before .args .a) (c .before .before .before .before .args .e) _ (c .before .before .two .ensures) (c .enum-told .given .1), in-wrong (c .before .before .before .before .args .s .now))
@@ -40,13 +25,13 @@ pub rel-entry-spec : {M : Type 1} → statement M
 rel-entry-spec =
     tie.close
     (tie.spec
-    two-requires
-    enum-told
-    enum-known-f
+    (λ c κs. search needs)
+    (λ c. search needs)
+    (λ c. search needs)
     add-arity
     arity-requires
-    enum-told-2
-    enum-known-n
+    (λ c. search needs)
+    (λ c. search needs)
     returns
     returns-2
     returns-3)

@@ -4,18 +4,6 @@ use Rattle.records.proofs.Made.{in-wrong, in-step, step-none, step-bad,
 use Rattle.records.proofs.step_entry.Statement.{statement}
 use Rattle.records.proofs.step_entry.Tie as tie
 
-one-requires : tie.Need-one-requires
-one-requires c κs = search needs
-
-number-requires : tie.Need-number-requires
-number-requires c κs = search needs
-
-enum-told : tie.Need-enum-told
-enum-told c = search needs
-
-enum-known-n : tie.Need-enum-known-n
-enum-known-n c = search needs
-
 returns : tie.Need-returns
 returns c = (step-bad (c .before .before .before .before .before .before .args .s .now) (c .before .before .before .before .before .before .args .a) (c .before .before .before .before .before .before .args .e) _ (c .before .before .before .before .one .ensures) (c .before .before .before .if1 .taken) _ (c .before .before .number .ensures) (c .enum-told .given .1), in-wrong (c .before .before .before .before .before .before .args .s .now))
 
@@ -28,4 +16,4 @@ returns-3 c = (step-none (c .before .before .before .args .s .now) (c .before .b
 pub step-entry-spec : {M : Type 1} → statement M
 step-entry-spec =
     tie.close
-    (tie.spec one-requires number-requires enum-told enum-known-n returns returns-2 returns-3)
+    (tie.spec (λ c κs. search needs) (λ c κs. search needs) (λ c. search needs) (λ c. search needs) returns returns-2 returns-3)

@@ -40,9 +40,6 @@ mul-arity c = omega (arith, c .before .before .before .before .before .pre .rels
 array-write-arity : tie.Need-array-write-arity Inv-loop μ-loop
 array-write-arity c = omega (arith, c .before .before .before .before .before .pre .rels, c .before .before .before .before .before .pre .chosen)
 
-kind-number-requires : tie.Need-kind-number-requires Inv-loop μ-loop
-kind-number-requires c κs = search needs
-
 mul-kind : tie.Need-mul-kind Inv-loop μ-loop
 mul-kind c = omega (arith, c .before .before .before .before .before .before .pre .rels, c .before .before .before .before .before .before .pre .chosen)
 
@@ -51,9 +48,6 @@ array-write-kind c = omega (arith, c .before .before .before .before .before .be
 
 add-r : tie.Need-add-r Inv-loop μ-loop
 add-r c = omega (arith, c .before .before .before .before .before .before .pre .rels, c .before .before .before .before .before .before .pre .chosen)
-
-loop-less : tie.Need-loop-less Inv-loop μ-loop
-loop-less c = omega arith
 
 loop-again : tie.Need-loop-again Inv-loop μ-loop
 loop-again c = (
@@ -80,10 +74,10 @@ relations-of-spec =
     kind-requires
     mul-arity
     array-write-arity
-    kind-number-requires
+    (λ c κs. search needs)
     mul-kind
     array-write-kind
     add-r
-    loop-less
+    (λ c. omega arith)
     loop-again
     returns)

@@ -7,20 +7,11 @@ use borrow.Author.Needs.{needs}
 use Rattle.reporting.proofs.count.Statement.{statement}
 use Rattle.reporting.proofs.count.Tie as tie
 
-add-i : tie.Need-add-i
-add-i c = search needs
-
 first-word-requires : tie.Need-first-word-requires
 first-word-requires c κs =
     let a = c .before .before .before .args in
     let p = c .before .before .before .pre in
     (p .2, omega arith, omega (arith, its-index (a .q .now) (a .t4) (p .0) (a .j) (p .3)), arities-before (a .q .now) (a .t4) (p .0) (a .j) (p .3))
-
-mul-k : tie.Need-mul-k
-mul-k c = search needs
-
-element-copy-out-k : tie.Need-element-copy-out-k
-element-copy-out-k c = search needs
 
 power-requires : tie.Need-power-requires
 power-requires c κs =
@@ -41,18 +32,6 @@ ones-requires c κs =
     let w = power-le (a .n) _ (p .2) (its-arity (a .q .now) (a .t4) (p .0) (a .j) (p .3)) in
     (omega (arith, c .power .ensures, c .before .before .first-word .ensures .1, p .3, p .4), omega (arith, c .power .ensures))
 
-mul-a : tie.Need-mul-a
-mul-a c = search needs
-
-element-copy-out-a : tie.Need-element-copy-out-a
-element-copy-out-a c = search needs
-
-mul-e : tie.Need-mul-e
-mul-e c = search needs
-
-element-copy-out-e : tie.Need-element-copy-out-e
-element-copy-out-e c = search needs
-
 sub-count-line : tie.Need-sub-count-line
 sub-count-line c = let a = c .before .before .before .before .before .before .before .before .before .before .args in let p = c .before .before .before .before .before .before .before .before .before .before .pre in its-name (a .q .now) (a .t4) (p .0) (a .j) (p .3) .0
 
@@ -67,9 +46,6 @@ count-line-requires c κs =
     let a = c .before .before .before .before .before .before .before .before .before .before .before .args in
     begin (a .out .now) (count-is (a .q .now) (a .t4) (a .n) (a .words .now) (a .j) (c .before .before .before .before .before .before .before .first-word .result) (c .before .before .before .before .before .power .result) (c .before .before .before .before .before .before .before .first-word .ensures .0) (c .before .before .before .before .before .power .ensures) (c .before .before .before .before .ones .result) (c .before .before .before .before .ones .ensures)) (c .before .before .before .before .before .before .before .before .before .before .before .pre .5) .room
 
-same-length : tie.Need-same-length
-same-length c = search needs
-
 returns : tie.Need-returns
 returns c =
     let a = c .before .before .before .before .before .before .before .before .before .before .before .before .before .before .args in
@@ -79,20 +55,20 @@ pub count-spec : {M : Type 1} → statement M
 count-spec =
     tie.close
     (tie.spec
-    add-i
+    (λ c. search needs)
     first-word-requires
-    mul-k
-    element-copy-out-k
+    (λ c. search needs)
+    (λ c. search needs)
     power-requires
     add-ones
     ones-requires
-    mul-a
-    element-copy-out-a
-    mul-e
-    element-copy-out-e
+    (λ c. search needs)
+    (λ c. search needs)
+    (λ c. search needs)
+    (λ c. search needs)
     sub-count-line
     part-count-line-start
     part-count-line-end
     count-line-requires
-    same-length
+    (λ c. search needs)
     returns)

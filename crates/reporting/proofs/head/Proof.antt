@@ -30,9 +30,6 @@ picks-requires c κs =
     let l2 = then (countsOf (a .q .now) (a .g) (a .n) (a .words .now)) _ l1 (c .before .before .before .counts .ensures) in
     (p .0, p .1, p .2, p .3, l2 .room)
 
-same-length : tie.Need-same-length
-same-length c = search needs
-
 returns : tie.Need-returns
 returns c =
     let a = c .before .before .before .before .before .before .before .before .before .before .before .before .before .before .before .args in
@@ -44,4 +41,4 @@ returns c =
 
 pub head-spec : {M : Type 1} → statement M
 head-spec =
-    tie.close (tie.spec sizes-line-requires counts-requires picks-requires same-length returns)
+    tie.close (tie.spec sizes-line-requires counts-requires picks-requires (λ c. search needs) returns)

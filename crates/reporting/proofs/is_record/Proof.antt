@@ -6,14 +6,8 @@ use borrow.Author.Needs.{needs}
 use Rattle.reporting.proofs.is_record.Statement.{statement}
 use Rattle.reporting.proofs.is_record.Tie as tie
 
-find-requires : tie.Need-find-requires
-find-requires c κs = search needs
-
-word-requires : tie.Need-word-requires
-word-requires c κs = search needs
-
 returns : tie.Need-returns
 returns c = let a = c .before .before .before .before .args in c .word .ensures ∙ sym (record-is (a .s .now) (a .at) (a .end) (omega arith) (omega arith) (c .before .find .result) (c .before .find .ensures) (a .w .now))
 
 pub is-record-spec : {M : Type 1} → statement M
-is-record-spec = tie.close (tie.spec find-requires word-requires returns)
+is-record-spec = tie.close (tie.spec (λ c κs. search needs) (λ c κs. search needs) returns)

@@ -5,12 +5,6 @@ use borrow.Author.Needs.{needs}
 use Rattle.reporting.proofs.line.Statement.{statement}
 use Rattle.reporting.proofs.line.Tie as tie
 
-find-requires : tie.Need-find-requires
-find-requires c κs = search needs
-
-add-t6 : tie.Need-add-t6
-add-t6 c = search needs
-
 returns : tie.Need-returns
 returns c = let a = c .before .before .before .args in ended-line (a .s .now) (a .at) (omega arith) (c .before .find .result) (c .before .find .ensures) (omega arith)
 
@@ -18,4 +12,4 @@ returns-2 : tie.Need-returns-2
 returns-2 c = let a = c .before .before .before .args in last-line (a .s .now) (a .at) (omega arith) (c .before .find .result) (c .before .find .ensures) (omega arith)
 
 pub line-spec : {M : Type 1} → statement M
-line-spec = tie.close (tie.spec find-requires add-t6 returns returns-2)
+line-spec = tie.close (tie.spec (λ c κs. search needs) (λ c. search needs) returns returns-2)

@@ -7,38 +7,17 @@ use borrow.Author.Needs.{needs}
 use Rattle.reporting.proofs.picked.Statement.{statement}
 use Rattle.reporting.proofs.picked.Tie as tie
 
-add-i : tie.Need-add-i
-add-i c = search needs
-
 first-word-requires : tie.Need-first-word-requires
 first-word-requires c κs =
     let a = c .before .before .before .args in
     let p = c .before .before .before .pre in
     (p .2, omega arith, omega (arith, its-index (a .q .now) (a .t4) (p .0) (a .j) (p .3)), arities-before (a .q .now) (a .t4) (p .0) (a .j) (p .3))
 
-mul-k : tie.Need-mul-k
-mul-k c = search needs
-
-element-copy-out-k : tie.Need-element-copy-out-k
-element-copy-out-k c = search needs
-
 power-requires : tie.Need-power-requires
 power-requires c κs =
     let a = c .before .before .before .before .before .args in
     let p = c .before .before .before .before .before .pre in
     (p .1, omega (arith, power-le (a .n) _ (p .2) (its-arity (a .q .now) (a .t4) (p .0) (a .j) (p .3))))
-
-mul-a : tie.Need-mul-a
-mul-a c = search needs
-
-element-copy-out-a : tie.Need-element-copy-out-a
-element-copy-out-a c = search needs
-
-mul-e : tie.Need-mul-e
-mul-e c = search needs
-
-element-copy-out-e : tie.Need-element-copy-out-e
-element-copy-out-e c = search needs
 
 mul-row-lines : tie.Need-mul-row-lines
 mul-row-lines c = omega (arith, c .before .before .before .before .before .first-word .ensures .1, c .before .before .before .before .before .before .before .before .before .pre .0 .chosen-le, c .before .before .before .before .before .before .before .before .before .pre .3)
@@ -64,9 +43,6 @@ row-lines-requires c κs =
       begin (a .out .now) (picks-is (a .q .now) (a .t4) (a .n) (a .words .now) (a .j) (c .before .before .before .before .before .before .first-word .result) (c .before .before .before .before .power .result) (c .before .before .before .before .before .before .first-word .ensures .0) (c .before .before .before .before .power .ensures)) (p .5) .room,
     )
 
-same-length : tie.Need-same-length
-same-length c = search needs
-
 returns : tie.Need-returns
 returns c =
     let a = c .before .before .before .before .before .before .before .before .before .before .before .before .before .args in
@@ -76,19 +52,19 @@ pub picked-spec : {M : Type 1} → statement M
 picked-spec =
     tie.close
     (tie.spec
-    add-i
+    (λ c. search needs)
     first-word-requires
-    mul-k
-    element-copy-out-k
+    (λ c. search needs)
+    (λ c. search needs)
     power-requires
-    mul-a
-    element-copy-out-a
-    mul-e
-    element-copy-out-e
+    (λ c. search needs)
+    (λ c. search needs)
+    (λ c. search needs)
+    (λ c. search needs)
     mul-row-lines
     sub-row-lines
     part-row-lines-start
     part-row-lines-end
     row-lines-requires
-    same-length
+    (λ c. search needs)
     returns)

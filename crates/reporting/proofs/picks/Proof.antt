@@ -26,9 +26,6 @@ picked-requires c κs =
 add-j : tie.Need-add-j Inv-loop μ-loop
 add-j c = omega (arith, c .before .before .before .before .before .before .before .before .before .pre .0 .chosen-le)
 
-loop-less : tie.Need-loop-less Inv-loop μ-loop
-loop-less c = omega arith
-
 loop-again : tie.Need-loop-again Inv-loop μ-loop
 loop-again c =
     let a = c .before .before .before .before .before .before .before .before .before .args in
@@ -51,7 +48,7 @@ picks-spec =
     loop-holds
     picked-requires
     add-j
-    loop-less
+    (λ c. omega arith)
     loop-again
     same-length
     returns)

@@ -20,12 +20,6 @@ abbrev μ-loop : tie.MeasureT-loop
 loop-holds : tie.Need-loop-holds Inv-loop μ-loop
 loop-holds c = let a = c .before .args in (omega arith, ap (afterRule (length (a .s .now))) (lines-start (a .s .now)))
 
-line-requires : tie.Need-line-requires Inv-loop μ-loop
-line-requires c κs = omega arith
-
-slice-aggregate-is-record : tie.Need-slice-aggregate-is-record Inv-loop μ-loop
-slice-aggregate-is-record c = search needs
-
 is-record-requires : tie.Need-is-record-requires Inv-loop μ-loop
 is-record-requires c κs = (c .before .line .ensures .begins, c .before .line .ensures .ends)
 
@@ -54,8 +48,8 @@ question-end-spec =
     Inv-loop
     μ-loop
     loop-holds
-    line-requires
-    slice-aggregate-is-record
+    (λ c κs. omega arith)
+    (λ c. search needs)
     is-record-requires
     returns
     loop-less

@@ -8,19 +8,10 @@ use borrow.Author.Needs.{needs}
 use Rattle.reporting.proofs.row_line.Statement.{statement}
 use Rattle.reporting.proofs.row_line.Tie as tie
 
-add-get : tie.Need-add-get
-add-get c = search needs
-
-get-requires : tie.Need-get-requires
-get-requires c κs = search needs
-
 pick-line-requires : tie.Need-pick-line-requires
 pick-line-requires c κs =
     let a = c .before .before .before .before .before .before .args in
     (c .before .before .before .before .before .before .pre .0, c .before .before .before .before .before .before .pre .1, begin (a .out .now) (row-set (a .words .now) (a .first) (a .name .now) (a .n) (a .arity) (a .row) (sym (c .before .before .get .ensures) ∙ c .before .if1 .taken)) (c .before .before .before .before .before .before .pre .4) .room)
-
-same-length : tie.Need-same-length
-same-length c = search needs
 
 returns : tie.Need-returns
 returns c =
@@ -34,4 +25,4 @@ returns-2 c =
 
 pub row-line-spec : {M : Type 1} → statement M
 row-line-spec =
-    tie.close (tie.spec add-get get-requires pick-line-requires same-length returns returns-2)
+    tie.close (tie.spec (λ c. search needs) (λ c κs. search needs) pick-line-requires (λ c. search needs) returns returns-2)

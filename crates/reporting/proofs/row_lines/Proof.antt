@@ -23,12 +23,6 @@ row-line-requires c κs =
     let p = c .before .before .before .before .before .before .pre in
     (p .0, p .1, omega (arith, p .2), omega (arith, p .3), room-for (rowLine (a .words .now) (a .first) (a .name .now) (a .n) (a .arity) (c .before .before .loop .row)) _ (recut (next-text (rowLine (a .words .now) (a .first) (a .name .now) (a .n) (a .arity)) (c .before .before .loop .row) (a .n ^ a .arity) (omega (arith, p .1))) (c .before .before .loop .inv .1)))
 
-add-row : tie.Need-add-row Inv-loop μ-loop
-add-row c = omega arith
-
-loop-less : tie.Need-loop-less Inv-loop μ-loop
-loop-less c = omega arith
-
 loop-again : tie.Need-loop-again Inv-loop μ-loop
 loop-again c =
     let a = c .before .before .before .before .before .before .before .before .before .args in
@@ -51,8 +45,8 @@ row-lines-spec =
     μ-loop
     loop-holds
     row-line-requires
-    add-row
-    loop-less
+    (λ c. omega arith)
+    (λ c. omega arith)
     loop-again
     same-length
     returns)

@@ -20,12 +20,6 @@ abbrev μ-loop : tie.MeasureT-loop
 loop-holds : tie.Need-loop-holds Inv-loop μ-loop
 loop-holds c = let a = c .before .args in (omega arith, ap (firstPickOrStep (length (a .s .now))) (lines-start (a .s .now)))
 
-line-requires : tie.Need-line-requires Inv-loop μ-loop
-line-requires c κs = omega arith
-
-slice-aggregate-is-record : tie.Need-slice-aggregate-is-record Inv-loop μ-loop
-slice-aggregate-is-record c = search needs
-
 is-record-requires : tie.Need-is-record-requires Inv-loop μ-loop
 is-record-requires c κs = (c .before .line .ensures .begins, c .before .line .ensures .ends)
 
@@ -33,9 +27,6 @@ returns : tie.Need-returns Inv-loop μ-loop
 returns c =
     let s = c .before .before .before .before .before .before .before .args .s .now in
     (omega arith, sym (c .before .before .before .before .before .loop .inv .1 ∙ pick-here s (c .before .before .before .before .before .loop .at) (c .before .before .before .line .result .end) (c .before .before .before .line .result .next) (c .before .before .before .line .ensures) (sym (c .before .is-record .ensures) ∙ c .if1 .taken)))
-
-slice-aggregate-is-record-2 : tie.Need-slice-aggregate-is-record-2 Inv-loop μ-loop
-slice-aggregate-is-record-2 c = search needs
 
 is-record-requires-2 : tie.Need-is-record-requires-2 Inv-loop μ-loop
 is-record-requires-2 c κs = (c .before .before .before .before .line .ensures .begins, c .before .before .before .before .line .ensures .ends)
@@ -65,11 +56,11 @@ site-end-spec =
     Inv-loop
     μ-loop
     loop-holds
-    line-requires
-    slice-aggregate-is-record
+    (λ c κs. omega arith)
+    (λ c. search needs)
     is-record-requires
     returns
-    slice-aggregate-is-record-2
+    (λ c. search needs)
     is-record-requires-2
     returns-2
     loop-less

@@ -10,12 +10,6 @@ use Rattle.reporting.proofs.starts_with_step.Tie as tie
 returns : tie.Need-returns
 returns c = let s = c .before .before .args .s .now in sym (ap startsWithStep (lines-start s) ∙ no-start s 0 (omega arith))
 
-line-requires : tie.Need-line-requires
-line-requires c κs = omega arith
-
-slice-aggregate-is-record : tie.Need-slice-aggregate-is-record
-slice-aggregate-is-record c = search needs
-
 is-record-requires : tie.Need-is-record-requires
 is-record-requires c κs = (c .before .line .ensures .begins, c .before .line .ensures .ends)
 
@@ -25,4 +19,4 @@ returns-2 c = let s = c .before .before .before .before .before .args .s .now in
 pub starts-with-step-spec : {M : Type 1} → statement M
 starts-with-step-spec =
     tie.close
-    (tie.spec returns line-requires slice-aggregate-is-record is-record-requires returns-2)
+    (tie.spec returns (λ c κs. omega arith) (λ c. search needs) is-record-requires returns-2)

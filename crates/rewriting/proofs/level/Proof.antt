@@ -20,32 +20,11 @@ abbrev μ-loop : tie.MeasureT-loop
 loop-holds : tie.Need-loop-holds Inv-loop μ-loop
 loop-holds c = (omega arith, level-start (c .before .args .s .now) (c .before .args .t4) (slice (c .before .args .a) (c .before .args .e) (c .before .args .s .now)))
 
-mul-same-span : tie.Need-mul-same-span Inv-loop μ-loop
-mul-same-span c = omega arith
-
-element-copy-out-same-span : tie.Need-element-copy-out-same-span Inv-loop μ-loop
-element-copy-out-same-span c = omega arith
-
-mul-same-span-2 : tie.Need-mul-same-span-2 Inv-loop μ-loop
-mul-same-span-2 c = omega arith
-
-element-copy-out-same-span-2 : tie.Need-element-copy-out-same-span-2 Inv-loop μ-loop
-element-copy-out-same-span-2 c = omega arith
-
-same-span-requires : tie.Need-same-span-requires Inv-loop μ-loop
-same-span-requires c κs = search needs
-
 cast-result : tie.Need-cast-result Inv-loop μ-loop
 cast-result c = omega (arith, c .before .before .before .before .before .before .before .pre)
 
 returns : tie.Need-returns Inv-loop μ-loop
 returns c = sym (c .before .before .before .before .before .loop .inv .1 ∙ level-yes (c .before .before .before .before .before .before .before .args .s .now) (c .before .before .before .before .before .before .before .args .t4 .from) (c .before .before .before .before .before .before .before .args .t4 .to) (slice (c .before .before .before .before .before .before .before .args .a) (c .before .before .before .before .before .before .before .args .e) (c .before .before .before .before .before .before .before .args .s .now)) (c .before .before .before .before .before .before .before .args .t4 .n) (c .before .before .before .before .before .loop .i) (omega arith) (sym (c .before .same-span .ensures) ∙ c .if1 .taken))
-
-add-i : tie.Need-add-i Inv-loop μ-loop
-add-i c = omega arith
-
-loop-less : tie.Need-loop-less Inv-loop μ-loop
-loop-less c = omega arith
 
 loop-again : tie.Need-loop-again Inv-loop μ-loop
 loop-again c = (omega arith, c .before .before .before .before .before .loop .inv .1 ∙ level-no (c .before .before .before .before .before .before .before .args .s .now) (c .before .before .before .before .before .before .before .args .t4 .from) (c .before .before .before .before .before .before .before .args .t4 .to) (slice (c .before .before .before .before .before .before .before .args .a) (c .before .before .before .before .before .before .before .args .e) (c .before .before .before .before .before .before .before .args .s .now)) (c .before .before .before .before .before .before .before .args .t4 .n) (c .before .before .before .before .before .loop .i) (omega arith) (sym (c .before .same-span .ensures) ∙ c .if1 .left))
@@ -60,14 +39,14 @@ level-spec =
     Inv-loop
     μ-loop
     loop-holds
-    mul-same-span
-    element-copy-out-same-span
-    mul-same-span-2
-    element-copy-out-same-span-2
-    same-span-requires
+    (λ c. omega arith)
+    (λ c. omega arith)
+    (λ c. omega arith)
+    (λ c. omega arith)
+    (λ c κs. search needs)
     cast-result
     returns
-    add-i
-    loop-less
+    (λ c. omega arith)
+    (λ c. omega arith)
     loop-again
     returns-2)

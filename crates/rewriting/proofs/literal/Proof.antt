@@ -20,9 +20,6 @@ add-number c = omega (arith, ready-in ((c .before .before .before .before .befor
 number-requires : tie.Need-number-requires
 number-requires c κs = (omega (arith, (c .before .before .before .before .before .pre .1 .0) .lent .count, (c .before .before .before .before .before .pre .1 .0) .ready .fixed .few), c .before .before .before .before .before .pre .0 .0, c .before .before .before .before .before .pre .0 .1)
 
-leaf-kind-requires : tie.Need-leaf-kind-requires
-leaf-kind-requires c κs = search needs
-
 fill-requires : tie.Need-fill-requires
 fill-requires c κs = let W = c .before .before .before .before .before .before .before .pre .1 .0 in let w = W .ready in let v = lit-view w (c .before .before .before .before .before .before .before .pre .1 .1) in lit-vars w v (c .before .before .run .result) (c .before .before .run .ensures)
 
@@ -35,9 +32,6 @@ add-t18 c = omega (arith, ready-rows ((c .before .before .before .before .before
 add-t23 : tie.Need-add-t23
 add-t23 c = let W = c .before .before .before .before .before .before .before .before .before .before .before .before .before .pre .1 .0 in let w = W .ready in let v = lit-view w (c .before .before .before .before .before .before .before .before .before .before .before .before .before .pre .1 .1) in omega (arith, lit-place w v (c .before .before .before .before .before .before .before .before .run .result) (c .before .before .before .before .before .before .before .before .run .ensures) (c .before .before .before .before .before .before .before .before .before .before .before .before .before .args .pos) (c .before .before .before .before .before .before .before .number .result) (c .before .before .before .before .before .before .before .number .ensures (W .g) (W .lent)) (c .before .before .before .before .before .fill .result) (c .before .before .before .before .before .fill .ensures (c .before .before .before .before .before .before .before .before .before .before .before .before .before .args .pos) (c .before .before .before .before .before .before .before .number .result) [] (lit-vars w v (c .before .before .before .before .before .before .before .before .run .result) (c .before .before .before .before .before .before .before .before .run .ensures)) (none-row (c .before .before .before .before .before .before .before .before .before .before .before .before .before .args .pos) (c .before .before .before .before .before .before .leaf-kind .result) (c .before .before .before .before .before .before .before .number .result) (c .before .before .before .before .before .before .leaf-kind .ensures))), ready-end w, c .before .before .before .before .before .before .before .before .before .before .before .before .before .good .0 .0)
 
-same-length : tie.Need-same-length
-same-length c = search needs
-
 returns : tie.Need-returns
 returns c = λ W. let w = W .ready in let v = lit-view w (c .before .before .before .before .before .before .before .before .before .before .before .before .before .pre .1 .1) in lit-done w v (c .before .before .before .before .before .before .before .before .run .result) (c .before .before .before .before .before .before .before .before .run .ensures) (c .before .before .before .before .before .before .before .before .before .before .before .before .before .args .pos) (c .before .before .before .before .before .before .before .number .result) (c .before .before .before .before .before .before .before .number .ensures (W .g) (W .lent)) (c .before .before .before .before .before .fill .result) (c .before .before .before .before .before .fill .ensures (c .before .before .before .before .before .before .before .before .before .before .before .before .before .args .pos) (c .before .before .before .before .before .before .before .number .result) [] (lit-vars w v (c .before .before .before .before .before .before .before .before .run .result) (c .before .before .before .before .before .before .before .before .run .ensures)) (none-row (c .before .before .before .before .before .before .before .before .before .before .before .before .before .args .pos) (c .before .before .before .before .before .before .leaf-kind .result) (c .before .before .before .before .before .before .before .number .result) (c .before .before .before .before .before .before .leaf-kind .ensures))) _ (c .before .before .put-row .ensures .1 (c .before .before .before .before .before .before .before .before .before .before .before .before .before .args .len + 1) (c .before .before .before .before .before .before .before .before .before .before .before .before .before .args .nodes))
 
@@ -49,10 +43,10 @@ literal-spec =
     run-requires
     add-number
     number-requires
-    leaf-kind-requires
+    (λ c κs. search needs)
     fill-requires
     put-row-requires
     add-t18
     add-t23
-    same-length
+    (λ c. search needs)
     returns)

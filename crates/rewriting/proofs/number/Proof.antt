@@ -9,17 +9,8 @@ use borrow.Author.Needs.{needs}
 use Rattle.rewriting.proofs.number.Statement.{statement}
 use Rattle.rewriting.proofs.number.Tie as tie
 
-relation-requires : tie.Need-relation-requires
-relation-requires c κs = search needs
-
-enum-known-f : tie.Need-enum-known-f
-enum-known-f c = search needs
-
 cast-result : tie.Need-cast-result
 cast-result c = omega (arith, lent-low (c .before .before .before .before .before .before .before .args .s .now) (c .before .before .before .before .before .before .before .args .from .now) (c .before .before .before .before .before .before .before .args .to .now) (slice (c .before .before .before .before .before .before .before .args .a) (c .before .before .before .before .before .before .before .args .e) (c .before .before .before .before .before .before .before .args .s .now)) (c .before .before .before .before .before .before .before .args .m) _ (c .before .before .before .before .before .before .before .pre .0) (λ g l. sym (c .before .f .given .1) ∙ c .before .before .before .relation .ensures g l))
-
-enum-told : tie.Need-enum-told
-enum-told c = search needs
 
 returns : tie.Need-returns
 returns c = λ g l. number-at (numberOf (allOf (c .before .before .before .before .before .before .before .args .s .now) g) (slice (c .before .before .before .before .before .before .before .args .a) (c .before .before .before .before .before .before .before .args .e) (c .before .before .before .before .before .before .before .args .s .now))) _ (sym (c .before .f .given .1) ∙ c .before .before .before .relation .ensures g l)
@@ -29,4 +20,4 @@ returns-2 c = λ g l. number-none (numberOf (allOf (c .before .before .before .b
 
 pub number-spec : {M : Type 1} → statement M
 number-spec =
-    tie.close (tie.spec relation-requires enum-known-f cast-result enum-told returns returns-2)
+    tie.close (tie.spec (λ c κs. search needs) (λ c. search needs) cast-result (λ c. search needs) returns returns-2)

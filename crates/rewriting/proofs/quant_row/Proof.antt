@@ -5,15 +5,9 @@ use borrow.Author.Needs.{needs}
 use Rattle.rewriting.proofs.quant_row.Statement.{statement}
 use Rattle.rewriting.proofs.quant_row.Tie as tie
 
-cast-t4 : tie.Need-cast-t4
-cast-t4 c = search needs
-
-cast-t5 : tie.Need-cast-t5
-cast-t5 c = search needs
-
 returns : tie.Need-returns
 unfolding pad
 returns c = refl
 
 pub quant-row-spec : {M : Type 1} → statement M
-quant-row-spec = tie.close (tie.spec cast-t4 cast-t5 returns)
+quant-row-spec = tie.close (tie.spec (λ c. search needs) (λ c. search needs) returns)

@@ -15,18 +15,6 @@ use borrow.Author.Needs.{needs}
 use Rattle.rewriting.proofs.rows_of.Statement.{statement}
 use Rattle.rewriting.proofs.rows_of.Tie as tie
 
-add-m : tie.Need-add-m
-add-m c = search needs
-
-totalities-requires : tie.Need-totalities-requires
-totalities-requires c κs = search needs
-
-slice-aggregate-positive : tie.Need-slice-aggregate-positive
-slice-aggregate-positive c = search needs
-
-slice-aggregate-positive-2 : tie.Need-slice-aggregate-positive-2
-slice-aggregate-positive-2 c = search needs
-
 positive-requires : tie.Need-positive-requires
 positive-requires c κs = let z = c .before .before .before .before .before .before .before .before .before .before in let a = formed (z .args .text .now) (z .args .at) (z .args .end) (z .args .sig) (z .pre .0) in let w = own (top-ready (z .args .text .now) (z .args .at) (z .args .end) (z .args .sig) (0 ∷ 0 ∷ 0 ∷ 0 ∷ []) (0 ∷ 0 ∷ 0 ∷ 0 ∷ []) (rowsFrom (z .args .rows .now) 0 0) (z .pre .0) a (rows-many (z .args .rows .now) 0 0) (omega (arith, plain-forms (z .args .text .now) (z .args .at) (z .args .end) (z .args .sig) (z .pre .0) a [] [])) (omega (arith, plain-forms (z .args .text .now) (z .args .at) (z .args .end) (z .args .sig) (z .pre .0) a [] []))) in let p : length (z .args .sig .from) ≡ 12 = search needs in let q : length (z .args .sig .to) ≡ 12 = search needs in ((omega arith, omega arith, z .pre .1), w)
 
@@ -36,23 +24,11 @@ same-length c = c .before .before .positive .kept .1 .1 .1 .1 .1 .1 .0
 returns : tie.Need-returns
 returns c = let z = c .before .before .before .before .before .before .before .before .before .before .before .before .before in let a = formed (z .args .text .now) (z .args .at) (z .args .end) (z .args .sig) (z .pre .0) in let w = own (top-ready (z .args .text .now) (z .args .at) (z .args .end) (z .args .sig) (0 ∷ 0 ∷ 0 ∷ 0 ∷ []) (0 ∷ 0 ∷ 0 ∷ 0 ∷ []) (rowsFrom (z .args .rows .now) 0 0) (z .pre .0) a (rows-many (z .args .rows .now) 0 0) (omega (arith, plain-forms (z .args .text .now) (z .args .at) (z .args .end) (z .args .sig) (z .pre .0) a [] [])) (omega (arith, plain-forms (z .args .text .now) (z .args .at) (z .args .end) (z .args .sig) (z .pre .0) a [] []))) in of-plain (z .args .text .now) (z .args .at) (z .args .end) (z .args .sig) (z .pre .0) a _ _ _ _ _ refl refl (sym (c .before .before .before .before .before .before .before .totalities .ensures .0 (z .args .text .now)) ∙ c .before .before .before .before .before .before .if1 .taken) (c .before .before .positive .ensures w)
 
-slice-aggregate-positive-3 : tie.Need-slice-aggregate-positive-3
-slice-aggregate-positive-3 c = search needs
-
-slice-aggregate-positive-4 : tie.Need-slice-aggregate-positive-4
-slice-aggregate-positive-4 c = search needs
-
 positive-requires-2 : tie.Need-positive-requires-2
 positive-requires-2 c κs = let z = c .before .before .before .before .before .before .before .before .before .before in let a = formed (z .args .text .now) (z .args .at) (z .args .end) (z .args .sig) (z .pre .0) in let h : totals (chosenOf (z .args .text .now) (z .args .sig)) ≡ 0 → ⊥ = λ e. c .before .before .before .if1 .left (c .before .before .before .before .totalities .ensures .0 (z .args .text .now) ∙ e) in let w = own (top-ready (z .args .text .now) (z .args .at) (z .args .end) (z .args .sig) (0 ∷ 0 ∷ 0 ∷ 0 ∷ []) (0 ∷ 0 ∷ 0 ∷ 0 ∷ []) (rowsFrom (z .args .rows .now) 0 1) (z .pre .0) a (rows-many (z .args .rows .now) 0 1) (omega (arith, plain-forms (z .args .text .now) (z .args .at) (z .args .end) (z .args .sig) (z .pre .0) a [] [])) (omega (arith, joined-forms (z .args .text .now) (z .args .at) (z .args .end) (z .args .sig) (z .pre .0) a [] [] h))) in let p : length (z .args .sig .from) ≡ 12 = search needs in let q : length (z .args .sig .to) ≡ 12 = search needs in ((omega arith, omega arith, z .pre .1), w)
 
 totalities-requires-2 : tie.Need-totalities-requires-2
 totalities-requires-2 c κs = let z = c .before .before .before .before .before .before .before .before .before .before .before .before .before .before in let a = formed (z .args .text .now) (z .args .at) (z .args .end) (z .args .sig) (z .pre .0) in let h : totals (chosenOf (z .args .text .now) (z .args .sig)) ≡ 0 → ⊥ = λ e. c .before .before .before .before .before .before .before .if1 .left (c .before .before .before .before .before .before .before .before .totalities .ensures .0 (z .args .text .now) ∙ e) in let w = own (top-ready (z .args .text .now) (z .args .at) (z .args .end) (z .args .sig) (0 ∷ 0 ∷ 0 ∷ 0 ∷ []) (0 ∷ 0 ∷ 0 ∷ 0 ∷ []) (rowsFrom (z .args .rows .now) 0 1) (z .pre .0) a (rows-many (z .args .rows .now) 0 1) (omega (arith, plain-forms (z .args .text .now) (z .args .at) (z .args .end) (z .args .sig) (z .pre .0) a [] [])) (omega (arith, joined-forms (z .args .text .now) (z .args .at) (z .args .end) (z .args .sig) (z .pre .0) a [] [] h))) in let W = c .before .before .before .positive2 .ensures w in ((omega (arith, (z .pre .0) .sound .rels-le, (z .pre .0) .sound .chosen-le), c .before .before .before .positive2 .kept .1 .1 .1 .1 .1 .1 .0 ∙ z .pre .1), λ q. (omega (arith, walked-len true (a .f) _ _ W, joined-forms (z .args .text .now) (z .args .at) (z .args .end) (z .args .sig) (z .pre .0) a [] [] h, c .before .before .before .before .before .before .before .before .totalities .ensures .0 q, c .before .before .before .before .before .before .before .before .totalities .ensures .0 (z .args .text .now)), omega (arith, walked-nodes true (a .f) _ _ W, joined-forms (z .args .text .now) (z .args .at) (z .args .end) (z .args .sig) (z .pre .0) a [] [] h, c .before .before .before .before .before .before .before .before .totalities .ensures .0 q, c .before .before .before .before .before .before .before .before .totalities .ensures .0 (z .args .text .now))))
-
-add-join-row : tie.Need-add-join-row
-add-join-row c = search needs
-
-join-row-requires : tie.Need-join-row-requires
-join-row-requires c κs = search needs
 
 put-row-requires : tie.Need-put-row-requires
 put-row-requires c κs = let z = c .before .before .before .before .before .before .before .before .before .before .before .before .before .before .before .before .before .before .before in let a = formed (z .args .text .now) (z .args .at) (z .args .end) (z .args .sig) (z .pre .0) in let h : totals (chosenOf (z .args .text .now) (z .args .sig)) ≡ 0 → ⊥ = λ e. c .before .before .before .before .before .before .before .before .before .before .before .before .if1 .left (c .before .before .before .before .before .before .before .before .before .before .before .before .before .totalities .ensures .0 (z .args .text .now) ∙ e) in let w = own (top-ready (z .args .text .now) (z .args .at) (z .args .end) (z .args .sig) (0 ∷ 0 ∷ 0 ∷ 0 ∷ []) (0 ∷ 0 ∷ 0 ∷ 0 ∷ []) (rowsFrom (z .args .rows .now) 0 1) (z .pre .0) a (rows-many (z .args .rows .now) 0 1) (omega (arith, plain-forms (z .args .text .now) (z .args .at) (z .args .end) (z .args .sig) (z .pre .0) a [] [])) (omega (arith, joined-forms (z .args .text .now) (z .args .at) (z .args .end) (z .args .sig) (z .pre .0) a [] [] h))) in let W = c .before .before .before .before .before .before .before .before .positive2 .ensures w in (c .before .before .before .before .totalities2 .kept .0 ∙ c .before .before .before .before .before .before .before .before .positive2 .kept .1 .1 .1 .1 .1 .1 .0 ∙ z .pre .1, omega (arith, joined-space (z .args .text .now) (z .args .at) (z .args .end) (z .args .sig) (z .pre .0) a (0 ∷ 0 ∷ 0 ∷ 0 ∷ []) (0 ∷ 0 ∷ 0 ∷ 0 ∷ []) h (rowsFrom (z .args .rows .now) 0 0) _ _ _ refl refl (rows-many (z .args .rows .now) 0 0) W (c .before .before .before .before .totalities2 .ensures (z .args .text .now))))
@@ -70,19 +46,19 @@ pub rows-of-spec : {M : Type 1} → statement M
 rows-of-spec =
     tie.close
     (tie.spec
-    add-m
-    totalities-requires
-    slice-aggregate-positive
-    slice-aggregate-positive-2
+    (λ c. search needs)
+    (λ c κs. search needs)
+    (λ c. search needs)
+    (λ c. search needs)
     positive-requires
     same-length
     returns
-    slice-aggregate-positive-3
-    slice-aggregate-positive-4
+    (λ c. search needs)
+    (λ c. search needs)
     positive-requires-2
     totalities-requires-2
-    add-join-row
-    join-row-requires
+    (λ c. search needs)
+    (λ c κs. search needs)
     put-row-requires
     add-t32
     same-length-2

@@ -36,9 +36,6 @@ totality-by-kind-requires c κs = (left-space _ _ _ _ (c .before .before .before
 add-i : tie.Need-add-i Inv-loop μ-loop
 add-i c = omega (arith, c .before .before .before .before .before .before .loop .inv .1, c .before .before .before .before .before .before .before .before .pre .0 .0)
 
-loop-less : tie.Need-loop-less Inv-loop μ-loop
-loop-less c = omega arith
-
 loop-again : tie.Need-loop-again Inv-loop μ-loop
 loop-again c = (omega arith, c .before .before .before .before .before .before .loop .inv .1, left-again _ _ _ _ (c .before .before .before .before .before .before .loop .inv .2) (omega (arith, c .before .before .before .before .before .before .loop .inv .1)) _ (c .before .before .totality-by-kind .ensures), c .before .before .totality-by-kind .kept .0 ∙ c .before .before .before .before .before .before .loop .inv .3)
 
@@ -61,7 +58,7 @@ totalities-spec =
     add-totality-by-kind
     totality-by-kind-requires
     add-i
-    loop-less
+    (λ c. omega arith)
     loop-again
     same-length
     returns)

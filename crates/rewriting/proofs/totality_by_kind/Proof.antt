@@ -6,23 +6,8 @@ use borrow.Author.Needs.{needs}
 use Rattle.rewriting.proofs.totality_by_kind.Statement.{statement}
 use Rattle.rewriting.proofs.totality_by_kind.Tie as tie
 
-total-requires : tie.Need-total-requires
-total-requires c κs = search needs
-
 returns : tie.Need-returns
 returns c = one-none (c .before .before .before .args .kind) (c .before .before .before .args .relation) _ (rows-many (c .before .before .before .args .rows .now) (c .before .before .before .args .len) (c .before .before .before .args .nodes)) (sym (c .before .total .ensures) ∙ c .if1 .taken)
-
-totality-requires : tie.Need-totality-requires
-totality-requires c κs = search needs
-
-add-t6 : tie.Need-add-t6
-add-t6 c = search needs
-
-add-t11 : tie.Need-add-t11
-add-t11 c = search needs
-
-same-length : tie.Need-same-length
-same-length c = search needs
 
 returns-2 : tie.Need-returns-2
 returns-2 c = one-some (c .before .before .before .before .before .before .before .args .kind) (c .before .before .before .before .before .before .before .args .relation) _ _ (λ e. c .before .before .before .before .if1 .left (c .before .before .before .before .before .total .ensures ∙ e)) (c .before .before .totality .ensures)
@@ -30,4 +15,4 @@ returns-2 c = one-some (c .before .before .before .before .before .before .befor
 pub totality-by-kind-spec : {M : Type 1} → statement M
 totality-by-kind-spec =
     tie.close
-    (tie.spec total-requires returns totality-requires add-t6 add-t11 same-length returns-2)
+    (tie.spec (λ c κs. search needs) returns (λ c κs. search needs) (λ c. search needs) (λ c. search needs) (λ c. search needs) returns-2)

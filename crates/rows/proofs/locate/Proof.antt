@@ -27,15 +27,6 @@ loop-holds c =
     let q = locate-start (c .args .table .now) (c .args .at) (c .args .stride) (c .args .count) (c .args .k) (c .pre .1) (c .pre .2) in
     (q .0, omega arith, q .1, c .pre .2)
 
-add-loop : tie.Need-add-loop Inv-loop μ-loop
-add-loop c = search needs
-
-sub-mid : tie.Need-sub-mid Inv-loop μ-loop
-sub-mid c = search needs
-
-add-mid : tie.Need-add-mid Inv-loop μ-loop
-add-mid c = search needs
-
 mul-if1 : tie.Need-mul-if1 Inv-loop μ-loop
 mul-if1 c = omega (arith, in-range c)
 
@@ -48,14 +39,8 @@ mul-if1-2 c = omega (arith, in-range c)
 shared-slice-read-if1 : tie.Need-shared-slice-read-if1 Inv-loop μ-loop
 shared-slice-read-if1 c = omega (arith, in-range (c .before))
 
-loop-less : tie.Need-loop-less Inv-loop μ-loop
-loop-less c = omega arith
-
 loop-again : tie.Need-loop-again Inv-loop μ-loop
 loop-again c = (omega arith, omega arith, c .before .before .before .loop .inv .2, c .if1 .taken)
-
-loop-less-2 : tie.Need-loop-less-2 Inv-loop μ-loop
-loop-less-2 c = omega arith
 
 loop-again-2 : tie.Need-loop-again-2 Inv-loop μ-loop
 loop-again-2 c = (omega arith, c .before .before .before .loop .inv .1, c .if1 .left, c .before .before .before .loop .inv .3)
@@ -72,15 +57,15 @@ locate-spec =
     Inv-loop
     μ-loop
     loop-holds
-    add-loop
-    sub-mid
-    add-mid
+    (λ c. search needs)
+    (λ c. search needs)
+    (λ c. search needs)
     mul-if1
     add-if1
     mul-if1-2
     shared-slice-read-if1
-    loop-less
+    (λ c. omega arith)
     loop-again
-    loop-less-2
+    (λ c. omega arith)
     loop-again-2
     returns)

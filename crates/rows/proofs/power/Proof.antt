@@ -21,12 +21,6 @@ loop-holds c = (omega arith, pow-first (c .args .n))
 mul-r : tie.Need-mul-r Inv-loop μ-loop
 mul-r c = omega (arith, pow-next (c .before .before .args .n) (c .before .loop .i) (c .before .loop .r) (c .before .loop .inv .1), pow-below (c .before .before .args .n) (c .before .loop .i) (c .before .before .args .k) (2 ^ 64) (c .before .before .pre .0) (c .loop-test .taken) (c .before .before .pre .1))
 
-add-i : tie.Need-add-i Inv-loop μ-loop
-add-i c = search needs
-
-loop-less : tie.Need-loop-less Inv-loop μ-loop
-loop-less c = search needs
-
 loop-again : tie.Need-loop-again Inv-loop μ-loop
 loop-again c = (omega arith, pow-next (c .before .before .args .n) (c .before .loop .i) (c .before .loop .r) (c .before .loop .inv .1))
 
@@ -37,4 +31,4 @@ returns c =
 
 pub power-spec : {M : Type 1} → statement M
 power-spec =
-    tie.close (tie.spec Inv-loop μ-loop loop-holds mul-r add-i loop-less loop-again returns)
+    tie.close (tie.spec Inv-loop μ-loop loop-holds mul-r (λ c. search needs) (λ c. search needs) loop-again returns)

@@ -10,26 +10,14 @@ use Rattle.rows.proofs.times.Tie as tie
 use Rattle.rows.proofs.times.Reads as reads
 use Rattle.rows.proofs.times.Lts as lts
 
-array-read-t6 : tie.Need-array-read-t6
-array-read-t6 c = search needs
-
 mul-t7 : tie.Need-mul-t7
 mul-t7 c = omega (arith, times-most (getD (c .args .t1) 0 0) (c .args .n) (c .pre .1 0) (c .pre .0))
-
-array-read-t10 : tie.Need-array-read-t10
-array-read-t10 c = search needs
 
 mul-t11 : tie.Need-mul-t11
 mul-t11 c = omega (arith, times-most (getD (c .args .t1) 1 0) (c .args .n) (c .pre .1 1) (c .pre .0))
 
-array-read-t14 : tie.Need-array-read-t14
-array-read-t14 c = search needs
-
 mul-t15 : tie.Need-mul-t15
 mul-t15 c = omega (arith, times-most (getD (c .args .t1) 2 0) (c .args .n) (c .pre .1 2) (c .pre .0))
-
-array-read-t18 : tie.Need-array-read-t18
-array-read-t18 c = search needs
 
 mul-t19 : tie.Need-mul-t19
 mul-t19 c = omega (arith, times-most (getD (c .args .t1) 3 0) (c .args .n) (c .pre .1 3) (c .pre .0))
@@ -43,12 +31,12 @@ pub times-spec : {M : Type 1} → statement M
 times-spec =
     tie.close
     (tie.spec
-    array-read-t6
+    (λ c. search needs)
     mul-t7
-    array-read-t10
+    (λ c. search needs)
     mul-t11
-    array-read-t14
+    (λ c. search needs)
     mul-t15
-    array-read-t18
+    (λ c. search needs)
     mul-t19
     returns)

@@ -23,29 +23,11 @@ abbrev μ-loop : tie.MeasureT-loop
 loop-holds : tie.Need-loop-holds Inv-loop μ-loop
 loop-holds c = (omega arith, refl, rest-none (c .args .n) (c .args .row) (c .args .width), values-none (c .args .n) (c .args .row) (c .args .width) (c .args .t2), within-zeros (c .args .n) (omega arith))
 
-sub-i : tie.Need-sub-i Inv-loop μ-loop
-sub-i c = search needs
-
-rem-out : tie.Need-rem-out Inv-loop μ-loop
-rem-out c = search needs
-
-mul-out : tie.Need-mul-out Inv-loop μ-loop
-mul-out c = search needs
-
-array-read-out : tie.Need-array-read-out Inv-loop μ-loop
-array-read-out c = search needs
-
 mul-out-2 : tie.Need-mul-out-2 Inv-loop μ-loop
 mul-out-2 c = omega (arith, c .before .before .pre .1 (c .before .loop .i - 1))
 
 array-write-out : tie.Need-array-write-out Inv-loop μ-loop
 array-write-out c = omega (arith, c .before .before .pre .1 (c .before .loop .i - 1))
-
-div-rest : tie.Need-div-rest Inv-loop μ-loop
-div-rest c = search needs
-
-loop-less : tie.Need-loop-less Inv-loop μ-loop
-loop-less c = search needs
 
 loop-again : tie.Need-loop-again Inv-loop μ-loop
 loop-again c =
@@ -67,13 +49,13 @@ values-of-spec =
     Inv-loop
     μ-loop
     loop-holds
-    sub-i
-    rem-out
-    mul-out
-    array-read-out
+    (λ c. search needs)
+    (λ c. search needs)
+    (λ c. search needs)
+    (λ c. search needs)
     mul-out-2
     array-write-out
-    div-rest
-    loop-less
+    (λ c. search needs)
+    (λ c. search needs)
     loop-again
     returns)

@@ -26,12 +26,6 @@ times-requires c κs =
     let len : length (c .before .before .args .t2) ≡ 4 = search needs in
     (omega arith, λ l. omega (arith, value-most (c .before .loop .w) (weightOf (c .before .before .args .n) (take (c .before .loop .i) (c .before .before .args .t2))) (65 ^ 4) (c .before .loop .inv .2) (weight-most (c .before .before .args .n) (c .before .loop .i) (c .before .before .args .t2) (omega arith) (omega arith) (omega arith) (omega arith)) l))
 
-array-read-l : tie.Need-array-read-l Inv-loop μ-loop
-array-read-l c = search needs
-
-cast-l : tie.Need-cast-l Inv-loop μ-loop
-cast-l c = search needs
-
 mul-w : tie.Need-mul-w Inv-loop μ-loop
 mul-w c = omega (arith, c .before .before .before .pre .1 (c .before .before .loop .i))
 
@@ -53,12 +47,6 @@ array-write-w : tie.Need-array-write-w Inv-loop μ-loop
 array-write-w c =
     let e = ap length (c .times .ensures) in
     omega (arith, c .before .before .before .pre .1 (c .before .before .loop .i), e, length-map (c .before .before .loop .w) (λ (x : ℕ). x * c .before .before .before .args .n))
-
-add-i : tie.Need-add-i Inv-loop μ-loop
-add-i c = search needs
-
-loop-less : tie.Need-loop-less Inv-loop μ-loop
-loop-less c = search needs
 
 loop-again : tie.Need-loop-again Inv-loop μ-loop
 loop-again c =
@@ -84,13 +72,13 @@ weights-spec =
     μ-loop
     loop-holds
     times-requires
-    array-read-l
-    cast-l
+    (λ c. search needs)
+    (λ c. search needs)
     mul-w
     array-read-w
     add-w
     array-write-w
-    add-i
-    loop-less
+    (λ c. search needs)
+    (λ c. search needs)
     loop-again
     returns)

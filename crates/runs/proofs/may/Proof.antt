@@ -13,21 +13,12 @@ use Rattle.decode.proofs.action_at.Reads as action-at-reads
 use Rattle.ground.proofs.may_take.Reads as may-take-reads
 use Rattle.runs.proofs.is_nothing.Reads as is-nothing-reads
 
-action-at-requires : tie.Need-action-at-requires
-action-at-requires c κs = search needs
-
-is-nothing-requires : tie.Need-is-nothing-requires
-is-nothing-requires c κs = search needs
-
 returns : tie.Need-returns
 returns c = λ p is. may-none p (c .before .before .before .before .before .args .table .now) is (bit (c .before .before .before .before .before .args .state .now)) 0 (c .before .before .before .before .before .args .number) [] (c .before .before .action-at .result) (c .before .before .action-at .ensures .1 p is) (sym (c .before .is-nothing .ensures) ∙ c .if1 .taken)
-
-may-take-requires : tie.Need-may-take-requires
-may-take-requires c κs = search needs
 
 returns-2 : tie.Need-returns-2
 returns-2 c = λ p is. may-some p (c .before .before .before .before .before .before .args .table .now) is (bit (c .before .before .before .before .before .before .args .state .now)) 0 (c .before .before .before .before .before .before .args .number) [] (c .before .before .before .action-at .result) (c .before .before .before .action-at .ensures .1 p is) (c .may-take .result) (sym (c .before .before .is-nothing .ensures) ∙ c .before .if1 .left) (c .may-take .ensures)
 
 pub may-spec : {M : Type 1} → statement M
 may-spec =
-    tie.close (tie.spec action-at-requires is-nothing-requires returns may-take-requires returns-2)
+    tie.close (tie.spec (λ c κs. search needs) (λ c κs. search needs) returns (λ c κs. search needs) returns-2)

@@ -31,23 +31,8 @@ abbrev μ-loop : tie.MeasureT-loop
 loop-holds : tie.Need-loop-holds Inv-loop μ-loop
 loop-holds c = (omega arith, refl, λ p is h. refl)
 
-mul-k : tie.Need-mul-k Inv-loop μ-loop
-mul-k c = search needs
-
-shared-slice-read-k : tie.Need-shared-slice-read-k Inv-loop μ-loop
-shared-slice-read-k c = search needs
-
 cast-k : tie.Need-cast-k Inv-loop μ-loop
 cast-k c = omega (arith, c .shared-slice-known3 .given (c .before .before .loop .i))
-
-action-at-requires : tie.Need-action-at-requires Inv-loop μ-loop
-action-at-requires c κs = search needs
-
-is-nothing-requires : tie.Need-is-nothing-requires Inv-loop μ-loop
-is-nothing-requires c κs = search needs
-
-same-length : tie.Need-same-length Inv-loop μ-loop
-same-length c = search needs
 
 returns : tie.Need-returns Inv-loop μ-loop
 returns c = λ p is h.
@@ -56,27 +41,12 @@ returns c = λ p is h.
     ∙ none-run p (c .before .before .before .before .before .before .before .before .before .args .table .now) is (bit (c .before .before .before .before .before .loop .state)) (c .before .before .before .before .before .loop .i) (getD (c .before .before .before .before .before .before .before .before .before .args .steps .now) (c .before .before .before .before .before .loop .i) 0) (drop (suc (c .before .before .before .before .before .loop .i)) (c .before .before .before .before .before .before .before .before .before .args .steps .now)) (c .before .before .action-at .result) (c .before .before .action-at .ensures .1 p is) (sym (c .before .is-nothing .ensures) ∙ c .if1 .taken))
     (end-no-action (c .before .before .before .before .before .loop .i))
 
-may-take-requires : tie.Need-may-take-requires Inv-loop μ-loop
-may-take-requires c κs = search needs
-
-take-requires : tie.Need-take-requires Inv-loop μ-loop
-take-requires c κs = search needs
-
-same-length-2 : tie.Need-same-length-2 Inv-loop μ-loop
-same-length-2 c = search needs
-
 returns-2 : tie.Need-returns-2 Inv-loop μ-loop
 returns-2 c = λ p is h.
     answer-is (runFrom p (bit (c .before .before .before .before .before .before .before .before .before .before .before .before .args .state .now)) 0 (c .before .before .before .before .before .before .before .before .before .before .before .before .args .steps .now)) (NotNow (c .before .before .before .before .before .before .before .before .loop .i)) (bit (c .before .before .before .before .before .before .before .before .loop .state)) (refused 14 (c .before .before .before .before .before .before .before .before .loop .i))
     (c .before .before .before .before .before .before .before .before .loop .inv .2 p is h ∙ left-run p (bit (c .before .before .before .before .before .before .before .before .loop .state)) (c .before .before .before .before .before .before .before .before .loop .i) (c .before .before .before .before .before .before .before .before .before .before .before .before .args .steps .now) (omega arith)
     ∙ not-run p (c .before .before .before .before .before .before .before .before .before .before .before .before .args .table .now) is (bit (c .before .before .before .before .before .before .before .before .loop .state)) (c .before .before .before .before .before .before .before .before .loop .i) (getD (c .before .before .before .before .before .before .before .before .before .before .before .before .args .steps .now) (c .before .before .before .before .before .before .before .before .loop .i) 0) (drop (suc (c .before .before .before .before .before .before .before .before .loop .i)) (c .before .before .before .before .before .before .before .before .before .before .before .before .args .steps .now)) (c .before .before .before .before .before .action-at .result) (c .before .before .before .before .before .action-at .ensures .1 p is) (sym (c .before .before .before .before .is-nothing .ensures) ∙ c .before .before .before .if1 .left) (sym (c .if2 .left) ∙ c .before .may-take .ensures))
     (end-not-now (c .before .before .before .before .before .before .before .before .loop .i))
-
-add-i : tie.Need-add-i Inv-loop μ-loop
-add-i c = search needs
-
-loop-less : tie.Need-loop-less Inv-loop μ-loop
-loop-less c = search needs
 
 loop-again : tie.Need-loop-again Inv-loop μ-loop
 loop-again c = (
@@ -88,20 +58,11 @@ loop-again c = (
       ∙ ap (λ (m : ℕ). runFrom p (bit (c .before .before .take .last .0)) m (drop m (c .before .before .before .before .before .before .before .before .before .before .before .before .before .before .before .before .args .steps .now))) (sym (add-one (c .before .before .before .before .before .before .before .before .before .before .before .before .loop .i))),
 )
 
-test-requires : tie.Need-test-requires Inv-loop μ-loop
-test-requires c κs = search needs
-
-same-length-3 : tie.Need-same-length-3 Inv-loop μ-loop
-same-length-3 c = search needs
-
 returns-3 : tie.Need-returns-3 Inv-loop μ-loop
 returns-3 c = λ p is h.
     answer-is (runFrom p (bit (c .before .before .before .before .before .before .before .before .args .state .now)) 0 (c .before .before .before .before .before .before .before .before .args .steps .now)) (Done (c .before .before .before .before .loop .i)) (bit (c .before .before .before .before .loop .state)) (accepted (c .before .before .before .before .loop .i))
     (c .before .before .before .before .loop .inv .2 p is h ∙ end-run p (bit (c .before .before .before .before .loop .state)) (c .before .before .before .before .loop .i) (c .before .before .before .before .before .before .before .before .args .steps .now) (omega arith) ∙ run-done p (bit (c .before .before .before .before .loop .state)) (c .before .before .before .before .loop .i) (sym (c .before .test .ensures) ∙ c .if3 .taken))
     (end-done (c .before .before .before .before .loop .i))
-
-same-length-4 : tie.Need-same-length-4 Inv-loop μ-loop
-same-length-4 c = search needs
 
 returns-4 : tie.Need-returns-4 Inv-loop μ-loop
 returns-4 c = λ p is h.
@@ -116,22 +77,22 @@ run-spec =
     Inv-loop
     μ-loop
     loop-holds
-    mul-k
-    shared-slice-read-k
+    (λ c. search needs)
+    (λ c. search needs)
     cast-k
-    action-at-requires
-    is-nothing-requires
-    same-length
+    (λ c κs. search needs)
+    (λ c κs. search needs)
+    (λ c. search needs)
     returns
-    may-take-requires
-    take-requires
-    same-length-2
+    (λ c κs. search needs)
+    (λ c κs. search needs)
+    (λ c. search needs)
     returns-2
-    add-i
-    loop-less
+    (λ c. search needs)
+    (λ c. search needs)
     loop-again
-    test-requires
-    same-length-3
+    (λ c κs. search needs)
+    (λ c. search needs)
     returns-3
-    same-length-4
+    (λ c. search needs)
     returns-4)

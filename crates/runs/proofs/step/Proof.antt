@@ -12,17 +12,8 @@ use Rattle.runs.proofs.step.Lts as lts
 use Rattle.decode.proofs.action_at.Reads as action-at-reads
 use Rattle.ground.proofs.take.Reads as take-reads
 
-action-at-requires : tie.Need-action-at-requires
-action-at-requires c κs = search needs
-
-take-requires : tie.Need-take-requires
-take-requires c κs = search needs
-
-same-length : tie.Need-same-length
-same-length c = search needs
-
 returns : tie.Need-returns
 returns c = λ p x is room y. step-is p (c .before .before .before .before .before .before .before .args .table .now) is (bit (c .before .before .before .before .before .before .before .args .state .now)) 0 (c .before .before .before .before .before .before .before .args .number) [] (c .before .before .before .before .action-at .result) (c .before .before .before .before .action-at .ensures .1 p is) x (bit (c .before .before .take .last .0)) (length (c .before .before .before .before .before .before .before .args .state .now)) y room (c .before .before .take .ensures)
 
 pub step-spec : {M : Type 1} → statement M
-step-spec = tie.close (tie.spec action-at-requires take-requires same-length returns)
+step-spec = tie.close (tie.spec (λ c κs. search needs) (λ c κs. search needs) (λ c. search needs) returns)

@@ -44,9 +44,6 @@ add-word c = omega (arith, c .before .before .before .before .before .before .be
 add-r : tie.Need-add-r Inv-loop μ-loop
 add-r c = omega (arith, c .before .before .before .before .before .before .before .before .before .before .before .before .before .before .before .before .pre .relations)
 
-loop-less : tie.Need-loop-less Inv-loop μ-loop
-loop-less c = omega arith
-
 loop-again : tie.Need-loop-again Inv-loop μ-loop
 loop-again c = (
   omega arith,
@@ -62,12 +59,6 @@ loop-again c = (
             (c .before .before .before .before .before .set-relation .ensures .1 p (record { is = R .is; room = omega (arith, R .room, c .before .before .before .before .before .before .before .before .before .before .before .loop .inv .3); few = R .few }) l (c .before .before .before .before .before .before .before .before .relation-line .ensures)),
       ),
 )
-
-same-length : tie.Need-same-length Inv-loop μ-loop
-same-length c = search needs
-
-same-length-2 : tie.Need-same-length-2 Inv-loop μ-loop
-same-length-2 c = search needs
 
 returns : tie.Need-returns Inv-loop μ-loop
 returns c = (omega (arith, c .before .before .before .before .before .before .before .pre .relations), λ p R. c .before .before .loop .inv .5 p R .1 ∙ relations-end p (rowsIn p (c .before .before .before .before .before .before .before .args .picks .now)) (out (bit (c .before .before .loop .state)) (c .before .before .loop .steps) (c .before .before .loop .k)) (c .before .before .loop .r) (length (p .relations)) (omega (arith, R .is .relations)))
@@ -86,8 +77,8 @@ set-picks-spec =
     words-in-requires
     add-word
     add-r
-    loop-less
+    (λ c. omega arith)
     loop-again
-    same-length
-    same-length-2
+    (λ c. search needs)
+    (λ c. search needs)
     returns)

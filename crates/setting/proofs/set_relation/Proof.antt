@@ -10,17 +10,8 @@ use Rattle.setting.proofs.set_relation.Tie as tie
 returns : tie.Need-returns
 returns c = (omega arith, λ p R l e. relation-no p (c .before .before .before .before .before .before .args .table .now) (R .is) (c .before .before .before .before .before .before .args .relation) l (c .before .before .before .before .before .before .args .line) e (λ (i : ℕ). bit (c .before .before .before .before .before .before .args .picks .now) (c .before .before .before .before .before .before .args .start + i)) (out (bit (c .before .before .before .before .before .before .args .state .now)) (c .before .before .before .before .before .before .args .steps .now) (c .before .before .before .before .before .before .args .at)) (omega arith))
 
-tuples-in-requires : tie.Need-tuples-in-requires
-tuples-in-requires c κs = search needs
-
 set-rows-requires : tie.Need-set-rows-requires
 set-rows-requires c κs = (c .before .before .before .before .before .before .before .before .before .pre .0, c .before .before .before .before .before .before .before .before .before .pre .1, omega (arith, c .before .before .tuples-in .ensures), c .before .before .before .before .before .before .before .before .before .pre .3, c .before .before .before .before .before .before .before .before .before .pre .4)
-
-same-length : tie.Need-same-length
-same-length c = search needs
-
-same-length-2 : tie.Need-same-length-2
-same-length-2 c = search needs
 
 returns-2 : tie.Need-returns-2
 returns-2 c = (
@@ -31,4 +22,4 @@ returns-2 c = (
 pub set-relation-spec : {M : Type 1} → statement M
 set-relation-spec =
     tie.close
-    (tie.spec returns tuples-in-requires set-rows-requires same-length same-length-2 returns-2)
+    (tie.spec returns (λ c κs. search needs) set-rows-requires (λ c. search needs) (λ c. search needs) returns-2)

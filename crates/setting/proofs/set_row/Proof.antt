@@ -9,20 +9,11 @@ use borrow.Author.Needs.{needs}
 use Rattle.setting.proofs.set_row.Statement.{statement}
 use Rattle.setting.proofs.set_row.Tie as tie
 
-relation-line-requires : tie.Need-relation-line-requires
-relation-line-requires c κs = search needs
-
 add-step : tie.Need-add-step
 add-step c = omega (arith, words-few (c .before .before .before .before .before .before .before .before .args .table .now) (c .before .before .before .before .before .before .before .before .args .relation) (c .before .before .before .before .before .before .before .before .pre .0) (c .before .before .before .relation-line .result) (c .before .before .before .relation-line .ensures) .0)
 
 step-requires : tie.Need-step-requires
 step-requires c κs = ((c .before .before .before .before .before .before .before .before .pre .0, c .before .before .before .before .before .before .before .before .pre .3), (c .before .before .before .before .before .before .before .before .pre .1, omega arith))
-
-same-length : tie.Need-same-length
-same-length c = search needs
-
-same-length-2 : tie.Need-same-length-2
-same-length-2 c = search needs
 
 returns : tie.Need-returns
 returns c = (
@@ -38,10 +29,10 @@ pub set-row-spec : {M : Type 1} → statement M
 set-row-spec =
     tie.close
     (tie.spec
-    relation-line-requires
+    (λ c κs. search needs)
     add-step
     step-requires
-    same-length
-    same-length-2
+    (λ c. search needs)
+    (λ c. search needs)
     returns
     returns-2)

@@ -22,20 +22,8 @@ abbrev μ-loop : tie.MeasureT-loop
 loop-holds : tie.Need-loop-holds Inv-loop μ-loop
 loop-holds c = (omega arith, omega arith, refl, refl, λ p R l t e. rows-start p (c .before .before .before .before .args .relation) (λ (i : ℕ). bit (c .before .before .before .before .args .picks .now) (c .before .before .before .before .args .start + i)) (out (bit (c .before .before .before .before .args .state .now)) (c .before .before .before .before .args .steps .now) (c .before .before .before .before .args .at)) (c .before .before .before .before .args .tuples))
 
-add-test : tie.Need-add-test Inv-loop μ-loop
-add-test c = omega arith
-
-test-requires : tie.Need-test-requires Inv-loop μ-loop
-test-requires c κs = search needs
-
 set-row-requires : tie.Need-set-row-requires Inv-loop μ-loop
 set-row-requires c κs = (c .before .before .before .before .before .before .before .before .before .pre .0, c .before .before .before .before .before .before .before .before .before .pre .1, omega arith, omega arith)
-
-add-row : tie.Need-add-row Inv-loop μ-loop
-add-row c = omega arith
-
-loop-less : tie.Need-loop-less Inv-loop μ-loop
-loop-less c = omega arith
 
 loop-again : tie.Need-loop-again Inv-loop μ-loop
 loop-again c = (
@@ -47,12 +35,6 @@ loop-again c = (
       (c .before .before .before .before .set-row .ensures .1 p (record { is = R .is; room = omega (arith, R .room, c .before .before .before .before .before .before .before .before .before .loop .inv .2); few = R .few }) l t (omega arith)),
 )
 
-same-length : tie.Need-same-length Inv-loop μ-loop
-same-length c = search needs
-
-same-length-2 : tie.Need-same-length-2 Inv-loop μ-loop
-same-length-2 c = search needs
-
 returns : tie.Need-returns Inv-loop μ-loop
 returns c = (omega arith, λ p R l t e. c .before .loop .inv .4 p R l t e ∙ rows-end p (c .before .before .before .before .before .before .args .relation) (λ (i : ℕ). bit (c .before .before .before .before .before .before .args .picks .now) (c .before .before .before .before .before .before .args .start + i)) (out (bit (c .before .loop .state)) (c .before .loop .steps) (c .before .loop .k)) (c .before .loop .row) (c .before .before .before .before .before .before .args .tuples) (omega arith))
 
@@ -63,12 +45,12 @@ set-rows-spec =
     Inv-loop
     μ-loop
     loop-holds
-    add-test
-    test-requires
+    (λ c. omega arith)
+    (λ c κs. search needs)
     set-row-requires
-    add-row
-    loop-less
+    (λ c. omega arith)
+    (λ c. omega arith)
     loop-again
-    same-length
-    same-length-2
+    (λ c. search needs)
+    (λ c. search needs)
     returns)

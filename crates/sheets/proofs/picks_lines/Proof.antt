@@ -21,30 +21,12 @@ returns c = picks-long (c .before .before .before .before .args .q .now) (c .bef
 loop-holds : tie.Need-loop-holds Inv-loop μ-loop
 loop-holds c = (omega arith, omega arith, refl, picks-start (c .before .before .before .before .before .before .before .args .q .now) (c .before .before .before .before .before .before .before .args .g) (c .before .before .before .before .before .before .before .args .n) (c .before .before .before .before .before .before .before .args .s .now) _ (omega arith) (c .before .before .before .before .before .before .before .pre .3))
 
-line-requires : tie.Need-line-requires Inv-loop μ-loop
-line-requires c κs = search needs
-
-slice-aggregate-picks-turn : tie.Need-slice-aggregate-picks-turn Inv-loop μ-loop
-slice-aggregate-picks-turn c = search needs
-
-slice-aggregate-picks-turn-2 : tie.Need-slice-aggregate-picks-turn-2 Inv-loop μ-loop
-slice-aggregate-picks-turn-2 c = search needs
-
-slice-aggregate-picks-turn-3 : tie.Need-slice-aggregate-picks-turn-3 Inv-loop μ-loop
-slice-aggregate-picks-turn-3 c = search needs
-
 picks-turn-requires : tie.Need-picks-turn-requires Inv-loop μ-loop
 picks-turn-requires c κs = let a : length (c .before .before .before .before .before .before .before .before .before .before .before .before .before .before .args .g .from) ≡ 12 = search needs in let b : length (c .before .before .before .before .before .before .before .before .before .before .before .before .before .before .args .g .to) ≡ 12 = search needs in let d : length (c .before .before .before .before .before .before .before .before .before .before .before .before .before .before .args .g .arity) ≡ 12 = search needs in
     (sound-arrays (c .before .before .before .before .before .before .before .before .before .before .before .before .before .before .args .q .now) (c .before .before .before .before .before .before .before .before .before .before .before .before .before .before .args .g) (c .before .before .before .before .before .before .before .before .before .before .before .before .before .before .args .g .rels) (c .before .before .before .before .before .before .before .before .before .before .before .before .before .before .args .g .chosen) (c .before .before .before .before .before .before .before .before .before .before .before .before .before .before .pre .0) (omega arith) a b d, omega (arith, c .before .before .before .before .before .before .loop .inv .2, c .before .before .before .before .before .before .before .before .before .before .before .before .before .before .pre .1, c .before .before .before .before .before .before .before .before .before .before .before .before .before .before .pre .0 .chosen-le), c .before .before .before .before .before .before .before .before .before .before .before .before .before .before .pre .2)
 
-same-length : tie.Need-same-length Inv-loop μ-loop
-same-length c = search needs
-
 returns-2 : tie.Need-returns-2 Inv-loop μ-loop
 returns-2 c = picks-fault (c .before .before .before .before .before .before .before .before .before .before .before .before .before .before .before .before .before .before .args .q .now) (c .before .before .before .before .before .before .before .before .before .before .before .before .before .before .before .before .before .before .args .g) (c .before .before .before .before .before .before .before .before .before .before .before .before .before .before .before .before .before .before .args .n) (c .before .before .before .before .before .before .before .before .before .before .before .before .before .before .before .before .before .before .args .s .now) (c .before .before .before .before .before .before .before .before .before .before .loop .at) (c .before .before .before .before .before .before .before .before .before .before .loop .k) (c .before .before .before .before .before .before .before .before .before .before .loop .table) (c .before .before .before .before .before .before .before .before .before .before .loop .inv .3) (c .before .before .before .before .before .before .before .before .line .result .next) (c .before .before .before .before .before .before .before .before .line .result .entry) (c .before .before .before .before .before .before .before .before .line .ensures .2) _ _ (c .before .before .before .picks-turn .ensures (c .before .before .before .before .before .before .before .before .before .before .before .before .before .before .before .before .before .before .args .g) refl refl) _ (c .if2 .taken)
-
-add-k : tie.Need-add-k Inv-loop μ-loop
-add-k c = omega arith
 
 loop-less : tie.Need-loop-less Inv-loop μ-loop
 loop-less c = omega (arith, c .before .before .before .before .before .before .before .before .line .ensures .0, c .before .before .before .before .before .before .before .before .line .ensures .1)
@@ -66,14 +48,14 @@ picks-lines-spec =
     μ-loop
     returns
     loop-holds
-    line-requires
-    slice-aggregate-picks-turn
-    slice-aggregate-picks-turn-2
-    slice-aggregate-picks-turn-3
+    (λ c κs. search needs)
+    (λ c. search needs)
+    (λ c. search needs)
+    (λ c. search needs)
     picks-turn-requires
-    same-length
+    (λ c. search needs)
     returns-2
-    add-k
+    (λ c. omega arith)
     loop-less
     loop-again
     same-length-2

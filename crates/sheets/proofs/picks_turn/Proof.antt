@@ -7,33 +7,6 @@ use borrow.Author.Needs.{needs}
 use Rattle.sheets.proofs.picks_turn.Statement.{statement}
 use Rattle.sheets.proofs.picks_turn.Tie as tie
 
-enum-told : tie.Need-enum-told
-enum-told c = search needs
-
-enum-told-2 : tie.Need-enum-told-2
-enum-told-2 c = search needs
-
-enum-told-3 : tie.Need-enum-told-3
-enum-told-3 c = search needs
-
-enum-told-4 : tie.Need-enum-told-4
-enum-told-4 c = search needs
-
-enum-told-5 : tie.Need-enum-told-5
-enum-told-5 c = search needs
-
-enum-told-6 : tie.Need-enum-told-6
-enum-told-6 c = search needs
-
-enum-known-x : tie.Need-enum-known-x
-enum-known-x c = search needs
-
-add-requires : tie.Need-add-requires
-add-requires c κs = search needs
-
-enum-told-7 : tie.Need-enum-told-7
-enum-told-7 c = search needs
-
 returns : tie.Need-returns
 returns c = λ g z y. picks-wrong (c .before .before .before .before .before .before .before .before .args .q .now) (withArrays g (c .before .before .before .before .before .before .before .before .args .from .now) (c .before .before .before .before .before .before .before .before .args .to .now) (c .before .before .before .before .before .before .before .before .args .arity .now)) (c .before .before .before .before .before .before .before .before .args .s .now) (c .before .before .before .before .before .before .before .before .args .n) (c .before .before .before .before .before .before .before .before .args .x) _ _ (c .enum-told .given .1)
 
@@ -52,9 +25,6 @@ returns-5 c = λ g z y. picks-size (c .before .before .before .before .before .b
 returns-6 : tie.Need-returns-6
 returns-6 c = λ g z y. picks-fact (c .before .before .before .before .before .before .before .before .args .q .now) (withArrays g (c .before .before .before .before .before .before .before .before .args .from .now) (c .before .before .before .before .before .before .before .before .args .to .now) (c .before .before .before .before .before .before .before .before .args .arity .now)) (c .before .before .before .before .before .before .before .before .args .s .now) (c .before .before .before .before .before .before .before .before .args .n) (c .before .before .before .before .before .before .before .before .args .x) _ _ _ _ _ (c .enum-told6 .given .1)
 
-same-length : tie.Need-same-length
-same-length c = search needs
-
 returns-7 : tie.Need-returns-7
 returns-7 c = λ g z y. picks-pick (c .before .before .before .before .before .before .before .before .before .before .before .before .before .args .q .now) (withArrays g (c .before .before .before .before .before .before .before .before .before .before .before .before .before .args .from .now) (c .before .before .before .before .before .before .before .before .before .before .before .before .before .args .to .now) (c .before .before .before .before .before .before .before .before .before .before .before .before .before .args .arity .now)) (c .before .before .before .before .before .before .before .before .before .before .before .before .before .args .s .now) (c .before .before .before .before .before .before .before .before .before .before .before .before .before .args .n) (c .before .before .before .before .before .before .before .before .before .before .before .before .before .args .x) _ _ _ _ _ (c .before .before .before .before .before .x .given .1) _ (c .before .before .before .before .before .before .before .before .before .before .before .before .before .args .lo) (c .before .before .before .before .before .before .before .before .before .before .before .before .before .args .m) z y (c .before .before .add .ensures g)
 
@@ -65,21 +35,21 @@ pub picks-turn-spec : {M : Type 1} → statement M
 picks-turn-spec =
     tie.close
     (tie.spec
-    enum-told
-    enum-told-2
-    enum-told-3
-    enum-told-4
-    enum-told-5
-    enum-told-6
-    enum-known-x
-    add-requires
-    enum-told-7
+    (λ c. search needs)
+    (λ c. search needs)
+    (λ c. search needs)
+    (λ c. search needs)
+    (λ c. search needs)
+    (λ c. search needs)
+    (λ c. search needs)
+    (λ c κs. search needs)
+    (λ c. search needs)
     returns
     returns-2
     returns-3
     returns-4
     returns-5
     returns-6
-    same-length
+    (λ c. search needs)
     returns-7
     returns-8)

@@ -21,30 +21,9 @@ returns c = site-long (c .before .before .before .before .args .q .now) (c .befo
 loop-holds : tie.Need-loop-holds Inv-loop μ-loop
 loop-holds c = (omega arith, refl, site-start (c .before .before .before .before .before .before .before .args .q .now) (c .before .before .before .before .before .before .before .args .g) (c .before .before .before .before .before .before .before .args .s .now) _ (omega arith) (c .before .before .before .before .before .before .before .pre .2))
 
-line-requires : tie.Need-line-requires Inv-loop μ-loop
-line-requires c κs = search needs
-
-slice-aggregate-site-turn : tie.Need-slice-aggregate-site-turn Inv-loop μ-loop
-slice-aggregate-site-turn c = search needs
-
-slice-aggregate-site-turn-2 : tie.Need-slice-aggregate-site-turn-2 Inv-loop μ-loop
-slice-aggregate-site-turn-2 c = search needs
-
-slice-aggregate-site-turn-3 : tie.Need-slice-aggregate-site-turn-3 Inv-loop μ-loop
-slice-aggregate-site-turn-3 c = search needs
-
 site-turn-requires : tie.Need-site-turn-requires Inv-loop μ-loop
 site-turn-requires c κs = let a : length (c .before .before .before .before .before .before .before .before .before .before .before .before .before .before .args .g .from) ≡ 12 = search needs in let b : length (c .before .before .before .before .before .before .before .before .before .before .before .before .before .before .args .g .to) ≡ 12 = search needs in let d : length (c .before .before .before .before .before .before .before .before .before .before .before .before .before .before .args .g .arity) ≡ 12 = search needs in
     (sound-arrays (c .before .before .before .before .before .before .before .before .before .before .before .before .before .before .args .q .now) (c .before .before .before .before .before .before .before .before .before .before .before .before .before .before .args .g) 0 (c .before .before .before .before .before .before .before .before .before .before .before .before .before .before .args .g .rels) (c .before .before .before .before .before .before .before .before .before .before .before .before .before .before .pre .0) (omega arith) a b d, omega (arith, c .before .before .before .before .before .before .loop .inv .1, c .before .before .before .before .before .before .before .before .before .before .before .before .before .before .pre .1, c .before .before .before .before .before .before .before .before .before .before .before .before .before .before .pre .0 .rels-le), size-small (c .before .before .before .before .before .before .before .before .before .before .before .before .before .before .args .q .now) (c .before .before .before .before .before .before .before .before .before .before .before .before .before .before .args .g) (c .before .before .before .before .before .before .before .before .before .before .before .before .before .before .args .s .now) (c .before .before .before .before .before .before .loop .at) (c .before .before .before .before .before .before .loop .n) (c .before .before .before .before .before .before .loop .table) (c .before .before .before .before .before .before .loop .inv .2))
-
-enum-known-t : tie.Need-enum-known-t Inv-loop μ-loop
-enum-known-t c = search needs
-
-enum-known-t-2 : tie.Need-enum-known-t-2 Inv-loop μ-loop
-enum-known-t-2 c = search needs
-
-same-length : tie.Need-same-length Inv-loop μ-loop
-same-length c = search needs
 
 returns-2 : tie.Need-returns-2 Inv-loop μ-loop
 returns-2 c = site-fault (c .before .before .before .before .before .before .before .before .before .before .before .before .before .before .before .before .before .before .before .before .args .q .now) (c .before .before .before .before .before .before .before .before .before .before .before .before .before .before .before .before .before .before .before .before .args .g) (c .before .before .before .before .before .before .before .before .before .before .before .before .before .before .before .before .before .before .before .before .args .s .now) (c .before .before .before .before .before .before .before .before .before .before .before .before .loop .at) (c .before .before .before .before .before .before .before .before .before .before .before .before .loop .n) (c .before .before .before .before .before .before .before .before .before .before .before .before .loop .table) (c .before .before .before .before .before .before .before .before .before .before .before .before .loop .inv .2) (c .before .before .before .before .before .before .before .before .before .before .line .result .next) (c .before .before .before .before .before .before .before .before .before .before .line .result .entry) (c .before .before .before .before .before .before .before .before .before .before .line .ensures .2) _ _ (c .before .before .before .before .before .site-turn .ensures (c .before .before .before .before .before .before .before .before .before .before .before .before .before .before .before .before .before .before .before .before .args .g) refl) _ _ (c .before .t2 .given .1)
@@ -75,14 +54,14 @@ site-lines-spec =
     μ-loop
     returns
     loop-holds
-    line-requires
-    slice-aggregate-site-turn
-    slice-aggregate-site-turn-2
-    slice-aggregate-site-turn-3
+    (λ c κs. search needs)
+    (λ c. search needs)
+    (λ c. search needs)
+    (λ c. search needs)
     site-turn-requires
-    enum-known-t
-    enum-known-t-2
-    same-length
+    (λ c. search needs)
+    (λ c. search needs)
+    (λ c. search needs)
     returns-2
     loop-less
     loop-again

@@ -8,21 +8,6 @@ use borrow.Author.Needs.{needs}
 use Rattle.sheets.proofs.site_turn.Statement.{statement}
 use Rattle.sheets.proofs.site_turn.Tie as tie
 
-enum-told : tie.Need-enum-told
-enum-told c = search needs
-
-enum-told-2 : tie.Need-enum-told-2
-enum-told-2 c = search needs
-
-enum-told-3 : tie.Need-enum-told-3
-enum-told-3 c = search needs
-
-enum-told-4 : tie.Need-enum-told-4
-enum-told-4 c = search needs
-
-enum-known-x : tie.Need-enum-known-x
-enum-known-x c = search needs
-
 returns : tie.Need-returns
 returns c = λ g z. size-again (c .before .before .before .before .before .before .before .before .before .before .args .q .now) (withArrays g (c .before .before .before .before .before .before .before .before .before .before .args .from .now) (c .before .before .before .before .before .before .before .before .before .before .args .to .now) (c .before .before .before .before .before .before .before .before .before .before .args .arity .now)) (c .before .before .before .before .before .before .before .before .before .before .args .s .now) (c .before .before .before .before .before .before .before .before .before .before .args .n) (c .before .before .before .before .before .before .before .before .before .before .args .x) _ _ _ (c .before .before .x .given .1) (c .if1 .taken)
 
@@ -32,29 +17,11 @@ returns-2 c = λ g z. size-low (c .before .before .before .before .before .befor
 returns-3 : tie.Need-returns-3
 returns-3 c = λ g z. size-high (c .before .before .before .before .before .before .before .before .before .before .before .before .args .q .now) (withArrays g (c .before .before .before .before .before .before .before .before .before .before .before .before .args .from .now) (c .before .before .before .before .before .before .before .before .before .before .before .before .args .to .now) (c .before .before .before .before .before .before .before .before .before .before .before .before .args .arity .now)) (c .before .before .before .before .before .before .before .before .before .before .before .before .args .s .now) (c .before .before .before .before .before .before .before .before .before .before .before .before .args .n) (c .before .before .before .before .before .before .before .before .before .before .before .before .args .x) _ _ _ (c .before .before .before .before .x .given .1) (c .before .before .if1 .left) (omega arith)
 
-cast-t17 : tie.Need-cast-t17
-cast-t17 c = search needs
-
-enum-known-x-2 : tie.Need-enum-known-x-2
-enum-known-x-2 c = search needs
-
 returns-4 : tie.Need-returns-4
 returns-4 c = λ g z. fact-early (c .before .before .before .before .before .before .before .before .before .before .args .q .now) (withArrays g (c .before .before .before .before .before .before .before .before .before .before .args .from .now) (c .before .before .before .before .before .before .before .before .before .before .args .to .now) (c .before .before .before .before .before .before .before .before .before .before .args .arity .now)) (c .before .before .before .before .before .before .before .before .before .before .args .s .now) (c .before .before .before .before .before .before .before .before .before .before .args .n) (c .before .before .before .before .before .before .before .before .before .before .args .x) _ _ _ _ _ (c .before .before .x2 .given .1) (c .if4 .taken)
 
-add-requires : tie.Need-add-requires
-add-requires c κs = search needs
-
-same-length : tie.Need-same-length
-same-length c = search needs
-
 returns-5 : tie.Need-returns-5
 returns-5 c = λ g z. fact-added (c .before .before .before .before .before .before .before .before .before .before .before .before .before .before .before .args .q .now) (withArrays g (c .before .before .before .before .before .before .before .before .before .before .before .before .before .before .before .args .from .now) (c .before .before .before .before .before .before .before .before .before .before .before .before .before .before .before .args .to .now) (c .before .before .before .before .before .before .before .before .before .before .before .before .before .before .before .args .arity .now)) (c .before .before .before .before .before .before .before .before .before .before .before .before .before .before .before .args .s .now) (c .before .before .before .before .before .before .before .before .before .before .before .before .before .before .before .args .n) (c .before .before .before .before .before .before .before .before .before .before .before .before .before .before .before .args .x) _ _ _ _ _ (c .before .before .before .before .before .before .before .x2 .given .1) (c .before .before .before .before .before .if4 .left) _ (c .before .before .before .before .before .before .before .before .before .before .before .before .before .before .before .args .m) z (c .before .before .before .add .ensures g) (c .if5 .taken)
-
-enum-told-5 : tie.Need-enum-told-5
-enum-told-5 c = search needs
-
-enum-told-6 : tie.Need-enum-told-6
-enum-told-6 c = search needs
 
 returns-6 : tie.Need-returns-6
 returns-6 c = λ g z. site-wrong (c .before .before .before .before .before .before .before .before .args .q .now) (withArrays g (c .before .before .before .before .before .before .before .before .args .from .now) (c .before .before .before .before .before .before .before .before .args .to .now) (c .before .before .before .before .before .before .before .before .args .arity .now)) (c .before .before .before .before .before .before .before .before .args .s .now) (c .before .before .before .before .before .before .before .before .args .n) (c .before .before .before .before .before .before .before .before .args .x) _ _ (c .enum-told .given .1)
@@ -71,9 +38,6 @@ returns-9 c = λ g z. site-rule (c .before .before .before .before .before .befo
 returns-10 : tie.Need-returns-10
 returns-10 c = λ g z. size-good (c .before .before .before .before .before .before .before .before .before .before .before .before .args .q .now) (withArrays g (c .before .before .before .before .before .before .before .before .before .before .before .before .args .from .now) (c .before .before .before .before .before .before .before .before .before .before .before .before .args .to .now) (c .before .before .before .before .before .before .before .before .before .before .before .before .args .arity .now)) (c .before .before .before .before .before .before .before .before .before .before .before .before .args .s .now) (c .before .before .before .before .before .before .before .before .before .before .before .before .args .n) (c .before .before .before .before .before .before .before .before .before .before .before .before .args .x) _ _ _ (c .before .before .before .before .x .given .1) (c .before .before .if1 .left) (omega arith) (omega arith) refl
 
-same-length-2 : tie.Need-same-length-2
-same-length-2 c = search needs
-
 returns-11 : tie.Need-returns-11
 returns-11 c = λ g z. fact-fault (c .before .before .before .before .before .before .before .before .before .before .before .before .before .before .before .args .q .now) (withArrays g (c .before .before .before .before .before .before .before .before .before .before .before .before .before .before .before .args .from .now) (c .before .before .before .before .before .before .before .before .before .before .before .before .before .before .before .args .to .now) (c .before .before .before .before .before .before .before .before .before .before .before .before .before .before .before .args .arity .now)) (c .before .before .before .before .before .before .before .before .before .before .before .before .before .before .before .args .s .now) (c .before .before .before .before .before .before .before .before .before .before .before .before .before .before .before .args .n) (c .before .before .before .before .before .before .before .before .before .before .before .before .before .before .before .args .x) _ _ _ _ _ (c .before .before .before .before .before .before .before .x2 .given .1) (c .before .before .before .before .before .if4 .left) _ (c .before .before .before .before .before .before .before .before .before .before .before .before .before .before .before .args .m) z (c .before .before .before .add .ensures g) (c .if5 .left)
 
@@ -87,28 +51,28 @@ pub site-turn-spec : {M : Type 1} → statement M
 site-turn-spec =
     tie.close
     (tie.spec
-    enum-told
-    enum-told-2
-    enum-told-3
-    enum-told-4
-    enum-known-x
+    (λ c. search needs)
+    (λ c. search needs)
+    (λ c. search needs)
+    (λ c. search needs)
+    (λ c. search needs)
     returns
     returns-2
     returns-3
-    cast-t17
-    enum-known-x-2
+    (λ c. search needs)
+    (λ c. search needs)
     returns-4
-    add-requires
-    same-length
+    (λ c κs. search needs)
+    (λ c. search needs)
     returns-5
-    enum-told-5
-    enum-told-6
+    (λ c. search needs)
+    (λ c. search needs)
     returns-6
     returns-7
     returns-8
     returns-9
     returns-10
-    same-length-2
+    (λ c. search needs)
     returns-11
     returns-12
     returns-13)

@@ -24,24 +24,6 @@ returns c = (long-answer (c .before .before .before .args .s .now) (c .if1 .take
 loop-holds : tie.Need-loop-holds Inv-loop μ-loop
 loop-holds c = (omega arith, omega arith, refl, reach-start (c .before .before .before .args .s .now) (omega arith), λ w. write-start (c .before .before .before .args .s .now) (c .before .before .before .args .out .now) w)
 
-line-requires : tie.Need-line-requires Inv-loop μ-loop
-line-requires c κs = search needs
-
-judge-requires : tie.Need-judge-requires Inv-loop μ-loop
-judge-requires c κs = search needs
-
-enum-known-v : tie.Need-enum-known-v Inv-loop μ-loop
-enum-known-v c = search needs
-
-put-requires : tie.Need-put-requires Inv-loop μ-loop
-put-requires c κs = search needs
-
-add-n : tie.Need-add-n Inv-loop μ-loop
-add-n c = omega arith
-
-enum-known-v-2 : tie.Need-enum-known-v-2 Inv-loop μ-loop
-enum-known-v-2 c = search needs
-
 same-length : tie.Need-same-length Inv-loop μ-loop
 same-length c = c .before .before .before .before .before .before .loop .inv .2
 
@@ -70,12 +52,12 @@ steps-spec =
     μ-loop
     returns
     loop-holds
-    line-requires
-    judge-requires
-    enum-known-v
-    put-requires
-    add-n
-    enum-known-v-2
+    (λ c κs. search needs)
+    (λ c κs. search needs)
+    (λ c. search needs)
+    (λ c κs. search needs)
+    (λ c. omega arith)
+    (λ c. search needs)
     same-length
     returns-2
     loop-less

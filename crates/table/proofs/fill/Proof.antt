@@ -5,15 +5,6 @@ use borrow.Author.Needs.{needs}
 use Rattle.table.proofs.fill.Statement.{statement}
 use Rattle.table.proofs.fill.Tie as tie
 
-slice-write-table : tie.Need-slice-write-table
-slice-write-table c = search needs
-
-slice-write-table-2 : tie.Need-slice-write-table-2
-slice-write-table-2 c = search needs
-
-slice-write-table-3 : tie.Need-slice-write-table-3
-slice-write-table-3 c = search needs
-
 fill-relations-requires : tie.Need-fill-relations-requires
 fill-relations-requires c κs =
     let s = c .before .before in
@@ -44,9 +35,9 @@ pub fill-spec : {M : Type 1} → statement M
 fill-spec =
     tie.close
     (tie.spec
-    slice-write-table
-    slice-write-table-2
-    slice-write-table-3
+    (λ c. search needs)
+    (λ c. search needs)
+    (λ c. search needs)
     fill-relations-requires
     fill-nodes-requires
     fill-parts-requires

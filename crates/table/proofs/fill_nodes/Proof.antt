@@ -48,9 +48,6 @@ mul-store c = omega (arith, c .before .before .before .before .before .before .b
 add-store : tie.Need-add-store Inv-loop μ-loop
 add-store c = omega (arith, c .before .before .before .before .before .before .before .before .pre .1 .few)
 
-slice-aggregate-store : tie.Need-slice-aggregate-store Inv-loop μ-loop
-slice-aggregate-store c = search needs
-
 store-requires : tie.Need-store-requires Inv-loop μ-loop
 store-requires c κs = omega (arith, c .before .before .before .before .before .before .before .before .before .pre .1 .few, c .before .before .before .before .before .before .before .before .before .pre .0, c .before .before .before .before .before .before .before .loop .inv .1)
 
@@ -89,14 +86,8 @@ mul-store-3 c = omega (arith, c .before .before .before .before .before .before 
 add-store-2 : tie.Need-add-store-2 Inv-loop μ-loop
 add-store-2 c = omega (arith, c .before .before .before .before .before .before .pre .1 .few)
 
-slice-aggregate-store-2 : tie.Need-slice-aggregate-store-2 Inv-loop μ-loop
-slice-aggregate-store-2 c = search needs
-
 store-requires-2 : tie.Need-store-requires-2 Inv-loop μ-loop
 store-requires-2 c κs = omega (arith, c .before .before .before .before .before .before .before .pre .1 .few, c .before .before .before .before .before .before .before .pre .0, c .before .before .before .before .before .loop .inv .1)
-
-same-length : tie.Need-same-length Inv-loop μ-loop
-same-length c = search needs
 
 returns : tie.Need-returns Inv-loop μ-loop
 returns c =
@@ -122,7 +113,7 @@ fill-nodes-spec =
     node-numbers-requires
     mul-store
     add-store
-    slice-aggregate-store
+    (λ c. search needs)
     store-requires
     add-v
     loop-less
@@ -133,7 +124,7 @@ fill-nodes-spec =
     element-copy-out-store
     mul-store-3
     add-store-2
-    slice-aggregate-store-2
+    (λ c. search needs)
     store-requires-2
-    same-length
+    (λ c. search needs)
     returns)

@@ -31,18 +31,6 @@ mul-q c = omega (arith, c .before .before .before .before .before .before .pre .
 element-copy-out-q : tie.Need-element-copy-out-q Inv-loop μ-loop
 element-copy-out-q c = omega (arith, c .before .before .before .before .before .before .pre .3 .few-parts)
 
-slice-aggregate-start-of : tie.Need-slice-aggregate-start-of Inv-loop μ-loop
-slice-aggregate-start-of c = search needs
-
-slice-aggregate-start-of-2 : tie.Need-slice-aggregate-start-of-2 Inv-loop μ-loop
-slice-aggregate-start-of-2 c = search needs
-
-slice-aggregate-start-of-3 : tie.Need-slice-aggregate-start-of-3 Inv-loop μ-loop
-slice-aggregate-start-of-3 c = search needs
-
-wide-requires : tie.Need-wide-requires Inv-loop μ-loop
-wide-requires c κs = search needs
-
 start-of-requires : tie.Need-start-of-requires Inv-loop μ-loop
 start-of-requires c κs =
     let s = c .before .before .before .before .before .before .before .before .before .before .before in
@@ -63,9 +51,6 @@ mul-store c = omega (arith, c .before .before .before .before .before .before .b
 
 add-store : tie.Need-add-store Inv-loop μ-loop
 add-store c = omega (arith, c .before .before .before .before .before .before .before .before .before .before .before .before .before .before .pre .3 .few-parts)
-
-slice-aggregate-store : tie.Need-slice-aggregate-store Inv-loop μ-loop
-slice-aggregate-store c = search needs
 
 store-requires : tie.Need-store-requires Inv-loop μ-loop
 store-requires c κs = omega (arith, c .before .before .before .before .before .before .before .before .before .before .before .before .before .before .before .pre .3 .few-parts, c .before .before .before .before .before .before .before .before .before .before .before .before .before .before .before .pre .0, c .before .before .before .before .before .before .before .before .before .before .loop .inv .1)
@@ -89,18 +74,6 @@ loop-again c =
       one-more (λ (u : ℕ). Most (numbersIn (s .args .n) (s .args .l .rel) (s .args .l .neg) (s .args .l .node) (getD (s .args .t3 .parts) u noPart)) (2 ^ 32)) (l .i) (l .inv .3) (subst (λ (xs : List ℕ). Most xs (2 ^ 32)) line (p .1)),
     )
 
-slice-aggregate-start-of-4 : tie.Need-slice-aggregate-start-of-4 Inv-loop μ-loop
-slice-aggregate-start-of-4 c = search needs
-
-slice-aggregate-start-of-5 : tie.Need-slice-aggregate-start-of-5 Inv-loop μ-loop
-slice-aggregate-start-of-5 c = search needs
-
-slice-aggregate-start-of-6 : tie.Need-slice-aggregate-start-of-6 Inv-loop μ-loop
-slice-aggregate-start-of-6 c = search needs
-
-wide-requires-2 : tie.Need-wide-requires-2 Inv-loop μ-loop
-wide-requires-2 c κs = search needs
-
 start-of-requires-2 : tie.Need-start-of-requires-2 Inv-loop μ-loop
 start-of-requires-2 c κs =
     let s = c .before .before .before .before .before .before .before .before .before .before .before in
@@ -116,14 +89,8 @@ part-numbers-requires-2 c κs =
     let s = c .before .before .before .before .before .before .before .before .before .before .before .before in
     (s .pre .1, s .pre .2, s .pre .3 .root, rw (c .start-of2 .ensures) (start-most (s .args .l) _ (s .pre .4) _ _))
 
-slice-aggregate-store-2 : tie.Need-slice-aggregate-store-2 Inv-loop μ-loop
-slice-aggregate-store-2 c = search needs
-
 store-requires-2 : tie.Need-store-requires-2 Inv-loop μ-loop
 store-requires-2 c κs = omega (arith, c .before .before .before .before .before .before .before .before .before .before .before .before .before .before .before .pre .3 .few-parts, c .before .before .before .before .before .before .before .before .before .before .before .before .before .before .before .pre .0, c .before .before .before .before .before .before .before .before .before .before .loop .inv .1)
-
-same-length : tie.Need-same-length Inv-loop μ-loop
-same-length c = search needs
 
 returns : tie.Need-returns Inv-loop μ-loop
 returns c =
@@ -146,26 +113,26 @@ fill-parts-spec =
     loop-holds
     mul-q
     element-copy-out-q
-    slice-aggregate-start-of
-    slice-aggregate-start-of-2
-    slice-aggregate-start-of-3
-    wide-requires
+    (λ c. search needs)
+    (λ c. search needs)
+    (λ c. search needs)
+    (λ c κs. search needs)
     start-of-requires
     part-numbers-requires
     mul-store
     add-store
-    slice-aggregate-store
+    (λ c. search needs)
     store-requires
     add-i
     loop-less
     loop-again
-    slice-aggregate-start-of-4
-    slice-aggregate-start-of-5
-    slice-aggregate-start-of-6
-    wide-requires-2
+    (λ c. search needs)
+    (λ c. search needs)
+    (λ c. search needs)
+    (λ c κs. search needs)
     start-of-requires-2
     part-numbers-requires-2
-    slice-aggregate-store-2
+    (λ c. search needs)
     store-requires-2
-    same-length
+    (λ c. search needs)
     returns)

@@ -55,9 +55,6 @@ mul-store-2 c = omega (arith, c .before .before .before .before .before .before 
 add-store : tie.Need-add-store Inv-loop μ-loop
 add-store c = omega (arith, c .before .before .before .before .before .before .before .before .before .pre .1 .count)
 
-slice-aggregate-store : tie.Need-slice-aggregate-store Inv-loop μ-loop
-slice-aggregate-store c = search needs
-
 store-requires : tie.Need-store-requires Inv-loop μ-loop
 store-requires c κs = omega (arith, c .before .before .before .before .before .before .before .before .before .before .pre .1 .count, c .before .before .before .before .before .before .before .before .before .before .pre .0, c .before .before .before .before .before .before .before .before .loop .inv .1)
 
@@ -94,14 +91,8 @@ mul-store-4 c = omega (arith, c .before .before .before .before .before .before 
 add-store-2 : tie.Need-add-store-2 Inv-loop μ-loop
 add-store-2 c = omega (arith, c .before .before .before .before .before .before .pre .1 .count)
 
-slice-aggregate-store-2 : tie.Need-slice-aggregate-store-2 Inv-loop μ-loop
-slice-aggregate-store-2 c = search needs
-
 store-requires-2 : tie.Need-store-requires-2 Inv-loop μ-loop
 store-requires-2 c κs = omega (arith, c .before .before .before .before .before .before .before .pre .1 .count, c .before .before .before .before .before .before .before .pre .0, c .before .before .before .before .before .loop .inv .1)
-
-same-length : tie.Need-same-length Inv-loop μ-loop
-same-length c = search needs
 
 returns : tie.Need-returns Inv-loop μ-loop
 returns c =
@@ -128,7 +119,7 @@ fill-relations-spec =
     element-copy-out-store
     mul-store-2
     add-store
-    slice-aggregate-store
+    (λ c. search needs)
     store-requires
     add-r
     loop-less
@@ -139,7 +130,7 @@ fill-relations-spec =
     element-copy-out-store-2
     mul-store-4
     add-store-2
-    slice-aggregate-store-2
+    (λ c. search needs)
     store-requires-2
-    same-length
+    (λ c. search needs)
     returns)

@@ -9,38 +9,17 @@ use Rattle.table.specs.PartLaws.{line-last, line-plain, last-most, plain
 use Rattle.table.proofs.part_numbers.Statement.{statement}
 use Rattle.table.proofs.part_numbers.Tie as tie
 
-wide-requires : tie.Need-wide-requires
-wide-requires c κs = search needs
-
 weights-requires : tie.Need-weights-requires
 weights-requires c κs = (search needs, search needs)
-
-sub-t9 : tie.Need-sub-t9
-sub-t9 c = search needs
-
-add-t10 : tie.Need-add-t10
-add-t10 c = search needs
-
-array-read-t13 : tie.Need-array-read-t13
-array-read-t13 c = search needs
 
 mul-t14 : tie.Need-mul-t14
 mul-t14 c = omega (arith, weight-times (getD (c .before .before .weights .result) 0 0) (c .before .before .before .before .before .args .n) (c .before .before .weights .ensures .1 0) (c .before .before .before .before .before .pre .1))
 
-array-read-t17 : tie.Need-array-read-t17
-array-read-t17 c = search needs
-
 mul-t18 : tie.Need-mul-t18
 mul-t18 c = omega (arith, weight-times (getD (c .before .before .weights .result) 1 0) (c .before .before .before .before .before .args .n) (c .before .before .weights .ensures .1 1) (c .before .before .before .before .before .pre .1))
 
-array-read-t21 : tie.Need-array-read-t21
-array-read-t21 c = search needs
-
 mul-t22 : tie.Need-mul-t22
 mul-t22 c = omega (arith, weight-times (getD (c .before .before .weights .result) 2 0) (c .before .before .before .before .before .args .n) (c .before .before .weights .ensures .1 2) (c .before .before .before .before .before .pre .1))
-
-array-read-t25 : tie.Need-array-read-t25
-array-read-t25 c = search needs
 
 mul-t26 : tie.Need-mul-t26
 mul-t26 c = omega (arith, weight-times (getD (c .before .before .weights .result) 3 0) (c .before .before .before .before .before .args .n) (c .before .before .weights .ensures .1 3) (c .before .before .before .before .before .pre .1))
@@ -51,18 +30,6 @@ returns c =
     let w = c .before .before .weights .ensures in
     let e = w .0 ∙ ap (λ (k : ℕ). weightOf (s .args .n) (take k (s .args .q .levels))) (c .before .before .before .wide .ensures .0) in
     (line-last (s .args .n) (s .args .start) (s .args .q) (c .before .before .weights .result) e (omega arith), last-most (s .args .n) (s .args .start) (c .before .before .weights .result) (s .pre .1) (s .pre .3) (w .1))
-
-array-read-t7 : tie.Need-array-read-t7
-array-read-t7 c = search needs
-
-array-read-t31 : tie.Need-array-read-t31
-array-read-t31 c = search needs
-
-array-read-t34 : tie.Need-array-read-t34
-array-read-t34 c = search needs
-
-array-read-t37 : tie.Need-array-read-t37
-array-read-t37 c = search needs
 
 returns-2 : tie.Need-returns-2
 returns-2 c =
@@ -75,21 +42,21 @@ pub part-numbers-spec : {M : Type 1} → statement M
 part-numbers-spec =
     tie.close
     (tie.spec
-    wide-requires
+    (λ c κs. search needs)
     weights-requires
-    sub-t9
-    add-t10
-    array-read-t13
+    (λ c. search needs)
+    (λ c. search needs)
+    (λ c. search needs)
     mul-t14
-    array-read-t17
+    (λ c. search needs)
     mul-t18
-    array-read-t21
+    (λ c. search needs)
     mul-t22
-    array-read-t25
+    (λ c. search needs)
     mul-t26
     returns
-    array-read-t7
-    array-read-t31
-    array-read-t34
-    array-read-t37
+    (λ c. search needs)
+    (λ c. search needs)
+    (λ c. search needs)
+    (λ c. search needs)
     returns-2)

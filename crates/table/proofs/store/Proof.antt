@@ -22,36 +22,12 @@ abbrev μ-loop : tie.MeasureT-loop
 loop-holds : tie.Need-loop-holds Inv-loop μ-loop
 loop-holds c = (omega arith, refl, paste-zero (c .args .table .now) (c .args .at) (c .args .line .now))
 
-mul-table : tie.Need-mul-table Inv-loop μ-loop
-mul-table c = search needs
-
-shared-slice-read-table : tie.Need-shared-slice-read-table Inv-loop μ-loop
-shared-slice-read-table c = search needs
-
-add-table : tie.Need-add-table Inv-loop μ-loop
-add-table c = search needs
-
-mul-table-2 : tie.Need-mul-table-2 Inv-loop μ-loop
-mul-table-2 c = search needs
-
-slice-write-table : tie.Need-slice-write-table Inv-loop μ-loop
-slice-write-table c = search needs
-
-add-j : tie.Need-add-j Inv-loop μ-loop
-add-j c = search needs
-
-loop-less : tie.Need-loop-less Inv-loop μ-loop
-loop-less c = search needs
-
 loop-again : tie.Need-loop-again Inv-loop μ-loop
 loop-again c = (
   omega arith,
   length-set (c .before .before .loop .table) _ _ ∙ c .before .before .loop .inv .1,
   ap (λ (x : List ℕ). set x (c .before .before .before .args .at + c .before .before .loop .j) (getD (c .before .before .before .args .line .now) (c .before .before .loop .j) 0)) (c .before .before .loop .inv .2) ∙ paste-suc (c .before .before .before .args .table .now) (c .before .before .before .args .at) (c .before .before .before .args .line .now) (c .before .before .loop .j) 0 (omega (arith, c .before .before .before .pre)) (omega arith) ∙ ap (paste (c .before .before .before .args .table .now) (c .before .before .before .args .at) (c .before .before .before .args .line .now)) (sym (add-one (c .before .before .loop .j))),
 )
-
-same-length : tie.Need-same-length Inv-loop μ-loop
-same-length c = search needs
 
 returns : tie.Need-returns Inv-loop μ-loop
 returns c = c .before .loop .inv .2 ∙ splice-all (c .before .before .args .table .now) (c .before .before .args .at) (c .before .before .args .line .now) (c .before .loop .j) (omega arith) (c .before .loop .inv .0)
@@ -63,13 +39,13 @@ store-spec =
     Inv-loop
     μ-loop
     loop-holds
-    mul-table
-    shared-slice-read-table
-    add-table
-    mul-table-2
-    slice-write-table
-    add-j
-    loop-less
+    (λ c. search needs)
+    (λ c. search needs)
+    (λ c. search needs)
+    (λ c. search needs)
+    (λ c. search needs)
+    (λ c. search needs)
+    (λ c. search needs)
     loop-again
-    same-length
+    (λ c. search needs)
     returns)

@@ -14,29 +14,14 @@ Inv-loop p r₀ width i₀ r i = Marked (r₀ .at) (r .at) (p .width) (p .levels
 abbrev μ-loop : tie.MeasureT-loop
 μ-loop p r₀ width i₀ r i = 4 - i
 
-wide-requires : tie.Need-wide-requires Inv-loop μ-loop
-wide-requires c κs = search needs
-
 loop-holds : tie.Need-loop-holds Inv-loop μ-loop
 loop-holds c = mark-start _ _ _ (search needs)
 
 returns : tie.Need-returns Inv-loop μ-loop
 returns c = mark-end _ _ _ _ (search needs) _ (c .before .before .loop .inv) (inl (omega (arith, c .if1 .taken, c .before .before .before .wide .ensures)))
 
-element-copy-out-wide : tie.Need-element-copy-out-wide Inv-loop μ-loop
-element-copy-out-wide c = search needs
-
-wide-requires-2 : tie.Need-wide-requires-2 Inv-loop μ-loop
-wide-requires-2 c κs = search needs
-
 element-write-r : tie.Need-element-write-r Inv-loop μ-loop
 element-write-r c = omega (arith, c .before .before .before .before .before .loop .inv .marks-length)
-
-add-i : tie.Need-add-i Inv-loop μ-loop
-add-i c = omega arith
-
-loop-less : tie.Need-loop-less Inv-loop μ-loop
-loop-less c = omega arith
 
 loop-again : tie.Need-loop-again Inv-loop μ-loop
 loop-again c = ⊎-elim
@@ -53,13 +38,13 @@ also-spec =
     (tie.spec
     Inv-loop
     μ-loop
-    wide-requires
+    (λ c κs. search needs)
     loop-holds
     returns
-    element-copy-out-wide
-    wide-requires-2
+    (λ c. search needs)
+    (λ c κs. search needs)
     element-write-r
-    add-i
-    loop-less
+    (λ c. omega arith)
+    (λ c. omega arith)
     loop-again
     returns-2)

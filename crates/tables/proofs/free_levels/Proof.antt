@@ -18,20 +18,8 @@ abbrev μ-loop : tie.MeasureT-loop
 loop-holds : tie.Need-loop-holds Inv-loop μ-loop
 loop-holds c = list-start _
 
-is-own-requires : tie.Need-is-own-requires Inv-loop μ-loop
-is-own-requires c κs = search needs
-
-element-copy-out-marked : tie.Need-element-copy-out-marked Inv-loop μ-loop
-element-copy-out-marked c = omega arith
-
 listed-requires : tie.Need-listed-requires Inv-loop μ-loop
 listed-requires c κs = omega (arith, list-width _ _ _ (c .before .before .before .loop .inv))
-
-add-l : tie.Need-add-l Inv-loop μ-loop
-add-l c = omega arith
-
-loop-less : tie.Need-loop-less Inv-loop μ-loop
-loop-less c = omega arith
 
 loop-again : tie.Need-loop-again Inv-loop μ-loop
 loop-again c = list-again _ _ _ (c .before .before .before .before .loop .l) _ (omega arith) (rw (c .before .before .is-own .ensures)) (c .listed .ensures) (c .before .before .before .before .loop .inv)
@@ -46,10 +34,10 @@ free-levels-spec =
     Inv-loop
     μ-loop
     loop-holds
-    is-own-requires
-    element-copy-out-marked
+    (λ c κs. search needs)
+    (λ c. omega arith)
     listed-requires
-    add-l
-    loop-less
+    (λ c. omega arith)
+    (λ c. omega arith)
     loop-again
     returns)

@@ -6,12 +6,6 @@ use borrow.Author.Needs.{needs}
 use Rattle.tables.proofs.is_own.Statement.{statement}
 use Rattle.tables.proofs.is_own.Tie as tie
 
-element-copy-out-wide : tie.Need-element-copy-out-wide
-element-copy-out-wide c = search needs
-
-wide-requires : tie.Need-wide-requires
-wide-requires c κs = search needs
-
 returns : tie.Need-returns
 returns c = own-quant (c .before .before .before .args .t1 .kind) (c .before .before .before .args .l) (getD (c .before .before .before .args .t1 .levels) 0 0) (c .wide .result) (omega (arith, c .before .before .if1 .taken)) (c .wide .ensures)
 
@@ -19,4 +13,4 @@ returns-2 : tie.Need-returns-2
 returns-2 c = own-none (c .before .args .t1 .kind) (c .before .args .l) (getD (c .before .args .t1 .levels) 0 0) (omega arith)
 
 pub is-own-spec : {M : Type 1} → statement M
-is-own-spec = tie.close (tie.spec element-copy-out-wide wide-requires returns returns-2)
+is-own-spec = tie.close (tie.spec (λ c. search needs) (λ c κs. search needs) returns returns-2)

@@ -7,15 +7,6 @@ use Rattle.tables.proofs.listed.Tie as tie
 returns : tie.Need-returns
 returns c = list-own (c .before .args .r) (c .before .args .l) (c .before .args .own) (c .before .args .marked) (c .if1 .taken)
 
-cast-q : tie.Need-cast-q
-cast-q c = search needs
-
-element-write-q : tie.Need-element-write-q
-element-write-q c = search needs
-
-add-q : tie.Need-add-q
-add-q c = search needs
-
 returns-2 : tie.Need-returns-2
 returns-2 c = list-yes (c .before .before .args .r) (c .before .before .args .l) (c .before .before .args .own) (c .before .before .args .marked) (c .before .if1 .left) (c .if2 .taken)
 
@@ -23,4 +14,4 @@ returns-3 : tie.Need-returns-3
 returns-3 c = list-no (c .before .before .args .r) (c .before .before .args .l) (c .before .before .args .own) (c .before .before .args .marked) (c .before .if1 .left) (c .if2 .left)
 
 pub listed-spec : {M : Type 1} → statement M
-listed-spec = tie.close (tie.spec returns cast-q element-write-q add-q returns-2 returns-3)
+listed-spec = tie.close (tie.spec returns (λ c. search needs) (λ c. search needs) (λ c. search needs) returns-2 returns-3)

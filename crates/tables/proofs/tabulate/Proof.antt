@@ -20,20 +20,11 @@ Inv-loop from len count stack₀ parts₀ rows₀ height₀ placed₀ i₀ stack
 abbrev μ-loop : tie.MeasureT-loop
 μ-loop from len count stack₀ parts₀ rows₀ height₀ placed₀ i₀ stack parts rows height placed i = len - i
 
-no-part-requires : tie.Need-no-part-requires Inv-loop2 μ-loop2 Inv-loop μ-loop
-no-part-requires c κs = search needs
-
-no-row-requires : tie.Need-no-row-requires Inv-loop2 μ-loop2 Inv-loop μ-loop
-no-row-requires c κs = search needs
-
 loop-holds : tie.Need-loop-holds Inv-loop2 μ-loop2 Inv-loop μ-loop
 loop-holds c = outer-start _ (c .before .no-part .result) (c .no-row .result) (c .before .no-part .ensures) (c .no-row .ensures) (c .before .before .before .pre .2)
 
 row-at-requires : tie.Need-row-at-requires Inv-loop2 μ-loop2 Inv-loop μ-loop
 row-at-requires c κs = (c .before .before .before .before .before .pre .0, omega (arith, c .loop-test .taken, c .before .before .before .before .before .pre .1))
-
-add-i : tie.Need-add-i Inv-loop2 μ-loop2 Inv-loop μ-loop
-add-i c = omega arith
 
 leaf-part-requires : tie.Need-leaf-part-requires Inv-loop2 μ-loop2 Inv-loop μ-loop
 leaf-part-requires c κs = omega (arith, c .if1 .taken)
@@ -47,14 +38,8 @@ array-set-from-stack c = omega (arith, leaf-room _ _ _ (c .before .before .befor
 add-height : tie.Need-add-height Inv-loop2 μ-loop2 Inv-loop μ-loop
 add-height c = omega (arith, leaf-room _ _ _ (c .before .before .before .before .before .before .before .before .before .pre .1) _ _ _ _ _ _ (c .before .before .before .before .before .loop .inv) (c .before .before .before .before .loop-test .taken) (c .before .before .before .row-at .result) (c .before .before .before .row-at .ensures) (omega (arith, c .before .if1 .taken)))
 
-loop-less : tie.Need-loop-less Inv-loop2 μ-loop2 Inv-loop μ-loop
-loop-less c = omega arith
-
 loop-again : tie.Need-loop-again Inv-loop2 μ-loop2 Inv-loop μ-loop
 loop-again c = outer-leaf _ _ _ (c .before .before .before .before .before .before .before .before .before .pre .1) _ _ _ _ _ _ (c .before .before .before .before .before .loop .inv) (c .before .before .before .before .loop-test .taken) (c .before .before .before .row-at .result) (c .before .before .before .row-at .ensures) (omega (arith, c .before .if1 .taken)) (c .leaf-part .result) (c .leaf-part .ensures)
-
-wide-requires : tie.Need-wide-requires Inv-loop2 μ-loop2 Inv-loop μ-loop
-wide-requires c κs = search needs
 
 sub-base : tie.Need-sub-base Inv-loop2 μ-loop2 Inv-loop μ-loop
 sub-base c = omega (arith, c .wide .ensures, node-many _ _ _ (c .before .before .before .before .before .before .before .before .before .pre .1) _ _ _ _ _ _ (c .before .before .before .before .before .loop .inv) (c .before .before .before .before .loop-test .taken) (c .before .before .before .row-at .result) (c .before .before .before .row-at .ensures) (omega (arith, c .before .if1 .left)))
@@ -74,26 +59,14 @@ mul-parts c = omega (arith, node-space _ _ _ (c .before .before .before .before 
 array-set-from-parts : tie.Need-array-set-from-parts Inv-loop2 μ-loop2 Inv-loop μ-loop
 array-set-from-parts c = omega (arith, node-space _ _ _ (c .before .before .before .before .before .before .before .before .before .before .before .before .pre .1) _ _ _ _ _ _ (c .before .before .before .before .before .before .before .before .loop .inv) (c .before .before .before .before .before .before .before .loop-test .taken) (c .before .before .before .before .before .before .row-at .result) (c .before .before .before .before .before .before .row-at .ensures) (omega (arith, c .before .before .before .before .if1 .left)), node-many _ _ _ (c .before .before .before .before .before .before .before .before .before .before .before .before .pre .1) _ _ _ _ _ _ (c .before .before .before .before .before .before .before .before .loop .inv) (c .before .before .before .before .before .before .before .loop-test .taken) (c .before .before .before .before .before .before .row-at .result) (c .before .before .before .before .before .before .row-at .ensures) (omega (arith, c .before .before .before .before .if1 .left)), c .before .before .loop2 .inv .count, c .before .before .loop2 .inv .low, c .before .loop2-test .taken, c .before .before .before .wide .ensures)
 
-also-requires : tie.Need-also-requires Inv-loop2 μ-loop2 Inv-loop μ-loop
-also-requires c κs = search needs
-
 add-placed : tie.Need-add-placed Inv-loop2 μ-loop2 Inv-loop μ-loop
 add-placed c = omega (arith, node-space _ _ _ (c .before .before .before .before .before .before .before .before .before .before .before .before .before .pre .1) _ _ _ _ _ _ (c .before .before .before .before .before .before .before .before .before .loop .inv) (c .before .before .before .before .before .before .before .before .loop-test .taken) (c .before .before .before .before .before .before .before .row-at .result) (c .before .before .before .before .before .before .before .row-at .ensures) (omega (arith, c .before .before .before .before .before .if1 .left)), node-many _ _ _ (c .before .before .before .before .before .before .before .before .before .before .before .before .before .pre .1) _ _ _ _ _ _ (c .before .before .before .before .before .before .before .before .before .loop .inv) (c .before .before .before .before .before .before .before .before .loop-test .taken) (c .before .before .before .before .before .before .before .row-at .result) (c .before .before .before .before .before .before .before .row-at .ensures) (omega (arith, c .before .before .before .before .before .if1 .left)), c .before .before .before .loop2 .inv .count, c .before .before .before .loop2 .inv .low, c .before .before .loop2-test .taken, c .before .before .before .before .wide .ensures)
 
 add-j : tie.Need-add-j Inv-loop2 μ-loop2 Inv-loop μ-loop
 add-j c = omega (arith, c .before .before .loop2-test .taken, c .before .before .before .before .before .before .before .before .before .loop .inv .tall)
 
-loop2-less : tie.Need-loop2-less Inv-loop2 μ-loop2 Inv-loop μ-loop
-loop2-less c = omega arith
-
 loop2-again : tie.Need-loop2-again Inv-loop2 μ-loop2 Inv-loop μ-loop
 loop2-again c = inner-again (c .before .before .before .before .before .before .before .before .before .loop .stack) (c .before .before .before .before .before .before .before .before .before .loop .parts) (c .before .before .before .before .before .before .before .before .before .loop .height) (c .before .before .before .before .before .before .before .before .before .loop .placed) _ (c .before .before .before .loop2 .parts) (c .before .before .before .loop2 .placed) (c .before .before .before .loop2 .marks .at) (c .before .before .before .loop2 .j) (c .before .before .before .loop2 .inv) _ (c .also .result .at) (c .before .before .loop2-test .taken) (omega (arith, c .before .before .before .before .before .before .before .before .before .loop .inv .tall, c .before .before .before .before .before .before .before .before .before .loop .inv .stack-length)) refl (c .also .ensures)
-
-free-levels-requires : tie.Need-free-levels-requires Inv-loop2 μ-loop2 Inv-loop μ-loop
-free-levels-requires c κs = search needs
-
-wide-requires-2 : tie.Need-wide-requires-2 Inv-loop2 μ-loop2 Inv-loop μ-loop
-wide-requires-2 c κs = search needs
 
 node-row-requires : tie.Need-node-row-requires Inv-loop2 μ-loop2 Inv-loop μ-loop
 node-row-requires c κs = (free-width _ _ (c .before .free-levels .ensures), omega (arith, node-space _ _ _ (c .before .before .before .before .before .before .before .before .before .before .before .before .before .pre .1) _ _ _ _ _ _ (c .before .before .before .before .before .before .before .before .before .loop .inv) (c .before .before .before .before .before .before .before .before .loop-test .taken) (c .before .before .before .before .before .before .before .row-at .result) (c .before .before .before .before .before .before .before .row-at .ensures) (omega (arith, c .before .before .before .before .before .if1 .left))))
@@ -122,9 +95,6 @@ loop-less-2 c = omega (arith, c .before .before .before .before .before .before 
 loop-again-2 : tie.Need-loop-again-2 Inv-loop2 μ-loop2 Inv-loop μ-loop
 loop-again-2 c = outer-node _ _ _ (c .before .before .before .before .before .before .before .before .before .before .before .before .before .before .before .pre .1) _ _ _ _ _ _ (c .before .before .before .before .before .before .before .before .before .before .before .loop .inv) (c .before .before .before .before .before .before .before .before .before .before .loop-test .taken) (c .before .before .before .before .before .before .before .before .before .row-at .result) (c .before .before .before .before .before .before .before .before .before .row-at .ensures) (omega (arith, c .before .before .before .before .before .before .before .if1 .left)) (c .before .before .before .before .before .before .before .before .before .before .before .loop .height - c .before .before .before .before .before .before .wide .result) (ap (λ m. c .before .before .before .before .before .before .before .before .before .before .before .loop .height - m) (c .before .before .before .before .before .before .wide .ensures)) (c .before .before .before .before .before .loop2 .parts) (c .before .before .before .before .before .loop2 .placed) (c .before .before .before .before .before .loop2 .marks .at) (c .before .before .before .before .before .loop2 .j) (c .before .before .before .before .before .loop2 .inv) (omega (arith, c .before .before .before .before .loop2-test .left)) (c .before .before .before .free-levels .result) (c .before .before .wide2 .result) (c .before .node-row .result) (c .node-part .result) (c .before .before .before .free-levels .ensures) (c .before .before .wide2 .ensures) (c .before .node-row .ensures) (c .node-part .ensures)
 
-array-copy-out-root : tie.Need-array-copy-out-root Inv-loop2 μ-loop2 Inv-loop μ-loop
-array-copy-out-root c = search needs
-
 returns : tie.Need-returns Inv-loop2 μ-loop2 Inv-loop μ-loop
 returns c = table-of _ (c .before .before .loop .stack) (c .before .before .loop .parts) (c .before .before .loop .rows) (c .before .before .loop .height) (c .before .before .loop .placed) (outer-end _ _ _ (c .before .before .before .before .before .before .pre .1) _ _ _ _ _ _ (c .before .before .loop .inv) (omega (arith, c .before .loop-test .left)))
 
@@ -136,31 +106,31 @@ tabulate-spec =
     μ-loop2
     Inv-loop
     μ-loop
-    no-part-requires
-    no-row-requires
+    (λ c κs. search needs)
+    (λ c κs. search needs)
     loop-holds
     row-at-requires
-    add-i
+    (λ c. omega arith)
     leaf-part-requires
     mul-stack
     array-set-from-stack
     add-height
-    loop-less
+    (λ c. omega arith)
     loop-again
-    wide-requires
+    (λ c κs. search needs)
     sub-base
     loop2-holds
     mul-p
     array-copy-out-p
     mul-parts
     array-set-from-parts
-    also-requires
+    (λ c κs. search needs)
     add-placed
     add-j
-    loop2-less
+    (λ c. omega arith)
     loop2-again
-    free-levels-requires
-    wide-requires-2
+    (λ c κs. search needs)
+    (λ c κs. search needs)
     node-row-requires
     mul-rows
     array-set-from-rows
@@ -170,5 +140,5 @@ tabulate-spec =
     add-height-2
     loop-less-2
     loop-again-2
-    array-copy-out-root
+    (λ c. search needs)
     returns)

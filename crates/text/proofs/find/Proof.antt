@@ -21,38 +21,11 @@ Inv-loop2 s at end b i₀ i = (i ≤ end) × (at + indexOf b (slice at end s) �
 abbrev μ-loop2 : tie.MeasureT-loop2
 μ-loop2 s at end b i₀ i = end - i
 
-loop-holds : tie.Need-loop-holds Inv-loop μ-loop Inv-loop2 μ-loop2
-loop-holds c = search needs
-
-sub-loop : tie.Need-sub-loop Inv-loop μ-loop Inv-loop2 μ-loop2
-sub-loop c = search needs
-
-shared-slice-read-if1 : tie.Need-shared-slice-read-if1 Inv-loop μ-loop Inv-loop2 μ-loop2
-shared-slice-read-if1 c = search needs
-
 returns : tie.Need-returns Inv-loop μ-loop Inv-loop2 μ-loop2
 returns c = omega (arith, span-hit (c .before .before .before .before .args .b) (c .before .before .before .loop .i) (c .before .before .before .before .args .end) (c .before .before .before .before .args .s .now) (omega arith) (c .before .before .before .before .pre .1) (c .if1 .taken))
 
-add-if2 : tie.Need-add-if2 Inv-loop μ-loop Inv-loop2 μ-loop2
-add-if2 c = search needs
-
-shared-slice-read-if2 : tie.Need-shared-slice-read-if2 Inv-loop μ-loop Inv-loop2 μ-loop2
-shared-slice-read-if2 c = search needs
-
-add-result : tie.Need-add-result Inv-loop μ-loop Inv-loop2 μ-loop2
-add-result c = search needs
-
 returns-2 : tie.Need-returns-2 Inv-loop μ-loop Inv-loop2 μ-loop2
 returns-2 c = omega (arith, span-miss (c .before .before .before .before .before .before .args .b) (c .before .before .before .before .before .loop .i) (c .before .before .before .before .before .before .args .end) (c .before .before .before .before .before .before .args .s .now) (omega arith) (c .before .before .before .before .before .before .pre .1) (c .before .before .if1 .left), span-hit (c .before .before .before .before .before .before .args .b) (c .before .before .before .before .before .loop .i + 1) (c .before .before .before .before .before .before .args .end) (c .before .before .before .before .before .before .args .s .now) (omega arith) (c .before .before .before .before .before .before .pre .1) (c .if2 .taken))
-
-add-if3 : tie.Need-add-if3 Inv-loop μ-loop Inv-loop2 μ-loop2
-add-if3 c = search needs
-
-shared-slice-read-if3 : tie.Need-shared-slice-read-if3 Inv-loop μ-loop Inv-loop2 μ-loop2
-shared-slice-read-if3 c = search needs
-
-add-result-2 : tie.Need-add-result-2 Inv-loop μ-loop Inv-loop2 μ-loop2
-add-result-2 c = search needs
 
 returns-3 : tie.Need-returns-3 Inv-loop μ-loop Inv-loop2 μ-loop2
 returns-3 c =
@@ -60,27 +33,12 @@ returns-3 c =
     let q = span-more (c .before .before .before .before .before .before .before .before .args .b) (c .before .before .before .before .before .before .before .loop .i) 1 (c .before .before .before .before .before .before .before .before .args .end) (c .before .before .before .before .before .before .before .before .args .s .now) (omega arith) (c .before .before .before .before .before .before .before .before .pre .1) (c .before .before .if2 .left) p in
     omega (arith, q, span-hit (c .before .before .before .before .before .before .before .before .args .b) (c .before .before .before .before .before .before .before .loop .i + 2) (c .before .before .before .before .before .before .before .before .args .end) (c .before .before .before .before .before .before .before .before .args .s .now) (omega arith) (c .before .before .before .before .before .before .before .before .pre .1) (c .if3 .taken))
 
-add-if4 : tie.Need-add-if4 Inv-loop μ-loop Inv-loop2 μ-loop2
-add-if4 c = search needs
-
-shared-slice-read-if4 : tie.Need-shared-slice-read-if4 Inv-loop μ-loop Inv-loop2 μ-loop2
-shared-slice-read-if4 c = search needs
-
-add-result-3 : tie.Need-add-result-3 Inv-loop μ-loop Inv-loop2 μ-loop2
-add-result-3 c = search needs
-
 returns-4 : tie.Need-returns-4 Inv-loop μ-loop Inv-loop2 μ-loop2
 returns-4 c =
     let p : indexOf (c .before .before .before .before .before .before .before .before .before .before .args .b) (slice (c .before .before .before .before .before .before .before .before .before .loop .i) (c .before .before .before .before .before .before .before .before .before .before .args .end) (c .before .before .before .before .before .before .before .before .before .before .args .s .now)) ≡ 1 + indexOf (c .before .before .before .before .before .before .before .before .before .before .args .b) (slice (c .before .before .before .before .before .before .before .before .before .loop .i + 1) (c .before .before .before .before .before .before .before .before .before .before .args .end) (c .before .before .before .before .before .before .before .before .before .before .args .s .now)) = omega (arith, span-miss (c .before .before .before .before .before .before .before .before .before .before .args .b) (c .before .before .before .before .before .before .before .before .before .loop .i) (c .before .before .before .before .before .before .before .before .before .before .args .end) (c .before .before .before .before .before .before .before .before .before .before .args .s .now) (omega arith) (c .before .before .before .before .before .before .before .before .before .before .pre .1) (c .before .before .before .before .before .before .if1 .left)) in
     let q = span-more (c .before .before .before .before .before .before .before .before .before .before .args .b) (c .before .before .before .before .before .before .before .before .before .loop .i) 1 (c .before .before .before .before .before .before .before .before .before .before .args .end) (c .before .before .before .before .before .before .before .before .before .before .args .s .now) (omega arith) (c .before .before .before .before .before .before .before .before .before .before .pre .1) (c .before .before .before .before .if2 .left) p in
     let r = span-more (c .before .before .before .before .before .before .before .before .before .before .args .b) (c .before .before .before .before .before .before .before .before .before .loop .i) 2 (c .before .before .before .before .before .before .before .before .before .before .args .end) (c .before .before .before .before .before .before .before .before .before .before .args .s .now) (omega arith) (c .before .before .before .before .before .before .before .before .before .before .pre .1) (c .before .before .if3 .left) q in
     omega (arith, r, span-hit (c .before .before .before .before .before .before .before .before .before .before .args .b) (c .before .before .before .before .before .before .before .before .before .loop .i + 3) (c .before .before .before .before .before .before .before .before .before .before .args .end) (c .before .before .before .before .before .before .before .before .before .before .args .s .now) (omega arith) (c .before .before .before .before .before .before .before .before .before .before .pre .1) (c .if4 .taken))
-
-add-i : tie.Need-add-i Inv-loop μ-loop Inv-loop2 μ-loop2
-add-i c = search needs
-
-loop-less : tie.Need-loop-less Inv-loop μ-loop Inv-loop2 μ-loop2
-loop-less c = search needs
 
 loop-again : tie.Need-loop-again Inv-loop μ-loop Inv-loop2 μ-loop2
 loop-again c =
@@ -90,20 +48,8 @@ loop-again c =
     let t = span-more (c .before .before .before .before .before .before .before .before .before .before .args .b) (c .before .before .before .before .before .before .before .before .before .loop .i) 3 (c .before .before .before .before .before .before .before .before .before .before .args .end) (c .before .before .before .before .before .before .before .before .before .before .args .s .now) (omega arith) (c .before .before .before .before .before .before .before .before .before .before .pre .1) (c .if4 .left) r in
     (omega arith, omega (arith, t))
 
-loop2-holds : tie.Need-loop2-holds Inv-loop μ-loop Inv-loop2 μ-loop2
-loop2-holds c = search needs
-
-shared-slice-read-if5 : tie.Need-shared-slice-read-if5 Inv-loop μ-loop Inv-loop2 μ-loop2
-shared-slice-read-if5 c = search needs
-
 returns-5 : tie.Need-returns-5 Inv-loop μ-loop Inv-loop2 μ-loop2
 returns-5 c = omega (arith, span-hit (c .before .before .before .before .before .before .args .b) (c .before .before .before .loop2 .i) (c .before .before .before .before .before .before .args .end) (c .before .before .before .before .before .before .args .s .now) (omega arith) (c .before .before .before .before .before .before .pre .1) (c .if5 .taken))
-
-add-i-2 : tie.Need-add-i-2 Inv-loop μ-loop Inv-loop2 μ-loop2
-add-i-2 c = search needs
-
-loop2-less : tie.Need-loop2-less Inv-loop μ-loop Inv-loop2 μ-loop2
-loop2-less c = search needs
 
 loop2-again : tie.Need-loop2-again Inv-loop μ-loop Inv-loop2 μ-loop2
 loop2-again c = (omega arith, omega (arith, span-miss (c .before .before .before .before .before .before .args .b) (c .before .before .before .loop2 .i) (c .before .before .before .before .before .before .args .end) (c .before .before .before .before .before .before .args .s .now) (omega arith) (c .before .before .before .before .before .before .pre .1) (c .if5 .left)))
@@ -119,29 +65,29 @@ find-spec =
     μ-loop
     Inv-loop2
     μ-loop2
-    loop-holds
-    sub-loop
-    shared-slice-read-if1
+    (λ c. search needs)
+    (λ c. search needs)
+    (λ c. search needs)
     returns
-    add-if2
-    shared-slice-read-if2
-    add-result
+    (λ c. search needs)
+    (λ c. search needs)
+    (λ c. search needs)
     returns-2
-    add-if3
-    shared-slice-read-if3
-    add-result-2
+    (λ c. search needs)
+    (λ c. search needs)
+    (λ c. search needs)
     returns-3
-    add-if4
-    shared-slice-read-if4
-    add-result-3
+    (λ c. search needs)
+    (λ c. search needs)
+    (λ c. search needs)
     returns-4
-    add-i
-    loop-less
+    (λ c. search needs)
+    (λ c. search needs)
     loop-again
-    loop2-holds
-    shared-slice-read-if5
+    (λ c. search needs)
+    (λ c. search needs)
     returns-5
-    add-i-2
-    loop2-less
+    (λ c. search needs)
+    (λ c. search needs)
     loop2-again
     returns-6)

@@ -5,14 +5,8 @@ use Rattle.text.proofs.Names.{byte-capital, byte-digit, byte-other}
 use Rattle.text.proofs.is_name_byte.Statement.{statement}
 use Rattle.text.proofs.is_name_byte.Tie as tie
 
-is-capital-requires : tie.Need-is-capital-requires
-is-capital-requires c κs = search needs
-
 returns : tie.Need-returns
 returns c = byte-capital (c .before .before .args .c) (sym (c .before .is-capital .ensures) ∙ c .if1 .taken)
-
-is-digit-requires : tie.Need-is-digit-requires
-is-digit-requires c κs = search needs
 
 returns-2 : tie.Need-returns-2
 returns-2 c = byte-digit (c .before .before .before .before .args .c) (sym (c .before .before .before .is-capital .ensures) ∙ c .before .before .if1 .left) (sym (c .before .is-digit .ensures) ∙ c .if2 .taken)
@@ -22,4 +16,4 @@ returns-3 c = byte-other (c .before .before .before .before .args .c) (sym (c .b
 
 pub is-name-byte-spec : {M : Type 1} → statement M
 is-name-byte-spec =
-    tie.close (tie.spec is-capital-requires returns is-digit-requires returns-2 returns-3)
+    tie.close (tie.spec (λ c κs. search needs) returns (λ c κs. search needs) returns-2 returns-3)

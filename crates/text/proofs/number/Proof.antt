@@ -22,16 +22,10 @@ returns c =
     let a = c .before .args in
     rw (number-empty (a .at) (a .end) (a .s .now) (omega arith) (omega arith))
 
-sub-n : tie.Need-sub-n Inv-loop μ-loop
-sub-n c = search needs
-
 returns-2 : tie.Need-returns-2 Inv-loop μ-loop
 returns-2 c =
     let a = c .before .before .args in
     rw (number-long (a .at) (a .end) (a .s .now) (omega arith) (omega arith) (omega arith))
-
-shared-slice-read-if3 : tie.Need-shared-slice-read-if3 Inv-loop μ-loop
-shared-slice-read-if3 c = search needs
 
 returns-3 : tie.Need-returns-3 Inv-loop μ-loop
 returns-3 c =
@@ -47,9 +41,6 @@ loop-holds : tie.Need-loop-holds Inv-loop μ-loop
 loop-holds c =
     let a = c .before .before .before .before .args in
     (omega arith, omega arith, one-le-pow _ 10 (omega arith), number-read (a .at) (a .end) (a .s .now) (omega arith) (omega arith) (c .if3 .left) (omega arith))
-
-shared-slice-read-c : tie.Need-shared-slice-read-c Inv-loop μ-loop
-shared-slice-read-c c = search needs
 
 returns-5 : tie.Need-returns-5 Inv-loop μ-loop
 returns-5 c =
@@ -86,12 +77,6 @@ add-v c =
     let i = L .loop .i in
     omega (arith, small (L .loop .v) (i - a .at) (L .loop .inv .2) (omega arith))
 
-add-i : tie.Need-add-i Inv-loop μ-loop
-add-i c = search needs
-
-loop-less : tie.Need-loop-less Inv-loop μ-loop
-loop-less c = search needs
-
 loop-again : tie.Need-loop-again Inv-loop μ-loop
 loop-again c =
     let L = c .before .before .before .before in
@@ -113,19 +98,19 @@ number-spec =
     Inv-loop
     μ-loop
     returns
-    sub-n
+    (λ c. search needs)
     returns-2
-    shared-slice-read-if3
+    (λ c. search needs)
     returns-3
     returns-4
     loop-holds
-    shared-slice-read-c
+    (λ c. search needs)
     returns-5
     returns-6
     mul-v
     cast-v
     add-v
-    add-i
-    loop-less
+    (λ c. search needs)
+    (λ c. search needs)
     loop-again
     returns-7)

@@ -16,12 +16,6 @@ Inv-loop s a e t b f n i₀ i = (i ≤ n) × (n ≡ length (slice a e s)) × (n 
 abbrev μ-loop : tie.MeasureT-loop
 μ-loop s a e t b f n i₀ i = n - i
 
-span-length-requires : tie.Need-span-length-requires Inv-loop μ-loop
-span-length-requires c κs = search needs
-
-span-length-requires-2 : tie.Need-span-length-requires-2 Inv-loop μ-loop
-span-length-requires-2 c κs = search needs
-
 returns : tie.Need-returns Inv-loop μ-loop
 returns c = sym (same-length (slice (c .before .before .before .before .before .args .a) (c .before .before .before .before .before .args .e) (c .before .before .before .before .before .args .s .now)) (slice (c .before .before .before .before .before .args .b) (c .before .before .before .before .before .args .f) (c .before .before .before .before .before .args .t .now)) (λ w. c .if1 .taken (c .before .before .span-length .ensures ∙ w ∙ sym (c .before .span-length2 .ensures))))
 
@@ -43,12 +37,6 @@ shared-slice-read-if2-2 c = in-text (c .before .before .before .before .before .
 returns-2 : tie.Need-returns-2 Inv-loop μ-loop
 returns-2 c = sym (c .before .before .before .before .loop .inv .3 ∙ spans-miss (c .before .before .before .before .before .before .before .before .before .before .args .s .now) (c .before .before .before .before .before .before .before .before .before .before .args .a) (c .before .before .before .before .before .before .before .before .before .before .args .e) (c .before .before .before .before .before .before .before .before .before .before .args .t .now) (c .before .before .before .before .before .before .before .before .before .before .args .b) (c .before .before .before .before .before .before .before .before .before .before .args .f) (c .before .before .before .before .loop .i) (c .before .before .before .before .before .before .before .span-length .result) (c .before .before .before .before .loop .inv .1) (c .before .before .before .before .loop .inv .2) (omega arith) (c .if2 .taken))
 
-add-i : tie.Need-add-i Inv-loop μ-loop
-add-i c = omega arith
-
-loop-less : tie.Need-loop-less Inv-loop μ-loop
-loop-less c = omega arith
-
 loop-again : tie.Need-loop-again Inv-loop μ-loop
 loop-again c = (omega arith, c .before .before .before .before .loop .inv .1, c .before .before .before .before .loop .inv .2, c .before .before .before .before .loop .inv .3 ∙ spans-hit (c .before .before .before .before .before .before .before .before .before .before .args .s .now) (c .before .before .before .before .before .before .before .before .before .before .args .a) (c .before .before .before .before .before .before .before .before .before .before .args .e) (c .before .before .before .before .before .before .before .before .before .before .args .t .now) (c .before .before .before .before .before .before .before .before .before .before .args .b) (c .before .before .before .before .before .before .before .before .before .before .args .f) (c .before .before .before .before .loop .i) (c .before .before .before .before .before .before .before .span-length .result) (c .before .before .before .before .loop .inv .1) (c .before .before .before .before .loop .inv .2) (omega arith) (c .if2 .left))
 
@@ -61,8 +49,8 @@ same-span-spec =
     (tie.spec
     Inv-loop
     μ-loop
-    span-length-requires
-    span-length-requires-2
+    (λ c κs. search needs)
+    (λ c κs. search needs)
     returns
     loop-holds
     add-if2
@@ -70,7 +58,7 @@ same-span-spec =
     add-if2-2
     shared-slice-read-if2-2
     returns-2
-    add-i
-    loop-less
+    (λ c. omega arith)
+    (λ c. omega arith)
     loop-again
     returns-3)

@@ -4,11 +4,8 @@ use Rattle.text.proofs.Laws.{same-whole}
 use Rattle.text.proofs.word.Statement.{statement}
 use Rattle.text.proofs.word.Tie as tie
 
-same-span-requires : tie.Need-same-span-requires
-same-span-requires c κs = search needs
-
 returns : tie.Need-returns
 returns c = same-whole _ _ _ (c .same-span .ensures)
 
 pub word-spec : {M : Type 1} → statement M
-word-spec = tie.close (tie.spec same-span-requires returns)
+word-spec = tie.close (tie.spec (λ c κs. search needs) returns)

@@ -10,20 +10,8 @@ use borrow.Author.Needs.{needs}
 use Rattle.tuples.proofs.add.Statement.{statement}
 use Rattle.tuples.proofs.add.Tie as tie
 
-spot-requires : tie.Need-spot-requires
-spot-requires c κs = search needs
-
-enum-known-t : tie.Need-enum-known-t
-enum-known-t c = search needs
-
-enum-known-t-2 : tie.Need-enum-known-t-2
-enum-known-t-2 c = search needs
-
 get-requires : tie.Need-get-requires
 get-requires c κs = omega (arith, spot-limit (c .before .before .before .before .before .before .before .before .before .before .before .args .q .now) (withArrays noSignature (c .before .before .before .before .before .before .before .before .before .before .before .args .from .now) (c .before .before .before .before .before .before .before .before .before .before .before .args .to .now) (c .before .before .before .before .before .before .before .before .before .before .before .args .arity .now)) (c .before .before .before .before .before .before .before .before .before .before .before .args .lo) (c .before .before .before .before .before .before .before .before .before .before .before .args .m) (c .before .before .before .before .before .before .before .before .before .before .before .args .n) (slice (c .before .before .before .before .before .before .before .before .before .before .before .args .a) (c .before .before .before .before .before .before .before .before .before .before .before .args .e) (c .before .before .before .before .before .before .before .before .before .before .before .args .s .now)) (listOf (c .before .before .before .before .before .before .before .before .before .before .before .args .p)) (c .before .before .before .before .before .before .before .before .before .before .before .args .table .now) (c .before .before .before .before .before .before .before .before .before .before .before .args .table .now) (c .before .before .before .before .spot .result) (c .before .before .before .before .spot .ensures noSignature) _ (c .before .before .t2 .given .1))
-
-same-length : tie.Need-same-length
-same-length c = search needs
 
 returns : tie.Need-returns
 returns c = λ g. add-10 (c .before .before .before .before .before .before .before .before .before .before .before .before .before .args .q .now) (withArrays g (c .before .before .before .before .before .before .before .before .before .before .before .before .before .args .from .now) (c .before .before .before .before .before .before .before .before .before .before .before .before .before .args .to .now) (c .before .before .before .before .before .before .before .before .before .before .before .before .before .args .arity .now)) (c .before .before .before .before .before .before .before .before .before .before .before .before .before .args .lo) (c .before .before .before .before .before .before .before .before .before .before .before .before .before .args .m) (c .before .before .before .before .before .before .before .before .before .before .before .before .before .args .n) (slice (c .before .before .before .before .before .before .before .before .before .before .before .before .before .args .a) (c .before .before .before .before .before .before .before .before .before .before .before .before .before .args .e) (c .before .before .before .before .before .before .before .before .before .before .before .before .before .args .s .now)) (listOf (c .before .before .before .before .before .before .before .before .before .before .before .before .before .args .p)) _ _ (c .before .before .before .before .before .before .spot .result) (c .before .before .before .before .before .before .spot .ensures g) _ (c .before .before .before .before .t2 .given .1) (sym (c .before .get .ensures) ∙ c .if1 .taken)
@@ -34,9 +22,6 @@ set-requires c κs = omega (arith, spot-limit (c .before .before .before .before
 returns-2 : tie.Need-returns-2
 returns-2 c = λ g. add-fault (c .before .before .before .before .before .before .before .before .before .before .args .q .now) (withArrays g (c .before .before .before .before .before .before .before .before .before .before .args .from .now) (c .before .before .before .before .before .before .before .before .before .before .args .to .now) (c .before .before .before .before .before .before .before .before .before .before .args .arity .now)) (c .before .before .before .before .before .before .before .before .before .before .args .lo) (c .before .before .before .before .before .before .before .before .before .before .args .m) (c .before .before .before .before .before .before .before .before .before .before .args .n) (slice (c .before .before .before .before .before .before .before .before .before .before .args .a) (c .before .before .before .before .before .before .before .before .before .before .args .e) (c .before .before .before .before .before .before .before .before .before .before .args .s .now)) (listOf (c .before .before .before .before .before .before .before .before .before .before .args .p)) _ _ (c .before .before .before .spot .result) (c .before .before .before .spot .ensures g) _ (c .before .t .given .1)
 
-same-length-2 : tie.Need-same-length-2
-same-length-2 c = search needs
-
 returns-3 : tie.Need-returns-3
 returns-3 c = λ g. add-0 (c .before .before .before .before .before .before .before .before .before .before .before .before .before .before .before .before .before .args .q .now) (withArrays g (c .before .before .before .before .before .before .before .before .before .before .before .before .before .before .before .before .before .args .from .now) (c .before .before .before .before .before .before .before .before .before .before .before .before .before .before .before .before .before .args .to .now) (c .before .before .before .before .before .before .before .before .before .before .before .before .before .before .before .before .before .args .arity .now)) (c .before .before .before .before .before .before .before .before .before .before .before .before .before .before .before .before .before .args .lo) (c .before .before .before .before .before .before .before .before .before .before .before .before .before .before .before .before .before .args .m) (c .before .before .before .before .before .before .before .before .before .before .before .before .before .before .before .before .before .args .n) (slice (c .before .before .before .before .before .before .before .before .before .before .before .before .before .before .before .before .before .args .a) (c .before .before .before .before .before .before .before .before .before .before .before .before .before .before .before .before .before .args .e) (c .before .before .before .before .before .before .before .before .before .before .before .before .before .before .before .before .before .args .s .now)) (listOf (c .before .before .before .before .before .before .before .before .before .before .before .before .before .before .before .before .before .args .p)) _ _ (c .before .before .before .before .before .before .before .before .before .before .spot .result) (c .before .before .before .before .before .before .before .before .before .before .spot .ensures g) _ (c .before .before .before .before .before .before .before .before .t2 .given .1) (sym (c .before .before .before .before .before .get .ensures) ∙ c .before .before .before .before .if1 .left) (c .before .before .set .ensures)
 
@@ -44,13 +29,13 @@ pub add-spec : {M : Type 1} → statement M
 add-spec =
     tie.close
     (tie.spec
-    spot-requires
-    enum-known-t
-    enum-known-t-2
+    (λ c κs. search needs)
+    (λ c. search needs)
+    (λ c. search needs)
     get-requires
-    same-length
+    (λ c. search needs)
     returns
     set-requires
     returns-2
-    same-length-2
+    (λ c. search needs)
     returns-3)

@@ -7,18 +7,6 @@ use Rattle.records.specs.declared.Places.{Places}
 use Rattle.tuples.proofs.count.Statement.{statement}
 use Rattle.tuples.proofs.count.Tie as tie
 
-enum-told : tie.Need-enum-told
-enum-told c = search needs
-
-enum-told-2 : tie.Need-enum-told-2
-enum-told-2 c = search needs
-
-enum-told-3 : tie.Need-enum-told-3
-enum-told-3 c = search needs
-
-enum-told-4 : tie.Need-enum-told-4
-enum-told-4 c = search needs
-
 returns : tie.Need-returns
 unfolding listOf
 returns c = sym (ap (λ (p : Places). length (listOf p)) (c .enum-told .given .1))
@@ -38,4 +26,4 @@ returns-4 c = sym (ap (λ (p : Places). length (listOf p)) (c .enum-told4 .given
 pub count-spec : {M : Type 1} → statement M
 count-spec =
     tie.close
-    (tie.spec enum-told enum-told-2 enum-told-3 enum-told-4 returns returns-2 returns-3 returns-4)
+    (tie.spec (λ c. search needs) (λ c. search needs) (λ c. search needs) (λ c. search needs) returns returns-2 returns-3 returns-4)

@@ -8,9 +8,6 @@ use borrow.Author.Needs.{needs}
 use Rattle.tuples.proofs.first_word.Statement.{statement}
 use Rattle.tuples.proofs.first_word.Tie as tie
 
-slice-aggregate-word-of : tie.Need-slice-aggregate-word-of
-slice-aggregate-word-of c = search needs
-
 word-of-requires : tie.Need-word-of-requires
 word-of-requires c κs = let e : length (c .before .before .args .g .arity) ≡ 12 = search needs in (omega arith, omega arith, omega arith, omega (arith, e), c .before .before .pre .3)
 
@@ -18,4 +15,4 @@ returns : tie.Need-returns
 returns c = (c .word-of .ensures .0 (c .before .before .before .args .g) (c .before .before .before .args .g .from) (c .before .before .before .args .g .to), c .word-of .ensures .1)
 
 pub first-word-spec : {M : Type 1} → statement M
-first-word-spec = tie.close (tie.spec slice-aggregate-word-of word-of-requires returns)
+first-word-spec = tie.close (tie.spec (λ c. search needs) word-of-requires returns)

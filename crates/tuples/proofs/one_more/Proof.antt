@@ -5,12 +5,6 @@ use Rattle.tuples.proofs.Rows.{more-outside, more-above, more-inside, s
 use Rattle.tuples.proofs.one_more.Statement.{statement}
 use Rattle.tuples.proofs.one_more.Tie as tie
 
-enum-told : tie.Need-enum-told
-enum-told c = search needs
-
-enum-known-f : tie.Need-enum-known-f
-enum-known-f c = search needs
-
 mul-t7 : tie.Need-mul-t7
 mul-t7 c = omega (arith, small-times _ (c .before .before .before .before .args .n) (small-row 256 _ _ (c .before .before .f .given .1) (c .before .before .before .before .pre .1)) (omega arith))
 
@@ -28,4 +22,4 @@ returns-3 c = λ xs w. more-above (c .before .before .before .before .args .n) _
 
 pub one-more-spec : {M : Type 1} → statement M
 one-more-spec =
-    tie.close (tie.spec enum-told enum-known-f mul-t7 add-t8 returns returns-2 returns-3)
+    tie.close (tie.spec (λ c. search needs) (λ c. search needs) mul-t7 add-t8 returns returns-2 returns-3)

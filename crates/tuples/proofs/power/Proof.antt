@@ -19,12 +19,6 @@ loop-holds c = (omega arith, sym (pow-zero (c .args .n)))
 mul-r : tie.Need-mul-r Inv-loop μ-loop
 mul-r c = omega (arith, power-next (c .before .before .args .n) (c .before .loop .i) (c .before .loop .r) (c .before .loop .inv .1), power-le (c .before .before .args .n) (c .before .loop .i + 1) (omega arith) (omega arith))
 
-add-i : tie.Need-add-i Inv-loop μ-loop
-add-i c = omega arith
-
-loop-less : tie.Need-loop-less Inv-loop μ-loop
-loop-less c = omega arith
-
 loop-again : tie.Need-loop-again Inv-loop μ-loop
 loop-again c = (omega arith, power-next (c .before .before .args .n) (c .before .loop .i) (c .before .loop .r) (c .before .loop .inv .1))
 
@@ -33,4 +27,4 @@ returns c = let e : c .before .loop .i ≡ c .before .before .args .k = omega ar
 
 pub power-spec : {M : Type 1} → statement M
 power-spec =
-    tie.close (tie.spec Inv-loop μ-loop loop-holds mul-r add-i loop-less loop-again returns)
+    tie.close (tie.spec Inv-loop μ-loop loop-holds mul-r (λ c. omega arith) (λ c. omega arith) loop-again returns)

@@ -6,50 +6,20 @@ use Rattle.tuples.proofs.Rows.{row-none, no-row, row-small, places-none
 use Rattle.tuples.proofs.row.Statement.{statement}
 use Rattle.tuples.proofs.row.Tie as tie
 
-enum-told : tie.Need-enum-told
-enum-told c = search needs
-
-enum-known-p : tie.Need-enum-known-p
-enum-known-p c = search needs
-
-cast-one-more : tie.Need-cast-one-more
-cast-one-more c = search needs
-
 one-more-requires : tie.Need-one-more-requires
 one-more-requires c κs = (omega arith, no-row)
-
-enum-known-p-2 : tie.Need-enum-known-p-2
-enum-known-p-2 c = search needs
-
-cast-one-more-2 : tie.Need-cast-one-more-2
-cast-one-more-2 c = search needs
 
 one-more-requires-2 : tie.Need-one-more-requires-2
 one-more-requires-2 c κs = (omega arith, no-row)
 
-cast-one-more-3 : tie.Need-cast-one-more-3
-cast-one-more-3 c = search needs
-
 one-more-requires-3 : tie.Need-one-more-requires-3
 one-more-requires-3 c κs = (omega arith, row-small (c .before .before .before .before .args .n) _ _ (c .one-more2 .ensures [] (row-none (c .before .before .before .before .args .n))) (omega arith) (omega arith))
-
-enum-known-p-3 : tie.Need-enum-known-p-3
-enum-known-p-3 c = search needs
-
-cast-one-more-4 : tie.Need-cast-one-more-4
-cast-one-more-4 c = search needs
 
 one-more-requires-4 : tie.Need-one-more-requires-4
 one-more-requires-4 c κs = (omega arith, no-row)
 
-cast-one-more-5 : tie.Need-cast-one-more-5
-cast-one-more-5 c = search needs
-
 one-more-requires-5 : tie.Need-one-more-requires-5
 one-more-requires-5 c κs = (omega arith, row-small (c .before .before .before .before .args .n) _ _ (c .one-more4 .ensures [] (row-none (c .before .before .before .before .args .n))) (omega arith) (omega arith))
-
-cast-one-more-6 : tie.Need-cast-one-more-6
-cast-one-more-6 c = search needs
 
 one-more-requires-6 : tie.Need-one-more-requires-6
 one-more-requires-6 c κs = (omega arith, row-small (c .before .before .before .before .before .args .n) _ _ (c .one-more5 .ensures _ (c .before .one-more4 .ensures [] (row-none (c .before .before .before .before .before .args .n)))) (omega arith) (omega arith))
@@ -70,21 +40,21 @@ pub row-spec : {M : Type 1} → statement M
 row-spec =
     tie.close
     (tie.spec
-    enum-told
-    enum-known-p
-    cast-one-more
+    (λ c. search needs)
+    (λ c. search needs)
+    (λ c. search needs)
     one-more-requires
-    enum-known-p-2
-    cast-one-more-2
+    (λ c. search needs)
+    (λ c. search needs)
     one-more-requires-2
-    cast-one-more-3
+    (λ c. search needs)
     one-more-requires-3
-    enum-known-p-3
-    cast-one-more-4
+    (λ c. search needs)
+    (λ c. search needs)
     one-more-requires-4
-    cast-one-more-5
+    (λ c. search needs)
     one-more-requires-5
-    cast-one-more-6
+    (λ c. search needs)
     one-more-requires-6
     returns
     returns-2

@@ -9,27 +9,6 @@ use borrow.Author.Needs.{needs}
 use Rattle.tuples.proofs.spot.Statement.{statement}
 use Rattle.tuples.proofs.spot.Tie as tie
 
-count-requires : tie.Need-count-requires
-count-requires c κs = search needs
-
-lookup-requires : tie.Need-lookup-requires
-lookup-requires c κs = search needs
-
-enum-told : tie.Need-enum-told
-enum-told c = search needs
-
-enum-known-f : tie.Need-enum-known-f
-enum-known-f c = search needs
-
-row-requires : tie.Need-row-requires
-row-requires c κs = search needs
-
-enum-told-2 : tie.Need-enum-told-2
-enum-told-2 c = search needs
-
-enum-known-w : tie.Need-enum-known-w
-enum-known-w c = search needs
-
 word-of-requires : tie.Need-word-of-requires
 word-of-requires c κs = let b = found-bounds (c .before .before .before .before .before .before .before .before .before .before .before .before .before .before .args .q .now) (withArrays noSignature (c .before .before .before .before .before .before .before .before .before .before .before .before .before .before .args .from .now) (c .before .before .before .before .before .before .before .before .before .before .before .before .before .before .args .to .now) (c .before .before .before .before .before .before .before .before .before .before .before .before .before .before .args .arity .now)) (c .before .before .before .before .before .before .before .before .before .before .before .before .before .before .args .lo) (c .before .before .before .before .before .before .before .before .before .before .before .before .before .before .args .m) (c .before .before .before .before .before .before .before .before .before .before .before .before .before .before .args .n) (slice (c .before .before .before .before .before .before .before .before .before .before .before .before .before .before .args .a) (c .before .before .before .before .before .before .before .before .before .before .before .before .before .before .args .e) (c .before .before .before .before .before .before .before .before .before .before .before .before .before .before .args .s .now)) (listOf (c .before .before .before .before .before .before .before .before .before .before .before .before .before .before .args .p)) (c .before .before .before .before .before .before .before .before .count .result) (c .before .before .before .before .before .before .before .before .count .ensures) (c .before .before .before .before .before .before .before .lookup .result) (c .before .before .before .before .before .before .before .lookup .ensures noSignature) (c .before .before .before .before .before .f .given .0 .0) (c .before .before .before .before .before .f .given .1) in
     (omega arith, b .0, omega (arith, c .before .before .before .before .before .before .before .before .before .before .before .before .before .before .pre .0 .few), c .before .before .before .before .before .before .before .before .before .before .before .before .before .before .pre .0 .length-arity, λ j h. c .before .before .before .before .before .before .before .before .before .before .before .before .before .before .pre .0 .arities j (omega arith))
@@ -56,13 +35,13 @@ pub spot-spec : {M : Type 1} → statement M
 spot-spec =
     tie.close
     (tie.spec
-    count-requires
-    lookup-requires
-    enum-told
-    enum-known-f
-    row-requires
-    enum-told-2
-    enum-known-w
+    (λ c κs. search needs)
+    (λ c κs. search needs)
+    (λ c. search needs)
+    (λ c. search needs)
+    (λ c κs. search needs)
+    (λ c. search needs)
+    (λ c. search needs)
     word-of-requires
     mul-t20
     add-t21

@@ -22,12 +22,6 @@ abbrev μ-loop : tie.MeasureT-loop
 loop-holds : tie.Need-loop-holds Inv-loop μ-loop
 loop-holds c = (omega arith, omega arith, λ g from to. word-none (withArrays g from to (c .before .args .arity .now)) (c .before .args .n) (c .before .args .lo), omega arith)
 
-mul-power : tie.Need-mul-power Inv-loop μ-loop
-mul-power c = search needs
-
-shared-slice-read-power : tie.Need-shared-slice-read-power Inv-loop μ-loop
-shared-slice-read-power c = search needs
-
 power-requires : tie.Need-power-requires Inv-loop μ-loop
 power-requires c κs = (omega arith, c .before .before .before .before .pre .4 (c .before .before .loop .j) (omega arith))
 
@@ -36,12 +30,6 @@ add-sum c = omega (arith, c .power .ensures, power-le (c .before .before .before
 
 add-sum-2 : tie.Need-add-sum-2 Inv-loop μ-loop
 add-sum-2 c = omega (arith, c .power .ensures, power-le (c .before .before .before .before .before .args .n) (getD (c .before .before .before .before .before .args .arity .now) (c .before .before .before .loop .j) 0) (omega arith) (c .before .before .before .before .before .pre .4 (c .before .before .before .loop .j) (omega arith)))
-
-add-j : tie.Need-add-j Inv-loop μ-loop
-add-j c = omega arith
-
-loop-less : tie.Need-loop-less Inv-loop μ-loop
-loop-less c = omega arith
 
 loop-again : tie.Need-loop-again Inv-loop μ-loop
 loop-again c = (omega arith, omega arith, λ g from to. word-next (withArrays g from to (c .before .before .before .before .before .args .arity .now)) (c .before .before .before .before .before .args .n) (c .before .before .before .before .before .args .lo) (c .before .before .before .loop .j) (c .before .before .before .loop .sum) (c .power .result) (omega arith) (c .before .before .before .loop .inv .2 g from to) (c .power .ensures), word-limit (c .before .before .before .before .before .args .lo) (c .before .before .before .loop .j) (c .before .before .before .loop .sum) (c .power .result) (omega arith) (c .before .before .before .loop .inv .3) (omega (arith, c .power .ensures, power-le (c .before .before .before .before .before .args .n) (getD (c .before .before .before .before .before .args .arity .now) (c .before .before .before .loop .j) 0) (omega arith) (c .before .before .before .before .before .pre .4 (c .before .before .before .loop .j) (omega arith)))))
@@ -56,12 +44,12 @@ word-of-spec =
     Inv-loop
     μ-loop
     loop-holds
-    mul-power
-    shared-slice-read-power
+    (λ c. search needs)
+    (λ c. search needs)
     power-requires
     add-sum
     add-sum-2
-    add-j
-    loop-less
+    (λ c. omega arith)
+    (λ c. omega arith)
     loop-again
     returns)
