@@ -8,7 +8,7 @@ use lib.Dec.{ltb}
 use Rattle.definitions.specs.Lists.{if_then_else_, option, flatMap, mapFrom, below}
 use Rattle.definitions.specs.Relations.{static, Relation, isFunction, isInjective}
 use Rattle.definitions.specs.Sheets.{relationsOf}
-use Rattle.definitions.specs.Truth.{Case, holds}
+use Rattle.definitions.specs.Truth.{Case, holds, membersOf}
 use Rattle.definitions.specs.Tree.{Tree, leaf, treeOf, nodes, free, isForall}
 
 -- ---- rows: tuples of any number of places are numbered with the "first place most significant"
@@ -37,18 +37,19 @@ unfoldable pub countOf : {A : Type 0} → List (Block A) → ℕ
 countOf [] = zero
 countOf (b ∷ bs) = b .width + countOf bs
 
--- ---- the grounded problem of a case: its elements, all relations in the order of their numbers, its tree, and the tree's
--- non-literal nodes in preorder
+-- ---- the grounded problem of a case: its elements, the range of each sort, all relations in the order of their numbers, its tree,
+-- and the tree's non-literal nodes in preorder
 
 pub record Problem : Type 0 where
   pub source : Case
   pub size : ℕ
+  pub range : ℕ → List ℕ
   pub relations : List Relation
   pub root : Tree
   pub nodeList : List Tree
 
 unfoldable pub problemWith : Case → Tree → Problem
-problemWith c t = record { source = c; size = c .site .size; relations = relationsOf (c .question); root = t; nodeList = nodes t }
+problemWith c t = record { source = c; size = c .site .size; range = membersOf c; relations = relationsOf (c .question); root = t; nodeList = nodes t }
 
 unfoldable pub problemOf : Case → Problem
 problemOf c = problemWith c (treeOf (c .question))

@@ -2,11 +2,11 @@
 use Prim.Native.Nat.{ℕ, zero, suc, _+_, _/_, _%_, _^_}
 use mathlib.Core.Bool.{Bool, true, false, not, _&&_, _||_}
 use mathlib.Core.List.{List, [], _∷_, _++_, map}
-use lib.ListN.{length}
-use Rattle.definitions.specs.Lists.{if_then_else_, all, any, filter, option, position, below, sum, flatMap}
+use lib.ListN.{length, getD}
+use Rattle.definitions.specs.Lists.{if_then_else_, all, any, filter, option, position, below, isIn, upTo, sum, flatMap}
 use Rattle.definitions.specs.Relations.{Relation, Tuple, isAmong, isChosen, isFunction}
 use Rattle.definitions.specs.Sheets.{Question, relationsOf}
-use Rattle.definitions.specs.Truth.{Case, holds}
+use Rattle.definitions.specs.Truth.{Case, holds, membersOf}
 use Rattle.definitions.specs.Tree.{Tree, Trees, leaf, forallNode, existsNode, andNode, orNode, end, _then_, Part, parts, treeOf, nodes, free, isForall}
 use Rattle.definitions.specs.Atoms.{Problem, relationAt, tuplesOf, nodeWidth, placesOf, nodeAtoms}
 use Rattle.definitions.specs.Actions.{Action, set, beginProof, proveAnd, proveOr, proveExists, proveForall, proveGoal, actionNumber, Values, withValue, valuesAt}
@@ -16,8 +16,8 @@ unfoldable mutual
   pub treeHolds : Case → List Tuple → Values → Tree → Bool
   treeHolds c picks e (leaf true r ls) = holds c picks r (map e ls)
   treeHolds c picks e (leaf false r ls) = not (holds c picks r (map e ls))
-  treeHolds c picks e (forallNode d t) = all (λ x. treeHolds c picks (withValue e d x) t) (below (c .site .size))
-  treeHolds c picks e (existsNode d t) = any (λ x. treeHolds c picks (withValue e d x) t) (below (c .site .size))
+  treeHolds c picks e (forallNode d s t) = all (λ x. treeHolds c picks (withValue e d x) t) (membersOf c s)
+  treeHolds c picks e (existsNode d s t) = any (λ x. treeHolds c picks (withValue e d x) t) (membersOf c s)
   treeHolds c picks e (andNode ts) = treesHold c picks e ts
   treeHolds c picks e (orNode ts) = someHolds c picks e ts
 
@@ -29,27 +29,28 @@ unfoldable mutual
   someHolds c picks e end = false
   someHolds c picks e (t then ts) = treeHolds c picks e t || someHolds c picks e ts
 
--- A node atom is true if its subtree is so at the values of its row; that of a `forall` at z if what is under it is so at every
--- element up to z.
+-- A node atom is true if its subtree is so at the values of its row; that of a `forall` at z, an element of its range, if what is
+-- under it is so at every one up to z.
 unfoldable pub isTrueAt : Problem → List Tuple → Tree → ℕ → Bool
 isTrueAt p picks (leaf q r ls) row = false
-isTrueAt p picks (forallNode d t) row =
-    let e = valuesAt (p .size) (forallNode d t) (row / p .size) in
-    all (λ x. treeHolds (p .source) picks (withValue e d x) t) (below (suc (row % p .size)))
-isTrueAt p picks (existsNode d t) row = treeHolds (p .source) picks (valuesAt (p .size) (existsNode d t) row) (existsNode d t)
+isTrueAt p picks (forallNode d s t) row =
+    let e = valuesAt (p .size) (forallNode d s t) (row / p .size) in
+    isIn (row % p .size) (p .range s)
+    && all (λ x. treeHolds (p .source) picks (withValue e d x) t) (upTo (p .range s) (row % p .size))
+isTrueAt p picks (existsNode d s t) row = treeHolds (p .source) picks (valuesAt (p .size) (existsNode d s t) row) (existsNode d s t)
 isTrueAt p picks (andNode ts) row = treeHolds (p .source) picks (valuesAt (p .size) (andNode ts) row) (andNode ts)
 isTrueAt p picks (orNode ts) row = treeHolds (p .source) picks (valuesAt (p .size) (orNode ts) row) (orNode ts)
 
--- the index of the first part, or the least element, that makes an atom true
+-- the index of the first part, or of the least element, that makes an atom true
 unfoldable pub least : {A : Type 0} → (A → Bool) → List A → ℕ
 least test xs = option (position test xs) zero (λ i. i)
 
 unfoldable pub stepFor : Problem → List Tuple → ℕ → Tree → ℕ → Action
 stepFor p picks v (leaf q r ls) row = proveGoal
-stepFor p picks v (forallNode d t) row = proveForall v (row / p .size) (row % p .size)
-stepFor p picks v (existsNode d t) row =
-    let e = valuesAt (p .size) (existsNode d t) row in
-    proveExists v row (least (λ x. treeHolds (p .source) picks (withValue e d x) t) (below (p .size)))
+stepFor p picks v (forallNode d s t) row = proveForall v (row / p .size) (row % p .size)
+stepFor p picks v (existsNode d s t) row =
+    let e = valuesAt (p .size) (existsNode d s t) row in
+    proveExists v row (getD (p .range s) (least (λ x. treeHolds (p .source) picks (withValue e d x) t) (p .range s)) 0)
 stepFor p picks v (andNode ts) row = proveAnd v row
 stepFor p picks v (orNode ts) row =
     let e = valuesAt (p .size) (orNode ts) row in

@@ -236,6 +236,10 @@ finish (ok f (b ∷ l)) = none
 unfoldable pub readFormula : List ℕ → Option Formula
 readFormula text = finish (read bracketLimit text)
 
+-- The sort of a quantified variable says what it ranges over (`Truth.membersOf`); 0 is all elements, and there is no other yet.
+unfoldable pub sortOf : List ℕ → ℕ
+sortOf v = zero
+
 -- ---- 6, "Forms counted": as written, a literal, a connective and a quantified variable are one form each; every added totality
 -- brings three, and if there is any, the `and` that joins them one more
 unfoldable mutual

@@ -3,7 +3,7 @@ use Prim.Native.Nat.{ℕ, zero, suc, _+_}
 use mathlib.Core.Bool.{Bool, true, false, _&&_, _||_}
 use mathlib.Core.Option.{Option, none, some}
 use mathlib.Core.List.{List, [], _∷_, _++_}
-use lib.Dec.{eqb}
+use lib.Dec.{eqb, leb, ltb}
 
 infixr 5 if_then_else_
 abbrev pub if_then_else_ : {A : Type 0} → Bool → A → A → A
@@ -50,6 +50,28 @@ from a (suc n) = a ∷ from (suc a) n
 
 unfoldable pub below : ℕ → List ℕ
 below n = from zero n
+
+-- the last element of a list
+unfoldable pub last : {A : Type 0} → List A → Option A
+last [] = none
+last (x ∷ xs) = some (option (last xs) x (λ y. y))
+
+-- ---- Ranges: what a variable ranges over, an ascending list of elements. Whether z is one of them, how many stand before it; those
+-- up to z; the one before z, if there is one; the greatest.
+unfoldable pub isIn : ℕ → List ℕ → Bool
+isIn z ms = any (eqb z) ms
+
+unfoldable pub rank : List ℕ → ℕ → ℕ
+rank ms z = option (position (eqb z) ms) zero (λ i. i)
+
+unfoldable pub upTo : List ℕ → ℕ → List ℕ
+upTo ms z = filter (λ m. leb m z) ms
+
+unfoldable pub before : List ℕ → ℕ → Option ℕ
+before ms z = last (filter (λ m. ltb m z) ms)
+
+unfoldable pub greatest : List ℕ → ℕ
+greatest ms = option (last ms) zero (λ m. m)
 
 unfoldable pub sum : List ℕ → ℕ
 sum [] = zero

@@ -7,15 +7,15 @@ use lib.Dec.{eqb}
 use Rattle.definitions.specs.Limits.{nestingLimit}
 use Rattle.definitions.specs.Lists.{if_then_else_, any, filter, same, option, position, below}
 use Rattle.definitions.specs.Relations.{Relation, isTotal, numberOf}
-use Rattle.definitions.specs.Formula.{Formula, Formulas, literal, negation, implication, conjunction, disjunction, exists, forall, nil, cons}
+use Rattle.definitions.specs.Formula.{Formula, Formulas, literal, negation, implication, conjunction, disjunction, exists, forall, nil, cons, sortOf}
 use Rattle.definitions.specs.Sheets.{Question, relationsOf, firstChosen}
 
 -- A literal has a relation's number, and is its tuple or, where `positive` is false, its not-tuple. A variable is its level:
--- how many quantifiers stand around the one that binds it. A quantifier has the level of its variable.
+-- how many quantifiers stand around the one that binds it. A quantifier has the level and the sort of its variable.
 mutual
   pub data Tree : Type 0 where
     leaf : (positive : Bool) → (relation : ℕ) → (levels : List ℕ) → Tree
-    forallNode existsNode : (level : ℕ) → Tree → Tree
+    forallNode existsNode : (level sort : ℕ) → Tree → Tree
     andNode orNode : Trees → Tree
 
   pub data Trees : Type 0 where
@@ -24,9 +24,9 @@ mutual
 
 infixr 67 _then_
 -- a quantifier over k variables is k quantifiers over one, the first outermost
-unfoldable pub nest : (ℕ → Tree → Tree) → ℕ → ℕ → Tree → Tree
-nest quantifier level zero t = t
-nest quantifier level (suc k) t = quantifier level (nest quantifier (suc level) k t)
+unfoldable pub nest : (ℕ → ℕ → Tree → Tree) → ℕ → List ℕ → Tree → Tree
+nest quantifier level [] t = t
+nest quantifier level (s ∷ sorts) t = quantifier level s (nest quantifier (suc level) sorts t)
 
 unfoldable pub leafOf : Bool → List Relation → List (List ℕ) → List ℕ → List (List ℕ) → Tree
 leafOf positive rs scope r vs = leaf positive (option (numberOf rs r) zero (λ k. k)) (map (λ v. option (position (same v) scope) zero (λ k. k)) vs)
@@ -40,8 +40,8 @@ unfoldable mutual
   asIs rs scope (implication f g) = orNode (negated rs scope f then asIs rs scope g then end)
   asIs rs scope (conjunction fs) = andNode (allAsIs rs scope fs)
   asIs rs scope (disjunction fs) = orNode (allAsIs rs scope fs)
-  asIs rs scope (exists vs f) = nest existsNode (length scope) (length vs) (asIs rs (scope ++ vs) f)
-  asIs rs scope (forall vs f) = nest forallNode (length scope) (length vs) (asIs rs (scope ++ vs) f)
+  asIs rs scope (exists vs f) = nest existsNode (length scope) (map sortOf vs) (asIs rs (scope ++ vs) f)
+  asIs rs scope (forall vs f) = nest forallNode (length scope) (map sortOf vs) (asIs rs (scope ++ vs) f)
 
   pub negated : List Relation → List (List ℕ) → Formula → Tree
   negated rs scope (literal r vs) = leafOf false rs scope r vs
@@ -49,8 +49,8 @@ unfoldable mutual
   negated rs scope (implication f g) = andNode (asIs rs scope f then negated rs scope g then end)
   negated rs scope (conjunction fs) = orNode (allNegated rs scope fs)
   negated rs scope (disjunction fs) = andNode (allNegated rs scope fs)
-  negated rs scope (exists vs f) = nest forallNode (length scope) (length vs) (negated rs (scope ++ vs) f)
-  negated rs scope (forall vs f) = nest existsNode (length scope) (length vs) (negated rs (scope ++ vs) f)
+  negated rs scope (exists vs f) = nest forallNode (length scope) (map sortOf vs) (negated rs (scope ++ vs) f)
+  negated rs scope (forall vs f) = nest existsNode (length scope) (map sortOf vs) (negated rs (scope ++ vs) f)
 
   pub allAsIs : List Relation → List (List ℕ) → Formulas → Trees
   allAsIs rs scope nil = end
@@ -64,7 +64,7 @@ unfoldable mutual
 unfoldable pub totalities : ℕ → List Relation → Trees
 totalities r [] = end
 totalities r (k ∷ ks) =
-    if isTotal (k .kind) then forallNode 0 (existsNode 1 (leaf true r (0 ∷ 1 ∷ []))) then totalities (suc r) ks else totalities (suc r) ks
+    if isTotal (k .kind) then forallNode 0 0 (existsNode 1 0 (leaf true r (0 ∷ 1 ∷ []))) then totalities (suc r) ks else totalities (suc r) ks
 
 unfoldable pub joined : Tree → Trees → Tree
 joined t end = t
@@ -78,8 +78,8 @@ treeOf q = joined (asIs (relationsOf q) [] (q .rule .formula)) (totalities (firs
 unfoldable mutual
   pub nodes : Tree → List Tree
   nodes (leaf p r ls) = []
-  nodes (forallNode d t) = forallNode d t ∷ nodes t
-  nodes (existsNode d t) = existsNode d t ∷ nodes t
+  nodes (forallNode d s t) = forallNode d s t ∷ nodes t
+  nodes (existsNode d s t) = existsNode d s t ∷ nodes t
   nodes (andNode ts) = andNode ts ∷ nodesAll ts
   nodes (orNode ts) = orNode ts ∷ nodesAll ts
 
@@ -98,8 +98,8 @@ partsFrom v (t then ts) = record { node = v; tree = t } ∷ partsFrom (v + lengt
 
 unfoldable pub parts : ℕ → Tree → List Part
 parts v (leaf p r ls) = []
-parts v (forallNode d t) = record { node = suc v; tree = t } ∷ []
-parts v (existsNode d t) = record { node = suc v; tree = t } ∷ []
+parts v (forallNode d s t) = record { node = suc v; tree = t } ∷ []
+parts v (existsNode d s t) = record { node = suc v; tree = t } ∷ []
 parts v (andNode ts) = partsFrom (suc v) ts
 parts v (orNode ts) = partsFrom (suc v) ts
 
@@ -109,18 +109,26 @@ howMany (t then ts) = suc (howMany ts)
 
 unfoldable pub isForall : Tree → Bool
 isForall (leaf p r ls) = false
-isForall (forallNode d t) = true
-isForall (existsNode d t) = false
+isForall (forallNode d s t) = true
+isForall (existsNode d s t) = false
 isForall (andNode ts) = false
 isForall (orNode ts) = false
+
+-- the sort of a quantifier's variable (of no meaning at another node)
+unfoldable pub nodeSort : Tree → ℕ
+nodeSort (leaf p r ls) = zero
+nodeSort (forallNode d s t) = s
+nodeSort (existsNode d s t) = s
+nodeSort (andNode ts) = zero
+nodeSort (orNode ts) = zero
 
 -- the free variables of a node, outermost-bound first: the levels that occur free in it, of which there are few enough since
 -- few quantifiers nest
 unfoldable mutual
   pub occurs : ℕ → Tree → Bool
   occurs l (leaf p r ls) = any (eqb l) ls
-  occurs l (forallNode d t) = not (eqb l d) && occurs l t
-  occurs l (existsNode d t) = not (eqb l d) && occurs l t
+  occurs l (forallNode d s t) = not (eqb l d) && occurs l t
+  occurs l (existsNode d s t) = not (eqb l d) && occurs l t
   occurs l (andNode ts) = occursIn l ts
   occurs l (orNode ts) = occursIn l ts
 

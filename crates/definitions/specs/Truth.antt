@@ -7,7 +7,7 @@ use lib.ListN.{getD, length}
 use lib.Dec.{eqb, leb, ltb}
 use Rattle.definitions.specs.Lists.{if_then_else_, all, any, same, option, position, mapFrom, below}
 use Rattle.definitions.specs.Relations.{static, Relation, Tuple, isAmong, areDistinct, builtInHolds, numberOf, isFunction, isInjective, isTotal}
-use Rattle.definitions.specs.Formula.{Formula, Formulas, literal, negation, implication, conjunction, disjunction, exists, forall, nil, cons}
+use Rattle.definitions.specs.Formula.{Formula, Formulas, literal, negation, implication, conjunction, disjunction, exists, forall, nil, cons, sortOf}
 use Rattle.definitions.specs.Sheets.{Question, Site, relationsOf, firstChosen}
 
 -- A case: its question and its site.
@@ -31,14 +31,18 @@ unfoldable pub valueOf : List Binding → List ℕ → ℕ
 valueOf [] v = zero
 valueOf (b ∷ bs) v = if same (b .variable) v then b .value else valueOf bs v
 
--- for every, and for some, values 0 to n−1 of the variables
-unfoldable pub forEvery : ℕ → List (List ℕ) → List Binding → (List Binding → Bool) → Bool
-forEvery n [] bs p = p bs
-forEvery n (v ∷ vs) bs p = all (λ x. forEvery n vs (record { variable = v; value = x } ∷ bs) p) (below n)
+-- what a variable of a sort ranges over, in ascending order: all elements, 0 to n−1
+unfoldable pub membersOf : Case → ℕ → List ℕ
+membersOf c s = below (c .site .size)
 
-unfoldable pub forSome : ℕ → List (List ℕ) → List Binding → (List Binding → Bool) → Bool
-forSome n [] bs p = p bs
-forSome n (v ∷ vs) bs p = any (λ x. forSome n vs (record { variable = v; value = x } ∷ bs) p) (below n)
+-- for every, and for some, values of the variables, each in the range of its sort
+unfoldable pub forEvery : (ℕ → List ℕ) → List (List ℕ) → List Binding → (List Binding → Bool) → Bool
+forEvery range [] bs p = p bs
+forEvery range (v ∷ vs) bs p = all (λ x. forEvery range vs (record { variable = v; value = x } ∷ bs) p) (range (sortOf v))
+
+unfoldable pub forSome : (ℕ → List ℕ) → List (List ℕ) → List Binding → (List Binding → Bool) → Bool
+forSome range [] bs p = p bs
+forSome range (v ∷ vs) bs p = any (λ x. forSome range vs (record { variable = v; value = x } ∷ bs) p) (range (sortOf v))
 
 -- Truth "of the formula as written", by the usual meaning of each form; variables range over all elements.
 unfoldable mutual
@@ -48,8 +52,8 @@ unfoldable mutual
   isTrue c picks bs (implication f g) = not (isTrue c picks bs f) || isTrue c picks bs g
   isTrue c picks bs (conjunction fs) = allTrue c picks bs fs
   isTrue c picks bs (disjunction fs) = someTrue c picks bs fs
-  isTrue c picks bs (exists vs f) = forSome (c .site .size) vs bs (λ b. isTrue c picks b f)
-  isTrue c picks bs (forall vs f) = forEvery (c .site .size) vs bs (λ b. isTrue c picks b f)
+  isTrue c picks bs (exists vs f) = forSome (membersOf c) vs bs (λ b. isTrue c picks b f)
+  isTrue c picks bs (forall vs f) = forEvery (membersOf c) vs bs (λ b. isTrue c picks b f)
 
   pub allTrue : Case → List Tuple → List Binding → Formulas → Bool
   allTrue c picks bs nil = true
@@ -65,7 +69,7 @@ eachChosen c test = mapFrom test (firstChosen (c .question)) (c .question .chose
 
 -- totality of Fun and Inj: every element is the first place of some pick
 unfoldable pub isTotalIn : Case → List Tuple → ℕ → Bool
-isTotalIn c picks r = all (λ x. any (λ y. holds c picks r (x ∷ y ∷ [])) (below (c .site .size))) (below (c .site .size))
+isTotalIn c picks r = all (λ x. any (λ y. holds c picks r (x ∷ y ∷ [])) (membersOf c zero)) (membersOf c zero)
 
 unfoldable pub areTotal : Case → List Tuple → Bool
 areTotal c picks = all (λ b. b) (eachChosen c (λ r (k : Relation). if isTotal (k .kind) then isTotalIn c picks r else true))

@@ -5,6 +5,7 @@ use mathlib.Core.Option.{Option, none, some}
 use mathlib.Core.List.{List, []}
 use Prim.Native.Nat.{ℕ, _+_, _*_, _≤_, _<_}
 use lib.ListN.{length, getD}
+use Rattle.definitions.specs.Lists.{below}
 use Rattle.definitions.specs.Relations.{Kind, static, plain, Fun, PFun, Inj, PInj}
 use Rattle.definitions.specs.Tree.{Tree, leaf, Part, parts}
 use Rattle.definitions.specs.Atoms.{Problem, relationAt, nodeAt, relationStart, nodeStart, tuplesOf, atomNumber}
@@ -28,7 +29,7 @@ kindNumber PInj = 5
 
 -- the part is the tree u, whose preorder number is v: at any values it gives the number of u's atom
 unfoldable pub IsPart : Problem → PartLine → ℕ → Tree → Type 0
-IsPart p q v u = (e : Values) → partNumber e q ≡ atomNumber p (partAtom (p .size) e v u)
+IsPart p q v u = (e : Values) → partNumber e q ≡ atomNumber p (partAtom (p .size) (p .range) e v u)
 
 abbrev pub noPart : Part
 noPart = record { node = 0; tree = leaf true 0 [] }
@@ -50,6 +51,8 @@ pub record IsNode (p : Problem) (w : List ℕ) (v : ℕ) (u : Tree) (x : NodeLin
 -- the table is that of the problem
 pub record Is (p : Problem) (w : List ℕ) : Type 0 where
   pub size : sizeIn w ≡ p .size
+  pub element : 0 < p .size
+  pub ranges : (s : ℕ) → p .range s ≡ below (p .size)
   pub relations : relationsIn w ≡ length (p .relations)
   pub nodes : nodesIn w ≡ length (p .nodeList)
   pub sets : (r : ℕ) → r ≤ length (p .relations) → relationLine w r .sets ≡ setStart p r

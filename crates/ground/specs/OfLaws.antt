@@ -1,20 +1,22 @@
 -- The numbers by the table are those of the problem's atoms.
 use mathlib.Core.Path.{_≡_, refl, sym, ap, ap₂, _∙_, subst}
 use mathlib.Core.Bool.{Bool, _&&_}
-use mathlib.Core.List.{List, [], _∷_, _++_, map}
+use mathlib.Core.List.{List, [], _∷_, _++_, map, List·Memᴰ}
 use Prim.Native.Nat.{ℕ, zero, suc, _+_, _-_, _*_, _/_, _%_, _≤_, _<_}
 use native.Mathlib.Nat.{add-zero}
 use native.Mathlib.Omega.{arith}
 use lib.Arith.{digits-lt}
 use lib.ListN.{length, getD, take, drop, length-map, List·getD-map}
 use lib.Seq.{drop-cons}
-use Rattle.definitions.specs.Lists.{if_then_else_, all, from}
+use Rattle.definitions.specs.Lists.{if_then_else_, all, option, from}
 use Rattle.definitions.specs.Relations.{Kind, static, plain, Fun, PFun, Inj, PInj, isFunction, isInjective}
-use Rattle.definitions.specs.Tree.{Tree, Trees, end, _then_, leaf, forallNode, existsNode, andNode, orNode, Part, parts, partsFrom, howMany, nodes, isForall}
+use Rattle.definitions.specs.Tree.{Tree, Trees, end, _then_, leaf, forallNode, existsNode, andNode, orNode, Part, parts, partsFrom, howMany, nodes, isForall, nodeSort}
 use Rattle.definitions.specs.Atoms.{Problem, State, relationAt, nodeAt, relationStart, tuplesOf, rowsOf, nodeWidth, Atom, freeDomain, freeRange, atomNumber, atoms}
 use Rattle.definitions.specs.Actions.{Values, withValue, valuesAt, partAtom, partAtoms, underAtom, freeAtoms, forallNeeds, Action, set, beginProof, proveAnd, proveOr, proveExists, proveForall, proveGoal, needs, adds, removes}
 use Rattle.definitions.specs.Strips.{mayTake, after}
-use Rattle.laws.specs.Numbers.{IsAction, tuple-below, node-below, three-atoms}
+use Rattle.laws.specs.Lists.{below-lt}
+use Rattle.laws.specs.Members.{before-least, before-below}
+use Rattle.laws.specs.Numbers.{IsAction, set-below, tuple-below, node-below, three-atoms}
 use Rattle.tree.specs.Tables.{nodeKind, nodeLevel}
 use Rattle.ground.specs.Lines.{sizeIn, relationLine, nodeLine, partLine, partAt}
 use Rattle.ground.specs.Numbers.{freeNumbers, rowValues, underAt, needNumbers, addNumbers, removeNumbers, setNeeds, setRemoves, andNeeds, orNeeds, existsNeeds, upTo, forallNeeds as forallNumbers, goalNeeds, changed, Held}
@@ -30,13 +32,17 @@ take-one : {A : Type 0} (i : ℕ) (xs : List A) (d : A) → i < length xs → ta
 take-one i xs d h = ap (take 1) (drop-cons xs i d h)
 
 module _ (p : Problem) (w : List ℕ) (is : Is p w) where
+  -- an element of a range is one of the elements
+  in-range : (s z : ℕ) → List·Memᴰ z (p .range s) → z < p .size
+  in-range s z m = below-lt (p .size) z (rw (is .ranges s) at m)
+
   -- ---- parts
-  one-part : (e : Values) (i v : ℕ) (u : Tree) → IsPart p (partLine w i) v u → partAt w e i ≡ atomNumber p (partAtom (p .size) e v u)
+  one-part : (e : Values) (i v : ℕ) (u : Tree) → IsPart p (partLine w i) v u → partAt w e i ≡ atomNumber p (partAtom (p .size) (p .range) e v u)
   unfolding partAt IsPart
   one-part e i v u h = h e
 
   parts-are : (e : Values) (k : ℕ) (qs : List Part) → ((i : ℕ) → i < length qs → IsPart p (partLine w (k + i)) (getD qs i noPart .node) (getD qs i noPart .tree))
-      → map (partAt w e) (from k (length qs)) ≡ map (atomNumber p) (partAtoms (p .size) e qs)
+      → map (partAt w e) (from k (length qs)) ≡ map (atomNumber p) (partAtoms (p .size) (p .range) e qs)
   unfolding partAtoms from
   parts-are e k [] h = refl
   parts-are e k (q ∷ qs) h =
@@ -47,22 +53,22 @@ module _ (p : Problem) (w : List ℕ) (is : Is p w) where
       subst (λ (j : ℕ). IsPart p (partLine w j) (getD qs i noPart .node) (getD qs i noPart .tree)) s (h (suc i) (omega arith))))
 
   module _ (v : ℕ) (u : Tree) (x : NodeLine) (n : IsNode p w v u x) where
-    all-parts : (row : ℕ) → map (partAt w (rowValues (p .size) x row)) (from (x .first) (x .many)) ≡ map (atomNumber p) (partAtoms (p .size) (valuesAt (p .size) u row) (parts v u))
+    all-parts : (row : ℕ) → map (partAt w (rowValues (p .size) x row)) (from (x .first) (x .many)) ≡ map (atomNumber p) (partAtoms (p .size) (p .range) (valuesAt (p .size) u row) (parts v u))
     all-parts row =
         ap₂ (λ (e : Values) (m : ℕ). map (partAt w e) (from (x .first) m)) (n .values row) (n .many)
         ∙ parts-are (valuesAt (p .size) u row) (x .first) (parts v u) (n .part)
 
     some-part : (row i : ℕ) → i < length (parts v u)
-        → (partAt w (rowValues (p .size) x row) (x .first + i)) ∷ [] ≡ map (atomNumber p) (take 1 (drop i (partAtoms (p .size) (valuesAt (p .size) u row) (parts v u))))
+        → (partAt w (rowValues (p .size) x row) (x .first + i)) ∷ [] ≡ map (atomNumber p) (take 1 (drop i (partAtoms (p .size) (p .range) (valuesAt (p .size) u row) (parts v u))))
     unfolding partAtoms
     some-part row i h =
-        let f : Part → Atom = λ (q : Part). partAtom (p .size) (valuesAt (p .size) u row) (q .node) (q .tree) in
+        let f : Part → Atom = λ (q : Part). partAtom (p .size) (p .range) (valuesAt (p .size) u row) (q .node) (q .tree) in
         let a : take 1 (drop i (map f (parts v u))) ≡ f (getD (parts v u) i noPart) ∷ [] =
         take-one i (map f (parts v u)) (f noPart) (omega (arith, length-map (parts v u) f)) ∙ ap (λ (y : Atom). y ∷ []) (List·getD-map f (parts v u) i noPart) in
         ap (λ (y : ℕ). y ∷ []) (ap (λ (e : Values). partAt w e (x .first + i)) (n .values row) ∙ one-part (valuesAt (p .size) u row) (x .first + i) _ _ (n .part i h)) ∙ ap (map (atomNumber p)) (sym a)
 
   under-with : (v d y : ℕ) (t u : Tree) (x : NodeLine) (row : ℕ) → IsNode p w v u x → nodeLevel u ≡ d → parts v u ≡ record { node = suc v; tree = t } ∷ []
-      → underAt (p .size) w x row y ≡ atomNumber p (partAtom (p .size) (withValue (valuesAt (p .size) u row) d y) (suc v) t)
+      → underAt (p .size) w x row y ≡ atomNumber p (partAtom (p .size) (p .range) (withValue (valuesAt (p .size) u row) d y) (suc v) t)
   unfolding underAt
   under-with v d y t u x row n l q =
       let a : IsPart p (partLine w (x .first + 0)) (suc v) t =
@@ -70,11 +76,11 @@ module _ (p : Problem) (w : List ℕ) (is : Is p w) where
       ap₂ (λ (e : Values) (m : ℕ). partAt w (withValue e m y) (x .first)) (n .values row) (n .level ∙ l)
       ∙ one-part (withValue (valuesAt (p .size) u row) d y) (x .first) (suc v) t (subst (λ (j : ℕ). IsPart p (partLine w j) (suc v) t) (add-zero (x .first)) a)
 
-  under-at : (v : ℕ) (u : Tree) (x : NodeLine) → IsNode p w v u x → nodeKind u < 2 → (row y : ℕ) → underAt (p .size) w x row y ≡ atomNumber p (underAtom (p .size) v u row y)
+  under-at : (v : ℕ) (u : Tree) (x : NodeLine) → IsNode p w v u x → nodeKind u < 2 → (row y : ℕ) → underAt (p .size) w x row y ≡ atomNumber p (underAtom (p .size) (p .range) v u row y)
   unfolding underAtom nodeKind nodeLevel parts
   under-at v (leaf q r ls) x n k row y = absurd (omega arith)
-  under-at v (forallNode d t) x n k row y = under-with v d y t (forallNode d t) x row n refl refl
-  under-at v (existsNode d t) x n k row y = under-with v d y t (existsNode d t) x row n refl refl
+  under-at v (forallNode d σ t) x n k row y = under-with v d y t (forallNode d σ t) x row n refl refl
+  under-at v (existsNode d σ t) x n k row y = under-with v d y t (existsNode d σ t) x row n refl refl
   under-at v (andNode us) x n k row y = absurd (omega arith)
   under-at v (orNode us) x n k row y = absurd (omega arith)
 
@@ -95,12 +101,14 @@ module _ (p : Problem) (w : List ℕ) (is : Is p w) where
       free-are (relationAt p r .kind) r row (relationLine w r .free) (is .relation r h .free)
       ∙ ap (λ (k : ℕ). freeNumbers (p .size) k (relationLine w r .free) row) (sym (is .relation r h .kind))
 
-  forall-are : (v row z : ℕ) → v < length (p .nodeList) → nodeKind (nodeAt p v) ≡ 0
-      → map (atomNumber p) (forallNeeds (p .size) v (nodeAt p v) row z) ≡ underAt (p .size) w (nodeLine w v) row z ∷ upTo (p .size) (nodeLine w v) row z
-  unfolding forallNeeds upTo atomNumber
-  forall-are v row zero h k = ap (λ (x : ℕ). x ∷ []) (sym (under-at v (nodeAt p v) (nodeLine w v) (is .node v h) (omega arith) row zero))
-  forall-are v row (suc z) h k =
-      ap₂ (λ (x y : ℕ). x ∷ (y + (row * p .size + z)) ∷ []) (sym (under-at v (nodeAt p v) (nodeLine w v) (is .node v h) (omega arith) row (suc z))) (sym (is .node v h .atoms))
+  forall-are : (v row z : ℕ) → v < length (p .nodeList) → nodeKind (nodeAt p v) ≡ 0 → z < p .size
+      → map (atomNumber p) (forallNeeds (p .size) (p .range) v (nodeAt p v) row z) ≡ underAt (p .size) w (nodeLine w v) row z ∷ upTo (p .size) (nodeLine w v) row z
+  unfolding forallNeeds upTo atomNumber option
+  forall-are v row zero h k l =
+      rw (is .ranges (nodeSort (nodeAt p v)), before-least (p .size)) (ap (λ (x : ℕ). x ∷ []) (sym (under-at v (nodeAt p v) (nodeLine w v) (is .node v h) (omega arith) row zero)))
+  forall-are v row (suc z) h k l =
+      rw (is .ranges (nodeSort (nodeAt p v)), before-below (p .size) z (omega arith))
+      (ap₂ (λ (x y : ℕ). x ∷ (y + (row * p .size + z)) ∷ []) (sym (under-at v (nodeAt p v) (nodeLine w v) (is .node v h) (omega arith) row (suc z))) (sym (is .node v h .atoms)))
 
   or-length : (v i : ℕ) (u : Tree) (ts : Trees) → u ≡ orNode ts → i < howMany ts → i < length (parts v u)
   unfolding parts
@@ -116,8 +124,8 @@ module _ (p : Problem) (w : List ℕ) (is : Is p w) where
   needs-at (proveOr v row i) a n e q =
       rw (q, e) (ap (λ (xs : List ℕ). 1 ∷ xs) (sym (some-part v (nodeAt p v) (nodeLine w v) (is .node v (a .0)) row i (or-length v i (nodeAt p v) (a .2 .0) (a .2 .1) (a .2 .2)))))
   needs-at (proveExists v row x) a n e q =
-      rw (q, e) (ap (λ (y : ℕ). 1 ∷ y ∷ []) (sym (under-at v (nodeAt p v) (nodeLine w v) (is .node v (a .0)) (rw (a .2 .2) (omega arith)) row x)))
-  needs-at (proveForall v row z) a n e q = rw (q, e) (ap (λ (xs : List ℕ). 1 ∷ xs) (forall-are v row z (a .0) (ap nodeKind (a .2 .2))))
+      rw (q, e) (ap (λ (y : ℕ). 1 ∷ y ∷ []) (sym (under-at v (nodeAt p v) (nodeLine w v) (is .node v (a .0)) (rw (a .2 .3) (omega arith)) row x)))
+  needs-at (proveForall v row z) a n e q = rw (q, e) (ap (λ (xs : List ℕ). 1 ∷ xs) (forall-are v row z (a .0) (ap nodeKind (a .2 .3)) (in-range (a .2 .1) z (a .2 .4))))
   needs-at proveGoal a n e q = ap (λ (y : ℕ). y ∷ []) (sym (one-part (λ _. 0) 64 0 (p .root) (is .root)))
 
   pub needs-are : (x : Action) → IsAction p x → map (atomNumber p) (needs p x) ≡ needNumbers w (said x)
@@ -167,25 +175,25 @@ module _ (p : Problem) (w : List ℕ) (is : Is p w) (k : ℕ) (room : atoms p �
   wide : (u : Tree) (kind : ℕ) → nodeKind u ≡ suc kind → nodeWidth (p .size) u ≡ rowsOf (p .size) u
   unfolding nodeKind nodeWidth isForall
   wide (leaf q r ls) kind e = refl
-  wide (forallNode d u) kind e = absurd (omega arith)
-  wide (existsNode d u) kind e = refl
+  wide (forallNode d σ u) kind e = absurd (omega arith)
+  wide (existsNode d σ u) kind e = refl
   wide (andNode us) kind e = refl
   wide (orNode us) kind e = refl
 
-  wide-forall : (u t : Tree) (d : ℕ) → u ≡ forallNode d t → nodeWidth (p .size) u ≡ rowsOf (p .size) u * p .size
+  wide-forall : (u t : Tree) (d σ : ℕ) → u ≡ forallNode d σ t → nodeWidth (p .size) u ≡ rowsOf (p .size) u * p .size
   unfolding nodeWidth isForall
-  wide-forall u t d e = rw e refl
+  wide-forall u t d σ e = rw e refl
 
   node-held : (v row : ℕ) → v < length (p .nodeList) → row < nodeWidth (p .size) (nodeAt p v) → (nodeLine w v .atoms + row) / 64 < k
   node-held v row h b = let e = is .node v h .atoms in in-word (nodeLine w v .atoms + row) (rw e (node-below p v row h b))
 
   pub held : (x : Action) → IsAction p x → Held (addNumbers w (said x)) k
   unfolding addNumbers said IsAction nodeKind
-  held (set r row) a = let e = is .relation r (a .0) .tuples in (in-word (relationLine w r .tuples + row) (rw e (tuple-below p r row (a .0) (a .2))), tt)
+  held (set r row) a = let e = is .relation r (a .0) .tuples in (in-word (relationLine w r .tuples + row) (rw e (tuple-below p r row (a .0) (set-below p r row a))), tt)
   held beginProof a = (in-word 1 (omega (arith, three-atoms p)), tt)
   held (proveAnd v row) a = (node-held v row (a .0) (rw (wide (nodeAt p v) 1 (ap nodeKind (a .2 .1))) (a .1)), tt)
   held (proveOr v row i) a = (node-held v row (a .0) (rw (wide (nodeAt p v) 2 (ap nodeKind (a .2 .1))) (a .1)), tt)
-  held (proveExists v row i) a = (node-held v row (a .0) (rw (wide (nodeAt p v) 0 (ap nodeKind (a .2 .2))) (a .1)), tt)
+  held (proveExists v row i) a = (node-held v row (a .0) (rw (wide (nodeAt p v) 0 (ap nodeKind (a .2 .3))) (a .1)), tt)
   held (proveForall v row z) a =
-      (node-held v (row * sizeIn w + z) (a .0) (rw (is .size, wide-forall (nodeAt p v) (a .2 .1) (a .2 .0) (a .2 .2)) (digits-lt (a .1) (a .2 .3))), tt)
+      (node-held v (row * sizeIn w + z) (a .0) (rw (is .size, wide-forall (nodeAt p v) (a .2 .2) (a .2 .0) (a .2 .1) (a .2 .3)) (digits-lt (a .1) (in-range p w is (a .2 .1) z (a .2 .4)))), tt)
   held proveGoal a = (in-word 2 (omega (arith, three-atoms p)), tt)

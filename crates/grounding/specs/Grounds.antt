@@ -16,7 +16,7 @@ use Rattle.laws.specs.Booleans.{T-true}
 use Rattle.reduction.specs.Reader.{gives-if, QuestionFits, RuleFits, question-fits}
 use Rattle.formula.specs.Seen.{ruleNumber}
 use Rattle.rewriting.specs.Rule.{Accepted, IsQuestion, TableOf}
-use Rattle.definitions.specs.Truth.{Case}
+use Rattle.definitions.specs.Truth.{Case, membersOf}
 use Rattle.definitions.specs.Tree.{treeOf}
 use Rattle.definitions.specs.Atoms.{Problem, problemOf, problemWith, relationAt, atoms}
 use Rattle.definitions.specs.Actions.{actions}
@@ -112,10 +112,11 @@ module _ (s : List ℕ) (o : Opened) (c : Case) (facts : ℕ → Bool) (h : Hold
 
   module _ (g : Relations) (t : Nodes) (m : Numbered (o .sig) g) (table : TableOf s (o .rule .from) (o .rule .to) (o .sig) t) where
     pub inputs : Inputs (problemOf c) (o .n) g t
-    unfolding problemOf problemWith relationAt
+    unfolding problemOf problemWith relationAt membersOf
     inputs = record {
       size = h .size;
       list = refl;
+      ranges = λ s. refl;
       count = m .count s ∙ ap length (sym relations-are);
       arity = λ r l. m .arity s r l ∙ ap (λ (ks : List Relation). getD ks r noRelation .arity) (sym relations-are);
       kind = λ r l. m .kind s r l ∙ ap (λ (ks : List Relation). kindNumber (getD ks r noRelation .kind)) (sym relations-are);

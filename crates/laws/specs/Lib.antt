@@ -4,6 +4,7 @@
 --   Positions          the first element that passes a test
 --   Tuples             equal tuples, tuples among tuples
 --   Repeats            lists without repeats
+--   Members            ranges: ascending lists of elements
 --   Rows               tuples and their rows, for any number of places
 --   Blocks             runs of numbers, one after another
 --   Numbers            the numbers of atoms and of actions
@@ -13,6 +14,7 @@ pub mod Results
 pub mod Positions
 pub mod Tuples
 pub mod Repeats
+pub mod Members
 pub mod Rows
 pub mod Blocks
 pub mod Numbers

@@ -5,20 +5,22 @@ use mathlib.Core.Path.{_≡_, refl, sym, ap, ap₂, subst, _∙_}
 use mathlib.Core.Logic.{_⊎_, inl, inr, ⊎-elim}
 use mathlib.Core.Bool.{Bool, true, false}
 use mathlib.Core.Option.{none, some}
-use mathlib.Core.List.{List, [], _∷_, _++_}
+use mathlib.Core.List.{List, [], _∷_, _++_, List·Memᴰ, List·Memᴰ·not-nil}
 use native.Mathlib.Omega.{arith}
 use native.Mathlib.Nat.{add-zero, mul-zero, mod-lt, div-lt-iff-lt-mul, div-add-mod', div-one, mul-one}
 use lib.Arith.{digits-lt, digits-div, digits-mod}
 use lib.Dec.{T}
 use lib.ListN.{length, getD, take}
 use lib.Seq.{take-all}
-use Rattle.definitions.specs.Lists.{if_then_else_, flatMap, mapFrom}
+use Rattle.definitions.specs.Lists.{if_then_else_, flatMap, mapFrom, below, rank}
 use Rattle.definitions.specs.Relations.{Kind, static, plain, Fun, PFun, Inj, PInj, isChosen, isFunction, isInjective, Relation}
-use Rattle.definitions.specs.Tree.{Tree, Trees, leaf, forallNode, existsNode, andNode, orNode, howMany}
+use Rattle.definitions.specs.Tree.{Tree, Trees, leaf, forallNode, existsNode, andNode, orNode, howMany, nodeSort}
 use Rattle.definitions.specs.Atoms.{Block, itemAt, countOf, Problem, relationAt, nodeAt, tuplesOf, rowsOf, nodeWidth, Atom, guess, proof, goal, tuple, notTuple, freeDomain, freeRange, holdsNode, relationBlocks, relationsBlocks, nodesBlocks, atomBlocks, atoms, nodeAtoms, relationStart, nodeStart, atomNumber}
-use Rattle.definitions.specs.Actions.{Action, set, beginProof, proveAnd, proveOr, proveExists, proveForall, proveGoal, choices, proveNode, setsOf, setBlocks, proofsOf, proofBlocks, actionBlocks, actions, actionAt, setStart, proofStart, proofNumber, actionNumber}
-use Rattle.laws.specs.Booleans.{T-of, T-true}
-use Rattle.laws.specs.Lists.{some-eq}
+use Rattle.definitions.specs.Actions.{Action, set, beginProof, proveAnd, proveOr, proveExists, proveForall, proveGoal, choices, proveNode, setRows, setsOf, setBlocks, proofsOf, proofBlocks, actionBlocks, actions, actionAt, setStart, proofStart, proofNumber, rangeAt, actionNumber}
+use Rattle.laws.specs.Booleans.{T-true}
+use Rattle.laws.specs.Lists.{some-eq, below-lt, mem-below, length-below, getD-below, getD-mem}
+use Rattle.laws.specs.Repeats.{Once, once-below}
+use Rattle.laws.specs.Members.{rank-lt, rank-select, select-rank, rank-below}
 use Rattle.laws.specs.Blocks.{count-nil, count-cons, count-append, item-here, item-past, item-cases, item-one, item-lt, item-some, item-none, item-left, item-right, item-append, groups, next-start, at-start, of-start, one-each}
 
 pub inj-fun : (k : Kind) → T (isInjective k) → T (isFunction k)
@@ -50,23 +52,23 @@ IsAtom p (holdsNode v row) = (v < length (p .nodeList)) × (row < nodeWidth (p .
 
 -- ---- and its actions
 unfoldable pub IsAction : Problem → Action → Type 0
-IsAction p (set r row) = (r < length (p .relations)) × T (isChosen (relationAt p r .kind)) × (row < tuplesOf (p .size) (relationAt p r))
+IsAction p (set r row) = (r < length (p .relations)) × T (isChosen (relationAt p r .kind)) × List·Memᴰ row (setRows (p .size) (p .range) (relationAt p r))
 IsAction p beginProof = Unit {0}
 IsAction p (proveAnd v row) = (v < length (p .nodeList)) × (row < rowsOf (p .size) (nodeAt p v)) × ((ts : Trees) × (nodeAt p v ≡ andNode ts))
 IsAction p (proveOr v row i) = (v < length (p .nodeList)) × (row < rowsOf (p .size) (nodeAt p v)) × ((ts : Trees) × (nodeAt p v ≡ orNode ts) × (i < howMany ts))
-IsAction p (proveExists v row x) = (v < length (p .nodeList)) × (row < rowsOf (p .size) (nodeAt p v)) × ((d : ℕ) × (t : Tree) × (nodeAt p v ≡ existsNode d t) × (x < p .size))
-IsAction p (proveForall v row z) = (v < length (p .nodeList)) × (row < rowsOf (p .size) (nodeAt p v)) × ((d : ℕ) × (t : Tree) × (nodeAt p v ≡ forallNode d t) × (z < p .size))
+IsAction p (proveExists v row x) = (v < length (p .nodeList)) × (row < rowsOf (p .size) (nodeAt p v)) × ((d : ℕ) × (s : ℕ) × (t : Tree) × (nodeAt p v ≡ existsNode d s t) × List·Memᴰ x (p .range s))
+IsAction p (proveForall v row z) = (v < length (p .nodeList)) × (row < rowsOf (p .size) (nodeAt p v)) × ((d : ℕ) × (s : ℕ) × (t : Tree) × (nodeAt p v ≡ forallNode d s t) × List·Memᴰ z (p .range s))
 IsAction p proveGoal = Unit {0}
 
 -- ---- the four lists of blocks are of one form
 abbrev nodeBlock : ℕ → ℕ → Tree → Block Atom
 nodeBlock n v t = record { width = nodeWidth n t; item = holdsNode v }
 
-abbrev setBlock : ℕ → ℕ → Relation → Block Action
-setBlock n r k = record { width = setsOf n k; item = set r }
+abbrev setBlock : ℕ → (ℕ → List ℕ) → ℕ → Relation → Block Action
+setBlock n R r k = record { width = setsOf n R k; item = λ i. set r (getD (setRows n R k) i 0) }
 
-abbrev proofBlock : ℕ → ℕ → Tree → Block Action
-proofBlock n v t = record { width = proofsOf n t; item = λ i. proveNode t v (i / choices n t) (i % choices n t) }
+abbrev proofBlock : ℕ → (ℕ → List ℕ) → ℕ → Tree → Block Action
+proofBlock n R v t = record { width = proofsOf n R t; item = λ i. proveNode R t v (i / choices R t) (i % choices R t) }
 
 relations-form : (n : ℕ) (ks : List Relation) → relationsBlocks n ks ≡ groups (relationBlocks n) 0 ks
 unfolding relationsBlocks groups
@@ -76,13 +78,13 @@ nodes-form : (n : ℕ) (ts : List Tree) → nodesBlocks n ts ≡ groups (λ v t.
 unfolding nodesBlocks
 nodes-form n ts = one-each (nodeBlock n) 0 ts
 
-sets-form : (n : ℕ) (ks : List Relation) → setBlocks n ks ≡ groups (λ r k. setBlock n r k ∷ []) 0 ks
+sets-form : (n : ℕ) (R : ℕ → List ℕ) (ks : List Relation) → setBlocks n R ks ≡ groups (λ r k. setBlock n R r k ∷ []) 0 ks
 unfolding setBlocks
-sets-form n ks = one-each (setBlock n) 0 ks
+sets-form n R ks = one-each (setBlock n R) 0 ks
 
-proofs-form : (n : ℕ) (ts : List Tree) → proofBlocks n ts ≡ groups (λ v t. proofBlock n v t ∷ []) 0 ts
+proofs-form : (n : ℕ) (R : ℕ → List ℕ) (ts : List Tree) → proofBlocks n R ts ≡ groups (λ v t. proofBlock n R v t ∷ []) 0 ts
 unfolding proofBlocks
-proofs-form n ts = one-each (proofBlock n) 0 ts
+proofs-form n R ts = one-each (proofBlock n R) 0 ts
 
 one-count : {A : Type 0} (b : Block A) → countOf (b ∷ []) ≡ b .width
 one-count {A} b = let e = count-cons b [] in let z = count-nil A in omega arith
@@ -99,13 +101,64 @@ pub relation-width : (n r : ℕ) (k : Relation) → countOf (relationBlocks n r 
 unfolding relationBlocks relationWidth countOf
 relation-width n r k = omega arith
 
-pub sets-le : (n : ℕ) (k : Relation) → setsOf n k ≤ tuplesOf n k
-unfolding setsOf
-sets-le n k = go (isChosen (k .kind))
-  where
-    go : (b : Bool) → (if b then tuplesOf n k else zero) ≤ tuplesOf n k
-    go true = omega arith
-    go false = omega arith
+-- ---- the rows that set actions set: rows of tuples, none twice; of a `choose` all of them
+module _ (n : ℕ) (R : ℕ → List ℕ) (k : Relation) where
+  pub set-row : (row : ℕ) → List·Memᴰ row (setRows n R k) → T (isChosen (k .kind)) × (row < tuplesOf n k)
+  unfolding setRows
+  set-row row m = go (isChosen (k .kind)) m
+    where
+      go : (b : Bool) → List·Memᴰ row (if b then below (tuplesOf n k) else []) → T b × (row < tuplesOf n k)
+      go true m = (tt, below-lt (tuplesOf n k) row m)
+      go false m = absurd (List·Memᴰ·not-nil m)
+
+  pub row-set : (row : ℕ) → T (isChosen (k .kind)) → row < tuplesOf n k → List·Memᴰ row (setRows n R k)
+  unfolding setRows
+  row-set row t h = go (isChosen (k .kind)) t
+    where
+      go : (b : Bool) → T b → List·Memᴰ row (if b then below (tuplesOf n k) else [])
+      go true t = mem-below (tuplesOf n k) row h
+      go false t = absurd t
+
+  pub once-sets : Once (setRows n R k)
+  unfolding setRows Once
+  once-sets = go (isChosen (k .kind))
+    where
+      go : (b : Bool) → Once (if b then below (tuplesOf n k) else [])
+      go true = once-below (tuplesOf n k)
+      go false = tt
+
+  pub sets-all : setsOf n R k ≡ (if isChosen (k .kind) then tuplesOf n k else zero)
+  unfolding setsOf setRows
+  sets-all = all-rows (isChosen (k .kind))
+    where
+      all-rows : (b : Bool) → length (if b then below (tuplesOf n k) else []) ≡ (if b then tuplesOf n k else zero)
+      all-rows true = length-below (tuplesOf n k)
+      all-rows false = refl
+
+  -- all rows being there, a row is its own place
+  pub row-rank : (row : ℕ) → List·Memᴰ row (setRows n R k) → rank (setRows n R k) row ≡ row
+  unfolding setRows
+  row-rank row m = rank-of (isChosen (k .kind)) m
+    where
+      rank-of : (b : Bool) → List·Memᴰ row (if b then below (tuplesOf n k) else []) → rank (if b then below (tuplesOf n k) else []) row ≡ row
+      rank-of true m = rank-below (tuplesOf n k) row (below-lt (tuplesOf n k) row m)
+      rank-of false m = absurd (List·Memᴰ·not-nil m)
+
+  pub row-at : (i : ℕ) → i < setsOf n R k → getD (setRows n R k) i 0 ≡ i
+  unfolding setsOf setRows
+  row-at i h = at-row (isChosen (k .kind)) h
+    where
+      at-row : (b : Bool) → i < length (if b then below (tuplesOf n k) else []) → getD (if b then below (tuplesOf n k) else []) i 0 ≡ i
+      at-row true h = getD-below (tuplesOf n k) i (omega (arith, length-below (tuplesOf n k)))
+      at-row false h = absurd (omega arith)
+
+  pub sets-le : setsOf n R k ≤ tuplesOf n k
+  unfolding setsOf setRows
+  sets-le = go (isChosen (k .kind))
+    where
+      go : (b : Bool) → length (if b then below (tuplesOf n k) else []) ≤ tuplesOf n k
+      go true = let e = length-below (tuplesOf n k) in omega arith
+      go false = omega arith
 
 row-below : (i a c : ℕ) → i < a * c → (i / c < a) × (i % c < c)
 row-below i a zero h = let z = mul-zero a in absurd (omega arith)
@@ -186,10 +239,10 @@ module _ (p : Problem) where
   N ts = groups (λ v t. nodeBlock (p .size) v t ∷ []) 0 ts
 
   abbrev S : List Relation → List (Block Action)
-  S ks = groups (λ r k. setBlock (p .size) r k ∷ []) 0 ks
+  S ks = groups (λ r k. setBlock (p .size) (p .range) r k ∷ []) 0 ks
 
   abbrev Q : List Tree → List (Block Action)
-  Q ts = groups (λ v t. proofBlock (p .size) v t ∷ []) 0 ts
+  Q ts = groups (λ v t. proofBlock (p .size) (p .range) v t ∷ []) 0 ts
 
   all-relations : take (length (p .relations)) (p .relations) ≡ p .relations
   all-relations = take-all (length (p .relations)) (p .relations) (omega arith)
@@ -399,40 +452,40 @@ module _ (p : Problem) where
   -- ---- where actions start
   set-start : (r : ℕ) → setStart p r ≡ countOf (S (take r (p .relations)))
   unfolding setStart
-  set-start r = ap countOf (sets-form (p .size) (take r (p .relations)))
+  set-start r = ap countOf (sets-form (p .size) (p .range) (take r (p .relations)))
 
   set-end : setStart p (length (p .relations)) ≡ countOf (S (p .relations))
   set-end = set-start (length (p .relations)) ∙ ap (λ (ks : List Relation). countOf (S ks)) all-relations
 
   proof-start : (v : ℕ) → proofStart p v ≡ countOf (S (p .relations)) + 1 + countOf (Q (take v (p .nodeList)))
   unfolding proofStart
-  proof-start v = ap₂ (λ (x : ℕ) (bs : List (Block Action)). x + 1 + countOf bs) set-end (proofs-form (p .size) (take v (p .nodeList)))
+  proof-start v = ap₂ (λ (x : ℕ) (bs : List (Block Action)). x + 1 + countOf bs) set-end (proofs-form (p .size) (p .range) (take v (p .nodeList)))
 
   proof-end : proofStart p (length (p .nodeList)) ≡ countOf (S (p .relations)) + 1 + countOf (Q (p .nodeList))
   proof-end = proof-start (length (p .nodeList)) ∙ ap (λ (ts : List Tree). countOf (S (p .relations)) + 1 + countOf (Q ts)) all-nodes
 
   pub set-first : setStart p 0 ≡ 0
-  set-first = let a = set-start 0 in let b = no-blocks (λ r k. setBlock (p .size) r k ∷ []) in omega arith
+  set-first = let a = set-start 0 in let b = no-blocks (λ r k. setBlock (p .size) (p .range) r k ∷ []) in omega arith
 
-  pub set-next : (r : ℕ) → r < length (p .relations) → setStart p (suc r) ≡ setStart p r + setsOf (p .size) (relationAt p r)
+  pub set-next : (r : ℕ) → r < length (p .relations) → setStart p (suc r) ≡ setStart p r + setsOf (p .size) (p .range) (relationAt p r)
   unfolding relationAt
   set-next r l =
       let a = set-start r in
       let b = set-start (suc r) in
-      let c = next-start (λ r k. setBlock (p .size) r k ∷ []) (p .relations) noRelation r l in
-      let d = one-count (setBlock (p .size) r (getD (p .relations) r noRelation)) in
+      let c = next-start (λ r k. setBlock (p .size) (p .range) r k ∷ []) (p .relations) noRelation r l in
+      let d = one-count (setBlock (p .size) (p .range) r (getD (p .relations) r noRelation)) in
       omega arith
 
   pub proof-first : proofStart p 0 ≡ setStart p (length (p .relations)) + 1
-  proof-first = let a = proof-start 0 in let b = no-blocks (λ v t. proofBlock (p .size) v t ∷ []) in let c = set-end in omega arith
+  proof-first = let a = proof-start 0 in let b = no-blocks (λ v t. proofBlock (p .size) (p .range) v t ∷ []) in let c = set-end in omega arith
 
-  pub proof-next : (v : ℕ) → v < length (p .nodeList) → proofStart p (suc v) ≡ proofStart p v + proofsOf (p .size) (nodeAt p v)
+  pub proof-next : (v : ℕ) → v < length (p .nodeList) → proofStart p (suc v) ≡ proofStart p v + proofsOf (p .size) (p .range) (nodeAt p v)
   unfolding nodeAt
   proof-next v l =
       let a = proof-start v in
       let b = proof-start (suc v) in
-      let c = next-start (λ v t. proofBlock (p .size) v t ∷ []) (p .nodeList) noNode v l in
-      let d = one-count (proofBlock (p .size) v (getD (p .nodeList) v noNode)) in
+      let c = next-start (λ v t. proofBlock (p .size) (p .range) v t ∷ []) (p .nodeList) noNode v l in
+      let d = one-count (proofBlock (p .size) (p .range) v (getD (p .nodeList) v noNode)) in
       omega arith
 
   -- ---- the actions' blocks, and their end
@@ -444,7 +497,7 @@ module _ (p : Problem) where
 
   actions-form : actionBlocks p ≡ S (p .relations) ++ (begins ∷ (Q (p .nodeList) ++ (ends ∷ [])))
   unfolding actionBlocks
-  actions-form = ap₂ (λ (bs cs : List (Block Action)). bs ++ (begins ∷ (cs ++ (ends ∷ [])))) (sets-form (p .size) (p .relations)) (proofs-form (p .size) (p .nodeList))
+  actions-form = ap₂ (λ (bs cs : List (Block Action)). bs ++ (begins ∷ (cs ++ (ends ∷ [])))) (sets-form (p .size) (p .range) (p .relations)) (proofs-form (p .size) (p .range) (p .nodeList))
 
   pub actions-end : actions p ≡ proofStart p (length (p .nodeList)) + 1
   unfolding actions
@@ -458,11 +511,11 @@ module _ (p : Problem) where
       omega arith
 
   -- ---- a number decodes to its action
-  set-at : (r row : ℕ) → r < length (p .relations) → row < setsOf (p .size) (relationAt p r) → actionAt p (setStart p r + row) ≡ some (set r row)
+  set-at : (r i : ℕ) → r < length (p .relations) → i < setsOf (p .size) (p .range) (relationAt p r) → actionAt p (setStart p r + i) ≡ some (set r (getD (setRows (p .size) (p .range) (relationAt p r)) i 0))
   unfolding actionAt relationAt
-  set-at r row l h = ap₂ (λ (bs : List (Block Action)) (x : ℕ). itemAt bs (x + row)) actions-form (set-start r)
-      ∙ item-left (S (p .relations)) (begins ∷ (Q (p .nodeList) ++ (ends ∷ []))) (countOf (S (take r (p .relations))) + row) (set r row)
-      (at-start (λ r k. setBlock (p .size) r k ∷ []) (p .relations) noRelation r row (set r row) l (item-here (setBlock (p .size) r (getD (p .relations) r noRelation)) [] row h))
+  set-at r i l h = ap₂ (λ (bs : List (Block Action)) (x : ℕ). itemAt bs (x + i)) actions-form (set-start r)
+      ∙ item-left (S (p .relations)) (begins ∷ (Q (p .nodeList) ++ (ends ∷ []))) (countOf (S (take r (p .relations))) + i) _
+      (at-start (λ r k. setBlock (p .size) (p .range) r k ∷ []) (p .relations) noRelation r i _ l (item-here (setBlock (p .size) (p .range) r (getD (p .relations) r noRelation)) [] i h))
 
   begin-at : actionAt p (setStart p (length (p .relations))) ≡ some beginProof
   unfolding actionAt
@@ -473,13 +526,13 @@ module _ (p : Problem) where
   past-begin j = let w : countOf (S (p .relations)) + 1 + j ≡ countOf (S (p .relations)) + (1 + j) = omega arith in
       ap₂ itemAt actions-form w ∙ item-right (S (p .relations)) (begins ∷ (Q (p .nodeList) ++ (ends ∷ []))) (1 + j) ∙ item-past begins (Q (p .nodeList) ++ (ends ∷ [])) j
 
-  proof-at : (v j : ℕ) → v < length (p .nodeList) → j < proofsOf (p .size) (nodeAt p v) → actionAt p (proofStart p v + j) ≡ some (proveNode (nodeAt p v) v (j / choices (p .size) (nodeAt p v)) (j % choices (p .size) (nodeAt p v)))
+  proof-at : (v j : ℕ) → v < length (p .nodeList) → j < proofsOf (p .size) (p .range) (nodeAt p v) → actionAt p (proofStart p v + j) ≡ some (proveNode (p .range) (nodeAt p v) v (j / choices (p .range) (nodeAt p v)) (j % choices (p .range) (nodeAt p v)))
   unfolding actionAt nodeAt
   proof-at v j l h =
       let w : proofStart p v + j ≡ countOf (S (p .relations)) + 1 + (countOf (Q (take v (p .nodeList))) + j) = let s = proof-start v in omega arith in
       ap (itemAt (actionBlocks p)) w ∙ past-begin (countOf (Q (take v (p .nodeList))) + j)
       ∙ item-left (Q (p .nodeList)) (ends ∷ []) (countOf (Q (take v (p .nodeList))) + j) _
-      (at-start (λ v t. proofBlock (p .size) v t ∷ []) (p .nodeList) noNode v j _ l (item-here (proofBlock (p .size) v (getD (p .nodeList) v noNode)) [] j h))
+      (at-start (λ v t. proofBlock (p .size) (p .range) v t ∷ []) (p .nodeList) noNode v j _ l (item-here (proofBlock (p .size) (p .range) v (getD (p .nodeList) v noNode)) [] j h))
 
   goal-at : actionAt p (proofStart p (length (p .nodeList))) ≡ some proveGoal
   unfolding actionAt
@@ -488,7 +541,7 @@ module _ (p : Problem) where
       ap (itemAt (actionBlocks p)) w ∙ past-begin (countOf (Q (p .nodeList)) + 0) ∙ item-right (Q (p .nodeList)) (ends ∷ []) 0 ∙ item-here ends [] 0 (omega arith)
 
   -- the same, for a number between two starts
-  pub at-set : (k r : ℕ) → r < length (p .relations) → setStart p r ≤ k → k < setStart p (suc r) → actionAt p k ≡ some (set r (k - setStart p r))
+  pub at-set : (k r : ℕ) → r < length (p .relations) → setStart p r ≤ k → k < setStart p (suc r) → actionAt p k ≡ some (set r (getD (setRows (p .size) (p .range) (relationAt p r)) (k - setStart p r) 0))
   at-set k r l a b =
       let e : k ≡ setStart p r + (k - setStart p r) = omega arith in
       let n = set-next r l in
@@ -498,7 +551,7 @@ module _ (p : Problem) where
   at-begin k e = ap (actionAt p) e ∙ begin-at
 
   pub at-proof : (k v : ℕ) → v < length (p .nodeList) → proofStart p v ≤ k → k < proofStart p (suc v)
-      → actionAt p k ≡ some (proveNode (nodeAt p v) v ((k - proofStart p v) / choices (p .size) (nodeAt p v)) ((k - proofStart p v) % choices (p .size) (nodeAt p v)))
+      → actionAt p k ≡ some (proveNode (p .range) (nodeAt p v) v ((k - proofStart p v) / choices (p .range) (nodeAt p v)) ((k - proofStart p v) % choices (p .range) (nodeAt p v)))
   at-proof k v l a b =
       let e : k ≡ proofStart p v + (k - proofStart p v) = omega arith in
       let n = proof-next v l in
@@ -512,76 +565,98 @@ module _ (p : Problem) where
   at-none k h = let e = actions-end in item-none (actionBlocks p) k (omega arith)
 
   -- an action's number decodes to it
-  sets-width : (r : ℕ) → T (isChosen (relationAt p r .kind)) → setsOf (p .size) (relationAt p r) ≡ tuplesOf (p .size) (relationAt p r)
-  unfolding setsOf
-  sets-width r t = let e : isChosen (relationAt p r .kind) ≡ true = T-true _ t in rw e refl
+  range-at : (v : ℕ) (s : Tree) → nodeAt p v ≡ s → rangeAt p v ≡ p .range (nodeSort s)
+  unfolding rangeAt
+  range-at v s e = ap (λ (t : Tree). p .range (nodeSort t)) e
 
-  prove-at : (v row i : ℕ) (s : Tree) → nodeAt p v ≡ s → v < length (p .nodeList) → row < rowsOf (p .size) (nodeAt p v) → i < choices (p .size) s → actionAt p (proofNumber p v row i) ≡ some (proveNode s v row i)
+  prove-at : (v row i : ℕ) (s : Tree) → nodeAt p v ≡ s → v < length (p .nodeList) → row < rowsOf (p .size) (nodeAt p v) → i < choices (p .range) s → actionAt p (proofNumber p v row i) ≡ some (proveNode (p .range) s v row i)
   unfolding proofNumber proofsOf
   prove-at v row i s e l h g =
-      let c : i < choices (p .size) (nodeAt p v) = subst (λ (x : Tree). i < choices (p .size) x) (sym e) g in
-      let w : proofStart p v + row * choices (p .size) (nodeAt p v) + i ≡ proofStart p v + (row * choices (p .size) (nodeAt p v) + i) = omega arith in
-      ap (actionAt p) w ∙ proof-at v (row * choices (p .size) (nodeAt p v) + i) l (digits-lt h c)
-      ∙ ap some (ap₂ (proveNode (nodeAt p v) v) (digits-div row c) (digits-mod row c) ∙ ap (λ (x : Tree). proveNode x v row i) e)
+      let c : i < choices (p .range) (nodeAt p v) = subst (λ (x : Tree). i < choices (p .range) x) (sym e) g in
+      let w : proofStart p v + row * choices (p .range) (nodeAt p v) + i ≡ proofStart p v + (row * choices (p .range) (nodeAt p v) + i) = omega arith in
+      ap (actionAt p) w ∙ proof-at v (row * choices (p .range) (nodeAt p v) + i) l (digits-lt h c)
+      ∙ ap some (ap₂ (proveNode (p .range) (nodeAt p v) v) (digits-div row c) (digits-mod row c) ∙ ap (λ (x : Tree). proveNode (p .range) x v row i) e)
 
   pub action-at : (a : Action) → IsAction p a → actionAt p (actionNumber p a) ≡ some a
-  unfolding IsAction actionNumber choices proveNode
-  action-at (set r row) v = set-at r row (v .0) (rw (sets-width r (v .1)) (v .2))
+  unfolding IsAction actionNumber choices proveNode nodeSort setsOf
+  action-at (set r row) v =
+      let rows : List ℕ = setRows (p .size) (p .range) (relationAt p r) in
+      set-at r (rank rows row) (v .0) (rank-lt rows row (v .2)) ∙ ap (λ (x : ℕ). some (set r x)) (select-rank rows row (v .2))
   action-at beginProof v = begin-at
   action-at (proveAnd v row) (l, h, (ts, e)) = prove-at v row 0 (andNode ts) e l h (omega arith)
   action-at (proveOr v row i) (l, h, (ts, e, g)) = prove-at v row i (orNode ts) e l h g
-  action-at (proveExists v row x) (l, h, (d, t, e, g)) = prove-at v row x (existsNode d t) e l h g
-  action-at (proveForall v row z) (l, h, (d, t, e, g)) = prove-at v row z (forallNode d t) e l h g
+  action-at (proveExists v row x) (l, h, (d, s, t, e, g)) =
+      ap (λ (ms : List ℕ). actionAt p (proofNumber p v row (rank ms x))) (range-at v (existsNode d s t) e)
+      ∙ prove-at v row (rank (p .range s) x) (existsNode d s t) e l h (rank-lt (p .range s) x g)
+      ∙ ap (λ (y : ℕ). some (proveExists v row y)) (select-rank (p .range s) x g)
+  action-at (proveForall v row z) (l, h, (d, s, t, e, g)) =
+      ap (λ (ms : List ℕ). actionAt p (proofNumber p v row (rank ms z))) (range-at v (forallNode d s t) e)
+      ∙ prove-at v row (rank (p .range s) z) (forallNode d s t) e l h (rank-lt (p .range s) z g)
+      ∙ ap (λ (y : ℕ). some (proveForall v row y)) (select-rank (p .range s) z g)
   action-at proveGoal v = goal-at
 
-  -- what decodes is an action of the problem, and the number is its number
-  in-node : (v j : ℕ) (s : Tree) → nodeAt p v ≡ s → v < length (p .nodeList) → j < proofsOf (p .size) s → IsAction p (proveNode s v (j / choices (p .size) s) (j % choices (p .size) s)) × (actionNumber p (proveNode s v (j / choices (p .size) s) (j % choices (p .size) s)) ≡ proofStart p v + j)
-  unfolding IsAction actionNumber proofNumber proofsOf choices proveNode
+  -- the row of a set action is one of its relation's
+  pub set-below : (r row : ℕ) → IsAction p (set r row) → row < tuplesOf (p .size) (relationAt p r)
+  unfolding IsAction
+  set-below r row v = set-row (p .size) (p .range) (relationAt p r) row (v .2) .1
+
+  -- what decodes is an action of the problem, and where no range has an element twice the number is its number
+  abbrev pub Alone : Type 0
+  Alone = (s : ℕ) → Once (p .range s)
+
+  in-node : (v j : ℕ) (s : Tree) → nodeAt p v ≡ s → v < length (p .nodeList) → j < proofsOf (p .size) (p .range) s → IsAction p (proveNode (p .range) s v (j / choices (p .range) s) (j % choices (p .range) s)) × (Alone → actionNumber p (proveNode (p .range) s v (j / choices (p .range) s) (j % choices (p .range) s)) ≡ proofStart p v + j)
+  unfolding IsAction actionNumber proofNumber proofsOf choices proveNode nodeSort
   in-node v j (leaf q r ls) e l h = absurd (let z = mul-zero (rowsOf (p .size) (leaf q r ls)) in omega arith)
-  in-node v j (andNode ts) e l h = let b = row-below j (rowsOf (p .size) (andNode ts)) 1 h in ((l, rw e (b .0), (ts, e)), rw e (let d = div-one j in let m = mul-one (j / 1) in omega arith))
-  in-node v j (orNode ts) e l h = let b = row-below j (rowsOf (p .size) (orNode ts)) (howMany ts) h in ((l, rw e (b .0), (ts, e, b .1)), rw e (let d = div-add-mod' j (howMany ts) in omega arith))
-  in-node v j (existsNode d t) e l h = let b = row-below j (rowsOf (p .size) (existsNode d t)) (p .size) h in ((l, rw e (b .0), (d, t, e, b .1)), rw e (let d = div-add-mod' j (p .size) in omega arith))
-  in-node v j (forallNode d t) e l h = let b = row-below j (rowsOf (p .size) (forallNode d t)) (p .size) h in ((l, rw e (b .0), (d, t, e, b .1)), rw e (let d = div-add-mod' j (p .size) in omega arith))
+  in-node v j (andNode ts) e l h = let b = row-below j (rowsOf (p .size) (andNode ts)) 1 h in ((l, rw e (b .0), (ts, e)), λ U. rw e (let d = div-one j in let m = mul-one (j / 1) in omega arith))
+  in-node v j (orNode ts) e l h = let b = row-below j (rowsOf (p .size) (orNode ts)) (howMany ts) h in ((l, rw e (b .0), (ts, e, b .1)), λ U. rw e (let d = div-add-mod' j (howMany ts) in omega arith))
+  in-node v j (existsNode d s t) e l h =
+      let b = row-below j (rowsOf (p .size) (existsNode d s t)) (length (p .range s)) h in
+      let w : rangeAt p v ≡ p .range s = range-at v (existsNode d s t) e in
+      ((l, rw e (b .0), (d, s, t, e, getD-mem (p .range s) (j % length (p .range s)) 0 (b .1))), λ U. rw (e, w) (let q = rank-select (p .range s) (j % length (p .range s)) (U s) (b .1) in let d = div-add-mod' j (length (p .range s)) in omega arith))
+  in-node v j (forallNode d s t) e l h =
+      let b = row-below j (rowsOf (p .size) (forallNode d s t)) (length (p .range s)) h in
+      let w : rangeAt p v ≡ p .range s = range-at v (forallNode d s t) e in
+      ((l, rw e (b .0), (d, s, t, e, getD-mem (p .range s) (j % length (p .range s)) 0 (b .1))), λ U. rw (e, w) (let q = rank-select (p .range s) (j % length (p .range s)) (U s) (b .1) in let d = div-add-mod' j (length (p .range s)) in omega arith))
 
   set-of : (k : ℕ) (a : Action) → itemAt (S (p .relations)) k ≡ some a → IsAction p a × (actionNumber p a ≡ k)
   unfolding IsAction actionNumber setsOf relationAt
   set-of k a e =
-      let (r, l, s) = of-start (λ r k. setBlock (p .size) r k ∷ []) (p .relations) noRelation k a e in
-      let o = item-one (setBlock (p .size) r (getD (p .relations) r noRelation)) (s .0) a (s .2) in
-      (go r (s .0) l (isChosen (getD (p .relations) r noRelation .kind)) refl (o .0) (o .1), ap (actionNumber p) (o .1) ∙ ap (λ (x : ℕ). x + s .0) (set-start r) ∙ sym (s .1))
-    where
-      go : (r j : ℕ) → r < length (p .relations) → (b : Bool) → isChosen (getD (p .relations) r noRelation .kind) ≡ b → j < (if b then tuplesOf (p .size) (getD (p .relations) r noRelation) else zero) → a ≡ set r j → IsAction p a
-      go r j l true e h k = subst (IsAction p) (sym k) (l, T-of e, h)
-      go r j l false e h k = absurd (omega arith)
+      let (r, l, s) = of-start (λ r k. setBlock (p .size) (p .range) r k ∷ []) (p .relations) noRelation k a e in
+      let o = item-one (setBlock (p .size) (p .range) r (getD (p .relations) r noRelation)) (s .0) a (s .2) in
+      let rows : List ℕ = setRows (p .size) (p .range) (getD (p .relations) r noRelation) in
+      let m : List·Memᴰ (getD rows (s .0) 0) rows = getD-mem rows (s .0) 0 (o .0) in (
+        subst (IsAction p) (sym (o .1)) (l, set-row (p .size) (p .range) (getD (p .relations) r noRelation) _ m .0, m),
+        ap (actionNumber p) (o .1) ∙ ap₂ (λ (x y : ℕ). x + y) (set-start r) (rank-select rows (s .0) (once-sets (p .size) (p .range) (getD (p .relations) r noRelation)) (o .0)) ∙ sym (s .1),
+      )
 
-  proof-of : (k j : ℕ) (a : Action) → k ≡ countOf (S (p .relations)) + 1 + j → itemAt (Q (p .nodeList)) j ≡ some a → IsAction p a × (actionNumber p a ≡ k)
+  proof-of : (k j : ℕ) (a : Action) → k ≡ countOf (S (p .relations)) + 1 + j → itemAt (Q (p .nodeList)) j ≡ some a → IsAction p a × (Alone → actionNumber p a ≡ k)
   unfolding nodeAt
   proof-of k j a h e =
-      let (v, l, s) = of-start (λ v t. proofBlock (p .size) v t ∷ []) (p .nodeList) noNode j a e in
-      let o = item-one (proofBlock (p .size) v (getD (p .nodeList) v noNode)) (s .0) a (s .2) in
+      let (v, l, s) = of-start (λ v t. proofBlock (p .size) (p .range) v t ∷ []) (p .nodeList) noNode j a e in
+      let o = item-one (proofBlock (p .size) (p .range) v (getD (p .nodeList) v noNode)) (s .0) a (s .2) in
       let q = in-node v (s .0) (getD (p .nodeList) v noNode) refl l (o .0) in
       let z = proof-start v in
-      (subst (IsAction p) (sym (o .1)) (q .0), ap (actionNumber p) (o .1) ∙ q .1 ∙ omega (arith, z, h, s .1))
+      (subst (IsAction p) (sym (o .1)) (q .0), λ U. ap (actionNumber p) (o .1) ∙ q .1 U ∙ omega (arith, z, h, s .1))
 
-  action-of : (k : ℕ) (a : Action) → actionAt p k ≡ some a → IsAction p a × (actionNumber p a ≡ k)
+  action-of : (k : ℕ) (a : Action) → actionAt p k ≡ some a → IsAction p a × (Alone → actionNumber p a ≡ k)
   unfolding actionAt IsAction actionNumber
-  action-of k a e = ⊎-elim (λ q. set-of k a q) (λ q. past q) (item-append (S (p .relations)) (begins ∷ (Q (p .nodeList) ++ (ends ∷ []))) k a (ap (λ (bs : List (Block Action)). itemAt bs k) (sym actions-form) ∙ e))
+  action-of k a e = ⊎-elim (λ q. let o = set-of k a q in (o .0, λ U. o .1)) (λ q. past q) (item-append (S (p .relations)) (begins ∷ (Q (p .nodeList) ++ (ends ∷ []))) k a (ap (λ (bs : List (Block Action)). itemAt bs k) (sym actions-form) ∙ e))
     where
-      last : (j : ℕ) → k ≡ countOf (S (p .relations)) + 1 + j → (itemAt (Q (p .nodeList)) j ≡ some a) ⊎ ((i : ℕ) × (j ≡ countOf (Q (p .nodeList)) + i) × (itemAt (ends ∷ []) i ≡ some a)) → IsAction p a × (actionNumber p a ≡ k)
+      last : (j : ℕ) → k ≡ countOf (S (p .relations)) + 1 + j → (itemAt (Q (p .nodeList)) j ≡ some a) ⊎ ((i : ℕ) × (j ≡ countOf (Q (p .nodeList)) + i) × (itemAt (ends ∷ []) i ≡ some a)) → IsAction p a × (Alone → actionNumber p a ≡ k)
       last j h (inl q) = proof-of k j a h q
-      last j h (inr q) = let o = item-one ends (q .0) a (q .2) in let z = proof-end in (subst (IsAction p) (sym (o .1)) tt, ap (actionNumber p) (o .1) ∙ omega (arith, z, h, q .1, o .0))
+      last j h (inr q) = let o = item-one ends (q .0) a (q .2) in let z = proof-end in (subst (IsAction p) (sym (o .1)) tt, λ U. ap (actionNumber p) (o .1) ∙ omega (arith, z, h, q .1, o .0))
 
-      past : (j : ℕ) × (k ≡ countOf (S (p .relations)) + j) × (itemAt (begins ∷ (Q (p .nodeList) ++ (ends ∷ []))) j ≡ some a) → IsAction p a × (actionNumber p a ≡ k)
+      past : (j : ℕ) × (k ≡ countOf (S (p .relations)) + j) × (itemAt (begins ∷ (Q (p .nodeList) ++ (ends ∷ []))) j ≡ some a) → IsAction p a × (Alone → actionNumber p a ≡ k)
       past q = ⊎-elim
-          (λ b. let z = set-end in (subst (IsAction p) (sym (b .1)) tt, ap (actionNumber p) (b .1) ∙ omega (arith, z, q .1, b .0)))
+          (λ b. let z = set-end in (subst (IsAction p) (sym (b .1)) tt, λ U. ap (actionNumber p) (b .1) ∙ omega (arith, z, q .1, b .0)))
           (λ b. last (q .0 - 1) (omega (arith, q .1, b .0)) (item-append (Q (p .nodeList)) (ends ∷ []) (q .0 - 1) a (b .1)))
           (item-cases begins (Q (p .nodeList) ++ (ends ∷ [])) (q .0) a (q .2))
 
   pub action-is : (k : ℕ) (a : Action) → actionAt p k ≡ some a → IsAction p a
   action-is k a e = action-of k a e .0
 
-  pub action-number : (k : ℕ) (a : Action) → actionAt p k ≡ some a → actionNumber p a ≡ k
-  action-number k a e = action-of k a e .1
+  pub action-number : Alone → (k : ℕ) (a : Action) → actionAt p k ≡ some a → actionNumber p a ≡ k
+  action-number U k a e = action-of k a e .1 U
 
   pub action-below : (k : ℕ) (a : Action) → actionAt p k ≡ some a → k < actions p
   unfolding actionAt actions

@@ -6,7 +6,7 @@ use Prim.Native.Nat.{ℕ, zero, suc, _+_, _*_, _^_, _≤_, _<_}
 use lib.Dec.{ltb}
 use lib.ListN.{length, getD}
 use Rattle.definitions.specs.Limits.{atomLimit, actionLimit}
-use Rattle.definitions.specs.Lists.{if_then_else_}
+use Rattle.definitions.specs.Lists.{if_then_else_, below}
 use Rattle.definitions.specs.Tree.{nodes}
 use Rattle.definitions.specs.Atoms.{Problem, relationAt, tuplesOf, relationStart, nodeStart, atoms}
 use Rattle.definitions.specs.Actions.{actions, setStart, proofStart}
@@ -94,6 +94,7 @@ pub record NodesLaid (n : ℕ) (t : Nodes) (from first : ℕ) (v : ℕ) (node ac
 pub record Inputs (p : Problem) (n : ℕ) (g : Relations) (t : Nodes) : Type 0 where
   pub size : n ≡ p .size
   pub list : p .nodeList ≡ nodes (p .root)
+  pub ranges : (s : ℕ) → p .range s ≡ below (p .size)
   pub count : g .count ≡ length (p .relations)
   pub arity : (r : ℕ) → r < g .count → getD (g .arity) r 0 ≡ relationAt p r .arity
   pub kind : (r : ℕ) → r < g .count → getD (g .kind) r 0 ≡ kindNumber (relationAt p r .kind)

@@ -16,7 +16,8 @@ use Rattle.definitions.specs.Tree.{Tree, leaf, forallNode, existsNode, andNode,
 use Rattle.definitions.specs.Atoms.{Problem, relationAt, nodeAt, relationStart, nodeStart, tuplesOf, rowsOf, nodeWidth as widthOf, atoms}
 use Rattle.definitions.specs.Actions.{choices, setsOf, proofsOf, setStart, proofStart, actions}
 use Rattle.definitions.specs.Built.{mostPicks, bound}
-use Rattle.laws.specs.Numbers.{noRelation, relationWidth as widthIn, relation-first, relation-next, set-first, set-next, node-first, node-next, proof-first, proof-next, atoms-end, node-atoms, actions-end}
+use Rattle.laws.specs.Lists.{length-below}
+use Rattle.laws.specs.Numbers.{noRelation, sets-all, relationWidth as widthIn, relation-first, relation-next, set-first, set-next, node-first, node-next, proof-first, proof-next, atoms-end, node-atoms, actions-end}
 use Rattle.tree.specs.Tables.{nodeKind, headIn, headOf, IsNode, noNode, Fits}
 use Rattle.tree.specs.declared.PartRow.{PartRow}
 use Rattle.tree.specs.declared.NodeRow.{NodeRow}
@@ -57,8 +58,8 @@ picks-are n T PInj = refl
 node-width-is : (n T : ℕ) (u : Tree) → nodeWidth n T (nodeKind u) ≡ (if isForall u then T * n else T)
 unfolding nodeWidth nodeKind isForall
 node-width-is n T (leaf q r ls) = refl
-node-width-is n T (forallNode d u) = refl
-node-width-is n T (existsNode d u) = refl
+node-width-is n T (forallNode d σ u) = refl
+node-width-is n T (existsNode d σ u) = refl
 node-width-is n T (andNode us) = refl
 node-width-is n T (orNode us) = refl
 
@@ -67,13 +68,13 @@ many-are v u w ps i h =
     let a : length (take (w .many) (drop (w .first) ps)) ≡ w .many = length-take-le (w .many) (drop (w .first) ps) (omega (arith, length-drop (w .first) ps)) in
     sym a ∙ sym (length-map (take (w .many) (drop (w .first) ps)) headIn) ∙ ap length (i .parts) ∙ length-map (parts v u) headOf
 
-choices-are : (n v : ℕ) (u : Tree) (w : NodeRow) (ps : List PartRow) → IsNode v u w ps → w .first + w .many ≤ length ps → choicesOf n (nodeKind u) (w .many) ≡ choices n u
+choices-are : (n : ℕ) (R : ℕ → List ℕ) → ((s : ℕ) → length (R s) ≡ n) → (v : ℕ) (u : Tree) (w : NodeRow) (ps : List PartRow) → IsNode v u w ps → w .first + w .many ≤ length ps → choicesOf n (nodeKind u) (w .many) ≡ choices R u
 unfolding choicesOf nodeKind choices parts
-choices-are n v (leaf q r ls) w ps i b = many-are v (leaf q r ls) w ps i b
-choices-are n v (forallNode d u) w ps i b = refl
-choices-are n v (existsNode d u) w ps i b = refl
-choices-are n v (andNode us) w ps i b = refl
-choices-are n v (orNode us) w ps i b = many-are v (orNode us) w ps i b ∙ parts-length (suc v) us
+choices-are n R a v (leaf q r ls) w ps i b = many-are v (leaf q r ls) w ps i b
+choices-are n R a v (forallNode d σ u) w ps i b = sym (a σ)
+choices-are n R a v (existsNode d σ u) w ps i b = sym (a σ)
+choices-are n R a v (andNode us) w ps i b = refl
+choices-are n R a v (orNode us) w ps i b = many-are v (orNode us) w ps i b ∙ parts-length (suc v) us
 
 sum-next : (f : Relation → ℕ) (r : ℕ) (ks : List Relation) → r < length ks → sum (map f (take (suc r) ks)) ≡ sum (map f (take r ks)) + f (getD ks r noRelation)
 unfolding sum
@@ -90,9 +91,9 @@ module _ (p : Problem) (g : Relations) (t : Nodes) (is : Inputs p (p .size) g t)
   unfolding widthIn tuplesOf
   relation-width r h = ap₂ (λ (a k : ℕ). relationWidth (p .size) (p .size ^ a) k) (is .arity r h) (is .kind r h) ∙ width-is (p .size) (p .size ^ relationAt p r .arity) (relationAt p r .kind)
 
-  set-width : (r : ℕ) → r < g .count → setWidth (p .size ^ getD (g .arity) r 0) (getD (g .kind) r 0) ≡ setsOf (p .size) (relationAt p r)
-  unfolding setsOf tuplesOf
-  set-width r h = ap₂ (λ (a k : ℕ). setWidth (p .size ^ a) k) (is .arity r h) (is .kind r h) ∙ sets-are (p .size ^ relationAt p r .arity) (relationAt p r .kind)
+  set-width : (r : ℕ) → r < g .count → setWidth (p .size ^ getD (g .arity) r 0) (getD (g .kind) r 0) ≡ setsOf (p .size) (p .range) (relationAt p r)
+  unfolding tuplesOf
+  set-width r h = ap₂ (λ (a k : ℕ). setWidth (p .size ^ a) k) (is .arity r h) (is .kind r h) ∙ sets-are (p .size ^ relationAt p r .arity) (relationAt p r .kind) ∙ sym (sets-all (p .size) (p .range) (relationAt p r))
 
   pick-width : (r : ℕ) → r < g .count → mostWidth (p .size) (p .size ^ getD (g .arity) r 0) (getD (g .kind) r 0) ≡ mostPicks (p .size) (getD (p .relations) r noRelation)
   unfolding mostPicks tuplesOf relationAt
@@ -137,11 +138,11 @@ module _ (p : Problem) (g : Relations) (t : Nodes) (is : Inputs p (p .size) g t)
     in-parts v = omega (arith, fits .nodes .node v .parts, fits .parts .parts-length)
 
     act-width : (v : ℕ) → v < t .count
-        → (p .size ^ getD (t .rows) v noNode .width) * choicesOf (p .size) (getD (t .rows) v noNode .kind) (getD (t .rows) v noNode .many) ≡ proofsOf (p .size) (nodeAt p v)
+        → (p .size ^ getD (t .rows) v noNode .width) * choicesOf (p .size) (getD (t .rows) v noNode .kind) (getD (t .rows) v noNode .many) ≡ proofsOf (p .size) (p .range) (nodeAt p v)
     unfolding proofsOf
     act-width v h =
         ap₂ (λ (x y : ℕ). x * y) (rows-are v h)
-        (ap (λ (k : ℕ). choicesOf (p .size) k (getD (t .rows) v noNode .many)) (node-is v h .kind) ∙ choices-are (p .size) v (nodeAt p v) (getD (t .rows) v noNode) (t .parts) (node-is v h) (in-parts v))
+        (ap (λ (k : ℕ). choicesOf (p .size) k (getD (t .rows) v noNode .many)) (node-is v h .kind) ∙ choices-are (p .size) (p .range) (λ s. ap length (is .ranges s) ∙ length-below (p .size)) v (nodeAt p v) (getD (t .rows) v noNode) (t .parts) (node-is v h) (in-parts v))
 
     act-are : (v : ℕ) → v ≤ t .count → actSum (p .size) t (setStart p (length (p .relations)) + 1) v ≡ proofStart p v
     unfolding actSum

@@ -123,8 +123,8 @@ module _ (p : Problem) (w : List ℕ) (k node : ℕ) (x : NodeLine) (n row j : �
 -- ---- the atoms of a `forall` are whole rows
 forall-wide : (n : ℕ) (t : Tree) → nodeKind t ≡ 0 → nodeWidth n t ≡ rowsOf n t * n
 unfolding nodeKind nodeWidth isForall
-forall-wide n (forallNode d t) e = refl
-forall-wide n (existsNode d t) e = absurd (omega arith)
+forall-wide n (forallNode d σ t) e = refl
+forall-wide n (existsNode d σ t) e = absurd (omega arith)
 forall-wide n (andNode ts) e = absurd (omega arith)
 forall-wide n (orNode ts) e = absurd (omega arith)
 forall-wide n (leaf q r ls) e = absurd (omega arith)

@@ -3,15 +3,19 @@ use Prim.Native.Nat.{ℕ, zero, suc, _+_, _-_, _*_, _/_, _%_, _^_, _<_, _≤_}
 use mathlib.Core.Path.{_≡_, refl, sym, ap, ap₂, subst, subst₂, _∙_}
 use mathlib.Core.Bool.{Bool, true, false}
 use mathlib.Core.Option.{none, some}
-use mathlib.Core.List.{List}
+use mathlib.Core.List.{List, List·Memᴰ}
 use native.Mathlib.Omega.{arith}
 use native.Mathlib.Nat.{mod-lt, div-lt-iff-lt-mul, mul-le-mul}
-use lib.ListN.{length}
-use Rattle.definitions.specs.Lists.{if_then_else_, all, option, position, from, below}
-use Rattle.definitions.specs.Tree.{Tree, leaf, forallNode, existsNode, andNode, orNode, parts, isForall}
+use lib.ListN.{length, getD}
+use Rattle.definitions.specs.Lists.{if_then_else_, all, option, position, from, below, isIn, rank}
+use Rattle.definitions.specs.Tree.{Tree, leaf, forallNode, existsNode, andNode, orNode, parts, isForall, nodeSort}
 use Rattle.definitions.specs.Atoms.{Problem, State, nodeAt, rowsOf, nodeWidth}
-use Rattle.definitions.specs.Actions.{Action, choices, proveNode, proofStart, proofNumber, actionNumber}
+use Rattle.definitions.specs.Actions.{Action, choices, proveNode, proofStart, proofNumber, rangeAt, actionNumber}
 use Rattle.definitions.specs.Strips.{mayTake}
+use Rattle.laws.specs.Booleans.{T-of, T-true}
+use Rattle.laws.specs.Lists.{mem-below, length-below, getD-below, getD-mem}
+use Rattle.laws.specs.Repeats.{Once}
+use Rattle.laws.specs.Members.{ascending-below, ascending-once, in-mem, mem-in, rank-lt, rank-below, rank-select}
 use Rattle.laws.specs.Numbers.{IsAction}
 use Rattle.tree.specs.Tables.{nodeKind}
 use Rattle.ground.specs.Lines.{sizeIn, nodeLine, Fits}
@@ -55,57 +59,105 @@ lost f (suc k) a h = go (f a) h (lost f k (suc a))
     go false h r = rw (r (omega arith))
 
 -- ---- the way by the table
-module _ (n v j : ℕ) where
+module _ (n : ℕ) (R : ℕ → List ℕ) (whole : (σ : ℕ) → R σ ≡ below n) (some-element : 0 < n) (v j : ℕ) where
   pub record WayIs (t : Tree) (w : Way) : Type 0 where
     pub row : w .row ≡ rowIn n t j
-    pub base : w .base ≡ firstTry n t j
-    pub tries : w .tries ≡ tries n t
-    pub choices : w .choices ≡ choices n t
+    pub base : w .base ≡ firstTry n R t j
+    pub tries : w .tries ≡ tries n R t j
+    pub choices : w .choices ≡ choices R t
+
+  counted : (σ : ℕ) → n ≡ length (R σ)
+  counted σ = sym (ap length (whole σ) ∙ length-below n)
+
+  among : (σ : ℕ) → isIn (j % n) (R σ) ≡ true
+  among σ = T-true (isIn (j % n) (R σ)) (mem-in (j % n) (R σ) (subst (List·Memᴰ (j % n)) (sym (whole σ)) (mem-below n (j % n) (mod-lt j some-element))))
+
+  placed : (σ : ℕ) → j % n ≡ rank (R σ) (j % n)
+  placed σ = sym (ap (λ (l : List ℕ). rank l (j % n)) (whole σ) ∙ rank-below n (j % n) (mod-lt j some-element))
 
   way-is : (t : Tree) → WayIs t (wayBy n (nodeKind t) (length (parts v t)) j)
-  unfolding wayBy nodeKind rowIn firstTry tries choices isForall parts
+  unfolding wayBy nodeKind rowIn firstTry tries choices isForall nodeSort parts
   way-is (leaf q r ls) = record { row = refl; base = refl; tries = refl; choices = refl }
-  way-is (forallNode d t) = record { row = refl; base = refl; tries = refl; choices = refl }
-  way-is (existsNode d t) = record { row = refl; base = refl; tries = refl; choices = refl }
+  way-is (forallNode d σ t) = record { row = refl; base = placed σ; tries = rw (among σ) refl; choices = counted σ }
+  way-is (existsNode d σ t) = record { row = refl; base = refl; tries = counted σ; choices = counted σ }
   way-is (andNode ts) = record { row = refl; base = refl; tries = refl; choices = refl }
   way-is (orNode ts) = record { row = refl; base = refl; tries = parts-length (suc v) ts; choices = parts-length (suc v) ts }
 
-  act-is : (t : Tree) (row i : ℕ) → 0 < tries n t → actBy (nodeKind t) v row i ≡ said (proveNode t v row i)
-  unfolding actBy nodeKind said proveNode tries choices isForall
+  element-at : (σ i : ℕ) → i < length (R σ) → getD (R σ) i 0 ≡ i
+  element-at σ i h = ap (λ (l : List ℕ). getD l i 0) (whole σ) ∙ getD-below n i (omega (arith, counted σ))
+
+  act-is : (t : Tree) (row i : ℕ) → i < choices R t → actBy (nodeKind t) v row i ≡ said (proveNode R t v row i)
+  unfolding actBy nodeKind said proveNode choices
   act-is (leaf q r ls) row i h = absurd (omega arith)
-  act-is (forallNode d t) row i h = refl
-  act-is (existsNode d t) row i h = refl
+  act-is (forallNode d σ t) row i h = rw (element-at σ i h) refl
+  act-is (existsNode d σ t) row i h = rw (element-at σ i h) refl
   act-is (andNode ts) row i h = refl
   act-is (orNode ts) row i h = refl
 
+-- a try is one of the node's choices
+try-lt : (n : ℕ) (R : ℕ → List ℕ) (t : Tree) (j i : ℕ) → i < tries n R t j → firstTry n R t j + i < choices R t
+unfolding tries firstTry choices isForall nodeSort
+try-lt n R (leaf q r ls) j i k = absurd (omega arith)
+try-lt n R (forallNode d σ u) j i k = by-range (isIn (j % n) (R σ)) refl k
+  where
+    by-range : (b : Bool) → isIn (j % n) (R σ) ≡ b → i < (if b then 1 else zero) → rank (R σ) (j % n) + i < length (R σ)
+    by-range true e k = let l = rank-lt (R σ) (j % n) (in-mem (j % n) (R σ) (T-of e)) in omega arith
+    by-range false e k = absurd (omega arith)
+try-lt n R (existsNode d σ u) j i k = omega arith
+try-lt n R (andNode ts) j i k = omega arith
+try-lt n R (orNode ts) j i k = omega arith
+
 -- ---- the actions of an atom
 module _ (p : Problem) (w : List ℕ) (is : Is p w) (element : 0 < p .size) (v : ℕ) (l : v < length (p .nodeList)) (j : ℕ) where
-  try-is : (t : Tree) → nodeAt p v ≡ t → j < nodeWidth (p .size) t → (i : ℕ) → i < tries (p .size) t → IsAction p (tryAt (p .size) v t j i)
-  unfolding tryAt rowIn firstTry tries isForall choices proveNode nodeWidth IsAction
-  try-is (leaf q r ls) e h i k = absurd (omega arith)
-  try-is (forallNode d u) e h i k = (l, subst (λ (t : Tree). j / p .size < rowsOf (p .size) t) (sym e) (div-lt-iff-lt-mul element .1 h), (d, u, e, omega (arith, mod-lt j element)))
-  try-is (existsNode d u) e h i k = (l, subst (λ (t : Tree). j < rowsOf (p .size) t) (sym e) h, (d, u, e, omega arith))
-  try-is (andNode ts) e h i k = (l, subst (λ (t : Tree). j < rowsOf (p .size) t) (sym e) h, (ts, e))
-  try-is (orNode ts) e h i k = (l, subst (λ (t : Tree). j < rowsOf (p .size) t) (sym e) h, (ts, e, omega arith))
+  abbrev triesAt : Tree → ℕ
+  triesAt t = tries (p .size) (p .range) t j
 
-  try-number : (t : Tree) → nodeAt p v ≡ t → (i : ℕ) → i < tries (p .size) t → actionNumber p (tryAt (p .size) v t j i) ≡ proofStart p v + rowIn (p .size) t j * choices (p .size) t + (firstTry (p .size) t j + i)
-  unfolding tryAt rowIn firstTry tries isForall choices proveNode actionNumber proofNumber
-  try-number (leaf q r ls) e i k = absurd (omega arith)
-  try-number (forallNode d u) e i k = ap (λ (t : Tree). proofStart p v + j / p .size * choices (p .size) t + (j % p .size + i)) e
-  try-number (existsNode d u) e i k = ap (λ (t : Tree). proofStart p v + j * choices (p .size) t + (0 + i)) e
-  try-number (andNode ts) e i k = let q : 0 ≡ 0 + i = omega arith in ap₂ (λ (t : Tree) (x : ℕ). proofStart p v + j * choices (p .size) t + x) e q
-  try-number (orNode ts) e i k = ap (λ (t : Tree). proofStart p v + j * choices (p .size) t + (0 + i)) e
+  abbrev tryOf : Tree → ℕ → Action
+  tryOf t i = tryAt (p .size) (p .range) v t j i
+
+  abbrev firstOf : Tree → ℕ
+  firstOf t = firstTry (p .size) (p .range) t j
+
+  try-is : (t : Tree) → nodeAt p v ≡ t → j < nodeWidth (p .size) t → (i : ℕ) → i < triesAt t → IsAction p (tryOf t i)
+  unfolding tryAt rowIn isForall choices proveNode nodeWidth IsAction
+  try-is (leaf q r ls) e h i k = let b = try-lt (p .size) (p .range) (leaf q r ls) j i k in absurd (omega arith)
+  try-is (forallNode d σ u) e h i k =
+      (l, subst (λ (t : Tree). j / p .size < rowsOf (p .size) t) (sym e) (div-lt-iff-lt-mul element .1 h), (d, σ, u, e, getD-mem (p .range σ) (firstOf (forallNode d σ u) + i) 0 (try-lt (p .size) (p .range) (forallNode d σ u) j i k)))
+  try-is (existsNode d σ u) e h i k =
+      (l, subst (λ (t : Tree). j < rowsOf (p .size) t) (sym e) h, (d, σ, u, e, getD-mem (p .range σ) (firstOf (existsNode d σ u) + i) 0 (try-lt (p .size) (p .range) (existsNode d σ u) j i k)))
+  try-is (andNode ts) e h i k = (l, subst (λ (t : Tree). j < rowsOf (p .size) t) (sym e) h, (ts, e))
+  try-is (orNode ts) e h i k = (l, subst (λ (t : Tree). j < rowsOf (p .size) t) (sym e) h, (ts, e, try-lt (p .size) (p .range) (orNode ts) j i k))
+
+  -- the place of an element in a quantifier's range
+  place-is : (σ i : ℕ) → nodeSort (nodeAt p v) ≡ σ → i < length (p .range σ) → rank (rangeAt p v) (getD (p .range σ) i 0) ≡ i
+  unfolding rangeAt
+  place-is σ i e h =
+      let once : Once (p .range σ) = subst Once (sym (is .ranges σ)) (ascending-once (below (p .size)) (ascending-below (p .size))) in
+      ap (λ (s : ℕ). rank (p .range s) (getD (p .range σ) i 0)) e ∙ rank-select (p .range σ) i once h
+
+  try-number : (t : Tree) → nodeAt p v ≡ t → (i : ℕ) → i < triesAt t → actionNumber p (tryOf t i) ≡ proofStart p v + rowIn (p .size) t j * choices (p .range) t + (firstOf t + i)
+  unfolding tryAt rowIn isForall choices proveNode actionNumber proofNumber nodeSort
+  try-number (leaf q r ls) e i k = let b = try-lt (p .size) (p .range) (leaf q r ls) j i k in absurd (omega arith)
+  try-number (forallNode d σ u) e i k =
+      ap₂ (λ (t : Tree) (x : ℕ). proofStart p v + j / p .size * choices (p .range) t + x) e (place-is σ (firstOf (forallNode d σ u) + i) (ap nodeSort e) (try-lt (p .size) (p .range) (forallNode d σ u) j i k))
+  try-number (existsNode d σ u) e i k =
+      ap₂ (λ (t : Tree) (x : ℕ). proofStart p v + j * choices (p .range) t + x) e (place-is σ (firstOf (existsNode d σ u) + i) (ap nodeSort e) (try-lt (p .size) (p .range) (existsNode d σ u) j i k))
+  try-number (andNode ts) e i k =
+      let b = try-lt (p .size) (p .range) (andNode ts) j i k in
+      let q : 0 ≡ firstOf (andNode ts) + i = omega arith in
+      ap₂ (λ (t : Tree) (x : ℕ). proofStart p v + j * choices (p .range) t + x) e q
+  try-number (orNode ts) e i k = ap (λ (t : Tree). proofStart p v + j * choices (p .range) t + (firstOf (orNode ts) + i)) e
 
   abbrev way : Way
   way = wayBy (sizeIn w) (nodeLine w v .kind) (nodeLine w v .many) j
 
-  here : WayIs (p .size) v j (nodeAt p v) way
-  here = subst (λ (x : Way). WayIs (p .size) v j (nodeAt p v) x) (ap (λ (n : ℕ). wayBy n (nodeKind (nodeAt p v)) (length (parts v (nodeAt p v))) j) (sym (is .size)) ∙ ap₂ (λ (k m : ℕ). wayBy (sizeIn w) k m j) (sym (is .node v l .kind)) (sym (is .node v l .many))) (way-is (p .size) v j (nodeAt p v))
+  here : WayIs (p .size) (p .range) (is .ranges) element v j (nodeAt p v) way
+  here = subst (λ (x : Way). WayIs (p .size) (p .range) (is .ranges) element v j (nodeAt p v) x) (ap (λ (n : ℕ). wayBy n (nodeKind (nodeAt p v)) (length (parts v (nodeAt p v))) j) (sym (is .size)) ∙ ap₂ (λ (k m : ℕ). wayBy (sizeIn w) k m j) (sym (is .node v l .kind)) (sym (is .node v l .many))) (way-is (p .size) (p .range) (is .ranges) element v j (nodeAt p v))
 
-  act-said : (i : ℕ) → i < tries (p .size) (nodeAt p v) → actBy (nodeLine w v .kind) v (way .row) (way .base + i) ≡ said (tryAt (p .size) v (nodeAt p v) j i)
+  act-said : (i : ℕ) → i < triesAt (nodeAt p v) → actBy (nodeLine w v .kind) v (way .row) (way .base + i) ≡ said (tryOf (nodeAt p v) i)
   unfolding tryAt
   act-said i k = ap (λ (x : ℕ). actBy x v (way .row) (way .base + i)) (is .node v l .kind) ∙ ap₂ (λ (x y : ℕ). actBy (nodeKind (nodeAt p v)) v x (y + i)) (here .row) (here .base)
-      ∙ act-is (p .size) v j (nodeAt p v) (rowIn (p .size) (nodeAt p v) j) (firstTry (p .size) (nodeAt p v) j + i) (omega arith)
+      ∙ act-is (p .size) (p .range) (is .ranges) element v j (nodeAt p v) (rowIn (p .size) (nodeAt p v) j) (firstOf (nodeAt p v) + i) (try-lt (p .size) (p .range) (nodeAt p v) j i k)
 
   -- what the code tests of a state, and finds
   module _ (s : State) (h : j < nodeWidth (p .size) (nodeAt p v)) where
@@ -113,13 +165,13 @@ module _ (p : Problem) (w : List ℕ) (is : Is p w) (element : 0 < p .size) (v :
     passes i = all s (needNumbers w (actBy (nodeLine w v .kind) v (way .row) (way .base + i)))
 
     abbrev may : ℕ → Bool
-    may i = mayTake p s (tryAt (p .size) v (nodeAt p v) j i)
+    may i = mayTake p s (tryOf (nodeAt p v) i)
 
-    same : firstFrom passes 0 (way .tries) ≡ firstFrom may 0 (tries (p .size) (nodeAt p v))
-    same = ap (firstFrom passes 0) (here .tries) ∙ first-same passes may (tries (p .size) (nodeAt p v)) 0 (λ i k.
-        let q : i < tries (p .size) (nodeAt p v) = k in
-        let e : 0 + i < tries (p .size) (nodeAt p v) = omega arith in
-        ap (λ (a : Act). all s (needNumbers w a)) (act-said (0 + i) e) ∙ may-is p w is s (tryAt (p .size) v (nodeAt p v) j (0 + i)) (try-is (nodeAt p v) refl h (0 + i) e))
+    same : firstFrom passes 0 (way .tries) ≡ firstFrom may 0 (triesAt (nodeAt p v))
+    same = ap (firstFrom passes 0) (here .tries) ∙ first-same passes may (triesAt (nodeAt p v)) 0 (λ i k.
+        let q : i < triesAt (nodeAt p v) = k in
+        let e : 0 + i < triesAt (nodeAt p v) = omega arith in
+        ap (λ (a : Act). all s (needNumbers w a)) (act-said (0 + i) e) ∙ may-is p w is s (tryOf (nodeAt p v) (0 + i)) (try-is (nodeAt p v) refl h (0 + i) e))
 
     -- by a node's line x and a way y
     pub record Found (x : NodeLine) (y : Way) (r : ℕ) : Type 0 where
@@ -135,13 +187,13 @@ module _ (p : Problem) (w : List ℕ) (is : Is p w) (element : 0 < p .size) (v :
     found-here : (r : ℕ) → First (nodeLine w v) way r → r < way .tries → Found (nodeLine w v) way r
     unfolding stepNow below option
     found-here r e k =
-        let m : r < tries (p .size) (nodeAt p v) = subst (λ (x : ℕ). r < x) (here .tries) k in
-        let q : r ≡ firstFrom may 0 (tries (p .size) (nodeAt p v)) = e ∙ same in
-        let z : firstFrom may 0 (tries (p .size) (nodeAt p v)) - 0 ≡ r = omega arith in
+        let m : r < triesAt (nodeAt p v) = subst (λ (x : ℕ). r < x) (here .tries) k in
+        let q : r ≡ firstFrom may 0 (triesAt (nodeAt p v)) = e ∙ same in
+        let z : firstFrom may 0 (triesAt (nodeAt p v)) - 0 ≡ r = omega arith in
         record {
-          action = tryAt (p .size) v (nodeAt p v) j r;
+          action = tryOf (nodeAt p v) r;
           valid = try-is (nodeAt p v) refl h r m;
-          step = rw (found may (tries (p .size) (nodeAt p v)) 0 (omega arith)) (ap (λ (x : ℕ). some (tryAt (p .size) v (nodeAt p v) j x)) z);
+          step = rw (found may (triesAt (nodeAt p v)) 0 (omega arith)) (ap (λ (x : ℕ). some (tryOf (nodeAt p v) x)) z);
           says = act-said r m;
           number =
               ap (λ (a : ℕ). a + way .row * way .choices + (way .base + r)) (is .acts v (omega arith)) ∙ ap₂ (λ (x y : ℕ). proofStart p v + x + (y + r)) (ap₂ _*_ (here .row) (here .choices)) (here .base)
@@ -152,8 +204,8 @@ module _ (p : Problem) (w : List ℕ) (is : Is p w) (element : 0 < p .size) (v :
     unfolding stepNow below option
     lost-here r e k =
         let t = here .tries in
-        let q : r ≡ firstFrom may 0 (tries (p .size) (nodeAt p v)) = e ∙ same in
-        rw (lost may (tries (p .size) (nodeAt p v)) 0 (omega arith))
+        let q : r ≡ firstFrom may 0 (triesAt (nodeAt p v)) = e ∙ same in
+        rw (lost may (triesAt (nodeAt p v)) 0 (omega arith))
 
     -- the line and the way as the code has them
     module _ (x : NodeLine) (y : Way) (ex : x ≡ nodeLine w v) (ey : y ≡ wayBy (sizeIn w) (x .kind) (x .many) j) where

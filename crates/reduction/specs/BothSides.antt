@@ -12,7 +12,7 @@ use Rattle.definitions.specs.Lists.{all, any, below}
 use Rattle.definitions.specs.Text.{bytes}
 use Rattle.definitions.specs.Relations.{Kind, static, plain, Fun, PFun, Inj, PInj, isChosen, isFunction, isInjective, isTotal, Relation, Tuple, isAmong, builtIn, builtInHolds}
 use Rattle.definitions.specs.Sheets.{firstRel, firstChosen}
-use Rattle.definitions.specs.Truth.{Case, holds, first, second, two, isOfKind, isTotalIn, isPick, arePicks, ruleIsTrue}
+use Rattle.definitions.specs.Truth.{Case, holds, membersOf, first, second, two, isOfKind, isTotalIn, isPick, arePicks, ruleIsTrue}
 use Rattle.definitions.specs.Tree.{treeOf}
 use Rattle.definitions.specs.Built.{treeHolds}
 use Rattle.definitions.specs.Refusal.{accepted}
@@ -92,7 +92,7 @@ kind-means picks r k = (
 
 -- "a second for every first place"
 pub total-means : (c : Case) (picks : List Tuple) (r : ℕ) → (isTotalIn c picks r ≡ true) ↔ ((x : ℕ) → x < c .site .size → (y : ℕ) × (y < c .site .size) × (holds c picks r (x ∷ y ∷ []) ≡ true))
-unfolding isTotalIn
+unfolding isTotalIn membersOf
 total-means c picks r = (
   (λ e x l. let (y, m, h) = any-at (λ y. holds c picks r (x ∷ y ∷ [])) (below (c .site .size)) (all-at (λ x. any (λ y. holds c picks r (x ∷ y ∷ [])) (below (c .site .size))) (below (c .site .size)) (T-of e) x (mem-below (c .site .size) x l)) in (y, below-lt (c .site .size) y m, T-true (holds c picks r (x ∷ y ∷ [])) h)),
   (λ f. T-true (all (λ x. any (λ y. holds c picks r (x ∷ y ∷ [])) (below (c .site .size))) (below (c .site .size))) (all-of (λ x. any (λ y. holds c picks r (x ∷ y ∷ [])) (below (c .site .size))) (below (c .site .size)) (λ x m. let (y, l, h) = f x (below-lt (c .site .size) x m) in any-of (λ y. holds c picks r (x ∷ y ∷ [])) (below (c .site .size)) y (mem-below (c .site .size) y l) (T-of h)))),

@@ -20,11 +20,11 @@ use Rattle.definitions.specs.Built.{treeHolds, nodeSteps, builtActions, builtSt
 use Rattle.laws.specs.Booleans.{T-of}
 use Rattle.laws.specs.Lists.{flat-append, snoc-cases}
 use Rattle.laws.specs.Repeats.{Once}
-use Rattle.laws.specs.Numbers.{IsAction, IsAtom, action-at, inj-fun}
+use Rattle.laws.specs.Numbers.{IsAction, IsAtom, action-at, inj-fun, set-below}
 use Rattle.reduction.specs.Means.{Good, means}
 use Rattle.reduction.specs.Valid.{needs-valid, after-add, after-keep, may-of, free-cases, pair-of}
 use Rattle.reduction.specs.Sound.{holds-mono, holds-new, tup, holds-split, holds-pick, holds-empty, OfKinds, asks, tupleAt, same-row, initial-at}
-use Rattle.reduction.specs.Pairs.{Pair, setOf, tupleOf, Ready, pairs, sets-are, pairs-once, pairs-ready, picked-in, in-picked}
+use Rattle.reduction.specs.Pairs.{pair-action, Pair, setOf, tupleOf, Ready, pairs, sets-are, pairs-once, pairs-ready, picked-in, in-picked}
 use Rattle.reduction.specs.Does.{Takes, ends, takes-append, ends-append, takes-reach, Has, Does, High, Low, nodes-do, part-low}
 
 -- ---- atoms of different kinds differ
@@ -80,7 +80,7 @@ module _ (p : Problem) (G : Good p) where
 
     pair-mem : T (isFunction (relationAt p r .kind)) → List·Memᴰ (tup r (row / p .size ∷ row % p .size ∷ [])) P₁
     unfolding IsAction
-    pair-mem f = subst (λ (xs : List ℕ). List·Memᴰ (tup r xs) P₁) (pair-of p G r row (v .0) (v .2) f .0) here
+    pair-mem f = subst (λ (xs : List ℕ). List·Memᴰ (tup r xs) P₁) (pair-of p G r row (v .0) (set-below p r row v) f .0) here
 
     set-exact : Exact P₁ (after p s (set r row))
     unfolding asks adds IsAtom tag IsAction
@@ -89,7 +89,7 @@ module _ (p : Problem) (G : Good p) where
     set-exact goal w a = absurd a
     set-exact (tuple r′ row′) w a = ⊎-elim
         (λ q. stays (tuple r′ row′) w q (removed (tuple r′ row′) (λ e. num-clash tt (ap tag e)) (λ f e. num-clash tt (ap tag e)) (λ f e. num-clash tt (ap tag e))))
-        (λ q. let k = same-row p G r row r′ row′ (v .2) (w .1) q in after-add p G s (set r row) (tuple r′ row′) (List·Memᴰ·head (ap₂ tuple (k .0) (k .1))))
+        (λ q. let k = same-row p G r row r′ row′ (set-below p r row v) (w .1) q in after-add p G s (set r row) (tuple r′ row′) (List·Memᴰ·head (ap₂ tuple (k .0) (k .1))))
         (holds-new (p .source) P (tupleAt p r row) r′ _ a)
     set-exact (notTuple r′ row′) w a = stays (notTuple r′ row′) w (not-T (holds (p .source) P r′ (placesOf (p .size) (relationAt p r′ .arity) row′)) (λ t. T-not (holds (p .source) P₁ r′ (placesOf (p .size) (relationAt p r′ .arity) row′)) a (holds-mono (p .source) P P₁ (λ t m. Memᴰ·append-left (tupleAt p r row ∷ []) m) r′ _ t)))
         (removed (notTuple r′ row′) (λ e. T-not (holds (p .source) P₁ r (placesOf (p .size) (relationAt p r .arity) row)) (subst (asks p G P₁) e a) (holds-pick (p .source) P₁ r _ chosen-high here)) (λ f e. num-clash tt (ap tag e)) (λ f e. num-clash tt (ap tag e)))
@@ -108,9 +108,10 @@ module _ (p : Problem) (G : Good p) where
     unfolding Takes ends Once IsAction
     sets-run [] o R P sub fresh s E = (tt, subst (λ (Q : List Tuple). Exact Q s) (sym (append-nil P)) E)
     sets-run (q ∷ l) o R P sub fresh s E =
-        let (v, m) = R q (List·Memᴰ·head refl) in
+        let (w, m) = R q (List·Memᴰ·head refl) in
+        let v = pair-action p q w in
         let n = fresh q (List·Memᴰ·head refl) in
-        let h = sets-run l (o .1) (λ u k. R u (List·Memᴰ·tail k)) (P ++ (tupleOf p q ∷ [])) (sub1 q m) (fresh1 q l (o .0) v (λ u k. R u (List·Memᴰ·tail k) .0) (λ u k. fresh u (List·Memᴰ·tail k))) (after p s (setOf q))
+        let h = sets-run l (o .1) (λ u k. R u (List·Memᴰ·tail k)) (P ++ (tupleOf p q ∷ [])) (sub1 q m) (fresh1 q l (o .0) v (λ u k. pair-action p u (R u (List·Memᴰ·tail k) .0)) (λ u k. fresh u (List·Memᴰ·tail k))) (after p s (setOf q))
         (set-exact P s (q .0) (q .1) E v (new q v n) (nf q v m n) (ni q v m n)) in (
           (v, set-legal P s (q .0) (q .1) E v (new q v n) (nf q v m n) (ni q v m n), h .0),
           subst (λ (Q : List Tuple). Exact Q (ends p G (after p s (setOf q)) (map setOf l))) (append-assoc P (tupleOf p q ∷ []) (map (tupleOf p) l)) (h .1),
@@ -120,7 +121,7 @@ module _ (p : Problem) (G : Good p) where
         new q v n t = ⊎-elim (λ k. empty-holds (q .0) _ (v .1) k) (λ k. n (k .1)) (holds-split (p .source) P (q .0) _ t)
 
         pair : (q : Pair) → IsAction p (setOf q) → T (isFunction (relationAt p (q .0) .kind)) → placesOf (p .size) (relationAt p (q .0) .arity) (q .1) ≡ (q .1) / (p .size) ∷ (q .1) % (p .size) ∷ []
-        pair q v f = pair-of p G (q .0) (q .1) (v .0) (v .2) f .0
+        pair q v f = pair-of p G (q .0) (q .1) (v .0) (set-below p (q .0) (q .1) v) f .0
 
         nf : (q : Pair) → IsAction p (setOf q) → List·Memᴰ (tupleOf p q) F → (List·Memᴰ (tupleOf p q) P → ⊥) → T (isFunction (relationAt p (q .0) .kind)) → (y : ℕ) → List·Memᴰ (tup (q .0) ((q .1) / (p .size) ∷ y ∷ [])) P → ⊥
         nf q v m n f y k =
@@ -137,7 +138,7 @@ module _ (p : Problem) (G : Good p) where
         sub1 q m t k = ⊎-elim (λ a. sub t a) (λ e. subst (λ (z : Tuple). List·Memᴰ z F) (sym e) m) (snoc-cases P (tupleOf p q) t k)
 
         fresh1 : (q : Pair) (l : List Pair) → (List·Memᴰ q l → ⊥) → IsAction p (setOf q) → ((u : Pair) → List·Memᴰ u l → IsAction p (setOf u)) → ((u : Pair) → List·Memᴰ u l → List·Memᴰ (tupleOf p u) P → ⊥) → (u : Pair) → List·Memᴰ u l → List·Memᴰ (tupleOf p u) (P ++ (tupleOf p q ∷ [])) → ⊥
-        fresh1 q l n v vs h u m k = ⊎-elim (λ a. h u m a) (λ e. let w = vs u m in let j = same-row p G (q .0) (q .1) (u .0) (u .1) (v .2) (w .2) e in n (Memᴰ·cast (ap₂ (λ (a b : ℕ). (a, b)) (sym (j .0)) (sym (j .1))) m)) (snoc-cases P (tupleOf p q) (tupleOf p u) k)
+        fresh1 q l n v vs h u m k = ⊎-elim (λ a. h u m a) (λ e. let w = vs u m in let j = same-row p G (q .0) (q .1) (u .0) (u .1) (set-below p (q .0) (q .1) v) (set-below p (u .0) (u .1) w) e in n (Memᴰ·cast (ap₂ (λ (a b : ℕ). (a, b)) (sym (j .0)) (sym (j .1))) m)) (snoc-cases P (tupleOf p q) (tupleOf p u) k)
 
     abbrev P₀ : List Tuple
     P₀ = map (tupleOf p) (pairs p F)
@@ -233,8 +234,8 @@ module _ (p : Problem) (G : Good p) where
       step-read : (v : ℕ) (t : Tree) (row : ℕ) → pickOf p (stepFor p F v t row) ≡ []
       unfolding stepFor pickOf
       step-read v (leaf q r ls) row = refl
-      step-read v (forallNode d t) row = refl
-      step-read v (existsNode d t) row = refl
+      step-read v (forallNode d σ t) row = refl
+      step-read v (existsNode d σ t) row = refl
       step-read v (andNode ts) row = refl
       step-read v (orNode ts) row = refl
 

@@ -38,6 +38,7 @@ use Rattle.definitions.specs.Outcome.{sizes, action, readCase, ground, readProb
 use Rattle.definitions.specs.Demand.{isAccepted, caseIsAccepted, stepsAreAccepted, areSamePicks}
 use Rattle.laws.specs.Numbers
 use Rattle.laws.specs.Words
+use Rattle.laws.specs.Members.{ascending-once}
 use Rattle.laws.specs.Booleans.{T-of}
 use Rattle.laws.specs.Results.{accepted-eq, accepted-is, bind-parts, is-accepted}
 use Rattle.laws.specs.Blocks.{item-lt}
@@ -261,7 +262,7 @@ module _ (question site : List ℕ) (c : Case) (p : Problem) (is-case : readCase
       valid = rw same-problem (λ k a v x m. ⊎-elim (λ q. needs-valid (problemOf c) (good c A) a v x q) (λ q. ⊎-elim (λ i. adds-valid (problemOf c) (good c A) a v x i) (λ i. removes-valid (problemOf c) (good c A) a v x i) q) m)
 
   pub action-number : (k : ℕ) (a : Action) → actionAt p k ≡ some a → actionNumber p a ≡ k
-  action-number k a e = Numbers.action-number p k a e
+  action-number = rw same-problem (Numbers.action-number (problemOf c) (λ s. ascending-once (problemOf c .range s) (good c A .ranged s .ascends)))
 
   pub actions-numbered : (k : ℕ) → (k < actions p) ↔ ((a : Action) × (actionAt p k ≡ some a))
   actions-numbered k = (λ h. Numbers.action-some p k h, λ q. Numbers.action-below p k (q .0) (q .1))

@@ -3,24 +3,25 @@ use Prim.Native.Nat.{ℕ, zero, suc, _+_, _-_, _*_, _/_, _%_, _<_, _≤_}
 use mathlib.Core.Path.{_≡_, refl, sym, ap, subst, _∙_}
 use mathlib.Core.Logic.{_⊎_, inl, inr, ⊎-elim}
 use mathlib.Core.Bool.{Bool, true, false, _||_}
+use mathlib.Core.Option.{Option, none, some}
 use mathlib.Core.List.{List, [], _∷_, _++_, map, List·Memᴰ, List·Memᴰ·head, List·Memᴰ·not-nil, List·Memᴰ·cases-cons, List·Memᴰ·eq-of-singleton}
 use native.Mathlib.Omega.{arith}
-use native.Mathlib.Nat.{add-zero, zero-add, mod-lt, div-lt-iff-lt-mul, div-add-mod'}
+use native.Mathlib.Nat.{add-zero, zero-add, div-lt-iff-lt-mul, div-add-mod'}
 use lib.Dec.{T}
 use lib.ListN.{length, getD, take, drop}
-use Rattle.definitions.specs.Lists.{if_then_else_, all, any, filter, option, from, below}
+use Rattle.definitions.specs.Lists.{if_then_else_, all, any, filter, option, from, below, upTo, before}
 use Rattle.definitions.specs.Relations.{Tuple}
-use Rattle.definitions.specs.Tree.{Tree, Trees, leaf, forallNode, existsNode, andNode, orNode, end, _then_, nodes, Part, partsFrom, parts, howMany, isForall}
+use Rattle.definitions.specs.Tree.{Tree, Trees, leaf, forallNode, existsNode, andNode, orNode, end, _then_, nodes, Part, partsFrom, parts, howMany, isForall, nodeSort}
 use Rattle.definitions.specs.Atoms.{Problem, nodeAt, rowsOf, nodeWidth, Atom, guess, proof, goal, tuple, notTuple, freeDomain, freeRange, holdsNode, atomNumber, State}
 use Rattle.definitions.specs.Actions.{Action, proveAnd, proveOr, proveExists, proveForall, proveGoal, actionNumber, Values, withValue, valuesAt, partAtom, partAtoms, underAtom, forallNeeds, needs, adds, removes}
 use Rattle.definitions.specs.Strips.{mayTake, after, reachesFrom}
 use Rattle.definitions.specs.Built.{treeHolds, treesHold, someHolds, isTrueAt, least, stepFor, trueRows, nodeSteps}
 use Rattle.laws.specs.Booleans.{T-and-l, T-and-r, T-of, T-true, lt-split}
-use Rattle.laws.specs.Lists.{all-at, all-of, below-lt, mem-below}
-use Rattle.laws.specs.Positions.{least-below, least-place, place}
+use Rattle.laws.specs.Positions.{least-place, place}
+use Rattle.laws.specs.Members.{least-in, before-some, up-at, up-of}
 use Rattle.laws.specs.Numbers.{IsAction, IsAtom, action-at, noNode}
 use Rattle.reduction.specs.Parts.{Bnd, bnd-with, Here, HereAll, under-forall, under-exists, parts-and, parts-or, head-here, tail-here}
-use Rattle.reduction.specs.Means.{here-as, Good, means, values-bnd, forall-at, means-at}
+use Rattle.reduction.specs.Means.{here-as, Good, means, values-bnd, forall-at, forall-in, means-at}
 use Rattle.reduction.specs.Valid.{proof-or, needs-valid, after-add, after-keep, may-of}
 
 pub some-any : (p : Problem) (P : List Tuple) (ts : Trees) (w : ℕ) (e : Values) → someHolds (p .source) P e ts ≡ any (λ (q : Part). treeHolds (p .source) P e (q .tree)) (partsFrom w ts)
@@ -139,23 +140,23 @@ module _ (p : Problem) (G : Good p) where
     abbrev pub Low : ℕ → Atom → Type 0
     Low k x = T (means p P x) × High k x
 
-    pub part-high : (k w : ℕ) (t : Tree) (e : Values) → k ≤ w → High k (partAtom (p .size) e w t)
+    pub part-high : (k w : ℕ) (t : Tree) (e : Values) → k ≤ w → High k (partAtom (p .size) (p .range) e w t)
     unfolding High partAtom
     part-high k w (leaf true r ls) e h = tt
     part-high k w (leaf false r ls) e h = tt
-    part-high k w (forallNode d t) e h = h
-    part-high k w (existsNode d t) e h = h
+    part-high k w (forallNode d σ t) e h = h
+    part-high k w (existsNode d σ t) e h = h
     part-high k w (andNode ts) e h = h
     part-high k w (orNode ts) e h = h
 
-    pub part-low : (k w : ℕ) (t : Tree) (e : Values) → k ≤ w → Here p w t → Bnd (p .size) e → T (treeHolds (p .source) P e t) → Low k (partAtom (p .size) e w t)
+    pub part-low : (k w : ℕ) (t : Tree) (e : Values) → k ≤ w → Here p w t → Bnd (p .size) e → T (treeHolds (p .source) P e t) → Low k (partAtom (p .size) (p .range) e w t)
     part-low k w t e l h b q = (subst T (sym (means-at p G P w t e h b)) q, part-high k w t e l)
 
     proof-low : (k : ℕ) → Low k proof
     unfolding means High
     proof-low k = (tt, tt)
 
-    parts-low : (ts : Trees) (k w : ℕ) (e : Values) → k ≤ w → HereAll p w ts → Bnd (p .size) e → T (treesHold (p .source) P e ts) → (x : Atom) → List·Memᴰ x (partAtoms (p .size) e (partsFrom w ts)) → Low k x
+    parts-low : (ts : Trees) (k w : ℕ) (e : Values) → k ≤ w → HereAll p w ts → Bnd (p .size) e → T (treesHold (p .source) P e ts) → (x : Atom) → List·Memᴰ x (partAtoms (p .size) (p .range) e (partsFrom w ts)) → Low k x
     unfolding partAtoms partsFrom treesHold
     parts-low end k w e l h b q x m = absurd (List·Memᴰ·not-nil m)
     parts-low (t then ts) k w e l h b q x m = ⊎-elim
@@ -164,7 +165,7 @@ module _ (p : Problem) (G : Good p) where
         (List·Memᴰ·cases-cons m)
 
     part-first : (ts : Trees) (k w : ℕ) (e : Values) → k ≤ w → HereAll p w ts → Bnd (p .size) e → T (any (λ (q : Part). treeHolds (p .source) P e (q .tree)) (partsFrom w ts))
-        → (place (λ (q : Part). treeHolds (p .source) P e (q .tree)) (partsFrom w ts) < howMany ts) × ((x : Atom) → List·Memᴰ x (take 1 (drop (place (λ (q : Part). treeHolds (p .source) P e (q .tree)) (partsFrom w ts)) (partAtoms (p .size) e (partsFrom w ts)))) → Low k x)
+        → (place (λ (q : Part). treeHolds (p .source) P e (q .tree)) (partsFrom w ts) < howMany ts) × ((x : Atom) → List·Memᴰ x (take 1 (drop (place (λ (q : Part). treeHolds (p .source) P e (q .tree)) (partsFrom w ts)) (partAtoms (p .size) (p .range) e (partsFrom w ts)))) → Low k x)
     unfolding any partsFrom place howMany partAtoms
     part-first end k w e l h b t = absurd t
     part-first (u then ts) k w e l h b t = go (treeHolds (p .source) P e u) refl t (part-first ts k (w + length (nodes u)) e (omega arith) (tail-here p w u ts h) b)
@@ -173,8 +174,8 @@ module _ (p : Problem) (G : Good p) where
         f q = treeHolds (p .source) P e (q .tree)
 
         go : (c : Bool) → treeHolds (p .source) P e u ≡ c → T (c || any f (partsFrom (w + length (nodes u)) ts))
-            → (T (any f (partsFrom (w + length (nodes u)) ts)) → (place f (partsFrom (w + length (nodes u)) ts) < howMany ts) × ((x : Atom) → List·Memᴰ x (take 1 (drop (place f (partsFrom (w + length (nodes u)) ts)) (partAtoms (p .size) e (partsFrom (w + length (nodes u)) ts)))) → Low k x))
-            → ((if c then zero else suc (place f (partsFrom (w + length (nodes u)) ts))) < suc (howMany ts)) × ((x : Atom) → List·Memᴰ x (take 1 (drop (if c then zero else suc (place f (partsFrom (w + length (nodes u)) ts))) (partAtom (p .size) e w u ∷ partAtoms (p .size) e (partsFrom (w + length (nodes u)) ts)))) → Low k x)
+            → (T (any f (partsFrom (w + length (nodes u)) ts)) → (place f (partsFrom (w + length (nodes u)) ts) < howMany ts) × ((x : Atom) → List·Memᴰ x (take 1 (drop (place f (partsFrom (w + length (nodes u)) ts)) (partAtoms (p .size) (p .range) e (partsFrom (w + length (nodes u)) ts)))) → Low k x))
+            → ((if c then zero else suc (place f (partsFrom (w + length (nodes u)) ts))) < suc (howMany ts)) × ((x : Atom) → List·Memᴰ x (take 1 (drop (if c then zero else suc (place f (partsFrom (w + length (nodes u)) ts))) (partAtom (p .size) (p .range) e w u ∷ partAtoms (p .size) (p .range) e (partsFrom (w + length (nodes u)) ts)))) → Low k x)
         go true i t r = (omega arith, λ x m. subst (Low k) (sym (List·Memᴰ·eq-of-singleton m)) (part-low k w u e l (head-here p w u ts h) b (T-of i)))
         go false i t r = let q = r t in (omega (arith, q .0), λ x m. q .1 x m)
 
@@ -188,7 +189,7 @@ module _ (p : Problem) (G : Good p) where
     and-step : (v row : ℕ) (ts : Trees) → v < length (p .nodeList) → nodeAt p v ≡ andNode ts → row < nodeWidth (p .size) (andNode ts) → T (isTrueAt p P (andNode ts) row) → Step (Mine v (andNode ts) row) v row (proveAnd v row)
     unfolding IsAction needs adds removes parts isTrueAt treeHolds nodeWidth isForall
     and-step v row ts l e h t = make-step v row (proveAnd v row) (l, subst (λ (s : Tree). row < rowsOf (p .size) s) (sym e) h, (ts, e)) refl
-        (λ x m. proof-or (Mine v (andNode ts) row) x (inl (proof-low (suc v))) (λ y q. inl (parts-low ts (suc v) (suc v) (valuesAt (p .size) (andNode ts) row) (omega arith) (parts-and p v ts (here-as p G v (andNode ts) l e)) (values-bnd p G (andNode ts) row) t y (subst (λ (s : Tree). List·Memᴰ y (partAtoms (p .size) (valuesAt (p .size) s row) (parts v s))) e q))) m)
+        (λ x m. proof-or (Mine v (andNode ts) row) x (inl (proof-low (suc v))) (λ y q. inl (parts-low ts (suc v) (suc v) (valuesAt (p .size) (andNode ts) row) (omega arith) (parts-and p v ts (here-as p G v (andNode ts) l e)) (values-bnd p G (andNode ts) row) t y (subst (λ (s : Tree). List·Memᴰ y (partAtoms (p .size) (p .range) (valuesAt (p .size) s row) (parts v s))) e q))) m)
         (List·Memᴰ·head refl)
 
     or-step : (v row : ℕ) (ts : Trees) → v < length (p .nodeList) → nodeAt p v ≡ orNode ts → row < nodeWidth (p .size) (orNode ts) → T (isTrueAt p P (orNode ts) row) → Step (Mine v (orNode ts) row) v row (stepFor p P v (orNode ts) row)
@@ -200,51 +201,52 @@ module _ (p : Problem) (G : Good p) where
         let k : least f (partsFrom (suc v) ts) ≡ place f (partsFrom (suc v) ts) = least-place f (partsFrom (suc v) ts) a in
         let q = part-first ts (suc v) (suc v) (valuesAt (p .size) (orNode ts) row) (omega arith) (parts-or p v ts (here-as p G v (orNode ts) l e)) (values-bnd p G (orNode ts) row) a in
         make-step v row (proveOr v row (least f (partsFrom (suc v) ts))) (l, subst (λ (s : Tree). row < rowsOf (p .size) s) (sym e) h, (ts, e, subst (λ (i : ℕ). i < howMany ts) (sym k) (q .0))) refl
-        (λ x m. proof-or (Mine v (orNode ts) row) x (inl (proof-low (suc v))) (λ y i. inl (q .1 y (subst (λ (z : ℕ). List·Memᴰ y (take 1 (drop z (partAtoms (p .size) (valuesAt (p .size) (orNode ts) row) (partsFrom (suc v) ts))))) k (subst (λ (s : Tree). List·Memᴰ y (take 1 (drop (least f (partsFrom (suc v) ts)) (partAtoms (p .size) (valuesAt (p .size) s row) (parts v s))))) e i)))) m)
+        (λ x m. proof-or (Mine v (orNode ts) row) x (inl (proof-low (suc v))) (λ y i. inl (q .1 y (subst (λ (z : ℕ). List·Memᴰ y (take 1 (drop z (partAtoms (p .size) (p .range) (valuesAt (p .size) (orNode ts) row) (partsFrom (suc v) ts))))) k (subst (λ (s : Tree). List·Memᴰ y (take 1 (drop (least f (partsFrom (suc v) ts)) (partAtoms (p .size) (p .range) (valuesAt (p .size) s row) (parts v s))))) e i)))) m)
         (List·Memᴰ·head refl)
 
-    exists-step : (v row d : ℕ) (u : Tree) → v < length (p .nodeList) → nodeAt p v ≡ existsNode d u → row < nodeWidth (p .size) (existsNode d u) → T (isTrueAt p P (existsNode d u) row) → Step (Mine v (existsNode d u) row) v row (stepFor p P v (existsNode d u) row)
+    exists-step : (v row d σ : ℕ) (u : Tree) → v < length (p .nodeList) → nodeAt p v ≡ existsNode d σ u → row < nodeWidth (p .size) (existsNode d σ u) → T (isTrueAt p P (existsNode d σ u) row) → Step (Mine v (existsNode d σ u) row) v row (stepFor p P v (existsNode d σ u) row)
     unfolding IsAction needs adds removes underAtom isTrueAt treeHolds nodeWidth isForall stepFor
-    exists-step v row d u l e h t =
-        let f : ℕ → Bool = λ x. treeHolds (p .source) P (withValue (valuesAt (p .size) (existsNode d u) row) d x) u in
-        let q = least-below f (p .size) (subst (λ (k : ℕ). T (any f (below k))) (G .sized) t) in
-        make-step v row (proveExists v row (least f (below (p .size)))) (l, subst (λ (s : Tree). row < rowsOf (p .size) s) (sym e) h, (d, u, e, q .0)) refl
-        (λ x m. proof-or (Mine v (existsNode d u) row) x (inl (proof-low (suc v))) (λ y i. inl (subst (Low (suc v)) (sym (List·Memᴰ·eq-of-singleton i ∙ ap (λ (s : Tree). underAtom (p .size) v s row (least f (below (p .size)))) e))
-        (part-low (suc v) (suc v) u (withValue (valuesAt (p .size) (existsNode d u) row) d (least f (below (p .size)))) (omega arith) (under-exists p v d u (here-as p G v (existsNode d u) l e)) (bnd-with (p .size) _ d _ (values-bnd p G (existsNode d u) row) (q .0)) (q .1)))) m)
+    exists-step v row d σ u l e h t =
+        let f : ℕ → Bool = λ x. treeHolds (p .source) P (withValue (valuesAt (p .size) (existsNode d σ u) row) d x) u in
+        let q = least-in f (p .range σ) (subst (λ (R : ℕ → List ℕ). T (any f (R σ))) (sym (G .ranges)) t) in
+        make-step v row (proveExists v row (getD (p .range σ) (least f (p .range σ)) 0)) (l, subst (λ (s : Tree). row < rowsOf (p .size) s) (sym e) h, (d, σ, u, e, q .0)) refl
+        (λ x m. proof-or (Mine v (existsNode d σ u) row) x (inl (proof-low (suc v))) (λ y i. inl (subst (Low (suc v)) (sym (List·Memᴰ·eq-of-singleton i ∙ ap (λ (s : Tree). underAtom (p .size) (p .range) v s row (getD (p .range σ) (least f (p .range σ)) 0)) e))
+        (part-low (suc v) (suc v) u (withValue (valuesAt (p .size) (existsNode d σ u) row) d (getD (p .range σ) (least f (p .range σ)) 0)) (omega arith) (under-exists p v d σ u (here-as p G v (existsNode d σ u) l e)) (bnd-with (p .size) _ d _ (values-bnd p G (existsNode d σ u) row) (G .ranged σ .small _ (q .0))) (q .1)))) m)
         (List·Memᴰ·head refl)
 
     -- a forall's needs at a row and z
-    forall-have : (v row d : ℕ) (u : Tree) → v < length (p .nodeList) → nodeAt p v ≡ forallNode d u → (z : ℕ) → z < p .size → T (isTrueAt p P (forallNode d u) (row * p .size + z)) → (x : Atom) → List·Memᴰ x (forallNeeds (p .size) v (nodeAt p v) row z) → Mine v (forallNode d u) (row * p .size + z) x
-    unfolding forallNeeds underAtom
-    forall-have v row d u l e z g t x m = go z g (subst T (forall-at p G P d u row z g) t) m
+    forall-have : (v row d σ : ℕ) (u : Tree) → v < length (p .nodeList) → nodeAt p v ≡ forallNode d σ u → (z : ℕ) → List·Memᴰ z (p .range σ) → T (isTrueAt p P (forallNode d σ u) (row * p .size + z)) → (x : Atom) → List·Memᴰ x (forallNeeds (p .size) (p .range) v (nodeAt p v) row z) → Mine v (forallNode d σ u) (row * p .size + z) x
+    unfolding forallNeeds underAtom nodeSort option
+    forall-have v row d σ u l e z g t x m = ⊎-elim
+        (λ q. inl (subst (Low (suc v)) (sym q) (part-low (suc v) (suc v) u (withValue (valuesAt (p .size) (forallNode d σ u) row) d z) (omega arith) (under-forall p v d σ u (here-as p G v (forallNode d σ u) l e)) (bnd-with (p .size) _ d z (values-bnd p G (forallNode d σ u) row) (G .ranged σ .small z g)) (up-at f (p .range σ) z upper z g (omega arith)))))
+        (λ q. go (before (p .range σ) z) refl q)
+        (List·Memᴰ·cases-cons (subst (λ (s : Tree). List·Memᴰ x (forallNeeds (p .size) (p .range) v s row z)) e m))
       where
         f : ℕ → Bool
-        f x = treeHolds (p .source) P (withValue (valuesAt (p .size) (forallNode d u) row) d x) u
+        f x = treeHolds (p .source) P (withValue (valuesAt (p .size) (forallNode d σ u) row) d x) u
 
-        under : (z : ℕ) → z < p .size → T (f z) → Low (suc v) (underAtom (p .size) v (nodeAt p v) row z)
-        under z g t = subst (λ (s : Tree). Low (suc v) (underAtom (p .size) v s row z)) (sym e)
-            (part-low (suc v) (suc v) u (withValue (valuesAt (p .size) (forallNode d u) row) d z) (omega arith) (under-forall p v d u (here-as p G v (forallNode d u) l e)) (bnd-with (p .size) _ d z (values-bnd p G (forallNode d u) row) g) t)
+        upper : T (all (λ x. treeHolds (p .source) P (withValue (valuesAt (p .size) (forallNode d σ u) row) d x) u) (upTo (p .range σ) z))
+        upper = subst T (forall-at p G P d σ u row z g) t
 
-        go : (z : ℕ) → z < p .size → T (all (λ x. treeHolds (p .source) P (withValue (valuesAt (p .size) (forallNode d u) row) d x) u) (below (suc z))) → List·Memᴰ x (forallNeeds (p .size) v (nodeAt p v) row z) → Mine v (forallNode d u) (row * p .size + z) x
-        go zero g t m = inl (subst (Low (suc v)) (sym (List·Memᴰ·eq-of-singleton m)) (under 0 g (all-at f (below 1) t 0 (mem-below 1 0 (omega arith)))))
-        go (suc z) g t m = ⊎-elim
-            (λ q. inl (subst (Low (suc v)) (sym q) (under (suc z) g (all-at f (below (suc (suc z))) t (suc z) (mem-below (suc (suc z)) (suc z) (omega arith))))))
-            (λ q. inr (row * p .size + z, omega arith, subst T (sym (forall-at p G P d u row z (omega arith))) (all-of f (below (suc z)) (λ y k. all-at f (below (suc (suc z))) t y (let j = below-lt (suc z) y k in mem-below (suc (suc z)) y (omega arith)))), List·Memᴰ·eq-of-singleton q))
-            (List·Memᴰ·cases-cons m)
+        go : (o : Option ℕ) → before (p .range σ) z ≡ o → List·Memᴰ x (option o [] (λ y. holdsNode v (row * p .size + y) ∷ [])) → Mine v (forallNode d σ u) (row * p .size + z) x
+        go none i q = absurd (List·Memᴰ·not-nil q)
+        go (some y) i q =
+            let (k, b, h) = before-some (p .range σ) z y (G .ranged σ .ascends) i in
+            inr (row * p .size + y, omega arith, subst T (sym (forall-at p G P d σ u row y k)) (up-of f (p .range σ) y (λ m j c. up-at f (p .range σ) z upper m j (omega arith))), List·Memᴰ·eq-of-singleton q)
 
-    forall-step : (v row d : ℕ) (u : Tree) → v < length (p .nodeList) → nodeAt p v ≡ forallNode d u → row < nodeWidth (p .size) (forallNode d u) → T (isTrueAt p P (forallNode d u) row) → Step (Mine v (forallNode d u) row) v row (proveForall v (row / p .size) (row % p .size))
+    forall-step : (v row d σ : ℕ) (u : Tree) → v < length (p .nodeList) → nodeAt p v ≡ forallNode d σ u → row < nodeWidth (p .size) (forallNode d σ u) → T (isTrueAt p P (forallNode d σ u) row) → Step (Mine v (forallNode d σ u) row) v row (proveForall v (row / p .size) (row % p .size))
     unfolding IsAction needs adds removes nodeWidth isForall
-    forall-step v row d u l e h t =
+    forall-step v row d σ u l e h t =
         let k : row / p .size * p .size + row % p .size ≡ row = div-add-mod' row (p .size) in
-        make-step v row (proveForall v (row / p .size) (row % p .size)) (l, subst (λ (s : Tree). row / p .size < rowsOf (p .size) s) (sym e) (div-lt-iff-lt-mul (G .element) .1 h), (d, u, e, mod-lt row (G .element))) refl
-        (λ x m. proof-or (Mine v (forallNode d u) row) x (inl (proof-low (suc v))) (λ y q. subst (λ (z : ℕ). Mine v (forallNode d u) z y) k (forall-have v (row / p .size) d u l e (row % p .size) (mod-lt row (G .element)) (subst (λ (z : ℕ). T (isTrueAt p P (forallNode d u) z)) (sym k) t) y q)) m)
+        make-step v row (proveForall v (row / p .size) (row % p .size)) (l, subst (λ (s : Tree). row / p .size < rowsOf (p .size) s) (sym e) (div-lt-iff-lt-mul (G .element) .1 h), (d, σ, u, e, forall-in p G P d σ u row t)) refl
+        (λ x m. proof-or (Mine v (forallNode d σ u) row) x (inl (proof-low (suc v))) (λ y q. subst (λ (z : ℕ). Mine v (forallNode d σ u) z y) k (forall-have v (row / p .size) d σ u l e (row % p .size) (forall-in p G P d σ u row t) (subst (λ (z : ℕ). T (isTrueAt p P (forallNode d σ u) z)) (sym k) t) y q)) m)
         (List·Memᴰ·head (ap (holdsNode v) (sym k)))
 
     node-step : (v row : ℕ) (s : Tree) → v < length (p .nodeList) → nodeAt p v ≡ s → row < nodeWidth (p .size) s → T (isTrueAt p P s row) → Step (Mine v s row) v row (stepFor p P v s row)
     unfolding isTrueAt stepFor
     node-step v row (leaf q r ls) l e h t = absurd t
-    node-step v row (forallNode d u) l e h t = forall-step v row d u l e h t
-    node-step v row (existsNode d u) l e h t = exists-step v row d u l e h t
+    node-step v row (forallNode d σ u) l e h t = forall-step v row d σ u l e h t
+    node-step v row (existsNode d σ u) l e h t = exists-step v row d σ u l e h t
     node-step v row (andNode ts) l e h t = and-step v row ts l e h t
     node-step v row (orNode ts) l e h t = or-step v row ts l e h t
 

@@ -13,7 +13,7 @@ use lib.Seq.{getD-append-add}
 use borrow.Author.Tests.{ltb-true, ltb-false}
 use Rattle.definitions.specs.Lists.{if_then_else_, all, any, same, option, position}
 use Rattle.definitions.specs.Relations.{Kind, static, plain, Fun, PFun, Inj, PInj, isChosen, isFunction, isTotal, Relation, Tuple, builtIn, numberOf, isDeclared}
-use Rattle.definitions.specs.Formula.{Formula, Formulas, literal, negation, implication, conjunction, disjunction, exists, forall, nil, cons, nesting, nestingAll, isKnown, areKnown, isBound, areNew, isScoped, areScoped}
+use Rattle.definitions.specs.Formula.{Formula, Formulas, literal, negation, implication, conjunction, disjunction, exists, forall, nil, cons, nesting, nestingAll, isKnown, areKnown, isBound, areNew, isScoped, areScoped, sortOf}
 use Rattle.definitions.specs.Sheets.{Question, relationsOf, relations, firstChosen, firstRel}
 use Rattle.definitions.specs.Truth.{Case}
 use Rattle.definitions.specs.Tree.{Tree, Trees, leaf, forallNode, existsNode, end, _then_, nest, leafOf, asIs, negated, allAsIs, allNegated, totalities, joined, treeOf, nodes}
@@ -22,6 +22,7 @@ use Rattle.laws.specs.Booleans.{T-and-l, T-and-r, T-of, T-or, and-T}
 use Rattle.laws.specs.Lists.{all-at, getD-mem}
 use Rattle.laws.specs.Positions.{place, place-lt, position-place}
 use Rattle.laws.specs.Tuples.{same-eq}
+use Rattle.laws.specs.Members.{members-range}
 use Rattle.laws.specs.Numbers.{noRelation}
 use Rattle.reduction.specs.Reader.{Apart, Fit, Accepted}
 use Rattle.reduction.specs.Meaning.{known-name}
@@ -175,15 +176,15 @@ module _ (c : Case) (A : Accepted c) where
       let l : place (same v) scope < length scope = place-lt (same v) scope b in
       and-T (ltb (option (position (same v) scope) zero (λ k. k)) 4) _ (rw (position-place (same v) scope b) (lt→ltb (place (same v) scope) 4 (omega arith))) (leaf-levels scope vs h (T-and-r (any (same v) scope) _ t))
 
-  nest-within : (quantifier : ℕ → Tree → Tree) → ((d : ℕ) (t : Tree) → d < 4 → Within t → Within (quantifier d t)) → (k level : ℕ) (t : Tree) → level + k ≤ 4 → Within t → Within (nest quantifier level k t)
+  nest-within : (quantifier : ℕ → ℕ → Tree → Tree) → ((d σ : ℕ) (t : Tree) → d < 4 → Within t → Within (quantifier d σ t)) → (vs : List (List ℕ)) (level : ℕ) (t : Tree) → level + length vs ≤ 4 → Within t → Within (nest quantifier level (map sortOf vs) t)
   unfolding nest
-  nest-within quantifier h zero level t l w = w
-  nest-within quantifier h (suc k) level t l w = h level _ (omega arith) (nest-within quantifier h k (suc level) t (omega arith) w)
+  nest-within quantifier h [] level t l w = w
+  nest-within quantifier h (v ∷ vs) level t l w = h level _ _ (omega arith) (nest-within quantifier h vs (suc level) t (omega arith) w)
 
-  nest-fits : (quantifier : ℕ → Tree → Tree) → ((d : ℕ) (t : Tree) → Fits p t → Fits p (quantifier d t)) → (k level : ℕ) (t : Tree) → Fits p t → Fits p (nest quantifier level k t)
+  nest-fits : (quantifier : ℕ → ℕ → Tree → Tree) → ((d σ : ℕ) (t : Tree) → Fits p t → Fits p (quantifier d σ t)) → (vs : List (List ℕ)) (level : ℕ) (t : Tree) → Fits p t → Fits p (nest quantifier level (map sortOf vs) t)
   unfolding nest
-  nest-fits quantifier h zero level t w = w
-  nest-fits quantifier h (suc k) level t w = h level _ (nest-fits quantifier h k (suc level) t w)
+  nest-fits quantifier h [] level t w = w
+  nest-fits quantifier h (v ∷ vs) level t w = h level _ _ (nest-fits quantifier h vs (suc level) t w)
 
   abbrev rs : List Relation
   rs = relationsOf (c .question)
@@ -197,8 +198,8 @@ module _ (c : Case) (A : Accepted c) where
     as-within (implication f g) scope s h = (neg-within f scope (T-and-l (isScoped scope f) _ s) (omega arith), (as-within g scope (T-and-r (isScoped scope f) _ s) (omega arith), tt))
     as-within (conjunction fs) scope s h = all-within fs scope s h
     as-within (disjunction fs) scope s h = all-within fs scope s h
-    as-within (exists vs f) scope s h = nest-within existsNode (λ d t l w. (l, w)) (length vs) (length scope) _ (omega arith) (as-within f (scope ++ vs) (T-and-r (areNew scope vs) _ s) (let e = length-append scope vs in omega arith))
-    as-within (forall vs f) scope s h = nest-within forallNode (λ d t l w. (l, w)) (length vs) (length scope) _ (omega arith) (as-within f (scope ++ vs) (T-and-r (areNew scope vs) _ s) (let e = length-append scope vs in omega arith))
+    as-within (exists vs f) scope s h = nest-within existsNode (λ d σ t l w. (l, w)) vs (length scope) _ (omega arith) (as-within f (scope ++ vs) (T-and-r (areNew scope vs) _ s) (let e = length-append scope vs in omega arith))
+    as-within (forall vs f) scope s h = nest-within forallNode (λ d σ t l w. (l, w)) vs (length scope) _ (omega arith) (as-within f (scope ++ vs) (T-and-r (areNew scope vs) _ s) (let e = length-append scope vs in omega arith))
 
     neg-within : (f : Formula) (scope : List (List ℕ)) → T (isScoped scope f) → length scope + nesting f ≤ 4 → Within (negated (relationsOf (c .question)) scope f)
     neg-within (literal r vs) scope s h = leaf-levels scope vs (omega arith) s
@@ -206,8 +207,8 @@ module _ (c : Case) (A : Accepted c) where
     neg-within (implication f g) scope s h = (as-within f scope (T-and-l (isScoped scope f) _ s) (omega arith), (neg-within g scope (T-and-r (isScoped scope f) _ s) (omega arith), tt))
     neg-within (conjunction fs) scope s h = allneg-within fs scope s h
     neg-within (disjunction fs) scope s h = allneg-within fs scope s h
-    neg-within (exists vs f) scope s h = nest-within forallNode (λ d t l w. (l, w)) (length vs) (length scope) _ (omega arith) (neg-within f (scope ++ vs) (T-and-r (areNew scope vs) _ s) (let e = length-append scope vs in omega arith))
-    neg-within (forall vs f) scope s h = nest-within existsNode (λ d t l w. (l, w)) (length vs) (length scope) _ (omega arith) (neg-within f (scope ++ vs) (T-and-r (areNew scope vs) _ s) (let e = length-append scope vs in omega arith))
+    neg-within (exists vs f) scope s h = nest-within forallNode (λ d σ t l w. (l, w)) vs (length scope) _ (omega arith) (neg-within f (scope ++ vs) (T-and-r (areNew scope vs) _ s) (let e = length-append scope vs in omega arith))
+    neg-within (forall vs f) scope s h = nest-within existsNode (λ d σ t l w. (l, w)) vs (length scope) _ (omega arith) (neg-within f (scope ++ vs) (T-and-r (areNew scope vs) _ s) (let e = length-append scope vs in omega arith))
 
     all-within : (fs : Formulas) (scope : List (List ℕ)) → T (areScoped scope fs) → length scope + nestingAll fs ≤ 4 → WithinAll (allAsIs (relationsOf (c .question)) scope fs)
     all-within nil scope s h = tt
@@ -234,8 +235,8 @@ module _ (c : Case) (A : Accepted c) where
     as-fits (implication f g) scope k = (neg-fits f scope (T-and-l (isKnown (relationsOf (c .question)) f) _ k), (as-fits g scope (T-and-r (isKnown (relationsOf (c .question)) f) _ k), tt))
     as-fits (conjunction fs) scope k = all-fits fs scope k
     as-fits (disjunction fs) scope k = all-fits fs scope k
-    as-fits (exists vs f) scope k = nest-fits existsNode (λ d t w. w) (length vs) (length scope) _ (as-fits f (scope ++ vs) k)
-    as-fits (forall vs f) scope k = nest-fits forallNode (λ d t w. w) (length vs) (length scope) _ (as-fits f (scope ++ vs) k)
+    as-fits (exists vs f) scope k = nest-fits existsNode (λ d σ t w. w) vs (length scope) _ (as-fits f (scope ++ vs) k)
+    as-fits (forall vs f) scope k = nest-fits forallNode (λ d σ t w. w) vs (length scope) _ (as-fits f (scope ++ vs) k)
 
     neg-fits : (f : Formula) (scope : List (List ℕ)) → T (isKnown (relationsOf (c .question)) f) → Fits p (negated (relationsOf (c .question)) scope f)
     neg-fits (literal r vs) scope k = leaf-fits false scope r vs k
@@ -243,8 +244,8 @@ module _ (c : Case) (A : Accepted c) where
     neg-fits (implication f g) scope k = (as-fits f scope (T-and-l (isKnown (relationsOf (c .question)) f) _ k), (neg-fits g scope (T-and-r (isKnown (relationsOf (c .question)) f) _ k), tt))
     neg-fits (conjunction fs) scope k = allneg-fits fs scope k
     neg-fits (disjunction fs) scope k = allneg-fits fs scope k
-    neg-fits (exists vs f) scope k = nest-fits forallNode (λ d t w. w) (length vs) (length scope) _ (neg-fits f (scope ++ vs) k)
-    neg-fits (forall vs f) scope k = nest-fits existsNode (λ d t w. w) (length vs) (length scope) _ (neg-fits f (scope ++ vs) k)
+    neg-fits (exists vs f) scope k = nest-fits forallNode (λ d σ t w. w) vs (length scope) _ (neg-fits f (scope ++ vs) k)
+    neg-fits (forall vs f) scope k = nest-fits existsNode (λ d σ t w. w) vs (length scope) _ (neg-fits f (scope ++ vs) k)
 
     all-fits : (fs : Formulas) (scope : List (List ℕ)) → T (areKnown (relationsOf (c .question)) fs) → FitsAll p (allAsIs (relationsOf (c .question)) scope fs)
     all-fits nil scope k = tt
@@ -260,7 +261,7 @@ module _ (c : Case) (A : Accepted c) where
   totals-fit r [] h = tt
   totals-fit r (k ∷ ks) h = go (isTotal (k .kind)) refl (totals-fit (suc r) ks (λ j l. let g = h (suc j) (omega arith) in let e : r + suc j ≡ suc r + j = omega arith in subst (λ (x : ℕ). (x < length (p .relations)) × (relationAt p x ≡ getD ks j noRelation) × (T (isFunction (getD ks j noRelation .kind)) → getD ks j noRelation .arity ≡ 2)) e g))
     where
-      go : (b : Bool) → isTotal (k .kind) ≡ b → FitsAll p (totalities (suc r) ks) → FitsAll p (if b then forallNode 0 (existsNode 1 (leaf true r (0 ∷ 1 ∷ []))) then totalities (suc r) ks else totalities (suc r) ks)
+      go : (b : Bool) → isTotal (k .kind) ≡ b → FitsAll p (totalities (suc r) ks) → FitsAll p (if b then forallNode 0 0 (existsNode 1 0 (leaf true r (0 ∷ 1 ∷ []))) then totalities (suc r) ks else totalities (suc r) ks)
       go true e f =
           let g = h 0 (omega arith) in
           let z : r + 0 ≡ r = add-zero r in
@@ -272,7 +273,7 @@ module _ (c : Case) (A : Accepted c) where
   totals-within r [] = tt
   totals-within r (k ∷ ks) = go (isTotal (k .kind)) (totals-within (suc r) ks)
     where
-      go : (b : Bool) → WithinAll (totalities (suc r) ks) → WithinAll (if b then forallNode 0 (existsNode 1 (leaf true r (0 ∷ 1 ∷ []))) then totalities (suc r) ks else totalities (suc r) ks)
+      go : (b : Bool) → WithinAll (totalities (suc r) ks) → WithinAll (if b then forallNode 0 0 (existsNode 1 0 (leaf true r (0 ∷ 1 ∷ []))) then totalities (suc r) ks else totalities (suc r) ks)
       go true f = ((omega arith, (omega arith, tt)), f)
       go false f = f
 
@@ -353,8 +354,9 @@ module _ (c : Case) (A : Accepted c) where
   pub good : Good p
   unfolding problemOf problemWith treeOf
   good = record {
-    sized = refl;
     element = A .site-fits .some-element;
+    ranges = refl;
+    ranged = λ s. members-range c s (A .site-fits .some-element);
     noded = refl;
     root-here = root-here;
     root-node = joined-node t₀ us₀ (as-node (c .question .rule .formula) (A .question-fits .rule-fits .scoped) known);

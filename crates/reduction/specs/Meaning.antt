@@ -8,12 +8,12 @@ use native.Mathlib.Omega.{arith}
 use lib.Dec.{T, eqb, T-not}
 use lib.ListN.{length, length-append}
 use borrow.Author.Tests.{eq-eqb, ne-eqb}
-use Rattle.definitions.specs.Lists.{if_then_else_, all, any, same, option, position, below, mapFrom}
+use Rattle.definitions.specs.Lists.{if_then_else_, all, any, same, option, position, mapFrom}
 use Rattle.definitions.specs.Relations.{Relation, Tuple, numberOf, isTotal}
-use Rattle.definitions.specs.Formula.{Formula, Formulas, literal, negation, implication, conjunction, disjunction, exists, forall, nil, cons, isKnown, areKnown, isBound, areNew, isScoped, areScoped}
+use Rattle.definitions.specs.Formula.{Formula, Formulas, literal, negation, implication, conjunction, disjunction, exists, forall, nil, cons, isKnown, areKnown, isBound, areNew, isScoped, areScoped, sortOf}
 use Rattle.definitions.specs.Sheets.{relationsOf, firstChosen}
 use Rattle.definitions.specs.Truth
-use Truth.{Case, holds, Binding, valueOf, forEvery, forSome, isTrue, allTrue, someTrue, eachChosen, isTotalIn, areTotal, ruleIsTrue}
+use Truth.{Case, holds, Binding, valueOf, membersOf, forEvery, forSome, isTrue, allTrue, someTrue, eachChosen, isTotalIn, areTotal, ruleIsTrue}
 use Rattle.definitions.specs.Tree.{Tree, Trees, leaf, forallNode, existsNode, end, _then_, nest, leafOf, asIs, negated, allAsIs, allNegated, totalities, joined, treeOf}
 use Rattle.definitions.specs.Actions.{Values, withValue}
 use Rattle.definitions.specs.Built.{treeHolds, treesHold, someHolds}
@@ -63,16 +63,16 @@ unfolding all any
 not-all p [] = refl
 not-all p (x ∷ l) = ap (λ (b : Bool). not (p x) || b) (not-all p l) ∙ sym (not-and (p x) (all p l))
 
-module _ (n : ℕ) (G : List Binding → Bool) where
-  not-some : (vs : List (List ℕ)) (bs : List Binding) → forEvery n vs bs (λ b. not (G b)) ≡ not (forSome n vs bs G)
+module _ (R : ℕ → List ℕ) (G : List Binding → Bool) where
+  not-some : (vs : List (List ℕ)) (bs : List Binding) → forEvery R vs bs (λ b. not (G b)) ≡ not (forSome R vs bs G)
   unfolding forEvery forSome
   not-some [] bs = refl
-  not-some (v ∷ vs) bs = ap (λ (f : ℕ → Bool). all f (below n)) (fun-ext (λ x. not-some vs (record { variable = v; value = x } ∷ bs))) ∙ not-any (λ x. forSome n vs (record { variable = v; value = x } ∷ bs) G) (below n)
+  not-some (v ∷ vs) bs = ap (λ (f : ℕ → Bool). all f (R (sortOf v))) (fun-ext (λ x. not-some vs (record { variable = v; value = x } ∷ bs))) ∙ not-any (λ x. forSome R vs (record { variable = v; value = x } ∷ bs) G) (R (sortOf v))
 
-  not-every : (vs : List (List ℕ)) (bs : List Binding) → forSome n vs bs (λ b. not (G b)) ≡ not (forEvery n vs bs G)
+  not-every : (vs : List (List ℕ)) (bs : List Binding) → forSome R vs bs (λ b. not (G b)) ≡ not (forEvery R vs bs G)
   unfolding forEvery forSome
   not-every [] bs = refl
-  not-every (v ∷ vs) bs = ap (λ (f : ℕ → Bool). any f (below n)) (fun-ext (λ x. not-every vs (record { variable = v; value = x } ∷ bs))) ∙ not-all (λ x. forEvery n vs (record { variable = v; value = x } ∷ bs) G) (below n)
+  not-every (v ∷ vs) bs = ap (λ (f : ℕ → Bool). any f (R (sortOf v))) (fun-ext (λ x. not-every vs (record { variable = v; value = x } ∷ bs))) ∙ not-all (λ x. forEvery R vs (record { variable = v; value = x } ∷ bs) G) (R (sortOf v))
 
 length-snoc : {A : Type 0} (l : List A) (x : A) → length (l ++ (x ∷ [])) ≡ suc (length l)
 length-snoc l x = let e = length-append l (x ∷ []) in omega arith
@@ -85,19 +85,19 @@ known-name (q ∷ rs) r k t = ⊎-elim (λ u. or-l (same (q .name) r) _ (T-and-l
 
 module _ (c : Case) (picks : List Tuple) where
   nest-some : (vs scope : List (List ℕ)) (t : Tree) (G : List Binding → Bool) → T (areNew scope vs) → ((bs : List Binding) (e : Values) → Agree (scope ++ vs) bs e → treeHolds c picks e t ≡ G bs)
-      → (bs : List Binding) (e : Values) → Agree scope bs e → treeHolds c picks e (nest existsNode (length scope) (length vs) t) ≡ forSome (c .site .size) vs bs G
+      → (bs : List Binding) (e : Values) → Agree scope bs e → treeHolds c picks e (nest existsNode (length scope) (map sortOf vs) t) ≡ forSome (membersOf c) vs bs G
   unfolding nest treeHolds forSome areNew
   nest-some [] scope t G n h bs e a = h bs e (subst (λ (s : List (List ℕ)). Agree s bs e) (sym (append-nil scope)) a)
-  nest-some (v ∷ vs) scope t G n h bs e a = ap (λ (f : ℕ → Bool). any f (below (c .site .size))) (fun-ext (λ x.
-      ap (λ (k : ℕ). treeHolds c picks (withValue e (length scope) x) (nest existsNode k (length vs) t)) (sym (length-snoc scope v))
+  nest-some (v ∷ vs) scope t G n h bs e a = ap (λ (f : ℕ → Bool). any f (membersOf c (sortOf v))) (fun-ext (λ x.
+      ap (λ (k : ℕ). treeHolds c picks (withValue e (length scope) x) (nest existsNode k (map sortOf vs) t)) (sym (length-snoc scope v))
       ∙ nest-some vs (scope ++ (v ∷ [])) t G (T-and-r (not (isBound scope v)) _ n) (λ bs e b. h bs e (subst (λ (s : List (List ℕ)). Agree s bs e) (append-assoc scope (v ∷ []) vs) b)) (record { variable = v; value = x } ∷ bs) (withValue e (length scope) x) (agree-put scope bs e v x (T-and-l (not (isBound scope v)) _ n) a)))
 
   nest-every : (vs scope : List (List ℕ)) (t : Tree) (G : List Binding → Bool) → T (areNew scope vs) → ((bs : List Binding) (e : Values) → Agree (scope ++ vs) bs e → treeHolds c picks e t ≡ G bs)
-      → (bs : List Binding) (e : Values) → Agree scope bs e → treeHolds c picks e (nest forallNode (length scope) (length vs) t) ≡ forEvery (c .site .size) vs bs G
+      → (bs : List Binding) (e : Values) → Agree scope bs e → treeHolds c picks e (nest forallNode (length scope) (map sortOf vs) t) ≡ forEvery (membersOf c) vs bs G
   unfolding nest treeHolds forEvery areNew
   nest-every [] scope t G n h bs e a = h bs e (subst (λ (s : List (List ℕ)). Agree s bs e) (sym (append-nil scope)) a)
-  nest-every (v ∷ vs) scope t G n h bs e a = ap (λ (f : ℕ → Bool). all f (below (c .site .size))) (fun-ext (λ x.
-      ap (λ (k : ℕ). treeHolds c picks (withValue e (length scope) x) (nest forallNode k (length vs) t)) (sym (length-snoc scope v))
+  nest-every (v ∷ vs) scope t G n h bs e a = ap (λ (f : ℕ → Bool). all f (membersOf c (sortOf v))) (fun-ext (λ x.
+      ap (λ (k : ℕ). treeHolds c picks (withValue e (length scope) x) (nest forallNode k (map sortOf vs) t)) (sym (length-snoc scope v))
       ∙ nest-every vs (scope ++ (v ∷ [])) t G (T-and-r (not (isBound scope v)) _ n) (λ bs e b. h bs e (subst (λ (s : List (List ℕ)). Agree s bs e) (append-assoc scope (v ∷ []) vs) b)) (record { variable = v; value = x } ∷ bs) (withValue e (length scope) x) (agree-put scope bs e v x (T-and-l (not (isBound scope v)) _ n) a)))
 
   map-agree : (scope : List (List ℕ)) (bs : List Binding) (e : Values) → Agree scope bs e → (vs : List (List ℕ)) → T (all (isBound scope) vs) → map e (map (λ v. option (position (same v) scope) zero (λ k. k)) vs) ≡ map (valueOf bs) vs
@@ -144,8 +144,8 @@ module _ (c : Case) (picks : List Tuple) where
         ∙ imp-and (isTrue c picks bs f) (isTrue c picks bs g)
     neg-means (conjunction fs) scope bs e a s k = some-neg fs scope bs e a s k
     neg-means (disjunction fs) scope bs e a s k = all-neg fs scope bs e a s k
-    neg-means (exists vs f) scope bs e a s k = nest-every vs scope (negated (relationsOf (c .question)) (scope ++ vs) f) (λ b. not (isTrue c picks b f)) (T-and-l (areNew scope vs) _ s) (λ b e′ a′. neg-means f (scope ++ vs) b e′ a′ (T-and-r (areNew scope vs) _ s) k) bs e a ∙ not-some (c .site .size) (λ b. isTrue c picks b f) vs bs
-    neg-means (forall vs f) scope bs e a s k = nest-some vs scope (negated (relationsOf (c .question)) (scope ++ vs) f) (λ b. not (isTrue c picks b f)) (T-and-l (areNew scope vs) _ s) (λ b e′ a′. neg-means f (scope ++ vs) b e′ a′ (T-and-r (areNew scope vs) _ s) k) bs e a ∙ not-every (c .site .size) (λ b. isTrue c picks b f) vs bs
+    neg-means (exists vs f) scope bs e a s k = nest-every vs scope (negated (relationsOf (c .question)) (scope ++ vs) f) (λ b. not (isTrue c picks b f)) (T-and-l (areNew scope vs) _ s) (λ b e′ a′. neg-means f (scope ++ vs) b e′ a′ (T-and-r (areNew scope vs) _ s) k) bs e a ∙ not-some (membersOf c) (λ b. isTrue c picks b f) vs bs
+    neg-means (forall vs f) scope bs e a s k = nest-some vs scope (negated (relationsOf (c .question)) (scope ++ vs) f) (λ b. not (isTrue c picks b f)) (T-and-l (areNew scope vs) _ s) (λ b e′ a′. neg-means f (scope ++ vs) b e′ a′ (T-and-r (areNew scope vs) _ s) k) bs e a ∙ not-every (membersOf c) (λ b. isTrue c picks b f) vs bs
 
     all-as : (fs : Formulas) (scope : List (List ℕ)) (bs : List Binding) (e : Values) → Agree scope bs e → T (areScoped scope fs) → T (areKnown (relationsOf (c .question)) fs) → treesHold c picks e (allAsIs (relationsOf (c .question)) scope fs) ≡ allTrue c picks bs fs
     all-as nil scope bs e a s k = refl
@@ -170,7 +170,7 @@ module _ (c : Case) (picks : List Tuple) where
   totalities-mean r (k ∷ ks) e = go (isTotal (k .kind)) (totalities-mean (suc r) ks e)
     where
       go : (b : Bool) → treesHold c picks e (totalities (suc r) ks) ≡ all (λ b. b) (mapFrom (λ r (k : Relation). if isTotal (k .kind) then isTotalIn c picks r else true) (suc r) ks)
-          → treesHold c picks e (if b then forallNode 0 (existsNode 1 (leaf true r (0 ∷ 1 ∷ []))) then totalities (suc r) ks else totalities (suc r) ks)
+          → treesHold c picks e (if b then forallNode 0 0 (existsNode 1 0 (leaf true r (0 ∷ 1 ∷ []))) then totalities (suc r) ks else totalities (suc r) ks)
           ≡ ((if b then isTotalIn c picks r else true) && all (λ b. b) (mapFrom (λ r (k : Relation). if isTotal (k .kind) then isTotalIn c picks r else true) (suc r) ks))
       go true h = ap (λ (x : Bool). isTotalIn c picks r && x) h
       go false h = h

@@ -2,6 +2,7 @@
 use Prim.Native.Nat.{ℕ, _^_, _<_}
 use mathlib.Core.Path.{_≡_, sym, ap, ap₂, subst, _∙_, fun-ext}
 use mathlib.Core.List.{List, map, List·Memᴰ}
+use lib.Dec.{T}
 use lib.ListN.{length}
 use Rattle.definitions.specs.Lists.{flatMap, below}
 use Rattle.definitions.specs.Relations.{Tuple, isChosen}
@@ -12,7 +13,7 @@ use Rattle.laws.specs.Lists.{below-lt, filter-mem, flat-mem, map-flat, map-map,
 use Rattle.laws.specs.Tuples.{among-mem, mem-among}
 use Rattle.laws.specs.Repeats.{Once, once-below, once-filter, once-flat, once-map}
 use Rattle.laws.specs.Rows.{places-row, row-lt}
-use Rattle.laws.specs.Numbers.{IsAction}
+use Rattle.laws.specs.Numbers.{IsAction, row-set}
 use Rattle.reduction.specs.Means.{Good}
 use Rattle.reduction.specs.Sound.{tup, tupleAt, Inside, same-row}
 
@@ -25,9 +26,18 @@ setOf q = set (q .0) (q .1)
 abbrev pub tupleOf : Problem → Pair → Tuple
 tupleOf p q = tupleAt p (q .0) (q .1)
 
--- each pair is a set action's, and its tuple among F
+-- a `choose` and the row of one of its tuples
+unfoldable pub IsPair : Problem → Pair → Type 0
+IsPair p q = (q .0 < length (p .relations)) × T (isChosen (relationAt p (q .0) .kind)) × (q .1 < tuplesOf (p .size) (relationAt p (q .0)))
+
+-- it has a set action
+pub pair-action : (p : Problem) (q : Pair) → IsPair p q → IsAction p (setOf q)
+unfolding IsPair IsAction
+pair-action p q v = (v .0, v .1, row-set (p .size) (p .range) (relationAt p (q .0)) (q .1) (v .1) (v .2))
+
+-- each is such a pair, and its tuple among F
 abbrev pub Ready : Problem → List Tuple → List Pair → Type 0
-Ready p F l = (q : Pair) → List·Memᴰ q l → IsAction p (setOf q) × List·Memᴰ (tupleOf p q) F
+Ready p F l = (q : Pair) → List·Memᴰ q l → IsPair p q × List·Memᴰ (tupleOf p q) F
 
 unfoldable pub pairs : Problem → List Tuple → List Pair
 pairs p F = flatMap (λ r. map (λ row. (r, row)) (pickedRows p F r)) (chosenNumbers p)
@@ -45,13 +55,13 @@ module _ (p : Problem) (F : List Tuple) where
       (once-filter (λ r. isChosen (relationAt p r .kind)) (below (length (p .relations))) (once-below (length (p .relations))))
 
   pub pairs-ready : Ready p F (pairs p F)
-  unfolding pairs pickedRows chosenNumbers isPicked IsAction
+  unfolding pairs pickedRows chosenNumbers isPicked IsPair
   pairs-ready q m =
       let (r, mr, mq) = flat-mem (λ r. map (λ row. (r, row)) (pickedRows p F r)) (chosenNumbers p) q m in
       let (row, mw, e) = map-mem (λ row. (r, row)) (pickedRows p F r) q mq in
       let a = filter-mem (λ r. isChosen (relationAt p r .kind)) (below (length (p .relations))) r mr in
       let b = filter-mem (isPicked p F r) (below (tuplesOf (p .size) (relationAt p r))) row mw in
-      subst (λ (u : Pair). IsAction p (setOf u) × List·Memᴰ (tupleOf p u) F) (sym e)
+      subst (λ (u : Pair). IsPair p u × List·Memᴰ (tupleOf p u) F) (sym e)
       ((below-lt (length (p .relations)) r (a .0), a .1, below-lt (tuplesOf (p .size) (relationAt p r)) row (b .0)), among-mem (tupleAt p r row) F (b .1))
 
   pub picked-in : (t : Tuple) → List·Memᴰ t (map (tupleOf p) (pairs p F)) → List·Memᴰ t F
@@ -62,17 +72,17 @@ module _ (p : Problem) (G : Good p) where
   pub tuple-back : (t : Tuple) → Inside p G t → tupleAt p (t .relation) (rowOf (p .size) (t .places)) ≡ t
   tuple-back t i = ap (tup (t .relation)) (ap (λ (k : ℕ). placesOf (p .size) k (rowOf (p .size) (t .places))) (sym (i .long)) ∙ places-row (p .size) (t .places) (G .element) (i .small))
 
-  -- and its row, which is a set action's
+  -- and its row
   pub tuple-row : (t : Tuple) → Inside p G t → rowOf (p .size) (t .places) < tuplesOf (p .size) (relationAt p (t .relation))
   unfolding tuplesOf
   tuple-row t i = subst (λ (k : ℕ). rowOf (p .size) (t .places) < p .size ^ k) (i .long) (row-lt (p .size) (t .places) (i .small))
 
-  pub tuple-action : (t : Tuple) → Inside p G t → IsAction p (set (t .relation) (rowOf (p .size) (t .places)))
-  unfolding IsAction
-  tuple-action t i = (i .known, i .chosen, tuple-row t i)
+  pub tuple-pair : (t : Tuple) → Inside p G t → IsPair p (t .relation, rowOf (p .size) (t .places))
+  unfolding IsPair
+  tuple-pair t i = (i .known, i .chosen, tuple-row t i)
 
   pub tuples-once : (F : List Tuple) → Once (map (tupleOf p) (pairs p F))
-  unfolding IsAction
+  unfolding IsPair
   tuples-once F = once-map (tupleOf p) (pairs p F) (λ a b ma mb e. let v = pairs-ready p F a ma in let w = pairs-ready p F b mb in let j = same-row p G (b .0) (b .1) (a .0) (a .1) (w .0 .2) (v .0 .2) e in ap₂ (λ (x y : ℕ). (x, y)) (j .0) (j .1)) (pairs-once p F)
 
   module _ (F : List Tuple) (I : (t : Tuple) → List·Memᴰ t F → Inside p G t) where

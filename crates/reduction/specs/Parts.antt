@@ -12,7 +12,7 @@ use lib.Seq.{getD-append-add}
 use borrow.Author.Tests.{eq-eqb, eqb-true, eqb-false, ltb-true, ltb-false}
 use Rattle.definitions.specs.Lists.{if_then_else_, all, any, below}
 use Rattle.definitions.specs.Relations.{Tuple}
-use Rattle.definitions.specs.Truth.{Case, holds}
+use Rattle.definitions.specs.Truth.{Case, holds, membersOf}
 use Rattle.definitions.specs.Tree.{Tree, Trees, leaf, forallNode, existsNode, andNode, orNode, end, _then_, nodes, nodesAll, occurs, occursIn, free}
 use Rattle.definitions.specs.Atoms.{Problem, relationAt, nodeAt}
 use Rattle.definitions.specs.Actions.{Values, valuesIn, withValue}
@@ -25,8 +25,8 @@ use Rattle.laws.specs.Numbers.{noNode}
 unfoldable mutual
   pub Within : Tree → Type 0
   Within (leaf p r ls) = T (all (λ l. ltb l 4) ls)
-  Within (forallNode d t) = (d < 4) × Within t
-  Within (existsNode d t) = (d < 4) × Within t
+  Within (forallNode d σ t) = (d < 4) × Within t
+  Within (existsNode d σ t) = (d < 4) × Within t
   Within (andNode ts) = WithinAll ts
   Within (orNode ts) = WithinAll ts
 
@@ -39,8 +39,8 @@ mutual
 
   pub occurs-lt : (t : Tree) (l : ℕ) → Within t → T (occurs l t) → l < 4
   occurs-lt (leaf p r ls) l w f = let (x, m, e) = any-at (eqb l) ls f in subst (λ (z : ℕ). z < 4) (sym (eqb→eq l x e)) (ltb→lt x 4 (all-at (λ l. ltb l 4) ls w x m))
-  occurs-lt (forallNode d t) l w f = occurs-lt t l (w .1) (T-and-r (not (eqb l d)) _ f)
-  occurs-lt (existsNode d t) l w f = occurs-lt t l (w .1) (T-and-r (not (eqb l d)) _ f)
+  occurs-lt (forallNode d σ t) l w f = occurs-lt t l (w .1) (T-and-r (not (eqb l d)) _ f)
+  occurs-lt (existsNode d σ t) l w f = occurs-lt t l (w .1) (T-and-r (not (eqb l d)) _ f)
   occurs-lt (andNode ts) l w f = occursIn-lt ts l w f
   occurs-lt (orNode ts) l w f = occursIn-lt ts l w f
 
@@ -72,8 +72,8 @@ module _ (c : Case) (picks : List Tuple) where
     pub holds-same : (t : Tree) (e θ : Values) → Same (λ l. occurs l t) e θ → treeHolds c picks e t ≡ treeHolds c picks θ t
     holds-same (leaf true r ls) e θ h = ap (holds c picks r) (map-same ls e θ h)
     holds-same (leaf false r ls) e θ h = ap (λ (xs : List ℕ). not (holds c picks r xs)) (map-same ls e θ h)
-    holds-same (forallNode d t) e θ h = ap (λ (f : ℕ → Bool). all f (below (c .site .size))) (fun-ext (λ x. holds-same t (withValue e d x) (withValue θ d x) (with-sames (λ l. occurs l t) e θ d x h)))
-    holds-same (existsNode d t) e θ h = ap (λ (f : ℕ → Bool). any f (below (c .site .size))) (fun-ext (λ x. holds-same t (withValue e d x) (withValue θ d x) (with-sames (λ l. occurs l t) e θ d x h)))
+    holds-same (forallNode d σ t) e θ h = ap (λ (f : ℕ → Bool). all f (membersOf c σ)) (fun-ext (λ x. holds-same t (withValue e d x) (withValue θ d x) (with-sames (λ l. occurs l t) e θ d x h)))
+    holds-same (existsNode d σ t) e θ h = ap (λ (f : ℕ → Bool). any f (membersOf c σ)) (fun-ext (λ x. holds-same t (withValue e d x) (withValue θ d x) (with-sames (λ l. occurs l t) e θ d x h)))
     holds-same (andNode ts) e θ h = all-same ts e θ h
     holds-same (orNode ts) e θ h = any-same ts e θ h
 
@@ -132,8 +132,8 @@ module _ (p : Problem) where
   unfoldable mutual
     pub Fits : Tree → Type 0
     Fits (leaf q r ls) = (r < length (p .relations)) × (length ls ≡ relationAt p r .arity)
-    Fits (forallNode d t) = Fits t
-    Fits (existsNode d t) = Fits t
+    Fits (forallNode d σ t) = Fits t
+    Fits (existsNode d σ t) = Fits t
     Fits (andNode ts) = FitsAll ts
     Fits (orNode ts) = FitsAll ts
 
@@ -157,13 +157,13 @@ module _ (p : Problem) where
   shift : (v j : ℕ) → suc v + j ≡ v + suc j
   shift v j = omega arith
 
-  pub under-forall : (v d : ℕ) (t : Tree) → Here v (forallNode d t) → Here (suc v) t
+  pub under-forall : (v d σ : ℕ) (t : Tree) → Here v (forallNode d σ t) → Here (suc v) t
   unfolding nodes Within Fits
-  under-forall v d t h = record { cover = λ j l. ap (nodeAt p) (shift v j) ∙ h .cover (suc j) (omega arith); within = h .within .1; fits = h .fits; inside = omega (arith, h .inside) }
+  under-forall v d σ t h = record { cover = λ j l. ap (nodeAt p) (shift v j) ∙ h .cover (suc j) (omega arith); within = h .within .1; fits = h .fits; inside = omega (arith, h .inside) }
 
-  pub under-exists : (v d : ℕ) (t : Tree) → Here v (existsNode d t) → Here (suc v) t
+  pub under-exists : (v d σ : ℕ) (t : Tree) → Here v (existsNode d σ t) → Here (suc v) t
   unfolding nodes Within Fits
-  under-exists v d t h = record { cover = λ j l. ap (nodeAt p) (shift v j) ∙ h .cover (suc j) (omega arith); within = h .within .1; fits = h .fits; inside = omega (arith, h .inside) }
+  under-exists v d σ t h = record { cover = λ j l. ap (nodeAt p) (shift v j) ∙ h .cover (suc j) (omega arith); within = h .within .1; fits = h .fits; inside = omega (arith, h .inside) }
 
   pub parts-and : (v : ℕ) (ts : Trees) → Here v (andNode ts) → HereAll (suc v) ts
   unfolding nodes Within Fits
@@ -193,10 +193,10 @@ module _ (p : Problem) where
 
     pub here-sub : (t : Tree) (v : ℕ) → Here v t → (k : ℕ) → k < length (nodes t) → Here (v + k) (getD (nodes t) k noNode)
     here-sub (leaf q r ls) v h k l = absurd (omega arith)
-    here-sub (forallNode d t) v h zero l = move v (v + zero) (forallNode d t) (sym (add-zero v)) h
-    here-sub (forallNode d t) v h (suc k) l = move (suc v + k) (v + suc k) _ (shift v k) (here-sub t (suc v) (under-forall v d t h) k (omega arith))
-    here-sub (existsNode d t) v h zero l = move v (v + zero) (existsNode d t) (sym (add-zero v)) h
-    here-sub (existsNode d t) v h (suc k) l = move (suc v + k) (v + suc k) _ (shift v k) (here-sub t (suc v) (under-exists v d t h) k (omega arith))
+    here-sub (forallNode d σ t) v h zero l = move v (v + zero) (forallNode d σ t) (sym (add-zero v)) h
+    here-sub (forallNode d σ t) v h (suc k) l = move (suc v + k) (v + suc k) _ (shift v k) (here-sub t (suc v) (under-forall v d σ t h) k (omega arith))
+    here-sub (existsNode d σ t) v h zero l = move v (v + zero) (existsNode d σ t) (sym (add-zero v)) h
+    here-sub (existsNode d σ t) v h (suc k) l = move (suc v + k) (v + suc k) _ (shift v k) (here-sub t (suc v) (under-exists v d σ t h) k (omega arith))
     here-sub (andNode ts) v h zero l = move v (v + zero) (andNode ts) (sym (add-zero v)) h
     here-sub (andNode ts) v h (suc k) l = move (suc v + k) (v + suc k) _ (shift v k) (here-subs ts (suc v) (parts-and v ts h) k (omega arith))
     here-sub (orNode ts) v h zero l = move v (v + zero) (orNode ts) (sym (add-zero v)) h
@@ -218,15 +218,15 @@ module _ (p : Problem) where
   -- a node stands at its number
   unfoldable pub IsNode : Tree → Type 0
   IsNode (leaf q r ls) = ⊥
-  IsNode (forallNode d t) = Unit {0}
-  IsNode (existsNode d t) = Unit {0}
+  IsNode (forallNode d σ t) = Unit {0}
+  IsNode (existsNode d σ t) = Unit {0}
   IsNode (andNode ts) = Unit {0}
   IsNode (orNode ts) = Unit {0}
 
   pub node-at : (v : ℕ) (t : Tree) → Here v t → IsNode t → (nodeAt p v ≡ t) × (v < length (p .nodeList))
   unfolding IsNode nodes
   node-at v (leaf q r ls) h n = absurd n
-  node-at v (forallNode d t) h n = (ap (nodeAt p) (sym (add-zero v)) ∙ h .cover 0 (omega arith), omega (arith, h .inside))
-  node-at v (existsNode d t) h n = (ap (nodeAt p) (sym (add-zero v)) ∙ h .cover 0 (omega arith), omega (arith, h .inside))
+  node-at v (forallNode d σ t) h n = (ap (nodeAt p) (sym (add-zero v)) ∙ h .cover 0 (omega arith), omega (arith, h .inside))
+  node-at v (existsNode d σ t) h n = (ap (nodeAt p) (sym (add-zero v)) ∙ h .cover 0 (omega arith), omega (arith, h .inside))
   node-at v (andNode ts) h n = (ap (nodeAt p) (sym (add-zero v)) ∙ h .cover 0 (omega arith), omega (arith, h .inside))
   node-at v (orNode ts) h n = (ap (nodeAt p) (sym (add-zero v)) ∙ h .cover 0 (omega arith), omega (arith, h .inside))

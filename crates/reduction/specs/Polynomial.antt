@@ -74,15 +74,15 @@ unfolding free
 four-free t = let a = filter-le (λ l. occurs l t) (below 4) in let b = length-below 4 in omega arith
 
 -- a quantifier's own level is not free in it
-bound-level : (d : ℕ) (t : Tree) → d < 4 → length (free (forallNode d t)) < 4
+bound-level : (d σ : ℕ) (t : Tree) → d < 4 → length (free (forallNode d σ t)) < 4
 unfolding free occurs
-bound-level d t l = let a = filter-lt (λ l. occurs l (forallNode d t)) (below 4) d (mem-below 4 d l) (let e : eqb d d ≡ true = eq-eqb d d refl in rw e refl) in let b = length-below 4 in omega arith
+bound-level d σ t l = let a = filter-lt (λ l. occurs l (forallNode d σ t)) (below 4) d (mem-below 4 d l) (let e : eqb d d ≡ true = eq-eqb d d refl in rw e refl) in let b = length-below 4 in omega arith
 
 node-degree : (t : Tree) → Within t → nodeExponent t ≤ 4
 unfolding nodeExponent isForall Within
 node-degree (leaf p r ls) w = four-free (leaf p r ls)
-node-degree (forallNode d t) w = bound-level d t (w .0)
-node-degree (existsNode d t) w = four-free (existsNode d t)
+node-degree (forallNode d σ t) w = bound-level d σ t (w .0)
+node-degree (existsNode d σ t) w = four-free (existsNode d σ t)
 node-degree (andNode ts) w = four-free (andNode ts)
 node-degree (orNode ts) w = four-free (orNode ts)
 

@@ -20,7 +20,7 @@ use Rattle.laws.specs.Booleans.{T-and-l, T-and-r, T-or, or-l, or-r}
 use Rattle.laws.specs.Lists.{all-of, snoc-cases}
 use Rattle.laws.specs.Tuples.{among-mem, distinct-snoc, mem-among}
 use Rattle.laws.specs.Rows.{Below, length-places, places-below, row-places}
-use Rattle.laws.specs.Numbers.{IsAction, IsAtom, action-is, atom-at, inj-fun}
+use Rattle.laws.specs.Numbers.{IsAction, IsAtom, action-is, atom-at, inj-fun, set-below}
 use Rattle.reduction.specs.Parts.{Here, IsNode}
 use Rattle.reduction.specs.Means.{Good, means, adds-mean, set-not, part-valid}
 use Rattle.reduction.specs.Valid.{needs-valid, after-cases, may-at, domain-free, range-free, pair-of}
@@ -156,7 +156,7 @@ module _ (p : Problem) (G : Good p) where
     -- of a function kind, the new tuple is a pair
     pair : T (isFunction (relationAt p r .kind)) → tupleAt p r row ≡ tup r (row / p .size ∷ row % p .size ∷ [])
     unfolding IsAction
-    pair f = ap (tup r) (pair-of p G r row (v .0) (v .2) f .0)
+    pair f = ap (tup r) (pair-of p G r row (v .0) (set-below p r row v) f .0)
 
     first-of : (r′ x y : ℕ) → T (isFunction (relationAt p r′ .kind)) → tup r′ (x ∷ y ∷ []) ≡ tupleAt p r row → (r′ ≡ r) × (x ≡ row / p .size) × (y ≡ row % p .size)
     first-of r′ x y f e =
@@ -210,7 +210,7 @@ module _ (p : Problem) (G : Good p) where
     set-asked (tuple r′ row′) w (inr m) = subst (asks P₁) (sym (List·Memᴰ·eq-of-singleton m)) (holds-pick (p .source) P₁ r _ chosen-high (Memᴰ·append-right P (List·Memᴰ·head refl)))
     set-asked (notTuple r′ row′) w (inl q) = not-T (holds (p .source) P₁ r′ (placesOf (p .size) (relationAt p r′ .arity) row′)) (λ t. ⊎-elim
         (λ a. T-not (holds (p .source) P r′ (placesOf (p .size) (relationAt p r′ .arity) row′)) (I .asked (notTuple r′ row′) w (q .0)) a)
-        (λ e. let k = same-row r row r′ row′ (v .2) (w .1) e in q .1 (List·Memᴰ·head (ap₂ notTuple (k .0) (k .1))))
+        (λ e. let k = same-row r row r′ row′ (set-below p r row v) (w .1) e in q .1 (List·Memᴰ·head (ap₂ notTuple (k .0) (k .1))))
         (holds-new (p .source) P (tupleAt p r row) r′ _ t))
     set-asked (notTuple r′ row′) w (inr m) = absurd (subst (λ (a : Atom). T (not (isTuple a))) (List·Memᴰ·eq-of-singleton m) tt)
     set-asked (freeDomain r′ x) w (inl q) = λ y m. ⊎-elim
@@ -294,11 +294,11 @@ module _ (p : Problem) (G : Good p) where
       (r .0, picks-cons k ks a e ∙ ap₂ _++_ (no-pick P a q) (r .1))
 
   -- ---- the guess phase
-  no-goal-yet : (P : List Tuple) (s : State) (t : Tree) → IsNode p t → Guessing P s → Here p 0 t → T (s (atomNumber p (partAtom (p .size) (λ _. zero) zero t))) → ⊥
+  no-goal-yet : (P : List Tuple) (s : State) (t : Tree) → IsNode p t → Guessing P s → Here p 0 t → T (s (atomNumber p (partAtom (p .size) (p .range) (λ _. zero) zero t))) → ⊥
   unfolding IsNode partAtom asks
   no-goal-yet P s (leaf q r ls) n I h t = n
-  no-goal-yet P s (forallNode d u) n I h t = I .asked _ (part-valid p G 0 (forallNode d u) (λ _. zero) h (λ l. G .element)) t
-  no-goal-yet P s (existsNode d u) n I h t = I .asked _ (part-valid p G 0 (existsNode d u) (λ _. zero) h (λ l. G .element)) t
+  no-goal-yet P s (forallNode d σ u) n I h t = I .asked _ (part-valid p G 0 (forallNode d σ u) (λ _. zero) h (λ l. G .element)) t
+  no-goal-yet P s (existsNode d σ u) n I h t = I .asked _ (part-valid p G 0 (existsNode d σ u) (λ _. zero) h (λ l. G .element)) t
   no-goal-yet P s (andNode ts) n I h t = I .asked _ (part-valid p G 0 (andNode ts) (λ _. zero) h (λ l. G .element)) t
   no-goal-yet P s (orNode ts) n I h t = I .asked _ (part-valid p G 0 (orNode ts) (λ _. zero) h (λ l. G .element)) t
 

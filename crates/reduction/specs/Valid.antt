@@ -3,23 +3,24 @@ use Prim.Native.Nat.{ℕ, zero, suc, _+_, _-_, _*_, _/_, _%_, _^_, _<_}
 use mathlib.Core.Path.{_≡_, refl, sym, ap, subst, _∙_}
 use mathlib.Core.Logic.{_⊎_, inl, inr, ⊎-elim}
 use mathlib.Core.Bool.{Bool, true, false, not, _&&_}
+use mathlib.Core.Option.{Option, none, some}
 use mathlib.Core.List.{List, [], _∷_, map, List·Memᴰ, List·Memᴰ·head, List·Memᴰ·not-nil, List·Memᴰ·cases-cons, List·Memᴰ·append-cases, List·Memᴰ·eq-of-singleton, Memᴰ·append-left, Memᴰ·append-right}
-use native.Mathlib.Omega.{arith}
 use native.Mathlib.Nat.{mod-lt}
 use lib.Arith.{digits-lt}
 use lib.Dec.{T, eqb, eqb→eq, T-not, not-T}
 use lib.ListN.{length}
 use borrow.Author.Tests.{eq-eqb}
-use Rattle.definitions.specs.Lists.{if_then_else_, any}
+use Rattle.definitions.specs.Lists.{if_then_else_, any, option, before}
 use Rattle.definitions.specs.Relations.{Relation, isFunction, isInjective}
-use Rattle.definitions.specs.Tree.{Tree, Trees, leaf, forallNode, existsNode, andNode, orNode, end, _then_, nodes, partsFrom, parts, isForall}
+use Rattle.definitions.specs.Tree.{Tree, Trees, leaf, forallNode, existsNode, andNode, orNode, end, _then_, nodes, partsFrom, parts, isForall, nodeSort}
 use Rattle.definitions.specs.Atoms.{Problem, relationAt, nodeAt, placesOf, tuplesOf, rowsOf, nodeWidth, Atom, proof, freeDomain, freeRange, holdsNode, atomNumber, State}
 use Rattle.definitions.specs.Actions.{Action, set, beginProof, proveAnd, proveOr, proveExists, proveForall, proveGoal, Values, withValue, valuesAt, partAtoms, underAtom, freeAtoms, forallNeeds, needs, adds, removes}
 use Rattle.definitions.specs.Strips.{mayTake, after}
 use Rattle.laws.specs.Booleans.{T-and-l, T-and-r, T-of, T-or, and-T, or-l, or-r}
 use Rattle.laws.specs.Lists.{all-at, all-of, any-at, any-of, drop-mem, map-mem, mem-map, take-mem}
 use Rattle.laws.specs.Rows.{pair-places}
-use Rattle.laws.specs.Numbers.{IsAction, IsAtom, atom-injective}
+use Rattle.laws.specs.Numbers.{IsAction, IsAtom, atom-injective, set-below}
+use Rattle.laws.specs.Members.{before-some}
 use Rattle.reduction.specs.Parts.{Bnd, bnd-with, HereAll, under-forall, under-exists, parts-and, parts-or, head-here, tail-here, IsNode}
 use Rattle.reduction.specs.Means.{Good, here-as, values-bnd, part-valid}
 
@@ -64,65 +65,68 @@ module _ (p : Problem) (G : Good p) where
   free-valid : (r row : ℕ) → IsAction p (set r row) → (x : Atom) → List·Memᴰ x (freeAtoms (p .size) (relationAt p r) r row) → IsAtom p x
   unfolding IsAction IsAtom
   free-valid r row v x m = ⊎-elim
-      (λ q. subst (IsAtom p) (sym (q .1)) (v .0, q .0, pair-of r row (v .0) (v .2) (q .0) .1))
+      (λ q. subst (IsAtom p) (sym (q .1)) (v .0, q .0, pair-of r row (v .0) (set-below p r row v) (q .0) .1))
       (λ q. subst (IsAtom p) (sym (q .1)) (v .0, q .0, mod-lt row (G .element)))
       (free-cases (p .size) r row (relationAt p r) x m)
 
-  parts-valid : (ts : Trees) (v : ℕ) (e : Values) → HereAll p v ts → Bnd (p .size) e → (x : Atom) → List·Memᴰ x (partAtoms (p .size) e (partsFrom v ts)) → IsAtom p x
+  parts-valid : (ts : Trees) (v : ℕ) (e : Values) → HereAll p v ts → Bnd (p .size) e → (x : Atom) → List·Memᴰ x (partAtoms (p .size) (p .range) e (partsFrom v ts)) → IsAtom p x
   unfolding partAtoms partsFrom
   parts-valid end v e h b x m = absurd (List·Memᴰ·not-nil m)
   parts-valid (t then ts) v e h b x m = ⊎-elim (λ q. subst (IsAtom p) (sym q) (part-valid p G v t e (head-here p v t ts h) b)) (λ q. parts-valid ts (v + length (nodes t)) e (tail-here p v t ts h) b x q) (List·Memᴰ·cases-cons m)
 
-  pub under-valid : (v row x : ℕ) (s : Tree) → v < length (p .nodeList) → nodeAt p v ≡ s → x < p .size → IsNode p s → IsAtom p (underAtom (p .size) v s row x)
+  pub under-valid : (v row x : ℕ) (s : Tree) → v < length (p .nodeList) → nodeAt p v ≡ s → x < p .size → IsNode p s → IsAtom p (underAtom (p .size) (p .range) v s row x)
   unfolding underAtom IsAtom IsNode
   under-valid v row x (leaf q r ls) l e g n = tt
-  under-valid v row x (forallNode d t) l e g n = part-valid p G (suc v) t (withValue (valuesAt (p .size) (forallNode d t) row) d x) (under-forall p v d t (here-as p G v (forallNode d t) l e)) (bnd-with (p .size) _ d x (values-bnd p G (forallNode d t) row) g)
-  under-valid v row x (existsNode d t) l e g n = part-valid p G (suc v) t (withValue (valuesAt (p .size) (existsNode d t) row) d x) (under-exists p v d t (here-as p G v (existsNode d t) l e)) (bnd-with (p .size) _ d x (values-bnd p G (existsNode d t) row) g)
+  under-valid v row x (forallNode d σ t) l e g n = part-valid p G (suc v) t (withValue (valuesAt (p .size) (forallNode d σ t) row) d x) (under-forall p v d σ t (here-as p G v (forallNode d σ t) l e)) (bnd-with (p .size) _ d x (values-bnd p G (forallNode d σ t) row) g)
+  under-valid v row x (existsNode d σ t) l e g n = part-valid p G (suc v) t (withValue (valuesAt (p .size) (existsNode d σ t) row) d x) (under-exists p v d σ t (here-as p G v (existsNode d σ t) l e)) (bnd-with (p .size) _ d x (values-bnd p G (existsNode d σ t) row) g)
   under-valid v row x (andNode ts) l e g n = tt
   under-valid v row x (orNode ts) l e g n = tt
 
-  own-valid : (v row z d : ℕ) (t : Tree) → v < length (p .nodeList) → nodeAt p v ≡ forallNode d t → row < rowsOf (p .size) (nodeAt p v) → z < p .size → IsAtom p (holdsNode v (row * p .size + z))
+  own-valid : (v row z d σ : ℕ) (t : Tree) → v < length (p .nodeList) → nodeAt p v ≡ forallNode d σ t → row < rowsOf (p .size) (nodeAt p v) → z < p .size → IsAtom p (holdsNode v (row * p .size + z))
   unfolding IsAtom nodeWidth isForall
-  own-valid v row z d t l e h g = (l, subst (λ (s : Tree). row * p .size + z < nodeWidth (p .size) s) (sym e) (digits-lt (subst (λ (s : Tree). row < rowsOf (p .size) s) e h) g))
+  own-valid v row z d σ t l e h g = (l, subst (λ (s : Tree). row * p .size + z < nodeWidth (p .size) s) (sym e) (digits-lt (subst (λ (s : Tree). row < rowsOf (p .size) s) e h) g))
 
   row-valid : (v row : ℕ) (s : Tree) → v < length (p .nodeList) → nodeAt p v ≡ s → row < rowsOf (p .size) (nodeAt p v) → isForall s ≡ false → IsAtom p (holdsNode v row)
   unfolding IsAtom nodeWidth
   row-valid v row s l e h n = (l, subst (λ (s : Tree). row < nodeWidth (p .size) s) (sym e) (rw n (subst (λ (s : Tree). row < rowsOf (p .size) s) e h)))
 
-  forall-valid : (v row z d : ℕ) (t : Tree) → v < length (p .nodeList) → nodeAt p v ≡ forallNode d t → row < rowsOf (p .size) (nodeAt p v) → z < p .size → (x : Atom) → List·Memᴰ x (forallNeeds (p .size) v (nodeAt p v) row z) → IsAtom p x
-  unfolding forallNeeds IsNode
-  forall-valid v row zero d t l e h g x m = subst (IsAtom p) (sym (List·Memᴰ·eq-of-singleton m ∙ ap (λ (s : Tree). underAtom (p .size) v s row 0) e)) (under-valid v row 0 (forallNode d t) l e g tt)
-  forall-valid v row (suc z) d t l e h g x m = ⊎-elim
-      (λ q. subst (IsAtom p) (sym (q ∙ ap (λ (s : Tree). underAtom (p .size) v s row (suc z)) e)) (under-valid v row (suc z) (forallNode d t) l e g tt))
-      (λ q. subst (IsAtom p) (sym (List·Memᴰ·eq-of-singleton q)) (own-valid v row z d t l e h (omega arith)))
-      (List·Memᴰ·cases-cons m)
+  forall-valid : (v row z d σ : ℕ) (t : Tree) → v < length (p .nodeList) → nodeAt p v ≡ forallNode d σ t → row < rowsOf (p .size) (nodeAt p v) → List·Memᴰ z (p .range σ) → (x : Atom) → List·Memᴰ x (forallNeeds (p .size) (p .range) v (nodeAt p v) row z) → IsAtom p x
+  unfolding forallNeeds IsNode nodeSort option
+  forall-valid v row z d σ t l e h g x m = ⊎-elim
+      (λ q. subst (IsAtom p) (sym q) (under-valid v row z (forallNode d σ t) l e (G .ranged σ .small z g) tt))
+      (λ q. go (before (p .range σ) z) refl q)
+      (List·Memᴰ·cases-cons (subst (λ (s : Tree). List·Memᴰ x (forallNeeds (p .size) (p .range) v s row z)) e m))
+    where
+      go : (o : Option ℕ) → before (p .range σ) z ≡ o → List·Memᴰ x (option o [] (λ y. holdsNode v (row * p .size + y) ∷ [])) → IsAtom p x
+      go none i q = absurd (List·Memᴰ·not-nil q)
+      go (some y) i q = subst (IsAtom p) (sym (List·Memᴰ·eq-of-singleton q)) (own-valid v row y d σ t l e h (G .ranged σ .small y (before-some (p .range σ) z y (G .ranged σ .ascends) i .0)))
 
   pub needs-valid : (a : Action) → IsAction p a → (x : Atom) → List·Memᴰ x (needs p a) → IsAtom p x
   unfolding needs IsAction IsAtom parts IsNode
-  needs-valid (set r row) v x m = ⊎-elim (λ e. subst (IsAtom p) (sym e) tt) (λ q. ⊎-elim (λ e. subst (IsAtom p) (sym e) (v .0, v .2)) (λ s. free-valid r row v x s) (List·Memᴰ·cases-cons q)) (List·Memᴰ·cases-cons m)
+  needs-valid (set r row) v x m = ⊎-elim (λ e. subst (IsAtom p) (sym e) tt) (λ q. ⊎-elim (λ e. subst (IsAtom p) (sym e) (v .0, set-below p r row v)) (λ s. free-valid r row v x s) (List·Memᴰ·cases-cons q)) (List·Memᴰ·cases-cons m)
   needs-valid beginProof v x m = subst (IsAtom p) (sym (List·Memᴰ·eq-of-singleton m)) tt
   needs-valid (proveAnd v row) (l, h, (ts, e)) x m = proof-or (IsAtom p) x tt
-      (λ y q. parts-valid ts (suc v) (valuesAt (p .size) (andNode ts) row) (parts-and p v ts (here-as p G v (andNode ts) l e)) (values-bnd p G (andNode ts) row) y (subst (λ (s : Tree). List·Memᴰ y (partAtoms (p .size) (valuesAt (p .size) s row) (parts v s))) e q)) m
+      (λ y q. parts-valid ts (suc v) (valuesAt (p .size) (andNode ts) row) (parts-and p v ts (here-as p G v (andNode ts) l e)) (values-bnd p G (andNode ts) row) y (subst (λ (s : Tree). List·Memᴰ y (partAtoms (p .size) (p .range) (valuesAt (p .size) s row) (parts v s))) e q)) m
   needs-valid (proveOr v row i) (l, h, (ts, e, g)) x m = proof-or (IsAtom p) x tt
-      (λ y q. parts-valid ts (suc v) (valuesAt (p .size) (orNode ts) row) (parts-or p v ts (here-as p G v (orNode ts) l e)) (values-bnd p G (orNode ts) row) y (subst (λ (s : Tree). List·Memᴰ y (partAtoms (p .size) (valuesAt (p .size) s row) (parts v s))) e (drop-mem i _ y (take-mem 1 _ y q)))) m
-  needs-valid (proveExists v row z) (l, h, (d, t, e, g)) x m = proof-or (IsAtom p) x tt
-      (λ y q. subst (IsAtom p) (sym (List·Memᴰ·eq-of-singleton q ∙ ap (λ (s : Tree). underAtom (p .size) v s row z) e)) (under-valid v row z (existsNode d t) l e g tt)) m
-  needs-valid (proveForall v row z) (l, h, (d, t, e, g)) x m = proof-or (IsAtom p) x tt (λ y q. forall-valid v row z d t l e h g y q) m
+      (λ y q. parts-valid ts (suc v) (valuesAt (p .size) (orNode ts) row) (parts-or p v ts (here-as p G v (orNode ts) l e)) (values-bnd p G (orNode ts) row) y (subst (λ (s : Tree). List·Memᴰ y (partAtoms (p .size) (p .range) (valuesAt (p .size) s row) (parts v s))) e (drop-mem i _ y (take-mem 1 _ y q)))) m
+  needs-valid (proveExists v row z) (l, h, (d, σ, t, e, g)) x m = proof-or (IsAtom p) x tt
+      (λ y q. subst (IsAtom p) (sym (List·Memᴰ·eq-of-singleton q ∙ ap (λ (s : Tree). underAtom (p .size) (p .range) v s row z) e)) (under-valid v row z (existsNode d σ t) l e (G .ranged σ .small z g) tt)) m
+  needs-valid (proveForall v row z) (l, h, (d, σ, t, e, g)) x m = proof-or (IsAtom p) x tt (λ y q. forall-valid v row z d σ t l e h g y q) m
   needs-valid proveGoal v x m = subst (IsAtom p) (sym (List·Memᴰ·eq-of-singleton m)) (part-valid p G 0 (p .root) (λ _. zero) (G .root-here) (λ l. G .element))
 
   pub adds-valid : (a : Action) → IsAction p a → (x : Atom) → List·Memᴰ x (adds p a) → IsAtom p x
   unfolding adds IsAction IsAtom isForall
-  adds-valid (set r row) v x m = subst (IsAtom p) (sym (List·Memᴰ·eq-of-singleton m)) (v .0, v .2)
+  adds-valid (set r row) v x m = subst (IsAtom p) (sym (List·Memᴰ·eq-of-singleton m)) (v .0, set-below p r row v)
   adds-valid beginProof v x m = subst (IsAtom p) (sym (List·Memᴰ·eq-of-singleton m)) tt
   adds-valid (proveAnd v row) (l, h, (ts, e)) x m = subst (IsAtom p) (sym (List·Memᴰ·eq-of-singleton m)) (row-valid v row (andNode ts) l e h refl)
   adds-valid (proveOr v row i) (l, h, (ts, e, g)) x m = subst (IsAtom p) (sym (List·Memᴰ·eq-of-singleton m)) (row-valid v row (orNode ts) l e h refl)
-  adds-valid (proveExists v row z) (l, h, (d, t, e, g)) x m = subst (IsAtom p) (sym (List·Memᴰ·eq-of-singleton m)) (row-valid v row (existsNode d t) l e h refl)
-  adds-valid (proveForall v row z) (l, h, (d, t, e, g)) x m = subst (IsAtom p) (sym (List·Memᴰ·eq-of-singleton m)) (own-valid v row z d t l e h g)
+  adds-valid (proveExists v row z) (l, h, (d, σ, t, e, g)) x m = subst (IsAtom p) (sym (List·Memᴰ·eq-of-singleton m)) (row-valid v row (existsNode d σ t) l e h refl)
+  adds-valid (proveForall v row z) (l, h, (d, σ, t, e, g)) x m = subst (IsAtom p) (sym (List·Memᴰ·eq-of-singleton m)) (own-valid v row z d σ t l e h (G .ranged σ .small z g))
   adds-valid proveGoal v x m = subst (IsAtom p) (sym (List·Memᴰ·eq-of-singleton m)) tt
 
   pub removes-valid : (a : Action) → IsAction p a → (x : Atom) → List·Memᴰ x (removes p a) → IsAtom p x
   unfolding removes IsAction IsAtom
-  removes-valid (set r row) v x m = ⊎-elim (λ e. subst (IsAtom p) (sym e) (v .0, v .2)) (λ s. free-valid r row v x s) (List·Memᴰ·cases-cons m)
+  removes-valid (set r row) v x m = ⊎-elim (λ e. subst (IsAtom p) (sym e) (v .0, set-below p r row v)) (λ s. free-valid r row v x s) (List·Memᴰ·cases-cons m)
   removes-valid beginProof v x m = subst (IsAtom p) (sym (List·Memᴰ·eq-of-singleton m)) tt
   removes-valid (proveAnd v row) h x m = absurd (List·Memᴰ·not-nil m)
   removes-valid (proveOr v row i) h x m = absurd (List·Memᴰ·not-nil m)

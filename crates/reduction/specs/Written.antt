@@ -24,11 +24,11 @@ use Rattle.laws.specs.Positions.{position-at}
 use Rattle.laws.specs.Tuples.{among-mem, same-eq, same-refl}
 use Rattle.laws.specs.Repeats.{Once, distinct-once, once-middle}
 use Rattle.laws.specs.Rows.{length-places, places-below}
-use Rattle.laws.specs.Numbers.{IsAction, noRelation}
+use Rattle.laws.specs.Numbers.{noRelation}
 use Rattle.reduction.specs.Reader.{Accepted, Apart}
 use Rattle.reduction.specs.Sound.{Inside}
 use Rattle.reduction.specs.Grounded.{good, chosen-at, chosen-index}
-use Rattle.reduction.specs.Pairs.{Pair, setOf, tupleOf, pairs, pairs-ready, tuple-back, tuple-action, tuples-once}
+use Rattle.reduction.specs.Pairs.{Pair, setOf, tupleOf, pairs, pairs-ready, tuple-back, IsPair, tuple-pair, tuples-once}
 use Rattle.reduction.specs.Picks.{picks-inside, picks-distinct}
 use Rattle.reduction.specs.Decimals.{number-decimal, digits-of}
 use Rattle.reduction.specs.Told.{picks-told}
@@ -162,9 +162,9 @@ module _ (c : Case) (A : Accepted c) where
       (pick-entry (getD chosen j noRelation .name) xs (omega (arith, f .few .0)) (omega (arith, f .few .1)) (λ x m. let g = ltb→lt x (c .site .size) (all-at (λ x. ltb x (c .site .size)) xs b x m) in omega arith)))
       (tuple-added chosen (firstChosen (c .question)) (c .site .size) acc at r (getD chosen j noRelation .name) xs u b n)
 
-  -- the line of a set action's tuple
-  line-of : (q : Pair) → IsAction p (setOf q) → (j : ℕ) × (q .0 ≡ firstChosen (c .question) + j) × (j < length chosen) × (pickLine p (q .0) (q .1) ≡ printLine (line-fields j (tupleOf p q .places)))
-  unfolding IsAction pickLine line-fields
+  -- the line of a pair's tuple
+  line-of : (q : Pair) → IsPair p q → (j : ℕ) × (q .0 ≡ firstChosen (c .question) + j) × (j < length chosen) × (pickLine p (q .0) (q .1) ≡ printLine (line-fields j (tupleOf p q .places)))
+  unfolding IsPair pickLine line-fields
   line-of q v =
       let (j, e, l) = chosen-index c A (q .0) (v .0) (v .1) in
       (j, e, l, ap (λ (k : Relation). printLine (bytes "pick" ∷ k .name ∷ map decimal (tupleOf p q .places))) (ap (relationAt p) e ∙ chosen-at c A j))
@@ -173,7 +173,7 @@ module _ (c : Case) (A : Accepted c) where
   unfolding problemOf problemWith
   small q = places-below (p .size) (relationAt p (q .0) .arity) (q .1) (good c A .element)
 
-  picks-read : (l : List Pair) (acc : List Tuple) (at : ℕ) → ((q : Pair) → List·Memᴰ q l → IsAction p (setOf q)) → Once (acc ++ map (tupleOf p) l)
+  picks-read : (l : List Pair) (acc : List Tuple) (at : ℕ) → ((q : Pair) → List·Memᴰ q l → IsPair p q) → Once (acc ++ map (tupleOf p) l)
       → readLines reads acc (linesFrom at (split 10 (flatMap (λ (q : Pair). pickLine p (q .0) (q .1)) l))) ≡ accepted (acc ++ map (tupleOf p) l)
   unfolding flatMap _>>=_
   picks-read [] acc at v o = read-end reads acc at ∙ ap accepted (sym (append-nil acc))
@@ -191,8 +191,8 @@ module _ (c : Case) (A : Accepted c) where
       long : (q : Pair) (j : ℕ) → q .0 ≡ firstChosen (c .question) + j → length (tupleOf p q .places) ≡ getD chosen j noRelation .arity
       long q j e = length-places (p .size) (relationAt p (q .0) .arity) (q .1) ∙ ap (λ (k : Relation). k .arity) (ap (relationAt p) e ∙ chosen-at c A j)
 
-  -- a sheet of set actions' tuples, none twice
-  pairs-back : (l : List Pair) → ((q : Pair) → List·Memᴰ q l → IsAction p (setOf q)) → Once (map (tupleOf p) l) → length (flatMap (λ (q : Pair). pickLine p (q .0) (q .1)) l) ≤ textLimit
+  -- a sheet of pairs' tuples, none twice
+  pairs-back : (l : List Pair) → ((q : Pair) → List·Memᴰ q l → IsPair p q) → Once (map (tupleOf p) l) → length (flatMap (λ (q : Pair). pickLine p (q .0) (q .1)) l) ≤ textLimit
       → readPicks chosen (firstChosen (c .question)) (c .site .size) (flatMap (λ (q : Pair). pickLine p (q .0) (q .1)) l) ≡ accepted (map (tupleOf p) l)
   unfolding readPicks
   pairs-back l v o h = within reads [] (flatMap (λ (q : Pair). pickLine p (q .0) (q .1)) l) h ∙ picks-read l [] zero v o
@@ -219,7 +219,7 @@ module _ (c : Case) (A : Accepted c) where
         let e : flatMap (λ (q : Pair). pickLine p (q .0) (q .1)) (map pairOf F) ≡ flatMap (λ (t : Tuple). pickLine p (t .relation) (rowOf (p .size) (t .places))) F = flat-map (λ (q : Pair). pickLine p (q .0) (q .1)) pairOf F in
         let m : map (tupleOf p) (map pairOf F) ≡ F = back F (λ t i. picks-inside c A F P t i) in
         ap (readPicks chosen (firstChosen (c .question)) (c .site .size)) (sym e)
-        ∙ pairs-back (map pairOf F) (λ q i. let (t, mt, f) = map-mem pairOf F q i in subst (λ (u : Pair). IsAction p (setOf u)) (sym f) (tuple-action p (good c A) t (picks-inside c A F P t mt))) (subst Once (sym m) (distinct-once F (picks-distinct c F P))) (subst (λ (t : List ℕ). length t ≤ textLimit) (sym e) h)
+        ∙ pairs-back (map pairOf F) (λ q i. let (t, mt, f) = map-mem pairOf F q i in subst (λ (u : Pair). IsPair p u) (sym f) (tuple-pair p (good c A) t (picks-inside c A F P t mt))) (subst Once (sym m) (distinct-once F (picks-distinct c F P))) (subst (λ (t : List ℕ). length t ≤ textLimit) (sym e) h)
         ∙ ap accepted m
 
     -- and whatever text is read as these picks is that sheet

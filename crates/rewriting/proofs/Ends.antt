@@ -4,13 +4,13 @@ use native.Mathlib.Omega.{arith}
 use mathlib.Core.Path.{_≡_, refl, sym, ap, subst, _∙_}
 use mathlib.Core.Bool.{Bool, true, false, _&&_}
 use mathlib.Core.List.{List, [], _∷_, _++_, map, append-assoc}
-use lib.ListN.{length, drop, length-append}
+use lib.ListN.{length, drop, length-append, length-map}
 use lib.Seq.{slice, drop-drop}
 use lib.Dec.{eqb}
 use Rattle.definitions.specs.Lists.{any, same, option}
 use Rattle.definitions.specs.Text.{isCapital, isBetween, isDigit}
 use Rattle.definitions.specs.Relations.{Relation, numberOf}
-use Rattle.definitions.specs.Formula.{Formula, literal, Quant, quant, quantWord, writeVars, writeList, write, span, isKnown}
+use Rattle.definitions.specs.Formula.{Formula, literal, Quant, quant, quantWord, writeVars, writeList, write, span, isKnown, sortOf}
 use Rattle.definitions.specs.Writing.{IsWord, name-is, span-in, span-append, inside-first}
 use Rattle.definitions.specs.Tree.{Tree, nodes, nest, leafOf}
 use Rattle.names.specs.Signatures.{allOf}
@@ -35,8 +35,12 @@ use Rattle.rewriting.proofs.Words.{vars-in}
 regroup : (v vs m : List ℕ) → ((v ++ vs) ++ (41 ∷ 32 ∷ [])) ++ m ≡ v ++ (vs ++ (41 ∷ 32 ∷ m))
 regroup v vs m = simp append-assoc
 
-nest-rows : {t p x u : Rows} (b : Bool) (q : Quant) (d k : ℕ) (T : Tree) → Adds t [] k p → Adds p (post (p .nodes) T) (length (nodes T)) x → Adds x (chain (quantKind b q) (t .nodes) d k) 0 u → Adds t (post (t .nodes) (nest (quantNode b q) d k T)) (length (nodes (nest (quantNode b q) d k T))) u
-nest-rows {t} {p} {x} {u} b q d k T a c e = adds-as (ap (λ (n : ℕ). post n T ++ chain (quantKind b q) (t .nodes) d k) (a .nodes) ∙ sym (post-nest b q (t .nodes) d k T)) (omega (arith, nodes-nest b q d k T)) (adds-both a (adds-both c e))
+nest-rows : {t p x u : Rows} (b : Bool) (q : Quant) (d : ℕ) (ks : List ℕ) (k : ℕ) (T : Tree) → length ks ≡ k → Adds t [] k p → Adds p (post (p .nodes) T) (length (nodes T)) x
+    → Adds x (chain (quantKind b q) (t .nodes) d k) 0 u → Adds t (post (t .nodes) (nest (quantNode b q) d ks T)) (length (nodes (nest (quantNode b q) d ks T))) u
+nest-rows {t} {p} {x} {u} b q d ks k T l a c e =
+    let rows : post (t .nodes) (nest (quantNode b q) d ks T) ≡ post (t .nodes + k) T ++ chain (quantKind b q) (t .nodes) d k =
+    post-nest b q (t .nodes) d ks T ∙ ap (λ (m : ℕ). post (t .nodes + m) T ++ chain (quantKind b q) (t .nodes) d m) l in
+    adds-as (ap (λ (n : ℕ). post n T ++ chain (quantKind b q) (t .nodes) d k) (a .nodes) ∙ sym rows) (omega (arith, nodes-nest b q d ks T)) (adds-both a (adds-both c e))
 
 module _ {s : List ℕ} {at : ℕ} {g : Signature} {sc : Scope} {t : Rows} (q : Quant) (w : Ready s at g sc t) (v : IsQuant q (w .f)) where
   pub quant-fine : Fine (allOf s g) (names s sc) (t .len) (t .nodes) (quant q (v .v ∷ v .vs) (v .g))
@@ -90,11 +94,12 @@ module _ {s : List ℕ} {at : ℕ} {g : Signature} {sc : Scope} {t : Rows} (q : 
       quant-done u U = record {
         place = quant-place;
         adds = as-tree (ap (λ (f : Formula). treeIn b (allOf s g) (names s sc) f) (v .is) ∙ tree-quant (allOf s g) (names s sc) b q (v .v ∷ v .vs) (v .g) ∙ same)
-            (nest-rows b q (sc .n) k (treeIn b (allOf s g) (names s (d .scope)) (v .g)) (adds-number t k (w .fixed .long)) (X .adds) U);
+            (nest-rows b q (sc .n) (map sortOf (v .v ∷ v .vs)) k (treeIn b (allOf s g) (names s (d .scope)) (v .g)) (length-map (v .v ∷ v .vs) sortOf ∙ sym quant-many) (adds-number t k (w .fixed .long)) (X .adds) U);
       }
         where
-          same : nest (quantNode b q) (length (names s sc)) (length (v .v ∷ v .vs)) (treeIn b (allOf s g) (names s sc ++ (v .v ∷ v .vs)) (v .g)) ≡ nest (quantNode b q) (sc .n) k (treeIn b (allOf s g) (names s (d .scope)) (v .g))
-          same = rw (length-names s sc, quant-many, D .scope)
+          same : nest (quantNode b q) (length (names s sc)) (map sortOf (v .v ∷ v .vs)) (treeIn b (allOf s g) (names s sc ++ (v .v ∷ v .vs)) (v .g))
+              ≡ nest (quantNode b q) (sc .n) (map sortOf (v .v ∷ v .vs)) (treeIn b (allOf s g) (names s (d .scope)) (v .g))
+          same = rw (length-names s sc, D .scope)
 
 -- ---- a literal
 pub none-row : (b : Bool) (kind k : ℕ) → kind ≡ leafKind b → record { kind = kind; which = k; many = 0; width = 0; levels = 0 ∷ 0 ∷ 0 ∷ [] } ≡ leafRow b k []

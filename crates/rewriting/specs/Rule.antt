@@ -22,7 +22,7 @@ use Rattle.tables.specs.Postorder.{Rows}
 
 -- "for all a some b" of a relation; what a relation adds by the number of its kind
 abbrev pub totalityOf : ℕ → Tree
-totalityOf r = forallNode 0 (existsNode 1 (leaf true r (0 ∷ 1 ∷ [])))
+totalityOf r = forallNode 0 0 (existsNode 1 0 (leaf true r (0 ∷ 1 ∷ [])))
 
 unfoldable pub oneTotality : ℕ → ℕ → Trees
 oneTotality k r = if isTotal (kindOf k) then totalityOf r then end else end

@@ -5,12 +5,12 @@ use mathlib.Core.Path.{_≡_, refl, ap}
 use mathlib.Core.Option.{Option, none, some}
 use mathlib.Core.Bool.{Bool, true, false, not, _&&_, _||_}
 use mathlib.Core.List.{List, [], _∷_, _++_, map}
-use lib.ListN.{length, getD, length-append}
+use lib.ListN.{length, getD, length-append, length-map}
 use lib.Dec.{eqb}
 use borrow.Author.Tests.{eqb-true}
 use Rattle.definitions.specs.Lists.{any, same, option, position}
 use Rattle.definitions.specs.Relations.{Relation, static, numberOf}
-use Rattle.definitions.specs.Formula.{Formula, Formulas, literal, negation, implication, conjunction, disjunction, exists, forall, nil, cons, Join, ands, ors, Quant, somes, everys, nesting, nestingAll, isKnown, areKnown}
+use Rattle.definitions.specs.Formula.{Formula, Formulas, literal, negation, implication, conjunction, disjunction, exists, forall, nil, cons, Join, ands, ors, Quant, somes, everys, nesting, nestingAll, isKnown, areKnown, sortOf}
 use Rattle.definitions.specs.Tree.{Tree, Trees, end, _then_, nest, leafOf}
 use Rattle.definitions.specs.Writing.{and-l, and-r}
 use Rattle.names.proofs.Laws.{position-some}
@@ -37,10 +37,6 @@ levels-low sc [] (suc i) h = omega arith
 levels-low sc (v ∷ vs) zero h = position-lt (same v) sc [] 4 h (omega arith)
 levels-low sc (v ∷ vs) (suc i) h = levels-low sc vs i h
 
-pub length-map : {A B : Type 0} (f : A → B) (l : List A) → length (map f l) ≡ length l
-length-map f [] = refl
-length-map f (x ∷ l) = ap suc (length-map f l)
-
 pub known-few : (rs : List Relation) (n : List ℕ) (m : ℕ) → FewPlaces rs → any (λ (k : Relation). same (k .name) n && eqb (k .arity) m) rs ≡ true → m ≤ 3
 unfolding FewPlaces any
 known-few [] n m h e = let z : _≡_ {A = ℕ} 0 1 = cc in absurd (omega arith)
@@ -52,17 +48,17 @@ known-few (r ∷ rs) n m h e = go (same (r .name) n) (eqb (r .arity) m) refl e (
     go false b q x f = f x
 
 -- ---- quantifiers
-small-quant : (rels : ℕ) (b : Bool) (q : Quant) (d : ℕ) (t : Tree) → d < 4 → Small rels t → Small rels (quantNode b q d t)
+small-quant : (rels : ℕ) (b : Bool) (q : Quant) (d σ : ℕ) (t : Tree) → d < 4 → Small rels t → Small rels (quantNode b q d σ t)
 unfolding Small
-small-quant rels true somes d t h s = (h, s)
-small-quant rels true everys d t h s = (h, s)
-small-quant rels false somes d t h s = (h, s)
-small-quant rels false everys d t h s = (h, s)
+small-quant rels true somes d σ t h s = (h, s)
+small-quant rels true everys d σ t h s = (h, s)
+small-quant rels false somes d σ t h s = (h, s)
+small-quant rels false everys d σ t h s = (h, s)
 
-small-nest : (rels : ℕ) (b : Bool) (q : Quant) (d k : ℕ) (t : Tree) → d + k ≤ 4 → Small rels t → Small rels (nest (quantNode b q) d k t)
+small-nest : (rels : ℕ) (b : Bool) (q : Quant) (d : ℕ) (ks : List ℕ) (t : Tree) → d + length ks ≤ 4 → Small rels t → Small rels (nest (quantNode b q) d ks t)
 unfolding nest
-small-nest rels b q d zero t h s = s
-small-nest rels b q d (suc k) t h s = small-quant rels b q d (nest (quantNode b q) (suc d) k t) (omega arith) (small-nest rels b q (suc d) k t (omega arith) s)
+small-nest rels b q d [] t h s = s
+small-nest rels b q d (σ ∷ ks) t h s = small-quant rels b q d σ (nest (quantNode b q) (suc d) ks t) (omega arith) (small-nest rels b q (suc d) ks t (omega arith) s)
 
 small-join : (rels : ℕ) (b : Bool) (j : Join) (ts : Trees) → AllSmall rels ts → Small rels (joinNode b j ts)
 unfolding Small
@@ -78,7 +74,7 @@ small-two rels t u a b = (a, (b, tt))
 module _ (rs : List Relation) (few : FewPlaces rs) (some-rels : 0 < length rs) where
   small-lit : (b : Bool) (sc : List (List ℕ)) (n : List ℕ) (vs : List (List ℕ)) → any (λ (k : Relation). same (k .name) n && eqb (k .arity) (length vs)) rs ≡ true → length sc ≤ 4 → Small (length rs) (leafOf b rs sc n vs)
   unfolding leafOf Small numberOf
-  small-lit b sc n vs e h = (position-lt (λ (r : Relation). same (r .name) n) rs (record { name = []; arity = 0; kind = static }) (length rs) (omega arith) some-rels, rw (length-map (λ v. option (position (same v) sc) zero (λ k. k)) vs) (known-few rs n (length vs) few e), λ i. levels-low sc vs i h)
+  small-lit b sc n vs e h = (position-lt (λ (r : Relation). same (r .name) n) rs (record { name = []; arity = 0; kind = static }) (length rs) (omega arith) some-rels, rw (length-map vs (λ v. option (position (same v) sc) zero (λ k. k))) (known-few rs n (length vs) few e), λ i. levels-low sc vs i h)
 
   mutual
     unfolding nesting isKnown Small
@@ -89,8 +85,8 @@ module _ (rs : List Relation) (few : FewPlaces rs) (some-rels : 0 < length rs) w
     tree-small b sc (implication f g) e h = rw (tree-imp rs sc b f g) (small-join (length rs) b ors (treeIn (not b) rs sc f then treeIn b rs sc g then end) (small-two (length rs) (treeIn (not b) rs sc f) (treeIn b rs sc g) (tree-small (not b) sc f (and-l (isKnown rs f) (isKnown rs g) e) (omega arith)) (tree-small b sc g (and-r (isKnown rs f) (isKnown rs g) e) (omega arith))))
     tree-small b sc (conjunction fs) e h = rw (tree-join rs sc b ands fs) (small-join (length rs) b ands (treesIn b rs sc fs) (trees-small b sc fs e h))
     tree-small b sc (disjunction fs) e h = rw (tree-join rs sc b ors fs) (small-join (length rs) b ors (treesIn b rs sc fs) (trees-small b sc fs e h))
-    tree-small b sc (exists vs f) e h = rw (tree-quant rs sc b somes vs f) (small-nest (length rs) b somes (length sc) (length vs) (treeIn b rs (sc ++ vs) f) (omega arith) (tree-small b (sc ++ vs) f e (omega (arith, length-append sc vs))))
-    tree-small b sc (forall vs f) e h = rw (tree-quant rs sc b everys vs f) (small-nest (length rs) b everys (length sc) (length vs) (treeIn b rs (sc ++ vs) f) (omega arith) (tree-small b (sc ++ vs) f e (omega (arith, length-append sc vs))))
+    tree-small b sc (exists vs f) e h = rw (tree-quant rs sc b somes vs f) (small-nest (length rs) b somes (length sc) (map sortOf vs) (treeIn b rs (sc ++ vs) f) (omega (arith, length-map vs sortOf)) (tree-small b (sc ++ vs) f e (omega (arith, length-append sc vs))))
+    tree-small b sc (forall vs f) e h = rw (tree-quant rs sc b everys vs f) (small-nest (length rs) b everys (length sc) (map sortOf vs) (treeIn b rs (sc ++ vs) f) (omega (arith, length-map vs sortOf)) (tree-small b (sc ++ vs) f e (omega (arith, length-append sc vs))))
 
     trees-small : (b : Bool) (sc : List (List ℕ)) (fs : Formulas) → areKnown rs fs ≡ true → length sc + nestingAll fs ≤ 4 → AllSmall (length rs) (treesIn b rs sc fs)
     trees-small b sc nil e h = rw (trees-nil rs sc b) tt

@@ -3,10 +3,10 @@ use Prim.Native.Nat.{ℕ, zero, suc, _+_, _-_, _≤_}
 use native.Mathlib.Omega.{arith}
 use mathlib.Core.Path.{_≡_, refl, sym, ap, _∙_}
 use mathlib.Core.Bool.{Bool, true, false, not}
-use mathlib.Core.List.{List, [], _∷_, _++_, append-assoc, append-nil}
-use lib.ListN.{length, length-append}
+use mathlib.Core.List.{List, [], _∷_, _++_, map, append-assoc, append-nil}
+use lib.ListN.{length, length-append, length-map}
 use Rattle.definitions.specs.Relations.{Relation}
-use Rattle.definitions.specs.Formula.{Formula, Formulas, literal, negation, implication, conjunction, disjunction, exists, forall, nil, cons, Join, ands, ors, Quant, somes, everys, join, quant, forms, formsAll}
+use Rattle.definitions.specs.Formula.{Formula, Formulas, literal, negation, implication, conjunction, disjunction, exists, forall, nil, cons, Join, ands, ors, Quant, somes, everys, join, quant, forms, formsAll, sortOf}
 use Rattle.definitions.specs.Tree.{Tree, Trees, leaf, forallNode, existsNode, andNode, orNode, end, _then_, nest, leafOf, asIs, negated, allAsIs, allNegated, nodes, nodesAll, howMany}
 use Rattle.tables.specs.Postorder.{post, postAll, inner, innerAll, quantRow, joinRow}
 use Rattle.tables.specs.declared.Row.{Row}
@@ -33,11 +33,11 @@ joinKind true ors = 3
 joinKind false ands = 3
 joinKind false ors = 2
 
-abbrev pub quantNode : Bool → Quant → ℕ → Tree → Tree
-quantNode true somes d t = existsNode d t
-quantNode true everys d t = forallNode d t
-quantNode false somes d t = forallNode d t
-quantNode false everys d t = existsNode d t
+abbrev pub quantNode : Bool → Quant → ℕ → ℕ → Tree → Tree
+quantNode true somes d σ t = existsNode d σ t
+quantNode true everys d σ t = forallNode d σ t
+quantNode false somes d σ t = forallNode d σ t
+quantNode false everys d σ t = existsNode d σ t
 
 abbrev pub quantKind : Bool → Quant → ℕ
 quantKind true somes = 1
@@ -78,7 +78,7 @@ module _ (rs : List Relation) (sc : List (List ℕ)) where
   trees-cons true f fs = refl
   trees-cons false f fs = refl
 
-  pub tree-quant : (b : Bool) (q : Quant) (vs : List (List ℕ)) (f : Formula) → treeIn b rs sc (quant q vs f) ≡ nest (quantNode b q) (length sc) (length vs) (treeIn b rs (sc ++ vs) f)
+  pub tree-quant : (b : Bool) (q : Quant) (vs : List (List ℕ)) (f : Formula) → treeIn b rs sc (quant q vs f) ≡ nest (quantNode b q) (length sc) (map sortOf vs) (treeIn b rs (sc ++ vs) f)
   unfolding treeIn asIs
   tree-quant true somes vs f = refl
   tree-quant true everys vs f = refl
@@ -93,12 +93,12 @@ post-join true ors v ts = refl
 post-join false ands v ts = refl
 post-join false ors v ts = refl
 
-post-quant : (b : Bool) (q : Quant) (v d : ℕ) (t : Tree) → post v (quantNode b q d t) ≡ post (suc v) t ++ (quantRow (quantKind b q) v d ∷ [])
+post-quant : (b : Bool) (q : Quant) (v d σ : ℕ) (t : Tree) → post v (quantNode b q d σ t) ≡ post (suc v) t ++ (quantRow (quantKind b q) v d ∷ [])
 unfolding post
-post-quant true somes v d t = refl
-post-quant true everys v d t = refl
-post-quant false somes v d t = refl
-post-quant false everys v d t = refl
+post-quant true somes v d σ t = refl
+post-quant true everys v d σ t = refl
+post-quant false somes v d σ t = refl
+post-quant false everys v d σ t = refl
 
 -- the rows of k quantifiers one inside the other, the innermost first
 unfoldable pub chain : ℕ → ℕ → ℕ → ℕ → List Row
@@ -113,13 +113,14 @@ chain-out kind v d (suc k) =
     let h : suc d + k ≡ d + suc k = omega arith in
     ap (λ (l : List Row). quantRow kind (suc v + k) (suc d + k) ∷ l) (chain-out kind v d k) ∙ rw (e, h)
 
-pub post-nest : (b : Bool) (q : Quant) (v d k : ℕ) (t : Tree) → post v (nest (quantNode b q) d k t) ≡ post (v + k) t ++ chain (quantKind b q) v d k
+pub post-nest : (b : Bool) (q : Quant) (v d : ℕ) (ks : List ℕ) (t : Tree) → post v (nest (quantNode b q) d ks t) ≡ post (v + length ks) t ++ chain (quantKind b q) v d (length ks)
 unfolding nest chain
-post-nest b q v d zero t = let e : v + 0 ≡ v = omega arith in rw e (sym (append-nil (post v t)))
-post-nest b q v d (suc k) t =
+post-nest b q v d [] t = let e : v + 0 ≡ v = omega arith in rw e (sym (append-nil (post v t)))
+post-nest b q v d (σ ∷ ks) t =
+    let k = length ks in
     let e : suc v + k ≡ v + suc k = omega arith in
-    post-quant b q v d (nest (quantNode b q) (suc d) k t)
-    ∙ ap (λ (l : List Row). l ++ (quantRow (quantKind b q) v d ∷ [])) (post-nest b q (suc v) (suc d) k t)
+    post-quant b q v d σ (nest (quantNode b q) (suc d) ks t)
+    ∙ ap (λ (l : List Row). l ++ (quantRow (quantKind b q) v d ∷ [])) (post-nest b q (suc v) (suc d) ks t)
     ∙ append-assoc (post (suc v + k) t) (chain (quantKind b q) (suc v) (suc d) k) (quantRow (quantKind b q) v d ∷ [])
     ∙ ap (λ (l : List Row). post (suc v + k) t ++ l) (chain-out (quantKind b q) v d k)
     ∙ ap (λ (n : ℕ). post n t ++ chain (quantKind b q) v d (suc k)) e
@@ -132,17 +133,17 @@ nodes-join true ors ts = refl
 nodes-join false ands ts = refl
 nodes-join false ors ts = refl
 
-nodes-quant : (b : Bool) (q : Quant) (d : ℕ) (t : Tree) → length (nodes (quantNode b q d t)) ≡ suc (length (nodes t))
+nodes-quant : (b : Bool) (q : Quant) (d σ : ℕ) (t : Tree) → length (nodes (quantNode b q d σ t)) ≡ suc (length (nodes t))
 unfolding nodes
-nodes-quant true somes d t = refl
-nodes-quant true everys d t = refl
-nodes-quant false somes d t = refl
-nodes-quant false everys d t = refl
+nodes-quant true somes d σ t = refl
+nodes-quant true everys d σ t = refl
+nodes-quant false somes d σ t = refl
+nodes-quant false everys d σ t = refl
 
-pub nodes-nest : (b : Bool) (q : Quant) (d k : ℕ) (t : Tree) → length (nodes (nest (quantNode b q) d k t)) ≡ k + length (nodes t)
+pub nodes-nest : (b : Bool) (q : Quant) (d : ℕ) (ks : List ℕ) (t : Tree) → length (nodes (nest (quantNode b q) d ks t)) ≡ length ks + length (nodes t)
 unfolding nest
-nodes-nest b q d zero t = omega arith
-nodes-nest b q d (suc k) t = omega (arith, nodes-quant b q d (nest (quantNode b q) (suc d) k t), nodes-nest b q (suc d) k t)
+nodes-nest b q d [] t = omega arith
+nodes-nest b q d (σ ∷ ks) t = omega (arith, nodes-quant b q d σ (nest (quantNode b q) (suc d) ks t), nodes-nest b q (suc d) ks t)
 
 inner-join : (b : Bool) (j : Join) (ts : Trees) → inner (joinNode b j ts) ≡ innerAll ts + howMany ts
 unfolding inner
@@ -151,17 +152,17 @@ inner-join true ors ts = refl
 inner-join false ands ts = refl
 inner-join false ors ts = refl
 
-inner-quant : (b : Bool) (q : Quant) (d : ℕ) (t : Tree) → inner (quantNode b q d t) ≡ inner t + 1
+inner-quant : (b : Bool) (q : Quant) (d σ : ℕ) (t : Tree) → inner (quantNode b q d σ t) ≡ inner t + 1
 unfolding inner
-inner-quant true somes d t = refl
-inner-quant true everys d t = refl
-inner-quant false somes d t = refl
-inner-quant false everys d t = refl
+inner-quant true somes d σ t = refl
+inner-quant true everys d σ t = refl
+inner-quant false somes d σ t = refl
+inner-quant false everys d σ t = refl
 
-inner-nest : (b : Bool) (q : Quant) (d k : ℕ) (t : Tree) → inner (nest (quantNode b q) d k t) ≡ inner t + k
+inner-nest : (b : Bool) (q : Quant) (d : ℕ) (ks : List ℕ) (t : Tree) → inner (nest (quantNode b q) d ks t) ≡ inner t + length ks
 unfolding nest
-inner-nest b q d zero t = omega arith
-inner-nest b q d (suc k) t = omega (arith, inner-quant b q d (nest (quantNode b q) (suc d) k t), inner-nest b q (suc d) k t)
+inner-nest b q d [] t = omega arith
+inner-nest b q d (σ ∷ ks) t = omega (arith, inner-quant b q d σ (nest (quantNode b q) (suc d) ks t), inner-nest b q (suc d) ks t)
 
 one : (l : List Row) (x : Row) (n : ℕ) → length l ≡ suc n → length (l ++ (x ∷ [])) ≡ suc (n + 1)
 one l x n e = omega (arith, length-append l (x ∷ []))
@@ -174,8 +175,8 @@ mutual
 
   pub length-post : (v : ℕ) (t : Tree) → length (post v t) ≡ suc (inner t)
   length-post v (leaf p r ls) = refl
-  length-post v (forallNode d t) = one (post (suc v) t) _ (inner t) (length-post (suc v) t)
-  length-post v (existsNode d t) = one (post (suc v) t) _ (inner t) (length-post (suc v) t)
+  length-post v (forallNode d σ t) = one (post (suc v) t) _ (inner t) (length-post (suc v) t)
+  length-post v (existsNode d σ t) = one (post (suc v) t) _ (inner t) (length-post (suc v) t)
   length-post v (andNode ts) = last (postAll (suc v) ts) _ (innerAll ts + howMany ts) (length-postAll (suc v) ts)
   length-post v (orNode ts) = last (postAll (suc v) ts) _ (innerAll ts + howMany ts) (length-postAll (suc v) ts)
 
@@ -187,8 +188,8 @@ mutual
 join-le : (b : Bool) (j : Join) (ts : Trees) (n : ℕ) → innerAll ts + howMany ts ≤ n → suc (inner (joinNode b j ts)) ≤ 1 + n
 join-le b j ts n h = omega (arith, inner-join b j ts)
 
-nest-le : (b : Bool) (q : Quant) (d k n : ℕ) (t : Tree) → suc (inner t) ≤ n → suc (inner (nest (quantNode b q) d k t)) ≤ k + n
-nest-le b q d k n t h = omega (arith, inner-nest b q d k t)
+nest-le : (b : Bool) (q : Quant) (d : ℕ) (ks : List ℕ) (n : ℕ) (t : Tree) → suc (inner t) ≤ n → suc (inner (nest (quantNode b q) d ks t)) ≤ length ks + n
+nest-le b q d ks n t h = omega (arith, inner-nest b q d ks t)
 
 two-le : (t u : Tree) (n m : ℕ) → suc (inner t) ≤ n → suc (inner u) ≤ m → innerAll (t then u then end) + howMany (t then u then end) ≤ n + m
 unfolding inner howMany
@@ -214,8 +215,8 @@ mutual
   rows-le b rs sc (implication f g) = rw (tree-imp rs sc b f g) (join-two b (treeIn (not b) rs sc f) (treeIn b rs sc g) (forms f) (forms g) (rows-le (not b) rs sc f) (rows-le b rs sc g))
   rows-le b rs sc (conjunction fs) = rw (tree-join rs sc b ands fs) (join-le b ands (treesIn b rs sc fs) (formsAll fs) (rows-le-all b rs sc fs))
   rows-le b rs sc (disjunction fs) = rw (tree-join rs sc b ors fs) (join-le b ors (treesIn b rs sc fs) (formsAll fs) (rows-le-all b rs sc fs))
-  rows-le b rs sc (exists vs f) = rw (tree-quant rs sc b somes vs f) (nest-le b somes (length sc) (length vs) (forms f) (treeIn b rs (sc ++ vs) f) (rows-le b rs (sc ++ vs) f))
-  rows-le b rs sc (forall vs f) = rw (tree-quant rs sc b everys vs f) (nest-le b everys (length sc) (length vs) (forms f) (treeIn b rs (sc ++ vs) f) (rows-le b rs (sc ++ vs) f))
+  rows-le b rs sc (exists vs f) = rw (tree-quant rs sc b somes vs f) (omega (arith, length-map vs sortOf, nest-le b somes (length sc) (map sortOf vs) (forms f) (treeIn b rs (sc ++ vs) f) (rows-le b rs (sc ++ vs) f)))
+  rows-le b rs sc (forall vs f) = rw (tree-quant rs sc b everys vs f) (omega (arith, length-map vs sortOf, nest-le b everys (length sc) (map sortOf vs) (forms f) (treeIn b rs (sc ++ vs) f) (rows-le b rs (sc ++ vs) f)))
 
   pub rows-le-all : (b : Bool) (rs : List Relation) (sc : List (List ℕ)) (fs : Formulas) → innerAll (treesIn b rs sc fs) + howMany (treesIn b rs sc fs) ≤ formsAll fs
   rows-le-all b rs sc nil = rw (trees-nil rs sc b) (none-le)

@@ -9,9 +9,9 @@ use lib.ListN.{length}
 use Rattle.bits.specs.Table.{bit}
 use Rattle.definitions.specs.Relations.{isChosen}
 use Rattle.definitions.specs.Atoms.{Problem, relationAt, tuplesOf}
-use Rattle.definitions.specs.Actions.{set, actionNumber}
+use Rattle.definitions.specs.Actions.{set, setStart, actionNumber}
 use Rattle.laws.specs.Booleans.{T-of}
-use Rattle.laws.specs.Numbers.{IsAction}
+use Rattle.laws.specs.Numbers.{IsAction, row-set, row-rank}
 use Rattle.ground.specs.Lines.{relationLine}
 use Rattle.ground.specs.Of.{Is, said}
 use Rattle.ground.specs.declared.Act.the-variants.{Set}
@@ -51,13 +51,16 @@ unfolding said
 set-said r row = refl
 
 module _ (p : Problem) (w : List ℕ) (is : Is p w) (r : ℕ) (l : r < length (p .relations)) where
-  pub set-number : (x : RelationLine) → x ≡ relationLine w r → (row : ℕ) → x .sets + row ≡ actionNumber p (set r row)
+  pub set-number : (x : RelationLine) → x ≡ relationLine w r → (row : ℕ) → isChosen (relationAt p r .kind) ≡ true → row < tuplesOf (p .size) (relationAt p r) → x .sets + row ≡ actionNumber p (set r row)
   unfolding actionNumber
-  set-number x e row = ap (λ (y : ℕ). y + row) (ap (λ (y : RelationLine). y .sets) e ∙ is .sets r (omega arith))
+  set-number x e row t h =
+      let k = relationAt p r in
+      ap (λ (y : ℕ). y + row) (ap (λ (y : RelationLine). y .sets) e ∙ is .sets r (omega arith))
+      ∙ ap (λ (y : ℕ). setStart p r + y) (sym (row-rank (p .size) (p .range) k row (row-set (p .size) (p .range) k row (T-of t) h)))
 
   pub set-is : (row : ℕ) → isChosen (relationAt p r .kind) ≡ true → row < tuplesOf (p .size) (relationAt p r) → IsAction p (set r row)
   unfolding IsAction
-  set-is row t h = (l, T-of t, h)
+  set-is row t h = (l, T-of t, row-set (p .size) (p .range) (relationAt p r) row (T-of t) h)
 
   -- a relation by its line
   module _ (x : RelationLine) (e : x ≡ relationLine w r) (f : ℕ → Bool) where

@@ -19,7 +19,7 @@ use Rattle.definitions.specs.Strips.{mayTake, after, runFrom, run, pickOf}
 use Rattle.definitions.specs.Built.{treeHolds, isTrueAt, isPicked, setSteps, nodeSteps, builtActions, builtSteps}
 use Rattle.laws.specs.Booleans.{T-or, or-l, or-r, T-of, T-true, T-false, T-ext, not-or}
 use Rattle.laws.specs.Tuples.{among-mem, mem-among}
-use Rattle.laws.specs.Numbers.{IsAtom, IsAction, action-at}
+use Rattle.laws.specs.Numbers.{IsAtom, IsAction, action-at, set-below}
 use Rattle.reduction.specs.Means.{Good, means, means-at}
 use Rattle.reduction.specs.Sound.{holds-split, holds-base, holds-pick, OfKinds, tupleAt, initial-at}
 use Rattle.reduction.specs.Does.{Takes}
@@ -27,7 +27,7 @@ use Rattle.reduction.specs.Reader.{Accepted}
 use Rattle.reduction.specs.Grounded.{good}
 use Rattle.reduction.specs.Kinds.{tested-kinds, root-means}
 use Rattle.reduction.specs.Picks.{picks-inside}
-use Rattle.reduction.specs.Pairs.{Pair, setOf, tupleOf, pairs, sets-are, pairs-ready, picked-in, in-picked}
+use Rattle.reduction.specs.Pairs.{Pair, pair-action, setOf, tupleOf, pairs, sets-are, pairs-ready, picked-in, in-picked}
 use Rattle.reduction.specs.Complete.{built-are, built-takes}
 use Rattle.states.specs.Changes.{sort, whose, which, sameAtom, after-at, free-sort, stays}
 use Rattle.states.specs.Tuples.{same-tuple, tuple-step}
@@ -40,7 +40,7 @@ module _ (p : Problem) (G : Good p) where
     gone-is : (r′ row′ : ℕ) → IsAction p (set r′ row′) → any (sameAtom (notTuple r row)) (removes p (set r′ row′)) ≡ sameTuple (tupleAt p r row) (tupleAt p r′ row′)
     unfolding removes any sameAtom sort whose which IsAction
     gone-is r′ row′ v = ap (λ (b : Bool). (eqb r r′ && eqb row row′) || b) (free-sort (notTuple r row) (p .size) (relationAt p r′) r′ row′ refl refl)
-        ∙ or-false (eqb r r′ && eqb row row′) ∙ sym (same-tuple p G r row r′ row′ h (v .2))
+        ∙ or-false (eqb r r′ && eqb row row′) ∙ sym (same-tuple p G r row r′ row′ h (set-below p r′ row′ v))
 
     not-step : (s : State) (r′ row′ : ℕ) → IsAction p (set r′ row′) → after p s (set r′ row′) (atomNumber p (notTuple r row)) ≡ (s (atomNumber p (notTuple r row)) && not (sameTuple (tupleAt p r row) (tupleAt p r′ row′)))
     unfolding IsAtom adds any sameAtom sort
@@ -131,7 +131,7 @@ module _ (p : Problem) (G : Good p) where
         (λ t. mem-among (tupleAt p r row) _ (in-picked p G F (K .inside) _ (among-mem (tupleAt p r row) F t)))
 
     ready : (q : Pair) → List·Memᴰ q (pairs p F) → IsAction p (setOf q)
-    ready q m = pairs-ready p F q m .0
+    ready q m = pair-action p q (pairs-ready p F q m .0)
 
     sets-form : taken p (initial p) (setSteps p F) ≡ taken p (initial p) (map setOf (pairs p F))
     sets-form = ap (taken p (initial p)) (sets-are p F)
@@ -178,7 +178,7 @@ module _ (p : Problem) (G : Good p) where
     unfolding needs all IsAction
     goal-may = may-told p G F (nodesFrom p G F zero) s₃ (proved .1) proveGoal tt
         (λ x m. subst (λ (y : Atom). T (isProofAtom y) × (says p F (nodesFrom p G F zero) y ≡ means p F y)) (sym (List·Memᴰ·eq-of-singleton m)) (part-told p G F (nodesFrom p G F zero) zero (p .root) (λ _. zero) (all-decided zero)))
-        ∙ and-true (means p F (partAtom (p .size) (λ _. zero) zero (p .root))) ∙ means-at p G F zero (p .root) (λ _. zero) (G .root-here) (λ l. G .element)
+        ∙ and-true (means p F (partAtom (p .size) (p .range) (λ _. zero) zero (p .root))) ∙ means-at p G F zero (p .root) (λ _. zero) (G .root-here) (λ l. G .element)
 
     -- ---- the run of the built steps
     takes-run : (l : List Action) (s : State) (i : ℕ) → Takes p G s l → runFrom p s i (map (actionNumber p) l) .state ≡ taken p s l

@@ -4,19 +4,20 @@ use Prim.Native.Nat.{ℕ, zero, suc, _+_, _*_, _<_}
 use mathlib.Core.Path.{_≡_, refl, sym, ap, ap₂, subst, _∙_}
 use mathlib.Core.Logic.{⊎-elim}
 use mathlib.Core.Bool.{Bool, true, false, _&&_, and-true}
+use mathlib.Core.Option.{Option, none, some}
 use mathlib.Core.List.{List, [], _∷_, List·Memᴰ, List·Memᴰ·head, List·Memᴰ·tail, List·Memᴰ·not-nil, List·Memᴰ·cases-cons, List·Memᴰ·eq-of-singleton}
 use native.Mathlib.Omega.{arith}
 use lib.Dec.{T}
 use lib.ListN.{length, getD, take, drop}
-use Rattle.definitions.specs.Lists.{all, from, below}
+use Rattle.definitions.specs.Lists.{all, option, before, upTo}
 use Rattle.definitions.specs.Relations.{Tuple}
-use Rattle.definitions.specs.Tree.{Tree, Trees, leaf, forallNode, existsNode, andNode, orNode, end, _then_, nodes, Part, partsFrom, parts, howMany}
+use Rattle.definitions.specs.Tree.{Tree, Trees, leaf, forallNode, existsNode, andNode, orNode, end, _then_, nodes, Part, partsFrom, parts, howMany, nodeSort}
 use Rattle.definitions.specs.Atoms.{Problem, nodeAt, rowsOf, Atom, guess, proof, goal, tuple, notTuple, freeDomain, freeRange, holdsNode, atomNumber, State}
 use Rattle.definitions.specs.Actions.{Action, proveAnd, proveOr, proveExists, proveForall, Values, withValue, valuesAt, partAtom, partAtoms, underAtom, forallNeeds, needs}
 use Rattle.definitions.specs.Strips.{mayTake}
 use Rattle.definitions.specs.Built.{treeHolds, isTrueAt}
-use Rattle.laws.specs.Booleans.{and-T, T-and-l, T-and-r, T-ext, lt-split}
-use Rattle.laws.specs.Lists.{all-at, all-of, mem-below, below-lt, drop-mem, take-mem}
+use Rattle.laws.specs.Lists.{drop-mem, take-mem}
+use Rattle.laws.specs.Members.{before-some, up-step}
 use Rattle.laws.specs.Numbers.{IsAtom, IsAction}
 use Rattle.reduction.specs.Parts.{Bnd, bnd-with, HereAll, under-forall, under-exists, parts-and, parts-or, head-here, tail-here}
 use Rattle.reduction.specs.Means.{Good, means, here-as, values-bnd, forall-at, means-at, parts-mean}
@@ -27,12 +28,6 @@ pub all-same : {A : Type 0} (f g : A → Bool) (l : List A) → ((x : A) → Lis
 unfolding all
 all-same f g [] h = refl
 all-same f g (x ∷ l) h = ap₂ _&&_ (h x (List·Memᴰ·head refl)) (all-same f g l (λ y m. h y (List·Memᴰ·tail m)))
-
-all-below : (f : ℕ → Bool) (k : ℕ) → all f (below (suc k)) ≡ (f k && all f (below k))
-all-below f k = T-ext (all f (below (suc k))) (f k && all f (below k))
-    (λ t. and-T (f k) _ (all-at f (below (suc k)) t k (mem-below (suc k) k (omega arith)))
-    (all-of f (below k) (λ x m. let l = below-lt k x m in all-at f (below (suc k)) t x (mem-below (suc k) x (omega arith)))))
-    (λ t. all-of f (below (suc k)) (λ x m. ⊎-elim (λ l. all-at f (below k) (T-and-r (f k) _ t) x (mem-below k x l)) (λ e. subst (λ (y : ℕ). T (f y)) (sym e) (T-and-l (f k) _ t)) (lt-split x k (below-lt (suc k) x m))))
 
 -- ---- the atoms that a proof goes by
 unfoldable pub isProofAtom : Atom → Bool
@@ -76,12 +71,12 @@ module _ (p : Problem) (G : Good p) (F : List Tuple) (D : Decided) where
   unfolding isProofAtom says means
   node-told v row e = (tt, rw e)
 
-  pub part-told : (w : ℕ) (t : Tree) (e : Values) → ((row : ℕ) → D w row ≡ true) → Told (partAtom (p .size) e w t)
+  pub part-told : (w : ℕ) (t : Tree) (e : Values) → ((row : ℕ) → D w row ≡ true) → Told (partAtom (p .size) (p .range) e w t)
   unfolding isProofAtom says partAtom
   part-told w (leaf true r ls) e h = (tt, refl)
   part-told w (leaf false r ls) e h = (tt, refl)
-  part-told w (forallNode d t) e h = node-told w _ (h _)
-  part-told w (existsNode d t) e h = node-told w _ (h _)
+  part-told w (forallNode d σ t) e h = node-told w _ (h _)
+  part-told w (existsNode d σ t) e h = node-told w _ (h _)
   part-told w (andNode ts) e h = node-told w _ (h _)
   part-told w (orNode ts) e h = node-told w _ (h _)
 
@@ -95,7 +90,7 @@ module _ (p : Problem) (G : Good p) (F : List Tuple) (D : Decided) where
       proof-or : (xs : List Atom) → ((x : Atom) → List·Memᴰ x xs → Told x) → (x : Atom) → List·Memᴰ x (proof ∷ xs) → Told x
       proof-or xs h x m = ⊎-elim (λ e. subst Told (sym e) proof-told) (λ q. h x q) (List·Memᴰ·cases-cons m)
 
-      parts-told : (ts : Trees) (w : ℕ) (e : Values) → v < w → (x : Atom) → List·Memᴰ x (partAtoms (p .size) e (partsFrom w ts)) → Told x
+      parts-told : (ts : Trees) (w : ℕ) (e : Values) → v < w → (x : Atom) → List·Memᴰ x (partAtoms (p .size) (p .range) e (partsFrom w ts)) → Told x
       unfolding partAtoms partsFrom
       parts-told end w e h x m = absurd (List·Memᴰ·not-nil m)
       parts-told (t then ts) w e h x m = ⊎-elim
@@ -108,16 +103,16 @@ module _ (p : Problem) (G : Good p) (F : List Tuple) (D : Decided) where
       unfolding IsAction needs parts isTrueAt treeHolds all means
       and-may row ts e h =
           may-told (proveAnd v row) (l, subst (λ (t : Tree). row < rowsOf (p .size) t) (sym e) h, (ts, e))
-          (λ x m. proof-or _ (parts-told ts (suc v) (valuesAt (p .size) (andNode ts) row) (omega arith)) x (subst (λ (t : Tree). List·Memᴰ x (proof ∷ partAtoms (p .size) (valuesAt (p .size) t row) (parts v t))) e m))
-          ∙ ap (λ (t : Tree). all (means p F) (proof ∷ partAtoms (p .size) (valuesAt (p .size) t row) (parts v t))) e
+          (λ x m. proof-or _ (parts-told ts (suc v) (valuesAt (p .size) (andNode ts) row) (omega arith)) x (subst (λ (t : Tree). List·Memᴰ x (proof ∷ partAtoms (p .size) (p .range) (valuesAt (p .size) t row) (parts v t))) e m))
+          ∙ ap (λ (t : Tree). all (means p F) (proof ∷ partAtoms (p .size) (p .range) (valuesAt (p .size) t row) (parts v t))) e
           ∙ parts-mean p G F ts (suc v) (valuesAt (p .size) (andNode ts) row) (parts-and p v ts (here-as p G v (andNode ts) l e)) (values-bnd p G (andNode ts) row)
 
       -- `or`: the chosen part
       one-part : (ts : Trees) (w i : ℕ) (e : Values) (d : Part) → HereAll p w ts → Bnd (p .size) e → i < howMany ts
-          → all (means p F) (take 1 (drop i (partAtoms (p .size) e (partsFrom w ts)))) ≡ treeHolds (p .source) F e (getD (partsFrom w ts) i d .tree)
+          → all (means p F) (take 1 (drop i (partAtoms (p .size) (p .range) e (partsFrom w ts)))) ≡ treeHolds (p .source) F e (getD (partsFrom w ts) i d .tree)
       unfolding partAtoms partsFrom howMany all
       one-part end w i e d h b k = absurd (omega arith)
-      one-part (t then ts) w zero e d h b k = and-true (means p F (partAtom (p .size) e w t)) ∙ means-at p G F w t e (head-here p w t ts h) b
+      one-part (t then ts) w zero e d h b k = and-true (means p F (partAtom (p .size) (p .range) e w t)) ∙ means-at p G F w t e (head-here p w t ts h) b
       one-part (t then ts) w (suc i) e d h b k = one-part ts (w + length (nodes t)) i e d (tail-here p w t ts h) b (omega arith)
 
       pub or-may : (row i : ℕ) (ts : Trees) (d : Part) → nodeAt p v ≡ orNode ts → row < rowsOf (p .size) (orNode ts) → i < howMany ts
@@ -126,52 +121,68 @@ module _ (p : Problem) (G : Good p) (F : List Tuple) (D : Decided) where
       or-may row i ts d e h k =
           may-told (proveOr v row i) (l, subst (λ (t : Tree). row < rowsOf (p .size) t) (sym e) h, (ts, e, k))
           (λ x m. proof-or _ (λ y q. parts-told ts (suc v) (valuesAt (p .size) (orNode ts) row) (omega arith) y (drop-mem i _ y (take-mem 1 _ y q))) x
-          (subst (λ (t : Tree). List·Memᴰ x (proof ∷ take 1 (drop i (partAtoms (p .size) (valuesAt (p .size) t row) (parts v t))))) e m))
-          ∙ ap (λ (t : Tree). all (means p F) (proof ∷ take 1 (drop i (partAtoms (p .size) (valuesAt (p .size) t row) (parts v t))))) e
+          (subst (λ (t : Tree). List·Memᴰ x (proof ∷ take 1 (drop i (partAtoms (p .size) (p .range) (valuesAt (p .size) t row) (parts v t))))) e m))
+          ∙ ap (λ (t : Tree). all (means p F) (proof ∷ take 1 (drop i (partAtoms (p .size) (p .range) (valuesAt (p .size) t row) (parts v t))))) e
           ∙ one-part ts (suc v) i (valuesAt (p .size) (orNode ts) row) d (parts-or p v ts (here-as p G v (orNode ts) l e)) (values-bnd p G (orNode ts) row) k
 
       -- `exists`: the part at the element
-      pub exists-may : (row x d : ℕ) (u : Tree) → nodeAt p v ≡ existsNode d u → row < rowsOf (p .size) (existsNode d u) → x < p .size
-          → mayTake p s (proveExists v row x) ≡ treeHolds (p .source) F (withValue (valuesAt (p .size) (existsNode d u) row) d x) u
+      pub exists-may : (row x d σ : ℕ) (u : Tree) → nodeAt p v ≡ existsNode d σ u → row < rowsOf (p .size) (existsNode d σ u) → List·Memᴰ x (p .range σ)
+          → mayTake p s (proveExists v row x) ≡ treeHolds (p .source) F (withValue (valuesAt (p .size) (existsNode d σ u) row) d x) u
       unfolding IsAction needs underAtom all means
-      exists-may row x d u e h k =
-          may-told (proveExists v row x) (l, subst (λ (t : Tree). row < rowsOf (p .size) t) (sym e) h, (d, u, e, k))
-          (λ y m. proof-or (partAtom (p .size) (withValue (valuesAt (p .size) (existsNode d u) row) d x) (suc v) u ∷ []) (λ z q. subst Told (sym (List·Memᴰ·eq-of-singleton q)) (part-told (suc v) u (withValue (valuesAt (p .size) (existsNode d u) row) d x) (λ i. later (suc v) i (omega arith)))) y
-          (subst (λ (t : Tree). List·Memᴰ y (proof ∷ underAtom (p .size) v t row x ∷ [])) e m))
-          ∙ ap (λ (t : Tree). all (means p F) (proof ∷ underAtom (p .size) v t row x ∷ [])) e
-          ∙ and-true (means p F (partAtom (p .size) (withValue (valuesAt (p .size) (existsNode d u) row) d x) (suc v) u))
-          ∙ means-at p G F (suc v) u (withValue (valuesAt (p .size) (existsNode d u) row) d x) (under-exists p v d u (here-as p G v (existsNode d u) l e)) (bnd-with (p .size) _ d x (values-bnd p G (existsNode d u) row) k)
+      exists-may row x d σ u e h k =
+          may-told (proveExists v row x) (l, subst (λ (t : Tree). row < rowsOf (p .size) t) (sym e) h, (d, σ, u, e, k))
+          (λ y m. proof-or (partAtom (p .size) (p .range) (withValue (valuesAt (p .size) (existsNode d σ u) row) d x) (suc v) u ∷ []) (λ z q. subst Told (sym (List·Memᴰ·eq-of-singleton q)) (part-told (suc v) u (withValue (valuesAt (p .size) (existsNode d σ u) row) d x) (λ i. later (suc v) i (omega arith)))) y
+          (subst (λ (t : Tree). List·Memᴰ y (proof ∷ underAtom (p .size) (p .range) v t row x ∷ [])) e m))
+          ∙ ap (λ (t : Tree). all (means p F) (proof ∷ underAtom (p .size) (p .range) v t row x ∷ [])) e
+          ∙ and-true (means p F (partAtom (p .size) (p .range) (withValue (valuesAt (p .size) (existsNode d σ u) row) d x) (suc v) u))
+          ∙ means-at p G F (suc v) u (withValue (valuesAt (p .size) (existsNode d σ u) row) d x) (under-exists p v d σ u (here-as p G v (existsNode d σ u) l e))
+          (bnd-with (p .size) _ d x (values-bnd p G (existsNode d σ u) row) (G .ranged σ .small x k))
 
-      -- `forall`: the part at z and, past 0, the node's own atom at z−1
-      module _ (row d : ℕ) (u : Tree) (e : nodeAt p v ≡ forallNode d u) where
+      -- `forall`: the part at z and, where its range has an element before z, the node's own atom at that
+      module _ (row d σ : ℕ) (u : Tree) (e : nodeAt p v ≡ forallNode d σ u) where
         abbrev at : ℕ → Bool
-        at x = treeHolds (p .source) F (withValue (valuesAt (p .size) (forallNode d u) row) d x) u
+        at x = treeHolds (p .source) F (withValue (valuesAt (p .size) (forallNode d σ u) row) d x) u
 
-        under-told : (x : ℕ) → Told (underAtom (p .size) v (forallNode d u) row x)
+        under-told : (x : ℕ) → Told (underAtom (p .size) (p .range) v (forallNode d σ u) row x)
         unfolding underAtom
-        under-told x = part-told (suc v) u (withValue (valuesAt (p .size) (forallNode d u) row) d x) (λ i. later (suc v) i (omega arith))
+        under-told x = part-told (suc v) u (withValue (valuesAt (p .size) (forallNode d σ u) row) d x) (λ i. later (suc v) i (omega arith))
 
-        under-means : (x : ℕ) → x < p .size → means p F (underAtom (p .size) v (forallNode d u) row x) ≡ at x
+        under-means : (x : ℕ) → List·Memᴰ x (p .range σ) → means p F (underAtom (p .size) (p .range) v (forallNode d σ u) row x) ≡ at x
         unfolding underAtom
-        under-means x k = means-at p G F (suc v) u (withValue (valuesAt (p .size) (forallNode d u) row) d x) (under-forall p v d u (here-as p G v (forallNode d u) l e)) (bnd-with (p .size) _ d x (values-bnd p G (forallNode d u) row) k)
+        under-means x m =
+            means-at p G F (suc v) u (withValue (valuesAt (p .size) (forallNode d σ u) row) d x) (under-forall p v d σ u (here-as p G v (forallNode d σ u) l e))
+            (bnd-with (p .size) _ d x (values-bnd p G (forallNode d σ u) row) (G .ranged σ .small x m))
 
-        needs-told : (z : ℕ) → ((i : ℕ) → i < z → D v (row * p .size + i) ≡ true) → (x : Atom) → List·Memᴰ x (forallNeeds (p .size) v (forallNode d u) row z) → Told x
-        unfolding forallNeeds
-        needs-told zero own x m = subst Told (sym (List·Memᴰ·eq-of-singleton m)) (under-told 0)
-        needs-told (suc z) own x m = ⊎-elim (λ q. subst Told (sym q) (under-told (suc z))) (λ q. subst Told (sym (List·Memᴰ·eq-of-singleton q)) (node-told v (row * p .size + z) (own z (omega arith)))) (List·Memᴰ·cases-cons m)
+        -- the atoms at the element before z
+        abbrev ownAt : Option ℕ → List Atom
+        ownAt o = option o [] (λ y. holdsNode v (row * p .size + y) ∷ [])
 
-        needs-mean : (z : ℕ) → z < p .size → all (means p F) (forallNeeds (p .size) v (forallNode d u) row z) ≡ all at (below (suc z))
-        unfolding forallNeeds all means below from
-        needs-mean zero k = ap (λ (b : Bool). b && true) (under-means 0 k)
-        needs-mean (suc z) k =
-            ap₂ (λ (a b : Bool). a && (b && true)) (under-means (suc z) k) (ap (λ (t : Tree). isTrueAt p F t (row * p .size + z)) e ∙ forall-at p G F d u row z (omega arith))
-            ∙ ap (λ (b : Bool). at (suc z) && b) (and-true (all at (below (suc z)))) ∙ sym (all-below at (suc z))
+        own-told : (o : Option ℕ) → ((y : ℕ) → o ≡ some y → D v (row * p .size + y) ≡ true) → (x : Atom) → List·Memᴰ x (ownAt o) → Told x
+        unfolding option
+        own-told none h x m = absurd (List·Memᴰ·not-nil m)
+        own-told (some y) h x m = subst Told (sym (List·Memᴰ·eq-of-singleton m)) (node-told v (row * p .size + y) (h y refl))
 
-        pub forall-may : (z : ℕ) → row < rowsOf (p .size) (forallNode d u) → z < p .size → ((i : ℕ) → i < z → D v (row * p .size + i) ≡ true)
-            → mayTake p s (proveForall v row z) ≡ isTrueAt p F (forallNode d u) (row * p .size + z)
+        needs-told : (z : ℕ) → ((i : ℕ) → i < z → D v (row * p .size + i) ≡ true) → (x : Atom) → List·Memᴰ x (forallNeeds (p .size) (p .range) v (forallNode d σ u) row z) → Told x
+        unfolding forallNeeds nodeSort
+        needs-told z own x m = ⊎-elim (λ q. subst Told (sym q) (under-told z))
+            (λ q. own-told (before (p .range σ) z) (λ y b. own y (before-some (p .range σ) z y (G .ranged σ .ascends) b .1)) x q) (List·Memᴰ·cases-cons m)
+
+        own-mean : (z : ℕ) (o : Option ℕ) → before (p .range σ) z ≡ o → all (means p F) (ownAt o) ≡ option o true (λ y. all at (upTo (p .range σ) y))
+        unfolding option all means
+        own-mean z none b = refl
+        own-mean z (some y) b =
+            and-true (isTrueAt p F (nodeAt p v) (row * p .size + y)) ∙ ap (λ (t : Tree). isTrueAt p F t (row * p .size + y)) e
+            ∙ forall-at p G F d σ u row y (before-some (p .range σ) z y (G .ranged σ .ascends) b .0)
+
+        needs-mean : (z : ℕ) → List·Memᴰ z (p .range σ) → all (means p F) (forallNeeds (p .size) (p .range) v (forallNode d σ u) row z) ≡ all at (upTo (p .range σ) z)
+        unfolding forallNeeds nodeSort all
+        needs-mean z m = ap₂ _&&_ (under-means z m) (own-mean z (before (p .range σ) z) refl) ∙ sym (up-step at (p .range σ) z (G .ranged σ .ascends) m)
+
+        pub forall-may : (z : ℕ) → row < rowsOf (p .size) (forallNode d σ u) → List·Memᴰ z (p .range σ) → ((i : ℕ) → i < z → D v (row * p .size + i) ≡ true)
+            → mayTake p s (proveForall v row z) ≡ isTrueAt p F (forallNode d σ u) (row * p .size + z)
         unfolding IsAction needs all means
         forall-may z h k own =
-            may-told (proveForall v row z) (l, subst (λ (t : Tree). row < rowsOf (p .size) t) (sym e) h, (d, u, e, k))
-            (λ x m. proof-or _ (needs-told z own) x (subst (λ (t : Tree). List·Memᴰ x (proof ∷ forallNeeds (p .size) v t row z)) e m))
-            ∙ ap (λ (t : Tree). all (means p F) (proof ∷ forallNeeds (p .size) v t row z)) e
-            ∙ needs-mean z k ∙ sym (forall-at p G F d u row z k)
+            may-told (proveForall v row z) (l, subst (λ (t : Tree). row < rowsOf (p .size) t) (sym e) h, (d, σ, u, e, k))
+            (λ x m. proof-or _ (needs-told z own) x (subst (λ (t : Tree). List·Memᴰ x (proof ∷ forallNeeds (p .size) (p .range) v t row z)) e m))
+            ∙ ap (λ (t : Tree). all (means p F) (proof ∷ forallNeeds (p .size) (p .range) v t row z)) e
+            ∙ needs-mean z k ∙ sym (forall-at p G F d σ u row z k)

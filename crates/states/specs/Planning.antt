@@ -5,23 +5,24 @@ use mathlib.Core.Path.{_≡_, refl, sym, ap, ap₂, subst, _∙_, fun-ext}
 use mathlib.Core.Logic.{_⊎_, inl, inr, ⊎-elim}
 use mathlib.Core.Bool.{Bool, true, false, not, _&&_, _||_, or-false}
 use mathlib.Core.Option.{Option, none, some}
-use mathlib.Core.List.{List, [], _∷_, _++_, map, append-assoc, append-nil}
+use mathlib.Core.List.{List, [], _∷_, _++_, map, append-assoc, append-nil, List·Memᴰ}
 use native.Mathlib.Omega.{arith}
 use native.Mathlib.Nat.{add-zero, zero-add, mod-lt, div-lt-iff-lt-mul, div-add-mod'}
 use lib.Dec.{T, ltb, leb, eqb, ltb→lt, lt→ltb, leb→le, le→leb, eqb→eq}
 use borrow.Author.Tests.{eq-eqb}
 use lib.ListN.{length, getD, take}
 use lib.Seq.{take-suc, length-take-le}
-use Rattle.definitions.specs.Lists.{if_then_else_, any, filter, option, position, from, below}
+use Rattle.definitions.specs.Lists.{if_then_else_, all, any, filter, option, position, from, below, isIn, rank, upTo}
 use Rattle.definitions.specs.Relations.{Tuple}
-use Rattle.definitions.specs.Tree.{Tree, Trees, leaf, forallNode, existsNode, andNode, orNode, end, _then_, nodes, Part, partsFrom, parts, howMany, isForall}
+use Rattle.definitions.specs.Tree.{Tree, Trees, leaf, forallNode, existsNode, andNode, orNode, end, _then_, nodes, Part, partsFrom, parts, howMany, isForall, nodeSort}
 use Rattle.definitions.specs.Atoms.{Problem, nodeAt, rowsOf, nodeWidth, Atom, guess, proof, goal, tuple, notTuple, freeDomain, freeRange, holdsNode, atomNumber, State}
 use Rattle.definitions.specs.Actions.{Action, proveAnd, proveOr, proveExists, proveForall, choices, proveNode, withValue, valuesAt, adds, removes}
 use Rattle.definitions.specs.Strips.{mayTake, after}
 use Rattle.definitions.specs.Built.{treeHolds, isTrueAt, least, stepFor, trueRows, nodeSteps}
 use Rattle.laws.specs.Booleans.{and-T, T-and-l, T-and-r, T-or, or-l, or-r, T-of, T-true, T-ext, lt-split}
-use Rattle.laws.specs.Lists.{length-below, getD-below}
-use Rattle.laws.specs.Positions.{place, position-place, place-lt, least-place, least-below, position-none}
+use Rattle.laws.specs.Lists.{getD-mem}
+use Rattle.laws.specs.Members.{in-mem, select-rank, least-in}
+use Rattle.laws.specs.Positions.{place, position-place, place-lt, least-place, position-none}
 use Rattle.laws.specs.Numbers.{IsAtom, IsAction, noNode}
 use Rattle.reduction.specs.Means.{Good, means}
 use Rattle.reduction.specs.Does.{some-any}
@@ -39,25 +40,25 @@ unfoldable pub when : {A : Type 0} → Bool → A → Option A
 when true a = some a
 when false a = none
 
--- the row of values, and the first and how many of the parts, elements or zs, that the actions for the atom j of a node have: a `forall`
--- has an atom and an action for each z
+-- the row of values, and the first and how many of the parts or elements, that the actions for the atom j of a node have: a `forall`
+-- has an action for each of its atoms at an element of its range, and none for the others
 unfoldable pub rowIn : ℕ → Tree → ℕ → ℕ
 rowIn n t j = if isForall t then j / n else j
 
-unfoldable pub firstTry : ℕ → Tree → ℕ → ℕ
-firstTry n t j = if isForall t then j % n else zero
+unfoldable pub firstTry : ℕ → (ℕ → List ℕ) → Tree → ℕ → ℕ
+firstTry n R t j = if isForall t then rank (R (nodeSort t)) (j % n) else zero
 
-unfoldable pub tries : ℕ → Tree → ℕ
-tries n t = if isForall t then 1 else choices n t
+unfoldable pub tries : ℕ → (ℕ → List ℕ) → Tree → ℕ → ℕ
+tries n R t j = if isForall t then (if isIn (j % n) (R (nodeSort t)) then 1 else zero) else choices R t
 
 -- the i-th action for the atom j of the node v, t
-unfoldable pub tryAt : ℕ → ℕ → Tree → ℕ → ℕ → Action
-tryAt n v t j i = proveNode t v (rowIn n t j) (firstTry n t j + i)
+unfoldable pub tryAt : ℕ → (ℕ → List ℕ) → ℕ → Tree → ℕ → ℕ → Action
+tryAt n R v t j i = proveNode R t v (rowIn n t j) (firstTry n R t j + i)
 
 -- the first of them that may be taken
 unfoldable pub stepNow : Problem → State → ℕ → Tree → ℕ → Option Action
 stepNow p s v t j =
-    option (position (λ i. mayTake p s (tryAt (p .size) v t j i)) (below (tries (p .size) t))) none (λ i. some (tryAt (p .size) v t j i))
+    option (position (λ i. mayTake p s (tryAt (p .size) (p .range) v t j i)) (below (tries (p .size) (p .range) t j))) none (λ i. some (tryAt (p .size) (p .range) v t j i))
 
 -- the steps for k rows of a node, from row j on
 unfoldable pub rowSteps : Problem → ℕ → State → ℕ → ℕ → List Action
@@ -104,11 +105,6 @@ only f g = go (f 0)
     go true = refl
     go false = refl
 
-position-below : (f g : ℕ → Bool) (n : ℕ) → ((x : ℕ) → x < n → f x ≡ g x) → position f (below n) ≡ position g (below n)
-unfolding below
-position-below f g n h = ap (λ (k : ℕ). position f (from 0 k)) (sym (length-below n)) ∙ position-same f g (below n) 0 0
-    (λ i k. let l : i < n = subst (λ (m : ℕ). i < m) (length-below n) k in h (0 + i) (subst (λ (m : ℕ). m < n) (sym (zero-add i)) l) ∙ ap g (zero-add i ∙ sym (getD-below n i l)))
-
 length-parts : (ts : Trees) (w : ℕ) → length (partsFrom w ts) ≡ howMany ts
 unfolding partsFrom howMany
 length-parts end w = refl
@@ -120,27 +116,46 @@ module _ (p : Problem) (G : Good p) (F : List Tuple) where
 
   -- ---- the step at a row is the built one, where the atom is true
   module _ (D : Decided) (s : State) (K : Knows p F D s) (v : ℕ) (l : v < length (p .nodeList)) (later : (w row : ℕ) → v < w → D w row ≡ true) where
-    forall-now : (d : ℕ) (u : Tree) → nodeAt p v ≡ forallNode d u → (j : ℕ) → j < nodeWidth (p .size) (forallNode d u) → ((i : ℕ) → i < j → D v i ≡ true)
-        → stepNow p s v (forallNode d u) j ≡ when (isTrueAt p F (forallNode d u) j) (stepFor p F v (forallNode d u) j)
-    unfolding stepNow stepFor nodeWidth isForall tryAt rowIn firstTry tries proveNode
-    forall-now d u e j h own =
-        let k : j / p .size * p .size + j % p .size ≡ j = div-add-mod' j (p .size) in
-        let m : j % p .size < p .size = mod-lt j (G .element) in
-        only (λ i. mayTake p s (proveForall v (j / p .size) (j % p .size + i))) (λ i. proveForall v (j / p .size) (j % p .size + i))
-        ∙ ap₂ when (ap (λ (i : ℕ). mayTake p s (proveForall v (j / p .size) i)) (add-zero (j % p .size))
-        ∙ forall-may p G F D s K v l later (j / p .size) d u e (j % p .size) (div-lt-iff-lt-mul (G .element) .1 h) m (λ i q. own (j / p .size * p .size + i) (omega arith))
-        ∙ ap (isTrueAt p F (forallNode d u)) k) (ap (proveForall v (j / p .size)) (add-zero (j % p .size)))
+    module _ (d σ : ℕ) (u : Tree) (e : nodeAt p v ≡ forallNode d σ u) (j : ℕ) (h : j < nodeWidth (p .size) (forallNode d σ u)) (own : (i : ℕ) → i < j → D v i ≡ true) where
+      abbrev upTo-z : Bool
+      upTo-z = all (λ x. treeHolds (p .source) F (withValue (valuesAt (p .size) (forallNode d σ u) (j / p .size)) d x) u) (upTo (p .range σ) (j % p .size))
 
-    exists-now : (d : ℕ) (u : Tree) → nodeAt p v ≡ existsNode d u → (j : ℕ) → j < nodeWidth (p .size) (existsNode d u)
-        → stepNow p s v (existsNode d u) j ≡ when (isTrueAt p F (existsNode d u) j) (stepFor p F v (existsNode d u) j)
-    unfolding stepNow stepFor nodeWidth isForall isTrueAt treeHolds tryAt rowIn firstTry tries proveNode choices
-    exists-now d u e j h =
-        let g : ℕ → Bool = λ x. treeHolds (p .source) F (withValue (valuesAt (p .size) (existsNode d u) j) d x) u in
+      forall-step : (b : Bool) → isIn (j % p .size) (p .range σ) ≡ b
+          → option (position (λ i. mayTake p s (proveForall v (j / p .size) (getD (p .range σ) (rank (p .range σ) (j % p .size) + i) 0))) (below (if b then 1 else zero))) none (λ i. some (proveForall v (j / p .size) (getD (p .range σ) (rank (p .range σ) (j % p .size) + i) 0)))
+          ≡ when (b && upTo-z) (proveForall v (j / p .size) (j % p .size))
+      unfolding nodeWidth isForall option position below from when isTrueAt
+      forall-step false i = refl
+      forall-step true i =
+          let R : List ℕ = p .range σ in
+          let z : ℕ = j % p .size in
+          let row : ℕ = j / p .size in
+          let m : List·Memᴰ z R = in-mem z R (T-of i) in
+          let k : row * p .size + z ≡ j = div-add-mod' j (p .size) in
+          let at : getD R (rank R z + 0) 0 ≡ z = ap (λ (y : ℕ). getD R y 0) (add-zero (rank R z)) ∙ select-rank R z m in
+          only (λ i. mayTake p s (proveForall v row (getD R (rank R z + i) 0))) (λ i. proveForall v row (getD R (rank R z + i) 0))
+          ∙ ap (λ (y : ℕ). when (mayTake p s (proveForall v row y)) (proveForall v row y)) at
+          ∙ ap (λ (b : Bool). when b (proveForall v row z))
+          (forall-may p G F D s K v l later row d σ u e z (div-lt-iff-lt-mul (G .element) .1 h) m (λ i q. own (row * p .size + i) (omega arith))
+          ∙ ap (isTrueAt p F (forallNode d σ u)) k ∙ ap (λ (b : Bool). b && upTo-z) i)
+
+    forall-now : (d σ : ℕ) (u : Tree) → nodeAt p v ≡ forallNode d σ u → (j : ℕ) → j < nodeWidth (p .size) (forallNode d σ u) → ((i : ℕ) → i < j → D v i ≡ true)
+        → stepNow p s v (forallNode d σ u) j ≡ when (isTrueAt p F (forallNode d σ u) j) (stepFor p F v (forallNode d σ u) j)
+    unfolding stepNow stepFor isForall isTrueAt tryAt rowIn firstTry tries proveNode nodeSort
+    forall-now d σ u e j h own = forall-step d σ u e j h own (isIn (j % p .size) (p .range σ)) refl
+
+    exists-now : (d σ : ℕ) (u : Tree) → nodeAt p v ≡ existsNode d σ u → (j : ℕ) → j < nodeWidth (p .size) (existsNode d σ u)
+        → stepNow p s v (existsNode d σ u) j ≡ when (isTrueAt p F (existsNode d σ u) j) (stepFor p F v (existsNode d σ u) j)
+    unfolding stepNow stepFor nodeWidth isForall isTrueAt treeHolds tryAt rowIn firstTry tries proveNode choices below
+    exists-now d σ u e j h =
+        let R : List ℕ = p .range σ in
+        let g : ℕ → Bool = λ x. treeHolds (p .source) F (withValue (valuesAt (p .size) (existsNode d σ u) j) d x) u in
+        let by : ℕ → Action = λ i. proveExists v j (getD R i 0) in
         ap₂ (λ (o : Option ℕ) (f : ℕ → Action). option o none (λ x. some (f x)))
-        (position-below (λ x. mayTake p s (proveExists v j (zero + x))) g (p .size) (λ x k. ap (λ (y : ℕ). mayTake p s (proveExists v j y)) (zero-add x) ∙ exists-may p G F D s K v l later j x d u e h k))
-        (fun-ext (λ x. ap (proveExists v j) (zero-add x)))
-        ∙ first-is g (below (p .size)) (proveExists v j)
-        ∙ ap (λ (n : ℕ). when (any g (below n)) (proveExists v j (least g (below (p .size))))) (sym (G .sized))
+        (position-same (λ i. mayTake p s (by (zero + i))) g R 0 0
+        (λ i k. ap (λ (m : ℕ). mayTake p s (by m)) (zero-add (0 + i) ∙ zero-add i) ∙ exists-may p G F D s K v l later j (getD R i 0) d σ u e h (getD-mem R i 0 k)))
+        (fun-ext (λ x. ap by (zero-add x)))
+        ∙ first-is g R by
+        ∙ ap (λ (r : ℕ → List ℕ). when (any g (r σ)) (by (least g R))) (G .ranges)
 
     and-now : (ts : Trees) → nodeAt p v ≡ andNode ts → (j : ℕ) → j < nodeWidth (p .size) (andNode ts) → stepNow p s v (andNode ts) j ≡ when (isTrueAt p F (andNode ts) j) (stepFor p F v (andNode ts) j)
     unfolding stepNow stepFor nodeWidth isForall tryAt rowIn firstTry tries proveNode choices
@@ -162,8 +177,8 @@ module _ (p : Problem) (G : Good p) (F : List Tuple) where
     pub step-now : (t : Tree) → nodeAt p v ≡ t → (j : ℕ) → j < nodeWidth (p .size) t → ((i : ℕ) → i < j → D v i ≡ true) → stepNow p s v t j ≡ when (isTrueAt p F t j) (stepFor p F v t j)
     unfolding stepNow isTrueAt when tries isForall choices position below from option
     step-now (leaf q r ls) e j h own = refl
-    step-now (forallNode d u) e j h own = forall-now d u e j h own
-    step-now (existsNode d u) e j h own = exists-now d u e j h
+    step-now (forallNode d σ u) e j h own = forall-now d σ u e j h own
+    step-now (existsNode d σ u) e j h own = exists-now d σ u e j h
     step-now (andNode ts) e j h own = and-now ts e j h
     step-now (orNode ts) e j h own = or-now ts e j h
 
@@ -171,10 +186,10 @@ module _ (p : Problem) (G : Good p) (F : List Tuple) where
   step-is : (v : ℕ) (t : Tree) → v < length (p .nodeList) → nodeAt p v ≡ t → (j : ℕ) → j < nodeWidth (p .size) t → T (isTrueAt p F t j) → IsAction p (stepFor p F v t j)
   unfolding IsAction stepFor isTrueAt treeHolds nodeWidth isForall parts
   step-is v (leaf q r ls) l e j h t = absurd t
-  step-is v (forallNode d u) l e j h t = (l, subst (λ (x : Tree). j / p .size < rowsOf (p .size) x) (sym e) (div-lt-iff-lt-mul (G .element) .1 h), (d, u, e, mod-lt j (G .element)))
-  step-is v (existsNode d u) l e j h t =
-      let g : ℕ → Bool = λ x. treeHolds (p .source) F (withValue (valuesAt (p .size) (existsNode d u) j) d x) u in
-      (l, subst (λ (x : Tree). j < rowsOf (p .size) x) (sym e) h, (d, u, e, least-below g (p .size) (subst (λ (k : ℕ). T (any g (below k))) (G .sized) t) .0))
+  step-is v (forallNode d σ u) l e j h t = (l, subst (λ (x : Tree). j / p .size < rowsOf (p .size) x) (sym e) (div-lt-iff-lt-mul (G .element) .1 h), (d, σ, u, e, in-mem (j % p .size) (p .range σ) (T-and-l (isIn (j % p .size) (p .range σ)) _ t)))
+  step-is v (existsNode d σ u) l e j h t =
+      let g : ℕ → Bool = λ x. treeHolds (p .source) F (withValue (valuesAt (p .size) (existsNode d σ u) j) d x) u in
+      (l, subst (λ (x : Tree). j < rowsOf (p .size) x) (sym e) h, (d, σ, u, e, least-in g (p .range σ) (subst (λ (r : ℕ → List ℕ). T (any g (r σ))) (sym (G .ranges)) t) .0))
   step-is v (andNode ts) l e j h t = (l, subst (λ (x : Tree). j < rowsOf (p .size) x) (sym e) h, (ts, e))
   step-is v (orNode ts) l e j h t =
       let g : Part → Bool = λ (q : Part). treeHolds (p .source) F (valuesAt (p .size) (orNode ts) j) (q .tree) in
@@ -185,8 +200,8 @@ module _ (p : Problem) (G : Good p) (F : List Tuple) where
   step-adds : (v : ℕ) (t : Tree) (j : ℕ) → T (isTrueAt p F t j) → (adds p (stepFor p F v t j) ≡ holdsNode v j ∷ []) × (removes p (stepFor p F v t j) ≡ [])
   unfolding stepFor isTrueAt adds removes
   step-adds v (leaf q r ls) j t = absurd t
-  step-adds v (forallNode d u) j t = (ap (λ (k : ℕ). holdsNode v k ∷ []) (div-add-mod' j (p .size)), refl)
-  step-adds v (existsNode d u) j t = (refl, refl)
+  step-adds v (forallNode d σ u) j t = (ap (λ (k : ℕ). holdsNode v k ∷ []) (div-add-mod' j (p .size)), refl)
+  step-adds v (existsNode d σ u) j t = (refl, refl)
   step-adds v (andNode ts) j t = (refl, refl)
   step-adds v (orNode ts) j t = (refl, refl)
 

@@ -20,7 +20,7 @@ use Rattle.definitions.specs.Strips.{mayTake, after, Run, runFrom, run, pickOf,
 use Rattle.definitions.specs.Built.{isPicked, chosenNumbers}
 use Rattle.laws.specs.Booleans.{and-T, T-and-l, T-and-r, T-ext, T-false}
 use Rattle.laws.specs.Tuples.{sameTuple-eq, sameTuple-refl}
-use Rattle.laws.specs.Numbers.{IsAtom, IsAction, action-is}
+use Rattle.laws.specs.Numbers.{IsAtom, IsAction, action-is, set-below}
 use Rattle.reduction.specs.Means.{Good}
 use Rattle.reduction.specs.Sound.{picks-cons, holds-empty, tupleAt, same-row, initial-at}
 use Rattle.states.specs.Changes.{sort, whose, which, sameAtom, after-at, free-sort, any-append, stays}
@@ -82,7 +82,7 @@ module _ (p : Problem) (G : Good p) where
 
     come-is : (a : Action) → IsAction p a → any (sameAtom (tuple r row)) (adds p a) ≡ isPicked p (pickOf p a) r row
     unfolding adds any sameAtom sort whose which isPicked pickOf isAmong IsAction
-    come-is (set r′ row′) v = ap (λ (b : Bool). b || false) (sym (same-tuple r row r′ row′ h (v .2)))
+    come-is (set r′ row′) v = ap (λ (b : Bool). b || false) (sym (same-tuple r row r′ row′ h (set-below p r′ row′ v)))
     come-is beginProof v = refl
     come-is (proveAnd w i) v = refl
     come-is (proveOr w i j) v = refl

@@ -443,7 +443,7 @@ module _ (n : ℕ) (g : Relations) (t : Nodes) (l : Layout) (d : List ℕ) (len 
         }
 
 -- ---- of the problem
-module _ (p : Problem) (g : Relations) (t : Nodes) (l : Layout) (d : List ℕ) (len : length d ≡ tableLength) (zeros : Most d 0) (fg : RelationsFit g) (ft : TreeFits t) (inputs : Inputs p (p .size) g t) (starts : Starts p l) where
+module _ (p : Problem) (g : Relations) (t : Nodes) (l : Layout) (d : List ℕ) (len : length d ≡ tableLength) (zeros : Most d 0) (fg : RelationsFit g) (ft : TreeFits t) (some : 0 < p .size) (inputs : Inputs p (p .size) g t) (starts : Starts p l) where
   abbrev W : List ℕ
   W = T (p .size) g t l d len zeros fg ft
 
@@ -482,7 +482,7 @@ module _ (p : Problem) (g : Relations) (t : Nodes) (l : Layout) (d : List ℕ) (
         part = λ k q.
             let c : x .first + k < t .placed = omega (arith, ft .nodes .node v .parts, m) in
             subst (λ (y : PartLine). IsPart p y (getD (parts v (nodeAt p v)) k noTreePart .node) (getD (parts v (nodeAt p v)) k noTreePart .tree)) (sym (part-line (p .size) g t l d len zeros fg ft (x .first + k) c))
-            (part-is p l starts (g .count) (t .count) (inputs .count) counted (getD (t .parts) (x .first + k) noPart) (getD (parts v (nodeAt p v)) k noTreePart .node) (getD (parts v (nodeAt p v)) k noTreePart .tree)
+            (part-is p l starts some (inputs .ranges) (g .count) (t .count) (inputs .count) counted (getD (t .parts) (x .first + k) noPart) (getD (parts v (nodeAt p v)) k noTreePart .node) (getD (parts v (nodeAt p v)) k noTreePart .tree)
             (ft .parts .part (x .first + k)) (inputs .tree .within (x .first + k))
             (ap headIn (sym (getD-drop (x .first) (t .parts) k noPart)) ∙ heads-at (drop (x .first) (t .parts)) (x .many) (parts v (nodeAt p v)) (i .parts) k q));
       })
@@ -491,6 +491,8 @@ module _ (p : Problem) (g : Relations) (t : Nodes) (l : Layout) (d : List ℕ) (
   is-of =
       record {
         size = size-at (p .size) g t l d len zeros fg ft;
+        element = some;
+        ranges = inputs .ranges;
         relations = relations-at (p .size) g t l d len zeros fg ft ∙ inputs .count;
         nodes = nodes-at (p .size) g t l d len zeros fg ft ∙ counted;
         sets = λ r h. sets-at (p .size) g t l d len zeros fg ft r (omega (arith, inputs .count)) ∙ starts .set r h;
@@ -498,7 +500,7 @@ module _ (p : Problem) (g : Relations) (t : Nodes) (l : Layout) (d : List ℕ) (
         acts = λ v h. acts-at (p .size) g t l d len zeros fg ft v (omega (arith, counted)) ∙ starts .act v h;
         node = node-of;
         root = subst (λ (y : PartLine). IsPart p y 0 (p .root)) (sym (root-line (p .size) g t l d len zeros fg ft))
-            (part-is p l starts (g .count) (t .count) (inputs .count) counted (t .root) 0 (p .root) (ft .root) (inputs .tree .top-within) (inputs .tree .top));
+            (part-is p l starts some (inputs .ranges) (g .count) (t .count) (inputs .count) counted (t .root) 0 (p .root) (ft .root) (inputs .tree .top-within) (inputs .tree .top));
       }
 
   ends-of : nodeLine W (nodesIn W) .atoms ≡ atoms p
@@ -513,8 +515,8 @@ filled n g t l d w len zeros some small fg ft sl e nm pm rm =
     subst (Filled n g t l) (sym e)
     (record {
       fits = fits n g t l d len zeros fg ft some small sl nm pm rm;
-      is = λ p i s. subst (λ (m : ℕ). Is p (tableOf m g t l d)) (sym (i .size)) (is-of p g t l d len zeros fg ft (subst (λ (m : ℕ). Inputs p m g t) (i .size) i) s);
-      ends = λ p i s. subst (λ (m : ℕ). nodeLine (tableOf m g t l d) (nodesIn (tableOf m g t l d)) .atoms ≡ atoms p) (sym (i .size)) (ends-of p g t l d len zeros fg ft (subst (λ (m : ℕ). Inputs p m g t) (i .size) i) s);
+      is = λ p i s. subst (λ (m : ℕ). Is p (tableOf m g t l d)) (sym (i .size)) (is-of p g t l d len zeros fg ft (subst (λ (m : ℕ). 0 < m) (i .size) some) (subst (λ (m : ℕ). Inputs p m g t) (i .size) i) s);
+      ends = λ p i s. subst (λ (m : ℕ). nodeLine (tableOf m g t l d) (nodesIn (tableOf m g t l d)) .atoms ≡ atoms p) (sym (i .size)) (ends-of p g t l d len zeros fg ft (subst (λ (m : ℕ). 0 < m) (i .size) some) (subst (λ (m : ℕ). Inputs p m g t) (i .size) i) s);
     })
 
 -- the table after each part is filled

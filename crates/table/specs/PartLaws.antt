@@ -2,16 +2,17 @@
 use mathlib.Core.Path.{_≡_, refl, sym, ap, _∙_}
 use mathlib.Core.Bool.{Bool, true, false}
 use mathlib.Core.List.{List, [], _∷_, map}
-use Prim.Native.Nat.{ℕ, zero, suc, _+_, _-_, _*_, _^_, _≤_}
+use Prim.Native.Nat.{ℕ, zero, suc, _+_, _-_, _*_, _^_, _≤_, _<_}
 use native.Mathlib.Nat.{add-mul, mul-assoc, mul-le-mul}
 use native.Mathlib.Omega.{arith}
 use borrow.Author.Tests.{eq-eqb, ne-eqb}
 use lib.Dec.{eqb}
 use lib.ListN.{length, getD, take}
 use Rattle.definitions.specs.Limits.{actionLimit}
-use Rattle.definitions.specs.Lists.{if_then_else_}
+use Rattle.definitions.specs.Lists.{if_then_else_, below, greatest}
 use Rattle.definitions.specs.Tree.{Tree, leaf, forallNode, existsNode, andNode, orNode, free}
-use Rattle.definitions.specs.Atoms.{Problem, rowOf, atomNumber}
+use Rattle.definitions.specs.Atoms.{Problem, rowOf, holdsNode, atomNumber}
+use Rattle.laws.specs.Members.{greatest-below}
 use Rattle.definitions.specs.Actions.{Values, partAtom}
 use Rattle.tree.specs.Tables.{Head, headFrom, headIn, PartIn, PartFits}
 use Rattle.tree.specs.declared.PartRow.{PartRow}
@@ -125,8 +126,8 @@ part-by-head n l e q f = go (eqb (q .tag) 2)
         omega (arith, z, y)
     go false = ap (λ (x : ℕ). s + x) (sym row)
 
-module _ (p : Problem) (l : Layout) (starts : Starts p l) (rels nodes : ℕ) (rs : rels ≡ length (p .relations)) (ns : nodes ≡ length (p .nodeList)) where
-  by-tree : (e : Values) (v : ℕ) (u : Tree) (q : PartRow) → PartIn rels nodes q → headIn q ≡ headFrom v u → numberBy l (p .size) e (headFrom v u) ≡ atomNumber p (partAtom (p .size) e v u)
+module _ (p : Problem) (l : Layout) (starts : Starts p l) (some : 0 < p .size) (ranges : (s : ℕ) → p .range s ≡ below (p .size)) (rels nodes : ℕ) (rs : rels ≡ length (p .relations)) (ns : nodes ≡ length (p .nodeList)) where
+  by-tree : (e : Values) (v : ℕ) (u : Tree) (q : PartRow) → PartIn rels nodes q → headIn q ≡ headFrom v u → numberBy l (p .size) e (headFrom v u) ≡ atomNumber p (partAtom (p .size) (p .range) e v u)
   unfolding headFrom numberBy rowBy startIn atomNumber partAtom
   by-tree e v (leaf true r ls) q w h =
       let a : q .which ≡ r = ap (λ (h : Head). h .which) h in
@@ -136,14 +137,15 @@ module _ (p : Problem) (l : Layout) (starts : Starts p l) (rels nodes : ℕ) (rs
       let a : q .which ≡ r = ap (λ (h : Head). h .which) h in
       let b : q .tag ≡ 1 = ap (λ (h : Head). h .tag) h in
       ap (λ (x : ℕ). x + rowOf (p .size) (map e ls)) (starts .neg r (omega (arith, w .relation (omega arith), rs)))
-  by-tree e v (forallNode d u) q w h =
+  by-tree e v (forallNode d σ u) q w h =
       let a : q .which ≡ v = ap (λ (h : Head). h .which) h in
       let b : q .tag ≡ 2 = ap (λ (h : Head). h .tag) h in
-      ap (λ (x : ℕ). x + (rowOf (p .size) (map e (free (forallNode d u))) * p .size + (p .size - 1))) (starts .node v (omega (arith, w .node (omega arith), ns)))
-  by-tree e v (existsNode d u) q w h =
+      ap (λ (x : ℕ). x + (rowOf (p .size) (map e (free (forallNode d σ u))) * p .size + (p .size - 1))) (starts .node v (omega (arith, w .node (omega arith), ns)))
+      ∙ ap (λ (z : ℕ). atomNumber p (holdsNode v (rowOf (p .size) (map e (free (forallNode d σ u))) * p .size + z))) (sym (ap greatest (ranges σ) ∙ greatest-below (p .size) some))
+  by-tree e v (existsNode d σ u) q w h =
       let a : q .which ≡ v = ap (λ (h : Head). h .which) h in
       let b : q .tag ≡ 3 = ap (λ (h : Head). h .tag) h in
-      ap (λ (x : ℕ). x + rowOf (p .size) (map e (free (existsNode d u)))) (starts .node v (omega (arith, w .node (omega arith), ns)))
+      ap (λ (x : ℕ). x + rowOf (p .size) (map e (free (existsNode d σ u)))) (starts .node v (omega (arith, w .node (omega arith), ns)))
   by-tree e v (andNode us) q w h =
       let a : q .which ≡ v = ap (λ (h : Head). h .which) h in
       let b : q .tag ≡ 3 = ap (λ (h : Head). h .tag) h in

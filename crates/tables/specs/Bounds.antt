@@ -115,8 +115,8 @@ module _ (rels count : ℕ) (b : rels ≤ 17) (c : count ≤ 64) where
   unfolding partOf Small nodes
   part-good v (leaf true r ls) s h = leaf-good rels count 0 r ls b (omega arith) (s .0) (s .1) (s .2)
   part-good v (leaf false r ls) s h = leaf-good rels count 1 r ls b (omega arith) (s .0) (s .1) (s .2)
-  part-good v (forallNode d t) s h = node-good rels count 2 v (forallNode d t) c (omega arith) (omega arith)
-  part-good v (existsNode d t) s h = node-good rels count 3 v (existsNode d t) c (omega arith) (omega arith)
+  part-good v (forallNode d σ t) s h = node-good rels count 2 v (forallNode d σ t) c (omega arith) (omega arith)
+  part-good v (existsNode d σ t) s h = node-good rels count 3 v (existsNode d σ t) c (omega arith) (omega arith)
   part-good v (andNode ts) s h = node-good rels count 3 v (andNode ts) c (omega arith) (omega arith)
   part-good v (orNode ts) s h = node-good rels count 3 v (orNode ts) c (omega arith) (omega arith)
 
@@ -145,11 +145,11 @@ module _ (rels count : ℕ) (b : rels ≤ 17) (c : count ≤ 64) where
 
     pub laid-sound : (v : ℕ) (t : Tree) (l : Laid) → Small rels t → v + length (nodes t) ≤ count → l .placed + inner t ≤ 64 → Sound l → Sound (laid v t l)
     laid-sound v (leaf p r ls) l s h q o = o
-    laid-sound v (forallNode d t) l s h q o =
-        sound-node v (forallNode d t) (nodes (forallNode d t)) l (laid (suc v) t l) (inner (forallNode d t)) (laid-grows v (forallNode d t) l (omega (arith, o .rows-length)) (omega (arith, o .parts-length))) (o .parts-length) (o .rows-length) q (s .0) (part-good (suc v) t (s .1) (omega arith), tt)
+    laid-sound v (forallNode d σ t) l s h q o =
+        sound-node v (forallNode d σ t) (nodes (forallNode d σ t)) l (laid (suc v) t l) (inner (forallNode d σ t)) (laid-grows v (forallNode d σ t) l (omega (arith, o .rows-length)) (omega (arith, o .parts-length))) (o .parts-length) (o .rows-length) q (s .0) (part-good (suc v) t (s .1) (omega arith), tt)
         (laid-sound (suc v) t l (s .1) (omega arith) (omega arith) o)
-    laid-sound v (existsNode d t) l s h q o =
-        sound-node v (existsNode d t) (nodes (existsNode d t)) l (laid (suc v) t l) (inner (existsNode d t)) (laid-grows v (existsNode d t) l (omega (arith, o .rows-length)) (omega (arith, o .parts-length))) (o .parts-length) (o .rows-length) q (s .0) (part-good (suc v) t (s .1) (omega arith), tt)
+    laid-sound v (existsNode d σ t) l s h q o =
+        sound-node v (existsNode d σ t) (nodes (existsNode d σ t)) l (laid (suc v) t l) (inner (existsNode d σ t)) (laid-grows v (existsNode d σ t) l (omega (arith, o .rows-length)) (omega (arith, o .parts-length))) (o .parts-length) (o .rows-length) q (s .0) (part-good (suc v) t (s .1) (omega arith), tt)
         (laid-sound (suc v) t l (s .1) (omega arith) (omega arith) o)
     laid-sound v (andNode ts) l s h q o =
         sound-node v (andNode ts) (nodes (andNode ts)) l (laidAll (suc v) ts l) (inner (andNode ts)) (laid-grows v (andNode ts) l (omega (arith, o .rows-length)) (omega (arith, o .parts-length))) (o .parts-length) (o .rows-length) q (omega arith) (heads-good (suc v) ts s (omega arith))

@@ -121,8 +121,8 @@ module _ (rels l : ℕ) (h : l < 4) where
   unfolding partOf Small occurs
   has-part v (leaf true r ls) s = leaf-any ls l (s .1)
   has-part v (leaf false r ls) s = leaf-any ls l (s .1)
-  has-part v (forallNode d t) s = free-any (forallNode d t) l h
-  has-part v (existsNode d t) s = free-any (existsNode d t) l h
+  has-part v (forallNode d σ t) s = free-any (forallNode d σ t) l h
+  has-part v (existsNode d σ t) s = free-any (existsNode d σ t) l h
   has-part v (andNode ts) s = free-any (andNode ts) l h
   has-part v (orNode ts) s = free-any (orNode ts) l h
 
@@ -137,13 +137,13 @@ module _ (rels v : ℕ) where
   unfolding pad any
   one-part k d t e s l h = rw e (ap (λ (b : Bool). not (eqb l d) && b) (or-false (hasLevel l (partOf (suc v) t)) ∙ has-part rels l h (suc v) t s))
 
-  pub free-forall : (d : ℕ) (t : Tree) → Small rels t → freeWith (quantRow 0 v d) (partOf (suc v) t ∷ []) ≡ free (forallNode d t)
+  pub free-forall : (d σ : ℕ) (t : Tree) → Small rels t → freeWith (quantRow 0 v d) (partOf (suc v) t ∷ []) ≡ free (forallNode d σ t)
   unfolding freeWith free below occurs
-  free-forall d t s = filter-ext (λ l. not (isOwn (quantRow 0 v d) l) && any (hasLevel l) (partOf (suc v) t ∷ [])) (λ l. not (eqb l d) && occurs l t) 4 0 (λ l h. one-part 0 d t refl s l (omega arith))
+  free-forall d σ t s = filter-ext (λ l. not (isOwn (quantRow 0 v d) l) && any (hasLevel l) (partOf (suc v) t ∷ [])) (λ l. not (eqb l d) && occurs l t) 4 0 (λ l h. one-part 0 d t refl s l (omega arith))
 
-  pub free-exists : (d : ℕ) (t : Tree) → Small rels t → freeWith (quantRow 1 v d) (partOf (suc v) t ∷ []) ≡ free (existsNode d t)
+  pub free-exists : (d σ : ℕ) (t : Tree) → Small rels t → freeWith (quantRow 1 v d) (partOf (suc v) t ∷ []) ≡ free (existsNode d σ t)
   unfolding freeWith free below occurs
-  free-exists d t s = filter-ext (λ l. not (isOwn (quantRow 1 v d) l) && any (hasLevel l) (partOf (suc v) t ∷ [])) (λ l. not (eqb l d) && occurs l t) 4 0 (λ l h. one-part 1 d t refl s l (omega arith))
+  free-exists d σ t s = filter-ext (λ l. not (isOwn (quantRow 1 v d) l) && any (hasLevel l) (partOf (suc v) t ∷ [])) (λ l. not (eqb l d) && occurs l t) 4 0 (λ l h. one-part 1 d t refl s l (omega arith))
 
   pub free-and : (ts : Trees) (m : ℕ) → AllSmall rels ts → freeWith (joinRow 2 v m) (heads (suc v) ts) ≡ free (andNode ts)
   unfolding freeWith free below occurs

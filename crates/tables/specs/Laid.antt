@@ -23,8 +23,8 @@ lay v t l = record { parts = sets (l .parts) (l .placed) (kidsOf v t); placed = 
 unfoldable mutual
   pub laid : ℕ → Tree → Laid → Laid
   laid v (leaf p r ls) l = l
-  laid v (forallNode d t) l = lay v (forallNode d t) (laid (suc v) t l)
-  laid v (existsNode d t) l = lay v (existsNode d t) (laid (suc v) t l)
+  laid v (forallNode d σ t) l = lay v (forallNode d σ t) (laid (suc v) t l)
+  laid v (existsNode d σ t) l = lay v (existsNode d σ t) (laid (suc v) t l)
   laid v (andNode ts) l = lay v (andNode ts) (laidAll (suc v) ts l)
   laid v (orNode ts) l = lay v (orNode ts) (laidAll (suc v) ts l)
 
@@ -91,14 +91,14 @@ mutual
 
   pub run-post : (rels v : ℕ) (t : Tree) → Small rels t → (st : State) → run (post v t) st ≡ record { stack = st .stack ++ (partOf v t ∷ []); laid = laid v t (st .laid) }
   run-post rels v (leaf p r ls) s st = leaf-lays v p r ls st (s .1)
-  run-post rels v (forallNode d t) s st =
-      last-row (post (suc v) t) (quantRow 0 v d) st (partOf (suc v) t ∷ []) (laid (suc v) t (st .laid)) (partOf v (forallNode d t)) (laid v (forallNode d t) (st .laid)) (run-post rels (suc v) t (s .1) st) refl refl
-      (as-part (quantRow 0 v d) (freeWith (quantRow 0 v d) (partOf (suc v) t ∷ [])) (free (forallNode d t)) (free-forall rels v d t (s .1)))
-      (as-row (quantRow 0 v d) (partOf (suc v) t ∷ []) (free (forallNode d t)) (laid (suc v) t (st .laid)) (free-forall rels v d t (s .1)))
-  run-post rels v (existsNode d t) s st =
-      last-row (post (suc v) t) (quantRow 1 v d) st (partOf (suc v) t ∷ []) (laid (suc v) t (st .laid)) (partOf v (existsNode d t)) (laid v (existsNode d t) (st .laid)) (run-post rels (suc v) t (s .1) st) refl refl
-      (as-part (quantRow 1 v d) (freeWith (quantRow 1 v d) (partOf (suc v) t ∷ [])) (free (existsNode d t)) (free-exists rels v d t (s .1)))
-      (as-row (quantRow 1 v d) (partOf (suc v) t ∷ []) (free (existsNode d t)) (laid (suc v) t (st .laid)) (free-exists rels v d t (s .1)))
+  run-post rels v (forallNode d σ t) s st =
+      last-row (post (suc v) t) (quantRow 0 v d) st (partOf (suc v) t ∷ []) (laid (suc v) t (st .laid)) (partOf v (forallNode d σ t)) (laid v (forallNode d σ t) (st .laid)) (run-post rels (suc v) t (s .1) st) refl refl
+      (as-part (quantRow 0 v d) (freeWith (quantRow 0 v d) (partOf (suc v) t ∷ [])) (free (forallNode d σ t)) (free-forall rels v d σ t (s .1)))
+      (as-row (quantRow 0 v d) (partOf (suc v) t ∷ []) (free (forallNode d σ t)) (laid (suc v) t (st .laid)) (free-forall rels v d σ t (s .1)))
+  run-post rels v (existsNode d σ t) s st =
+      last-row (post (suc v) t) (quantRow 1 v d) st (partOf (suc v) t ∷ []) (laid (suc v) t (st .laid)) (partOf v (existsNode d σ t)) (laid v (existsNode d σ t) (st .laid)) (run-post rels (suc v) t (s .1) st) refl refl
+      (as-part (quantRow 1 v d) (freeWith (quantRow 1 v d) (partOf (suc v) t ∷ [])) (free (existsNode d σ t)) (free-exists rels v d σ t (s .1)))
+      (as-row (quantRow 1 v d) (partOf (suc v) t ∷ []) (free (existsNode d σ t)) (laid (suc v) t (st .laid)) (free-exists rels v d σ t (s .1)))
   run-post rels v (andNode ts) s st =
       last-row (postAll (suc v) ts) (joinRow 2 v (howMany ts)) st (heads (suc v) ts) (laidAll (suc v) ts (st .laid)) (partOf v (andNode ts)) (laid v (andNode ts) (st .laid)) (run-all rels (suc v) ts s st) refl (heads-many (suc v) ts)
       (as-part (joinRow 2 v (howMany ts)) (freeWith (joinRow 2 v (howMany ts)) (heads (suc v) ts)) (free (andNode ts)) (free-and rels v ts (howMany ts) s))

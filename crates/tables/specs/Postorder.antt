@@ -33,8 +33,8 @@ joinRow k v m = record { kind = k; which = v; many = m; width = 0; levels = pad 
 unfoldable mutual
   pub post : ℕ → Tree → List Row
   post v (leaf p r ls) = leafRow p r ls ∷ []
-  post v (forallNode d t) = post (suc v) t ++ (quantRow 0 v d ∷ [])
-  post v (existsNode d t) = post (suc v) t ++ (quantRow 1 v d ∷ [])
+  post v (forallNode d σ t) = post (suc v) t ++ (quantRow 0 v d ∷ [])
+  post v (existsNode d σ t) = post (suc v) t ++ (quantRow 1 v d ∷ [])
   post v (andNode ts) = postAll (suc v) ts ++ (joinRow 2 v (howMany ts) ∷ [])
   post v (orNode ts) = postAll (suc v) ts ++ (joinRow 3 v (howMany ts) ∷ [])
 
@@ -46,8 +46,8 @@ unfoldable mutual
 unfoldable mutual
   pub inner : Tree → ℕ
   inner (leaf p r ls) = 0
-  inner (forallNode d t) = inner t + 1
-  inner (existsNode d t) = inner t + 1
+  inner (forallNode d σ t) = inner t + 1
+  inner (existsNode d σ t) = inner t + 1
   inner (andNode ts) = innerAll ts + howMany ts
   inner (orNode ts) = innerAll ts + howMany ts
 
@@ -81,8 +81,8 @@ rowsFrom b len nodes = record { at = map (rowAt b) (below 64); len = len; nodes 
 unfoldable mutual
   pub Small : ℕ → Tree → Type 0
   Small rels (leaf p r ls) = (r < rels) × (length ls ≤ 3) × ((i : ℕ) → getD ls i 0 < 4)
-  Small rels (forallNode d t) = (d < 4) × Small rels t
-  Small rels (existsNode d t) = (d < 4) × Small rels t
+  Small rels (forallNode d σ t) = (d < 4) × Small rels t
+  Small rels (existsNode d σ t) = (d < 4) × Small rels t
   Small rels (andNode ts) = AllSmall rels ts
   Small rels (orNode ts) = AllSmall rels ts
 
@@ -96,8 +96,8 @@ unfoldable mutual
 unfoldable pub partOf : ℕ → Tree → PartRow
 partOf v (leaf true r ls) = record { tag = 0; which = r; levels = pad 4 ls; width = length ls }
 partOf v (leaf false r ls) = record { tag = 1; which = r; levels = pad 4 ls; width = length ls }
-partOf v (forallNode d t) = record { tag = 2; which = v; levels = pad 4 (free (forallNode d t)); width = length (free (forallNode d t)) }
-partOf v (existsNode d t) = record { tag = 3; which = v; levels = pad 4 (free (existsNode d t)); width = length (free (existsNode d t)) }
+partOf v (forallNode d σ t) = record { tag = 2; which = v; levels = pad 4 (free (forallNode d σ t)); width = length (free (forallNode d σ t)) }
+partOf v (existsNode d σ t) = record { tag = 3; which = v; levels = pad 4 (free (existsNode d σ t)); width = length (free (existsNode d σ t)) }
 partOf v (andNode ts) = record { tag = 3; which = v; levels = pad 4 (free (andNode ts)); width = length (free (andNode ts)) }
 partOf v (orNode ts) = record { tag = 3; which = v; levels = pad 4 (free (orNode ts)); width = length (free (orNode ts)) }
 

@@ -153,8 +153,8 @@ mutual
 
   pub laid-grows : (v : ℕ) (t : Tree) (l : Laid) → v + length (nodes t) ≤ length (l .rows) → l .placed + inner t ≤ length (l .parts) → Grows v (nodes t) l (laid v t l) (inner t)
   laid-grows v (leaf p r ls) l h b = grows-none v l
-  laid-grows v (forallNode d t) l h b = grows-node v (forallNode d t) (nodes t) l (laid (suc v) t l) (inner t) (laid-grows (suc v) t l (omega arith) (omega arith)) (omega arith) b
-  laid-grows v (existsNode d t) l h b = grows-node v (existsNode d t) (nodes t) l (laid (suc v) t l) (inner t) (laid-grows (suc v) t l (omega arith) (omega arith)) (omega arith) b
+  laid-grows v (forallNode d σ t) l h b = grows-node v (forallNode d σ t) (nodes t) l (laid (suc v) t l) (inner t) (laid-grows (suc v) t l (omega arith) (omega arith)) (omega arith) b
+  laid-grows v (existsNode d σ t) l h b = grows-node v (existsNode d σ t) (nodes t) l (laid (suc v) t l) (inner t) (laid-grows (suc v) t l (omega arith) (omega arith)) (omega arith) b
   laid-grows v (andNode ts) l h b = join-grows v (andNode ts) ts l (laidAll (suc v) ts l) refl (all-grow (suc v) ts l (omega arith) (omega arith)) h b
   laid-grows v (orNode ts) l h b = join-grows v (orNode ts) ts l (laidAll (suc v) ts l) refl (all-grow (suc v) ts l (omega arith) (omega arith)) h b
 

@@ -46,8 +46,8 @@ mutual
   ranged-post : (h p v : ℕ) (t : Tree) (R : List Row) → h + p + suc (inner t) ≤ 64 → v + length (nodes t) ≤ 64 → Ranged (h + 1) (p + inner t) R → Ranged h p (post v t ++ R)
   ranged-post h p v (leaf true r ls) R a b k = ranged-leaf _ h p R refl (omega arith) (omega arith) (ranged-at R refl (omega arith) k)
   ranged-post h p v (leaf false r ls) R a b k = ranged-leaf _ h p R refl (omega arith) (omega arith) (ranged-at R refl (omega arith) k)
-  ranged-post h p v (forallNode d t) R a b k = rw (append-assoc (post (suc v) t)) (ranged-post h p (suc v) t _ (omega arith) (omega arith) (ranged-node _ (h + 1) (p + inner t) R refl (omega arith) (omega arith) (omega arith) (omega arith) (ranged-at R (omega arith) (omega arith) k)))
-  ranged-post h p v (existsNode d t) R a b k = rw (append-assoc (post (suc v) t)) (ranged-post h p (suc v) t _ (omega arith) (omega arith) (ranged-node _ (h + 1) (p + inner t) R refl (omega arith) (omega arith) (omega arith) (omega arith) (ranged-at R (omega arith) (omega arith) k)))
+  ranged-post h p v (forallNode d σ t) R a b k = rw (append-assoc (post (suc v) t)) (ranged-post h p (suc v) t _ (omega arith) (omega arith) (ranged-node _ (h + 1) (p + inner t) R refl (omega arith) (omega arith) (omega arith) (omega arith) (ranged-at R (omega arith) (omega arith) k)))
+  ranged-post h p v (existsNode d σ t) R a b k = rw (append-assoc (post (suc v) t)) (ranged-post h p (suc v) t _ (omega arith) (omega arith) (ranged-node _ (h + 1) (p + inner t) R refl (omega arith) (omega arith) (omega arith) (omega arith) (ranged-at R (omega arith) (omega arith) k)))
   ranged-post h p v (andNode ts) R a b k = rw (append-assoc (postAll (suc v) ts)) (ranged-all h p (suc v) ts _ (omega arith) (omega arith) (ranged-node _ (h + howMany ts) (p + innerAll ts) R refl (omega arith) (omega arith) (omega arith) (omega arith) (ranged-at R (omega arith) (omega arith) k)))
   ranged-post h p v (orNode ts) R a b k = rw (append-assoc (postAll (suc v) ts)) (ranged-all h p (suc v) ts _ (omega arith) (omega arith) (ranged-node _ (h + howMany ts) (p + innerAll ts) R refl (omega arith) (omega arith) (omega arith) (omega arith) (ranged-at R (omega arith) (omega arith) k)))
 
@@ -64,8 +64,8 @@ mutual
 
   pub nodes-le : (t : Tree) → length (nodes t) ≤ suc (inner t)
   nodes-le (leaf p r ls) = zero-le
-  nodes-le (forallNode d t) = omega (arith, nodes-le t)
-  nodes-le (existsNode d t) = omega (arith, nodes-le t)
+  nodes-le (forallNode d σ t) = omega (arith, nodes-le t)
+  nodes-le (existsNode d σ t) = omega (arith, nodes-le t)
   nodes-le (andNode ts) = omega (arith, all-le ts)
   nodes-le (orNode ts) = omega (arith, all-le ts)
 
@@ -82,8 +82,8 @@ head-part : (rels v : ℕ) (t : Tree) → Small rels t → headIn (partOf v t) �
 unfolding partOf headFrom Small
 head-part rels v (leaf true r ls) s = rw (take-pad 4 ls (omega (arith, s .1)))
 head-part rels v (leaf false r ls) s = rw (take-pad 4 ls (omega (arith, s .1)))
-head-part rels v (forallNode d t) s = rw (take-pad 4 (free (forallNode d t)) (free-few (forallNode d t)))
-head-part rels v (existsNode d t) s = rw (take-pad 4 (free (existsNode d t)) (free-few (existsNode d t)))
+head-part rels v (forallNode d σ t) s = rw (take-pad 4 (free (forallNode d σ t)) (free-few (forallNode d σ t)))
+head-part rels v (existsNode d σ t) s = rw (take-pad 4 (free (existsNode d σ t)) (free-few (existsNode d σ t)))
 head-part rels v (andNode ts) s = rw (take-pad 4 (free (andNode ts)) (free-few (andNode ts)))
 head-part rels v (orNode ts) s = rw (take-pad 4 (free (orNode ts)) (free-few (orNode ts)))
 
@@ -95,8 +95,8 @@ head-parts rels v (t then ts) s = rw (head-part rels v t (s .0), head-parts rels
 head-kids : (rels v : ℕ) (t : Tree) → Small rels t → map headIn (kidsOf v t) ≡ map headOf (parts v t)
 unfolding parts Small
 head-kids rels v (leaf p r ls) s = refl
-head-kids rels v (forallNode d t) s = rw (head-part rels (suc v) t (s .1))
-head-kids rels v (existsNode d t) s = rw (head-part rels (suc v) t (s .1))
+head-kids rels v (forallNode d σ t) s = rw (head-part rels (suc v) t (s .1))
+head-kids rels v (existsNode d σ t) s = rw (head-part rels (suc v) t (s .1))
 head-kids rels v (andNode ts) s = head-parts rels (suc v) ts s
 head-kids rels v (orNode ts) s = head-parts rels (suc v) ts s
 
@@ -105,8 +105,8 @@ mutual
 
   nodes-small : (rels : ℕ) (t : Tree) → Small rels t → Each (Small rels) (leaf true 0 []) (nodes t)
   nodes-small rels (leaf p r ls) s = tt
-  nodes-small rels (forallNode d t) s = (s, nodes-small rels t (s .1))
-  nodes-small rels (existsNode d t) s = (s, nodes-small rels t (s .1))
+  nodes-small rels (forallNode d σ t) s = (s, nodes-small rels t (s .1))
+  nodes-small rels (existsNode d σ t) s = (s, nodes-small rels t (s .1))
   nodes-small rels (andNode ts) s = (s, all-small rels ts s)
   nodes-small rels (orNode ts) s = (s, all-small rels ts s)
 

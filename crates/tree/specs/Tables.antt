@@ -19,15 +19,15 @@ noNode = record { kind = 0; level = 0; levels = []; width = 0; first = 0; many =
 -- ---- a node's kind and level as numbers
 
 unfoldable pub nodeKind : Tree → ℕ
-nodeKind (forallNode d t) = 0
-nodeKind (existsNode d t) = 1
+nodeKind (forallNode d σ t) = 0
+nodeKind (existsNode d σ t) = 1
 nodeKind (andNode ts) = 2
 nodeKind (orNode ts) = 3
 nodeKind (leaf p r ls) = 4
 
 unfoldable pub nodeLevel : Tree → ℕ
-nodeLevel (forallNode d t) = d
-nodeLevel (existsNode d t) = d
+nodeLevel (forallNode d σ t) = d
+nodeLevel (existsNode d σ t) = d
 nodeLevel (andNode ts) = 0
 nodeLevel (orNode ts) = 0
 nodeLevel (leaf p r ls) = 0
@@ -42,8 +42,8 @@ pub record Head : Type 0 where
 unfoldable pub headFrom : ℕ → Tree → Head
 headFrom v (leaf true r ls) = record { tag = 0; which = r; levels = ls }
 headFrom v (leaf false r ls) = record { tag = 1; which = r; levels = ls }
-headFrom v (forallNode d t) = record { tag = 2; which = v; levels = free (forallNode d t) }
-headFrom v (existsNode d t) = record { tag = 3; which = v; levels = free (existsNode d t) }
+headFrom v (forallNode d σ t) = record { tag = 2; which = v; levels = free (forallNode d σ t) }
+headFrom v (existsNode d σ t) = record { tag = 3; which = v; levels = free (existsNode d σ t) }
 headFrom v (andNode ts) = record { tag = 3; which = v; levels = free (andNode ts) }
 headFrom v (orNode ts) = record { tag = 3; which = v; levels = free (orNode ts) }
 

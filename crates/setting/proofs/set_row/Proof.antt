@@ -16,11 +16,14 @@ step-requires : tie.Need-step-requires
 step-requires c κs = ((c .before .before .before .before .before .before .before .before .pre .0, c .before .before .before .before .before .before .before .before .pre .3), (c .before .before .before .before .before .before .before .before .pre .1, omega arith))
 
 returns : tie.Need-returns
-returns c = (
-  omega (arith, c .before .before .before .before .step .ensures .0),
-  λ p R l t h. row-yes p (c .before .before .before .before .before .before .before .before .before .before .before .before .before .args .relation) (c .before .before .before .before .before .before .before .before .before .before .before .before .before .args .picked) (out (bit (c .before .before .before .before .before .before .before .before .before .before .before .before .before .args .state .now)) (c .before .before .before .before .before .before .before .before .before .before .before .before .before .args .steps .now) (c .before .before .before .before .before .before .before .before .before .before .before .before .before .args .at)) (c .before .before .before .before .before .before .before .before .before .before .before .before .before .args .row) (c .before .before .before .before .before .before .before .before .before .if1 .taken)
-      ∙ c .before .before .before .before .step .ensures .1 p (set (c .before .before .before .before .before .before .before .before .before .before .before .before .before .args .relation) (c .before .before .before .before .before .before .before .before .before .before .before .before .before .args .row)) R (set-is p (c .before .before .before .before .before .before .before .before .before .before .before .before .before .args .table .now) (R .is) (c .before .before .before .before .before .before .before .before .before .before .before .before .before .args .relation) l (c .before .before .before .before .before .before .before .before .before .before .before .before .before .args .row) t h) (set-said (c .before .before .before .before .before .before .before .before .before .before .before .before .before .args .relation) (c .before .before .before .before .before .before .before .before .before .before .before .before .before .args .row)) (set-number p (c .before .before .before .before .before .before .before .before .before .before .before .before .before .args .table .now) (R .is) (c .before .before .before .before .before .before .before .before .before .before .before .before .before .args .relation) l (c .before .before .before .before .before .before .before .before .relation-line .result) (c .before .before .before .before .before .before .before .before .relation-line .ensures) (c .before .before .before .before .before .before .before .before .before .before .before .before .before .args .row)),
-)
+returns c =
+    let a = c .before .before .before .before .before .before .before .before .before .before .before .before .before .args in
+    let line = c .before .before .before .before .before .before .before .before .relation-line in
+    let taken = c .before .before .before .before .step in
+    (omega (arith, taken .ensures .0),
+    λ p R l t h. row-yes p (a .relation) (a .picked) (out (bit (a .state .now)) (a .steps .now) (a .at)) (a .row) (c .before .before .before .before .before .before .before .before .before .if1 .taken)
+    ∙ taken .ensures .1 p (set (a .relation) (a .row)) R (set-is p (a .table .now) (R .is) (a .relation) l (a .row) t h) (set-said (a .relation) (a .row))
+    (set-number p (a .table .now) (R .is) (a .relation) l (line .result) (line .ensures) (a .row) t h))
 
 returns-2 : tie.Need-returns-2
 returns-2 c = (omega arith, λ p R l t h. row-no p (c .before .before .before .before .args .relation) (c .before .before .before .before .args .picked) (out (bit (c .before .before .before .before .args .state .now)) (c .before .before .before .before .args .steps .now) (c .before .before .before .before .args .at)) (c .before .before .before .before .args .row) (c .if1 .left))
