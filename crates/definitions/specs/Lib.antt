@@ -31,3 +31,4 @@ pub mod Desk
 pub mod Opened
 pub mod Drawer
 pub mod Cases
+pub mod Whole

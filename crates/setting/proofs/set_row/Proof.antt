@@ -19,11 +19,12 @@ returns : tie.Need-returns
 returns c =
     let a = c .before .before .before .before .before .before .before .before .before .before .before .before .before .args in
     let line = c .before .before .before .before .before .before .before .before .relation-line in
-    let taken = c .before .before .before .before .step in
-    (omega (arith, taken .ensures .0),
-    λ p R l t h. row-yes p (a .relation) (a .picked) (out (bit (a .state .now)) (a .steps .now) (a .at)) (a .row) (c .before .before .before .before .before .before .before .before .before .if1 .taken)
-    ∙ taken .ensures .1 p (set (a .relation) (a .row)) R (set-is p (a .table .now) (R .is) (a .relation) l (a .row) t h) (set-said (a .relation) (a .row))
-    (set-number p (a .table .now) (R .is) (a .relation) l (line .result) (line .ensures) (a .row) t h))
+    let taken = c .before .before .before .before .step in (
+      omega (arith, taken .ensures .0),
+      λ p R l t h. row-yes p (a .relation) (a .picked) (out (bit (a .state .now)) (a .steps .now) (a .at)) (a .row) (c .before .before .before .before .before .before .before .before .before .if1 .taken)
+          ∙ taken .ensures .1 p (set (a .relation) (a .row)) R (set-is p (a .table .now) (R .is) (a .relation) l (a .row) t h) (set-said (a .relation) (a .row))
+          (set-number p (a .table .now) (R .is) (a .relation) l (line .result) (line .ensures) (a .row) t h),
+    )
 
 returns-2 : tie.Need-returns-2
 returns-2 c = (omega arith, λ p R l t h. row-no p (c .before .before .before .before .args .relation) (c .before .before .before .before .args .picked) (out (bit (c .before .before .before .before .args .state .now)) (c .before .before .before .before .args .steps .now) (c .before .before .before .before .args .at)) (c .before .before .before .before .args .row) (c .if1 .left))
