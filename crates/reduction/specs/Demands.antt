@@ -3,8 +3,8 @@
 -- A word of document 01 stands here under the name that `definitions` gives it; the proofs are in the other modules.
 --    1  existence
 --    2  acceptance, lent-steps, checking, checking-accepts
---    3  soundness, tuples-set, reading
---    4  text-picks, lent-picks, taken-picks; building, refused-16, refused-17, built-exactly; whenever-built, built-accepted, built-same
+--    3  soundness, tuples-set, reading; whenever-checked, whenever-read
+--    4  text-picks, lent-picks, taken-picks; building, refused-16, refused-17, built-exactly; whenever-built, built-accepted, built-same, built-read
 --    5  count, at-most
 --    6  polynomial, degree
 --    7  strips-1, never-twice
@@ -34,7 +34,7 @@ use Rattle.definitions.specs.Atoms.{Problem, problemOf, Atom, itemAt, atomBlock
 use Rattle.definitions.specs.Actions.{Action, set, actionAt, actions, actionNumber, needs, adds, removes}
 use Rattle.definitions.specs.Strips.{reachesGoal, run, picksOf}
 use Rattle.definitions.specs.Built.{chosenNumbers, builtSteps, builtCount, bound, boundExponents, boundPolynomial, pickedRows}
-use Rattle.definitions.specs.Outcome.{sizes, action, readCase, ground, readProblem, roomFor, stateLength, written, picksLength, pickWords, bitOf, lentPicks, spareWord, Given, asText, asNumbers, takeSteps, textPicks, picksRoom, takePicks, readyToRun, Checked, checkedFrom, checkSteps, picksIfAccepted, picksReadFrom, picksFromSteps, kindRefusal, Plan, plan, Built, builtFrom, buildSteps}
+use Rattle.definitions.specs.Outcome.{sizes, action, readCase, ground, readProblem, roomFor, stateLength, written, picksLength, pickWords, bitOf, lentPicks, spareWord, Given, asText, asNumbers, takeSteps, textPicks, picksRoom, takePicks, readyToRun, Checked, checkedFrom, checkSteps, picksIfAccepted, picksReadFrom, picksFromSteps, kindRefusal, Plan, plan, Built, builtFrom, buildSteps, Ready, PicksRead}
 use Rattle.definitions.specs.Demand.{isAccepted, caseIsAccepted, stepsAreAccepted, areSamePicks}
 use Rattle.laws.specs.Numbers
 use Rattle.laws.specs.Words
@@ -52,6 +52,7 @@ use Rattle.reduction.specs.Pairs
 use Rattle.reduction.specs.Between
 use Rattle.reduction.specs.Strips1
 use Rattle.reduction.specs.Accepting
+use Rattle.reduction.specs.Answered
 use Rattle.reduction.specs.Polynomial
 use Rattle.reduction.specs.Lent
 use Rattle.reduction.specs.States
@@ -70,6 +71,11 @@ accepted-case question site = (
   (λ e. let (p, r) = accepted-is (readProblem question site) e in let (c, a, g) = bind-parts (readCase question site) ground p r in (c, p, a, r)),
   (λ h. let (c, p, a, r) = h in is-accepted (readProblem question site) p r),
 )
+
+-- That is so exactly if nothing in the two texts makes checking refuse with a number below 12, whatever the lent length.
+pub accepted-checks : (question site : List ℕ)
+    → (caseIsAccepted question site ≡ true) ↔ ((state : List ℕ) (k place : ℕ) → checkSteps question site (asNumbers []) state .answer ≡ refused k place → 12 ≤ k)
+accepted-checks question site = Answered.accepted-checks question site
 
 -- ---- For every question and site that are accepted: c is the case read from the two texts, p its numbered problem.
 module _ (question site : List ℕ) (c : Case) (p : Problem) (is-case : readCase question site ≡ accepted c) (is-problem : readProblem question site ≡ accepted p) where
@@ -148,6 +154,34 @@ module _ (question site : List ℕ) (c : Case) (p : Problem) (is-case : readCase
       let f : ltb (length state) (stateLength p) ≡ false = le-ltb (length state) (stateLength p) g in
       rw (is-case, t, grounds, e, f) refl
 
+  -- Whatever the lent lengths: whenever checking answers with a count, the steps were taken, that is how many there are, they reach the
+  -- goal, and the picks read from them are of the declared kinds and make the rule true.
+  abbrev Counts : Given → ℕ → List ℕ → Type 0
+  Counts given k steps =
+      (takeSteps given ≡ accepted steps) × (k ≡ length steps) × (reachesGoal p steps ≡ true)
+      × (arePicks c (picksOf p steps) ≡ true) × (areOfKinds c (picksOf p steps) ≡ true) × (ruleIsTrue c (picksOf p steps) ≡ true)
+
+  -- (from what was read before the steps ran to this case and problem)
+  counted : (given : Given) (k : ℕ) (r : Ready) → Answered.Tells question site given k r → (r .problem ≡ p) × Counts given k (r .steps)
+  counted given k r (c′, rc, t, g, goal, n) =
+      let same : r .problem ≡ p = accepted-eq (r .problem) p (sym g ∙ ap ground (accepted-eq c′ c (sym rc ∙ is-case)) ∙ grounds) in
+      let reached : reachesGoal p (r .steps) ≡ true = subst (λ (x : Problem). reachesGoal x (r .steps) ≡ true) same goal in
+      let (a, b, d) = sound (r .steps) reached in
+      (same, (t, n, reached, a, b, d))
+
+  pub whenever-checked : (given : Given) (state : List ℕ) (k : ℕ) → checkSteps question site given state .answer ≡ accepted k → (steps : List ℕ) × Counts given k steps
+  whenever-checked given state k e =
+      let (r, h) = Answered.check-tells question site given state k e in
+      (r .steps, counted given k r h .1)
+
+  -- The same of reading, which then has left the words of these picks.
+  pub whenever-read : (given : Given) (picks state : List ℕ) (k : ℕ) → picksFromSteps question site given picks state .answer ≡ accepted k
+      → (steps : List ℕ) × Counts given k steps × (picksFromSteps question site given picks state .picks ≡ written (pickWords p (picksOf p steps)) picks)
+  whenever-read given picks state k e =
+      let (r, h, w) = Answered.read-tells question site given picks state k e in
+      let (same, n) = counted given k r h in
+      (r .steps, n, w ∙ ap (λ (x : Problem). written (pickWords x (picksOf x (r .steps))) picks) same)
+
   -- ---- 4, completeness. Picks are handed over as a text or as words: these are the picks that are taken then.
   abbrev taken : Given → Result (List Tuple)
   taken given = textPicks c given >>= λ read. picksRoom p given >>= λ _. takePicks p given read
@@ -206,17 +240,33 @@ module _ (question site : List ℕ) (c : Case) (p : Problem) (is-case : readCase
       let l : b .steps ≡ builtSteps p (b .picks) = s ∙ ap (λ (y : Problem). builtSteps y (b .picks)) same in
       (b .picks, f, taken-picks given (b .picks) f, subst (λ (x : Case). areOfKinds x (b .picks) ≡ true) same-case a, subst (λ (x : Case). ruleIsTrue x (b .picks) ≡ true) same-case q, n ∙ ap length l, w ∙ ap (λ (x : List ℕ). written x steps) l)
 
-  -- The built steps, lent as numbers, are accepted.
-  pub built-accepted : (picks : List Tuple) → arePicks c picks ≡ true → areOfKinds c picks ≡ true → ruleIsTrue c picks ≡ true → stepsAreAccepted question site (asNumbers (builtSteps p picks)) ≡ true
-  built-accepted picks a k r =
+  -- (they are few enough to be lent)
+  built-few : (picks : List Tuple) → arePicks c picks ≡ true → areOfKinds c picks ≡ true → length (builtSteps p picks) ≤ stepLimit
+  built-few picks a k =
       let n = counts picks a k in
       let b = Accepting.bound-below p in
       let f = Reader.acceptance question site p is-problem .few-atoms in
-      acceptance (asNumbers (builtSteps p picks)) (builtSteps p picks) (lent-steps (builtSteps p picks) (omega (arith, n .0, n .1))) ∙ complete picks a k r .0
+      omega (arith, n .0, n .1)
+
+  -- The built steps, lent as numbers, are accepted.
+  pub built-accepted : (picks : List Tuple) → arePicks c picks ≡ true → areOfKinds c picks ≡ true → ruleIsTrue c picks ≡ true → stepsAreAccepted question site (asNumbers (builtSteps p picks)) ≡ true
+  built-accepted picks a k r = acceptance (asNumbers (builtSteps p picks)) (builtSteps p picks) (lent-steps (builtSteps p picks) (built-few picks a k)) ∙ complete picks a k r .0
 
   -- The picks read from them are the same tuples, no more and no fewer.
   pub built-same : (picks : List Tuple) → arePicks c picks ≡ true → areOfKinds c picks ≡ true → ruleIsTrue c picks ≡ true → areSamePicks (picksOf p (builtSteps p picks)) picks ≡ true
   built-same picks a k r = complete picks a k r .1
+
+  -- Reading the built steps, lent as numbers, leaves the words of the picks that were given, word for word.
+  pub built-read : (picks : List Tuple) → arePicks c picks ≡ true → areOfKinds c picks ≡ true → ruleIsTrue c picks ≡ true → (words state : List ℕ) → picksLength p ≤ length words → stateLength p ≤ length state
+      → picksFromSteps question site (asNumbers (builtSteps p picks)) words state .picks ≡ written (pickWords p picks) words
+  unfolding picksIfAccepted
+  built-read picks a k r words state h g =
+      let (n, b) = counts picks a k in
+      let t : takeSteps (asNumbers (builtSteps p picks)) ≡ accepted (builtSteps p picks) = lent-steps (builtSteps p picks) (built-few picks a k) in
+      let goal = complete picks a k r .0 in
+      ap (λ (x : PicksRead). x .picks) (reading (asNumbers (builtSteps p picks)) (builtSteps p picks) t words state h g)
+      ∙ ap (λ (x : Result ℕ). picksIfAccepted x (pickWords p (picksOf p (builtSteps p picks))) words) (Accepting.run-count p (builtSteps p picks) (T-of goal))
+      ∙ ap (λ (x : List ℕ). written x words) (Answered.same-words p (picksOf p (builtSteps p picks)) picks (built-same picks a k r))
 
   -- ---- 5, count: the built steps are picks + true node atoms + 2, and at most the bound.
   pub count : (picks : List Tuple) → arePicks c picks ≡ true → areOfKinds c picks ≡ true → length (builtSteps p picks) ≡ builtCount p picks

@@ -49,6 +49,7 @@ pub mod Picks
 pub mod Between
 pub mod Strips1
 pub mod Accepting
+pub mod Answered
 pub mod Polynomial
 pub mod Lent
 pub mod States
