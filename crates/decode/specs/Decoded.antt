@@ -1,13 +1,13 @@
--- What is promised of an action's number.
+-- The action of a number, by the table.
 use mathlib.Core.List.{List}
-use Prim.Native.Nat.{ℕ, zero, suc, _+_, _*_, _/_, _%_}
+use Prim.Native.Nat.{ℕ, zero, suc, _+_, _/_, _%_}
 use lib.ListN.{getD}
 use Rattle.definitions.specs.Atoms.{Problem}
-use Rattle.ground.specs.Lines.{Fits, sizeIn, relationsIn, nodesIn, relationLine, nodeLine}
+use Rattle.ground.specs.Lines.{Fits}
 use Rattle.ground.specs.Of.{Is}
 use Rattle.ground.specs.declared.NodeLine.{NodeLine}
 use Rattle.ground.specs.declared.Act.{Act}
-use Rattle.ground.specs.declared.Act.the-variants.{Set, Begin, And, Or, Exists, Forall, Goal, Nothing}
+use Rattle.ground.specs.declared.Act.the-variants.{And, Or, Exists, Forall}
 
 -- the table is that of some problem, and all its numbers are in range
 pub record Grounded (w : List ℕ) : Type 0 where
@@ -16,22 +16,11 @@ pub record Grounded (w : List ℕ) : Type 0 where
   pub fits : Fits w
 
 -- the action of an offset among those of node v, by the node's kind
-unfoldable pub proofBy : (n v off many : ℕ) → ℕ → Act
-proofBy n v off many zero = Forall (record { node = v; row = off / n; choice = off % n })
-proofBy n v off many (suc zero) = Exists (record { node = v; row = off / n; choice = off % n })
-proofBy n v off many (suc (suc zero)) = And (record { node = v; row = off })
-proofBy n v off many (suc (suc (suc k))) = Or (record { node = v; row = off / many; choice = off % many })
+unfoldable pub proofBy : List ℕ → (v off : ℕ) → NodeLine → ℕ → Act
+proofBy w v off x zero = Forall (record { node = v; row = off / x .count; choice = getD w (x .range + off % x .count) 0 })
+proofBy w v off x (suc zero) = Exists (record { node = v; row = off / x .count; choice = getD w (x .range + off % x .count) 0 })
+proofBy w v off x (suc (suc zero)) = And (record { node = v; row = off })
+proofBy w v off x (suc (suc (suc k))) = Or (record { node = v; row = off / x .many; choice = off % x .many })
 
-unfoldable pub proofIn : (n v off : ℕ) → NodeLine → Act
-proofIn n v off x = proofBy n v off (x .many) (x .kind)
-
--- the number of an action
-unfoldable pub numberIn : List ℕ → Act → ℕ
-numberIn w (Set a) = relationLine w (a .relation) .sets + a .row
-numberIn w Begin = getD w (3 + 5 * relationsIn w) 0
-numberIn w (And a) = nodeLine w (a .node) .acts + a .row
-numberIn w (Or a) = nodeLine w (a .node) .acts + (a .row * nodeLine w (a .node) .many + a .choice)
-numberIn w (Exists a) = nodeLine w (a .node) .acts + (a .row * sizeIn w + a .choice)
-numberIn w (Forall a) = nodeLine w (a .node) .acts + (a .row * sizeIn w + a .choice)
-numberIn w Goal = getD w (93 + 11 * nodesIn w) 0
-numberIn w Nothing = getD w (93 + 11 * nodesIn w) 0 + 1
+unfoldable pub proofIn : List ℕ → (v off : ℕ) → NodeLine → Act
+proofIn w v off x = proofBy w v off x (x .kind)

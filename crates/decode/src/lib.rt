@@ -1,31 +1,33 @@
-// The action of a number, and the number of an action.
+// The action of a number.
 ghost use mathlib.Core.Path.{_≡_};
-ghost use Prim.Native.Nat.{_+_, _*_, _<_, _≤_};
+ghost use Prim.Native.Nat.{_+_, _<_, _≤_};
+ghost use lib.ListN.{length};
 ghost use Rattle.definitions.specs.Atoms.{Problem};
-ghost use Rattle.definitions.specs.Actions.{Action, actionAt, actionNumber};
-ghost use Rattle.laws.specs.Numbers.{IsAction};
-ghost use Rattle.ground.specs.Lines.{Fits};
+ghost use Rattle.definitions.specs.Actions.{actionAt};
+ghost use Rattle.ground.specs.Lines.{tableLength};
 ghost use Rattle.ground.specs.Numbers.{ActFits};
-ghost use Rattle.ground.specs.Of.{Is, said, actOf};
-ghost use Rattle.decode.specs.Decoded.{Grounded, proofIn, numberIn};
+ghost use Rattle.ground.specs.Of.{Is, actOf};
+ghost use Rattle.decode.specs.Decoded.{Grounded, proofIn};
 
-// The action of offset `off` among those of node v.
-fn proof_of(n: usize, v: usize, off: usize, line: ground::NodeLine) -> ground::Act
-    requires { ⌜ (0 < n) × (3 ≤ line .kind → 0 < line .many) ⌝ }
-    ensures { λ r. ⌜ r ≡ proofIn n v off line ⌝ }
+// The action of offset `off` among those of node v: by row, and in a row by the place of the element in its range or by the part.
+fn proof_of(table: &[usize], v: usize, off: usize, line: ground::NodeLine) -> ground::Act
+    requires { ⌜ (length (now table) ≡ tableLength) × (line .range + line .count ≤ tableLength) × (line .kind < 2 → 0 < line .count) × (3 ≤ line .kind → 0 < line .many) ⌝ }
+    ensures { λ r. ⌜ r ≡ proofIn (now (table .entry)) v off line ⌝ }
 {
+    let count = line.count;
+    let range = line.range;
     if line.kind == 0 {
         return ground::Act::Forall(ground::ChoiceAct {
             node: v,
-            row: off / n,
-            choice: off % n,
+            row: off / count,
+            choice: table[range + off % count],
         });
     }
     if line.kind == 1 {
         return ground::Act::Exists(ground::ChoiceAct {
             node: v,
-            row: off / n,
-            choice: off % n,
+            row: off / count,
+            choice: table[range + off % count],
         });
     }
     if line.kind == 2 {
@@ -44,69 +46,26 @@ pub fn action_at(table: &[usize], k: usize) -> ground::Act
     requires { ⌜ Grounded (now table) ⌝ }
     ensures { λ r. ⌜ ActFits (now (table .entry)) r × ((p : Problem) → Is p (now (table .entry)) → r ≡ actOf (actionAt p k)) ⌝ }
 {
-    let n = table[0];
     let rels = table[1];
     let nodes = table[2];
-    let begin = table[3 + 5 * rels];
-    let goal = table[93 + 11 * nodes];
+    let begin = table[ground::RELATION_AT + ground::RELATION_LINE * rels];
+    let goal = table[ground::NODE_AT + ground::NODE_LINE * nodes];
     if k < begin {
-        let r = rows::locate(table, 3, 5, rels, k);
-        let row = k - table[3 + 5 * r];
+        let r = rows::locate(table, ground::RELATION_AT, ground::RELATION_LINE, rels, k);
+        let row = k - table[ground::RELATION_AT + ground::RELATION_LINE * r];
         return ground::Act::Set(ground::TupleAct { relation: r, row });
     }
     if k == begin {
         return ground::Act::Begin;
     }
     if k < goal {
-        let v = rows::locate(table, 93, 11, nodes, k);
-        let off = k - table[93 + 11 * v];
+        let v = rows::locate(table, ground::NODE_AT, ground::NODE_LINE, nodes, k);
+        let off = k - table[ground::NODE_AT + ground::NODE_LINE * v];
         let line = ground::node_line(table, v);
-        return proof_of(n, v, off, line);
+        return proof_of(table, v, off, line);
     }
     if k == goal {
         return ground::Act::Goal;
     }
     ground::Act::Nothing
-}
-
-// The number of an action; of none, how many actions there are.
-pub fn number_of(table: &[usize], a: ground::Act) -> usize
-    requires { ⌜ Fits (now table) ⌝ }
-    requires { ⌜ ActFits (now table) a ⌝ }
-    ensures { λ r. ⌜ (r ≡ numberIn (now (table .entry)) a) × ((p : Problem) (x : Action) → Is p (now (table .entry)) → IsAction p x → a ≡ said x → r ≡ actionNumber p x) ⌝ }
-{
-    let n = table[0];
-    let rels = table[1];
-    let nodes = table[2];
-    match a {
-        ground::Act::Set(x) => {
-            let k = ground::relation_line(table, x.relation);
-            return k.sets + x.row;
-        }
-        ground::Act::Begin => {
-            return table[3 + 5 * rels];
-        }
-        ground::Act::And(x) => {
-            let v = ground::node_line(table, x.node);
-            return v.acts + x.row;
-        }
-        ground::Act::Or(x) => {
-            let v = ground::node_line(table, x.node);
-            return v.acts + (x.row * v.many + x.choice);
-        }
-        ground::Act::Exists(x) => {
-            let v = ground::node_line(table, x.node);
-            return v.acts + (x.row * n + x.choice);
-        }
-        ground::Act::Forall(x) => {
-            let v = ground::node_line(table, x.node);
-            return v.acts + (x.row * n + x.choice);
-        }
-        ground::Act::Goal => {
-            return table[93 + 11 * nodes];
-        }
-        ground::Act::Nothing => {
-            return table[93 + 11 * nodes] + 1;
-        }
-    }
 }

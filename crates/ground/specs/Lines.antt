@@ -1,8 +1,9 @@
 -- The lines of a table of numbers, and what keeps indexes and sums in range.
 use mathlib.Core.Path.{_≡_}
-use mathlib.Core.List.{List, [], _∷_}
+use mathlib.Core.List.{List, [], _∷_, map}
 use Prim.Native.Nat.{ℕ, _+_, _*_, _^_, _≤_, _<_}
 use lib.ListN.{length, getD}
+use Rattle.definitions.specs.Lists.{below}
 use Rattle.definitions.specs.Actions.{Values}
 use Rattle.tree.specs.Tables.{Levels}
 use Rattle.rows.specs.Values.{valueIn, weighed}
@@ -10,9 +11,25 @@ use Rattle.ground.specs.declared.RelationLine.{RelationLine}
 use Rattle.ground.specs.declared.NodeLine.{NodeLine}
 use Rattle.ground.specs.declared.PartLine.{PartLine}
 
--- three numbers, 18 lines of 5, 65 of 11, 65 of 5
+-- where lines stand: after three numbers 18 lines of relations, 65 of nodes, 64 of parts and the root's, then the ranges
+abbrev pub relationPlace : ℕ → ℕ
+relationPlace r = 3 + 5 * r
+
+abbrev pub nodePlace : ℕ → ℕ
+nodePlace v = 93 + 13 * v
+
+abbrev pub partPlace : ℕ → ℕ
+partPlace i = 938 + 5 * i
+
+abbrev pub rootPlace : ℕ
+rootPlace = 1258
+
+-- the first range is that of all elements
+abbrev pub rangesPlace : ℕ
+rangesPlace = 1263
+
 abbrev pub tableLength : ℕ
-tableLength = 1133
+tableLength = 1327
 
 -- n, how many relations, how many nodes
 abbrev pub sizeIn : List ℕ → ℕ
@@ -27,31 +44,33 @@ nodesIn w = getD w 2 0
 unfoldable pub relationLine : List ℕ → ℕ → RelationLine
 relationLine w r =
     record {
-      sets = getD w (3 + 5 * r) 0;
-      tuples = getD w (3 + 5 * r + 1) 0;
-      nots = getD w (3 + 5 * r + 2) 0;
-      free = getD w (3 + 5 * r + 3) 0;
-      kind = getD w (3 + 5 * r + 4) 0;
+      sets = getD w (relationPlace r) 0;
+      tuples = getD w (relationPlace r + 1) 0;
+      nots = getD w (relationPlace r + 2) 0;
+      free = getD w (relationPlace r + 3) 0;
+      kind = getD w (relationPlace r + 4) 0;
     }
 
 unfoldable pub nodeLine : List ℕ → ℕ → NodeLine
 nodeLine w v =
     record {
-      acts = getD w (93 + 11 * v) 0;
-      atoms = getD w (93 + 11 * v + 1) 0;
-      kind = getD w (93 + 11 * v + 2) 0;
-      level = getD w (93 + 11 * v + 3) 0;
-      first = getD w (93 + 11 * v + 4) 0;
-      many = getD w (93 + 11 * v + 5) 0;
-      width = getD w (93 + 11 * v + 6) 0;
-      levels = getD w (93 + 11 * v + 7) 0 ∷ getD w (93 + 11 * v + 8) 0 ∷ getD w (93 + 11 * v + 9) 0 ∷ getD w (93 + 11 * v + 10) 0 ∷ [];
+      acts = getD w (nodePlace v) 0;
+      atoms = getD w (nodePlace v + 1) 0;
+      kind = getD w (nodePlace v + 2) 0;
+      level = getD w (nodePlace v + 3) 0;
+      first = getD w (nodePlace v + 4) 0;
+      many = getD w (nodePlace v + 5) 0;
+      width = getD w (nodePlace v + 6) 0;
+      levels = getD w (nodePlace v + 7) 0 ∷ getD w (nodePlace v + 8) 0 ∷ getD w (nodePlace v + 9) 0 ∷ getD w (nodePlace v + 10) 0 ∷ [];
+      range = getD w (nodePlace v + 11) 0;
+      count = getD w (nodePlace v + 12) 0;
     }
 
 unfoldable pub partLine : List ℕ → ℕ → PartLine
 partLine w i =
     record {
-      start = getD w (808 + 5 * i) 0;
-      weights = getD w (808 + 5 * i + 1) 0 ∷ getD w (808 + 5 * i + 2) 0 ∷ getD w (808 + 5 * i + 3) 0 ∷ getD w (808 + 5 * i + 4) 0 ∷ [];
+      start = getD w (partPlace i) 0;
+      weights = getD w (partPlace i + 1) 0 ∷ getD w (partPlace i + 2) 0 ∷ getD w (partPlace i + 3) 0 ∷ getD w (partPlace i + 4) 0 ∷ [];
     }
 
 -- the number of a part's atom at values of the levels
@@ -61,12 +80,25 @@ partNumber e q = q .start + weighed e (valueIn (q .weights))
 unfoldable pub partAt : List ℕ → Values → ℕ → ℕ
 partAt w e i = partNumber e (partLine w i)
 
--- ---- ranges
+-- k numbers of the table from place a on; the elements that a quantifier's variable goes over
+unfoldable pub membersIn : List ℕ → ℕ → ℕ → List ℕ
+membersIn w a k = map (λ i. getD w (a + i) 0) (below k)
+
+abbrev pub rangeIn : List ℕ → NodeLine → List ℕ
+rangeIn w v = membersIn w (v .range) (v .count)
+
+-- ---- what keeps indexes and sums in range
 pub record NodeFits (v : NodeLine) : Type 0 where
   pub width : v .width ≤ 4
   pub levels : Levels (v .levels)
   pub level : v .level < 4
   pub parts : v .first + v .many ≤ 64
+
+-- a quantifier's range is in the table, its members are elements, and the first range has all of them
+pub record RangeFits (w : List ℕ) (v : NodeLine) : Type 0 where
+  pub inside : v .range + v .count ≤ tableLength
+  pub member : (i : ℕ) → i < v .count → getD w (v .range + i) 0 < sizeIn w
+  pub whole : v .range ≡ rangesPlace → rangeIn w v ≡ below (sizeIn w)
 
 pub record Fits (w : List ℕ) : Type 0 where
   pub whole : length w ≡ tableLength
@@ -76,3 +108,4 @@ pub record Fits (w : List ℕ) : Type 0 where
   pub nodes : nodesIn w ≤ 64
   pub entry : (i : ℕ) → getD w i 0 ≤ 2 ^ 32
   pub node : (v : ℕ) → v < 64 → NodeFits (nodeLine w v)
+  pub range : (v : ℕ) → v < 64 → RangeFits w (nodeLine w v)

@@ -1,19 +1,23 @@
 -- Laws of tests of lists of bits.
 use mathlib.Core.Path.{_≡_, refl, sym, ap, _∙_, subst}
 use mathlib.Core.Bool.{Bool, true, false, _&&_}
+use mathlib.Core.Option.{Option, none, some}
 use mathlib.Core.List.{List, [], _∷_, map}
 use Prim.Native.Nat.{ℕ, zero, suc, _+_, _-_, _*_, _/_, _%_, _^_, _≤_, _<_}
 use native.Mathlib.Nat.{mul-le-mul}
 use native.Mathlib.Omega.{arith}
-use borrow.Author.Tests.{lt-ltb, le-ltb}
-use lib.ListN.{length, getD, take, set}
-use Rattle.definitions.specs.Lists.{all, from}
+use borrow.Author.Tests.{lt-ltb, le-ltb, ltb-true}
+use lib.Dec.{ltb}
+use lib.ListN.{length, getD, take, set, length-map}
+use Rattle.definitions.specs.Lists.{if_then_else_, all, option, filter, from, below, last, before}
 use Rattle.definitions.specs.Atoms.{placesOf}
 use Rattle.definitions.specs.Actions.{Values, valuesIn, withValue}
+use Rattle.laws.specs.Lists.{length-below, getD-below}
+use Rattle.laws.specs.Members.{before-least, before-below}
 use Rattle.rows.specs.Values.{valueIn, Most, Within}
 use Rattle.rows.specs.Laws.{value-zeros, set-value}
-use Rattle.ground.specs.Lines.{sizeIn, relationLine, nodeLine, partLine, partNumber, partAt, NodeFits, Fits}
-use Rattle.ground.specs.Numbers.{freeNumbers, setNeeds, rowValues, underAt, andNeeds, orNeeds, existsNeeds, upTo, forallNeeds, goalNeeds, needNumbers, ActFits}
+use Rattle.ground.specs.Lines.{relationPlace, nodePlace, partPlace, sizeIn, relationLine, nodeLine, partLine, partNumber, partAt, membersIn, rangeIn, NodeFits, RangeFits, Fits}
+use Rattle.ground.specs.Numbers.{freeNumbers, setNeeds, rowValues, underAt, andNeeds, orNeeds, existsNeeds, ownBefore, forallNeeds, goalNeeds, needNumbers, ActFits}
 use Rattle.ground.specs.declared.RelationLine.{RelationLine}
 use Rattle.ground.specs.declared.NodeLine.{NodeLine}
 use Rattle.ground.specs.declared.PartLine.{PartLine}
@@ -96,6 +100,67 @@ module _ (s : ℕ → Bool) (f : ℕ → ℕ) where
       let d : first + 0 ≡ first = omega arith in
       rw (m, d)
 
+-- ---- a range of the table: its length and its members
+pub members-length : (t : List ℕ) (a k : ℕ) → length (membersIn t a k) ≡ k
+unfolding membersIn
+members-length t a k = length-map (below k) (λ i. getD t (a + i) 0) ∙ length-below k
+
+pub member-at : (t : List ℕ) (a k i : ℕ) → i < k → getD (membersIn t a k) i 0 ≡ getD t (a + i) 0
+unfolding membersIn
+member-at t a k i h =
+    let l : i < length (below k) = omega (arith, length-below k) in
+    getD-map (λ j. getD t (a + j) 0) (below k) i l ∙ ap (λ (j : ℕ). getD t (a + j) 0) (getD-below k i h)
+  where
+    getD-map : (f : ℕ → ℕ) (xs : List ℕ) (i : ℕ) → i < length xs → getD (map f xs) i 0 ≡ f (getD xs i 0)
+    getD-map f [] i h = absurd (omega arith)
+    getD-map f (x ∷ xs) zero h = refl
+    getD-map f (x ∷ xs) (suc i) h = getD-map f xs i (omega arith)
+
+-- ---- the element before one, sought in the table
+in-whole : (t : List ℕ) (range count z : ℕ) → z < sizeIn t → membersIn t range count ≡ below (sizeIn t) → z ≡ option (before (membersIn t range count) z) 0 suc
+unfolding option
+in-whole t range count zero h e = rw (e, before-least (sizeIn t)) refl
+in-whole t range count (suc z) h e = rw (e, before-below (sizeIn t) z (omega arith)) refl
+
+pub before-whole : (t : List ℕ) (range count z r : ℕ) → r ≡ z → z < sizeIn t → membersIn t range count ≡ below (sizeIn t) → r ≡ option (before (membersIn t range count) z) 0 suc
+before-whole t range count z r e h q = e ∙ in-whole t range count z h q
+
+one-turn : (y found : ℕ) (b : Bool) (l : List ℕ) → option (last (if b then y ∷ l else l)) found suc ≡ option (last l) (if b then suc y else found) suc
+unfolding last option
+one-turn y found true l = from-last (last l)
+  where
+    from-last : (o : Option ℕ) → suc (option o y (λ x. x)) ≡ option o (suc y) suc
+    from-last none = refl
+    from-last (some x) = refl
+one-turn y found false l = refl
+
+pub latest-low : (found y z r : ℕ) → r ≡ (if ltb y z then suc y else found) → found ≤ z → r ≤ z
+latest-low found y z r e h = by-test (ltb y z) refl e
+  where
+    by-test : (b : Bool) → ltb y z ≡ b → r ≡ (if b then suc y else found) → r ≤ z
+    by-test true t e = omega (arith, ltb-true y z t)
+    by-test false t e = omega arith
+
+-- the search from member i on, where so much was found before
+unfoldable pub beforeFrom : List ℕ → (range count z i found : ℕ) → ℕ
+beforeFrom t range count z i found = option (last (filter (λ m. ltb m z) (map (λ i. getD t (range + i) 0) (from i (count - i))))) found suc
+
+module _ (t : List ℕ) (range count z : ℕ) where
+  pub before-start : option (before (membersIn t range count) z) 0 suc ≡ beforeFrom t range count z 0 0
+  unfolding before beforeFrom membersIn below
+  before-start = let e : count - 0 ≡ count = omega arith in rw e refl
+
+  pub before-turn : (i found r : ℕ) → i < count → r ≡ (if ltb (getD t (range + i) 0) z then suc (getD t (range + i) 0) else found) → beforeFrom t range count z i found ≡ beforeFrom t range count z (i + 1) r
+  unfolding beforeFrom from filter last option
+  before-turn i found r h e =
+      let left : count - i ≡ suc (count - (i + 1)) = omega arith in
+      let next : i + 1 ≡ suc i = omega arith in
+      rw (left, next, e) (one-turn (getD t (range + i) 0) found (ltb (getD t (range + i) 0) z) (filter (λ m. ltb m z) (map (λ i. getD t (range + i) 0) (from (suc i) (count - suc i)))))
+
+  pub before-end : (i found : ℕ) → count ≤ i → beforeFrom t range count z i found ≡ found
+  unfolding beforeFrom from filter last option
+  before-end i found h = let m : count - i ≡ 0 = omega arith in rw m refl
+
 -- ---- set
 module _ (s : ℕ → Bool) (n : ℕ) (k : RelationLine) (row : ℕ) where
   pub set-no : s 0 ≡ false → false ≡ all s (setNeeds n k row)
@@ -154,17 +219,22 @@ module _ (s : ℕ → Bool) (n : ℕ) (t : List ℕ) (v : NodeLine) (row : ℕ) 
   unfolding forallNeeds
   forall-not z e q = all-yes s 1 _ false e (all-no s (underAt n t v row z) _ q)
 
-  pub forall-first : (z : ℕ) → z ≡ 0 → s 1 ≡ true → s (underAt n t v row z) ≡ true → true ≡ all s (forallNeeds n t v row z)
-  unfolding forallNeeds upTo
-  forall-first z o e q = all-yes s 1 _ true e (all-yes s (underAt n t v row z) _ true q (rw o (all-nil s)))
-
-  pub forall-next : (z : ℕ) (b : Bool) → 0 < z → s 1 ≡ true → s (underAt n t v row z) ≡ true → b ≡ s (v .atoms + (row * n + (z - 1))) → b ≡ all s (forallNeeds n t v row z)
-  unfolding forallNeeds upTo
-  forall-next z b h e q f = all-yes s 1 _ b e (all-yes s (underAt n t v row z) _ b q (go z h f))
+  -- by the element before z and 1, and 0 where there is none
+  pub forall-first : (z y : ℕ) → y ≡ option (before (rangeIn t v) z) 0 suc → y ≡ 0 → s 1 ≡ true → s (underAt n t v row z) ≡ true → true ≡ all s (forallNeeds n t v row z)
+  unfolding forallNeeds ownBefore option
+  forall-first z y b o e q = all-yes s 1 _ true e (all-yes s (underAt n t v row z) _ true q (none-own (before (rangeIn t v) z) (sym b ∙ o)))
     where
-      go : (z : ℕ) → 0 < z → b ≡ s (v .atoms + (row * n + (z - 1))) → b ≡ all s (upTo n v row z)
-      go zero h f = absurd (omega arith)
-      go (suc z) h f = let d : suc z - 1 ≡ z = omega arith in rw d at f ∙ all-one s (v .atoms + (row * n + z))
+      none-own : (x : Option ℕ) → option x 0 suc ≡ 0 → true ≡ all s (option x [] (λ y. (v .atoms + (row * n + y)) ∷ []))
+      none-own none h = all-nil s
+      none-own (some x) h = absurd (omega arith)
+
+  pub forall-next : (z y : ℕ) (b : Bool) → y ≡ option (before (rangeIn t v) z) 0 suc → 0 < y → s 1 ≡ true → s (underAt n t v row z) ≡ true → b ≡ s (v .atoms + (row * n + (y - 1))) → b ≡ all s (forallNeeds n t v row z)
+  unfolding forallNeeds ownBefore option
+  forall-next z y b k h e q f = all-yes s 1 _ b e (all-yes s (underAt n t v row z) _ b q (one-own (before (rangeIn t v) z) (sym k)))
+    where
+      one-own : (x : Option ℕ) → option x 0 suc ≡ y → b ≡ all s (option x [] (λ y. (v .atoms + (row * n + y)) ∷ []))
+      one-own none i = absurd (omega arith)
+      one-own (some x) i = let d : y - 1 ≡ x = omega arith in rw d at f ∙ all-one s (v .atoms + (row * n + x))
 
 -- ---- by the action
 module _ (s : ℕ → Bool) (t : List ℕ) (a : Act) (b : Bool) where
@@ -214,15 +284,15 @@ module _ (t : List ℕ) (fits : Fits t) where
 
   pub part-small : (i : ℕ) (q : PartLine) → q ≡ partLine t i → (q .start ≤ 2 ^ 32) × Most (q .weights) (2 ^ 32)
   unfolding partLine
-  part-small i q e = rw e (fits .entry (808 + 5 * i), entries (808 + 5 * i + 1) (808 + 5 * i + 2) (808 + 5 * i + 3) (808 + 5 * i + 4))
+  part-small i q e = rw e (fits .entry (partPlace i), entries (partPlace i + 1) (partPlace i + 2) (partPlace i + 3) (partPlace i + 4))
 
   pub relation-small : (r : ℕ) (k : RelationLine) → k ≡ relationLine t r → (k .tuples ≤ 2 ^ 32) × (k .nots ≤ 2 ^ 32) × (k .free ≤ 2 ^ 32)
   unfolding relationLine
-  relation-small r k e = rw e (fits .entry (3 + 5 * r + 1), fits .entry (3 + 5 * r + 2), fits .entry (3 + 5 * r + 3))
+  relation-small r k e = rw e (fits .entry (relationPlace r + 1), fits .entry (relationPlace r + 2), fits .entry (relationPlace r + 3))
 
-  pub node-small : (v : ℕ) (x : NodeLine) → x ≡ nodeLine t v → v < 64 → NodeFits x × (x .atoms ≤ 2 ^ 32)
+  pub node-small : (v : ℕ) (x : NodeLine) → x ≡ nodeLine t v → v < 64 → NodeFits x × (x .atoms ≤ 2 ^ 32) × RangeFits t x
   unfolding nodeLine
-  node-small v x e h = (subst NodeFits (sym e) (fits .node v h), rw e (fits .entry (93 + 11 * v + 1)))
+  node-small v x e h = (subst NodeFits (sym e) (fits .node v h), rw e (fits .entry (nodePlace v + 1)), subst (RangeFits t) (sym e) (fits .range v h))
 
 pub within-most : (n : ℕ) (env : List ℕ) → n ≤ 64 → Within n env → Most env 64
 within-most n env h w l = omega (arith, w l)

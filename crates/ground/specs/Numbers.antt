@@ -4,10 +4,10 @@ use mathlib.Core.List.{List, [], _∷_, map}
 use Prim.Native.Nat.{ℕ, zero, suc, _+_, _*_, _/_, _%_, _^_, _≤_, _<_}
 use lib.Dec.{ltb, eqb}
 use lib.ListN.{take}
-use Rattle.definitions.specs.Lists.{if_then_else_, any, from}
+use Rattle.definitions.specs.Lists.{if_then_else_, any, option, from, before}
 use Rattle.definitions.specs.Atoms.{placesOf}
 use Rattle.definitions.specs.Actions.{Values, valuesIn, withValue}
-use Rattle.ground.specs.Lines.{sizeIn, relationLine, nodeLine, partAt}
+use Rattle.ground.specs.Lines.{sizeIn, relationLine, nodeLine, partAt, rangeIn}
 use Rattle.ground.specs.declared.RelationLine.{RelationLine}
 use Rattle.ground.specs.declared.NodeLine.{NodeLine}
 use Rattle.ground.specs.declared.Act.{Act}
@@ -41,13 +41,12 @@ orNeeds n w v row i = 1 ∷ partAt w (rowValues n v row) (v .first + i) ∷ []
 unfoldable pub existsNeeds : ℕ → List ℕ → NodeLine → ℕ → ℕ → List ℕ
 existsNeeds n w v row x = 1 ∷ underAt n w v row x ∷ []
 
--- "true up to z−1", unless z is 0
-unfoldable pub upTo : ℕ → NodeLine → ℕ → ℕ → List ℕ
-upTo n v row zero = []
-upTo n v row (suc z) = (v .atoms + (row * n + z)) ∷ []
+-- "true up to the element before z", where the range has one
+unfoldable pub ownBefore : ℕ → List ℕ → NodeLine → ℕ → ℕ → List ℕ
+ownBefore n w v row z = option (before (rangeIn w v) z) [] (λ y. (v .atoms + (row * n + y)) ∷ [])
 
 unfoldable pub forallNeeds : ℕ → List ℕ → NodeLine → ℕ → ℕ → List ℕ
-forallNeeds n w v row z = 1 ∷ underAt n w v row z ∷ upTo n v row z
+forallNeeds n w v row z = 1 ∷ underAt n w v row z ∷ ownBefore n w v row z
 
 unfoldable pub goalNeeds : List ℕ → List ℕ
 goalNeeds w = partAt w (λ _. 0) 64 ∷ []

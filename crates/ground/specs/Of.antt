@@ -5,13 +5,13 @@ use mathlib.Core.Option.{Option, none, some}
 use mathlib.Core.List.{List, []}
 use Prim.Native.Nat.{ℕ, _+_, _*_, _≤_, _<_}
 use lib.ListN.{length, getD}
-use Rattle.definitions.specs.Lists.{below}
 use Rattle.definitions.specs.Relations.{Kind, static, plain, Fun, PFun, Inj, PInj}
-use Rattle.definitions.specs.Tree.{Tree, leaf, Part, parts}
+use Rattle.definitions.specs.Tree.{Tree, leaf, Part, parts, nodeSort}
 use Rattle.definitions.specs.Atoms.{Problem, relationAt, nodeAt, relationStart, nodeStart, tuplesOf, atomNumber}
 use Rattle.definitions.specs.Actions.{Action, set, beginProof, proveAnd, proveOr, proveExists, proveForall, proveGoal, setStart, proofStart, Values, valuesAt, partAtom}
+use Rattle.laws.specs.Members.{IsRange}
 use Rattle.tree.specs.Tables.{nodeKind, nodeLevel}
-use Rattle.ground.specs.Lines.{sizeIn, relationsIn, nodesIn, relationLine, nodeLine, partLine, partNumber}
+use Rattle.ground.specs.Lines.{sizeIn, relationsIn, nodesIn, relationLine, nodeLine, partLine, partNumber, rangeIn}
 use Rattle.ground.specs.Numbers.{rowValues}
 use Rattle.ground.specs.declared.RelationLine.{RelationLine}
 use Rattle.ground.specs.declared.NodeLine.{NodeLine}
@@ -46,13 +46,14 @@ pub record IsNode (p : Problem) (w : List ℕ) (v : ℕ) (u : Tree) (x : NodeLin
   pub level : x .level ≡ nodeLevel u
   pub values : (row : ℕ) → rowValues (p .size) x row ≡ valuesAt (p .size) u row
   pub many : x .many ≡ length (parts v u)
+  pub range : nodeKind u < 2 → rangeIn w x ≡ p .range (nodeSort u)
   pub part : (i : ℕ) → i < length (parts v u) → IsPart p (partLine w (x .first + i)) (getD (parts v u) i noPart .node) (getD (parts v u) i noPart .tree)
 
 -- the table is that of the problem
 pub record Is (p : Problem) (w : List ℕ) : Type 0 where
   pub size : sizeIn w ≡ p .size
   pub element : 0 < p .size
-  pub ranges : (s : ℕ) → p .range s ≡ below (p .size)
+  pub ranges : (s : ℕ) → IsRange (p .size) (p .range s)
   pub relations : relationsIn w ≡ length (p .relations)
   pub nodes : nodesIn w ≡ length (p .nodeList)
   pub sets : (r : ℕ) → r ≤ length (p .relations) → relationLine w r .sets ≡ setStart p r

@@ -1,6 +1,7 @@
 -- The numbers by the table are those of the problem's atoms.
 use mathlib.Core.Path.{_≡_, refl, sym, ap, ap₂, _∙_, subst}
 use mathlib.Core.Bool.{Bool, _&&_}
+use mathlib.Core.Option.{Option, none, some}
 use mathlib.Core.List.{List, [], _∷_, _++_, map, List·Memᴰ}
 use Prim.Native.Nat.{ℕ, zero, suc, _+_, _-_, _*_, _/_, _%_, _≤_, _<_}
 use native.Mathlib.Nat.{add-zero}
@@ -8,18 +9,16 @@ use native.Mathlib.Omega.{arith}
 use lib.Arith.{digits-lt}
 use lib.ListN.{length, getD, take, drop, length-map, List·getD-map}
 use lib.Seq.{drop-cons}
-use Rattle.definitions.specs.Lists.{if_then_else_, all, option, from}
+use Rattle.definitions.specs.Lists.{if_then_else_, all, option, from, before}
 use Rattle.definitions.specs.Relations.{Kind, static, plain, Fun, PFun, Inj, PInj, isFunction, isInjective}
 use Rattle.definitions.specs.Tree.{Tree, Trees, end, _then_, leaf, forallNode, existsNode, andNode, orNode, Part, parts, partsFrom, howMany, nodes, isForall, nodeSort}
-use Rattle.definitions.specs.Atoms.{Problem, State, relationAt, nodeAt, relationStart, tuplesOf, rowsOf, nodeWidth, Atom, freeDomain, freeRange, atomNumber, atoms}
+use Rattle.definitions.specs.Atoms.{Problem, State, relationAt, nodeAt, relationStart, tuplesOf, rowsOf, nodeWidth, Atom, freeDomain, freeRange, holdsNode, atomNumber, atoms}
 use Rattle.definitions.specs.Actions.{Values, withValue, valuesAt, partAtom, partAtoms, underAtom, freeAtoms, forallNeeds, Action, set, beginProof, proveAnd, proveOr, proveExists, proveForall, proveGoal, needs, adds, removes}
 use Rattle.definitions.specs.Strips.{mayTake, after}
-use Rattle.laws.specs.Lists.{below-lt}
-use Rattle.laws.specs.Members.{before-least, before-below}
 use Rattle.laws.specs.Numbers.{IsAction, set-below, tuple-below, node-below, three-atoms}
 use Rattle.tree.specs.Tables.{nodeKind, nodeLevel}
 use Rattle.ground.specs.Lines.{sizeIn, relationLine, nodeLine, partLine, partAt}
-use Rattle.ground.specs.Numbers.{freeNumbers, rowValues, underAt, needNumbers, addNumbers, removeNumbers, setNeeds, setRemoves, andNeeds, orNeeds, existsNeeds, upTo, forallNeeds as forallNumbers, goalNeeds, changed, Held}
+use Rattle.ground.specs.Numbers.{freeNumbers, rowValues, underAt, needNumbers, addNumbers, removeNumbers, setNeeds, setRemoves, andNeeds, orNeeds, existsNeeds, ownBefore, forallNeeds as forallNumbers, goalNeeds, changed, Held}
 use Rattle.ground.specs.Of.{kindNumber, IsPart, noPart, IsNode, Is, said}
 use Rattle.ground.specs.declared.NodeLine.{NodeLine}
 
@@ -34,7 +33,7 @@ take-one i xs d h = ap (take 1) (drop-cons xs i d h)
 module _ (p : Problem) (w : List ℕ) (is : Is p w) where
   -- an element of a range is one of the elements
   in-range : (s z : ℕ) → List·Memᴰ z (p .range s) → z < p .size
-  in-range s z m = below-lt (p .size) z (rw (is .ranges s) at m)
+  in-range s z m = is .ranges s .small z m
 
   -- ---- parts
   one-part : (e : Values) (i v : ℕ) (u : Tree) → IsPart p (partLine w i) v u → partAt w e i ≡ atomNumber p (partAtom (p .size) (p .range) e v u)
@@ -101,14 +100,16 @@ module _ (p : Problem) (w : List ℕ) (is : Is p w) where
       free-are (relationAt p r .kind) r row (relationLine w r .free) (is .relation r h .free)
       ∙ ap (λ (k : ℕ). freeNumbers (p .size) k (relationLine w r .free) row) (sym (is .relation r h .kind))
 
-  forall-are : (v row z : ℕ) → v < length (p .nodeList) → nodeKind (nodeAt p v) ≡ 0 → z < p .size
-      → map (atomNumber p) (forallNeeds (p .size) (p .range) v (nodeAt p v) row z) ≡ underAt (p .size) w (nodeLine w v) row z ∷ upTo (p .size) (nodeLine w v) row z
-  unfolding forallNeeds upTo atomNumber option
-  forall-are v row zero h k l =
-      rw (is .ranges (nodeSort (nodeAt p v)), before-least (p .size)) (ap (λ (x : ℕ). x ∷ []) (sym (under-at v (nodeAt p v) (nodeLine w v) (is .node v h) (omega arith) row zero)))
-  forall-are v row (suc z) h k l =
-      rw (is .ranges (nodeSort (nodeAt p v)), before-below (p .size) z (omega arith))
-      (ap₂ (λ (x y : ℕ). x ∷ (y + (row * p .size + z)) ∷ []) (sym (under-at v (nodeAt p v) (nodeLine w v) (is .node v h) (omega arith) row (suc z))) (sym (is .node v h .atoms)))
+  forall-are : (v row z : ℕ) → v < length (p .nodeList) → nodeKind (nodeAt p v) ≡ 0
+      → map (atomNumber p) (forallNeeds (p .size) (p .range) v (nodeAt p v) row z) ≡ underAt (p .size) w (nodeLine w v) row z ∷ ownBefore (p .size) w (nodeLine w v) row z
+  unfolding forallNeeds ownBefore option atomNumber
+  forall-are v row z h k =
+      rw (is .node v h .range (omega arith))
+      (ap₂ {C = List ℕ} _∷_ (sym (under-at v (nodeAt p v) (nodeLine w v) (is .node v h) (omega arith) row z)) (own-are (before (p .range (nodeSort (nodeAt p v))) z)))
+    where
+      own-are : (o : Option ℕ) → map (atomNumber p) (option o [] (λ y. holdsNode v (row * p .size + y) ∷ [])) ≡ option o [] (λ y. (nodeLine w v .atoms + (row * p .size + y)) ∷ [])
+      own-are none = refl
+      own-are (some y) = ap (λ (x : ℕ). (x + (row * p .size + y)) ∷ []) (sym (is .node v h .atoms))
 
   or-length : (v i : ℕ) (u : Tree) (ts : Trees) → u ≡ orNode ts → i < howMany ts → i < length (parts v u)
   unfolding parts
@@ -125,7 +126,7 @@ module _ (p : Problem) (w : List ℕ) (is : Is p w) where
       rw (q, e) (ap (λ (xs : List ℕ). 1 ∷ xs) (sym (some-part v (nodeAt p v) (nodeLine w v) (is .node v (a .0)) row i (or-length v i (nodeAt p v) (a .2 .0) (a .2 .1) (a .2 .2)))))
   needs-at (proveExists v row x) a n e q =
       rw (q, e) (ap (λ (y : ℕ). 1 ∷ y ∷ []) (sym (under-at v (nodeAt p v) (nodeLine w v) (is .node v (a .0)) (rw (a .2 .3) (omega arith)) row x)))
-  needs-at (proveForall v row z) a n e q = rw (q, e) (ap (λ (xs : List ℕ). 1 ∷ xs) (forall-are v row z (a .0) (ap nodeKind (a .2 .3)) (in-range (a .2 .1) z (a .2 .4))))
+  needs-at (proveForall v row z) a n e q = rw (q, e) (ap (λ (xs : List ℕ). 1 ∷ xs) (forall-are v row z (a .0) (ap nodeKind (a .2 .3))))
   needs-at proveGoal a n e q = ap (λ (y : ℕ). y ∷ []) (sym (one-part (λ _. 0) 64 0 (p .root) (is .root)))
 
   pub needs-are : (x : Action) → IsAction p x → map (atomNumber p) (needs p x) ≡ needNumbers w (said x)

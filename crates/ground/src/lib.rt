@@ -2,17 +2,34 @@
 // adds and removes. Nothing is listed, and an action costs its own parts.
 ghost use mathlib.Core.Path.{_≡_};
 ghost use mathlib.Core.List.{[], _∷_, map};
-ghost use Prim.Native.Nat.{_+_, _*_, _/_, _^_, _<_, _≤_};
+ghost use Prim.Native.Nat.{suc, _+_, _*_, _/_, _^_, _<_, _≤_};
+ghost use lib.Dec.{ltb};
 ghost use lib.ListN.{length};
-ghost use Rattle.definitions.specs.Lists.{all, from};
+ghost use Rattle.definitions.specs.Lists.{if_then_else_, all, option, from, below, before};
 ghost use Rattle.bits.specs.Table.{bit};
 ghost use Rattle.rows.specs.Values.{valueIn, Most};
-ghost use Rattle.ground.specs.Lines.{tableLength, relationLine, nodeLine, partLine, partNumber, partAt, NodeFits, Fits};
+ghost use Rattle.ground.specs.Lines.{tableLength, rangesPlace, sizeIn, membersIn, relationLine, nodeLine, partLine, partNumber, partAt, NodeFits, RangeFits, Fits};
 ghost use Rattle.ground.specs.Numbers.{freeNumbers, setNeeds, andNeeds, orNeeds, existsNeeds, forallNeeds, goalNeeds, underAt, setRemoves, ActFits, needNumbers, addNumbers, removeNumbers, changed, Held};
 
 // The numbers of a table: n, how many relations and how many nodes there are; a line for each relation and one past the last; a
-// line for each node and one past the last; a line for each part, and the root's last.
-pub const TABLE: usize = 1133;
+// line for each node and one past the last; a line for each part, and the root's last; the ranges, that of all elements first.
+pub const RELATION_AT: usize = 3;
+
+pub const RELATION_LINE: usize = 5;
+
+pub const NODE_AT: usize = 93;
+
+pub const NODE_LINE: usize = 13;
+
+pub const PART_AT: usize = 938;
+
+pub const PART_LINE: usize = 5;
+
+pub const ROOT_AT: usize = 1258;
+
+pub const RANGE_AT: usize = 1263;
+
+pub const TABLE: usize = 1327;
 
 // A relation: where its set actions, its tuples, its not-tuples and its free atoms start; its kind (0 static, 1 plain, 2 Fun,
 // 3 PFun, 4 Inj, 5 PInj).
@@ -25,7 +42,8 @@ pub struct RelationLine {
 }
 
 // A node: where its actions and its atoms start; its kind (0 forall, 1 exists, 2 and, 3 or), a quantifier's level, its first
-// part, how many there are, and its free levels, outermost first, of which the first `width` count.
+// part, how many there are, and its free levels, outermost first, of which the first `width` count; where a quantifier's range
+// starts in the table, and how many elements it has.
 pub struct NodeLine {
     pub acts: usize,
     pub atoms: usize,
@@ -35,6 +53,8 @@ pub struct NodeLine {
     pub many: usize,
     pub width: usize,
     pub levels: [usize; 4],
+    pub range: usize,
+    pub count: usize,
 }
 
 // A part: its atom's number where all values are 0, and by how much that grows with the value of each level.
@@ -77,7 +97,7 @@ pub fn relation_line(table: &[usize], r: usize) -> RelationLine
     requires { ⌜ (length (now table) ≡ tableLength) × (r < 18) ⌝ }
     ensures { λ x. ⌜ x ≡ relationLine (now (table .entry)) r ⌝ }
 {
-    let at = 3 + 5 * r;
+    let at = RELATION_AT + RELATION_LINE * r;
     RelationLine {
         sets: table[at],
         tuples: table[at + 1],
@@ -92,7 +112,7 @@ pub fn node_line(table: &[usize], v: usize) -> NodeLine
     requires { ⌜ (length (now table) ≡ tableLength) × (v < 65) ⌝ }
     ensures { λ x. ⌜ x ≡ nodeLine (now (table .entry)) v ⌝ }
 {
-    let at = 93 + 11 * v;
+    let at = NODE_AT + NODE_LINE * v;
     let levels = [table[at + 7], table[at + 8], table[at + 9], table[at + 10]];
     NodeLine {
         acts: table[at],
@@ -103,6 +123,8 @@ pub fn node_line(table: &[usize], v: usize) -> NodeLine
         many: table[at + 5],
         width: table[at + 6],
         levels,
+        range: table[at + 11],
+        count: table[at + 12],
     }
 }
 
@@ -111,7 +133,7 @@ pub fn part_line(table: &[usize], i: usize) -> PartLine
     requires { ⌜ (length (now table) ≡ tableLength) × (i < 65) ⌝ }
     ensures { λ x. ⌜ x ≡ partLine (now (table .entry)) i ⌝ }
 {
-    let at = 808 + 5 * i;
+    let at = PART_AT + PART_LINE * i;
     let weights = [table[at + 1], table[at + 2], table[at + 3], table[at + 4]];
     PartLine {
         start: table[at],
@@ -256,17 +278,45 @@ fn may_exists(state: &[u64], n: usize, table: &[usize], v: NodeLine, row: usize,
     false
 }
 
+// y and 1 where y is below z; what was found so far where it is not.
+fn latest(found: usize, y: usize, z: usize) -> usize
+    ensures { λ r. ⌜ r ≡ (if ltb y z then suc y else found) ⌝ }
+{
+    if y < z {
+        return y + 1;
+    }
+    found
+}
+
+// The element before z in a range of the table, and 1; 0 where there is none. In the range of all elements that is z itself.
+fn element_before(table: &[usize], range: usize, count: usize, z: usize) -> usize
+    requires { ⌜ (length (now table) ≡ tableLength) × (range + count ≤ tableLength) × (z < sizeIn (now table)) × (range ≡ rangesPlace → membersIn (now table) range count ≡ below (sizeIn (now table))) ⌝ }
+    ensures { λ r. ⌜ (r ≡ option (before (membersIn (now (table .entry)) range count) z) 0 suc) × (r ≤ z) ⌝ }
+{
+    if range == RANGE_AT {
+        return z;
+    }
+    let mut found: usize = 0;
+    let mut i: usize = 0;
+    while i < count {
+        found = latest(found, table[range + i], z);
+        i += 1;
+    }
+    found
+}
+
 // Whether all that proving a `forall` up to z needs holds.
 fn may_forall(state: &[u64], n: usize, table: &[usize], v: NodeLine, row: usize, z: usize) -> bool
-    requires { ⌜ (0 < n) × (n ≤ 64) × Fits (now table) × NodeFits v × (v .atoms ≤ 2 ^ 32) × (row ≤ 2 ^ 32) × (z < n) ⌝ }
+    requires { ⌜ (0 < n) × (n ≤ 64) × Fits (now table) × NodeFits v × RangeFits (now table) v × (n ≡ sizeIn (now table)) × (v .atoms ≤ 2 ^ 32) × (row ≤ 2 ^ 32) × (z < n) ⌝ }
     ensures { λ r. ⌜ r ≡ all (bit (now (state .entry))) (forallNeeds n (now (table .entry)) v row z) ⌝ }
 {
     if test(state, 1) {
         if under_holds(state, n, table, v, row, z) {
-            if z == 0 {
+            let y = element_before(table, v.range, v.count, z);
+            if y == 0 {
                 return true;
             }
-            return test(state, v.atoms + (row * n + (z - 1)));
+            return test(state, v.atoms + (row * n + (y - 1)));
         }
     }
     false

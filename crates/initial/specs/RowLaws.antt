@@ -16,7 +16,7 @@ use Rattle.definitions.specs.Relations.{builtInHolds}
 use Rattle.definitions.specs.Atoms.{wordsFor}
 use Rattle.bits.specs.Table.{bit, put, paste}
 use Rattle.bits.proofs.Laws.{put-same, put-other, paste-out, paste-zero, paste-step}
-use Rattle.ground.specs.Lines.{sizeIn, nodesIn, relationLine, nodeLine, Fits}
+use Rattle.ground.specs.Lines.{relationPlace, nodePlace, sizeIn, nodesIn, relationLine, nodeLine, Fits}
 use Rattle.ground.specs.declared.NodeLine.{NodeLine}
 use Rattle.ground.specs.declared.RelationLine.{RelationLine}
 use Rattle.initial.specs.Rows.{atomsIn, holdsAt, holdingAt, rowsIn, freeIn, tuplesPut, relationPut, wordsIn, firstIn, relationsPut, RelationRoom}
@@ -80,7 +80,7 @@ row-in k row h = omega arith
 
 pub rows-few : (w : List ℕ) → Fits w → (r : ℕ) → rowsIn (relationLine w r) ≤ 4294967296
 unfolding rowsIn relationLine
-rows-few w fits r = let l : getD w (3 + 5 * r + 2) 0 ≤ 4294967296 = fits .entry (3 + 5 * r + 2) in omega arith
+rows-few w fits r = let l : getD w (relationPlace r + 2) 0 ≤ 4294967296 = fits .entry (relationPlace r + 2) in omega arith
 
 module _ (n kind : ℕ) where
   pub free-none : kind < 2 → 0 ≡ freeIn n kind
@@ -189,7 +189,7 @@ module _ (f : List ℕ) (n r : ℕ) (k : RelationLine) (first : ℕ) (s : ℕ �
 -- ---- a relation, and all of them
 pub line-few : (w : List ℕ) → Fits w → (r : ℕ) (k : RelationLine) → k ≡ relationLine w r → (k .tuples ≤ 4294967296) × (k .nots ≤ 4294967296) × (k .free ≤ 4294967296)
 unfolding relationLine
-line-few w fits r k e = rw e (fits .entry (3 + 5 * r + 1), fits .entry (3 + 5 * r + 2), fits .entry (3 + 5 * r + 3))
+line-few w fits r k e = rw e (fits .entry (relationPlace r + 1), fits .entry (relationPlace r + 2), fits .entry (relationPlace r + 3))
 
 pub relation-put : (f w : List ℕ) (r first len : ℕ) (s : ℕ → Bool) (k : RelationLine) (c : ℕ) {d d′ : ℕ → Bool} → k ≡ relationLine w r → c ≡ freeIn (sizeIn w) (k .kind)
     → (k .nots + rowsIn k ≤ 64 * len → d ≡ tuplesPut f (sizeIn w) r k first (rowsIn k) s) → (k .free + c ≤ 64 * len → d′ ≡ paste d (k .free) (λ i. true) 0 c)
@@ -244,7 +244,7 @@ module _ (w : List ℕ) (fits : Fits w) where
 module _ (w : List ℕ) (x : NodeLine) (e : x ≡ nodeLine w (nodesIn w)) where
   pub atoms-few : Fits w → x .atoms ≤ 4294967296
   unfolding nodeLine
-  atoms-few fits = rw e (fits .entry (93 + 11 * nodesIn w + 1))
+  atoms-few fits = rw e (fits .entry (nodePlace (nodesIn w) + 1))
 
   pub atoms-words : (x .atoms + 63) / 64 ≡ wordsFor (atomsIn w)
   unfolding wordsFor

@@ -1,20 +1,21 @@
 -- Ranges: ascending lists of elements. An element and its rank, the elements up to one, the one before it and the greatest; and that
 -- the numbers below n are a range.
-use Prim.Native.Nat.{ℕ, zero, suc, _-_, _<_, _≤_}
+use Prim.Native.Nat.{ℕ, zero, suc, _+_, _-_, _<_, _≤_}
 use mathlib.Core.Path.{_≡_, refl, sym, ap, subst, _∙_}
 use mathlib.Core.Logic.{_⊎_, inl, inr, ⊎-elim}
 use mathlib.Core.Bool.{Bool, true, false, _&&_}
 use mathlib.Core.Option.{Option, none, some}
 use mathlib.Core.List.{List, [], _∷_, List·Memᴰ, List·Memᴰ·head, List·Memᴰ·tail, List·Memᴰ·not-nil, List·Memᴰ·cases-cons, Memᴰ·cast}
 use native.Mathlib.Omega.{arith}
+use native.Mathlib.Numerals.{add-one}
 use lib.Dec.{T, eqb, leb, ltb, eqb→eq, ltb→lt, lt→ltb, leb→le, le→leb}
 use lib.ListN.{length, getD}
-use borrow.Author.Tests.{eq-eqb}
+use borrow.Author.Tests.{eq-eqb, ltb-true, ltb-false}
 use Rattle.definitions.specs.Lists.{if_then_else_, all, any, filter, option, from, below, last, isIn, rank, upTo, before, greatest}
 use Rattle.definitions.specs.Truth.{Case, membersOf}
 use Rattle.definitions.specs.Built.{least}
 use Rattle.laws.specs.Booleans.{T-and-l, T-and-r, and-T, T-of, T-true, T-ext}
-use Rattle.laws.specs.Lists.{none-some, some-eq, below-lt, mem-below, getD-below, from-mem, mem-filter, filter-mem, all-at, all-of, any-at, any-of, getD-mem, length-below}
+use Rattle.laws.specs.Lists.{none-some, some-eq, below-lt, mem-below, getD-below, from-mem, mem-filter, filter-mem, all-at, all-of, any-at, any-of, getD-mem, mem-getD, length-below}
 use Rattle.laws.specs.Positions.{place, position-place, place-lt, place-holds, least-place}
 use Rattle.laws.specs.Repeats.{Once}
 
@@ -218,3 +219,117 @@ greatest-below n h =
     let l = below-lt n (greatest (below n)) m in
     let k = top (n - 1) (mem-below n (n - 1) (omega arith)) in
     omega arith
+
+-- ---- the members of an ascending list by their places
+pub ascending-lt : (ms : List ℕ) → Ascending ms → (i k : ℕ) → i < k → k < length ms → getD ms i 0 < getD ms k 0
+unfolding Ascending
+ascending-lt [] a i k h l = absurd (omega arith)
+ascending-lt (x ∷ ms) a i zero h l = absurd (omega arith)
+ascending-lt (x ∷ ms) a zero (suc k) h l = a .0 (getD ms k 0) (getD-mem ms k 0 (omega arith))
+ascending-lt (x ∷ ms) a (suc i) (suc k) h l = ascending-lt ms (a .1) i k (omega arith) (omega arith)
+
+ascending-le : (ms : List ℕ) → Ascending ms → (i k : ℕ) → i ≤ k → k < length ms → getD ms i 0 ≤ getD ms k 0
+ascending-le ms a i k h l = by-test (ltb i k) refl
+  where
+    by-test : (b : Bool) → ltb i k ≡ b → getD ms i 0 ≤ getD ms k 0
+    by-test true e = omega (arith, ascending-lt ms a i k (ltb-true i k e) l)
+    by-test false e =
+        let q = ltb-false i k e in
+        let s : i ≡ k = omega arith in
+        let g : getD ms i 0 ≡ getD ms k 0 = ap (λ (x : ℕ). getD ms x 0) s in
+        omega arith
+
+place-le : (ms : List ℕ) → Ascending ms → (i : ℕ) → i < length ms → i ≤ getD ms i 0
+place-le ms a zero h = omega arith
+place-le ms a (suc i) h = omega (arith, place-le ms a i (omega arith), ascending-lt ms a i (suc i) (omega arith) h)
+
+-- a range has at most all elements
+pub range-few : (n : ℕ) (ms : List ℕ) → IsRange n ms → length ms ≤ n
+range-few n ms r =
+    let h = r .some-member in
+    let l : length ms - 1 < length ms = omega arith in
+    omega (arith, place-le ms (r .ascends) (length ms - 1) l, r .small (getD ms (length ms - 1) 0) (getD-mem ms (length ms - 1) 0 l))
+
+-- how far the first i members reach: the number after the last of them, and 0 where i is 0
+unfoldable pub reached : List ℕ → ℕ → ℕ
+reached ms zero = zero
+reached ms (suc i) = suc (getD ms i 0)
+
+pub reached-none : (ms : List ℕ) → reached ms 0 ≡ 0
+unfolding reached
+reached-none ms = refl
+
+pub reached-next : (ms : List ℕ) (i : ℕ) → reached ms (i + 1) ≡ getD ms i 0 + 1
+unfolding reached
+reached-next ms i = rw (add-one, add-one) refl
+
+-- at most to n
+pub reached-most : (n : ℕ) (ms : List ℕ) → IsRange n ms → (i : ℕ) → i ≤ length ms → reached ms i ≤ n
+unfolding reached
+reached-most n ms r zero h = omega arith
+reached-most n ms r (suc i) h = omega (arith, r .small (getD ms i 0) (getD-mem ms i 0 (omega arith)))
+
+module _ (ms : List ℕ) (a : Ascending ms) where
+  pub reached-le : (i : ℕ) → i < length ms → reached ms i ≤ getD ms i 0
+  unfolding reached
+  reached-le zero h = omega arith
+  reached-le (suc i) h = omega (arith, ascending-lt ms a i (suc i) (omega arith) h)
+
+  -- a member past the first i is none of them
+  past : (i k : ℕ) → i ≤ length ms → reached ms i ≤ getD ms k 0 → i ≤ k
+  unfolding reached
+  past zero k l r = omega arith
+  past (suc i) k l r = by-test (ltb i k) refl
+    where
+      by-test : (b : Bool) → ltb i k ≡ b → suc i ≤ k
+      by-test true e = let q = ltb-true i k e in omega arith
+      by-test false e = let q = ltb-false i k e in absurd (omega (arith, ascending-le ms a k i q (omega arith)))
+
+  -- no element between neighbours is a member, nor one past the last
+  not-in : (z : ℕ) → (List·Memᴰ z ms → ⊥) → isIn z ms ≡ false
+  not-in z f = by-test (isIn z ms) refl
+    where
+      by-test : (b : Bool) → isIn z ms ≡ b → b ≡ false
+      by-test true e = absurd (f (in-mem z ms (T-of e)))
+      by-test false e = refl
+
+  pub between : (i z : ℕ) → i < length ms → reached ms i ≤ z → z < getD ms i 0 → isIn z ms ≡ false
+  between i z h l u = not-in z (λ m.
+      let (k, q, e) = mem-getD ms z 0 m in
+      omega (arith, ascending-le ms a i k (past i k (omega arith) (omega arith)) q))
+
+  pub behind : (z : ℕ) → reached ms (length ms) ≤ z → isIn z ms ≡ false
+  behind z l = not-in z (λ m.
+      let (k, q, e) = mem-getD ms z 0 m in
+      omega (arith, past (length ms) k (omega arith) (omega arith)))
+
+  -- the element before a member is its neighbour; the first has none before it
+  pub before-first : (i : ℕ) → i ≡ 0 → before ms (getD ms i 0) ≡ none
+  before-first i z = none-there (before ms (getD ms i 0)) refl
+    where
+      none-there : (o : Option ℕ) → before ms (getD ms i 0) ≡ o → o ≡ none
+      none-there none e = refl
+      none-there (some y) e =
+          let (m, l, top) = before-some ms (getD ms i 0) y a e in
+          let (k, q, g) = mem-getD ms y 0 m in
+          absurd (omega (arith, ascending-le ms a i k (omega arith) q))
+
+  pub before-next : (i : ℕ) → 0 < i → i < length ms → before ms (getD ms i 0) ≡ some (getD ms (i - 1) 0)
+  before-next i p h = some-there (before ms (getD ms i 0)) refl
+    where
+      less : getD ms (i - 1) 0 < getD ms i 0
+      less = ascending-lt ms a (i - 1) i (omega arith) h
+
+      up-to : (k : ℕ) → k < length ms → getD ms k 0 < getD ms i 0 → (b : Bool) → ltb k i ≡ b → getD ms k 0 ≤ getD ms (i - 1) 0
+      up-to k q u true e = let t = ltb-true k i e in ascending-le ms a k (i - 1) (omega arith) (omega arith)
+      up-to k q u false e = absurd (omega (arith, ascending-le ms a i k (ltb-false k i e) q))
+
+      some-there : (o : Option ℕ) → before ms (getD ms i 0) ≡ o → o ≡ some (getD ms (i - 1) 0)
+      some-there none e = absurd (before-none ms (getD ms i 0) e (getD ms (i - 1) 0) (getD-mem ms (i - 1) 0 (omega arith)) less)
+      some-there (some y) e =
+          let (m, l, top) = before-some ms (getD ms i 0) y a e in
+          let (k, q, g) = mem-getD ms y 0 m in
+          let low = top (getD ms (i - 1) 0) (getD-mem ms (i - 1) 0 (omega arith)) less in
+          let high = up-to k q (omega arith) (ltb k i) refl in
+          let s : y ≡ getD ms (i - 1) 0 = omega arith in
+          ap some s

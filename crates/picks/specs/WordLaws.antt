@@ -12,7 +12,7 @@ use Rattle.definitions.specs.Lists.{if_then_else_}
 use Rattle.definitions.specs.Relations.{Kind, static, plain, Fun, PFun, Inj, PInj, isChosen}
 use Rattle.definitions.specs.Atoms.{Problem, relationAt, tuplesOf, wordsFor}
 use Rattle.definitions.specs.Outcome.{relationWords}
-use Rattle.ground.specs.Lines.{relationLine, Fits}
+use Rattle.ground.specs.Lines.{relationPlace, relationLine, Fits}
 use Rattle.ground.specs.Of.{Is, kindNumber}
 use Rattle.ground.specs.declared.RelationLine.{RelationLine}
 use Rattle.picks.specs.Words.{wordStart, wordsIn}
@@ -85,4 +85,4 @@ words-few w r F x e =
     let a = ap (λ (y : RelationLine). y .sets) e in
     let b = ap (λ (y : RelationLine). y .tuples) e in
     let c = ap (λ (y : RelationLine). y .nots) e in
-    (omega (arith, F .entry (3 + 5 * r)), omega (arith, F .entry (3 + 5 * r + 1)), omega (arith, F .entry (3 + 5 * r + 2)), words-le x (omega (arith, F .entry (3 + 5 * r + 2))))
+    (omega (arith, F .entry (relationPlace r)), omega (arith, F .entry (relationPlace r + 1)), omega (arith, F .entry (relationPlace r + 2)), words-le x (omega (arith, F .entry (relationPlace r + 2))))

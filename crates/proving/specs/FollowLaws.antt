@@ -1,6 +1,6 @@
 -- The folds over the builder's progress, step by step.
 use Prim.Native.Nat.{ℕ, zero, suc, _+_, _-_, _<_, _≤_, _^_}
-use mathlib.Core.Path.{_≡_, sym, ap, ap₂, _∙_, subst}
+use mathlib.Core.Path.{_≡_, refl, sym, ap, ap₂, _∙_, subst}
 use mathlib.Core.Option.{none, some}
 use mathlib.Core.List.{List}
 use native.Mathlib.Omega.{arith}
@@ -61,15 +61,35 @@ module _ (p : Problem) (v : ℕ) where
   pub rows-on : (o o′ : Out) (j n k : ℕ) → j + n ≤ k → provedRows p v o j n ≡ o′ → provedRows p v o j (k - j) ≡ provedRows p v o′ (j + n) (k - (j + n))
   rows-on o o′ j n k h e = let m : k - j ≡ n + (k - (j + n)) = omega arith in rw m (rows-split o j n (k - (j + n)) ∙ ap (λ (x : Out). provedRows p v x (j + n) (k - (j + n))) e)
 
-  -- one row of several from j on
-  pub some-start : (o : Out) (j n : ℕ) → provedRows p v o j n ≡ provedRows p v o (j + 0) (j + n - (j + 0))
-  some-start o j n = let a : j ≡ j + 0 = omega arith in let b : n ≡ j + n - (j + 0) = omega arith in ap₂ (provedRows p v o) a b
+  -- rows that leave everything
+  rows-idle : (o : Out) (j k : ℕ) → ((i : ℕ) → j ≤ i → i < j + k → provedRow p v o i ≡ o) → provedRows p v o j k ≡ o
+  unfolding provedRows
+  rows-idle o j zero f = refl
+  rows-idle o j (suc k) f = ap (λ (x : Out). provedRows p v x (suc j) k) (f j (omega arith) (omega arith)) ∙ rows-idle o (suc j) k (λ i a b. f i (omega arith) (omega arith))
 
-  pub some-next : (o o′ : Out) (j n z : ℕ) → z < n → provedRow p v o (j + z) ≡ o′ → provedRows p v o (j + z) (j + n - (j + z)) ≡ provedRows p v o′ (j + (z + 1)) (j + n - (j + (z + 1)))
-  some-next o o′ j n z h e = let a : j + z + 1 ≡ j + (z + 1) = omega arith in rows-next o o′ (j + z) (j + n) (omega arith) e ∙ ap (λ (x : ℕ). provedRows p v o′ x (j + n - x)) a
+  -- of n rows from row j on those from a to z
+  abbrev Idle : Out → ℕ → ℕ → ℕ → Type 0
+  Idle o j a z = (i : ℕ) → a ≤ i → i < z → provedRow p v o (j + i) ≡ o
 
-  pub some-end : (o : Out) (j n z : ℕ) → n ≤ z → provedRows p v o (j + z) (j + n - (j + z)) ≡ o
-  some-end o j n z h = rows-end o (j + z) (j + n) (omega arith)
+  some-idle : (o : Out) (j a z : ℕ) → a ≤ z → Idle o j a z → provedRows p v o (j + a) (z - a) ≡ o
+  some-idle o j a z h f = rows-idle o (j + a) (z - a) (λ i b c. let e : j + (i - j) ≡ i = omega arith in subst (λ (x : ℕ). provedRow p v o x ≡ o) e (f (i - j) (omega arith) (omega arith)))
+
+  pub some-start : (o : Out) (j n : ℕ) → provedRows p v o j n ≡ provedRows p v o (j + 0) (n - 0)
+  some-start o j n = let a : j ≡ j + 0 = omega arith in let b : n ≡ n - 0 = omega arith in ap₂ (provedRows p v o) a b
+
+  pub some-next : (o o′ : Out) (j n a z : ℕ) → a ≤ z → z < n → Idle o j a z → provedRow p v o (j + z) ≡ o′ → provedRows p v o (j + a) (n - a) ≡ provedRows p v o′ (j + (z + 1)) (n - (z + 1))
+  some-next o o′ j n a z h l f e =
+      let m : n - a ≡ (z - a) + (n - z) = omega arith in
+      let b : j + a + (z - a) ≡ j + z = omega arith in
+      let c : n - z ≡ j + n - (j + z) = omega arith in
+      let d : j + n - (j + z + 1) ≡ n - (z + 1) = omega arith in
+      let g : j + z + 1 ≡ j + (z + 1) = omega arith in
+      ap (provedRows p v o (j + a)) m ∙ rows-split o (j + a) (z - a) (n - z)
+      ∙ ap₂ (λ (x : Out) (y : ℕ). provedRows p v x y (n - z)) (some-idle o j a z h f) b ∙ ap (provedRows p v o (j + z)) c
+      ∙ rows-next o o′ (j + z) (j + n) (omega arith) e ∙ ap₂ (provedRows p v o′) g d
+
+  pub some-end : (o : Out) (j n a : ℕ) → a ≤ n → Idle o j a n → provedRows p v o (j + a) (n - a) ≡ o
+  some-end o j n a h f = some-idle o j a n h f
 
 -- ---- nodes, from the last to the first
 pub nodes-next : (p : Problem) (o o′ : Out) (v k : ℕ) → 0 < v → k ≡ nodeWidth (p .size) (nodeAt p (v - 1)) → provedRows p (v - 1) o 0 k ≡ o′ → provedNodes p o v ≡ provedNodes p o′ (v - 1)

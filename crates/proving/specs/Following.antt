@@ -1,5 +1,5 @@
 -- The builder's progress: the state, the lent steps and how many are written; and its way as folds over it.
-use Prim.Native.Nat.{ℕ, zero, suc, _+_, _*_, _^_, _≤_, _<_}
+use Prim.Native.Nat.{ℕ, zero, suc, _+_, _-_, _*_, _^_, _≤_, _<_}
 use mathlib.Core.Path.{_≡_}
 use mathlib.Core.Bool.{true}
 use mathlib.Core.List.{List}
@@ -9,10 +9,11 @@ use Rattle.definitions.specs.Atoms.{Problem, State, nodeAt, nodeWidth, atoms}
 use Rattle.definitions.specs.Actions.{Action, actions, actionNumber}
 use Rattle.definitions.specs.Strips.{after}
 use Rattle.states.specs.Planning.{stepNow}
-use Rattle.ground.specs.Lines.{sizeIn, nodeLine}
+use Rattle.ground.specs.Lines.{sizeIn, nodeLine, rangeIn}
 use Rattle.ground.specs.Numbers.{underAt}
 use Rattle.ground.specs.Of.{Is}
 use Rattle.ground.specs.declared.NodeLine.{NodeLine}
+use Rattle.laws.specs.Members.{reached}
 use Rattle.proving.specs.declared.Elements.{Elements}
 
 -- the table is the problem's, a state of k words has room for its atoms, and its action numbers fit a step
@@ -24,18 +25,18 @@ pub record Ready (p : Problem) (w : List ℕ) (k : ℕ) : Type 0 where
 -- x is the line of the node v in such a table
 pub record NodeOf (p : Problem) (w : List ℕ) (k v : ℕ) (x : NodeLine) : Type 0 where
   pub ready : Ready p w k
-  pub element : 0 < sizeIn w
   pub here : v < length (p .nodeList)
   pub line : x ≡ nodeLine w v
 
--- it is a `forall`; its row has the n atoms from j on, and the part under it stands where `under` says
-pub record Chain (p : Problem) (w : List ℕ) (k v : ℕ) (x : NodeLine) (n row j : ℕ) (under : Elements) : Type 0 where
+-- it is a `forall`; its row has the atoms from j on, one for each element, and the actions from `action` on, one for each member of
+-- its range, and the part under it stands where `under` says
+pub record Chain (p : Problem) (w : List ℕ) (k v : ℕ) (x : NodeLine) (row j action : ℕ) (under : Elements) : Type 0 where
   pub node : NodeOf p w k v x
-  pub size : n ≡ sizeIn w
   pub kind : x .kind ≡ 0
-  pub first : j ≡ row * n
-  pub inside : j + n ≤ nodeWidth (p .size) (nodeAt p v)
-  pub part : (z : ℕ) → underAt n w x row z ≡ under .start + z * under .stride
+  pub first : j ≡ row * sizeIn w
+  pub acts : action ≡ x .acts + row * x .count
+  pub inside : j + sizeIn w ≤ nodeWidth (p .size) (nodeAt p v)
+  pub part : (z : ℕ) → underAt (sizeIn w) w x row z ≡ under .start + z * under .stride
 
 pub record Out : Type 0 where
   pub state : State
@@ -60,6 +61,10 @@ provedRow p v o j = option (stepNow p (o .state) v (nodeAt p v) j) o (one p o)
 unfoldable pub provedRows : Problem → ℕ → Out → ℕ → ℕ → Out
 provedRows p v o j zero = o
 provedRows p v o j (suc k) = provedRows p v (provedRow p v o j) (suc j) k
+
+-- what is left of the row of a `forall` whose atoms start at j when its first i members are proved
+abbrev pub rowsLeft : Problem → List ℕ → ℕ → NodeLine → ℕ → Out → ℕ → Out
+rowsLeft p w v x j o i = provedRows p v o (j + reached (rangeIn w x) i) (sizeIn w - reached (rangeIn w x) i)
 
 -- the first v nodes, the last of them first
 unfoldable pub provedNodes : Problem → Out → ℕ → Out

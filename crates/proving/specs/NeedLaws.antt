@@ -4,17 +4,18 @@ use mathlib.Core.Path.{_≡_, refl, sym, ap, _∙_}
 use mathlib.Core.Bool.{Bool, true, false}
 use mathlib.Core.List.{List, map}
 use native.Mathlib.Omega.{arith}
-use native.Mathlib.Nat.{add-zero, zero-mul, one-mul, add-mul, mul-le-mul}
+use native.Mathlib.Nat.{add-zero, zero-mul, mul-le-mul}
 use lib.Dec.{eqb}
 use borrow.Author.Tests.{eq-eqb, ne-eqb, eqb-true, eqb-false}
 use lib.ListN.{length, getD, set}
-use Rattle.definitions.specs.Lists.{if_then_else_, all, from}
+use Rattle.definitions.specs.Lists.{if_then_else_, all, option, from, before}
 use Rattle.definitions.specs.Actions.{Values, withValue}
 use Rattle.rows.specs.Values.{valueIn, Most}
 use Rattle.rows.specs.Laws.{set-value, within-set}
-use Rattle.ground.specs.Lines.{sizeIn, nodeLine, partLine, partNumber, partAt}
+use Rattle.laws.specs.Members.{Ascending, before-first, before-next}
+use Rattle.ground.specs.Lines.{sizeIn, nodeLine, partLine, partNumber, partAt, rangeIn}
 use Rattle.ground.specs.Numbers.{rowValues, underAt, andNeeds, orNeeds, existsNeeds, forallNeeds, needNumbers}
-use Rattle.ground.specs.NeedLaws.{and-parts, or-part, exists-under, forall-not, forall-first, forall-next, value-times}
+use Rattle.ground.specs.NeedLaws.{and-parts, or-part, exists-under, forall-not, forall-first, forall-next, value-times, members-length, member-at}
 use Rattle.ground.specs.declared.NodeLine.{NodeLine}
 use Rattle.ground.specs.declared.PartLine.{PartLine}
 use Rattle.ground.specs.declared.Act.the-variants.{And, Or, Exists, Forall}
@@ -22,27 +23,33 @@ use Rattle.proving.specs.Tries.{actBy, needBy, chained, firstFrom, first
 use Rattle.proving.specs.TryLaws.{way-exists, way-and, way-or, first-same, first-only}
 
 -- ---- by the node's line
-pub need-by : (w : List ℕ) (node : ℕ) (v : NodeLine) (row choice : ℕ) → v ≡ nodeLine w node → needNumbers w (actBy (v .kind) node row choice) ≡ needBy (sizeIn w) w v row choice
+pub need-by : (w : List ℕ) (node : ℕ) (v : NodeLine) (row i : ℕ) → v ≡ nodeLine w node → needNumbers w (actBy (v .kind) (rangeIn w v) node row i) ≡ needBy (sizeIn w) w v row i
 unfolding actBy needBy needNumbers
-need-by w node v row choice e = go (eqb (v .kind) 0) (eqb (v .kind) 1) (eqb (v .kind) 2)
+need-by w node v row i e = by-kind (eqb (v .kind) 0) (eqb (v .kind) 1) (eqb (v .kind) 2) (getD (rangeIn w v) i 0)
   where
-    go : (b₀ b₁ b₂ : Bool) → needNumbers w (if b₀ then Forall (record { node = node; row = row; choice = choice }) else if b₁ then Exists (record { node = node; row = row; choice = choice }) else if b₂ then And (record { node = node; row = row }) else Or (record { node = node; row = row; choice = choice })) ≡ (if b₀ then forallNeeds (sizeIn w) w v row choice else if b₁ then existsNeeds (sizeIn w) w v row choice else if b₂ then andNeeds (sizeIn w) w v row else orNeeds (sizeIn w) w v row choice)
-    go true b₁ b₂ = ap (λ (x : NodeLine). forallNeeds (sizeIn w) w x row choice) (sym e)
-    go false true b₂ = ap (λ (x : NodeLine). existsNeeds (sizeIn w) w x row choice) (sym e)
-    go false false true = ap (λ (x : NodeLine). andNeeds (sizeIn w) w x row) (sym e)
-    go false false false = ap (λ (x : NodeLine). orNeeds (sizeIn w) w x row choice) (sym e)
+    by-kind : (b₀ b₁ b₂ : Bool) (x : ℕ) → needNumbers w
+        (if b₀ then Forall (record { node = node; row = row; choice = x }) else if b₁ then Exists (record { node = node; row = row; choice = x })
+        else if b₂ then And (record { node = node; row = row }) else Or (record { node = node; row = row; choice = i }))
+        ≡ (if b₀ then forallNeeds (sizeIn w) w v row x else if b₁ then existsNeeds (sizeIn w) w v row x else if b₂ then andNeeds (sizeIn w) w v row else orNeeds (sizeIn w) w v row i)
+    by-kind true b₁ b₂ x = ap (λ (u : NodeLine). forallNeeds (sizeIn w) w u row x) (sym e)
+    by-kind false true b₂ x = ap (λ (u : NodeLine). existsNeeds (sizeIn w) w u row x) (sym e)
+    by-kind false false true x = ap (λ (u : NodeLine). andNeeds (sizeIn w) w u row) (sym e)
+    by-kind false false false x = ap (λ (u : NodeLine). orNeeds (sizeIn w) w u row i) (sym e)
 
 module _ (s : ℕ → Bool) (n : ℕ) (w : List ℕ) (v : NodeLine) (row : ℕ) where
   abbrev passes : ℕ → Bool
-  passes choice = all s (needBy n w v row choice)
+  passes i = all s (needBy n w v row i)
 
-  pass-forall : v .kind ≡ 0 → (c : ℕ) → passes c ≡ all s (forallNeeds n w v row c)
-  unfolding needBy
-  pass-forall e c = rw (eq-eqb (v .kind) 0 e)
+  abbrev member : ℕ → ℕ
+  member i = getD (rangeIn w v) i 0
 
-  pass-exists : v .kind ≡ 1 → (c : ℕ) → passes c ≡ all s (existsNeeds n w v row c)
+  pass-forall : v .kind ≡ 0 → (i : ℕ) → passes i ≡ all s (forallNeeds n w v row (member i))
   unfolding needBy
-  pass-exists e c = rw (ne-eqb (v .kind) 0 (λ z. omega arith), eq-eqb (v .kind) 1 e)
+  pass-forall e i = rw (eq-eqb (v .kind) 0 e)
+
+  pass-exists : v .kind ≡ 1 → (i : ℕ) → passes i ≡ all s (existsNeeds n w v row (member i))
+  unfolding needBy
+  pass-exists e i = rw (ne-eqb (v .kind) 0 (λ z. omega arith), eq-eqb (v .kind) 1 e)
 
   pass-and : v .kind ≡ 2 → (c : ℕ) → passes c ≡ all s (andNeeds n w v row)
   unfolding needBy
@@ -57,36 +64,49 @@ module _ (s : ℕ → Bool) (n : ℕ) (w : List ℕ) (v : NodeLine) (row : ℕ) 
     pub parts-tried : (r : ℕ) → 3 ≤ v .kind → s 1 ≡ true → r ≡ firstFrom (λ i. s (partAt w (valueIn env) (v .first + i))) 0 (v .many) → r ≡ firstBy s n w v row
     parts-tried r h o q = q ∙ first-same _ (λ i. passes (0 + i)) (v .many) 0 (λ i l.
         let d : v .first + (0 + i) ≡ v .first + (0 + (0 + i)) = omega arith in
-        ap (λ (x : ℕ). s (partAt w (valueIn env) x)) d ∙ or-part s n w v row env e (0 + (0 + i)) _ o refl ∙ sym (pass-or h (0 + (0 + i)))) ∙ ap (firstAt s n w v) (way-or n (v .kind) (v .many) row h)
+        ap (λ (x : ℕ). s (partAt w (valueIn env) x)) d ∙ or-part s n w v row env e (0 + (0 + i)) _ o refl ∙ sym (pass-or h (0 + (0 + i)))) ∙ ap (firstAt s n w v) (way-or n (v .kind) (v .many) (rangeIn w v) row h)
 
     pub whole-tried : (r : ℕ) (b : Bool) → v .kind ≡ 2 → s 1 ≡ true → b ≡ all s (map (partAt w (valueIn env)) (from (v .first) (v .many))) → r ≡ firstFrom (λ i. b) 0 1 → r ≡ firstBy s n w v row
-    whole-tried r b h o a q = q ∙ first-only (λ i. passes (0 + i)) b 1 refl (pass-and h (0 + 0) ∙ sym (and-parts s n w v row env e b o a)) ∙ ap (firstAt s n w v) (way-and n (v .kind) (v .many) row h)
+    whole-tried r b h o a q = q ∙ first-only (λ i. passes (0 + i)) b 1 refl (pass-and h (0 + 0) ∙ sym (and-parts s n w v row env e b o a)) ∙ ap (firstAt s n w v) (way-and n (v .kind) (v .many) (rangeIn w v) row h)
 
-  -- quantifiers: the part at each element
+  -- quantifiers: the part at each member of the range
   module _ (start stride : ℕ) (under : (x : ℕ) → underAt n w v row x ≡ start + x * stride) where
-    pub elements-tried : (r : ℕ) → v .kind ≡ 1 → s 1 ≡ true → r ≡ firstFrom (λ i. s (start + i * stride)) 0 n → r ≡ firstBy s n w v row
-    elements-tried r h o q = q ∙ first-same _ (λ i. passes (0 + i)) n 0 (λ i l.
+    pub elements-tried : (r : ℕ) → v .kind ≡ 1 → s 1 ≡ true → r ≡ firstFrom (λ i. s (start + getD w (v .range + i) 0 * stride)) 0 (v .count) → r ≡ firstBy s n w v row
+    elements-tried r h o q = q ∙ first-same _ (λ i. passes (0 + i)) (v .count) 0 (λ i l.
         let d : 0 + (0 + i) ≡ 0 + i = omega arith in
-        exists-under s n w v row (0 + i) _ o (ap s (sym (under (0 + i)))) ∙ sym (pass-exists h (0 + i)) ∙ ap passes (sym d)) ∙ ap (firstAt s n w v) (way-exists n (v .kind) (v .many) row h)
+        ap (λ (x : ℕ). s (start + x * stride)) (sym (member-at w (v .range) (v .count) (0 + i) (omega arith)))
+        ∙ exists-under s n w v row (member (0 + i)) _ o (ap s (sym (under (member (0 + i))))) ∙ sym (pass-exists h (0 + i)) ∙ ap passes (sym d))
+        ∙ ap (firstFrom (λ i. passes (0 + i)) 0) (sym (members-length w (v .range) (v .count))) ∙ ap (firstAt s n w v) (way-exists n (v .kind) (v .many) (rangeIn w v) row h)
 
-    chain-is : (z own : ℕ) (b : Bool) → s 1 ≡ true → own ≡ v .atoms + (row * n + z) → b ≡ chained s (start + z * stride) z own → b ≡ all s (forallNeeds n w v row z)
-    unfolding chained
-    chain-is z own b o f q = q ∙ go (s (start + z * stride)) refl (eqb z 0) refl
-      where
-        at-z : (c : Bool) → s (start + z * stride) ≡ c → s (underAt n w v row z) ≡ c
-        at-z c t = ap s (under z) ∙ t
+    -- a `forall`: the part at the i-th member, and its own atom at the member before
+    module _ (up : Ascending (rangeIn w v)) (i : ℕ) (l : i < length (rangeIn w v)) where
+      none-prior : i ≡ 0 → 0 ≡ option (before (rangeIn w v) (member i)) 0 suc
+      unfolding option
+      none-prior e = rw (before-first (rangeIn w v) up i e) refl
 
-        go : (c : Bool) → s (start + z * stride) ≡ c → (d : Bool) → eqb z 0 ≡ d → (if c then (if d then true else s (own - 1)) else false) ≡ all s (forallNeeds n w v row z)
-        go false t d u = forall-not s n w v row z o (at-z false t)
-        go true t true u = forall-first s n w v row z (eqb-true z 0 u) o (at-z true t)
-        go true t false u =
-            let p = eqb-false z 0 u in
-            let l : own - 1 ≡ v .atoms + (row * n + (z - 1)) = omega arith in
-            forall-next s n w v row z _ (omega arith) o (at-z true t) (ap s l)
+      some-prior : 0 < i → suc (member (i - 1)) ≡ option (before (rangeIn w v) (member i)) 0 suc
+      unfolding option
+      some-prior h = rw (before-next (rangeIn w v) up i h l) refl
 
-    pub chain-tried : (z own : ℕ) (b : Bool) → v .kind ≡ 0 → s 1 ≡ true → own ≡ v .atoms + (row * n + z) → b ≡ chained s (start + z * stride) z own
-        → firstFrom (λ i. b) 0 1 ≡ firstAt s n w v (record { row = row; base = z; tries = 1; choices = n })
-    chain-tried z own b h o f a = first-only (λ i. passes (z + i)) b 1 refl (ap passes (add-zero z) ∙ pass-forall h z ∙ sym (chain-is z own b o f a))
+      chain-is : (prior : ℕ) (b : Bool) → s 1 ≡ true → (0 < i → prior ≡ v .atoms + (row * n + member (i - 1))) → b ≡ chained s (start + member i * stride) i prior → b ≡ all s (forallNeeds n w v row (member i))
+      unfolding chained
+      chain-is prior b o f q = q ∙ by-tests (s (start + member i * stride)) refl (eqb i 0) refl
+        where
+          at-member : (c : Bool) → s (start + member i * stride) ≡ c → s (underAt n w v row (member i)) ≡ c
+          at-member c t = ap s (under (member i)) ∙ t
+
+          by-tests : (c : Bool) → s (start + member i * stride) ≡ c → (d : Bool) → eqb i 0 ≡ d → (if c then (if d then true else s prior) else false) ≡ all s (forallNeeds n w v row (member i))
+          by-tests false t d u = forall-not s n w v row (member i) o (at-member false t)
+          by-tests true t true u = forall-first s n w v row (member i) 0 (none-prior (eqb-true i 0 u)) refl o (at-member true t)
+          by-tests true t false u =
+              let p = eqb-false i 0 u in
+              let h : 0 < i = omega arith in
+              let e : member (i - 1) ≡ suc (member (i - 1)) - 1 = omega arith in
+              forall-next s n w v row (member i) (suc (member (i - 1))) _ (some-prior h) (omega arith) o (at-member true t) (ap s (f h ∙ ap (λ (x : ℕ). v .atoms + (row * n + x)) e))
+
+      pub chain-tried : (prior : ℕ) (b : Bool) → v .kind ≡ 0 → s 1 ≡ true → (0 < i → prior ≡ v .atoms + (row * n + member (i - 1))) → b ≡ chained s (start + member i * stride) i prior
+          → firstFrom (λ i. b) 0 1 ≡ firstAt s n w v (record { row = row; base = i; tries = 1; choices = length (rangeIn w v) })
+      chain-tried prior b h o f a = first-only (λ k. passes (i + k)) b 1 refl (ap passes (add-zero i) ∙ pass-forall h i ∙ sym (chain-is prior b o f a))
 
 -- ---- a part's atom grows with the element by the level's weight
 part-along : (e : Values) (q : PartLine) (d x : ℕ) → d < 4 → partNumber (withValue e d x) q ≡ partNumber (withValue e d 0) q + x * valueIn (q .weights) d
@@ -117,25 +137,22 @@ part-most q env a b c = omega (arith, small 0, small 1, small 2, small 3)
     small l = value-times (getD env l 0) (getD (q .weights) l 0) (c l) (b l)
 
 -- ---- one of the chained tests at a time
-module _ (s : ℕ → Bool) (part z own : ℕ) where
-  pub chain-no : s part ≡ false → false ≡ chained s part z own
+module _ (s : ℕ → Bool) (part i prior : ℕ) where
+  pub chain-no : s part ≡ false → false ≡ chained s part i prior
   unfolding chained
   chain-no e = rw e
 
-  pub chain-first : s part ≡ true → z ≡ 0 → true ≡ chained s part z own
+  pub chain-first : s part ≡ true → i ≡ 0 → true ≡ chained s part i prior
   unfolding chained
-  chain-first e o = rw (e, eq-eqb z 0 o)
+  chain-first e o = rw (e, eq-eqb i 0 o)
 
-  pub chain-next : (b : Bool) → s part ≡ true → 0 < z → b ≡ s (own - 1) → b ≡ chained s part z own
+  pub chain-next : (b : Bool) → s part ≡ true → 0 < i → b ≡ s prior → b ≡ chained s part i prior
   unfolding chained
-  chain-next b e h q = q ∙ rw (e, ne-eqb z 0 (λ o. omega arith))
+  chain-next b e h q = q ∙ rw (e, ne-eqb i 0 (λ o. omega arith))
 
 pub most-set : (env : List ℕ) (d x : ℕ) → x ≤ 64 → Most env 64 → Most (set env d x) 64
 most-set env d x h m l = omega (arith, within-set 65 env d x (omega arith) (λ i. omega (arith, m i)) l)
 
--- the next bit of a stride
-pub stride-next : (start i stride k : ℕ) → k ≡ start + i * stride → k + stride ≡ start + (i + 1) * stride
-stride-next start i stride k e = omega (arith, add-mul i 1 stride, one-mul stride)
-
+-- a bit of a stride
 pub stride-most : (i stride m : ℕ) → i ≤ m → stride ≤ 2 ^ 32 → i * stride ≤ m * 2 ^ 32
 stride-most i stride m a b = mul-le-mul a b

@@ -3,29 +3,28 @@ use Prim.Native.Nat.{ℕ, zero, suc, _+_, _-_, _*_, _/_, _%_, _^_, _<_, _≤_}
 use mathlib.Core.Path.{_≡_, refl, sym, ap, ap₂, subst, subst₂, _∙_}
 use mathlib.Core.Bool.{Bool, true, false}
 use mathlib.Core.Option.{none, some}
-use mathlib.Core.List.{List, List·Memᴰ}
+use mathlib.Core.List.{List}
 use native.Mathlib.Omega.{arith}
-use native.Mathlib.Nat.{mod-lt, div-lt-iff-lt-mul, mul-le-mul}
+use native.Mathlib.Nat.{div-lt-iff-lt-mul, mul-le-mul}
 use lib.ListN.{length, getD}
 use Rattle.definitions.specs.Lists.{if_then_else_, all, option, position, from, below, isIn, rank}
 use Rattle.definitions.specs.Tree.{Tree, leaf, forallNode, existsNode, andNode, orNode, parts, isForall, nodeSort}
 use Rattle.definitions.specs.Atoms.{Problem, State, nodeAt, rowsOf, nodeWidth}
 use Rattle.definitions.specs.Actions.{Action, choices, proveNode, proofStart, proofNumber, rangeAt, actionNumber}
 use Rattle.definitions.specs.Strips.{mayTake}
-use Rattle.laws.specs.Booleans.{T-of, T-true}
-use Rattle.laws.specs.Lists.{mem-below, length-below, getD-below, getD-mem}
-use Rattle.laws.specs.Repeats.{Once}
-use Rattle.laws.specs.Members.{ascending-below, ascending-once, in-mem, mem-in, rank-lt, rank-below, rank-select}
+use Rattle.laws.specs.Booleans.{T-of}
+use Rattle.laws.specs.Lists.{getD-mem}
+use Rattle.laws.specs.Members.{ascending-once, in-mem, rank-lt, rank-select}
 use Rattle.laws.specs.Numbers.{IsAction}
 use Rattle.tree.specs.Tables.{nodeKind}
-use Rattle.ground.specs.Lines.{sizeIn, nodeLine, Fits}
+use Rattle.ground.specs.Lines.{nodePlace, sizeIn, nodeLine, rangeIn, Fits}
 use Rattle.ground.specs.declared.NodeLine.{NodeLine}
 use Rattle.ground.specs.Numbers.{needNumbers}
 use Rattle.ground.specs.Of.{Is, said}
 use Rattle.ground.specs.OfLaws.{parts-length, may-is}
 use Rattle.ground.specs.declared.Act.{Act}
 use Rattle.states.specs.Planning.{rowIn, firstTry, tries, tryAt, stepNow}
-use Rattle.proving.specs.Tries.{Way, actBy, wayBy, firstFrom}
+use Rattle.proving.specs.Tries.{Way, actBy, wayBy, wayAt, firstFrom}
 use Rattle.proving.specs.TryLaws.{first-same}
 
 -- ---- the first that passes
@@ -59,40 +58,32 @@ lost f (suc k) a h = go (f a) h (lost f k (suc a))
     go false h r = rw (r (omega arith))
 
 -- ---- the way by the table
-module _ (n : ℕ) (R : ℕ → List ℕ) (whole : (σ : ℕ) → R σ ≡ below n) (some-element : 0 < n) (v j : ℕ) where
+module _ (n : ℕ) (R : ℕ → List ℕ) (v j : ℕ) where
   pub record WayIs (t : Tree) (w : Way) : Type 0 where
     pub row : w .row ≡ rowIn n t j
     pub base : w .base ≡ firstTry n R t j
     pub tries : w .tries ≡ tries n R t j
     pub choices : w .choices ≡ choices R t
 
-  counted : (σ : ℕ) → n ≡ length (R σ)
-  counted σ = sym (ap length (whole σ) ∙ length-below n)
+  -- the members are those of a quantifier's range
+  abbrev Ranges : Tree → List ℕ → Type 0
+  Ranges t ms = nodeKind t < 2 → ms ≡ R (nodeSort t)
 
-  among : (σ : ℕ) → isIn (j % n) (R σ) ≡ true
-  among σ = T-true (isIn (j % n) (R σ)) (mem-in (j % n) (R σ) (subst (List·Memᴰ (j % n)) (sym (whole σ)) (mem-below n (j % n) (mod-lt j some-element))))
-
-  placed : (σ : ℕ) → j % n ≡ rank (R σ) (j % n)
-  placed σ = sym (ap (λ (l : List ℕ). rank l (j % n)) (whole σ) ∙ rank-below n (j % n) (mod-lt j some-element))
-
-  way-is : (t : Tree) → WayIs t (wayBy n (nodeKind t) (length (parts v t)) j)
+  way-is : (t : Tree) (ms : List ℕ) → Ranges t ms → WayIs t (wayBy n (nodeKind t) (length (parts v t)) ms j)
   unfolding wayBy nodeKind rowIn firstTry tries choices isForall nodeSort parts
-  way-is (leaf q r ls) = record { row = refl; base = refl; tries = refl; choices = refl }
-  way-is (forallNode d σ t) = record { row = refl; base = placed σ; tries = rw (among σ) refl; choices = counted σ }
-  way-is (existsNode d σ t) = record { row = refl; base = refl; tries = counted σ; choices = counted σ }
-  way-is (andNode ts) = record { row = refl; base = refl; tries = refl; choices = refl }
-  way-is (orNode ts) = record { row = refl; base = refl; tries = parts-length (suc v) ts; choices = parts-length (suc v) ts }
+  way-is (leaf q r ls) ms e = record { row = refl; base = refl; tries = refl; choices = refl }
+  way-is (forallNode d σ t) ms e = rw (e (omega arith)) (record { row = refl; base = refl; tries = refl; choices = refl })
+  way-is (existsNode d σ t) ms e = rw (e (omega arith)) (record { row = refl; base = refl; tries = refl; choices = refl })
+  way-is (andNode ts) ms e = record { row = refl; base = refl; tries = refl; choices = refl }
+  way-is (orNode ts) ms e = record { row = refl; base = refl; tries = parts-length (suc v) ts; choices = parts-length (suc v) ts }
 
-  element-at : (σ i : ℕ) → i < length (R σ) → getD (R σ) i 0 ≡ i
-  element-at σ i h = ap (λ (l : List ℕ). getD l i 0) (whole σ) ∙ getD-below n i (omega (arith, counted σ))
-
-  act-is : (t : Tree) (row i : ℕ) → i < choices R t → actBy (nodeKind t) v row i ≡ said (proveNode R t v row i)
-  unfolding actBy nodeKind said proveNode choices
-  act-is (leaf q r ls) row i h = absurd (omega arith)
-  act-is (forallNode d σ t) row i h = rw (element-at σ i h) refl
-  act-is (existsNode d σ t) row i h = rw (element-at σ i h) refl
-  act-is (andNode ts) row i h = refl
-  act-is (orNode ts) row i h = refl
+  act-is : (t : Tree) (ms : List ℕ) → Ranges t ms → (row i : ℕ) → i < choices R t → actBy (nodeKind t) ms v row i ≡ said (proveNode R t v row i)
+  unfolding actBy nodeKind said proveNode choices nodeSort
+  act-is (leaf q r ls) ms e row i h = absurd (omega arith)
+  act-is (forallNode d σ t) ms e row i h = rw (e (omega arith)) refl
+  act-is (existsNode d σ t) ms e row i h = rw (e (omega arith)) refl
+  act-is (andNode ts) ms e row i h = refl
+  act-is (orNode ts) ms e row i h = refl
 
 -- a try is one of the node's choices
 try-lt : (n : ℕ) (R : ℕ → List ℕ) (t : Tree) (j i : ℕ) → i < tries n R t j → firstTry n R t j + i < choices R t
@@ -108,7 +99,7 @@ try-lt n R (andNode ts) j i k = omega arith
 try-lt n R (orNode ts) j i k = omega arith
 
 -- ---- the actions of an atom
-module _ (p : Problem) (w : List ℕ) (is : Is p w) (element : 0 < p .size) (v : ℕ) (l : v < length (p .nodeList)) (j : ℕ) where
+module _ (p : Problem) (w : List ℕ) (is : Is p w) (v : ℕ) (l : v < length (p .nodeList)) (j : ℕ) where
   abbrev triesAt : Tree → ℕ
   triesAt t = tries (p .size) (p .range) t j
 
@@ -122,7 +113,7 @@ module _ (p : Problem) (w : List ℕ) (is : Is p w) (element : 0 < p .size) (v :
   unfolding tryAt rowIn isForall choices proveNode nodeWidth IsAction
   try-is (leaf q r ls) e h i k = let b = try-lt (p .size) (p .range) (leaf q r ls) j i k in absurd (omega arith)
   try-is (forallNode d σ u) e h i k =
-      (l, subst (λ (t : Tree). j / p .size < rowsOf (p .size) t) (sym e) (div-lt-iff-lt-mul element .1 h), (d, σ, u, e, getD-mem (p .range σ) (firstOf (forallNode d σ u) + i) 0 (try-lt (p .size) (p .range) (forallNode d σ u) j i k)))
+      (l, subst (λ (t : Tree). j / p .size < rowsOf (p .size) t) (sym e) (div-lt-iff-lt-mul (is .element) .1 h), (d, σ, u, e, getD-mem (p .range σ) (firstOf (forallNode d σ u) + i) 0 (try-lt (p .size) (p .range) (forallNode d σ u) j i k)))
   try-is (existsNode d σ u) e h i k =
       (l, subst (λ (t : Tree). j < rowsOf (p .size) t) (sym e) h, (d, σ, u, e, getD-mem (p .range σ) (firstOf (existsNode d σ u) + i) 0 (try-lt (p .size) (p .range) (existsNode d σ u) j i k)))
   try-is (andNode ts) e h i k = (l, subst (λ (t : Tree). j < rowsOf (p .size) t) (sym e) h, (ts, e))
@@ -131,9 +122,7 @@ module _ (p : Problem) (w : List ℕ) (is : Is p w) (element : 0 < p .size) (v :
   -- the place of an element in a quantifier's range
   place-is : (σ i : ℕ) → nodeSort (nodeAt p v) ≡ σ → i < length (p .range σ) → rank (rangeAt p v) (getD (p .range σ) i 0) ≡ i
   unfolding rangeAt
-  place-is σ i e h =
-      let once : Once (p .range σ) = subst Once (sym (is .ranges σ)) (ascending-once (below (p .size)) (ascending-below (p .size))) in
-      ap (λ (s : ℕ). rank (p .range s) (getD (p .range σ) i 0)) e ∙ rank-select (p .range σ) i once h
+  place-is σ i e h = ap (λ (s : ℕ). rank (p .range s) (getD (p .range σ) i 0)) e ∙ rank-select (p .range σ) i (ascending-once (p .range σ) (is .ranges σ .ascends)) h
 
   try-number : (t : Tree) → nodeAt p v ≡ t → (i : ℕ) → i < triesAt t → actionNumber p (tryOf t i) ≡ proofStart p v + rowIn (p .size) t j * choices (p .range) t + (firstOf t + i)
   unfolding tryAt rowIn isForall choices proveNode actionNumber proofNumber nodeSort
@@ -148,21 +137,27 @@ module _ (p : Problem) (w : List ℕ) (is : Is p w) (element : 0 < p .size) (v :
       ap₂ (λ (t : Tree) (x : ℕ). proofStart p v + j * choices (p .range) t + x) e q
   try-number (orNode ts) e i k = ap (λ (t : Tree). proofStart p v + j * choices (p .range) t + (firstOf (orNode ts) + i)) e
 
+  abbrev members : List ℕ
+  members = rangeIn w (nodeLine w v)
+
   abbrev way : Way
-  way = wayBy (sizeIn w) (nodeLine w v .kind) (nodeLine w v .many) j
+  way = wayAt w (nodeLine w v) j
 
-  here : WayIs (p .size) (p .range) (is .ranges) element v j (nodeAt p v) way
-  here = subst (λ (x : Way). WayIs (p .size) (p .range) (is .ranges) element v j (nodeAt p v) x) (ap (λ (n : ℕ). wayBy n (nodeKind (nodeAt p v)) (length (parts v (nodeAt p v))) j) (sym (is .size)) ∙ ap₂ (λ (k m : ℕ). wayBy (sizeIn w) k m j) (sym (is .node v l .kind)) (sym (is .node v l .many))) (way-is (p .size) (p .range) (is .ranges) element v j (nodeAt p v))
+  here : WayIs (p .size) (p .range) v j (nodeAt p v) way
+  here = subst (λ (x : Way). WayIs (p .size) (p .range) v j (nodeAt p v) x)
+      (ap (λ (n : ℕ). wayBy n (nodeKind (nodeAt p v)) (length (parts v (nodeAt p v))) members j) (sym (is .size)) ∙ ap₂ (λ (k m : ℕ). wayBy (sizeIn w) k m members j) (sym (is .node v l .kind)) (sym (is .node v l .many)))
+      (way-is (p .size) (p .range) v j (nodeAt p v) members (is .node v l .range))
 
-  act-said : (i : ℕ) → i < triesAt (nodeAt p v) → actBy (nodeLine w v .kind) v (way .row) (way .base + i) ≡ said (tryOf (nodeAt p v) i)
+  act-said : (i : ℕ) → i < triesAt (nodeAt p v) → actBy (nodeLine w v .kind) members v (way .row) (way .base + i) ≡ said (tryOf (nodeAt p v) i)
   unfolding tryAt
-  act-said i k = ap (λ (x : ℕ). actBy x v (way .row) (way .base + i)) (is .node v l .kind) ∙ ap₂ (λ (x y : ℕ). actBy (nodeKind (nodeAt p v)) v x (y + i)) (here .row) (here .base)
-      ∙ act-is (p .size) (p .range) (is .ranges) element v j (nodeAt p v) (rowIn (p .size) (nodeAt p v) j) (firstOf (nodeAt p v) + i) (try-lt (p .size) (p .range) (nodeAt p v) j i k)
+  act-said i k =
+      ap (λ (x : ℕ). actBy x members v (way .row) (way .base + i)) (is .node v l .kind) ∙ ap₂ (λ (x y : ℕ). actBy (nodeKind (nodeAt p v)) members v x (y + i)) (here .row) (here .base)
+      ∙ act-is (p .size) (p .range) v j (nodeAt p v) members (is .node v l .range) (rowIn (p .size) (nodeAt p v) j) (firstOf (nodeAt p v) + i) (try-lt (p .size) (p .range) (nodeAt p v) j i k)
 
   -- what the code tests of a state, and finds
   module _ (s : State) (h : j < nodeWidth (p .size) (nodeAt p v)) where
     abbrev passes : ℕ → Bool
-    passes i = all s (needNumbers w (actBy (nodeLine w v .kind) v (way .row) (way .base + i)))
+    passes i = all s (needNumbers w (actBy (nodeLine w v .kind) members v (way .row) (way .base + i)))
 
     abbrev may : ℕ → Bool
     may i = mayTake p s (tryOf (nodeAt p v) i)
@@ -178,11 +173,11 @@ module _ (p : Problem) (w : List ℕ) (is : Is p w) (element : 0 < p .size) (v :
       pub action : Action
       pub valid : IsAction p action
       pub step : stepNow p s v (nodeAt p v) j ≡ some action
-      pub says : actBy (x .kind) v (y .row) (y .base + r) ≡ said action
+      pub says : actBy (x .kind) (rangeIn w x) v (y .row) (y .base + r) ≡ said action
       pub number : x .acts + y .row * y .choices + (y .base + r) ≡ actionNumber p action
 
     abbrev First : NodeLine → Way → ℕ → Type 0
-    First x y r = r ≡ firstFrom (λ i. all s (needNumbers w (actBy (x .kind) v (y .row) (y .base + i)))) 0 (y .tries)
+    First x y r = r ≡ firstFrom (λ i. all s (needNumbers w (actBy (x .kind) (rangeIn w x) v (y .row) (y .base + i)))) 0 (y .tries)
 
     found-here : (r : ℕ) → First (nodeLine w v) way r → r < way .tries → Found (nodeLine w v) way r
     unfolding stepNow below option
@@ -208,9 +203,9 @@ module _ (p : Problem) (w : List ℕ) (is : Is p w) (element : 0 < p .size) (v :
         rw (lost may (triesAt (nodeAt p v)) 0 (omega arith))
 
     -- the line and the way as the code has them
-    module _ (x : NodeLine) (y : Way) (ex : x ≡ nodeLine w v) (ey : y ≡ wayBy (sizeIn w) (x .kind) (x .many) j) where
+    module _ (x : NodeLine) (y : Way) (ex : x ≡ nodeLine w v) (ey : y ≡ wayAt w x j) where
       way-here : y ≡ way
-      way-here = ey ∙ ap (λ (z : NodeLine). wayBy (sizeIn w) (z .kind) (z .many) j) ex
+      way-here = ey ∙ ap (λ (z : NodeLine). wayAt w z j) ex
 
       pub row-found : (r : ℕ) → First x y r → r < y .tries → Found x y r
       row-found = subst₂ (λ (x : NodeLine) (y : Way). (r : ℕ) → First x y r → r < y .tries → Found x y r) (sym ex) (sym way-here) found-here
@@ -218,11 +213,20 @@ module _ (p : Problem) (w : List ℕ) (is : Is p w) (element : 0 < p .size) (v :
       pub row-lost : (r : ℕ) → First x y r → y .tries ≤ r → stepNow p s v (nodeAt p v) j ≡ none
       row-lost = subst₂ (λ (x : NodeLine) (y : Way). (r : ℕ) → First x y r → y .tries ≤ r → stepNow p s v (nodeAt p v) j ≡ none) (sym ex) (sym way-here) lost-here
 
+-- ---- a `forall` has no action at an element out of its range
+pub row-out : (p : Problem) (s : State) (v j : ℕ) (t : Tree) → nodeKind t ≡ 0 → isIn (j % p .size) (p .range (nodeSort t)) ≡ false → stepNow p s v t j ≡ none
+unfolding stepNow tries isForall nodeKind nodeSort below from position option
+row-out p s v j (leaf q r ls) k e = absurd (omega arith)
+row-out p s v j (forallNode d σ t) k e = rw e
+row-out p s v j (existsNode d σ t) k e = absurd (omega arith)
+row-out p s v j (andNode ts) k e = absurd (omega arith)
+row-out p s v j (orNode ts) k e = absurd (omega arith)
+
 -- ---- what keeps numbers in range
 pub acts-small : (w : List ℕ) (node : ℕ) → Fits w → (x : NodeLine) → x ≡ nodeLine w node → x .acts ≤ 2 ^ 32
 unfolding nodeLine
-acts-small w node F x e = rw e (F .entry (93 + 11 * node))
+acts-small w node F x e = rw e (F .entry (nodePlace node))
 
 -- the number of an action fits
-pub row-wide : (a b c : ℕ) → a ≤ 2 ^ 32 → b ≤ 64 → c ≤ 64 → a * b + c < 2 ^ 63
+pub row-wide : (a b c : ℕ) → a ≤ 2 ^ 32 → b ≤ 2 ^ 11 → c ≤ 2 ^ 11 → a * b + c < 2 ^ 63
 row-wide a b c h k l = omega (arith, mul-le-mul h k)

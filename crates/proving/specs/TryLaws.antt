@@ -2,39 +2,41 @@
 use Prim.Native.Nat.{ℕ, zero, suc, _+_, _-_, _/_, _%_, _<_, _≤_}
 use mathlib.Core.Path.{_≡_, refl, sym, ap, ap₂, _∙_}
 use mathlib.Core.Bool.{Bool, true, false}
+use mathlib.Core.List.{List}
 use native.Mathlib.Omega.{arith}
 use native.Mathlib.Nat.{add-zero}
 use native.Mathlib.Numerals.{add-one}
 use lib.Dec.{eqb}
 use borrow.Author.Tests.{eq-eqb, ne-eqb}
-use Rattle.definitions.specs.Lists.{if_then_else_}
+use lib.ListN.{length}
+use Rattle.definitions.specs.Lists.{if_then_else_, isIn, rank}
 use Rattle.proving.specs.Tries.{FlatAt, wayBy, firstFrom}
 
-module _ (n kind many j : ℕ) where
-  pub way-forall : kind ≡ 0 → record { row = j / n; base = j % n; tries = 1; choices = n } ≡ wayBy n kind many j
+module _ (n kind many : ℕ) (ms : List ℕ) (j : ℕ) where
+  pub way-forall : kind ≡ 0 → record { row = j / n; base = rank ms (j % n); tries = if isIn (j % n) ms then 1 else zero; choices = length ms } ≡ wayBy n kind many ms j
   unfolding wayBy
   way-forall e = rw (eq-eqb kind 0 e)
 
-  pub way-exists : kind ≡ 1 → record { row = j; base = 0; tries = n; choices = n } ≡ wayBy n kind many j
+  pub way-exists : kind ≡ 1 → record { row = j; base = 0; tries = length ms; choices = length ms } ≡ wayBy n kind many ms j
   unfolding wayBy
   way-exists e = rw (ne-eqb kind 0 (λ z. omega arith), eq-eqb kind 1 e)
 
-  pub way-and : kind ≡ 2 → record { row = j; base = 0; tries = 1; choices = 1 } ≡ wayBy n kind many j
+  pub way-and : kind ≡ 2 → record { row = j; base = 0; tries = 1; choices = 1 } ≡ wayBy n kind many ms j
   unfolding wayBy
   way-and e = rw (ne-eqb kind 0 (λ z. omega arith), ne-eqb kind 1 (λ z. omega arith), eq-eqb kind 2 e)
 
-  pub way-or : 3 ≤ kind → record { row = j; base = 0; tries = many; choices = many } ≡ wayBy n kind many j
+  pub way-or : 3 ≤ kind → record { row = j; base = 0; tries = many; choices = many } ≡ wayBy n kind many ms j
   unfolding wayBy
   way-or h = rw (ne-eqb kind 0 (λ z. omega arith), ne-eqb kind 1 (λ z. omega arith), ne-eqb kind 2 (λ z. omega arith))
 
-  pub way-flat : 0 < kind → FlatAt (wayBy n kind many j) j
+  pub way-flat : 0 < kind → FlatAt (wayBy n kind many ms j) j
   unfolding wayBy
-  way-flat h = rw (ne-eqb kind 0 (λ z. omega arith)) (go (eqb kind 1) (eqb kind 2))
+  way-flat h = rw (ne-eqb kind 0 (λ z. omega arith)) (by-kind (eqb kind 1) (eqb kind 2))
     where
-      go : (b₁ b₂ : Bool) → FlatAt (if b₁ then record { row = j; base = 0; tries = n; choices = n } else if b₂ then record { row = j; base = 0; tries = 1; choices = 1 } else record { row = j; base = 0; tries = many; choices = many }) j
-      go true b₂ = record { row = refl; base = refl }
-      go false true = record { row = refl; base = refl }
-      go false false = record { row = refl; base = refl }
+      by-kind : (b₁ b₂ : Bool) → FlatAt (if b₁ then record { row = j; base = 0; tries = length ms; choices = length ms } else if b₂ then record { row = j; base = 0; tries = 1; choices = 1 } else record { row = j; base = 0; tries = many; choices = many }) j
+      by-kind true b₂ = record { row = refl; base = refl }
+      by-kind false true = record { row = refl; base = refl }
+      by-kind false false = record { row = refl; base = refl }
 
 -- ---- the search
 pub first-start : (f : ℕ → Bool) (k : ℕ) → firstFrom f 0 k ≡ firstFrom f 0 (k - 0)

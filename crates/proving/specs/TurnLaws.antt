@@ -4,7 +4,7 @@ use mathlib.Core.Path.{_≡_, refl, sym, ap, subst, _∙_, fun-ext}
 use mathlib.Core.Bool.{Bool, true, false}
 use mathlib.Core.List.{List, [], _∷_}
 use native.Mathlib.Omega.{arith}
-use native.Mathlib.Nat.{div-add-mod', mod-lt, pow-suc, pow-zero, div-one, div-div-eq-div-mul, add-mul, one-mul, zero-div, zero-mod}
+use native.Mathlib.Nat.{div-add-mod', mod-lt, pow-suc, pow-zero, div-one, div-div-eq-div-mul, add-mul, one-mul, mul-le-mul, zero-div, zero-mod}
 use lib.Arith.{digits-div, digits-mod}
 use lib.Dec.{eqb, ltb}
 use lib.Seq.{getD-set-same, getD-set-other}
@@ -193,3 +193,10 @@ row-on n j o e =
     let b : (j + n) / n ≡ j / n + 1 = ap (λ (x : ℕ). x / n) a ∙ digits-div (j / n + 1) o in
     let c : (j / n + 1) * n + 0 ≡ (j / n + 1) * n = omega arith in
     (b, a ∙ c ∙ ap (λ (q : ℕ). q * n) (sym b))
+
+-- ---- the first action of a row of a `forall`, whose rows have c actions and n atoms each
+pub acts-on : (first q c a q′ : ℕ) → a ≡ first + q * c → q′ ≡ q + 1 → a + c ≡ first + q′ * c
+acts-on first q c a q′ e o = rw o (omega (arith, add-mul q 1 c, one-mul c))
+
+pub acts-low : (q c n j : ℕ) → c ≤ n → j ≡ q * n → q * c ≤ j
+acts-low q c n j h e = let o : q ≤ q = omega arith in omega (arith, mul-le-mul o h)

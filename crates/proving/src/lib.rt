@@ -4,18 +4,18 @@ ghost use mathlib.Core.Path.{_≡_};
 ghost use mathlib.Core.Bool.{true};
 ghost use mathlib.Core.List.{List, [], _∷_};
 ghost use Prim.Native.Nat.{ℕ, _+_, _-_, _*_, _/_, _%_, _^_, _<_, _≤_};
-ghost use lib.ListN.{length, take, set as «set-at»};
+ghost use lib.ListN.{length, getD, take, set as «set-at»};
 ghost use Rattle.definitions.specs.Atoms.{Problem, placesOf, nodeAt, nodeWidth, atoms as «atoms-of»};
 ghost use Rattle.definitions.specs.Actions.{Action, actionNumber, valuesIn, withValue};
 ghost use Rattle.laws.specs.Numbers.{IsAction};
 ghost use Rattle.bits.specs.Table.{bit};
 ghost use Rattle.rows.specs.Values.{valueIn, Within, Most};
 ghost use Rattle.tree.specs.Tables.{Levels};
-ghost use Rattle.ground.specs.Lines.{sizeIn, nodeLine, partAt, NodeFits, Fits};
+ghost use Rattle.ground.specs.Lines.{tableLength, sizeIn, partAt, NodeFits, RangeFits, Fits};
 ghost use Rattle.ground.specs.declared.NodeLine.{NodeLine};
 ghost use Rattle.ground.specs.Numbers.{underAt, ActFits, changed};
 ghost use Rattle.ground.specs.Of.{said};
-ghost use Rattle.proving.specs.Tries.{wayBy, chained, firstFrom, firstBy, Digits, Rest};
+ghost use Rattle.proving.specs.Tries.{wayBy, wayAt, chained, firstFrom, firstBy, Digits, Rest};
 ghost use Rattle.proving.specs.Following.{Ready, NodeOf, Chain, Goes, out, one, provedRow, provedRows, provedNodes};
 
 // Where an element takes a part: its atom's number at element 0, and by how much that grows with the element.
@@ -39,9 +39,7 @@ fn put(steps: &mut [u32], at: usize, k: usize)
     ensures { λ r. ⌜ (k < 2 ^ 32 → now (steps .exit) ≡ «set-at» (now (steps .entry)) at k) ⌝ }
 {
     if at < steps.len() {
-        if k < 4294967296 {
-            steps[at] = k as u32;
-        }
+        steps[at] = (k & 4294967295) as u32;
     }
 }
 
@@ -61,18 +59,25 @@ fn along(table: &[usize], part: usize, level: usize, env: [usize; 4]) -> Element
     }
 }
 
-// The first of `tries` bits that is set, from bit `start` on and `stride` apart; `tries` where none is.
-fn first_bit(state: &[u64], start: usize, stride: usize, tries: usize) -> usize
-    requires { ⌜ (start ≤ 2 ^ 43) × (stride ≤ 2 ^ 32) × (tries ≤ 64) ⌝ }
-    ensures { λ r. ⌜ r ≡ firstFrom (λ i. bit (now (state .entry)) (start + i * stride)) 0 tries ⌝ }
+// The first of `count` members of a range whose bit is set: that of element 0 is `start`, and they are `stride` apart; `count` where
+// none is.
+fn first_member(
+    state: &[u64],
+    table: &[usize],
+    range: usize,
+    count: usize,
+    start: usize,
+    stride: usize,
+) -> usize
+    requires { ⌜ (length (now table) ≡ tableLength) × (range + count ≤ tableLength) × ((i : ℕ) → i < count → getD (now table) (range + i) 0 ≤ 64) × (start ≤ 2 ^ 42) × (stride ≤ 2 ^ 32) ⌝ }
+    ensures { λ r. ⌜ r ≡ firstFrom (λ i. bit (now (state .entry)) (start + getD (now (table .entry)) (range + i) 0 * stride)) 0 count ⌝ }
 {
     let mut i: usize = 0;
-    let mut k = start;
-    while i < tries {
+    while i < count {
+        let k = start + table[range + i] * stride;
         if ground::test(state, k) {
             return i;
         }
-        k += stride;
         i += 1;
     }
     i
@@ -93,16 +98,16 @@ fn first_part(state: &[u64], table: &[usize], first: usize, tries: usize, env: [
     i
 }
 
-// Whether the part of a `forall` holds at z, and unless z is 0, "true up to z−1" does, the atom before `own`.
-fn chain_holds(state: &[u64], part: usize, z: usize, own: usize) -> bool
-    requires { ⌜ (0 < z → 0 < own) ⌝ }
-    ensures { λ r. ⌜ r ≡ chained (bit (now (state .entry))) part z own ⌝ }
+// Whether the part of a `forall` holds at the i-th member of its range, and unless that is the first, the atom `prior` does: "true up
+// to the member before".
+fn chain_holds(state: &[u64], part: usize, i: usize, prior: usize) -> bool
+    ensures { λ r. ⌜ r ≡ chained (bit (now (state .entry))) part i prior ⌝ }
 {
     if ground::test(state, part) {
-        if z == 0 {
+        if i == 0 {
             return true;
         }
-        return ground::test(state, own - 1);
+        return ground::test(state, prior);
     }
     false
 }
@@ -132,12 +137,12 @@ fn spread(levels: [usize; 4], width: usize, digits: &[usize]) -> [usize; 4]
 }
 
 // How many actions a row of an `exists`, `and` or `or` has.
-fn tries(n: usize, kind: usize, many: usize) -> usize
-    requires { ⌜ (0 < kind) × (n ≤ 64) × (many ≤ 64) ⌝ }
-    ensures { λ r. ⌜ (r ≤ 64) × ((j : ℕ) → (r ≡ wayBy n kind many j .tries) × (r ≡ wayBy n kind many j .choices)) ⌝ }
+fn tries(kind: usize, many: usize, count: usize) -> usize
+    requires { ⌜ (0 < kind) × (many ≤ 2 ^ 11) × (count ≤ 2 ^ 11) ⌝ }
+    ensures { λ r. ⌜ (r ≤ 2 ^ 11) × ((n : ℕ) (ms : List ℕ) (j : ℕ) → length ms ≡ count → (r ≡ wayBy n kind many ms j .tries) × (r ≡ wayBy n kind many ms j .choices)) ⌝ }
 {
     if kind == 1 {
-        return n;
+        return count;
     }
     if kind == 2 {
         return 1;
@@ -153,14 +158,14 @@ fn first_try(
     v: ground::NodeLine,
     digits: &[usize],
 ) -> usize
-    requires { ⌜ Fits (now table) × (n ≡ sizeIn (now table)) × NodeFits v × (0 < v .kind) × (length (now digits) ≡ 4) × Within n (now digits) × Rest (v .width) (now digits) ⌝ }
+    requires { ⌜ Fits (now table) × (n ≡ sizeIn (now table)) × NodeFits v × RangeFits (now table) v × (0 < v .kind) × (length (now digits) ≡ 4) × Within n (now digits) × Rest (v .width) (now digits) ⌝ }
     ensures { λ r. ⌜ ((row : ℕ) → Digits n (v .width) row (now (digits .entry)) → bit (now (state .entry)) 1 ≡ true → r ≡ firstBy (bit (now (state .entry))) n (now (table .entry)) v row) ⌝ }
 {
     let levels = v.levels;
     let env = spread(levels, v.width, digits);
     if v.kind == 1 {
         let a = along(table, v.first, v.level, env);
-        return first_bit(state, a.start, a.stride, n);
+        return first_member(state, table, v.range, v.count, a.start, a.stride);
     }
     if v.kind == 2 {
         return only_try(ground::parts_hold(state, table, v.first, v.many, env));
@@ -208,9 +213,9 @@ fn prove_row(
     digits: &[usize],
     row: usize,
 ) -> usize
-    requires { ⌜ Fits (now table) × NodeFits v × (v .acts ≤ 2 ^ 32) × (v .atoms ≤ 2 ^ 32) × (row ≤ 2 ^ 32) × (at < 2 ^ 40) × (0 < v .kind) × (tries ≤ 64) × (length (now digits) ≡ 4) × Within (sizeIn (now table)) (now digits) × Rest (v .width) (now digits) ⌝ }
+    requires { ⌜ Fits (now table) × NodeFits v × (v .acts ≤ 2 ^ 32) × (v .atoms ≤ 2 ^ 32) × (row ≤ 2 ^ 32) × (at < 2 ^ 40) × (0 < v .kind) × (tries ≤ 2 ^ 11) × (length (now digits) ≡ 4) × Within (sizeIn (now table)) (now digits) × Rest (v .width) (now digits) × RangeFits (now table) v ⌝ }
     ensures { λ r. ⌜ (r ≤ at + 1) × ((p : Problem) (node : ℕ) → NodeOf p (now (table .entry)) (length (now (state .entry))) node v
-        → (tries ≡ wayBy (sizeIn (now (table .entry))) (v .kind) (v .many) row .tries) × (tries ≡ wayBy (sizeIn (now (table .entry))) (v .kind) (v .many) row .choices)
+        → (tries ≡ wayAt (now (table .entry)) v row .tries) × (tries ≡ wayAt (now (table .entry)) v row .choices)
         → Digits (sizeIn (now (table .entry))) (v .width) row (now (digits .entry)) → row < nodeWidth (p .size) (nodeAt p node) → bit (now (state .entry)) 1 ≡ true
         → Goes (provedRow p node (out (bit (now (state .entry))) (now (steps .entry)) at) row) (bit (now (state .exit))) (now (steps .exit)) r) ⌝ }
 {
@@ -254,61 +259,59 @@ fn under_at(table: &[usize], v: ground::NodeLine, digits: &[usize]) -> Elements
     }
 }
 
-// One atom of a `forall`, "true up to z", is proved, if its part holds and unless z is 0, the atom before it does.
+// One atom of a `forall`, "true up to the i-th member" of its range, is proved, if its part holds and unless that is the first, the
+// atom `prior` does.
 fn prove_link(
     state: &mut [u64],
     steps: &mut [u32],
     at: usize,
     part: usize,
-    z: usize,
+    i: usize,
+    prior: usize,
     own: usize,
-    action: usize,
+    number: usize,
 ) -> usize
-    requires { ⌜ (at < 2 ^ 40) × (0 < z → 0 < own) ⌝ }
-    ensures { λ r. ⌜ (r ≤ at + 1) × ((p : Problem) (w : List ℕ) (node : ℕ) (v : NodeLine) (n row j : ℕ) (under : Elements) → Chain p w (length (now (state .entry))) node v n row j under → z < n
-        → part ≡ under .start + z * under .stride → own ≡ v .atoms + (j + z) → action ≡ v .acts + (j + z) → bit (now (state .entry)) 1 ≡ true
-        → Goes (provedRow p node (out (bit (now (state .entry))) (now (steps .entry)) at) (j + z)) (bit (now (state .exit))) (now (steps .exit)) r) ⌝ }
+    requires { ⌜ at < 2 ^ 40 ⌝ }
+    ensures { λ r. ⌜ (r ≤ at + 1) × ((p : Problem) (w : List ℕ) (node : ℕ) (v : NodeLine) (row j action : ℕ) (under : Elements) → Chain p w (length (now (state .entry))) node v row j action under → i < v .count
+        → part ≡ under .start + getD w (v .range + i) 0 * under .stride → (0 < i → prior ≡ v .atoms + (j + getD w (v .range + (i - 1)) 0)) → own ≡ v .atoms + (j + getD w (v .range + i) 0) → number ≡ action + i → bit (now (state .entry)) 1 ≡ true
+        → Goes (provedRow p node (out (bit (now (state .entry))) (now (steps .entry)) at) (j + getD w (v .range + i) 0)) (bit (now (state .exit))) (now (steps .exit)) r) ⌝ }
 {
-    if chain_holds(state, part, z, own) {
-        return mark(state, steps, at, own, action);
+    if chain_holds(state, part, i, prior) {
+        return mark(state, steps, at, own, number);
     }
     at
 }
 
-// The atoms of a `forall` in one row, from atom j on: z after z.
+// The atoms of a `forall` in one row, whose atoms start at j and whose actions at `action`: member after member of its range.
 fn prove_chain(
     state: &mut [u64],
     steps: &mut [u32],
     at: usize,
-    n: usize,
+    table: &[usize],
     v: ground::NodeLine,
     under: Elements,
     j: usize,
+    action: usize,
 ) -> usize
-    requires { ⌜ (n ≤ 64) × (v .acts ≤ 2 ^ 32) × (v .atoms ≤ 2 ^ 32) × (j ≤ 2 ^ 32) × (at + 64 ≤ 2 ^ 40) × (under .start ≤ 2 ^ 42) × (under .stride ≤ 2 ^ 32) ⌝ }
-    ensures { λ r. ⌜ (r ≤ at + n) × ((p : Problem) (w : List ℕ) (node row : ℕ) → Chain p w (length (now (state .entry))) node v n row j under → bit (now (state .entry)) 1 ≡ true
-        → Goes (provedRows p node (out (bit (now (state .entry))) (now (steps .entry)) at) j n) (bit (now (state .exit))) (now (steps .exit)) r) ⌝ }
+    requires { ⌜ Fits (now table) × RangeFits (now table) v × (v .count ≤ 64) × (v .atoms ≤ 2 ^ 32) × (j ≤ 2 ^ 32) × (action ≤ 2 ^ 40) × (at + 64 ≤ 2 ^ 40) × (under .start ≤ 2 ^ 42) × (under .stride ≤ 2 ^ 32) ⌝ }
+    ensures { λ r. ⌜ (r ≤ at + v .count) × ((p : Problem) (node row : ℕ) → Chain p (now (table .entry)) (length (now (state .entry))) node v row j action under → bit (now (state .entry)) 1 ≡ true
+        → Goes (provedRows p node (out (bit (now (state .entry))) (now (steps .entry)) at) j (sizeIn (now (table .entry)))) (bit (now (state .exit))) (now (steps .exit)) r) ⌝ }
 {
     let mut k = at;
-    let mut part = under.start;
-    let mut z: usize = 0;
-    while z < n {
-        k = prove_link(
-            state,
-            steps,
-            k,
-            part,
-            z,
-            v.atoms + (j + z),
-            v.acts + (j + z),
-        );
-        part += under.stride;
-        z += 1;
+    let mut prior: usize = 0;
+    let mut i: usize = 0;
+    while i < v.count {
+        let z = table[v.range + i];
+        let part = under.start + z * under.stride;
+        let own = v.atoms + (j + z);
+        k = prove_link(state, steps, k, part, i, prior, own, action + i);
+        prior = own;
+        i += 1;
     }
     k
 }
 
-// The atoms of a `forall`, row by row.
+// The atoms of a `forall`, row by row. A range of more than n members is no problem's, and nothing is proved for it.
 fn prove_chains(
     state: &mut [u64],
     steps: &mut [u32],
@@ -317,19 +320,24 @@ fn prove_chains(
     v: ground::NodeLine,
     width: usize,
 ) -> usize
-    requires { ⌜ Fits (now table) × NodeFits v × (v .acts ≤ 2 ^ 32) × (v .atoms ≤ 2 ^ 32) × (v .kind ≡ 0) × (width ≤ 2 ^ 32) × (at < 2 ^ 39) ⌝ }
+    requires { ⌜ Fits (now table) × NodeFits v × (v .acts ≤ 2 ^ 32) × (v .atoms ≤ 2 ^ 32) × (v .kind ≡ 0) × (width ≤ 2 ^ 32) × (at < 2 ^ 39) × RangeFits (now table) v ⌝ }
     ensures { λ r. ⌜ (r ≤ at + width) × ((p : Problem) (node : ℕ) → NodeOf p (now (table .entry)) (length (now (state .entry))) node v → width ≡ nodeWidth (p .size) (nodeAt p node) → bit (now (state .entry)) 1 ≡ true
         → Goes (provedRows p node (out (bit (now (state .entry))) (now (steps .entry)) at) 0 width) (bit (now (state .exit))) (now (steps .exit)) r) ⌝ }
 {
     let n = table[0];
+    if n < v.count {
+        return at;
+    }
     let mut digits = [0usize; 4];
     let mut k = at;
     let mut j: usize = 0;
+    let mut action = v.acts;
     while j + n <= width {
         let under = under_at(table, v, &digits);
-        k = prove_chain(state, steps, k, n, v, under, j);
+        k = prove_chain(state, steps, k, table, v, under, j, action);
         advance(n, v.width, &mut digits);
         j += n;
+        action += v.count;
     }
     k
 }
@@ -343,12 +351,12 @@ fn prove_rows(
     v: ground::NodeLine,
     width: usize,
 ) -> usize
-    requires { ⌜ Fits (now table) × NodeFits v × (v .acts ≤ 2 ^ 32) × (v .atoms ≤ 2 ^ 32) × (0 < v .kind) × (width ≤ 2 ^ 32) × (at < 2 ^ 39) ⌝ }
+    requires { ⌜ Fits (now table) × NodeFits v × (v .acts ≤ 2 ^ 32) × (v .atoms ≤ 2 ^ 32) × (0 < v .kind) × (width ≤ 2 ^ 32) × (at < 2 ^ 39) × RangeFits (now table) v ⌝ }
     ensures { λ r. ⌜ (r ≤ at + width) × ((p : Problem) (node : ℕ) → NodeOf p (now (table .entry)) (length (now (state .entry))) node v → width ≡ nodeWidth (p .size) (nodeAt p node) → bit (now (state .entry)) 1 ≡ true
         → Goes (provedRows p node (out (bit (now (state .entry))) (now (steps .entry)) at) 0 width) (bit (now (state .exit))) (now (steps .exit)) r) ⌝ }
 {
     let n = table[0];
-    let m = tries(n, v.kind, v.many);
+    let m = tries(v.kind, v.many, v.count);
     let mut digits = [0usize; 4];
     let mut k = at;
     let mut row: usize = 0;

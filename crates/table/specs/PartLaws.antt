@@ -2,7 +2,7 @@
 use mathlib.Core.Path.{_≡_, refl, sym, ap, _∙_}
 use mathlib.Core.Bool.{Bool, true, false}
 use mathlib.Core.List.{List, [], _∷_, map}
-use Prim.Native.Nat.{ℕ, zero, suc, _+_, _-_, _*_, _^_, _≤_, _<_}
+use Prim.Native.Nat.{ℕ, zero, suc, _+_, _*_, _^_, _≤_, _<_}
 use native.Mathlib.Nat.{add-mul, mul-assoc, mul-le-mul}
 use native.Mathlib.Omega.{arith}
 use borrow.Author.Tests.{eq-eqb, ne-eqb}
@@ -12,7 +12,6 @@ use Rattle.definitions.specs.Limits.{actionLimit}
 use Rattle.definitions.specs.Lists.{if_then_else_, below, greatest}
 use Rattle.definitions.specs.Tree.{Tree, leaf, forallNode, existsNode, andNode, orNode, free}
 use Rattle.definitions.specs.Atoms.{Problem, rowOf, holdsNode, atomNumber}
-use Rattle.laws.specs.Members.{greatest-below}
 use Rattle.definitions.specs.Actions.{Values, partAtom}
 use Rattle.tree.specs.Tables.{Head, headFrom, headIn, PartIn, PartFits}
 use Rattle.tree.specs.declared.PartRow.{PartRow}
@@ -54,9 +53,9 @@ module _ (n s : ℕ) (q : PartRow) (w : List ℕ) (v : valueIn w ≡ weightOf n 
   unfolding valueIn
   at i = ap (λ (f : Values). f i) v
 
-  pub line-last : q .tag ≡ 2 → (s + (n - 1)) ∷ (getD w 0 0 * n) ∷ (getD w 1 0 * n) ∷ (getD w 2 0 * n) ∷ (getD w 3 0 * n) ∷ [] ≡ numbersFrom n s q
+  pub line-last : (top : ℕ) → top ≡ greatest (below n) → q .tag ≡ 2 → (s + top) ∷ (getD w 0 0 * n) ∷ (getD w 1 0 * n) ∷ (getD w 2 0 * n) ∷ (getD w 3 0 * n) ∷ [] ≡ numbersFrom n s q
   unfolding numbersFrom
-  line-last t = rw (eq-eqb (q .tag) 2 t, at 0, at 1, at 2, at 3) refl
+  line-last top o t = rw (o, eq-eqb (q .tag) 2 t, at 0, at 1, at 2, at 3) refl
 
   pub line-plain : (q .tag ≡ 2 → ⊥) → s ∷ getD w 0 0 ∷ getD w 1 0 ∷ getD w 2 0 ∷ getD w 3 0 ∷ [] ≡ numbersFrom n s q
   unfolding numbersFrom
@@ -69,7 +68,7 @@ length-from : (n s : ℕ) (q : PartRow) → length (numbersFrom n s q) ≡ 5
 unfolding numbersFrom
 length-from n s q = go (eqb (q .tag) 2)
   where
-    go : (b : Bool) → length (if b then (s + (n - 1)) ∷ (weightOf n (take (q .width) (q .levels)) 0 * n) ∷ (weightOf n (take (q .width) (q .levels)) 1 * n) ∷ (weightOf n (take (q .width) (q .levels)) 2 * n) ∷ (weightOf n (take (q .width) (q .levels)) 3 * n) ∷ []
+    go : (b : Bool) → length (if b then (s + greatest (below n)) ∷ (weightOf n (take (q .width) (q .levels)) 0 * n) ∷ (weightOf n (take (q .width) (q .levels)) 1 * n) ∷ (weightOf n (take (q .width) (q .levels)) 2 * n) ∷ (weightOf n (take (q .width) (q .levels)) 3 * n) ∷ []
         else s ∷ weightOf n (take (q .width) (q .levels)) 0 ∷ weightOf n (take (q .width) (q .levels)) 1 ∷ weightOf n (take (q .width) (q .levels)) 2 ∷ weightOf n (take (q .width) (q .levels)) 3 ∷ []) ≡ 5
     go true = refl
     go false = refl
@@ -86,7 +85,7 @@ module _ (n : ℕ) (rel neg node : List ℕ) (q : PartRow) where
 
 -- ---- the number that a head stands for
 unfoldable pub rowBy : ℕ → ℕ → ℕ → ℕ
-rowBy n tag row = if eqb tag 2 then row * n + (n - 1) else row
+rowBy n tag row = if eqb tag 2 then row * n + greatest (below n) else row
 
 unfoldable pub numberBy : Layout → ℕ → Values → Head → ℕ
 numberBy l n e h = startIn (l .rel) (l .neg) (l .node) (h .tag) (h .which) + rowBy n (h .tag) (rowOf n (map e (h .levels)))
@@ -119,14 +118,14 @@ part-by-head n l e q f = go (eqb (q .tag) 2)
     row : r ≡ weighed e w
     row = row-weighed n e (q .width) (q .levels) (f .levels)
 
-    go : (b : Bool) → partNumber e (lineOf (if b then (s + (n - 1)) ∷ (w 0 * n) ∷ (w 1 * n) ∷ (w 2 * n) ∷ (w 3 * n) ∷ [] else s ∷ w 0 ∷ w 1 ∷ w 2 ∷ w 3 ∷ [])) ≡ s + (if b then r * n + (n - 1) else r)
+    go : (b : Bool) → partNumber e (lineOf (if b then (s + greatest (below n)) ∷ (w 0 * n) ∷ (w 1 * n) ∷ (w 2 * n) ∷ (w 3 * n) ∷ [] else s ∷ w 0 ∷ w 1 ∷ w 2 ∷ w 3 ∷ [])) ≡ s + (if b then r * n + greatest (below n) else r)
     go true =
         let z = weighed-times e w n in
         let y : r * n ≡ weighed e w * n = ap (λ (x : ℕ). x * n) row in
         omega (arith, z, y)
     go false = ap (λ (x : ℕ). s + x) (sym row)
 
-module _ (p : Problem) (l : Layout) (starts : Starts p l) (some : 0 < p .size) (ranges : (s : ℕ) → p .range s ≡ below (p .size)) (rels nodes : ℕ) (rs : rels ≡ length (p .relations)) (ns : nodes ≡ length (p .nodeList)) where
+module _ (p : Problem) (l : Layout) (starts : Starts p l) (ranges : (s : ℕ) → p .range s ≡ below (p .size)) (rels nodes : ℕ) (rs : rels ≡ length (p .relations)) (ns : nodes ≡ length (p .nodeList)) where
   by-tree : (e : Values) (v : ℕ) (u : Tree) (q : PartRow) → PartIn rels nodes q → headIn q ≡ headFrom v u → numberBy l (p .size) e (headFrom v u) ≡ atomNumber p (partAtom (p .size) (p .range) e v u)
   unfolding headFrom numberBy rowBy startIn atomNumber partAtom
   by-tree e v (leaf true r ls) q w h =
@@ -140,8 +139,8 @@ module _ (p : Problem) (l : Layout) (starts : Starts p l) (some : 0 < p .size) (
   by-tree e v (forallNode d σ u) q w h =
       let a : q .which ≡ v = ap (λ (h : Head). h .which) h in
       let b : q .tag ≡ 2 = ap (λ (h : Head). h .tag) h in
-      ap (λ (x : ℕ). x + (rowOf (p .size) (map e (free (forallNode d σ u))) * p .size + (p .size - 1))) (starts .node v (omega (arith, w .node (omega arith), ns)))
-      ∙ ap (λ (z : ℕ). atomNumber p (holdsNode v (rowOf (p .size) (map e (free (forallNode d σ u))) * p .size + z))) (sym (ap greatest (ranges σ) ∙ greatest-below (p .size) some))
+      ap (λ (x : ℕ). x + (rowOf (p .size) (map e (free (forallNode d σ u))) * p .size + greatest (below (p .size)))) (starts .node v (omega (arith, w .node (omega arith), ns)))
+      ∙ ap (λ (z : ℕ). atomNumber p (holdsNode v (rowOf (p .size) (map e (free (forallNode d σ u))) * p .size + z))) (sym (ap greatest (ranges σ)))
   by-tree e v (existsNode d σ u) q w h =
       let a : q .which ≡ v = ap (λ (h : Head). h .which) h in
       let b : q .tag ≡ 3 = ap (λ (h : Head). h .tag) h in
@@ -161,10 +160,10 @@ module _ (p : Problem) (l : Layout) (starts : Starts p l) (some : 0 < p .size) (
 
 -- ---- ranges of a part's line
 module _ (n s : ℕ) (w : List ℕ) (ns : n ≤ 64) (ss : s ≤ actionLimit) (ws : Most w (65 ^ 4)) where
-  pub last-most : Most ((s + (n - 1)) ∷ (getD w 0 0 * n) ∷ (getD w 1 0 * n) ∷ (getD w 2 0 * n) ∷ (getD w 3 0 * n) ∷ []) (2 ^ 32)
-  last-most =
+  pub last-most : (top : ℕ) → top < n → Most ((s + top) ∷ (getD w 0 0 * n) ∷ (getD w 1 0 * n) ∷ (getD w 2 0 * n) ∷ (getD w 3 0 * n) ∷ []) (2 ^ 32)
+  last-most top h =
       let a : (i : ℕ) → getD w i 0 * n ≤ 65 ^ 4 * 64 = λ i. weight-times (getD w i 0) n (ws i) ns in
-      each-most (2 ^ 32) ((s + (n - 1)) ∷ (getD w 0 0 * n) ∷ (getD w 1 0 * n) ∷ (getD w 2 0 * n) ∷ (getD w 3 0 * n) ∷ []) (omega arith, (omega (arith, a 0), (omega (arith, a 1), (omega (arith, a 2), (omega (arith, a 3), tt)))))
+      each-most (2 ^ 32) ((s + top) ∷ (getD w 0 0 * n) ∷ (getD w 1 0 * n) ∷ (getD w 2 0 * n) ∷ (getD w 3 0 * n) ∷ []) (omega arith, (omega (arith, a 0), (omega (arith, a 1), (omega (arith, a 2), (omega (arith, a 3), tt)))))
 
   pub plain-most : Most (s ∷ getD w 0 0 ∷ getD w 1 0 ∷ getD w 2 0 ∷ getD w 3 0 ∷ []) (2 ^ 32)
   plain-most = each-most (2 ^ 32) (s ∷ getD w 0 0 ∷ getD w 1 0 ∷ getD w 2 0 ∷ getD w 3 0 ∷ []) (omega arith, (omega (arith, ws 0), (omega (arith, ws 1), (omega (arith, ws 2), (omega (arith, ws 3), tt)))))

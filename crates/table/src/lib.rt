@@ -5,9 +5,10 @@ ghost use lib.ListN.{getD, length};
 ghost use Rattle.definitions.specs.Limits.{actionLimit};
 ghost use Rattle.tree.specs.Tables.{noPart, PartFits, Fits};
 ghost use Rattle.rows.specs.Values.{Most};
-ghost use Rattle.ground.specs.Lines.{tableLength};
+ghost use Rattle.ground.specs.Lines.{tableLength, rootPlace, rangesPlace};
+ghost use Rattle.definitions.specs.Lists.{below, greatest};
 ghost use Rattle.layout.specs.Laid.{RelationsFit, Small};
-ghost use Rattle.table.specs.Filled.{splice, nodeFrom, nodeNumbers, startIn, numbersFrom, partNumbers, relationLines, nodeLines, partLines, tableOf, Filled};
+ghost use Rattle.table.specs.Filled.{relationsPlace, nodesPlace, partsPlace, rangeStart, rangeCount, splice, nodeFrom, nodeNumbers, startIn, numbersFrom, partNumbers, relationLines, nodeLines, partLines, tableOf, Filled};
 use layout::Layout;
 use layout::Relations;
 use tree::NodeRow;
@@ -29,16 +30,24 @@ fn store(table: &mut [usize], at: usize, line: &[usize])
 // The lines of the relations, and the line past the last.
 fn fill_relations(table: &mut [usize], g: Relations, l: Layout)
     requires { ⌜ (length (now table) ≡ tableLength) × RelationsFit g ⌝ }
-    ensures { λ r. ⌜ now (table .exit) ≡ splice 3 (relationLines g l) (now (table .entry)) ⌝ }
+    ensures { λ r. ⌜ now (table .exit) ≡ splice relationsPlace (relationLines g l) (now (table .entry)) ⌝ }
 {
     let mut r: usize = 0;
     while r < g.count {
         let line = [l.set[r], l.rel[r], l.neg[r], l.dom[r], g.kind[r]];
-        store(table, 3 + 5 * r, &line);
+        store(
+            table,
+            ground::RELATION_AT + ground::RELATION_LINE * r,
+            &line,
+        );
         r += 1;
     }
     let last = [l.set[r], l.rel[r], 0, 0, 0];
-    store(table, 3 + 5 * r, &last);
+    store(
+        table,
+        ground::RELATION_AT + ground::RELATION_LINE * r,
+        &last,
+    );
 }
 
 // A byte as a number.
@@ -48,16 +57,39 @@ fn wide(x: u8) -> usize
     x as usize
 }
 
+// Where the range of a node of that kind starts, and how many elements it has: a quantifier's is that of all elements.
+fn range_start(kind: usize) -> usize
+    ensures { λ r. ⌜ (r ≡ rangeStart kind) × (r ≤ tableLength) ⌝ }
+{
+    if kind < 2 {
+        return ground::RANGE_AT;
+    }
+    0
+}
+
+fn range_count(n: usize, kind: usize) -> usize
+    requires { ⌜ n ≤ 64 ⌝ }
+    ensures { λ r. ⌜ (r ≡ rangeCount n kind) × (r ≤ 64) ⌝ }
+{
+    if kind < 2 {
+        return n;
+    }
+    0
+}
+
 // The line of a node whose actions and atoms start there.
-fn node_numbers(act: usize, node: usize, x: NodeRow) -> [usize; 11]
-    requires { ⌜ (act ≤ actionLimit) × (node ≤ actionLimit) ⌝ }
-    ensures { λ r. ⌜ (r ≡ nodeFrom act node x) × Most r (2 ^ 32) ⌝ }
+fn node_numbers(n: usize, act: usize, node: usize, x: NodeRow) -> [usize; 13]
+    requires { ⌜ (n ≤ 64) × (act ≤ actionLimit) × (node ≤ actionLimit) ⌝ }
+    ensures { λ r. ⌜ (r ≡ nodeFrom n act node x) × Most r (2 ^ 32) ⌝ }
 {
     let ls = x.levels;
+    let kind = wide(x.kind);
+    let range = range_start(kind);
+    let count = range_count(n, kind);
     [
         act,
         node,
-        wide(x.kind),
+        kind,
         wide(x.level),
         wide(x.first),
         wide(x.many),
@@ -66,23 +98,25 @@ fn node_numbers(act: usize, node: usize, x: NodeRow) -> [usize; 11]
         wide(ls[1]),
         wide(ls[2]),
         wide(ls[3]),
+        range,
+        count,
     ]
 }
 
 // The lines of the nodes, and the line past the last.
-fn fill_nodes(table: &mut [usize], t: Nodes, l: Layout)
-    requires { ⌜ (length (now table) ≡ tableLength) × Fits t × Small l actionLimit ⌝ }
-    ensures { λ r. ⌜ (now (table .exit) ≡ splice 93 (nodeLines t l) (now (table .entry))) × ((v : ℕ) → v < t .count → Most (nodeNumbers t l v) (2 ^ 32)) ⌝ }
+fn fill_nodes(table: &mut [usize], n: usize, t: Nodes, l: Layout)
+    requires { ⌜ (length (now table) ≡ tableLength) × (n ≤ 64) × Fits t × Small l actionLimit ⌝ }
+    ensures { λ r. ⌜ (now (table .exit) ≡ splice nodesPlace (nodeLines n t l) (now (table .entry))) × ((v : ℕ) → v < t .count → Most (nodeNumbers n t l v) (2 ^ 32)) ⌝ }
 {
     let mut v: usize = 0;
     while v < t.count {
         let x = t.rows[v];
-        let line = node_numbers(l.act[v], l.node[v], x);
-        store(table, 93 + 11 * v, &line);
+        let line = node_numbers(n, l.act[v], l.node[v], x);
+        store(table, ground::NODE_AT + ground::NODE_LINE * v, &line);
         v += 1;
     }
-    let last = [l.act[v], l.node[v], 0, 0, 0, 0, 0, 0, 0, 0, 0];
-    store(table, 93 + 11 * v, &last);
+    let last = [l.act[v], l.node[v], 0, 0, 0, 0, 0, 0, 0, 0, 0, 0, 0];
+    store(table, ground::NODE_AT + ground::NODE_LINE * v, &last);
 }
 
 // Where the atoms of a part's relation or node start; the arrays of a layout come as slices, so that no call copies it.
@@ -99,7 +133,15 @@ fn start_of(rel: &[usize], neg: &[usize], node: &[usize], tag: u8, which: usize)
     node[which]
 }
 
-// The line of a part whose atoms start there.
+// The greatest of all elements.
+fn greatest_of(n: usize) -> usize
+    requires { ⌜ 0 < n ⌝ }
+    ensures { λ r. ⌜ (r ≡ greatest (below n)) × (r < n) ⌝ }
+{
+    n - 1
+}
+
+// The line of a part whose atoms start there; a `forall` stands for its atom at the greatest element of its range.
 fn part_numbers(n: usize, start: usize, q: PartRow) -> [usize; 5]
     requires { ⌜ (0 < n) × (n ≤ 64) × PartFits q × (start ≤ actionLimit) ⌝ }
     ensures { λ r. ⌜ (r ≡ numbersFrom n start q) × Most r (2 ^ 32) ⌝ }
@@ -107,7 +149,8 @@ fn part_numbers(n: usize, start: usize, q: PartRow) -> [usize; 5]
     let levels = q.levels;
     let w = rows::weights(n, levels, wide(q.width));
     if q.tag == 2 {
-        return [start + (n - 1), w[0] * n, w[1] * n, w[2] * n, w[3] * n];
+        let top = greatest_of(n);
+        return [start + top, w[0] * n, w[1] * n, w[2] * n, w[3] * n];
     }
     [start, w[0], w[1], w[2], w[3]]
 }
@@ -115,7 +158,7 @@ fn part_numbers(n: usize, start: usize, q: PartRow) -> [usize; 5]
 // The lines of the parts, and the root's.
 fn fill_parts(table: &mut [usize], n: usize, t: Nodes, l: Layout)
     requires { ⌜ (length (now table) ≡ tableLength) × (0 < n) × (n ≤ 64) × Fits t × Small l actionLimit ⌝ }
-    ensures { λ r. ⌜ (now (table .exit) ≡ splice 1128 (partNumbers n l (t .root)) (splice 808 (partLines n t l) (now (table .entry))))
+    ensures { λ r. ⌜ (now (table .exit) ≡ splice rootPlace (partNumbers n l (t .root)) (splice partsPlace (partLines n t l) (now (table .entry))))
         × ((i : ℕ) → i < t .placed → Most (partNumbers n l (getD (t .parts) i noPart)) (2 ^ 32)) × Most (partNumbers n l (t .root)) (2 ^ 32) ⌝ }
 {
     let rel = l.rel;
@@ -126,13 +169,25 @@ fn fill_parts(table: &mut [usize], n: usize, t: Nodes, l: Layout)
         let q = t.parts[i];
         let start = start_of(&rel, &neg, &node, q.tag, wide(q.which));
         let line = part_numbers(n, start, q);
-        store(table, 808 + 5 * i, &line);
+        store(table, ground::PART_AT + ground::PART_LINE * i, &line);
         i += 1;
     }
     let q = t.root;
     let start = start_of(&rel, &neg, &node, q.tag, wide(q.which));
     let last = part_numbers(n, start, q);
-    store(table, 1128, &last);
+    store(table, ground::ROOT_AT, &last);
+}
+
+// The range of all elements.
+fn fill_range(table: &mut [usize], n: usize)
+    requires { ⌜ (length (now table) ≡ tableLength) × (n ≤ 64) ⌝ }
+    ensures { λ r. ⌜ now (table .exit) ≡ splice rangesPlace (below n) (now (table .entry)) ⌝ }
+{
+    let mut i: usize = 0;
+    while i < n {
+        table[ground::RANGE_AT + i] = i;
+        i += 1;
+    }
 }
 
 // The whole table, in place of zeros: the lines past the last relation, node and part stay as they were.
@@ -144,6 +199,7 @@ pub fn fill(table: &mut [usize], n: usize, g: Relations, t: Nodes, l: Layout)
     table[1] = g.count;
     table[2] = t.count;
     fill_relations(table, g, l);
-    fill_nodes(table, t, l);
+    fill_nodes(table, n, t, l);
     fill_parts(table, n, t, l);
+    fill_range(table, n);
 }

@@ -4,6 +4,7 @@ use native.Mathlib.Omega.{arith}
 use lib.Seq.{length-take-le}
 use Rattle.definitions.specs.Atoms.{problemOf}
 use Rattle.layout.specs.LaidLaws.{most-zeros}
+use Rattle.ground.specs.Lines.{tableLength}
 use Rattle.cases.specs.Known.{tabled, atoms-few}
 use Rattle.building.specs.Builds.{builds-over, builds-picks, builds-state, builds-steps, builds-spare, builds-built}
 use borrow.Author.Needs.{needs}
@@ -11,7 +12,7 @@ use Rattle.building.proofs.build_case.Statement.{statement}
 use Rattle.building.proofs.build_case.Tie as tie
 
 ground-case-requires : tie.Need-ground-case-requires
-ground-case-requires c κs = ((search needs, most-zeros 1133 0), search needs)
+ground-case-requires c κs = ((search needs, most-zeros tableLength 0), search needs)
 
 returns : tie.Need-returns
 returns c = record {

@@ -3,6 +3,7 @@ use mathlib.Core.Path.{refl, sym}
 use native.Mathlib.Omega.{arith}
 use lib.Seq.{length-take-le}
 use Rattle.layout.specs.LaidLaws.{most-zeros}
+use Rattle.ground.specs.Lines.{tableLength}
 use Rattle.cases.specs.Known.{table-is, atoms-few, words-fit, ran-of}
 use Rattle.cases.specs.Replies.{checks-over, checks-short, checks-ran}
 use borrow.Author.Needs.{needs}
@@ -10,7 +11,7 @@ use Rattle.cases.proofs.check_case.Statement.{statement}
 use Rattle.cases.proofs.check_case.Tie as tie
 
 ground-case-requires : tie.Need-ground-case-requires
-ground-case-requires c κs = ((search needs, most-zeros 1133 0), search needs)
+ground-case-requires c κs = ((search needs, most-zeros tableLength 0), search needs)
 
 returns : tie.Need-returns
 returns c = λ x h. checks-over x _ _ _ _ (c .before .before .ground-case .ensures x _ h) (c .if1 .taken)

@@ -1,13 +1,14 @@
 -- `decode::action_at` meets its contract.
-use Prim.Native.Nat.{_+_, _*_, _-_}
-use mathlib.Core.Path.{refl, sym, _∙_, subst}
+use Prim.Native.Nat.{_+_, _-_}
+use mathlib.Core.Path.{sym, _∙_, subst}
 use native.Mathlib.Omega.{arith}
 use borrow.Author.Needs.{needs}
 use lib.ListN.{getD}
-use Rattle.ground.specs.Lines.{sizeIn}
+use Prim.Native.Nat.{_<_}
+use Rattle.ground.specs.Lines.{relationPlace, nodePlace, RangeFits}
 use Rattle.ground.specs.Numbers.{ActFits}
 use Rattle.ground.specs.declared.Act.{Act}
-use Rattle.decode.specs.Found.{sets-begin, acts-begin, found-set, found-begin, found-proof, found-many, found-goal, found-none, proof-fits}
+use Rattle.decode.specs.Found.{sets-begin, acts-begin, found-set, found-begin, found-proof, found-counted, found-goal, found-none, proof-fits}
 use borrow.Author.Needs.{needs}
 use Rattle.decode.proofs.action_at.Statement.{statement}
 use Rattle.decode.proofs.action_at.Tie as tie
@@ -18,47 +19,58 @@ use Rattle.ground.proofs.node_line.Reads as node-line-reads
 use Rattle.rows.proofs.locate.Reads as locate-reads
 
 locate-requires : tie.Need-locate-requires
-locate-requires c κs = (omega (arith, c .before .before .before .before .before .before .before .pre .fits .whole, c .before .before .before .before .before .before .before .pre .fits .relations), omega (arith, sets-begin (c .before .before .before .before .before .before .before .pre .problem) (c .before .before .before .before .before .before .before .args .table .now) (c .before .before .before .before .before .before .before .pre .is)), c .if1 .taken)
+locate-requires c κs =
+    let s = c .before .before .before .before .before .before in
+    (omega (arith, s .pre .fits .whole, s .pre .fits .relations), omega (arith, sets-begin (s .pre .problem) (s .args .table .now) (s .pre .is)), c .if1 .taken)
 
 returns : tie.Need-returns
 returns c =
-    let r = c .before .locate .result in (
-      (omega (arith, c .before .locate .ensures .0, c .before .before .before .before .before .before .before .before .before .pre .fits .relations), omega (arith, c .before .before .before .before .before .before .before .before .before .pre .fits .entry (3 + 5 * (r + 1)), c .before .locate .ensures .2)),
-      λ p is. found-set p (c .before .before .before .before .before .before .before .before .before .args .table .now) is (c .before .before .before .before .before .before .before .before .before .args .k) r (c .before .locate .ensures .0) (c .before .locate .ensures .1) (c .before .locate .ensures .2),
+    let s = c .before .before .before .before .before .before .before .before in
+    let l = c .before .locate in (
+      (omega (arith, l .ensures .0, s .pre .fits .relations), omega (arith, s .pre .fits .entry (relationPlace (l .result + 1)), l .ensures .2)),
+      λ p is. found-set p (s .args .table .now) is (s .args .k) (l .result) (l .ensures .0) (l .ensures .1) (l .ensures .2),
     )
 
 returns-2 : tie.Need-returns-2
-returns-2 c = (tt, λ p is. found-begin p (c .before .before .before .before .before .before .before .before .args .table .now) is (c .before .before .before .before .before .before .before .before .args .k) (omega arith))
+returns-2 c = let s = c .before .before .before .before .before .before .before in (tt, λ p is. found-begin p (s .args .table .now) is (s .args .k) (omega arith))
 
 locate-requires-2 : tie.Need-locate-requires-2
-locate-requires-2 c κs = (omega (arith, c .before .before .before .before .before .before .before .before .before .pre .fits .whole, c .before .before .before .before .before .before .before .before .before .pre .fits .nodes), omega (arith, acts-begin (c .before .before .before .before .before .before .before .before .before .pre .problem) (c .before .before .before .before .before .before .before .before .before .args .table .now) (c .before .before .before .before .before .before .before .before .before .pre .is)), c .if3 .taken)
+locate-requires-2 c κs =
+    let s = c .before .before .before .before .before .before .before .before in
+    (omega (arith, s .pre .fits .whole, s .pre .fits .nodes), omega (arith, acts-begin (s .pre .problem) (s .args .table .now) (s .pre .is)), c .if3 .taken)
 
 proof-of-requires : tie.Need-proof-of-requires
 proof-of-requires c κs =
-    let v = c .before .before .locate2 .result in
-    (c .before .before .before .before .before .before .before .before .before .before .before .before .pre .fits .some, found-many (c .before .before .before .before .before .before .before .before .before .before .before .before .pre .problem) (c .before .before .before .before .before .before .before .before .before .before .before .before .args .table .now) (c .before .before .before .before .before .before .before .before .before .before .before .before .pre .is) (c .before .before .before .before .before .before .before .before .before .before .before .before .args .k) v (c .before .before .locate2 .ensures .0) (c .before .before .locate2 .ensures .1) (c .before .before .locate2 .ensures .2) (c .node-line .result) (c .node-line .ensures))
+    let s = c .before .before .before .before .before .before .before .before .before .before .before in
+    let l = c .before .before .locate2 in
+    let q = found-counted (s .pre .problem) (s .args .table .now) (s .pre .is) (s .args .k) (l .result) (l .ensures .0) (l .ensures .1) (l .ensures .2) (c .node-line .result) (c .node-line .ensures) in
+    let f = subst (RangeFits (s .args .table .now)) (sym (c .node-line .ensures)) (s .pre .fits .range (l .result) (omega (arith, l .ensures .0, s .pre .fits .nodes))) in
+    (s .pre .fits .whole, f .inside, q .count, q .many)
 
 returns-3 : tie.Need-returns-3
 returns-3 c =
-    let v = c .before .before .before .locate2 .result in
-    let w = c .before .before .before .before .before .before .before .before .before .before .before .before .before .args .table .now in (
+    let s = c .before .before .before .before .before .before .before .before .before .before .before .before in
+    let w = s .args .table .now in
+    let l = c .before .before .before .locate2 in
+    let v = l .result in
+    let line = c .before .node-line in
+    let few : v < 64 = omega (arith, l .ensures .0, s .pre .fits .nodes) in (
       subst (λ (x : Act). ActFits w x) (sym (c .proof-of .ensures))
-          (proof-fits (sizeIn w) v (c .before .before .before .before .before .before .before .before .before .before .before .before .before .args .k - getD w (93 + 11 * v) 0) w (c .before .node-line .result) refl (c .before .node-line .ensures) (c .before .before .before .before .before .before .before .before .before .before .before .before .before .pre .fits .some) (omega (arith, c .before .before .before .locate2 .ensures .0, c .before .before .before .before .before .before .before .before .before .before .before .before .before .pre .fits .nodes)) (omega (arith, c .before .before .before .before .before .before .before .before .before .before .before .before .before .pre .fits .entry (93 + 11 * (v + 1)), c .before .before .before .locate2 .ensures .2))
-          (found-many (c .before .before .before .before .before .before .before .before .before .before .before .before .before .pre .problem) w (c .before .before .before .before .before .before .before .before .before .before .before .before .before .pre .is) (c .before .before .before .before .before .before .before .before .before .before .before .before .before .args .k) v (c .before .before .before .locate2 .ensures .0) (c .before .before .before .locate2 .ensures .1) (c .before .before .before .locate2 .ensures .2) (c .before .node-line .result) (c .before .node-line .ensures))),
-      λ p is. c .proof-of .ensures ∙ found-proof p w is (c .before .before .before .before .before .before .before .before .before .before .before .before .before .args .k) v (c .before .before .before .locate2 .ensures .0) (c .before .before .before .locate2 .ensures .1) (c .before .before .before .locate2 .ensures .2) (c .before .node-line .result) (c .before .node-line .ensures),
+          (proof-fits v (s .args .k - getD w (nodePlace v) 0) w (line .result) (line .ensures) (s .pre .fits .range v few) few (omega (arith, s .pre .fits .entry (nodePlace (v + 1)), l .ensures .2))
+          (found-counted (s .pre .problem) w (s .pre .is) (s .args .k) v (l .ensures .0) (l .ensures .1) (l .ensures .2) (line .result) (line .ensures))),
+      λ p is. c .proof-of .ensures ∙ found-proof p w is (s .args .k) v (l .ensures .0) (l .ensures .1) (l .ensures .2) (line .result) (line .ensures),
     )
 
 returns-4 : tie.Need-returns-4
-returns-4 c = (tt, λ p is. found-goal p (c .before .before .before .before .before .before .before .before .before .before .args .table .now) is (c .before .before .before .before .before .before .before .before .before .before .args .k) (omega arith))
+returns-4 c = let s = c .before .before .before .before .before .before .before .before .before in (tt, λ p is. found-goal p (s .args .table .now) is (s .args .k) (omega arith))
 
 returns-5 : tie.Need-returns-5
-returns-5 c = (tt, λ p is. found-none p (c .before .before .before .before .before .before .before .before .before .before .args .table .now) is (c .before .before .before .before .before .before .before .before .before .before .args .k) (omega (arith, c .before .if3 .left, c .if4 .left)))
+returns-5 c = let s = c .before .before .before .before .before .before .before .before .before in (tt, λ p is. found-none p (s .args .table .now) is (s .args .k) (omega (arith, c .before .if3 .left, c .if4 .left)))
 
 pub action-at-spec : {M : Type 1} → statement M
 action-at-spec =
     tie.close
     (tie.spec
-    (λ c. search needs)
     (λ c. search needs)
     (λ c. search needs)
     (λ c. search needs)

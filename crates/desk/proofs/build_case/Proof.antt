@@ -3,6 +3,7 @@ use mathlib.Core.Path.{sym, _∙_}
 use native.Mathlib.Omega.{arith}
 use lib.Seq.{length-take-le}
 use Rattle.layout.specs.LaidLaws.{most-zeros}
+use Rattle.ground.specs.Lines.{tableLength}
 use Rattle.building.specs.Starts.{front-short}
 use Rattle.cases.specs.Known.{tabled, atoms-few}
 use Rattle.desk.specs.Known.{reportable}
@@ -12,7 +13,7 @@ use Rattle.desk.proofs.build_case.Statement.{statement}
 use Rattle.desk.proofs.build_case.Tie as tie
 
 ground-case-requires : tie.Need-ground-case-requires
-ground-case-requires c κs = ((search needs, most-zeros 1133 0), search needs)
+ground-case-requires c κs = ((search needs, most-zeros tableLength 0), search needs)
 
 returns : tie.Need-returns
 returns c = λ x F k P. reply-over _ _ _ _ (λ j. omega (arith, c .before .before .before .before .before .before .before .before .shared-slice-known3 .given j)) (c .before .before .before .before .before .before .before .before .before .before .before .before .pre .1) _ _ (c .before .before .before .before .before .before .ground-case .ensures) x F k P _ _ _ (c .before .before .before .before .if1 .taken) (c .before .before .refuse .ensures)

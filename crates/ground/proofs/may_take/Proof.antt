@@ -1,6 +1,6 @@
 -- `ground::may_take` meets its contract.
 use Prim.Native.Nat.{_<_}
-use mathlib.Core.Path.{sym, subst}
+use mathlib.Core.Path.{refl, sym, subst}
 use Rattle.ground.specs.declared.NodeLine.{NodeLine}
 use native.Mathlib.Omega.{arith}
 use borrow.Author.Needs.{needs}
@@ -90,7 +90,7 @@ may-forall-requires : tie.Need-may-forall-requires
 may-forall-requires c κs =
     let f = fits-of (c .before .before .before .before .before .before .before .args .table .now) (c .before .before .before .before .before .before .before .args .a) (Forall (c .before .before .a5 .given .0 .0)) (c .before .before .a5 .given .1) (c .before .before .before .before .before .before .before .pre .1) in
     let q = node-small (c .before .before .before .before .before .before .before .args .table .now) (c .before .before .before .before .before .before .before .pre .0) (c .before .before .a5 .given .0 .0 .node) (c .node-line4 .result) (c .node-line4 .ensures) (f .0) in
-    (c .before .before .before .before .before .before .before .pre .0 .some, c .before .before .before .before .before .before .before .pre .0 .size, c .before .before .before .before .before .before .before .pre .0, q .0, q .1, f .1, f .2)
+    (c .before .before .before .before .before .before .before .pre .0 .some, c .before .before .before .before .before .before .before .pre .0 .size, c .before .before .before .before .before .before .before .pre .0, q .0, q .2, refl, q .1, f .1, f .2)
 
 returns-6 : tie.Need-returns-6
 returns-6 c = need-forall (bit (c .before .before .before .before .before .before .before .before .args .state .now)) (c .before .before .before .before .before .before .before .before .args .table .now) (c .before .before .before .before .before .before .before .before .args .a) (c .may-forall .result) (c .before .before .before .a5 .given .0 .0) (c .before .node-line4 .result) (c .before .before .before .a5 .given .1) (c .before .node-line4 .ensures) (c .may-forall .ensures)

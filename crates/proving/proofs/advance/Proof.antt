@@ -33,13 +33,29 @@ same-length : tie.Need-same-length Inv-loop μ-loop
 same-length c = simp length-set (c .before .before .before .loop .inv .1)
 
 returns : tie.Need-returns Inv-loop μ-loop
-returns c = (within-set (c .before .before .before .before .args .n) (c .before .before .before .loop .digits) _ _ (omega arith) (c .before .before .before .loop .inv .2), rest-set (c .before .before .before .before .args .width) (c .before .before .before .loop .i - 1) _ (c .before .before .before .loop .digits) (omega arith) (c .before .before .before .loop .inv .3), λ row D. carry-done (c .before .before .before .before .args .n) (c .before .before .before .before .args .width) row (c .before .before .before .loop .i) (c .before .before .before .loop .digits) (omega (arith, c .before .before .before .before .pre .3 0)) (omega arith) (omega arith) (omega (arith, c .before .before .before .loop .inv .1, c .before .before .before .before .pre .2)) (c .before .before .before .loop .inv .4 row D) (omega arith))
+returns c =
+    let a = c .before .before .before .before .args in
+    let l = c .before .before .before .loop in
+    let q = c .before .before .before .before .pre in (
+      within-set (a .n) (l .digits) _ _ (omega arith) (l .inv .2),
+      rest-set (a .width) (l .i - 1) _ (l .digits) (omega arith) (l .inv .3),
+      λ row D. carry-done (a .n) (a .width) row (l .i) (l .digits) (omega (arith, q .3 0)) (omega arith) (omega arith) (omega (arith, l .inv .1, q .2)) (l .inv .4 row D) (omega arith),
+    )
 
 slice-write-digits-2 : tie.Need-slice-write-digits-2 Inv-loop μ-loop
 slice-write-digits-2 c = omega (arith, c .before .before .before .loop .inv .1, c .before .before .before .before .pre .2)
 
 loop-again : tie.Need-loop-again Inv-loop μ-loop
-loop-again c = (omega arith, simp length-set (c .before .before .before .loop .inv .1), within-set (c .before .before .before .before .args .n) (c .before .before .before .loop .digits) _ _ (omega (arith, c .before .before .before .before .pre .3 0)) (c .before .before .before .loop .inv .2), rest-set (c .before .before .before .before .args .width) (c .before .before .before .loop .i - 1) _ (c .before .before .before .loop .digits) (omega arith) (c .before .before .before .loop .inv .3), λ row D. carry-on (c .before .before .before .before .args .n) (c .before .before .before .before .args .width) row (c .before .before .before .loop .i) (c .before .before .before .loop .digits) (omega (arith, c .before .before .before .before .pre .3 0)) (omega arith) (omega arith) (omega (arith, c .before .before .before .loop .inv .1, c .before .before .before .before .pre .2)) (c .before .before .before .loop .inv .4 row D) (omega arith))
+loop-again c =
+    let l = c .before .before .before .loop in
+    let a = c .before .before .before .before .args in
+    let q = c .before .before .before .before .pre in (
+      omega arith,
+      simp length-set (l .inv .1),
+      within-set (a .n) (l .digits) _ _ (omega (arith, q .3 0)) (l .inv .2),
+      rest-set (a .width) (l .i - 1) _ (l .digits) (omega arith) (l .inv .3),
+      λ row D. carry-on (a .n) (a .width) row (l .i) (l .digits) (omega (arith, q .3 0)) (omega arith) (omega arith) (omega (arith, l .inv .1, q .2)) (l .inv .4 row D) (omega arith),
+    )
 
 same-length-2 : tie.Need-same-length-2 Inv-loop μ-loop
 same-length-2 c = c .before .loop .inv .1

@@ -12,14 +12,20 @@ use Rattle.proving.proofs.along.Statement.{statement}
 use Rattle.proving.proofs.along.Tie as tie
 
 part-number-requires : tie.Need-part-number-requires
-part-number-requires c κs = let f = part-small (c .before .before .before .args .table .now) (c .before .before .before .pre .0) (c .before .before .before .args .part) (c .before .part-line .result) (c .before .part-line .ensures) in (f .0, f .1, most-set (c .before .before .before .args .env) (c .before .before .before .args .level) 0 (omega arith) (c .before .before .before .pre .3))
+part-number-requires c κs =
+    let a = c .before .before .before .args in
+    let q = c .before .before .before .pre in
+    let f = part-small (a .table .now) (q .0) (a .part) (c .before .part-line .result) (c .before .part-line .ensures) in (f .0, f .1, most-set (a .env) (a .level) 0 (omega arith) (q .3))
 
 returns : tie.Need-returns
 returns c =
-    let f = part-small (c .before .before .before .before .args .table .now) (c .before .before .before .before .pre .0) (c .before .before .before .before .args .part) (c .before .before .part-line .result) (c .before .before .part-line .ensures) in
-    let len : length (c .before .before .before .before .args .env) ≡ 4 = search needs in
-    let m : partNumber (valueIn (set (c .before .before .before .before .args .env) (c .before .before .before .before .args .level) 0)) (c .before .before .part-line .result) ≤ 2 ^ 42 = part-most (c .before .before .part-line .result) (set (c .before .before .before .before .args .env) (c .before .before .before .before .args .level) 0) (f .0) (f .1) (most-set (c .before .before .before .before .args .env) (c .before .before .before .before .args .level) 0 (omega arith) (c .before .before .before .before .pre .3)) in
-    (omega (arith, m, c .part-number .ensures), f .1 (c .before .before .before .before .args .level), along-is (c .before .before .before .before .args .table .now) (c .before .before .before .before .args .env) (c .before .before .before .before .args .part) (c .before .before .before .before .args .level) (c .part-number .result) (c .before .before .part-line .result) (c .before .before .part-line .ensures) (c .before .before .before .before .pre .2) (omega (arith, c .before .before .before .before .pre .2)) (c .part-number .ensures))
+    let a = c .before .before .before .before .args in
+    let q = c .before .before .before .before .pre in
+    let k = c .before .before .part-line in
+    let f = part-small (a .table .now) (q .0) (a .part) (k .result) (k .ensures) in
+    let len : length (a .env) ≡ 4 = search needs in
+    let m : partNumber (valueIn (set (a .env) (a .level) 0)) (k .result) ≤ 2 ^ 42 = part-most (k .result) (set (a .env) (a .level) 0) (f .0) (f .1) (most-set (a .env) (a .level) 0 (omega arith) (q .3)) in
+    (omega (arith, m, c .part-number .ensures), f .1 (a .level), along-is (a .table .now) (a .env) (a .part) (a .level) (c .part-number .result) (k .result) (k .ensures) (q .2) (omega (arith, q .2)) (c .part-number .ensures))
 
 pub along-spec : {M : Type 1} → statement M
 along-spec =

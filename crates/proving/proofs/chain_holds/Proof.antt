@@ -8,17 +8,19 @@ use Rattle.proving.proofs.chain_holds.Statement.{statement}
 use Rattle.proving.proofs.chain_holds.Tie as tie
 
 returns : tie.Need-returns
-returns c = chain-first (bit (c .before .before .before .before .args .state .now)) (c .before .before .before .before .args .part) (c .before .before .before .before .args .z) (c .before .before .before .before .args .own) (sym (c .before .before .test .ensures) ∙ c .before .if1 .taken) (omega arith)
-
-sub-test : tie.Need-sub-test
-sub-test c = omega (arith, c .before .before .before .before .pre (omega arith))
+returns c =
+    let a = c .before .before .before .before .args in
+    chain-first (bit (a .state .now)) (a .part) (a .i) (a .prior) (sym (c .before .before .test .ensures) ∙ c .before .if1 .taken) (omega arith)
 
 returns-2 : tie.Need-returns-2
-returns-2 c = chain-next (bit (c .before .before .before .before .before .args .state .now)) (c .before .before .before .before .before .args .part) (c .before .before .before .before .before .args .z) (c .before .before .before .before .before .args .own) _ (sym (c .before .before .before .test .ensures) ∙ c .before .before .if1 .taken) (omega arith) (c .test2 .ensures)
+returns-2 c =
+    let a = c .before .before .before .before .before .args in
+    chain-next (bit (a .state .now)) (a .part) (a .i) (a .prior) _ (sym (c .before .before .before .test .ensures) ∙ c .before .before .if1 .taken) (omega arith) (c .test2 .ensures)
 
 returns-3 : tie.Need-returns-3
-returns-3 c = chain-no (bit (c .before .before .before .args .state .now)) (c .before .before .before .args .part) (c .before .before .before .args .z) (c .before .before .before .args .own) (sym (c .before .test .ensures) ∙ c .if1 .left)
+returns-3 c =
+    let a = c .before .before .before .args in
+    chain-no (bit (a .state .now)) (a .part) (a .i) (a .prior) (sym (c .before .test .ensures) ∙ c .if1 .left)
 
 pub chain-holds-spec : {M : Type 1} → statement M
-chain-holds-spec =
-    tie.close (tie.spec (λ c κs. search needs) returns sub-test (λ c κs. search needs) returns-2 returns-3)
+chain-holds-spec = tie.close (tie.spec (λ c κs. search needs) returns (λ c κs. search needs) returns-2 returns-3)

@@ -24,13 +24,21 @@ part-holds-requires : tie.Need-part-holds-requires Inv-loop μ-loop
 part-holds-requires c κs = (c .before .before .before .before .pre .0, omega arith, c .before .before .before .before .pre .2)
 
 returns : tie.Need-returns Inv-loop μ-loop
-returns c = first-yes (λ (x : ℕ). bit (c .before .before .before .before .before .before .args .state .now) (partAt (c .before .before .before .before .before .before .args .table .now) (valueIn (c .before .before .before .before .before .before .args .env)) (c .before .before .before .before .before .before .args .first + x))) (c .before .before .before .before .before .before .args .tries) (c .before .before .before .loop .i) (omega arith) (sym (c .before .part-holds .ensures) ∙ c .if1 .taken) ∙ sym (c .before .before .before .loop .inv .1)
+returns c =
+    let a = c .before .before .before .before .before .before .args in
+    let l = c .before .before .before .loop in
+    first-yes (λ (x : ℕ). bit (a .state .now) (partAt (a .table .now) (valueIn (a .env)) (a .first + x))) (a .tries) (l .i) (omega arith) (sym (c .before .part-holds .ensures) ∙ c .if1 .taken) ∙ sym (l .inv .1)
 
 loop-again : tie.Need-loop-again Inv-loop μ-loop
-loop-again c = (omega arith, c .before .before .before .loop .inv .1 ∙ first-no (λ (x : ℕ). bit (c .before .before .before .before .before .before .args .state .now) (partAt (c .before .before .before .before .before .before .args .table .now) (valueIn (c .before .before .before .before .before .before .args .env)) (c .before .before .before .before .before .before .args .first + x))) (c .before .before .before .before .before .before .args .tries) (c .before .before .before .loop .i) (omega arith) (sym (c .before .part-holds .ensures) ∙ c .if1 .left))
+loop-again c =
+    let l = c .before .before .before .loop in
+    let a = c .before .before .before .before .before .before .args in
+    (omega arith, l .inv .1 ∙ first-no (λ (x : ℕ). bit (a .state .now) (partAt (a .table .now) (valueIn (a .env)) (a .first + x))) (a .tries) (l .i) (omega arith) (sym (c .before .part-holds .ensures) ∙ c .if1 .left))
 
 returns-2 : tie.Need-returns-2 Inv-loop μ-loop
-returns-2 c = first-end (λ (x : ℕ). bit (c .before .before .before .before .args .state .now) (partAt (c .before .before .before .before .args .table .now) (valueIn (c .before .before .before .before .args .env)) (c .before .before .before .before .args .first + x))) (c .before .before .before .before .args .tries) (c .before .loop .i) (omega arith) ∙ sym (c .before .loop .inv .1)
+returns-2 c =
+    let a = c .before .before .before .before .args in
+    first-end (λ (x : ℕ). bit (a .state .now) (partAt (a .table .now) (valueIn (a .env)) (a .first + x))) (a .tries) (c .before .loop .i) (omega arith) ∙ sym (c .before .loop .inv .1)
 
 pub first-part-spec : {M : Type 1} → statement M
 first-part-spec =

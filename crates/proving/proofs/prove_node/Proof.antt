@@ -7,16 +7,34 @@ use Rattle.proving.proofs.prove_node.Statement.{statement}
 use Rattle.proving.proofs.prove_node.Tie as tie
 
 prove-chains-requires : tie.Need-prove-chains-requires
-prove-chains-requires c κs = let f = node-small (c .before .before .before .before .before .before .before .before .args .table .now) (c .before .before .before .before .before .before .before .before .pre .0) (c .before .before .before .before .before .before .before .before .args .node) (c .before .before .before .before .node-line .result) (c .before .before .before .before .node-line .ensures) (c .before .before .before .before .before .before .before .before .pre .1) in (c .before .before .before .before .before .before .before .before .pre .0, f .0, acts-small (c .before .before .before .before .before .before .before .before .args .table .now) (c .before .before .before .before .before .before .before .before .args .node) (c .before .before .before .before .before .before .before .before .pre .0) (c .before .before .before .before .node-line .result) (c .before .before .before .before .node-line .ensures), f .1, omega arith, c .before .before .before .before .before .before .before .before .pre .2, c .before .before .before .before .before .before .before .before .pre .3)
+prove-chains-requires c κs =
+    let a = c .before .before .before .before .before .before .before .before .args in
+    let x = c .before .before .before .before .node-line in
+    let q = c .before .before .before .before .before .before .before .before .pre in
+    let f = node-small (a .table .now) (q .0) (a .node) (x .result) (x .ensures) (q .1) in
+    (q .0, f .0, acts-small (a .table .now) (a .node) (q .0) (x .result) (x .ensures), f .1, omega arith, q .2, q .3, f .2)
 
 returns : tie.Need-returns
-returns c = (c .before .before .before .before .prove-chains .ensures .0, λ p R l e o. c .before .before .before .before .prove-chains .ensures .1 p (c .before .before .before .before .before .before .before .before .before .before .before .before .before .args .node) (record { ready = R; element = c .before .before .before .before .before .before .before .before .before .before .before .before .before .pre .0 .some; here = l; line = c .before .before .before .before .before .before .before .before .before .node-line .ensures }) e o)
+returns c =
+    let r = c .before .before .before .before .prove-chains in
+    let a = c .before .before .before .before .before .before .before .before .before .before .before .before .before .args in
+    let x = c .before .before .before .before .before .before .before .before .before .node-line in
+    (r .ensures .0, λ p R l e o. r .ensures .1 p (a .node) (record { ready = R; here = l; line = x .ensures }) e o)
 
 prove-rows-requires : tie.Need-prove-rows-requires
-prove-rows-requires c κs = let f = node-small (c .before .before .before .before .before .before .before .before .args .table .now) (c .before .before .before .before .before .before .before .before .pre .0) (c .before .before .before .before .before .before .before .before .args .node) (c .before .before .before .before .node-line .result) (c .before .before .before .before .node-line .ensures) (c .before .before .before .before .before .before .before .before .pre .1) in (c .before .before .before .before .before .before .before .before .pre .0, f .0, acts-small (c .before .before .before .before .before .before .before .before .args .table .now) (c .before .before .before .before .before .before .before .before .args .node) (c .before .before .before .before .before .before .before .before .pre .0) (c .before .before .before .before .node-line .result) (c .before .before .before .before .node-line .ensures), f .1, omega arith, c .before .before .before .before .before .before .before .before .pre .2, c .before .before .before .before .before .before .before .before .pre .3)
+prove-rows-requires c κs =
+    let a = c .before .before .before .before .before .before .before .before .args in
+    let x = c .before .before .before .before .node-line in
+    let q = c .before .before .before .before .before .before .before .before .pre in
+    let f = node-small (a .table .now) (q .0) (a .node) (x .result) (x .ensures) (q .1) in
+    (q .0, f .0, acts-small (a .table .now) (a .node) (q .0) (x .result) (x .ensures), f .1, omega arith, q .2, q .3, f .2)
 
 returns-2 : tie.Need-returns-2
-returns-2 c = (c .before .before .before .before .prove-rows .ensures .0, λ p R l e o. c .before .before .before .before .prove-rows .ensures .1 p (c .before .before .before .before .before .before .before .before .before .before .before .before .before .args .node) (record { ready = R; element = c .before .before .before .before .before .before .before .before .before .before .before .before .before .pre .0 .some; here = l; line = c .before .before .before .before .before .before .before .before .before .node-line .ensures }) e o)
+returns-2 c =
+    let r = c .before .before .before .before .prove-rows in
+    let a = c .before .before .before .before .before .before .before .before .before .before .before .before .before .args in
+    let x = c .before .before .before .before .before .before .before .before .before .node-line in
+    (r .ensures .0, λ p R l e o. r .ensures .1 p (a .node) (record { ready = R; here = l; line = x .ensures }) e o)
 
 pub prove-node-spec : {M : Type 1} → statement M
 prove-node-spec =

@@ -25,30 +25,40 @@ shared-slice-read-v : tie.Need-shared-slice-read-v Inv-loop μ-loop
 shared-slice-read-v c = omega (arith, c .before .before .before .before .pre .0 .whole)
 
 loop-holds : tie.Need-loop-holds Inv-loop μ-loop
-loop-holds c = (omega arith, c .before .before .before .before .pre .1, omega arith, refl, refl, λ p R e o. (end-start p (c .before .before .before .before .args .table .now) (R .is) (c .before .before .before .before .args .atoms) e, ap (provedNodes p (out (bit (c .before .before .before .before .args .state .now)) (c .before .before .before .before .args .steps .now) (c .before .before .before .before .args .at))) (sym (R .is .nodes)), o))
+loop-holds c =
+    let a = c .before .before .before .before .args in
+    (omega arith, c .before .before .before .before .pre .1, omega arith, refl, refl, λ p R e o. (end-start p (a .table .now) (R .is) (a .atoms) e, ap (provedNodes p (out (bit (a .state .now)) (a .steps .now) (a .at))) (sym (R .is .nodes)), o))
 
 node-line-requires : tie.Need-node-line-requires Inv-loop μ-loop
 node-line-requires c κs = (c .before .before .before .before .before .before .pre .0 .whole, omega (arith, c .before .before .before .before .before .before .pre .0 .nodes))
 
 prove-node-requires : tie.Need-prove-node-requires Inv-loop μ-loop
-prove-node-requires c κs = (c .before .before .before .before .before .before .before .before .before .before .pre .0, omega (arith, c .before .before .before .before .before .before .before .before .before .before .pre .0 .nodes), omega (arith, c .gap .ensures), omega (arith, c .before .before .before .before .before .before .before .before .before .before .pre .0 .nodes))
+prove-node-requires c κs =
+    let q = c .before .before .before .before .before .before .before .before .before .before .pre in
+    (q .0, omega (arith, q .0 .nodes), omega (arith, c .gap .ensures), omega (arith, q .0 .nodes))
 
 loop-again : tie.Need-loop-again Inv-loop μ-loop
-loop-again c = (
-  omega arith,
-  node-small (c .before .before .before .before .before .before .before .before .before .before .before .before .before .before .before .args .table .now) (c .before .before .before .before .before .before .before .before .before .before .before .before .before .before .before .pre .0) (c .before .before .before .before .before .before .before .before .before .before .loop .v - 1) (c .before .before .before .before .before .before .before .before .node-line .result) (c .before .before .before .before .before .before .before .before .node-line .ensures) (omega (arith, c .before .before .before .before .before .before .before .before .before .before .before .before .before .before .before .pre .0 .nodes)) .1,
-  omega (arith, c .before .before .before .before .prove-node .ensures .0, c .before .before .before .before .before .gap .ensures),
-  c .before .before .before .before .prove-node .kept .0 ∙ c .before .before .before .before .before .before .before .before .before .before .loop .inv .3,
-  c .before .before .before .before .prove-node .kept .1 .0 ∙ c .before .before .before .before .before .before .before .before .before .before .loop .inv .4,
-  λ p R e o.
-      let I = c .before .before .before .before .before .before .before .before .before .before .loop .inv .5 p R e o in
-      let g = width-before p (c .before .before .before .before .before .before .before .before .before .before .before .before .before .before .before .args .table .now) (R .is) (c .before .before .before .before .before .before .before .before .before .before .loop .v) (c .before .before .before .before .before .before .before .before .before .before .loop .end) (c .before .before .before .before .before .before .before .before .node-line .result) (c .before .before .before .before .before .before .before .before .node-line .ensures) (omega arith) (omega arith) (I .0) (c .before .before .before .before .before .gap .result) (c .before .before .before .before .before .gap .ensures) in
-      let G = c .before .before .before .before .prove-node .ensures .1 p (record { is = R .is; room = omega (arith, R .room, c .before .before .before .before .before .before .before .before .before .before .loop .inv .3); few = R .few }) (omega (arith, R .is .nodes)) g (I .2) in (
-        start-before p (c .before .before .before .before .before .before .before .before .before .before .before .before .before .before .before .args .table .now) (R .is) (c .before .before .before .before .before .before .before .before .before .before .loop .v) (c .before .before .before .before .before .before .before .before .node-line .result) (c .before .before .before .before .before .before .before .before .node-line .ensures) (omega arith) (omega arith),
-        I .1 ∙ nodes-next p (out (bit (c .before .before .before .before .before .before .before .before .before .before .loop .state)) (c .before .before .before .before .before .before .before .before .before .before .loop .steps) (c .before .before .before .before .before .before .before .before .before .before .loop .k)) (out (bit (c .before .before .before .before .prove-node .last .0)) (c .before .before .before .before .prove-node .last .1 .0) (c .before .before .before .before .prove-node .result)) (c .before .before .before .before .before .before .before .before .before .before .loop .v) (c .before .before .before .before .before .gap .result) (omega arith) g (G .0),
-        G .1,
-      ),
-)
+loop-again c =
+    let a = c .before .before .before .before .before .before .before .before .before .before .before .before .before .before .before .args in
+    let q = c .before .before .before .before .before .before .before .before .before .before .before .before .before .before .before .pre in
+    let l = c .before .before .before .before .before .before .before .before .before .before .loop in
+    let x = c .before .before .before .before .before .before .before .before .node-line in
+    let r = c .before .before .before .before .prove-node in
+    let g0 = c .before .before .before .before .before .gap in (
+      omega arith,
+      node-small (a .table .now) (q .0) (l .v - 1) (x .result) (x .ensures) (omega (arith, q .0 .nodes)) .1,
+      omega (arith, r .ensures .0, g0 .ensures),
+      r .kept .0 ∙ l .inv .3,
+      r .kept .1 .0 ∙ l .inv .4,
+      λ p R e o.
+          let I = l .inv .5 p R e o in
+          let g = width-before p (a .table .now) (R .is) (l .v) (l .end) (x .result) (x .ensures) (omega arith) (omega arith) (I .0) (g0 .result) (g0 .ensures) in
+          let G = r .ensures .1 p (record { is = R .is; room = omega (arith, R .room, l .inv .3); few = R .few }) (omega (arith, R .is .nodes)) g (I .2) in (
+            start-before p (a .table .now) (R .is) (l .v) (x .result) (x .ensures) (omega arith) (omega arith),
+            I .1 ∙ nodes-next p (out (bit (l .state)) (l .steps) (l .k)) (out (bit (r .last .0)) (r .last .1 .0) (r .result)) (l .v) (g0 .result) (omega arith) g (G .0),
+            G .1,
+          ),
+    )
 
 returns : tie.Need-returns Inv-loop μ-loop
 returns c = (omega (arith, c .before .before .before .before .before .before .pre .0 .nodes), λ p R e o. c .before .loop .inv .5 p R e o .1 ∙ nodes-end p (out (bit (c .before .loop .state)) (c .before .loop .steps) (c .before .loop .k)) (c .before .loop .v) (omega arith))

@@ -3,6 +3,8 @@ use Prim.Native.Nat.{ℕ, _+_, _-_, _≤_}
 use mathlib.Core.Path.{_≡_, refl, sym, subst, _∙_}
 use mathlib.Core.Bool.{true}
 use native.Mathlib.Omega.{arith}
+use Rattle.ground.specs.Lines.{sizeIn, rangeIn}
+use Rattle.ground.specs.NeedLaws.{members-length}
 use borrow.Author.Needs.{needs}
 use lib.ListN.{length}
 use Rattle.bits.specs.Table.{bit}
@@ -27,39 +29,54 @@ shared-slice-read-n : tie.Need-shared-slice-read-n Inv-loop μ-loop
 shared-slice-read-n c = omega (arith, c .before .before .before .before .pre .0 .whole)
 
 tries-requires : tie.Need-tries-requires Inv-loop μ-loop
-tries-requires c κs = (c .before .before .before .before .pre .4, c .before .before .before .before .pre .0 .size, omega (arith, c .before .before .before .before .pre .1 .parts))
+tries-requires c κs = (c .before .before .before .before .pre .4, omega (arith, c .before .before .before .before .pre .1 .parts), omega (arith, c .before .before .before .before .pre .7 .inside))
 
 loop-holds : tie.Need-loop-holds Inv-loop μ-loop
-loop-holds c = (omega arith, omega arith, refl, refl, refl, within-zeros _ (c .before .before .before .before .before .pre .0 .some), rest-zeros (c .before .before .before .before .before .args .v .width), zero-digits _ (c .before .before .before .before .before .args .v .width), λ p node N e o. (rows-start p node (out (bit (c .before .before .before .before .before .args .state .now)) (c .before .before .before .before .before .args .steps .now) (c .before .before .before .before .before .args .at)) (c .before .before .before .before .before .args .width), o))
+loop-holds c =
+    let a = c .before .before .before .before .before .args in
+    (omega arith, omega arith, refl, refl, refl, within-zeros _ (c .before .before .before .before .before .pre .0 .some), rest-zeros (a .v .width), zero-digits _ (a .v .width), λ p node N e o. (rows-start p node (out (bit (a .state .now)) (a .steps .now) (a .at)) (a .width), o))
 
 prove-row-requires : tie.Need-prove-row-requires Inv-loop μ-loop
-prove-row-requires c κs = (c .before .before .before .before .before .before .before .before .before .before .pre .0, c .before .before .before .before .before .before .before .before .before .before .pre .1, c .before .before .before .before .before .before .before .before .before .before .pre .2, c .before .before .before .before .before .before .before .before .before .before .pre .3, omega (arith, c .before .before .before .before .before .before .before .before .before .before .pre .5), omega (arith, c .before .before .before .before .before .before .before .before .before .before .pre .6, c .before .before .before .before .before .before .before .before .before .before .pre .5), c .before .before .before .before .before .before .before .before .before .before .pre .4, c .before .before .before .before .before .tries .ensures .0, c .before .before .before .before .loop .inv .4, c .before .before .before .before .loop .inv .5, c .before .before .before .before .loop .inv .6)
+prove-row-requires c κs =
+    let q = c .before .before .before .before .before .before .before .before .before .before .pre in
+    let i = c .before .before .before .before .loop .inv in
+    (q .0, q .1, q .2, q .3, omega (arith, q .5), omega (arith, q .6, q .5), q .4, c .before .before .before .before .before .tries .ensures .0, i .4, i .5, i .6, q .7)
 
 advance-requires : tie.Need-advance-requires Inv-loop μ-loop
-advance-requires c κs = (c .before .before .before .before .before .before .before .before .before .before .before .before .before .before .before .before .pre .0 .size, c .before .before .before .before .before .before .before .before .before .before .before .before .before .before .before .before .pre .1 .width, c .before .before .before .before .before .before .before .before .before .before .loop .inv .4, c .before .before .before .before .before .before .before .before .before .before .loop .inv .5, c .before .before .before .before .before .before .before .before .before .before .loop .inv .6)
+advance-requires c κs =
+    let q = c .before .before .before .before .before .before .before .before .before .before .before .before .before .before .before .before .pre in
+    let l = c .before .before .before .before .before .before .before .before .before .before .loop in
+    (q .0 .size, q .1 .width, l .inv .4, l .inv .5, l .inv .6)
 
 add-row : tie.Need-add-row Inv-loop μ-loop
 add-row c = omega (arith, c .before .before .before .before .before .before .before .before .before .before .before .before .before .before .before .before .before .before .pre .5)
 
 loop-again : tie.Need-loop-again Inv-loop μ-loop
-loop-again c = (
-  omega arith,
-  omega (arith, c .before .before .before .before .before .before .before .prove-row .ensures .0),
-  c .before .before .before .before .before .before .before .prove-row .kept .0 ∙ c .before .before .before .before .before .before .before .before .before .before .before .before .loop .inv .2,
-  c .before .before .before .before .before .before .before .prove-row .kept .1 .0 ∙ c .before .before .before .before .before .before .before .before .before .before .before .before .loop .inv .3,
-  c .before .advance .kept .1 .1 .0 ∙ c .before .before .before .before .before .before .before .before .before .before .before .before .loop .inv .4,
-  c .before .advance .ensures .0,
-  c .before .advance .ensures .1,
-  c .before .advance .ensures .2 (c .before .before .before .before .before .before .before .before .before .before .before .before .loop .row) (c .before .before .before .before .before .before .before .before .before .before .before .before .loop .inv .7),
-  λ p node N e o.
-      let I = c .before .before .before .before .before .before .before .before .before .before .before .before .loop .inv .8 p node N e o in
-      let M : NodeOf p (c .before .before .before .before .before .before .before .before .before .before .before .before .before .before .before .before .before .before .args .table .now) (length (c .before .before .before .before .before .before .before .before .before .before .before .before .loop .state)) node (c .before .before .before .before .before .before .before .before .before .before .before .before .before .before .before .before .before .before .args .v) = subst (λ (m : ℕ). NodeOf p (c .before .before .before .before .before .before .before .before .before .before .before .before .before .before .before .before .before .before .args .table .now) m node (c .before .before .before .before .before .before .before .before .before .before .before .before .before .before .before .before .before .before .args .v)) (sym (c .before .before .before .before .before .before .before .before .before .before .before .before .loop .inv .2)) N in
-      let G = c .before .before .before .before .before .before .before .prove-row .ensures .1 p node M (c .before .before .before .before .before .before .before .before .before .before .before .before .before .tries .ensures .1 (c .before .before .before .before .before .before .before .before .before .before .before .before .loop .row)) (c .before .before .before .before .before .before .before .before .before .before .before .before .loop .inv .7) (omega (arith, e)) (I .1) in
-      (I .0 ∙ rows-next p node (out (bit (c .before .before .before .before .before .before .before .before .before .before .before .before .loop .state)) (c .before .before .before .before .before .before .before .before .before .before .before .before .loop .steps) (c .before .before .before .before .before .before .before .before .before .before .before .before .loop .k)) (out (bit (c .before .before .before .before .before .before .before .prove-row .last .0)) (c .before .before .before .before .before .before .before .prove-row .last .1 .0) (c .before .before .before .before .before .before .before .prove-row .result)) (c .before .before .before .before .before .before .before .before .before .before .before .before .loop .row) (c .before .before .before .before .before .before .before .before .before .before .before .before .before .before .before .before .before .before .args .width) (omega arith) (G .0), G .1),
-)
+loop-again c =
+    let a = c .before .before .before .before .before .before .before .before .before .before .before .before .before .before .before .before .before .before .args in
+    let l = c .before .before .before .before .before .before .before .before .before .before .before .before .loop in
+    let q = c .before .before .before .before .before .before .before .prove-row in
+    let d = c .before .advance in (
+      omega arith,
+      omega (arith, q .ensures .0),
+      q .kept .0 ∙ l .inv .2,
+      q .kept .1 .0 ∙ l .inv .3,
+      d .kept .1 .1 .0 ∙ l .inv .4,
+      d .ensures .0,
+      d .ensures .1,
+      d .ensures .2 (l .row) (l .inv .7),
+      λ p node N e o.
+          let I = l .inv .8 p node N e o in
+          let M : NodeOf p (a .table .now) (length (l .state)) node (a .v) = subst (λ (m : ℕ). NodeOf p (a .table .now) m node (a .v)) (sym (l .inv .2)) N in
+          let t = c .before .before .before .before .before .before .before .before .before .before .before .before .before .tries .ensures .1 (sizeIn (a .table .now)) (rangeIn (a .table .now) (a .v)) (l .row) (members-length (a .table .now) (a .v .range) (a .v .count)) in
+          let G = q .ensures .1 p node M t (l .inv .7) (omega (arith, e)) (I .1) in
+          (I .0 ∙ rows-next p node (out (bit (l .state)) (l .steps) (l .k)) (out (bit (q .last .0)) (q .last .1 .0) (q .result)) (l .row) (a .width) (omega arith) (G .0), G .1),
+    )
 
 returns : tie.Need-returns Inv-loop μ-loop
-returns c = (omega arith, λ p node N e o. let I = c .before .loop .inv .8 p node N e o in (I .0 ∙ rows-end p node (out (bit (c .before .loop .state)) (c .before .loop .steps) (c .before .loop .k)) (c .before .loop .row) (c .before .before .before .before .before .before .before .args .width) (omega arith), I .1))
+returns c =
+    let l = c .before .loop in
+    (omega arith, λ p node N e o. let I = l .inv .8 p node N e o in (I .0 ∙ rows-end p node (out (bit (l .state)) (l .steps) (l .k)) (l .row) (c .before .before .before .before .before .before .before .args .width) (omega arith), I .1))
 
 pub prove-rows-spec : {M : Type 1} → statement M
 prove-rows-spec =

@@ -33,8 +33,10 @@ array-write-values-4 c = omega (arith, c .before .before .before .before .pre .1
 
 returns : tie.Need-returns
 returns c =
-    let len : length (c .before .before .before .before .args .t1) ≡ 4 = search needs in
-    (spread-most (c .before .before .before .before .args .t1) (c .before .before .before .before .args .digits .now) (c .before .before .before .before .pre .3), λ n row D. spread-all n (c .before .before .before .before .args .width) row (c .before .before .before .before .args .t1) (c .before .before .before .before .args .digits .now) (c .before .before .before .before .pre .0) len (c .before .before .before .before .pre .1) D (c .before .before .before .before .pre .4))
+    let a = c .before .before .before .before .args in
+    let q = c .before .before .before .before .pre in
+    let len : length (a .t1) ≡ 4 = search needs in
+    (spread-most (a .t1) (a .digits .now) (q .3), λ n row D. spread-all n (a .width) row (a .t1) (a .digits .now) (q .0) len (q .1) D (q .4))
 
 pub spread-spec : {M : Type 1} → statement M
 spread-spec =

@@ -8,7 +8,10 @@ use Rattle.proving.proofs.step.Statement.{statement}
 use Rattle.proving.proofs.step.Tie as tie
 
 returns : tie.Need-returns
-returns c = (refl, λ p x R v e n. step-one p (c .before .before .before .before .before .before .before .before .before .before .before .args .table .now) (length (c .before .before .before .before .before .before .before .before .before .before .before .args .state .now)) (bit (c .before .before .before .before .before .before .before .before .before .before .before .args .state .now)) (bit (c .before .before .before .before .before .before .take .last .0)) (c .before .before .before .before .before .before .before .before .before .before .before .args .steps .now) (c .before .before .put .last .0) (c .before .before .before .before .before .before .before .before .before .before .before .args .at) (c .before .before .before .before .before .before .before .before .before .before .before .args .number) (c .before .before .before .before .before .before .before .before .before .before .before .args .a) x R v e n (c .before .before .before .before .before .before .take .ensures) (c .before .before .put .ensures))
+returns c =
+    let a = c .before .before .before .before .before .before .before .before .before .before .before .args in
+    let t = c .before .before .before .before .before .before .take in
+    (refl, λ p x R v e n. step-one p (a .table .now) (length (a .state .now)) (bit (a .state .now)) (bit (t .last .0)) (a .steps .now) (c .before .before .put .last .0) (a .at) (a .number) (a .a) x R v e n (t .ensures) (c .before .before .put .ensures))
 
 pub step-spec : {M : Type 1} → statement M
 step-spec =

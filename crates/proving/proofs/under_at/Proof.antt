@@ -8,10 +8,18 @@ use Rattle.proving.proofs.under_at.Statement.{statement}
 use Rattle.proving.proofs.under_at.Tie as tie
 
 spread-requires : tie.Need-spread-requires
-spread-requires c κs = (c .before .before .before .before .before .pre .1 .width, c .before .before .before .before .before .pre .1 .levels, c .before .before .before .before .before .pre .2, within-most (sizeIn (c .before .before .before .before .before .args .table .now)) (c .before .before .before .before .before .args .digits .now) (c .before .before .before .before .before .pre .0 .size) (c .before .before .before .before .before .pre .3), c .before .before .before .before .before .pre .4)
+spread-requires c κs =
+    let q = c .before .before .before .before .before .pre in
+    let a = c .before .before .before .before .before .args in
+    (q .1 .width, q .1 .levels, q .2, within-most (sizeIn (a .table .now)) (a .digits .now) (q .0 .size) (q .3), q .4)
 
 returns : tie.Need-returns
-returns c = (c .along .ensures .0, c .along .ensures .1, λ row D k. under-along (sizeIn (c .before .before .before .before .before .before .before .args .table .now)) (c .before .before .before .before .before .before .before .args .table .now) (c .before .before .before .before .before .before .before .args .v) row (c .along .result .start) (c .along .result .stride) (c .before .spread .result) (c .before .spread .ensures .1 (sizeIn (c .before .before .before .before .before .before .before .args .table .now)) row D ∙ row-values (sizeIn (c .before .before .before .before .before .before .before .args .table .now)) (c .before .before .before .before .before .before .before .args .v) row) (c .along .ensures .2))
+returns c =
+    let a = c .before .before .before .before .before .before .before .args in
+    let n = sizeIn (a .table .now) in
+    let u = c .along in
+    let s = c .before .spread in
+    (u .ensures .0, u .ensures .1, λ row D k. under-along n (a .table .now) (a .v) row (u .result .start) (u .result .stride) (s .result) (s .ensures .1 n row D ∙ row-values n (a .v) row) (u .ensures .2))
 
 pub under-at-spec : {M : Type 1} → statement M
 under-at-spec = tie.close (tie.spec spread-requires (λ c κs. search needs) returns (λ c. search needs))

@@ -4,6 +4,7 @@ use mathlib.Core.List.{[]}
 use native.Mathlib.Omega.{arith}
 use lib.Seq.{length-take-le}
 use Rattle.layout.specs.LaidLaws.{most-zeros}
+use Rattle.ground.specs.Lines.{tableLength}
 use Rattle.cases.specs.Known.{table-is, atoms-few, words-fit}
 use Rattle.reading.specs.Reads.{reads-over, reads-few-picks, reads-few-words, reads-ran, its-read}
 use borrow.Author.Needs.{needs}
@@ -11,7 +12,7 @@ use Rattle.reading.proofs.read_picks.Statement.{statement}
 use Rattle.reading.proofs.read_picks.Tie as tie
 
 ground-case-requires : tie.Need-ground-case-requires
-ground-case-requires c κs = ((search needs, most-zeros 1133 0), search needs)
+ground-case-requires c κs = ((search needs, most-zeros tableLength 0), search needs)
 
 returns : tie.Need-returns
 returns c = λ x A h. reads-over x _ _ _ _ _ (c .before .before .ground-case .ensures x _ h) (c .if1 .taken)

@@ -7,7 +7,7 @@ use borrow.Author.Needs.{needs}
 use lib.ListN.{length, getD}
 use Rattle.tree.specs.Tables.{noPart}
 use Rattle.rows.specs.Values.{Most}
-use Rattle.table.specs.Filled.{splice, tab, numbersIn}
+use Rattle.table.specs.Filled.{partsPlace, splice, tab, numbersIn}
 use Rattle.table.specs.SpliceLaws.{tab-none}
 use Rattle.table.specs.PartLaws.{line-from, start-most}
 use Rattle.table.specs.TurnLaws.{part-turn, part-last, one-more}
@@ -15,7 +15,7 @@ use Rattle.table.proofs.fill_parts.Statement.{statement}
 use Rattle.table.proofs.fill_parts.Tie as tie
 
 abbrev Inv-loop : tie.InvT-loop
-Inv-loop table₀ n t rel neg node i₀ table i = (i ≤ t .placed) × (length table ≡ length table₀) × (table ≡ splice 808 (tab (λ (i : ℕ). numbersIn n rel neg node (getD (t .parts) i noPart)) i) table₀) × ((u : ℕ) → u < i → Most (numbersIn n rel neg node (getD (t .parts) u noPart)) (2 ^ 32))
+Inv-loop table₀ n t rel neg node i₀ table i = (i ≤ t .placed) × (length table ≡ length table₀) × (table ≡ splice partsPlace (tab (λ (i : ℕ). numbersIn n rel neg node (getD (t .parts) i noPart)) i) table₀) × ((u : ℕ) → u < i → Most (numbersIn n rel neg node (getD (t .parts) u noPart)) (2 ^ 32))
 
 abbrev μ-loop : tie.MeasureT-loop
 μ-loop table₀ n t rel neg node i₀ table i = t .placed - i
@@ -23,7 +23,7 @@ abbrev μ-loop : tie.MeasureT-loop
 loop-holds : tie.Need-loop-holds Inv-loop μ-loop
 loop-holds c =
     let s = c .before .before .before .before in
-    (omega arith, refl, tab-none (λ (i : ℕ). numbersIn (s .args .n) (s .args .l .rel) (s .args .l .neg) (s .args .l .node) (getD (s .args .t3 .parts) i noPart)) 808 (s .args .table .now), λ u h. absurd (omega arith))
+    (omega arith, refl, tab-none (λ (i : ℕ). numbersIn (s .args .n) (s .args .l .rel) (s .args .l .neg) (s .args .l .node) (getD (s .args .t3 .parts) i noPart)) partsPlace (s .args .table .now), λ u h. absurd (omega arith))
 
 mul-q : tie.Need-mul-q Inv-loop μ-loop
 mul-q c = omega (arith, c .before .before .before .before .before .before .pre .3 .few-parts)

@@ -4,20 +4,20 @@ use mathlib.Core.Path.{_≡_, refl, _∙_}
 use native.Mathlib.Omega.{arith}
 use borrow.Author.Needs.{needs}
 use lib.ListN.{length}
-use Rattle.table.specs.Filled.{splice, tab, relationNumbers}
+use Rattle.table.specs.Filled.{relationsPlace, splice, tab, relationNumbers}
 use Rattle.table.specs.SpliceLaws.{tab-none}
 use Rattle.table.specs.TurnLaws.{relation-turn, relation-last}
 use Rattle.table.proofs.fill_relations.Statement.{statement}
 use Rattle.table.proofs.fill_relations.Tie as tie
 
 abbrev Inv-loop : tie.InvT-loop
-Inv-loop table₀ g l r₀ table r = (r ≤ g .count) × (length table ≡ length table₀) × (table ≡ splice 3 (tab (relationNumbers g l) r) table₀)
+Inv-loop table₀ g l r₀ table r = (r ≤ g .count) × (length table ≡ length table₀) × (table ≡ splice relationsPlace (tab (relationNumbers g l) r) table₀)
 
 abbrev μ-loop : tie.MeasureT-loop
 μ-loop table₀ g l r₀ table r = g .count - r
 
 loop-holds : tie.Need-loop-holds Inv-loop μ-loop
-loop-holds c = (omega arith, refl, tab-none (relationNumbers (c .before .args .t2) (c .before .args .t3)) 3 (c .before .args .table .now))
+loop-holds c = (omega arith, refl, tab-none (relationNumbers (c .before .args .t2) (c .before .args .t3)) relationsPlace (c .before .args .table .now))
 
 mul-t9 : tie.Need-mul-t9 Inv-loop μ-loop
 mul-t9 c = omega (arith, c .before .before .before .pre .1 .count)
