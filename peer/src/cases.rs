@@ -8,7 +8,7 @@ use crate::sheets::{self, pick_words, Question, Structure, Tables};
 use crate::text::{cause, Refusal, Reply};
 use crate::tree::Shape;
 
-const STEP_LIMIT: usize = 65_536;
+pub(crate) const STEP_LIMIT: usize = 65_536;
 
 #[derive(Clone, Copy, Debug, PartialEq, Eq)]
 pub struct Sizes {

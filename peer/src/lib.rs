@@ -22,6 +22,7 @@ pub mod sheets;
 pub mod text;
 pub mod tree;
 pub mod trial;
+pub mod tries;
 
 pub use cases::{
     action, action_number, build, build_text, check, check_text, picks, picks_text, rule_part,
@@ -30,3 +31,4 @@ pub use cases::{
 pub use desk::desk;
 pub use ground::{Action, Prove, Set};
 pub use text::{Refusal, Reply};
+pub use tries::{tries, Try};

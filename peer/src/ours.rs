@@ -9,9 +9,12 @@
 use crate::cases::Sizes;
 use crate::text::{Refusal, Reply};
 use crate::trial::Calls;
+use crate::tries::Try;
 
 #[rustfmt::skip]
 mod foreign {
+    use crate::tries::Try;
+
     extern "C" {
         pub fn nendokwe_sizes(
             question: *const u8, question_len: usize, site: *const u8, site_len: usize,
@@ -55,6 +58,11 @@ mod foreign {
             question: *const u8, question_len: usize, site: *const u8, site_len: usize,
             picks: *const u64, picks_len: usize, state: *mut u64, state_len: usize,
             steps: *mut u32, steps_len: usize, number: &mut u32, place: &mut u64,
+        );
+        pub fn nendokwe_tries(
+            question: *const u8, question_len: usize, site: *const u8, site_len: usize,
+            steps: *const u32, steps_len: usize, tries: *mut Try, tries_len: usize,
+            state: *mut u64, state_len: usize, number: &mut u32, place: &mut u64,
         );
         pub fn nendokwe_desk(input: *const u8, input_len: usize, out: *mut u8) -> usize;
     }
@@ -217,6 +225,21 @@ impl Calls for Ours {
                 case[0].as_ptr(), case[0].len(), case[1].as_ptr(), case[1].len(),
                 picks.as_ptr(), picks.len(), state.as_mut_ptr(), state.len(),
                 steps.as_mut_ptr(), steps.len(), &mut number, &mut place,
+            );
+        }
+        reply(number, place)
+    }
+
+    fn tries(
+        &self, case: [&[u8]; 2], steps: &[u32], tries: &mut [Try], state: &mut [u64],
+    ) -> Reply {
+        let (mut number, mut place) = (u32::MAX, UNSET);
+        // Safety: as for `check_text`; the records too are ours alone while the call runs.
+        unsafe {
+            foreign::nendokwe_tries(
+                case[0].as_ptr(), case[0].len(), case[1].as_ptr(), case[1].len(),
+                steps.as_ptr(), steps.len(), tries.as_mut_ptr(), tries.len(),
+                state.as_mut_ptr(), state.len(), &mut number, &mut place,
             );
         }
         reply(number, place)

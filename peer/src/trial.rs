@@ -4,6 +4,7 @@
 use crate::cases::{self, Sizes};
 use crate::sample::{desk_input, Random, Sample};
 use crate::text::{Refusal, Reply};
+use crate::tries::Try;
 
 /// The calls that both programs have.
 pub trait Calls {
@@ -30,6 +31,8 @@ pub trait Calls {
         steps: &mut [u32],
     ) -> Reply;
     fn build(&self, case: [&[u8]; 2], picks: &[u64], state: &mut [u64], steps: &mut [u32])
+        -> Reply;
+    fn tries(&self, case: [&[u8]; 2], steps: &[u32], tries: &mut [Try], state: &mut [u64])
         -> Reply;
     fn desk(&self, input: &[u8]) -> Vec<u8>;
 }
@@ -98,6 +101,16 @@ impl Calls for Peer {
         steps: &mut [u32],
     ) -> Reply {
         cases::build(case[0], case[1], picks, state, steps)
+    }
+
+    fn tries(
+        &self,
+        case: [&[u8]; 2],
+        steps: &[u32],
+        tries: &mut [Try],
+        state: &mut [u64],
+    ) -> Reply {
+        crate::tries::tries(case[0], case[1], steps, tries, state)
     }
 
     fn desk(&self, input: &[u8]) -> Vec<u8> {

@@ -11,6 +11,8 @@
 --   "Refusal sheet"                Refusal, which says where each number is tested; Outcome (what each call gives)
 --   "The desk program"             Desk
 --   "Case drawer"                  Drawer; Cases has further ones
+-- Document 02, "What customers want changed later":
+--   job 8, twenty tries            Tries; TriesDrawn has cases
 pub mod Limits
 pub mod Lists
 pub mod Text
@@ -28,7 +30,9 @@ pub mod Built
 pub mod Outcome
 pub mod Demand
 pub mod Desk
+pub mod Tries
 pub mod Opened
 pub mod Drawer
 pub mod Cases
 pub mod Whole
+pub mod TriesDrawn

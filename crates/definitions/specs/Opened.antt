@@ -14,6 +14,7 @@ use Rattle.definitions.specs.Built
 use Rattle.definitions.specs.Outcome
 use Rattle.definitions.specs.Demand
 use Rattle.definitions.specs.Desk
+use Rattle.definitions.specs.Tries
 
 unfoldable pub everything : Unit {0}
 unfolding Lists.all Lists.any Lists.filter Lists.flatMap Lists.mapFrom Lists.option Lists.position Lists.from Lists.below Lists.last Lists.isIn Lists.rank Lists.upTo Lists.before Lists.greatest Lists.sum Lists.same Lists.isEmpty
@@ -31,4 +32,5 @@ unfolding Lists.all Lists.any Lists.filter Lists.flatMap Lists.mapFrom Lists.opt
     Outcome.replyNumber Outcome.replyPlace Outcome.readCase Outcome.ground Outcome.readProblem Outcome.roomFor Outcome.stateLength Outcome.written Outcome.spanOf Outcome.rulePart Outcome.sizesOf Outcome.sizes Outcome.action Outcome.relationWords Outcome.picksLength Outcome.pickWords Outcome.bitOf Outcome.relationPicks Outcome.lentPicks Outcome.hasSpare Outcome.spareWord Outcome.takeSteps Outcome.textPicks Outcome.picksRoom Outcome.spareRefusal Outcome.takePicks Outcome.readyToRun Outcome.checkedFrom Outcome.checkSteps Outcome.picksIfAccepted Outcome.picksReadFrom Outcome.picksFromSteps Outcome.kindRefusal Outcome.plan Outcome.builtFrom Outcome.buildSteps
     Demand.isAccepted Demand.caseIsAccepted Demand.stepsAreAccepted Demand.areSamePicks
     Desk.isRecord Desk.isRule Desk.isStep Desk.isPickOrStep Desk.afterRule Desk.firstPickOrStep Desk.siteAndRest Desk.afterQuestion Desk.cutAt Desk.sheets Desk.printLine Desk.sizesLine Desk.countLine Desk.pickLine Desk.stepLine Desk.report Desk.printed Desk.checkedPlan Desk.startsWithStep Desk.answerOf Desk.answer Desk.desk
+    Tries.tryList Tries.tried Tries.readyToTry Tries.triedFrom Tries.tryLists
 everything = tt

@@ -8,6 +8,8 @@
 --   Rows               tuples and their rows, for any number of places
 --   Blocks             runs of numbers, one after another
 --   Numbers            the numbers of atoms and of actions
+--   Words              states and picks as words
+--   Copies             a buffer copied element by element
 pub mod Booleans
 pub mod Lists
 pub mod Results
@@ -19,3 +21,4 @@ pub mod Rows
 pub mod Blocks
 pub mod Numbers
 pub mod Words
+pub mod Copies

@@ -8,11 +8,14 @@ ghost use Rattle.definitions.specs.Outcome.{asText, asNumbers, sizes as «sizes
 ghost use Rattle.cases.specs.Replies.{resultOf, sizingOf};
 ghost use Rattle.cases.specs.Asked.{actionOf};
 ghost use Rattle.nendokwe.specs.Told.{numberOf, placeOf, told, kindOf, subjectOf, rowIn, choiceOf, detailsOf};
+ghost use Rattle.definitions.specs.Tries.{tryLists};
+ghost use Rattle.tries.specs.Recorded.{records};
 use cases::Asked;
 use cases::Reply;
 use cases::Sizing;
 use ground::Act;
 use ground::ChoiceAct;
+use tries::Try;
 
 // A reply as number and place.
 fn tell(r: Reply, number: &mut u32, place: &mut usize)
@@ -290,6 +293,29 @@ pub extern "C" fn nendokwe_build(
 {
     let r = building::build_lent(question, site, picks, state, steps);
     tell(r, number, place);
+}
+
+// Tries many step lists of one case, each a record's: the steps from its first index on, as many as its length. A case that is refused
+// leaves the records and the state; else number and place are 0, each record has its list's number and place, and the initial state is
+// left.
+#[no_mangle]
+pub extern "C" fn nendokwe_tries(
+    question: &[u8],
+    site: &[u8],
+    steps: &[u32],
+    tries: &mut [Try],
+    state: &mut [u64],
+    number: &mut u32,
+    place: &mut usize,
+)
+    ensures { λ _. ⌜ now (number .exit) ≡ replyNumber (tryLists (now (question .entry)) (now (site .entry)) (now (steps .entry)) (records (now (tries .entry))) (now (state .entry)) .answer) ⌝ }
+    ensures { λ _. ⌜ now (place .exit) ≡ replyPlace (tryLists (now (question .entry)) (now (site .entry)) (now (steps .entry)) (records (now (tries .entry))) (now (state .entry)) .answer) ⌝ }
+    ensures { λ _. ⌜ records (now (tries .exit)) ≡ tryLists (now (question .entry)) (now (site .entry)) (now (steps .entry)) (records (now (tries .entry))) (now (state .entry)) .tries ⌝ }
+    ensures { λ _. ⌜ now (state .exit) ≡ tryLists (now (question .entry)) (now (site .entry)) (now (steps .entry)) (records (now (tries .entry))) (now (state .entry)) .state ⌝ }
+{
+    let r = tries::try_lists(question, site, steps, tries, state);
+    *number = r.number;
+    *place = r.place;
 }
 
 // What the desk program prints for an input, and how many bytes that is. As many are lent as it can print at the most: 573,952.

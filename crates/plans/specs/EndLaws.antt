@@ -6,10 +6,8 @@ use mathlib.Core.Bool.{Bool, true, false, _&&_, or-true}
 use mathlib.Core.List.{List, _++_}
 use native.Mathlib.Omega.{arith}
 use lib.Dec.{ltb, ltb→lt, nltb→le}
-use lib.ListN.{length, take, drop, getD, set, replicate, length-append, List·getD-append, List·getD-eq-default}
-use lib.Seq.{take-length, length-take-le, take-at, getD-append-add, getD-drop, paste, paste-suc}
-use native.Mathlib.Nat.{zero-add}
-use native.Mathlib.Numerals.{add-one}
+use lib.ListN.{length, take, drop, getD, replicate, length-append, List·getD-append, List·getD-eq-default}
+use lib.Seq.{take-length, take-at, getD-append-add, getD-drop}
 use Rattle.bits.specs.Table.{digit, bit, Words}
 use Rattle.definitions.specs.Lists.{all, any}
 use Rattle.definitions.specs.Atoms.{Problem, State, atoms, wordsFor, stateWords}
@@ -75,16 +73,6 @@ module _ (p : Problem) (f : ℕ → ℕ → Bool) (o o₁ o₂ o₃ : Out) (a : 
 
   pub way-no : (t : Bool) → t ≡ mayTake p (o₃ .state) proveGoal → t ≡ false → Follows p f o o₃ false
   way-no t e n = record { goal = sym n ∙ e ∙ ap (λ (x : Out). mayTake p (x .state) proveGoal) (sym proved-is); end = proved-is }
-
--- ---- a copy, word by word
-pub copy-next : (d s x : List ℕ) (i : ℕ) → i < length d → i < length s → x ≡ paste d 0 s i → set x i (getD s i 0) ≡ paste d 0 s (i + 1)
-copy-next d s x i h k e =
-    let z : 0 + i ≡ i = zero-add i in
-    rw (e, add-one) (ap (λ (n : ℕ). set (paste d 0 s i) n (getD s i 0)) (sym z) ∙ paste-suc d 0 s i 0 (omega arith) k)
-
-pub copy-end : (d s x : List ℕ) (k : ℕ) → k ≤ length s → x ≡ paste d 0 s k → x ≡ written (take k s) d
-unfolding written
-copy-end d s x k h e = e ∙ ap (λ (n : ℕ). take k s ++ drop n d) (zero-add k ∙ sym (length-take-le k s h))
 
 -- ---- a table of zeros into whose front words are written has their bits
 zeros-at : (k j : ℕ) → _≡_ {A = ℕ} (getD (replicate k 0) j 0) 0

@@ -23,11 +23,11 @@ use Rattle.reduction.specs.Building.{ground-is, picksGiven, plan-rooms, 
 use Rattle.reduction.specs.Lent.{pick-words}
 
 -- what is written into the front of a buffer that is long enough leaves its length
-written-length : (new old : List ℕ) → length new ≤ length old → length (written new old) ≡ length old
+pub written-length : (new old : List ℕ) → length new ≤ length old → length (written new old) ≡ length old
 unfolding written
 written-length new old h = let a = length-append new (drop (length new) old) in let b = length-drop (length new) old in omega arith
 
-has-room : (needed room : ℕ) (u : Unit {0}) → roomFor needed room ≡ accepted u → needed ≤ room
+pub has-room : (needed room : ℕ) (u : Unit {0}) → roomFor needed room ≡ accepted u → needed ≤ room
 unfolding roomFor
 has-room needed room u e = ltb-false room needed (not-refused (ltb room needed) 12 needed u e)
 

@@ -12,6 +12,7 @@
 --       picks-texts, picks-printed, number-texts, steps-texts
 --    9  sizes-refuse, action-refuse, check-refuse, read-refuse, build-refuse; check-length, read-length, build-length
 --   10  desk-records
+--   11  trying, tries-alone, tries-outside, tries-accepts, tries-place; tries-refuse, tries-length
 use Prim.Native.Nat.{ℕ, zero, _+_, _*_, _^_, _<_, _≤_}
 use mathlib.Core.Path.{_≡_, refl, sym, ap, subst, subst₂, _∙_}
 use mathlib.Core.Logic.{_⊎_, ⊎-elim, _↔_}
@@ -20,22 +21,23 @@ use mathlib.Core.Option.{none, some}
 use mathlib.Core.List.{List, [], _∷_, _++_, map, List·Memᴰ}
 use native.Mathlib.Omega.{arith}
 use lib.Dec.{ltb}
-use lib.ListN.{length, getD, take, length-append}
+use lib.ListN.{length, getD, take, drop, length-append}
 use borrow.Author.Tests.{le-ltb}
 use Rattle.definitions.specs.Limits.{stepLimit, textLimit}
-use Rattle.definitions.specs.Lists.{flatMap}
+use Rattle.definitions.specs.Lists.{if_then_else_, flatMap}
 use Rattle.definitions.specs.Text.{number, decimal}
 use Rattle.definitions.specs.Desk.{stepLine, pickLine, sheets, answer}
 use Rattle.definitions.specs.Refusal.{Result, refused, accepted, _>>=_, refuseIf}
 use Rattle.definitions.specs.Relations.{Tuple, isAmong}
 use Rattle.definitions.specs.Sheets.{Question, readQuestion, readPicks, firstChosen, readSteps}
 use Rattle.definitions.specs.Truth.{Case, arePicks, areOfKinds, firstOfOtherKind, ruleIsTrue}
-use Rattle.definitions.specs.Atoms.{Problem, problemOf, Atom, itemAt, atomBlocks, atoms, atomNumber, relationAt, placesOf, stateWords, rowOf}
+use Rattle.definitions.specs.Atoms.{Problem, problemOf, Atom, itemAt, atomBlocks, atoms, atomNumber, relationAt, placesOf, initial, stateWords, rowOf}
 use Rattle.definitions.specs.Actions.{Action, set, actionAt, actions, actionNumber, needs, adds, removes}
 use Rattle.definitions.specs.Strips.{reachesGoal, run, picksOf}
 use Rattle.definitions.specs.Built.{chosenNumbers, builtSteps, builtCount, bound, boundExponents, boundPolynomial, pickedRows}
-use Rattle.definitions.specs.Outcome.{sizes, action, readCase, ground, readProblem, roomFor, stateLength, written, picksLength, pickWords, bitOf, lentPicks, spareWord, Given, asText, asNumbers, takeSteps, textPicks, picksRoom, takePicks, readyToRun, Checked, checkedFrom, checkSteps, picksIfAccepted, picksReadFrom, picksFromSteps, kindRefusal, Plan, plan, Built, builtFrom, buildSteps, Ready, PicksRead}
+use Rattle.definitions.specs.Outcome.{replyNumber, replyPlace, sizes, action, readCase, ground, readProblem, roomFor, stateLength, written, picksLength, pickWords, bitOf, lentPicks, spareWord, Given, asText, asNumbers, takeSteps, textPicks, picksRoom, takePicks, readyToRun, Checked, checkedFrom, checkSteps, picksIfAccepted, picksReadFrom, picksFromSteps, kindRefusal, Plan, plan, Built, builtFrom, buildSteps, Ready, PicksRead}
 use Rattle.definitions.specs.Demand.{isAccepted, caseIsAccepted, stepsAreAccepted, areSamePicks}
+use Rattle.definitions.specs.Tries.{Try, Tried, tried, tryLists}
 use Rattle.laws.specs.Numbers
 use Rattle.laws.specs.Words
 use Rattle.laws.specs.Members.{ascending-once}
@@ -63,6 +65,7 @@ use Rattle.reduction.specs.Filed
 use Rattle.reduction.specs.Decimals
 use Rattle.reduction.specs.Told
 use Rattle.reduction.specs.Written
+use Rattle.reduction.specs.Trying
 
 -- A question and a site are accepted exactly if a case is read from them and its problem is within the limits.
 pub accepted-case : (question site : List ℕ) → (caseIsAccepted question site ≡ true) ↔ ((c : Case) × (p : Problem) × (readCase question site ≡ accepted c) × (readProblem question site ≡ accepted p))
@@ -357,6 +360,34 @@ module _ (question site : List ℕ) (c : Case) (p : Problem) (is-case : readCase
       → (again : List Tuple) × (readPicks (c .question .chosen) (firstChosen (c .question)) (c .site .size) (flatMap (λ r. flatMap (pickLine p r) (pickedRows p picks r)) (chosenNumbers p)) ≡ accepted again) × (areSamePicks again picks ≡ true)
   picks-printed = rw same-problem (λ picks a h. (map (Pairs.tupleOf (problemOf c)) (Pairs.pairs (problemOf c) picks), Written.printed-back c A picks (T-of a) h, Between.in-order c A picks a))
 
+  -- ---- 11, many step lists of one case, in one call: it answers 0 and place 0, every record gets its list's reply, and the initial
+  -- state is left;
+  pub trying : (steps : List ℕ) (tries : List Try) (state : List ℕ) → stateLength p ≤ length state
+      → tryLists question site steps tries state ≡ record { answer = accepted 0; tries = map (tried p steps) tries; state = written (stateWords p (initial p)) state }
+  trying steps tries state room = Trying.trying question site p is-problem state room steps tries
+
+  -- a record keeps its list, and one within the lent steps gets what a check of that list alone answers, as if it were lent by itself;
+  pub tries-alone : (steps : List ℕ) (t : Try) (state : List ℕ) → stateLength p ≤ length state → t .first + t .len ≤ length steps
+      → let alone = checkSteps question site (asNumbers (take (t .len) (drop (t .first) steps))) state .answer in
+      tried p steps t ≡ record { first = t .first; len = t .len; number = replyNumber alone; place = replyPlace alone }
+  unfolding tried
+  tries-alone steps t state room h = ap (λ (r : Result ℕ). record { first = t .first; len = t .len; number = replyNumber r; place = replyPlace r }) (Trying.alone question site p is-problem state room steps (t .first) (t .len) h)
+
+  -- any other is 1 or 12;
+  pub tries-outside : (steps : List ℕ) (t : Try) → length steps < t .first + t .len
+      → tried p steps t ≡ record { first = t .first; len = t .len; number = if ltb stepLimit (t .len) then 1 else 12; place = if ltb stepLimit (t .len) then 0 else t .first + t .len }
+  tries-outside steps t h = Trying.outside p steps t h
+
+  -- so a record has 0 exactly if its list is short enough, lies within the lent steps and reaches the goal, and then its place is the
+  -- length of the list.
+  pub tries-accepts : (steps : List ℕ) (t : Try) → (tried p steps t .number ≡ 0) ↔ ((t .len ≤ stepLimit) × (t .first + t .len ≤ length steps) × (reachesGoal p (take (t .len) (drop (t .first) steps)) ≡ true))
+  unfolding tried
+  tries-accepts steps t = Trying.accepts p steps (t .first) (t .len)
+
+  pub tries-place : (steps : List ℕ) (t : Try) → tried p steps t .number ≡ 0 → tried p steps t .place ≡ t .len
+  unfolding tried
+  tries-place steps t e = Trying.place-is p steps (t .first) (t .len) e
+
 -- ---- A text is read as a number exactly if it is what is written for it and has at most 7 digits; and as steps exactly if it is what
 -- the desk program writes for them. So every step list within the limits has a text, and one text only.
 pub number-texts : (text : List ℕ) (n : ℕ) → (number text ≡ some n) ↔ ((text ≡ decimal n) × (n < 10 ^ 7))
@@ -399,6 +430,14 @@ module _ (question site : List ℕ) where
 
   pub build-length : (picks : Given) (state steps : List ℕ) → (length (buildSteps question site picks state steps .state) ≡ length state) × (length (buildSteps question site picks state steps .steps) ≡ length steps)
   build-length picks state steps = Buffers.build-length question site picks state steps
+
+  -- Many step lists: 1 to 12, which leave the records and the state's buffer as they were.
+  pub tries-refuse : (steps : List ℕ) (tries : List Try) (state : List ℕ) (k place : ℕ) → tryLists question site steps tries state .answer ≡ refused k place
+      → (1 ≤ k) × (k ≤ 12) × (tryLists question site steps tries state .tries ≡ tries) × (tryLists question site steps tries state .state ≡ state)
+  tries-refuse steps tries state k place e = Trying.tries-refuse question site steps tries state k place e
+
+  pub tries-length : (steps : List ℕ) (tries : List Try) (state : List ℕ) → (length (tryLists question site steps tries state .tries) ≡ length tries) × (length (tryLists question site steps tries state .state) ≡ length state)
+  tries-length steps tries state = Trying.tries-length question site steps tries state
 
 -- ---- 10, the desk program: unless it refuses, what it prints (`Desk.report`) are the two records of one case: picks of the declared
 -- kinds of which the rule is true, and steps that reach the goal and are read as the same tuples.

@@ -30,6 +30,7 @@
 --   Refusals     which numbers each call refuses with
 --   Buffers      what is left in lent buffers
 --   Filed        what the desk program prints
+--   Trying       many step lists of one case, each as if checked alone
 pub mod Demands
 pub mod BothSides
 pub mod Instance
@@ -61,3 +62,4 @@ pub mod Written
 pub mod Refusals
 pub mod Buffers
 pub mod Filed
+pub mod Trying

@@ -5,7 +5,7 @@ use borrow.Author.Needs.{needs}
 use lib.ListN.{length, getD, length-set}
 use lib.Seq.{paste, paste-zero}
 use Rattle.bits.specs.Table.{Words}
-use Rattle.plans.specs.EndLaws.{copy-next, copy-end}
+use Rattle.laws.specs.Copies.{copy-next, copy-end}
 use Rattle.plans.proofs.copy.Statement.{statement}
 use Rattle.plans.proofs.copy.Tie as tie
 

@@ -1,0 +1,163 @@
+-- Many step lists of one case: each gets what a check of it alone gives, and the call keeps what it is lent.
+use Prim.Native.Nat.{ℕ, zero, suc, _+_, _-_, _≤_, _<_}
+use mathlib.Core.Path.{_≡_, refl, sym, ap, ap₂, subst, _∙_}
+use mathlib.Core.Logic.{_↔_}
+use mathlib.Core.Bool.{Bool, true, false}
+use mathlib.Core.List.{List, [], _∷_, map}
+use native.Mathlib.Omega.{arith}
+use lib.Dec.{ltb}
+use lib.ListN.{length, take, drop, length-drop}
+use lib.Seq.{length-take-le}
+use borrow.Author.Tests.{lt-ltb, le-ltb, ltb-false}
+use Rattle.definitions.specs.Limits.{stepLimit}
+use Rattle.definitions.specs.Lists.{if_then_else_}
+use Rattle.definitions.specs.Refusal.{Result, refused, accepted, _>>=_, refuseIf}
+use Rattle.definitions.specs.Truth.{Case}
+use Rattle.definitions.specs.Atoms.{Problem, initial, stateWords}
+use Rattle.definitions.specs.Strips.{run, reachesGoal}
+use Rattle.definitions.specs.Outcome.{replyNumber, replyPlace, readCase, ground, readProblem, roomFor, stateLength, written, asNumbers, takeSteps, readyToRun, checkedFrom, checkSteps, sizes}
+use Rattle.definitions.specs.Tries.{Try, tryList, tried, readyToTry, triedFrom, tryLists}
+use Rattle.laws.specs.Booleans.{T-of}
+use Rattle.laws.specs.Results.{accepted-eq, bind-parts, is-accepted, not-refused, refused-accepted}
+use Rattle.laws.specs.Words.{state-length}
+use Rattle.reduction.specs.Accepting.{run-accepts, run-count}
+use Rattle.reduction.specs.Refusals.{run-refuses, sizes-refuse}
+use Rattle.reduction.specs.Buffers.{written-length, has-room}
+
+-- ---- one list
+part-length : (first len : ℕ) (steps : List ℕ) → first + len ≤ length steps → length (take len (drop first steps)) ≡ len
+part-length first len steps h = let d = length-drop first steps in length-take-le len (drop first steps) (omega (arith, d, h))
+
+module _ (p : Problem) (steps : List ℕ) (first len : ℕ) where
+  -- a list that is all there: 1, or its run
+  there : first + len ≤ length steps → tryList p steps first len ≡ (refuseIf (ltb stepLimit len) 1 zero >>= λ _. run p (take len (drop first steps)) .answer)
+  unfolding tryList roomFor refuseIf _>>=_
+  there h = let e : ltb (length steps) (first + len) ≡ false = le-ltb (length steps) (first + len) h in rw e refl
+
+  when-accepted : (n : ℕ) → tryList p steps first len ≡ accepted n → (len ≤ stepLimit) × (first + len ≤ length steps) × (reachesGoal p (take len (drop first steps)) ≡ true)
+  unfolding tryList
+  when-accepted n e =
+      let (u, a, e₁) = bind-parts (refuseIf (ltb stepLimit len) 1 zero) _ n e in
+      let (v, b, e₂) = bind-parts (roomFor (first + len) (length steps)) _ n e₁ in
+      let ks : List ℕ = take len (drop first steps) in
+      (ltb-false stepLimit len (not-refused (ltb stepLimit len) 1 zero u a), has-room (first + len) (length steps) v b, sym (run-accepts p ks) ∙ is-accepted (run p ks .answer) n e₂)
+
+  reaching : len ≤ stepLimit → first + len ≤ length steps → reachesGoal p (take len (drop first steps)) ≡ true → tryList p steps first len ≡ accepted len
+  unfolding refuseIf _>>=_
+  reaching a b g = there b ∙ rw (le-ltb stepLimit len a) (run-count p (take len (drop first steps)) (T-of g) ∙ ap accepted (part-length first len steps b))
+
+  -- no refusal has the number 0
+  not-zero : (k place : ℕ) → tryList p steps first len ≡ refused k place → k ≡ 0 → ⊥
+  unfolding tryList roomFor refuseIf _>>=_
+  not-zero k place e z = go (ltb stepLimit len) (ltb (length steps) (first + len)) e
+    where
+      late : run p (take len (drop first steps)) .answer ≡ refused k place → ⊥
+      late e = let h = run-refuses p (take len (drop first steps)) k place e in absurd (omega (arith, h .0, z))
+
+      number-is : (j at : ℕ) → _≡_ {A = Result ℕ} (refused j at) (refused k place) → j ≡ k
+      number-is j at e = ap (λ (r : Result ℕ). elim r as (λ _. ℕ) [ refused a b ↦ a | accepted n ↦ 0 ]) e
+
+      go : (b c : Bool) → (refuseIf b 1 zero >>= λ _. refuseIf c 12 (first + len) >>= λ _. run p (take len (drop first steps)) .answer) ≡ refused k place → ⊥
+      go true c e = let h = number-is 1 zero e in absurd (omega (arith, h, z))
+      go false true e = let h = number-is 12 (first + len) e in absurd (omega (arith, h, z))
+      go false false e = late e
+
+  -- it has 0 exactly if it is short enough, all there, and reaches the goal
+  pub accepts : (replyNumber (tryList p steps first len) ≡ 0) ↔ ((len ≤ stepLimit) × (first + len ≤ length steps) × (reachesGoal p (take len (drop first steps)) ≡ true))
+  unfolding replyNumber
+  accepts = (λ e. told (tryList p steps first len) refl e, λ h. let (a, b, g) = h in ap replyNumber (reaching a b g))
+    where
+      told : (r : Result ℕ) → tryList p steps first len ≡ r → replyNumber r ≡ 0 → (len ≤ stepLimit) × (first + len ≤ length steps) × (reachesGoal p (take len (drop first steps)) ≡ true)
+      told (refused k place) e z = absurd (not-zero k place e z)
+      told (accepted n) e z = when-accepted n e
+
+  -- and then its place is its length
+  pub place-is : replyNumber (tryList p steps first len) ≡ 0 → replyPlace (tryList p steps first len) ≡ len
+  unfolding replyPlace
+  place-is e = let (a, b, g) = accepts .0 e in ap replyPlace (reaching a b g)
+
+-- one that is not all there: 1, or 12 and the sum
+pub outside : (p : Problem) (steps : List ℕ) (t : Try) → length steps < t .first + t .len
+    → tried p steps t ≡ record { first = t .first; len = t .len; number = if ltb stepLimit (t .len) then 1 else 12; place = if ltb stepLimit (t .len) then 0 else t .first + t .len }
+unfolding tried tryList roomFor refuseIf _>>=_ replyNumber replyPlace
+outside p steps t h = let e : ltb (length steps) (t .first + t .len) ≡ true = lt-ltb (length steps) (t .first + t .len) h in rw e (go (ltb stepLimit (t .len)))
+  where
+    reply : Bool → Result ℕ
+    reply b = refuseIf b 1 zero >>= λ _. _>>=_ {A = Unit {0}} (refused 12 (t .first + t .len)) (λ _. run p (take (t .len) (drop (t .first) steps)) .answer)
+
+    go : (b : Bool)
+        → _≡_ {A = Try} (record { first = t .first; len = t .len; number = replyNumber (reply b); place = replyPlace (reply b) })
+        (record { first = t .first; len = t .len; number = if b then 1 else 12; place = if b then 0 else t .first + t .len })
+    go true = refl
+    go false = refl
+
+module _ (question site : List ℕ) (p : Problem) (is-problem : readProblem question site ≡ accepted p) (state : List ℕ) (room : stateLength p ≤ length state) where
+  -- a list that is all there gets what checking it alone answers
+  checked : (c : Case) → readCase question site ≡ accepted c → ground c ≡ accepted p → (ks : List ℕ) → checkSteps question site (asNumbers ks) state .answer ≡ (refuseIf (ltb stepLimit (length ks)) 1 zero >>= λ _. run p ks .answer)
+  unfolding checkSteps readyToRun takeSteps roomFor refuseIf checkedFrom _>>=_
+  checked c a g ks = let e : ltb (length state) (stateLength p) ≡ false = le-ltb (length state) (stateLength p) room in go e (ltb stepLimit (length ks)) refl
+    where
+      go : ltb (length state) (stateLength p) ≡ false → (b : Bool) → ltb stepLimit (length ks) ≡ b → checkSteps question site (asNumbers ks) state .answer ≡ (_>>=_ {A = Unit {0}} (refuseIf b 1 zero) (λ _. run p ks .answer))
+      go e true t = rw (a, t) refl
+      go e false t = rw (a, t, g, e) refl
+
+  pub alone : (steps : List ℕ) (first len : ℕ) → first + len ≤ length steps → tryList p steps first len ≡ checkSteps question site (asNumbers (take len (drop first steps))) state .answer
+  unfolding readProblem
+  alone steps first len h =
+      let (c, a, g) = bind-parts (readCase question site) ground p is-problem in
+      let ks : List ℕ = take len (drop first steps) in
+      there p steps first len h ∙ ap (λ (k : ℕ). refuseIf (ltb stepLimit k) 1 zero >>= λ _. run p ks .answer) (sym (part-length first len steps h)) ∙ sym (checked c a g ks)
+
+  -- ---- the call
+  ready : readyToTry question site (length state) ≡ accepted p
+  unfolding readyToTry roomFor refuseIf _>>=_
+  ready = let e : ltb (length state) (stateLength p) ≡ false = le-ltb (length state) (stateLength p) room in rw (is-problem, e) refl
+
+  pub trying : (steps : List ℕ) (tries : List Try) → tryLists question site steps tries state ≡ record { answer = accepted 0; tries = map (tried p steps) tries; state = written (stateWords p (initial p)) state }
+  unfolding tryLists triedFrom
+  trying steps tries = rw ready refl
+
+-- whatever is handed over: a refusal is 1 to 12 and leaves both buffers; their lengths stay
+module _ (question site steps : List ℕ) (tries : List Try) (state : List ℕ) where
+  problem-refuse : (k place : ℕ) → readProblem question site ≡ refused k place → (1 ≤ k) × (k ≤ 11)
+  unfolding sizes _>>=_
+  problem-refuse k place e = sizes-refuse question site k place (rw e refl)
+
+  pub tries-refuse : (k place : ℕ) → tryLists question site steps tries state .answer ≡ refused k place
+      → (1 ≤ k) × (k ≤ 12) × (tryLists question site steps tries state .tries ≡ tries) × (tryLists question site steps tries state .state ≡ state)
+  unfolding tryLists triedFrom readyToTry roomFor refuseIf _>>=_
+  tries-refuse k place e = go (readyToTry question site (length state)) refl e
+    where
+      early : (m : Result Problem) → readProblem question site ≡ m → (m >>= λ p. roomFor (stateLength p) (length state) >>= λ _. accepted p) ≡ refused k place → (1 ≤ k) × (k ≤ 12)
+      early (refused j at) a e = let h = problem-refuse j at a in let q : j ≡ k = cc in (omega (arith, h .0, q), omega (arith, h .1, q))
+      early (accepted p) a e = go (ltb (length state) (stateLength p)) e
+        where
+          go : (b : Bool) → (refuseIf b 12 (stateLength p) >>= λ _. accepted p) ≡ refused k place → (1 ≤ k) × (k ≤ 12)
+          go true e = let q : 12 ≡ k = cc in (omega (arith, q), omega (arith, q))
+          go false e = absurd (refused-accepted (sym e))
+
+      again : (j at : ℕ) → _≡_ {A = Result ℕ} (refused j at) (refused k place) → _≡_ {A = Result Problem} (refused j at) (refused k place)
+      again j at e = let a : j ≡ k = cc in let b : at ≡ place = cc in ap₂ refused a b
+
+      go : (m : Result Problem) → readyToTry question site (length state) ≡ m → triedFrom m steps tries state .answer ≡ refused k place
+          → (1 ≤ k) × (k ≤ 12) × (triedFrom m steps tries state .tries ≡ tries) × (triedFrom m steps tries state .state ≡ state)
+      go (refused j at) r e = let (a, b) = early (readProblem question site) refl (r ∙ again j at e) in (a, b, refl, refl)
+      go (accepted p) r e = absurd (refused-accepted (sym e))
+
+  pub tries-length : (length (tryLists question site steps tries state .tries) ≡ length tries) × (length (tryLists question site steps tries state .state) ≡ length state)
+  unfolding tryLists triedFrom readyToTry
+  tries-length = go (readyToTry question site (length state)) room-there
+    where
+      same : (f : Try → Try) (ts : List Try) → length (map f ts) ≡ length ts
+      same f [] = refl
+      same f (t ∷ ts) = ap suc (same f ts)
+
+      room-there : (p : Problem) → readyToTry question site (length state) ≡ accepted p → stateLength p ≤ length state
+      room-there p e =
+          let (q, a, e₁) = bind-parts (readProblem question site) _ p e in
+          let (u, b, e₂) = bind-parts (roomFor (stateLength q) (length state)) _ p e₁ in
+          subst (λ (x : Problem). stateLength x ≤ length state) (accepted-eq q p e₂) (has-room (stateLength q) (length state) u b)
+
+      go : (m : Result Problem) → ((p : Problem) → m ≡ accepted p → stateLength p ≤ length state) → (length (triedFrom m steps tries state .tries) ≡ length tries) × (length (triedFrom m steps tries state .state) ≡ length state)
+      go (refused k place) h = (refl, refl)
+      go (accepted p) h = let l = state-length p (initial p) in let q = h p refl in (same (tried p steps) tries, written-length (stateWords p (initial p)) state (omega (arith, l, q)))

@@ -1,0 +1,3 @@
+-- Loans that the walks make: a slice that is lent again, an array that is lent, a `&mut` slice that is shared for a time.
+pub mod Relent
+pub mod Lent

@@ -1,0 +1,127 @@
+-- Laws of the two covered parts: how a case begins, and one list. Assumes nothing.
+use Prim.Native.Nat.{ℕ, _+_, _-_, _*_, _/_, _≤_, _<_}
+use mathlib.Core.Path.{_≡_, refl, sym, ap, ap₂, subst, _∙_}
+use mathlib.Core.Bool.{true, false}
+use mathlib.Core.List.{List, [], _∷_, _++_}
+use native.Mathlib.Omega.{arith}
+use lib.ListN.{length, take, drop, replicate, length-append, drop-of-length-le}
+use lib.Seq.{length-take-le, take-append-seam}
+use borrow.Author.Tests.{lt-ltb, le-ltb}
+use Rattle.definitions.specs.Limits.{stepLimit}
+use Rattle.definitions.specs.Refusal.{_>>=_, refuseIf}
+use Rattle.definitions.specs.Truth.{Case}
+use Rattle.definitions.specs.Atoms.{Problem, State, problemOf, initial, atoms, wordsFor, stateWords}
+use Rattle.definitions.specs.Strips.{run, runFrom}
+use Rattle.definitions.specs.Outcome.{readCase, ground, readProblem, roomFor, stateLength, written, replyNumber, replyPlace}
+use Rattle.laws.specs.Words.{words-for, state-length}
+use Rattle.bits.specs.Table.{bit}
+use Rattle.ground.specs.Of.{Is}
+use Rattle.ground.specs.Lines.{Fits}
+use Rattle.initial.specs.Rows.{atomsIn}
+use Rattle.initial.specs.Initial.{Begun as Started}
+use Rattle.opening.specs.declared.Opened.{Opened}
+use Rattle.opening.specs.Read.{Holds, CaseRead}
+use Rattle.grounding.specs.declared.Sized.{Sized as Counted}
+use Rattle.grounding.specs.Grounds.{GroundsTo}
+use Rattle.runs.specs.declared.End.{End}
+use Rattle.runs.specs.Ended.{ended}
+use Rattle.cases.specs.Known.{case-refused, case-read, case-over, grounds, tabled, table-is, atoms-few, words-are, words-fit, room-short, room-there, facts-held}
+use Rattle.tries.specs.declared.Begun.{Begun}
+use Rattle.definitions.specs.Tries.{readyToTry, tryList}
+use Rattle.tries.specs.Recorded.{verdictOf}
+use Rattle.tries.specs.Begun.{BegunBy, Ready, Serves}
+
+-- ---- a case begins
+append-none : (l : List ℕ) → l ++ [] ≡ l
+append-none [] = refl
+append-none (x ∷ l) = ap (λ (t : List ℕ). x ∷ t) (append-none l)
+
+module _ (question site old : List ℕ) (many : ℕ) (o : Opened) (facts : List ℕ) (read : CaseRead question (readCase question site) o (bit facts)) where
+  pub begun-case : (o .fault ≡ 0 → ⊥) → (r : Begun) → r ≡ record { number = o .fault; place = o .place; words = 0; many = 0 } → (w : List ℕ) → BegunBy (readyToTry question site (length old)) many old r w old
+  unfolding BegunBy readyToTry readProblem _>>=_
+  begun-case z r er w = rw (er, case-refused question site o (bit facts) read z) (record { number = refl; where-it-is = refl; none = refl; state = refl })
+
+  module _ (z : o .fault ≡ 0) (m : Counted) (w : List ℕ) (g : (c : Case) → Holds question c o (bit facts) → GroundsTo (ground c) m w) where
+    pub begun-over : m .over ≡ true → (r : Begun) → r ≡ record { number = 11; place = 0; words = 0; many = 0 } → BegunBy (readyToTry question site (length old)) many old r w old
+    unfolding BegunBy readyToTry readProblem _>>=_
+    begun-over t r er = let (c, e, h) = case-read question site o (bit facts) read z in rw (er, e, case-over c m w (g c h) t) (record { number = refl; where-it-is = refl; none = refl; state = refl })
+
+    module _ (f : m .over ≡ false) where
+      abbrev k : ℕ
+      k = (m .atoms + 63) / 64
+
+      pub begun-short : length old < k → (r : Begun) → r ≡ record { number = 12; place = k; words = 0; many = 0 } → BegunBy (readyToTry question site (length old)) many old r w old
+      unfolding BegunBy readyToTry readProblem _>>=_
+      begun-short l r er =
+          let (c, e, h) = case-read question site o (bit facts) read z in
+          let q = words-are c m w (g c h) f in
+          let b = room-short (stateLength (problemOf c)) (length old) (subst (λ (n : ℕ). length old < n) q l) in
+          rw (er, e, grounds c m w (g c h) f, b) (record { number = refl; where-it-is = q; none = refl; state = refl })
+
+      pub begun-atoms : m .atoms ≤ 65536
+      begun-atoms = let (c, e, h) = case-read question site o (bit facts) read z in atoms-few c m w (g c h) f
+
+      pub begun-fits : (part : List ℕ) → length part ≡ k → Fits w × (wordsFor (atomsIn w) ≤ length part)
+      begun-fits part l = let (c, e, h) = case-read question site o (bit facts) read z in (table-is c m w (g c h) f .fits, words-fit c m w (g c h) f (length part) (sym l))
+
+      pub begun-ready : k ≤ length old → (part new : List ℕ) → Started w facts (take k old) part → new ≡ part ++ drop k old
+          → BegunBy (readyToTry question site (length old)) many old (record { number = 0; place = 0; words = k; many = many }) w new
+      unfolding BegunBy readyToTry readProblem _>>=_ Started written stateLength wordsFor
+      begun-ready l part new started n =
+          let (c, e, h) = case-read question site o (bit facts) read z in
+          let p : Problem = problemOf c in
+          let t = tabled c m w (g c h) f in
+          let q : k ≡ stateLength p = words-are c m w (g c h) f in
+          let b = room-there (stateLength p) (length old) (subst (λ (n : ℕ). n ≤ length old) q l) in
+          let s : length (stateWords p (initial p)) ≡ stateLength p = state-length p (initial p) in
+          let lk : length (take k old) ≡ k = length-take-le k old l in
+          let begins = started p (t .is) (t .ends) (facts-held question c o facts h) in
+          let its : part ≡ stateWords p (initial p) = begins .its-words ∙ ap (λ (r : List ℕ). stateWords p (initial p) ++ r) (drop-of-length-le (take k old) {i = length (stateWords p (initial p))} (omega (arith, lk, s, q))) ∙ append-none (stateWords p (initial p)) in
+          let lp : length part ≡ k = ap (λ (r : List ℕ). length r) its ∙ s ∙ sym q in
+          let front : take k new ≡ part = ap₂ take (sym lp) n ∙ take-append-seam part (drop k old) in
+          let there : k ≤ length new = let ln : length new ≡ length part + length (drop k old) = ap (λ (r : List ℕ). length r) n ∙ length-append part (drop k old) in omega (arith, ln, lp) in
+          rw (e, grounds c m w (g c h) f, b) (record {
+            number = refl;
+            no-place = refl;
+            all = refl;
+            state = n ∙ ap₂ (λ (r : List ℕ) (j : ℕ). r ++ drop j old) its (q ∙ sym s);
+            ready = record { grounded = table-is c m w (g c h) f; there = there; few = let a = atoms-few c m w (g c h) f in omega (arith, a) };
+            serves = record { is = t .is; room = subst (λ (j : ℕ). atoms p ≤ 64 * j) (sym q) (words-for (atoms p) .0); begins = ap bit front ∙ begins .exact (lk ∙ q) };
+          })
+
+-- ---- one list
+module _ (w state copied : List ℕ) (words : ℕ) (ready : Ready w state words) (c : copied ≡ written (take words state) (replicate 1024 0)) where
+  -- the copy begins with the state's words
+  same : take words copied ≡ take words state
+  unfolding written
+  same =
+      let lt : length (take words state) ≡ words = length-take-le words state (ready .there) in
+      ap (take words) c ∙ ap (λ (j : ℕ). take j (take words state ++ drop (length (take words state)) (replicate 1024 0))) (sym lt) ∙ take-append-seam (take words state) (drop (length (take words state)) (replicate 1024 0))
+
+  pub list-there : words ≡ length (take words copied)
+  list-there = sym (ap (λ (r : List ℕ). length r) same ∙ length-take-le words state (ready .there))
+
+module _ (p : Problem) (steps : List ℕ) (first count : ℕ) where
+  pub list-long : stepLimit < count → record { number = 1; place = 0 } ≡ verdictOf (tryList p steps first count)
+  unfolding verdictOf tryList refuseIf _>>=_ replyNumber replyPlace
+  list-long l = rw (lt-ltb stepLimit count l) refl
+
+  -- from and many are the two numbers, widened
+  module _ (l : count ≤ stepLimit) (from many : ℕ) (ef : from ≡ first) (em : many ≡ count) where
+    pub list-outside : length steps < from + many → record { number = 12; place = from + many } ≡ verdictOf (tryList p steps first count)
+    unfolding verdictOf tryList refuseIf roomFor _>>=_ replyNumber replyPlace
+    list-outside o =
+        let e : from + many ≡ first + count = ap₂ (λ (a b : ℕ). a + b) ef em in
+        rw (le-ltb stepLimit count l, lt-ltb (length steps) (first + count) (subst (λ (k : ℕ). length steps < k) e o)) (ap (λ (k : ℕ). record { number = 12; place = k }) e)
+
+    pub list-ran : from + many ≤ length steps → (w state copied : List ℕ) (words : ℕ) → (ready : Ready w state words) → copied ≡ written (take words state) (replicate 1024 0) → Serves p w state words
+        → (e : End) → ((p : Problem) → Is p w → atoms p ≤ 64 * length (take words copied) → (ended e ≡ runFrom p (bit (take words copied)) 0 (take (from + many - from) (drop from steps)) .answer) × Unit {0})
+        → verdictOf (ended e) ≡ verdictOf (tryList p steps first count)
+    unfolding tryList refuseIf roomFor run _>>=_
+    list-ran i w state copied words ready c serves e ran =
+        let s : from + many ≡ first + count = ap₂ (λ (a b : ℕ). a + b) ef em in
+        let m : from + many - from ≡ count = omega (arith, em) in
+        let r = ran p (serves .is) (subst (λ (j : ℕ). atoms p ≤ 64 * j) (list-there w state copied words ready c) (serves .room)) .0 in
+        let b : bit (take words copied) ≡ initial p = ap bit (same w state copied words ready c) ∙ serves .begins in
+        rw (le-ltb stepLimit count l, le-ltb (length steps) (first + count) (subst (λ (k : ℕ). k ≤ length steps) s i))
+        (ap verdictOf (r ∙ ap₂ (λ (s : State) (j : ℕ). runFrom p s 0 (take j (drop from steps)) .answer) b m ∙ ap (λ (j : ℕ). runFrom p (initial p) 0 (take count (drop j steps)) .answer) ef))

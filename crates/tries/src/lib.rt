@@ -1,0 +1,210 @@
+// Many step lists for one case. The case is read and grounded once, and its initial state is computed once; each record of a lent table
+// gets the number and the place that a check of its list alone would return.
+ghost use mathlib.Core.Path.{_≡_};
+ghost use Prim.Native.Nat.{_+_, _<_, _≤_};
+ghost use lib.ListN.{length as «length-of», take};
+ghost use Rattle.definitions.specs.Atoms.{Problem};
+ghost use Rattle.definitions.specs.Outcome.{written};
+ghost use Rattle.rows.specs.Values.{Most};
+ghost use Rattle.ground.specs.Lines.{tableLength};
+ghost use Rattle.runs.specs.Ended.{ended};
+ghost use Rattle.definitions.specs.Tries.{tryList, readyToTry, tryLists};
+ghost use Rattle.tries.specs.Recorded.{records, verdictOf, answerOf};
+ghost use Rattle.tries.specs.Begun.{BegunBy, Ready, Serves};
+ghost use Rattle.tries.specs.Each.{upTo, answer};
+use runs::End;
+
+// A record, laid out as C lays it out: where its list begins among the lent steps, how many steps it has, and the reply to it.
+#[repr(C)]
+pub struct Try {
+    pub first: u32,
+    pub length: u32,
+    pub number: u32,
+    pub place: u64,
+}
+
+// The reply to a list: a refusal's number and place, or 0 and the step count.
+pub struct Verdict {
+    pub number: u32,
+    pub place: u64,
+}
+
+// The reply to the call itself: a refusal's number and place, or 0 and 0.
+pub struct Answer {
+    pub number: u32,
+    pub place: usize,
+}
+
+// How a case began: a refusal's number and place, and no list is to be tried; or 0 and 0, how many words a state has, and how many
+// lists are to be tried.
+pub struct Begun {
+    pub number: u32,
+    pub place: usize,
+    pub words: usize,
+    pub many: usize,
+}
+
+fn wide(k: u32) -> usize
+    ensures { λ r. ⌜ r ≡ k ⌝ }
+{
+    k as usize
+}
+
+// How a run ended, as number and place.
+fn verdict_of(e: End) -> Verdict
+    ensures { λ r. ⌜ r ≡ verdictOf (ended e) ⌝ }
+{
+    match e {
+        End::Done(i) => Verdict {
+            number: 0,
+            place: i as u64,
+        },
+        End::NoAction(i) => Verdict {
+            number: 13,
+            place: i as u64,
+        },
+        End::NotNow(i) => Verdict {
+            number: 14,
+            place: i as u64,
+        },
+        End::NoGoal(i) => Verdict {
+            number: 15,
+            place: i as u64,
+        },
+    }
+}
+
+// The first k words of src become those of dst.
+fn copy(dst: &mut [u64], src: &[u64], k: usize)
+    requires { ⌜ (k ≤ «length-of» (now dst)) × (k ≤ «length-of» (now src)) ⌝ }
+    ensures { λ r. ⌜ now (dst .exit) ≡ written (take k (now (src .entry))) (now (dst .entry)) ⌝ }
+{
+    let mut i: usize = 0;
+    while i < k {
+        dst[i] = src[i];
+        i += 1;
+    }
+}
+
+// A case that is refused: no list is to be tried.
+fn not_begun(number: u32, place: usize) -> Begun
+    ensures { λ r. ⌜ r ≡ record { number = number; place = place; words = 0; many = 0 } ⌝ }
+{
+    Begun {
+        number,
+        place,
+        words: 0,
+        many: 0,
+    }
+}
+
+// Everything before the lists: the case's refusals, 11 and 12; else the problem's table, and the initial state in the lent words.
+pub fn begin(
+    question: &[u8],
+    site: &[u8],
+    many: usize,
+    table: &mut [usize],
+    state: &mut [u64],
+) -> Begun
+    requires { ⌜ («length-of» (now table) ≡ tableLength) × Most (now table) 0 ⌝ }
+    ensures { λ r. ⌜ BegunBy (readyToTry (now (question .entry)) (now (site .entry)) («length-of» (now (state .entry)))) many (now (state .entry)) r (now (table .exit)) (now (state .exit)) ⌝ }
+{
+    let mut facts = [0u64; 512];
+    let o = opening::read_case(question, site, &mut facts);
+    if o.fault != 0 {
+        return not_begun(o.fault, o.place);
+    }
+    let m = grounding::ground_case(question, o, table);
+    if m.over {
+        return not_begun(11, 0);
+    }
+    let words = (m.atoms + 63) / 64;
+    if state.len() < words {
+        return not_begun(12, words);
+    }
+    initial::initial_state(table, &facts, &mut state[..words]);
+    Begun {
+        number: 0,
+        place: 0,
+        words,
+        many,
+    }
+}
+
+// One list: 1 for one that is too long, 12 for one that is not all there; else its steps are run, in a copy of the initial state.
+pub fn try_list(
+    table: &[usize],
+    state: &[u64],
+    words: usize,
+    steps: &[u32],
+    first: u32,
+    length: u32,
+) -> Verdict
+    requires { ⌜ Ready (now table) (now state) words ⌝ }
+    ensures { λ r. ⌜ ((p : Problem) → Serves p (now (table .entry)) (now (state .entry)) words → r ≡ verdictOf (tryList p (now (steps .entry)) first length)) ⌝ }
+{
+    if 65536 < length {
+        return Verdict {
+            number: 1,
+            place: 0,
+        };
+    }
+    let from = wide(first);
+    let many = wide(length);
+    let end = from + many;
+    if steps.len() < end {
+        return Verdict {
+            number: 12,
+            place: end as u64,
+        };
+    }
+    let mut copied = [0u64; 1024];
+    copy(&mut copied, state, words);
+    let e = runs::run(&mut copied[..words], table, &steps[from..end]);
+    verdict_of(e)
+}
+
+// The walk over the lent records: each of the first `many` is answered, and the others stay.
+fn try_each(
+    table: &[usize],
+    state: &[u64],
+    words: usize,
+    many: usize,
+    steps: &[u32],
+    tries: &mut [Try],
+)
+    requires { ⌜ (many ≤ «length-of» (now tries)) × (0 < many → Ready (now table) (now state) words) ⌝ }
+    ensures { λ _. ⌜ ((p : Problem) → Serves p (now (table .entry)) (now (state .entry)) words → now (tries .exit) ≡ upTo (answer p (now (steps .entry))) many (now (tries .entry)))
+        × (many ≡ 0 → now (tries .exit) ≡ now (tries .entry)) ⌝ }
+{
+    let mut i: usize = 0;
+    while i < many {
+        let v = try_list(table, state, words, steps, tries[i].first, tries[i].length);
+        tries[i].number = v.number;
+        tries[i].place = v.place;
+        i = i + 1;
+    }
+}
+
+// Tries many step lists of one case. A case that is refused leaves the records and the state; else each record has the reply to its
+// list, and the initial state is left.
+pub fn try_lists(
+    question: &[u8],
+    site: &[u8],
+    steps: &[u32],
+    tries: &mut [Try],
+    state: &mut [u64],
+) -> Answer
+    ensures { λ r. ⌜ r ≡ answerOf (tryLists (now (question .entry)) (now (site .entry)) (now (steps .entry)) (records (now (tries .entry))) (now (state .entry)) .answer) ⌝ }
+    ensures { λ r. ⌜ records (now (tries .exit)) ≡ tryLists (now (question .entry)) (now (site .entry)) (now (steps .entry)) (records (now (tries .entry))) (now (state .entry)) .tries ⌝ }
+    ensures { λ r. ⌜ now (state .exit) ≡ tryLists (now (question .entry)) (now (site .entry)) (now (steps .entry)) (records (now (tries .entry))) (now (state .entry)) .state ⌝ }
+{
+    let mut table = [0usize; ground::TABLE];
+    let many = tries.len();
+    let c = begin(question, site, many, &mut table, state);
+    try_each(&table, state, c.words, c.many, steps, tries);
+    Answer {
+        number: c.number,
+        place: c.place,
+    }
+}
