@@ -13,6 +13,7 @@ pub mod cases;
 pub mod desk;
 pub mod formula;
 pub mod ground;
+pub mod large;
 #[cfg(feature = "ours")]
 pub mod ours;
 pub mod plans;

@@ -23,6 +23,11 @@ use ground::RelationLine;
 use opening::Opened;
 use sheets::Answer;
 
+// Most problems are small: FEW words hold a state of SMALL atoms.
+const FEW: usize = 16;
+
+const SMALL: usize = 64 * FEW;
+
 // The first word of lent picks that has a spare bit set, or that none has.
 enum Spare {
     Clear,
@@ -63,7 +68,27 @@ fn spare_word(table: &[usize], picks: &[u64]) -> Spare
     Spare::Clear
 }
 
-// The steps built from picks and the state that they leave, from the initial state on.
+// The steps built from picks and the state that they leave, from the initial state on, which is written to words of its own.
+fn build_from(
+    start: &mut [u64],
+    state: &mut [u64],
+    steps: &mut [u32],
+    table: &[usize],
+    facts: &[u64],
+    atoms: usize,
+    picks: &[u64],
+) -> plans::Answer
+    requires { ⌜ Fits (now table) × (atomsIn (now table) ≡ atoms) × (atoms ≤ 2 ^ 16) × ((atoms + 63) / 64 ≤ length (now state)) ⌝ }
+    requires { ⌜ (atoms + 63) / 64 ≤ length (now start) ⌝ }
+    ensures { λ r. ⌜ ((c : Case) (F : List Tuple) → Prepared c F (now (table .entry)) (now (facts .entry)) (now (picks .entry)) atoms (length (now (steps .entry)))
+        → Gives c (problemOf c) F (now (state .entry)) (now (steps .entry)) r (now (state .exit)) (now (steps .exit))) ⌝ }
+{
+    let words = (atoms + 63) / 64;
+    initial::initial_state(table, facts, &mut start[..words]);
+    plans::build(state, steps, &start[..words], table, atoms, picks)
+}
+
+// The same; for a small problem few words are cleared.
 pub fn start_and_build(
     state: &mut [u64],
     steps: &mut [u32],
@@ -76,10 +101,12 @@ pub fn start_and_build(
     ensures { λ r. ⌜ ((c : Case) (F : List Tuple) → Prepared c F (now (table .entry)) (now (facts .entry)) (now (picks .entry)) atoms (length (now (steps .entry)))
         → Gives c (problemOf c) F (now (state .entry)) (now (steps .entry)) r (now (state .exit)) (now (steps .exit))) ⌝ }
 {
+    if atoms <= SMALL {
+        let mut few = [0u64; FEW];
+        return build_from(&mut few, state, steps, table, facts, atoms, picks);
+    }
     let mut start = [0u64; plans::WORDS];
-    let words = (atoms + 63) / 64;
-    initial::initial_state(table, facts, &mut start[..words]);
-    plans::build(state, steps, &start[..words], table, atoms, picks)
+    build_from(&mut start, state, steps, table, facts, atoms, picks)
 }
 
 // What was built, as a reply.

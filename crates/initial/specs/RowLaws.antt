@@ -9,6 +9,7 @@ use native.Mathlib.Numerals.{add-one}
 use native.Mathlib.Decide.{ℕ-discrete}
 use native.Mathlib.Omega.{arith}
 use borrow.Author.Tests.{lt-ltb, le-ltb, ne-eqb}
+use lib.Arith.{digits-div, digits-mod}
 use lib.Dec.{eqb, leb, ltb}
 use lib.ListN.{getD}
 use Rattle.definitions.specs.Lists.{if_then_else_}
@@ -19,7 +20,16 @@ use Rattle.bits.proofs.Laws.{put-same, put-other, paste-out, paste-zero, paste-
 use Rattle.ground.specs.Lines.{relationPlace, nodePlace, sizeIn, nodesIn, relationLine, nodeLine, Fits}
 use Rattle.ground.specs.declared.NodeLine.{NodeLine}
 use Rattle.ground.specs.declared.RelationLine.{RelationLine}
-use Rattle.initial.specs.Rows.{atomsIn, holdsAt, holdingAt, rowsIn, freeIn, tuplesPut, relationPut, wordsIn, firstIn, relationsPut, RelationRoom}
+use Rattle.initial.specs.declared.Pair.{Pair}
+use Rattle.initial.specs.Rows.{PairOf, atomsIn, holdsAt, holdingAt, rowsIn, freeIn, tuplesPut, relationPut, wordsIn, firstIn, relationsPut, RelationRoom}
+
+-- ---- the two places of a row
+module _ (n row : ℕ) (p : Pair) (h : PairOf n row p) where
+  pub pair-high : p .x ≡ row / n
+  pair-high = sym (ap (λ (i : ℕ). i / n) (h .is) ∙ digits-div (p .x) (h .below))
+
+  pub pair-low : p .y ≡ row % n
+  pair-low = sym (ap (λ (i : ℕ). i % n) (h .is) ∙ digits-mod (p .x) (h .below))
 
 -- ---- built-in relations
 module _ (n r x y : ℕ) where

@@ -1,4 +1,5 @@
 -- What is written for each relation, by the table of a grounded problem. A state is spoken of by the predicate of its bits.
+use mathlib.Core.Path.{_≡_}
 use mathlib.Core.Bool.{Bool, true, false}
 use mathlib.Core.List.{List}
 use Prim.Native.Nat.{ℕ, zero, suc, _+_, _-_, _*_, _/_, _%_, _≤_, _<_}
@@ -9,10 +10,16 @@ use Rattle.definitions.specs.Atoms.{wordsFor}
 use Rattle.bits.specs.Table.{bit, put, paste}
 use Rattle.ground.specs.Lines.{sizeIn, relationsIn, nodesIn, relationLine, nodeLine}
 use Rattle.ground.specs.declared.RelationLine.{RelationLine}
+use Rattle.initial.specs.declared.Pair.{Pair}
 
 -- where the atoms end
 abbrev pub atomsIn : List ℕ → ℕ
 atomsIn w = nodeLine w (nodesIn w) .atoms
+
+-- the two places of a row over n elements
+pub record PairOf (n row : ℕ) (p : Pair) : Type 0 where
+  pub is : row ≡ p .x * n + p .y
+  pub below : p .y < n
 
 -- whether a tuple holds while nothing is picked: a built-in one by its two places or its one, one of a `rel` by its bit among the
 -- facts, whose words begin with word `first` of f, and none of a `choose`

@@ -7,9 +7,27 @@ ghost use Rattle.definitions.specs.Relations.{builtInHolds};
 ghost use Rattle.definitions.specs.Atoms.{wordsFor};
 ghost use Rattle.bits.specs.Table.{bit, put, paste};
 ghost use Rattle.ground.specs.Lines.{relationsIn, relationLine, Fits};
-ghost use Rattle.initial.specs.Rows.{holdsAt, holdingAt, rowsIn, freeIn, tuplesPut, relationPut, RelationRoom, wordsIn, relationsPut, Room, atomsIn};
+ghost use Rattle.initial.specs.Rows.{PairOf, holdsAt, holdingAt, rowsIn, freeIn, tuplesPut, relationPut, RelationRoom, wordsIn, relationsPut, Room, atomsIn};
 ghost use Rattle.initial.specs.Initial.{Begun};
 use ground::RelationLine;
+
+// The two places of a row, which is x times n and y.
+struct Pair {
+    x: usize,
+    y: usize,
+}
+
+// The places of the next row.
+fn next(p: Pair, n: usize) -> Pair
+    requires { ⌜ (p .x ≤ 2 ^ 32) × (p .y < n) ⌝ }
+    ensures { λ q. ⌜ ((row : ℕ) → PairOf n row p → PairOf n (row + 1) q) ⌝ }
+{
+    let y = p.y + 1;
+    if y == n {
+        return Pair { x: p.x + 1, y: 0 };
+    }
+    Pair { x: p.x, y }
+}
 
 // What a built-in relation says of x, and of y where it has two places.
 fn built_in_holds(n: usize, r: usize, x: usize, y: usize) -> bool
@@ -32,13 +50,21 @@ fn built_in_holds(n: usize, r: usize, x: usize, y: usize) -> bool
 }
 
 // Whether a tuple holds while nothing is picked: a built-in one by its meaning, one of a `rel` by its bit among the facts, whose
-// words begin with word `first`, and none of a `choose`.
-fn tuple_holds(facts: &[u64], n: usize, r: usize, kind: usize, first: usize, row: usize) -> bool
-    requires { ⌜ (0 < n) × (first ≤ 2 ^ 32) × (row ≤ 2 ^ 32) ⌝ }
+// words begin with word `first`, and none of a `choose`. The row comes with its two places, since dividing takes long.
+fn tuple_holds(
+    facts: &[u64],
+    n: usize,
+    r: usize,
+    kind: usize,
+    first: usize,
+    row: usize,
+    p: Pair,
+) -> bool
+    requires { ⌜ PairOf n row p × (first ≤ 2 ^ 32) × (row ≤ 2 ^ 32) ⌝ }
     ensures { λ b. ⌜ b ≡ holdsAt (now (facts .entry)) n r kind first row ⌝ }
 {
     if r < 3 {
-        return built_in_holds(n, r, row / n, row % n);
+        return built_in_holds(n, r, p.x, p.y);
     }
     if r < 5 {
         return built_in_holds(n, r, row, 0);
@@ -50,11 +76,19 @@ fn tuple_holds(facts: &[u64], n: usize, r: usize, kind: usize, first: usize, row
 }
 
 // Of a tuple and its not-tuple, the number of the one that holds.
-fn holding(facts: &[u64], n: usize, r: usize, k: RelationLine, first: usize, row: usize) -> usize
-    requires { ⌜ (0 < n) × (first ≤ 2 ^ 32) × (k .tuples ≤ 2 ^ 32) × (k .nots ≤ 2 ^ 32) × (row ≤ 2 ^ 32) ⌝ }
+fn holding(
+    facts: &[u64],
+    n: usize,
+    r: usize,
+    k: RelationLine,
+    first: usize,
+    row: usize,
+    p: Pair,
+) -> usize
+    requires { ⌜ PairOf n row p × (first ≤ 2 ^ 32) × (k .tuples ≤ 2 ^ 32) × (k .nots ≤ 2 ^ 32) × (row ≤ 2 ^ 32) ⌝ }
     ensures { λ i. ⌜ i ≡ holdingAt (now (facts .entry)) n r k first row ⌝ }
 {
-    if tuple_holds(facts, n, r, k.kind, first, row) {
+    if tuple_holds(facts, n, r, k.kind, first, row, p) {
         return k.tuples + row;
     }
     k.nots + row
@@ -101,8 +135,10 @@ fn put_tuples(state: &mut [u64], facts: &[u64], n: usize, r: usize, k: RelationL
 {
     let count = rows(k);
     let mut row: usize = 0;
+    let mut p = Pair { x: 0, y: 0 };
     while row < count {
-        raise(state, holding(facts, n, r, k, first, row));
+        raise(state, holding(facts, n, r, k, first, row, p));
+        p = next(p, n);
         row += 1;
     }
 }

@@ -6,7 +6,7 @@ ghost use lib.Seq.{slice};
 ghost use Rattle.definitions.specs.Sheets.{readQuestion};
 ghost use Rattle.definitions.specs.Outcome.{rulePart};
 ghost use Rattle.records.specs.Entries.{InText};
-ghost use Rattle.names.specs.Signatures.{Sound};
+ghost use Rattle.names.specs.Signatures.{Sound, Lent};
 ghost use Rattle.formula.specs.Seen.{verdictNumber};
 ghost use Rattle.question.specs.Drafts.{newIn, judgeOf, grownBy, pushed, spanIn, Headed, laterOf, noSignature, refusedWith, QuestionRead};
 use formula::Verdict;
@@ -36,13 +36,20 @@ pub struct Asked {
     pub rule: Span,
 }
 
-// The span is a relation's name that is neither built in nor declared.
-fn new_name(s: &[u8], g: Signature, a: usize, e: usize) -> bool
-    requires { ⌜ (g .rels + g .chosen ≤ 12) × (a ≤ e) × (e ≤ length (now s)) ⌝ }
-    ensures { λ r. ⌜ r ≡ newIn (now (s .entry)) g (slice a e (now (s .entry))) ⌝ }
+// The span is a relation's name that is neither built in nor declared, in a signature whose names and count are lent.
+fn new_name(
+    s: &[u8],
+    from: &[usize; names::DECLARED],
+    to: &[usize; names::DECLARED],
+    m: usize,
+    a: usize,
+    e: usize,
+) -> bool
+    requires { ⌜ (m ≤ 12) × (a ≤ e) × (e ≤ length (now s)) ⌝ }
+    ensures { λ r. ⌜ ((g : Signature) → Lent g (now (from .entry)) (now (to .entry)) m → r ≡ newIn (now (s .entry)) g (slice a e (now (s .entry)))) ⌝ }
 {
     if text::is_relation_name(s, a, e) {
-        if names::is_declared(s, g, a, e) {
+        if names::is_declared(s, from, to, m, a, e) {
             return false;
         }
         return true;
@@ -64,7 +71,9 @@ fn judge(s: &[u8], g: Signature, at: usize, x: Entry) -> u32
             if 8 <= g.rels {
                 return 3;
             }
-            if new_name(s, g, a, e) {
+            let from = g.from;
+            let to = g.to;
+            if new_name(s, &from, &to, g.rels + g.chosen, a, e) {
                 return 0;
             }
             4
@@ -73,7 +82,9 @@ fn judge(s: &[u8], g: Signature, at: usize, x: Entry) -> u32
             if 4 <= g.chosen {
                 return 3;
             }
-            if new_name(s, g, a, e) {
+            let from = g.from;
+            let to = g.to;
+            if new_name(s, &from, &to, g.rels + g.chosen, a, e) {
                 return 0;
             }
             4
@@ -105,22 +116,14 @@ fn push(
     requires { ⌜ i < 12 ⌝ }
     ensures { λ r. ⌜ r ≡ pushed g i a e k d rels chosen ⌝ }
 {
-    let mut from = g.from;
-    from[i] = a;
-    let mut to = g.to;
-    to[i] = e;
-    let mut arity = g.arity;
-    arity[i] = k;
-    let mut kind = g.kind;
-    kind[i] = d;
-    Signature {
-        rels,
-        chosen,
-        from,
-        to,
-        arity,
-        kind,
-    }
+    let mut h = g;
+    h.from[i] = a;
+    h.to[i] = e;
+    h.arity[i] = k;
+    h.kind[i] = d;
+    h.rels = rels;
+    h.chosen = chosen;
+    h
 }
 
 // The signature after a line that is good.

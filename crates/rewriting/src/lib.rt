@@ -161,17 +161,17 @@ fn fill(s: &[u8], at: usize, row: Row, sc: Scope) -> Leaf
     requires { ⌜ VarsReady (now s) at sc (row .width) ⌝ }
     ensures { λ r. ⌜ ((p : Bool) (k : ℕ) (ls : List ℕ) (w : VarsReady (now (s .entry)) at sc (row .width)) → row ≡ leafRow p k ls → Filled (now (s .entry)) at sc p k ls (w .vs) r) ⌝ }
 {
-    if s[at] == 32 {
-        let e = formula::run(s, at + 2, true);
-        let l = level(s, at + 1, e, sc);
-        let n = wide(row.width);
-        let mut more = row;
-        more.levels[n] = l;
-        more.width = row.width + 1;
-        fill(s, e, more, sc)
-    } else {
-        Leaf { row, at }
+    let mut i = at;
+    let mut full = row;
+    while s[i] == 32 {
+        let e = formula::run(s, i + 2, true);
+        let l = level(s, i + 1, e, sc);
+        let n = wide(full.width);
+        full.levels[n] = l;
+        full.width += 1;
+        i = e;
     }
+    Leaf { row: full, at: i }
 }
 
 // The variables at `at`, one byte between them, are bound.
@@ -179,19 +179,21 @@ fn bind(s: &[u8], at: usize, sc: Scope) -> Bound
     requires { ⌜ ListReady (now s) at sc ⌝ }
     ensures { λ r. ⌜ ((w : ListReady (now (s .entry)) at sc) → Opened (now (s .entry)) at sc (w .v) (w .vs) r) ⌝ }
 {
-    let e = formula::run(s, at + 1, true);
-    let n = sc.n;
     let mut inner = sc;
-    inner.from[n] = at;
-    inner.to[n] = e;
-    inner.n = n + 1;
-    if s[e] == 32 {
-        bind(s, e + 1, inner)
-    } else {
-        Bound {
-            scope: inner,
-            at: e + 2,
+    let mut i = at;
+    loop {
+        let e = formula::run(s, i + 1, true);
+        let n = inner.n;
+        inner.from[n] = i;
+        inner.to[n] = e;
+        inner.n = n + 1;
+        if s[e] != 32 {
+            return Bound {
+                scope: inner,
+                at: e + 2,
+            };
         }
+        i = e + 1;
     }
 }
 

@@ -2,15 +2,12 @@
 //!
 //!     bench [ROUNDS]
 
+use peer::large::{deep, padded, path};
 use peer::sample::{facts, needs, sound, Random, Sample};
 use peer::trial::{Calls, Other, Peer, LINKED};
 use peer::Reply;
 use std::hint::black_box;
 use std::time::Instant;
-
-const PATH_RULE: &str = "(forall (?x) (implies (not (MAX ?x)) (exists (?u ?y ?z) \
-(and (E ?y ?z) (F ?x ?y) (SUC ?x ?u) (F ?u ?z)))))";
-const DEEP_RULE: &str = "(forall (?a ?b ?c ?d) (or (D ?a ?b) (T ?c ?d)))";
 
 /// What is timed, on the sample that goes with it.
 #[derive(Clone, Copy)]
@@ -87,68 +84,6 @@ impl Job {
     }
 }
 
-/// A directed Hamiltonian path through 15 vertices with half of all edges.
-fn path() -> Sample {
-    let n = 15;
-    let order: Vec<usize> = (0..n).map(|place| place * 7 % n).collect();
-    let mut site = format!("size\t{n}\n");
-    for (from, to) in (0..n * n).map(|row| (row / n, row % n)) {
-        if (from * 5 + to * 3) % 2 == 0 || order.windows(2).any(|edge| edge == [from, to]) {
-            site += &format!("fact\tE\t{from}\t{to}\n");
-        }
-    }
-    let mut picks = String::new();
-    for (place, vertex) in order.iter().enumerate() {
-        picks += &format!("pick\tF\t{place}\t{vertex}\n");
-    }
-    let question = format!("rel\tE\t2\nchoose\tF\tInj\nrule\t{PATH_RULE}\n");
-    planned(question, site, picks)
-}
-
-/// Four nested quantifiers over a disjunction that nearly always holds.
-fn deep() -> Sample {
-    let n = 13;
-    let mut site = format!("size\t{n}\n");
-    let mut picks = String::new();
-    for (first, second) in (0..n * n).map(|row| (row / n, row % n)) {
-        if second != first {
-            site += &format!("fact\tD\t{first}\t{second}\n");
-        }
-        picks += &format!("pick\tT\t{first}\t{second}\n");
-    }
-    let question = format!("rel\tD\t2\nchoose\tT\t2\nrule\t{DEEP_RULE}\n");
-    planned(question, site, picks)
-}
-
-/// A case with its picks and its built steps, both as text and lent.
-fn planned(question: String, site: String, picks: String) -> Sample {
-    let (question, site) = (question.into_bytes(), site.into_bytes());
-    let mut sample = Sample { question, site, picks: picks.into(), ..Sample::default() };
-    let [words, state, steps] = needs(&sample).expect("an accepted case");
-    let (mut state, mut steps) = (vec![0; state], vec![0; steps]);
-    let case = [&sample.question[..], &sample.site[..]];
-    let Reply::Accepted(count) = Peer.build_text(case, &sample.picks, &mut state, &mut steps)
-    else {
-        panic!("picks that do not meet their rule");
-    };
-    steps.truncate(count as usize);
-    sample.lent_picks = vec![0; words];
-    Peer.picks(case, &steps, &mut sample.lent_picks, &mut state);
-    sample.lent_steps = steps;
-    sample
-}
-
-/// The same plan with proofs repeated before its last step, up to a length.
-fn padded(sample: &Sample, length: usize) -> Sample {
-    let mut steps = sample.lent_steps.clone();
-    let goal = steps.pop().expect("a plan's last step");
-    let proofs = steps[sample.lent_steps.len() / 2..].to_vec();
-    let missing = length - 1 - steps.len();
-    steps.extend(proofs.iter().cycle().take(missing));
-    steps.push(goal);
-    Sample { lent_steps: steps, ..sample.clone() }
-}
-
 /// A plan as text of nearly 65,536 bytes.
 fn long_text(sample: &Sample) -> Sample {
     let mut steps = Vec::new();
@@ -175,7 +110,7 @@ fn small_cases() -> Vec<Sample> {
 }
 
 fn jobs() -> Vec<Job> {
-    let (path, deep) = (path(), deep());
+    let (path, deep) = (path(), deep(13));
     let named = |what: &str, sample: &Sample| format!("{what}, {} steps", sample.lent_steps.len());
     let job = |what: &str, work, sample: &Sample| Job::new(&named(what, sample), work, sample);
     vec![

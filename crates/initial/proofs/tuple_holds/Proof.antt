@@ -1,7 +1,9 @@
-use mathlib.Core.Path.{_∙_}
-use native.Mathlib.Nat.{div-le-self, div-add-mod'}
+use Prim.Native.Nat.{ℕ}
+use mathlib.Core.Path.{_∙_, ap₂}
+use native.Mathlib.Nat.{div-le-self}
 use native.Mathlib.Omega.{arith}
-use Rattle.initial.specs.RowLaws.{is-pair, is-one, is-fact, is-unpicked}
+use Rattle.definitions.specs.Relations.{builtInHolds}
+use Rattle.initial.specs.RowLaws.{pair-high, pair-low, is-pair, is-one, is-fact, is-unpicked}
 use borrow.Author.Needs.{needs}
 use Rattle.initial.proofs.tuple_holds.Statement.{statement}
 use Rattle.initial.proofs.tuple_holds.Tie as tie
@@ -9,12 +11,13 @@ use Rattle.initial.proofs.tuple_holds.Tie as tie
 built-in-holds-requires : tie.Need-built-in-holds-requires
 built-in-holds-requires c κs =
     let start = c .before .before in
-    (omega arith, omega (arith, div-le-self (start .args .row) (start .args .n)), omega (arith, div-add-mod' (start .args .row) (start .args .n)))
+    let p = start .pre .0 in
+    (omega arith, omega (arith, pair-high _ _ _ p, div-le-self (start .args .row) (start .args .n)), omega (arith, p .is))
 
 returns : tie.Need-returns
 returns c =
     let start = c .before .before .before in
-    c .built-in-holds .ensures ∙ is-pair (start .args .facts .now) (start .args .n) (start .args .r) (start .args .kind) (start .args .first) (start .args .row) (omega arith)
+    c .built-in-holds .ensures ∙ ap₂ (λ (x y : ℕ). builtInHolds (start .args .n) (start .args .r) x y) (pair-high _ _ _ (start .pre .0)) (pair-low _ _ _ (start .pre .0)) ∙ is-pair (start .args .facts .now) (start .args .n) (start .args .r) (start .args .kind) (start .args .first) (start .args .row) (omega arith)
 
 returns-2 : tie.Need-returns-2
 returns-2 c =
@@ -35,8 +38,6 @@ pub tuple-holds-spec : {M : Type 1} → statement M
 tuple-holds-spec =
     tie.close
     (tie.spec
-    (λ c. search needs)
-    (λ c. search needs)
     built-in-holds-requires
     returns
     (λ c κs. search needs)
