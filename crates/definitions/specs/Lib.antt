@@ -1,6 +1,6 @@
 -- Document 01, "Case sheets", as executable definitions. A text is the list of its bytes. A reader who believes these has nothing
--- else to believe; `Drawer` and `Cases` prove that they give the cases written there, and `Writing` that reading is the inverse of
--- writing.
+-- else to believe; `Drawer`, `Cases` and `Whole` prove that they give the cases written there, and `Writing` that reading a rule's
+-- formula is the inverse of writing it.
 --
 --   Limits, Lists                  every limit by name; plain functions on lists
 --   "The sheets"                   Text, Relations, Formula, Sheets
