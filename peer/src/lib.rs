@@ -14,6 +14,7 @@ pub mod desk;
 pub mod formula;
 pub mod ground;
 pub mod large;
+pub mod measures;
 #[cfg(feature = "ours")]
 pub mod ours;
 pub mod plans;
@@ -31,5 +32,6 @@ pub use cases::{
 };
 pub use desk::desk;
 pub use ground::{Action, Prove, Set};
+pub use measures::{allowances, tally, Tally};
 pub use text::{Refusal, Reply};
 pub use tries::{tries, Try};

@@ -59,6 +59,10 @@ mod foreign {
             picks: *const u64, picks_len: usize, state: *mut u64, state_len: usize,
             steps: *mut u32, steps_len: usize, number: &mut u32, place: &mut u64,
         );
+        pub fn nendokwe_allowances(
+            question: *const u8, question_len: usize, site: *const u8, site_len: usize,
+            allowances: *mut u64, allowances_len: usize, number: &mut u32, place: &mut u64,
+        );
         pub fn nendokwe_tries(
             question: *const u8, question_len: usize, site: *const u8, site_len: usize,
             steps: *const u32, steps_len: usize, tries: *mut Try, tries_len: usize,
@@ -240,6 +244,18 @@ impl Calls for Ours {
                 case[0].as_ptr(), case[0].len(), case[1].as_ptr(), case[1].len(),
                 steps.as_ptr(), steps.len(), tries.as_mut_ptr(), tries.len(),
                 state.as_mut_ptr(), state.len(), &mut number, &mut place,
+            );
+        }
+        reply(number, place)
+    }
+
+    fn allowances(&self, case: [&[u8]; 2], out: &mut [u64]) -> Reply {
+        let (mut number, mut place) = (u32::MAX, UNSET);
+        // Safety: as for `check_text`.
+        unsafe {
+            foreign::nendokwe_allowances(
+                case[0].as_ptr(), case[0].len(), case[1].as_ptr(), case[1].len(),
+                out.as_mut_ptr(), out.len(), &mut number, &mut place,
             );
         }
         reply(number, place)

@@ -34,6 +34,7 @@ pub trait Calls {
         -> Reply;
     fn tries(&self, case: [&[u8]; 2], steps: &[u32], tries: &mut [Try], state: &mut [u64])
         -> Reply;
+    fn allowances(&self, case: [&[u8]; 2], out: &mut [u64]) -> Reply;
     fn desk(&self, input: &[u8]) -> Vec<u8>;
 }
 
@@ -111,6 +112,10 @@ impl Calls for Peer {
         state: &mut [u64],
     ) -> Reply {
         crate::tries::tries(case[0], case[1], steps, tries, state)
+    }
+
+    fn allowances(&self, case: [&[u8]; 2], out: &mut [u64]) -> Reply {
+        crate::measures::allowances(case[0], case[1], out)
     }
 
     fn desk(&self, input: &[u8]) -> Vec<u8> {

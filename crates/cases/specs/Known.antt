@@ -27,6 +27,7 @@ use Rattle.decode.specs.Decoded.{Grounded}
 use Rattle.opening.specs.declared.Opened.{Opened}
 use Rattle.opening.specs.Read.{Holds, CaseRead}
 use Rattle.grounding.specs.declared.Sized.{Sized}
+pub use Rattle.counting.specs.Known.{case-refused, case-read}
 use Rattle.grounding.specs.Grounds.{GroundsTo, Tabled}
 use Rattle.runs.specs.declared.End.{End}
 use Rattle.checking.specs.Checks.{Ran, Runs}
@@ -39,28 +40,12 @@ pub record CaseIn (s : List ℕ) (o : Opened) (facts : ℕ → Bool) : Type 0 wh
   pub holds : Holds s case o facts
 
 module _ (question site : List ℕ) (o : Opened) (facts : ℕ → Bool) (read : CaseRead question (Outcome.readCase question site) o facts) where
-  pub case-refused : (o .fault ≡ 0 → ⊥) → Outcome.readCase question site ≡ refused (o .fault) (o .place)
-  unfolding CaseRead
-  case-refused z = go (Outcome.readCase question site) read
-    where
-      go : (x : Result Case) → CaseRead question x o facts → x ≡ refused (o .fault) (o .place)
-      go (refused k place) h = ap₂ refused (sym (h .number)) (sym (h .where-it-is))
-      go (accepted c) h = absurd (z (h .no-fault))
-
   module _ (z : o .fault ≡ 0) where
-    pub case-read : (c : Case) × (Outcome.readCase question site ≡ accepted c) × Holds question c o facts
-    unfolding CaseRead
-    case-read = go (Outcome.readCase question site) refl read
-      where
-        go : (x : Result Case) → Outcome.readCase question site ≡ x → CaseRead question x o facts → (c : Case) × (Outcome.readCase question site ≡ accepted c) × Holds question c o facts
-        go (refused k place) e h = absurd (omega (arith, h .some-fault))
-        go (accepted c) e h = (c, e, h)
-
     pub case-in : CaseIn question o facts
-    case-in = record { case = case-read .0; holds = case-read .2 }
+    case-in = let (c, e, h) = case-read question site o facts read z in record { case = c; holds = h }
 
-    pub case-accepted : Accepted (case-read .0)
-    case-accepted = gives-if Accepted (Outcome.readCase question site) (case-read .0) (case-read .1) (case-fits question site)
+    pub case-accepted : Accepted (case-read question site o facts read z .0)
+    case-accepted = let q = case-read question site o facts read z in gives-if Accepted (Outcome.readCase question site) (q .0) (q .1) (case-fits question site)
 
 -- the facts' words are those of the case's problem
 pub facts-held : (s : List ℕ) (c : Case) (o : Opened) (f : List ℕ) → Holds s c o (bit f) → FactsIn (problemOf c) f

@@ -7,3 +7,4 @@ pub mod Asked
 pub mod Known
 pub mod Order
 pub mod Replies
+pub mod Sizings

@@ -31,7 +31,7 @@ use Rattle.cases.specs.declared.Sizing.{Sizing}
 use Rattle.cases.specs.declared.Sizing.the-variants.{Sized, Refused as Unsized}
 use Rattle.cases.specs.declared.Reply.{Reply}
 use Rattle.cases.specs.declared.Reply.the-variants.{Accepted, Refused}
-use Rattle.cases.specs.Known.{case-refused, case-read, elements-are, case-over, grounds, tabled, words-are, room-short, room-there}
+use Rattle.cases.specs.Known.{case-refused, case-read, case-over, grounds, words-are, room-short, room-there}
 use Rattle.cases.specs.Order
 
 unfoldable pub resultOf : Reply → Result ℕ
@@ -138,29 +138,3 @@ module _ (t out : List ℕ) where
 unfoldable pub sizingOf : Sizing → Result Outcome.Sizes
 sizingOf (Sized s) = accepted (record { elements = s .elements; atomCount = s .atoms; actionCount = s .actions; stepBound = s .bound })
 sizingOf (Unsized k place) = refused k place
-
-sizes-value : (question site : List ℕ) (c : Case) (p : Problem) → Outcome.readCase question site ≡ accepted c → Outcome.ground c ≡ accepted p → Outcome.sizes question site ≡ accepted (Outcome.sizesOf p)
-unfolding Outcome.sizes Outcome.readProblem _>>=_
-sizes-value question site c p e e′ = rw (e, e′) refl
-
-counts-are : (n a b d : ℕ) (p : Problem) → n ≡ p .size → a ≡ atoms p → b ≡ actions p → d ≡ bound p → accepted (record { elements = n; atomCount = a; actionCount = b; stepBound = d }) ≡ accepted (Outcome.sizesOf p)
-unfolding Outcome.sizesOf
-counts-are n a b d p en ea eb ed = rw (en, ea, eb, ed) refl
-
-module _ (question site : List ℕ) (o : Opened) (facts : ℕ → Bool) (read : CaseRead question (Outcome.readCase question site) o facts) where
-  pub sizes-case : (o .fault ≡ 0 → ⊥) → sizingOf (Unsized (o .fault) (o .place)) ≡ Outcome.sizes question site
-  unfolding sizingOf Outcome.sizes Outcome.readProblem _>>=_
-  sizes-case z = rw (case-refused question site o facts read z) refl
-
-  module _ (z : o .fault ≡ 0) (m : Counted) (w : List ℕ) (g : (c : Case) → Holds question c o facts → GroundsTo (Outcome.ground c) m w) where
-    pub sizes-over : m .over ≡ true → sizingOf (Unsized 11 0) ≡ Outcome.sizes question site
-    unfolding sizingOf Outcome.sizes Outcome.readProblem _>>=_
-    sizes-over t = let (c, e, h) = case-read question site o facts read z in rw (e, case-over c m w (g c h) t) refl
-
-    pub sizes-are : m .over ≡ false → sizingOf (Sized (record { elements = o .n; atoms = m .atoms; actions = m .actions; bound = m .bound })) ≡ Outcome.sizes question site
-    unfolding sizingOf
-    sizes-are f =
-        let (c, e, h) = case-read question site o facts read z in
-        let k = tabled c m w (g c h) f in
-        counts-are (o .n) (m .atoms) (m .actions) (m .bound) (problemOf c) (elements-are question c o facts h) (k .atoms-are) (k .actions-are) (k .bound-is)
-        ∙ sym (sizes-value question site c (problemOf c) e (grounds c m w (g c h) f))

@@ -6,13 +6,16 @@ ghost use Prim.Native.Nat.{ℕ};
 ghost use lib.ListN.{length};
 ghost use Rattle.definitions.specs.Truth.{Case};
 ghost use Rattle.definitions.specs.Outcome.{readCase, asText, asNumbers, checkSteps, sizes as «sizes-of», action as «action-of»};
+ghost use Rattle.laws.specs.Walks.{within};
 ghost use Rattle.bits.specs.Table.{bit};
 ghost use Rattle.sheets.specs.Reading.{RoomFor};
 ghost use Rattle.opening.specs.Read.{Holds, CaseRead};
+ghost use Rattle.counting.specs.Counts.{tallyIn};
 ghost use Rattle.runs.specs.Ended.{ended};
 ghost use Rattle.cases.specs.Known.{CaseIn};
 ghost use Rattle.cases.specs.Replies.{resultOf, sizingOf, Checks, Checked};
 ghost use Rattle.cases.specs.Asked.{actionOf, found};
+use counting::Tallied;
 use opening::Opened;
 use runs::End;
 use sheets::Answer;
@@ -36,26 +39,30 @@ pub enum Sizing {
     Refused(u32, usize),
 }
 
-// The sizes of the numbered problem.
-pub fn sizes(question: &[u8], site: &[u8]) -> Sizing
-    ensures { λ r. ⌜ sizingOf r ≡ «sizes-of» (now (question .entry)) (now (site .entry)) ⌝ }
+// What was counted, unless it is more than the limits allow.
+fn limited(t: tally::Tally) -> Sizing
+    ensures { λ r. ⌜ sizingOf r ≡ within (tallyIn t) ⌝ }
 {
-    let mut facts = [0u64; 512];
-    let o = opening::read_case(question, site, &mut facts);
-    if o.fault != 0 {
-        return Sizing::Refused(o.fault, o.place);
-    }
-    let mut table = [0usize; ground::TABLE];
-    let m = grounding::ground_case(question, o, &mut table);
-    if m.over {
+    if layout::too_many(t.atoms, t.actions) {
         return Sizing::Refused(11, 0);
     }
     Sizing::Sized(Counts {
-        elements: o.n,
-        atoms: m.atoms,
-        actions: m.actions,
-        bound: m.bound,
+        elements: t.elements,
+        atoms: t.atoms,
+        actions: t.actions,
+        bound: t.bound,
     })
+}
+
+// The sizes of the numbered problem, by one walk of the tree.
+pub fn sizes(question: &[u8], site: &[u8]) -> Sizing
+    ensures { λ r. ⌜ sizingOf r ≡ «sizes-of» (now (question .entry)) (now (site .entry)) ⌝ }
+{
+    let a = counting::tally(question, site);
+    match a {
+        Tallied::Refused(k, place) => Sizing::Refused(k, place),
+        Tallied::Counted(t) => limited(t),
+    }
 }
 
 pub enum Asked {

@@ -10,9 +10,11 @@
 --   "The words of demand 3"        Demand, which says where each word is
 --   "Refusal sheet"                Refusal, which says where each number is tested; Outcome (what each call gives)
 --   "The desk program"             Desk
---   "Case drawer"                  Drawer; Cases has further ones
+--   "Case drawer"                  Drawer; Cases has further ones, Whole looks at all that a call leaves
 -- Document 02, "What customers want changed later":
+--   job 3, sizes in one pass       Tally; TallyCases has cases
 --   job 8, twenty tries            Tries; TriesDrawn has cases
+--   job 14, one card               Allowance; AllowanceCases has cases
 pub mod Limits
 pub mod Lists
 pub mod Text
@@ -30,9 +32,13 @@ pub mod Built
 pub mod Outcome
 pub mod Demand
 pub mod Desk
+pub mod Tally
 pub mod Tries
+pub mod Allowance
 pub mod Opened
 pub mod Drawer
 pub mod Cases
 pub mod Whole
+pub mod TallyCases
 pub mod TriesDrawn
+pub mod AllowanceCases

@@ -15,6 +15,8 @@ use Rattle.definitions.specs.Outcome
 use Rattle.definitions.specs.Demand
 use Rattle.definitions.specs.Desk
 use Rattle.definitions.specs.Tries
+use Rattle.definitions.specs.Tally
+use Rattle.definitions.specs.Allowance
 
 unfoldable pub everything : Unit {0}
 unfolding Lists.all Lists.any Lists.filter Lists.flatMap Lists.mapFrom Lists.option Lists.position Lists.from Lists.below Lists.last Lists.isIn Lists.rank Lists.upTo Lists.before Lists.greatest Lists.sum Lists.same Lists.isEmpty
@@ -33,4 +35,6 @@ unfolding Lists.all Lists.any Lists.filter Lists.flatMap Lists.mapFrom Lists.opt
     Demand.isAccepted Demand.caseIsAccepted Demand.stepsAreAccepted Demand.areSamePicks
     Desk.isRecord Desk.isRule Desk.isStep Desk.isPickOrStep Desk.afterRule Desk.firstPickOrStep Desk.siteAndRest Desk.afterQuestion Desk.cutAt Desk.sheets Desk.printLine Desk.sizesLine Desk.countLine Desk.pickLine Desk.stepLine Desk.report Desk.printed Desk.checkedPlan Desk.startsWithStep Desk.answerOf Desk.answer Desk.desk
     Tries.tryList Tries.tried Tries.readyToTry Tries.triedFrom Tries.tryLists
+    Tally.nothing Tally.thenWalk Tally.visit Tally.walk Tally.walked Tally.tallyOf Tally.tally
+    Allowance.mentions Allowance.allowance Allowance.allowancesOf Allowance.allowedFrom Allowance.allowances
 everything = tt

@@ -10,6 +10,7 @@
 --   Numbers            the numbers of atoms and of actions
 --   Words              states and picks as words
 --   Copies             a buffer copied element by element
+--   Walks              one walk of a tree: its visits and its counts
 pub mod Booleans
 pub mod Lists
 pub mod Results
@@ -22,3 +23,4 @@ pub mod Blocks
 pub mod Numbers
 pub mod Words
 pub mod Copies
+pub mod Walks

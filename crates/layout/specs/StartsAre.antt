@@ -103,17 +103,17 @@ module _ (p : Problem) (g : Relations) (t : Nodes) (is : Inputs p (p .size) g t)
   unfolding tuplesOf
   tuples-are r h = ap (λ (a : ℕ). p .size ^ a) (is .arity r h)
 
-  rel-are : (r : ℕ) → r ≤ g .count → relationSum (p .size) g r ≡ relationStart p r
+  pub rel-are : (r : ℕ) → r ≤ g .count → relationSum (p .size) g r ≡ relationStart p r
   unfolding relationSum
   rel-are zero h = sym (relation-first p)
   rel-are (suc r) h = ap₂ (λ (x y : ℕ). x + y) (rel-are r (omega arith)) (relation-width r h) ∙ sym (relation-next p r (omega (arith, is .count)))
 
-  set-are : (r : ℕ) → r ≤ g .count → setSum (p .size) g r ≡ setStart p r
+  pub set-are : (r : ℕ) → r ≤ g .count → setSum (p .size) g r ≡ setStart p r
   unfolding setSum
   set-are zero h = sym (set-first p)
   set-are (suc r) h = ap₂ (λ (x y : ℕ). x + y) (set-are r (omega arith)) (set-width r h) ∙ sym (set-next p r (omega (arith, is .count)))
 
-  pick-are : (r : ℕ) → r ≤ g .count → pickSum (p .size) g r ≡ sum (map (mostPicks (p .size)) (take r (p .relations)))
+  pub pick-are : (r : ℕ) → r ≤ g .count → pickSum (p .size) g r ≡ sum (map (mostPicks (p .size)) (take r (p .relations)))
   unfolding pickSum
   pick-are zero h = sym (sum-none (mostPicks (p .size)))
   pick-are (suc r) h = ap₂ (λ (x y : ℕ). x + y) (pick-are r (omega arith)) (pick-width r h) ∙ sym (sum-next (mostPicks (p .size)) r (p .relations) (omega (arith, is .count)))
@@ -129,7 +129,7 @@ module _ (p : Problem) (g : Relations) (t : Nodes) (is : Inputs p (p .size) g t)
   unfolding rowsOf
   rows-are v h = ap (λ (x : ℕ). p .size ^ x) (node-is v h .width)
 
-  node-width : (v : ℕ) → v < t .count → nodeWidth (p .size) (p .size ^ getD (t .rows) v noNode .width) (getD (t .rows) v noNode .kind) ≡ widthOf (p .size) (nodeAt p v)
+  pub node-width : (v : ℕ) → v < t .count → nodeWidth (p .size) (p .size ^ getD (t .rows) v noNode .width) (getD (t .rows) v noNode .kind) ≡ widthOf (p .size) (nodeAt p v)
   unfolding widthOf
   node-width v h = ap₂ (λ (T k : ℕ). nodeWidth (p .size) T k) (rows-are v h) (node-is v h .kind) ∙ node-width-is (p .size) (rowsOf (p .size) (nodeAt p v)) (nodeAt p v)
 
@@ -137,7 +137,7 @@ module _ (p : Problem) (g : Relations) (t : Nodes) (is : Inputs p (p .size) g t)
     pub in-parts : (v : ℕ) → getD (t .rows) v noNode .first + getD (t .rows) v noNode .many ≤ length (t .parts)
     in-parts v = omega (arith, fits .nodes .node v .parts, fits .parts .parts-length)
 
-    act-width : (v : ℕ) → v < t .count
+    pub act-width : (v : ℕ) → v < t .count
         → (p .size ^ getD (t .rows) v noNode .width) * choicesOf (p .size) (getD (t .rows) v noNode .kind) (getD (t .rows) v noNode .many) ≡ proofsOf (p .size) (p .range) (nodeAt p v)
     unfolding proofsOf
     act-width v h =

@@ -64,7 +64,7 @@ struct NodeStarts {
 }
 
 // How many atoms a relation with `size` tuples has.
-fn relation_width(n: usize, size: usize, kind: usize) -> usize
+pub fn relation_width(n: usize, size: usize, kind: usize) -> usize
     requires { ⌜ (n ≤ 64) × (size ≤ 64 ^ 4) ⌝ }
     ensures { λ r. ⌜ r ≡ relationWidth n size kind ⌝ }
 {
@@ -78,7 +78,7 @@ fn relation_width(n: usize, size: usize, kind: usize) -> usize
 }
 
 // How many set actions it has.
-fn set_width(size: usize, kind: usize) -> usize
+pub fn set_width(size: usize, kind: usize) -> usize
     ensures { λ r. ⌜ r ≡ setWidth size kind ⌝ }
 {
     if kind == 0 {
@@ -88,7 +88,7 @@ fn set_width(size: usize, kind: usize) -> usize
 }
 
 // How many picks of it there are at the most.
-fn most_width(n: usize, size: usize, kind: usize) -> usize
+pub fn most_width(n: usize, size: usize, kind: usize) -> usize
     ensures { λ r. ⌜ r ≡ mostWidth n size kind ⌝ }
 {
     if kind == 0 {
@@ -101,7 +101,7 @@ fn most_width(n: usize, size: usize, kind: usize) -> usize
 }
 
 // How many atoms a node has whose free variables have `rows` values.
-fn node_width(n: usize, rows: usize, kind: usize) -> usize
+pub fn node_width(n: usize, rows: usize, kind: usize) -> usize
     requires { ⌜ (n ≤ 64) × (rows ≤ 64 ^ 4) ⌝ }
     ensures { λ r. ⌜ r ≡ nodeWidth n rows kind ⌝ }
 {
@@ -112,7 +112,7 @@ fn node_width(n: usize, rows: usize, kind: usize) -> usize
 }
 
 // How many actions it has at each of these.
-fn choices(n: usize, kind: usize, many: usize) -> usize
+pub fn choices(n: usize, kind: usize, many: usize) -> usize
     ensures { λ r. ⌜ r ≡ choicesOf n kind many ⌝ }
 {
     if kind < 2 {
@@ -160,7 +160,7 @@ fn relation_starts(n: usize, g: Relations) -> RelationStarts
     }
 }
 
-fn wide(x: u8) -> usize
+pub fn wide(x: u8) -> usize
     ensures { λ r. ⌜ r ≡ x ⌝ }
 {
     x as usize
@@ -196,7 +196,7 @@ fn node_starts(n: usize, t: tree::Nodes, from: usize, first: usize) -> NodeStart
 }
 
 // There are more atoms or actions than the limits allow.
-fn too_many(atoms: usize, actions: usize) -> bool
+pub fn too_many(atoms: usize, actions: usize) -> bool
     ensures { λ r. ⌜ r ≡ (ltb atomLimit atoms || ltb actionLimit actions) ⌝ }
 {
     if ATOM_LIMIT < atoms {

@@ -8,6 +8,7 @@ ghost use Rattle.definitions.specs.Outcome.{asText, asNumbers, sizes as «sizes
 ghost use Rattle.cases.specs.Replies.{resultOf, sizingOf};
 ghost use Rattle.cases.specs.Asked.{actionOf};
 ghost use Rattle.nendokwe.specs.Told.{numberOf, placeOf, told, kindOf, subjectOf, rowIn, choiceOf, detailsOf};
+ghost use Rattle.definitions.specs.Allowance.{allowances as «allowances-of»};
 ghost use Rattle.definitions.specs.Tries.{tryLists};
 ghost use Rattle.tries.specs.Recorded.{records};
 use cases::Asked;
@@ -292,6 +293,23 @@ pub extern "C" fn nendokwe_build(
     ensures { λ _. ⌜ now (steps .exit) ≡ buildSteps (now (question .entry)) (now (site .entry)) (asNumbers (now (picks .entry))) (now (state .entry)) (now (steps .entry)) .steps ⌝ }
 {
     let r = building::build_lent(question, site, picks, state, steps);
+    tell(r, number, place);
+}
+
+// How far one pick more or less of each chosen relation can move the number of built steps: one number for each `choose`.
+#[no_mangle]
+pub extern "C" fn nendokwe_allowances(
+    question: &[u8],
+    site: &[u8],
+    allowances: &mut [u64],
+    number: &mut u32,
+    place: &mut usize,
+)
+    ensures { λ _. ⌜ now (number .exit) ≡ replyNumber («allowances-of» (now (question .entry)) (now (site .entry)) (now (allowances .entry)) .answer) ⌝ }
+    ensures { λ _. ⌜ now (place .exit) ≡ replyPlace («allowances-of» (now (question .entry)) (now (site .entry)) (now (allowances .entry)) .answer) ⌝ }
+    ensures { λ _. ⌜ now (allowances .exit) ≡ «allowances-of» (now (question .entry)) (now (site .entry)) (now (allowances .entry)) .allowances ⌝ }
+{
+    let r = allowances::allowances(question, site, allowances);
     tell(r, number, place);
 }
 

@@ -13,18 +13,20 @@
 --    9  sizes-refuse, action-refuse, check-refuse, read-refuse, build-refuse; check-length, read-length, build-length
 --   10  desk-records
 --   11  trying, tries-alone, tries-outside, tries-accepts, tries-place; tries-refuse, tries-length
+--   12  one-pick, one-pick-built, allowances-are, allowances-refuse, allowances-length
+--   13  visited-are, visited-once, tallied, sizes-tallied
 use Prim.Native.Nat.{ℕ, zero, _+_, _*_, _^_, _<_, _≤_}
 use mathlib.Core.Path.{_≡_, refl, sym, ap, subst, subst₂, _∙_}
 use mathlib.Core.Logic.{_⊎_, ⊎-elim, _↔_}
-use mathlib.Core.Bool.{Bool, true, false, not, _&&_}
+use mathlib.Core.Bool.{Bool, true, false, not, _&&_, _||_}
 use mathlib.Core.Option.{none, some}
 use mathlib.Core.List.{List, [], _∷_, _++_, map, List·Memᴰ}
 use native.Mathlib.Omega.{arith}
 use lib.Dec.{ltb}
 use lib.ListN.{length, getD, take, drop, length-append}
 use borrow.Author.Tests.{le-ltb}
-use Rattle.definitions.specs.Limits.{stepLimit, textLimit}
-use Rattle.definitions.specs.Lists.{if_then_else_, flatMap}
+use Rattle.definitions.specs.Limits.{stepLimit, textLimit, atomLimit, actionLimit}
+use Rattle.definitions.specs.Lists.{if_then_else_, flatMap, below}
 use Rattle.definitions.specs.Text.{number, decimal}
 use Rattle.definitions.specs.Desk.{stepLine, pickLine, sheets, answer}
 use Rattle.definitions.specs.Refusal.{Result, refused, accepted, _>>=_, refuseIf}
@@ -35,11 +37,15 @@ use Rattle.definitions.specs.Atoms.{Problem, problemOf, Atom, itemAt, atomBlock
 use Rattle.definitions.specs.Actions.{Action, set, actionAt, actions, actionNumber, needs, adds, removes}
 use Rattle.definitions.specs.Strips.{reachesGoal, run, picksOf}
 use Rattle.definitions.specs.Built.{chosenNumbers, builtSteps, builtCount, bound, boundExponents, boundPolynomial, pickedRows}
-use Rattle.definitions.specs.Outcome.{replyNumber, replyPlace, sizes, action, readCase, ground, readProblem, roomFor, stateLength, written, picksLength, pickWords, bitOf, lentPicks, spareWord, Given, asText, asNumbers, takeSteps, textPicks, picksRoom, takePicks, readyToRun, Checked, checkedFrom, checkSteps, picksIfAccepted, picksReadFrom, picksFromSteps, kindRefusal, Plan, plan, Built, builtFrom, buildSteps, Ready, PicksRead}
+use Rattle.definitions.specs.Outcome.{replyNumber, replyPlace, sizes, action, readCase, ground, readProblem, roomFor, stateLength, written, picksLength, pickWords, bitOf, lentPicks, spareWord, Given, asText, asNumbers, takeSteps, textPicks, picksRoom, takePicks, readyToRun, Checked, checkedFrom, checkSteps, picksIfAccepted, picksReadFrom, picksFromSteps, kindRefusal, Plan, plan, Built, builtFrom, buildSteps, Ready, PicksRead, sizesOf}
+use Rattle.definitions.specs.Tree.{Part, nodes, treeOf}
+use Rattle.definitions.specs.Tally.{walked, tally}
+use Rattle.definitions.specs.Allowance.{allowance, allowancesOf, allowedFrom, allowances}
 use Rattle.definitions.specs.Demand.{isAccepted, caseIsAccepted, stepsAreAccepted, areSamePicks}
 use Rattle.definitions.specs.Tries.{Try, Tried, tried, tryLists}
 use Rattle.laws.specs.Numbers
 use Rattle.laws.specs.Words
+use Rattle.laws.specs.Walks
 use Rattle.laws.specs.Members.{ascending-once}
 use Rattle.laws.specs.Booleans.{T-of}
 use Rattle.laws.specs.Results.{accepted-eq, accepted-is, bind-parts, is-accepted}
@@ -66,6 +72,7 @@ use Rattle.reduction.specs.Decimals
 use Rattle.reduction.specs.Told
 use Rattle.reduction.specs.Written
 use Rattle.reduction.specs.Trying
+use Rattle.reduction.specs.OnePick
 
 -- A question and a site are accepted exactly if a case is read from them and its problem is within the limits.
 pub accepted-case : (question site : List ℕ) → (caseIsAccepted question site ≡ true) ↔ ((c : Case) × (p : Problem) × (readCase question site ≡ accepted c) × (readProblem question site ≡ accepted p))
@@ -388,6 +395,38 @@ module _ (question site : List ℕ) (c : Case) (p : Problem) (is-case : readCase
   unfolding tried
   tries-place steps t e = Trying.place-is p steps (t .first) (t .len) e
 
+  -- ---- 12, document 02, job 14. Of picks P and Q, of the declared kinds, where Q has the tuples of P and one more: the numbers of the
+  -- steps built from them differ by at most the allowance of that tuple's relation.
+  pub one-pick : (P Q : List Tuple) (more : Tuple) → arePicks c P ≡ true → areOfKinds c P ≡ true → arePicks c Q ≡ true → areOfKinds c Q ≡ true → isAmong more P ≡ false → areSamePicks Q (more ∷ P) ≡ true
+      → (length (builtSteps p Q) ≤ length (builtSteps p P) + allowance p (more .relation)) × (length (builtSteps p P) ≤ length (builtSteps p Q) + allowance p (more .relation))
+  one-pick P Q more a k b l new is =
+      let (f, g) = OnePick.count-moves-both p c P Q more a b new is in
+      let m = counts P a k .0 in
+      let n = counts Q b l .0 in
+      (omega (arith, f), omega (arith, g))
+
+  -- So whenever the building call builds steps before and after such a pick is added, or before and after it is dropped, its two
+  -- counts differ by at most that.
+  pub one-pick-built : (before after : Given) (state₁ steps₁ state₂ steps₂ : List ℕ) (m n : ℕ) (P Q : List Tuple) (more : Tuple)
+      → buildSteps question site before state₁ steps₁ .answer ≡ accepted m → buildSteps question site after state₂ steps₂ .answer ≡ accepted n
+      → taken before ≡ accepted P → taken after ≡ accepted Q → isAmong more P ≡ false → areSamePicks Q (more ∷ P) ≡ true
+      → (n ≤ m + allowance p (more .relation)) × (m ≤ n + allowance p (more .relation))
+  one-pick-built before after state₁ steps₁ state₂ steps₂ m n P Q more em en tP tQ new is =
+      let (P′, t, a, k, x, i, y) = whenever-built before state₁ steps₁ m em in
+      let (Q′, u, b, l, z, j, w) = whenever-built after state₂ steps₂ n en in
+      let eP : P′ ≡ P = accepted-eq P′ P (sym t ∙ tP) in
+      let eQ : Q′ ≡ Q = accepted-eq Q′ Q (sym u ∙ tQ) in
+      let (f, g) = one-pick P Q more (subst (λ (F : List Tuple). arePicks c F ≡ true) eP a) (subst (λ (F : List Tuple). areOfKinds c F ≡ true) eP k)
+      (subst (λ (F : List Tuple). arePicks c F ≡ true) eQ b) (subst (λ (F : List Tuple). areOfKinds c F ≡ true) eQ l) new is in
+      let r : m ≡ length (builtSteps p P) = i ∙ ap (λ (F : List Tuple). length (builtSteps p F)) eP in
+      let s : n ≡ length (builtSteps p Q) = j ∙ ap (λ (F : List Tuple). length (builtSteps p F)) eQ in
+      (omega (arith, f), omega (arith, g))
+
+  -- The call that tells them writes the allowance of every `choose`, in order, at the front of its buffer.
+  pub allowances-are : (old : List ℕ) → length (chosenNumbers p) ≤ length old → allowances question site old ≡ record { answer = accepted 0; allowances = written (map (allowance p) (chosenNumbers p)) old }
+  unfolding allowances allowedFrom allowancesOf roomFor refuseIf _>>=_
+  allowances-are old h = let e : ltb (length old) (length (chosenNumbers p)) ≡ false = le-ltb (length old) (length (chosenNumbers p)) h in rw (is-problem, e) refl
+
 -- ---- A text is read as a number exactly if it is what is written for it and has at most 7 digits; and as steps exactly if it is what
 -- the desk program writes for them. So every step list within the limits has a text, and one text only.
 pub number-texts : (text : List ℕ) (n : ℕ) → (number text ≡ some n) ↔ ((text ≡ decimal n) × (n < 10 ^ 7))
@@ -439,8 +478,33 @@ module _ (question site : List ℕ) where
   pub tries-length : (steps : List ℕ) (tries : List Try) (state : List ℕ) → (length (tryLists question site steps tries state .tries) ≡ length tries) × (length (tryLists question site steps tries state .state) ≡ length state)
   tries-length steps tries state = Trying.tries-length question site steps tries state
 
+  -- Allowances: 1 to 12, which all leave the buffer as it was.
+  pub allowances-refuse : (old : List ℕ) (k place : ℕ) → allowances question site old .answer ≡ refused k place → (1 ≤ k) × (k ≤ 12) × (allowances question site old .allowances ≡ old)
+  allowances-refuse old k place e = OnePick.allowances-refuse question site old k place e
+
+  pub allowances-length : (old : List ℕ) → length (allowances question site old .allowances) ≡ length old
+  allowances-length old = OnePick.allowances-length question site old
+
 -- ---- 10, the desk program: unless it refuses, what it prints (`Desk.report`) are the two records of one case: picks of the declared
 -- kinds of which the rule is true, and steps that reach the goal and are read as the same tuples.
 pub desk-records : (input : List ℕ) (b : Plan) → answer input ≡ accepted b
     → (c : Case) × (readCase (sheets input .question) (sheets input .site) ≡ accepted c) × (ground c ≡ accepted (b .problem)) × (arePicks c (b .picks) ≡ true) × (areOfKinds c (b .picks) ≡ true) × (ruleIsTrue c (b .picks) ≡ true) × (reachesGoal (b .problem) (b .steps) ≡ true) × (areSamePicks (picksOf (b .problem) (b .steps)) (b .picks) ≡ true)
 desk-records input b e = let (c, rc, rg, h) = Filed.desk-filed input b e in let (a, k, r, g, s) = h in (c, rc, rg, a, k, r, g, s)
+
+-- ---- 13, document 02, job 3: for every case that is read, be it over the limits of 11 or not, one walk of its tree visits its nodes,
+-- each once and in preorder, and what it counts are the numbers of nodes, atoms and actions, and the bound.
+module _ (question site : List ℕ) (c : Case) (is-case : readCase question site ≡ accepted c) where
+  pub visited-are : map (λ (q : Part). q .tree) (walked (problemOf c) .visited) ≡ nodes (treeOf (c .question))
+  visited-are = Walks.visited-are c
+
+  pub visited-once : map (λ (q : Part). q .node) (walked (problemOf c) .visited) ≡ below (length (nodes (treeOf (c .question))))
+  visited-once = Walks.visited-once c
+
+  pub tallied : tally question site ≡ accepted (record { nodeCount = length (nodes (treeOf (c .question))); sizes = sizesOf (problemOf c) })
+  unfolding tally _>>=_
+  tallied = rw is-case (ap accepted (Walks.tally-is c))
+
+-- The sizes call answers those counts, or 11 where there are more atoms or actions than the limits allow.
+pub sizes-tallied : (question site : List ℕ)
+    → sizes question site ≡ (tally question site >>= λ t. refuseIf (ltb atomLimit (t .sizes .atomCount) || ltb actionLimit (t .sizes .actionCount)) 11 0 >>= λ _. accepted (t .sizes))
+sizes-tallied question site = Walks.sizes-tally question site

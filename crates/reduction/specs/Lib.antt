@@ -31,6 +31,7 @@
 --   Buffers      what is left in lent buffers
 --   Filed        what the desk program prints
 --   Trying       many step lists of one case, each as if checked alone
+--   OnePick      one pick more or less: how far the built steps move
 pub mod Demands
 pub mod BothSides
 pub mod Instance
@@ -63,3 +64,4 @@ pub mod Refusals
 pub mod Buffers
 pub mod Filed
 pub mod Trying
+pub mod OnePick

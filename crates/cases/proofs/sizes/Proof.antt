@@ -1,38 +1,28 @@
--- `cases::sizes` meets its contract: the case is refused, it is over the limits, or its counts are the problem's. Assumes nothing.
-use native.Mathlib.Omega.{arith}
-use Rattle.sheets.proofs.Loops.{zeros-clear}
-use Rattle.layout.specs.LaidLaws.{most-zeros}
-use Rattle.ground.specs.Lines.{tableLength}
-use Rattle.cases.specs.Known.{case-read}
-use Rattle.cases.specs.Replies.{sizingOf, sizes-case, sizes-over, sizes-are}
+-- `cases::sizes` meets its contract: the tally's refusal, or what is within the limits. Assumes nothing.
+use Rattle.cases.specs.Sizings.{sizes-refused, sizes-counted}
 use borrow.Author.Needs.{needs}
 use Rattle.cases.proofs.sizes.Statement.{statement}
 use Rattle.cases.proofs.sizes.Tie as tie
 
-read-case-requires : tie.Need-read-case-requires
-read-case-requires c κs = (omega arith, zeros-clear 512)
+tally-requires : tie.Need-tally-requires
+tally-requires c κs = search needs
+
+enum-known-a : tie.Need-enum-known-a
+enum-known-a c = search needs
+
+enum-known-a-2 : tie.Need-enum-known-a-2
+enum-known-a-2 c = search needs
+
+limited-requires : tie.Need-limited-requires
+limited-requires c κs = search needs
 
 returns : tie.Need-returns
-returns c = sizes-case _ _ _ _ (c .before .before .before .read-case .ensures) (c .if1 .taken)
-
-ground-case-requires : tie.Need-ground-case-requires
-ground-case-requires c κs = ((search needs, most-zeros tableLength 0), record { case = case-read _ _ _ _ (c .before .before .before .before .read-case .ensures) (c .before .if1 .left) .0; facts = _; holds = case-read _ _ _ _ (c .before .before .before .before .read-case .ensures) (c .before .if1 .left) .2 })
+returns c = sizes-refused _ _ _ (c .before .before .before .tally .ensures) _ _ (c .before .a .given .1)
 
 returns-2 : tie.Need-returns-2
-returns-2 c = sizes-over _ _ _ _ (c .before .before .before .before .before .before .before .read-case .ensures) (c .before .before .before .before .if1 .left) _ _ (λ x h. c .before .before .ground-case .ensures x _ h) (c .if2 .taken)
-
-returns-3 : tie.Need-returns-3
-unfolding sizingOf
-returns-3 c = sizes-are _ _ _ _ (c .before .before .before .before .before .before .before .read-case .ensures) (c .before .before .before .before .if1 .left) _ _ (λ x h. c .before .before .ground-case .ensures x _ h) (c .if2 .left)
+returns-2 c = sizes-counted _ _ _ (c .before .before .before .before .tally .ensures) _ (c .before .before .a2 .given .1) _ (c .limited .ensures)
 
 pub sizes-spec : {M : Type 1} → statement M
 sizes-spec =
     tie.close
-    (tie.spec
-    (λ c. search needs)
-    read-case-requires
-    returns
-    (λ c. search needs)
-    ground-case-requires
-    returns-2
-    returns-3)
+    (tie.spec tally-requires enum-known-a enum-known-a-2 limited-requires returns returns-2)

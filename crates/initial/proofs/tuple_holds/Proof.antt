@@ -16,8 +16,9 @@ built-in-holds-requires c κs =
 
 returns : tie.Need-returns
 returns c =
-    let start = c .before .before .before in
-    c .built-in-holds .ensures ∙ ap₂ (λ (x y : ℕ). builtInHolds (start .args .n) (start .args .r) x y) (pair-high _ _ _ (start .pre .0)) (pair-low _ _ _ (start .pre .0)) ∙ is-pair (start .args .facts .now) (start .args .n) (start .args .r) (start .args .kind) (start .args .first) (start .args .row) (omega arith)
+    let a = c .before .before .before .args in
+    let p = c .before .before .before .pre .0 in
+    c .built-in-holds .ensures ∙ ap₂ (λ (x y : ℕ). builtInHolds (a .n) (a .r) x y) (pair-high _ _ _ p) (pair-low _ _ _ p) ∙ is-pair (a .facts .now) (a .n) (a .r) (a .kind) (a .first) (a .row) (omega arith)
 
 returns-2 : tie.Need-returns-2
 returns-2 c =

@@ -60,12 +60,21 @@ loop-less c =
     let f = front (c .before) (l .loop .inv .0) in
     omega (arith, f .within, f .place, list-in _ _ _ (l .loop .inv .0))
 
+-- the list after a space
+next : (c : tie.Else1 Inv-loop μ-loop) (w : ListReady (c .before .before .before .before .before .args .s .now) (c .before .before .before .loop .i) (c .before .before .before .loop .inner))
+    → Next _ _ _ w _ (front (c .before) w) (with-one (c .before))
+next c w = list-next _ _ _ w _ (front (c .before) w) (with-one (c .before)) refl (c .if1 .left)
+
 loop-again : tie.Need-loop-again Inv-loop μ-loop
 loop-again c =
     let l = c .before .before .before in
-    let s = l .before .before .args .s .now in
-    let e = c .before .before .run .result in
-    (list-next s (l .loop .i) (l .loop .inner) (l .loop .inv .0) e (front (c .before) (l .loop .inv .0)) (with-one (c .before)) refl (c .if1 .left) .ready, length-set (l .loop .inner .from) (l .loop .inner .n) (l .loop .i) ∙ l .loop .inv .1, length-set (l .loop .inner .to) (l .loop .inner .n) e ∙ l .loop .inv .2, λ r h. l .loop .inv .3 r (λ w. let n = list-next s (l .loop .i) (l .loop .inner) w e (front (c .before) w) (with-one (c .before)) refl (c .if1 .left) in bind-more s (l .loop .i) (l .loop .inner) w e (front (c .before) w) (l .loop .inv .1) (l .loop .inv .2) n r (h (n .ready))))
+    let sc = l .loop .inner in
+    let e = c .before .before .run .result in (
+      next c (l .loop .inv .0) .ready,
+      length-set (sc .from) (sc .n) (l .loop .i) ∙ l .loop .inv .1,
+      length-set (sc .to) (sc .n) e ∙ l .loop .inv .2,
+      λ r h. l .loop .inv .3 r (λ w. bind-more _ _ _ w e (front (c .before) w) (l .loop .inv .1) (l .loop .inv .2) (next c w) r (h (next c w .ready))),
+    )
 
 pub bind-spec : {M : Type 1} → statement M
 bind-spec =

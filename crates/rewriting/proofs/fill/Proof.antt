@@ -35,18 +35,33 @@ shared-slice-read-if1 c = vars-in _ _ _ _ (c .before .loop .inv .0)
 
 -- the variable after a space
 module _ (c : tie.Then1 Inv-loop μ-loop) where
-  one : (e : ℕ) → e ≡ (c .before .before .loop .i + 2) + span true (drop (c .before .before .loop .i + 2) (c .before .before .before .before .args .s .now)) → More (c .before .before .before .before .args .s .now) (c .before .before .loop .i) (c .before .before .before .before .args .sc) (c .before .before .loop .full .width) (c .before .before .loop .inv .0 .vs) e
-  one e q = vars-more (c .before .before .before .before .args .s .now) (c .before .before .loop .i) (c .before .before .before .before .args .sc) (c .before .before .loop .full .width) (c .before .before .loop .inv .0) e (c .if1 .taken) q
+  abbrev text : List ℕ
+  text = c .before .before .before .before .args .s .now
+
+  abbrev place : ℕ
+  place = c .before .before .loop .i
+
+  abbrev scope : Scope
+  scope = c .before .before .before .before .args .sc
+
+  abbrev row : Row
+  row = c .before .before .loop .full
+
+  one : (w : VarsReady text place scope (row .width)) (e : ℕ) → e ≡ (place + 2) + span true (drop (place + 2) text) → More text place scope (row .width) (w .vs) e
+  one w e q = vars-more text place scope (row .width) w e (c .if1 .taken) q
+
+  first : (e : ℕ) → e ≡ (place + 2) + span true (drop (place + 2) text) → More text place scope (row .width) (c .before .before .loop .inv .0 .vs) e
+  first e q = one (c .before .before .loop .inv .0) e q
 
 add-run : tie.Need-add-run Inv-loop μ-loop
-add-run c = omega (arith, one c _ refl .within, c .before .before .before .before .good .0 .0)
+add-run c = omega (arith, first c _ refl .within, c .before .before .before .before .good .0 .0)
 
 run-requires : tie.Need-run-requires Inv-loop μ-loop
-run-requires c κs = omega (arith, one c _ refl .within)
+run-requires c κs = omega (arith, first c _ refl .within)
 
 add-level : tie.Need-add-level Inv-loop μ-loop
 add-level c =
-    let m = one (c .before) (c .run .result) (c .run .ensures) in
+    let m = first (c .before) (c .run .result) (c .run .ensures) in
     omega (arith, m .within, m .place, c .before .before .before .before .before .good .0 .0)
 
 level-requires : tie.Need-level-requires Inv-loop μ-loop
@@ -54,7 +69,7 @@ level-requires c κs = c .before .before .before .loop .inv .0 .small
 
 element-write-full : tie.Need-element-write-full Inv-loop μ-loop
 element-write-full c =
-    let m = one (c .before .before .before) (c .before .before .run .result) (c .before .before .run .ensures) in
+    let m = first (c .before .before .before) (c .before .before .run .result) (c .before .before .run .ensures) in
     omega (arith, c .wide .ensures, c .before .before .before .before .before .loop .inv .0 .fits, ap length (m .is))
 
 add-full : tie.Need-add-full Inv-loop μ-loop
@@ -62,15 +77,20 @@ add-full c = omega (arith, c .before .before .before .before .before .loop .inv 
 
 loop-less : tie.Need-loop-less Inv-loop μ-loop
 loop-less c =
-    let m = one (c .before .before .before) (c .before .before .run .result) (c .before .before .run .ensures) in
+    let m = first (c .before .before .before) (c .before .before .run .result) (c .before .before .run .ensures) in
     omega (arith, m .within, m .place)
 
 loop-again : tie.Need-loop-again Inv-loop μ-loop
 loop-again c =
-    let l = c .before .before .before .before .before in
-    let a = l .before .before .args in
+    let t = c .before .before .before in
     let e = c .before .before .run in
-    (one (c .before .before .before) (e .result) (e .ensures) .next, λ r h. l .loop .inv .1 r (λ p k ls w q. let m = vars-more (a .s .now) (l .loop .i) (a .sc) (l .loop .full .width) w (e .result) (c .before .before .before .if1 .taken) (e .ensures) in fill-more (a .s .now) (l .loop .i) (a .sc) (l .loop .full .width) (l .loop .full) (c .wide .result) (c .before .level .result) (e .result) r w m refl (c .wide .ensures) (c .before .level .ensures) p k ls q (λ z. h p k (ls ++ (c .before .level .result ∷ [])) (m .next) z)))
+    let l = c .before .level in (
+      first t (e .result) (e .ensures) .next,
+      λ r h. t .before .before .loop .inv .1 r (λ p k ls w q.
+          let m = one t w (e .result) (e .ensures) in
+          fill-more (text t) (place t) (scope t) (row t .width) (row t) (c .wide .result) (l .result) (e .result) r w m refl
+          (c .wide .ensures) (l .ensures) p k ls q (λ z. h p k (ls ++ (l .result ∷ [])) (m .next) z)),
+    )
 
 returns : tie.Need-returns Inv-loop μ-loop
 returns c =

@@ -1,0 +1,70 @@
+-- `allowances::of_case` meets its contract: 11, 12, or one number for each `choose`. Assumes nothing.
+use Prim.Native.Nat.{ℕ, _+_}
+use mathlib.Core.Path.{refl, sym, ap, _∙_}
+use mathlib.Core.List.{map}
+use native.Mathlib.Omega.{arith}
+use lib.Seq.{length-take-le}
+use Rattle.definitions.specs.Lists.{from}
+use Rattle.definitions.specs.Atoms.{problemOf}
+use Rattle.definitions.specs.Allowance.{allowance}
+use Rattle.reduction.specs.Grounded.{good}
+use Rattle.grounding.specs.Grounds.{declared, rule-fine, inputs}
+use Rattle.allowances.specs.Allows.{allows-over, allows-short, allows-written}
+use borrow.Author.Needs.{needs}
+use Rattle.allowances.proofs.of_case.Statement.{statement}
+use Rattle.allowances.proofs.of_case.Tie as tie
+
+relations-of-requires : tie.Need-relations-of-requires
+relations-of-requires c κs = declared _ _ _ _ (c .before .before .before .before .pre .holds)
+
+nodes-of-requires : tie.Need-nodes-of-requires
+nodes-of-requires c κs = rule-fine _ _ _ _ (c .before .before .before .before .before .pre .holds)
+
+returns : tie.Need-returns
+returns c = λ x facts A h.
+    let i = inputs _ _ x facts h _ _ (c .before .before .before .before .relations-of .ensures .1) (c .before .before .before .nodes-of .ensures) in
+    allows-over x _ _ (c .before .before .of-tables .ensures (problemOf x) i) (sym (c .if1 .taken) ∙ c .before .too-many .ensures)
+
+returns-2 : tie.Need-returns-2
+returns-2 c = λ x facts A h.
+    let i = inputs _ _ x facts h _ _ (c .before .before .before .before .before .relations-of .ensures .1) (c .before .before .before .before .nodes-of .ensures) in
+    allows-short x _ _ (c .before .before .before .of-tables .ensures (problemOf x) i) (sym (c .before .if1 .left) ∙ c .before .before .too-many .ensures) _ A _ facts h (c .if2 .taken)
+
+add-write : tie.Need-add-write
+add-write c = omega (arith, c .before .before .before .before .before .before .before .before .before .before .before .pre .holds .sound .rels-le)
+
+slice-aggregate-write : tie.Need-slice-aggregate-write
+slice-aggregate-write c = sym (length-take-le _ _ (omega arith))
+
+write-requires : tie.Need-write-requires
+write-requires c κs =
+    let s = c .before .before .before .before .before .before .before .before .before .before .before .before in
+    let l = length-take-le (s .args .o .sig .chosen) (s .args .out .now) (omega arith) in
+    (s .pre .holds .some-elements, omega (arith, s .pre .holds .few-elements), c .before .before .before .before .before .before .nodes-of .ensures .fits, omega (arith, l, s .pre .holds .sound .rels-le, s .pre .holds .sound .chosen-le))
+
+returns-3 : tie.Need-returns-3
+returns-3 c = λ x facts A h.
+    let s = c .before .before .before .before .before .before .before .before .before .before .before .before .before .before .before in
+    let i = inputs _ _ x facts h _ _ (c .before .before .before .before .before .before .before .before .before .before .relations-of .ensures .1) (c .before .before .before .before .before .before .before .before .before .nodes-of .ensures) in
+    let l = length-take-le (s .args .o .sig .chosen) (s .args .out .now) (omega arith) in
+    allows-written x _ _ (c .before .before .before .before .before .before .before .before .of-tables .ensures (problemOf x) i)
+    (sym (c .before .before .before .before .before .before .if1 .left) ∙ c .before .before .before .before .before .before .before .too-many .ensures) _ A _ facts h (omega arith) _ _
+    (c .before .before .write .ensures (problemOf x) _ (good x A) i
+    ∙ ap (λ (k : ℕ). map (allowance (problemOf x)) (from (5 + s .args .o .sig .rels) k)) l) refl
+
+pub of-case-spec : {M : Type 1} → statement M
+of-case-spec =
+    tie.close
+    (tie.spec
+    relations-of-requires
+    nodes-of-requires
+    (λ c κs. search needs)
+    (λ c κs. search needs)
+    returns
+    returns-2
+    add-write
+    (λ c. search needs)
+    slice-aggregate-write
+    write-requires
+    (λ c. search needs)
+    returns-3)

@@ -1,0 +1,69 @@
+// A public call: for each chosen relation, how far one pick more or less of it can move the number of built steps.
+ghost use mathlib.Core.Path.{_≡_};
+ghost use mathlib.Core.Bool.{Bool};
+ghost use mathlib.Core.List.{map};
+ghost use Prim.Native.Nat.{ℕ, _+_, _^_, _<_, _≤_};
+ghost use lib.ListN.{length};
+ghost use Rattle.definitions.specs.Lists.{from};
+ghost use Rattle.definitions.specs.Truth.{Case};
+ghost use Rattle.definitions.specs.Atoms.{Problem};
+ghost use Rattle.definitions.specs.Allowance.{allowance, allowances as «allowances-of»};
+ghost use Rattle.reduction.specs.Reader.{Accepted as «Accepted-case»};
+ghost use Rattle.reduction.specs.Means.{Good};
+ghost use Rattle.tree.specs.Tables.{Fits};
+ghost use Rattle.layout.specs.declared.Relations.{Relations};
+ghost use Rattle.layout.specs.Laid.{Inputs};
+ghost use Rattle.opening.specs.Read.{Holds};
+ghost use Rattle.grounding.specs.Grounds.{Read};
+ghost use Rattle.cases.specs.Replies.{resultOf};
+ghost use Rattle.allowances.specs.Allows.{Allows};
+use cases::Reply;
+use opening::Opened;
+
+// The allowances of the relations from number `first` on, one into each word.
+fn write(n: usize, t: tree::Nodes, first: usize, out: &mut [u64])
+    requires { ⌜ (0 < n) × (n ≤ 64) × Fits t × (first + length (now out) < 2 ^ 32) ⌝ }
+    ensures { λ r. ⌜ ((p : Problem) (g : Relations) → Good p → Inputs p n g t → now (out .exit) ≡ map (allowance p) (from first (length (now (out .entry))))) ⌝ }
+{
+    let mut k: usize = 0;
+    while k < out.len() {
+        let x = mentions::allowance(n, t, first + k);
+        out[k] = x as u64;
+        k += 1;
+    }
+}
+
+// Of a case that was read: 11, 12, then the numbers.
+fn of_case(question: &[u8], o: Opened, out: &mut [u64]) -> Reply
+    requires { ⌜ Read (now question) o ⌝ }
+    ensures { λ r. ⌜ ((c : Case) (facts : ℕ → Bool) → «Accepted-case» c → Holds (now (question .entry)) c o facts → Allows c (now (out .entry)) r (now (out .exit))) ⌝ }
+{
+    let sig = o.sig;
+    let rule = o.rule;
+    let n = o.n;
+    let g = relations::relations_of(sig);
+    let t = rewriting::nodes_of(question, rule.from, rule.to, sig);
+    let m = tally::of_tables(n, g, t);
+    if layout::too_many(m.atoms, m.actions) {
+        return Reply::Refused(11, 0);
+    }
+    let count = sig.chosen;
+    if out.len() < count {
+        return Reply::Refused(12, count);
+    }
+    write(n, t, 5 + sig.rels, &mut out[..count]);
+    Reply::Accepted(0)
+}
+
+// One number for each `choose`, in order, at the front of the lent buffer.
+pub fn allowances(question: &[u8], site: &[u8], out: &mut [u64]) -> Reply
+    ensures answer { λ r. ⌜ resultOf r ≡ «allowances-of» (now (question .entry)) (now (site .entry)) (now (out .entry)) .answer ⌝ }
+    ensures left { λ r. ⌜ now (out .exit) ≡ «allowances-of» (now (question .entry)) (now (site .entry)) (now (out .entry)) .allowances ⌝ }
+{
+    let mut facts = [0u64; 512];
+    let o = opening::read_case(question, site, &mut facts);
+    if o.fault != 0 {
+        return Reply::Refused(o.fault, o.place);
+    }
+    of_case(question, o, out)
+}

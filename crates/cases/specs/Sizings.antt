@@ -1,0 +1,37 @@
+-- The sizes by the tally: what is answered within the limits and over them, and from what was counted.
+use Prim.Native.Nat.{ℕ}
+use mathlib.Core.Path.{_≡_, refl, sym, ap, _∙_}
+use mathlib.Core.Bool.{true, false, _||_}
+use mathlib.Core.List.{List}
+use lib.Dec.{ltb}
+use Rattle.definitions.specs.Limits.{atomLimit, actionLimit}
+use Rattle.definitions.specs.Refusal.{Result, _>>=_, refuseIf}
+use Rattle.definitions.specs.Tally.{tally, Tally as Tallies}
+use Rattle.definitions.specs.Outcome
+use Rattle.laws.specs.Walks.{within, sizes-tally}
+use Rattle.tally.specs.declared.Tally.{Tally}
+use Rattle.counting.specs.declared.Tallied.{Tallied}
+use Rattle.counting.specs.declared.Tallied.the-variants.{Counted as HasTally, Refused as Untallied}
+use Rattle.counting.specs.Counts.{tallyIn, talliedOf}
+use Rattle.cases.specs.declared.Sizing.{Sizing}
+use Rattle.cases.specs.declared.Sizing.the-variants.{Sized, Refused as Unsized}
+use Rattle.cases.specs.Replies.{sizingOf}
+
+module _ (t : Tally) where
+  pub sizes-over : true ≡ (ltb atomLimit (t .atoms) || ltb actionLimit (t .actions)) → sizingOf (Unsized 11 0) ≡ within (tallyIn t)
+  unfolding sizingOf tallyIn refuseIf _>>=_
+  sizes-over e = rw (sym e) refl
+
+  pub sizes-within : false ≡ (ltb atomLimit (t .atoms) || ltb actionLimit (t .actions))
+      → sizingOf (Sized (record { elements = t .elements; atoms = t .atoms; actions = t .actions; bound = t .bound })) ≡ within (tallyIn t)
+  unfolding sizingOf tallyIn refuseIf _>>=_
+  sizes-within e = rw (sym e) refl
+
+module _ (question site : List ℕ) (a : Tallied) (e : talliedOf a ≡ tally question site) where
+  pub sizes-refused : (k place : ℕ) → a ≡ Untallied k place → sizingOf (Unsized k place) ≡ Outcome.sizes question site
+  unfolding sizingOf talliedOf _>>=_
+  sizes-refused k place q = ap (λ (x : Tallied). talliedOf x >>= within) (sym q) ∙ ap (λ (x : Result Tallies). x >>= within) e ∙ sym (sizes-tally question site)
+
+  pub sizes-counted : (t : Tally) → a ≡ HasTally t → (r : Sizing) → sizingOf r ≡ within (tallyIn t) → sizingOf r ≡ Outcome.sizes question site
+  unfolding talliedOf _>>=_
+  sizes-counted t q r h = h ∙ ap (λ (x : Tallied). talliedOf x >>= within) (sym q) ∙ ap (λ (x : Result Tallies). x >>= within) e ∙ sym (sizes-tally question site)

@@ -1,0 +1,3 @@
+-- Words of this crate's contracts, and their laws.
+pub mod Known
+pub mod Counts

@@ -1,0 +1,44 @@
+// The tally of a case: of one that was read, and of two texts. The limits of 11 are not asked.
+ghost use mathlib.Core.Path.{_≡_};
+ghost use mathlib.Core.Bool.{Bool};
+ghost use Prim.Native.Nat.{ℕ};
+ghost use Rattle.definitions.specs.Truth.{Case};
+ghost use Rattle.definitions.specs.Atoms.{problemOf};
+ghost use Rattle.definitions.specs.Tally.{tally as «tally-of»};
+ghost use Rattle.opening.specs.Read.{Holds};
+ghost use Rattle.grounding.specs.Grounds.{Read};
+ghost use Rattle.tally.specs.Sums.{Tallied as «Tallied-as»};
+ghost use Rattle.counting.specs.Counts.{talliedOf};
+use opening::Opened;
+use tally::Tally;
+
+// The tally of a case that was read.
+pub fn of_case(question: &[u8], o: Opened) -> Tally
+    requires { ⌜ Read (now question) o ⌝ }
+    ensures { λ r. ⌜ ((c : Case) (facts : ℕ → Bool) → Holds (now (question .entry)) c o facts → «Tallied-as» (problemOf c) r) ⌝ }
+{
+    let sig = o.sig;
+    let rule = o.rule;
+    let n = o.n;
+    let g = relations::relations_of(sig);
+    let t = rewriting::nodes_of(question, rule.from, rule.to, sig);
+    tally::of_tables(n, g, t)
+}
+
+pub enum Tallied {
+    Counted(Tally),
+    Refused(u32, usize),
+}
+
+// The tally of a question and a site.
+pub fn tally(question: &[u8], site: &[u8]) -> Tallied
+    ensures { λ r. ⌜ talliedOf r ≡ «tally-of» (now (question .entry)) (now (site .entry)) ⌝ }
+{
+    let mut facts = [0u64; 512];
+    let o = opening::read_case(question, site, &mut facts);
+    if o.fault != 0 {
+        return Tallied::Refused(o.fault, o.place);
+    }
+    let t = of_case(question, o);
+    Tallied::Counted(t)
+}

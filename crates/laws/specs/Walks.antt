@@ -1,0 +1,191 @@
+-- One walk of a tree: it visits every node once, in preorder, and its counts are the numbers of atoms and of actions.
+use Prim.Native.Nat.{ℕ, zero, suc, _+_, _*_}
+use mathlib.Core.Path.{_≡_, refl, sym, ap, ap₂, _∙_}
+use mathlib.Core.Bool.{Bool, true, false, _||_}
+use mathlib.Core.List.{List, [], _∷_, _++_, map}
+use native.Mathlib.Omega.{arith}
+use native.Mathlib.Nat.{mul-one}
+use lib.Dec.{ltb}
+use lib.ListN.{length, length-append, length-map}
+use Rattle.definitions.specs.Lists.{mapFrom, from, below, sum}
+use Rattle.definitions.specs.Limits.{atomLimit, actionLimit}
+use Rattle.definitions.specs.Refusal.{Result, refused, accepted, _>>=_, refuseIf}
+use Rattle.definitions.specs.Truth.{Case}
+use Rattle.definitions.specs.Tree.{Tree, Trees, leaf, forallNode, existsNode, andNode, orNode, end, _then_, Part, isForall, nodes, nodesAll, treeOf}
+use Rattle.definitions.specs.Atoms.{Problem, problemOf, problemWith, Block, countOf, rowsOf, nodeWidth, relationsBlocks, nodesBlocks, atomBlocks, atoms, nodeAtoms}
+use Rattle.definitions.specs.Actions.{Action, beginProof, proveGoal, choices, proofsOf, setBlocks, proofBlocks, actionBlocks, actions}
+use Rattle.definitions.specs.Built.{mostPicks, bound}
+use Rattle.definitions.specs.Outcome.{Sizes, sizesOf, readCase, ground, readProblem, sizes}
+use Rattle.definitions.specs.Tally.{nothing, thenWalk, visit, walk, walkAll, walked, Tally, tallyOf, tally}
+use Rattle.laws.specs.Lists.{from-append}
+use Rattle.laws.specs.Blocks.{count-append}
+
+-- ---- the nodes that are visited, and the numbers they are given
+abbrev treesOf : List Part → List Tree
+treesOf ps = map (λ (q : Part). q .tree) ps
+
+abbrev numbersOf : List Part → List ℕ
+numbersOf ps = map (λ (q : Part). q .node) ps
+
+map-append : {A B : Type 0} (f : A → B) (l m : List A) → map f (l ++ m) ≡ map f l ++ map f m
+map-append f [] m = refl
+map-append f (x ∷ l) m = ap (_∷_ (f x)) (map-append f l m)
+
+module _ (n : ℕ) (R : ℕ → List ℕ) where
+  mutual
+    unfolding walk nothing thenWalk visit nodes
+
+    pub walk-nodes : (v : ℕ) (t : Tree) → treesOf (walk n R v t .visited) ≡ nodes t
+    walk-nodes v (leaf p r ls) = refl
+    walk-nodes v (forallNode d s t) = ap (_∷_ (forallNode d s t)) (walk-nodes (suc v) t)
+    walk-nodes v (existsNode d s t) = ap (_∷_ (existsNode d s t)) (walk-nodes (suc v) t)
+    walk-nodes v (andNode ts) = ap (_∷_ (andNode ts)) (all-nodes (suc v) ts)
+    walk-nodes v (orNode ts) = ap (_∷_ (orNode ts)) (all-nodes (suc v) ts)
+
+    all-nodes : (v : ℕ) (ts : Trees) → treesOf (walkAll n R v ts .visited) ≡ nodesAll ts
+    all-nodes v end = refl
+    all-nodes v (t then ts) =
+        let w = v + length (walk n R v t .visited) in
+        map-append (λ (q : Part). q .tree) (walk n R v t .visited) (walkAll n R w ts .visited) ∙ ap₂ _++_ (walk-nodes v t) (all-nodes w ts)
+
+  pub walk-length : (v : ℕ) (t : Tree) → length (walk n R v t .visited) ≡ length (nodes t)
+  walk-length v t = sym (length-map (walk n R v t .visited) (λ (q : Part). q .tree)) ∙ ap length (walk-nodes v t)
+
+  mutual
+    unfolding walk nothing thenWalk visit nodes from
+
+    pub walk-visits : (v : ℕ) (t : Tree) → numbersOf (walk n R v t .visited) ≡ from v (length (nodes t))
+    walk-visits v (leaf p r ls) = refl
+    walk-visits v (forallNode d s t) = ap (_∷_ v) (walk-visits (suc v) t)
+    walk-visits v (existsNode d s t) = ap (_∷_ v) (walk-visits (suc v) t)
+    walk-visits v (andNode ts) = ap (_∷_ v) (all-visits (suc v) ts)
+    walk-visits v (orNode ts) = ap (_∷_ v) (all-visits (suc v) ts)
+
+    all-visits : (v : ℕ) (ts : Trees) → numbersOf (walkAll n R v ts .visited) ≡ from v (length (nodesAll ts))
+    all-visits v end = refl
+    all-visits v (t then ts) =
+        let k = length (walk n R v t .visited) in
+        let e : k ≡ length (nodes t) = walk-length v t in
+        map-append (λ (q : Part). q .node) (walk n R v t .visited) (walkAll n R (v + k) ts .visited)
+        ∙ ap₂ _++_ (walk-visits v t) (all-visits (v + k) ts)
+        ∙ ap (λ (x : ℕ). from v (length (nodes t)) ++ from (v + x) (length (nodesAll ts))) e
+        ∙ sym (from-append v (length (nodes t)) (length (nodesAll ts)))
+        ∙ ap (from v) (sym (length-append (nodes t) (nodesAll ts)))
+
+  -- ---- atoms and actions
+  sum-append : (f : Tree → ℕ) (l m : List Tree) → sum (map f (l ++ m)) ≡ sum (map f l) + sum (map f m)
+  unfolding sum
+  sum-append f [] m = omega arith
+  sum-append f (x ∷ l) m = let e = sum-append f l m in omega arith
+
+  mutual
+    unfolding walk nothing thenWalk visit nodes sum nodeWidth isForall
+
+    pub walk-atoms : (v : ℕ) (t : Tree) → walk n R v t .atomCount ≡ sum (map (nodeWidth n) (nodes t))
+    walk-atoms v (leaf p r ls) = refl
+    walk-atoms v (forallNode d s t) = ap (_+_ (rowsOf n (forallNode d s t) * n)) (walk-atoms (suc v) t)
+    walk-atoms v (existsNode d s t) = ap₂ _+_ (mul-one (rowsOf n (existsNode d s t))) (walk-atoms (suc v) t)
+    walk-atoms v (andNode ts) = ap₂ _+_ (mul-one (rowsOf n (andNode ts))) (all-atoms (suc v) ts)
+    walk-atoms v (orNode ts) = ap₂ _+_ (mul-one (rowsOf n (orNode ts))) (all-atoms (suc v) ts)
+
+    all-atoms : (v : ℕ) (ts : Trees) → walkAll n R v ts .atomCount ≡ sum (map (nodeWidth n) (nodesAll ts))
+    all-atoms v end = refl
+    all-atoms v (t then ts) = ap₂ _+_ (walk-atoms v t) (all-atoms (v + length (walk n R v t .visited)) ts) ∙ sym (sum-append (nodeWidth n) (nodes t) (nodesAll ts))
+
+  mutual
+    unfolding walk nothing thenWalk visit nodes sum proofsOf choices
+
+    pub walk-actions : (v : ℕ) (t : Tree) → walk n R v t .actionCount ≡ sum (map (proofsOf n R) (nodes t))
+    walk-actions v (leaf p r ls) = refl
+    walk-actions v (forallNode d s t) = ap (_+_ (proofsOf n R (forallNode d s t))) (walk-actions (suc v) t)
+    walk-actions v (existsNode d s t) = ap (_+_ (proofsOf n R (existsNode d s t))) (walk-actions (suc v) t)
+    walk-actions v (andNode ts) = ap (_+_ (proofsOf n R (andNode ts))) (all-actions (suc v) ts)
+    walk-actions v (orNode ts) = ap (_+_ (proofsOf n R (orNode ts))) (all-actions (suc v) ts)
+
+    all-actions : (v : ℕ) (ts : Trees) → walkAll n R v ts .actionCount ≡ sum (map (proofsOf n R) (nodesAll ts))
+    all-actions v end = refl
+    all-actions v (t then ts) = ap₂ _+_ (walk-actions v t) (all-actions (v + length (walk n R v t .visited)) ts) ∙ sym (sum-append (proofsOf n R) (nodes t) (nodesAll ts))
+
+-- ---- the same as counts of blocks
+pub count-sum : {A K : Type 0} (f : ℕ → K → Block A) (g : K → ℕ) → ((r : ℕ) (k : K) → f r k .width ≡ g k) → (r : ℕ) (ks : List K) → countOf (mapFrom f r ks) ≡ sum (map g ks)
+unfolding countOf mapFrom sum
+count-sum f g h r [] = refl
+count-sum f g h r (k ∷ ks) = ap₂ _+_ (h r k) (count-sum f g h (suc r) ks)
+
+module _ (p : Problem) where
+  pub node-atoms : nodeAtoms p ≡ sum (map (nodeWidth (p .size)) (p .nodeList))
+  unfolding nodeAtoms nodesBlocks
+  node-atoms = count-sum _ (nodeWidth (p .size)) (λ r t. refl) 0 (p .nodeList)
+
+  pub node-actions : countOf (proofBlocks (p .size) (p .range) (p .nodeList)) ≡ sum (map (proofsOf (p .size) (p .range)) (p .nodeList))
+  unfolding proofBlocks
+  node-actions = count-sum _ (proofsOf (p .size) (p .range)) (λ r t. refl) 0 (p .nodeList)
+
+  pub atoms-parts : atoms p ≡ 3 + (countOf (relationsBlocks (p .size) (p .relations)) + sum (map (nodeWidth (p .size)) (p .nodeList)))
+  unfolding atoms atomBlocks countOf nodeAtoms
+  atoms-parts =
+      let a = count-append (relationsBlocks (p .size) (p .relations)) (nodesBlocks (p .size) (p .nodeList)) in
+      let b = node-atoms in
+      omega arith
+
+  pub actions-parts : actions p ≡ countOf (setBlocks (p .size) (p .range) (p .relations)) + (1 + (sum (map (proofsOf (p .size) (p .range)) (p .nodeList)) + 1))
+  unfolding actions actionBlocks countOf
+  actions-parts =
+      let last : List (Block Action) = record { width = 1; item = λ _. proveGoal } ∷ [] in
+      let a = count-append (setBlocks (p .size) (p .range) (p .relations)) (record { width = 1; item = λ _. beginProof } ∷ (proofBlocks (p .size) (p .range) (p .nodeList) ++ last)) in
+      let b = count-append (proofBlocks (p .size) (p .range) (p .nodeList)) last in
+      let d = node-actions in
+      omega arith
+
+  pub bound-parts : bound p ≡ sum (map (mostPicks (p .size)) (p .relations)) + sum (map (nodeWidth (p .size)) (p .nodeList)) + 2
+  unfolding bound
+  bound-parts = ap (λ (x : ℕ). sum (map (mostPicks (p .size)) (p .relations)) + x + 2) node-atoms
+
+module _ (c : Case) where
+  pub visited-are : treesOf (walked (problemOf c) .visited) ≡ nodes (treeOf (c .question))
+  unfolding walked problemOf problemWith
+  visited-are = walk-nodes _ _ zero (treeOf (c .question))
+
+  pub visited-once : numbersOf (walked (problemOf c) .visited) ≡ below (length (nodes (treeOf (c .question))))
+  unfolding walked problemOf problemWith below
+  visited-once = walk-visits _ _ zero (treeOf (c .question))
+
+tally-eq : (n : ℕ) {i j a b d e f g : ℕ} → i ≡ j → a ≡ b → d ≡ e → f ≡ g
+    → _≡_ {A = Tally} (record { nodeCount = i; sizes = record { elements = n; atomCount = a; actionCount = d; stepBound = f } }) (record { nodeCount = j; sizes = record { elements = n; atomCount = b; actionCount = e; stepBound = g } })
+tally-eq n p q r s = rw (p, q, r, s) refl
+
+-- ---- the tally of a case, whatever its size: its nodes, its atoms, its actions and its bound
+pub tally-is : (c : Case) → tallyOf (problemOf c) ≡ record { nodeCount = length (nodes (treeOf (c .question))); sizes = sizesOf (problemOf c) }
+unfolding tallyOf walked sizesOf problemOf problemWith
+tally-is c =
+    let p = problemOf c in
+    let n = p .size in
+    let R = p .range in
+    let t = treeOf (c .question) in
+    let a : walk n R zero t .atomCount ≡ sum (map (nodeWidth n) (nodes t)) = walk-atoms n R zero t in
+    let b : walk n R zero t .actionCount ≡ sum (map (proofsOf n R) (nodes t)) = walk-actions n R zero t in
+    tally-eq n (walk-length n R zero t)
+    (ap (λ (x : ℕ). 3 + (countOf (relationsBlocks n (p .relations)) + x)) a ∙ sym (atoms-parts p))
+    (ap (λ (x : ℕ). countOf (setBlocks n R (p .relations)) + (1 + (x + 1))) b ∙ sym (actions-parts p))
+    (ap (λ (x : ℕ). sum (map (mostPicks n) (p .relations)) + x + 2) a ∙ sym (bound-parts p))
+
+-- ---- the sizes that a call answers are the tally's, where they are within the limits
+abbrev pub within : Tally → Result Sizes
+within t = refuseIf (ltb atomLimit (t .sizes .atomCount) || ltb actionLimit (t .sizes .actionCount)) 11 zero >>= λ _. accepted (t .sizes)
+
+limited : (p : Problem) (b : Bool) → (refuseIf b 11 zero >>= (λ _. accepted p) >>= λ p. accepted (sizesOf p)) ≡ (refuseIf b 11 zero >>= λ _. accepted (sizesOf p))
+unfolding refuseIf _>>=_
+limited p true = refl
+limited p false = refl
+
+ground-sizes : (c : Case) → (ground c >>= λ p. accepted (sizesOf p)) ≡ within (tallyOf (problemOf c))
+unfolding ground sizesOf
+ground-sizes c = limited (problemOf c) (ltb atomLimit (atoms (problemOf c)) || ltb actionLimit (actions (problemOf c))) ∙ ap within (sym (tally-is c))
+
+pub sizes-tally : (question site : List ℕ) → sizes question site ≡ (tally question site >>= within)
+unfolding sizes readProblem tally _>>=_
+sizes-tally question site = go (readCase question site)
+  where
+    go : (m : Result Case) → (m >>= ground >>= λ p. accepted (sizesOf p)) ≡ (m >>= (λ c. accepted (tallyOf (problemOf c))) >>= within)
+    go (refused k place) = refl
+    go (accepted c) = ground-sizes c

@@ -1,0 +1,128 @@
+-- `tally::of_nodes` meets its contract: each turn visits one node and adds its atoms and actions. Assumes nothing.
+use Prim.Native.Nat.{ℕ, _-_, _*_, _≤_, _^_}
+use mathlib.Core.Path.{_≡_, ap, ap₂, _∙_, subst}
+use native.Mathlib.Omega.{arith}
+use borrow.Author.Needs.{needs}
+use lib.ListN.{getD}
+use Rattle.tree.specs.Tables.{noNode}
+use Rattle.tree.specs.declared.NodeRow.{NodeRow}
+use Rattle.layout.specs.Laid.{nodeWidth, choicesOf}
+use Rattle.layout.specs.LaidLaws.{acts-le, node-width-le, pow-fits, size-most}
+use Rattle.tally.specs.Sums.{NodesSummed}
+use Rattle.tally.specs.SumLaws.{nodes-first, nodes-next, node-counts}
+use Rattle.tally.proofs.of_nodes.Statement.{statement}
+use Rattle.tally.proofs.of_nodes.Tie as tie
+
+abbrev Inv-loop : tie.InvT-loop
+Inv-loop n t atoms₀ actions₀ nodes₀ atoms actions nodes = (nodes ≤ t .count) × NodesSummed n t nodes nodes atoms actions
+
+abbrev μ-loop : tie.MeasureT-loop
+μ-loop n t atoms₀ actions₀ nodes₀ atoms actions nodes = t .count - nodes
+
+-- the row of the node where the loop stands
+abbrev row : tie.In-loop Inv-loop μ-loop → NodeRow
+row c = getD (c .before .before .args .t2 .rows) (c .before .loop .nodes) noNode
+
+-- the counts so far
+counts-small : (c : tie.At-loop Inv-loop μ-loop) → (c .loop .atoms ≤ 2 ^ 36) × (c .loop .actions ≤ 2 ^ 36)
+counts-small c = node-counts (c .before .args .n) (c .before .pre .1) (c .before .args .t2) (c .before .pre .2) (c .loop .nodes) (c .loop .nodes) (c .loop .atoms) (c .loop .actions) (c .loop .inv .0) (c .loop .inv .1)
+
+-- how many values its free variables have
+rows-are : (c : tie.After-power Inv-loop μ-loop) → c .power .result ≡ c .before .before .before .before .before .before .args .n ^ row (c .before .before .before .before) .width
+rows-are c = c .power .ensures ∙ ap (λ (k : ℕ). c .before .before .before .before .before .before .args .n ^ k) (c .before .wide2 .ensures)
+
+rows-small : (c : tie.After-power Inv-loop μ-loop) → c .power .result ≤ 64 ^ 4
+rows-small c =
+    let s = c .before .before .before .before .before .before in
+    let v = c .before .before .before .before .before .loop .nodes in
+    size-most (s .args .n) (row (c .before .before .before .before) .width) (c .power .result) (rows-are c) (s .pre .1) (s .pre .2 .nodes .node v .width)
+
+-- how many atoms it has
+row-width : (c : tie.After-node-width Inv-loop μ-loop)
+    → let s = c .before .before .before .before .before in c .node-width .result ≡ nodeWidth (s .before .before .args .n) (c .before .power .result) (row s .kind)
+row-width c = c .node-width .ensures ∙ ap (nodeWidth (c .before .before .before .before .before .before .before .args .n) (c .before .power .result)) (c .before .before .before .wide .ensures)
+
+width-small : (c : tie.After-node-width Inv-loop μ-loop) → c .node-width .result ≤ 64 ^ 4 * 64
+width-small c =
+    let s = c .before .before .before .before .before .before .before in
+    let w = node-width-le (s .args .n) (c .before .power .result) (row (c .before .before .before .before .before) .kind) (s .pre .1) (rows-small (c .before)) in
+    omega (arith, row-width c)
+
+-- how many actions it has at each of these, and in all
+row-choices : (c : tie.After-choices Inv-loop μ-loop)
+    → let s = c .before .before .before .before .before .before .before in c .choices .result ≡ choicesOf (s .before .before .args .n) (row s .kind) (row s .many)
+row-choices c = let s = c .before .before .before .before .before .before .before in c .choices .ensures ∙ ap₂ (choicesOf (s .before .before .args .n)) (c .before .before .before .before .before .wide .ensures) (c .before .wide3 .ensures)
+
+acts-small : (c : tie.After-choices Inv-loop μ-loop) → c .before .before .before .power .result * c .choices .result ≤ 64 ^ 4 * 64
+acts-small c =
+    let s = c .before .before .before .before .before .before .before .before .before in
+    acts-le (s .args .n) (s .args .t2) 0 0 (s .pre .1) (s .pre .2) (c .before .before .before .before .before .before .before .before .loop .nodes) (c .before .before .before .power .result) (c .choices .result) (rows-are (c .before .before .before)) (row-choices c)
+
+loop-holds : tie.Need-loop-holds Inv-loop μ-loop
+loop-holds c = (omega arith, nodes-first (c .args .n) (c .args .t2))
+
+mul-row : tie.Need-mul-row Inv-loop μ-loop
+mul-row c = omega (arith, c .before .before .pre .2 .few)
+
+element-copy-out-row : tie.Need-element-copy-out-row Inv-loop μ-loop
+element-copy-out-row c = omega (arith, c .before .before .pre .2 .few)
+
+power-requires : tie.Need-power-requires Inv-loop μ-loop
+power-requires c κs =
+    let s = c .before .before .before .before .before in
+    let w = c .wide2 .ensures in
+    (s .pre .0, pow-fits (s .args .n) (c .wide2 .result) (s .pre .1) (omega (arith, w, s .pre .2 .nodes .node (c .before .before .before .before .loop .nodes) .width)))
+
+node-width-requires : tie.Need-node-width-requires Inv-loop μ-loop
+node-width-requires c κs = (c .before .before .before .before .before .before .pre .1, rows-small c)
+
+add-atoms : tie.Need-add-atoms Inv-loop μ-loop
+add-atoms c = omega (arith, counts-small (c .before .before .before .before .before .before) .0, width-small c)
+
+mul-actions : tie.Need-mul-actions Inv-loop μ-loop
+mul-actions c = omega (arith, acts-small c)
+
+add-actions : tie.Need-add-actions Inv-loop μ-loop
+add-actions c = omega (arith, counts-small (c .before .before .before .before .before .before .before .before) .1, acts-small c)
+
+add-nodes : tie.Need-add-nodes Inv-loop μ-loop
+add-nodes c = omega (arith, c .before .before .before .before .before .before .before .before .before .pre .2 .few)
+
+loop-less : tie.Need-loop-less Inv-loop μ-loop
+loop-less c = omega (arith, c .before .before .before .before .before .before .before .before .before .pre .2 .few)
+
+loop-again : tie.Need-loop-again Inv-loop μ-loop
+loop-again c =
+    let s = c .before .before .before .before .before .before .before .before .before in
+    let u = c .before .before .before .before .before .before .before .before in
+    let w = c .before .before .before in (
+      omega arith,
+      nodes-next (s .args .n) (s .args .t2) (u .loop .nodes) (u .loop .atoms) (u .loop .actions) (w .power .result) (c .before .before .node-width .result) (c .choices .result)
+          (rows-are (w)) (row-width (c .before .before)) (row-choices c) (u .loop .inv .1),
+    )
+
+returns : tie.Need-returns Inv-loop μ-loop
+returns c = let e : c .before .loop .nodes ≡ c .before .before .args .t2 .count = omega arith in subst (λ (x : ℕ). NodesSummed (c .before .before .args .n) (c .before .before .args .t2) x (c .before .loop .nodes) (c .before .loop .atoms) (c .before .loop .actions)) e (c .before .loop .inv .1)
+
+pub of-nodes-spec : {M : Type 1} → statement M
+of-nodes-spec =
+    tie.close
+    (tie.spec
+    Inv-loop
+    μ-loop
+    loop-holds
+    mul-row
+    element-copy-out-row
+    (λ c κs. search needs)
+    (λ c κs. search needs)
+    power-requires
+    node-width-requires
+    add-atoms
+    (λ c κs. search needs)
+    (λ c κs. search needs)
+    mul-actions
+    add-actions
+    add-nodes
+    loop-less
+    loop-again
+    returns)

@@ -1,0 +1,3 @@
+-- Words of this crate's contracts, and their laws.
+pub mod Sums
+pub mod SumLaws

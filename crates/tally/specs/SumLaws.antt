@@ -1,0 +1,157 @@
+-- One turn of the loops of a tally, and that the sums are those of the walk.
+use mathlib.Core.Path.{_≡_, refl, sym, ap, ap₂, subst, _∙_}
+use mathlib.Core.Bool.{true}
+use mathlib.Core.List.{List, [], _∷_, map}
+use Prim.Native.Nat.{ℕ, zero, suc, _+_, _*_, _^_, _<_, _≤_}
+use native.Mathlib.Numerals.{add-one}
+use native.Mathlib.Omega.{arith}
+use lib.ListN.{length, getD, take}
+use lib.Seq.{take-all}
+use Rattle.definitions.specs.Lists.{sum}
+use Rattle.definitions.specs.Relations.{Relation}
+use Rattle.definitions.specs.Tree.{Tree, leaf, nodes}
+use Rattle.definitions.specs.Atoms.{Problem, nodeAt, countOf, relationsBlocks, relationStart, nodeWidth as widthOf}
+use Rattle.definitions.specs.Actions.{proofsOf, setBlocks, setStart}
+use Rattle.definitions.specs.Built.{mostPicks}
+use Rattle.definitions.specs.Tally.{walked, tallyOf}
+use Rattle.laws.specs.Walks.{walk-length, walk-atoms, walk-actions}
+use Rattle.tree.specs.Tables.{noNode, Fits}
+use Rattle.tree.specs.declared.Nodes.{Nodes}
+use Rattle.layout.specs.declared.Relations.{Relations}
+use Rattle.layout.specs.Laid.{relationWidth, setWidth, mostWidth, nodeWidth, choicesOf, RelationsFit, relationSum, setSum, pickSum, nodeSum, actSum, Inputs}
+use Rattle.layout.specs.LaidLaws.{rel-bound, set-bound, pick-bound, node-bound, act-bound}
+use Rattle.layout.specs.StartsAre.{rel-are, set-are, pick-are, count-is, node-width, act-width}
+use Rattle.tally.specs.declared.Tally.{Tally}
+use Rattle.tally.specs.Sums.{RelationsSummed, NodesSummed, Tallied}
+
+-- ---- turns
+module _ (n : ℕ) (g : Relations) where
+  pub relations-first : RelationsSummed n g 0 3 0 0
+  unfolding relationSum setSum pickSum
+  relations-first = record { atoms-are = refl; sets-are = refl; picks-are = refl }
+
+  -- (stated for the next number as it is counted)
+  relations-suc : (i atoms sets picks size w u m : ℕ) → size ≡ n ^ getD (g .arity) i 0
+      → w ≡ relationWidth n size (getD (g .kind) i 0) → u ≡ setWidth size (getD (g .kind) i 0) → m ≡ mostWidth n size (getD (g .kind) i 0)
+      → RelationsSummed n g i atoms sets picks → RelationsSummed n g (suc i) (atoms + w) (sets + u) (picks + m)
+  unfolding relationSum setSum pickSum
+  relations-suc i atoms sets picks size w u m e ew eu em s = record {
+    atoms-are = ap₂ _+_ (s .atoms-are) (ew ∙ ap (λ (x : ℕ). relationWidth n x (getD (g .kind) i 0)) e);
+    sets-are = ap₂ _+_ (s .sets-are) (eu ∙ ap (λ (x : ℕ). setWidth x (getD (g .kind) i 0)) e);
+    picks-are = ap₂ _+_ (s .picks-are) (em ∙ ap (λ (x : ℕ). mostWidth n x (getD (g .kind) i 0)) e);
+  }
+
+  pub relations-next : (i atoms sets picks size w u m : ℕ) → size ≡ n ^ getD (g .arity) i 0
+      → w ≡ relationWidth n size (getD (g .kind) i 0) → u ≡ setWidth size (getD (g .kind) i 0) → m ≡ mostWidth n size (getD (g .kind) i 0)
+      → RelationsSummed n g i atoms sets picks → RelationsSummed n g (i + 1) (atoms + w) (sets + u) (picks + m)
+  relations-next i atoms sets picks size w u m e ew eu em s =
+      subst (λ (j : ℕ). RelationsSummed n g j (atoms + w) (sets + u) (picks + m)) (sym (add-one i)) (relations-suc i atoms sets picks size w u m e ew eu em s)
+
+module _ (n : ℕ) (t : Nodes) where
+  pub nodes-first : NodesSummed n t 0 0 0 0
+  unfolding nodeSum actSum
+  nodes-first = record { visited = refl; atoms-are = refl; actions-are = refl }
+
+  nodes-suc : (v atoms actions r w m : ℕ) → r ≡ n ^ getD (t .rows) v noNode .width
+      → w ≡ nodeWidth n r (getD (t .rows) v noNode .kind) → m ≡ choicesOf n (getD (t .rows) v noNode .kind) (getD (t .rows) v noNode .many)
+      → NodesSummed n t v v atoms actions → NodesSummed n t (suc v) (suc v) (atoms + w) (actions + r * m)
+  unfolding nodeSum actSum
+  nodes-suc v atoms actions r w m e ew em s = record {
+    visited = refl;
+    atoms-are = ap₂ _+_ (s .atoms-are) (ew ∙ ap (λ (x : ℕ). nodeWidth n x (getD (t .rows) v noNode .kind)) e);
+    actions-are = ap₂ _+_ (s .actions-are) (ap₂ _*_ e em);
+  }
+
+  pub nodes-next : (v atoms actions r w m : ℕ) → r ≡ n ^ getD (t .rows) v noNode .width
+      → w ≡ nodeWidth n r (getD (t .rows) v noNode .kind) → m ≡ choicesOf n (getD (t .rows) v noNode .kind) (getD (t .rows) v noNode .many)
+      → NodesSummed n t v v atoms actions → NodesSummed n t (v + 1) (v + 1) (atoms + w) (actions + r * m)
+  nodes-next v atoms actions r w m e ew em s =
+      subst (λ (j : ℕ). NodesSummed n t j j (atoms + w) (actions + r * m)) (sym (add-one v)) (nodes-suc v atoms actions r w m e ew em s)
+
+-- ---- the sums are those of the walk
+sum-next : {A : Type 0} (f : A → ℕ) (d : A) (r : ℕ) (ks : List A) → r < length ks → sum (map f (take (suc r) ks)) ≡ sum (map f (take r ks)) + f (getD ks r d)
+unfolding sum
+sum-next f d r [] h = absurd (omega arith)
+sum-next f d zero (k ∷ ks) h = omega arith
+sum-next f d (suc r) (k ∷ ks) h = let q = sum-next f d r ks (omega arith) in omega arith
+
+sum-none : {A : Type 0} (f : A → ℕ) → sum (map f []) ≡ 0
+unfolding sum
+sum-none f = refl
+
+module _ (p : Problem) (g : Relations) (t : Nodes) (is : Inputs p (p .size) g t) (fits : Fits t) where
+  abbrev n : ℕ
+  n = p .size
+
+  all-relations : take (g .count) (p .relations) ≡ p .relations
+  all-relations = take-all (g .count) (p .relations) (omega (arith, is .count))
+
+  all-nodes : take (t .count) (p .nodeList) ≡ nodes (p .root)
+  all-nodes = take-all (t .count) (p .nodeList) (omega (arith, count-is p g t is)) ∙ is .list
+
+  nodes-are : (v : ℕ) → v ≤ t .count → nodeSum n t 0 v ≡ sum (map (widthOf n) (take v (p .nodeList)))
+  unfolding nodeSum nodeAt
+  nodes-are zero h = sym (sum-none (widthOf n))
+  nodes-are (suc v) h = ap₂ _+_ (nodes-are v (omega arith)) (node-width p g t is v h) ∙ sym (sum-next (widthOf n) (leaf true 0 []) v (p .nodeList) (omega (arith, count-is p g t is)))
+
+  acts-are : (v : ℕ) → v ≤ t .count → actSum n t 0 v ≡ sum (map (proofsOf n (p .range)) (take v (p .nodeList)))
+  unfolding actSum nodeAt
+  acts-are zero h = sym (sum-none (proofsOf n (p .range)))
+  acts-are (suc v) h = ap₂ _+_ (acts-are v (omega arith)) (act-width p g t is fits v h) ∙ sym (sum-next (proofsOf n (p .range)) (leaf true 0 []) v (p .nodeList) (omega (arith, count-is p g t is)))
+
+  atoms-walked : nodeSum n t 0 (t .count) ≡ walked p .atomCount
+  unfolding walked
+  atoms-walked = nodes-are (t .count) (omega arith) ∙ ap (λ (ts : List Tree). sum (map (widthOf n) ts)) all-nodes ∙ sym (walk-atoms n (p .range) 0 (p .root))
+
+  acts-walked : actSum n t 0 (t .count) ≡ walked p .actionCount
+  unfolding walked
+  acts-walked = acts-are (t .count) (omega arith) ∙ ap (λ (ts : List Tree). sum (map (proofsOf n (p .range)) ts)) all-nodes ∙ sym (walk-actions n (p .range) 0 (p .root))
+
+  visited-walked : t .count ≡ length (walked p .visited)
+  unfolding walked
+  visited-walked = is .tree .count ∙ sym (walk-length n (p .range) 0 (p .root))
+
+  relation-atoms : relationSum n g (g .count) ≡ 3 + countOf (relationsBlocks n (p .relations))
+  unfolding relationStart
+  relation-atoms = rel-are p g t is (g .count) (omega arith) ∙ ap (λ (ks : List Relation). 3 + countOf (relationsBlocks n ks)) all-relations
+
+  relation-sets : setSum n g (g .count) ≡ countOf (setBlocks n (p .range) (p .relations))
+  unfolding setStart
+  relation-sets = set-are p g t is (g .count) (omega arith) ∙ ap (λ (ks : List Relation). countOf (setBlocks n (p .range) ks)) all-relations
+
+  relation-picks : pickSum n g (g .count) ≡ sum (map (mostPicks n) (p .relations))
+  relation-picks = pick-are p g t is (g .count) (omega arith) ∙ ap (λ (ks : List Relation). sum (map (mostPicks n) ks)) all-relations
+
+  tallied-here : (atoms sets picks nodes a k : ℕ) → RelationsSummed n g (g .count) atoms sets picks → NodesSummed n t (t .count) nodes a k
+      → Tallied p (record { elements = n; nodes = nodes; atoms = atoms + a; actions = sets + 1 + (k + 1); bound = picks + a + 2 })
+  unfolding tallyOf
+  tallied-here atoms sets picks nodes a k R N =
+      let x : a ≡ walked p .atomCount = N .atoms-are ∙ atoms-walked in
+      let y : k ≡ walked p .actionCount = N .actions-are ∙ acts-walked in
+      let i : atoms ≡ 3 + countOf (relationsBlocks n (p .relations)) = R .atoms-are ∙ relation-atoms in
+      let j : sets ≡ countOf (setBlocks n (p .range) (p .relations)) = R .sets-are ∙ relation-sets in
+      let l : picks ≡ sum (map (mostPicks n) (p .relations)) = R .picks-are ∙ relation-picks in
+      record { elements-are = refl; nodes-are = N .visited ∙ visited-walked; atoms-are = omega arith; actions-are = omega arith; bound-is = omega arith }
+
+pub tallied : (n : ℕ) (p : Problem) (g : Relations) (t : Nodes) → Inputs p n g t → Fits t → (atoms sets picks nodes a k : ℕ)
+    → RelationsSummed n g (g .count) atoms sets picks → NodesSummed n t (t .count) nodes a k
+    → Tallied p (record { elements = n; nodes = nodes; atoms = atoms + a; actions = sets + 1 + (k + 1); bound = picks + a + 2 })
+tallied n p g t is f atoms sets picks nodes a k R N =
+    subst (λ (m : ℕ). Tallied p (record { elements = m; nodes = nodes; atoms = atoms + a; actions = sets + 1 + (k + 1); bound = picks + a + 2 })) (sym (is .size))
+    (tallied-here p g t (subst (λ (m : ℕ). Inputs p m g t) (is .size) is) f atoms sets picks nodes a k
+    (subst (λ (m : ℕ). RelationsSummed m g (g .count) atoms sets picks) (is .size) R) (subst (λ (m : ℕ). NodesSummed m t (t .count) nodes a k) (is .size) N))
+
+-- ---- no count overflows
+module _ (n : ℕ) (small : n ≤ 64) where
+  pub relation-counts : (g : Relations) → RelationsFit g → (i atoms sets picks : ℕ) → i ≤ g .count → RelationsSummed n g i atoms sets picks → (atoms ≤ 2 ^ 30) × (sets ≤ 2 ^ 29) × (picks ≤ 2 ^ 29)
+  relation-counts g f i atoms sets picks h s =
+      let a = rel-bound n g small f i in
+      let b = set-bound n g small f i in
+      let d = pick-bound n g small f i in
+      (omega (arith, s .atoms-are, f .count), omega (arith, s .sets-are, f .count), omega (arith, s .picks-are, f .count))
+
+  pub node-counts : (t : Nodes) → Fits t → (v nodes atoms actions : ℕ) → v ≤ t .count → NodesSummed n t v nodes atoms actions → (atoms ≤ 2 ^ 36) × (actions ≤ 2 ^ 36)
+  node-counts t f v nodes atoms actions h s =
+      let a = node-bound n t 0 0 small f v in
+      let b = act-bound n t 0 0 small f v in
+      (omega (arith, s .atoms-are, f .few), omega (arith, s .actions-are, f .few))

@@ -1,0 +1,95 @@
+// The sizes of a problem in one pass over its node table; no layout is made and no table is filled. No limit is asked, and no count
+// passes 2^38: with at most 64 elements, 17 relations have fewer than 2^30 atoms, 64 nodes at most 2^30 each.
+ghost use mathlib.Core.Path.{_≡_};
+ghost use Prim.Native.Nat.{_≤_, _<_};
+ghost use Rattle.definitions.specs.Atoms.{Problem};
+ghost use Rattle.tree.specs.Tables.{Fits};
+ghost use Rattle.layout.specs.Laid.{RelationsFit, Inputs};
+ghost use Rattle.tally.specs.Sums.{RelationsSummed, NodesSummed, Tallied};
+use layout::Relations;
+
+// How many elements, nodes, atoms and actions there are, and the bound.
+pub struct Tally {
+    pub elements: usize,
+    pub nodes: usize,
+    pub atoms: usize,
+    pub actions: usize,
+    pub bound: usize,
+}
+
+// What comes before the nodes: the atoms of the phases and of the relations, the set actions, the most picks.
+struct Before {
+    atoms: usize,
+    sets: usize,
+    picks: usize,
+}
+
+fn of_relations(n: usize, g: Relations) -> Before
+    requires { ⌜ (0 < n) × (n ≤ 64) × RelationsFit g ⌝ }
+    ensures { λ r. ⌜ RelationsSummed n g (g .count) (r .atoms) (r .sets) (r .picks) ⌝ }
+{
+    let mut atoms: usize = 3;
+    let mut sets: usize = 0;
+    let mut picks: usize = 0;
+    let mut i: usize = 0;
+    while i < g.count {
+        let kind = g.kind[i];
+        let size = rows::power(n, g.arity[i]);
+        atoms = atoms + layout::relation_width(n, size, kind);
+        sets = sets + layout::set_width(size, kind);
+        picks = picks + layout::most_width(n, size, kind);
+        i += 1;
+    }
+    Before { atoms, sets, picks }
+}
+
+// What the nodes have, and how many were visited.
+struct Walked {
+    nodes: usize,
+    atoms: usize,
+    actions: usize,
+}
+
+// The one walk: every node once, in preorder.
+fn of_nodes(n: usize, t: tree::Nodes) -> Walked
+    requires { ⌜ (0 < n) × (n ≤ 64) × Fits t ⌝ }
+    ensures { λ r. ⌜ NodesSummed n t (t .count) (r .nodes) (r .atoms) (r .actions) ⌝ }
+{
+    let mut atoms: usize = 0;
+    let mut actions: usize = 0;
+    let mut nodes: usize = 0;
+    while nodes < t.count {
+        let row = t.rows[nodes];
+        let kind = layout::wide(row.kind);
+        let rows = rows::power(n, layout::wide(row.width));
+        atoms = atoms + layout::node_width(n, rows, kind);
+        actions = actions + rows * layout::choices(n, kind, layout::wide(row.many));
+        nodes += 1;
+    }
+    Walked {
+        nodes,
+        atoms,
+        actions,
+    }
+}
+
+// The tally of n elements, the relations and the nodes of a tree.
+pub fn of_tables(n: usize, g: Relations, t: tree::Nodes) -> Tally
+    requires { ⌜ (0 < n) × (n ≤ 64) × RelationsFit g × Fits t ⌝ }
+    ensures { λ r. ⌜ ((p : Problem) → Inputs p n g t → Tallied p r) ⌝ }
+{
+    let b = of_relations(n, g);
+    let w = of_nodes(n, t);
+    let nodes = w.nodes;
+    let atoms = b.atoms + w.atoms;
+    let actions = b.sets + 1 + (w.actions + 1);
+    let bound = b.picks + w.atoms + 2;
+    let elements = n;
+    Tally {
+        elements,
+        nodes,
+        atoms,
+        actions,
+        bound,
+    }
+}

@@ -1,0 +1,86 @@
+/* The calls of libnendokwe.a (`rt staticlib nendokwe`), for C on x86-64.
+ *
+ * A text or a buffer goes over as a pointer and a length: bytes for texts, 64-bit words for picks and states, 32-bit entries for steps.
+ * What is only read is const. Buffers must not overlap each other, nor `number`, `place` or any other result; a length of 0 may go with
+ * any pointer that is not null.
+ *
+ * Every call answers whatever is handed over. It writes a refusal's number to *number and its place to *place, or 0 and the count named
+ * at the call. docs/GUIDE.md says what the numbers mean. A buffer that is too short is 12, and the place is the length that is needed; a
+ * refused call leaves every buffer as it was, except that 13, 14 and 15 leave the state before the step that failed (15: the last one).
+ * Words and entries past what is written stay as they were. A call needs at most 512 KiB of stack, nendokwe_desk the same.
+ */
+#ifndef NENDOKWE_H
+#define NENDOKWE_H
+
+#include <stddef.h>
+#include <stdint.h>
+
+#ifdef __cplusplus
+extern "C" {
+#endif
+
+/* Where the rule's formula lies in the question's own bytes; length 0 where the question is refused. */
+void nendokwe_rule(const uint8_t *question, size_t question_length, size_t *start, size_t *length);
+
+/* Elements, atoms, actions and the most steps that are ever built; success is 0 and 0. A refusal leaves the four as they were. */
+void nendokwe_sizes(const uint8_t *question, size_t question_length, const uint8_t *site, size_t site_length,
+                    uint32_t *number, size_t *place, size_t *elements, size_t *atoms, size_t *actions, size_t *bound);
+
+/* The action of number k: kind 0 set, 1 begin-proof, 2 and, 3 or, 4 exists, 5 forall, 6 prove-goal; its relation or node; its row; the
+ * part or element that is chosen. 13 and k where there is none. Success is 0 and 0; a refusal leaves the four as they were. */
+void nendokwe_action(const uint8_t *question, size_t question_length, const uint8_t *site, size_t site_length, size_t k,
+                     uint32_t *number, size_t *place, uint32_t *kind, size_t *subject, size_t *row, size_t *choice);
+
+/* Checks steps, as a text or as numbers; success is 0 and the step count. The state needs a word for each 64 atoms. */
+void nendokwe_check_text(const uint8_t *question, size_t question_length, const uint8_t *site, size_t site_length,
+                         const uint8_t *steps, size_t steps_length, uint64_t *state, size_t state_length,
+                         uint32_t *number, size_t *place);
+void nendokwe_check(const uint8_t *question, size_t question_length, const uint8_t *site, size_t site_length,
+                    const uint32_t *steps, size_t steps_length, uint64_t *state, size_t state_length,
+                    uint32_t *number, size_t *place);
+
+/* Checks steps and reads their picks: for each `choose`, from a word of its own on, a bit for each tuple. Only accepted steps write
+ * picks. */
+void nendokwe_picks_text(const uint8_t *question, size_t question_length, const uint8_t *site, size_t site_length,
+                         const uint8_t *steps, size_t steps_length, uint64_t *picks, size_t picks_length,
+                         uint64_t *state, size_t state_length, uint32_t *number, size_t *place);
+void nendokwe_picks(const uint8_t *question, size_t question_length, const uint8_t *site, size_t site_length,
+                    const uint32_t *steps, size_t steps_length, uint64_t *picks, size_t picks_length,
+                    uint64_t *state, size_t state_length, uint32_t *number, size_t *place);
+
+/* Builds steps from picks, as a text or as words; success is 0 and the step count. The steps need as many entries as the bound says. */
+void nendokwe_build_text(const uint8_t *question, size_t question_length, const uint8_t *site, size_t site_length,
+                         const uint8_t *picks, size_t picks_length, uint64_t *state, size_t state_length,
+                         uint32_t *steps, size_t steps_length, uint32_t *number, size_t *place);
+void nendokwe_build(const uint8_t *question, size_t question_length, const uint8_t *site, size_t site_length,
+                    const uint64_t *picks, size_t picks_length, uint64_t *state, size_t state_length,
+                    uint32_t *steps, size_t steps_length, uint32_t *number, size_t *place);
+
+/* How far one pick can move the built steps: for each `choose`, in order, one number. Where picks that steps are built from get one
+ * tuple of that relation more, or one less, and steps are built again, the two step counts differ by at most this number. The buffer
+ * needs one entry for each `choose`; success is 0 and 0. */
+void nendokwe_allowances(const uint8_t *question, size_t question_length, const uint8_t *site, size_t site_length,
+                         uint64_t *allowances, size_t allowances_length, uint32_t *number, size_t *place);
+
+/* Many step lists of one case: a record says where its list begins among the steps and how long it is, and gets the number and place of
+ * a check of that list alone (1 over the step limit; 12 and the sum where it is not all lent). Success is 0 and 0, and the initial state
+ * is left; a refused case leaves records and state as they were. */
+typedef struct nendokwe_try {
+    uint32_t first;
+    uint32_t length;
+    uint32_t number;
+    uint64_t place;
+} nendokwe_try;
+void nendokwe_tries(const uint8_t *question, size_t question_length, const uint8_t *site, size_t site_length,
+                    const uint32_t *steps, size_t steps_length, nendokwe_try *tries, size_t tries_length,
+                    uint64_t *state, size_t state_length, uint32_t *number, size_t *place);
+
+/* The desk program's reply to an input, to a buffer of exactly NENDOKWE_REPLY bytes; returns how many bytes it has. */
+#define NENDOKWE_REPLY 573952
+size_t nendokwe_desk(const uint8_t *input, size_t input_length, uint8_t *out);
+
+#ifdef __cplusplus
+}
+#endif
+
+#endif

@@ -1,0 +1,82 @@
+//! What a case measures: its tally, over the limits or not, and how far one
+//! pick more or less can move the number of steps that are built.
+
+use crate::cases::{case, room};
+use crate::ground::Problem;
+use crate::text::{Refusal, Reply};
+use crate::tree::{Part, Shape, Tree};
+
+/// How many nodes, atoms and actions there are.
+#[derive(Clone, Copy, Debug, PartialEq, Eq)]
+pub struct Tally {
+    pub nodes: u64,
+    pub atoms: u64,
+    pub actions: u64,
+}
+
+/// Counts in one walk of the tree; no limit is asked.
+pub fn tally(question: &[u8], site: &[u8]) -> Result<Tally, Refusal> {
+    let (question, structure) = case(question, site)?;
+    let n = structure.n as u64;
+    let mut tally = Tally { nodes: 0, atoms: 3, actions: 2 };
+    for (number, relation) in question.signature.relations.iter().enumerate() {
+        let tuples = n.pow(relation.arity() as u32);
+        let places =
+            u64::from(relation.kind.is_function()) + u64::from(relation.kind.is_injective());
+        tally.atoms += 2 * tuples + places * n;
+        tally.actions += if question.signature.chosen().contains(&number) { tuples } else { 0 };
+    }
+    if !question.tree.nodes.is_empty() {
+        visit(&question.tree, 0, n, &mut tally);
+    }
+    Ok(tally)
+}
+
+fn visit(tree: &Tree, number: usize, n: u64, tally: &mut Tally) {
+    let node = &tree.nodes[number];
+    let rows = n.pow(node.free.count_ones());
+    let (atoms, actions) = match node.shape {
+        Shape::Forall => (n, n),
+        Shape::Exists => (1, n),
+        Shape::And => (1, 1),
+        Shape::Or => (1, node.parts.len() as u64),
+    };
+    tally.nodes += 1;
+    tally.atoms += rows * atoms;
+    tally.actions += rows * actions;
+    for part in &tree.parts[node.parts.clone()] {
+        if let Part::Node(below) = part {
+            visit(tree, *below, n, tally);
+        }
+    }
+}
+
+/// For each `choose`, 1 and the atoms of every node that has a literal of it
+/// somewhere below.
+pub fn allowances(question: &[u8], site: &[u8], out: &mut [u64]) -> Reply {
+    allowances_with(question, site, out).into()
+}
+
+fn allowances_with(question: &[u8], site: &[u8], out: &mut [u64]) -> Result<usize, Refusal> {
+    let (question, structure) = case(question, site)?;
+    let problem = Problem::new(&question, &structure)?;
+    let chosen = question.signature.chosen();
+    room(out.len(), chosen.len())?;
+    for (entry, relation) in out.iter_mut().zip(chosen) {
+        let mut moved = 1;
+        for (number, node) in problem.nodes.iter().enumerate() {
+            if mentions(&question.tree, number, relation) {
+                moved += u64::from(node.rows) * u64::from(node.width);
+            }
+        }
+        *entry = moved;
+    }
+    Ok(0)
+}
+
+fn mentions(tree: &Tree, number: usize, relation: usize) -> bool {
+    tree.parts[tree.nodes[number].parts.clone()].iter().any(|part| match part {
+        Part::Literal(literal) => literal.relation == relation,
+        Part::Node(below) => mentions(tree, *below, relation),
+    })
+}
