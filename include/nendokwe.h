@@ -56,6 +56,13 @@ void nendokwe_build(const uint8_t *question, size_t question_length, const uint8
                     const uint64_t *picks, size_t picks_length, uint64_t *state, size_t state_length,
                     uint32_t *steps, size_t steps_length, uint32_t *number, size_t *place);
 
+/* Says whether the rule is true of picks, as a text or as words, and writes nothing: a yes is 0 and 0, a no or any other refusal is what
+ * building answers with buffers that are long enough. */
+void nendokwe_judge_text(const uint8_t *question, size_t question_length, const uint8_t *site, size_t site_length,
+                         const uint8_t *picks, size_t picks_length, uint32_t *number, size_t *place);
+void nendokwe_judge(const uint8_t *question, size_t question_length, const uint8_t *site, size_t site_length,
+                    const uint64_t *picks, size_t picks_length, uint32_t *number, size_t *place);
+
 /* How far one pick can move the built steps: for each `choose`, in order, one number. Where picks that steps are built from get one
  * tuple of that relation more, or one less, and steps are built again, the two step counts differ by at most this number. The buffer
  * needs one entry for each `choose`; success is 0 and 0. */

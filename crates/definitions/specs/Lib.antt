@@ -13,6 +13,7 @@
 --   "Case drawer"                  Drawer; Cases has further ones, Whole looks at all that a call leaves
 -- Document 02, "What customers want changed later":
 --   job 3, sizes in one pass       Tally; TallyCases has cases
+--   job 6, yes or no               Judgement; JudgementCases has cases
 --   job 8, twenty tries            Tries; TriesDrawn has cases
 --   job 14, one card               Allowance; AllowanceCases has cases
 pub mod Limits
@@ -34,6 +35,7 @@ pub mod Demand
 pub mod Desk
 pub mod Tally
 pub mod Tries
+pub mod Judgement
 pub mod Allowance
 pub mod Opened
 pub mod Drawer
@@ -41,4 +43,5 @@ pub mod Cases
 pub mod Whole
 pub mod TallyCases
 pub mod TriesDrawn
+pub mod JudgementCases
 pub mod AllowanceCases

@@ -9,6 +9,7 @@ ghost use Rattle.cases.specs.Replies.{resultOf, sizingOf};
 ghost use Rattle.cases.specs.Asked.{actionOf};
 ghost use Rattle.nendokwe.specs.Told.{numberOf, placeOf, told, kindOf, subjectOf, rowIn, choiceOf, detailsOf};
 ghost use Rattle.definitions.specs.Allowance.{allowances as «allowances-of»};
+ghost use Rattle.definitions.specs.Judgement.{judge};
 ghost use Rattle.definitions.specs.Tries.{tryLists};
 ghost use Rattle.tries.specs.Recorded.{records};
 use cases::Asked;
@@ -293,6 +294,38 @@ pub extern "C" fn nendokwe_build(
     ensures { λ _. ⌜ now (steps .exit) ≡ buildSteps (now (question .entry)) (now (site .entry)) (asNumbers (now (picks .entry))) (now (state .entry)) (now (steps .entry)) .steps ⌝ }
 {
     let r = building::build_lent(question, site, picks, state, steps);
+    tell(r, number, place);
+}
+
+// Whether the rule is true of picks that are handed over as a text: 0 and 0, or a refusal.
+#[no_mangle]
+pub extern "C" fn nendokwe_judge_text(
+    question: &[u8],
+    site: &[u8],
+    picks: &[u8],
+    number: &mut u32,
+    place: &mut usize,
+)
+    ensures { λ _. ⌜ now (number .exit) ≡ replyNumber (judge (now (question .entry)) (now (site .entry)) (asText (now (picks .entry)))) ⌝ }
+    ensures { λ _. ⌜ now (place .exit) ≡ replyPlace (judge (now (question .entry)) (now (site .entry)) (asText (now (picks .entry)))) ⌝ }
+{
+    let r = judging::judge_text(question, site, picks);
+    tell(r, number, place);
+}
+
+// The same for picks that are lent as words.
+#[no_mangle]
+pub extern "C" fn nendokwe_judge(
+    question: &[u8],
+    site: &[u8],
+    picks: &[u64],
+    number: &mut u32,
+    place: &mut usize,
+)
+    ensures { λ _. ⌜ now (number .exit) ≡ replyNumber (judge (now (question .entry)) (now (site .entry)) (asNumbers (now (picks .entry)))) ⌝ }
+    ensures { λ _. ⌜ now (place .exit) ≡ replyPlace (judge (now (question .entry)) (now (site .entry)) (asNumbers (now (picks .entry)))) ⌝ }
+{
+    let r = judging::judge_lent(question, site, picks);
     tell(r, number, place);
 }
 

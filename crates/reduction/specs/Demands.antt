@@ -15,6 +15,7 @@
 --   11  trying, tries-alone, tries-outside, tries-accepts, tries-place; tries-refuse, tries-length
 --   12  one-pick, one-pick-built, allowances-are, allowances-refuse, allowances-length
 --   13  visited-are, visited-once, tallied, sizes-tallied
+--   14  judging
 use Prim.Native.Nat.{ℕ, zero, _+_, _*_, _^_, _<_, _≤_}
 use mathlib.Core.Path.{_≡_, refl, sym, ap, subst, subst₂, _∙_}
 use mathlib.Core.Logic.{_⊎_, ⊎-elim, _↔_}
@@ -43,6 +44,7 @@ use Rattle.definitions.specs.Tally.{walked, tally}
 use Rattle.definitions.specs.Allowance.{allowance, allowancesOf, allowedFrom, allowances}
 use Rattle.definitions.specs.Demand.{isAccepted, caseIsAccepted, stepsAreAccepted, areSamePicks}
 use Rattle.definitions.specs.Tries.{Try, Tried, tried, tryLists}
+use Rattle.definitions.specs.Judgement.{judge, forget}
 use Rattle.laws.specs.Numbers
 use Rattle.laws.specs.Words
 use Rattle.laws.specs.Walks
@@ -72,6 +74,7 @@ use Rattle.reduction.specs.Decimals
 use Rattle.reduction.specs.Told
 use Rattle.reduction.specs.Written
 use Rattle.reduction.specs.Trying
+use Rattle.reduction.specs.Judging
 use Rattle.reduction.specs.OnePick
 
 -- A question and a site are accepted exactly if a case is read from them and its problem is within the limits.
@@ -469,6 +472,12 @@ module _ (question site : List ℕ) where
 
   pub build-length : (picks : Given) (state steps : List ℕ) → (length (buildSteps question site picks state steps .state) ≡ length state) × (length (buildSteps question site picks state steps .steps) ≡ length steps)
   build-length picks state steps = Buffers.build-length question site picks state steps
+
+  -- ---- 14, document 02, job 6. Judging answers as building does, but for the count of steps: exactly so where the state and the steps have
+  -- room for the problem, if one is read; where none is, whatever is lent.
+  pub judging : (picks : Given) (state steps : List ℕ) → ((p : Problem) → readProblem question site ≡ accepted p → (stateLength p ≤ length state) × (bound p ≤ length steps))
+      → judge question site picks ≡ forget (buildSteps question site picks state steps .answer)
+  judging picks state steps rooms = Judging.alike question site picks state steps rooms
 
   -- Many step lists: 1 to 12, which leave the records and the state's buffer as they were.
   pub tries-refuse : (steps : List ℕ) (tries : List Try) (state : List ℕ) (k place : ℕ) → tryLists question site steps tries state .answer ≡ refused k place

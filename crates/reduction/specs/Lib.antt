@@ -30,6 +30,7 @@
 --   Refusals     which numbers each call refuses with
 --   Buffers      what is left in lent buffers
 --   Filed        what the desk program prints
+--   Judging      judging answers as building does with room enough
 --   Trying       many step lists of one case, each as if checked alone
 --   OnePick      one pick more or less: how far the built steps move
 pub mod Demands
@@ -63,5 +64,6 @@ pub mod Written
 pub mod Refusals
 pub mod Buffers
 pub mod Filed
+pub mod Judging
 pub mod Trying
 pub mod OnePick

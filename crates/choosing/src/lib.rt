@@ -1,0 +1,53 @@
+// The flat table of a case's relations alone: what is asked of lent picks (their words, spare bits, kinds) needs no node.
+ghost use mathlib.Core.Path.{_≡_};
+ghost use Prim.Native.Nat.{_<_, _≤_};
+ghost use lib.ListN.{length};
+ghost use Rattle.definitions.specs.Limits.{actionLimit};
+ghost use Rattle.definitions.specs.Atoms.{Problem};
+ghost use Rattle.rows.specs.Values.{Most};
+ghost use Rattle.ground.specs.Lines.{tableLength, Fits};
+ghost use Rattle.ground.specs.Of.{Is};
+ghost use Rattle.tree.specs.declared.Nodes.{Nodes as «Nodes-of»};
+ghost use Rattle.layout.specs.Laid.{RelationsFit, Inputs, Starts, Small};
+ghost use Rattle.choosing.specs.Bare.{noNodes, bare};
+use layout::Layout;
+use layout::Relations;
+use tree::NodeRow;
+use tree::Nodes;
+use tree::PartRow;
+
+// A table of nodes that has none.
+fn no_nodes() -> Nodes
+    ensures { λ r. ⌜ r ≡ noNodes ⌝ }
+{
+    let part = PartRow {
+        tag: 0,
+        which: 0,
+        levels: [0u8; 4],
+        width: 0,
+    };
+    let row = NodeRow {
+        kind: 0,
+        level: 0,
+        levels: [0u8; 4],
+        width: 0,
+        first: 0,
+        many: 0,
+    };
+    Nodes {
+        count: 0,
+        placed: 0,
+        rows: [row; tree::NODES],
+        parts: [part; tree::NODES],
+        root: part,
+    }
+}
+
+// Fills the lent table of zeros with the lines of the relations.
+pub fn fill(table: &mut [usize], n: usize, g: Relations, l: Layout)
+    requires { ⌜ (length (now table) ≡ tableLength) × Most (now table) 0 × (0 < n) × (n ≤ 64) × RelationsFit g × Small l actionLimit ⌝ }
+    ensures { λ r. ⌜ Fits (now (table .exit)) × ((p : Problem) (t : «Nodes-of») → 0 < length (p .relations) → Inputs p n g t → Starts p l → Is (bare p) (now (table .exit))) ⌝ }
+{
+    let t = no_nodes();
+    table::fill(table, n, g, t, l);
+}

@@ -1,0 +1,3 @@
+-- Words of this crate's contracts, and their laws: where judging can end.
+pub mod Judges
+pub mod Calls

@@ -1,0 +1,157 @@
+// Yes or no: whether the rule is true of picks, which are handed over as a text or lent as words. No step is built, and no atom has a
+// number: the rule is evaluated on the bits of facts and picks.
+ghost use mathlib.Core.Path.{_≡_};
+ghost use mathlib.Core.Bool.{true};
+ghost use mathlib.Core.List.{List};
+ghost use Prim.Native.Nat.{ℕ, _^_, _<_, _≤_};
+ghost use Rattle.definitions.specs.Relations.{Tuple};
+ghost use Rattle.definitions.specs.Truth.{Case, arePicks, ruleIsTrue};
+ghost use Rattle.definitions.specs.Atoms.{Problem, problemOf};
+ghost use Rattle.definitions.specs.Built.{chosenNumbers};
+ghost use Rattle.definitions.specs.Outcome.{spareWord, asText, asNumbers};
+ghost use Rattle.definitions.specs.Judgement.{judge};
+ghost use Rattle.reduction.specs.Reader.{Accepted as «Accepted-case»};
+ghost use Rattle.bits.specs.Table.{bit};
+ghost use Rattle.tree.specs.Tables.{Fits as «Tree-fits»};
+ghost use Rattle.ground.specs.Lines.{Fits};
+ghost use Rattle.ground.specs.Of.{Is};
+ghost use Rattle.layout.specs.Laid.{RelationsFit, Inputs};
+ghost use Rattle.initial.specs.Initial.{FactsIn};
+ghost use Rattle.picks.specs.Words.{PicksAre};
+ghost use Rattle.cases.specs.Replies.{resultOf};
+ghost use Rattle.building.specs.Spare.{spareIn};
+ghost use Rattle.judging.specs.Judges.{verdict, told, AcceptedIn, SomeCase, Asks, FromWords};
+use cases::Reply;
+use ground::RelationLine;
+use layout::Relations;
+use opening::Opened;
+use sheets::Answer;
+use tree::Nodes;
+
+// The first word of lent picks that has a spare bit set, or that none has.
+enum Spare {
+    Clear,
+    Word(usize),
+}
+
+// Whether a relation has a spare bit set. Its words start with word `word`; the tuples leave bits over in the last one alone.
+fn has_spare(picks: &[u64], word: usize, line: RelationLine) -> bool
+    requires { ⌜ (word ≤ 2 ^ 32) × (line .nots ≤ 2 ^ 32) ⌝ }
+    ensures { λ r. ⌜ r ≡ spareIn (now (picks .entry)) word line ⌝ }
+{
+    if line.kind == 0 {
+        return false;
+    }
+    let tuples = picks::tuples_in(line);
+    let used = tuples % 64;
+    if used == 0 {
+        return false;
+    }
+    0 < reading::word_at(picks, word + tuples / 64) >> used
+}
+
+// The first word of lent picks that has a spare bit set.
+fn spare_word(table: &[usize], picks: &[u64]) -> Spare
+    requires { ⌜ Fits (now table) ⌝ }
+    ensures { λ s. ⌜ ((p : Problem) → Is p (now (table .entry)) → told s ≡ spareWord p (now (picks .entry)) 0 (chosenNumbers p)) ⌝ }
+{
+    let mut word: usize = 0;
+    let mut r: usize = 0;
+    while r < table[1] {
+        let line = ground::relation_line(table, r);
+        if has_spare(picks, word, line) {
+            return Spare::Word(word + picks::tuples_in(line) / 64);
+        }
+        word += picks::words_in(line);
+        r += 1;
+    }
+    Spare::Clear
+}
+
+// Whether the rule is true of picks: its lines are filled, then evaluated.
+fn is_true(n: usize, g: Relations, t: Nodes, facts: &[u64], picks: &[u64]) -> bool
+    requires { ⌜ (0 < n) × (n ≤ 64) × RelationsFit g × «Tree-fits» t × SomeCase n g t ⌝ }
+    ensures { λ r. ⌜ ((c : Case) (F : List Tuple) → «Accepted-case» c → arePicks c F ≡ true → Inputs (problemOf c) n g t → FactsIn (problemOf c) (now (facts .entry)) → PicksAre (problemOf c) (now (picks .entry)) F
+        → r ≡ ruleIsTrue c F) ⌝ }
+{
+    let mut lines = [0usize; truth::LINES];
+    lines::fill(&mut lines, n, g, t);
+    lines::rule_is_true(&lines, facts, picks, n)
+}
+
+// 16, then 17, then yes.
+fn decide(table: &[usize], n: usize, g: Relations, t: Nodes, facts: &[u64], picks: &[u64]) -> Reply
+    requires { ⌜ Fits (now table) × (0 < n) × (n ≤ 64) × RelationsFit g × «Tree-fits» t × SomeCase n g t ⌝ }
+    ensures { λ r. ⌜ ((c : Case) (F : List Tuple) → Asks c F n g t (now (table .entry)) (now (facts .entry)) (now (picks .entry)) → resultOf r ≡ verdict c F) ⌝ }
+{
+    let kinds = picks::test_kinds(table, picks);
+    match kinds {
+        picks::Kinds::Broken(i) => Reply::Refused(16, i),
+        picks::Kinds::Kept => {
+            if is_true(n, g, t, facts, picks) {
+                return Reply::Accepted(0);
+            }
+            Reply::Refused(17, 0)
+        }
+    }
+}
+
+// Of a case that was read, from picks that stand in words: 11, 12, 10, then what is decided. Words past the needed length are not
+// looked at. (Picks read from a text have words enough, and no spare bit.)
+fn judge_case(question: &[u8], o: Opened, facts: &[u64], picks: &[u64]) -> Reply
+    requires { ⌜ AcceptedIn (now question) o (bit (now facts)) ⌝ }
+    ensures { λ r. ⌜ FromWords (now (question .entry)) o (bit (now (facts .entry))) (now (picks .entry)) r ⌝ }
+{
+    let sig = o.sig;
+    let rule = o.rule;
+    let n = o.n;
+    let g = relations::relations_of(sig);
+    let t = rewriting::nodes_of(question, rule.from, rule.to, sig);
+    let m = layout::lay_out(n, g, t);
+    if m.over {
+        return Reply::Refused(11, 0);
+    }
+    let mut table = [0usize; ground::TABLE];
+    let l = m.layout;
+    choosing::fill(&mut table, n, g, l);
+    let held = reading::picks_length(&table);
+    if picks.len() < held {
+        return Reply::Refused(12, held);
+    }
+    let s = spare_word(&table, picks);
+    match s {
+        Spare::Word(j) => Reply::Refused(10, j),
+        Spare::Clear => decide(&table, n, g, t, facts, picks),
+    }
+}
+
+// Whether the rule is true of picks that are handed over as a text.
+pub fn judge_text(question: &[u8], site: &[u8], picks: &[u8]) -> Reply
+    ensures { λ r. ⌜ resultOf r ≡ judge (now (question .entry)) (now (site .entry)) (asText (now (picks .entry))) ⌝ }
+{
+    let mut facts = [0u64; 512];
+    let o = opening::read_case(question, site, &mut facts);
+    if o.fault != 0 {
+        return Reply::Refused(o.fault, o.place);
+    }
+    let mut words = [0u64; 256];
+    let sig = o.sig;
+    let n = o.n;
+    let a = sheets::picks(question, sig, picks, n, &mut words);
+    match a {
+        Answer::Refused(k, place) => Reply::Refused(k, place),
+        Answer::Done(_) => judge_case(question, o, &facts, &words),
+    }
+}
+
+// Whether the rule is true of picks that are lent as words.
+pub fn judge_lent(question: &[u8], site: &[u8], picks: &[u64]) -> Reply
+    ensures { λ r. ⌜ resultOf r ≡ judge (now (question .entry)) (now (site .entry)) (asNumbers (now (picks .entry))) ⌝ }
+{
+    let mut facts = [0u64; 512];
+    let o = opening::read_case(question, site, &mut facts);
+    if o.fault != 0 {
+        return Reply::Refused(o.fault, o.place);
+    }
+    judge_case(question, o, &facts, picks)
+}

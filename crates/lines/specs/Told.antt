@@ -1,0 +1,472 @@
+-- That the lines say what `truth` asks.
+use mathlib.Core.Path.{_≡_, refl, sym, ap, ap₂, subst, _∙_}
+use mathlib.Core.Logic.{_⊎_, inl, inr, ⊎-elim}
+use mathlib.Core.Bool.{Bool, true, false, not}
+use mathlib.Core.List.{List, [], _∷_, _++_, map}
+use Prim.Native.Nat.{ℕ, zero, suc, _+_, _-_, _*_, _^_, _≤_, _<_}
+use native.Mathlib.Omega.{arith}
+use native.Mathlib.Nat.{add-zero}
+use borrow.Author.Tests.{lt-ltb, le-ltb, ltb-true, ltb-false}
+use lib.Dec.{T, eqb, ltb, ltb→lt}
+use lib.ListN.{length, getD, take, drop, length-map}
+use lib.Seq.{getD-drop}
+use Rattle.definitions.specs.Lists.{if_then_else_, all, from, below}
+use Rattle.laws.specs.Booleans.{and-T, T-and-l, T-and-r}
+use Rattle.laws.specs.Lists.{all-at, getD-mem}
+use Rattle.definitions.specs.Relations.{Tuple}
+use Rattle.definitions.specs.Truth.{Case, membersOf, holds, arePicks, ruleIsTrue}
+use Rattle.definitions.specs.Tree.{Tree, Trees, leaf, forallNode, existsNode, andNode, orNode, end, _then_, Part, parts, partsFrom, nodes, nodesAll, treeOf}
+use Rattle.definitions.specs.Atoms.{Problem, problemOf, problemWith, relationAt, nodeAt, rowOf}
+use Rattle.definitions.specs.Actions.{Values}
+use Rattle.definitions.specs.Built.{treeHolds}
+use Rattle.reduction.specs.Reader.{Accepted}
+use Rattle.reduction.specs.Grounded.{good}
+use Rattle.reduction.specs.Meaning.{tree-means}
+use Rattle.reduction.specs.Means.{here-at}
+use Rattle.reduction.specs.Parts.{Bnd, bnd-map, Fits, IsNode as NotLeaf, Here, HereAll, under-forall, under-exists, parts-and, parts-or, head-here, tail-here, node-at}
+use Rattle.tree.specs.Tables.{Head, headIn, headOf, headFrom, nodeKind, nodeLevel, noNode, PartFits, IsNode, IsTable, Fits as TreeFits}
+use Rattle.tree.specs.Tables.{noPart as noRow}
+use Rattle.tree.specs.declared.PartRow.{PartRow}
+use Rattle.tree.specs.declared.NodeRow.{NodeRow}
+use Rattle.tree.specs.declared.Nodes.{Nodes}
+use Rattle.rows.specs.Values.{valueIn, weightOf, weighed}
+use Rattle.rows.specs.Laws.{row-weighed}
+use Rattle.ground.specs.Of.{noPart}
+use Rattle.ground.specs.Lines.{partNumber, membersIn}
+use Rattle.ground.specs.NeedLaws.{members-length}
+use Rattle.ground.specs.declared.PartLine.{PartLine}
+use Rattle.layout.specs.declared.Relations.{Relations}
+use Rattle.layout.specs.Laid.{Inputs}
+use Rattle.layout.specs.StartsAre.{many-are}
+use Rattle.initial.specs.Initial.{FactsIn}
+use Rattle.picks.specs.Words.{PicksAre}
+use Rattle.truth.specs.Lines.{rangesPlace, linesLength, elementIn, nodeIn, partIn, lineIn, literalAt, leafAt, agree, NodeSound, Sound}
+use Rattle.truth.specs.Says.{nodeOf as nodeOfTree, noValues, truthBy, PartSays, NodeSays, Says}
+use Rattle.truth.specs.declared.NodeAt.{NodeAt}
+use Rattle.truth.specs.declared.PartAt.{PartAt}
+use Rattle.lines.specs.Lined.{sourceOf, bitOf, partOf, lineOf, ownLine, blockLine, nodeOf, Lined}
+use Rattle.lines.specs.Blocks.{under, joinOf, blockParts, blockKind, blockLevel, blockJoin, blockTruth, GoesOver, block-truth}
+use Rattle.lines.specs.Literals.{literal-is}
+
+-- ---- the head of one part among those of a node
+heads-at : (ps : List PartRow) (m : ℕ) (qs : List Part) → map headIn (take m ps) ≡ map headOf qs → (i : ℕ) → i < length qs → headIn (getD ps i noRow) ≡ headOf (getD qs i noPart)
+heads-at ps m [] e i h = absurd (omega arith)
+heads-at ps zero (q ∷ qs) e i h = let z = ap length e in absurd (omega (arith, z))
+heads-at [] (suc m) (q ∷ qs) e i h = let z = ap length e in absurd (omega (arith, z))
+heads-at (x ∷ ps) (suc m) (q ∷ qs) e zero h = cc
+heads-at (x ∷ ps) (suc m) (q ∷ qs) e (suc i) h = let b : map headIn (take m ps) ≡ map headOf qs = cc in heads-at ps m qs b i (omega arith)
+
+-- ---- parts stand in the tree, after their node
+module _ (p : Problem) where
+  parts-here : (ts : Trees) (k : ℕ) → HereAll p k ts → (i : ℕ) → i < length (partsFrom k ts) → Here p (getD (partsFrom k ts) i noPart .node) (getD (partsFrom k ts) i noPart .tree) × (k ≤ getD (partsFrom k ts) i noPart .node)
+  unfolding partsFrom
+  parts-here end k h i l = absurd (omega arith)
+  parts-here (t then ts) k h zero l = (head-here p k t ts h, omega arith)
+  parts-here (t then ts) k h (suc i) l = let r = parts-here ts (k + length (nodes t)) (tail-here p k t ts h) i (omega arith) in (r .0, omega (arith, r .1))
+
+  under-here : (k : ℕ) (t : Tree) → Here p k t → (i : ℕ) → i < length (under k t) → Here p (getD (under k t) i noPart .node) (getD (under k t) i noPart .tree) × (k ≤ getD (under k t) i noPart .node)
+  unfolding under
+  under-here k (leaf q r ls) h zero l = (h, omega arith)
+  under-here k (leaf q r ls) h (suc i) l = absurd (omega arith)
+  under-here k (forallNode d σ t) h zero l = (h, omega arith)
+  under-here k (forallNode d σ t) h (suc i) l = absurd (omega arith)
+  under-here k (existsNode d σ t) h zero l = (h, omega arith)
+  under-here k (existsNode d σ t) h (suc i) l = absurd (omega arith)
+  under-here k (andNode ts) h i l = let r = parts-here ts (suc k) (parts-and p k ts h) i l in (r .0, omega (arith, r .1))
+  under-here k (orNode ts) h i l = let r = parts-here ts (suc k) (parts-or p k ts h) i l in (r .0, omega (arith, r .1))
+
+  block-here : (v : ℕ) (u : Tree) → Here p v u → (i : ℕ) → i < length (blockParts v u) → Here p (getD (blockParts v u) i noPart .node) (getD (blockParts v u) i noPart .tree) × (v < getD (blockParts v u) i noPart .node)
+  unfolding blockParts
+  block-here v (leaf q r ls) h i l = absurd (omega arith)
+  block-here v (forallNode d σ t) h i l = let r = under-here (suc v) t (under-forall p v d σ t h) i l in (r .0, omega (arith, r .1))
+  block-here v (existsNode d σ t) h i l = let r = under-here (suc v) t (under-exists p v d σ t h) i l in (r .0, omega (arith, r .1))
+  block-here v (andNode ts) h i l = let r = parts-here ts (suc v) (parts-and p v ts h) i l in (r .0, omega (arith, r .1))
+  block-here v (orNode ts) h i l = let r = parts-here ts (suc v) (parts-or p v ts h) i l in (r .0, omega (arith, r .1))
+
+-- ---- a block's line
+
+-- how often the parts of a block are gone through
+unfoldable pub blockTurns : ℕ → Tree → ℕ
+blockTurns n (leaf q r ls) = 1
+blockTurns n (forallNode d σ t) = n
+blockTurns n (existsNode d σ t) = n
+blockTurns n (andNode ts) = 1
+blockTurns n (orNode ts) = 1
+
+pub record IsBlock (n : ℕ) (t : Nodes) (v : ℕ) (u : Tree) (x : NodeAt) : Type 0 where
+  pub kind : x .kind ≡ blockKind u
+  pub level : x .level ≡ blockLevel u
+  pub join : x .join ≡ blockJoin u
+  pub many : x .many ≡ length (blockParts v u)
+  pub head : (i : ℕ) → i < length (blockParts v u) → headIn (getD (t .parts) (x .first + i) noRow) ≡ headOf (getD (blockParts v u) i noPart)
+  pub fits : x .first + x .many ≤ t .placed
+  pub low : x .level < 4
+  pub range : x .range ≡ rangesPlace
+  pub count : x .count ≡ blockTurns n u
+
+-- ... of what stands right under a quantifier of row x
+pub record IsUnder (n : ℕ) (t : Nodes) (k : ℕ) (s : Tree) (x : NodeRow) (z : NodeAt) : Type 0 where
+  pub kind : z .kind ≡ x .kind
+  pub level : z .level ≡ x .level
+  pub join : z .join ≡ joinOf s
+  pub many : z .many ≡ length (under k s)
+  pub head : (i : ℕ) → i < length (under k s) → headIn (getD (t .parts) (z .first + i) noRow) ≡ headOf (getD (under k s) i noPart)
+  pub fits : z .first + z .many ≤ t .placed
+  pub range : z .range ≡ rangesPlace
+  pub count : z .count ≡ n
+
+module _ (n : ℕ) (t : Nodes) (x : NodeRow) where
+  abbrev part₀ : PartRow
+  part₀ = getD (t .parts) (x .first) noRow
+
+  abbrev row₀ : NodeRow
+  row₀ = getD (t .rows) (part₀ .which) noNode
+
+  abbrev plainLine : NodeAt
+  plainLine = record { kind = x .kind; level = x .level; join = 1; first = x .first; many = x .many; range = rangesPlace; count = n }
+
+  own-join : 2 ≤ x .kind → nodeOf n t x ≡ record { kind = 2; level = 0; join = x .kind - 2; first = x .first; many = x .many; range = rangesPlace; count = 1 }
+  unfolding nodeOf blockLine ownLine
+  own-join h = rw (le-ltb (x .kind) 2 h) refl
+
+  own-literal : x .kind < 2 → part₀ .tag < 2 → nodeOf n t x ≡ plainLine
+  unfolding nodeOf blockLine ownLine
+  own-literal h q = rw (lt-ltb (x .kind) 2 h, lt-ltb (part₀ .tag) 2 q) refl
+
+  own-quantifier : x .kind < 2 → 2 ≤ part₀ .tag → row₀ .kind < 2 → nodeOf n t x ≡ plainLine
+  unfolding nodeOf blockLine ownLine
+  own-quantifier h q k = rw (lt-ltb (x .kind) 2 h, le-ltb (part₀ .tag) 2 q, lt-ltb (row₀ .kind) 2 k) refl
+
+  fused : x .kind < 2 → 2 ≤ part₀ .tag → 2 ≤ row₀ .kind → nodeOf n t x ≡ record { kind = x .kind; level = x .level; join = row₀ .kind - 2; first = row₀ .first; many = row₀ .many; range = rangesPlace; count = n }
+  unfolding nodeOf blockLine
+  fused h q k = rw (lt-ltb (x .kind) 2 h, le-ltb (part₀ .tag) 2 q, le-ltb (row₀ .kind) 2 k) refl
+
+  under-plain : (k : ℕ) (s : Tree) → under k s ≡ record { node = k; tree = s } ∷ [] → joinOf s ≡ 1 → x .many ≡ 1 → headIn part₀ ≡ headFrom k s → x .first + x .many ≤ t .placed → nodeOf n t x ≡ plainLine → IsUnder n t k s x (nodeOf n t x)
+  under-plain k s u j m h f e = rw e (record {
+    kind = refl;
+    level = refl;
+    join = sym j;
+    many = rw u m;
+    head = λ i l. go i (rw u at l);
+    fits = f;
+    range = refl;
+    count = refl;
+  })
+    where
+      go : (i : ℕ) → i < 1 → headIn (getD (t .parts) (x .first + i) noRow) ≡ headOf (getD (under k s) i noPart)
+      go zero l = rw u (ap (λ (z : ℕ). headIn (getD (t .parts) z noRow)) (add-zero (x .first)) ∙ h)
+      go (suc i) l = absurd (omega arith)
+
+module _ (p : Problem) (n : ℕ) (g : Relations) (t : Nodes) (inputs : Inputs p n g t) (ft : TreeFits t) where
+  count-is : t .count ≡ length (p .nodeList)
+  count-is = inputs .tree .count ∙ ap length (sym (inputs .list))
+
+  row-is : (v : ℕ) → v < length (p .nodeList) → IsNode v (nodeAt p v) (getD (t .rows) v noNode) (t .parts)
+  unfolding nodeAt
+  row-is v h = subst (λ (us : List Tree). IsNode v (getD us v (leaf true 0 [])) (getD (t .rows) v noNode) (t .parts)) (sym (inputs .list)) (inputs .tree .node v (omega (arith, count-is)))
+
+  placed-is : (v : ℕ) → getD (t .rows) v noNode .first + getD (t .rows) v noNode .many ≤ t .placed
+  placed-is v = ft .nodes .node v .parts
+
+  in-parts : (v : ℕ) → getD (t .rows) v noNode .first + getD (t .rows) v noNode .many ≤ length (t .parts)
+  in-parts v = omega (arith, ft .nodes .node v .parts, ft .few-parts, ft .parts .parts-length)
+
+  heads-of : (v : ℕ) (u : Tree) (x : NodeRow) → IsNode v u x (t .parts) → (i : ℕ) → i < length (parts v u) → headIn (getD (t .parts) (x .first + i) noRow) ≡ headOf (getD (parts v u) i noPart)
+  heads-of v u x is i l = ap headIn (sym (getD-drop (x .first) (t .parts) i noRow)) ∙ heads-at (drop (x .first) (t .parts)) (x .many) (parts v u) (is .parts) i l
+
+  -- the join right under a quantifier
+  under-join : (k : ℕ) (s : Tree) (x : NodeRow) → x .kind < 2 → 2 ≤ part₀ n t x .tag → part₀ n t x .which ≡ k → 2 ≤ nodeKind s → nodeKind s - 2 ≡ joinOf s → under k s ≡ parts k s → IsNode k s (getD (t .rows) k noNode) (t .parts) → IsUnder n t k s x (nodeOf n t x)
+  under-join k s x h q w m j u is =
+      let e : row₀ n t x ≡ getD (t .rows) k noNode = ap (λ (z : ℕ). getD (t .rows) z noNode) w in
+      let r : 2 ≤ row₀ n t x .kind = rw (e, is .kind) m in
+      rw (fused n t x h q r, e) (record {
+        kind = refl;
+        level = refl;
+        join = ap (λ (z : ℕ). z - 2) (is .kind) ∙ j;
+        many = rw u (many-are k s (getD (t .rows) k noNode) (t .parts) is (in-parts k));
+        head = λ i l. rw u (heads-of k s (getD (t .rows) k noNode) is i (rw u at l));
+        fits = placed-is k;
+        range = refl;
+        count = refl;
+      })
+
+  under-is : (v : ℕ) (s : Tree) (x : NodeRow) → x .kind < 2 → x .many ≡ 1 → x .first + x .many ≤ t .placed → headIn (part₀ n t x) ≡ headFrom (suc v) s → Here p (suc v) s → IsUnder n t (suc v) s x (nodeOf n t x)
+  unfolding headFrom under joinOf parts nodeKind NotLeaf
+  under-is v (leaf true r ls) x h m f e here =
+      let q : part₀ n t x .tag ≡ 0 = ap (λ (z : Head). z .tag) e in
+      under-plain n t x (suc v) (leaf true r ls) refl refl m e f (own-literal n t x h (omega arith))
+  under-is v (leaf false r ls) x h m f e here =
+      let q : part₀ n t x .tag ≡ 1 = ap (λ (z : Head). z .tag) e in
+      under-plain n t x (suc v) (leaf false r ls) refl refl m e f (own-literal n t x h (omega arith))
+  under-is v (forallNode d σ s) x h m f e here =
+      let q : part₀ n t x .tag ≡ 2 = ap (λ (z : Head). z .tag) e in
+      let w : part₀ n t x .which ≡ suc v = ap (λ (z : Head). z .which) e in
+      let a = node-at p (suc v) (forallNode d σ s) here tt in
+      let is = row-is (suc v) (a .1) in
+      let k : row₀ n t x .kind ≡ 0 = ap (λ (z : ℕ). getD (t .rows) z noNode .kind) w ∙ is .kind ∙ ap nodeKind (a .0) in
+      under-plain n t x (suc v) (forallNode d σ s) refl refl m e f (own-quantifier n t x h (omega arith) (omega arith))
+  under-is v (existsNode d σ s) x h m f e here =
+      let q : part₀ n t x .tag ≡ 3 = ap (λ (z : Head). z .tag) e in
+      let w : part₀ n t x .which ≡ suc v = ap (λ (z : Head). z .which) e in
+      let a = node-at p (suc v) (existsNode d σ s) here tt in
+      let is = row-is (suc v) (a .1) in
+      let k : row₀ n t x .kind ≡ 1 = ap (λ (z : ℕ). getD (t .rows) z noNode .kind) w ∙ is .kind ∙ ap nodeKind (a .0) in
+      under-plain n t x (suc v) (existsNode d σ s) refl refl m e f (own-quantifier n t x h (omega arith) (omega arith))
+  under-is v (andNode ts) x h m f e here =
+      let q : part₀ n t x .tag ≡ 3 = ap (λ (z : Head). z .tag) e in
+      let w : part₀ n t x .which ≡ suc v = ap (λ (z : Head). z .which) e in
+      let a = node-at p (suc v) (andNode ts) here tt in
+      under-join (suc v) (andNode ts) x h (omega arith) w (omega arith) refl refl (subst (λ (z : Tree). IsNode (suc v) z (getD (t .rows) (suc v) noNode) (t .parts)) (a .0) (row-is (suc v) (a .1)))
+  under-is v (orNode ts) x h m f e here =
+      let q : part₀ n t x .tag ≡ 3 = ap (λ (z : Head). z .tag) e in
+      let w : part₀ n t x .which ≡ suc v = ap (λ (z : Head). z .which) e in
+      let a = node-at p (suc v) (orNode ts) here tt in
+      under-join (suc v) (orNode ts) x h (omega arith) w (omega arith) refl refl (subst (λ (z : Tree). IsNode (suc v) z (getD (t .rows) (suc v) noNode) (t .parts)) (a .0) (row-is (suc v) (a .1)))
+
+  -- the line of a node is that of its block
+  block-of : (v : ℕ) (u : Tree) (x : NodeRow) → IsNode v u x (t .parts) → x .first + x .many ≤ t .placed → x .first + x .many ≤ length (t .parts) → x .level < 4 → nodeKind u < 4 → Here p v u → IsBlock n t v u (nodeOf n t x)
+  unfolding blockKind blockLevel blockJoin blockParts blockTurns nodeKind nodeLevel parts
+  block-of v (leaf q r ls) x is f l d h here = absurd (omega arith)
+  block-of v (forallNode d σ s) x is f l low h here =
+      let k : x .kind ≡ 0 = is .kind in
+      let m : x .many ≡ 1 = many-are v (forallNode d σ s) x (t .parts) is l in
+      let e : headIn (part₀ n t x) ≡ headFrom (suc v) s = ap (λ (z : ℕ). headIn (getD (t .parts) z noRow)) (sym (add-zero (x .first))) ∙ heads-of v (forallNode d σ s) x is 0 (omega arith) in
+      let z = under-is v s x (omega arith) m f e (under-forall p v d σ s here) in
+      record { kind = z .kind ∙ k; level = z .level ∙ is .level; join = z .join; many = z .many; head = z .head; fits = z .fits; low = rw (z .level) low; range = z .range; count = z .count }
+  block-of v (existsNode d σ s) x is f l low h here =
+      let k : x .kind ≡ 1 = is .kind in
+      let m : x .many ≡ 1 = many-are v (existsNode d σ s) x (t .parts) is l in
+      let e : headIn (part₀ n t x) ≡ headFrom (suc v) s = ap (λ (z : ℕ). headIn (getD (t .parts) z noRow)) (sym (add-zero (x .first))) ∙ heads-of v (existsNode d σ s) x is 0 (omega arith) in
+      let z = under-is v s x (omega arith) m f e (under-exists p v d σ s here) in
+      record { kind = z .kind ∙ k; level = z .level ∙ is .level; join = z .join; many = z .many; head = z .head; fits = z .fits; low = rw (z .level) low; range = z .range; count = z .count }
+  block-of v (andNode ts) x is f l low h here =
+      let k : x .kind ≡ 2 = is .kind in
+      rw (own-join n t x (omega arith)) (record { kind = refl; level = refl; join = ap (λ (z : ℕ). z - 2) k; many = many-are v (andNode ts) x (t .parts) is l; head = heads-of v (andNode ts) x is; fits = f; low = omega arith; range = refl; count = refl })
+  block-of v (orNode ts) x is f l low h here =
+      let k : x .kind ≡ 3 = is .kind in
+      rw (own-join n t x (omega arith)) (record { kind = refl; level = refl; join = ap (λ (z : ℕ). z - 2) k; many = many-are v (orNode ts) x (t .parts) is l; head = heads-of v (orNode ts) x is; fits = f; low = omega arith; range = refl; count = refl })
+
+-- ---- a function that leaves each number leaves a run of numbers
+each-same : (f : ℕ → ℕ) (k a : ℕ) → ((i : ℕ) → i < a + k → f i ≡ i) → map f (from a k) ≡ from a k
+unfolding from
+each-same f zero a h = refl
+each-same f (suc k) a h = ap₂ (λ (x : ℕ) (xs : List ℕ). x ∷ xs) (h a (omega arith)) (each-same f k (suc a) (λ i l. h i (omega arith)))
+
+map-below : (f : ℕ → ℕ) (k : ℕ) → ((i : ℕ) → i < k → f i ≡ i) → map f (below k) ≡ below k
+unfolding below
+map-below f k h = each-same f k 0 (λ i l. h i (omega arith))
+
+-- ---- no node of a tree is a literal
+all-both : (q : Tree → Bool) (a b : List Tree) → T (all q a) → T (all q b) → T (all q (a ++ b))
+unfolding all
+all-both q [] b h k = k
+all-both q (x ∷ a) b h k = and-T (q x) _ (T-and-l (q x) _ h) (all-both q a b (T-and-r (q x) _ h) k)
+
+mutual
+  unfolding nodes nodesAll all nodeKind
+
+  no-literal : (t : Tree) → T (all (λ u. ltb (nodeKind u) 4) (nodes t))
+  no-literal (leaf q r ls) = tt
+  no-literal (forallNode d σ t) = no-literal t
+  no-literal (existsNode d σ t) = no-literal t
+  no-literal (andNode ts) = no-literals ts
+  no-literal (orNode ts) = no-literals ts
+
+  no-literals : (ts : Trees) → T (all (λ u. ltb (nodeKind u) 4) (nodesAll ts))
+  no-literals end = tt
+  no-literals (t then ts) = all-both (λ u. ltb (nodeKind u) 4) (nodes t) (nodesAll ts) (no-literal t) (no-literals ts)
+
+-- ---- what a part's line is
+module _ (g : Relations) (q : PartRow) where
+  is-literal : q .tag < 2 → partOf g q ≡ record { tag = suc (q .tag); which = sourceOf (q .which) (getD (g .kind) (q .which) 0) }
+  unfolding partOf
+  is-literal h = rw (lt-ltb (q .tag) 2 h) refl
+
+  is-node : 2 ≤ q .tag → partOf g q ≡ record { tag = 0; which = q .which }
+  unfolding partOf
+  is-node h = rw (le-ltb (q .tag) 2 h) refl
+
+  no-tag : q .tag < 2 → partOf g q .tag ≡ 0 → ⊥
+  no-tag h z = let a : suc (q .tag) ≡ 0 = sym (ap (λ (x : PartAt). x .tag) (is-literal h)) ∙ z in omega arith
+
+  which-is : 2 ≤ q .tag → partOf g q .which ≡ q .which
+  which-is h = ap (λ (x : PartAt). x .which) (is-node h)
+
+  its-line : (n : ℕ) → q .tag < 2 → lineOf n g q ≡ record { start = bitOf n g (q .which); weights = weightOf n (take (q .width) (q .levels)) 0 ∷ weightOf n (take (q .width) (q .levels)) 1 ∷ weightOf n (take (q .width) (q .levels)) 2 ∷ weightOf n (take (q .width) (q .levels)) 3 ∷ [] }
+  unfolding lineOf
+  its-line n h = rw (lt-ltb (q .tag) 2 h) refl
+
+  -- the number of a literal's tuple
+  its-number : (n : ℕ) (e : Values) → PartFits q → q .tag < 2 → partNumber e (lineOf n g q) ≡ bitOf n g (q .which) + rowOf n (map e (take (q .width) (q .levels)))
+  unfolding partNumber valueIn
+  its-number n e f h = ap (partNumber e) (its-line n h) ∙ ap (λ (x : ℕ). bitOf n g (q .which) + x) (sym (row-weighed n e (q .width) (q .levels) (f .levels)))
+
+-- ---- the lines of a case
+module _ (c : Case) (A : Accepted c) (n : ℕ) (g : Relations) (t : Nodes) (inputs : Inputs (problemOf c) n g t) (ft : TreeFits t) where
+  abbrev p : Problem
+  p = problemOf c
+
+  kind-is : (v : ℕ) → v < length (p .nodeList) → nodeKind (nodeAt p v) < 4
+  unfolding problemOf problemWith nodeAt
+  kind-is v l = ltb→lt (nodeKind (nodeAt p v)) 4 (all-at (λ u. ltb (nodeKind u) 4) (nodes (p .root)) (no-literal (p .root)) (nodeAt p v) (getD-mem (nodes (p .root)) v (leaf true zero []) l))
+
+  block-is : (v : ℕ) → v < length (p .nodeList) → IsBlock n t v (nodeAt p v) (nodeOf n t (getD (t .rows) v noNode))
+  block-is v l =
+      block-of p n g t inputs ft v (nodeAt p v) (getD (t .rows) v noNode) (row-is p n g t inputs ft v l) (placed-is p n g t inputs ft v) (in-parts p n g t inputs ft v)
+      (ft .nodes .node v .level) (kind-is v l) (here-at p (good c A) v l)
+
+  here-of : (v : ℕ) → v < length (p .nodeList) → (i : ℕ) → i < length (blockParts v (nodeAt p v)) → Here p (getD (blockParts v (nodeAt p v)) i noPart .node) (getD (blockParts v (nodeAt p v)) i noPart .tree) × (v < getD (blockParts v (nodeAt p v)) i noPart .node)
+  here-of v l i h = block-here p v (nodeAt p v) (here-at p (good c A) v l) i h
+
+  -- a part that is a node has its number, which is above its own node's
+  tag-node : (q : PartRow) (k : ℕ) (s : Tree) → headIn q ≡ headFrom k s → Here p k s → partOf g q .tag ≡ 0 → (partOf g q .which ≡ k) × (k < length (p .nodeList)) × (nodeAt p k ≡ s)
+  unfolding headFrom NotLeaf
+  tag-node q k (leaf true r ls) e h z = let a : q .tag ≡ 0 = ap (λ (x : Head). x .tag) e in absurd (no-tag g q (omega arith) z)
+  tag-node q k (leaf false r ls) e h z = let a : q .tag ≡ 1 = ap (λ (x : Head). x .tag) e in absurd (no-tag g q (omega arith) z)
+  tag-node q k (forallNode d σ s) e h z = let a : q .tag ≡ 2 = ap (λ (x : Head). x .tag) e in let y = node-at p k (forallNode d σ s) h tt in (which-is g q (omega arith) ∙ ap (λ (x : Head). x .which) e, y .1, y .0)
+  tag-node q k (existsNode d σ s) e h z = let a : q .tag ≡ 3 = ap (λ (x : Head). x .tag) e in let y = node-at p k (existsNode d σ s) h tt in (which-is g q (omega arith) ∙ ap (λ (x : Head). x .which) e, y .1, y .0)
+  tag-node q k (andNode ts) e h z = let a : q .tag ≡ 3 = ap (λ (x : Head). x .tag) e in let y = node-at p k (andNode ts) h tt in (which-is g q (omega arith) ∙ ap (λ (x : Head). x .which) e, y .1, y .0)
+  tag-node q k (orNode ts) e h z = let a : q .tag ≡ 3 = ap (λ (x : Head). x .tag) e in let y = node-at p k (orNode ts) h tt in (which-is g q (omega arith) ∙ ap (λ (x : Head). x .which) e, y .1, y .0)
+
+  above : (k : ℕ) → k < length (p .nodeList) → k < 64
+  above k l = omega (arith, count-is p n g t inputs ft, ft .few)
+
+  -- ---- sound lines
+  module _ (some : 0 < n) (small : n ≤ 64) (w : List ℕ) (lined : Lined n g t w) where
+    turns-few : (u : Tree) → blockTurns n u ≤ n
+    unfolding blockTurns
+    turns-few (leaf q r ls) = omega arith
+    turns-few (forallNode d σ s) = omega arith
+    turns-few (existsNode d σ s) = omega arith
+    turns-few (andNode ts) = omega arith
+    turns-few (orNode ts) = omega arith
+
+    element-of : (x : NodeAt) (u : Tree) → x .range ≡ rangesPlace → x .count ≡ blockTurns n u → (i : ℕ) → i < x .count → elementIn w (x .range) i < n
+    element-of x u a b i h =
+        let l : i < n = omega (arith, turns-few u) in
+        let e : elementIn w (x .range) i ≡ i = ap (λ (k : ℕ). getD w (k + i) 0) a ∙ lined .range i l in
+        omega arith
+
+    node-sound : (v : ℕ) → v < t .count → NodeSound n w v (nodeIn w v)
+    node-sound v l =
+        let m : v < length (p .nodeList) = omega (arith, count-is p n g t inputs ft) in
+        let b = block-is v m in
+        rw (lined .node v l) (record {
+          level = b .low;
+          parts = omega (arith, b .fits, ft .few-parts);
+          inside = omega (arith, b .range, b .count, turns-few (nodeAt p v));
+          element = λ i h. element-of (nodeOf n t (getD (t .rows) v noNode)) (nodeAt p v) (b .range) (b .count) i h;
+          rises = λ i h z.
+              let j : nodeOf n t (getD (t .rows) v noNode) .first + i < t .placed = omega (arith, b .fits) in
+              let k : i < length (blockParts v (nodeAt p v)) = rw (b .many) at h in
+              let q = getD (t .parts) (nodeOf n t (getD (t .rows) v noNode) .first + i) noRow in
+              let here = here-of v m i k in
+              let e = lined .part (nodeOf n t (getD (t .rows) v noNode) .first + i) j .0 in
+              let s = tag-node q (getD (blockParts v (nodeAt p v)) i noPart .node) (getD (blockParts v (nodeAt p v)) i noPart .tree) (b .head i k) (here .0) (rw e at z) in
+              let a : partIn w (nodeOf n t (getD (t .rows) v noNode) .first + i) .which ≡ getD (blockParts v (nodeAt p v)) i noPart .node = ap (λ (x : PartAt). x .which) e ∙ s .0 in
+              (omega (arith, a, here .1), omega (arith, a, above (getD (blockParts v (nodeAt p v)) i noPart .node) (s .1)));
+        })
+
+    rest-sound : (v : ℕ) → t .count ≤ v → v < 64 → NodeSound n w v (nodeIn w v)
+    rest-sound v h l = rw (lined .rest v h l) (record { level = omega arith; parts = omega arith; inside = omega arith; element = λ i k. absurd (omega arith); rises = λ i k z. absurd (omega arith) })
+
+    pub sound : Sound n w
+    unfolding problemOf problemWith
+    sound = record {
+      whole = lined .whole;
+      some = some;
+      size = small;
+      entry = lined .entry;
+      node = λ v l. go v l (ltb v (t .count)) refl;
+      root = λ z.
+          let s = tag-node (t .root) 0 (p .root) (inputs .tree .top) (good c A .root-here) (rw (lined .top .0) at z) in
+          let a : partIn w 64 .which ≡ 0 = ap (λ (x : PartAt). x .which) (lined .top .0) ∙ s .0 in
+          omega (arith, a);
+    }
+      where
+        go : (v : ℕ) → v < 64 → (b : Bool) → ltb v (t .count) ≡ b → NodeSound n w v (nodeIn w v)
+        go v l true e = node-sound v (ltb-true v (t .count) e)
+        go v l false e = rest-sound v (ltb-false v (t .count) e) l
+
+  -- ---- what the lines say
+  module _ (F : List Tuple) (pk : arePicks c F ≡ true) (facts : List ℕ) (fi : FactsIn (problemOf c) facts) (picks : List ℕ) (pa : PicksAre (problemOf c) picks F) where
+    literal-of : (q : PartRow) (r : ℕ) (ls : List ℕ) (e : Values) → PartFits q → q .tag < 2 → q .which ≡ r → take (q .width) (q .levels) ≡ ls → (r < length (p .relations)) × (length ls ≡ relationAt p r .arity) → Bnd n e
+        → literalAt facts picks n (partOf g q .which) (partNumber e (lineOf n g q)) ≡ holds c F r (map e ls)
+    literal-of q r ls e f h a b m bnd =
+        ap₂ (literalAt facts picks n) (ap (λ (x : PartAt). x .which) (is-literal g q h) ∙ ap (λ (x : ℕ). sourceOf x (getD (g .kind) x 0)) a)
+        (its-number g q n e f h ∙ ap₂ (λ (x : ℕ) (ys : List ℕ). bitOf n g x + rowOf n (map e ys)) a b)
+        ∙ literal-is c A F pk n g t inputs facts fi picks pa r (map e ls) (omega (arith, m .0, inputs .count)) (length-map ls e ∙ m .1) (bnd-map n e ls bnd)
+
+    leaf-of : (q : PartRow) (e : Values) (b : Bool) → q .tag ≡ 0 → literalAt facts picks n (partOf g q .which) (partNumber e (lineOf n g q)) ≡ b → leafAt facts picks n e (partOf g q) (lineOf n g q) ≡ b
+    unfolding leafAt agree
+    leaf-of q e b h k = ap₂ agree k (ap (λ (x : PartAt). eqb (x .tag) 1) (is-literal g q (omega arith)) ∙ ap (λ (x : ℕ). eqb (suc x) 1) h) ∙ go b
+      where
+        go : (b : Bool) → agree b true ≡ b
+        go true = refl
+        go false = refl
+
+    not-leaf-of : (q : PartRow) (e : Values) (b : Bool) → q .tag ≡ 1 → literalAt facts picks n (partOf g q .which) (partNumber e (lineOf n g q)) ≡ b → leafAt facts picks n e (partOf g q) (lineOf n g q) ≡ not b
+    unfolding leafAt agree
+    not-leaf-of q e b h k = ap₂ agree k (ap (λ (x : PartAt). eqb (x .tag) 1) (is-literal g q (omega arith)) ∙ ap (λ (x : ℕ). eqb (suc x) 1) h) ∙ go b
+      where
+        go : (b : Bool) → agree b false ≡ not b
+        go true = refl
+        go false = refl
+
+    literal-says : (q : PartRow) (k : ℕ) (s : Tree) → PartFits q → headIn q ≡ headFrom k s → Here p k s → (partOf g q .tag ≡ 0 → ⊥) → (e : Values) → Bnd n e → leafAt facts picks n e (partOf g q) (lineOf n g q) ≡ treeHolds c F e s
+    unfolding headFrom treeHolds Fits
+    literal-says q k (leaf true r ls) f h here z e b =
+        let a : q .tag ≡ 0 = ap (λ (x : Head). x .tag) h in
+        leaf-of q e (holds c F r (map e ls)) a (literal-of q r ls e f (omega arith) (ap (λ (x : Head). x .which) h) (ap (λ (x : Head). x .levels) h) (here .fits) b)
+    literal-says q k (leaf false r ls) f h here z e b =
+        let a : q .tag ≡ 1 = ap (λ (x : Head). x .tag) h in
+        not-leaf-of q e (holds c F r (map e ls)) a (literal-of q r ls e f (omega arith) (ap (λ (x : Head). x .which) h) (ap (λ (x : Head). x .levels) h) (here .fits) b)
+    literal-says q k (forallNode d σ s) f h here z e b = let a : q .tag ≡ 2 = ap (λ (x : Head). x .tag) h in absurd (z (ap (λ (x : PartAt). x .tag) (is-node g q (omega arith))))
+    literal-says q k (existsNode d σ s) f h here z e b = let a : q .tag ≡ 3 = ap (λ (x : Head). x .tag) h in absurd (z (ap (λ (x : PartAt). x .tag) (is-node g q (omega arith))))
+    literal-says q k (andNode ts) f h here z e b = let a : q .tag ≡ 3 = ap (λ (x : Head). x .tag) h in absurd (z (ap (λ (x : PartAt). x .tag) (is-node g q (omega arith))))
+    literal-says q k (orNode ts) f h here z e b = let a : q .tag ≡ 3 = ap (λ (x : Head). x .tag) h in absurd (z (ap (λ (x : PartAt). x .tag) (is-node g q (omega arith))))
+
+    module _ (w : List ℕ) (lined : Lined n g t w) where
+      part-says : (q : PartRow) (k : ℕ) (s : Tree) → PartFits q → headIn q ≡ headFrom k s → Here p k s → PartSays c F (p .root) n w facts picks (partOf g q) (lineOf n g q) k s
+      unfolding problemOf problemWith nodeAt nodeOfTree
+      part-says q k s f h here = record { node = λ z. tag-node q k s h here z; literal = λ z e b. literal-says q k s f h here z e b }
+
+      members-are : (k : ℕ) → k ≤ n → membersIn w rangesPlace k ≡ below k
+      unfolding membersIn
+      members-are k h = map-below (λ i. getD w (rangesPlace + i) 0) k (λ i l. lined .range i (omega arith))
+
+      goes-over : (u : Tree) → nodeKind u < 4 → GoesOver c F u (membersIn w rangesPlace (blockTurns n u))
+      unfolding GoesOver blockTurns nodeKind membersOf problemOf problemWith
+      goes-over (leaf q r ls) h = absurd (omega arith)
+      goes-over (forallNode d σ s) h = members-are n (omega arith) ∙ ap below (inputs .size)
+      goes-over (existsNode d σ s) h = members-are n (omega arith) ∙ ap below (inputs .size)
+      goes-over (andNode ts) h = members-length w rangesPlace 1
+      goes-over (orNode ts) h = members-length w rangesPlace 1
+
+      truth-by : (v : ℕ) (u : Tree) (x : NodeAt) (e : Values) → nodeKind u < 4 → IsBlock n t v u x → treeHolds c F e u ≡ truthBy c F (p .root) n w facts picks x e (blockParts v u)
+      unfolding truthBy
+      truth-by v u x e h b = rw (b .kind, b .level, b .join, b .many, b .range, b .count) (block-truth c F v e u (membersIn w rangesPlace (blockTurns n u)) (goes-over u h))
+
+      node-says : (v : ℕ) → v < length (p .nodeList) → NodeSays c F (p .root) n w facts picks (nodeAt p v) (nodeIn w v)
+      node-says v l =
+          let b = block-is v l in
+          rw (lined .node v (omega (arith, count-is p n g t inputs ft))) (record {
+            parts = blockParts v (nodeAt p v);
+            part = λ i h.
+                let j : nodeOf n t (getD (t .rows) v noNode) .first + i < t .placed = omega (arith, b .fits) in
+                let k : i < length (blockParts v (nodeAt p v)) = rw (b .many) at h in
+                let e = lined .part (nodeOf n t (getD (t .rows) v noNode) .first + i) j in
+                rw (e .0, e .1) (part-says (getD (t .parts) (nodeOf n t (getD (t .rows) v noNode) .first + i) noRow) _ _ (ft .parts .part (nodeOf n t (getD (t .rows) v noNode) .first + i)) (b .head i k) (here-of v l i k .0));
+            truth = λ e. truth-by v (nodeAt p v) (nodeOf n t (getD (t .rows) v noNode)) e (kind-is v l) b;
+          })
+
+      pub says : Says c F (p .root) n w facts picks
+      unfolding problemOf problemWith nodeAt nodeOfTree
+      says = record {
+        node = λ v l. node-says v l;
+        top = rw (lined .top .0, lined .top .1) (part-says (t .root) 0 (p .root) (ft .root) (inputs .tree .top) (good c A .root-here));
+      }
+
+pub rule-is : (c : Case) (F : List Tuple) (r : Bool) → Accepted c → r ≡ treeHolds c F noValues (problemOf c .root) → r ≡ ruleIsTrue c F
+unfolding problemOf problemWith
+rule-is c F r A e = e ∙ tree-means c F A

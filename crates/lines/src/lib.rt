@@ -1,0 +1,256 @@
+// The lines of `truth`, filled from the relations and the node table of a rule; and whether the rule is true of picks.
+ghost use mathlib.Core.Path.{_≡_};
+ghost use mathlib.Core.Bool.{true};
+ghost use mathlib.Core.List.{List, [], _∷_};
+ghost use Prim.Native.Nat.{ℕ, _+_, _*_, _^_, _<_, _≤_};
+ghost use lib.ListN.{getD, length};
+ghost use Rattle.definitions.specs.Relations.{Tuple};
+ghost use Rattle.definitions.specs.Truth.{Case, arePicks, ruleIsTrue};
+ghost use Rattle.definitions.specs.Atoms.{problemOf};
+ghost use Rattle.reduction.specs.Reader.{Accepted};
+ghost use Rattle.tree.specs.Tables.{PartFits, Fits};
+ghost use Rattle.rows.specs.Values.{Most};
+ghost use Rattle.layout.specs.Laid.{RelationsFit};
+ghost use Rattle.table.specs.Filled.{splice, tab};
+ghost use Rattle.initial.specs.Initial.{FactsIn};
+ghost use Rattle.picks.specs.Words.{PicksAre};
+ghost use Rattle.definitions.specs.Lists.{below};
+ghost use Rattle.truth.specs.Lines.{rangesPlace, linesLength};
+ghost use Rattle.lines.specs.Lined.{sourceOf, bitOf, firstBit, factWords, chooseWords, ownLine, blockLine, nodeOf, Lined};
+ghost use Rattle.lines.specs.Numbers.{nodeNumbers, partNumbers, partList, nodeLines, partLines, Bits, LinesOf, OfCase};
+use layout::Relations;
+use tree::NodeRow;
+use tree::Nodes;
+use tree::PartRow;
+
+// The numbers of a line are written from place `at` on.
+fn store(lines: &mut [usize], at: usize, line: &[usize])
+    requires { ⌜ at + length (now line) ≤ length (now lines) ⌝ }
+    ensures { λ r. ⌜ now (lines .exit) ≡ splice at (now (line .entry)) (now (lines .entry)) ⌝ }
+{
+    let mut j: usize = 0;
+    while j < line.len() {
+        lines[at + j] = line[j];
+        j += 1;
+    }
+}
+
+// A byte as a number.
+fn wide(x: u8) -> usize
+    ensures { λ r. ⌜ (r ≡ x) × (r < 256) ⌝ }
+{
+    x as usize
+}
+
+// The first bit of a relation, by the words before it.
+fn first_bit(r: usize, kind: usize, facts: usize, picks: usize) -> usize
+    requires { ⌜ (facts ≤ 2 ^ 24) × (picks ≤ 2 ^ 24) ⌝ }
+    ensures { λ b. ⌜ (b ≡ firstBit r kind facts picks) × (b ≤ 2 ^ 32) ⌝ }
+{
+    if r < 5 {
+        return 0;
+    }
+    if kind == 0 {
+        return 64 * facts;
+    }
+    64 * picks
+}
+
+// How many words of facts, and of picks, a relation has.
+fn fact_words(r: usize, words: usize) -> usize
+    ensures { λ c. ⌜ (c ≡ factWords r words) × (c ≤ words) ⌝ }
+{
+    if r < 5 {
+        return 0;
+    }
+    words
+}
+
+fn choose_words(kind: usize, words: usize) -> usize
+    ensures { λ c. ⌜ (c ≡ chooseWords kind words) × (c ≤ words) ⌝ }
+{
+    if kind == 0 {
+        return 0;
+    }
+    words
+}
+
+// The first bit of each relation.
+fn bits_of(n: usize, g: Relations) -> [usize; layout::RELATIONS]
+    requires { ⌜ (0 < n) × (n ≤ 64) × RelationsFit g ⌝ }
+    ensures { λ b. ⌜ Bits n g b × Most b (2 ^ 32) ⌝ }
+{
+    let mut bits = [0usize; layout::RELATIONS];
+    let mut facts: usize = 0;
+    let mut picks: usize = 0;
+    let mut r: usize = 0;
+    while r < layout::RELATIONS {
+        let kind = g.kind[r];
+        let words = (rows::power(n, g.arity[r]) + 63) / 64;
+        bits[r] = first_bit(r, kind, facts, picks);
+        facts = facts + fact_words(r, words);
+        picks = picks + choose_words(kind, words);
+        r += 1;
+    }
+    bits
+}
+
+// Where a relation's tuples are.
+fn source(r: usize, kind: usize) -> usize
+    ensures { λ s. ⌜ (s ≡ sourceOf r kind) × (s ≤ 6) ⌝ }
+{
+    if r < 5 {
+        return r;
+    }
+    if kind == 0 {
+        return 5;
+    }
+    6
+}
+
+// The line of a part.
+fn part_numbers(n: usize, kinds: &[usize], bits: &[usize], q: PartRow) -> [usize; 7]
+    requires { ⌜ (0 < n) × (n ≤ 64) × PartFits q × (17 ≤ length (now kinds)) × (17 ≤ length (now bits)) × Most (now bits) (2 ^ 32) ⌝ }
+    ensures { λ r. ⌜ (r ≡ partNumbers n (now (kinds .entry)) (now (bits .entry)) q) × Most r (2 ^ 32) ⌝ }
+{
+    let which = wide(q.which);
+    if q.tag < 2 {
+        let levels = q.levels;
+        let w = rows::weights(n, levels, wide(q.width));
+        return [
+            wide(q.tag) + 1,
+            source(which, kinds[which]),
+            bits[which],
+            w[0],
+            w[1],
+            w[2],
+            w[3],
+        ];
+    }
+    [0, which, 0, 0, 0, 0, 0]
+}
+
+// The line of a node by its own parts.
+fn own_line(turns: usize, x: NodeRow) -> [usize; 7]
+    requires { ⌜ turns ≤ 64 ⌝ }
+    ensures { λ r. ⌜ (r ≡ nodeNumbers (ownLine turns x)) × Most r (2 ^ 32) ⌝ }
+{
+    let kind = wide(x.kind);
+    let level = wide(x.level);
+    let first = wide(x.first);
+    let many = wide(x.many);
+    if kind < 2 {
+        return [kind, level, 1, first, many, truth::RANGE_AT, turns];
+    }
+    [2, 0, kind - 2, first, many, truth::RANGE_AT, 1]
+}
+
+// The line of a node whose first part is q, and node y where that part is a node.
+fn block_line(turns: usize, x: NodeRow, q: PartRow, y: NodeRow) -> [usize; 7]
+    requires { ⌜ turns ≤ 64 ⌝ }
+    ensures { λ r. ⌜ (r ≡ nodeNumbers (blockLine turns x q y)) × Most r (2 ^ 32) ⌝ }
+{
+    let kind = wide(x.kind);
+    if kind < 2 {
+        if q.tag < 2 {
+            return own_line(turns, x);
+        }
+        let join = wide(y.kind);
+        if join < 2 {
+            return own_line(turns, x);
+        }
+        let level = wide(x.level);
+        let first = wide(y.first);
+        let many = wide(y.many);
+        return [kind, level, join - 2, first, many, truth::RANGE_AT, turns];
+    }
+    own_line(turns, x)
+}
+
+// The line of a node of the table.
+fn node_line(n: usize, t: Nodes, x: NodeRow) -> [usize; 7]
+    requires { ⌜ (n ≤ 64) × Fits t ⌝ }
+    ensures { λ r. ⌜ (r ≡ nodeNumbers (nodeOf n t x)) × Most r (2 ^ 32) ⌝ }
+{
+    let at = wide(x.first);
+    if at < tree::NODES {
+        let q = t.parts[at];
+        let which = wide(q.which);
+        let y = t.rows[which];
+        return block_line(n, x, q, y);
+    }
+    own_line(n, x)
+}
+
+// The lines of the nodes.
+fn fill_nodes(lines: &mut [usize], n: usize, t: Nodes)
+    requires { ⌜ (length (now lines) ≡ linesLength) × (n ≤ 64) × Fits t ⌝ }
+    ensures { λ r. ⌜ (now (lines .exit) ≡ splice 0 (tab (nodeLines n t) (t .count)) (now (lines .entry))) × ((v : ℕ) → v < t .count → Most (nodeLines n t v) (2 ^ 32)) ⌝ }
+{
+    let mut v: usize = 0;
+    while v < t.count {
+        let x = t.rows[v];
+        let line = node_line(n, t, x);
+        store(lines, truth::NODE_LINE * v, &line);
+        v += 1;
+    }
+}
+
+// The line of a part of the table.
+fn part_line(n: usize, g: Relations, bits: &[usize], q: PartRow) -> [usize; 7]
+    requires { ⌜ (0 < n) × (n ≤ 64) × PartFits q × (17 ≤ length (now bits)) × Bits n g (now bits) × Most (now bits) (2 ^ 32) ⌝ }
+    ensures { λ r. ⌜ (r ≡ partList n g q) × Most r (2 ^ 32) ⌝ }
+{
+    let kinds = g.kind;
+    part_numbers(n, &kinds, bits, q)
+}
+
+// The lines of the parts, and the root's.
+fn fill_parts(lines: &mut [usize], n: usize, g: Relations, t: Nodes)
+    requires { ⌜ (length (now lines) ≡ linesLength) × (0 < n) × (n ≤ 64) × RelationsFit g × Fits t ⌝ }
+    ensures { λ r. ⌜ (now (lines .exit) ≡ splice 896 (partList n g (t .root)) (splice 448 (tab (partLines n g t) (t .placed)) (now (lines .entry))))
+        × ((i : ℕ) → i < t .placed → Most (partLines n g t i) (2 ^ 32)) × Most (partList n g (t .root)) (2 ^ 32) ⌝ }
+{
+    let bits = bits_of(n, g);
+    let mut i: usize = 0;
+    while i < t.placed {
+        let q = t.parts[i];
+        let line = part_line(n, g, &bits, q);
+        store(lines, truth::PART_AT + truth::PART_LINE * i, &line);
+        i += 1;
+    }
+    let q = t.root;
+    let last = part_line(n, g, &bits, q);
+    store(lines, truth::ROOT_AT, &last);
+}
+
+// The range of all elements.
+fn fill_range(lines: &mut [usize], n: usize)
+    requires { ⌜ (length (now lines) ≡ linesLength) × (n ≤ 64) ⌝ }
+    ensures { λ r. ⌜ now (lines .exit) ≡ splice rangesPlace (below n) (now (lines .entry)) ⌝ }
+{
+    let mut i: usize = 0;
+    while i < n {
+        lines[truth::RANGE_AT + i] = i;
+        i += 1;
+    }
+}
+
+// All lines, in place of zeros.
+pub fn fill(lines: &mut [usize], n: usize, g: Relations, t: Nodes)
+    requires { ⌜ (length (now lines) ≡ linesLength) × Most (now lines) 0 × (0 < n) × (n ≤ 64) × RelationsFit g × Fits t ⌝ }
+    ensures { λ r. ⌜ Lined n g t (now (lines .exit)) ⌝ }
+{
+    fill_nodes(lines, n, t);
+    fill_parts(lines, n, g, t);
+    fill_range(lines, n);
+}
+
+// Whether the rule is true of picks, by the lines of its case: `facts` and `picks` are the bits of the case's facts and of the picks.
+pub fn rule_is_true(lines: &[usize], facts: &[u64], picks: &[u64], n: usize) -> bool
+    requires { ⌜ OfCase n (now lines) ⌝ }
+    ensures { λ r. ⌜ ((c : Case) (F : List Tuple) → Accepted c → arePicks c F ≡ true → LinesOf c n (now (lines .entry)) → FactsIn (problemOf c) (now (facts .entry)) → PicksAre (problemOf c) (now (picks .entry)) F
+        → r ≡ ruleIsTrue c F) ⌝ }
+{
+    truth::rule_holds(lines, facts, picks, n)
+}
