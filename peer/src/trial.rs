@@ -253,3 +253,16 @@ pub fn rooms(random: &mut Random, needs: Option<Rooms>) -> Rooms {
         _ => need,
     })
 }
+
+/// A number from the command line.
+pub fn argument(place: usize, otherwise: u64) -> u64 {
+    std::env::args().nth(place).and_then(|text| text.parse().ok()).unwrap_or(otherwise)
+}
+
+/// A reply as the two numbers that a script writes.
+pub fn numbers(reply: Reply) -> (u32, u64) {
+    match reply {
+        Reply::Accepted(count) => (0, count),
+        Reply::Refused(refusal) => (refusal.number, refusal.place),
+    }
+}

@@ -1,8 +1,8 @@
 -- A problem without its rule: the same relations, and no node. What is asked of lent picks is the same for both.
 use Prim.Native.Nat.{ℕ, zero, suc, _+_, _*_, _≤_, _<_}
-use mathlib.Core.Path.{_≡_, refl, sym, ap, ap₂, _∙_, fun-ext}
+use mathlib.Core.Path.{_≡_, refl, ap, ap₂, _∙_, fun-ext}
 use mathlib.Core.Bool.{Bool, true}
-use mathlib.Core.Option.{Option, none, some}
+use mathlib.Core.Option.{some}
 use mathlib.Core.List.{List, [], _∷_, map}
 use native.Mathlib.Omega.{arith}
 use lib.ListN.{length, drop, getD, replicate}
@@ -15,7 +15,7 @@ use Rattle.definitions.specs.Actions.{setStart, proofStart}
 use Rattle.definitions.specs.Built.{chosenNumbers}
 use Rattle.definitions.specs.Outcome.{relationWords, picksLength, hasSpare, spareWord}
 use Rattle.states.specs.Kinds.{breaks}
-use Rattle.tree.specs.Tables.{noPart, noNode, headIn, headFrom, Levels, PartIn, IsTable, PartFits, NodeFits, Fits}
+use Rattle.tree.specs.Tables.{noPart, noNode, headFrom, Levels, PartIn, IsTable, PartFits, NodeFits, Fits}
 use Rattle.tree.specs.declared.PartRow.{PartRow}
 use Rattle.tree.specs.declared.NodeRow.{NodeRow}
 use Rattle.tree.specs.declared.Nodes.{Nodes}

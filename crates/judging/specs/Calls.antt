@@ -1,6 +1,6 @@
 -- What the public calls answer, by what was read: the case is refused, the picks' text is, or words are judged.
 use Prim.Native.Nat.{ℕ, zero, _+_, _≤_}
-use mathlib.Core.Path.{_≡_, refl, sym, ap, subst, _∙_}
+use mathlib.Core.Path.{_≡_, refl, sym, subst, _∙_}
 use mathlib.Core.Bool.{Bool}
 use mathlib.Core.Option.{Option, none, some}
 use mathlib.Core.List.{List}
@@ -16,14 +16,13 @@ use Rattle.definitions.specs.Outcome
 use Rattle.definitions.specs.Judgement.{judge}
 use Rattle.bits.specs.Table.{bit}
 use Rattle.names.specs.Signatures.{chosenOf}
-use Rattle.reduction.specs.Reader.{Accepted}
 use Rattle.reduction.specs.Building.{ground-is}
 use Rattle.sheets.specs.declared.Answer.{Answer}
 use Rattle.sheets.specs.declared.Answer.the-variants.{Done, Refused as Bad}
 use Rattle.sheets.specs.Reading.{answered, PicksIn}
 use Rattle.sheets.proofs.Numbers.{sheet-refused, sheet-read}
 use Rattle.opening.specs.declared.Opened.{Opened}
-use Rattle.opening.specs.Read.{Holds, CaseRead}
+use Rattle.opening.specs.Read.{CaseRead}
 use Rattle.cases.specs.declared.Reply.{Reply}
 use Rattle.cases.specs.declared.Reply.the-variants.{Refused}
 use Rattle.cases.specs.Known.{case-refused, case-read, case-accepted, room-there}

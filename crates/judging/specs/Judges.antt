@@ -6,14 +6,14 @@ use mathlib.Core.Option.{Option, none, some}
 use mathlib.Core.List.{List}
 use native.Mathlib.Omega.{arith}
 use lib.Dec.{ltb}
-use lib.ListN.{length, take}
+use lib.ListN.{length}
 use Rattle.definitions.specs.Limits.{atomLimit, actionLimit}
 use Rattle.definitions.specs.Lists.{position}
 use Rattle.definitions.specs.Refusal.{Result, refused, accepted, _>>=_, refuseIf}
 use Rattle.definitions.specs.Relations.{Tuple, builtIn}
 use Rattle.definitions.specs.Sheets.{relationsOf, relations}
 use Rattle.definitions.specs.Truth.{Case, arePicks, ruleIsTrue, firstOfOtherKind}
-use Rattle.definitions.specs.Atoms.{Problem, problemOf, problemWith, relationAt, atoms}
+use Rattle.definitions.specs.Atoms.{problemOf, problemWith, relationAt, atoms}
 use Rattle.definitions.specs.Actions.{actions}
 use Rattle.definitions.specs.Built.{chosenNumbers}
 use Rattle.definitions.specs.Outcome.{ground, roomFor, picksLength, spareWord, spareRefusal, kindRefusal}
@@ -33,7 +33,7 @@ use Rattle.picks.specs.Tests.{told as toldKinds}
 use Rattle.picks.specs.Words.{rowsIn, PicksAre}
 use Rattle.picks.specs.KindLaws.{kinds-are}
 use Rattle.lines.specs.Lined.{Lined}
-use Rattle.lines.specs.Numbers.{LinesOf, OfCase}
+use Rattle.lines.specs.Numbers.{LinesOf}
 use Rattle.opening.specs.declared.Opened.{Opened}
 use Rattle.opening.specs.Read.{Holds}
 use Rattle.cases.specs.declared.Reply.{Reply}
@@ -42,7 +42,7 @@ use Rattle.cases.specs.Replies.{resultOf}
 use Rattle.cases.specs.Known.{facts-held, room-short, room-there}
 use Rattle.building.specs.Builds.{Held}
 use Rattle.building.specs.Picked.{front-picks}
-use Rattle.choosing.specs.Bare.{bare, spare-same, kinds-same}
+use Rattle.choosing.specs.Bare.{bare, kinds-same}
 use Rattle.judging.specs.declared.Spare.{Spare}
 use Rattle.judging.specs.declared.Spare.the-variants.{Clear, Word}
 

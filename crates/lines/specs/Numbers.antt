@@ -7,7 +7,7 @@ use native.Mathlib.Omega.{arith}
 use native.Mathlib.Numerals.{add-one}
 use native.Mathlib.Decide.{decLt}
 use borrow.Author.Tests.{lt-ltb, le-ltb, ne-eqb, ltb-true, ltb-false}
-use lib.Dec.{eqb, ltb}
+use lib.Dec.{ltb}
 use lib.ListN.{length, getD, take, set}
 use lib.Seq.{paste, paste-suc, getD-set-same, getD-set-other}
 use Rattle.definitions.specs.Lists.{if_then_else_, below}
@@ -21,7 +21,7 @@ use Rattle.tree.specs.declared.NodeRow.{NodeRow}
 use Rattle.tree.specs.declared.Nodes.{Nodes}
 use Rattle.rows.specs.Values.{Most, valueIn, weightOf}
 use Rattle.layout.specs.declared.Relations.{Relations}
-use Rattle.layout.specs.Laid.{RelationsFit, Inputs}
+use Rattle.layout.specs.Laid.{Inputs}
 use Rattle.layout.specs.LaidLaws.{pow-most}
 use Rattle.definitions.specs.Actions.{Values}
 use native.Mathlib.Nat.{zero-add}

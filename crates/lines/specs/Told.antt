@@ -1,6 +1,6 @@
 -- That the lines say what `truth` asks.
 use mathlib.Core.Path.{_≡_, refl, sym, ap, ap₂, subst, _∙_}
-use mathlib.Core.Logic.{_⊎_, inl, inr, ⊎-elim}
+use mathlib.Core.Logic.{_⊎_, ⊎-elim}
 use mathlib.Core.Bool.{Bool, true, false, not}
 use mathlib.Core.List.{List, [], _∷_, _++_, map}
 use Prim.Native.Nat.{ℕ, zero, suc, _+_, _-_, _*_, _^_, _≤_, _<_}
@@ -15,7 +15,7 @@ use Rattle.laws.specs.Booleans.{and-T, T-and-l, T-and-r}
 use Rattle.laws.specs.Lists.{all-at, getD-mem}
 use Rattle.definitions.specs.Relations.{Tuple}
 use Rattle.definitions.specs.Truth.{Case, membersOf, holds, arePicks, ruleIsTrue}
-use Rattle.definitions.specs.Tree.{Tree, Trees, leaf, forallNode, existsNode, andNode, orNode, end, _then_, Part, parts, partsFrom, nodes, nodesAll, treeOf}
+use Rattle.definitions.specs.Tree.{Tree, Trees, leaf, forallNode, existsNode, andNode, orNode, end, _then_, Part, parts, partsFrom, nodes, nodesAll}
 use Rattle.definitions.specs.Atoms.{Problem, problemOf, problemWith, relationAt, nodeAt, rowOf}
 use Rattle.definitions.specs.Actions.{Values}
 use Rattle.definitions.specs.Built.{treeHolds}
@@ -29,23 +29,22 @@ use Rattle.tree.specs.Tables.{noPart as noRow}
 use Rattle.tree.specs.declared.PartRow.{PartRow}
 use Rattle.tree.specs.declared.NodeRow.{NodeRow}
 use Rattle.tree.specs.declared.Nodes.{Nodes}
-use Rattle.rows.specs.Values.{valueIn, weightOf, weighed}
+use Rattle.rows.specs.Values.{valueIn, weightOf}
 use Rattle.rows.specs.Laws.{row-weighed}
 use Rattle.ground.specs.Of.{noPart}
 use Rattle.ground.specs.Lines.{partNumber, membersIn}
 use Rattle.ground.specs.NeedLaws.{members-length}
-use Rattle.ground.specs.declared.PartLine.{PartLine}
 use Rattle.layout.specs.declared.Relations.{Relations}
 use Rattle.layout.specs.Laid.{Inputs}
 use Rattle.layout.specs.StartsAre.{many-are}
 use Rattle.initial.specs.Initial.{FactsIn}
 use Rattle.picks.specs.Words.{PicksAre}
-use Rattle.truth.specs.Lines.{rangesPlace, linesLength, elementIn, nodeIn, partIn, lineIn, literalAt, leafAt, agree, NodeSound, Sound}
+use Rattle.truth.specs.Lines.{rangesPlace, elementIn, nodeIn, partIn, literalAt, leafAt, agree, NodeSound, Sound}
 use Rattle.truth.specs.Says.{nodeOf as nodeOfTree, noValues, truthBy, PartSays, NodeSays, Says}
 use Rattle.truth.specs.declared.NodeAt.{NodeAt}
 use Rattle.truth.specs.declared.PartAt.{PartAt}
 use Rattle.lines.specs.Lined.{sourceOf, bitOf, partOf, lineOf, ownLine, blockLine, nodeOf, Lined}
-use Rattle.lines.specs.Blocks.{under, joinOf, blockParts, blockKind, blockLevel, blockJoin, blockTruth, GoesOver, block-truth}
+use Rattle.lines.specs.Blocks.{under, joinOf, blockParts, blockKind, blockLevel, blockJoin, GoesOver, block-truth}
 use Rattle.lines.specs.Literals.{literal-is}
 
 -- ---- the head of one part among those of a node

@@ -1,21 +1,20 @@
 -- A node's truth as a search that may be left early.
-use mathlib.Core.Path.{_≡_, refl, sym, ap, ap₂, subst, _∙_, fun-ext}
+use mathlib.Core.Path.{_≡_, refl, sym, ap, ap₂, _∙_}
 use mathlib.Core.Bool.{Bool, true, false, not, _&&_, _||_}
 use mathlib.Core.List.{List, [], _∷_, map}
 use Prim.Native.Nat.{ℕ, zero, suc, _+_, _-_, _*_, _/_, _%_, _^_, _≤_, _<_}
 use native.Mathlib.Omega.{arith}
 use native.Mathlib.Numerals.{add-one}
 use native.Mathlib.Nat.{div-le-self, mod-le}
-use borrow.Author.Tests.{lt-ltb, le-ltb, eq-eqb, ne-eqb}
+use borrow.Author.Tests.{lt-ltb, le-ltb, ne-eqb}
 use lib.Dec.{eqb, ltb}
 use lib.ListN.{length, getD, set}
-use Rattle.definitions.specs.Lists.{if_then_else_, all, any, from, below}
+use Rattle.definitions.specs.Lists.{if_then_else_, any, from, below}
 use Rattle.definitions.specs.Relations.{Tuple, builtInHolds}
 use Rattle.definitions.specs.Truth.{Case}
-use Rattle.definitions.specs.Tree.{Tree, Trees, leaf, forallNode, existsNode, andNode, orNode, end, _then_, Part, parts, partsFrom, nodes}
+use Rattle.definitions.specs.Tree.{Tree, _then_, parts}
 use Rattle.definitions.specs.Actions.{Values, withValue}
-use Rattle.definitions.specs.Built.{treeHolds, treesHold, someHolds}
-use Rattle.tree.specs.Tables.{nodeKind, nodeLevel}
+use Rattle.definitions.specs.Built.{treeHolds}
 use Rattle.bits.specs.Table.{bit}
 use Rattle.rows.specs.Values.{valueIn, Within, Most}
 use Rattle.rows.specs.Laws.{set-value}
@@ -24,7 +23,7 @@ use Rattle.ground.specs.NeedLaws.{value-times, within-most}
 use Rattle.ground.specs.Of.{noPart}
 use Rattle.ground.specs.declared.PartLine.{PartLine}
 use Rattle.truth.specs.Lines.{nodeIn, partIn, lineIn, partPlace, literalAt, leafAt, agree, elementIn, valueOf, valuesOf, decided, joined, bound, Sound}
-use Rattle.truth.specs.Says.{nodeOf, noValues, PartSays, NodeSays, Says, Asked, truthBy, cellOf, underOf, TurnsLeft, PartsLeft, partsIn, AllTurns, AllParts, IsCell, IsNode, Under}
+use Rattle.truth.specs.Says.{nodeOf, noValues, PartSays, Says, Asked, truthBy, cellOf, underOf, partsIn, AllTurns, AllParts, IsCell, IsNode, Under}
 use Rattle.truth.specs.declared.NodeAt.{NodeAt}
 use Rattle.truth.specs.declared.PartAt.{PartAt}
 

@@ -9,7 +9,6 @@ use Rattle.definitions.specs.Lists.{if_then_else_, any, below}
 use Rattle.definitions.specs.Relations.{builtInHolds}
 use Rattle.definitions.specs.Actions.{Values, withValue}
 use Rattle.bits.specs.Table.{bit}
-use Rattle.rows.specs.Values.{Most}
 use Rattle.ground.specs.Lines.{partNumber}
 use Rattle.ground.specs.declared.PartLine.{PartLine}
 use Rattle.truth.specs.declared.NodeAt.{NodeAt}

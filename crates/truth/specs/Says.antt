@@ -14,7 +14,7 @@ use Rattle.ground.specs.Lines.{membersIn}
 use Rattle.ground.specs.Of.{noPart}
 use Rattle.ground.specs.declared.PartLine.{PartLine}
 use Rattle.definitions.specs.Lists.{any, from}
-use Rattle.truth.specs.Lines.{nodeIn, partIn, lineIn, leafAt, agree, elementIn, valuesOf, decided, joined, bound}
+use Rattle.truth.specs.Lines.{nodeIn, partIn, lineIn, leafAt, agree, valuesOf, decided, joined, bound}
 use Rattle.truth.specs.declared.NodeAt.{NodeAt}
 use Rattle.truth.specs.declared.PartAt.{PartAt}
 

@@ -3,7 +3,7 @@
 //!     compare [INPUTS] [SEED]
 
 use peer::sample::{damage, needs, sound, Random, Sample};
-use peer::trial::{rooms, run, Call, Other, Outcome, Peer, Rooms, CALLS, LINKED};
+use peer::trial::{argument, rooms, run, Call, Other, Outcome, Peer, Rooms, CALLS, LINKED};
 use peer::Reply;
 use std::process::ExitCode;
 
@@ -12,10 +12,6 @@ type Tally = [u64; 18];
 
 /// Differences that are shown in full.
 const SHOWN: u64 = 3;
-
-fn argument(place: usize, otherwise: u64) -> u64 {
-    std::env::args().nth(place).and_then(|text| text.parse().ok()).unwrap_or(otherwise)
-}
 
 fn show(call: Call, sample: &Sample, rooms: Rooms, outcomes: [&Outcome; 2]) {
     println!("differs: {call:?} with rooms {rooms:?}");

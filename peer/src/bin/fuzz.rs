@@ -4,16 +4,12 @@
 //!     fuzz [CALLS] [SEED]
 
 use peer::sample::{damage, needs, sound, Random, Sample};
-use peer::trial::{rooms, run, Call, Other, Outcome, Peer, Rooms, CALLS, FILL, LINKED};
+use peer::trial::{argument, rooms, run, Call, Other, Outcome, Peer, Rooms, CALLS, FILL, LINKED};
 use peer::Reply;
 use std::process::ExitCode;
 
 /// Calls made on one sample before the next is drawn.
 const TURNS: u64 = 10;
-
-fn argument(place: usize, otherwise: u64) -> u64 {
-    std::env::args().nth(place).and_then(|text| text.parse().ok()).unwrap_or(otherwise)
-}
 
 /// A sheet of bytes with no plan behind them.
 fn noise(random: &mut Random) -> Vec<u8> {

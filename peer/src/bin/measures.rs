@@ -7,22 +7,11 @@
 //!     measures bench [ROUNDS]        the sizes and the allowances of 1,000 small cases
 
 use peer::sample::{damage, needs, sound, Random, Sample};
-use peer::trial::{Calls, Other, Peer, GUARD, LINKED};
+use peer::trial::{argument, numbers, Calls, Other, Peer, GUARD, LINKED};
 use peer::{tally, Refusal, Reply};
 use std::hint::black_box;
 use std::process::ExitCode;
 use std::time::Instant;
-
-fn argument(place: usize, otherwise: u64) -> u64 {
-    std::env::args().nth(place).and_then(|text| text.parse().ok()).unwrap_or(otherwise)
-}
-
-fn numbers(reply: Reply) -> (u32, u64) {
-    match reply {
-        Reply::Accepted(count) => (0, count),
-        Reply::Refused(refusal) => (refusal.number, refusal.place),
-    }
-}
 
 fn tally_line(case: [&[u8]; 2]) -> String {
     match tally(case[0], case[1]) {

@@ -7,22 +7,11 @@
 //!     tries bench [ROUNDS]         twenty lists in one call against twenty checks
 
 use peer::sample::{damage, facts, needs, sound, Random, Sample};
-use peer::trial::{Calls, Other, Peer, GUARD, LINKED};
+use peer::trial::{argument, numbers, Calls, Other, Peer, GUARD, LINKED};
 use peer::{Reply, Try};
 use std::hint::black_box;
 use std::process::ExitCode;
 use std::time::Instant;
-
-fn argument(place: usize, otherwise: u64) -> u64 {
-    std::env::args().nth(place).and_then(|text| text.parse().ok()).unwrap_or(otherwise)
-}
-
-fn numbers(reply: Reply) -> (u32, u64) {
-    match reply {
-        Reply::Accepted(count) => (0, count),
-        Reply::Refused(refusal) => (refusal.number, refusal.place),
-    }
-}
 
 /// A record that no call has answered.
 fn asked(first: u32, length: u32) -> Try {

@@ -1,6 +1,5 @@
 use mathlib.Core.Path.{_≡_, subst, sym}
 use Rattle.tree.specs.Tables.{Fits}
-use Rattle.tree.specs.declared.Nodes.{Nodes}
 use Rattle.layout.specs.Laid.{Inputs}
 use Rattle.choosing.specs.Bare.{bare, none-fits, bare-inputs, bare-starts}
 use borrow.Author.Needs.{needs}

@@ -1,7 +1,7 @@
 -- `truth::node_holds` meets its contract. The invariants say what is left of the turns, and of the parts in a turn; a part that is a node
 -- has a higher number, so that 64 less the number falls.
 use Prim.Native.Nat.{_+_, _-_, _≤_}
-use mathlib.Core.Path.{_≡_, refl, sym, _∙_}
+use mathlib.Core.Path.{_≡_, refl, _∙_}
 use mathlib.Core.Bool.{not}
 use mathlib.Core.Logic.{⊎-elim}
 use native.Mathlib.Omega.{arith}
