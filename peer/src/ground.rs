@@ -7,8 +7,8 @@ use crate::text::{cause, Refusal};
 use crate::tree::{Literal, Node, Part, Shape, Tree, Variables, NESTING_LIMIT};
 use std::ops::Range;
 
-const ATOM_LIMIT: u32 = 65_536;
-const ACTION_LIMIT: u32 = 131_072;
+pub(crate) const ATOM_LIMIT: u32 = 65_536;
+pub(crate) const ACTION_LIMIT: u32 = 131_072;
 
 pub const GUESS: u32 = 0;
 pub const PROOF: u32 = 1;

@@ -1,12 +1,14 @@
 //! Large cases whose plans are built, and texts that are as long or as deep as they may be.
 
 use crate::sample::{facts, needs, steps_text, Sample};
+use crate::sheets;
 use crate::text::Reply;
 use crate::trial::{Calls, Peer};
 
 const PATH_RULE: &str = "(forall (?x) (implies (not (MAX ?x)) (exists (?u ?y ?z) \
 (and (E ?y ?z) (F ?x ?y) (SUC ?x ?u) (F ?u ?z)))))";
 const DEEP_RULE: &str = "(forall (?a ?b ?c ?d) (or (D ?a ?b) (T ?c ?d)))";
+const LAST_RULE: &str = "(exists (?a ?b ?c ?d) (and (D ?a ?b) (T ?c ?d)))";
 
 /// How many brackets may be open together.
 const OPEN: usize = 128;
@@ -41,6 +43,38 @@ pub fn deep(n: usize) -> Sample {
     }
     let question = format!("rel\tD\t2\nchoose\tT\t2\nrule\t{DEEP_RULE}\n");
     planned(question, site, picks)
+}
+
+/// Four nested quantifiers that have one witness, the last of all.
+pub fn last(n: usize) -> Sample {
+    let question = format!("rel\tD\t2\nchoose\tT\t2\nrule\t{LAST_RULE}\n");
+    let end = n - 1;
+    let site = format!("size\t{n}\nfact\tD\t{end}\t{end}\n");
+    planned(question, site, format!("pick\tT\t{end}\t{end}\n"))
+}
+
+/// The path of [`path`] with two vertices exchanged, so that its first edge is none.
+pub fn broken_path() -> Sample {
+    let path = path();
+    let picks = String::from_utf8_lossy(&path.picks).replace("\t1\t7\n", "\t1\t13\n");
+    picked(&path, picks.replace("\t4\t13\n", "\t4\t7\n"))
+}
+
+/// The case of [`deep`] without the first pick, so that the first row is false.
+pub fn broken_deep(n: usize) -> Sample {
+    let deep = deep(n);
+    let picks = String::from_utf8_lossy(&deep.picks).replace("pick\tT\t0\t0\n", "");
+    picked(&deep, picks)
+}
+
+/// The same case with other picks, as text and lent, and no steps.
+fn picked(sample: &Sample, picks: String) -> Sample {
+    let question = sheets::question(&sample.question).expect("an accepted question");
+    let site = sheets::site(&sample.site, &question.signature).expect("an accepted site");
+    let tables = sheets::picks(picks.as_bytes(), &question.signature, site.n);
+    let lent_picks = tables.expect("picks of their form").words;
+    let (question, site) = (sample.question.clone(), sample.site.clone());
+    Sample { question, site, picks: picks.into(), lent_picks, ..Sample::default() }
 }
 
 /// A case with its picks and its built steps, both as text and lent.
@@ -142,6 +176,7 @@ pub fn worst(bytes: usize, desk: bool) -> Vec<(String, Sample)> {
     };
     add("59 nots under four", four(&nested(59, "(not ", leaf, ")")));
     add("59 ands under four", four(&nested(59, "(and ", leaf, ")")));
+    add("59 ands over four", nested(59, "(and ", "(forall (?a ?b ?c ?d) (T ?a ?b))", ")"));
     add("29 ors in a later part", four(&nested(29, "(or (T ?a ?b) ", leaf, ")")));
     add("29 implications", four(&nested(29, "(implies ", leaf, " (T ?c ?d))")));
     add("an and of 59", four(&ruled(&format!("(and{})", " (T ?a ?b)".repeat(59)))));

@@ -1,6 +1,6 @@
 //! Case sheets in plain Rust: reading a question and a site, the numbered
-//! STRIPS problem they stand for, checking plans, reading the picks of a plan
-//! and building a plan from picks.
+//! STRIPS problem they stand for, checking plans, reading the picks of a plan,
+//! building a plan from picks, and saying yes or no to picks.
 //!
 //! Everything here was written from the paper that fixes the sheets and shares
 //! no line with the proved program, so that the two can be held against each
@@ -13,6 +13,7 @@ pub mod cases;
 pub mod desk;
 pub mod formula;
 pub mod ground;
+pub mod judging;
 pub mod large;
 pub mod measures;
 #[cfg(feature = "ours")]
@@ -32,6 +33,7 @@ pub use cases::{
 };
 pub use desk::desk;
 pub use ground::{Action, Prove, Set};
+pub use judging::{judge, judge_text};
 pub use measures::{allowances, tally, Tally};
 pub use text::{Refusal, Reply};
 pub use tries::{tries, Try};

@@ -2,8 +2,9 @@
 //! pick more or less can move the number of steps that are built.
 
 use crate::cases::{case, room};
-use crate::ground::Problem;
-use crate::text::{Refusal, Reply};
+use crate::ground::{Problem, ACTION_LIMIT, ATOM_LIMIT};
+use crate::sheets::{Question, Structure};
+use crate::text::{cause, Refusal, Reply};
 use crate::tree::{Part, Shape, Tree};
 
 /// How many nodes, atoms and actions there are.
@@ -17,6 +18,19 @@ pub struct Tally {
 /// Counts in one walk of the tree; no limit is asked.
 pub fn tally(question: &[u8], site: &[u8]) -> Result<Tally, Refusal> {
     let (question, structure) = case(question, site)?;
+    Ok(tally_of(&question, &structure))
+}
+
+/// Refuses a case that has too many atoms or actions.
+pub(crate) fn within_limits(question: &Question, structure: &Structure) -> Result<(), Refusal> {
+    let Tally { atoms, actions, .. } = tally_of(question, structure);
+    if atoms > u64::from(ATOM_LIMIT) || actions > u64::from(ACTION_LIMIT) {
+        return Err(Refusal::new(cause::PROBLEM_SIZE, 0));
+    }
+    Ok(())
+}
+
+fn tally_of(question: &Question, structure: &Structure) -> Tally {
     let n = structure.n as u64;
     let mut tally = Tally { nodes: 0, atoms: 3, actions: 2 };
     for (number, relation) in question.signature.relations.iter().enumerate() {
@@ -29,7 +43,7 @@ pub fn tally(question: &[u8], site: &[u8]) -> Result<Tally, Refusal> {
     if !question.tree.nodes.is_empty() {
         visit(&question.tree, 0, n, &mut tally);
     }
-    Ok(tally)
+    tally
 }
 
 fn visit(tree: &Tree, number: usize, n: u64, tally: &mut Tally) {

@@ -59,6 +59,14 @@ mod foreign {
             picks: *const u64, picks_len: usize, state: *mut u64, state_len: usize,
             steps: *mut u32, steps_len: usize, number: &mut u32, place: &mut u64,
         );
+        pub fn nendokwe_judge_text(
+            question: *const u8, question_len: usize, site: *const u8, site_len: usize,
+            picks: *const u8, picks_len: usize, number: &mut u32, place: &mut u64,
+        );
+        pub fn nendokwe_judge(
+            question: *const u8, question_len: usize, site: *const u8, site_len: usize,
+            picks: *const u64, picks_len: usize, number: &mut u32, place: &mut u64,
+        );
         pub fn nendokwe_allowances(
             question: *const u8, question_len: usize, site: *const u8, site_len: usize,
             allowances: *mut u64, allowances_len: usize, number: &mut u32, place: &mut u64,
@@ -244,6 +252,30 @@ impl Calls for Ours {
                 case[0].as_ptr(), case[0].len(), case[1].as_ptr(), case[1].len(),
                 steps.as_ptr(), steps.len(), tries.as_mut_ptr(), tries.len(),
                 state.as_mut_ptr(), state.len(), &mut number, &mut place,
+            );
+        }
+        reply(number, place)
+    }
+
+    fn judge_text(&self, case: [&[u8]; 2], picks: &[u8]) -> Reply {
+        let (mut number, mut place) = (u32::MAX, UNSET);
+        // Safety: as for `sizes`.
+        unsafe {
+            foreign::nendokwe_judge_text(
+                case[0].as_ptr(), case[0].len(), case[1].as_ptr(), case[1].len(),
+                picks.as_ptr(), picks.len(), &mut number, &mut place,
+            );
+        }
+        reply(number, place)
+    }
+
+    fn judge(&self, case: [&[u8]; 2], picks: &[u64]) -> Reply {
+        let (mut number, mut place) = (u32::MAX, UNSET);
+        // Safety: as for `sizes`.
+        unsafe {
+            foreign::nendokwe_judge(
+                case[0].as_ptr(), case[0].len(), case[1].as_ptr(), case[1].len(),
+                picks.as_ptr(), picks.len(), &mut number, &mut place,
             );
         }
         reply(number, place)

@@ -1,7 +1,7 @@
 //! Following a plan step by step, and building one from picks.
 
 use crate::ground::{add, holds, read_bits, Action, NodeAtoms, Problem, Set, Values, GOAL, PROOF};
-use crate::sheets::Tables;
+use crate::sheets::{Signature, Tables};
 use crate::text::{cause, Refusal};
 use crate::tree::{Shape, Variables, NESTING_LIMIT};
 
@@ -41,7 +41,7 @@ pub struct Plan<'p> {
 
 /// Builds the plan of these picks if they meet their kinds and the rule.
 pub fn build<'p>(problem: &'p Problem, picks: &Tables) -> Result<Plan<'p>, Refusal> {
-    if let Some(choose) = broken_kind(problem, picks) {
+    if let Some(choose) = broken_kind(&problem.question().signature, problem.n, picks) {
         return Err(Refusal::new(cause::KIND_BROKEN, choose));
     }
     let mut plan = Plan {
@@ -151,15 +151,15 @@ pub fn rows(words: &[u64]) -> impl Iterator<Item = u32> + '_ {
 }
 
 /// The first `choose`, from 0, whose picks break its kind.
-fn broken_kind(problem: &Problem, picks: &Tables) -> Option<usize> {
-    let chosen = problem.question().signature.chosen_relations();
+pub(crate) fn broken_kind(signature: &Signature, n: u32, picks: &Tables) -> Option<usize> {
+    let chosen = signature.chosen_relations();
     (0..chosen.len()).find(|&choose| {
         let kind = chosen[choose].kind;
         let (mut firsts, mut seconds) = (0u32, 0u32);
         kind.is_function()
             && rows(picks.relation(choose)).any(|row| {
-                let first = 1 << (row / problem.n);
-                let second = 1 << (row % problem.n);
+                let first = 1 << (row / n);
+                let second = 1 << (row % n);
                 let broken = firsts & first != 0 || (kind.is_injective() && seconds & second != 0);
                 firsts |= first;
                 seconds |= second;

@@ -34,6 +34,8 @@ pub trait Calls {
         -> Reply;
     fn tries(&self, case: [&[u8]; 2], steps: &[u32], tries: &mut [Try], state: &mut [u64])
         -> Reply;
+    fn judge_text(&self, case: [&[u8]; 2], picks: &[u8]) -> Reply;
+    fn judge(&self, case: [&[u8]; 2], picks: &[u64]) -> Reply;
     fn allowances(&self, case: [&[u8]; 2], out: &mut [u64]) -> Reply;
     fn desk(&self, input: &[u8]) -> Vec<u8>;
 }
@@ -114,6 +116,14 @@ impl Calls for Peer {
         crate::tries::tries(case[0], case[1], steps, tries, state)
     }
 
+    fn judge_text(&self, case: [&[u8]; 2], picks: &[u8]) -> Reply {
+        crate::judging::judge_text(case[0], case[1], picks)
+    }
+
+    fn judge(&self, case: [&[u8]; 2], picks: &[u64]) -> Reply {
+        crate::judging::judge(case[0], case[1], picks)
+    }
+
     fn allowances(&self, case: [&[u8]; 2], out: &mut [u64]) -> Reply {
         crate::measures::allowances(case[0], case[1], out)
     }
@@ -146,11 +156,13 @@ pub enum Call {
     Picks,
     BuildText,
     Build,
+    JudgeText,
+    Judge,
     DeskPicks,
     DeskSteps,
 }
 
-pub const CALLS: [Call; 11] = [
+pub const CALLS: [Call; 13] = [
     Call::Sizes,
     Call::Rule,
     Call::Action,
@@ -160,6 +172,8 @@ pub const CALLS: [Call; 11] = [
     Call::Picks,
     Call::BuildText,
     Call::Build,
+    Call::JudgeText,
+    Call::Judge,
     Call::DeskPicks,
     Call::DeskSteps,
 ];
@@ -212,7 +226,7 @@ pub fn run(program: &impl Calls, call: Call, sample: &Sample, rooms: Rooms) -> O
     let picks = &mut outcome.picks[..rooms[0]];
     let state = &mut outcome.state[..rooms[1]];
     let steps = &mut outcome.steps[..rooms[2]];
-    // Picks lent to the builder are brought to the length of a picks buffer.
+    // Picks lent to be built or judged are brought to the length of a picks buffer.
     let mut lent = sample.lent_picks.clone();
     lent.resize(rooms[0], FILL);
     outcome.reply = match call {
@@ -230,6 +244,8 @@ pub fn run(program: &impl Calls, call: Call, sample: &Sample, rooms: Rooms) -> O
         Call::Picks => program.picks(case, &sample.lent_steps, picks, state),
         Call::BuildText => program.build_text(case, &sample.picks, state, steps),
         Call::Build => program.build(case, &lent, state, steps),
+        Call::JudgeText => program.judge_text(case, &sample.picks),
+        Call::Judge => program.judge(case, &lent),
         Call::DeskPicks | Call::DeskSteps => {
             let input = desk_input(sample, call == Call::DeskSteps);
             outcome.printed = program.desk(&input);

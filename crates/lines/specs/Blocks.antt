@@ -1,20 +1,23 @@
 -- A node with the join right under it: its parts, and its truth by them.
-use mathlib.Core.Path.{_≡_, refl, sym, ap, _∙_, fun-ext}
+use mathlib.Core.Path.{_≡_, refl, sym, ap, ap₂, subst, _∙_, fun-ext}
+use mathlib.Core.Logic.{_⊎_, inl, inr}
 use mathlib.Core.Bool.{Bool, true, false, not, _&&_, _||_}
 use mathlib.Core.List.{List, [], _∷_}
 use Prim.Native.Nat.{ℕ, zero, suc, _+_, _<_}
 use native.Mathlib.Omega.{arith}
-use lib.Dec.{eqb}
+use lib.Dec.{T, eqb}
 use lib.ListN.{length, getD}
 use borrow.Author.Tests.{eqb-true}
 use Rattle.definitions.specs.Lists.{if_then_else_, all, any, from, below}
 use Rattle.definitions.specs.Relations.{Tuple}
 use Rattle.definitions.specs.Truth.{Case, membersOf}
-use Rattle.definitions.specs.Tree.{Tree, Trees, leaf, forallNode, existsNode, andNode, orNode, end, _then_, Part, partsFrom, nodes}
+use Rattle.definitions.specs.Tree.{Tree, Trees, leaf, forallNode, existsNode, andNode, orNode, end, _then_, Part, partsFrom, nodes, occurs}
 use Rattle.definitions.specs.Actions.{Values, withValue}
 use Rattle.definitions.specs.Built.{treeHolds, treesHold, someHolds}
+use Rattle.reduction.specs.Parts.{holds-same}
 use Rattle.ground.specs.Of.{noPart}
 use Rattle.truth.specs.Lines.{agree, valueOf, valuesOf, decided, joined, bound}
+use Rattle.truth.specs.Laws.{same-value}
 
 -- ---- the parts joined right under a quantifier, where u's preorder number is k, and by what (0 and, 1 or)
 unfoldable pub under : ℕ → Tree → List Part
@@ -111,13 +114,20 @@ unfolding any
 some-is f [] = refl
 some-is f (x ∷ l) = or-step (f x) (any f l) _ (some-is f l)
 
-same-value : (e : Values) (d : ℕ) → e ≡ withValue e d (e d)
-unfolding withValue
-same-value e d = fun-ext (λ l. go l (eqb l d) refl)
-  where
-    go : (l : ℕ) (b : Bool) → eqb l d ≡ b → e l ≡ (if b then e d else e l)
-    go l true h = ap e (eqb-true l d h)
-    go l false h = refl
+-- a test that all elements answer alike has one answer for every list that is not empty
+or-same : (b : Bool) → (b || b) ≡ b
+or-same true = refl
+or-same false = refl
+
+or-no : (b : Bool) → (b || false) ≡ b
+or-no true = refl
+or-no false = refl
+
+any-alike : (g : ℕ → Bool) → ((x y : ℕ) → g x ≡ g y) → (a : ℕ) (xs : List ℕ) → 0 < length xs → any g xs ≡ g a
+unfolding any
+any-alike g h a [] l = absurd (omega arith)
+any-alike g h a (x ∷ []) l = or-no (g x) ∙ h x a
+any-alike g h a (x ∷ y ∷ xs) l = ap₂ _||_ (h x a) (any-alike g h a (y ∷ xs) (omega arith)) ∙ or-same (g a)
 
 module _ (c : Case) (F : List Tuple) where
   abbrev cells : Values → List Part → ℕ → Bool
@@ -160,11 +170,15 @@ module _ (c : Case) (F : List Tuple) where
       bound (eqb (blockKind u) 1)
       (λ x. joined (eqb (blockJoin u) 1) (cells (valuesOf (blockKind u) (blockLevel u) e x) (blockParts v u)) (length (blockParts v u))) xs
 
-  -- the elements of a quantifier are those of its range; a join has one turn, whatever the element
+  -- the elements of a quantifier are those of its range; where its level is not free in its part, any will do for a range that is not empty
+  abbrev pub Serves : (d σ : ℕ) → Tree → List ℕ → Type 0
+  Serves d σ t xs = (xs ≡ membersOf c σ) ⊎ ((occurs d t ≡ false) × (0 < length xs) × (0 < length (membersOf c σ)))
+
+  -- ... a join has one turn, whatever the element
   unfoldable pub GoesOver : Tree → List ℕ → Type 0
   GoesOver (leaf q r ls) xs = ⊥
-  GoesOver (forallNode d σ t) xs = xs ≡ membersOf c σ
-  GoesOver (existsNode d σ t) xs = xs ≡ membersOf c σ
+  GoesOver (forallNode d σ t) xs = Serves d σ t xs
+  GoesOver (existsNode d σ t) xs = Serves d σ t xs
   GoesOver (andNode ts) xs = length xs ≡ 1
   GoesOver (orNode ts) xs = length xs ≡ 1
 
@@ -174,15 +188,31 @@ module _ (c : Case) (F : List Tuple) where
   any-one b [] h = absurd (omega arith)
   any-one b (x ∷ y ∷ xs) h = absurd (omega arith)
 
+  -- what does not depend on a level is the same at each of its values
+  pub alike : (t : Tree) (e : Values) (d x y : ℕ) → occurs d t ≡ false → treeHolds c F (withValue e d x) t ≡ treeHolds c F (withValue e d y) t
+  unfolding withValue
+  alike t e d x y h = holds-same c F t (withValue e d x) (withValue e d y) (λ l q. go l q (eqb l d) refl)
+    where
+      go : (l : ℕ) → T (occurs l t) → (b : Bool) → eqb l d ≡ b → (if b then x else e l) ≡ (if b then y else e l)
+      go l q true k = absurd (subst T (ap (λ (z : ℕ). occurs z t) (eqb-true l d k) ∙ h) q)
+      go l q false k = refl
+
+  served : (sought : Bool) (e : Values) (d σ : ℕ) (t : Tree) (xs : List ℕ) → Serves d σ t xs
+      → any (λ x. agree (treeHolds c F (withValue e d x) t) sought) (membersOf c σ) ≡ any (λ x. agree (treeHolds c F (withValue e d x) t) sought) xs
+  served sought e d σ t xs (inl h) = ap (any _) (sym h)
+  served sought e d σ t xs (inr h) =
+      let a : (x y : ℕ) → agree (treeHolds c F (withValue e d x) t) sought ≡ agree (treeHolds c F (withValue e d y) t) sought = λ x y. ap (λ (b : Bool). agree b sought) (alike t e d x y (h .0)) in
+      any-alike _ a 0 (membersOf c σ) (h .2) ∙ sym (any-alike _ a 0 xs (h .1))
+
   pub block-truth : (v : ℕ) (e : Values) (u : Tree) (xs : List ℕ) → GoesOver u xs → treeHolds c F e u ≡ blockTruth v e u xs
   unfolding blockKind blockLevel blockJoin blockParts bound valueOf treeHolds GoesOver
   block-truth v e (leaf q r ls) xs h = absurd h
   block-truth v e (forallNode d σ t) xs h =
-      rw h (every-is (λ x. treeHolds c F (withValue e d x) t) (membersOf c σ) ∙ not-decided _
-      ∙ ap (λ (f : ℕ → Bool). decided false (any (λ x. agree (f x) false) (membersOf c σ))) (fun-ext (λ x. under-truth (suc v) (withValue e d x) t)))
+      every-is (λ x. treeHolds c F (withValue e d x) t) (membersOf c σ) ∙ not-decided _ ∙ ap (decided false) (served false e d σ t xs h)
+      ∙ ap (λ (f : ℕ → Bool). decided false (any (λ x. agree (f x) false) xs)) (fun-ext (λ x. under-truth (suc v) (withValue e d x) t))
   block-truth v e (existsNode d σ t) xs h =
-      rw h (some-is (λ x. treeHolds c F (withValue e d x) t) (membersOf c σ) ∙ is-decided _
-      ∙ ap (λ (f : ℕ → Bool). decided true (any (λ x. agree (f x) true) (membersOf c σ))) (fun-ext (λ x. under-truth (suc v) (withValue e d x) t)))
+      some-is (λ x. treeHolds c F (withValue e d x) t) (membersOf c σ) ∙ is-decided _ ∙ ap (decided true) (served true e d σ t xs h)
+      ∙ ap (λ (f : ℕ → Bool). decided true (any (λ x. agree (f x) true) xs)) (fun-ext (λ x. under-truth (suc v) (withValue e d x) t))
   block-truth v e (andNode ts) xs h =
       all-joined e ts (suc v) ∙ ap (λ (θ : Values). joined false (cells θ (partsFrom (suc v) ts)) (length (partsFrom (suc v) ts))) (same-value e 0) ∙ one-turn false _
       ∙ ap (decided false) (sym (any-one _ xs h))

@@ -4,7 +4,7 @@ use mathlib.Core.List.{List, [], _∷_}
 use Prim.Native.Nat.{ℕ, zero, suc, _+_, _-_, _*_, _^_, _≤_, _<_}
 use lib.Dec.{eqb, ltb}
 use lib.ListN.{length, getD, take}
-use Rattle.definitions.specs.Lists.{if_then_else_}
+use Rattle.definitions.specs.Lists.{if_then_else_, any}
 use Rattle.definitions.specs.Atoms.{wordsFor}
 use Rattle.tree.specs.Tables.{noPart, noNode}
 use Rattle.tree.specs.declared.PartRow.{PartRow}
@@ -49,8 +49,11 @@ partOf g q = if ltb (q .tag) 2 then record { tag = suc (q .tag); which = sourceO
 unfoldable pub lineOf : ℕ → Relations → PartRow → PartLine
 lineOf n g q =
     let w = weightOf n (take (q .width) (q .levels)) in
-    if ltb (q .tag) 2 then record { start = bitOf n g (q .which); weights = w 0 ∷ w 1 ∷ w 2 ∷ w 3 ∷ [] }
-    else record { start = 0; weights = 0 ∷ 0 ∷ 0 ∷ 0 ∷ [] }
+    record { start = if ltb (q .tag) 2 then bitOf n g (q .which) else 0; weights = w 0 ∷ w 1 ∷ w 2 ∷ w 3 ∷ [] }
+
+-- how many turns a quantifier of a level makes over its part: one serves for all n elements where the level is not free there
+unfoldable pub turnsOf : (n level : ℕ) → PartRow → ℕ
+turnsOf n level q = if any (eqb level) (take (q .width) (q .levels)) then n else 1
 
 -- the line of a node: a join by its own parts, a quantifier by its part, or by the parts of the join that its part is; a quantifier goes
 -- over the first `turns` elements
@@ -66,7 +69,7 @@ blockLine turns x q y =
     else ownLine turns x
 
 unfoldable pub nodeOf : ℕ → Nodes → NodeRow → NodeAt
-nodeOf n t x = let q = getD (t .parts) (x .first) noPart in blockLine n x q (getD (t .rows) (q .which) noNode)
+nodeOf n t x = let q = getD (t .parts) (x .first) noPart in blockLine (turnsOf n (x .level) q) x q (getD (t .rows) (q .which) noNode)
 
 -- the lines are those of the table; past the last node stand zeros
 pub record Lined (n : ℕ) (g : Relations) (t : Nodes) (w : List ℕ) : Type 0 where

@@ -1,16 +1,16 @@
 -- The numbers of lines as lists, and the laws of what writes them.
 use mathlib.Core.Path.{_≡_, refl, sym, ap, ap₂, subst, _∙_}
-use mathlib.Core.Bool.{Bool, true, false}
+use mathlib.Core.Bool.{Bool, true, false, _||_}
 use mathlib.Core.List.{List, [], _∷_}
 use Prim.Native.Nat.{ℕ, zero, suc, _+_, _-_, _*_, _/_, _^_, _≤_, _<_}
 use native.Mathlib.Omega.{arith}
 use native.Mathlib.Numerals.{add-one}
 use native.Mathlib.Decide.{decLt}
-use borrow.Author.Tests.{lt-ltb, le-ltb, ne-eqb, ltb-true, ltb-false}
-use lib.Dec.{ltb}
+use borrow.Author.Tests.{lt-ltb, le-ltb, eq-eqb, ne-eqb, ltb-true, ltb-false}
+use lib.Dec.{eqb, ltb}
 use lib.ListN.{length, getD, take, set}
 use lib.Seq.{paste, paste-suc, getD-set-same, getD-set-other}
-use Rattle.definitions.specs.Lists.{if_then_else_, below}
+use Rattle.definitions.specs.Lists.{if_then_else_, any, below}
 use Rattle.laws.specs.Lists.{length-below, getD-below}
 use Rattle.definitions.specs.Atoms.{wordsFor, problemOf}
 use Rattle.definitions.specs.Truth.{Case}
@@ -30,7 +30,7 @@ use Rattle.table.specs.Filled.{splice, tab}
 use Rattle.table.specs.SpliceLaws.{each-most, ZeroFrom, length-splice, read-in, read-before, read-after, read-from, splice-all, zeros-after, length-tab, tab-at, tab-next, tab-most}
 use Rattle.truth.specs.Lines.{rangesPlace, linesLength, nodeIn, partIn, lineIn}
 use Rattle.truth.specs.declared.NodeAt.{NodeAt}
-use Rattle.lines.specs.Lined.{factWords, chooseWords, factSum, chooseSum, sourceOf, firstBit, bitOf, partOf, lineOf, ownLine, blockLine, nodeOf, Lined}
+use Rattle.lines.specs.Lined.{factWords, chooseWords, factSum, chooseSum, sourceOf, firstBit, bitOf, partOf, lineOf, turnsOf, ownLine, blockLine, nodeOf, Lined}
 
 -- the lines are those of a case's rule
 pub record LinesOf (c : Case) (n : ℕ) (w : List ℕ) : Type 0 where
@@ -55,7 +55,7 @@ unfoldable pub partNumbers : ℕ → (kinds bits : List ℕ) → PartRow → Lis
 partNumbers n kinds bits q =
     let w = weightOf n (take (q .width) (q .levels)) in
     if ltb (q .tag) 2 then suc (q .tag) ∷ sourceOf (q .which) (getD kinds (q .which) 0) ∷ getD bits (q .which) 0 ∷ w 0 ∷ w 1 ∷ w 2 ∷ w 3 ∷ []
-    else 0 ∷ q .which ∷ 0 ∷ 0 ∷ 0 ∷ 0 ∷ 0 ∷ []
+    else 0 ∷ q .which ∷ 0 ∷ w 0 ∷ w 1 ∷ w 2 ∷ w 3 ∷ []
 
 -- the line of a part as a list
 abbrev pub partList : ℕ → Relations → PartRow → List ℕ
@@ -175,20 +175,47 @@ past [] i h = refl
 past (x ∷ l) zero h = absurd (omega arith)
 past (x ∷ l) (suc i) h = past l i (omega arith)
 
-module _ (n : ℕ) (t : Nodes) (fits : Fits t) (x : NodeRow) where
-  pub node-within : (r : List ℕ) (at which : ℕ) → at ≡ x .first → which ≡ getD (t .parts) at noPart .which
-      → IsLine r (blockLine n x (getD (t .parts) at noPart) (getD (t .rows) which noNode)) → IsLine r (nodeOf n t x)
-  unfolding nodeOf
-  node-within r at which a b e = (e .0 ∙ rw (b, a) refl, e .1)
+-- ---- whether a level is among the first of some
+some-level : (level w i : ℕ) (ls : List ℕ) → i < w → i < length ls → getD ls i 0 ≡ level → any (eqb level) (take w ls) ≡ true
+unfolding any
+some-level level zero i ls h l e = absurd (omega arith)
+some-level level (suc w) i [] h l e = absurd (omega arith)
+some-level level (suc w) zero (x ∷ ls) h l e = rw (eq-eqb level x (sym e)) refl
+some-level level (suc w) (suc i) (x ∷ ls) h l e = rw (some-level level w i ls (omega arith) (omega arith) e) (go (eqb level x))
+  where
+    go : (b : Bool) → (b || true) ≡ true
+    go true = refl
+    go false = refl
 
-  pub node-past : (r : List ℕ) → 64 ≤ x .first → IsLine r (ownLine n x) → IsLine r (nodeOf n t x)
-  unfolding nodeOf blockLine
+no-level : (level w : ℕ) (ls : List ℕ) → ((k : ℕ) → k < w → getD ls k 0 ≡ level → ⊥) → any (eqb level) (take w ls) ≡ false
+unfolding any
+no-level level zero ls h = refl
+no-level level (suc w) [] h = refl
+no-level level (suc w) (x ∷ ls) h = rw (ne-eqb level x (λ e. h 0 (omega arith) (sym e))) (no-level level w ls (λ k l. h (suc k) (omega arith)))
+
+module _ (n level : ℕ) (q : PartRow) (w : ℕ) (width : Wide w (q .width)) where
+  pub turns-all : (i : ℕ) → i < w → i < length (q .levels) → getD (q .levels) i 0 ≡ level → n ≡ turnsOf n level q
+  unfolding turnsOf
+  turns-all i h l e = let k : i < q .width = omega arith in rw (some-level level (q .width) i (q .levels) k l e) refl
+
+  pub turns-one : ((k : ℕ) → k < w → getD (q .levels) k 0 ≡ level → ⊥) → 1 ≡ turnsOf n level q
+  unfolding turnsOf
+  turns-one h = rw (no-level level (q .width) (q .levels) (λ k l. h k (omega arith))) refl
+
+module _ (n : ℕ) (t : Nodes) (fits : Fits t) (x : NodeRow) where
+  pub node-within : (r : List ℕ) (at which turns : ℕ) → at ≡ x .first → which ≡ getD (t .parts) at noPart .which → turns ≡ turnsOf n (x .level) (getD (t .parts) at noPart)
+      → IsLine r (blockLine turns x (getD (t .parts) at noPart) (getD (t .rows) which noNode)) → IsLine r (nodeOf n t x)
+  unfolding nodeOf
+  node-within r at which turns a b d e = (e .0 ∙ rw (d, b, a) refl, e .1)
+
+  pub node-past : (r : List ℕ) → 64 ≤ x .first → IsLine r (ownLine 1 x) → IsLine r (nodeOf n t x)
+  unfolding nodeOf blockLine turnsOf any
   node-past r h e = (
-    e .0 ∙ ap nodeNumbers (sym (ap (λ (q : PartRow). blockLine n x q (getD (t .rows) (q .which) noNode)) (past (t .parts) (x .first) (omega (arith, fits .parts .parts-length))) ∙ go (ltb (x .kind) 2))),
+    e .0 ∙ ap nodeNumbers (sym (ap (λ (q : PartRow). blockLine (turnsOf n (x .level) q) x q (getD (t .rows) (q .which) noNode)) (past (t .parts) (x .first) (omega (arith, fits .parts .parts-length))) ∙ go (ltb (x .kind) 2))),
     e .1,
   )
     where
-      go : (b : Bool) → (if b then ownLine n x else ownLine n x) ≡ ownLine n x
+      go : (b : Bool) → (if b then ownLine 1 x else ownLine 1 x) ≡ ownLine 1 x
       go true = refl
       go false = refl
 
@@ -232,12 +259,14 @@ part-literal n kinds bits q a b d t s w h e f i j v m o =
       each-most (2 ^ 32) ((t + 1) ∷ s ∷ getD bits a 0 ∷ getD w 0 0 ∷ getD w 1 0 ∷ getD w 2 0 ∷ getD w 3 0 ∷ []) (omega arith, (omega arith, (o a, (omega (arith, m 0), (omega (arith, m 1), (omega (arith, m 2), (omega (arith, m 3), tt))))))),
     )
 
-pub part-node : (n : ℕ) (kinds bits : List ℕ) (q : PartRow) (a : ℕ) → 2 ≤ q .tag → (a ≡ q .which) × (a < 256) → (0 ∷ a ∷ 0 ∷ 0 ∷ 0 ∷ 0 ∷ 0 ∷ [] ≡ partNumbers n kinds bits q) × Most (0 ∷ a ∷ 0 ∷ 0 ∷ 0 ∷ 0 ∷ 0 ∷ []) (2 ^ 32)
-unfolding partNumbers
-part-node n kinds bits q a h e = (
-  rw (le-ltb (q .tag) 2 h, e .0) refl,
-  each-most (2 ^ 32) (0 ∷ a ∷ 0 ∷ 0 ∷ 0 ∷ 0 ∷ 0 ∷ []) (omega arith, (omega arith, (omega arith, (omega arith, (omega arith, (omega arith, (omega arith, tt))))))),
-)
+pub part-node : (n : ℕ) (kinds bits : List ℕ) (q : PartRow) (a b : ℕ) (w : List ℕ) → 2 ≤ q .tag → Wide a (q .which) → Wide b (q .width) → valueIn w ≡ weightOf n (take b (q .levels)) → Most w (65 ^ 4)
+    → (0 ∷ a ∷ 0 ∷ getD w 0 0 ∷ getD w 1 0 ∷ getD w 2 0 ∷ getD w 3 0 ∷ [] ≡ partNumbers n kinds bits q) × Most (0 ∷ a ∷ 0 ∷ getD w 0 0 ∷ getD w 1 0 ∷ getD w 2 0 ∷ getD w 3 0 ∷ []) (2 ^ 32)
+unfolding partNumbers valueIn
+part-node n kinds bits q a b w h e f v m =
+    let z : (l : ℕ) → getD w l 0 ≡ weightOf n (take (q .width) (q .levels)) l = λ l. ap (λ (x : Values). x l) v ∙ ap (λ (k : ℕ). weightOf n (take k (q .levels)) l) (f .0) in (
+      rw (le-ltb (q .tag) 2 h, z 0, z 1, z 2, z 3, e .0) refl,
+      seven-most 0 a 0 (getD w 0 0) (getD w 1 0) (getD w 2 0) (getD w 3 0) (omega arith) (omega arith) (omega arith) (omega (arith, m 0)) (omega (arith, m 1)) (omega (arith, m 2)) (omega (arith, m 3)),
+    )
 
 pub sums-none : (n : ℕ) (g : Relations) → (0 ≡ factSum n g 0) × (0 ≡ chooseSum n g 0)
 unfolding factSum chooseSum
@@ -370,11 +399,7 @@ module _ (n : ℕ) (g : Relations) (t : Nodes) (d : List ℕ) (len : length d �
 
   four-weights : (q : PartRow) → length (lineOf n g q .weights) ≡ 4
   unfolding lineOf
-  four-weights q = go (ltb (q .tag) 2) refl
-    where
-      go : (b : Bool) → ltb (q .tag) 2 ≡ b → length (lineOf n g q .weights) ≡ 4
-      go true k = rw k refl
-      go false k = rw k refl
+  four-weights q = refl
 
   same-line : (q : PartRow) (l : PartLine) → l ≡ record { start = lineOf n g q .start; weights = getD (lineOf n g q .weights) 0 0 ∷ getD (lineOf n g q .weights) 1 0 ∷ getD (lineOf n g q .weights) 2 0 ∷ getD (lineOf n g q .weights) 3 0 ∷ [] } → l ≡ lineOf n g q
   same-line q l e = e ∙ ap (λ (ws : List ℕ). record { start = lineOf n g q .start; weights = ws }) (four (lineOf n g q .weights) (four-weights q))

@@ -1,21 +1,22 @@
 -- That the lines say what `truth` asks.
 use mathlib.Core.Path.{_≡_, refl, sym, ap, ap₂, subst, _∙_}
-use mathlib.Core.Logic.{_⊎_, ⊎-elim}
-use mathlib.Core.Bool.{Bool, true, false, not}
+use mathlib.Core.Logic.{inl, inr}
+use mathlib.Core.Bool.{Bool, true, false, not, _||_}
 use mathlib.Core.List.{List, [], _∷_, _++_, map}
 use Prim.Native.Nat.{ℕ, zero, suc, _+_, _-_, _*_, _^_, _≤_, _<_}
 use native.Mathlib.Omega.{arith}
-use native.Mathlib.Nat.{add-zero}
-use borrow.Author.Tests.{lt-ltb, le-ltb, ltb-true, ltb-false}
+use native.Mathlib.Nat.{add-zero, one-le-pow}
+use borrow.Author.Tests.{lt-ltb, le-ltb, eqb-true, ltb-true, ltb-false}
 use lib.Dec.{T, eqb, ltb, ltb→lt}
 use lib.ListN.{length, getD, take, drop, length-map}
 use lib.Seq.{getD-drop}
-use Rattle.definitions.specs.Lists.{if_then_else_, all, from, below}
-use Rattle.laws.specs.Booleans.{and-T, T-and-l, T-and-r}
-use Rattle.laws.specs.Lists.{all-at, getD-mem}
+use Rattle.definitions.specs.Lists.{if_then_else_, all, any, isIn, from, below}
+use Rattle.laws.specs.Booleans.{and-T, T-and-l, T-and-r, T-ext}
+use Rattle.laws.specs.Lists.{all-at, getD-mem, mem-below, mem-filter, filter-mem}
+use Rattle.laws.specs.Members.{in-mem, mem-in, members-range}
 use Rattle.definitions.specs.Relations.{Tuple}
 use Rattle.definitions.specs.Truth.{Case, membersOf, holds, arePicks, ruleIsTrue}
-use Rattle.definitions.specs.Tree.{Tree, Trees, leaf, forallNode, existsNode, andNode, orNode, end, _then_, Part, parts, partsFrom, nodes, nodesAll}
+use Rattle.definitions.specs.Tree.{Tree, Trees, leaf, forallNode, existsNode, andNode, orNode, end, _then_, Part, parts, partsFrom, nodes, nodesAll, occurs, free}
 use Rattle.definitions.specs.Atoms.{Problem, problemOf, problemWith, relationAt, nodeAt, rowOf}
 use Rattle.definitions.specs.Actions.{Values}
 use Rattle.definitions.specs.Built.{treeHolds}
@@ -34,17 +35,18 @@ use Rattle.rows.specs.Laws.{row-weighed}
 use Rattle.ground.specs.Of.{noPart}
 use Rattle.ground.specs.Lines.{partNumber, membersIn}
 use Rattle.ground.specs.NeedLaws.{members-length}
+use Rattle.ground.specs.declared.PartLine.{PartLine}
 use Rattle.layout.specs.declared.Relations.{Relations}
 use Rattle.layout.specs.Laid.{Inputs}
 use Rattle.layout.specs.StartsAre.{many-are}
 use Rattle.initial.specs.Initial.{FactsIn}
 use Rattle.picks.specs.Words.{PicksAre}
-use Rattle.truth.specs.Lines.{rangesPlace, elementIn, nodeIn, partIn, literalAt, leafAt, agree, NodeSound, Sound}
+use Rattle.truth.specs.Lines.{rangesPlace, elementIn, nodeIn, partIn, lineIn, literalAt, leafAt, agree, fixedIn, NodeSound, Sound}
 use Rattle.truth.specs.Says.{nodeOf as nodeOfTree, noValues, truthBy, PartSays, NodeSays, Says}
 use Rattle.truth.specs.declared.NodeAt.{NodeAt}
 use Rattle.truth.specs.declared.PartAt.{PartAt}
-use Rattle.lines.specs.Lined.{sourceOf, bitOf, partOf, lineOf, ownLine, blockLine, nodeOf, Lined}
-use Rattle.lines.specs.Blocks.{under, joinOf, blockParts, blockKind, blockLevel, blockJoin, GoesOver, block-truth}
+use Rattle.lines.specs.Lined.{sourceOf, bitOf, partOf, lineOf, turnsOf, ownLine, blockLine, nodeOf, Lined}
+use Rattle.lines.specs.Blocks.{under, joinOf, blockParts, blockKind, blockLevel, blockJoin, Serves, GoesOver, alike, block-truth}
 use Rattle.lines.specs.Literals.{literal-is}
 
 -- ---- the head of one part among those of a node
@@ -82,13 +84,67 @@ module _ (p : Problem) where
   block-here v (andNode ts) h i l = let r = parts-here ts (suc v) (parts-and p v ts h) i l in (r .0, omega (arith, r .1))
   block-here v (orNode ts) h i l = let r = parts-here ts (suc v) (parts-or p v ts h) i l in (r .0, omega (arith, r .1))
 
+-- ---- a part's levels are those that occur free in it
+free-has : (t : Tree) (d : ℕ) → d < 4 → any (eqb d) (free t) ≡ occurs d t
+unfolding free isIn
+free-has t d h =
+    T-ext (any (eqb d) (free t)) (occurs d t) (λ q. filter-mem (λ l. occurs l t) (below 4) d (in-mem d (free t) q) .1)
+    (λ q. mem-in d (free t) (mem-filter (λ l. occurs l t) (below 4) d (mem-below 4 d h) q))
+
+head-has : (k : ℕ) (t : Tree) (d : ℕ) → d < 4 → any (eqb d) (headFrom k t .levels) ≡ occurs d t
+unfolding headFrom occurs
+head-has k (leaf true r ls) d h = refl
+head-has k (leaf false r ls) d h = refl
+head-has k (forallNode l σ t) d h = free-has (forallNode l σ t) d h
+head-has k (existsNode l σ t) d h = free-has (existsNode l σ t) d h
+head-has k (andNode ts) d h = free-has (andNode ts) d h
+head-has k (orNode ts) d h = free-has (orNode ts) d h
+
+-- ... so the turns of a quantifier of level d over it are known by the tree
+turns-are : (n level d k : ℕ) (q : PartRow) (t : Tree) → headIn q ≡ headFrom k t → level ≡ d → level < 4 → turnsOf n level q ≡ (if occurs d t then n else 1)
+unfolding turnsOf
+turns-are n level d k q t e a h =
+    ap (λ (b : Bool). if b then n else 1)
+    (ap (λ (x : Head). any (eqb level) (x .levels)) e ∙ head-has k t level h ∙ ap (λ (l : ℕ). occurs l t) a)
+
+-- ... and a part whose numbers do not grow with a level does not have it
+weighs : (n l : ℕ) (ls : List ℕ) → 0 < n → any (eqb l) ls ≡ true → 0 < weightOf n ls l
+unfolding any weightOf
+weighs n l [] p h = absurd (clash h)
+  where
+    clash : _≡_ {A = Bool} false true → ⊥
+    clash q = let z : _≡_ {A = ℕ} 0 1 = cc in omega arith
+weighs n l (x ∷ ls) p h = go (eqb l x) h (weighs n l ls p)
+  where
+    go : (b : Bool) → (b || any (eqb l) ls) ≡ true → (any (eqb l) ls ≡ true → 0 < weightOf n ls l) → 0 < (if b then n ^ length ls else 0) + weightOf n ls l
+    go true e r = let q : 0 < n ^ length ls = one-le-pow (length ls) n p in omega arith
+    go false e r = omega (arith, r e)
+
+four-at : (a b c d : ℕ) (f : ℕ → ℕ) (l : ℕ) → l < 4 → a ≡ f 0 → b ≡ f 1 → c ≡ f 2 → d ≡ f 3 → getD (a ∷ b ∷ c ∷ d ∷ []) l 0 ≡ f l
+four-at a b c d f zero h p q r s = p
+four-at a b c d f (suc zero) h p q r s = q
+four-at a b c d f (suc (suc zero)) h p q r s = r
+four-at a b c d f (suc (suc (suc zero))) h p q r s = s
+four-at a b c d f (suc (suc (suc (suc l)))) h p q r s = absurd (omega arith)
+
+fixed-free : (n : ℕ) (g : Relations) (w : List ℕ) (i k level : ℕ) (q : PartRow) (t : Tree) → 0 < n → level < 4 → lineIn w i ≡ lineOf n g q → headIn q ≡ headFrom k t → fixedIn w i level ≡ true → occurs level t ≡ false
+unfolding fixedIn lineOf
+fixed-free n g w i k level q t p h e d f = go (occurs level t) refl
+  where
+    light : weightOf n (take (q .width) (q .levels)) level ≡ 0
+    light = sym (four-at _ _ _ _ (weightOf n (take (q .width) (q .levels))) level h refl refl refl refl) ∙ eqb-true _ 0 (ap (λ (z : PartLine). eqb (getD (z .weights) level 0) 0) (sym e) ∙ f)
+
+    go : (b : Bool) → occurs level t ≡ b → occurs level t ≡ false
+    go true o = let z = weighs n level (take (q .width) (q .levels)) p (ap (λ (x : Head). any (eqb level) (x .levels)) d ∙ head-has k t level h ∙ o) in absurd (omega (arith, light))
+    go false o = o
+
 -- ---- a block's line
 
 -- how often the parts of a block are gone through
 unfoldable pub blockTurns : ℕ → Tree → ℕ
 blockTurns n (leaf q r ls) = 1
-blockTurns n (forallNode d σ t) = n
-blockTurns n (existsNode d σ t) = n
+blockTurns n (forallNode d σ t) = if occurs d t then n else 1
+blockTurns n (existsNode d σ t) = if occurs d t then n else 1
 blockTurns n (andNode ts) = 1
 blockTurns n (orNode ts) = 1
 
@@ -112,7 +168,7 @@ pub record IsUnder (n : ℕ) (t : Nodes) (k : ℕ) (s : Tree) (x : NodeRow) (z :
   pub head : (i : ℕ) → i < length (under k s) → headIn (getD (t .parts) (z .first + i) noRow) ≡ headOf (getD (under k s) i noPart)
   pub fits : z .first + z .many ≤ t .placed
   pub range : z .range ≡ rangesPlace
-  pub count : z .count ≡ n
+  pub count : z .count ≡ turnsOf n (x .level) (getD (t .parts) (x .first) noRow)
 
 module _ (n : ℕ) (t : Nodes) (x : NodeRow) where
   abbrev part₀ : PartRow
@@ -121,8 +177,11 @@ module _ (n : ℕ) (t : Nodes) (x : NodeRow) where
   abbrev row₀ : NodeRow
   row₀ = getD (t .rows) (part₀ .which) noNode
 
+  abbrev turns₀ : ℕ
+  turns₀ = turnsOf n (x .level) part₀
+
   abbrev plainLine : NodeAt
-  plainLine = record { kind = x .kind; level = x .level; join = 1; first = x .first; many = x .many; range = rangesPlace; count = n }
+  plainLine = record { kind = x .kind; level = x .level; join = 1; first = x .first; many = x .many; range = rangesPlace; count = turns₀ }
 
   own-join : 2 ≤ x .kind → nodeOf n t x ≡ record { kind = 2; level = 0; join = x .kind - 2; first = x .first; many = x .many; range = rangesPlace; count = 1 }
   unfolding nodeOf blockLine ownLine
@@ -136,7 +195,7 @@ module _ (n : ℕ) (t : Nodes) (x : NodeRow) where
   unfolding nodeOf blockLine ownLine
   own-quantifier h q k = rw (lt-ltb (x .kind) 2 h, le-ltb (part₀ .tag) 2 q, lt-ltb (row₀ .kind) 2 k) refl
 
-  fused : x .kind < 2 → 2 ≤ part₀ .tag → 2 ≤ row₀ .kind → nodeOf n t x ≡ record { kind = x .kind; level = x .level; join = row₀ .kind - 2; first = row₀ .first; many = row₀ .many; range = rangesPlace; count = n }
+  fused : x .kind < 2 → 2 ≤ part₀ .tag → 2 ≤ row₀ .kind → nodeOf n t x ≡ record { kind = x .kind; level = x .level; join = row₀ .kind - 2; first = row₀ .first; many = row₀ .many; range = rangesPlace; count = turns₀ }
   unfolding nodeOf blockLine
   fused h q k = rw (lt-ltb (x .kind) 2 h, le-ltb (part₀ .tag) 2 q, le-ltb (row₀ .kind) 2 k) refl
 
@@ -231,13 +290,13 @@ module _ (p : Problem) (n : ℕ) (g : Relations) (t : Nodes) (inputs : Inputs p 
       let m : x .many ≡ 1 = many-are v (forallNode d σ s) x (t .parts) is l in
       let e : headIn (part₀ n t x) ≡ headFrom (suc v) s = ap (λ (z : ℕ). headIn (getD (t .parts) z noRow)) (sym (add-zero (x .first))) ∙ heads-of v (forallNode d σ s) x is 0 (omega arith) in
       let z = under-is v s x (omega arith) m f e (under-forall p v d σ s here) in
-      record { kind = z .kind ∙ k; level = z .level ∙ is .level; join = z .join; many = z .many; head = z .head; fits = z .fits; low = rw (z .level) low; range = z .range; count = z .count }
+      record { kind = z .kind ∙ k; level = z .level ∙ is .level; join = z .join; many = z .many; head = z .head; fits = z .fits; low = rw (z .level) low; range = z .range; count = z .count ∙ turns-are n (x .level) d (suc v) (part₀ n t x) s e (is .level) low }
   block-of v (existsNode d σ s) x is f l low h here =
       let k : x .kind ≡ 1 = is .kind in
       let m : x .many ≡ 1 = many-are v (existsNode d σ s) x (t .parts) is l in
       let e : headIn (part₀ n t x) ≡ headFrom (suc v) s = ap (λ (z : ℕ). headIn (getD (t .parts) z noRow)) (sym (add-zero (x .first))) ∙ heads-of v (existsNode d σ s) x is 0 (omega arith) in
       let z = under-is v s x (omega arith) m f e (under-exists p v d σ s here) in
-      record { kind = z .kind ∙ k; level = z .level ∙ is .level; join = z .join; many = z .many; head = z .head; fits = z .fits; low = rw (z .level) low; range = z .range; count = z .count }
+      record { kind = z .kind ∙ k; level = z .level ∙ is .level; join = z .join; many = z .many; head = z .head; fits = z .fits; low = rw (z .level) low; range = z .range; count = z .count ∙ turns-are n (x .level) d (suc v) (part₀ n t x) s e (is .level) low }
   block-of v (andNode ts) x is f l low h here =
       let k : x .kind ≡ 2 = is .kind in
       rw (own-join n t x (omega arith)) (record { kind = refl; level = refl; join = ap (λ (z : ℕ). z - 2) k; many = many-are v (andNode ts) x (t .parts) is l; head = heads-of v (andNode ts) x is; fits = f; low = omega arith; range = refl; count = refl })
@@ -332,11 +391,15 @@ module _ (c : Case) (A : Accepted c) (n : ℕ) (g : Relations) (t : Nodes) (inpu
 
   -- ---- sound lines
   module _ (some : 0 < n) (small : n ≤ 64) (w : List ℕ) (lined : Lined n g t w) where
+    few : (b : Bool) → (if b then n else 1) ≤ n
+    few true = omega arith
+    few false = omega arith
+
     turns-few : (u : Tree) → blockTurns n u ≤ n
     unfolding blockTurns
     turns-few (leaf q r ls) = omega arith
-    turns-few (forallNode d σ s) = omega arith
-    turns-few (existsNode d σ s) = omega arith
+    turns-few (forallNode d σ s) = few (occurs d s)
+    turns-few (existsNode d σ s) = few (occurs d s)
     turns-few (andNode ts) = omega arith
     turns-few (orNode ts) = omega arith
 
@@ -434,11 +497,19 @@ module _ (c : Case) (A : Accepted c) (n : ℕ) (g : Relations) (t : Nodes) (inpu
       unfolding membersIn
       members-are k h = map-below (λ i. getD w (rangesPlace + i) 0) k (λ i l. lined .range i (omega arith))
 
+      serves : (d σ : ℕ) (s : Tree) → Serves c F d σ s (membersIn w rangesPlace (if occurs d s then n else 1))
+      unfolding membersOf problemOf problemWith
+      serves d σ s = go (occurs d s) refl
+        where
+          go : (b : Bool) → occurs d s ≡ b → Serves c F d σ s (membersIn w rangesPlace (if b then n else 1))
+          go true k = inl (members-are n (omega arith) ∙ ap below (inputs .size))
+          go false k = inr (k, omega (arith, members-length w rangesPlace 1), members-range c σ (good c A .element) .some-member)
+
       goes-over : (u : Tree) → nodeKind u < 4 → GoesOver c F u (membersIn w rangesPlace (blockTurns n u))
-      unfolding GoesOver blockTurns nodeKind membersOf problemOf problemWith
+      unfolding GoesOver blockTurns nodeKind
       goes-over (leaf q r ls) h = absurd (omega arith)
-      goes-over (forallNode d σ s) h = members-are n (omega arith) ∙ ap below (inputs .size)
-      goes-over (existsNode d σ s) h = members-are n (omega arith) ∙ ap below (inputs .size)
+      goes-over (forallNode d σ s) h = serves d σ s
+      goes-over (existsNode d σ s) h = serves d σ s
       goes-over (andNode ts) h = members-length w rangesPlace 1
       goes-over (orNode ts) h = members-length w rangesPlace 1
 
@@ -456,6 +527,12 @@ module _ (c : Case) (A : Accepted c) (n : ℕ) (g : Relations) (t : Nodes) (inpu
                 let k : i < length (blockParts v (nodeAt p v)) = rw (b .many) at h in
                 let e = lined .part (nodeOf n t (getD (t .rows) v noNode) .first + i) j in
                 rw (e .0, e .1) (part-says (getD (t .parts) (nodeOf n t (getD (t .rows) v noNode) .first + i) noRow) _ _ (ft .parts .part (nodeOf n t (getD (t .rows) v noNode) .first + i)) (b .head i k) (here-of v l i k .0));
+            still = λ i h f e y z.
+                let j : nodeOf n t (getD (t .rows) v noNode) .first + i < t .placed = omega (arith, b .fits) in
+                let k : i < length (blockParts v (nodeAt p v)) = rw (b .many) at h in
+                let q = getD (t .parts) (nodeOf n t (getD (t .rows) v noNode) .first + i) noRow in
+                alike c F (getD (blockParts v (nodeAt p v)) i noPart .tree) e (nodeOf n t (getD (t .rows) v noNode) .level) y z
+                (fixed-free n g w (nodeOf n t (getD (t .rows) v noNode) .first + i) _ (nodeOf n t (getD (t .rows) v noNode) .level) q _ (omega (arith, inputs .size, good c A .element)) (b .low) (lined .part _ j .1) (b .head i k) f);
             truth = λ e. truth-by v (nodeAt p v) (nodeOf n t (getD (t .rows) v noNode)) e (kind-is v l) b;
           })
 

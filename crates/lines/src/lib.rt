@@ -16,7 +16,7 @@ ghost use Rattle.initial.specs.Initial.{FactsIn};
 ghost use Rattle.picks.specs.Words.{PicksAre};
 ghost use Rattle.definitions.specs.Lists.{below};
 ghost use Rattle.truth.specs.Lines.{rangesPlace, linesLength};
-ghost use Rattle.lines.specs.Lined.{sourceOf, bitOf, firstBit, factWords, chooseWords, ownLine, blockLine, nodeOf, Lined};
+ghost use Rattle.lines.specs.Lined.{sourceOf, bitOf, firstBit, factWords, chooseWords, turnsOf, ownLine, blockLine, nodeOf, Lined};
 ghost use Rattle.lines.specs.Numbers.{nodeNumbers, partNumbers, partList, nodeLines, partLines, Bits, LinesOf, OfCase};
 use layout::Relations;
 use tree::NodeRow;
@@ -108,15 +108,15 @@ fn source(r: usize, kind: usize) -> usize
     6
 }
 
-// The line of a part.
+// The line of a part. A node has weights too: they tell at which levels it is the same.
 fn part_numbers(n: usize, kinds: &[usize], bits: &[usize], q: PartRow) -> [usize; 7]
     requires { ⌜ (0 < n) × (n ≤ 64) × PartFits q × (17 ≤ length (now kinds)) × (17 ≤ length (now bits)) × Most (now bits) (2 ^ 32) ⌝ }
     ensures { λ r. ⌜ (r ≡ partNumbers n (now (kinds .entry)) (now (bits .entry)) q) × Most r (2 ^ 32) ⌝ }
 {
     let which = wide(q.which);
+    let levels = q.levels;
+    let w = rows::weights(n, levels, wide(q.width));
     if q.tag < 2 {
-        let levels = q.levels;
-        let w = rows::weights(n, levels, wide(q.width));
         return [
             wide(q.tag) + 1,
             source(which, kinds[which]),
@@ -127,7 +127,24 @@ fn part_numbers(n: usize, kinds: &[usize], bits: &[usize], q: PartRow) -> [usize
             w[3],
         ];
     }
-    [0, which, 0, 0, 0, 0, 0]
+    [0, which, 0, w[0], w[1], w[2], w[3]]
+}
+
+// How many turns a quantifier of a level makes over its part: where the level is not free there, one serves for all elements.
+fn turns_of(n: usize, level: u8, q: PartRow) -> usize
+    requires { ⌜ (n ≤ 64) × PartFits q ⌝ }
+    ensures { λ r. ⌜ (r ≡ turnsOf n level q) × (r ≤ 64) ⌝ }
+{
+    let levels = q.levels;
+    let width = wide(q.width);
+    let mut i: usize = 0;
+    while i < width {
+        if levels[i] == level {
+            return n;
+        }
+        i += 1;
+    }
+    1
 }
 
 // The line of a node by its own parts.
@@ -177,9 +194,9 @@ fn node_line(n: usize, t: Nodes, x: NodeRow) -> [usize; 7]
         let q = t.parts[at];
         let which = wide(q.which);
         let y = t.rows[which];
-        return block_line(n, x, q, y);
+        return block_line(turns_of(n, x.level, q), x, q, y);
     }
-    own_line(n, x)
+    own_line(1, x)
 }
 
 // The lines of the nodes.

@@ -1,18 +1,19 @@
 -- A node's truth as a search that may be left early.
-use mathlib.Core.Path.{_≡_, refl, sym, ap, ap₂, _∙_}
+use mathlib.Core.Path.{_≡_, refl, sym, ap, ap₂, subst, _∙_, fun-ext}
 use mathlib.Core.Bool.{Bool, true, false, not, _&&_, _||_}
 use mathlib.Core.List.{List, [], _∷_, map}
 use Prim.Native.Nat.{ℕ, zero, suc, _+_, _-_, _*_, _/_, _%_, _^_, _≤_, _<_}
 use native.Mathlib.Omega.{arith}
 use native.Mathlib.Numerals.{add-one}
-use native.Mathlib.Nat.{div-le-self, mod-le}
-use borrow.Author.Tests.{lt-ltb, le-ltb, ne-eqb}
+use native.Mathlib.Nat.{add-zero, zero-add, div-le-self, mod-le}
+use native.Mathlib.Decide.{decLt}
+use borrow.Author.Tests.{lt-ltb, le-ltb, ne-eqb, eqb-true, ltb-true, ltb-false}
 use lib.Dec.{eqb, ltb}
 use lib.ListN.{length, getD, set}
 use Rattle.definitions.specs.Lists.{if_then_else_, any, from, below}
 use Rattle.definitions.specs.Relations.{Tuple, builtInHolds}
 use Rattle.definitions.specs.Truth.{Case}
-use Rattle.definitions.specs.Tree.{Tree, _then_, parts}
+use Rattle.definitions.specs.Tree.{Tree, Part}
 use Rattle.definitions.specs.Actions.{Values, withValue}
 use Rattle.definitions.specs.Built.{treeHolds}
 use Rattle.bits.specs.Table.{bit}
@@ -22,8 +23,8 @@ use Rattle.ground.specs.Lines.{partNumber, membersIn}
 use Rattle.ground.specs.NeedLaws.{value-times, within-most}
 use Rattle.ground.specs.Of.{noPart}
 use Rattle.ground.specs.declared.PartLine.{PartLine}
-use Rattle.truth.specs.Lines.{nodeIn, partIn, lineIn, partPlace, literalAt, leafAt, agree, elementIn, valueOf, valuesOf, decided, joined, bound, Sound}
-use Rattle.truth.specs.Says.{nodeOf, noValues, PartSays, Says, Asked, truthBy, cellOf, underOf, partsIn, AllTurns, AllParts, IsCell, IsNode, Under}
+use Rattle.truth.specs.Lines.{nodeIn, partIn, lineIn, partPlace, literalAt, leafAt, agree, elementIn, valueOf, valuesOf, fixedIn, known, laterOf, decided, joined, bound, Sound}
+use Rattle.truth.specs.Says.{nodeOf, noValues, PartSays, Says, Asked, truthBy, cellOf, underOf, partsIn, AllTurns, AllParts, IsCell, IsNode, Under, Still, Passed}
 use Rattle.truth.specs.declared.NodeAt.{NodeAt}
 use Rattle.truth.specs.declared.PartAt.{PartAt}
 
@@ -45,6 +46,26 @@ any-map : {A : Type 0} (g : A → Bool) (f : ℕ → A) (l : List ℕ) → any g
 unfolding any
 any-map g f [] = refl
 any-map g f (x ∷ l) = ap (λ (b : Bool). g (f x) || b) (any-map g f l)
+
+-- one of a run is enough, and none of a list is none
+any-from : (g : ℕ → Bool) (k a i : ℕ) → i < k → g (a + i) ≡ true → any g (from a k) ≡ true
+unfolding any from
+any-from g zero a i h e = absurd (omega arith)
+any-from g (suc k) a zero h e = rw (ap g (sym (add-zero a)) ∙ e) refl
+any-from g (suc k) a (suc i) h e = let q : suc a + i ≡ a + suc i = omega arith in rw (any-from g k (suc a) i (omega arith) (ap g q ∙ e)) (go (g a))
+  where
+    go : (b : Bool) → (b || true) ≡ true
+    go true = refl
+    go false = refl
+
+any-below : (g : ℕ → Bool) (k i : ℕ) → i < k → g i ≡ true → any g (below k) ≡ true
+unfolding below
+any-below g k i h e = any-from g k 0 i h (ap g (zero-add i) ∙ e)
+
+any-never : (g : ℕ → Bool) (l : List ℕ) → ((x : ℕ) → g x ≡ false) → any g l ≡ false
+unfolding any
+any-never g [] h = refl
+any-never g (x ∷ l) h = rw (h x) (any-never g l h)
 
 any-start : (g : ℕ → Bool) (k : ℕ) → any g (below k) ≡ any g (from 0 (k - 0))
 unfolding below
@@ -71,7 +92,13 @@ module _ (n : ℕ) (w : List ℕ) (sound : Sound n w) (v : ℕ) (l : v < 64) (x 
   pub rises : (i : ℕ) (q : PartAt) → i < x .many → q ≡ partIn w (x .first + i) → q .tag ≡ 0 → (v < q .which) × (q .which < 64)
   rises i q h e t = rw (e, line) (sound .node v l .rises i (rw line at h) (rw (e, line) at t))
 
--- ---- the turns of a search
+-- ---- the turns of a search, which are counted by how many are left
+pub none-gone : (P : ℕ → Type 0) (turns : ℕ) → P 0 → P (turns - turns)
+none-gone P turns p = let e : 0 ≡ turns - turns = omega arith in subst P e p
+
+pub one-gone : (P : ℕ → Type 0) (turns left : ℕ) → 0 < left → left ≤ turns → P (turns - left + 1) → P (turns - (left - 1))
+one-gone P turns left h k p = let e : turns - left + 1 ≡ turns - (left - 1) = omega arith in subst P e p
+
 agree-off : (a b : Bool) → agree a b ≡ false → agree (not a) b ≡ true
 unfolding agree
 agree-off true true h = sym h
@@ -86,7 +113,126 @@ agree-on true false h = sym h
 agree-on false true h = sym h
 agree-on false false h = refl
 
+agree-not : (b joins : Bool) → agree b joins ≡ false → b ≡ not joins
+unfolding agree
+agree-not true true h = h
+agree-not true false h = refl
+agree-not false true h = refl
+agree-not false false h = sym h
+
+-- ---- values that differ at one level alone
+pub same-value : (e : Values) (d : ℕ) → e ≡ withValue e d (e d)
+unfolding withValue
+same-value e d = fun-ext (λ l. go l (eqb l d) refl)
+  where
+    go : (l : ℕ) (b : Bool) → eqb l d ≡ b → e l ≡ (if b then e d else e l)
+    go l true h = ap e (eqb-true l d h)
+    go l false h = refl
+
+with-other : (e θ : Values) (d y z : ℕ) → θ ≡ withValue e d y → withValue θ d z ≡ withValue e d z
+unfolding withValue
+with-other e θ d y z are = ap (λ (u : Values). withValue u d z) are ∙ fun-ext (λ l. go l (eqb l d))
+  where
+    go : (l : ℕ) (b : Bool) → (if b then z else if b then y else e l) ≡ (if b then z else e l)
+    go l true = refl
+    go l false = refl
+
+-- ---- what is known of fixed parts
+pub known-fixed : (fixed : Bool) (i seen : ℕ) → fixed ≡ true → ltb i seen ≡ known fixed i seen
+unfolding known
+known-fixed fixed i seen e = rw e refl
+
+pub known-not : (fixed : Bool) (i seen : ℕ) → fixed ≡ false → false ≡ known fixed i seen
+unfolding known
+known-not fixed i seen e = rw e refl
+
+pub known-is : (fixed : Bool) (i seen : ℕ) (r : Bool) → r ≡ known fixed i seen → r ≡ true → (fixed ≡ true) × (i < seen)
+unfolding known
+known-is true i seen r e h = (refl, ltb-true i seen (sym e ∙ h))
+known-is false i seen r e h = let z : _≡_ {A = Bool} false true = sym e ∙ h in (z, absurd (clash z))
+  where
+    clash : _≡_ {A = Bool} false true → ⊥
+    clash q = let z : _≡_ {A = ℕ} 0 1 = cc in omega arith
+
+pub later-second : (a b : ℕ) → a < b → b ≡ laterOf a b
+unfolding laterOf
+later-second a b h = rw (lt-ltb a b h) refl
+
+pub later-first : (a b : ℕ) → b ≤ a → a ≡ laterOf a b
+unfolding laterOf
+later-first a b h = rw (le-ltb a b h) refl
+
+pub later-over : (a b k : ℕ) → k ≡ laterOf a b → (a ≤ k) × (b ≤ k)
+unfolding laterOf
+later-over a b k e = go (ltb a b) refl e
+  where
+    go : (t : Bool) → ltb a b ≡ t → k ≡ (if t then b else a) → (a ≤ k) × (b ≤ k)
+    go true h q = let l : a < b = ltb-true a b h in (omega arith, omega arith)
+    go false h q = let l : b ≤ a = ltb-false a b h in (omega arith, omega arith)
+
+later-new : (i seen j : ℕ) → i ≤ seen → j < laterOf seen (i + 1) → (j < seen → ⊥) → j ≡ i
+unfolding laterOf
+later-new i seen j h l q = go (ltb seen (i + 1)) l
+  where
+    go : (t : Bool) → j < (if t then i + 1 else seen) → j ≡ i
+    go true k = let o : seen ≤ j = not-less in omega arith
+      where
+        not-less : seen ≤ j
+        not-less = pick (decLt j seen)
+          where
+            pick : Dec (j < seen) → seen ≤ j
+            pick (yes z) = absurd (q z)
+            pick (no z) = omega arith
+    go false k = absurd (q k)
+
+pub fixed-at : (w : List ℕ) (i level : ℕ) → level < 4 → eqb (getD w (448 + 7 * i + 3 + level) 0) 0 ≡ fixedIn w i level
+unfolding fixedIn lineIn
+fixed-at w i zero h = let e : 448 + 7 * i + 3 + 0 ≡ 448 + 7 * i + 3 = omega arith in ap (λ (k : ℕ). eqb (getD w k 0) 0) e
+fixed-at w i (suc zero) h = let e : 448 + 7 * i + 3 + 1 ≡ 448 + 7 * i + 4 = omega arith in ap (λ (k : ℕ). eqb (getD w k 0) 0) e
+fixed-at w i (suc (suc zero)) h = let e : 448 + 7 * i + 3 + 2 ≡ 448 + 7 * i + 5 = omega arith in ap (λ (k : ℕ). eqb (getD w k 0) 0) e
+fixed-at w i (suc (suc (suc zero))) h = let e : 448 + 7 * i + 3 + 3 ≡ 448 + 7 * i + 6 = omega arith in ap (λ (k : ℕ). eqb (getD w k 0) 0) e
+fixed-at w i (suc (suc (suc (suc l)))) h = absurd (omega arith)
+
+-- one part that decides an element is enough
+under-at : (c : Case) (F : List Tuple) (ps : List Part) (kind level many : ℕ) (joins sought : Bool) (θ : Values) (i : ℕ) → i < many → agree (cellOf c F ps θ i) joins ≡ true
+    → underOf c F ps kind level many joins sought θ ≡ joins
+unfolding underOf joined decided
+under-at c F ps kind level many joins sought θ i l e = ap (decided joins) (any-below (λ j. agree (cellOf c F ps θ j) joins) many i l e)
+
 module _ (n : ℕ) (w facts picks : List ℕ) (v : ℕ) where
+  pub still-is : (x : NodeAt) → x ≡ nodeIn w v → Still n w facts picks v (x .level) (x .first) (x .many)
+  unfolding cellOf
+  still-is x line c F root h i l f e y z = rw line (h .says .node v (h .inside) .still i (rw line at l) (rw line at f) e y z)
+
+  module _ (level first many : ℕ) (joins : Bool) where
+    pub passed-none : (e : Values) → Passed n w facts picks v level first many joins e 0
+    passed-none e c F root h j l f y = absurd (omega arith)
+
+    -- what stands at the level does not matter
+    pub passed-over : (e θ : Values) (y seen : ℕ) → θ ≡ withValue e level y → Passed n w facts picks v level first many joins e seen → Passed n w facts picks v level first many joins θ seen
+    passed-over e θ y seen are p c F root h j l f z = ap (λ (u : Values). cellOf c F (partsIn n w facts picks v h) u j) (with-other e θ level y z are) ∙ p c F root h j l f z
+
+    pub passed-back : (e θ : Values) (y seen : ℕ) → θ ≡ withValue e level y → Passed n w facts picks v level first many joins θ seen → Passed n w facts picks v level first many joins e seen
+    passed-back e θ y seen are p c F root h j l f z = ap (λ (u : Values). cellOf c F (partsIn n w facts picks v h) u j) (sym (with-other e θ level y z are)) ∙ p c F root h j l f z
+
+    module _ (θ : Values) (seen : ℕ) (p : Passed n w facts picks v level first many joins θ seen) (i : ℕ) where
+      -- a part that is known decides nothing
+      pub cell-known : i < seen → fixedIn w (first + i) level ≡ true → (b : Bool) → b ≡ not joins → IsCell n w facts picks v θ i b
+      cell-known l f b q c F root h = q ∙ sym (ap (λ (z : Values). cellOf c F (partsIn n w facts picks v h) z i) (same-value θ level) ∙ p c F root h i l f (θ level))
+
+      pub passed-next : Still n w facts picks v level first many → (b r : Bool) → i ≤ seen → i < many → IsCell n w facts picks v θ i b → r ≡ agree b joins → r ≡ false → (k : ℕ) → k ≡ laterOf seen (i + 1)
+          → Passed n w facts picks v level first many joins θ k
+      passed-next still b r q l k a f m g c F root h j o x z = go (decLt j seen)
+        where
+          at-i : j ≡ i → cellOf c F (partsIn n w facts picks v h) (withValue θ level z) j ≡ not joins
+          at-i d =
+              ap (cellOf c F (partsIn n w facts picks v h) (withValue θ level z)) d ∙ still c F root h i l (ap (λ (u : ℕ). fixedIn w (first + u) level) (sym d) ∙ x) θ z (θ level)
+              ∙ ap (λ (u : Values). cellOf c F (partsIn n w facts picks v h) u i) (sym (same-value θ level)) ∙ sym (k c F root h) ∙ agree-not b joins (sym a ∙ f)
+
+          go : Dec (j < seen) → cellOf c F (partsIn n w facts picks v h) (withValue θ level z) j ≡ not joins
+          go (yes s) = p c F root h j s x z
+          go (no s) = at-i (later-new i seen j q (rw g at o) s)
+
   pub turns-start : (x : NodeAt) (e : Values) → x ≡ nodeIn w v → AllTurns n w facts picks v (x .kind) (x .level) (x .many) (eqb (x .join) 1) (eqb (x .kind) 1) e (elementIn w (x .range)) (x .count) 0
   unfolding truthBy bound underOf cellOf
   turns-start x e line c F root h =
@@ -118,6 +264,20 @@ module _ (n : ℕ) (w facts picks : List ℕ) (v : ℕ) where
       pub ends : (answer : Bool) → turns ≤ turn → answer ≡ not sought → IsNode n w facts picks v e answer
       unfolding decided
       ends answer l a c F root h = a ∙ sym (t c F root h ∙ ap (decided sought) (any-end (λ y. agree (underOf c F (partsIn n w facts picks v h) kind level many joins sought (valuesOf kind level e (element y))) sought) turns turn l))
+
+      -- a fixed part that decides one element decides all
+      pub fixed-ends : (first : ℕ) → Still n w facts picks v level first many → (θ : Values) (y : ℕ) → θ ≡ withValue e level y → (i : ℕ) → i < many → fixedIn w (first + i) level ≡ true
+          → (b r : Bool) → IsCell n w facts picks v θ i b → r ≡ agree b joins → r ≡ true → (decisive : Bool) → decisive ≡ agree joins sought → decisive ≡ false → (answer : Bool) → answer ≡ not sought → IsNode n w facts picks v e answer
+      unfolding decided
+      fixed-ends first still θ y are i l x b r k a f decisive d g answer q c F root h =
+          q ∙ sym (t c F root h ∙ ap (decided sought) (any-never _ (from turn (turns - turn)) (λ u.
+          ap (λ (z : Bool). agree z sought) (under-at c F (partsIn n w facts picks v h) kind level many joins sought (valuesOf kind level e (element u)) i l (hit u)) ∙ sym d ∙ g)))
+        where
+          hit : (u : ℕ) → agree (cellOf c F (partsIn n w facts picks v h) (valuesOf kind level e (element u)) i) joins ≡ true
+          hit u =
+              ap (λ (z : Bool). agree z joins)
+              (still c F root h i l x e (valueOf kind (element u) (e level)) y ∙ ap (λ (z : Values). cellOf c F (partsIn n w facts picks v h) z i) (sym are) ∙ sym (k c F root h))
+              ∙ sym a ∙ f
 
       module _ (l : turn < turns) (θ : Values) (are : θ ≡ valuesOf kind level e (element turn)) where
         gives : (b : Bool) → Under n w facts picks v kind level many joins sought θ b → (c : Case) (F : List Tuple) (root : Tree) (h : Asked c F root n w facts picks v)

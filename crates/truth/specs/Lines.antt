@@ -75,6 +75,16 @@ valueOf kind element old = if ltb kind 2 then element else old
 abbrev pub valuesOf : (kind level : ℕ) → Values → ℕ → Values
 valuesOf kind level e element = withValue e level (valueOf kind element (e level))
 
+-- a part is the same at every value of a level where its numbers do not grow with it; it is known once it is among the first `seen`
+unfoldable pub fixedIn : List ℕ → (i level : ℕ) → Bool
+fixedIn w i level = eqb (getD (lineIn w i .weights) level 0) 0
+
+unfoldable pub known : Bool → (i seen : ℕ) → Bool
+known fixed i seen = if fixed then ltb i seen else false
+
+unfoldable pub laterOf : (a b : ℕ) → ℕ
+laterOf a b = if ltb a b then b else a
+
 -- what is decided by whether something is found
 unfoldable pub decided : Bool → Bool → Bool
 decided sought true = sought

@@ -1,20 +1,20 @@
 -- Of which tree the lines are, and of which facts and picks the bits.
 use mathlib.Core.Path.{_≡_}
-use mathlib.Core.Bool.{Bool, true}
+use mathlib.Core.Bool.{Bool, true, not}
 use mathlib.Core.List.{List, []}
 use Prim.Native.Nat.{ℕ, zero, _+_, _-_, _<_}
 use lib.ListN.{length, getD}
 use Rattle.definitions.specs.Relations.{Tuple}
 use Rattle.definitions.specs.Truth.{Case}
 use Rattle.definitions.specs.Tree.{Tree, leaf, Part, nodes}
-use Rattle.definitions.specs.Actions.{Values}
+use Rattle.definitions.specs.Actions.{Values, withValue}
 use Rattle.definitions.specs.Built.{treeHolds}
 use lib.Dec.{eqb}
 use Rattle.ground.specs.Lines.{membersIn}
 use Rattle.ground.specs.Of.{noPart}
 use Rattle.ground.specs.declared.PartLine.{PartLine}
 use Rattle.definitions.specs.Lists.{any, from}
-use Rattle.truth.specs.Lines.{nodeIn, partIn, lineIn, leafAt, agree, valuesOf, decided, joined, bound}
+use Rattle.truth.specs.Lines.{nodeIn, partIn, lineIn, leafAt, agree, valuesOf, fixedIn, decided, joined, bound}
 use Rattle.truth.specs.declared.NodeAt.{NodeAt}
 use Rattle.truth.specs.declared.PartAt.{PartAt}
 
@@ -42,6 +42,8 @@ module _ (c : Case) (F : List Tuple) (root : Tree) (n : ℕ) (w facts picks : Li
     pub parts : List Part
     pub part : (i : ℕ) → i < x .many → PartSays (partIn w (x .first + i)) (lineIn w (x .first + i)) (getD parts i noPart .node) (getD parts i noPart .tree)
     pub truth : (e : Values) → treeHolds c F e u ≡ truthBy x e parts
+    pub still : (i : ℕ) → i < x .many → fixedIn w (x .first + i) (x .level) ≡ true → (e : Values) (y z : ℕ)
+        → treeHolds c F (withValue e (x .level) y) (getD parts i noPart .tree) ≡ treeHolds c F (withValue e (x .level) z) (getD parts i noPart .tree)
 
   pub record Says : Type 0 where
     pub node : (v : ℕ) → v < length (nodes root) → NodeSays (nodeOf root v) (nodeIn w v)
@@ -89,3 +91,13 @@ module _ (n : ℕ) (w facts picks : List ℕ) (v : ℕ) where
 
     abbrev pub Under : Values → Bool → Type 0
     Under θ b = (c : Case) (F : List Tuple) (root : Tree) (h : Asked c F root n w facts picks v) → underOf c F (partsIn h) kind level many joins sought θ ≡ b
+
+  -- the fixed parts are the same at every value of the level; the first `seen` of them decide nothing
+  module _ (level first many : ℕ) where
+    abbrev pub Still : Type 0
+    Still = (c : Case) (F : List Tuple) (root : Tree) (h : Asked c F root n w facts picks v) (i : ℕ) → i < many → fixedIn w (first + i) level ≡ true → (e : Values) (y z : ℕ)
+        → cellOf c F (partsIn h) (withValue e level y) i ≡ cellOf c F (partsIn h) (withValue e level z) i
+
+    abbrev pub Passed : Bool → Values → ℕ → Type 0
+    Passed joins e seen = (c : Case) (F : List Tuple) (root : Tree) (h : Asked c F root n w facts picks v) (j : ℕ) → j < seen → fixedIn w (first + j) level ≡ true → (y : ℕ)
+        → cellOf c F (partsIn h) (withValue e level y) j ≡ not joins

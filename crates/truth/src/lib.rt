@@ -10,7 +10,7 @@ ghost use Rattle.definitions.specs.Truth.{Case};
 ghost use Rattle.definitions.specs.Tree.{Tree};
 ghost use Rattle.definitions.specs.Built.{treeHolds};
 ghost use Rattle.rows.specs.Values.{valueIn, Within};
-ghost use Rattle.truth.specs.Lines.{linesLength, nodeIn, partIn, lineIn, literalAt, leafAt, valueOf, agree, Sound};
+ghost use Rattle.truth.specs.Lines.{linesLength, nodeIn, partIn, lineIn, literalAt, leafAt, valueOf, agree, fixedIn, known, laterOf, Sound};
 ghost use Rattle.truth.specs.Says.{Says, Asked, nodeOf, noValues};
 
 // The numbers of a node's line and of a part's.
@@ -29,7 +29,8 @@ pub const LINES: usize = 967;
 
 // A node: its quantifier (0 forall, 1 exists, 2 none) and that one's level; what joins the parts under it (0 and, 1 or); the first of
 // these parts and how many there are; where the elements stand that the quantifier goes over, and how many these are. An `and` or `or`
-// right under a quantifier is one with it, so that its parts are the quantifier's own. Without a quantifier there is one turn.
+// right under a quantifier is one with it, so that its parts are the quantifier's own. Without a quantifier there is one turn, and one
+// will do where the level is not free in the parts.
 pub struct NodeAt {
     pub kind: usize,
     pub level: usize,
@@ -166,8 +167,38 @@ fn value_at(lines: &[usize], kind: usize, place: usize, old: usize) -> usize
     old
 }
 
+// Whether a part is the same at every value of a level.
+fn is_fixed(lines: &[usize], i: usize, level: usize) -> bool
+    requires { ⌜ (length (now lines) ≡ linesLength) × (i < 65) × (level < 4) ⌝ }
+    ensures { λ r. ⌜ r ≡ fixedIn (now (lines .entry)) i level ⌝ }
+{
+    let at = PART_AT + PART_LINE * i + 3;
+    lines[at + level] == 0
+}
+
+// Whether a part's truth is known from a turn before: it is fixed and one of the first `seen`.
+fn is_known(fixed: bool, i: usize, seen: usize) -> bool
+    ensures { λ r. ⌜ r ≡ known fixed i seen ⌝ }
+{
+    if fixed {
+        return i < seen;
+    }
+    false
+}
+
+// The greater of two numbers.
+fn later(a: usize, b: usize) -> usize
+    ensures { λ r. ⌜ r ≡ laterOf a b ⌝ }
+{
+    if a < b {
+        return b;
+    }
+    a
+}
+
 // Whether node v is true at the values of levels. An element is left at the first part that decides it, and the node at the first
-// element that does.
+// element that does. A part that is the same at every element is asked once: where it decides one element it decides all, and else,
+// as one of the first `seen` parts, it is what decides none.
 pub fn node_holds(
     lines: &[usize],
     facts: &[u64],
@@ -193,15 +224,19 @@ pub fn node_holds(
     let old = env[level];
     let mut values = env;
     let mut answer = !sought;
-    let mut next: usize = 0;
-    'elements: while next < turns {
-        let turn = next;
-        next += 1;
+    let mut left = turns;
+    let mut seen: usize = 0;
+    'elements: while 0 < left {
+        let turn = turns - left;
+        left -= 1;
         values[level] = value_at(lines, kind, range + turn, old);
         let mut i: usize = 0;
         'parts: while i < many {
+            let fixed = is_fixed(lines, first + i, level);
             let q = part_at(lines, first + i);
-            let b = if q.tag == 0 {
+            let b = if is_known(fixed, i, seen) {
+                !joins
+            } else if q.tag == 0 {
                 node_holds(lines, facts, picks, n, q.which, values)
             } else {
                 leaf_holds(lines, facts, picks, n, first + i, q, values)
@@ -211,9 +246,13 @@ pub fn node_holds(
                     answer = sought;
                     break 'elements;
                 }
+                if fixed {
+                    break 'elements;
+                }
                 continue 'elements;
             }
             i += 1;
+            seen = later(seen, i);
         }
         if decisive {
             continue 'elements;

@@ -2,7 +2,7 @@
 //!
 //!     bench [ROUNDS]
 
-use peer::large::{deep, padded, path};
+use peer::large::{broken_deep, broken_path, deep, last, padded, path};
 use peer::sample::{facts, needs, sound, Random, Sample};
 use peer::trial::{Calls, Other, Peer, LINKED};
 use peer::Reply;
@@ -15,6 +15,8 @@ enum Work {
     Sizes,
     BuildText,
     BuildLent,
+    JudgeText,
+    JudgeLent,
     CheckLent,
     CheckText,
     Picks,
@@ -49,6 +51,8 @@ impl Job {
                 Work::Sizes => program.sizes(case[0], case[1]).map(|sizes| sizes.n as usize).into(),
                 Work::BuildText => program.build_text(case, &sample.picks, state, steps),
                 Work::BuildLent => program.build(case, &sample.lent_picks, state, steps),
+                Work::JudgeText => program.judge_text(case, &sample.picks),
+                Work::JudgeLent => program.judge(case, &sample.lent_picks),
                 Work::CheckLent => program.check(case, &sample.lent_steps, state),
                 Work::CheckText => program.check_text(case, &sample.steps, state),
                 Work::Picks => program.picks(case, &sample.lent_steps, picks, state),
@@ -134,6 +138,53 @@ fn jobs() -> Vec<Job> {
     ]
 }
 
+/// The small cases whose picks are of their kinds, those of which the rule is true or the others.
+fn judged(yes: bool) -> Vec<Sample> {
+    let reply = |sample: &Sample| Peer.judge_text([&sample.question, &sample.site], &sample.picks);
+    let wanted = |sample: &Sample| match reply(sample) {
+        Reply::Accepted(_) => yes,
+        Reply::Refused(refusal) => !yes && refusal.number == 17,
+    };
+    small_cases().into_iter().filter(wanted).collect()
+}
+
+/// What is judged beside being built.
+fn judgements() -> Vec<(String, Vec<Sample>)> {
+    let (yes, no) = (judged(true), judged(false));
+    vec![
+        (format!("{} small cases, true", yes.len()), yes),
+        (format!("{} small cases, false", no.len()), no),
+        ("path of 15, true".into(), vec![path()]),
+        ("path of 15, false at the first element".into(), vec![broken_path()]),
+        ("four deep, true in every row".into(), vec![deep(13)]),
+        ("four deep, false in the first row".into(), vec![broken_deep(13)]),
+        ("four deep, true at the last witness".into(), vec![last(13)]),
+    ]
+}
+
+/// Judging beside building, from a text and from lent picks.
+fn print_judgements(rounds: u32, buffers: &mut Buffers) {
+    println!();
+    println!(
+        "{:<46} {:>9} {:>9} {:>9} {:>9} {:>9}",
+        "microseconds", "building", "judging", "of it", "peer's", "ratio"
+    );
+    for (name, samples) in judgements() {
+        let kinds = [
+            ("text", Work::BuildText, Work::JudgeText),
+            ("lent", Work::BuildLent, Work::JudgeLent),
+        ];
+        for (picks, build, judge) in kinds {
+            let name = format!("{name}, {picks}");
+            let job = |work| Job { name: name.clone(), work, samples: samples.clone() };
+            let [_, built] = job(build).time(rounds, buffers);
+            let [peer, judged] = job(judge).time(rounds, buffers);
+            let (part, ratio) = (judged / built, judged / peer);
+            println!("{name:<46} {built:>9.1} {judged:>9.1} {part:>9.2} {peer:>9.1} {ratio:>9.2}");
+        }
+    }
+}
+
 fn main() {
     let rounds = std::env::args().nth(1).and_then(|text| text.parse().ok()).unwrap_or(30);
     let mut buffers = Buffers { picks: vec![0; 256], state: vec![0; 1024], steps: vec![0; 65_536] };
@@ -148,4 +199,5 @@ fn main() {
         let [peer, other] = job.time(rounds, &mut buffers);
         println!("{:<46} {peer:>11.1} {other:>11.1} {:>7.2}", job.name, other / peer);
     }
+    print_judgements(rounds, &mut buffers);
 }

@@ -42,6 +42,10 @@ fn untouched(words: &[u64]) -> bool {
     words.iter().all(|&word| word == FILL)
 }
 
+fn judges(call: Call) -> bool {
+    matches!(call, Call::JudgeText | Call::Judge)
+}
+
 /// Whether everything a call must leave alone is as it was.
 fn kept(outcome: &Outcome, call: Call, needs: Option<Rooms>) -> bool {
     let [picks, state, _] = needs.unwrap_or([0; 3]);
@@ -50,6 +54,7 @@ fn kept(outcome: &Outcome, call: Call, needs: Option<Rooms>) -> bool {
     // How far each buffer may have been written.
     let (picks, state, steps) = match outcome.reply {
         Reply::Accepted(_) if matches!(call, Call::Sizes | Call::Rule | Call::Action) => (0, 0, 0),
+        Reply::Accepted(_) if judges(call) => (0, 0, 0),
         Reply::Accepted(_) if reads_picks => (picks, state, 0),
         Reply::Accepted(count) if builds => (0, state, count as usize),
         Reply::Accepted(_) => (0, state, 0),
@@ -72,6 +77,7 @@ fn known(outcome: &Outcome, call: Call) -> bool {
         Call::Sizes => (1..=11).contains(&refusal.number),
         Call::Action => matches!(refusal.number, 1..=11 | 13),
         Call::BuildText | Call::Build => matches!(refusal.number, 1..=12 | 16 | 17),
+        Call::JudgeText | Call::Judge => matches!(refusal.number, 1..=12 | 16 | 17),
         _ => (1..=15).contains(&refusal.number),
     }
 }
@@ -89,12 +95,25 @@ fn round_trip(sample: &Sample, outcome: &Outcome, needs: Option<Rooms>) -> bool 
         && read.picks[..needs[0]] == again.lent_picks
 }
 
-fn sane(sample: &Sample, call: Call, outcome: &Outcome) -> bool {
+/// Whether picks are judged as building with room enough answers, but for its count.
+fn as_built(sample: &Sample, call: Call, rooms: Rooms, outcome: &Outcome) -> bool {
+    let [_, state, steps] = needs(sample).unwrap_or(rooms);
+    let builder = if call == Call::Judge { Call::Build } else { Call::BuildText };
+    match run(&Other, builder, sample, [rooms[0], state, steps]).reply {
+        Reply::Accepted(_) => outcome.reply == Reply::Accepted(0),
+        refused => outcome.reply == refused,
+    }
+}
+
+fn sane(sample: &Sample, call: Call, rooms: Rooms, outcome: &Outcome) -> bool {
     if matches!(call, Call::DeskPicks | Call::DeskSteps) {
         return outcome.printed.last() == Some(&b'\n');
     }
     let needs = needs(sample);
-    let whole = call != Call::Build || round_trip(sample, outcome, needs);
+    let whole = match call {
+        Call::Build => round_trip(sample, outcome, needs),
+        _ => !judges(call) || as_built(sample, call, rooms, outcome),
+    };
     kept(outcome, call, needs) && known(outcome, call) && whole
 }
 
@@ -109,7 +128,7 @@ fn main() -> ExitCode {
             let (call, rooms) = (*random.choose(&CALLS), rooms(&mut random, near));
             let outcome = run(&Other, call, &sample, rooms);
             let same = !LINKED || outcome == run(&Peer, call, &sample, rooms);
-            if !same || !sane(&sample, call, &outcome) {
+            if !same || !sane(&sample, call, rooms, &outcome) {
                 faults += 1;
                 println!("fault: {call:?} {rooms:?} {:?} {sample:?}", outcome.reply);
             }

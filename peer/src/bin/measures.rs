@@ -1,7 +1,7 @@
 //! What a case measures, on both programs.
 //!
-//!     measures run SCRIPT ..         the calls `tally`, `sizes` and `allowances` of scripts of vectors, held to
-//!                                    the answers that stand there (`tally` on this program alone)
+//!     measures run SCRIPT ..         the calls `tally`, `sizes`, `allowances`, `judge_text` and `judge` of scripts of
+//!                                    vectors, held to the answers that stand there (`tally` on this program alone)
 //!     measures compare [INPUTS] [SEED]  random cases: allowances entry by entry, and that one pick less moves
 //!                                    the built steps by no more
 //!     measures bench [ROUNDS]        the sizes and the allowances of 1,000 small cases
@@ -36,32 +36,57 @@ fn allowances_line(program: &impl Calls, case: [&[u8]; 2], room: usize) -> Strin
     format!("= {number} {place} allowances{entries}")
 }
 
+fn reply_line(reply: Reply) -> String {
+    let (number, place) = numbers(reply);
+    format!("= {number} {place}")
+}
+
+/// What a script has set for its next calls: question, site, text, and lent words.
+#[derive(Default)]
+struct Script {
+    sheets: [Vec<u8>; 3],
+    lent: Vec<u64>,
+}
+
+impl Script {
+    /// The answers of both programs to a call, if it is one of those that are made here.
+    fn answers(&self, word: &str, rest: &str) -> Option<Vec<String>> {
+        let case = [&self.sheets[0][..], &self.sheets[1][..]];
+        let (text, lent) = (&self.sheets[2], &self.lent);
+        Some(match word {
+            "tally" => vec![tally_line(case)],
+            "sizes" => vec![sizes_line(&Peer, case), sizes_line(&Other, case)],
+            "allowances" => {
+                let room = rest.parse().expect("how many entries are lent");
+                vec![allowances_line(&Peer, case, room), allowances_line(&Other, case, room)]
+            }
+            "judge_text" => {
+                [Peer.judge_text(case, text), Other.judge_text(case, text)].map(reply_line).into()
+            }
+            "judge" => [Peer.judge(case, lent), Other.judge(case, lent)].map(reply_line).into(),
+            _ => return None,
+        })
+    }
+}
+
 /// The calls of one script that need nothing but what is here: how many, and how many answers differ.
 fn run_one(path: &str) -> (u32, u32) {
     let text = std::fs::read_to_string(path).expect("a script");
-    let (mut sheets, mut wanted, mut calls, mut wrong) = ([vec![], vec![]], true, 0, 0);
+    let (mut script, mut wanted, mut calls, mut wrong) = (Script::default(), true, 0, 0);
     let mut lines = text.lines();
     while let Some(line) = lines.next() {
         let (word, rest) = line.split_once(' ').unwrap_or((line, ""));
         if let Some(needs) = line.strip_prefix("# needs ") {
             wanted = needs == "-";
         }
-        let case = [&sheets[0][..], &sheets[1][..]];
-        let answers = match word {
-            "question" | "site" => {
-                let part = lines.by_ref().take_while(|&line| line != ".");
-                sheets[usize::from(word == "site")] =
-                    part.flat_map(|line| line.bytes().chain([b'\n'])).collect();
-                continue;
-            }
-            "tally" if wanted => vec![tally_line(case)],
-            "sizes" if wanted => vec![sizes_line(&Peer, case), sizes_line(&Other, case)],
-            "allowances" if wanted => {
-                let room = rest.parse().expect("how many entries are lent");
-                vec![allowances_line(&Peer, case, room), allowances_line(&Other, case, room)]
-            }
-            _ => continue,
-        };
+        if let Some(sheet) = ["question", "site", "text"].iter().position(|&sheet| sheet == word) {
+            let part = lines.by_ref().take_while(|&line| line != ".");
+            script.sheets[sheet] = part.flat_map(|line| line.bytes().chain([b'\n'])).collect();
+        }
+        if word == "lent" {
+            script.lent = rest.split(' ').filter_map(|number| number.parse().ok()).collect();
+        }
+        let Some(answers) = script.answers(word, rest).filter(|_| wanted) else { continue };
         calls += 1;
         let required = lines.next().unwrap_or_default();
         wrong += answers.iter().filter(|&answer| answer != required).count() as u32;

@@ -1,0 +1,108 @@
+//! Yes or no: whether the rule is true of picks. Every search is left as soon as
+//! it is decided, and nothing is numbered or built: a literal is looked up among
+//! the site's tuples or among the picks.
+
+use crate::cases::{case, room};
+use crate::measures::within_limits;
+use crate::plans::broken_kind;
+use crate::sheets::{self, pick_words, Question, Structure, Tables};
+use crate::text::{cause, Refusal, Reply};
+use crate::tree::{Literal, Node, Part, Shape, Tree, NESTING_LIMIT};
+
+/// Judges a sheet of picks.
+pub fn judge_text(question: &[u8], site: &[u8], picks: &[u8]) -> Reply {
+    judge_sheet(question, site, picks).into()
+}
+
+/// Judges lent picks.
+pub fn judge(question: &[u8], site: &[u8], picks: &[u64]) -> Reply {
+    judge_lent(question, site, picks).into()
+}
+
+fn judge_sheet(question: &[u8], site: &[u8], picks: &[u8]) -> Result<usize, Refusal> {
+    let (question, structure) = case(question, site)?;
+    let picks = sheets::picks(picks, &question.signature, structure.n)?;
+    within_limits(&question, &structure)?;
+    verdict(&question, &structure, &picks)
+}
+
+fn judge_lent(question: &[u8], site: &[u8], picks: &[u64]) -> Result<usize, Refusal> {
+    let (question, structure) = case(question, site)?;
+    within_limits(&question, &structure)?;
+    room(picks.len(), pick_words(&question.signature, structure.n))?;
+    let picks = sheets::lent_picks(picks, &question.signature, structure.n)?;
+    verdict(&question, &structure, &picks)
+}
+
+/// The kinds first, then the rule.
+fn verdict(question: &Question, structure: &Structure, picks: &Tables) -> Result<usize, Refusal> {
+    if let Some(choose) = broken_kind(&question.signature, structure.n as u32, picks) {
+        return Err(Refusal::new(cause::KIND_BROKEN, choose));
+    }
+    let chosen = question.signature.chosen().start;
+    let search = Search { tree: &question.tree, n: structure.n, structure, picks, chosen };
+    if !search.node(0, &mut [0; NESTING_LIMIT]) {
+        return Err(Refusal::new(cause::RULE_FALSE, 0));
+    }
+    Ok(0)
+}
+
+/// The values of the variables in range, by depth.
+type Values = [usize; NESTING_LIMIT];
+
+struct Search<'c> {
+    tree: &'c Tree,
+    n: usize,
+    structure: &'c Structure,
+    picks: &'c Tables,
+    /// The number of the first chosen relation.
+    chosen: usize,
+}
+
+impl Search<'_> {
+    fn node(&self, number: usize, values: &mut Values) -> bool {
+        let node = &self.tree.nodes[number];
+        let parts = &self.tree.parts[node.parts.clone()];
+        let mut at = |element| {
+            values[node.depth] = element;
+            self.part(&parts[0], values)
+        };
+        match node.shape {
+            Shape::Exists => (0..self.tries(node, &parts[0])).any(&mut at),
+            Shape::Forall => (0..self.tries(node, &parts[0])).all(&mut at),
+            Shape::And => parts.iter().all(|part| self.part(part, values)),
+            Shape::Or => parts.iter().any(|part| self.part(part, values)),
+        }
+    }
+
+    fn part(&self, part: &Part, values: &mut Values) -> bool {
+        match part {
+            Part::Literal(literal) => self.literal(literal, values),
+            Part::Node(number) => self.node(*number, values),
+        }
+    }
+
+    /// How many elements a quantifier has to try: one stands for all where its
+    /// variable is not used.
+    fn tries(&self, node: &Node, part: &Part) -> usize {
+        let used = match part {
+            Part::Literal(literal) => literal.variables(),
+            Part::Node(number) => self.tree.nodes[*number].free,
+        };
+        if used >> node.depth & 1 == 1 {
+            self.n
+        } else {
+            1
+        }
+    }
+
+    fn literal(&self, literal: &Literal, values: &Values) -> bool {
+        let places = &literal.places[..literal.arity];
+        let row = places.iter().fold(0, |row, &depth| row * self.n + values[depth]);
+        let words = match literal.relation.checked_sub(self.chosen) {
+            Some(choose) => self.picks.relation(choose),
+            None => self.structure.tables.relation(literal.relation),
+        };
+        (words[row / 64] >> (row % 64) & 1 == 1) == literal.positive
+    }
+}
