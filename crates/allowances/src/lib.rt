@@ -1,24 +1,26 @@
 // A public call: for each chosen relation, how far one pick more or less of it can move the number of built steps.
 ghost use mathlib.Core.Path.{_≡_};
-ghost use mathlib.Core.Bool.{Bool};
-ghost use mathlib.Core.List.{map};
+ghost use mathlib.Core.Bool.{Bool, false};
+ghost use mathlib.Core.List.{List, map};
 ghost use Prim.Native.Nat.{ℕ, _+_, _^_, _<_, _≤_};
 ghost use lib.ListN.{length};
+ghost use Rattle.definitions.specs.Limits.{usual};
 ghost use Rattle.definitions.specs.Lists.{from};
-ghost use Rattle.definitions.specs.Truth.{Case};
 ghost use Rattle.definitions.specs.Atoms.{Problem};
+ghost use Rattle.definitions.specs.Outcome.{readCase};
 ghost use Rattle.definitions.specs.Allowance.{allowance, allowances as «allowances-of»};
-ghost use Rattle.reduction.specs.Reader.{Accepted as «Accepted-case»};
-ghost use Rattle.reduction.specs.Means.{Good};
+ghost use Rattle.laws.specs.Means.{Good};
 ghost use Rattle.tree.specs.Tables.{Fits};
 ghost use Rattle.layout.specs.declared.Relations.{Relations};
 ghost use Rattle.layout.specs.Laid.{Inputs};
-ghost use Rattle.opening.specs.Read.{Holds};
+ghost use Rattle.bits.specs.Table.{bit};
+ghost use Rattle.sheets.specs.Reading.{FactsRoom};
+ghost use Rattle.sheets.specs.Opening.{CaseRead};
 ghost use Rattle.grounding.specs.Grounds.{Read};
-ghost use Rattle.cases.specs.Replies.{resultOf};
+ghost use Rattle.asking.specs.Replies.{resultOf};
 ghost use Rattle.allowances.specs.Allows.{Allows};
-use cases::Reply;
-use opening::Opened;
+use asking::Reply;
+use sheets::Opened;
 
 // The allowances of the relations from number `first` on, one into each word.
 fn write(n: usize, t: tree::Nodes, first: usize, out: &mut [u64])
@@ -36,15 +38,16 @@ fn write(n: usize, t: tree::Nodes, first: usize, out: &mut [u64])
 // Of a case that was read: 11, 12, then the numbers.
 fn of_case(question: &[u8], o: Opened, out: &mut [u64]) -> Reply
     requires { ⌜ Read (now question) o ⌝ }
-    ensures { λ r. ⌜ ((c : Case) (facts : ℕ → Bool) → «Accepted-case» c → Holds (now (question .entry)) c o facts → Allows c (now (out .entry)) r (now (out .exit))) ⌝ }
+    ensures { λ r. ⌜ ((site : List ℕ) (facts : ℕ → Bool) → CaseRead (now (question .entry)) (readCase usual (now (question .entry)) site) o facts → o .fault ≡ 0
+        → Allows usual (now (question .entry)) site (now (out .entry)) r (now (out .exit))) ⌝ }
 {
     let sig = o.sig;
     let rule = o.rule;
     let n = o.n;
-    let g = relations::relations_of(sig);
+    let g = grounding::relations_of(sig);
     let t = rewriting::nodes_of(question, rule.from, rule.to, sig);
     let m = tally::of_tables(n, g, t);
-    if layout::too_many(m.atoms, m.actions) {
+    if layout::too_many(m.atoms, m.actions, asking::ATOMS, asking::ACTIONS) {
         return Reply::Refused(11, 0);
     }
     let count = sig.chosen;
@@ -55,15 +58,23 @@ fn of_case(question: &[u8], o: Opened, out: &mut [u64]) -> Reply
     Reply::Accepted(0)
 }
 
-// One number for each `choose`, in order, at the front of the lent buffer.
-pub fn allowances(question: &[u8], site: &[u8], out: &mut [u64]) -> Reply
-    ensures answer { λ r. ⌜ resultOf r ≡ «allowances-of» (now (question .entry)) (now (site .entry)) (now (out .entry)) .answer ⌝ }
-    ensures left { λ r. ⌜ now (out .exit) ≡ «allowances-of» (now (question .entry)) (now (site .entry)) (now (out .entry)) .allowances ⌝ }
+// One number for each `choose`, in order, at the front of the lent buffer, with the lent words for the site's facts.
+fn allowances_in(question: &[u8], site: &[u8], out: &mut [u64], facts: &mut [u64]) -> Reply
+    requires { ⌜ FactsRoom (now site) 16 (length (now facts)) × (bit (now facts) ≡ λ i. false) ⌝ }
+    ensures { λ r. ⌜ Allows usual (now (question .entry)) (now (site .entry)) (now (out .entry)) r (now (out .exit)) ⌝ }
 {
-    let mut facts = [0u64; 512];
-    let o = opening::read_case(question, site, &mut facts);
+    let o = sheets::read_case(question, site, asking::ELEMENTS, facts);
     if o.fault != 0 {
         return Reply::Refused(o.fault, o.place);
     }
     of_case(question, o, out)
+}
+
+// One number for each `choose`, in order, at the front of the lent buffer.
+pub fn allowances(question: &[u8], site: &[u8], out: &mut [u64]) -> Reply
+    ensures answer { λ r. ⌜ resultOf r ≡ «allowances-of» usual (now (question .entry)) (now (site .entry)) (now (out .entry)) .answer ⌝ }
+    ensures left { λ r. ⌜ now (out .exit) ≡ «allowances-of» usual (now (question .entry)) (now (site .entry)) (now (out .entry)) .allowances ⌝ }
+{
+    let mut facts = [0u64; asking::FACTS];
+    allowances_in(question, site, out, &mut facts)
 }

@@ -1,5 +1,5 @@
--- What the calls that build steps answer and leave: the order of refusals after the texts, one law for each place where a call can end.
-use Prim.Native.Nat.{ℕ, zero, _+_, _/_, _≤_, _<_}
+-- What the calls that build steps answer and leave: one law for each place where a call can end.
+use Prim.Native.Nat.{ℕ, zero, _+_, _/_, _^_, _≤_, _<_}
 use mathlib.Core.Path.{_≡_, refl, sym, ap, subst, _∙_}
 use mathlib.Core.Bool.{true, false}
 use mathlib.Core.Option.{none}
@@ -7,120 +7,149 @@ use mathlib.Core.List.{List}
 use native.Mathlib.Omega.{arith}
 use lib.ListN.{length, take}
 use lib.Seq.{take-all}
+use Rattle.definitions.specs.Limits.{CaseLimits}
 use Rattle.definitions.specs.Refusal.{Result, refused, accepted, _>>=_}
 use Rattle.definitions.specs.Relations.{Tuple}
-use Rattle.definitions.specs.Truth.{Case, arePicks}
-use Rattle.definitions.specs.Atoms.{problemOf, atoms}
-use Rattle.definitions.specs.Built.{chosenNumbers, bound}
+use Rattle.definitions.specs.Truth.{Case}
+use Rattle.definitions.specs.Atoms.{Problem, problemOf}
+use Rattle.definitions.specs.Built.{chosenNumbers, builtSteps, bound}
 use Rattle.definitions.specs.Outcome
-use Rattle.reduction.specs.Reader.{Accepted}
-use Rattle.bits.specs.Table.{bit}
-use Rattle.opening.specs.declared.Opened.{Opened}
-use Rattle.opening.specs.Read.{Holds}
-use Rattle.grounding.specs.declared.Sized.{Sized}
-use Rattle.grounding.specs.Grounds.{GroundsTo, Tabled}
+use Rattle.laws.specs.Asked as Order
+use Rattle.bits.specs.Table.{Words}
+use Rattle.grounding.specs.Grounds.{Tabled}
 use Rattle.plans.specs.Answers.{planned, answered, Gives}
+use Rattle.plans.specs.Starts.{Prepared, front-short}
 use Rattle.plans.specs.declared.Answer.{Answer}
-use Rattle.cases.specs.declared.Reply.{Reply}
-use Rattle.cases.specs.declared.Reply.the-variants.{Refused}
-use Rattle.cases.specs.Known.{facts-held, case-over, grounds, tabled, actions-few, words-are, room-short, room-there}
-use Rattle.cases.specs.Replies.{resultOf}
-use Rattle.building.specs.Picked.{front-picks}
-use Rattle.building.specs.Spare.{told}
-use Rattle.building.specs.Starts.{Prepared, front-short}
-use Rattle.building.specs.declared.Spare.{Spare}
-use Rattle.building.specs.declared.Spare.the-variants.{Clear, Word}
+use Rattle.picks.specs.Picked.{front-picks}
+use Rattle.picks.specs.Spare.{spareFound}
+use Rattle.picks.specs.Handed.{Handed, spare-refused, spare-clear}
+use Rattle.picks.specs.declared.Spare.{Spare}
+use Rattle.picks.specs.declared.Spare.the-variants.{Clear, Word}
+use Rattle.asking.specs.declared.Front.{Front}
+use Rattle.asking.specs.declared.Reply.{Reply}
+use Rattle.asking.specs.declared.Reply.the-variants.{Refused}
+use Rattle.asking.specs.Fronts.{Held}
+use Rattle.asking.specs.Known.{facts-held, case-over, grounds, tabled, actions-few, words-are, room-short, room-there}
+use Rattle.asking.specs.Replies.{resultOf}
 
--- everything after the texts, where picks stand in words: 11, 12 three times, 10, and what is planned then
-unfoldable pub rest : Case → List ℕ → List Tuple → ℕ → ℕ → Result Outcome.Plan
-rest c words F stateRoom stepsRoom = do
-  p ← Outcome.ground c
-  _ ← Outcome.roomFor (Outcome.picksLength p) (length words)
-  _ ← Outcome.roomFor (Outcome.stateLength p) stateRoom
-  _ ← Outcome.roomFor (bound p) stepsRoom
-  _ ← Outcome.spareRefusal (Outcome.spareWord p words zero (chosenNumbers p))
-  planned c p F
+-- the answer of a call, and what the lent state and steps hold then
+abbrev pub Answers : CaseLimits → (question site : List ℕ) (picks : Outcome.Given) (state steps : List ℕ) → Reply → (state′ steps′ : List ℕ) → Type 0
+Answers L question site picks state steps r state′ steps′ =
+    (resultOf r ≡ Outcome.buildSteps L question site picks state steps .answer)
+    × ((state′ ≡ Outcome.buildSteps L question site picks state steps .state) × (steps′ ≡ Outcome.buildSteps L question site picks state steps .steps))
 
--- the reply, and what the lent state and steps hold then
-abbrev pub Builds : Case → (words : List ℕ) → List Tuple → (state steps : List ℕ) → Reply → (state′ steps′ : List ℕ) → Type 0
-Builds c words F state steps r state′ steps′ = Outcome.builtFrom (rest c words F (length state) (length steps)) state steps ≡ record { answer = resultOf r; state = state′; steps = steps′ }
+-- 12: lent picks, the state, the steps
+unfoldable pub rooms : Outcome.Given → ℕ → ℕ → Problem → Result (Unit {0})
+rooms picks state steps p = Outcome.picksRoom p picks >>= λ _. Outcome.roomFor (Outcome.stateLength p) state >>= λ _. Outcome.roomFor (bound p) steps
 
--- words that are long enough and have no spare bit set are written for the picks F
-abbrev pub Held : Case → List ℕ → List Tuple → Type 0
-Held c words F = Outcome.picksLength (problemOf c) ≤ length words → Outcome.spareWord (problemOf c) words zero (chosenNumbers (problemOf c)) ≡ none
-    → (arePicks c F ≡ true) × (take (Outcome.picksLength (problemOf c)) words ≡ Outcome.pickWords (problemOf c) F)
+module _ (L : CaseLimits) (question site : List ℕ) (picks : Outcome.Given) (state steps : List ℕ) where
+  abbrev opening : Result (Outcome.Ready (List Tuple))
+  opening = Outcome.asked L question site (λ c. Outcome.textPicks c picks) Outcome.nothing Outcome.nothing (rooms picks (length state) (length steps))
 
--- ---- the places where building from words can end
-module _ (c : Case) (words : List ℕ) (F : List Tuple) (state steps : List ℕ) where
-  ends : (k place : ℕ) → rest c words F (length state) (length steps) ≡ refused k place → (r : Reply) → resultOf r ≡ refused k place → Builds c words F state steps r state steps
+  from-plan : (x : Result Outcome.Plan) → Outcome.plan L question site picks (length state) (length steps) ≡ x → (r : Reply) (state′ steps′ : List ℕ)
+      → Outcome.builtFrom x state steps ≡ record { answer = resultOf r; state = state′; steps = steps′ } → Answers L question site picks state steps r state′ steps′
+  unfolding Outcome.buildSteps
+  from-plan x e r state′ steps′ b =
+      let q : Outcome.builtFrom (Outcome.plan L question site picks (length state) (length steps)) state steps ≡ record { answer = resultOf r; state = state′; steps = steps′ } = ap (λ (y : Result Outcome.Plan). Outcome.builtFrom y state steps) e ∙ b in
+      (sym (ap (λ (y : Outcome.Built). y .answer) q), (sym (ap (λ (y : Outcome.Built). y .state) q), sym (ap (λ (y : Outcome.Built). y .steps) q)))
+
+  plan-refused : (k place : ℕ) → Outcome.plan L question site picks (length state) (length steps) ≡ refused k place → (r : Reply) → resultOf r ≡ refused k place → Answers L question site picks state steps r state steps
   unfolding Outcome.builtFrom
-  ends k place e r q = rw (e, q)
+  plan-refused k place e r q = from-plan (refused k place) e r state steps (rw q refl)
 
-  module _ (m : Sized) (w : List ℕ) (g : GroundsTo (Outcome.ground c) m w) where
-    pub builds-over : m .over ≡ true → Builds c words F state steps (Refused 11 0) state steps
-    unfolding rest resultOf _>>=_
-    builds-over o = ends 11 0 (rw (case-over c m w g o) refl) (Refused 11 0) refl
+  -- refused before the picks are taken
+  pub ends : (k place : ℕ) → opening ≡ refused k place → (r : Reply) → resultOf r ≡ refused k place → Answers L question site picks state steps r state steps
+  unfolding Outcome.plan rooms _>>=_
+  ends k place e r q = plan-refused k place (rw e refl) r q
 
-    module _ (o : m .over ≡ false) where
-      abbrev grounded : Outcome.ground c ≡ accepted (problemOf c)
-      grounded = grounds c m w g o
+  -- ---- the places where building from words can end
+  module _ (c : Case) (read : Outcome.readCase L question site ≡ accepted c) (f : Front) (facts table : List ℕ) (h : Held L question c f facts table)
+      (words : List ℕ) (given F : List Tuple) (handed : Handed c picks words given F) where
+    abbrev p : Problem
+    p = problemOf c
 
-      abbrev its : Tabled (problemOf c) m w
-      its = tabled c m w g o
+    pub builds-over : f .m .over ≡ true → Answers L question site picks state steps (Refused 11 0) state steps
+    unfolding resultOf
+    builds-over o = ends 11 0 (Order.limits-refused L question site _ _ _ _ c read given (handed .is-read) (Order.untested c) 11 0 (case-over L c (f .m) table (h .grounded) o)) (Refused 11 0) refl
 
-      abbrev count : (m .atoms + 63) / 64 ≡ Outcome.stateLength (problemOf c)
-      count = words-are c m w g o
+    module _ (o : f .m .over ≡ false) where
+      abbrev its : Tabled p (f .m) table
+      its = tabled L c (f .m) table (h .grounded) o
 
-      module _ (k : ℕ) (q : k ≡ Outcome.picksLength (problemOf c)) where
-        pub builds-picks : length words < k → Builds c words F state steps (Refused 12 k) state steps
-        unfolding rest resultOf _>>=_
-        builds-picks h = ends 12 (Outcome.picksLength (problemOf c)) (rw (grounded, room-short (Outcome.picksLength (problemOf c)) (length words) (subst (λ (x : ℕ). length words < x) q h)) refl) (Refused 12 k) (ap (refused 12) q)
+      abbrev count : (f .m .atoms + 63) / 64 ≡ Outcome.stateLength p
+      count = words-are L c (f .m) table (h .grounded) o
+
+      no-room : (k place : ℕ) → rooms picks (length state) (length steps) p ≡ refused k place → (r : Reply) → resultOf r ≡ refused k place → Answers L question site picks state steps r state steps
+      no-room k place j = ends k place (Order.room-refused L question site _ _ _ _ c read given (handed .is-read) (Order.untested c) p (grounds L c (f .m) table (h .grounded) o) (Order.untested c) k place j)
+
+      module _ (k : ℕ) (q : k ≡ Outcome.picksLength p) where
+        pub builds-picks : length words < k → Answers L question site picks state steps (Refused 12 k) state steps
+        unfolding rooms resultOf _>>=_
+        builds-picks l = no-room 12 (Outcome.picksLength p) (rw (handed .room-is, room-short (Outcome.picksLength p) (length words) (subst (λ (x : ℕ). length words < x) q l)) refl) (Refused 12 k) (ap (refused 12) q)
 
         module _ (picks-room : k ≤ length words) where
-          first-room : Outcome.roomFor (Outcome.picksLength (problemOf c)) (length words) ≡ accepted tt
-          first-room = room-there (Outcome.picksLength (problemOf c)) (length words) (subst (λ (x : ℕ). x ≤ length words) q picks-room)
+          first-room : Outcome.picksRoom p picks ≡ accepted tt
+          first-room = handed .room-is ∙ room-there (Outcome.picksLength p) (length words) (subst (λ (x : ℕ). x ≤ length words) q picks-room)
 
-          pub builds-state : length state < (m .atoms + 63) / 64 → Builds c words F state steps (Refused 12 ((m .atoms + 63) / 64)) state steps
-          unfolding rest resultOf _>>=_
-          builds-state h = ends 12 (Outcome.stateLength (problemOf c)) (rw (grounded, first-room, room-short (Outcome.stateLength (problemOf c)) (length state) (subst (λ (x : ℕ). length state < x) count h)) refl) (Refused 12 ((m .atoms + 63) / 64)) (ap (refused 12) count)
+          pub builds-state : length state < (f .m .atoms + 63) / 64 → Answers L question site picks state steps (Refused 12 ((f .m .atoms + 63) / 64)) state steps
+          unfolding rooms resultOf _>>=_
+          builds-state l =
+              let b = room-short (Outcome.stateLength p) (length state) (subst (λ (x : ℕ). length state < x) count l) in
+              no-room 12 (Outcome.stateLength p) (rw (first-room, b) refl) (Refused 12 ((f .m .atoms + 63) / 64)) (ap (refused 12) count)
 
-          module _ (state-room : (m .atoms + 63) / 64 ≤ length state) where
-            second-room : Outcome.roomFor (Outcome.stateLength (problemOf c)) (length state) ≡ accepted tt
-            second-room = room-there (Outcome.stateLength (problemOf c)) (length state) (subst (λ (x : ℕ). x ≤ length state) count state-room)
+          module _ (state-room : (f .m .atoms + 63) / 64 ≤ length state) where
+            second-room : Outcome.roomFor (Outcome.stateLength p) (length state) ≡ accepted tt
+            second-room = room-there (Outcome.stateLength p) (length state) (subst (λ (x : ℕ). x ≤ length state) count state-room)
 
-            pub builds-steps : length steps < m .bound → Builds c words F state steps (Refused 12 (m .bound)) state steps
-            unfolding rest resultOf _>>=_
-            builds-steps h = ends 12 (bound (problemOf c)) (rw (grounded, first-room, second-room, room-short (bound (problemOf c)) (length steps) (subst (λ (x : ℕ). length steps < x) (its .bound-is) h)) refl) (Refused 12 (m .bound)) (ap (refused 12) (its .bound-is))
+            pub builds-steps : length steps < f .m .bound → Answers L question site picks state steps (Refused 12 (f .m .bound)) state steps
+            unfolding rooms resultOf _>>=_
+            builds-steps l =
+                let b = room-short (bound p) (length steps) (subst (λ (x : ℕ). length steps < x) (its .bound-is) l) in
+                no-room 12 (bound p) (rw (first-room, second-room, b) refl) (Refused 12 (f .m .bound)) (ap (refused 12) (its .bound-is))
 
-            module _ (steps-room : m .bound ≤ length steps) (s : Spare) (t : told s ≡ Outcome.spareWord (problemOf c) words zero (chosenNumbers (problemOf c))) where
-              third-room : Outcome.roomFor (bound (problemOf c)) (length steps) ≡ accepted tt
-              third-room = room-there (bound (problemOf c)) (length steps) (subst (λ (x : ℕ). x ≤ length steps) (its .bound-is) steps-room)
+            module _ (steps-room : f .m .bound ≤ length steps) (s : Spare) (t : spareFound s ≡ Outcome.spareWord p words zero (chosenNumbers p)) where
+              opened : opening ≡ accepted (record { case = c; problem = p; third = given })
+              unfolding rooms _>>=_
+              opened =
+                  let b = room-there (bound p) (length steps) (subst (λ (x : ℕ). x ≤ length steps) (its .bound-is) steps-room) in
+                  Order.ready L question site _ _ _ _ c read given (handed .is-read) (Order.untested c) p (grounds L c (f .m) table (h .grounded) o) (Order.untested c) (rw (first-room, second-room, b) refl)
 
-              pub builds-spare : (j : ℕ) → s ≡ Word j → Builds c words F state steps (Refused 10 j) state steps
-              unfolding rest resultOf Outcome.spareRefusal told _>>=_
-              builds-spare j e = ends 10 j (rw (grounded, first-room, second-room, third-room, sym t, e) refl) (Refused 10 j) refl
+              planned-then : Outcome.plan L question site picks (length state) (length steps) ≡ (Outcome.satisfying c p picks given >>= λ G. accepted (record { problem = p; picks = G; steps = builtSteps p G }))
+              unfolding Outcome.plan rooms _>>=_
+              planned-then = rw opened refl
+
+              pub builds-spare : (j : ℕ) → s ≡ Word j → Answers L question site picks state steps (Refused 10 j) state steps
+              unfolding resultOf spareFound _>>=_
+              builds-spare j e = plan-refused 10 j (planned-then ∙ rw (spare-refused c picks words given F handed j (sym t ∙ ap spareFound e)) refl) (Refused 10 j) refl
 
               module _ (e : s ≡ Clear) where
-                clear : Outcome.spareWord (problemOf c) words zero (chosenNumbers (problemOf c)) ≡ none
-                unfolding told
-                clear = sym t ∙ ap told e
+                clear : Outcome.spareWord p words zero (chosenNumbers p) ≡ none
+                unfolding spareFound
+                clear = sym t ∙ ap spareFound e
 
                 -- what building from the initial state on is handed
-                prepared : (text : List ℕ) (opened : Opened) (facts : List ℕ) → Holds text c opened (bit facts) → Accepted c → Held c words F → Prepared c F w facts (take k words) (m .atoms) (length steps)
-                prepared text opened facts h A held =
-                    let (a, front) = held (subst (λ (x : ℕ). x ≤ length words) q picks-room) clear in
+                prepared : L .actions ≤ 2 ^ 32 → Prepared c F table facts (take k words) (f .m .atoms) (length steps)
+                prepared few =
+                    let (a, front) = handed .held (subst (λ (x : ℕ). x ≤ length words) q picks-room) clear in
                     record {
-                      case = A;
+                      case = h .accepts;
                       picks = a;
                       is = its .is;
-                      facts-in = facts-held text c opened facts h;
-                      picked = front-picks (problemOf c) F (take k words) (ap (λ (x : ℕ). take x (take k words)) (sym q) ∙ take-all k (take k words) (front-short k k words (omega arith)) ∙ ap (λ (x : ℕ). take x words) q ∙ front);
+                      facts-in = facts-held question c (f .o) facts (h .holds);
+                      picked = front-picks p F (take k words) (ap (λ (x : ℕ). take x (take k words)) (sym q) ∙ take-all k (take k words) (front-short k k words (omega arith)) ∙ ap (λ (x : ℕ). take x words) q ∙ front);
                       atoms-are = its .atoms-are;
-                      few = omega (arith, actions-few c m w g o);
+                      few = omega (arith, actions-few L c (f .m) table (h .grounded) o, few);
                       steps-room = subst (λ (x : ℕ). x ≤ length steps) (its .bound-is) steps-room;
                     }
 
-                pub builds-built : (text : List ℕ) (opened : Opened) (facts : List ℕ) → Holds text c opened (bit facts) → Accepted c → Held c words F → (a : Answer) (state′ steps′ : List ℕ)
-                    → (Prepared c F w facts (take k words) (m .atoms) (length steps) → Gives c (problemOf c) F state steps a state′ steps′) → (r : Reply) → resultOf r ≡ answered a → Builds c words F state steps r state′ steps′
-                unfolding rest Outcome.spareRefusal _>>=_
-                builds-built text opened facts h A held a state′ steps′ G r q = rw (grounded, first-room, second-room, third-room, clear, q) (G (prepared text opened facts h A held))
+                pub builds-built : L .actions ≤ 2 ^ 32 → (a : Answer) (state′ steps′ : List ℕ) → (Prepared c F table facts (take k words) (f .m .atoms) (length steps) → Gives c p F state steps a state′ steps′)
+                    → (r : Reply) → resultOf r ≡ answered a → Answers L question site picks state steps r state′ steps′
+                unfolding planned
+                builds-built few a state′ steps′ G r z =
+                    from-plan (planned c p F) (planned-then ∙ rw (spare-clear c picks words given F handed clear) refl) r state′ steps′ (rw z (G (prepared few)))
+
+-- what is promised of building from words: they have 64 bits each, and whatever case and picks they are of, this is built
+pub record FromWords (f : Front) (facts table words state steps : List ℕ) (r : Reply) (state′ steps′ : List ℕ) : Type 0 where
+  pub fit : Words words
+  pub builds : (L : CaseLimits) → L .actions ≤ 2 ^ 32 → (question site : List ℕ) (picks : Outcome.Given) (c : Case) → Outcome.readCase L question site ≡ accepted c → Held L question c f facts table
+      → (given F : List Tuple) → Handed c picks words given F → Answers L question site picks state steps r state′ steps′

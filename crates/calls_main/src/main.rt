@@ -21,8 +21,8 @@
 // under a word that says so. A script has 65,536 bytes at the most; what follows them is not read.
 ghost use Prim.Native.Nat.{_≤_, _<_};
 ghost use lib.ListN.{length};
+use asking::Reply;
 use cases::Asked;
-use cases::Reply;
 use cases::Sizing;
 use ground::Act;
 use ground::ChoiceAct;

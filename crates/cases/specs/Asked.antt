@@ -1,10 +1,11 @@
 -- An action asked for by its number: the code's enum as the definitions' action, and the three answers.
 use Prim.Native.Nat.{ℕ, _<_, _≤_}
 use mathlib.Core.Path.{_≡_, refl, sym, ap, _∙_}
-use mathlib.Core.Bool.{Bool, true, false}
+use mathlib.Core.Bool.{true, false}
 use mathlib.Core.Option.{Option, none, some}
 use mathlib.Core.List.{List}
 use native.Mathlib.Omega.{arith}
+use Rattle.definitions.specs.Limits.{CaseLimits}
 use Rattle.definitions.specs.Refusal.{Result, refused, accepted, _>>=_, given}
 use Rattle.definitions.specs.Truth.{Case}
 use Rattle.definitions.specs.Atoms.{Problem, problemOf}
@@ -15,13 +16,13 @@ use Rattle.ground.specs.declared.Act.{Act}
 use Rattle.ground.specs.declared.Act.the-variants.{Set, Begin, And, Or, Exists, Forall, Goal, Nothing}
 use Rattle.ground.specs.Of.{Is, said, actOf}
 use Rattle.decode.specs.Decoded.{Grounded}
-use Rattle.opening.specs.declared.Opened.{Opened}
-use Rattle.opening.specs.Read.{Holds, CaseRead}
-use Rattle.grounding.specs.declared.Sized.{Sized as Counted}
-use Rattle.grounding.specs.Grounds.{GroundsTo, Tabled}
+use Rattle.laws.specs.Asked as Order
+use Rattle.grounding.specs.Grounds.{Tabled}
+use Rattle.asking.specs.declared.Front.{Front}
+use Rattle.asking.specs.Fronts.{Fronted, Held, front-refused, front-held}
+use Rattle.asking.specs.Known.{case-over, grounds, tabled, table-is}
 use Rattle.cases.specs.declared.Asked.{Asked}
 use Rattle.cases.specs.declared.Asked.the-variants.{Action as Known, Refused}
-use Rattle.cases.specs.Known.{case-refused, case-read, case-over, grounds, tabled, table-is}
 
 -- the definitions' action of the code's, which has one case more
 unfoldable pub heard : Act → Option Action
@@ -51,44 +52,53 @@ heard-said (proveExists v row x) = refl
 heard-said (proveForall v row z) = refl
 heard-said proveGoal = refl
 
-module _ (question site : List ℕ) (k : ℕ) (o : Opened) (facts : ℕ → Bool) (read : CaseRead question (Outcome.readCase question site) o facts) where
-  pub asked-case : (o .fault ≡ 0 → ⊥) → actionOf (Refused (o .fault) (o .place)) ≡ found (Outcome.action question site k)
-  unfolding actionOf found Outcome.action Outcome.readProblem _>>=_
-  asked-case z = rw (case-refused question site o facts read z) refl
+module _ (L : CaseLimits) (question site : List ℕ) (k : ℕ) (r : Front) (facts table : List ℕ) (opens : Fronted L question site r facts table) where
+  abbrev asks : Result (Option Action)
+  asks = found (Outcome.action L question site k)
 
-  module _ (z : o .fault ≡ 0) (m : Counted) (w : List ℕ) (g : (c : Case) → Holds question c o facts → GroundsTo (Outcome.ground c) m w) where
-    pub asked-over : m .over ≡ true → actionOf (Refused 11 0) ≡ found (Outcome.action question site k)
-    unfolding actionOf found Outcome.action Outcome.readProblem _>>=_
-    asked-over t = let (c, e, h) = case-read question site o facts read z in rw (e, case-over c m w (g c h) t) refl
+  refused-with : (j place : ℕ) → Outcome.asked L question site Outcome.nothing Outcome.nothing Outcome.nothing Outcome.nothing ≡ refused j place → actionOf (Refused j place) ≡ asks
+  unfolding actionOf found Outcome.action _>>=_
+  refused-with j place e = rw e refl
 
-    module _ (f : m .over ≡ false) where
-      -- the problem that was grounded
-      its : (c : Case) × (Outcome.readCase question site ≡ accepted c) × GroundsTo (Outcome.ground c) m w
-      its = let (c, e, h) = case-read question site o facts read z in (c, e, g c h)
+  pub asked-case : (r .fault ≡ 0 → ⊥) → actionOf (Refused (r .fault) (r .place)) ≡ asks
+  asked-case z = refused-with _ _ (Order.case-refused L question site _ _ _ _ _ _ (front-refused L question site r facts table opens z))
 
+  module _ (z : r .fault ≡ 0) where
+    -- the case that was read
+    abbrev its : (c : Case) × (Outcome.readCase L question site ≡ accepted c) × Held L question c r facts table
+    its = front-held L question site r facts table opens z
+
+    pub asked-over : r .m .over ≡ true → actionOf (Refused 11 0) ≡ asks
+    asked-over t =
+        let (c, e, h) = its in
+        refused-with 11 0 (Order.limits-refused L question site _ _ _ _ c e tt (Order.untested c) (Order.untested c) 11 0 (case-over L c _ _ (h .grounded) t))
+
+    module _ (f : r .m .over ≡ false) where
       abbrev p : Problem
       p = problemOf (its .0)
 
-      counts : Tabled p m w
-      counts = tabled (its .0) m w (its .2) f
+      counts : Tabled p (r .m) table
+      counts = tabled L (its .0) _ _ (its .2 .grounded) f
 
-      asks : found (Outcome.action question site k) ≡ found (given (actionAt p k) 13 k)
-      unfolding Outcome.action Outcome.readProblem _>>=_
-      asks = let (c, e, h) = its in rw (e, grounds c m w h f) refl
+      asks-is : asks ≡ found (given (actionAt p k) 13 k)
+      unfolding Outcome.action _>>=_
+      asks-is =
+          let (c, e, h) = its in
+          rw (Order.ready L question site Outcome.nothing Outcome.nothing Outcome.nothing Outcome.nothing c e tt (Order.untested c) (Order.untested c) p (grounds L c _ _ (h .grounded) f) (Order.untested c) (Order.untested p)) refl
 
-      pub asked-table : Grounded w
-      asked-table = table-is (its .0) m w (its .2) f
+      pub asked-table : Grounded table
+      asked-table = table-is L (its .0) _ _ (its .2 .grounded) f
 
-      pub asked-none : m .actions ≤ k → actionOf (Refused 13 k) ≡ found (Outcome.action question site k)
+      pub asked-none : r .m .actions ≤ k → actionOf (Refused 13 k) ≡ asks
       unfolding actionOf found given _>>=_
-      asked-none l = go (actionAt p k) refl ∙ sym asks
+      asked-none l = go (actionAt p k) refl ∙ sym asks-is
         where
           go : (x : Option Action) → actionAt p k ≡ x → refused 13 k ≡ found (given x 13 k)
           go none e = refl
           go (some a) e = let u = action-below p k a e in let v = counts .actions-are in absurd (omega arith)
 
-      pub asked-known : k < m .actions → (a : Act) → ((p : Problem) → Is p w → a ≡ actOf (actionAt p k)) → actionOf (Known a) ≡ found (Outcome.action question site k)
+      pub asked-known : k < r .m .actions → (a : Act) → ((p : Problem) → Is p table → a ≡ actOf (actionAt p k)) → actionOf (Known a) ≡ asks
       unfolding actionOf found given actOf _>>=_
       asked-known l a q =
           let (x, e) = action-some p k (let v = counts .actions-are in omega arith) in
-          ap (λ (b : Act). accepted (heard b)) (q p (counts .is) ∙ ap actOf e) ∙ ap accepted (heard-said x) ∙ sym (asks ∙ ap (λ (y : Option Action). found (given y 13 k)) e)
+          ap (λ (b : Act). accepted (heard b)) (q p (counts .is) ∙ ap actOf e) ∙ ap accepted (heard-said x) ∙ sym (asks-is ∙ ap (λ (y : Option Action). found (given y 13 k)) e)

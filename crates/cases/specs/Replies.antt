@@ -1,137 +1,92 @@
--- A call's reply as the definitions' answer, and what checking the steps of a case that was read gives.
+-- What the calls that check steps answer and leave, one law for each place where such a call ends; and sizes as the definitions' answer.
 use Prim.Native.Nat.{ℕ, _+_, _/_, _≤_, _<_}
-use mathlib.Core.Path.{_≡_, refl, sym, ap, ap₂, subst, _∙_}
-use mathlib.Core.Bool.{Bool, true, false}
+use mathlib.Core.Path.{_≡_, refl, sym, ap, subst, _∙_}
+use mathlib.Core.Bool.{true, false}
 use mathlib.Core.List.{List, _++_}
 use lib.ListN.{length, take, drop}
-use lib.Seq.{take-append-seam}
-use borrow.Author.Tests.{lt-ltb, le-ltb}
-use Rattle.definitions.specs.Limits.{stepLimit}
-use Rattle.definitions.specs.Actions.{actions}
-use Rattle.definitions.specs.Built.{bound}
-use Rattle.definitions.specs.Refusal.{Result, refused, accepted, _>>=_, refuseIf}
-use Rattle.definitions.specs.Sheets.{readSteps}
+use lib.Seq.{length-take-le}
+use Rattle.definitions.specs.Limits.{CaseLimits}
+use Rattle.definitions.specs.Refusal.{Result, refused, accepted}
 use Rattle.definitions.specs.Truth.{Case}
-use Rattle.definitions.specs.Atoms.{Problem, problemOf, atoms, stateWords}
+use Rattle.definitions.specs.Atoms.{Problem, problemOf, stateWords}
 use Rattle.definitions.specs.Strips.{run}
 use Rattle.definitions.specs.Outcome
 use Rattle.laws.specs.Words.{state-length}
-use Rattle.sheets.specs.declared.Answer.{Answer}
-use Rattle.sheets.specs.declared.Answer.the-variants.{Done, Refused as Bad}
-use Rattle.sheets.specs.Reading.{answered, left, RoomFor, Writes}
-use Rattle.sheets.proofs.Numbers.{sheet-refused, sheet-read, all-room}
-use Rattle.opening.specs.declared.Opened.{Opened}
-use Rattle.opening.specs.Read.{Holds, CaseRead}
-use Rattle.grounding.specs.declared.Sized.{Sized as Counted}
-use Rattle.grounding.specs.Grounds.{GroundsTo}
+use Rattle.laws.specs.Asked
 use Rattle.runs.specs.declared.End.{End}
 use Rattle.runs.specs.Ended.{ended}
-use Rattle.checking.specs.Checks.{Ran}
+use Rattle.runs.specs.Checks.{Runs}
+use Rattle.asking.specs.declared.Front.{Front}
+use Rattle.asking.specs.declared.Reply.{Reply}
+use Rattle.asking.specs.declared.Reply.the-variants.{Refused}
+use Rattle.asking.specs.Fronts.{Fronted, Held, front-refused, front-held}
+use Rattle.asking.specs.Known.{case-over, grounds, words-are, ran-of, room-short, room-there}
+use Rattle.asking.specs.Replies.{resultOf}
 use Rattle.cases.specs.declared.Sizing.{Sizing}
 use Rattle.cases.specs.declared.Sizing.the-variants.{Sized, Refused as Unsized}
-use Rattle.cases.specs.declared.Reply.{Reply}
-use Rattle.cases.specs.declared.Reply.the-variants.{Accepted, Refused}
-use Rattle.cases.specs.Known.{case-refused, case-read, case-over, grounds, words-are, room-short, room-there}
-use Rattle.cases.specs.Order
 
-unfoldable pub resultOf : Reply → Result ℕ
-resultOf (Accepted count) = accepted count
-resultOf (Refused k place) = refused k place
-
--- everything after the texts: 11, 12, and what is then ready to run
-unfoldable pub readied : Case → List ℕ → ℕ → Result Outcome.Ready
-readied c steps room = Outcome.ground c >>= λ p. Outcome.roomFor (Outcome.stateLength p) room >>= λ _. accepted (record { problem = p; steps = steps })
-
--- the reply and the state left, by what the definitions say of the case and its steps
-pub record Checks (c : Case) (steps old : List ℕ) (r : Reply) (new : List ℕ) : Type 0 where
-  pub answer : resultOf r ≡ Outcome.checkedFrom (readied c steps (length old)) old .answer
-  pub state : new ≡ Outcome.checkedFrom (readied c steps (length old)) old .state
-
-checks-refused : (c : Case) (steps old : List ℕ) (k place : ℕ) → readied c steps (length old) ≡ refused k place → (r : Reply) → resultOf r ≡ refused k place → Checks c steps old r old
-unfolding Outcome.checkedFrom
-checks-refused c steps old k place e r q = record { answer = rw e q; state = rw e refl }
-
-module _ (c : Case) (steps old : List ℕ) (m : Counted) (w : List ℕ) (g : GroundsTo (Outcome.ground c) m w) where
-  pub checks-over : m .over ≡ true → Checks c steps old (Refused 11 0) old
-  unfolding readied resultOf _>>=_
-  checks-over o = checks-refused c steps old 11 0 (rw (case-over c m w g o) refl) (Refused 11 0) refl
-
-  module _ (o : m .over ≡ false) where
-    pub checks-short : length old < (m .atoms + 63) / 64 → Checks c steps old (Refused 12 ((m .atoms + 63) / 64)) old
-    unfolding readied resultOf _>>=_
-    checks-short l =
-        let b = room-short (Outcome.stateLength (problemOf c)) (length old) (subst (λ (k : ℕ). length old < k) (words-are c m w g o) l) in
-        checks-refused c steps old 12 (Outcome.stateLength (problemOf c)) (rw (grounds c m w g o, b) refl) (Refused 12 ((m .atoms + 63) / 64)) (ap (refused 12) (words-are c m w g o))
-
-    pub checks-ran : (m .atoms + 63) / 64 ≤ length old → (e : End) (part new : List ℕ) (r : Reply) → Ran (problemOf c) steps e part → new ≡ part ++ drop ((m .atoms + 63) / 64) old → resultOf r ≡ ended e → Checks c steps old r new
-    unfolding readied Outcome.checkedFrom Outcome.written _>>=_
-    checks-ran l e part new r ran n q =
-        let p : Problem = problemOf c in
-        let g′ = grounds c m w g o in
-        let b = room-there (Outcome.stateLength p) (length old) (subst (λ (k : ℕ). k ≤ length old) (words-are c m w g o) l) in
-        let s : length (stateWords p (run p steps .state)) ≡ Outcome.stateLength p = state-length p (run p steps .state) in
-        record {
-          answer = rw (g′, b) (q ∙ ran .answer);
-          state = rw (g′, b, s) (n ∙ ap₂ (λ (x : List ℕ) (k : ℕ). x ++ drop k old) (ran .state) (words-are c m w g o));
-        }
-
--- ---- the public calls that check steps
+-- ---- the calls that check steps
 
 -- what a call answers and leaves, by the definitions
-abbrev pub Checked : (question site : List ℕ) (given : Outcome.Given) (old : List ℕ) → Reply → List ℕ → Type 0
-Checked question site given old r new =
-    (resultOf r ≡ Outcome.checkSteps question site given old .answer) × (new ≡ Outcome.checkSteps question site given old .state)
+abbrev pub Checked : CaseLimits → (question site : List ℕ) (given : Outcome.Given) (old : List ℕ) → Reply → List ℕ → Type 0
+Checked L question site given old r new =
+    (resultOf r ≡ Outcome.checkSteps L question site given old .answer) × (new ≡ Outcome.checkSteps L question site given old .state)
 
-module _ (question site : List ℕ) (given : Outcome.Given) (old : List ℕ) (o : Opened) (facts : ℕ → Bool) (read : CaseRead question (Outcome.readCase question site) o facts) where
-  rooms : Order.Room
+module _ (L : CaseLimits) (question site : List ℕ) (given : Outcome.Given) (old : List ℕ) (f : Front) (facts table : List ℕ) (opens : Fronted L question site f facts table) where
+  abbrev third : Case → Result (List ℕ)
+  third c = Outcome.takeSteps given
+
+  abbrev rooms : Problem → Result (Unit {0})
   rooms p = Outcome.roomFor (Outcome.stateLength p) (length old)
 
-  refused-with : (k place : ℕ) → Outcome.readyToRun question site given rooms ≡ refused k place → (r : Reply) → resultOf r ≡ refused k place → Checked question site given old r old
-  unfolding Outcome.checkSteps Outcome.checkedFrom rooms
-  refused-with k place e r q = (rw e q, rw e refl)
+  abbrev Answers : Reply → List ℕ → Type 0
+  Answers r new = Checked L question site given old r new
 
-  pub call-case : (o .fault ≡ 0 → ⊥) → Checked question site given old (Refused (o .fault) (o .place)) old
-  unfolding resultOf
-  call-case z = refused-with (o .fault) (o .place) (Order.case-refused question site given rooms (o .fault) (o .place) (case-refused question site o facts read z)) (Refused (o .fault) (o .place)) refl
+  refused-with : (k place : ℕ) → Outcome.asked L question site third Outcome.nothing Outcome.nothing rooms ≡ refused k place → Answers (Refused k place) old
+  unfolding Outcome.checkSteps Outcome.readyToRun Outcome.checkedFrom resultOf
+  refused-with k place e = (rw e refl, rw e refl)
 
-  module _ (z : o .fault ≡ 0) where
-    pub call-steps : (k place : ℕ) → Outcome.takeSteps given ≡ refused k place → Checked question site given old (Refused k place) old
-    unfolding resultOf
-    call-steps k place t = let (c, e, h) = case-read question site o facts read z in refused-with k place (Order.steps-refused question site given rooms c e k place t) (Refused k place) refl
+  pub call-case : (f .fault ≡ 0 → ⊥) → Answers (Refused (f .fault) (f .place)) old
+  call-case z = refused-with _ _ (Asked.case-refused L question site third _ _ rooms _ _ (front-refused L question site f facts table opens z))
 
-    pub call-ran : (ks : List ℕ) → Outcome.takeSteps given ≡ accepted ks → (r : Reply) (new : List ℕ) → ((c : Case) → Holds question c o facts → Checks c ks old r new) → Checked question site given old r new
-    unfolding Outcome.checkSteps Outcome.readyToRun readied rooms _>>=_
-    call-ran ks t r new ran = let (c, e, h) = case-read question site o facts read z in let k = ran c h in (rw (e, t) (k .answer), rw (e, t) (k .state))
+  module _ (z : f .fault ≡ 0) where
+    -- the case that was read
+    abbrev its : (c : Case) × (Outcome.readCase L question site ≡ accepted c) × Held L question c f facts table
+    its = front-held L question site f facts table opens z
 
--- lent steps are taken as they are, unless they are too many
-pub lent-many : (ks : List ℕ) → stepLimit < length ks → Outcome.takeSteps (Outcome.asNumbers ks) ≡ refused 1 0
-unfolding Outcome.takeSteps refuseIf _>>=_
-lent-many ks h = rw (lt-ltb stepLimit (length ks) h) refl
+    pub call-steps : (k place : ℕ) → Outcome.takeSteps given ≡ refused k place → Answers (Refused k place) old
+    call-steps k place t = refused-with k place (Asked.third-refused L question site third _ _ rooms (its .0) (its .1) k place t)
 
-pub lent-few : (ks : List ℕ) → length ks ≤ stepLimit → Outcome.takeSteps (Outcome.asNumbers ks) ≡ accepted ks
-unfolding Outcome.takeSteps refuseIf _>>=_
-lent-few ks h = rw (le-ltb stepLimit (length ks) h) refl
+    module _ (ks : List ℕ) (t : Outcome.takeSteps given ≡ accepted ks) where
+      pub call-over : f .m .over ≡ true → Answers (Refused 11 0) old
+      call-over o =
+          let (c, e, h) = its in
+          refused-with 11 0 (Asked.limits-refused L question site third _ _ rooms c e ks t (Asked.untested c) 11 0 (case-over L c _ _ (h .grounded) o))
 
--- ---- steps as a text, once they stand in a lent table
-module _ (t out : List ℕ) where
-  pub text-refused : (a : Answer) (k place : ℕ) → a ≡ answered length (readSteps t) → a ≡ Bad k place → Outcome.takeSteps (Outcome.asText t) ≡ refused k place
-  unfolding Outcome.takeSteps
-  text-refused a k place e q = sheet-refused length (readSteps t) a k place e q
+      module _ (o : f .m .over ≡ false) where
+        abbrev words : ℕ
+        words = (f .m .atoms + 63) / 64
 
-  -- the k numbers read stand at the front of the table
-  pub text-taken : (a : Answer) (k : ℕ) → a ≡ answered length (readSteps t) → a ≡ Done k → (list : List ℕ) → list ≡ left (readSteps t) out → Outcome.takeSteps (Outcome.asText t) ≡ accepted (take k list)
-  unfolding Outcome.takeSteps left Outcome.written
-  text-taken a k e q list l =
-      let (ks, d, z) = sheet-read length (readSteps t) a k e q in
-      let f : list ≡ ks ++ drop (length ks) out = l ∙ ap (λ (x : Result (List ℕ)). left x out) d in
-      d ∙ ap accepted (sym (ap₂ take (sym z) f ∙ take-append-seam ks (drop (length ks) out)))
+        words-of : words ≡ Outcome.stateLength (problemOf (its .0))
+        words-of = words-are L (its .0) _ _ (its .2 .grounded) o
 
-  -- and they fit it, where it has room
-  pub text-room : (a : Answer) (k room : ℕ) → a ≡ answered length (readSteps t) → a ≡ Done k → RoomFor t room → k ≤ room
-  unfolding Writes
-  text-room a k room e q h =
-      let (ks, d, z) = sheet-read length (readSteps t) a k e q in
-      subst (λ (n : ℕ). n ≤ room) z (subst (λ (x : Result (List ℕ)). Writes x room) d (all-room t a e k room q h))
+        pub call-short : length old < words → Answers (Refused 12 words) old
+        call-short l =
+            let (c, e, h) = its in
+            let short = room-short words (length old) l in
+            let b : rooms (problemOf c) ≡ refused 12 words = ap (λ (k : ℕ). Outcome.roomFor k (length old)) (sym words-of) ∙ short in
+            refused-with 12 words (Asked.room-refused L question site third _ _ rooms c e ks t (Asked.untested c) (problemOf c) (grounds L c _ _ (h .grounded) o) (Asked.untested c) 12 words b)
+
+        pub call-ran : words ≤ length old → (e : End) (part new : List ℕ) (r : Reply) → Runs table facts ks (take words old) e part → new ≡ part ++ drop words old → resultOf r ≡ ended e → Answers r new
+        unfolding Outcome.checkSteps Outcome.readyToRun Outcome.checkedFrom Outcome.written
+        call-ran l e part new r runs n q =
+            let (c, a, h) = its in
+            let p : Problem = problemOf c in
+            let b = room-there (Outcome.stateLength p) (length old) (subst (λ (k : ℕ). k ≤ length old) words-of l) in
+            let g = Asked.ready L question site third Outcome.nothing Outcome.nothing rooms c a ks t (Asked.untested c) p (grounds L c _ _ (h .grounded) o) (Asked.untested c) b in
+            let ran = ran-of L c _ _ (h .grounded) o question _ facts ks _ part e (h .holds) (sym (length-take-le words old l)) runs in
+            let s : length (stateWords p (run p ks .state)) ≡ words = state-length p (run p ks .state) ∙ sym words-of in
+            (rw g (q ∙ ran .answer), rw (g, s) (n ∙ ap (λ (x : List ℕ). x ++ drop words old) (ran .state)))
 
 -- ---- sizes
 

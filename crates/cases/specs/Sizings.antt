@@ -4,7 +4,7 @@ use mathlib.Core.Path.{_≡_, refl, sym, ap, _∙_}
 use mathlib.Core.Bool.{true, false, _||_}
 use mathlib.Core.List.{List}
 use lib.Dec.{ltb}
-use Rattle.definitions.specs.Limits.{atomLimit, actionLimit}
+use Rattle.definitions.specs.Limits.{CaseLimits}
 use Rattle.definitions.specs.Refusal.{Result, _>>=_, refuseIf}
 use Rattle.definitions.specs.Tally.{tally, Tally as Tallies}
 use Rattle.definitions.specs.Outcome
@@ -17,21 +17,21 @@ use Rattle.cases.specs.declared.Sizing.{Sizing}
 use Rattle.cases.specs.declared.Sizing.the-variants.{Sized, Refused as Unsized}
 use Rattle.cases.specs.Replies.{sizingOf}
 
-module _ (t : Tally) where
-  pub sizes-over : true ≡ (ltb atomLimit (t .atoms) || ltb actionLimit (t .actions)) → sizingOf (Unsized 11 0) ≡ within (tallyIn t)
+module _ (L : CaseLimits) (t : Tally) where
+  pub sizes-over : true ≡ (ltb (L .atoms) (t .atoms) || ltb (L .actions) (t .actions)) → sizingOf (Unsized 11 0) ≡ within L (tallyIn t)
   unfolding sizingOf tallyIn refuseIf _>>=_
   sizes-over e = rw (sym e) refl
 
-  pub sizes-within : false ≡ (ltb atomLimit (t .atoms) || ltb actionLimit (t .actions))
-      → sizingOf (Sized (record { elements = t .elements; atoms = t .atoms; actions = t .actions; bound = t .bound })) ≡ within (tallyIn t)
+  pub sizes-within : false ≡ (ltb (L .atoms) (t .atoms) || ltb (L .actions) (t .actions))
+      → sizingOf (Sized (record { elements = t .elements; atoms = t .atoms; actions = t .actions; bound = t .bound })) ≡ within L (tallyIn t)
   unfolding sizingOf tallyIn refuseIf _>>=_
   sizes-within e = rw (sym e) refl
 
-module _ (question site : List ℕ) (a : Tallied) (e : talliedOf a ≡ tally question site) where
-  pub sizes-refused : (k place : ℕ) → a ≡ Untallied k place → sizingOf (Unsized k place) ≡ Outcome.sizes question site
+module _ (L : CaseLimits) (question site : List ℕ) (a : Tallied) (e : talliedOf a ≡ tally L question site) where
+  pub sizes-refused : (k place : ℕ) → a ≡ Untallied k place → sizingOf (Unsized k place) ≡ Outcome.sizes L question site
   unfolding sizingOf talliedOf _>>=_
-  sizes-refused k place q = ap (λ (x : Tallied). talliedOf x >>= within) (sym q) ∙ ap (λ (x : Result Tallies). x >>= within) e ∙ sym (sizes-tally question site)
+  sizes-refused k place q = ap (λ (x : Tallied). talliedOf x >>= within L) (sym q) ∙ ap (λ (x : Result Tallies). x >>= within L) e ∙ sym (sizes-tally L question site)
 
-  pub sizes-counted : (t : Tally) → a ≡ HasTally t → (r : Sizing) → sizingOf r ≡ within (tallyIn t) → sizingOf r ≡ Outcome.sizes question site
+  pub sizes-counted : (t : Tally) → a ≡ HasTally t → (r : Sizing) → sizingOf r ≡ within L (tallyIn t) → sizingOf r ≡ Outcome.sizes L question site
   unfolding talliedOf _>>=_
-  sizes-counted t q r h = h ∙ ap (λ (x : Tallied). talliedOf x >>= within) (sym q) ∙ ap (λ (x : Result Tallies). x >>= within) e ∙ sym (sizes-tally question site)
+  sizes-counted t q r h = h ∙ ap (λ (x : Tallied). talliedOf x >>= within L) (sym q) ∙ ap (λ (x : Result Tallies). x >>= within L) e ∙ sym (sizes-tally L question site)

@@ -1,30 +1,25 @@
 // The public calls. Each takes texts and lent buffers of any kind and any length, and answers; none asks anything of its caller.
 // What a call returns, and what each buffer then holds, is what `definitions`, `Outcome`, says of it.
 ghost use mathlib.Core.Path.{_≡_};
+ghost use mathlib.Core.Bool.{false};
 ghost use mathlib.Core.List.{List};
 ghost use Prim.Native.Nat.{ℕ};
 ghost use lib.ListN.{length};
-ghost use Rattle.definitions.specs.Truth.{Case};
-ghost use Rattle.definitions.specs.Outcome.{readCase, asText, asNumbers, checkSteps, sizes as «sizes-of», action as «action-of»};
+ghost use Rattle.definitions.specs.Limits.{CaseLimits, usual};
+ghost use Rattle.definitions.specs.Refusal.{accepted};
+ghost use Rattle.definitions.specs.Outcome.{Given, asText, asNumbers, takeSteps, checkSteps, sizes as «sizes-of», action as «action-of»};
 ghost use Rattle.laws.specs.Walks.{within};
 ghost use Rattle.bits.specs.Table.{bit};
-ghost use Rattle.sheets.specs.Reading.{RoomFor};
-ghost use Rattle.opening.specs.Read.{Holds, CaseRead};
+ghost use Rattle.sheets.specs.Reading.{FactsRoom, RoomFor};
 ghost use Rattle.counting.specs.Counts.{tallyIn};
-ghost use Rattle.runs.specs.Ended.{ended};
-ghost use Rattle.cases.specs.Known.{CaseIn};
-ghost use Rattle.cases.specs.Replies.{resultOf, sizingOf, Checks, Checked};
+ghost use Rattle.asking.specs.Fronts.{Fronted, Ready};
+ghost use Rattle.asking.specs.Replies.{resultOf};
+ghost use Rattle.cases.specs.Replies.{sizingOf, Checked};
 ghost use Rattle.cases.specs.Asked.{actionOf, found};
+use asking::Front;
+use asking::Reply;
 use counting::Tallied;
-use opening::Opened;
-use runs::End;
 use sheets::Answer;
-
-// All is well, with the step count; or a refusal with its number and place.
-pub enum Reply {
-    Accepted(usize),
-    Refused(u32, usize),
-}
 
 // How many elements, atoms and actions a problem has, and the bound.
 pub struct Counts {
@@ -41,9 +36,9 @@ pub enum Sizing {
 
 // What was counted, unless it is more than the limits allow.
 fn limited(t: tally::Tally) -> Sizing
-    ensures { λ r. ⌜ sizingOf r ≡ within (tallyIn t) ⌝ }
+    ensures { λ r. ⌜ sizingOf r ≡ within usual (tallyIn t) ⌝ }
 {
-    if layout::too_many(t.atoms, t.actions) {
+    if layout::too_many(t.atoms, t.actions, asking::ATOMS, asking::ACTIONS) {
         return Sizing::Refused(11, 0);
     }
     Sizing::Sized(Counts {
@@ -56,7 +51,7 @@ fn limited(t: tally::Tally) -> Sizing
 
 // The sizes of the numbered problem, by one walk of the tree.
 pub fn sizes(question: &[u8], site: &[u8]) -> Sizing
-    ensures { λ r. ⌜ sizingOf r ≡ «sizes-of» (now (question .entry)) (now (site .entry)) ⌝ }
+    ensures { λ r. ⌜ sizingOf r ≡ «sizes-of» usual (now (question .entry)) (now (site .entry)) ⌝ }
 {
     let a = counting::tally(question, site);
     match a {
@@ -70,17 +65,25 @@ pub enum Asked {
     Refused(u32, usize),
 }
 
-// The action of number k.
-pub fn action(question: &[u8], site: &[u8], k: usize) -> Asked
-    ensures { λ r. ⌜ actionOf r ≡ found («action-of» (now (question .entry)) (now (site .entry)) k) ⌝ }
+// The action of number k, with the lent words for the site's facts.
+fn action_in(question: &[u8], site: &[u8], k: usize, facts: &mut [u64]) -> Asked
+    requires { ⌜ FactsRoom (now site) 16 (length (now facts)) × (bit (now facts) ≡ λ i. false) ⌝ }
+    ensures { λ r. ⌜ actionOf r ≡ found («action-of» usual (now (question .entry)) (now (site .entry)) k) ⌝ }
 {
-    let mut facts = [0u64; 512];
-    let o = opening::read_case(question, site, &mut facts);
-    if o.fault != 0 {
-        return Asked::Refused(o.fault, o.place);
-    }
     let mut table = [0usize; ground::TABLE];
-    let m = grounding::ground_case(question, o, &mut table);
+    let f = asking::open_case(
+        question,
+        site,
+        asking::ELEMENTS,
+        asking::ATOMS,
+        asking::ACTIONS,
+        facts,
+        &mut table,
+    );
+    if f.fault != 0 {
+        return Asked::Refused(f.fault, f.place);
+    }
+    let m = f.m;
     if m.over {
         return Asked::Refused(11, 0);
     }
@@ -91,25 +94,21 @@ pub fn action(question: &[u8], site: &[u8], k: usize) -> Asked
     Asked::Refused(13, k)
 }
 
-// How a run ended, as a reply.
-pub fn reply_of(e: End) -> Reply
-    ensures { λ r. ⌜ resultOf r ≡ ended e ⌝ }
+// The action of number k.
+pub fn action(question: &[u8], site: &[u8], k: usize) -> Asked
+    ensures { λ r. ⌜ actionOf r ≡ found («action-of» usual (now (question .entry)) (now (site .entry)) k) ⌝ }
 {
-    match e {
-        End::Done(i) => Reply::Accepted(i),
-        End::NoAction(i) => Reply::Refused(13, i),
-        End::NotNow(i) => Reply::Refused(14, i),
-        End::NoGoal(i) => Reply::Refused(15, i),
-    }
+    let mut facts = [0u64; asking::FACTS];
+    action_in(question, site, k, &mut facts)
 }
 
-// Steps of a case that was read: 11, 12, then the steps one by one.
-fn check_case(question: &[u8], o: Opened, facts: &[u64], steps: &[u32], state: &mut [u64]) -> Reply
-    requires { ⌜ CaseIn (now question) o (bit (now facts)) ⌝ }
-    ensures { λ r. ⌜ ((c : Case) → Holds (now (question .entry)) c o (bit (now (facts .entry))) → Checks c (now (steps .entry)) (now (state .entry)) r (now (state .exit))) ⌝ }
+// Steps of a case that was read and grounded: 11, 12, then the steps one by one.
+fn check_steps(f: Front, facts: &[u64], table: &[usize], steps: &[u32], state: &mut [u64]) -> Reply
+    requires { ⌜ ((q : List ℕ) × Ready q f (now facts) (now table)) ⌝ }
+    ensures { λ r. ⌜ ((L : CaseLimits) (question site : List ℕ) (given : Given) → Fronted L question site f (now (facts .entry)) (now (table .entry)) → f .fault ≡ 0
+        → takeSteps given ≡ accepted (now (steps .entry)) → Checked L question site given (now (state .entry)) r (now (state .exit))) ⌝ }
 {
-    let mut table = [0usize; ground::TABLE];
-    let m = grounding::ground_case(question, o, &mut table);
+    let m = f.m;
     if m.over {
         return Reply::Refused(11, 0);
     }
@@ -117,61 +116,107 @@ fn check_case(question: &[u8], o: Opened, facts: &[u64], steps: &[u32], state: &
     if state.len() < words {
         return Reply::Refused(12, words);
     }
-    let e = checking::start_and_run(&table, facts, steps, &mut state[..words]);
-    reply_of(e)
+    let e = runs::start_and_run(table, facts, steps, &mut state[..words]);
+    asking::reply_of(e)
 }
 
-// Steps of a case that was read, as a text: they are read into the list, which has room for them, and checked.
+// Steps of a case that was read and grounded, as a text: they are read into the list, which has room for them, and checked.
 fn check_listed(
-    question: &[u8],
-    o: Opened,
+    f: Front,
     facts: &[u64],
+    table: &[usize],
     steps: &[u8],
     list: &mut [u32],
     state: &mut [u64],
 ) -> Reply
-    requires { ⌜ CaseIn (now question) o (bit (now facts)) ⌝ }
+    requires { ⌜ ((q : List ℕ) × Ready q f (now facts) (now table)) ⌝ }
     requires { ⌜ RoomFor (now steps) (length (now list)) ⌝ }
-    ensures { λ r. ⌜ ((site : List ℕ) → CaseRead (now (question .entry)) (readCase (now (question .entry)) site) o (bit (now (facts .entry))) → o .fault ≡ 0
-        → Checked (now (question .entry)) site (asText (now (steps .entry))) (now (state .entry)) r (now (state .exit))) ⌝ }
+    ensures { λ r. ⌜ ((L : CaseLimits) (question site : List ℕ) → Fronted L question site f (now (facts .entry)) (now (table .entry)) → f .fault ≡ 0
+        → Checked L question site (asText (now (steps .entry))) (now (state .entry)) r (now (state .exit))) ⌝ }
 {
     let a = sheets::steps(steps, list);
     match a {
         Answer::Refused(k, place) => Reply::Refused(k, place),
-        Answer::Done(count) => check_case(question, o, facts, &list[..count], state),
+        Answer::Done(count) => check_steps(f, facts, table, &list[..count], state),
     }
+}
+
+// Checks steps that are handed over as a text, with the lent words for the site's facts.
+fn check_text_in(
+    question: &[u8],
+    site: &[u8],
+    steps: &[u8],
+    state: &mut [u64],
+    facts: &mut [u64],
+) -> Reply
+    requires { ⌜ FactsRoom (now site) 16 (length (now facts)) × (bit (now facts) ≡ λ i. false) ⌝ }
+    ensures { λ r. ⌜ Checked usual (now (question .entry)) (now (site .entry)) (asText (now (steps .entry))) (now (state .entry)) r (now (state .exit)) ⌝ }
+{
+    let mut table = [0usize; ground::TABLE];
+    let f = asking::open_case(
+        question,
+        site,
+        asking::ELEMENTS,
+        asking::ATOMS,
+        asking::ACTIONS,
+        facts,
+        &mut table,
+    );
+    if f.fault != 0 {
+        return Reply::Refused(f.fault, f.place);
+    }
+    if steps.len() <= sheets::SHORT {
+        let mut few = [0u32; sheets::FEW];
+        return check_listed(f, facts, &table, steps, &mut few, state);
+    }
+    let mut list = [0u32; sheets::STEPS];
+    check_listed(f, facts, &table, steps, &mut list, state)
 }
 
 // Checks steps that are handed over as a text.
 pub fn check_text(question: &[u8], site: &[u8], steps: &[u8], state: &mut [u64]) -> Reply
-    ensures answer { λ r. ⌜ resultOf r ≡ checkSteps (now (question .entry)) (now (site .entry)) (asText (now (steps .entry))) (now (state .entry)) .answer ⌝ }
-    ensures left { λ r. ⌜ now (state .exit) ≡ checkSteps (now (question .entry)) (now (site .entry)) (asText (now (steps .entry))) (now (state .entry)) .state ⌝ }
+    ensures answer { λ r. ⌜ resultOf r ≡ checkSteps usual (now (question .entry)) (now (site .entry)) (asText (now (steps .entry))) (now (state .entry)) .answer ⌝ }
+    ensures left { λ r. ⌜ now (state .exit) ≡ checkSteps usual (now (question .entry)) (now (site .entry)) (asText (now (steps .entry))) (now (state .entry)) .state ⌝ }
 {
-    let mut facts = [0u64; 512];
-    let o = opening::read_case(question, site, &mut facts);
-    if o.fault != 0 {
-        return Reply::Refused(o.fault, o.place);
+    let mut facts = [0u64; asking::FACTS];
+    check_text_in(question, site, steps, state, &mut facts)
+}
+
+// Checks steps that are lent as numbers, with the lent words for the site's facts.
+fn check_lent_in(
+    question: &[u8],
+    site: &[u8],
+    steps: &[u32],
+    state: &mut [u64],
+    facts: &mut [u64],
+) -> Reply
+    requires { ⌜ FactsRoom (now site) 16 (length (now facts)) × (bit (now facts) ≡ λ i. false) ⌝ }
+    ensures { λ r. ⌜ Checked usual (now (question .entry)) (now (site .entry)) (asNumbers (now (steps .entry))) (now (state .entry)) r (now (state .exit)) ⌝ }
+{
+    let mut table = [0usize; ground::TABLE];
+    let f = asking::open_case(
+        question,
+        site,
+        asking::ELEMENTS,
+        asking::ATOMS,
+        asking::ACTIONS,
+        facts,
+        &mut table,
+    );
+    if f.fault != 0 {
+        return Reply::Refused(f.fault, f.place);
     }
-    if steps.len() <= sheets::SHORT {
-        let mut few = [0u32; sheets::FEW];
-        return check_listed(question, o, &facts, steps, &mut few, state);
+    if asking::STEPS < steps.len() {
+        return Reply::Refused(1, 0);
     }
-    let mut list = [0u32; sheets::STEPS];
-    check_listed(question, o, &facts, steps, &mut list, state)
+    check_steps(f, facts, &table, steps, state)
 }
 
 // Checks steps that are lent as numbers.
 pub fn check_lent(question: &[u8], site: &[u8], steps: &[u32], state: &mut [u64]) -> Reply
-    ensures answer { λ r. ⌜ resultOf r ≡ checkSteps (now (question .entry)) (now (site .entry)) (asNumbers (now (steps .entry))) (now (state .entry)) .answer ⌝ }
-    ensures left { λ r. ⌜ now (state .exit) ≡ checkSteps (now (question .entry)) (now (site .entry)) (asNumbers (now (steps .entry))) (now (state .entry)) .state ⌝ }
+    ensures answer { λ r. ⌜ resultOf r ≡ checkSteps usual (now (question .entry)) (now (site .entry)) (asNumbers (now (steps .entry))) (now (state .entry)) .answer ⌝ }
+    ensures left { λ r. ⌜ now (state .exit) ≡ checkSteps usual (now (question .entry)) (now (site .entry)) (asNumbers (now (steps .entry))) (now (state .entry)) .state ⌝ }
 {
-    let mut facts = [0u64; 512];
-    let o = opening::read_case(question, site, &mut facts);
-    if o.fault != 0 {
-        return Reply::Refused(o.fault, o.place);
-    }
-    if 65536 < steps.len() {
-        return Reply::Refused(1, 0);
-    }
-    check_case(question, o, &facts, steps, state)
+    let mut facts = [0u64; asking::FACTS];
+    check_lent_in(question, site, steps, state, &mut facts)
 }

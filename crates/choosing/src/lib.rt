@@ -2,13 +2,12 @@
 ghost use mathlib.Core.Path.{_≡_};
 ghost use Prim.Native.Nat.{_<_, _≤_};
 ghost use lib.ListN.{length};
-ghost use Rattle.definitions.specs.Limits.{actionLimit};
 ghost use Rattle.definitions.specs.Atoms.{Problem};
 ghost use Rattle.rows.specs.Values.{Most};
 ghost use Rattle.ground.specs.Lines.{tableLength, Fits};
 ghost use Rattle.ground.specs.Of.{Is};
 ghost use Rattle.tree.specs.declared.Nodes.{Nodes as «Nodes-of»};
-ghost use Rattle.layout.specs.Laid.{RelationsFit, Inputs, Starts, Small};
+ghost use Rattle.layout.specs.Laid.{RelationsFit, Inputs, Starts, Small, numberLimit};
 ghost use Rattle.choosing.specs.Bare.{noNodes, bare};
 use layout::Layout;
 use layout::Relations;
@@ -45,9 +44,9 @@ fn no_nodes() -> Nodes
 
 // Fills the lent table of zeros with the lines of the relations.
 pub fn fill(table: &mut [usize], n: usize, g: Relations, l: Layout)
-    requires { ⌜ (length (now table) ≡ tableLength) × Most (now table) 0 × (0 < n) × (n ≤ 64) × RelationsFit g × Small l actionLimit ⌝ }
+    requires { ⌜ (length (now table) ≡ tableLength) × Most (now table) 0 × (0 < n) × (n ≤ 64) × RelationsFit g × Small l numberLimit ⌝ }
     ensures { λ r. ⌜ Fits (now (table .exit)) × ((p : Problem) (t : «Nodes-of») → 0 < length (p .relations) → Inputs p n g t → Starts p l → Is (bare p) (now (table .exit))) ⌝ }
 {
     let t = no_nodes();
-    table::fill(table, n, g, t, l);
+    layout::fill(table, n, g, t, l);
 }

@@ -3,16 +3,16 @@ use Prim.Native.Nat.{ℕ}
 use mathlib.Core.Path.{_≡_, refl, ap, _∙_}
 use mathlib.Core.Bool.{Bool}
 use mathlib.Core.List.{List}
+use Rattle.definitions.specs.Limits.{CaseLimits}
 use Rattle.definitions.specs.Refusal.{Result, refused, accepted, _>>=_}
 use Rattle.definitions.specs.Truth.{Case}
 use Rattle.definitions.specs.Atoms.{Problem, problemOf}
 use Rattle.definitions.specs.Outcome.{readCase}
 use Rattle.definitions.specs.Tally
-use Rattle.opening.specs.declared.Opened.{Opened}
-use Rattle.opening.specs.Read.{Holds, CaseRead}
+use Rattle.sheets.specs.declared.Opened.{Opened}
+use Rattle.sheets.specs.Opening.{Holds, CaseRead, case-refused, case-read}
 use Rattle.tally.specs.declared.Tally.{Tally as Counts}
 use Rattle.tally.specs.Sums.{Tallied as Tallies}
-use Rattle.counting.specs.Known.{case-refused, case-read}
 use Rattle.counting.specs.declared.Tallied.{Tallied}
 use Rattle.counting.specs.declared.Tallied.the-variants.{Counted, Refused}
 
@@ -27,11 +27,11 @@ pub tally-in : (p : Problem) (t : Counts) → Tallies p t → tallyIn t ≡ Tall
 unfolding tallyIn
 tally-in p t h = rw (h .nodes-are, h .elements-are, h .atoms-are, h .actions-are, h .bound-is) refl
 
-module _ (question site : List ℕ) (o : Opened) (facts : ℕ → Bool) (read : CaseRead question (readCase question site) o facts) where
-  pub tally-refused : (o .fault ≡ 0 → ⊥) → talliedOf (Refused (o .fault) (o .place)) ≡ Tally.tally question site
+module _ (L : CaseLimits) (question site : List ℕ) (o : Opened) (facts : ℕ → Bool) (read : CaseRead question (readCase L question site) o facts) where
+  pub tally-refused : (o .fault ≡ 0 → ⊥) → talliedOf (Refused (o .fault) (o .place)) ≡ Tally.tally L question site
   unfolding talliedOf Tally.tally _>>=_
-  tally-refused z = rw (case-refused question site o facts read z) refl
+  tally-refused z = rw (case-refused L question site o facts read z) refl
 
-  pub tally-counted : (z : o .fault ≡ 0) (t : Counts) → ((c : Case) (f : ℕ → Bool) → Holds question c o f → Tallies (problemOf c) t) → talliedOf (Counted t) ≡ Tally.tally question site
+  pub tally-counted : (z : o .fault ≡ 0) (t : Counts) → ((c : Case) (f : ℕ → Bool) → Holds question c o f → Tallies (problemOf c) t) → talliedOf (Counted t) ≡ Tally.tally L question site
   unfolding talliedOf Tally.tally _>>=_
-  tally-counted z t h = let (c, e, i) = case-read question site o facts read z in rw e (ap accepted (tally-in (problemOf c) t (h c facts i)))
+  tally-counted z t h = let (c, e, i) = case-read L question site o facts read z in rw e (ap accepted (tally-in (problemOf c) t (h c facts i)))

@@ -1,3 +1,2 @@
 -- Words of this crate's contracts, and their laws.
-pub mod Known
 pub mod Counts

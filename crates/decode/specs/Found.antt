@@ -6,9 +6,9 @@ use native.Mathlib.Nat.{div-one, div-le-self, mod-lt, mul-zero}
 use native.Mathlib.Numerals.{add-one}
 use native.Mathlib.Omega.{arith}
 use lib.ListN.{length, getD}
-use Rattle.definitions.specs.Tree.{Tree, Trees, leaf, forallNode, existsNode, andNode, orNode, parts, howMany, nodeSort}
+use Rattle.definitions.specs.Tree.{Tree, leaf, forallNode, existsNode, andNode, orNode, parts, nodeSort}
 use Rattle.definitions.specs.Atoms.{Problem, relationAt, nodeAt, rowsOf}
-use Rattle.definitions.specs.Actions.{Action, set, beginProof, proveAnd, proveOr, proveExists, proveForall, proveGoal, choices, proveNode, proofsOf, actionAt, setStart, proofStart}
+use Rattle.definitions.specs.Actions.{Action, proveExists, proveForall, choices, proveNode, proofsOf, actionAt, setStart, proofStart}
 use Rattle.laws.specs.Numbers.{row-at, set-next, set-first, proof-first, proof-next, at-set, at-begin, at-proof, at-goal, at-none}
 use Rattle.tree.specs.Tables.{nodeKind}
 use Rattle.ground.specs.Lines.{relationPlace, nodePlace, relationsIn, nodesIn, relationLine, nodeLine, RangeFits}
@@ -16,12 +16,7 @@ use Rattle.ground.specs.NeedLaws.{members-length, member-at}
 use Rattle.ground.specs.Numbers.{ActFits}
 use Rattle.ground.specs.Of.{Is, IsNode, said, actOf}
 use Rattle.ground.specs.OfLaws.{parts-length}
-use Rattle.ground.specs.declared.RelationLine.{RelationLine}
 use Rattle.ground.specs.declared.NodeLine.{NodeLine}
-use Rattle.ground.specs.declared.TupleAct.{TupleAct}
-use Rattle.ground.specs.declared.RowAct.{RowAct}
-use Rattle.ground.specs.declared.ChoiceAct.{ChoiceAct}
-use Rattle.ground.specs.declared.Act.{Act}
 use Rattle.ground.specs.declared.Act.the-variants.{Set, Begin, And, Or, Exists, Forall, Goal, Nothing}
 use Rattle.decode.specs.Decoded.{proofBy, proofIn}
 

@@ -21,10 +21,49 @@ pub data Action : Type 0 where
   proveForall : (node row z : ℕ) → Action
   proveGoal : Action
 
+-- an action in the paper's numbers: its kind in this order, its relation or node, its row, and its part, element or z; what its kind
+-- does not have is 0
+unfoldable pub actionKind : Action → ℕ
+actionKind (set r row) = 0
+actionKind beginProof = 1
+actionKind (proveAnd v row) = 2
+actionKind (proveOr v row i) = 3
+actionKind (proveExists v row x) = 4
+actionKind (proveForall v row z) = 5
+actionKind proveGoal = 6
+
+unfoldable pub actionSubject : Action → ℕ
+actionSubject (set r row) = r
+actionSubject beginProof = 0
+actionSubject (proveAnd v row) = v
+actionSubject (proveOr v row i) = v
+actionSubject (proveExists v row x) = v
+actionSubject (proveForall v row z) = v
+actionSubject proveGoal = 0
+
+unfoldable pub actionRow : Action → ℕ
+actionRow (set r row) = row
+actionRow beginProof = 0
+actionRow (proveAnd v row) = row
+actionRow (proveOr v row i) = row
+actionRow (proveExists v row x) = row
+actionRow (proveForall v row z) = row
+actionRow proveGoal = 0
+
+unfoldable pub actionChoice : Action → ℕ
+actionChoice (set r row) = 0
+actionChoice beginProof = 0
+actionChoice (proveAnd v row) = 0
+actionChoice (proveOr v row i) = i
+actionChoice (proveExists v row x) = x
+actionChoice (proveForall v row z) = z
+actionChoice proveGoal = 0
+
 -- ---- order and numbers: the set actions of every `choose`; begin-proof; node by node, each row by row, with the part, element
 -- or z running fastest; prove-goal
 
--- how many actions a node has at each value of its free variables, and the action of a part, element or z there
+-- how many actions a node has at each value of its free variables, and the action of a part, element or z there. (A literal is not a
+-- node: it has no actions, and what stands for one is never asked for.)
 unfoldable pub choices : (ℕ → List ℕ) → Tree → ℕ
 choices R (leaf p r ls) = zero
 choices R (forallNode d s t) = length (R s)
@@ -69,7 +108,8 @@ actions p = countOf (actionBlocks p)
 unfoldable pub actionAt : Problem → ℕ → Option Action
 actionAt p i = itemAt (actionBlocks p) i
 
--- the number of an action: the actions before its relation or node, and its place there
+-- the number of an action: the actions before its relation or node, and its place there. (The order stands here and in
+-- `actionBlocks`; `laws`, `Numbers`, shows that these are one.)
 unfoldable pub setStart : Problem → ℕ → ℕ
 setStart p r = countOf (setBlocks (p .size) (p .range) (take r (p .relations)))
 

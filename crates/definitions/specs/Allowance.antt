@@ -5,11 +5,12 @@ use mathlib.Core.List.{List, map}
 use lib.ListN.{length}
 use lib.Dec.{eqb}
 use Rattle.definitions.specs.Lists.{filter, sum}
-use Rattle.definitions.specs.Refusal.{Result, refused, accepted, _>>=_}
+use Rattle.definitions.specs.Limits.{CaseLimits}
+use Rattle.definitions.specs.Refusal.{Result, refused, accepted}
 use Rattle.definitions.specs.Tree.{Tree, Trees, leaf, forallNode, existsNode, andNode, orNode, end, _then_}
 use Rattle.definitions.specs.Atoms.{Problem, nodeWidth}
 use Rattle.definitions.specs.Built.{chosenNumbers}
-use Rattle.definitions.specs.Outcome.{readProblem, roomFor, written}
+use Rattle.definitions.specs.Outcome.{Ready, asked, nothing, roomFor, written}
 
 -- Whether a literal of relation r, of either sign, stands somewhere in a tree. The tree is that of the whole case: negation is pushed
 -- inward, and the totalities and the `and` that joins them are nodes like the others.
@@ -37,10 +38,9 @@ pub record Allowed : Type 0 where
   pub answer : Result ℕ
   pub allowances : List ℕ
 
-unfoldable pub allowedFrom : Result Problem → List ℕ → Allowed
+unfoldable pub allowedFrom : Result (Ready (Unit {0})) → List ℕ → Allowed
 allowedFrom (refused k place) old = record { answer = refused k place; allowances = old }
-allowedFrom (accepted p) old = record { answer = accepted zero; allowances = written (allowancesOf p) old }
+allowedFrom (accepted r) old = record { answer = accepted zero; allowances = written (allowancesOf (r .problem)) old }
 
-unfoldable pub allowances : List ℕ → List ℕ → List ℕ → Allowed
-allowances question site old =
-    allowedFrom (readProblem question site >>= λ p. roomFor (length (chosenNumbers p)) (length old) >>= λ _. accepted p) old
+unfoldable pub allowances : CaseLimits → List ℕ → List ℕ → List ℕ → Allowed
+allowances L question site old = allowedFrom (asked L question site nothing nothing nothing (λ p. roomFor (length (chosenNumbers p)) (length old))) old

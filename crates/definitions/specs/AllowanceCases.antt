@@ -6,6 +6,7 @@ use mathlib.Core.Bool.{Bool, true, false, _&&_}
 use mathlib.Core.List.{List, [], _∷_}
 use lib.ListN.{length, getD}
 use lib.Dec.{eqb}
+use Rattle.definitions.specs.Limits.{usual}
 use Rattle.definitions.specs.Lists.{all, same, below}
 use Rattle.definitions.specs.Text.{bytes}
 use Rattle.definitions.specs.Refusal.{Result, refused, accepted}
@@ -27,15 +28,15 @@ builtBoth (accepted a) (refused k place) by = false
 builtBoth (accepted a) (accepted b) by = eqb (length (b .steps)) (length (a .steps) + by)
 
 unfoldable pub planFor : String → String → String → Result Plan
-planFor q s picks = plan (bytes q) (bytes s) (asText (bytes picks)) 8 64
+planFor q s picks = plan usual (bytes q) (bytes s) (asText (bytes picks)) 8 64
 
 unfoldable pub isSo : Claim → Bool
 isSo (allows q s before after) =
-    let a = allowances (bytes q) (bytes s) before in answerMatches (a .answer) 0 && same (a .allowances) after
+    let a = allowances usual (bytes q) (bytes s) before in answerMatches (a .answer) 0 && same (a .allowances) after
 isSo (refuses q s before k place) =
-    let a = allowances (bytes q) (bytes s) before in refusalMatches (a .answer) k place && same (a .allowances) before
+    let a = allowances usual (bytes q) (bytes s) before in refusalMatches (a .answer) k place && same (a .allowances) before
 isSo (moves q s few more i by allowed) =
-    builtBoth (planFor q s few) (planFor q s more) by && eqb (getD (allowances (bytes q) (bytes s) (below 4) .allowances) i 0) allowed
+    builtBoth (planFor q s few) (planFor q s more) by && eqb (getD (allowances usual (bytes q) (bytes s) (below 4) .allowances) i 0) allowed
 
 -- two `choose` lines of which the rule has one; one in a literal that is negated; a rule that is true without its second part
 unfoldable pub unusedQ : String

@@ -54,6 +54,7 @@ problemWith c t = record { source = c; size = c .site .size; range = membersOf c
 unfoldable pub problemOf : Case → Problem
 problemOf c = problemWith c (treeOf (c .question))
 
+-- (No atom or action has a number of a relation, or of a node, that is not there.)
 unfoldable pub relationAt : Problem → ℕ → Relation
 relationAt p r = getD (p .relations) r (record { name = []; arity = zero; kind = static })
 
@@ -107,7 +108,8 @@ atoms p = countOf (atomBlocks p)
 unfoldable pub nodeAtoms : Problem → ℕ
 nodeAtoms p = countOf (nodesBlocks (p .size) (p .nodeList))
 
--- the number of an atom: the atoms before its relation or node, and its place there
+-- the number of an atom: the atoms before its relation or node, and its place there. (The order stands here and in `atomBlocks`;
+-- `laws`, `Numbers`, shows that these are one.)
 unfoldable pub relationStart : Problem → ℕ → ℕ
 relationStart p r = 3 + countOf (relationsBlocks (p .size) (take r (p .relations)))
 

@@ -45,6 +45,7 @@ isTrueAt p picks (orNode ts) row = treeHolds (p .source) picks (valuesAt (p .siz
 unfoldable pub least : {A : Type 0} → (A → Bool) → List A → ℕ
 least test xs = option (position test xs) zero (λ i. i)
 
+-- the step of a true atom (a literal has none, and is never asked)
 unfoldable pub stepFor : Problem → List Tuple → ℕ → Tree → ℕ → Action
 stepFor p picks v (leaf q r ls) row = proveGoal
 stepFor p picks v (forallNode d s t) row = proveForall v (row / p .size) (row % p .size)

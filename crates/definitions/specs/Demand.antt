@@ -9,24 +9,25 @@
 use Prim.Native.Nat.{ℕ}
 use mathlib.Core.Bool.{Bool, true, false, _&&_}
 use mathlib.Core.List.{List}
+use Rattle.definitions.specs.Limits.{CaseLimits}
 use Rattle.definitions.specs.Lists.{all}
 use Rattle.definitions.specs.Refusal.{Result, refused, accepted, _>>=_}
 use Rattle.definitions.specs.Relations.{Tuple, isAmong}
 use Rattle.definitions.specs.Strips.{run}
-use Rattle.definitions.specs.Outcome.{readProblem, Given, readyToRun}
+use Rattle.definitions.specs.Outcome.{readProblem, nothing, Given, readyToRun}
 
 unfoldable pub isAccepted : {A : Type 0} → Result A → Bool
 isAccepted (refused k place) = false
 isAccepted (accepted a) = true
 
 -- a question and a site are accepted: nothing in the two texts makes checking steps refuse
-unfoldable pub caseIsAccepted : List ℕ → List ℕ → Bool
-caseIsAccepted question site = isAccepted (readProblem question site)
+unfoldable pub caseIsAccepted : CaseLimits → List ℕ → List ℕ → Bool
+caseIsAccepted L question site = isAccepted (readProblem L question site)
 
 -- steps are accepted: checking them refuses nothing
-unfoldable pub stepsAreAccepted : List ℕ → List ℕ → Given → Bool
-stepsAreAccepted question site steps =
-    isAccepted (readyToRun question site steps (λ _. accepted tt) >>= λ r. run (r .problem) (r .steps) .answer)
+unfoldable pub stepsAreAccepted : CaseLimits → List ℕ → List ℕ → Given → Bool
+stepsAreAccepted L question site steps =
+    isAccepted (readyToRun L question site steps nothing >>= λ r. run (r .problem) (r .third) .answer)
 
 -- two lists hold the same tuples, in whatever order
 unfoldable pub areSamePicks : List Tuple → List Tuple → Bool

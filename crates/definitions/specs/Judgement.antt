@@ -1,22 +1,16 @@
 -- Document 02, "Yes or no while the caller waits": whether the rule is true of picks, without steps.
 use Prim.Native.Nat.{ℕ, zero}
-use mathlib.Core.Bool.{not}
 use mathlib.Core.List.{List}
-use Rattle.definitions.specs.Refusal.{Result, refused, accepted, _>>=_, refuseIf}
-use Rattle.definitions.specs.Truth.{ruleIsTrue, firstOfOtherKind}
-use Rattle.definitions.specs.Outcome.{readCase, ground, Given, textPicks, picksRoom, takePicks, kindRefusal}
+use Rattle.definitions.specs.Limits.{CaseLimits}
+use Rattle.definitions.specs.Refusal.{Result, refused, accepted, _>>=_}
+use Rattle.definitions.specs.Outcome.{asked, nothing, Given, textPicks, picksRoom, satisfying}
 
 -- Refusals come in the order in which building has them: the question, the site, the picks' text, 11, 12 where lent picks are too
 -- short, 10, 16, 17. No other buffer is lent. A yes is 0, place 0.
-unfoldable pub judge : (question site : List ℕ) → Given → Result ℕ
-judge question site picks = do
-  c ← readCase question site
-  read ← textPicks c picks
-  p ← ground c
-  _ ← picksRoom p picks
-  tuples ← takePicks p picks read
-  _ ← kindRefusal (firstOfOtherKind c tuples)
-  _ ← refuseIf (not (ruleIsTrue c tuples)) 17 zero
+unfoldable pub judge : CaseLimits → (question site : List ℕ) → Given → Result ℕ
+judge L question site picks = do
+  r ← asked L question site (λ c. textPicks c picks) nothing nothing (λ p. picksRoom p picks)
+  _ ← satisfying (r .case) (r .problem) picks (r .third)
   accepted zero
 
 -- an answer without its count

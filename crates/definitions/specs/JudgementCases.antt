@@ -4,6 +4,7 @@ use Prim.Native.Nat.{ℕ}
 use Prim.Native.String.{String}
 use mathlib.Core.Bool.{Bool, true}
 use mathlib.Core.List.{List, [], _∷_}
+use Rattle.definitions.specs.Limits.{usual}
 use Rattle.definitions.specs.Lists.{all}
 use Rattle.definitions.specs.Text.{bytes}
 use Rattle.definitions.specs.Outcome.{Given, asText, asNumbers}
@@ -24,7 +25,7 @@ unfoldable pub judged : (question site : String) → Given → (number place : �
 judged question site picks number place = record { question = question; site = site; picks = picks; number = number; place = place }
 
 unfoldable pub isSo : Row → Bool
-isSo row = replies (judge (bytes (row .question)) (bytes (row .site)) (row .picks)) (row .number) (row .place)
+isSo row = replies (judge usual (bytes (row .question)) (bytes (row .site)) (row .picks)) (row .number) (row .place)
 
 -- a plain relation whose tuples leave spare bits, and a function kind of which two picks may be too many
 unfoldable pub bothQ : String

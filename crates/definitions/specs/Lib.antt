@@ -3,7 +3,7 @@
 -- formula is the inverse of writing it.
 --
 --   Limits, Lists                  every limit by name; plain functions on lists
---   "The sheets"                   Text, Relations, Formula, Sheets
+--   "The sheets"                   Text, Relations, Formula, Sheets (Parsing reads a formula, and need not be believed)
 --   "From rule to tree"            Formula (what is counted), Tree
 --   "Atoms"                        Atoms
 --   "Actions"                      Actions, Strips (taking steps), Built (built steps, the bound)
@@ -22,6 +22,7 @@ pub mod Text
 pub mod Refusal
 pub mod Relations
 pub mod Formula
+pub mod Parsing
 pub mod Writing
 pub mod Sheets
 pub mod Truth

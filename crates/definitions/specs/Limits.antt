@@ -2,7 +2,7 @@
 use Prim.Native.Nat.{ℕ}
 
 -- "The sheets": bytes of a text, digits of a number, bytes of a relation's name and of a variable, arity, lines of each kind,
--- variables in one list, brackets open at one time, elements
+-- variables in one list, brackets open at one time
 abbrev pub textLimit : ℕ
 textLimit = 65536
 
@@ -30,9 +30,6 @@ listLimit = 4
 abbrev pub bracketLimit : ℕ
 bracketLimit = 128
 
-abbrev pub elementLimit : ℕ
-elementLimit = 16
-
 -- "From rule to tree": forms, quantifiers one inside another
 abbrev pub formLimit : ℕ
 formLimit = 64
@@ -40,17 +37,21 @@ formLimit = 64
 abbrev pub nestingLimit : ℕ
 nestingLimit = 4
 
--- "Atoms", "Actions", "Refusal sheet": atoms, actions, steps handed over
-abbrev pub atomLimit : ℕ
-atomLimit = 65536
+-- "The sheets", "Atoms", "Actions": how many elements, atoms and actions a case may have. What is read and grounded takes these as one
+-- record, so that one caller may have others than another.
+pub record CaseLimits : Type 0 where
+  pub elements : ℕ
+  pub atoms : ℕ
+  pub actions : ℕ
 
-abbrev pub actionLimit : ℕ
-actionLimit = 131072
+abbrev pub usual : CaseLimits
+usual = record { elements = 16; atoms = 65536; actions = 131072 }
 
+-- "Refusal sheet": steps handed over
 abbrev pub stepLimit : ℕ
 stepLimit = 65536
 
--- "The desk program": bytes it reads, steps it has space for, words of its state (enough for `atomLimit` atoms)
+-- "The desk program": bytes it reads, steps it has space for, words of its state (enough for all the atoms of a usual case)
 abbrev pub deskBytes : ℕ
 deskBytes = 16384
 

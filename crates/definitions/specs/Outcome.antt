@@ -5,7 +5,7 @@ use mathlib.Core.Option.{Option, none, some}
 use mathlib.Core.List.{List, [], _∷_, _++_, map}
 use lib.ListN.{length, drop, getD}
 use lib.Dec.{eqb, leb, ltb}
-use Rattle.definitions.specs.Limits.{atomLimit, actionLimit, stepLimit}
+use Rattle.definitions.specs.Limits.{CaseLimits, stepLimit}
 use Rattle.definitions.specs.Lists.{if_then_else_, any, filter, option, position, below, from, sum, flatMap}
 use Rattle.definitions.specs.Refusal.{Result, refused, accepted, _>>=_, refuseIf, given}
 use Rattle.definitions.specs.Relations.{Tuple}
@@ -16,31 +16,62 @@ use Rattle.definitions.specs.Actions.{Action, actions, actionAt}
 use Rattle.definitions.specs.Strips.{run, picksOf}
 use Rattle.definitions.specs.Built.{isPicked, chosenNumbers, builtSteps, bound}
 
--- ---- a reply in the paper's numbers: a refusal is its number and place, success is 0 and the step count
-unfoldable pub replyNumber : Result ℕ → ℕ
+-- ---- a reply in the paper's numbers: a refusal is its number and place; success is 0 and the step count, or 0 and 0 where no steps
+-- are counted, and the numbers of what was asked for (of sizes they are its fields, of an action `Actions.actionKind` and the three
+-- after it), which stay as they were where the call is refused
+unfoldable pub replyNumber : {A : Type 0} → Result A → ℕ
 replyNumber (refused k place) = k
-replyNumber (accepted count) = zero
+replyNumber (accepted a) = zero
 
 unfoldable pub replyPlace : Result ℕ → ℕ
 replyPlace (refused k place) = place
 replyPlace (accepted count) = count
 
--- ---- what every call begins with: the question is read, then the site
+unfoldable pub refusalPlace : {A : Type 0} → Result A → ℕ
+refusalPlace (refused k place) = place
+refusalPlace (accepted a) = zero
 
-unfoldable pub readCase : List ℕ → List ℕ → Result Case
-readCase question site = do
+unfoldable pub told : {A : Type 0} → (A → ℕ) → Result A → ℕ → ℕ
+told f (refused k place) old = old
+told f (accepted a) old = f a
+
+-- ---- reading a case: the question, then the site; L are the limits of its size
+
+unfoldable pub readCase : CaseLimits → List ℕ → List ℕ → Result Case
+readCase L question site = do
   q ← readQuestion question
-  s ← readSite (q .rels) site
+  s ← readSite L (q .rels) site
   accepted (record { question = q; site = s })
 
 -- 11: too many atoms or actions
-unfoldable pub ground : Case → Result Problem
-ground c =
+unfoldable pub ground : CaseLimits → Case → Result Problem
+ground L c =
     let p = problemOf c in
-    refuseIf (ltb atomLimit (atoms p) || ltb actionLimit (actions p)) 11 zero >>= λ _. accepted p
+    refuseIf (ltb (L .atoms) (atoms p) || ltb (L .actions) (actions p)) 11 zero >>= λ _. accepted p
 
-unfoldable pub readProblem : List ℕ → List ℕ → Result Problem
-readProblem question site = readCase question site >>= ground
+unfoldable pub readProblem : CaseLimits → List ℕ → List ℕ → Result Problem
+readProblem L question site = readCase L question site >>= ground L
+
+-- ---- What every call begins with, and the order of its refusals: the question, the site, the third input (picks or steps, where
+-- there is one), what is tested of the case before 11, 11, what is tested of it after 11, the lent buffers.
+pub record Ready (A : Type 0) : Type 0 where
+  pub case : Case
+  pub problem : Problem
+  pub third : A
+
+unfoldable pub asked : {A : Type 0} → CaseLimits → List ℕ → List ℕ → (Case → Result A) → (early late : Case → Result (Unit {0})) → (Problem → Result (Unit {0})) → Result (Ready A)
+asked L question site third early late rooms = do
+  c ← readCase L question site
+  t ← third c
+  _ ← early c
+  p ← ground L c
+  _ ← late c
+  _ ← rooms p
+  accepted (record { case = c; problem = p; third = t })
+
+-- nothing is tested, or no third input is handed over
+unfoldable pub nothing : {B : Type 0} → B → Result (Unit {0})
+nothing b = accepted tt
 
 -- 12: a lent buffer is too short; the place is the length that is needed
 unfoldable pub roomFor : ℕ → ℕ → Result (Unit {0})
@@ -75,12 +106,12 @@ pub record Sizes : Type 0 where
 unfoldable pub sizesOf : Problem → Sizes
 sizesOf p = record { elements = p .size; atomCount = atoms p; actionCount = actions p; stepBound = bound p }
 
-unfoldable pub sizes : List ℕ → List ℕ → Result Sizes
-sizes question site = readProblem question site >>= λ p. accepted (sizesOf p)
+unfoldable pub sizes : CaseLimits → List ℕ → List ℕ → Result Sizes
+sizes L question site = asked L question site nothing nothing nothing nothing >>= λ r. accepted (sizesOf (r .problem))
 
 -- ---- an action by its number; 13 and that number where there is none
-unfoldable pub action : List ℕ → List ℕ → ℕ → Result Action
-action question site k = readProblem question site >>= λ p. given (actionAt p k) 13 k
+unfoldable pub action : CaseLimits → List ℕ → List ℕ → ℕ → Result Action
+action L question site k = asked L question site nothing nothing nothing nothing >>= λ r. given (actionAt (r .problem) k) 13 k
 
 -- ---- picks as words: the rows of each `choose` as bits, as a state's atoms are, every `choose` from a new word on
 
@@ -148,31 +179,22 @@ takePicks p (asNumbers words) picks =
 
 -- ---- checking steps
 
-pub record Ready : Type 0 where
-  pub problem : Problem
-  pub steps : List ℕ
-
 -- everything before the steps go one by one; `rooms` tests the lent buffers
-unfoldable pub readyToRun : List ℕ → List ℕ → Given → (Problem → Result (Unit {0})) → Result Ready
-readyToRun question site steps rooms = do
-  c ← readCase question site
-  ks ← takeSteps steps
-  p ← ground c
-  _ ← rooms p
-  accepted (record { problem = p; steps = ks })
+unfoldable pub readyToRun : CaseLimits → List ℕ → List ℕ → Given → (Problem → Result (Unit {0})) → Result (Ready (List ℕ))
+readyToRun L question site steps rooms = asked L question site (λ c. takeSteps steps) nothing nothing rooms
 
 pub record Checked : Type 0 where
   pub answer : Result ℕ
   pub state : List ℕ
 
-unfoldable pub checkedFrom : Result Ready → List ℕ → Checked
+unfoldable pub checkedFrom : Result (Ready (List ℕ)) → List ℕ → Checked
 checkedFrom (refused k place) state = record { answer = refused k place; state = state }
 checkedFrom (accepted r) state =
-    let ran = run (r .problem) (r .steps) in
+    let ran = run (r .problem) (r .third) in
     record { answer = ran .answer; state = written (stateWords (r .problem) (ran .state)) state }
 
-unfoldable pub checkSteps : List ℕ → List ℕ → Given → List ℕ → Checked
-checkSteps question site steps state = checkedFrom (readyToRun question site steps (λ p. roomFor (stateLength p) (length state))) state
+unfoldable pub checkSteps : CaseLimits → List ℕ → List ℕ → Given → List ℕ → Checked
+checkSteps L question site steps state = checkedFrom (readyToRun L question site steps (λ p. roomFor (stateLength p) (length state))) state
 
 -- ---- reading picks from steps
 
@@ -185,19 +207,19 @@ unfoldable pub picksIfAccepted : Result ℕ → List ℕ → List ℕ → List �
 picksIfAccepted (refused k place) new old = old
 picksIfAccepted (accepted count) new old = written new old
 
-unfoldable pub picksReadFrom : Result Ready → List ℕ → List ℕ → PicksRead
+unfoldable pub picksReadFrom : Result (Ready (List ℕ)) → List ℕ → List ℕ → PicksRead
 picksReadFrom (refused k place) picks state = record { answer = refused k place; picks = picks; state = state }
 picksReadFrom (accepted r) picks state =
-    let ran = run (r .problem) (r .steps) in
+    let ran = run (r .problem) (r .third) in
     record {
       answer = ran .answer;
-      picks = picksIfAccepted (ran .answer) (pickWords (r .problem) (picksOf (r .problem) (r .steps))) picks;
+      picks = picksIfAccepted (ran .answer) (pickWords (r .problem) (picksOf (r .problem) (r .third))) picks;
       state = written (stateWords (r .problem) (ran .state)) state;
     }
 
-unfoldable pub picksFromSteps : List ℕ → List ℕ → Given → List ℕ → List ℕ → PicksRead
-picksFromSteps question site steps picks state = picksReadFrom
-    (readyToRun question site steps (λ p.
+unfoldable pub picksFromSteps : CaseLimits → List ℕ → List ℕ → Given → List ℕ → List ℕ → PicksRead
+picksFromSteps L question site steps picks state = picksReadFrom
+    (readyToRun L question site steps (λ p.
     roomFor (picksLength p) (length picks) >>= λ _. roomFor (stateLength p) (length state))) picks state
 
 -- ---- building steps from picks
@@ -207,24 +229,25 @@ unfoldable pub kindRefusal : Option ℕ → Result (Unit {0})
 kindRefusal none = accepted tt
 kindRefusal (some i) = refused 16 i
 
+-- the picks that are taken, of the declared kinds, and of which the rule is true: 10, 16, 17
+unfoldable pub satisfying : Case → Problem → Given → List Tuple → Result (List Tuple)
+satisfying c p picks read = do
+  tuples ← takePicks p picks read
+  _ ← kindRefusal (firstOfOtherKind c tuples)
+  _ ← refuseIf (not (ruleIsTrue c tuples)) 17 zero
+  accepted tuples
+
 pub record Plan : Type 0 where
   pub problem : Problem
   pub picks : List Tuple
   pub steps : List ℕ
 
 -- The refusals of building in their order: the texts, 11, 12 (lent picks, state, steps; the steps need the bound), 10, 16, 17.
-unfoldable pub plan : List ℕ → List ℕ → Given → ℕ → ℕ → Result Plan
-plan question site picks stateRoom stepsRoom = do
-  c ← readCase question site
-  read ← textPicks c picks
-  p ← ground c
-  _ ← picksRoom p picks
-  _ ← roomFor (stateLength p) stateRoom
-  _ ← roomFor (bound p) stepsRoom
-  tuples ← takePicks p picks read
-  _ ← kindRefusal (firstOfOtherKind c tuples)
-  _ ← refuseIf (not (ruleIsTrue c tuples)) 17 zero
-  accepted (record { problem = p; picks = tuples; steps = builtSteps p tuples })
+unfoldable pub plan : CaseLimits → List ℕ → List ℕ → Given → ℕ → ℕ → Result Plan
+plan L question site picks stateRoom stepsRoom = do
+  r ← asked L question site (λ c. textPicks c picks) nothing nothing (λ p. picksRoom p picks >>= λ _. roomFor (stateLength p) stateRoom >>= λ _. roomFor (bound p) stepsRoom)
+  tuples ← satisfying (r .case) (r .problem) picks (r .third)
+  accepted (record { problem = r .problem; picks = tuples; steps = builtSteps (r .problem) tuples })
 
 pub record Built : Type 0 where
   pub answer : Result ℕ
@@ -240,5 +263,5 @@ builtFrom (accepted b) state steps =
       steps = written (b .steps) steps;
     }
 
-unfoldable pub buildSteps : List ℕ → List ℕ → Given → List ℕ → List ℕ → Built
-buildSteps question site picks state steps = builtFrom (plan question site picks (length state) (length steps)) state steps
+unfoldable pub buildSteps : CaseLimits → List ℕ → List ℕ → Given → List ℕ → List ℕ → Built
+buildSteps L question site picks state steps = builtFrom (plan L question site picks (length state) (length steps)) state steps

@@ -4,7 +4,7 @@
 --    3  Sheets.addRel, addChoose, addRule, addSize, addFact; another sheet's record: addToQuestion, addToSite, addToPicks,
 --       addToSteps; missing: readQuestion, readSite
 --    4  Sheets.isNewName
---    5  Formula.readFormula
+--    5  Parsing.readFormula
 --    6  Formula.allForms, Formula.nesting
 --    7  Formula.isKnown in the rule, Sheets.used in `fact` and `pick`
 --    8  Formula.isScoped
@@ -13,8 +13,8 @@
 --   11  Outcome.ground
 --   12  Outcome.roomFor
 --   13, 14, 15  Strips.runFrom; an action asked for by number: Outcome.action
---   16  Truth.firstOfOtherKind, by Outcome.plan
---   17  Truth.ruleIsTrue, by Outcome.plan
+--   16  Truth.firstOfOtherKind, by Outcome.satisfying
+--   17  Truth.ruleIsTrue, by Outcome.satisfying
 use Prim.Native.Nat.{ℕ, zero}
 use mathlib.Core.Bool.{Bool, true, false}
 use mathlib.Core.Option.{Option, none, some}
@@ -52,3 +52,17 @@ readLines line s (l ∷ ls) = line s l >>= λ s′. readLines line s′ ls
 
 unfoldable pub readText : {S : Type 0} → (S → Line → Result S) → S → List ℕ → Result S
 readText line s text = refuseIf (ltb textLimit (length text)) 1 zero >>= λ _. readLines line s (lines text)
+
+-- ---- the numbers that a call may refuse with: where no problem is made of the texts; or a lent buffer is too short; steps that are
+-- taken one by one; picks that are handed over
+abbrev pub caseNumbers : List ℕ
+caseNumbers = 1 ∷ 2 ∷ 3 ∷ 4 ∷ 5 ∷ 6 ∷ 7 ∷ 8 ∷ 9 ∷ 10 ∷ 11 ∷ []
+
+abbrev pub readyNumbers : List ℕ
+readyNumbers = 12 ∷ caseNumbers
+
+abbrev pub runNumbers : List ℕ
+runNumbers = 13 ∷ 14 ∷ 15 ∷ []
+
+abbrev pub picksNumbers : List ℕ
+picksNumbers = 10 ∷ 16 ∷ 17 ∷ []

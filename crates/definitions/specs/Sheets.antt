@@ -6,12 +6,13 @@ use mathlib.Core.Option.{Option, none, some}
 use mathlib.Core.List.{List, [], _∷_, _++_}
 use lib.ListN.{length}
 use lib.Dec.{eqb, leb, ltb}
-use Rattle.definitions.specs.Limits.{arityLimit, relLimit, chooseLimit, elementLimit, formLimit, nestingLimit}
+use Rattle.definitions.specs.Limits.{arityLimit, relLimit, chooseLimit, formLimit, nestingLimit, CaseLimits}
 use Rattle.definitions.specs.Lists.{if_then_else_, all, same, isEmpty, option, position}
 use Rattle.definitions.specs.Text.{bytes, Line, fields, number, isRelationName, isBetween}
 use Rattle.definitions.specs.Refusal.{Result, refused, accepted, _>>=_, refuseIf, given, readText}
 use Rattle.definitions.specs.Relations.{Kind, static, plain, Fun, PFun, Inj, PInj, Relation, Tuple, isAmong, builtIn, isDeclared}
-use Rattle.definitions.specs.Formula.{Formula, readFormula, allForms, nesting, isKnown, isScoped}
+use Rattle.definitions.specs.Formula.{Formula, allForms, nesting, isKnown, isScoped}
+use Rattle.definitions.specs.Parsing.{readFormula}
 
 -- ---- the records of all sheets, by their form
 
@@ -155,10 +156,10 @@ relationsOf q = relations (q .rels) (q .chosen)
 
 -- the number of the first `rel`, and of the first `choose`
 unfoldable pub firstRel : ℕ
-firstRel = 5
+firstRel = length builtIn
 
 unfoldable pub firstChosen : Question → ℕ
-firstChosen q = 5 + length (q .rels)
+firstChosen q = firstRel + length (q .rels)
 
 -- ---- a tuple in a line: 7, 9 and 10
 
@@ -186,10 +187,10 @@ pub record Site : Type 0 where
   pub size : ℕ
   pub facts : List Tuple
 
--- a `size` line: 3 if it is the second, 9 if n is not 1 to 16
-unfoldable pub addSize : SiteDraft → ℕ → ℕ → Option ℕ → Result SiteDraft
-addSize d at n none = refuseIf (not (isBetween 1 elementLimit n)) 9 at >>= λ _. accepted (record { sized = some n; facts = d .facts })
-addSize d at n (some m) = refused 3 at
+-- a `size` line: 3 if it is the second, 9 if n is 0 or more than the limit
+unfoldable pub addSize : CaseLimits → SiteDraft → ℕ → ℕ → Option ℕ → Result SiteDraft
+addSize L d at n none = refuseIf (not (isBetween 1 (L .elements) n)) 9 at >>= λ _. accepted (record { sized = some n; facts = d .facts })
+addSize L d at n (some m) = refused 3 at
 
 -- a `fact` line: 3 before `size`
 unfoldable pub addFact : List Relation → SiteDraft → ℕ → List ℕ → List ℕ → Result SiteDraft
@@ -198,21 +199,21 @@ addFact rels d at name xs = do
   facts ← addTuple rels firstRel n (d .facts) at name xs
   accepted (record { sized = d .sized; facts = facts })
 
-unfoldable pub addToSite : List Relation → SiteDraft → ℕ → Entry → Result SiteDraft
-addToSite rels d at (rel name arity) = refused 3 at
-addToSite rels d at (choose name arity kind) = refused 3 at
-addToSite rels d at (rule text) = refused 3 at
-addToSite rels d at (size n) = addSize d at n (d .sized)
-addToSite rels d at (fact name xs) = addFact rels d at name xs
-addToSite rels d at (pick name xs) = refused 3 at
-addToSite rels d at (step k) = refused 3 at
+unfoldable pub addToSite : CaseLimits → List Relation → SiteDraft → ℕ → Entry → Result SiteDraft
+addToSite L rels d at (rel name arity) = refused 3 at
+addToSite L rels d at (choose name arity kind) = refused 3 at
+addToSite L rels d at (rule text) = refused 3 at
+addToSite L rels d at (size n) = addSize L d at n (d .sized)
+addToSite L rels d at (fact name xs) = addFact rels d at name xs
+addToSite L rels d at (pick name xs) = refused 3 at
+addToSite L rels d at (step k) = refused 3 at
 
-unfoldable pub siteLine : List Relation → SiteDraft → Line → Result SiteDraft
-siteLine rels d l = entryOf l >>= addToSite rels d (l .at)
+unfoldable pub siteLine : CaseLimits → List Relation → SiteDraft → Line → Result SiteDraft
+siteLine L rels d l = entryOf l >>= addToSite L rels d (l .at)
 
-unfoldable pub readSite : List Relation → List ℕ → Result Site
-readSite rels text = do
-  d ← readText (siteLine rels) (record { sized = none; facts = [] }) text
+unfoldable pub readSite : CaseLimits → List Relation → List ℕ → Result Site
+readSite L rels text = do
+  d ← readText (siteLine L rels) (record { sized = none; facts = [] }) text
   n ← given (d .sized) 3 (length text)
   accepted (record { size = n; facts = d .facts })
 

@@ -3,6 +3,7 @@ use Prim.Native.Nat.{ℕ, zero, suc, _+_, _*_}
 use mathlib.Core.List.{List, [], _∷_, _++_, map}
 use lib.ListN.{length}
 use Rattle.definitions.specs.Lists.{sum}
+use Rattle.definitions.specs.Limits.{CaseLimits}
 use Rattle.definitions.specs.Refusal.{Result, accepted, _>>=_}
 use Rattle.definitions.specs.Tree.{Tree, Trees, leaf, forallNode, existsNode, andNode, orNode, end, _then_, Part, howMany}
 use Rattle.definitions.specs.Atoms.{Problem, problemOf, rowsOf, countOf, relationsBlocks}
@@ -17,8 +18,8 @@ pub record Walk : Type 0 where
   pub atomCount : ℕ
   pub actionCount : ℕ
 
-unfoldable pub nothing : Walk
-nothing = record { visited = []; atomCount = zero; actionCount = zero }
+unfoldable pub noWalk : Walk
+noWalk = record { visited = []; atomCount = zero; actionCount = zero }
 
 -- one walk after another
 unfoldable pub thenWalk : Walk → Walk → Walk
@@ -33,14 +34,14 @@ visit v t rows a k = record { visited = record { node = v; tree = t } ∷ []; at
 -- `and` one, an `or` one for each part.
 unfoldable mutual
   pub walk : ℕ → (ℕ → List ℕ) → ℕ → Tree → Walk
-  walk n R v (leaf p r ls) = nothing
+  walk n R v (leaf p r ls) = noWalk
   walk n R v (forallNode d s t) = thenWalk (visit v (forallNode d s t) (rowsOf n (forallNode d s t)) n (length (R s))) (walk n R (suc v) t)
   walk n R v (existsNode d s t) = thenWalk (visit v (existsNode d s t) (rowsOf n (existsNode d s t)) 1 (length (R s))) (walk n R (suc v) t)
   walk n R v (andNode ts) = thenWalk (visit v (andNode ts) (rowsOf n (andNode ts)) 1 1) (walkAll n R (suc v) ts)
   walk n R v (orNode ts) = thenWalk (visit v (orNode ts) (rowsOf n (orNode ts)) 1 (howMany ts)) (walkAll n R (suc v) ts)
 
   pub walkAll : ℕ → (ℕ → List ℕ) → ℕ → Trees → Walk
-  walkAll n R v end = nothing
+  walkAll n R v end = noWalk
   walkAll n R v (t then ts) = thenWalk (walk n R v t) (walkAll n R (v + length (walk n R v t .visited)) ts)
 
 -- ---- the counts of a problem: beside what the walk gives, three atoms of the phases and those of the relations; the set actions,
@@ -66,5 +67,5 @@ tallyOf p =
     }
 
 -- the tally of two texts that a case is read from, be it over the limits of 11 or not
-unfoldable pub tally : List ℕ → List ℕ → Result Tally
-tally question site = readCase question site >>= λ c. accepted (tallyOf (problemOf c))
+unfoldable pub tally : CaseLimits → List ℕ → List ℕ → Result Tally
+tally L question site = readCase L question site >>= λ c. accepted (tallyOf (problemOf c))

@@ -5,6 +5,7 @@ use Prim.Native.String.{String, _++_ as _<>_}
 use mathlib.Core.Bool.{Bool, true, false, _&&_}
 use mathlib.Core.List.{List, [], _∷_, map}
 use lib.Dec.{eqb}
+use Rattle.definitions.specs.Limits.{usual}
 use Rattle.definitions.specs.Lists.{all, same}
 use Rattle.definitions.specs.Text.{bytes}
 use Rattle.definitions.specs.Refusal.{Result, refused, accepted}
@@ -32,9 +33,9 @@ visitsMatch (refused k place) numbers = false
 visitsMatch (accepted c) numbers = same (map (λ (q : Part). q .node) (walked (problemOf c) .visited)) numbers
 
 unfoldable pub isSo : Claim → Bool
-isSo (counts q s v a b c) = countsMatch (tally (bytes q) (bytes s)) v a b c
-isSo (refuses q s k place) = refusalMatches (tally (bytes q) (bytes s)) k place
-isSo (visits q s numbers) = visitsMatch (readCase (bytes q) (bytes s)) numbers
+isSo (counts q s v a b c) = countsMatch (tally usual (bytes q) (bytes s)) v a b c
+isSo (refuses q s k place) = refusalMatches (tally usual (bytes q) (bytes s)) k place
+isSo (visits q s numbers) = visitsMatch (readCase usual (bytes q) (bytes s)) numbers
 
 -- one `or` of three parts under four quantifiers, and further ones around it
 unfoldable pub wideQ : String

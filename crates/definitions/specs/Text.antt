@@ -10,8 +10,8 @@ use lib.Dec.{eqb, leb}
 use Rattle.definitions.specs.Limits.{digitLimit, nameLimit, variableLimit}
 use Rattle.definitions.specs.Lists.{if_then_else_, all, isEmpty}
 
--- a quoted ASCII text as its bytes
-unfoldable pub bytes : String → List ℕ
+-- a quoted ASCII text as its bytes (it stands for them wherever it is written)
+abbrev pub bytes : String → List ℕ
 bytes ε = []
 bytes (c ∶ s) = code c ∷ bytes s
 

@@ -28,6 +28,7 @@ unfoldable pub nest : (ℕ → ℕ → Tree → Tree) → ℕ → List ℕ → T
 nest quantifier level [] t = t
 nest quantifier level (s ∷ sorts) t = quantifier level s (nest quantifier (suc level) sorts t)
 
+-- (7 refuses a relation that is unknown, 8 a variable that is not bound: neither is ever given number 0 or level 0 for that.)
 unfoldable pub leafOf : Bool → List Relation → List (List ℕ) → List ℕ → List (List ℕ) → Tree
 leafOf positive rs scope r vs = leaf positive (option (numberOf rs r) zero (λ k. k)) (map (λ v. option (position (same v) scope) zero (λ k. k)) vs)
 

@@ -3,11 +3,11 @@ use Prim.Native.Nat.{ℕ, zero, _+_}
 use mathlib.Core.List.{List, map}
 use lib.ListN.{length, take, drop}
 use lib.Dec.{ltb}
-use Rattle.definitions.specs.Limits.{stepLimit}
+use Rattle.definitions.specs.Limits.{CaseLimits, stepLimit}
 use Rattle.definitions.specs.Refusal.{Result, refused, accepted, _>>=_, refuseIf}
 use Rattle.definitions.specs.Atoms.{Problem, initial, stateWords}
 use Rattle.definitions.specs.Strips.{run}
-use Rattle.definitions.specs.Outcome.{replyNumber, replyPlace, readProblem, roomFor, stateLength, written}
+use Rattle.definitions.specs.Outcome.{replyNumber, replyPlace, Ready, asked, nothing, roomFor, stateLength, written}
 
 -- A record: its list are `len` of the lent steps, from the index `first` on; its reply is a number and a place.
 pub record Try : Type 0 where
@@ -37,16 +37,14 @@ pub record Tried : Type 0 where
   pub tries : List Try
   pub state : List ℕ
 
-unfoldable pub readyToTry : List ℕ → List ℕ → ℕ → Result Problem
-readyToTry question site room = do
-  p ← readProblem question site
-  _ ← roomFor (stateLength p) room
-  accepted p
+unfoldable pub readyToTry : CaseLimits → List ℕ → List ℕ → ℕ → Result (Ready (Unit {0}))
+readyToTry L question site room = asked L question site nothing nothing nothing (λ p. roomFor (stateLength p) room)
 
-unfoldable pub triedFrom : Result Problem → List ℕ → List Try → List ℕ → Tried
+unfoldable pub triedFrom : Result (Ready (Unit {0})) → List ℕ → List Try → List ℕ → Tried
 triedFrom (refused k place) steps tries state = record { answer = refused k place; tries = tries; state = state }
-triedFrom (accepted p) steps tries state =
+triedFrom (accepted r) steps tries state =
+    let p = r .problem in
     record { answer = accepted zero; tries = map (tried p steps) tries; state = written (stateWords p (initial p)) state }
 
-unfoldable pub tryLists : List ℕ → List ℕ → List ℕ → List Try → List ℕ → Tried
-tryLists question site steps tries state = triedFrom (readyToTry question site (length state)) steps tries state
+unfoldable pub tryLists : CaseLimits → List ℕ → List ℕ → List ℕ → List Try → List ℕ → Tried
+tryLists L question site steps tries state = triedFrom (readyToTry L question site (length state)) steps tries state

@@ -6,6 +6,7 @@ use Prim.Native.String.{String}
 use mathlib.Core.Bool.{Bool, true, _&&_}
 use mathlib.Core.List.{List, [], _∷_}
 use lib.Dec.{eqb}
+use Rattle.definitions.specs.Limits.{usual}
 use Rattle.definitions.specs.Lists.{all, same, flatMap}
 use Rattle.definitions.specs.Text.{bytes}
 use Rattle.definitions.specs.Outcome.{replyNumber, replyPlace}
@@ -31,7 +32,7 @@ pub record Row : Type 0 where
 
 unfoldable pub isSo : Row → Bool
 isSo row =
-    let r = tryLists (bytes (row .question)) (bytes (row .site)) (row .steps) (row .lists) (row .state) in
+    let r = tryLists usual (bytes (row .question)) (bytes (row .site)) (row .steps) (row .lists) (row .state) in
     eqb (replyNumber (r .answer)) (row .number) && eqb (replyPlace (r .answer)) (row .place)
     && same (flatMap (λ t. t .first ∷ t .len ∷ t .number ∷ t .place ∷ []) (r .tries)) (row .after) && same (r .state) (row .left)
 

@@ -1,5 +1,5 @@
 -- Document 01, "The words of demand 3": truth of the rule and the declared kinds, read off the sheets.
-use Prim.Native.Nat.{ℕ, zero, suc, _+_, _-_}
+use Prim.Native.Nat.{ℕ, zero, _+_, _-_}
 use mathlib.Core.Bool.{Bool, true, false, not, _&&_, _||_}
 use mathlib.Core.Option.{Option}
 use mathlib.Core.List.{List, [], _∷_, map}
@@ -8,7 +8,7 @@ use lib.Dec.{eqb, leb, ltb}
 use Rattle.definitions.specs.Lists.{if_then_else_, all, any, same, option, position, mapFrom, below}
 use Rattle.definitions.specs.Relations.{static, Relation, Tuple, isAmong, areDistinct, builtInHolds, numberOf, isFunction, isInjective, isTotal}
 use Rattle.definitions.specs.Formula.{Formula, Formulas, literal, negation, implication, conjunction, disjunction, exists, forall, nil, cons, sortOf}
-use Rattle.definitions.specs.Sheets.{Question, Site, relationsOf, firstChosen}
+use Rattle.definitions.specs.Sheets.{Question, Site, relationsOf, firstRel, firstChosen}
 
 -- A case: its question and its site.
 pub record Case : Type 0 where
@@ -19,10 +19,11 @@ pub record Case : Type 0 where
 -- `choose` if it is a pick.
 unfoldable pub holds : Case → List Tuple → ℕ → List ℕ → Bool
 holds c picks r xs =
-    if ltb r 5 then builtInHolds (c .site .size) r (getD xs 0 0) (getD xs 1 0)
-    else isAmong (record { relation = r; places = xs }) (c .site .facts) || isAmong (record { relation = r; places = xs }) picks
+    if ltb r firstRel then builtInHolds (c .site .size) r (getD xs 0 0) (getD xs 1 0)
+    else if ltb r (firstChosen (c .question)) then isAmong (record { relation = r; places = xs }) (c .site .facts)
+    else isAmong (record { relation = r; places = xs }) picks
 
--- the variables bound around, innermost first, with their values
+-- the variables bound around, innermost first, with their values; a variable that none of them binds would be 0, and 8 refuses it
 pub record Binding : Type 0 where
   pub variable : List ℕ
   pub value : ℕ
@@ -44,7 +45,8 @@ unfoldable pub forSome : (ℕ → List ℕ) → List (List ℕ) → List Binding
 forSome range [] bs p = p bs
 forSome range (v ∷ vs) bs p = any (λ x. forSome range vs (record { variable = v; value = x } ∷ bs) p) (range (sortOf v))
 
--- Truth "of the formula as written", by the usual meaning of each form; variables range over all elements.
+-- Truth "of the formula as written", by the usual meaning of each form; variables range over all elements. (7 refuses a literal of no
+-- relation, which would be false.)
 unfoldable mutual
   pub isTrue : Case → List Tuple → List Binding → Formula → Bool
   isTrue c picks bs (literal r vs) = option (numberOf (relationsOf (c .question)) r) false (λ k. holds c picks k (map (valueOf bs) vs))

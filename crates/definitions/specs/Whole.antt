@@ -7,7 +7,8 @@ use mathlib.Core.Bool.{Bool, true, _&&_}
 use mathlib.Core.List.{List, [], _∷_}
 use lib.ListN.{replicate}
 use lib.Dec.{eqb}
-use Rattle.definitions.specs.Lists.{all, same, below}
+use Rattle.definitions.specs.Limits.{usual}
+use Rattle.definitions.specs.Lists.{all, same}
 use Rattle.definitions.specs.Text.{bytes}
 use Rattle.definitions.specs.Refusal.{Result}
 use Rattle.definitions.specs.Outcome.{replyNumber, replyPlace, Given, asText, asNumbers, Checked, checkSteps, PicksRead, picksFromSteps, Built, buildSteps}
@@ -33,9 +34,9 @@ unfoldable pub builtAs : Built → ℕ → ℕ → List ℕ → List ℕ → Boo
 builtAs c number place state steps = replies (c .answer) number place && same (c .state) state && same (c .steps) steps
 
 unfoldable pub rowIsSo : Row → Bool
-rowIsSo (checks q s steps state k place state′) = checkedAs (checkSteps (bytes q) (bytes s) steps state) k place state′
-rowIsSo (reads q s steps picks state k place picks′ state′) = readAs (picksFromSteps (bytes q) (bytes s) steps picks state) k place picks′ state′
-rowIsSo (builds q s picks state steps k place state′ steps′) = builtAs (buildSteps (bytes q) (bytes s) picks state steps) k place state′ steps′
+rowIsSo (checks q s steps state k place state′) = checkedAs (checkSteps usual (bytes q) (bytes s) steps state) k place state′
+rowIsSo (reads q s steps picks state k place picks′ state′) = readAs (picksFromSteps usual (bytes q) (bytes s) steps picks state) k place picks′ state′
+rowIsSo (builds q s picks state steps k place state′ steps′) = builtAs (buildSteps usual (bytes q) (bytes s) picks state steps) k place state′ steps′
 
 -- a function that is total; two relations to choose; a plain relation before a total function; more atoms than are allowed
 unfoldable pub funQ : String

@@ -12,8 +12,9 @@ use lib.Seq.{drop-cons, take-at, drop-at}
 use lib.Dec.{eqb, leb, lit<}
 use borrow.Author.Tests.{eq-eqb, ne-eqb, eqb-true, le-leb, lt-leb, leb-true}
 use Rattle.definitions.specs.Lists.{all}
-use Rattle.definitions.specs.Text.{isBetween, isCapital, isDigit, isSmall, isRelationName, isVariable}
-use Rattle.definitions.specs.Formula.{Join, ands, ors, Quant, somes, everys, Formula, literal, negation, implication, join, quant, Formulas, nil, cons, joinWord, quantWord, notWord, impWord, writeVars, write, writeParts, first, inside, longest, span, Variables, no-words, a-word, WellFormed, g-lit, g-neg, g-imp, g-and, g-or, g-exists, g-forall, AllWellFormed, no-goods, a-good, Res, bad, ok, andThen, begins, want, readWord, readVar, readVars, readParts, Head, isNot, isImplies, isAnd, isOr, isExists, isForall, isOther, kindOf, close, readJoin, readQuant, readLit, readNeg, readImp, readBody, read, finish, readFormula}
+use Rattle.definitions.specs.Text.{isBetween, isCapital, isDigit, isSmall, isRelationName, isVariable, bytes}
+use Rattle.definitions.specs.Formula.{Join, ands, ors, Quant, somes, everys, Formula, literal, negation, implication, join, quant, Formulas, nil, cons, joinWord, quantWord, notWord, impWord, writeVars, write, writeParts, Variables, no-words, a-word, WellFormed, g-lit, g-neg, g-imp, g-and, g-or, g-exists, g-forall, AllWellFormed, no-goods, a-good}
+use Rattle.definitions.specs.Parsing.{first, inside, longest, span, Res, bad, ok, andThen, begins, want, readWord, readVar, readVars, readParts, Head, isNot, isImplies, isAnd, isOr, isExists, isForall, isOther, kindOf, close, readJoin, readQuant, readLit, readNeg, readImp, readBody, read, finish, readFormula}
 
 -- ---- `begins`
 pub begins-step : (p s : List ℕ) (i j : ℕ) → i < length p → j < length s → getD p i 0 ≡ getD s j 0 → begins (drop i p) (drop j s) ≡ begins (drop (suc i) p) (drop (suc j) s)
@@ -633,21 +634,21 @@ parts-more g a fs (suc n) r h e le = done-parts g a fs n r (h (writeParts fs ++ 
 
 -- what `read` does with each form
 read-join : (k : ℕ) (j : Join) (l : List ℕ) → read (suc k) (joinWord j ++ l) ≡ readJoin (λ m. read k m) j l
-unfolding read kindOf begins
+unfolding read kindOf begins readJoin
 read-join k ands l = refl
 read-join k ors l = refl
 
 read-quant : (k : ℕ) (q : Quant) (l : List ℕ) → read (suc k) (quantWord q ++ l) ≡ readQuant (λ m. read k m) q l
-unfolding read kindOf begins
+unfolding read kindOf begins readQuant
 read-quant k somes l = refl
 read-quant k everys l = refl
 
 read-neg : (k : ℕ) (l : List ℕ) → read (suc k) (notWord ++ l) ≡ readNeg (λ m. read k m) l
-unfolding read kindOf begins
+unfolding read kindOf begins readNeg
 read-neg k l = refl
 
 read-imp : (k : ℕ) (l : List ℕ) → read (suc k) (impWord ++ l) ≡ readImp (λ m. read k m) l
-unfolding read kindOf begins
+unfolding read kindOf begins readImp
 read-imp k l = refl
 
 read-lit : (k : ℕ) (n l : List ℕ) → IsWord false n → read (suc k) (40 ∷ (n ++ l)) ≡ readLit (40 ∷ (n ++ l))

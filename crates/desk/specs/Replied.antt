@@ -12,8 +12,7 @@ use Rattle.definitions.specs.Refusal.{Result, refused}
 use Rattle.definitions.specs.Outcome.{written, Plan}
 use Rattle.definitions.specs.Desk.{printLine, stepLine, printed}
 use Rattle.names.specs.Signatures.{Sound}
-use Rattle.opening.specs.declared.Opened.{Opened}
-use Rattle.grounding.specs.declared.Sized.{Sized}
+use Rattle.asking.specs.declared.Front.{Front}
 use Rattle.printing.specs.Printed.{Prints, print-is, Left, begin, recut, left-length, room-for, next, finish}
 use Rattle.reporting.specs.Report.{nameAt, headOf}
 use Rattle.reporting.specs.Short.{no-short, ok-short, steps-short}
@@ -48,42 +47,42 @@ line-fits k place = no-short k place
 
 -- ---- a report
 
-unfoldable pub reportOf : List ℕ → Opened → Sized → (words steps : List ℕ) → List ℕ
-reportOf q o m words steps =
-    headOf q (o .sig) (o .n) (m .atoms) (m .actions) (m .bound) words ++ (flatMap stepLine steps ++ printLine (bytes "ok" ∷ decimal (length steps) ∷ []))
+unfoldable pub reportOf : List ℕ → Front → (words steps : List ℕ) → List ℕ
+reportOf q f words steps =
+    headOf q (f .o .sig) (f .o .n) (f .m .atoms) (f .m .actions) (f .m .bound) words ++ (flatMap stepLine steps ++ printLine (bytes "ok" ∷ decimal (length steps) ∷ []))
 
 -- what the report asks: sound relations with short names, few elements, words for every `choose`, and few steps
-pub record Reportable (q : List ℕ) (o : Opened) (room : ℕ) (steps : List ℕ) : Type 0 where
-  pub sound : Sound q (o .sig)
-  pub some-elements : 1 ≤ o .n
-  pub few-elements : o .n ≤ 16
-  pub named : (j : ℕ) → j < o .sig .chosen → length (nameAt q (o .sig) (o .sig .rels + j)) ≤ 12
-  pub words-fit : 64 * o .sig .chosen ≤ room
+pub record Reportable (q : List ℕ) (f : Front) (room : ℕ) (steps : List ℕ) : Type 0 where
+  pub sound : Sound q (f .o .sig)
+  pub some-elements : 1 ≤ f .o .n
+  pub few-elements : f .o .n ≤ 16
+  pub named : (j : ℕ) → j < f .o .sig .chosen → length (nameAt q (f .o .sig) (f .o .sig .rels + j)) ≤ 12
+  pub words-fit : 64 * f .o .sig .chosen ≤ room
   pub few-steps : length steps ≤ 8192
 
-module _ (q : List ℕ) (o : Opened) (m : Sized) (k : ℕ) (words steps : List ℕ) (R : Reportable q o k steps) where
+module _ (q : List ℕ) (f : Front) (k : ℕ) (words steps : List ℕ) (R : Reportable q f k steps) where
   abbrev head : List ℕ
-  head = headOf q (o .sig) (o .n) (m .atoms) (m .actions) (m .bound) words
+  head = headOf q (f .o .sig) (f .o .n) (f .m .atoms) (f .m .actions) (f .m .bound) words
 
   abbrev okLine : List ℕ
   okLine = printLine (bytes "ok" ∷ decimal (length steps) ∷ [])
 
   head-long : length head ≤ 442618
-  head-long = omega (arith, head-short q (o .sig) (o .n) (m .atoms) (m .actions) (m .bound) words (R .sound) (R .some-elements) (R .few-elements) (R .named))
+  head-long = omega (arith, head-short q (f .o .sig) (f .o .n) (f .m .atoms) (f .m .actions) (f .m .bound) words (R .sound) (R .some-elements) (R .few-elements) (R .named))
 
   pub head-fits : length head ≤ 573952
   head-fits = omega (arith, head-long)
 
   -- printed part by part: once the head is, the steps are left, and then their count
   module _ (u : (i : ℕ) → getD steps i 0 < 2 ^ 32) (old new : List ℕ) (place : ℕ) (room : 573952 ≤ length old) (headed : Prints head old 0 new place) where
-    report-fits : length (reportOf q o m words steps) ≤ length old
+    report-fits : length (reportOf q f words steps) ≤ length old
     unfolding reportOf
     report-fits =
         let c = length-append head (flatMap stepLine steps ++ okLine) in
         let d = length-append (flatMap stepLine steps) okLine in
         omega (arith, head-long, ok-short (length steps), R .few-steps, steps-short steps u)
 
-    steps-left : Left (reportOf q o m words steps) old 0 (flatMap stepLine (take (length steps) steps) ++ okLine) new place
+    steps-left : Left (reportOf q f words steps) old 0 (flatMap stepLine (take (length steps) steps) ++ okLine) new place
     unfolding reportOf
     steps-left =
         let e : flatMap stepLine steps ++ okLine ≡ flatMap stepLine (take (length steps) steps) ++ okLine = rw (take-length steps) refl in
@@ -93,7 +92,7 @@ module _ (q : List ℕ) (o : Opened) (m : Sized) (k : ℕ) (words steps : List �
     steps-room = room-for (flatMap stepLine (take (length steps) steps)) okLine steps-left
 
     module _ (more : List ℕ) (after : ℕ) (listed : Prints (flatMap stepLine (take (length steps) steps)) new place more after) where
-      count-left : Left (reportOf q o m words steps) old 0 okLine more after
+      count-left : Left (reportOf q f words steps) old 0 okLine more after
       count-left = next (flatMap stepLine (take (length steps) steps)) okLine steps-left listed
 
       -- for any number, so that only the text decides which one is printed
@@ -102,5 +101,5 @@ module _ (q : List ℕ) (o : Opened) (m : Sized) (k : ℕ) (words steps : List �
           let e = ap (λ (ks : List ℕ). length (flatMap stepLine ks)) (take-length steps) in
           omega (arith, ok-short k, head-long, headed .place, R .few-steps, steps-short steps u, listed .place, left-length count-left)
 
-      pub reported : (last : List ℕ) (r : ℕ) → Prints okLine more after last r → Replies (reportOf q o m words steps) old last r
-      reported last r counted = replies (reportOf q o m words steps) old last r report-fits (finish okLine count-left counted)
+      pub reported : (last : List ℕ) (r : ℕ) → Prints okLine more after last r → Replies (reportOf q f words steps) old last r
+      reported last r counted = replies (reportOf q f words steps) old last r report-fits (finish okLine count-left counted)

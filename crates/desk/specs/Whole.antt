@@ -12,6 +12,7 @@ use Rattle.definitions.specs.Desk.{printed, checkedPlan, desk}
 use Rattle.reporting.specs.Cutting.{CutAt}
 use Rattle.reporting.specs.Answers.{too-long, checked-answer, built-answer}
 use Rattle.desk.specs.Replied.{Replies}
+use Rattle.desk.specs.Known.{own}
 
 -- r bytes at the front of xs; the second part follows from the first, and is said so that a caller who takes them has nothing to prove
 abbrev pub Front : ℕ → List ℕ → Type 0
@@ -39,6 +40,6 @@ module _ (input old new : List ℕ) (r : ℕ) where
         (checked-answer input h question site steps c s ∙ ap (λ (t : List ℕ). printed (checkedPlan (take question input) (take (site - question) (drop question input)) t)) (sym e))
 
     pub answers-built : steps ≡ false → (rest : List ℕ) → rest ≡ drop site input
-        → Replies (printed (plan (take question input) (take (site - question) (drop question input)) (asText rest) 1024 8192)) old new r → Answers input old new r
-    answers-built s rest e = answers (printed (plan (take question input) (take (site - question) (drop question input)) (asText rest) 1024 8192))
-        (built-answer input h question site steps c s ∙ ap (λ (t : List ℕ). printed (plan (take question input) (take (site - question) (drop question input)) (asText t) 1024 8192)) (sym e))
+        → Replies (printed (plan own (take question input) (take (site - question) (drop question input)) (asText rest) 1024 8192)) old new r → Answers input old new r
+    answers-built s rest e = answers (printed (plan own (take question input) (take (site - question) (drop question input)) (asText rest) 1024 8192))
+        (built-answer input h question site steps c s ∙ ap (λ (t : List ℕ). printed (plan own (take question input) (take (site - question) (drop question input)) (asText t) 1024 8192)) (sym e))

@@ -1,26 +1,36 @@
 // The desk program's reply (document 01, "The desk program"): every byte that it prints, for every input.
 ghost use mathlib.Core.Path.{_≡_};
 ghost use mathlib.Core.List.{List};
-ghost use Prim.Native.Nat.{_≤_};
+ghost use Prim.Native.Nat.{ℕ, _≤_};
 ghost use lib.ListN.{length};
-ghost use Rattle.definitions.specs.Refusal.{refused};
+ghost use Rattle.definitions.specs.Limits.{usual};
+ghost use Rattle.definitions.specs.Refusal.{refused, accepted};
 ghost use Rattle.definitions.specs.Relations.{Tuple};
-ghost use Rattle.definitions.specs.Truth.{Case};
-ghost use Rattle.definitions.specs.Outcome.{written, asText, plan};
+ghost use Rattle.definitions.specs.Outcome.{written, asText, takeSteps, plan};
 ghost use Rattle.definitions.specs.Desk.{printed, checkedPlan, desk as «desk-of»};
-ghost use Rattle.bits.specs.Table.{bit};
 ghost use Rattle.desk.specs.Replied.{Replies, Reportable, reportOf};
 ghost use Rattle.desk.specs.Known.{Known, IsKnown};
-ghost use Rattle.desk.specs.Checked.{checkedCase};
-ghost use Rattle.desk.specs.Planned.{plannedCase, Picked, IsPicked};
+ghost use Rattle.desk.specs.Planned.{Picked, IsPicked};
 ghost use Rattle.desk.specs.Whole.{Front};
-use grounding::Sized;
-use opening::Opened;
 use runs::End;
 use sheets::Answer;
 
 // The most bytes that a reply has: the picks of four relations, 8,192 steps, and the other lines.
 pub const ROOM: usize = 573952;
+
+// The most elements, atoms and actions of a case that the program takes.
+const ELEMENTS: usize = 16;
+
+const ATOMS: usize = 65536;
+
+const ACTIONS: usize = 131072;
+
+// Words for the facts of every such case, for its picks and for its state.
+const FACTS: usize = 512;
+
+const PICKS: usize = 256;
+
+const WORDS: usize = 1024;
 
 // A refusal is one line.
 fn refuse(out: &mut [u8], number: u32, place: usize) -> usize
@@ -31,17 +41,12 @@ fn refuse(out: &mut [u8], number: u32, place: usize) -> usize
 }
 
 // The report of a plan: the sizes, counts and picks, a line for each step, and how many steps there are.
-fn report(
-    out: &mut [u8],
-    question: &[u8],
-    o: Opened,
-    m: Sized,
-    words: &[u64],
-    steps: &[u32],
-) -> usize
-    requires { ⌜ Reportable (now question) o (length (now words)) (now steps) × (573952 ≤ length (now out)) ⌝ }
-    ensures { λ r. ⌜ Replies (reportOf (now (question .entry)) o m (now (words .entry)) (now (steps .entry))) (now (out .entry)) (now (out .exit)) r ⌝ }
+fn report(out: &mut [u8], question: &[u8], f: asking::Front, words: &[u64], steps: &[u32]) -> usize
+    requires { ⌜ Reportable (now question) f (length (now words)) (now steps) × (573952 ≤ length (now out)) ⌝ }
+    ensures { λ r. ⌜ Replies (reportOf (now (question .entry)) f (now (words .entry)) (now (steps .entry))) (now (out .entry)) (now (out .exit)) r ⌝ }
 {
+    let o = f.o;
+    let m = f.m;
     let sig = o.sig;
     let count = steps.len();
     let headed = reporting::head(out, question, sig, o.n, m.atoms, m.actions, m.bound, words);
@@ -50,23 +55,30 @@ fn report(
 }
 
 // Steps of a case that was read: 11, then the steps one by one, and the picks that they set.
-fn check_case(out: &mut [u8], question: &[u8], o: Opened, facts: &[u64], steps: &[u32]) -> usize
-    requires { ⌜ IsKnown (now question) o (bit (now facts)) × (length (now steps) ≤ 8192) × (573952 ≤ length (now out)) ⌝ }
-    ensures { λ r. ⌜ ((c : Case) → Known (now (question .entry)) c o (bit (now (facts .entry))) → Replies (printed (checkedCase c (now (steps .entry)))) (now (out .entry)) (now (out .exit)) r) ⌝ }
+fn check_case(
+    out: &mut [u8],
+    question: &[u8],
+    f: asking::Front,
+    facts: &[u64],
+    table: &[usize],
+    steps: &[u32],
+) -> usize
+    requires { ⌜ IsKnown (now question) f (now facts) (now table) × (length (now steps) ≤ 8192) × (573952 ≤ length (now out)) ⌝ }
+    ensures { λ r. ⌜ ((site text : List ℕ) → Known (now (question .entry)) site f (now (facts .entry)) (now (table .entry)) → takeSteps (asText text) ≡ accepted (now (steps .entry))
+        → Replies (printed (checkedPlan (now (question .entry)) site text)) (now (out .entry)) (now (out .exit)) r) ⌝ }
 {
-    let mut table = [0usize; ground::TABLE];
-    let m = grounding::ground_case(question, o, &mut table);
+    let m = f.m;
     if m.over {
         return refuse(out, 11, 0);
     }
     let words = (m.atoms + 63) / 64;
-    let mut state = [0u64; 1024];
-    let e = checking::start_and_run(&table, facts, steps, &mut state[..words]);
+    let mut state = [0u64; WORDS];
+    let e = runs::start_and_run(table, facts, steps, &mut state[..words]);
     match e {
         End::Done(_) => {
-            let mut picks = [0u64; 256];
-            reading::copy_picks(&table, &state[..words], &mut picks);
-            report(out, question, o, m, &picks, steps)
+            let mut picks = [0u64; PICKS];
+            picks::copy_picks(table, &state[..words], &mut picks);
+            report(out, question, f, &picks, steps)
         }
         End::NoAction(i) => refuse(out, 13, i),
         End::NotNow(i) => refuse(out, 14, i),
@@ -79,38 +91,53 @@ fn check(out: &mut [u8], question: &[u8], site: &[u8], text: &[u8]) -> usize
     requires { ⌜ (length (now text) ≤ 16384) × (573952 ≤ length (now out)) ⌝ }
     ensures { λ r. ⌜ Replies (printed (checkedPlan (now (question .entry)) (now (site .entry)) (now (text .entry)))) (now (out .entry)) (now (out .exit)) r ⌝ }
 {
-    let mut facts = [0u64; 512];
-    let o = opening::read_case(question, site, &mut facts);
-    if o.fault != 0 {
-        return refuse(out, o.fault, o.place);
+    let mut facts = [0u64; FACTS];
+    let mut table = [0usize; ground::TABLE];
+    let f = asking::open_case(
+        question,
+        site,
+        ELEMENTS,
+        ATOMS,
+        ACTIONS,
+        &mut facts,
+        &mut table,
+    );
+    if f.fault != 0 {
+        return refuse(out, f.fault, f.place);
     }
     let mut steps = [0u32; 9362];
     let a = sheets::steps(text, &mut steps);
     match a {
         Answer::Refused(k, place) => refuse(out, k, place),
-        Answer::Done(count) => check_case(out, question, o, &facts, &steps[..count]),
+        Answer::Done(count) => check_case(out, question, f, &facts, &table, &steps[..count]),
     }
 }
 
 // Picks of a case that was read: 11, 12, and the steps built from them.
-fn build_case(out: &mut [u8], question: &[u8], o: Opened, facts: &[u64], picks: &[u64]) -> usize
-    requires { ⌜ IsPicked (now question) o (bit (now facts)) (now picks) × (256 ≤ length (now picks)) × (573952 ≤ length (now out)) ⌝ }
-    ensures { λ r. ⌜ ((c : Case) (F : List Tuple) → Known (now (question .entry)) c o (bit (now (facts .entry))) → Picked (now (question .entry)) c o F (now (picks .entry))
-        → Replies (printed (plannedCase c F)) (now (out .entry)) (now (out .exit)) r) ⌝ }
+fn build_case(
+    out: &mut [u8],
+    question: &[u8],
+    f: asking::Front,
+    facts: &[u64],
+    table: &[usize],
+    picks: &[u64],
+) -> usize
+    requires { ⌜ IsPicked (now question) f (now facts) (now table) (now picks) × (256 ≤ length (now picks)) × (573952 ≤ length (now out)) ⌝ }
+    ensures { λ r. ⌜ ((site text : List ℕ) (F : List Tuple) (k : Known (now (question .entry)) site f (now (facts .entry)) (now (table .entry))) → Picked (now (question .entry)) (k .case) (f .o) text F (now (picks .entry))
+        → Replies (printed (plan usual (now (question .entry)) site (asText text) 1024 8192)) (now (out .entry)) (now (out .exit)) r) ⌝ }
 {
-    let mut table = [0usize; ground::TABLE];
-    let m = grounding::ground_case(question, o, &mut table);
+    let m = f.m;
     if m.over {
         return refuse(out, 11, 0);
     }
     if 8192 < m.bound {
         return refuse(out, 12, m.bound);
     }
-    let mut state = [0u64; 1024];
+    let mut state = [0u64; WORDS];
     let mut steps = [0u32; 8192];
-    let a = building::start_and_build(&mut state, &mut steps, &table, facts, m.atoms, picks);
+    let a = plans::start_and_build(&mut state, &mut steps, table, facts, m.atoms, picks);
     match a {
-        plans::Answer::Steps(count) => report(out, question, o, m, picks, &steps[..count]),
+        plans::Answer::Steps(count) => report(out, question, f, picks, &steps[..count]),
         plans::Answer::OtherKind(i) => refuse(out, 16, i),
         plans::Answer::RuleFalse => refuse(out, 17, 0),
     }
@@ -119,19 +146,29 @@ fn build_case(out: &mut [u8], question: &[u8], o: Opened, facts: &[u64], picks: 
 // From any other third sheet, which has picks, steps are built.
 fn build(out: &mut [u8], question: &[u8], site: &[u8], text: &[u8]) -> usize
     requires { ⌜ 573952 ≤ length (now out) ⌝ }
-    ensures { λ r. ⌜ Replies (printed (plan (now (question .entry)) (now (site .entry)) (asText (now (text .entry))) 1024 8192)) (now (out .entry)) (now (out .exit)) r ⌝ }
+    ensures { λ r. ⌜ Replies (printed (plan usual (now (question .entry)) (now (site .entry)) (asText (now (text .entry))) 1024 8192)) (now (out .entry)) (now (out .exit)) r ⌝ }
 {
-    let mut facts = [0u64; 512];
-    let o = opening::read_case(question, site, &mut facts);
-    if o.fault != 0 {
-        return refuse(out, o.fault, o.place);
+    let mut facts = [0u64; FACTS];
+    let mut table = [0usize; ground::TABLE];
+    let f = asking::open_case(
+        question,
+        site,
+        ELEMENTS,
+        ATOMS,
+        ACTIONS,
+        &mut facts,
+        &mut table,
+    );
+    if f.fault != 0 {
+        return refuse(out, f.fault, f.place);
     }
+    let o = f.o;
     let sig = o.sig;
-    let mut picks = [0u64; 256];
+    let mut picks = [0u64; PICKS];
     let a = sheets::picks(question, sig, text, o.n, &mut picks);
     match a {
         Answer::Refused(k, place) => refuse(out, k, place),
-        Answer::Done(_) => build_case(out, question, o, &facts, &picks),
+        Answer::Done(_) => build_case(out, question, f, &facts, &table, &picks),
     }
 }
 

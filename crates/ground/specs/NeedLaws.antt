@@ -105,16 +105,16 @@ pub members-length : (t : List ℕ) (a k : ℕ) → length (membersIn t a k) ≡
 unfolding membersIn
 members-length t a k = length-map (below k) (λ i. getD t (a + i) 0) ∙ length-below k
 
+pub getD-map : (f : ℕ → ℕ) (xs : List ℕ) (i : ℕ) → i < length xs → getD (map f xs) i 0 ≡ f (getD xs i 0)
+getD-map f [] i h = absurd (omega arith)
+getD-map f (x ∷ xs) zero h = refl
+getD-map f (x ∷ xs) (suc i) h = getD-map f xs i (omega arith)
+
 pub member-at : (t : List ℕ) (a k i : ℕ) → i < k → getD (membersIn t a k) i 0 ≡ getD t (a + i) 0
 unfolding membersIn
 member-at t a k i h =
     let l : i < length (below k) = omega (arith, length-below k) in
     getD-map (λ j. getD t (a + j) 0) (below k) i l ∙ ap (λ (j : ℕ). getD t (a + j) 0) (getD-below k i h)
-  where
-    getD-map : (f : ℕ → ℕ) (xs : List ℕ) (i : ℕ) → i < length xs → getD (map f xs) i 0 ≡ f (getD xs i 0)
-    getD-map f [] i h = absurd (omega arith)
-    getD-map f (x ∷ xs) zero h = refl
-    getD-map f (x ∷ xs) (suc i) h = getD-map f xs i (omega arith)
 
 -- ---- the element before one, sought in the table
 in-whole : (t : List ℕ) (range count z : ℕ) → z < sizeIn t → membersIn t range count ≡ below (sizeIn t) → z ≡ option (before (membersIn t range count) z) 0 suc

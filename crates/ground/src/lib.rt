@@ -2,11 +2,12 @@
 // adds and removes. Nothing is listed, and an action costs its own parts.
 ghost use mathlib.Core.Path.{_≡_};
 ghost use mathlib.Core.List.{[], _∷_, map};
-ghost use Prim.Native.Nat.{suc, _+_, _*_, _/_, _^_, _<_, _≤_};
+ghost use Prim.Native.Nat.{suc, _+_, _/_, _^_, _<_, _≤_};
 ghost use lib.Dec.{ltb};
-ghost use lib.ListN.{length};
+ghost use lib.ListN.{length, take as «take-of»};
 ghost use Rattle.definitions.specs.Lists.{if_then_else_, all, option, from, below, before};
-ghost use Rattle.bits.specs.Table.{bit};
+ghost use Rattle.definitions.specs.Outcome.{written};
+ghost use Rattle.bits.specs.Table.{bit, Words};
 ghost use Rattle.rows.specs.Values.{valueIn, Most};
 ghost use Rattle.ground.specs.Lines.{tableLength, rangesPlace, sizeIn, membersIn, relationLine, nodeLine, partLine, partNumber, partAt, NodeFits, RangeFits, Fits};
 ghost use Rattle.ground.specs.Numbers.{freeNumbers, setNeeds, andNeeds, orNeeds, existsNeeds, forallNeeds, goalNeeds, underAt, setRemoves, ActFits, needNumbers, addNumbers, removeNumbers, changed, Held};
@@ -158,6 +159,18 @@ pub fn test(words: &[u64], i: usize) -> bool
         return bits::get(words, i);
     }
     false
+}
+
+// The first k words of src become those of dst. (That a word has 64 bits is known where one is read.)
+pub fn copy(dst: &mut [u64], src: &[u64], k: usize)
+    requires { ⌜ (k ≤ length (now dst)) × (k ≤ length (now src)) ⌝ }
+    ensures { λ r. ⌜ (now (dst .exit) ≡ written («take-of» k (now (src .entry))) (now (dst .entry))) × (0 < k → Words (now (src .entry))) ⌝ }
+{
+    let mut i: usize = 0;
+    while i < k {
+        dst[i] = src[i];
+        i += 1;
+    }
 }
 
 // Whether the atom of a part holds at the values of levels.

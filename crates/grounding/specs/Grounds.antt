@@ -1,19 +1,19 @@
 -- A case that was read, and the table of its numbered problem.
-use Prim.Native.Nat.{ℕ, zero, _+_, _≤_, _<_}
+use Prim.Native.Nat.{ℕ, _+_, _≤_, _<_}
 use mathlib.Core.Path.{_≡_, refl, sym, ap, ap₂, subst, _∙_}
 use mathlib.Core.Bool.{Bool, true, false, _||_}
 use mathlib.Core.List.{List, []}
 use lib.Dec.{ltb}
 use lib.ListN.{length, getD}
 use borrow.Author.Tests.{le-ltb}
-use Rattle.definitions.specs.Limits.{atomLimit, actionLimit, formLimit, nestingLimit}
+use Rattle.definitions.specs.Limits.{CaseLimits, formLimit, nestingLimit}
 use Rattle.definitions.specs.Lists.{option}
 use Rattle.definitions.specs.Formula.{Formula, allForms, nesting, isKnown, isScoped}
 use Rattle.definitions.specs.Refusal.{Result, refused, accepted, _>>=_, refuseIf}
 use Rattle.definitions.specs.Relations.{Relation}
-use Rattle.definitions.specs.Sheets.{Question, readQuestion, relations, relationsOf}
+use Rattle.definitions.specs.Sheets.{readQuestion, relations, relationsOf}
 use Rattle.laws.specs.Booleans.{T-true}
-use Rattle.reduction.specs.Reader.{gives-if, QuestionFits, RuleFits, question-fits}
+use Rattle.laws.specs.Reader.{gives-if, QuestionFits, RuleFits, question-fits}
 use Rattle.formula.specs.Seen.{ruleNumber}
 use Rattle.rewriting.specs.Rule.{Accepted, IsQuestion, TableOf}
 use Rattle.definitions.specs.Truth.{Case, membersOf}
@@ -22,7 +22,7 @@ use Rattle.definitions.specs.Atoms.{Problem, problemOf, problemWith, relationAt
 use Rattle.definitions.specs.Actions.{actions}
 use Rattle.definitions.specs.Built.{bound}
 use Rattle.definitions.specs.Outcome.{ground}
-use Rattle.names.specs.Signatures.{Sound, relsOf, chosenOf, allOf}
+use Rattle.names.specs.Signatures.{chosenOf, allOf}
 use Rattle.tree.specs.Tables.{IsTable}
 use Rattle.tree.specs.declared.Nodes.{Nodes}
 use Rattle.ground.specs.Lines.{Fits, nodesIn, nodeLine}
@@ -30,11 +30,10 @@ use Rattle.ground.specs.Of.{Is, kindNumber}
 use native.Mathlib.Omega.{arith}
 use Rattle.layout.specs.declared.Relations.{Relations}
 use Rattle.layout.specs.declared.Made.{Made}
-use Rattle.layout.specs.Laid.{Inputs, Laid, Small}
-use Rattle.relations.specs.Numbered.{Numbered, Declared, noRelation}
-use Rattle.table.specs.Filled.{Filled}
-use Rattle.opening.specs.declared.Opened.{Opened}
-use Rattle.opening.specs.Read.{Holds}
+use Rattle.layout.specs.Laid.{Inputs, Laid}
+use Rattle.grounding.specs.Numbered.{Numbered, Declared, noRelation}
+use Rattle.sheets.specs.declared.Opened.{Opened}
+use Rattle.sheets.specs.Opening.{Holds}
 use Rattle.grounding.specs.declared.Sized.{Sized}
 
 -- some case was read from the question's text
@@ -123,10 +122,14 @@ module _ (s : List ℕ) (o : Opened) (c : Case) (facts : ℕ → Bool) (h : Hold
       tree = subst (λ (k : ℕ). IsTable k (treeOf (c .question)) t) (ap length relations-are ∙ sym (m .count s)) (table .is (c .question) is-question);
     }
 
-pub grounds-over : (c : Case) (m : Made) (r : Sized) (w : List ℕ) → Laid (problemOf c) m → m .over ≡ true → r .over ≡ true → GroundsTo (ground c) r w
-unfolding ground refuseIf _>>=_ GroundsTo
-grounds-over c m r w l e o = let q : (ltb atomLimit (atoms (problemOf c)) || ltb actionLimit (actions (problemOf c))) ≡ true = sym (l .over-is) ∙ e in rw q (record { over = o; number = refl; no-place = refl })
+-- laid out by the limits' own numbers
+pub laid-by : (L : CaseLimits) (a b : ℕ) (p : Problem) (m : Made) → L .atoms ≡ a → L .actions ≡ b → Laid a b p m → Laid (L .atoms) (L .actions) p m
+laid-by L a b p m e f l = rw (e, f) l
 
-pub grounds-within : (c : Case) (m : Made) (r : Sized) (w : List ℕ) → Laid (problemOf c) m → m .over ≡ false → Tabled (problemOf c) r w → GroundsTo (ground c) r w
+pub grounds-over : (L : CaseLimits) (c : Case) (m : Made) (r : Sized) (w : List ℕ) → Laid (L .atoms) (L .actions) (problemOf c) m → m .over ≡ true → r .over ≡ true → GroundsTo (ground L c) r w
 unfolding ground refuseIf _>>=_ GroundsTo
-grounds-within c m r w l e t = let q : (ltb atomLimit (atoms (problemOf c)) || ltb actionLimit (actions (problemOf c))) ≡ false = sym (l .over-is) ∙ e in rw q t
+grounds-over L c m r w l e o = let q : (ltb (L .atoms) (atoms (problemOf c)) || ltb (L .actions) (actions (problemOf c))) ≡ true = sym (l .over-is) ∙ e in rw q (record { over = o; number = refl; no-place = refl })
+
+pub grounds-within : (L : CaseLimits) (c : Case) (m : Made) (r : Sized) (w : List ℕ) → Laid (L .atoms) (L .actions) (problemOf c) m → m .over ≡ false → Tabled (problemOf c) r w → GroundsTo (ground L c) r w
+unfolding ground refuseIf _>>=_ GroundsTo
+grounds-within L c m r w l e t = let q : (ltb (L .atoms) (atoms (problemOf c)) || ltb (L .actions) (actions (problemOf c))) ≡ false = sym (l .over-is) ∙ e in rw q t

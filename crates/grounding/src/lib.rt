@@ -1,15 +1,52 @@
-// From a case that was read to the table of its numbered problem, or refusal 11.
+// From a case that was read to the table of its numbered problem, or refusal 11. The relations are numbered on the way: the built-in
+// ones first, then those declared.
 ghost use mathlib.Core.Path.{_≡_};
-ghost use Prim.Native.Nat.{ℕ};
+ghost use Prim.Native.Nat.{ℕ, _≤_};
 ghost use mathlib.Core.Bool.{Bool};
 ghost use lib.ListN.{length};
 ghost use Rattle.definitions.specs.Truth.{Case};
 ghost use Rattle.definitions.specs.Outcome.{ground as «ground-of»};
 ghost use Rattle.rows.specs.Values.{Most};
 ghost use Rattle.ground.specs.Lines.{tableLength};
-ghost use Rattle.opening.specs.Read.{Holds};
+ghost use Rattle.sheets.specs.Opening.{Holds};
 ghost use Rattle.grounding.specs.Grounds.{Read, GroundsTo};
-use opening::Opened;
+ghost use Rattle.text.specs.Spans.{kindOf};
+ghost use Rattle.ground.specs.Of.{kindNumber};
+ghost use Rattle.definitions.specs.Limits.{CaseLimits};
+ghost use Rattle.layout.specs.Laid.{RelationsFit, numberLimit};
+ghost use Rattle.grounding.specs.Numbered.{Declared, Numbered};
+use layout::Relations;
+use names::Signature;
+use sheets::Opened;
+
+// A kind's number as a signature has it, with none above 5.
+fn kind_number(k: u32) -> usize
+    ensures { λ r. ⌜ (r ≡ kindNumber (kindOf k)) × (r ≤ 5) ⌝ }
+{
+    if k < 5 {
+        return k as usize;
+    }
+    5
+}
+
+// Arity and kind of each relation.
+pub fn relations_of(g: Signature) -> Relations
+    requires { ⌜ Declared g ⌝ }
+    ensures { λ r. ⌜ RelationsFit r × Numbered g r ⌝ }
+{
+    let count = 5 + (g.rels + g.chosen);
+    let mut arity = [0usize; layout::RELATIONS];
+    let mut kind = [0usize; layout::RELATIONS];
+    let mut r: usize = 0;
+    while r < count {
+        let a = names::arity(g, r);
+        let k = names::kind(g, r);
+        arity[r] = a;
+        kind[r] = kind_number(k);
+        r += 1;
+    }
+    Relations { count, arity, kind }
+}
 
 // How many atoms and actions there are, the bound, and whether there are more than the limits allow.
 pub struct Sized {
@@ -19,18 +56,25 @@ pub struct Sized {
     pub bound: usize,
 }
 
-// Fills the lent table of zeros, unless there are too many atoms or actions.
-pub fn ground_case(question: &[u8], o: Opened, table: &mut [usize]) -> Sized
-    requires { ⌜ (length (now table) ≡ tableLength) × Most (now table) 0 ⌝ }
+// Fills the lent table of zeros, unless there are more atoms or actions than there may be.
+pub fn ground_case(
+    question: &[u8],
+    o: Opened,
+    most_atoms: usize,
+    most_actions: usize,
+    table: &mut [usize],
+) -> Sized
+    requires { ⌜ (length (now table) ≡ tableLength) × Most (now table) 0 × («most_atoms» ≤ numberLimit) × («most_actions» ≤ numberLimit) ⌝ }
     requires { ⌜ Read (now question) o ⌝ }
-    ensures { λ r. ⌜ ((c : Case) (facts : ℕ → Bool) → Holds (now (question .entry)) c o facts → GroundsTo («ground-of» c) r (now (table .exit))) ⌝ }
+    ensures { λ r. ⌜ ((L : CaseLimits) (c : Case) (facts : ℕ → Bool) → L .atoms ≡ «most_atoms» → L .actions ≡ «most_actions» → Holds (now (question .entry)) c o facts
+        → GroundsTo («ground-of» L c) r (now (table .exit))) ⌝ }
 {
     let sig = o.sig;
     let rule = o.rule;
     let n = o.n;
-    let g = relations::relations_of(sig);
+    let g = relations_of(sig);
     let t = rewriting::nodes_of(question, rule.from, rule.to, sig);
-    let m = layout::lay_out(n, g, t);
+    let m = layout::lay_out(n, g, t, most_atoms, most_actions);
     if m.over {
         return Sized {
             over: true,
@@ -40,7 +84,7 @@ pub fn ground_case(question: &[u8], o: Opened, table: &mut [usize]) -> Sized
         };
     }
     let l = m.layout;
-    table::fill(table, n, g, t, l);
+    layout::fill(table, n, g, t, l);
     Sized {
         over: false,
         atoms: m.atoms,

@@ -8,15 +8,14 @@ use Prim.Native.Nat.{ℕ, zero, suc, _+_, _-_, _*_, _/_, _%_, _^_, _≤_, _<_}
 use native.Mathlib.Nat.{pow-zero, div-one, mod-eq-of-lt, pow-suc, one-mul}
 use native.Mathlib.Decide.{decLt}
 use native.Mathlib.Omega.{arith}
-use borrow.Author.Tests.{lt-ltb}
 use lib.Dec.{T, ltb}
 use lib.ListN.{length, getD, drop}
 use Rattle.definitions.specs.Lists.{if_then_else_, option}
 use Rattle.definitions.specs.Relations.{Kind, static, plain, Fun, PFun, Inj, PInj, isChosen, isFunction, isInjective, Relation, builtIn, builtInHolds}
-use Rattle.definitions.specs.Truth.{holds}
 use Rattle.definitions.specs.Atoms.{Problem, placesOf, itemAt, relationAt, tuplesOf, Atom, guess, proof, goal, tuple, notTuple, freeDomain, freeRange, holdsNode, atomBlocks, atoms, relationStart, nodeStart, atomNumber, tupleHolds, isInitial, initial, wordsFor}
 use Rattle.definitions.specs.Outcome.{stateLength, written}
 use Rattle.bits.specs.Table.{bit, put, paste, Words}
+use Rattle.laws.specs.Grounded.{builtIn-literal}
 use Rattle.laws.specs.Blocks.{item-none}
 use Rattle.laws.specs.Numbers.{noRelation, IsAtom, relationWidth, relation-first, relation-next, relation-le, node-first, node-le, three-atoms, atom-at, atom-is, atom-number, atom-some}
 use Rattle.laws.specs.Rows.{pair-places}
@@ -156,14 +155,14 @@ places-one n row h =
     let l : row < n = omega arith in
     ap (λ (x : ℕ). x ∷ []) (ap (λ (x : ℕ). row / x % n) (pow-zero n) ∙ ap (λ (x : ℕ). x % n) (div-one row) ∙ mod-eq-of-lt l)
 
-pair-arity : (r : ℕ) → r < 3 → getD builtIn r noRelation .arity ≡ 2
+pub pair-arity : (r : ℕ) → r < 3 → getD builtIn r noRelation .arity ≡ 2
 unfolding builtIn
 pair-arity zero h = refl
 pair-arity (suc zero) h = refl
 pair-arity (suc (suc zero)) h = refl
 pair-arity (suc (suc (suc r))) h = absurd (omega arith)
 
-one-arity : (r : ℕ) → 3 ≤ r → r < 5 → getD builtIn r noRelation .arity ≡ 1
+pub one-arity : (r : ℕ) → 3 ≤ r → r < 5 → getD builtIn r noRelation .arity ≡ 1
 unfolding builtIn
 one-arity zero h l = absurd (omega arith)
 one-arity (suc zero) h l = absurd (omega arith)
@@ -178,8 +177,8 @@ module _ (p : Problem) (w f : List ℕ) (fits : Fits w) (is : Is p w) (F : Facts
 
   -- a built-in relation, by its places
   built-of : (r row : ℕ) (xs : List ℕ) → r < 5 → placesOf (p .size) (relationAt p r .arity) row ≡ xs → builtInHolds (p .size) r (getD xs 0 0) (getD xs 1 0) ≡ tupleHolds p r row
-  unfolding tupleHolds holds
-  built-of r row xs l e = rw (lt-ltb r 5 l, e, F .sized) refl
+  unfolding tupleHolds
+  built-of r row xs l e = rw (e, builtIn-literal (p .source) [] r xs l, F .sized) refl
 
   pair-holds : (r row : ℕ) → r < 3 → row < tuplesOf (p .size) (relationAt p r) → builtInHolds (p .size) r (row / p .size) (row % p .size) ≡ tupleHolds p r row
   unfolding tuplesOf

@@ -1,27 +1,28 @@
 -- The words that a site's reader leaves, a bit for each fact, hold the facts of the case's problem.
 use mathlib.Core.Path.{_≡_, refl, sym, ap, ap₂, subst, _∙_}
-use mathlib.Core.Bool.{Bool, false, or-false}
-use mathlib.Core.List.{List, [], _∷_, _++_, List·Memᴰ}
+use mathlib.Core.Bool.{Bool, false}
+use mathlib.Core.List.{List, [], _++_, List·Memᴰ}
 use mathlib.Core.Logic.{_⊎_, ⊎-elim}
 use Prim.Native.Nat.{ℕ, zero, suc, _+_, _-_, _*_, _^_, _≤_, _<_}
 use native.Mathlib.Nat.{add-suc}
 use native.Mathlib.Omega.{arith}
-use borrow.Author.Tests.{lt-ltb, le-ltb, ne-eqb}
+use borrow.Author.Tests.{lt-ltb, le-ltb}
 use lib.Dec.{T}
 use lib.ListN.{length, getD, length-append, List·getD-append}
 use lib.Seq.{getD-append-add}
 use Rattle.definitions.specs.Lists.{any}
-use Rattle.definitions.specs.Relations.{Kind, static, isChosen, Relation, builtIn, Tuple, sameTuple, isAmong}
+use Rattle.definitions.specs.Relations.{Kind, static, isChosen, Relation, builtIn, Tuple, isAmong}
 use Rattle.definitions.specs.Sheets.{relations, relationsOf}
 use Rattle.definitions.specs.Truth.{Case, holds}
 use Rattle.definitions.specs.Atoms.{problemOf, problemWith, placesOf, relationAt, tuplesOf, tupleHolds, wordsFor}
+use Rattle.laws.specs.Grounded.{first-chosen, rel-literal, choose-literal}
 use Rattle.laws.specs.Lists.{getD-mem}
 use Rattle.laws.specs.Numbers.{noRelation}
 use Rattle.bits.specs.Table.{bit}
 use Rattle.names.specs.declared.Signature.{Signature}
 use Rattle.names.specs.Signatures.{relationIn, relsOf}
 use Rattle.names.proofs.Laws.{length-relations, relation-at}
-use Rattle.tuples.specs.Marks.{firstWord, bitOf, marks, Valid, AllValid}
+use Rattle.tuples.specs.Marks.{firstWord, bitOf, marks, AllValid}
 use Rattle.tuples.proofs.Words.{tupleAt, mark-bit}
 use Rattle.initial.specs.Parts.{lt-or-le}
 use Rattle.initial.specs.Initial.{factWord, FactsIn}
@@ -42,12 +43,6 @@ five = refl
 not-both : (d : Kind) → d ≡ static → T (isChosen d) → ⊥
 unfolding isChosen
 not-both d e t = subst (λ (k : Kind). T (isChosen k)) e t
-
--- a tuple of no `rel` is not among the facts
-none-among : (g : Signature) (n m : ℕ) (t : Tuple) (ts : List Tuple) → 5 + m ≤ t .relation → AllValid g n 0 m ts → isAmong t ts ≡ false
-unfolding isAmong any sameTuple AllValid Valid
-none-among g n m t [] h v = refl
-none-among g n m t (u ∷ ts) h v = rw (ne-eqb (t .relation) (u .relation) (λ e. omega (arith, v .0 .1))) (none-among g n m t ts h (v .1))
 
 module _ (c : Case) (s : List ℕ) (g : Signature) (f : List ℕ)
     (its-rels : c .question .rels ≡ relsOf s g)
@@ -116,9 +111,14 @@ module _ (c : Case) (s : List ℕ) (g : Signature) (f : List ℕ)
   abbrev at : ℕ → ℕ → Tuple
   at r row = record { relation = r; places = placesOf n (relationAt (problemOf c) r .arity) row }
 
-  tuple-fact : (r row : ℕ) → 5 ≤ r → tupleHolds (problemOf c) r row ≡ isAmong (at r row) (c .site .facts)
-  unfolding tupleHolds holds problemOf problemWith isAmong any
-  tuple-fact r row h = rw (le-ltb r 5 h) (or-false (isAmong (at r row) (c .site .facts)))
+  tuple-fact : (j row : ℕ) → j < g .rels → tupleHolds (problemOf c) (5 + j) row ≡ isAmong (at (5 + j) row) (c .site .facts)
+  unfolding tupleHolds problemOf problemWith
+  tuple-fact j row h = rel-literal c [] (5 + j) _ (omega arith) (let f = first-chosen (c .question) in omega (arith, many-rels))
+
+  -- of a `choose` none holds while nothing is picked
+  no-tuple : (r row : ℕ) → 5 + g .rels ≤ r → tupleHolds (problemOf c) r row ≡ false
+  unfolding tupleHolds problemOf problemWith isAmong any
+  no-tuple r row h = choose-literal c [] r _ (let f = first-chosen (c .question) in omega (arith, many-rels))
 
   its-tuple : (j row : ℕ) → j < g .rels → tupleAt g n 0 (g .rels) j row ≡ at (5 + j) row
   unfolding tupleAt
@@ -133,7 +133,7 @@ module _ (c : Case) (s : List ℕ) (g : Signature) (f : List ℕ)
       let z : 0 + j ≡ j = omega arith in
       let k : row < n ^ getD (g .arity) (0 + j) 0 = subst (λ (x : ℕ). row < n ^ x) (rel-arity j h ∙ ap (λ (i : ℕ). getD (g .arity) i 0) (sym z)) l in
       ap₂ (λ (b : ℕ → Bool) (x : ℕ). b (64 * x + row)) its-bits (first-word j (omega arith))
-      ∙ mark-bit g n 0 (g .rels) (c .site .facts) valid j row element h k ∙ ap (λ (t : Tuple). isAmong t (c .site .facts)) (its-tuple j row h) ∙ sym (tuple-fact (5 + j) row (omega arith))
+      ∙ mark-bit g n 0 (g .rels) (c .site .facts) valid j row element h k ∙ ap (λ (t : Tuple). isAmong t (c .site .facts)) (its-tuple j row h) ∙ sym (tuple-fact j row h)
 
   -- ---- by kind
   is-chosen : (j : ℕ) → 5 + (g .rels + j) < length (problemOf c .relations) → T (isChosen (relationAt (problemOf c) (5 + (g .rels + j)) .kind))
@@ -165,5 +165,5 @@ module _ (c : Case) (s : List ℕ) (g : Signature) (f : List ℕ)
           → tupleHolds (problemOf c) r row ≡ false
       unpicked r row l q t = ⊎-elim
           (λ k. absurd (not-both (relationAt (problemOf c) r .kind) (is-static r k) t))
-          (λ k. tuple-fact r row (omega arith) ∙ none-among g n (g .rels) (at r row) (c .site .facts) k valid)
+          (λ k. no-tuple r row k)
           (lt-or-le r (5 + g .rels))

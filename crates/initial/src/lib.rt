@@ -1,12 +1,12 @@
 // The initial state of a grounded problem, written into a lent table of words.
 ghost use mathlib.Core.Path.{_≡_};
 ghost use mathlib.Core.Bool.{true};
-ghost use Prim.Native.Nat.{ℕ, _+_, _-_, _*_, _/_, _^_, _<_, _≤_};
+ghost use Prim.Native.Nat.{ℕ, _+_, _*_, _^_, _<_, _≤_};
 ghost use lib.ListN.{length};
 ghost use Rattle.definitions.specs.Relations.{builtInHolds};
 ghost use Rattle.definitions.specs.Atoms.{wordsFor};
-ghost use Rattle.bits.specs.Table.{bit, put, paste};
-ghost use Rattle.ground.specs.Lines.{relationsIn, relationLine, Fits};
+ghost use Rattle.bits.specs.Table.{bit, paste};
+ghost use Rattle.ground.specs.Lines.{relationsIn, Fits};
 ghost use Rattle.initial.specs.Rows.{PairOf, holdsAt, holdingAt, rowsIn, freeIn, tuplesPut, relationPut, RelationRoom, wordsIn, relationsPut, Room, atomsIn};
 ghost use Rattle.initial.specs.Initial.{Begun};
 use ground::RelationLine;
@@ -94,15 +94,6 @@ fn holding(
     k.nots + row
 }
 
-// Bit i is set, where it is in the state.
-fn raise(state: &mut [u64], i: usize)
-    ensures { λ r. ⌜ (i / 64 < length (now (state .entry)) → bit (now (state .exit)) ≡ put (bit (now (state .entry))) i true) ⌝ }
-{
-    if i / 64 < state.len() {
-        bits::set(state, i);
-    }
-}
-
 // How many tuples a relation has.
 fn rows(k: RelationLine) -> usize
     ensures { λ c. ⌜ c ≡ rowsIn k ⌝ }
@@ -137,7 +128,7 @@ fn put_tuples(state: &mut [u64], facts: &[u64], n: usize, r: usize, k: RelationL
     let mut row: usize = 0;
     let mut p = Pair { x: 0, y: 0 };
     while row < count {
-        raise(state, holding(facts, n, r, k, first, row, p));
+        ground::raise(state, holding(facts, n, r, k, first, row, p));
         p = next(p, n);
         row += 1;
     }
@@ -151,7 +142,7 @@ fn put_free(state: &mut [u64], from: usize, count: usize)
 {
     let mut k: usize = 0;
     while k < count {
-        raise(state, from + k);
+        ground::raise(state, from + k);
         k += 1;
     }
 }
@@ -205,6 +196,6 @@ pub fn initial_state(table: &[usize], facts: &[u64], state: &mut [u64])
 {
     let end = ground::node_line(table, table[2]);
     bits::fill(state, (end.atoms + 63) / 64);
-    raise(state, 0);
+    ground::raise(state, 0);
     put_relations(state, facts, table);
 }

@@ -5,7 +5,7 @@
 // the question, the site and the picks. A number has four bytes, the least first, and so has each half of a word.
 ghost use Prim.Native.Nat.{_+_, _*_, _≤_, _<_};
 ghost use lib.ListN.{length};
-use cases::Reply;
+use asking::Reply;
 
 // A byte of a text; 0 past its end.
 fn byte_at(s: &[u8], at: usize) -> u32

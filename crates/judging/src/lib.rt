@@ -1,72 +1,31 @@
 // Yes or no: whether the rule is true of picks, which are handed over as a text or lent as words. No step is built, and no atom has a
 // number: the rule is evaluated on the bits of facts and picks.
 ghost use mathlib.Core.Path.{_≡_};
-ghost use mathlib.Core.Bool.{true};
+ghost use mathlib.Core.Bool.{true, false};
 ghost use mathlib.Core.List.{List};
-ghost use Prim.Native.Nat.{ℕ, _^_, _<_, _≤_};
+ghost use Prim.Native.Nat.{_<_, _≤_};
+ghost use lib.ListN.{length};
+ghost use Rattle.definitions.specs.Limits.{usual};
 ghost use Rattle.definitions.specs.Relations.{Tuple};
 ghost use Rattle.definitions.specs.Truth.{Case, arePicks, ruleIsTrue};
-ghost use Rattle.definitions.specs.Atoms.{Problem, problemOf};
-ghost use Rattle.definitions.specs.Built.{chosenNumbers};
-ghost use Rattle.definitions.specs.Outcome.{spareWord, asText, asNumbers};
+ghost use Rattle.definitions.specs.Atoms.{problemOf};
+ghost use Rattle.definitions.specs.Outcome.{asText, asNumbers};
 ghost use Rattle.definitions.specs.Judgement.{judge};
-ghost use Rattle.reduction.specs.Reader.{Accepted as «Accepted-case»};
+ghost use Rattle.laws.specs.Reader.{Accepted as «Accepted-case»};
 ghost use Rattle.bits.specs.Table.{bit};
 ghost use Rattle.tree.specs.Tables.{Fits as «Tree-fits»};
 ghost use Rattle.ground.specs.Lines.{Fits};
-ghost use Rattle.ground.specs.Of.{Is};
 ghost use Rattle.layout.specs.Laid.{RelationsFit, Inputs};
 ghost use Rattle.initial.specs.Initial.{FactsIn};
+ghost use Rattle.sheets.specs.Reading.{FactsRoom};
 ghost use Rattle.picks.specs.Words.{PicksAre};
-ghost use Rattle.cases.specs.Replies.{resultOf};
-ghost use Rattle.building.specs.Spare.{spareIn};
-ghost use Rattle.judging.specs.Judges.{verdict, told, AcceptedIn, SomeCase, Asks, FromWords};
-use cases::Reply;
-use ground::RelationLine;
+ghost use Rattle.asking.specs.Replies.{resultOf};
+ghost use Rattle.judging.specs.Judges.{verdict, AcceptedIn, SomeCase, Asks, FromWords};
+use asking::Reply;
 use layout::Relations;
-use opening::Opened;
 use sheets::Answer;
+use sheets::Opened;
 use tree::Nodes;
-
-// The first word of lent picks that has a spare bit set, or that none has.
-enum Spare {
-    Clear,
-    Word(usize),
-}
-
-// Whether a relation has a spare bit set. Its words start with word `word`; the tuples leave bits over in the last one alone.
-fn has_spare(picks: &[u64], word: usize, line: RelationLine) -> bool
-    requires { ⌜ (word ≤ 2 ^ 32) × (line .nots ≤ 2 ^ 32) ⌝ }
-    ensures { λ r. ⌜ r ≡ spareIn (now (picks .entry)) word line ⌝ }
-{
-    if line.kind == 0 {
-        return false;
-    }
-    let tuples = picks::tuples_in(line);
-    let used = tuples % 64;
-    if used == 0 {
-        return false;
-    }
-    0 < reading::word_at(picks, word + tuples / 64) >> used
-}
-
-// The first word of lent picks that has a spare bit set.
-fn spare_word(table: &[usize], picks: &[u64]) -> Spare
-    requires { ⌜ Fits (now table) ⌝ }
-    ensures { λ s. ⌜ ((p : Problem) → Is p (now (table .entry)) → told s ≡ spareWord p (now (picks .entry)) 0 (chosenNumbers p)) ⌝ }
-{
-    let mut word: usize = 0;
-    let mut r: usize = 0;
-    while r < table[1] {
-        let line = ground::relation_line(table, r);
-        if has_spare(picks, word, line) {
-            return Spare::Word(word + picks::tuples_in(line) / 64);
-        }
-        word += picks::words_in(line);
-        r += 1;
-    }
-    Spare::Clear
-}
 
 // Whether the rule is true of picks: its lines are filled, then evaluated.
 fn is_true(n: usize, g: Relations, t: Nodes, facts: &[u64], picks: &[u64]) -> bool
@@ -105,53 +64,69 @@ fn judge_case(question: &[u8], o: Opened, facts: &[u64], picks: &[u64]) -> Reply
     let sig = o.sig;
     let rule = o.rule;
     let n = o.n;
-    let g = relations::relations_of(sig);
+    let g = grounding::relations_of(sig);
     let t = rewriting::nodes_of(question, rule.from, rule.to, sig);
-    let m = layout::lay_out(n, g, t);
+    let m = layout::lay_out(n, g, t, asking::ATOMS, asking::ACTIONS);
     if m.over {
         return Reply::Refused(11, 0);
     }
     let mut table = [0usize; ground::TABLE];
     let l = m.layout;
     choosing::fill(&mut table, n, g, l);
-    let held = reading::picks_length(&table);
+    let held = picks::picks_length(&table);
     if picks.len() < held {
         return Reply::Refused(12, held);
     }
-    let s = spare_word(&table, picks);
+    let s = picks::spare_word(&table, picks);
     match s {
-        Spare::Word(j) => Reply::Refused(10, j),
-        Spare::Clear => decide(&table, n, g, t, facts, picks),
+        picks::Spare::Word(j) => Reply::Refused(10, j),
+        picks::Spare::Clear => decide(&table, n, g, t, facts, picks),
     }
 }
 
-// Whether the rule is true of picks that are handed over as a text.
-pub fn judge_text(question: &[u8], site: &[u8], picks: &[u8]) -> Reply
-    ensures { λ r. ⌜ resultOf r ≡ judge (now (question .entry)) (now (site .entry)) (asText (now (picks .entry))) ⌝ }
+// Judges picks as a text; the words for the facts are lent.
+fn judge_text_in(question: &[u8], site: &[u8], picks: &[u8], facts: &mut [u64]) -> Reply
+    requires { ⌜ FactsRoom (now site) 16 (length (now facts)) × (bit (now facts) ≡ λ i. false) ⌝ }
+    ensures { λ r. ⌜ resultOf r ≡ judge usual (now (question .entry)) (now (site .entry)) (asText (now (picks .entry))) ⌝ }
 {
-    let mut facts = [0u64; 512];
-    let o = opening::read_case(question, site, &mut facts);
+    let o = sheets::read_case(question, site, asking::ELEMENTS, facts);
     if o.fault != 0 {
         return Reply::Refused(o.fault, o.place);
     }
-    let mut words = [0u64; 256];
+    let mut words = [0u64; asking::PICKS];
     let sig = o.sig;
     let n = o.n;
     let a = sheets::picks(question, sig, picks, n, &mut words);
     match a {
         Answer::Refused(k, place) => Reply::Refused(k, place),
-        Answer::Done(_) => judge_case(question, o, &facts, &words),
+        Answer::Done(_) => judge_case(question, o, facts, &words),
     }
+}
+
+// Whether the rule is true of picks that are handed over as a text.
+pub fn judge_text(question: &[u8], site: &[u8], picks: &[u8]) -> Reply
+    ensures { λ r. ⌜ resultOf r ≡ judge usual (now (question .entry)) (now (site .entry)) (asText (now (picks .entry))) ⌝ }
+{
+    let mut facts = [0u64; asking::FACTS];
+    judge_text_in(question, site, picks, &mut facts)
+}
+
+// Judges lent picks; the words for the facts are lent too.
+fn judge_lent_in(question: &[u8], site: &[u8], picks: &[u64], facts: &mut [u64]) -> Reply
+    requires { ⌜ FactsRoom (now site) 16 (length (now facts)) × (bit (now facts) ≡ λ i. false) ⌝ }
+    ensures { λ r. ⌜ resultOf r ≡ judge usual (now (question .entry)) (now (site .entry)) (asNumbers (now (picks .entry))) ⌝ }
+{
+    let o = sheets::read_case(question, site, asking::ELEMENTS, facts);
+    if o.fault != 0 {
+        return Reply::Refused(o.fault, o.place);
+    }
+    judge_case(question, o, facts, picks)
 }
 
 // Whether the rule is true of picks that are lent as words.
 pub fn judge_lent(question: &[u8], site: &[u8], picks: &[u64]) -> Reply
-    ensures { λ r. ⌜ resultOf r ≡ judge (now (question .entry)) (now (site .entry)) (asNumbers (now (picks .entry))) ⌝ }
+    ensures { λ r. ⌜ resultOf r ≡ judge usual (now (question .entry)) (now (site .entry)) (asNumbers (now (picks .entry))) ⌝ }
 {
-    let mut facts = [0u64; 512];
-    let o = opening::read_case(question, site, &mut facts);
-    if o.fault != 0 {
-        return Reply::Refused(o.fault, o.place);
-    }
-    judge_case(question, o, &facts, picks)
+    let mut facts = [0u64; asking::FACTS];
+    judge_lent_in(question, site, picks, &mut facts)
 }

@@ -1,4 +1,4 @@
--- Laws about the definitions that more than one crate uses.
+-- Laws about the definitions alone: what both the code and the demands rest on.
 --   Booleans, Lists    tests as facts; members of lists
 --   Results            answers, accepted or refused
 --   Positions          the first element that passes a test
@@ -11,6 +11,26 @@
 --   Words              states and picks as words
 --   Copies             a buffer copied element by element
 --   Walks              one walk of a tree: its visits and its counts
+-- From a case that was read to its problem, each on those before it:
+--   Asked              what every call begins with: the order of refusals, and what is known then
+--   Reader             what an accepted question and site have
+--   Meaning            the tree means what the rule as written means
+--   Parts              trees: free levels, nodes by preorder number
+--   Means              what each atom means in the proof phase; the nodes' actions keep to it
+--   Valid              actions need, add and remove atoms of the problem only; a step on atoms
+--   Sound              steps that reach the goal set picks that solve the case
+--   Grounded           an accepted case's problem has what the laws ask of one
+--   Kinds              the declared kinds as tested and as said
+--   Picks              picks in the words of the definitions
+--   Pairs              picks as relation and row, in the order of the atoms
+--   Does               the proof phase of the built steps
+--   Complete           the built steps reach the goal and are read as the picks
+--   Count              how many they are, and that the bound is not passed
+--   Lent               picks as words
+--   Building           what building answers
+--   Decimals           numbers written and read
+--   Lines, Told        lines and fields of a text; what a sheet that was read tells of its text
+--   Refusals           which numbers each call refuses with
 pub mod Booleans
 pub mod Lists
 pub mod Results
@@ -24,3 +44,23 @@ pub mod Numbers
 pub mod Words
 pub mod Copies
 pub mod Walks
+pub mod Asked
+pub mod Reader
+pub mod Meaning
+pub mod Parts
+pub mod Means
+pub mod Valid
+pub mod Sound
+pub mod Grounded
+pub mod Kinds
+pub mod Picks
+pub mod Pairs
+pub mod Does
+pub mod Complete
+pub mod Count
+pub mod Lent
+pub mod Building
+pub mod Decimals
+pub mod Lines
+pub mod Told
+pub mod Refusals

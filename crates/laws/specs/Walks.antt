@@ -8,15 +8,15 @@ use native.Mathlib.Nat.{mul-one}
 use lib.Dec.{ltb}
 use lib.ListN.{length, length-append, length-map}
 use Rattle.definitions.specs.Lists.{mapFrom, from, below, sum}
-use Rattle.definitions.specs.Limits.{atomLimit, actionLimit}
+use Rattle.definitions.specs.Limits.{CaseLimits}
 use Rattle.definitions.specs.Refusal.{Result, refused, accepted, _>>=_, refuseIf}
 use Rattle.definitions.specs.Truth.{Case}
 use Rattle.definitions.specs.Tree.{Tree, Trees, leaf, forallNode, existsNode, andNode, orNode, end, _then_, Part, isForall, nodes, nodesAll, treeOf}
 use Rattle.definitions.specs.Atoms.{Problem, problemOf, problemWith, Block, countOf, rowsOf, nodeWidth, relationsBlocks, nodesBlocks, atomBlocks, atoms, nodeAtoms}
 use Rattle.definitions.specs.Actions.{Action, beginProof, proveGoal, choices, proofsOf, setBlocks, proofBlocks, actionBlocks, actions}
 use Rattle.definitions.specs.Built.{mostPicks, bound}
-use Rattle.definitions.specs.Outcome.{Sizes, sizesOf, readCase, ground, readProblem, sizes}
-use Rattle.definitions.specs.Tally.{nothing, thenWalk, visit, walk, walkAll, walked, Tally, tallyOf, tally}
+use Rattle.definitions.specs.Outcome.{Sizes, sizesOf, readCase, ground, sizes, Ready, asked, nothing}
+use Rattle.definitions.specs.Tally.{noWalk, thenWalk, visit, walk, walkAll, walked, Tally, tallyOf, tally}
 use Rattle.laws.specs.Lists.{from-append}
 use Rattle.laws.specs.Blocks.{count-append}
 
@@ -33,7 +33,7 @@ map-append f (x ∷ l) m = ap (_∷_ (f x)) (map-append f l m)
 
 module _ (n : ℕ) (R : ℕ → List ℕ) where
   mutual
-    unfolding walk nothing thenWalk visit nodes
+    unfolding walk noWalk thenWalk visit nodes
 
     pub walk-nodes : (v : ℕ) (t : Tree) → treesOf (walk n R v t .visited) ≡ nodes t
     walk-nodes v (leaf p r ls) = refl
@@ -52,7 +52,7 @@ module _ (n : ℕ) (R : ℕ → List ℕ) where
   walk-length v t = sym (length-map (walk n R v t .visited) (λ (q : Part). q .tree)) ∙ ap length (walk-nodes v t)
 
   mutual
-    unfolding walk nothing thenWalk visit nodes from
+    unfolding walk noWalk thenWalk visit nodes from
 
     pub walk-visits : (v : ℕ) (t : Tree) → numbersOf (walk n R v t .visited) ≡ from v (length (nodes t))
     walk-visits v (leaf p r ls) = refl
@@ -79,7 +79,7 @@ module _ (n : ℕ) (R : ℕ → List ℕ) where
   sum-append f (x ∷ l) m = let e = sum-append f l m in omega arith
 
   mutual
-    unfolding walk nothing thenWalk visit nodes sum nodeWidth isForall
+    unfolding walk noWalk thenWalk visit nodes sum nodeWidth isForall
 
     pub walk-atoms : (v : ℕ) (t : Tree) → walk n R v t .atomCount ≡ sum (map (nodeWidth n) (nodes t))
     walk-atoms v (leaf p r ls) = refl
@@ -93,7 +93,7 @@ module _ (n : ℕ) (R : ℕ → List ℕ) where
     all-atoms v (t then ts) = ap₂ _+_ (walk-atoms v t) (all-atoms (v + length (walk n R v t .visited)) ts) ∙ sym (sum-append (nodeWidth n) (nodes t) (nodesAll ts))
 
   mutual
-    unfolding walk nothing thenWalk visit nodes sum proofsOf choices
+    unfolding walk noWalk thenWalk visit nodes sum proofsOf choices
 
     pub walk-actions : (v : ℕ) (t : Tree) → walk n R v t .actionCount ≡ sum (map (proofsOf n R) (nodes t))
     walk-actions v (leaf p r ls) = refl
@@ -170,22 +170,22 @@ tally-is c =
     (ap (λ (x : ℕ). sum (map (mostPicks n) (p .relations)) + x + 2) a ∙ sym (bound-parts p))
 
 -- ---- the sizes that a call answers are the tally's, where they are within the limits
-abbrev pub within : Tally → Result Sizes
-within t = refuseIf (ltb atomLimit (t .sizes .atomCount) || ltb actionLimit (t .sizes .actionCount)) 11 zero >>= λ _. accepted (t .sizes)
+abbrev pub within : CaseLimits → Tally → Result Sizes
+within L t = refuseIf (ltb (L .atoms) (t .sizes .atomCount) || ltb (L .actions) (t .sizes .actionCount)) 11 zero >>= λ _. accepted (t .sizes)
 
-limited : (p : Problem) (b : Bool) → (refuseIf b 11 zero >>= (λ _. accepted p) >>= λ p. accepted (sizesOf p)) ≡ (refuseIf b 11 zero >>= λ _. accepted (sizesOf p))
-unfolding refuseIf _>>=_
-limited p true = refl
-limited p false = refl
+module _ (L : CaseLimits) where
+  abbrev sized : Case → Problem → Result Sizes
+  sized c p = accepted (record { case = c; problem = p; third = tt }) >>= λ (r : Ready (Unit {0})). accepted (sizesOf (r .problem))
 
-ground-sizes : (c : Case) → (ground c >>= λ p. accepted (sizesOf p)) ≡ within (tallyOf (problemOf c))
-unfolding ground sizesOf
-ground-sizes c = limited (problemOf c) (ltb atomLimit (atoms (problemOf c)) || ltb actionLimit (actions (problemOf c))) ∙ ap within (sym (tally-is c))
+  limited : (c : Case) (b : Bool) → (refuseIf b 11 zero >>= (λ _. accepted (problemOf c)) >>= (λ p. accepted (record { case = c; problem = p; third = tt })) >>= λ (r : Ready (Unit {0})). accepted (sizesOf (r .problem))) ≡ (refuseIf b 11 zero >>= λ _. accepted (sizesOf (problemOf c)))
+  unfolding refuseIf _>>=_
+  limited c true = refl
+  limited c false = refl
 
-pub sizes-tally : (question site : List ℕ) → sizes question site ≡ (tally question site >>= within)
-unfolding sizes readProblem tally _>>=_
-sizes-tally question site = go (readCase question site)
-  where
-    go : (m : Result Case) → (m >>= ground >>= λ p. accepted (sizesOf p)) ≡ (m >>= (λ c. accepted (tallyOf (problemOf c))) >>= within)
-    go (refused k place) = refl
-    go (accepted c) = ground-sizes c
+  pub sizes-tally : (question site : List ℕ) → sizes L question site ≡ (tally L question site >>= within L)
+  unfolding sizes asked nothing tally ground sizesOf _>>=_
+  sizes-tally question site = go (readCase L question site)
+    where
+      go : (m : Result Case) → (m >>= (λ c. ground L c >>= λ p. accepted (record { case = c; problem = p; third = tt })) >>= λ (r : Ready (Unit {0})). accepted (sizesOf (r .problem))) ≡ (m >>= (λ c. accepted (tallyOf (problemOf c))) >>= within L)
+      go (refused k place) = refl
+      go (accepted c) = limited c (ltb (L .atoms) (atoms (problemOf c)) || ltb (L .actions) (actions (problemOf c))) ∙ ap (within L) (sym (tally-is c))

@@ -5,7 +5,6 @@ use mathlib.Core.List.{List}
 use Prim.Native.Nat.{ℕ, zero, suc, _+_, _*_, _^_, _≤_, _<_}
 use lib.Dec.{ltb}
 use lib.ListN.{length, getD}
-use Rattle.definitions.specs.Limits.{atomLimit, actionLimit}
 use Rattle.definitions.specs.Lists.{if_then_else_, below}
 use Rattle.definitions.specs.Tree.{nodes}
 use Rattle.definitions.specs.Atoms.{Problem, relationAt, tuplesOf, relationStart, nodeStart, atoms}
@@ -118,10 +117,14 @@ pub record Small (l : Layout) (b : ℕ) : Type 0 where
   pub node : Most (l .node) b
   pub act : Most (l .act) b
 
-pub record Laid (p : Problem) (m : Made) : Type 0 where
-  pub over-is : m .over ≡ (ltb atomLimit (atoms p) || ltb actionLimit (actions p))
+-- no atom or action of a problem that is laid out has a number above this, whatever the limits
+abbrev pub numberLimit : ℕ
+numberLimit = 8388608
+
+pub record Laid (mostAtoms mostActions : ℕ) (p : Problem) (m : Made) : Type 0 where
+  pub over-is : m .over ≡ (ltb mostAtoms (atoms p) || ltb mostActions (actions p))
   pub atoms-are : m .atoms ≡ atoms p
   pub actions-are : m .actions ≡ actions p
   pub bound-is : m .bound ≡ bound p
   pub starts : Starts p (m .layout)
-  pub small : m .over ≡ false → Small (m .layout) actionLimit
+  pub small : m .over ≡ false → Small (m .layout) numberLimit

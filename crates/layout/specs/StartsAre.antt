@@ -9,7 +9,6 @@ use borrow.Author.Tests.{lt-ltb, le-ltb}
 use lib.Dec.{ltb}
 use lib.ListN.{length, getD, take, drop, length-map, length-drop}
 use lib.Seq.{take-all, length-take-le}
-use Rattle.definitions.specs.Limits.{atomLimit, actionLimit}
 use Rattle.definitions.specs.Lists.{if_then_else_, sum}
 use Rattle.definitions.specs.Relations.{Kind, static, plain, Fun, PFun, Inj, PInj, Relation, isChosen, isFunction, isInjective}
 use Rattle.definitions.specs.Tree.{Tree, leaf, forallNode, existsNode, andNode, orNode, parts, nodes, isForall}
@@ -25,7 +24,7 @@ use Rattle.tree.specs.declared.Nodes.{Nodes}
 use Rattle.ground.specs.Of.{kindNumber}
 use Rattle.ground.specs.OfLaws.{parts-length}
 use Rattle.layout.specs.declared.Relations.{Relations}
-use Rattle.layout.specs.Laid.{relationWidth, setWidth, mostWidth, nodeWidth, choicesOf, relationSum, setSum, pickSum, nodeSum, actSum, RelationsLaid, NodesLaid, Inputs, Laid}
+use Rattle.layout.specs.Laid.{relationWidth, setWidth, mostWidth, nodeWidth, choicesOf, relationSum, setSum, pickSum, nodeSum, actSum, RelationsLaid, NodesLaid, Inputs, Laid, numberLimit}
 
 -- ---- by the kind
 width-is : (n T : ℕ) (k : Kind) → relationWidth n T (kindNumber k) ≡ T + (T + ((if isFunction k then n else 0) + (if isInjective k then n else 0)))
@@ -205,11 +204,11 @@ module _ (p : Problem) (g : Relations) (t : Nodes) (is : Inputs p (p .size) g t)
       let d : at ≡ nodeStart p 0 = at-is ∙ sym (node-first p) in
       omega (arith, a, b, d, end-is)
 
-  laid-at : (over : Bool) → over ≡ (ltb atomLimit end || ltb actionLimit (acts + 1))
-      → Laid p (record { over = over; atoms = end; actions = acts + 1; bound = picks + (end - at) + 2; layout = record { rel = rel; neg = neg; dom = dom; set = sets; node = node; act = act } })
-  laid-at over f =
+  laid-at : (a b : ℕ) → a ≤ numberLimit → b ≤ numberLimit → (over : Bool) → over ≡ (ltb a end || ltb b (acts + 1))
+      → Laid a b p (record { over = over; atoms = end; actions = acts + 1; bound = picks + (end - at) + 2; layout = record { rel = rel; neg = neg; dom = dom; set = sets; node = node; act = act } })
+  laid-at a b fa fb over f =
       record {
-        over-is = f ∙ ap₂ (λ (x y : ℕ). ltb atomLimit x || ltb actionLimit y) end-is acts-is;
+        over-is = f ∙ ap₂ (λ (x y : ℕ). ltb a x || ltb b y) end-is acts-is;
         atoms-are = end-is;
         actions-are = acts-is;
         bound-is = bound-is;
@@ -226,7 +225,7 @@ module _ (p : Problem) (g : Relations) (t : Nodes) (is : Inputs p (p .size) g t)
           act = λ v h. act-at v (omega (arith, count-is p g t is));
         };
         small = λ y.
-            let q = neither atomLimit actionLimit end (acts + 1) (sym f ∙ y) in
+            let q = neither a b end (acts + 1) (sym f ∙ y) in
             let u = q .0 in
             let w = q .1 in
             let v = low in
@@ -242,11 +241,11 @@ module _ (p : Problem) (g : Relations) (t : Nodes) (is : Inputs p (p .size) g t)
       }
 
 pub laid : (n : ℕ) (p : Problem) (g : Relations) (t : Nodes) → Inputs p n g t → Fits t → (rel neg dom sets node act : List ℕ) (at st picks end acts : ℕ) (over : Bool)
-    → RelationsLaid n g (g .count) rel neg dom sets at st picks → NodesLaid n t at (st + 1) (t .count) node act end acts → over ≡ (ltb atomLimit end || ltb actionLimit (acts + 1))
-    → Laid p (record { over = over; atoms = end; actions = acts + 1; bound = picks + (end - at) + 2; layout = record { rel = rel; neg = neg; dom = dom; set = sets; node = node; act = act } })
-laid n p g t is f rel neg dom sets node act at st picks end acts over L N o =
+    → RelationsLaid n g (g .count) rel neg dom sets at st picks → NodesLaid n t at (st + 1) (t .count) node act end acts → (a b : ℕ) → a ≤ numberLimit → b ≤ numberLimit → over ≡ (ltb a end || ltb b (acts + 1))
+    → Laid a b p (record { over = over; atoms = end; actions = acts + 1; bound = picks + (end - at) + 2; layout = record { rel = rel; neg = neg; dom = dom; set = sets; node = node; act = act } })
+laid n p g t is f rel neg dom sets node act at st picks end acts over L N a b fa fb o =
     laid-at p g t (subst (λ (m : ℕ). Inputs p m g t) (is .size) is) f rel neg dom sets node act at st picks end acts
-    (subst (λ (m : ℕ). RelationsLaid m g (g .count) rel neg dom sets at st picks) (is .size) L) (subst (λ (m : ℕ). NodesLaid m t at (st + 1) (t .count) node act end acts) (is .size) N) over o
+    (subst (λ (m : ℕ). RelationsLaid m g (g .count) rel neg dom sets at st picks) (is .size) L) (subst (λ (m : ℕ). NodesLaid m t at (st + 1) (t .count) node act end acts) (is .size) N) a b fa fb over o
 
 -- the nodes' starts begin with the first
 pub nodes-low : (n from first v : ℕ) (t : Nodes) (node act : List ℕ) (at acts : ℕ) → NodesLaid n t from first v node act at acts → from ≤ at

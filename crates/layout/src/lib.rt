@@ -1,21 +1,24 @@
-// Where the numbers of atoms and actions start, and how many there are.
+// Where the numbers of atoms and actions start, and how many there are; and the flat table that steps read, filled from that.
 ghost use mathlib.Core.Path.{_≡_};
-ghost use mathlib.Core.Bool.{true, _||_};
-ghost use Prim.Native.Nat.{_+_, _*_, _^_, _<_, _≤_};
+ghost use mathlib.Core.Bool.{_||_};
+ghost use Prim.Native.Nat.{_+_, _^_, _<_, _≤_, ℕ};
 ghost use lib.Dec.{ltb};
-ghost use Rattle.definitions.specs.Limits.{atomLimit, actionLimit};
 ghost use Rattle.definitions.specs.Atoms.{Problem};
-ghost use Rattle.tree.specs.Tables.{Fits};
-ghost use Rattle.layout.specs.Laid.{relationWidth, setWidth, mostWidth, nodeWidth, choicesOf, RelationsFit, Inputs, RelationsLaid, NodesLaid, Laid};
+ghost use Rattle.tree.specs.Tables.{Fits, noPart, PartFits};
+ghost use Rattle.layout.specs.Laid.{relationWidth, setWidth, mostWidth, nodeWidth, choicesOf, RelationsFit, Inputs, RelationsLaid, NodesLaid, Laid, Small, numberLimit};
+ghost use lib.ListN.{getD, length};
+ghost use Rattle.rows.specs.Values.{Most};
+ghost use Rattle.ground.specs.Lines.{tableLength, rootPlace};
+ghost use Rattle.definitions.specs.Lists.{below, greatest};
+ghost use Rattle.layout.specs.Filled.{relationsPlace, nodesPlace, partsPlace, rangeStart, rangeCount, splice, nodeFrom, nodeNumbers, startIn, numbersFrom, partNumbers, relationLines, nodeLines, partLines, tableOf, Filled};
+use tree::NodeRow;
+use tree::Nodes;
+use tree::PartRow;
 
 // The most relations that a question has: five built in, those of 8 `rel` and 4 `choose` lines.
 pub const RELATIONS: usize = 17;
 
 pub const NODES: usize = tree::NODES;
-
-const ATOM_LIMIT: usize = 65536;
-
-const ACTION_LIMIT: usize = 131072;
 
 // The relations by number: arity and kind (0 static, 1 plain, 2 Fun, 3 PFun, 4 Inj, 5 PInj) of each.
 pub struct Relations {
@@ -160,12 +163,6 @@ fn relation_starts(n: usize, g: Relations) -> RelationStarts
     }
 }
 
-pub fn wide(x: u8) -> usize
-    ensures { λ r. ⌜ r ≡ x ⌝ }
-{
-    x as usize
-}
-
 fn node_starts(n: usize, t: tree::Nodes, from: usize, first: usize) -> NodeStarts
     requires { ⌜ (0 < n) × (n ≤ 64) × Fits t × (from ≤ 2 ^ 32) × (first ≤ 2 ^ 32) ⌝ }
     ensures { λ r. ⌜ NodesLaid n t from first (t .count) (r .node) (r .act) (r .at) (r .acts) ⌝ }
@@ -179,10 +176,10 @@ fn node_starts(n: usize, t: tree::Nodes, from: usize, first: usize) -> NodeStart
     let mut v: usize = 0;
     while v < t.count {
         let row = t.rows[v];
-        let kind = wide(row.kind);
-        let rows = rows::power(n, wide(row.width));
+        let kind = tree::wide(row.kind);
+        let rows = rows::power(n, tree::wide(row.width));
         at = at + node_width(n, rows, kind);
-        acts = acts + rows * choices(n, kind, wide(row.many));
+        acts = acts + rows * choices(n, kind, tree::wide(row.many));
         v += 1;
         node[v] = at;
         act[v] = acts;
@@ -196,19 +193,25 @@ fn node_starts(n: usize, t: tree::Nodes, from: usize, first: usize) -> NodeStart
 }
 
 // There are more atoms or actions than the limits allow.
-pub fn too_many(atoms: usize, actions: usize) -> bool
-    ensures { λ r. ⌜ r ≡ (ltb atomLimit atoms || ltb actionLimit actions) ⌝ }
+pub fn too_many(atoms: usize, actions: usize, most_atoms: usize, most_actions: usize) -> bool
+    ensures { λ r. ⌜ r ≡ (ltb «most_atoms» atoms || ltb «most_actions» actions) ⌝ }
 {
-    if ATOM_LIMIT < atoms {
+    if most_atoms < atoms {
         return true;
     }
-    ACTION_LIMIT < actions
+    most_actions < actions
 }
 
-// The layout of n elements, the relations and the nodes of a tree.
-pub fn lay_out(n: usize, g: Relations, t: tree::Nodes) -> Made
-    requires { ⌜ (0 < n) × (n ≤ 64) × RelationsFit g × Fits t ⌝ }
-    ensures { λ r. ⌜ ((p : Problem) → Inputs p n g t → Laid p r) ⌝ }
+// The layout of n elements, the relations and the nodes of a tree, and whether these are more atoms or actions than there may be.
+pub fn lay_out(
+    n: usize,
+    g: Relations,
+    t: tree::Nodes,
+    most_atoms: usize,
+    most_actions: usize,
+) -> Made
+    requires { ⌜ (0 < n) × (n ≤ 64) × RelationsFit g × Fits t × («most_atoms» ≤ numberLimit) × («most_actions» ≤ numberLimit) ⌝ }
+    ensures { λ r. ⌜ ((p : Problem) → Inputs p n g t → Laid «most_atoms» «most_actions» p r) ⌝ }
 {
     let r = relation_starts(n, g);
     let first = r.sets + 1;
@@ -216,7 +219,7 @@ pub fn lay_out(n: usize, g: Relations, t: tree::Nodes) -> Made
     let atoms = s.at;
     let actions = s.acts + 1;
     let bound = r.picks + (atoms - r.at) + 2;
-    let over = too_many(atoms, actions);
+    let over = too_many(atoms, actions, most_atoms, most_actions);
     let rel = r.rel;
     let neg = r.neg;
     let dom = r.dom;
@@ -238,4 +241,186 @@ pub fn lay_out(n: usize, g: Relations, t: tree::Nodes) -> Made
         bound,
         layout,
     }
+}
+
+// The numbers of a line are written from place `at` on.
+pub fn store(table: &mut [usize], at: usize, line: &[usize])
+    requires { ⌜ at + length (now line) ≤ length (now table) ⌝ }
+    ensures { λ r. ⌜ now (table .exit) ≡ splice at (now (line .entry)) (now (table .entry)) ⌝ }
+{
+    let mut j: usize = 0;
+    while j < line.len() {
+        table[at + j] = line[j];
+        j += 1;
+    }
+}
+
+// The lines of the relations, and the line past the last.
+fn fill_relations(table: &mut [usize], g: Relations, l: Layout)
+    requires { ⌜ (length (now table) ≡ tableLength) × RelationsFit g ⌝ }
+    ensures { λ r. ⌜ now (table .exit) ≡ splice relationsPlace (relationLines g l) (now (table .entry)) ⌝ }
+{
+    let mut r: usize = 0;
+    while r < g.count {
+        let line = [l.set[r], l.rel[r], l.neg[r], l.dom[r], g.kind[r]];
+        store(
+            table,
+            ground::RELATION_AT + ground::RELATION_LINE * r,
+            &line,
+        );
+        r += 1;
+    }
+    let last = [l.set[r], l.rel[r], 0, 0, 0];
+    store(
+        table,
+        ground::RELATION_AT + ground::RELATION_LINE * r,
+        &last,
+    );
+}
+
+// Where the range of a node of that kind starts, and how many elements it has: a quantifier's is that of all elements.
+fn range_start(kind: usize) -> usize
+    ensures { λ r. ⌜ (r ≡ rangeStart kind) × (r ≤ tableLength) ⌝ }
+{
+    if kind < 2 {
+        return ground::RANGE_AT;
+    }
+    0
+}
+
+fn range_count(n: usize, kind: usize) -> usize
+    requires { ⌜ n ≤ 64 ⌝ }
+    ensures { λ r. ⌜ (r ≡ rangeCount n kind) × (r ≤ 64) ⌝ }
+{
+    if kind < 2 {
+        return n;
+    }
+    0
+}
+
+// The line of a node whose actions and atoms start there.
+fn node_numbers(n: usize, act: usize, node: usize, x: NodeRow) -> [usize; 13]
+    requires { ⌜ (n ≤ 64) × (act ≤ numberLimit) × (node ≤ numberLimit) ⌝ }
+    ensures { λ r. ⌜ (r ≡ nodeFrom n act node x) × Most r (2 ^ 32) ⌝ }
+{
+    let ls = x.levels;
+    let kind = tree::wide(x.kind);
+    let range = range_start(kind);
+    let count = range_count(n, kind);
+    [
+        act,
+        node,
+        kind,
+        tree::wide(x.level),
+        tree::wide(x.first),
+        tree::wide(x.many),
+        tree::wide(x.width),
+        tree::wide(ls[0]),
+        tree::wide(ls[1]),
+        tree::wide(ls[2]),
+        tree::wide(ls[3]),
+        range,
+        count,
+    ]
+}
+
+// The lines of the nodes, and the line past the last.
+fn fill_nodes(table: &mut [usize], n: usize, t: Nodes, l: Layout)
+    requires { ⌜ (length (now table) ≡ tableLength) × (n ≤ 64) × Fits t × Small l numberLimit ⌝ }
+    ensures { λ r. ⌜ (now (table .exit) ≡ splice nodesPlace (nodeLines n t l) (now (table .entry))) × ((v : ℕ) → v < t .count → Most (nodeNumbers n t l v) (2 ^ 32)) ⌝ }
+{
+    let mut v: usize = 0;
+    while v < t.count {
+        let x = t.rows[v];
+        let line = node_numbers(n, l.act[v], l.node[v], x);
+        store(table, ground::NODE_AT + ground::NODE_LINE * v, &line);
+        v += 1;
+    }
+    let last = [l.act[v], l.node[v], 0, 0, 0, 0, 0, 0, 0, 0, 0, 0, 0];
+    store(table, ground::NODE_AT + ground::NODE_LINE * v, &last);
+}
+
+// Where the atoms of a part's relation or node start; the arrays of a layout come as slices, so that no call copies it.
+fn start_of(rel: &[usize], neg: &[usize], node: &[usize], tag: u8, which: usize) -> usize
+    requires { ⌜ (tag < 2 → which < 17) × (2 ≤ tag → which < 64) × (17 ≤ length (now rel)) × (17 ≤ length (now neg)) × (64 ≤ length (now node)) ⌝ }
+    ensures { λ r. ⌜ r ≡ startIn (now (rel .entry)) (now (neg .entry)) (now (node .entry)) tag which ⌝ }
+{
+    if tag == 0 {
+        return rel[which];
+    }
+    if tag == 1 {
+        return neg[which];
+    }
+    node[which]
+}
+
+// The greatest of all elements.
+fn greatest_of(n: usize) -> usize
+    requires { ⌜ 0 < n ⌝ }
+    ensures { λ r. ⌜ (r ≡ greatest (below n)) × (r < n) ⌝ }
+{
+    n - 1
+}
+
+// The line of a part whose atoms start there; a `forall` stands for its atom at the greatest element of its range.
+fn part_numbers(n: usize, start: usize, q: PartRow) -> [usize; 5]
+    requires { ⌜ (0 < n) × (n ≤ 64) × PartFits q × (start ≤ numberLimit) ⌝ }
+    ensures { λ r. ⌜ (r ≡ numbersFrom n start q) × Most r (2 ^ 32) ⌝ }
+{
+    let levels = q.levels;
+    let w = rows::weights(n, levels, tree::wide(q.width));
+    if q.tag == 2 {
+        let top = greatest_of(n);
+        return [start + top, w[0] * n, w[1] * n, w[2] * n, w[3] * n];
+    }
+    [start, w[0], w[1], w[2], w[3]]
+}
+
+// The lines of the parts, and the root's.
+fn fill_parts(table: &mut [usize], n: usize, t: Nodes, l: Layout)
+    requires { ⌜ (length (now table) ≡ tableLength) × (0 < n) × (n ≤ 64) × Fits t × Small l numberLimit ⌝ }
+    ensures { λ r. ⌜ (now (table .exit) ≡ splice rootPlace (partNumbers n l (t .root)) (splice partsPlace (partLines n t l) (now (table .entry))))
+        × ((i : ℕ) → i < t .placed → Most (partNumbers n l (getD (t .parts) i noPart)) (2 ^ 32)) × Most (partNumbers n l (t .root)) (2 ^ 32) ⌝ }
+{
+    let rel = l.rel;
+    let neg = l.neg;
+    let node = l.node;
+    let mut i: usize = 0;
+    while i < t.placed {
+        let q = t.parts[i];
+        let start = start_of(&rel, &neg, &node, q.tag, tree::wide(q.which));
+        let line = part_numbers(n, start, q);
+        store(table, ground::PART_AT + ground::PART_LINE * i, &line);
+        i += 1;
+    }
+    let q = t.root;
+    let start = start_of(&rel, &neg, &node, q.tag, tree::wide(q.which));
+    let last = part_numbers(n, start, q);
+    store(table, ground::ROOT_AT, &last);
+}
+
+// The range of all elements, from place `at` on.
+pub fn fill_range(table: &mut [usize], at: usize, n: usize)
+    requires { ⌜ at + n ≤ length (now table) ⌝ }
+    ensures { λ r. ⌜ now (table .exit) ≡ splice at (below n) (now (table .entry)) ⌝ }
+{
+    let mut i: usize = 0;
+    while i < n {
+        table[at + i] = i;
+        i += 1;
+    }
+}
+
+// The whole table, in place of zeros: the lines past the last relation, node and part stay as they were.
+pub fn fill(table: &mut [usize], n: usize, g: Relations, t: Nodes, l: Layout)
+    requires { ⌜ (length (now table) ≡ tableLength) × Most (now table) 0 × (0 < n) × (n ≤ 64) × RelationsFit g × Fits t × Small l numberLimit ⌝ }
+    ensures { λ r. ⌜ (now (table .exit) ≡ tableOf n g t l (now (table .entry))) × Filled n g t l (now (table .exit)) ⌝ }
+{
+    table[0] = n;
+    table[1] = g.count;
+    table[2] = t.count;
+    fill_relations(table, g, l);
+    fill_nodes(table, n, t, l);
+    fill_parts(table, n, t, l);
+    fill_range(table, ground::RANGE_AT, n);
 }

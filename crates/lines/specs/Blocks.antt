@@ -14,7 +14,7 @@ use Rattle.definitions.specs.Truth.{Case, membersOf}
 use Rattle.definitions.specs.Tree.{Tree, Trees, leaf, forallNode, existsNode, andNode, orNode, end, _then_, Part, partsFrom, nodes, occurs}
 use Rattle.definitions.specs.Actions.{Values, withValue}
 use Rattle.definitions.specs.Built.{treeHolds, treesHold, someHolds}
-use Rattle.reduction.specs.Parts.{holds-same}
+use Rattle.laws.specs.Parts.{holds-same}
 use Rattle.ground.specs.Of.{noPart}
 use Rattle.truth.specs.Lines.{agree, valueOf, valuesOf, decided, joined, bound}
 use Rattle.truth.specs.Laws.{same-value}

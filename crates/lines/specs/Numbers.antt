@@ -9,12 +9,12 @@ use native.Mathlib.Decide.{decLt}
 use borrow.Author.Tests.{lt-ltb, le-ltb, eq-eqb, ne-eqb, ltb-true, ltb-false}
 use lib.Dec.{eqb, ltb}
 use lib.ListN.{length, getD, take, set}
-use lib.Seq.{paste, paste-suc, getD-set-same, getD-set-other}
+use lib.Seq.{getD-set-same, getD-set-other}
 use Rattle.definitions.specs.Lists.{if_then_else_, any, below}
 use Rattle.laws.specs.Lists.{length-below, getD-below}
 use Rattle.definitions.specs.Atoms.{wordsFor, problemOf}
 use Rattle.definitions.specs.Truth.{Case}
-use Rattle.reduction.specs.Reader.{Accepted}
+use Rattle.laws.specs.Reader.{Accepted}
 use Rattle.tree.specs.Tables.{noPart, noNode, PartFits, Fits}
 use Rattle.tree.specs.declared.PartRow.{PartRow}
 use Rattle.tree.specs.declared.NodeRow.{NodeRow}
@@ -26,8 +26,8 @@ use Rattle.layout.specs.LaidLaws.{pow-most}
 use Rattle.definitions.specs.Actions.{Values}
 use native.Mathlib.Nat.{zero-add}
 use Rattle.ground.specs.declared.PartLine.{PartLine}
-use Rattle.table.specs.Filled.{splice, tab}
-use Rattle.table.specs.SpliceLaws.{each-most, ZeroFrom, length-splice, read-in, read-before, read-after, read-from, splice-all, zeros-after, length-tab, tab-at, tab-next, tab-most}
+use Rattle.layout.specs.Filled.{splice, tab}
+use Rattle.layout.specs.SpliceLaws.{each-most, ZeroFrom, length-splice, read-in, read-before, read-after, read-from, zeros-after, length-tab, tab-at, tab-next, tab-most}
 use Rattle.truth.specs.Lines.{rangesPlace, linesLength, nodeIn, partIn, lineIn}
 use Rattle.truth.specs.declared.NodeAt.{NodeAt}
 use Rattle.lines.specs.Lined.{factWords, chooseWords, factSum, chooseSum, sourceOf, firstBit, bitOf, partOf, lineOf, turnsOf, ownLine, blockLine, nodeOf, Lined}
@@ -430,12 +430,3 @@ all-lined n g t d x y z len zeros few parts size e nm f pm rm h =
     subst (Lined n g t)
     (sym (h ∙ ap (splice rangesPlace (below n)) (f ∙ ap (λ (z : List ℕ). splice 896 (partList n g (t .root)) (splice 448 (tab (partLines n g t) (t .placed)) z)) e)))
     (lined n g t d len zeros few parts size nm pm rm)
-
--- the range of all elements, number by number
-pub range-turn : (d w : List ℕ) (n i : ℕ) → rangesPlace + n ≤ length d → i < n → w ≡ paste d rangesPlace (below n) i → set w (rangesPlace + i) i ≡ paste d rangesPlace (below n) (i + 1)
-range-turn d w n i h k e =
-    ap (λ (x : List ℕ). set x (rangesPlace + i) i) e ∙ ap (set (paste d rangesPlace (below n) i) (rangesPlace + i)) (sym (getD-below n i k))
-    ∙ paste-suc d rangesPlace (below n) i 0 (omega arith) (omega (arith, length-below n)) ∙ ap (paste d rangesPlace (below n)) (sym (add-one i))
-
-pub range-end : (d w : List ℕ) (n i : ℕ) → i ≤ n → n ≤ i → w ≡ paste d rangesPlace (below n) i → w ≡ splice rangesPlace (below n) d
-range-end d w n i h k e = e ∙ splice-all d rangesPlace (below n) i (omega (arith, length-below n)) (omega (arith, length-below n))

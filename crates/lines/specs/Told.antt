@@ -3,7 +3,7 @@ use mathlib.Core.Path.{_≡_, refl, sym, ap, ap₂, subst, _∙_}
 use mathlib.Core.Logic.{inl, inr}
 use mathlib.Core.Bool.{Bool, true, false, not, _||_}
 use mathlib.Core.List.{List, [], _∷_, _++_, map}
-use Prim.Native.Nat.{ℕ, zero, suc, _+_, _-_, _*_, _^_, _≤_, _<_}
+use Prim.Native.Nat.{ℕ, zero, suc, _+_, _-_, _^_, _≤_, _<_}
 use native.Mathlib.Omega.{arith}
 use native.Mathlib.Nat.{add-zero, one-le-pow}
 use borrow.Author.Tests.{lt-ltb, le-ltb, eqb-true, ltb-true, ltb-false}
@@ -20,12 +20,12 @@ use Rattle.definitions.specs.Tree.{Tree, Trees, leaf, forallNode, existsNode, a
 use Rattle.definitions.specs.Atoms.{Problem, problemOf, problemWith, relationAt, nodeAt, rowOf}
 use Rattle.definitions.specs.Actions.{Values}
 use Rattle.definitions.specs.Built.{treeHolds}
-use Rattle.reduction.specs.Reader.{Accepted}
-use Rattle.reduction.specs.Grounded.{good}
-use Rattle.reduction.specs.Meaning.{tree-means}
-use Rattle.reduction.specs.Means.{here-at}
-use Rattle.reduction.specs.Parts.{Bnd, bnd-map, Fits, IsNode as NotLeaf, Here, HereAll, under-forall, under-exists, parts-and, parts-or, head-here, tail-here, node-at}
-use Rattle.tree.specs.Tables.{Head, headIn, headOf, headFrom, nodeKind, nodeLevel, noNode, PartFits, IsNode, IsTable, Fits as TreeFits}
+use Rattle.laws.specs.Reader.{Accepted}
+use Rattle.laws.specs.Grounded.{good}
+use Rattle.laws.specs.Meaning.{tree-means}
+use Rattle.laws.specs.Means.{here-at}
+use Rattle.laws.specs.Parts.{Bnd, bnd-map, Fits, IsNode as NotLeaf, Here, HereAll, under-forall, under-exists, parts-and, parts-or, head-here, tail-here, node-at}
+use Rattle.tree.specs.Tables.{Head, headIn, headOf, headFrom, nodeKind, nodeLevel, noNode, PartFits, IsNode, Fits as TreeFits}
 use Rattle.tree.specs.Tables.{noPart as noRow}
 use Rattle.tree.specs.declared.PartRow.{PartRow}
 use Rattle.tree.specs.declared.NodeRow.{NodeRow}

@@ -1,46 +1,26 @@
 // The lines of `truth`, filled from the relations and the node table of a rule; and whether the rule is true of picks.
 ghost use mathlib.Core.Path.{_≡_};
 ghost use mathlib.Core.Bool.{true};
-ghost use mathlib.Core.List.{List, [], _∷_};
-ghost use Prim.Native.Nat.{ℕ, _+_, _*_, _^_, _<_, _≤_};
-ghost use lib.ListN.{getD, length};
+ghost use mathlib.Core.List.{List};
+ghost use Prim.Native.Nat.{ℕ, _^_, _<_, _≤_};
+ghost use lib.ListN.{length};
 ghost use Rattle.definitions.specs.Relations.{Tuple};
 ghost use Rattle.definitions.specs.Truth.{Case, arePicks, ruleIsTrue};
 ghost use Rattle.definitions.specs.Atoms.{problemOf};
-ghost use Rattle.reduction.specs.Reader.{Accepted};
+ghost use Rattle.laws.specs.Reader.{Accepted};
 ghost use Rattle.tree.specs.Tables.{PartFits, Fits};
 ghost use Rattle.rows.specs.Values.{Most};
 ghost use Rattle.layout.specs.Laid.{RelationsFit};
-ghost use Rattle.table.specs.Filled.{splice, tab};
+ghost use Rattle.layout.specs.Filled.{splice, tab};
 ghost use Rattle.initial.specs.Initial.{FactsIn};
 ghost use Rattle.picks.specs.Words.{PicksAre};
-ghost use Rattle.definitions.specs.Lists.{below};
-ghost use Rattle.truth.specs.Lines.{rangesPlace, linesLength};
-ghost use Rattle.lines.specs.Lined.{sourceOf, bitOf, firstBit, factWords, chooseWords, turnsOf, ownLine, blockLine, nodeOf, Lined};
+ghost use Rattle.truth.specs.Lines.{linesLength};
+ghost use Rattle.lines.specs.Lined.{sourceOf, firstBit, factWords, chooseWords, turnsOf, ownLine, blockLine, nodeOf, Lined};
 ghost use Rattle.lines.specs.Numbers.{nodeNumbers, partNumbers, partList, nodeLines, partLines, Bits, LinesOf, OfCase};
 use layout::Relations;
 use tree::NodeRow;
 use tree::Nodes;
 use tree::PartRow;
-
-// The numbers of a line are written from place `at` on.
-fn store(lines: &mut [usize], at: usize, line: &[usize])
-    requires { ⌜ at + length (now line) ≤ length (now lines) ⌝ }
-    ensures { λ r. ⌜ now (lines .exit) ≡ splice at (now (line .entry)) (now (lines .entry)) ⌝ }
-{
-    let mut j: usize = 0;
-    while j < line.len() {
-        lines[at + j] = line[j];
-        j += 1;
-    }
-}
-
-// A byte as a number.
-fn wide(x: u8) -> usize
-    ensures { λ r. ⌜ (r ≡ x) × (r < 256) ⌝ }
-{
-    x as usize
-}
 
 // The first bit of a relation, by the words before it.
 fn first_bit(r: usize, kind: usize, facts: usize, picks: usize) -> usize
@@ -113,12 +93,12 @@ fn part_numbers(n: usize, kinds: &[usize], bits: &[usize], q: PartRow) -> [usize
     requires { ⌜ (0 < n) × (n ≤ 64) × PartFits q × (17 ≤ length (now kinds)) × (17 ≤ length (now bits)) × Most (now bits) (2 ^ 32) ⌝ }
     ensures { λ r. ⌜ (r ≡ partNumbers n (now (kinds .entry)) (now (bits .entry)) q) × Most r (2 ^ 32) ⌝ }
 {
-    let which = wide(q.which);
+    let which = tree::wide(q.which);
     let levels = q.levels;
-    let w = rows::weights(n, levels, wide(q.width));
+    let w = rows::weights(n, levels, tree::wide(q.width));
     if q.tag < 2 {
         return [
-            wide(q.tag) + 1,
+            tree::wide(q.tag) + 1,
             source(which, kinds[which]),
             bits[which],
             w[0],
@@ -136,7 +116,7 @@ fn turns_of(n: usize, level: u8, q: PartRow) -> usize
     ensures { λ r. ⌜ (r ≡ turnsOf n level q) × (r ≤ 64) ⌝ }
 {
     let levels = q.levels;
-    let width = wide(q.width);
+    let width = tree::wide(q.width);
     let mut i: usize = 0;
     while i < width {
         if levels[i] == level {
@@ -152,10 +132,10 @@ fn own_line(turns: usize, x: NodeRow) -> [usize; 7]
     requires { ⌜ turns ≤ 64 ⌝ }
     ensures { λ r. ⌜ (r ≡ nodeNumbers (ownLine turns x)) × Most r (2 ^ 32) ⌝ }
 {
-    let kind = wide(x.kind);
-    let level = wide(x.level);
-    let first = wide(x.first);
-    let many = wide(x.many);
+    let kind = tree::wide(x.kind);
+    let level = tree::wide(x.level);
+    let first = tree::wide(x.first);
+    let many = tree::wide(x.many);
     if kind < 2 {
         return [kind, level, 1, first, many, truth::RANGE_AT, turns];
     }
@@ -167,18 +147,18 @@ fn block_line(turns: usize, x: NodeRow, q: PartRow, y: NodeRow) -> [usize; 7]
     requires { ⌜ turns ≤ 64 ⌝ }
     ensures { λ r. ⌜ (r ≡ nodeNumbers (blockLine turns x q y)) × Most r (2 ^ 32) ⌝ }
 {
-    let kind = wide(x.kind);
+    let kind = tree::wide(x.kind);
     if kind < 2 {
         if q.tag < 2 {
             return own_line(turns, x);
         }
-        let join = wide(y.kind);
+        let join = tree::wide(y.kind);
         if join < 2 {
             return own_line(turns, x);
         }
-        let level = wide(x.level);
-        let first = wide(y.first);
-        let many = wide(y.many);
+        let level = tree::wide(x.level);
+        let first = tree::wide(y.first);
+        let many = tree::wide(y.many);
         return [kind, level, join - 2, first, many, truth::RANGE_AT, turns];
     }
     own_line(turns, x)
@@ -189,10 +169,10 @@ fn node_line(n: usize, t: Nodes, x: NodeRow) -> [usize; 7]
     requires { ⌜ (n ≤ 64) × Fits t ⌝ }
     ensures { λ r. ⌜ (r ≡ nodeNumbers (nodeOf n t x)) × Most r (2 ^ 32) ⌝ }
 {
-    let at = wide(x.first);
+    let at = tree::wide(x.first);
     if at < tree::NODES {
         let q = t.parts[at];
-        let which = wide(q.which);
+        let which = tree::wide(q.which);
         let y = t.rows[which];
         return block_line(turns_of(n, x.level, q), x, q, y);
     }
@@ -208,7 +188,7 @@ fn fill_nodes(lines: &mut [usize], n: usize, t: Nodes)
     while v < t.count {
         let x = t.rows[v];
         let line = node_line(n, t, x);
-        store(lines, truth::NODE_LINE * v, &line);
+        layout::store(lines, truth::NODE_LINE * v, &line);
         v += 1;
     }
 }
@@ -233,24 +213,12 @@ fn fill_parts(lines: &mut [usize], n: usize, g: Relations, t: Nodes)
     while i < t.placed {
         let q = t.parts[i];
         let line = part_line(n, g, &bits, q);
-        store(lines, truth::PART_AT + truth::PART_LINE * i, &line);
+        layout::store(lines, truth::PART_AT + truth::PART_LINE * i, &line);
         i += 1;
     }
     let q = t.root;
     let last = part_line(n, g, &bits, q);
-    store(lines, truth::ROOT_AT, &last);
-}
-
-// The range of all elements.
-fn fill_range(lines: &mut [usize], n: usize)
-    requires { ⌜ (length (now lines) ≡ linesLength) × (n ≤ 64) ⌝ }
-    ensures { λ r. ⌜ now (lines .exit) ≡ splice rangesPlace (below n) (now (lines .entry)) ⌝ }
-{
-    let mut i: usize = 0;
-    while i < n {
-        lines[truth::RANGE_AT + i] = i;
-        i += 1;
-    }
+    layout::store(lines, truth::ROOT_AT, &last);
 }
 
 // All lines, in place of zeros.
@@ -260,7 +228,7 @@ pub fn fill(lines: &mut [usize], n: usize, g: Relations, t: Nodes)
 {
     fill_nodes(lines, n, t);
     fill_parts(lines, n, g, t);
-    fill_range(lines, n);
+    layout::fill_range(lines, truth::RANGE_AT, n);
 }
 
 // Whether the rule is true of picks, by the lines of its case: `facts` and `picks` are the bits of the case's facts and of the picks.

@@ -17,8 +17,8 @@ use Rattle.definitions.specs.Tree.{Tree, Trees, leaf, forallNode, existsNode, a
 use Rattle.definitions.specs.Atoms.{Problem, nodeAt, nodeWidth as widthOf}
 use Rattle.definitions.specs.Allowance.{mentions, mentionsIn, allowance}
 use Rattle.laws.specs.Lists.{getD-mem}
-use Rattle.reduction.specs.Parts.{Here, HereAll, IsNode, under-forall, under-exists, parts-and, parts-or, head-here, tail-here, node-at}
-use Rattle.reduction.specs.Means.{Good, here-at}
+use Rattle.laws.specs.Parts.{Here, HereAll, IsNode, under-forall, under-exists, parts-and, parts-or, head-here, tail-here, node-at}
+use Rattle.laws.specs.Means.{Good, here-at}
 use Rattle.tree.specs.Tables.{Head, headFrom, headOf, headIn, noNode, noPart, PartFits, Fits}
 use Rattle.tree.specs.declared.PartRow.{PartRow}
 use Rattle.tree.specs.declared.Nodes.{Nodes}

@@ -6,7 +6,7 @@ ghost use lib.Dec.{eqb, ltb};
 ghost use Rattle.definitions.specs.Lists.{if_then_else_};
 ghost use Rattle.definitions.specs.Allowance.{allowance as «allowance-of»};
 ghost use Rattle.definitions.specs.Atoms.{Problem};
-ghost use Rattle.reduction.specs.Means.{Good};
+ghost use Rattle.laws.specs.Means.{Good};
 ghost use Rattle.tree.specs.Tables.{Fits};
 ghost use Rattle.layout.specs.declared.Relations.{Relations};
 ghost use Rattle.layout.specs.Laid.{Inputs};
@@ -47,20 +47,20 @@ pub fn allowance(n: usize, t: tree::Nodes, r: usize) -> usize
         done += 1;
         let v = t.count - done;
         let row = t.rows[v];
-        let first = layout::wide(row.first);
-        let many = layout::wide(row.many);
+        let first = tree::wide(row.first);
+        let many = tree::wide(row.many);
         let mut hit = false;
         let mut k: usize = 0;
         'parts: while k < many {
             let q = t.parts[first + k];
-            let which = layout::wide(q.which);
+            let which = tree::wide(q.which);
             let marked = marks[which];
             hit = found(hit, q.tag, which, marked, r);
             k += 1;
         }
         marks[v] = hit;
-        let kind = layout::wide(row.kind);
-        let rows = rows::power(n, layout::wide(row.width));
+        let kind = tree::wide(row.kind);
+        let rows = rows::power(n, tree::wide(row.width));
         total = total + counted(hit, layout::node_width(n, rows, kind));
     }
     total

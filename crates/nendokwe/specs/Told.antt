@@ -1,5 +1,5 @@
--- A result as numbers: its refusal's number and place, or 0 and 0; and what of a value is written, where there is one.
-use Prim.Native.Nat.{ℕ, zero, _-_}
+-- What the calls write, by what was returned to them: number and place, the values told, and an action in numbers.
+use Prim.Native.Nat.{ℕ, _-_}
 use mathlib.Core.Path.{_≡_, refl, sym, ap, _∙_}
 use mathlib.Core.Option.{Option, none, some}
 use mathlib.Core.List.{List}
@@ -7,9 +7,9 @@ use lib.ListN.{length}
 use lib.Seq.{length-slice}
 use native.Mathlib.Omega.{arith}
 use Rattle.definitions.specs.Refusal.{Result, refused, accepted, _>>=_}
-use Rattle.definitions.specs.Actions.{Action, set, beginProof, proveAnd, proveOr, proveExists, proveForall, proveGoal}
+use Rattle.definitions.specs.Actions.{Action, actionKind, actionSubject, actionRow, actionChoice}
 use Rattle.definitions.specs.Sheets.{Question, readQuestion}
-use Rattle.definitions.specs.Outcome.{Sizes, spanOf, rulePart}
+use Rattle.definitions.specs.Outcome.{Sizes, spanOf, rulePart, replyNumber, refusalPlace, told}
 use Rattle.question.specs.declared.Asked.{Asked as Read}
 use Rattle.question.specs.Drafts.{QuestionRead, refusedWith}
 use Rattle.ground.specs.declared.Act.{Act}
@@ -23,58 +23,7 @@ use Rattle.cases.specs.declared.Asked.the-variants.{Action as Known, Refused as
 use Rattle.cases.specs.Asked.{heard, actionOf, found}
 use Rattle.nendokwe.specs.declared.Details.{Details}
 
-unfoldable pub numberOf : {A : Type 0} → Result A → ℕ
-numberOf (refused k place) = k
-numberOf (accepted a) = zero
-
-unfoldable pub placeOf : {A : Type 0} → Result A → ℕ
-placeOf (refused k place) = place
-placeOf (accepted a) = zero
-
--- a number of what was found; the old one stays where it was refused
-unfoldable pub told : {A : Type 0} → (A → ℕ) → Result A → ℕ → ℕ
-told f (refused k place) old = old
-told f (accepted a) old = f a
-
--- ---- an action in numbers: its kind in the order of document 01, its relation or node, its row, its part, element or z
-
-unfoldable pub kindOf : Action → ℕ
-kindOf (set r row) = 0
-kindOf beginProof = 1
-kindOf (proveAnd v row) = 2
-kindOf (proveOr v row i) = 3
-kindOf (proveExists v row x) = 4
-kindOf (proveForall v row z) = 5
-kindOf proveGoal = 6
-
-unfoldable pub subjectOf : Action → ℕ
-subjectOf (set r row) = r
-subjectOf beginProof = 0
-subjectOf (proveAnd v row) = v
-subjectOf (proveOr v row i) = v
-subjectOf (proveExists v row x) = v
-subjectOf (proveForall v row z) = v
-subjectOf proveGoal = 0
-
-unfoldable pub rowIn : Action → ℕ
-rowIn (set r row) = row
-rowIn beginProof = 0
-rowIn (proveAnd v row) = row
-rowIn (proveOr v row i) = row
-rowIn (proveExists v row x) = row
-rowIn (proveForall v row z) = row
-rowIn proveGoal = 0
-
-unfoldable pub choiceOf : Action → ℕ
-choiceOf (set r row) = 0
-choiceOf beginProof = 0
-choiceOf (proveAnd v row) = 0
-choiceOf (proveOr v row i) = i
-choiceOf (proveExists v row x) = x
-choiceOf (proveForall v row z) = z
-choiceOf proveGoal = 0
-
--- the same of the code's action; one that is none has a kind of its own
+-- the code's action in numbers; one that is none has a kind of its own
 unfoldable pub detailsOf : Act → Details
 detailsOf (Set a) = record { kind = 0; subject = a .relation; row = a .row; choice = 0 }
 detailsOf Begin = record { kind = 1; subject = 0; row = 0; choice = 0 }
@@ -98,19 +47,19 @@ unfolding rulePart
 rule-told s r w = rule-by s (readQuestion s) r w
 
 -- number and place, and the old values where a result is refused
-pub refused-told : {A : Type 0} (x : Result A) (k place : ℕ) → x ≡ refused k place → (k ≡ numberOf x) × (place ≡ placeOf x) × ((f : A → ℕ) (old : ℕ) → old ≡ told f x old)
-unfolding numberOf placeOf told
+pub refused-told : {A : Type 0} (x : Result A) (k place : ℕ) → x ≡ refused k place → (k ≡ replyNumber x) × (place ≡ refusalPlace x) × ((f : A → ℕ) (old : ℕ) → old ≡ told f x old)
+unfolding replyNumber refusalPlace told
 refused-told x k place e = rw e (refl, refl, λ f old. refl)
 
-pub accepted-told : {A : Type 0} (x : Result A) (a : A) → x ≡ accepted a → (0 ≡ numberOf x) × (0 ≡ placeOf x) × ((f : A → ℕ) (old : ℕ) → f a ≡ told f x old)
-unfolding numberOf placeOf told
+pub accepted-told : {A : Type 0} (x : Result A) (a : A) → x ≡ accepted a → (0 ≡ replyNumber x) × (0 ≡ refusalPlace x) × ((f : A → ℕ) (old : ℕ) → f a ≡ told f x old)
+unfolding replyNumber refusalPlace told
 accepted-told x a e = rw e (refl, refl, λ f old. refl)
 
 module _ (x : Result Sizes) (r : Sizing) (e : sizingOf r ≡ x) (n a b d : ℕ) where
   -- the six numbers that go out
   abbrev Sizes-told : (number place n′ a′ b′ d′ : ℕ) → Type 0
   Sizes-told number place n′ a′ b′ d′ =
-      (number ≡ numberOf x) × ((place ≡ placeOf x) × ((n′ ≡ told (λ s. s .elements) x n) × ((a′ ≡ told (λ s. s .atomCount) x a) × ((b′ ≡ told (λ s. s .actionCount) x b)
+      (number ≡ replyNumber x) × ((place ≡ refusalPlace x) × ((n′ ≡ told (λ s. s .elements) x n) × ((a′ ≡ told (λ s. s .atomCount) x a) × ((b′ ≡ told (λ s. s .actionCount) x b)
       × (d′ ≡ told (λ s. s .stepBound) x d)))))
 
   pub sizes-told : (s : Counts) → r ≡ Sized s → Sizes-told 0 0 (s .elements) (s .atoms) (s .actions) (s .bound)
@@ -126,13 +75,13 @@ module _ (x : Result Sizes) (r : Sizing) (e : sizingOf r ≡ x) (n a b d : ℕ) 
       (i, (j, (t (λ s. s .elements) n, (t (λ s. s .atomCount) a, (t (λ s. s .actionCount) b, t (λ s. s .stepBound) d)))))
 
 -- the details of an action that was found
-details-are : (a : Act) (b : Action) → heard a ≡ some b → detailsOf a ≡ record { kind = kindOf b; subject = subjectOf b; row = rowIn b; choice = choiceOf b }
-unfolding heard detailsOf kindOf subjectOf rowIn choiceOf
+details-are : (a : Act) (b : Action) → heard a ≡ some b → detailsOf a ≡ record { kind = actionKind b; subject = actionSubject b; row = actionRow b; choice = actionChoice b }
+unfolding heard detailsOf actionKind actionSubject actionRow actionChoice
 details-are a b e = same a ∙ ap its e
   where
     its : Option Action → Details
     its none = record { kind = 7; subject = 0; row = 0; choice = 0 }
-    its (some b) = record { kind = kindOf b; subject = subjectOf b; row = rowIn b; choice = choiceOf b }
+    its (some b) = record { kind = actionKind b; subject = actionSubject b; row = actionRow b; choice = actionChoice b }
 
     same : (a : Act) → detailsOf a ≡ its (heard a)
     same (Set a) = refl
@@ -147,7 +96,7 @@ details-are a b e = same a ∙ ap its e
 module _ (x : Result Action) (r : Asked) (e : actionOf r ≡ found x) (kind subject row choice : ℕ) where
   abbrev Action-told : (number place kind′ subject′ row′ choice′ : ℕ) → Type 0
   Action-told number place kind′ subject′ row′ choice′ =
-      (number ≡ numberOf x) × ((place ≡ placeOf x) × ((kind′ ≡ told kindOf x kind) × ((subject′ ≡ told subjectOf x subject) × ((row′ ≡ told rowIn x row) × (choice′ ≡ told choiceOf x choice)))))
+      (number ≡ replyNumber x) × ((place ≡ refusalPlace x) × ((kind′ ≡ told actionKind x kind) × ((subject′ ≡ told actionSubject x subject) × ((row′ ≡ told actionRow x row) × (choice′ ≡ told actionChoice x choice)))))
 
   its-refusal : (k place : ℕ) → r ≡ Unknown k place → x ≡ refused k place
   unfolding actionOf found _>>=_
@@ -166,11 +115,11 @@ module _ (x : Result Action) (r : Asked) (e : actionOf r ≡ found x) (kind subj
       go (accepted b) h = (b, refl, cc)
 
   pub action-refused : (k place : ℕ) → r ≡ Unknown k place → Action-told k place kind subject row choice
-  action-refused k place q = let (i, j, t) = refused-told x k place (its-refusal k place q) in (i, (j, (t kindOf kind, (t subjectOf subject, (t rowIn row, t choiceOf choice)))))
+  action-refused k place q = let (i, j, t) = refused-told x k place (its-refusal k place q) in (i, (j, (t actionKind kind, (t actionSubject subject, (t actionRow row, t actionChoice choice)))))
 
   pub action-told : (a : Act) → r ≡ Known a → (d : Details) → d ≡ detailsOf a → Action-told 0 0 (d .kind) (d .subject) (d .row) (d .choice)
   action-told a q d f =
       let (b, u, v) = its-action a q in
       let (i, j, t) = accepted-told x b u in
       let g = f ∙ details-are a b v in
-      (i, (j, (ap (λ (z : Details). z .kind) g ∙ t kindOf kind, (ap (λ (z : Details). z .subject) g ∙ t subjectOf subject, (ap (λ (z : Details). z .row) g ∙ t rowIn row, ap (λ (z : Details). z .choice) g ∙ t choiceOf choice)))))
+      (i, (j, (ap (λ (z : Details). z .kind) g ∙ t actionKind kind, (ap (λ (z : Details). z .subject) g ∙ t actionSubject subject, (ap (λ (z : Details). z .row) g ∙ t actionRow row, ap (λ (z : Details). z .choice) g ∙ t actionChoice choice)))))

@@ -4,16 +4,17 @@
 ghost use mathlib.Core.Path.{_≡_};
 ghost use lib.ListN.{length};
 ghost use Rattle.definitions.specs.Desk.{desk};
-ghost use Rattle.definitions.specs.Outcome.{asText, asNumbers, sizes as «sizes-of», action as «action-of», rulePart, checkSteps, picksFromSteps, buildSteps, written, replyNumber, replyPlace};
-ghost use Rattle.cases.specs.Replies.{resultOf, sizingOf};
-ghost use Rattle.cases.specs.Asked.{actionOf};
-ghost use Rattle.nendokwe.specs.Told.{numberOf, placeOf, told, kindOf, subjectOf, rowIn, choiceOf, detailsOf};
+ghost use Rattle.definitions.specs.Limits.{usual};
+ghost use Rattle.definitions.specs.Actions.{actionKind, actionSubject, actionRow, actionChoice};
+ghost use Rattle.definitions.specs.Outcome.{asText, asNumbers, sizes as «sizes-of», action as «action-of», rulePart, checkSteps, picksFromSteps, buildSteps, written, replyNumber, replyPlace, refusalPlace, told};
+ghost use Rattle.asking.specs.Replies.{resultOf};
+ghost use Rattle.nendokwe.specs.Told.{detailsOf};
 ghost use Rattle.definitions.specs.Allowance.{allowances as «allowances-of»};
 ghost use Rattle.definitions.specs.Judgement.{judge};
 ghost use Rattle.definitions.specs.Tries.{tryLists};
 ghost use Rattle.tries.specs.Recorded.{records};
+use asking::Reply;
 use cases::Asked;
-use cases::Reply;
 use cases::Sizing;
 use ground::Act;
 use ground::ChoiceAct;
@@ -60,12 +61,12 @@ pub extern "C" fn nendokwe_sizes(
     actions: &mut usize,
     bound: &mut usize,
 )
-    ensures { λ _. ⌜ now (number .exit) ≡ numberOf («sizes-of» (now (question .entry)) (now (site .entry))) ⌝ }
-    ensures { λ _. ⌜ now (place .exit) ≡ placeOf («sizes-of» (now (question .entry)) (now (site .entry))) ⌝ }
-    ensures { λ _. ⌜ now (elements .exit) ≡ told (λ s. s .elements) («sizes-of» (now (question .entry)) (now (site .entry))) (now (elements .entry)) ⌝ }
-    ensures { λ _. ⌜ now (atoms .exit) ≡ told (λ s. s .atomCount) («sizes-of» (now (question .entry)) (now (site .entry))) (now (atoms .entry)) ⌝ }
-    ensures { λ _. ⌜ now (actions .exit) ≡ told (λ s. s .actionCount) («sizes-of» (now (question .entry)) (now (site .entry))) (now (actions .entry)) ⌝ }
-    ensures { λ _. ⌜ now (bound .exit) ≡ told (λ s. s .stepBound) («sizes-of» (now (question .entry)) (now (site .entry))) (now (bound .entry)) ⌝ }
+    ensures { λ _. ⌜ now (number .exit) ≡ replyNumber («sizes-of» usual (now (question .entry)) (now (site .entry))) ⌝ }
+    ensures { λ _. ⌜ now (place .exit) ≡ refusalPlace («sizes-of» usual (now (question .entry)) (now (site .entry))) ⌝ }
+    ensures { λ _. ⌜ now (elements .exit) ≡ told (λ s. s .elements) («sizes-of» usual (now (question .entry)) (now (site .entry))) (now (elements .entry)) ⌝ }
+    ensures { λ _. ⌜ now (atoms .exit) ≡ told (λ s. s .atomCount) («sizes-of» usual (now (question .entry)) (now (site .entry))) (now (atoms .entry)) ⌝ }
+    ensures { λ _. ⌜ now (actions .exit) ≡ told (λ s. s .actionCount) («sizes-of» usual (now (question .entry)) (now (site .entry))) (now (actions .entry)) ⌝ }
+    ensures { λ _. ⌜ now (bound .exit) ≡ told (λ s. s .stepBound) («sizes-of» usual (now (question .entry)) (now (site .entry))) (now (bound .entry)) ⌝ }
 {
     let r = cases::sizes(question, site);
     match r {
@@ -156,12 +157,12 @@ pub extern "C" fn nendokwe_action(
     row: &mut usize,
     choice: &mut usize,
 )
-    ensures { λ _. ⌜ now (number .exit) ≡ numberOf («action-of» (now (question .entry)) (now (site .entry)) k) ⌝ }
-    ensures { λ _. ⌜ now (place .exit) ≡ placeOf («action-of» (now (question .entry)) (now (site .entry)) k) ⌝ }
-    ensures { λ _. ⌜ now (kind .exit) ≡ told kindOf («action-of» (now (question .entry)) (now (site .entry)) k) (now (kind .entry)) ⌝ }
-    ensures { λ _. ⌜ now (subject .exit) ≡ told subjectOf («action-of» (now (question .entry)) (now (site .entry)) k) (now (subject .entry)) ⌝ }
-    ensures { λ _. ⌜ now (row .exit) ≡ told rowIn («action-of» (now (question .entry)) (now (site .entry)) k) (now (row .entry)) ⌝ }
-    ensures { λ _. ⌜ now (choice .exit) ≡ told choiceOf («action-of» (now (question .entry)) (now (site .entry)) k) (now (choice .entry)) ⌝ }
+    ensures { λ _. ⌜ now (number .exit) ≡ replyNumber («action-of» usual (now (question .entry)) (now (site .entry)) k) ⌝ }
+    ensures { λ _. ⌜ now (place .exit) ≡ refusalPlace («action-of» usual (now (question .entry)) (now (site .entry)) k) ⌝ }
+    ensures { λ _. ⌜ now (kind .exit) ≡ told actionKind («action-of» usual (now (question .entry)) (now (site .entry)) k) (now (kind .entry)) ⌝ }
+    ensures { λ _. ⌜ now (subject .exit) ≡ told actionSubject («action-of» usual (now (question .entry)) (now (site .entry)) k) (now (subject .entry)) ⌝ }
+    ensures { λ _. ⌜ now (row .exit) ≡ told actionRow («action-of» usual (now (question .entry)) (now (site .entry)) k) (now (row .entry)) ⌝ }
+    ensures { λ _. ⌜ now (choice .exit) ≡ told actionChoice («action-of» usual (now (question .entry)) (now (site .entry)) k) (now (choice .entry)) ⌝ }
 {
     let r = cases::action(question, site, k);
     match r {
@@ -191,9 +192,9 @@ pub extern "C" fn nendokwe_check_text(
     number: &mut u32,
     place: &mut usize,
 )
-    ensures { λ _. ⌜ now (number .exit) ≡ replyNumber (checkSteps (now (question .entry)) (now (site .entry)) (asText (now (steps .entry))) (now (state .entry)) .answer) ⌝ }
-    ensures { λ _. ⌜ now (place .exit) ≡ replyPlace (checkSteps (now (question .entry)) (now (site .entry)) (asText (now (steps .entry))) (now (state .entry)) .answer) ⌝ }
-    ensures { λ _. ⌜ now (state .exit) ≡ checkSteps (now (question .entry)) (now (site .entry)) (asText (now (steps .entry))) (now (state .entry)) .state ⌝ }
+    ensures { λ _. ⌜ now (number .exit) ≡ replyNumber (checkSteps usual (now (question .entry)) (now (site .entry)) (asText (now (steps .entry))) (now (state .entry)) .answer) ⌝ }
+    ensures { λ _. ⌜ now (place .exit) ≡ replyPlace (checkSteps usual (now (question .entry)) (now (site .entry)) (asText (now (steps .entry))) (now (state .entry)) .answer) ⌝ }
+    ensures { λ _. ⌜ now (state .exit) ≡ checkSteps usual (now (question .entry)) (now (site .entry)) (asText (now (steps .entry))) (now (state .entry)) .state ⌝ }
 {
     let r = cases::check_text(question, site, steps, state);
     tell(r, number, place);
@@ -209,9 +210,9 @@ pub extern "C" fn nendokwe_check(
     number: &mut u32,
     place: &mut usize,
 )
-    ensures { λ _. ⌜ now (number .exit) ≡ replyNumber (checkSteps (now (question .entry)) (now (site .entry)) (asNumbers (now (steps .entry))) (now (state .entry)) .answer) ⌝ }
-    ensures { λ _. ⌜ now (place .exit) ≡ replyPlace (checkSteps (now (question .entry)) (now (site .entry)) (asNumbers (now (steps .entry))) (now (state .entry)) .answer) ⌝ }
-    ensures { λ _. ⌜ now (state .exit) ≡ checkSteps (now (question .entry)) (now (site .entry)) (asNumbers (now (steps .entry))) (now (state .entry)) .state ⌝ }
+    ensures { λ _. ⌜ now (number .exit) ≡ replyNumber (checkSteps usual (now (question .entry)) (now (site .entry)) (asNumbers (now (steps .entry))) (now (state .entry)) .answer) ⌝ }
+    ensures { λ _. ⌜ now (place .exit) ≡ replyPlace (checkSteps usual (now (question .entry)) (now (site .entry)) (asNumbers (now (steps .entry))) (now (state .entry)) .answer) ⌝ }
+    ensures { λ _. ⌜ now (state .exit) ≡ checkSteps usual (now (question .entry)) (now (site .entry)) (asNumbers (now (steps .entry))) (now (state .entry)) .state ⌝ }
 {
     let r = cases::check_lent(question, site, steps, state);
     tell(r, number, place);
@@ -228,10 +229,10 @@ pub extern "C" fn nendokwe_picks_text(
     number: &mut u32,
     place: &mut usize,
 )
-    ensures { λ _. ⌜ now (number .exit) ≡ replyNumber (picksFromSteps (now (question .entry)) (now (site .entry)) (asText (now (steps .entry))) (now (picks .entry)) (now (state .entry)) .answer) ⌝ }
-    ensures { λ _. ⌜ now (place .exit) ≡ replyPlace (picksFromSteps (now (question .entry)) (now (site .entry)) (asText (now (steps .entry))) (now (picks .entry)) (now (state .entry)) .answer) ⌝ }
-    ensures { λ _. ⌜ now (picks .exit) ≡ picksFromSteps (now (question .entry)) (now (site .entry)) (asText (now (steps .entry))) (now (picks .entry)) (now (state .entry)) .picks ⌝ }
-    ensures { λ _. ⌜ now (state .exit) ≡ picksFromSteps (now (question .entry)) (now (site .entry)) (asText (now (steps .entry))) (now (picks .entry)) (now (state .entry)) .state ⌝ }
+    ensures { λ _. ⌜ now (number .exit) ≡ replyNumber (picksFromSteps usual (now (question .entry)) (now (site .entry)) (asText (now (steps .entry))) (now (picks .entry)) (now (state .entry)) .answer) ⌝ }
+    ensures { λ _. ⌜ now (place .exit) ≡ replyPlace (picksFromSteps usual (now (question .entry)) (now (site .entry)) (asText (now (steps .entry))) (now (picks .entry)) (now (state .entry)) .answer) ⌝ }
+    ensures { λ _. ⌜ now (picks .exit) ≡ picksFromSteps usual (now (question .entry)) (now (site .entry)) (asText (now (steps .entry))) (now (picks .entry)) (now (state .entry)) .picks ⌝ }
+    ensures { λ _. ⌜ now (state .exit) ≡ picksFromSteps usual (now (question .entry)) (now (site .entry)) (asText (now (steps .entry))) (now (picks .entry)) (now (state .entry)) .state ⌝ }
 {
     let r = reading::picks_text(question, site, steps, picks, state);
     tell(r, number, place);
@@ -248,10 +249,10 @@ pub extern "C" fn nendokwe_picks(
     number: &mut u32,
     place: &mut usize,
 )
-    ensures { λ _. ⌜ now (number .exit) ≡ replyNumber (picksFromSteps (now (question .entry)) (now (site .entry)) (asNumbers (now (steps .entry))) (now (picks .entry)) (now (state .entry)) .answer) ⌝ }
-    ensures { λ _. ⌜ now (place .exit) ≡ replyPlace (picksFromSteps (now (question .entry)) (now (site .entry)) (asNumbers (now (steps .entry))) (now (picks .entry)) (now (state .entry)) .answer) ⌝ }
-    ensures { λ _. ⌜ now (picks .exit) ≡ picksFromSteps (now (question .entry)) (now (site .entry)) (asNumbers (now (steps .entry))) (now (picks .entry)) (now (state .entry)) .picks ⌝ }
-    ensures { λ _. ⌜ now (state .exit) ≡ picksFromSteps (now (question .entry)) (now (site .entry)) (asNumbers (now (steps .entry))) (now (picks .entry)) (now (state .entry)) .state ⌝ }
+    ensures { λ _. ⌜ now (number .exit) ≡ replyNumber (picksFromSteps usual (now (question .entry)) (now (site .entry)) (asNumbers (now (steps .entry))) (now (picks .entry)) (now (state .entry)) .answer) ⌝ }
+    ensures { λ _. ⌜ now (place .exit) ≡ replyPlace (picksFromSteps usual (now (question .entry)) (now (site .entry)) (asNumbers (now (steps .entry))) (now (picks .entry)) (now (state .entry)) .answer) ⌝ }
+    ensures { λ _. ⌜ now (picks .exit) ≡ picksFromSteps usual (now (question .entry)) (now (site .entry)) (asNumbers (now (steps .entry))) (now (picks .entry)) (now (state .entry)) .picks ⌝ }
+    ensures { λ _. ⌜ now (state .exit) ≡ picksFromSteps usual (now (question .entry)) (now (site .entry)) (asNumbers (now (steps .entry))) (now (picks .entry)) (now (state .entry)) .state ⌝ }
 {
     let r = reading::picks_lent(question, site, steps, picks, state);
     tell(r, number, place);
@@ -268,10 +269,10 @@ pub extern "C" fn nendokwe_build_text(
     number: &mut u32,
     place: &mut usize,
 )
-    ensures { λ _. ⌜ now (number .exit) ≡ replyNumber (buildSteps (now (question .entry)) (now (site .entry)) (asText (now (picks .entry))) (now (state .entry)) (now (steps .entry)) .answer) ⌝ }
-    ensures { λ _. ⌜ now (place .exit) ≡ replyPlace (buildSteps (now (question .entry)) (now (site .entry)) (asText (now (picks .entry))) (now (state .entry)) (now (steps .entry)) .answer) ⌝ }
-    ensures { λ _. ⌜ now (state .exit) ≡ buildSteps (now (question .entry)) (now (site .entry)) (asText (now (picks .entry))) (now (state .entry)) (now (steps .entry)) .state ⌝ }
-    ensures { λ _. ⌜ now (steps .exit) ≡ buildSteps (now (question .entry)) (now (site .entry)) (asText (now (picks .entry))) (now (state .entry)) (now (steps .entry)) .steps ⌝ }
+    ensures { λ _. ⌜ now (number .exit) ≡ replyNumber (buildSteps usual (now (question .entry)) (now (site .entry)) (asText (now (picks .entry))) (now (state .entry)) (now (steps .entry)) .answer) ⌝ }
+    ensures { λ _. ⌜ now (place .exit) ≡ replyPlace (buildSteps usual (now (question .entry)) (now (site .entry)) (asText (now (picks .entry))) (now (state .entry)) (now (steps .entry)) .answer) ⌝ }
+    ensures { λ _. ⌜ now (state .exit) ≡ buildSteps usual (now (question .entry)) (now (site .entry)) (asText (now (picks .entry))) (now (state .entry)) (now (steps .entry)) .state ⌝ }
+    ensures { λ _. ⌜ now (steps .exit) ≡ buildSteps usual (now (question .entry)) (now (site .entry)) (asText (now (picks .entry))) (now (state .entry)) (now (steps .entry)) .steps ⌝ }
 {
     let r = building::build_text(question, site, picks, state, steps);
     tell(r, number, place);
@@ -288,10 +289,10 @@ pub extern "C" fn nendokwe_build(
     number: &mut u32,
     place: &mut usize,
 )
-    ensures { λ _. ⌜ now (number .exit) ≡ replyNumber (buildSteps (now (question .entry)) (now (site .entry)) (asNumbers (now (picks .entry))) (now (state .entry)) (now (steps .entry)) .answer) ⌝ }
-    ensures { λ _. ⌜ now (place .exit) ≡ replyPlace (buildSteps (now (question .entry)) (now (site .entry)) (asNumbers (now (picks .entry))) (now (state .entry)) (now (steps .entry)) .answer) ⌝ }
-    ensures { λ _. ⌜ now (state .exit) ≡ buildSteps (now (question .entry)) (now (site .entry)) (asNumbers (now (picks .entry))) (now (state .entry)) (now (steps .entry)) .state ⌝ }
-    ensures { λ _. ⌜ now (steps .exit) ≡ buildSteps (now (question .entry)) (now (site .entry)) (asNumbers (now (picks .entry))) (now (state .entry)) (now (steps .entry)) .steps ⌝ }
+    ensures { λ _. ⌜ now (number .exit) ≡ replyNumber (buildSteps usual (now (question .entry)) (now (site .entry)) (asNumbers (now (picks .entry))) (now (state .entry)) (now (steps .entry)) .answer) ⌝ }
+    ensures { λ _. ⌜ now (place .exit) ≡ replyPlace (buildSteps usual (now (question .entry)) (now (site .entry)) (asNumbers (now (picks .entry))) (now (state .entry)) (now (steps .entry)) .answer) ⌝ }
+    ensures { λ _. ⌜ now (state .exit) ≡ buildSteps usual (now (question .entry)) (now (site .entry)) (asNumbers (now (picks .entry))) (now (state .entry)) (now (steps .entry)) .state ⌝ }
+    ensures { λ _. ⌜ now (steps .exit) ≡ buildSteps usual (now (question .entry)) (now (site .entry)) (asNumbers (now (picks .entry))) (now (state .entry)) (now (steps .entry)) .steps ⌝ }
 {
     let r = building::build_lent(question, site, picks, state, steps);
     tell(r, number, place);
@@ -306,8 +307,8 @@ pub extern "C" fn nendokwe_judge_text(
     number: &mut u32,
     place: &mut usize,
 )
-    ensures { λ _. ⌜ now (number .exit) ≡ replyNumber (judge (now (question .entry)) (now (site .entry)) (asText (now (picks .entry)))) ⌝ }
-    ensures { λ _. ⌜ now (place .exit) ≡ replyPlace (judge (now (question .entry)) (now (site .entry)) (asText (now (picks .entry)))) ⌝ }
+    ensures { λ _. ⌜ now (number .exit) ≡ replyNumber (judge usual (now (question .entry)) (now (site .entry)) (asText (now (picks .entry)))) ⌝ }
+    ensures { λ _. ⌜ now (place .exit) ≡ replyPlace (judge usual (now (question .entry)) (now (site .entry)) (asText (now (picks .entry)))) ⌝ }
 {
     let r = judging::judge_text(question, site, picks);
     tell(r, number, place);
@@ -322,8 +323,8 @@ pub extern "C" fn nendokwe_judge(
     number: &mut u32,
     place: &mut usize,
 )
-    ensures { λ _. ⌜ now (number .exit) ≡ replyNumber (judge (now (question .entry)) (now (site .entry)) (asNumbers (now (picks .entry)))) ⌝ }
-    ensures { λ _. ⌜ now (place .exit) ≡ replyPlace (judge (now (question .entry)) (now (site .entry)) (asNumbers (now (picks .entry)))) ⌝ }
+    ensures { λ _. ⌜ now (number .exit) ≡ replyNumber (judge usual (now (question .entry)) (now (site .entry)) (asNumbers (now (picks .entry)))) ⌝ }
+    ensures { λ _. ⌜ now (place .exit) ≡ replyPlace (judge usual (now (question .entry)) (now (site .entry)) (asNumbers (now (picks .entry)))) ⌝ }
 {
     let r = judging::judge_lent(question, site, picks);
     tell(r, number, place);
@@ -338,9 +339,9 @@ pub extern "C" fn nendokwe_allowances(
     number: &mut u32,
     place: &mut usize,
 )
-    ensures { λ _. ⌜ now (number .exit) ≡ replyNumber («allowances-of» (now (question .entry)) (now (site .entry)) (now (allowances .entry)) .answer) ⌝ }
-    ensures { λ _. ⌜ now (place .exit) ≡ replyPlace («allowances-of» (now (question .entry)) (now (site .entry)) (now (allowances .entry)) .answer) ⌝ }
-    ensures { λ _. ⌜ now (allowances .exit) ≡ «allowances-of» (now (question .entry)) (now (site .entry)) (now (allowances .entry)) .allowances ⌝ }
+    ensures { λ _. ⌜ now (number .exit) ≡ replyNumber («allowances-of» usual (now (question .entry)) (now (site .entry)) (now (allowances .entry)) .answer) ⌝ }
+    ensures { λ _. ⌜ now (place .exit) ≡ replyPlace («allowances-of» usual (now (question .entry)) (now (site .entry)) (now (allowances .entry)) .answer) ⌝ }
+    ensures { λ _. ⌜ now (allowances .exit) ≡ «allowances-of» usual (now (question .entry)) (now (site .entry)) (now (allowances .entry)) .allowances ⌝ }
 {
     let r = allowances::allowances(question, site, allowances);
     tell(r, number, place);
@@ -359,10 +360,10 @@ pub extern "C" fn nendokwe_tries(
     number: &mut u32,
     place: &mut usize,
 )
-    ensures { λ _. ⌜ now (number .exit) ≡ replyNumber (tryLists (now (question .entry)) (now (site .entry)) (now (steps .entry)) (records (now (tries .entry))) (now (state .entry)) .answer) ⌝ }
-    ensures { λ _. ⌜ now (place .exit) ≡ replyPlace (tryLists (now (question .entry)) (now (site .entry)) (now (steps .entry)) (records (now (tries .entry))) (now (state .entry)) .answer) ⌝ }
-    ensures { λ _. ⌜ records (now (tries .exit)) ≡ tryLists (now (question .entry)) (now (site .entry)) (now (steps .entry)) (records (now (tries .entry))) (now (state .entry)) .tries ⌝ }
-    ensures { λ _. ⌜ now (state .exit) ≡ tryLists (now (question .entry)) (now (site .entry)) (now (steps .entry)) (records (now (tries .entry))) (now (state .entry)) .state ⌝ }
+    ensures { λ _. ⌜ now (number .exit) ≡ replyNumber (tryLists usual (now (question .entry)) (now (site .entry)) (now (steps .entry)) (records (now (tries .entry))) (now (state .entry)) .answer) ⌝ }
+    ensures { λ _. ⌜ now (place .exit) ≡ replyPlace (tryLists usual (now (question .entry)) (now (site .entry)) (now (steps .entry)) (records (now (tries .entry))) (now (state .entry)) .answer) ⌝ }
+    ensures { λ _. ⌜ records (now (tries .exit)) ≡ tryLists usual (now (question .entry)) (now (site .entry)) (now (steps .entry)) (records (now (tries .entry))) (now (state .entry)) .tries ⌝ }
+    ensures { λ _. ⌜ now (state .exit) ≡ tryLists usual (now (question .entry)) (now (site .entry)) (now (steps .entry)) (records (now (tries .entry))) (now (state .entry)) .state ⌝ }
 {
     let r = tries::try_lists(question, site, steps, tries, state);
     *number = r.number;

@@ -17,9 +17,9 @@ use Rattle.definitions.specs.Atoms.{problemOf, relationAt, tuplesOf}
 use Rattle.definitions.specs.Built.{isPicked, chosenNumbers}
 use Rattle.laws.specs.Booleans.{T-of}
 use Rattle.laws.specs.Lists.{below-lt, filter-mem}
-use Rattle.reduction.specs.Reader.{Accepted}
-use Rattle.reduction.specs.Grounded.{good}
-use Rattle.reduction.specs.Picks.{picks-inside}
+use Rattle.laws.specs.Reader.{Accepted}
+use Rattle.laws.specs.Grounded.{good}
+use Rattle.laws.specs.Picks.{picks-inside}
 use Rattle.states.specs.Kinds.{square, hasTwo, isCrowded, breaks, first-broken}
 use Rattle.picks.specs.Words.{rowsIn, PicksAre}
 

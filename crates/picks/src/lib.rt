@@ -1,16 +1,24 @@
-// Picks as bits in lent words, each `choose` from a new word on: whether they are of the declared kinds.
+// Picks as bits in lent words, each `choose` from a new word on: how many words they have, whether they are of the declared kinds, cut
+// out of the state that steps leave, and whether a bit is set past those of the tuples.
 ghost use mathlib.Core.Path.{_≡_};
-ghost use mathlib.Core.Bool.{true, false};
-ghost use Prim.Native.Nat.{_+_, _-_, _*_, _/_, _^_, _<_, _≤_};
+ghost use mathlib.Core.Bool.{_&&_};
+ghost use Prim.Native.Nat.{_+_, _-_, _*_, _^_, _<_, _≤_};
+ghost use lib.Dec.{ltb};
+ghost use lib.ListN.{length, getD};
+ghost use lib.Seq.{sets};
 ghost use Rattle.definitions.specs.Lists.{position};
 ghost use Rattle.definitions.specs.Atoms.{Problem, relationAt};
 ghost use Rattle.definitions.specs.Built.{chosenNumbers};
-ghost use Rattle.bits.specs.Table.{bit, num, count as «count-of»};
+ghost use Rattle.definitions.specs.Outcome.{picksLength, spareWord};
+ghost use Rattle.bits.specs.Table.{bit, num, count as «count-of», word as «word-of»};
 ghost use Rattle.ground.specs.Lines.{Fits};
 ghost use Rattle.ground.specs.Of.{Is};
 ghost use Rattle.states.specs.Kinds.{isCrowded, breaks};
 ghost use Rattle.picks.specs.Words.{wordsIn, rowsIn};
 ghost use Rattle.picks.specs.Tests.{breaksBy, chosenBy, told};
+ghost use Rattle.picks.specs.Copies.{lineWords, picksIn, Copied};
+ghost use Rattle.picks.specs.Spare.{spareIn, spareFound};
+use ground::RelationLine;
 
 // Whether picks are of the declared kinds, or the index of the first `choose` of which they are not.
 pub enum Kinds {
@@ -19,7 +27,7 @@ pub enum Kinds {
 }
 
 // How many tuples a relation has.
-pub fn tuples_in(k: ground::RelationLine) -> usize
+pub fn tuples_in(k: RelationLine) -> usize
     ensures { λ r. ⌜ r ≡ k .nots - k .tuples ⌝ }
 {
     if k.tuples < k.nots {
@@ -29,7 +37,7 @@ pub fn tuples_in(k: ground::RelationLine) -> usize
 }
 
 // How many words its picks have.
-pub fn words_in(k: ground::RelationLine) -> usize
+pub fn words_in(k: RelationLine) -> usize
     requires { ⌜ k .nots ≤ 2 ^ 32 ⌝ }
     ensures { λ r. ⌜ r ≡ wordsIn k ⌝ }
 {
@@ -126,4 +134,115 @@ pub fn test_kinds(table: &[usize], picks: &[u64]) -> Kinds
         r += 1;
     }
     Kinds::Kept
+}
+
+// Word j; past the end all bits are 0.
+fn word_at(words: &[u64], j: usize) -> u64
+    ensures { λ r. ⌜ r ≡ getD (now (words .entry)) j 0 ⌝ }
+{
+    if j < words.len() {
+        return words[j];
+    }
+    0
+}
+
+// The n bits from bit i on as a word, or 64 of them where n is more. (A relation's tuples may start anywhere in a word of the state.)
+fn cut(words: &[u64], i: usize, n: usize) -> u64
+    ensures { λ r. ⌜ r ≡ «word-of» (λ k. ltb k n && bit (now (words .entry)) (i + k)) 64 ⌝ }
+{
+    let shift = i % 64;
+    let low = word_at(words, i / 64) >> shift;
+    // in two shifts, since there is none by 64
+    let high = word_at(words, i / 64 + 1) << 1 << (63 - shift);
+    let all = low | high;
+    if n < 64 {
+        return all & ((1 << n) - 1);
+    }
+    all
+}
+
+// The tuples of a `choose` that hold, written from word `word` on; of another relation nothing is written.
+fn copy_relation(state: &[u64], line: RelationLine, picks: &mut [u64], word: usize)
+    requires { ⌜ (line .tuples ≤ 2 ^ 32) × (line .nots ≤ 2 ^ 32) × (word + wordsIn line ≤ length (now picks)) ⌝ }
+    ensures { λ u. ⌜ now (picks .exit) ≡ sets (now (picks .entry)) word (lineWords (bit (now (state .entry))) line) ⌝ }
+{
+    let count = words_in(line);
+    let tuples = tuples_in(line);
+    let mut j: usize = 0;
+    while j < count {
+        picks[word + j] = cut(state, line.tuples + 64 * j, tuples - 64 * j);
+        j += 1;
+    }
+}
+
+// How many words the picks of a problem have.
+pub fn picks_length(table: &[usize]) -> usize
+    requires { ⌜ Fits (now table) ⌝ }
+    ensures lines { λ r. ⌜ r ≡ picksIn (now (table .entry)) ⌝ }
+    ensures picks { λ r. ⌜ ((p : Problem) → Is p (now (table .entry)) → r ≡ picksLength p) ⌝ }
+{
+    let mut sum: usize = 0;
+    let mut r: usize = 0;
+    while r < table[1] {
+        let line = ground::relation_line(table, r);
+        sum += words_in(line);
+        r += 1;
+    }
+    sum
+}
+
+// The picks of steps that were all taken, written from the state that they leave; words past them stay.
+pub fn copy_picks(table: &[usize], state: &[u64], picks: &mut [u64])
+    requires { ⌜ Fits (now table) ⌝ }
+    requires { ⌜ picksIn (now table) ≤ length (now picks) ⌝ }
+    ensures { λ u. ⌜ Copied (now (table .entry)) (now (state .entry)) (now (picks .entry)) (now (picks .exit)) ⌝ }
+{
+    let mut word: usize = 0;
+    let mut r: usize = 0;
+    while r < table[1] {
+        let line = ground::relation_line(table, r);
+        copy_relation(state, line, picks, word);
+        word += words_in(line);
+        r += 1;
+    }
+}
+
+// The first word of lent picks that has a spare bit set, or that none has.
+pub enum Spare {
+    Clear,
+    Word(usize),
+}
+
+// Whether a relation has a spare bit set. Its words start with word `word`; the tuples leave bits over in the last one alone.
+fn has_spare(picks: &[u64], word: usize, line: RelationLine) -> bool
+    requires { ⌜ (word ≤ 2 ^ 32) × (line .nots ≤ 2 ^ 32) ⌝ }
+    ensures { λ r. ⌜ r ≡ spareIn (now (picks .entry)) word line ⌝ }
+{
+    if line.kind == 0 {
+        return false;
+    }
+    let tuples = tuples_in(line);
+    let used = tuples % 64;
+    if used == 0 {
+        return false;
+    }
+    0 < word_at(picks, word + tuples / 64) >> used
+}
+
+// The first word of lent picks that has a spare bit set.
+pub fn spare_word(table: &[usize], picks: &[u64]) -> Spare
+    requires { ⌜ Fits (now table) ⌝ }
+    ensures { λ s. ⌜ ((p : Problem) → Is p (now (table .entry)) → spareFound s ≡ spareWord p (now (picks .entry)) 0 (chosenNumbers p)) ⌝ }
+{
+    let mut word: usize = 0;
+    let mut r: usize = 0;
+    while r < table[1] {
+        let line = ground::relation_line(table, r);
+        if has_spare(picks, word, line) {
+            return Spare::Word(word + tuples_in(line) / 64);
+        }
+        word += words_in(line);
+        r += 1;
+    }
+    Spare::Clear
 }

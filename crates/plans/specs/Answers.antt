@@ -1,28 +1,26 @@
 -- What building gives, in the words of the definitions: the end of `Outcome.plan`, and an answer as a result.
 use Prim.Native.Nat.{ℕ, zero, _^_, _≤_}
 use mathlib.Core.Path.{_≡_}
-use mathlib.Core.Bool.{not, true}
+use mathlib.Core.Bool.{true}
 use mathlib.Core.Option.{none}
 use mathlib.Core.List.{List}
-use Rattle.definitions.specs.Refusal.{Result, refused, accepted, _>>=_, refuseIf}
+use Rattle.definitions.specs.Refusal.{Result, refused, accepted, _>>=_}
 use Rattle.definitions.specs.Relations.{Tuple}
-use Rattle.definitions.specs.Truth.{Case, arePicks, ruleIsTrue, firstOfOtherKind}
+use Rattle.definitions.specs.Truth.{Case, arePicks, firstOfOtherKind}
 use Rattle.definitions.specs.Atoms.{Problem, problemOf, State, initial, atoms}
 use Rattle.definitions.specs.Actions.{actions}
 use Rattle.definitions.specs.Built.{builtSteps, bound}
-use Rattle.definitions.specs.Outcome.{kindRefusal, Plan, builtFrom}
-use Rattle.reduction.specs.Reader.{Accepted}
+use Rattle.definitions.specs.Outcome.{Plan, builtFrom}
+use Rattle.laws.specs.Reader.{Accepted}
 use Rattle.ground.specs.Of.{Is}
 use Rattle.picks.specs.Words.{PicksAre}
+use Rattle.picks.specs.Handed.{decided}
 use Rattle.plans.specs.declared.Answer.{Answer}
 use Rattle.plans.specs.declared.Answer.the-variants.{Steps, OtherKind, RuleFalse}
 
 -- 16, then 17, then the steps
 unfoldable pub planned : Case → Problem → List Tuple → Result Plan
-planned c p F = do
-  _ ← kindRefusal (firstOfOtherKind c F)
-  _ ← refuseIf (not (ruleIsTrue c F)) 17 zero
-  accepted (record { problem = p; picks = F; steps = builtSteps p F })
+planned c p F = decided c p F >>= λ G. accepted (record { problem = p; picks = G; steps = builtSteps p G })
 
 unfoldable pub answered : Answer → Result ℕ
 answered (Steps k) = accepted k

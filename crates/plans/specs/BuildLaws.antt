@@ -1,6 +1,6 @@
 -- What `build` finds, as what the definitions give.
 use Prim.Native.Nat.{ℕ, _+_, _/_, _≤_}
-use mathlib.Core.Path.{_≡_, refl, sym, ap, subst, _∙_}
+use mathlib.Core.Path.{_≡_, sym, ap, subst, _∙_}
 use mathlib.Core.Bool.{Bool, true, false}
 use mathlib.Core.Option.{none}
 use mathlib.Core.List.{List}
@@ -10,11 +10,11 @@ use Rattle.bits.specs.Table.{bit, Words}
 use Rattle.definitions.specs.Relations.{Tuple}
 use Rattle.definitions.specs.Truth.{Case, areOfKinds, firstOfOtherKind}
 use Rattle.definitions.specs.Atoms.{Problem, problemOf, State, initial, stateWords}
-use Rattle.definitions.specs.Built.{builtSteps, bound}
+use Rattle.definitions.specs.Built.{builtSteps}
 use Rattle.definitions.specs.Outcome.{written}
-use Rattle.reduction.specs.Accepting.{bound-below}
-use Rattle.reduction.specs.Between.{count-case}
-use Rattle.reduction.specs.Building.{kinds-told}
+use Rattle.laws.specs.Count.{bound-below}
+use Rattle.laws.specs.Building.{count-case}
+use Rattle.laws.specs.Building.{kinds-told}
 use Rattle.picks.specs.Words.{rowsIn}
 use Rattle.picks.specs.Tests.{told}
 use Rattle.picks.specs.TestLaws.{told-kept, told-broken}

@@ -1,14 +1,12 @@
 -- The builder's answers, its state and its steps are those of the definitions.
 use Prim.Native.Nat.{ℕ, _*_, _/_, _%_, _<_, _≤_}
 use mathlib.Core.Path.{_≡_, sym, ap, _∙_}
-use mathlib.Core.Logic.{⊎-elim}
 use mathlib.Core.Bool.{Bool, true, false}
 use mathlib.Core.Option.{none, some}
 use mathlib.Core.List.{List, [], _∷_, _++_, append-assoc}
 use native.Mathlib.Omega.{arith}
 use native.Mathlib.Nat.{zero-add}
-use lib.Dec.{ltb, ltb→lt, nltb→le}
-use lib.ListN.{length, take, drop, getD, length-map, length-take, List·getD-eq-default}
+use lib.ListN.{length, take, drop, length-map}
 use lib.Seq.{sets-eq, length-take-le, getD-take}
 use Rattle.bits.specs.Table.{digit, bit, Words}
 use Rattle.bits.proofs.Laws.{is-words}
@@ -20,25 +18,22 @@ use Rattle.definitions.specs.Atoms.{Problem, problemOf, State, initial, stateWo
 use Rattle.definitions.specs.Actions.{Action, beginProof, proveGoal, actionNumber}
 use Rattle.definitions.specs.Strips.{mayTake, after, run}
 use Rattle.definitions.specs.Built.{setSteps, builtActions, builtSteps, bound}
-use Rattle.definitions.specs.Outcome.{stateLength, written, kindRefusal, builtFrom}
-use Rattle.laws.specs.Booleans.{T-dec}
+use Rattle.definitions.specs.Outcome.{stateLength, written, kindRefusal, takePicks, satisfying, builtFrom}
 use Rattle.laws.specs.Words.{state-words}
-use Rattle.reduction.specs.Reader.{Accepted}
-use Rattle.reduction.specs.Between.{count-case}
+use Rattle.laws.specs.Reader.{Accepted}
+use Rattle.laws.specs.Lent.{words-take}
+use Rattle.laws.specs.Building.{count-case}
 use Rattle.states.specs.Planning.{taken, taken-append, provedSteps}
 use Rattle.states.specs.Building.{built-steps, rule-may, built-state}
 use Rattle.picks.specs.Words.{PicksAre, rowsIn}
 use Rattle.proving.specs.Following.{Out, out, one}
 use Rattle.plans.specs.Following.{proved, Follows}
 use Rattle.plans.specs.Ways.{follow, follow-append, follow-state, follow-steps, follow-count, proved-follow}
+use Rattle.picks.specs.Handed.{decided}
 use Rattle.plans.specs.Answers.{planned, answered, Gives}
 use Rattle.plans.specs.declared.Answer.the-variants.{Steps, OtherKind, RuleFalse}
 
 -- the front of a table whose bits are a state's is the state's words
-words-take : (k : ℕ) (t : List ℕ) → Words t → Words (take k t)
-words-take k t w j = ⊎-elim (λ h. rw (getD-take k t j 0 (ltb→lt j k h)) (w j))
-    (λ h. let q = nltb→le j k h in let e : getD (take k t) j 0 ≡ 0 = List·getD-eq-default (take k t) 0 (omega (arith, length-take k t)) in omega arith) (T-dec (ltb j k))
-
 bit-take : (k : ℕ) (t : List ℕ) (i : ℕ) → i < 64 * k → bit (take k t) i ≡ bit t i
 unfolding bit
 bit-take k t i h = ap (λ (w : ℕ). digit w (i % 64)) (getD-take k t (i / 64) 0 (omega arith))
@@ -94,14 +89,14 @@ module _ (c : Case) (A : Accepted c) (F : List Tuple) (picks : arePicks c F ≡ 
 -- ---- answers
 module _ (c : Case) (p : Problem) (F : List Tuple) (state steps : List ℕ) where
   pub gives-kind : (i : ℕ) → some i ≡ firstOfOtherKind c F → Gives c p F state steps (OtherKind i) state steps
-  unfolding planned answered builtFrom kindRefusal _>>=_
+  unfolding planned decided satisfying takePicks answered builtFrom kindRefusal _>>=_
   gives-kind i e = rw (sym e)
 
   pub gives-false : none ≡ firstOfOtherKind c F → ruleIsTrue c F ≡ false → Gives c p F state steps RuleFalse state steps
-  unfolding planned answered builtFrom kindRefusal _>>=_ refuseIf
+  unfolding planned decided satisfying takePicks answered builtFrom kindRefusal _>>=_ refuseIf
   gives-false e t = rw (sym e, t)
 
   pub gives-steps : (k : ℕ) (state′ steps′ : List ℕ) → none ≡ firstOfOtherKind c F → ruleIsTrue c F ≡ true → k ≡ length (builtSteps p F)
       → state′ ≡ written (stateWords p (run p (builtSteps p F) .state)) state → steps′ ≡ written (builtSteps p F) steps → Gives c p F state steps (Steps k) state′ steps′
-  unfolding planned answered builtFrom kindRefusal _>>=_ refuseIf
+  unfolding planned decided satisfying takePicks answered builtFrom kindRefusal _>>=_ refuseIf
   gives-steps k state′ steps′ e t n a b = rw (sym e, t, n, a, b)

@@ -24,7 +24,7 @@ use Rattle.ground.specs.declared.RelationLine.{RelationLine}
 use Rattle.ground.specs.declared.NodeLine.{NodeLine}
 use Rattle.ground.specs.declared.Act.the-variants.{Begin, Goal}
 use Rattle.proving.specs.Following.{Out, out, one, provedNodes}
-use Rattle.setting.specs.Setting.{setRelations}
+use Rattle.plans.specs.Setting.{setRelations}
 use Rattle.plans.specs.Following.{proved, Follows}
 use Rattle.plans.specs.BuiltLaws.{front-words}
 

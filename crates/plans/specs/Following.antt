@@ -8,7 +8,7 @@ use Rattle.definitions.specs.Atoms.{Problem}
 use Rattle.definitions.specs.Actions.{beginProof, proveGoal}
 use Rattle.definitions.specs.Strips.{mayTake}
 use Rattle.proving.specs.Following.{Out, one, provedNodes}
-use Rattle.setting.specs.Setting.{setRelations}
+use Rattle.plans.specs.Setting.{setRelations}
 
 -- up to the goal
 unfoldable pub proved : Problem → (ℕ → ℕ → Bool) → Out → Out

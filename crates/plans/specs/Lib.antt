@@ -1,13 +1,19 @@
 -- Building steps from picks.
+--   Setting      the picks are set, as folds over the builder's progress
+--   SetLaws      these step by step
 --   Following    the builder's way as folds over its progress
 --   Ways         that it is the built steps, taken and written one by one
 --   Answers      what building gives, in the words of the definitions
 --   BuiltLaws    so the state, the steps and the count are theirs
 --   EndLaws      the way from part to part, and what is lent out, as the code has it
 --   BuildLaws    what `build` finds, as what the definitions give
+--   Starts       the initial state, and what is built from it
+pub mod Setting
+pub mod SetLaws
 pub mod Following
 pub mod Ways
 pub mod Answers
 pub mod BuiltLaws
 pub mod EndLaws
 pub mod BuildLaws
+pub mod Starts

@@ -17,7 +17,7 @@ use Rattle.definitions.specs.Built.{isPicked, pickedRows, chosenNumbers, setSte
 use Rattle.laws.specs.Lists.{filter-same, filter-mem, flat-same, below-lt}
 use Rattle.states.specs.Planning.{taken, stepNow, rowSteps, provedSteps}
 use Rattle.proving.specs.Following.{Out, one, provedRow, provedRows, provedNodes}
-use Rattle.setting.specs.Setting.{setRow, setRows, setRelation, setRelations}
+use Rattle.plans.specs.Setting.{setRow, setRows, setRelation, setRelations}
 use Rattle.plans.specs.Following.{proved}
 
 -- actions taken and written

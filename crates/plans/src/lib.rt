@@ -1,30 +1,126 @@
 // Steps built from picks: 16 where the picks are not of the declared kinds, 17 where the rule is false of them; else the picks are
-// set, the proof begins, every true node atom is proved, and the goal is. All is decided before anything lent is written.
+// set in the order of the atoms, the proof begins, every true node atom is proved, and the goal is. All is decided before anything
+// lent is written.
 ghost use mathlib.Core.Path.{_≡_};
-ghost use mathlib.Core.Bool.{true, false};
-ghost use Prim.Native.Nat.{_+_, _/_, _^_, _<_, _≤_};
+ghost use mathlib.Core.Bool.{true};
+ghost use Prim.Native.Nat.{_+_, _/_, _^_, _<_, _≤_, _*_};
 ghost use mathlib.Core.List.{List};
 ghost use lib.ListN.{length, take};
-ghost use Rattle.definitions.specs.Relations.{Tuple};
+ghost use Rattle.definitions.specs.Relations.{Tuple, isChosen};
 ghost use Rattle.definitions.specs.Truth.{Case, arePicks};
-ghost use Rattle.definitions.specs.Atoms.{Problem, problemOf, initial, atoms as «atoms-of»};
+ghost use Rattle.definitions.specs.Atoms.{Problem, problemOf, initial as «initial-of», atoms as «atoms-of», relationAt, tuplesOf};
 ghost use Rattle.definitions.specs.Actions.{actions};
 ghost use Rattle.definitions.specs.Built.{bound};
 ghost use Rattle.definitions.specs.Outcome.{written};
-ghost use Rattle.reduction.specs.Reader.{Accepted};
-ghost use Rattle.bits.specs.Table.{bit, Words};
-ghost use Rattle.ground.specs.Lines.{Fits};
+ghost use Rattle.laws.specs.Reader.{Accepted};
+ghost use Rattle.bits.specs.Table.{bit};
+ghost use Rattle.ground.specs.Lines.{Fits, relationLine};
 ghost use Rattle.ground.specs.Of.{Is};
+ghost use Rattle.initial.specs.Rows.{atomsIn};
 ghost use Rattle.picks.specs.Words.{rowsIn, PicksAre};
 ghost use Rattle.proving.specs.Following.{Ready, out};
 ghost use Rattle.plans.specs.Following.{Follows};
 ghost use Rattle.plans.specs.Answers.{Gives, Asked};
+ghost use Rattle.plans.specs.Starts.{Prepared};
+ghost use Rattle.plans.specs.Setting.{setRow, setRows, setRelation, setRelations};
+
+// A tuple is set, if it is picked.
+fn set_row(
+    state: &mut [u64],
+    steps: &mut [u32],
+    at: usize,
+    table: &[usize],
+    relation: usize,
+    row: usize,
+    picked: bool,
+) -> usize
+    requires { ⌜ Fits (now table) × (relation < 17) × (row < 2 ^ 32) × (at < 2 ^ 40) ⌝ }
+    ensures { λ r. ⌜ (r ≤ at + 1) × ((p : Problem) → Ready p (now (table .entry)) (length (now (state .entry))) → relation < length (p .relations) → isChosen (relationAt p relation .kind) ≡ true
+        → row < tuplesOf (p .size) (relationAt p relation)
+        → setRow p relation picked (out (bit (now (state .entry))) (now (steps .entry)) at) row ≡ out (bit (now (state .exit))) (now (steps .exit)) r) ⌝ }
+{
+    if picked {
+        let line = ground::relation_line(table, relation);
+        let a = ground::Act::Set(ground::TupleAct { relation, row });
+        return proving::step(state, steps, at, table, a, line.sets + row);
+    }
+    at
+}
+
+// The tuples of a relation that are picked are set, in order; their bits are those of `picks` from bit `start` on.
+fn set_rows(
+    state: &mut [u64],
+    steps: &mut [u32],
+    at: usize,
+    table: &[usize],
+    picks: &[u64],
+    relation: usize,
+    start: usize,
+    tuples: usize,
+) -> usize
+    requires { ⌜ Fits (now table) × (relation < 17) × (tuples ≤ 2 ^ 32) × (start ≤ 2 ^ 40) × (at < 2 ^ 39) ⌝ }
+    ensures { λ r. ⌜ (r ≤ at + tuples) × ((p : Problem) → Ready p (now (table .entry)) (length (now (state .entry))) → relation < length (p .relations) → isChosen (relationAt p relation .kind) ≡ true
+        → tuples ≡ tuplesOf (p .size) (relationAt p relation)
+        → setRows p relation (λ row. bit (now (picks .entry)) (start + row)) (out (bit (now (state .entry))) (now (steps .entry)) at) 0 tuples ≡ out (bit (now (state .exit))) (now (steps .exit)) r) ⌝ }
+{
+    let mut k = at;
+    let mut row: usize = 0;
+    while row < tuples {
+        let picked = ground::test(picks, start + row);
+        k = set_row(state, steps, k, table, relation, row, picked);
+        row += 1;
+    }
+    k
+}
+
+// The picks of a relation are set, if it is a `choose`.
+fn set_relation(
+    state: &mut [u64],
+    steps: &mut [u32],
+    at: usize,
+    table: &[usize],
+    picks: &[u64],
+    relation: usize,
+    line: ground::RelationLine,
+    start: usize,
+) -> usize
+    requires { ⌜ Fits (now table) × (relation < 17) × (line .nots ≤ 2 ^ 32) × (start ≤ 2 ^ 40) × (at < 2 ^ 39) ⌝ }
+    ensures { λ r. ⌜ (r ≤ at + 2 ^ 32) × ((p : Problem) → Ready p (now (table .entry)) (length (now (state .entry))) → relation < length (p .relations) → line ≡ relationLine (now (table .entry)) relation
+        → setRelation p (λ row. bit (now (picks .entry)) (start + row)) (out (bit (now (state .entry))) (now (steps .entry)) at) relation ≡ out (bit (now (state .exit))) (now (steps .exit)) r) ⌝ }
+{
+    if line.kind == 0 {
+        return at;
+    }
+    let tuples = picks::tuples_in(line);
+    set_rows(state, steps, at, table, picks, relation, start, tuples)
+}
+
+// All picks are set; the bits of each `choose` start at a new word.
+pub fn set_picks(state: &mut [u64], steps: &mut [u32], table: &[usize], picks: &[u64]) -> usize
+    requires { ⌜ Fits (now table) ⌝ }
+    ensures { λ r. ⌜ (r ≤ 17 * 2 ^ 32) × ((p : Problem) → Ready p (now (table .entry)) (length (now (state .entry)))
+        → setRelations p (rowsIn p (now (picks .entry))) (out (bit (now (state .entry))) (now (steps .entry)) 0) 0 (length (p .relations)) ≡ out (bit (now (state .exit))) (now (steps .exit)) r) ⌝ }
+{
+    let mut k: usize = 0;
+    let mut word: usize = 0;
+    let mut r: usize = 0;
+    while r < table[1] {
+        let line = ground::relation_line(table, r);
+        k = set_relation(state, steps, k, table, picks, r, line, 64 * word);
+        word += picks::words_in(line);
+        r += 1;
+    }
+    k
+}
 
 // The words of a state at the most.
-pub const WORDS: usize = 1024;
+const WORDS: usize = 1024;
 
-// Built steps are fewer than atoms. Most problems are small, and for them no large buffer is cleared.
-const SMALL: usize = 1024;
+// Most problems are small: FEW words hold a state of SMALL atoms, and built steps are fewer than atoms. For them no large buffer is
+// cleared.
+const FEW: usize = 16;
+
+const SMALL: usize = 64 * FEW;
 
 const LARGE: usize = 65536;
 
@@ -50,7 +146,7 @@ fn follow(
     let nodes = table[2];
     let first = ground::relation_line(table, relations);
     let last = ground::node_line(table, nodes);
-    let picked = setting::set_picks(state, steps, table, picks);
+    let picked = set_picks(state, steps, table, picks);
     let begun = proving::step(state, steps, picked, table, ground::Act::Begin, first.sets);
     let proved = proving::prove_nodes(state, steps, begun, table, atoms);
     if ground::may_take(state, table, ground::Act::Goal) {
@@ -60,18 +156,6 @@ fn follow(
     Followed {
         holds: false,
         count: proved,
-    }
-}
-
-// The first k words of src become those of dst. (That a word has 64 bits is known where one is read.)
-fn copy(dst: &mut [u64], src: &[u64], k: usize)
-    requires { ⌜ (k ≤ length (now dst)) × (k ≤ length (now src)) ⌝ }
-    ensures { λ r. ⌜ (now (dst .exit) ≡ written (take k (now (src .entry))) (now (dst .entry))) × (0 < k → Words (now (src .entry))) ⌝ }
-{
-    let mut i: usize = 0;
-    while i < k {
-        dst[i] = src[i];
-        i += 1;
     }
 }
 
@@ -116,11 +200,11 @@ fn build_in(
 {
     let mut left = [0u64; WORDS];
     let k = start.len();
-    copy(&mut left, start, k);
+    ground::copy(&mut left, start, k);
     let f = follow(&mut left, made, table, atoms, picks);
     if f.holds {
         let words = (atoms + 63) / 64;
-        copy(state, &left, words);
+        ground::copy(state, &left, words);
         copy_steps(steps, made, f.count);
         return Answer::Steps(f.count);
     }
@@ -162,7 +246,7 @@ fn build_large(
 }
 
 // The steps built from picks and the state that they leave, from the initial state `start` on.
-pub fn build(
+fn build(
     state: &mut [u64],
     steps: &mut [u32],
     start: &[u64],
@@ -172,7 +256,7 @@ pub fn build(
 ) -> Answer
     requires { ⌜ Fits (now table) × (atoms ≤ 2 ^ 16) × (length (now start) ≤ 1024) × ((atoms + 63) / 64 ≤ length (now state)) ⌝ }
     ensures { λ r. ⌜ ((c : Case) (F : List Tuple) → Accepted c → arePicks c F ≡ true → Is (problemOf c) (now (table .entry)) → PicksAre (problemOf c) (now (picks .entry)) F
-        → atoms ≡ «atoms-of» (problemOf c) → actions (problemOf c) ≤ 2 ^ 32 → bit (now (start .entry)) ≡ initial (problemOf c) → bound (problemOf c) ≤ length (now (steps .entry))
+        → atoms ≡ «atoms-of» (problemOf c) → actions (problemOf c) ≤ 2 ^ 32 → bit (now (start .entry)) ≡ «initial-of» (problemOf c) → bound (problemOf c) ≤ length (now (steps .entry))
         → Gives c (problemOf c) F (now (state .entry)) (now (steps .entry)) r (now (state .exit)) (now (steps .exit))) ⌝ }
 {
     let kinds = picks::test_kinds(table, picks);
@@ -187,4 +271,45 @@ pub fn build(
             return build_large(state, steps, start, table, atoms, picks);
         }
     }
+}
+
+// The steps built from picks and the state that they leave, from the initial state on, which is written to words of its own.
+fn build_from(
+    start: &mut [u64],
+    state: &mut [u64],
+    steps: &mut [u32],
+    table: &[usize],
+    facts: &[u64],
+    atoms: usize,
+    picks: &[u64],
+) -> Answer
+    requires { ⌜ Fits (now table) × (atomsIn (now table) ≡ atoms) × (atoms ≤ 2 ^ 16) × ((atoms + 63) / 64 ≤ length (now state)) ⌝ }
+    requires { ⌜ (atoms + 63) / 64 ≤ length (now start) ⌝ }
+    ensures { λ r. ⌜ ((c : Case) (F : List Tuple) → Prepared c F (now (table .entry)) (now (facts .entry)) (now (picks .entry)) atoms (length (now (steps .entry)))
+        → Gives c (problemOf c) F (now (state .entry)) (now (steps .entry)) r (now (state .exit)) (now (steps .exit))) ⌝ }
+{
+    let words = (atoms + 63) / 64;
+    initial::initial_state(table, facts, &mut start[..words]);
+    build(state, steps, &start[..words], table, atoms, picks)
+}
+
+// The same; for a small problem few words are cleared.
+pub fn start_and_build(
+    state: &mut [u64],
+    steps: &mut [u32],
+    table: &[usize],
+    facts: &[u64],
+    atoms: usize,
+    picks: &[u64],
+) -> Answer
+    requires { ⌜ Fits (now table) × (atomsIn (now table) ≡ atoms) × (atoms ≤ 2 ^ 16) × ((atoms + 63) / 64 ≤ length (now state)) ⌝ }
+    ensures { λ r. ⌜ ((c : Case) (F : List Tuple) → Prepared c F (now (table .entry)) (now (facts .entry)) (now (picks .entry)) atoms (length (now (steps .entry)))
+        → Gives c (problemOf c) F (now (state .entry)) (now (steps .entry)) r (now (state .exit)) (now (steps .exit))) ⌝ }
+{
+    if atoms <= SMALL {
+        let mut few = [0u64; FEW];
+        return build_from(&mut few, state, steps, table, facts, atoms, picks);
+    }
+    let mut start = [0u64; WORDS];
+    build_from(&mut start, state, steps, table, facts, atoms, picks)
 }

@@ -1,16 +1,14 @@
 -- Numbers in decimal: their last digit, how long they are, and that `number` reads what `decimal` writes. Assumes nothing.
-use Prim.Native.Nat.{ℕ, zero, suc, _+_, _-_, _*_, _/_, _%_, _^_, _≤_, _<_}
-use mathlib.Core.Path.{_≡_, refl, sym, ap, _∙_}
-use mathlib.Core.Bool.{Bool, true, false, _&&_}
-use mathlib.Core.List.{List, [], _∷_, _++_}
-use mathlib.Core.Option.{some}
-use native.Mathlib.Nat.{zero-add, pow-suc, pow-zero, add-comm}
+use Prim.Native.Nat.{ℕ, zero, suc, _+_, _-_, _/_, _%_, _^_, _≤_, _<_}
+use mathlib.Core.Path.{_≡_, refl, sym, _∙_}
+use mathlib.Core.Bool.{Bool, true, false}
+use mathlib.Core.List.{[], _∷_, _++_}
+use native.Mathlib.Nat.{pow-suc, pow-zero}
 use native.Mathlib.Omega.{arith}
-use lib.Dec.{eqb, leb}
+use lib.Dec.{leb}
 use lib.ListN.{length, length-append}
-use borrow.Author.Tests.{le-leb, lt-leb, leb-true, leb-false, ne-eqb}
-use Rattle.definitions.specs.Lists.{if_then_else_, all}
-use Rattle.definitions.specs.Text.{isBetween, isDigit, decimalValue, noLeadingZero, number, decimalIn, decimal}
+use borrow.Author.Tests.{le-leb, lt-leb, leb-true, leb-false}
+use Rattle.definitions.specs.Text.{number, decimalIn, decimal}
 
 one : (n k : ℕ) → k ≤ 9 → decimalIn (suc n) k ≡ (k + 48) ∷ []
 unfolding decimalIn

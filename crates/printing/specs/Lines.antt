@@ -41,27 +41,27 @@ fields-is f (x ∷ xs) = ap (λ (t : List ℕ). f ++ (9 ∷ t)) (fields-is (deci
 -- ---- the lines, their words byte by byte
 
 pub no-is : (k place : ℕ) → printLine (bytes "no" ∷ decimal k ∷ decimal place ∷ []) ≡ (110 ∷ 111 ∷ []) ++ (field k ++ (field place ++ (10 ∷ [])))
-unfolding printLine bytes field
+unfolding printLine field
 no-is k place = refl
 
 pub ok-is : (k : ℕ) → printLine (bytes "ok" ∷ decimal k ∷ []) ≡ (111 ∷ 107 ∷ []) ++ (field k ++ (10 ∷ []))
-unfolding printLine bytes field
+unfolding printLine field
 ok-is k = refl
 
 pub step-is : (k : ℕ) → stepLine k ≡ (115 ∷ 116 ∷ 101 ∷ 112 ∷ []) ++ (field k ++ (10 ∷ []))
-unfolding stepLine printLine bytes field
+unfolding stepLine printLine field
 step-is k = refl
 
 pub sizes-is : (s : Sizes) → sizesLine s ≡ (115 ∷ 105 ∷ 122 ∷ 101 ∷ 115 ∷ []) ++ (field (s .elements) ++ (field (s .atomCount) ++ (field (s .actionCount) ++ (field (s .stepBound) ++ (10 ∷ [])))))
-unfolding sizesLine printLine bytes field
+unfolding sizesLine printLine field
 sizes-is s = refl
 
 pub count-is : (name : List ℕ) (k : ℕ) → printLine (bytes "count" ∷ name ∷ decimal k ∷ []) ≡ (99 ∷ 111 ∷ 117 ∷ 110 ∷ 116 ∷ 9 ∷ []) ++ (name ++ (field k ++ (10 ∷ [])))
-unfolding printLine bytes field
+unfolding printLine field
 count-is name k = refl
 
 pub pick-is : (name xs : List ℕ) → printLine (bytes "pick" ∷ name ∷ map decimal xs) ≡ (112 ∷ 105 ∷ 99 ∷ 107 ∷ 9 ∷ []) ++ (name ++ (elements xs ++ (10 ∷ [])))
-unfolding printLine bytes
+unfolding printLine
 pick-is name xs = ap (λ (t : List ℕ). 112 ∷ 105 ∷ 99 ∷ 107 ∷ 9 ∷ t) (fields-is name xs)
 
 -- ---- the places of a row, the most significant first

@@ -2,12 +2,11 @@
 // byte before and after that as it was.
 ghost use mathlib.Core.Path.{_≡_};
 ghost use mathlib.Core.List.{[], _∷_, map};
-ghost use Prim.Native.Nat.{_+_, _*_, _≤_, _<_, _^_};
+ghost use Prim.Native.Nat.{_+_, _≤_, _<_, _^_};
 ghost use lib.ListN.{length, take};
 ghost use Rattle.definitions.specs.Lists.{flatMap};
 ghost use Rattle.definitions.specs.Text.{bytes, decimal as «decimal-of»};
 ghost use Rattle.definitions.specs.Atoms.{placesOf};
-ghost use Rattle.definitions.specs.Outcome.{Sizes};
 ghost use Rattle.definitions.specs.Desk.{printLine, sizesLine, stepLine};
 ghost use Rattle.printing.specs.Printed.{Prints};
 ghost use Rattle.printing.specs.Lines.{field as «field-of», elements as «elements-of»};

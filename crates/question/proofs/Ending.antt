@@ -11,7 +11,8 @@ use lib.Seq.{slice, length-slice}
 use Rattle.definitions.specs.Lists.{if_then_else_, isEmpty, option}
 use Rattle.definitions.specs.Refusal.{Result, refused, accepted, _>>=_, refuseIf, given}
 use Rattle.definitions.specs.Relations.{Relation}
-use Rattle.definitions.specs.Formula.{Formula, readFormula, allForms, nesting, isKnown, isScoped}
+use Rattle.definitions.specs.Formula.{Formula, allForms, nesting, isKnown, isScoped}
+use Rattle.definitions.specs.Parsing.{readFormula}
 use Rattle.definitions.specs.Sheets as D
 use Rattle.definitions.specs.Outcome.{spanOf, rulePart}
 use Rattle.records.specs.Lines.{readAt}
@@ -218,6 +219,16 @@ part-by s (accepted q) r w =
 pub part-is : (s : List ℕ) (r : Asked) → QuestionRead s (D.readQuestion s) r → take (r .rule .to - r .rule .from) (drop (r .rule .from) s) ≡ take (rulePart s .len) (drop (rulePart s .start) s)
 unfolding rulePart
 part-is s r w = part-by s (D.readQuestion s) r w
+
+-- and it starts where the definition says
+start-by : (s : List ℕ) (o : Result D.Question) (r : Asked) → QuestionRead s o r → r .rule .from ≡ spanOf o .start
+unfolding QuestionRead refusedWith spanOf
+start-by s (refused k place) r w = rw w refl
+start-by s (accepted q) r w = sym (w .rule-at)
+
+pub part-start : (s : List ℕ) (r : Asked) → QuestionRead s (D.readQuestion s) r → r .rule .from ≡ rulePart s .start
+unfolding rulePart
+part-start s r w = start-by s (D.readQuestion s) r w
 
 -- ---- the signature is sound, whether the question is refused or not
 

@@ -9,7 +9,7 @@ use lib.ListN.{length, set}
 use lib.Seq.{slice}
 use Rattle.definitions.specs.Lists.{if_then_else_}
 use Rattle.definitions.specs.Refusal.{Result, refused, accepted, _>>=_, given}
-use Rattle.definitions.specs.Formula.{readFormula}
+use Rattle.definitions.specs.Parsing.{readFormula}
 use Rattle.definitions.specs.Sheets as D
 use Rattle.records.specs.Lines.{readAt}
 use Rattle.records.specs.declared.Entry.{Entry}

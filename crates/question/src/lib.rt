@@ -306,13 +306,15 @@ pub fn question(s: &[u8]) -> Asked
     }
 }
 
-// The rule's formula as a part of the question's own bytes, empty where the question is refused.
-pub fn rule_part(s: &[u8]) -> &[u8]
-    ensures { λ r. ⌜ now r ≡ take (rulePart (now (s .entry)) .len) (drop (rulePart (now (s .entry)) .start) (now (s .entry))) ⌝ }
+// The rule's formula as a part of the question's own bytes, and where that part starts; an empty part at 0 where the question is refused.
+pub fn rule_part<'a>(s: &'a [u8], start: &mut usize) -> &'a [u8]
+    ensures part { λ r. ⌜ now r ≡ take (rulePart (now (s .entry)) .len) (drop (rulePart (now (s .entry)) .start) (now (s .entry))) ⌝ }
+    ensures place { λ r. ⌜ now (start .exit) ≡ rulePart (now (s .entry)) .start ⌝ }
 {
     let q = question(s);
     let rule = q.rule;
     let from = rule.from;
     let to = rule.to;
+    *start = from;
     &s[from..to]
 }

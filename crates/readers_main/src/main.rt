@@ -46,7 +46,7 @@ fn read_site(s: &[u8]) {
     let q = question::question(text);
     let g = q.sig;
     let mut table = [0u64; 512];
-    let a = sheets::site(text, g, s, &mut table);
+    let a = sheets::site(text, g, s, 16, &mut table);
     answer(b"site", a);
 }
 

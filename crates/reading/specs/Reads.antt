@@ -1,36 +1,32 @@
--- What reading picks from steps answers and leaves: of a problem, of a case that was read, and of the texts.
+-- What reading picks from steps answers and leaves: of a problem, and of the texts.
 use Prim.Native.Nat.{ℕ, _+_, _/_, _≤_, _<_}
 use mathlib.Core.Path.{_≡_, refl, sym, ap, ap₂, subst, _∙_}
-use mathlib.Core.Bool.{Bool, true, false}
+use mathlib.Core.Bool.{true, false}
 use mathlib.Core.List.{List, _++_}
 use lib.ListN.{length, drop}
+use Rattle.definitions.specs.Limits.{CaseLimits}
 use Rattle.definitions.specs.Refusal.{Result, refused, accepted, _>>=_}
-use Rattle.definitions.specs.Truth.{Case}
 use Rattle.definitions.specs.Atoms.{Problem, problemOf, atoms, stateWords}
 use Rattle.definitions.specs.Strips.{run, picksOf}
 use Rattle.definitions.specs.Outcome
+use Rattle.laws.specs.Asked as Order
 use Rattle.laws.specs.Words.{state-length}
-use Rattle.bits.specs.Table.{bit}
-use Rattle.reduction.specs.Reader.{Accepted}
-use Rattle.reduction.specs.Means.{Good}
-use Rattle.reduction.specs.Grounded.{good}
+use Rattle.laws.specs.Means.{Good}
+use Rattle.laws.specs.Grounded.{good}
 use Rattle.ground.specs.Of.{Is}
 use Rattle.initial.specs.Rows.{atomsIn}
 use Rattle.initial.specs.Initial.{FactsIn}
-use Rattle.opening.specs.declared.Opened.{Opened}
-use Rattle.opening.specs.Read.{Holds, CaseRead}
-use Rattle.grounding.specs.declared.Sized.{Sized as Counted}
-use Rattle.grounding.specs.Grounds.{GroundsTo}
 use Rattle.runs.specs.declared.End.{End}
 use Rattle.runs.specs.Ended.{ended}
-use Rattle.checking.specs.Checks.{Runs}
-use Rattle.cases.specs.declared.Reply.{Reply}
-use Rattle.cases.specs.declared.Reply.the-variants.{Accepted as Fine, Refused}
-use Rattle.cases.specs.Order
-use Rattle.cases.specs.Known.{case-refused, case-read, case-accepted, facts-held, case-over, grounds, tabled, words-are, room-short, room-there}
-use Rattle.cases.specs.Replies.{resultOf}
-use Rattle.reading.specs.Copies.{Copied}
-use Rattle.reading.specs.CopyLaws.{copied-done}
+use Rattle.runs.specs.Checks.{Runs}
+use Rattle.asking.specs.declared.Front.{Front}
+use Rattle.asking.specs.declared.Reply.{Reply}
+use Rattle.asking.specs.declared.Reply.the-variants.{Accepted as Fine, Refused}
+use Rattle.asking.specs.Fronts.{Fronted, front-refused, front-held}
+use Rattle.asking.specs.Known.{facts-held, case-over, grounds, tabled, words-are, room-short, room-there}
+use Rattle.asking.specs.Replies.{resultOf}
+use Rattle.picks.specs.Copies.{Copied}
+use Rattle.picks.specs.CopyLaws.{copied-done}
 
 -- ---- of a problem: the steps are run, and the picks are written if the answer is no refusal
 pub record Read (p : Problem) (steps picks : List ℕ) (r : Reply) (newPicks newState : List ℕ) : Type 0 where
@@ -51,7 +47,7 @@ module _ (w f steps picks state newState : List ℕ) (e : End) (runs : Runs w f 
       let a : accepted i ≡ run p steps .answer = sym q ∙ ran .answer in
       record {
         answer = a;
-        picks-are = rw (sym a) (copied-done w newState picks newPicks steps i p copy is G (record { answer = a; state = ran .state }));
+        picks-are = rw (sym a) (copied-done w newState picks newPicks steps i p copy is G a (ran .state));
         state-is = ran .state;
       }
 
@@ -62,103 +58,101 @@ module _ (w f steps picks state newState : List ℕ) (e : End) (runs : Runs w f 
       let a : refused k i ≡ run p steps .answer = sym q ∙ ran .answer in
       record { answer = a; picks-are = rw (sym a) refl; state-is = ran .state }
 
--- ---- of a case that was read: 11, 12 for the picks, 12 for the state, then the steps
+-- ---- of the texts
 
-unfoldable pub rooms : ℕ → ℕ → Order.Room
+-- 12 for the picks, 12 for the state
+unfoldable pub rooms : ℕ → ℕ → Problem → Result (Unit {0})
 rooms picks state p = Outcome.roomFor (Outcome.picksLength p) picks >>= λ _. Outcome.roomFor (Outcome.stateLength p) state
 
-unfoldable pub readied : Case → List ℕ → Order.Room → Result Outcome.Ready
-readied c steps room = Outcome.ground c >>= λ p. room p >>= λ _. accepted (record { problem = p; steps = steps })
+abbrev pub PicksRead : CaseLimits → (question site : List ℕ) (given : Outcome.Given) (picks state : List ℕ) → Reply → List ℕ → List ℕ → Type 0
+PicksRead L question site given picks state r newPicks newState =
+    (resultOf r ≡ Outcome.picksFromSteps L question site given picks state .answer)
+    × ((newPicks ≡ Outcome.picksFromSteps L question site given picks state .picks)
+    × (newState ≡ Outcome.picksFromSteps L question site given picks state .state))
 
-pub record Reads (c : Case) (steps picks state : List ℕ) (r : Reply) (newPicks newState : List ℕ) : Type 0 where
-  pub answer : resultOf r ≡ Outcome.picksReadFrom (readied c steps (rooms (length picks) (length state))) picks state .answer
-  pub picks-are : newPicks ≡ Outcome.picksReadFrom (readied c steps (rooms (length picks) (length state))) picks state .picks
-  pub state-is : newState ≡ Outcome.picksReadFrom (readied c steps (rooms (length picks) (length state))) picks state .state
+-- what is answered to steps that are handed over, whatever texts were opened
+abbrev pub ReadsGiven : (f : Front) (facts table : List ℕ) (given : Outcome.Given) (picks state : List ℕ) → Reply → List ℕ → List ℕ → Type 0
+ReadsGiven f facts table given picks state r newPicks newState =
+    ((L : CaseLimits) (question site : List ℕ) → Fronted L question site f facts table → f .fault ≡ 0 → PicksRead L question site given picks state r newPicks newState)
 
-module _ (c : Case) (steps picks state : List ℕ) where
-  reads-refused : (k place : ℕ) → readied c steps (rooms (length picks) (length state)) ≡ refused k place → (r : Reply) → resultOf r ≡ refused k place → Reads c steps picks state r picks state
-  unfolding Outcome.picksReadFrom
-  reads-refused k place e r q = record { answer = rw e q; picks-are = rw e refl; state-is = rw e refl }
+-- the same to steps that were taken
+abbrev pub Reads : (f : Front) (facts table steps picks state : List ℕ) → Reply → List ℕ → List ℕ → Type 0
+Reads f facts table steps picks state r newPicks newState =
+    ((given : Outcome.Given) → Outcome.takeSteps given ≡ accepted steps → ReadsGiven f facts table given picks state r newPicks newState)
 
-  module _ (m : Counted) (w : List ℕ) (g : GroundsTo (Outcome.ground c) m w) where
-    pub reads-over : m .over ≡ true → Reads c steps picks state (Refused 11 0) picks state
-    unfolding readied resultOf _>>=_
-    reads-over o = reads-refused 11 0 (rw (case-over c m w g o) refl) (Refused 11 0) refl
+module _ (given : Outcome.Given) (picks state : List ℕ) (f : Front) (facts table : List ℕ) (L : CaseLimits) (question site : List ℕ) (front : Fronted L question site f facts table) where
+  abbrev call : Result (Outcome.Ready (List ℕ))
+  call = Outcome.asked L question site (λ c. Outcome.takeSteps given) Outcome.nothing Outcome.nothing (rooms (length picks) (length state))
 
-    module _ (o : m .over ≡ false) where
-      abbrev p : Problem
-      p = problemOf c
+  abbrev Is-read : Reply → List ℕ → List ℕ → Type 0
+  Is-read = PicksRead L question site given picks state
 
-      module _ (count : ℕ) (e : (q : Problem) → Is q w → count ≡ Outcome.picksLength q) where
-        count-is : count ≡ Outcome.picksLength p
-        count-is = e p (tabled c m w g o .is)
-
-        pub reads-few-picks : length picks < count → Reads c steps picks state (Refused 12 count) picks state
-        unfolding readied rooms resultOf _>>=_
-        reads-few-picks l =
-            let b = room-short (Outcome.picksLength p) (length picks) (subst (λ (k : ℕ). length picks < k) count-is l) in
-            reads-refused 12 (Outcome.picksLength p) (rw (grounds c m w g o, b) refl) (Refused 12 count) (ap (refused 12) count-is)
-
-        module _ (l : count ≤ length picks) where
-          enough : Outcome.roomFor (Outcome.picksLength p) (length picks) ≡ accepted tt
-          enough = room-there (Outcome.picksLength p) (length picks) (subst (λ (k : ℕ). k ≤ length picks) count-is l)
-
-          pub reads-few-words : length state < (m .atoms + 63) / 64 → Reads c steps picks state (Refused 12 ((m .atoms + 63) / 64)) picks state
-          unfolding readied rooms resultOf _>>=_
-          reads-few-words h =
-              let b = room-short (Outcome.stateLength p) (length state) (subst (λ (k : ℕ). length state < k) (words-are c m w g o) h) in
-              reads-refused 12 (Outcome.stateLength p) (rw (grounds c m w g o, enough, b) refl) (Refused 12 ((m .atoms + 63) / 64)) (ap (refused 12) (words-are c m w g o))
-
-          pub reads-ran : (m .atoms + 63) / 64 ≤ length state → (r : Reply) (newPicks part newState : List ℕ) → Read p steps picks r newPicks part
-              → newState ≡ part ++ drop ((m .atoms + 63) / 64) state → Reads c steps picks state r newPicks newState
-          unfolding readied rooms Outcome.picksReadFrom Outcome.written _>>=_
-          reads-ran h r newPicks part newState ran n =
-              let g′ = grounds c m w g o in
-              let b = room-there (Outcome.stateLength p) (length state) (subst (λ (k : ℕ). k ≤ length state) (words-are c m w g o) h) in
-              let s : length (stateWords p (run p steps .state)) ≡ Outcome.stateLength p = state-length p (run p steps .state) in
-              record {
-                answer = rw (g′, enough, b) (ran .answer);
-                picks-are = rw (g′, enough, b) (ran .picks-are);
-                state-is = rw (g′, enough, b, s) (n ∙ ap₂ (λ (x : List ℕ) (k : ℕ). x ++ drop k state) (ran .state-is) (words-are c m w g o));
-              }
-
-      -- what is asked of the problem by `ReadBy`
-      pub its-read : Accepted c → (s : List ℕ) (o′ : Opened) (f part : List ℕ) → Holds s c o′ (bit f) → (m .atoms + 63) / 64 ≡ length part
-          → (r : Reply) (newPicks newPart : List ℕ) → ReadBy w f steps picks part r newPicks newPart → Read p steps picks r newPicks newPart
-      unfolding ReadBy
-      its-read A s o′ f part held l r newPicks newPart read =
-          let h = tabled c m w g o in
-          read p (h .is) (h .ends) (facts-held s c o′ f held) (good c A) (sym l ∙ words-are c m w g o)
-
--- ---- of the texts: the case, the steps, then these
-
-abbrev pub PicksRead : (question site : List ℕ) (given : Outcome.Given) (picks state : List ℕ) → Reply → List ℕ → List ℕ → Type 0
-PicksRead question site given picks state r newPicks newState =
-    (resultOf r ≡ Outcome.picksFromSteps question site given picks state .answer)
-    × ((newPicks ≡ Outcome.picksFromSteps question site given picks state .picks)
-    × (newState ≡ Outcome.picksFromSteps question site given picks state .state))
-
-module _ (question site : List ℕ) (given : Outcome.Given) (picks state : List ℕ) (o : Opened) (facts : ℕ → Bool) (read : CaseRead question (Outcome.readCase question site) o facts) where
-  abbrev room : Order.Room
-  room = rooms (length picks) (length state)
-
-  refused-with : (k place : ℕ) → Outcome.readyToRun question site given room ≡ refused k place → (r : Reply) → resultOf r ≡ refused k place → PicksRead question site given picks state r picks state
-  unfolding Outcome.picksFromSteps Outcome.picksReadFrom rooms
+  refused-with : (k place : ℕ) → call ≡ refused k place → (r : Reply) → resultOf r ≡ refused k place → Is-read r picks state
+  unfolding Outcome.picksFromSteps Outcome.readyToRun Outcome.picksReadFrom rooms
   refused-with k place e r q = (rw e q, (rw e refl, rw e refl))
 
-  pub call-case : (o .fault ≡ 0 → ⊥) → PicksRead question site given picks state (Refused (o .fault) (o .place)) picks state
+  pub call-case : (f .fault ≡ 0 → ⊥) → Is-read (Refused (f .fault) (f .place)) picks state
   unfolding resultOf
-  call-case z = refused-with (o .fault) (o .place) (Order.case-refused question site given room (o .fault) (o .place) (case-refused question site o facts read z)) (Refused (o .fault) (o .place)) refl
+  call-case z = refused-with (f .fault) (f .place) (Order.case-refused L question site _ _ _ _ _ _ (front-refused L question site f facts table front z)) (Refused (f .fault) (f .place)) refl
 
-  module _ (z : o .fault ≡ 0) where
-    pub call-steps : (k place : ℕ) → Outcome.takeSteps given ≡ refused k place → PicksRead question site given picks state (Refused k place) picks state
+  module _ (z : f .fault ≡ 0) where
+    pub call-steps : (k place : ℕ) → Outcome.takeSteps given ≡ refused k place → Is-read (Refused k place) picks state
     unfolding resultOf
-    call-steps k place t = let (c, e, h) = case-read question site o facts read z in refused-with k place (Order.steps-refused question site given room c e k place t) (Refused k place) refl
+    call-steps k place t = let (c, e, h) = front-held L question site f facts table front z in refused-with k place (Order.third-refused L question site _ _ _ _ c e k place t) (Refused k place) refl
 
-    pub call-ran : (ks : List ℕ) → Outcome.takeSteps given ≡ accepted ks → (r : Reply) (newPicks newState : List ℕ)
-        → ((c : Case) → Accepted c → Holds question c o facts → Reads c ks picks state r newPicks newState) → PicksRead question site given picks state r newPicks newState
-    unfolding Outcome.picksFromSteps Outcome.readyToRun readied rooms _>>=_
-    call-ran ks t r newPicks newState ran =
-        let (c, e, h) = case-read question site o facts read z in
-        let k = ran c (case-accepted question site o facts read z) h in
-        (rw (e, t) (k .answer), (rw (e, t) (k .picks-are), rw (e, t) (k .state-is)))
+    module _ (steps : List ℕ) (t : Outcome.takeSteps given ≡ accepted steps) where
+      pub call-over : f .m .over ≡ true → Is-read (Refused 11 0) picks state
+      unfolding resultOf
+      call-over o =
+          let (c, e, h) = front-held L question site f facts table front z in
+          refused-with 11 0 (Order.limits-refused L question site _ _ _ _ c e steps t (Order.untested c) 11 0 (case-over L c (f .m) table (h .grounded) o)) (Refused 11 0) refl
+
+      module _ (o : f .m .over ≡ false) where
+        abbrev p : Problem
+        p = problemOf (front-held L question site f facts table front z .0)
+
+        -- once the rooms are tested
+        no-room : (k place : ℕ) → rooms (length picks) (length state) p ≡ refused k place → call ≡ refused k place
+        no-room k place j =
+            let (c, e, h) = front-held L question site f facts table front z in
+            Order.room-refused L question site _ _ _ _ c e steps t (Order.untested c) p (grounds L c (f .m) table (h .grounded) o) (Order.untested c) k place j
+
+        readied : rooms (length picks) (length state) p ≡ accepted tt → call ≡ accepted (record { case = front-held L question site f facts table front z .0; problem = p; third = steps })
+        readied j =
+            let (c, e, h) = front-held L question site f facts table front z in
+            Order.ready L question site _ _ _ _ c e steps t (Order.untested c) p (grounds L c (f .m) table (h .grounded) o) (Order.untested c) j
+
+        words : (f .m .atoms + 63) / 64 ≡ Outcome.stateLength p
+        words = let (c, e, h) = front-held L question site f facts table front z in words-are L c (f .m) table (h .grounded) o
+
+        module _ (count : ℕ) (e : (q : Problem) → Is q table → count ≡ Outcome.picksLength q) where
+          count-is : count ≡ Outcome.picksLength p
+          count-is = let (c, _, h) = front-held L question site f facts table front z in e p (tabled L c (f .m) table (h .grounded) o .is)
+
+          pub call-few-picks : length picks < count → Is-read (Refused 12 count) picks state
+          unfolding rooms resultOf _>>=_
+          call-few-picks l =
+              let b = room-short (Outcome.picksLength p) (length picks) (subst (λ (k : ℕ). length picks < k) count-is l) in
+              refused-with 12 (Outcome.picksLength p) (no-room 12 _ (rw b refl)) (Refused 12 count) (ap (refused 12) count-is)
+
+          module _ (l : count ≤ length picks) where
+            enough : Outcome.roomFor (Outcome.picksLength p) (length picks) ≡ accepted tt
+            enough = room-there (Outcome.picksLength p) (length picks) (subst (λ (k : ℕ). k ≤ length picks) count-is l)
+
+            pub call-few-words : length state < (f .m .atoms + 63) / 64 → Is-read (Refused 12 ((f .m .atoms + 63) / 64)) picks state
+            unfolding rooms resultOf _>>=_
+            call-few-words h =
+                let b = room-short (Outcome.stateLength p) (length state) (subst (λ (k : ℕ). length state < k) words h) in
+                refused-with 12 (Outcome.stateLength p) (no-room 12 _ (rw (enough, b) refl)) (Refused 12 ((f .m .atoms + 63) / 64)) (ap (refused 12) words)
+
+            pub call-ran : (f .m .atoms + 63) / 64 ≤ length state → (r : Reply) (newPicks part newPart newState : List ℕ) → (f .m .atoms + 63) / 64 ≡ length part
+                → ReadBy table facts steps picks part r newPicks newPart → newState ≡ newPart ++ drop ((f .m .atoms + 63) / 64) state → Is-read r newPicks newState
+            unfolding rooms ReadBy Outcome.picksFromSteps Outcome.readyToRun Outcome.picksReadFrom Outcome.written _>>=_
+            call-ran h r newPicks part newPart newState len read n =
+                let (c, e, held) = front-held L question site f facts table front z in
+                let its = tabled L c (f .m) table (held .grounded) o in
+                let ran = read p (its .is) (its .ends) (facts-held question c (f .o) facts (held .holds)) (good c (held .accepts)) (sym len ∙ words) in
+                let b = room-there (Outcome.stateLength p) (length state) (subst (λ (k : ℕ). k ≤ length state) words h) in
+                let done = readied (rw (enough, b) refl) in
+                let s : length (stateWords p (run p steps .state)) ≡ Outcome.stateLength p = state-length p (run p steps .state) in
+                (rw done (ran .answer), (rw done (ran .picks-are), rw (done, s) (n ∙ ap₂ (λ (x : List ℕ) (k : ℕ). x ++ drop k state) (ran .state-is) words)))

@@ -156,7 +156,7 @@ choose-tests : (name f : List ℕ) → S.chooseOf name f ≡
     else if same f (73 ∷ 110 ∷ 106 ∷ []) then some (S.choose name 2 Inj)
     else if same f (80 ∷ 73 ∷ 110 ∷ 106 ∷ []) then some (S.choose name 2 PInj)
     else option (S.arityOf f) none (λ a. some (S.choose name a plain)))
-unfolding S.chooseOf bytes
+unfolding S.chooseOf
 choose-tests name f = refl
 
 kind-tests : (f : List ℕ) → kindWord f ≡
@@ -246,7 +246,7 @@ made (suc (suc (suc (suc (suc (suc (suc zero))))))) fs = S.withOne stepOf fs
 made (suc (suc (suc (suc (suc (suc (suc (suc k)))))))) fs = none
 
 entry-tests : (w : List ℕ) (fs : List (List ℕ)) → S.entry (w ∷ fs) ≡ (if same w (114 ∷ 101 ∷ 108 ∷ []) then S.withTwo relOf fs else if same w (99 ∷ 104 ∷ 111 ∷ 111 ∷ 115 ∷ 101 ∷ []) then S.withTwo S.chooseOf fs else if same w (114 ∷ 117 ∷ 108 ∷ 101 ∷ []) then S.withOne ruleOf fs else if same w (115 ∷ 105 ∷ 122 ∷ 101 ∷ []) then S.withOne sizeOf fs else if same w (102 ∷ 97 ∷ 99 ∷ 116 ∷ []) then S.withElements S.fact fs else if same w (112 ∷ 105 ∷ 99 ∷ 107 ∷ []) then S.withElements S.pick fs else if same w (115 ∷ 116 ∷ 101 ∷ 112 ∷ []) then S.withOne stepOf fs else none)
-unfolding S.entry bytes relOf ruleOf sizeOf stepOf
+unfolding S.entry relOf ruleOf sizeOf stepOf
 entry-tests w fs = refl
 
 word-tests : (w : List ℕ) → recordWord w ≡ (if same w (114 ∷ 101 ∷ 108 ∷ []) then 1 else if same w (99 ∷ 104 ∷ 111 ∷ 111 ∷ 115 ∷ 101 ∷ []) then 2 else if same w (114 ∷ 117 ∷ 108 ∷ 101 ∷ []) then 3 else if same w (115 ∷ 105 ∷ 122 ∷ 101 ∷ []) then 4 else if same w (102 ∷ 97 ∷ 99 ∷ 116 ∷ []) then 5 else if same w (112 ∷ 105 ∷ 99 ∷ 107 ∷ []) then 6 else if same w (115 ∷ 116 ∷ 101 ∷ 112 ∷ []) then 7 else 0)

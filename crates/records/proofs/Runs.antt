@@ -1,6 +1,6 @@
 -- The loop over the lines of any sheet: reading the whole is reading the rest from a place on with the state reached.
 use Prim.Native.Nat.{ℕ, _≤_, _<_}
-use mathlib.Core.Path.{_≡_, refl, ap, _∙_}
+use mathlib.Core.Path.{_≡_, ap, _∙_}
 use mathlib.Core.Option.{Option}
 use mathlib.Core.List.{List, _∷_}
 use lib.ListN.{length}

@@ -1,26 +1,25 @@
--- Checking accepts exactly the steps that reach the goal; and the bound is below the number of atoms.
-use Prim.Native.Nat.{ℕ, zero, suc, _+_, _-_, _<_, _≤_}
+-- Checking accepts exactly the steps that reach the goal.
+use Prim.Native.Nat.{ℕ, zero, suc, _+_, _-_, _≤_}
 use mathlib.Core.Path.{_≡_, refl, sym, ap, _∙_}
 use mathlib.Core.Bool.{Bool, true, false, _&&_}
 use mathlib.Core.Option.{Option, none, some}
-use mathlib.Core.List.{List, [], _∷_, map}
+use mathlib.Core.List.{List, [], _∷_}
 use native.Mathlib.Omega.{arith}
 use native.Mathlib.Nat.{add-zero, zero-add}
 use lib.Dec.{T, ltb}
 use lib.ListN.{length}
 use borrow.Author.Tests.{le-ltb}
-use Rattle.definitions.specs.Lists.{if_then_else_, option, sum, flatMap, mapFrom}
+use Rattle.definitions.specs.Limits.{CaseLimits, stepLimit}
+use Rattle.definitions.specs.Lists.{if_then_else_, option}
 use Rattle.definitions.specs.Refusal.{refused, accepted, _>>=_, refuseIf}
-use Rattle.definitions.specs.Relations.{Relation, isChosen, isFunction, isInjective}
-use Rattle.definitions.specs.Atoms.{Problem, tuplesOf, Block, Atom, countOf, relationBlocks, relationsBlocks, nodesBlocks, nodeAtoms, atomBlocks, atoms, State, initial}
+use Rattle.definitions.specs.Atoms.{Problem, State, initial}
 use Rattle.definitions.specs.Actions.{Action, actionAt}
 use Rattle.definitions.specs.Strips.{mayTake, after, reachesFrom, reachesGoal, runFrom, run}
-use Rattle.definitions.specs.Built.{mostPicks, bound}
-use Rattle.definitions.specs.Outcome.{readCase, ground, readProblem, Given, asNumbers, takeSteps, readyToRun}
+use Rattle.definitions.specs.Outcome.{readProblem, nothing, Given, asNumbers, takeSteps, readyToRun}
 use Rattle.definitions.specs.Demand.{isAccepted, stepsAreAccepted}
 use Rattle.laws.specs.Booleans.{T-true}
 use Rattle.laws.specs.Results.{accepted-is, bind-parts}
-use Rattle.laws.specs.Blocks.{count-append}
+use Rattle.laws.specs.Asked
 
 -- ---- a run is accepted exactly if it reaches the goal, with its step count
 pub runs-accept : (p : Problem) (ks : List ℕ) (s : State) (i : ℕ) → isAccepted (runFrom p s i ks .answer) ≡ reachesFrom p s ks
@@ -66,49 +65,23 @@ unfolding run reachesGoal
 run-count p ks t = runs-count p ks (initial p) zero t ∙ ap accepted (zero-add (length ks))
 
 -- ---- whole calls
--- checking a question and site that are accepted, with steps that are read as ks
-pub steps-accepted : (question site : List ℕ) (p : Problem) (steps : Given) (ks : List ℕ) → readProblem question site ≡ accepted p → takeSteps steps ≡ accepted ks → stepsAreAccepted question site steps ≡ reachesGoal p ks
-unfolding readProblem stepsAreAccepted readyToRun _>>=_
-steps-accepted question site p steps ks e t =
-    let (c, a, g) = bind-parts (readCase question site) ground p e in
-    rw (a, t, g) (run-accepts p ks)
+module _ (L : CaseLimits) (question site : List ℕ) where
+  -- checking a question and site that are accepted, with steps that are read as ks
+  pub steps-accepted : (p : Problem) (steps : Given) (ks : List ℕ) → readProblem L question site ≡ accepted p → takeSteps steps ≡ accepted ks → stepsAreAccepted L question site steps ≡ reachesGoal p ks
+  unfolding stepsAreAccepted readyToRun _>>=_
+  steps-accepted p steps ks e t =
+      let (c, a, g) = Asked.problem-parts L question site p e in
+      let q = Asked.ready L question site (λ c. takeSteps steps) nothing nothing nothing c a ks t (Asked.untested c) p g (Asked.untested c) (Asked.untested p) in
+      rw q (run-accepts p ks)
 
--- accepted steps were taken
-pub steps-taken : (question site : List ℕ) (steps : Given) → stepsAreAccepted question site steps ≡ true → (ks : List ℕ) × (takeSteps steps ≡ accepted ks)
-unfolding stepsAreAccepted readyToRun
-steps-taken question site steps e =
-    let (n, r) = accepted-is (readyToRun question site steps (λ _. accepted tt) >>= λ r. run (r .problem) (r .steps) .answer) e in
-    let (x, f, g) = bind-parts (readyToRun question site steps (λ _. accepted tt)) _ n r in
-    let (c, h, i) = bind-parts (readCase question site) _ x f in
-    let (ks, j, l) = bind-parts (takeSteps steps) _ x i in
-    (ks, j)
+  -- accepted steps were taken
+  pub steps-taken : (steps : Given) → stepsAreAccepted L question site steps ≡ true → (ks : List ℕ) × (takeSteps steps ≡ accepted ks)
+  unfolding stepsAreAccepted readyToRun
+  steps-taken steps e =
+      let (n, r) = accepted-is (readyToRun L question site steps nothing >>= λ r. run (r .problem) (r .third) .answer) e in
+      let (x, f, g) = bind-parts (readyToRun L question site steps nothing) _ n r in
+      (x .third, Asked.parts L question site (λ c. takeSteps steps) nothing nothing nothing x f .is-third)
 
-pub lent-steps : (ks : List ℕ) → length ks ≤ 65536 → takeSteps (asNumbers ks) ≡ accepted ks
+pub lent-steps : (ks : List ℕ) → length ks ≤ stepLimit → takeSteps (asNumbers ks) ≡ accepted ks
 unfolding takeSteps refuseIf _>>=_
-lent-steps ks h = let e : ltb 65536 (length ks) ≡ false = le-ltb 65536 (length ks) h in rw e refl
-
--- ---- the bound is below the number of atoms, so built steps are never too many
-most-le : (n r : ℕ) (k : Relation) → mostPicks n k ≤ countOf (relationBlocks n r k)
-unfolding mostPicks relationBlocks countOf
-most-le n r k = go (isFunction (k .kind)) (isChosen (k .kind)) (if isInjective (k .kind) then n else zero)
-  where
-    go : (f c : Bool) (w : ℕ) → (if f then n else if c then tuplesOf n k else zero) ≤ tuplesOf n k + (tuplesOf n k + ((if f then n else zero) + (w + zero)))
-    go true c w = omega arith
-    go false true w = omega arith
-    go false false w = omega arith
-
-mosts-le : (n r : ℕ) (ks : List Relation) → sum (map (mostPicks n) ks) ≤ countOf (flatMap (λ (bs : List (Block Atom)). bs) (mapFrom (relationBlocks n) r ks))
-unfolding sum flatMap mapFrom countOf
-mosts-le n r [] = omega arith
-mosts-le n r (k ∷ ks) =
-    let a = most-le n r k in
-    let b = mosts-le n (suc r) ks in
-    let c = count-append (relationBlocks n r k) (flatMap (λ (bs : List (Block Atom)). bs) (mapFrom (relationBlocks n) (suc r) ks)) in
-    omega arith
-
-pub bound-below : (p : Problem) → bound p < atoms p
-unfolding bound atoms atomBlocks nodeAtoms relationsBlocks countOf
-bound-below p =
-    let a = mosts-le (p .size) zero (p .relations) in
-    let b = count-append (relationsBlocks (p .size) (p .relations)) (nodesBlocks (p .size) (p .nodeList)) in
-    omega arith
+lent-steps ks h = let e : ltb stepLimit (length ks) ≡ false = le-ltb stepLimit (length ks) h in rw e refl

@@ -1,31 +1,28 @@
 -- Between picks that meet the rule and steps that reach the goal, for an accepted case: each gives the other.
-use Prim.Native.Nat.{ℕ, _≤_}
+use Prim.Native.Nat.{ℕ}
 use mathlib.Core.Path.{_≡_, refl, sym, ap, subst, _∙_}
 use mathlib.Core.Logic.{_↔_}
 use mathlib.Core.Bool.{true, _&&_}
 use mathlib.Core.Option.{Option, none, some}
 use mathlib.Core.List.{List, [], map, List·Memᴰ, List·Memᴰ·head, List·Memᴰ·not-nil, List·Memᴰ·eq-of-singleton}
-use lib.ListN.{length}
 use Rattle.definitions.specs.Lists.{all, option}
 use Rattle.definitions.specs.Relations.{Tuple, isAmong}
 use Rattle.definitions.specs.Truth.{Case, arePicks, areOfKinds, ruleIsTrue}
 use Rattle.definitions.specs.Atoms.{Problem, problemOf}
 use Rattle.definitions.specs.Actions.{Action, set, beginProof, proveAnd, proveOr, proveExists, proveForall, proveGoal, actionAt}
 use Rattle.definitions.specs.Strips.{reachesGoal, pickOf, picksOf}
-use Rattle.definitions.specs.Built.{builtSteps, builtCount, bound}
+use Rattle.definitions.specs.Built.{builtSteps}
 use Rattle.definitions.specs.Demand.{areSamePicks}
 use Rattle.laws.specs.Booleans.{T-of, T-true, and-T}
 use Rattle.laws.specs.Lists.{all-of, flat-mem, mem-flat}
 use Rattle.laws.specs.Tuples.{among-mem, mem-among}
-use Rattle.laws.specs.Repeats.{distinct-once}
-use Rattle.reduction.specs.Reader.{Accepted}
-use Rattle.reduction.specs.Sound.{tupleAt, OfKinds, sound}
-use Rattle.reduction.specs.Grounded.{good}
-use Rattle.reduction.specs.Kinds.{tested-kinds, root-means, steps-sound}
-use Rattle.reduction.specs.Pairs.{tupleOf, pairs, picked-in, in-picked}
-use Rattle.reduction.specs.Complete.{complete, read-built}
-use Rattle.reduction.specs.Count.{built-length, built-bound}
-use Rattle.reduction.specs.Picks.{picks-distinct, picks-inside, inside-picks}
+use Rattle.laws.specs.Reader.{Accepted}
+use Rattle.laws.specs.Sound.{tupleAt, OfKinds, sound}
+use Rattle.laws.specs.Grounded.{good}
+use Rattle.laws.specs.Kinds.{tested-kinds, root-means, steps-sound}
+use Rattle.laws.specs.Pairs.{tupleOf, pairs, picked-in, in-picked}
+use Rattle.laws.specs.Complete.{complete, read-built}
+use Rattle.laws.specs.Picks.{picks-inside, inside-picks}
 
 -- ---- the tuples that steps set
 module _ (p : Problem) where
@@ -86,9 +83,6 @@ module _ (c : Case) (A : Accepted c) where
   module _ (F : List Tuple) (P : arePicks c F ≡ true) (k : areOfKinds c F ≡ true) where
     abbrev K : OfKinds p (good c A) F
     K = tested-kinds c A F (picks-inside c A F (T-of P)) (T-of k)
-
-    pub count-case : (length (builtSteps p F) ≡ builtCount p F) × (builtCount p F ≤ bound p)
-    count-case = let o = distinct-once F (picks-distinct c F (T-of P)) in (built-length p (good c A) F K o, built-bound p (good c A) F K o)
 
     pub complete-case : ruleIsTrue c F ≡ true → (reachesGoal p (builtSteps p F) ≡ true) × (areSamePicks (picksOf p (builtSteps p F)) F ≡ true)
     complete-case r =

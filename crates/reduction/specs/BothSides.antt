@@ -1,29 +1,29 @@
 -- Words that stand on both sides of the theorems, so that a wrong one would not be noticed there: each has a law of its own.
 use Prim.Native.Nat.{ℕ, zero, suc, _+_, _-_, _<_, _≤_}
-use mathlib.Core.Path.{_≡_, refl, ap, _∙_}
+use mathlib.Core.Path.{_≡_, refl}
 use mathlib.Core.Logic.{_↔_}
-use mathlib.Core.Bool.{Bool, true, false, not, _&&_, _||_, or-false}
+use mathlib.Core.Bool.{true, false, not, _&&_}
 use mathlib.Core.List.{List, [], _∷_, map, List·Memᴰ}
 use native.Mathlib.Omega.{arith}
 use lib.Dec.{T-not, not-T}
 use lib.ListN.{getD}
-use borrow.Author.Tests.{eq-eqb, eqb-true, lt-ltb, le-ltb, ltb-true}
+use borrow.Author.Tests.{eq-eqb, eqb-true, lt-ltb, ltb-true}
+use Rattle.definitions.specs.Limits.{CaseLimits}
 use Rattle.definitions.specs.Lists.{all, any, below}
 use Rattle.definitions.specs.Text.{bytes}
 use Rattle.definitions.specs.Relations.{Kind, static, plain, Fun, PFun, Inj, PInj, isChosen, isFunction, isInjective, isTotal, Relation, Tuple, isAmong, builtIn, builtInHolds}
-use Rattle.definitions.specs.Sheets.{firstRel, firstChosen}
-use Rattle.definitions.specs.Truth.{Case, holds, membersOf, first, second, two, isOfKind, isTotalIn, isPick, arePicks, ruleIsTrue}
+use Rattle.definitions.specs.Sheets.{firstChosen}
+use Rattle.definitions.specs.Truth.{Case, holds, membersOf, first, second, two, isOfKind, isTotalIn, ruleIsTrue}
 use Rattle.definitions.specs.Tree.{treeOf}
 use Rattle.definitions.specs.Built.{treeHolds}
 use Rattle.definitions.specs.Refusal.{accepted}
 use Rattle.definitions.specs.Outcome.{readCase}
-use Rattle.laws.specs.Booleans.{T-and-l, T-and-r, T-false, T-of, T-true, and-T, not-unequal}
+use Rattle.laws.specs.Booleans.{T-and-l, T-and-r, T-of, T-true, and-T, not-unequal}
 use Rattle.laws.specs.Lists.{all-at, all-of, any-at, any-of, below-lt, mem-below}
-use Rattle.laws.specs.Tuples.{among-mem}
-use Rattle.reduction.specs.Reader.{Accepted, case-fits, gives-if}
-use Rattle.reduction.specs.Meaning.{tree-means}
-use Rattle.reduction.specs.Kinds.{two-at, two-of}
-use Rattle.reduction.specs.Picks.{pick-fits}
+use Rattle.laws.specs.Grounded
+use Rattle.laws.specs.Reader.{Accepted, case-fits, gives-if}
+use Rattle.laws.specs.Meaning.{tree-means}
+use Rattle.laws.specs.Kinds.{two-at, two-of}
 
 -- ---- "EQ (equal), LT (less), SUC (second is first plus 1), ZERO (is 0), MAX (is n−1)": the built-in relations 0 to 4
 pub builtIn-names : map (λ (r : Relation). r .name) builtIn ≡ bytes "EQ" ∷ bytes "LT" ∷ bytes "SUC" ∷ bytes "ZERO" ∷ bytes "MAX" ∷ []
@@ -100,36 +100,19 @@ total-means c picks r = (
 
 -- ---- what a literal says, in a case that is read and of picks: a built-in one what is said above, a `rel` literal that it is a fact, a
 -- `choose` literal that it is a pick
-module _ (question site : List ℕ) (c : Case) (is-case : readCase question site ≡ accepted c) (picks : List Tuple) (are-picks : arePicks c picks ≡ true) where
-  A : Accepted c
-  A = gives-if Accepted (readCase question site) c is-case (case-fits question site)
-
+module _ (c : Case) (picks : List Tuple) where
   pub builtIn-literal : (r : ℕ) (xs : List ℕ) → r < 5 → holds c picks r xs ≡ builtInHolds (c .site .size) r (getD xs 0 0) (getD xs 1 0)
-  unfolding holds
-  builtIn-literal r xs h = rw (lt-ltb r 5 h) refl
-
-  high : (r : ℕ) (xs : List ℕ) → 5 ≤ r → holds c picks r xs ≡ (isAmong (record { relation = r; places = xs }) (c .site .facts) || isAmong (record { relation = r; places = xs }) picks)
-  unfolding holds
-  high r xs h = rw (le-ltb r 5 h) refl
-
-  no-pick : (r : ℕ) (xs : List ℕ) → r < firstChosen (c .question) → isAmong (record { relation = r; places = xs }) picks ≡ false
-  unfolding arePicks
-  no-pick r xs h = T-false (isAmong (record { relation = r; places = xs }) picks) (λ t.
-      let f = pick-fits c (record { relation = r; places = xs }) (all-at (isPick c) picks (T-and-l (all (isPick c) picks) _ (T-of are-picks)) (record { relation = r; places = xs }) (among-mem (record { relation = r; places = xs }) picks t)) in
-      omega (arith, f .numbered))
-
-  no-fact : (r : ℕ) (xs : List ℕ) → firstChosen (c .question) ≤ r → isAmong (record { relation = r; places = xs }) (c .site .facts) ≡ false
-  unfolding firstRel firstChosen
-  no-fact r xs h = T-false (isAmong (record { relation = r; places = xs }) (c .site .facts)) (λ t.
-      let f = A .site-fits .facts-fit .each-fits (record { relation = r; places = xs }) (among-mem (record { relation = r; places = xs }) (c .site .facts) t) in
-      omega (arith, f .numbered, f .inside))
+  builtIn-literal = Grounded.builtIn-literal c picks
 
   pub rel-literal : (r : ℕ) (xs : List ℕ) → 5 ≤ r → r < firstChosen (c .question) → holds c picks r xs ≡ isAmong (record { relation = r; places = xs }) (c .site .facts)
-  rel-literal r xs l h = high r xs l ∙ ap (λ (b : Bool). isAmong (record { relation = r; places = xs }) (c .site .facts) || b) (no-pick r xs h) ∙ or-false (isAmong (record { relation = r; places = xs }) (c .site .facts))
+  rel-literal = Grounded.rel-literal c picks
 
   pub choose-literal : (r : ℕ) (xs : List ℕ) → firstChosen (c .question) ≤ r → holds c picks r xs ≡ isAmong (record { relation = r; places = xs }) picks
-  unfolding firstChosen
-  choose-literal r xs h = high r xs (omega arith) ∙ ap (λ (b : Bool). b || isAmong (record { relation = r; places = xs }) picks) (no-fact r xs h)
+  choose-literal = Grounded.choose-literal c picks
+
+module _ (L : CaseLimits) (few : L .elements ≤ 64) (question site : List ℕ) (c : Case) (is-case : readCase L question site ≡ accepted c) (picks : List Tuple) where
+  A : Accepted c
+  A = gives-if Accepted (readCase L question site) c is-case (case-fits L few question site)
 
   -- the tree that is grounded means what the rule as written means, totalities included
   pub tree-truth : treeHolds c picks (λ _. zero) (treeOf (c .question)) ≡ ruleIsTrue c picks

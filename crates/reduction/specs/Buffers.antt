@@ -1,26 +1,31 @@
 -- Lent buffers, for whatever is handed over: they keep their length, and a refusal leaves them alone unless steps were run.
 use Prim.Native.Nat.{ℕ, _-_, _≤_}
-use mathlib.Core.Path.{_≡_, refl, sym, ap, subst, _∙_}
-use mathlib.Core.Bool.{true}
+use mathlib.Core.Path.{_≡_, refl, sym, ap, subst}
+use mathlib.Core.Bool.{true, not}
 use mathlib.Core.List.{List, []}
 use native.Mathlib.Omega.{arith}
-use lib.Dec.{ltb}
+use lib.Dec.{ltb, T-not}
 use lib.ListN.{length, drop, length-append, length-drop}
 use borrow.Author.Tests.{ltb-false}
-use Rattle.definitions.specs.Refusal.{Result, refused, accepted, _>>=_}
+use Rattle.definitions.specs.Limits.{CaseLimits}
+use Rattle.definitions.specs.Lists.{isIn, any, all}
+use Rattle.definitions.specs.Refusal.{Result, refused, accepted, _>>=_, readyNumbers, runNumbers}
 use Rattle.definitions.specs.Relations.{Tuple}
 use Rattle.definitions.specs.Atoms.{Problem, problemOf, stateWords}
 use Rattle.definitions.specs.Strips.{run, picksOf}
 use Rattle.definitions.specs.Built.{builtSteps, bound}
-use Rattle.definitions.specs.Outcome.{readCase, ground, roomFor, stateLength, picksLength, written, pickWords, Given, takeSteps, Ready, readyToRun, checkedFrom, checkSteps, picksIfAccepted, picksReadFrom, picksFromSteps, Plan, plan, builtFrom, buildSteps}
+use Rattle.definitions.specs.Outcome.{readCase, nothing, roomFor, stateLength, picksLength, written, pickWords, Given, takeSteps, Ready, readyToRun, checkedFrom, checkSteps, picksIfAccepted, picksReadFrom, picksFromSteps, Plan, plan, builtFrom, buildSteps}
 use Rattle.definitions.specs.Truth.{Case, areOfKinds}
-use Rattle.laws.specs.Results.{accepted-eq, bind-parts, not-refused, refused-accepted}
+use Rattle.laws.specs.Results.{bind-parts, not-refused, refused-accepted}
 use Rattle.laws.specs.Words.{state-length}
-use Rattle.reduction.specs.Reader.{Accepted, case-fits, gives-if}
-use Rattle.reduction.specs.Refusals.{run-refuses}
-use Rattle.reduction.specs.Between.{count-case}
-use Rattle.reduction.specs.Building.{ground-is, picksGiven, plan-rooms, plan-tells, given-picks}
-use Rattle.reduction.specs.Lent.{pick-words}
+use Rattle.laws.specs.Reader.{Accepted, case-fits, gives-if}
+use Rattle.laws.specs.Booleans.{T-of}
+use Rattle.laws.specs.Lists.{all-at}
+use Rattle.laws.specs.Members.{in-mem}
+use Rattle.laws.specs.Refusals.{In, run-refuses}
+use Rattle.laws.specs.Asked
+use Rattle.laws.specs.Building.{ground-is, picksGiven, plan-tells, given-picks, count-case}
+use Rattle.laws.specs.Lent.{pick-words}
 
 -- what is written into the front of a buffer that is long enough leaves its length
 pub written-length : (new old : List ℕ) → length new ≤ length old → length (written new old) ≡ length old
@@ -31,36 +36,36 @@ pub has-room : (needed room : ℕ) (u : Unit {0}) → roomFor needed room ≡ ac
 unfolding roomFor
 has-room needed room u e = ltb-false room needed (not-refused (ltb room needed) 12 needed u e)
 
-module _ (question site : List ℕ) where
+-- a number of a run is none of those before it
+run-or-ready : (k : ℕ) → In runNumbers k → In readyNumbers k → ⊥
+unfolding isIn any all
+run-or-ready k h e = T-not (isIn k readyNumbers) (all-at (λ j. not (isIn j readyNumbers)) runNumbers tt k (in-mem k runNumbers (T-of h))) (T-of e)
+
+module _ (L : CaseLimits) (question site : List ℕ) where
   -- ---- checking
-  ready-room : (given : Given) (rooms : Problem → Result (Unit {0})) (r : Ready) → readyToRun question site given rooms ≡ accepted r → rooms (r .problem) ≡ accepted tt
+  ready-room : (given : Given) (rooms : Problem → Result (Unit {0})) (r : Ready (List ℕ)) → readyToRun L question site given rooms ≡ accepted r → rooms (r .problem) ≡ accepted tt
   unfolding readyToRun
-  ready-room given rooms r e =
-      let (c, a, e₁) = bind-parts (readCase question site) _ r e in
-      let (ks, b, e₂) = bind-parts (takeSteps given) _ r e₁ in
-      let (p, d, e₃) = bind-parts (ground c) _ r e₂ in
-      let (u, f, e₄) = bind-parts (rooms p) _ r e₃ in
-      ap (λ (x : Ready). rooms (x .problem)) (sym (accepted-eq _ r e₄)) ∙ f
+  ready-room given rooms r e = Asked.parts L question site (λ c. takeSteps given) nothing nothing rooms r e .has-room
 
   module _ (given : Given) (state : List ℕ) where
-    abbrev ready : Result Ready
-    ready = readyToRun question site given (λ p. roomFor (stateLength p) (length state))
+    abbrev ready : Result (Ready (List ℕ))
+    ready = readyToRun L question site given (λ p. roomFor (stateLength p) (length state))
 
-    pub check-length : length (checkSteps question site given state .state) ≡ length state
+    pub check-length : length (checkSteps L question site given state .state) ≡ length state
     unfolding checkSteps checkedFrom
     check-length = go ready (λ r e. has-room (stateLength (r .problem)) (length state) tt (ready-room given (λ p. roomFor (stateLength p) (length state)) r e))
       where
-        go : (m : Result Ready) → ((r : Ready) → m ≡ accepted r → stateLength (r .problem) ≤ length state) → length (checkedFrom m state .state) ≡ length state
+        go : (m : Result (Ready (List ℕ))) → ((r : Ready (List ℕ)) → m ≡ accepted r → stateLength (r .problem) ≤ length state) → length (checkedFrom m state .state) ≡ length state
         go (refused k place) h = refl
-        go (accepted r) h = let l = state-length (r .problem) (run (r .problem) (r .steps) .state) in let q = h r refl in written-length (stateWords (r .problem) (run (r .problem) (r .steps) .state)) state (omega arith)
+        go (accepted r) h = let l = state-length (r .problem) (run (r .problem) (r .third) .state) in let q = h r refl in written-length (stateWords (r .problem) (run (r .problem) (r .third) .state)) state (omega arith)
 
-    pub check-leaves : (k place : ℕ) → checkSteps question site given state .answer ≡ refused k place → k ≤ 12 → checkSteps question site given state .state ≡ state
+    pub check-leaves : (k place : ℕ) → checkSteps L question site given state .answer ≡ refused k place → In readyNumbers k → checkSteps L question site given state .state ≡ state
     unfolding checkSteps checkedFrom
     check-leaves k place e h = go ready e
       where
-        go : (m : Result Ready) → checkedFrom m state .answer ≡ refused k place → checkedFrom m state .state ≡ state
+        go : (m : Result (Ready (List ℕ))) → checkedFrom m state .answer ≡ refused k place → checkedFrom m state .state ≡ state
         go (refused j at) e = refl
-        go (accepted r) e = absurd (let q = run-refuses (r .problem) (r .steps) k place e in omega (arith, q .0))
+        go (accepted r) e = absurd (run-or-ready k (run-refuses (r .problem) (r .third) k place e) h)
 
   -- ---- reading picks
   module _ (given : Given) (picks state : List ℕ) where
@@ -70,55 +75,55 @@ module _ (question site : List ℕ) where
     rooms-both : (p : Problem) → rooms p ≡ accepted tt → (picksLength p ≤ length picks) × (stateLength p ≤ length state)
     rooms-both p e = let (u, a, b) = bind-parts (roomFor (picksLength p) (length picks)) _ tt e in (has-room (picksLength p) (length picks) u a, has-room (stateLength p) (length state) tt b)
 
-    pub read-length : (length (picksFromSteps question site given picks state .picks) ≡ length picks) × (length (picksFromSteps question site given picks state .state) ≡ length state)
+    pub read-length : (length (picksFromSteps L question site given picks state .picks) ≡ length picks) × (length (picksFromSteps L question site given picks state .state) ≡ length state)
     unfolding picksFromSteps picksReadFrom picksIfAccepted
-    read-length = go (readyToRun question site given rooms) (λ r e. rooms-both (r .problem) (ready-room given rooms r e))
+    read-length = go (readyToRun L question site given rooms) (λ r e. rooms-both (r .problem) (ready-room given rooms r e))
       where
-        taken : (r : Ready) (m : Result ℕ) → picksLength (r .problem) ≤ length picks → length (picksIfAccepted m (pickWords (r .problem) (picksOf (r .problem) (r .steps))) picks) ≡ length picks
+        taken : (r : Ready (List ℕ)) (m : Result ℕ) → picksLength (r .problem) ≤ length picks → length (picksIfAccepted m (pickWords (r .problem) (picksOf (r .problem) (r .third))) picks) ≡ length picks
         taken r (refused k place) h = refl
-        taken r (accepted n) h = let (l, a, b) = pick-words (r .problem) (picksOf (r .problem) (r .steps)) [] in written-length (pickWords (r .problem) (picksOf (r .problem) (r .steps))) picks (omega arith)
+        taken r (accepted n) h = let (l, a, b) = pick-words (r .problem) (picksOf (r .problem) (r .third)) [] in written-length (pickWords (r .problem) (picksOf (r .problem) (r .third))) picks (omega arith)
 
-        go : (m : Result Ready) → ((r : Ready) → m ≡ accepted r → (picksLength (r .problem) ≤ length picks) × (stateLength (r .problem) ≤ length state)) → (length (picksReadFrom m picks state .picks) ≡ length picks) × (length (picksReadFrom m picks state .state) ≡ length state)
+        go : (m : Result (Ready (List ℕ))) → ((r : Ready (List ℕ)) → m ≡ accepted r → (picksLength (r .problem) ≤ length picks) × (stateLength (r .problem) ≤ length state)) → (length (picksReadFrom m picks state .picks) ≡ length picks) × (length (picksReadFrom m picks state .state) ≡ length state)
         go (refused k place) h = (refl, refl)
-        go (accepted r) h = let l = state-length (r .problem) (run (r .problem) (r .steps) .state) in let q = h r refl in
-            (taken r (run (r .problem) (r .steps) .answer) (q .0), written-length (stateWords (r .problem) (run (r .problem) (r .steps) .state)) state (omega (arith, q .1)))
+        go (accepted r) h = let l = state-length (r .problem) (run (r .problem) (r .third) .state) in let q = h r refl in
+            (taken r (run (r .problem) (r .third) .answer) (q .0), written-length (stateWords (r .problem) (run (r .problem) (r .third) .state)) state (omega (arith, q .1)))
 
-    pub read-leaves : (k place : ℕ) → picksFromSteps question site given picks state .answer ≡ refused k place → (picksFromSteps question site given picks state .picks ≡ picks) × (k ≤ 12 → picksFromSteps question site given picks state .state ≡ state)
+    pub read-leaves : (k place : ℕ) → picksFromSteps L question site given picks state .answer ≡ refused k place → (picksFromSteps L question site given picks state .picks ≡ picks) × (In readyNumbers k → picksFromSteps L question site given picks state .state ≡ state)
     unfolding picksFromSteps picksReadFrom picksIfAccepted
-    read-leaves k place e = go (readyToRun question site given rooms) e
+    read-leaves k place e = go (readyToRun L question site given rooms) e
       where
         kept : (new : List ℕ) (m : Result ℕ) → m ≡ refused k place → picksIfAccepted m new picks ≡ picks
         kept new (refused j at) e = refl
         kept new (accepted n) e = absurd (refused-accepted (sym e))
 
-        go : (m : Result Ready) → picksReadFrom m picks state .answer ≡ refused k place → (picksReadFrom m picks state .picks ≡ picks) × (k ≤ 12 → picksReadFrom m picks state .state ≡ state)
+        go : (m : Result (Ready (List ℕ))) → picksReadFrom m picks state .answer ≡ refused k place → (picksReadFrom m picks state .picks ≡ picks) × (In readyNumbers k → picksReadFrom m picks state .state ≡ state)
         go (refused j at) e = (refl, λ h. refl)
-        go (accepted r) e = (kept (pickWords (r .problem) (picksOf (r .problem) (r .steps))) (run (r .problem) (r .steps) .answer) e, λ h. absurd (let q = run-refuses (r .problem) (r .steps) k place e in omega (arith, q .0)))
+        go (accepted r) e = (kept (pickWords (r .problem) (picksOf (r .problem) (r .third))) (run (r .problem) (r .third) .answer) e, λ h. absurd (run-or-ready k (run-refuses (r .problem) (r .third) k place e) h))
 
   -- ---- building
   module _ (given : Given) (state steps : List ℕ) where
-    pub build-leaves : (k place : ℕ) → buildSteps question site given state steps .answer ≡ refused k place → (buildSteps question site given state steps .state ≡ state) × (buildSteps question site given state steps .steps ≡ steps)
+    pub build-leaves : (k place : ℕ) → buildSteps L question site given state steps .answer ≡ refused k place → (buildSteps L question site given state steps .state ≡ state) × (buildSteps L question site given state steps .steps ≡ steps)
     unfolding buildSteps builtFrom
-    build-leaves k place e = go (plan question site given (length state) (length steps)) e
+    build-leaves k place e = go (plan L question site given (length state) (length steps)) e
       where
         go : (m : Result Plan) → builtFrom m state steps .answer ≡ refused k place → (builtFrom m state steps .state ≡ state) × (builtFrom m state steps .steps ≡ steps)
         go (refused j at) e = (refl, refl)
         go (accepted b) e = absurd (refused-accepted (sym e))
 
-    pub build-length : (length (buildSteps question site given state steps .state) ≡ length state) × (length (buildSteps question site given state steps .steps) ≡ length steps)
+    pub build-length : L .elements ≤ 64 → (length (buildSteps L question site given state steps .state) ≡ length state) × (length (buildSteps L question site given state steps .steps) ≡ length steps)
     unfolding buildSteps builtFrom
-    build-length = go (plan question site given (length state) (length steps)) (λ b e. room b e)
+    build-length small = go (plan L question site given (length state) (length steps)) (λ b e. room b e)
       where
         few : (c : Case) (p : Problem) (F : List Tuple) → Accepted c → p ≡ problemOf c → picksGiven c p given ≡ accepted F → areOfKinds c F ≡ true → length (builtSteps p F) ≤ bound p
         few c p F A e t k = subst (λ (q : Problem). length (builtSteps q F) ≤ bound q) (sym e) (let n = count-case c A F (given-picks c A given F (subst (λ (q : Problem). picksGiven c q given ≡ accepted F) e t)) k in omega (arith, n .0, n .1))
 
-        room : (b : Plan) → plan question site given (length state) (length steps) ≡ accepted b → (stateLength (b .problem) ≤ length state) × (length (b .steps) ≤ length steps)
+        room : (b : Plan) → plan L question site given (length state) (length steps) ≡ accepted b → (stateLength (b .problem) ≤ length state) × (length (b .steps) ≤ length steps)
         room b e =
-            let q = plan-rooms question site given (length state) (length steps) b e in
-            let (c, rc, rg, t, k, r, s) = plan-tells question site given (length state) (length steps) b e in
-            let f = few c (b .problem) (b .picks) (gives-if Accepted (readCase question site) c rc (case-fits question site)) (ground-is c (b .problem) rg) t k in
-            let l : length (b .steps) ≡ length (builtSteps (b .problem) (b .picks)) = ap length s in
-            (q .0, omega (arith, q .1))
+            let t = plan-tells L question site given (length state) (length steps) b e in
+            let c : Case = t .case in
+            let f = few c (b .problem) (b .picks) (gives-if Accepted (readCase L question site) c (t .is-case) (case-fits L small question site)) (ground-is L c (b .problem) (t .is-problem)) (t .given) (t .kinds) in
+            let l : length (b .steps) ≡ length (builtSteps (b .problem) (b .picks)) = ap length (t .steps) in
+            (t .state-room, omega (arith, t .steps-room))
 
         go : (m : Result Plan) → ((b : Plan) → m ≡ accepted b → (stateLength (b .problem) ≤ length state) × (length (b .steps) ≤ length steps)) → (length (builtFrom m state steps .state) ≡ length state) × (length (builtFrom m state steps .steps) ≡ length steps)
         go (refused k place) h = (refl, refl)

@@ -16,6 +16,7 @@
 --   12  one-pick, one-pick-built, allowances-are, allowances-refuse, allowances-length
 --   13  visited-are, visited-once, tallied, sizes-tallied
 --   14  judging
+--   15  kept-problem, kept-sizes, kept-action, kept-check, kept-read, kept-build, kept-judgement, kept-tries, kept-allowances
 use Prim.Native.Nat.{ℕ, zero, _+_, _*_, _^_, _<_, _≤_}
 use mathlib.Core.Path.{_≡_, refl, sym, ap, subst, subst₂, _∙_}
 use mathlib.Core.Logic.{_⊎_, ⊎-elim, _↔_}
@@ -26,11 +27,11 @@ use native.Mathlib.Omega.{arith}
 use lib.Dec.{ltb}
 use lib.ListN.{length, getD, take, drop, length-append}
 use borrow.Author.Tests.{le-ltb}
-use Rattle.definitions.specs.Limits.{stepLimit, textLimit, atomLimit, actionLimit}
-use Rattle.definitions.specs.Lists.{if_then_else_, flatMap, below}
+use Rattle.definitions.specs.Limits.{CaseLimits, usual, stepLimit, textLimit}
+use Rattle.definitions.specs.Lists.{if_then_else_, flatMap, below, isIn}
 use Rattle.definitions.specs.Text.{number, decimal}
 use Rattle.definitions.specs.Desk.{stepLine, pickLine, sheets, answer}
-use Rattle.definitions.specs.Refusal.{Result, refused, accepted, _>>=_, refuseIf}
+use Rattle.definitions.specs.Refusal.{Result, refused, accepted, _>>=_, refuseIf, caseNumbers, readyNumbers, runNumbers, picksNumbers}
 use Rattle.definitions.specs.Relations.{Tuple, isAmong}
 use Rattle.definitions.specs.Sheets.{Question, readQuestion, readPicks, firstChosen, readSteps}
 use Rattle.definitions.specs.Truth.{Case, arePicks, areOfKinds, firstOfOtherKind, ruleIsTrue}
@@ -38,70 +39,74 @@ use Rattle.definitions.specs.Atoms.{Problem, problemOf, Atom, itemAt, atomBlock
 use Rattle.definitions.specs.Actions.{Action, set, actionAt, actions, actionNumber, needs, adds, removes}
 use Rattle.definitions.specs.Strips.{reachesGoal, run, picksOf}
 use Rattle.definitions.specs.Built.{chosenNumbers, builtSteps, builtCount, bound, boundExponents, boundPolynomial, pickedRows}
-use Rattle.definitions.specs.Outcome.{replyNumber, replyPlace, sizes, action, readCase, ground, readProblem, roomFor, stateLength, written, picksLength, pickWords, bitOf, lentPicks, spareWord, Given, asText, asNumbers, takeSteps, textPicks, picksRoom, takePicks, readyToRun, Checked, checkedFrom, checkSteps, picksIfAccepted, picksReadFrom, picksFromSteps, kindRefusal, Plan, plan, Built, builtFrom, buildSteps, Ready, PicksRead, sizesOf}
+use Rattle.definitions.specs.Outcome.{replyNumber, replyPlace, sizes, action, readCase, ground, readProblem, asked, nothing, roomFor, stateLength, written, picksLength, pickWords, bitOf, lentPicks, spareWord, Given, asText, asNumbers, takeSteps, textPicks, picksRoom, takePicks, readyToRun, Checked, checkedFrom, checkSteps, picksIfAccepted, picksReadFrom, picksFromSteps, kindRefusal, Plan, plan, Built, builtFrom, buildSteps, Ready, PicksRead, sizesOf}
 use Rattle.definitions.specs.Tree.{Part, nodes, treeOf}
 use Rattle.definitions.specs.Tally.{walked, tally}
 use Rattle.definitions.specs.Allowance.{allowance, allowancesOf, allowedFrom, allowances}
 use Rattle.definitions.specs.Demand.{isAccepted, caseIsAccepted, stepsAreAccepted, areSamePicks}
-use Rattle.definitions.specs.Tries.{Try, Tried, tried, tryLists}
+use Rattle.definitions.specs.Tries.{Try, tried, tryLists}
 use Rattle.definitions.specs.Judgement.{judge, forget}
 use Rattle.laws.specs.Numbers
 use Rattle.laws.specs.Words
 use Rattle.laws.specs.Walks
 use Rattle.laws.specs.Members.{ascending-once}
 use Rattle.laws.specs.Booleans.{T-of}
-use Rattle.laws.specs.Results.{accepted-eq, accepted-is, bind-parts, is-accepted}
+use Rattle.laws.specs.Results.{accepted-eq, accepted-is, is-accepted}
 use Rattle.laws.specs.Blocks.{item-lt}
 use Rattle.laws.specs.Numbers.{IsAction, IsAtom}
 use Rattle.laws.specs.Words.{words-for}
-use Rattle.reduction.specs.Reader
+use Rattle.laws.specs.Asked
+use Rattle.laws.specs.Count
+use Rattle.laws.specs.Reader
 use Reader.{Accepted, case-fits, gives-if}
-use Rattle.reduction.specs.Grounded.{good}
-use Rattle.reduction.specs.Valid.{needs-valid, adds-valid, removes-valid}
-use Rattle.reduction.specs.Pairs
+use Rattle.laws.specs.Grounded.{good}
+use Rattle.laws.specs.Valid.{needs-valid, adds-valid, removes-valid}
+use Rattle.laws.specs.Pairs
 use Rattle.reduction.specs.Between
 use Rattle.reduction.specs.Strips1
 use Rattle.reduction.specs.Accepting
 use Rattle.reduction.specs.Answered
 use Rattle.reduction.specs.Polynomial
-use Rattle.reduction.specs.Lent
+use Rattle.laws.specs.Lent
 use Rattle.reduction.specs.States
-use Rattle.reduction.specs.Building
-use Rattle.reduction.specs.Refusals
+use Rattle.laws.specs.Building
+use Rattle.laws.specs.Refusals
 use Rattle.reduction.specs.Buffers
 use Rattle.reduction.specs.Filed
-use Rattle.reduction.specs.Decimals
-use Rattle.reduction.specs.Told
+use Rattle.laws.specs.Decimals
+use Rattle.laws.specs.Told
 use Rattle.reduction.specs.Written
 use Rattle.reduction.specs.Trying
 use Rattle.reduction.specs.Judging
 use Rattle.reduction.specs.OnePick
+use Rattle.reduction.specs.Wider
 
 -- A question and a site are accepted exactly if a case is read from them and its problem is within the limits.
-pub accepted-case : (question site : List ℕ) → (caseIsAccepted question site ≡ true) ↔ ((c : Case) × (p : Problem) × (readCase question site ≡ accepted c) × (readProblem question site ≡ accepted p))
-unfolding caseIsAccepted isAccepted readProblem
-accepted-case question site = (
-  (λ e. let (p, r) = accepted-is (readProblem question site) e in let (c, a, g) = bind-parts (readCase question site) ground p r in (c, p, a, r)),
-  (λ h. let (c, p, a, r) = h in is-accepted (readProblem question site) p r),
+pub accepted-case : (L : CaseLimits) (question site : List ℕ) → (caseIsAccepted L question site ≡ true) ↔ ((c : Case) × (p : Problem) × (readCase L question site ≡ accepted c) × (readProblem L question site ≡ accepted p))
+unfolding caseIsAccepted isAccepted
+accepted-case L question site = (
+  (λ e. let (p, r) = accepted-is (readProblem L question site) e in let (c, a, g) = Asked.problem-parts L question site p r in (c, p, a, r)),
+  (λ h. let (c, p, a, r) = h in is-accepted (readProblem L question site) p r),
 )
 
--- That is so exactly if nothing in the two texts makes checking refuse with a number below 12, whatever the lent length.
-pub accepted-checks : (question site : List ℕ)
-    → (caseIsAccepted question site ≡ true) ↔ ((state : List ℕ) (k place : ℕ) → checkSteps question site (asNumbers []) state .answer ≡ refused k place → 12 ≤ k)
-accepted-checks question site = Answered.accepted-checks question site
+-- That is so exactly if nothing in the two texts makes checking refuse with a number of theirs or 11, whatever the lent length.
+pub accepted-checks : (L : CaseLimits) (question site : List ℕ)
+    → (caseIsAccepted L question site ≡ true) ↔ ((state : List ℕ) (k place : ℕ) → checkSteps L question site (asNumbers []) state .answer ≡ refused k place → isIn k caseNumbers ≡ false)
+accepted-checks L question site = Answered.accepted-checks L question site
 
--- ---- For every question and site that are accepted: c is the case read from the two texts, p its numbered problem.
-module _ (question site : List ℕ) (c : Case) (p : Problem) (is-case : readCase question site ≡ accepted c) (is-problem : readProblem question site ≡ accepted p) where
+-- ---- For every limits of at most 64 elements and no more atoms than steps may be handed over, and every question and site that are
+-- accepted under them: c is the case read from the two texts, p its numbered problem.
+module _ (L : CaseLimits) (few : L .elements ≤ 64) (lendable : L .atoms ≤ stepLimit) (question site : List ℕ) (c : Case) (p : Problem) (is-case : readCase L question site ≡ accepted c) (is-problem : readProblem L question site ≡ accepted p) where
   -- (what the proofs in this module start from; the theorems begin at 1)
-  grounds : ground c ≡ accepted p
+  grounds : ground L c ≡ accepted p
   unfolding readProblem _>>=_
   grounds = rw is-case at is-problem
 
   same-problem : p ≡ problemOf c
-  same-problem = Building.ground-is c p grounds
+  same-problem = Building.ground-is L c p grounds
 
   A : Accepted c
-  A = gives-if Accepted (readCase question site) c is-case (case-fits question site)
+  A = gives-if Accepted (readCase L question site) c is-case (case-fits L few question site)
 
   sound : (steps : List ℕ) → reachesGoal p steps ≡ true → (arePicks c (picksOf p steps) ≡ true) × (areOfKinds c (picksOf p steps) ≡ true) × (ruleIsTrue c (picksOf p steps) ≡ true)
   sound = rw same-problem (Between.sound-case c A)
@@ -110,7 +115,7 @@ module _ (question site : List ℕ) (c : Case) (p : Problem) (is-case : readCase
   complete = rw same-problem (Between.complete-case c A)
 
   counts : (picks : List Tuple) → arePicks c picks ≡ true → areOfKinds c picks ≡ true → (length (builtSteps p picks) ≡ builtCount p picks) × (builtCount p picks ≤ bound p)
-  counts = rw same-problem (Between.count-case c A)
+  counts = rw same-problem (Building.count-case c A)
 
   -- ---- 1, existence: some picks of the declared kinds make the rule true exactly when some step list, of whatever length,
   -- reaches the goal.
@@ -121,8 +126,8 @@ module _ (question site : List ℕ) (c : Case) (p : Problem) (is-case : readCase
   )
 
   -- ---- 2, acceptance: steps, as a text or as numbers, are accepted exactly if they reach the goal.
-  pub acceptance : (given : Given) (steps : List ℕ) → takeSteps given ≡ accepted steps → stepsAreAccepted question site given ≡ reachesGoal p steps
-  acceptance given steps t = Accepting.steps-accepted question site p given steps is-problem t
+  pub acceptance : (given : Given) (steps : List ℕ) → takeSteps given ≡ accepted steps → stepsAreAccepted L question site given ≡ reachesGoal p steps
+  acceptance given steps t = Accepting.steps-accepted L question site p given steps is-problem t
 
   -- Numbers are taken as they are, unless they are too many.
   pub lent-steps : (steps : List ℕ) → length steps ≤ stepLimit → takeSteps (asNumbers steps) ≡ accepted steps
@@ -130,13 +135,13 @@ module _ (question site : List ℕ) (c : Case) (p : Problem) (is-case : readCase
 
   -- The checking call runs the steps, and leaves the last state's words at the front of its buffer.
   pub checking : (given : Given) (steps : List ℕ) → takeSteps given ≡ accepted steps → (state : List ℕ) → stateLength p ≤ length state
-      → checkSteps question site given state ≡ record { answer = run p steps .answer; state = written (stateWords p (run p steps .state)) state }
-  unfolding checkSteps readyToRun roomFor refuseIf checkedFrom _>>=_
+      → checkSteps L question site given state ≡ record { answer = run p steps .answer; state = written (stateWords p (run p steps .state)) state }
+  unfolding checkSteps readyToRun asked nothing roomFor refuseIf checkedFrom _>>=_
   checking given steps t state h = let e : ltb (length state) (stateLength p) ≡ false = le-ltb (length state) (stateLength p) h in rw (is-case, t, grounds, e) refl
 
   -- It accepts, with the step count, exactly the steps that reach the goal.
   pub checking-accepts : (given : Given) (steps : List ℕ) → takeSteps given ≡ accepted steps → (state : List ℕ) → stateLength p ≤ length state
-      → (checkSteps question site given state .answer ≡ accepted (length steps)) ↔ (reachesGoal p steps ≡ true)
+      → (checkSteps L question site given state .answer ≡ accepted (length steps)) ↔ (reachesGoal p steps ≡ true)
   checking-accepts given steps t state h = let q = ap (λ (r : Checked). r .answer) (checking given steps t state h) in (
     (λ e. sym (Accepting.run-accepts p steps) ∙ is-accepted (run p steps .answer) (length steps) (sym q ∙ e)),
     (λ e. q ∙ Accepting.run-count p steps (T-of e)),
@@ -144,10 +149,10 @@ module _ (question site : List ℕ) (c : Case) (p : Problem) (is-case : readCase
 
   -- ---- 3, soundness: whatever steps are accepted, the picks read from them are picks, of the declared kinds, and make the rule
   -- true, totality included.
-  pub soundness : (given : Given) → stepsAreAccepted question site given ≡ true
+  pub soundness : (given : Given) → stepsAreAccepted L question site given ≡ true
       → (steps : List ℕ) × (takeSteps given ≡ accepted steps) × (arePicks c (picksOf p steps) ≡ true) × (areOfKinds c (picksOf p steps) ≡ true) × (ruleIsTrue c (picksOf p steps) ≡ true)
   soundness given e =
-      let (steps, t) = Accepting.steps-taken question site given e in
+      let (steps, t) = Accepting.steps-taken L question site given e in
       let (a, k, r) = sound steps (sym (acceptance given steps t) ∙ e) in
       (steps, t, a, k, r)
 
@@ -159,9 +164,9 @@ module _ (question site : List ℕ) (c : Case) (p : Problem) (is-case : readCase
   -- The reading call runs the steps too; if they are accepted it leaves the words of these picks at the front of its buffer, and
   -- otherwise leaves the buffer alone.
   pub reading : (given : Given) (steps : List ℕ) → takeSteps given ≡ accepted steps → (picks state : List ℕ) → picksLength p ≤ length picks → stateLength p ≤ length state
-      → picksFromSteps question site given picks state
+      → picksFromSteps L question site given picks state
       ≡ record { answer = run p steps .answer; picks = picksIfAccepted (run p steps .answer) (pickWords p (picksOf p steps)) picks; state = written (stateWords p (run p steps .state)) state }
-  unfolding picksFromSteps readyToRun roomFor refuseIf picksReadFrom _>>=_
+  unfolding picksFromSteps readyToRun asked nothing roomFor refuseIf picksReadFrom _>>=_
   reading given steps t picks state h g =
       let e : ltb (length picks) (picksLength p) ≡ false = le-ltb (length picks) (picksLength p) h in
       let f : ltb (length state) (stateLength p) ≡ false = le-ltb (length state) (stateLength p) g in
@@ -175,25 +180,25 @@ module _ (question site : List ℕ) (c : Case) (p : Problem) (is-case : readCase
       × (arePicks c (picksOf p steps) ≡ true) × (areOfKinds c (picksOf p steps) ≡ true) × (ruleIsTrue c (picksOf p steps) ≡ true)
 
   -- (from what was read before the steps ran to this case and problem)
-  counted : (given : Given) (k : ℕ) (r : Ready) → Answered.Tells question site given k r → (r .problem ≡ p) × Counts given k (r .steps)
-  counted given k r (c′, rc, t, g, goal, n) =
-      let same : r .problem ≡ p = accepted-eq (r .problem) p (sym g ∙ ap ground (accepted-eq c′ c (sym rc ∙ is-case)) ∙ grounds) in
-      let reached : reachesGoal p (r .steps) ≡ true = subst (λ (x : Problem). reachesGoal x (r .steps) ≡ true) same goal in
-      let (a, b, d) = sound (r .steps) reached in
-      (same, (t, n, reached, a, b, d))
+  counted : (given : Given) (k : ℕ) (r : Ready (List ℕ)) → Answered.Tells L question site given k r → (r .problem ≡ p) × Counts given k (r .third)
+  counted given k r t =
+      let same : r .problem ≡ p = accepted-eq (r .problem) p (sym (t .is-problem) ∙ ap (ground L) (accepted-eq (r .case) c (sym (t .is-case) ∙ is-case)) ∙ grounds) in
+      let reached : reachesGoal p (r .third) ≡ true = subst (λ (x : Problem). reachesGoal x (r .third) ≡ true) same (t .reached) in
+      let (a, b, d) = sound (r .third) reached in
+      (same, (t .is-taken, t .counted, reached, a, b, d))
 
-  pub whenever-checked : (given : Given) (state : List ℕ) (k : ℕ) → checkSteps question site given state .answer ≡ accepted k → (steps : List ℕ) × Counts given k steps
+  pub whenever-checked : (given : Given) (state : List ℕ) (k : ℕ) → checkSteps L question site given state .answer ≡ accepted k → (steps : List ℕ) × Counts given k steps
   whenever-checked given state k e =
-      let (r, h) = Answered.check-tells question site given state k e in
-      (r .steps, counted given k r h .1)
+      let (r, h) = Answered.check-tells L question site given state k e in
+      (r .third, counted given k r h .1)
 
   -- The same of reading, which then has left the words of these picks.
-  pub whenever-read : (given : Given) (picks state : List ℕ) (k : ℕ) → picksFromSteps question site given picks state .answer ≡ accepted k
-      → (steps : List ℕ) × Counts given k steps × (picksFromSteps question site given picks state .picks ≡ written (pickWords p (picksOf p steps)) picks)
+  pub whenever-read : (given : Given) (picks state : List ℕ) (k : ℕ) → picksFromSteps L question site given picks state .answer ≡ accepted k
+      → (steps : List ℕ) × Counts given k steps × (picksFromSteps L question site given picks state .picks ≡ written (pickWords p (picksOf p steps)) picks)
   whenever-read given picks state k e =
-      let (r, h, w) = Answered.read-tells question site given picks state k e in
+      let (r, h, w) = Answered.read-tells L question site given picks state k e in
       let (same, n) = counted given k r h in
-      (r .steps, n, w ∙ ap (λ (x : Problem). written (pickWords x (picksOf x (r .steps))) picks) same)
+      (r .third, n, w ∙ ap (λ (x : Problem). written (pickWords x (picksOf x (r .third))) picks) same)
 
   -- ---- 4, completeness. Picks are handed over as a text or as words: these are the picks that are taken then.
   abbrev taken : Given → Result (List Tuple)
@@ -211,58 +216,58 @@ module _ (question site : List ℕ) (c : Case) (p : Problem) (is-case : readCase
   taken-picks = rw same-problem (Building.given-picks c A)
 
   module _ (given : Given) (picks : List Tuple) (is-taken : taken given ≡ accepted picks) (state steps : List ℕ) (room : stateLength p ≤ length state) (space : bound p ≤ length steps) where
-    plans : plan question site given (length state) (length steps) ≡ (kindRefusal (firstOfOtherKind c picks) >>= λ _. refuseIf (not (ruleIsTrue c picks)) 17 zero >>= λ _. accepted (record { problem = p; picks = picks; steps = builtSteps p picks }))
-    plans = Building.plan-is question site given c p picks (length state) (length steps) is-case grounds is-taken room space
+    plans : plan L question site given (length state) (length steps) ≡ (kindRefusal (firstOfOtherKind c picks) >>= λ _. refuseIf (not (ruleIsTrue c picks)) 17 zero >>= λ _. accepted (record { problem = p; picks = picks; steps = builtSteps p picks }))
+    plans = Building.plan-is L question site given c p picks (length state) (length steps) is-case grounds is-taken room space
 
     -- Picks of the declared kinds of which the rule is true always give the built steps.
     pub building : areOfKinds c picks ≡ true → ruleIsTrue c picks ≡ true
-        → buildSteps question site given state steps ≡ record { answer = accepted (builtCount p picks); state = written (stateWords p (run p (builtSteps p picks) .state)) state; steps = written (builtSteps p picks) steps }
+        → buildSteps L question site given state steps ≡ record { answer = accepted (builtCount p picks); state = written (stateWords p (run p (builtSteps p picks) .state)) state; steps = written (builtSteps p picks) steps }
     unfolding buildSteps builtFrom kindRefusal refuseIf _>>=_
     building k r = rw (plans, Building.kinds-hold c picks k, r) (ap (λ (x : ℕ). record { answer = accepted x; state = written (stateWords p (run p (builtSteps p picks) .state)) state; steps = written (builtSteps p picks) steps }) (counts picks (taken-picks given picks is-taken) k .0))
 
     -- Picks that are not of the declared kinds give none: 16, with the index of the first `choose` of which they are not.
-    pub refused-16 : areOfKinds c picks ≡ false → (i : ℕ) × (firstOfOtherKind c picks ≡ some i) × (buildSteps question site given state steps ≡ record { answer = refused 16 i; state = state; steps = steps })
+    pub refused-16 : areOfKinds c picks ≡ false → (i : ℕ) × (firstOfOtherKind c picks ≡ some i) × (buildSteps L question site given state steps ≡ record { answer = refused 16 i; state = state; steps = steps })
     unfolding buildSteps builtFrom kindRefusal _>>=_
     refused-16 k = let (i, e) = Building.kinds-fail c picks k in (i, e, rw (plans, e) refl)
 
     -- Picks of the declared kinds of which the rule is false give none: 17, place 0.
-    pub refused-17 : areOfKinds c picks ≡ true → ruleIsTrue c picks ≡ false → buildSteps question site given state steps ≡ record { answer = refused 17 0; state = state; steps = steps }
+    pub refused-17 : areOfKinds c picks ≡ true → ruleIsTrue c picks ≡ false → buildSteps L question site given state steps ≡ record { answer = refused 17 0; state = state; steps = steps }
     unfolding buildSteps builtFrom kindRefusal refuseIf _>>=_
     refused-17 k r = rw (plans, Building.kinds-hold c picks k, r) refl
 
     -- So steps are built exactly if the picks are of the declared kinds and the rule is true of them.
-    pub built-exactly : isAccepted (buildSteps question site given state steps .answer) ≡ (areOfKinds c picks && ruleIsTrue c picks)
+    pub built-exactly : isAccepted (buildSteps L question site given state steps .answer) ≡ (areOfKinds c picks && ruleIsTrue c picks)
     unfolding isAccepted
     built-exactly = go (areOfKinds c picks) refl (ruleIsTrue c picks) refl
       where
-        go : (k : Bool) → areOfKinds c picks ≡ k → (r : Bool) → ruleIsTrue c picks ≡ r → isAccepted (buildSteps question site given state steps .answer) ≡ (k && r)
+        go : (k : Bool) → areOfKinds c picks ≡ k → (r : Bool) → ruleIsTrue c picks ≡ r → isAccepted (buildSteps L question site given state steps .answer) ≡ (k && r)
         go true a true b = ap (λ (x : Built). isAccepted (x .answer)) (building a b)
         go true a false b = ap (λ (x : Built). isAccepted (x .answer)) (refused-17 a b)
         go false a r b = let (i, e, q) = refused-16 a in ap (λ (x : Built). isAccepted (x .answer)) q
 
   -- Whenever steps are built, it is from picks of the declared kinds of which the rule is true, and the built steps are handed back.
-  pub whenever-built : (given : Given) (state steps : List ℕ) (k : ℕ) → buildSteps question site given state steps .answer ≡ accepted k
-      → (picks : List Tuple) × (taken given ≡ accepted picks) × (arePicks c picks ≡ true) × (areOfKinds c picks ≡ true) × (ruleIsTrue c picks ≡ true) × (k ≡ length (builtSteps p picks)) × (buildSteps question site given state steps .steps ≡ written (builtSteps p picks) steps)
+  pub whenever-built : (given : Given) (state steps : List ℕ) (k : ℕ) → buildSteps L question site given state steps .answer ≡ accepted k
+      → (picks : List Tuple) × (taken given ≡ accepted picks) × (arePicks c picks ≡ true) × (areOfKinds c picks ≡ true) × (ruleIsTrue c picks ≡ true) × (k ≡ length (builtSteps p picks)) × (buildSteps L question site given state steps .steps ≡ written (builtSteps p picks) steps)
   unfolding buildSteps
   whenever-built given state steps k e =
-      let (b, r, n, w) = Building.built-tells (plan question site given (length state) (length steps)) state steps k e in
-      let (c′, rc, rg, t, a, q, s) = Building.plan-tells question site given (length state) (length steps) b r in
-      let same-case : c′ ≡ c = accepted-eq c′ c (sym rc ∙ is-case) in
-      let same : b .problem ≡ p = accepted-eq (b .problem) p (sym rg ∙ ap ground same-case ∙ grounds) in
-      let f : taken given ≡ accepted (b .picks) = subst₂ (λ (x : Case) (y : Problem). Building.picksGiven x y given ≡ accepted (b .picks)) same-case same t in
-      let l : b .steps ≡ builtSteps p (b .picks) = s ∙ ap (λ (y : Problem). builtSteps y (b .picks)) same in
-      (b .picks, f, taken-picks given (b .picks) f, subst (λ (x : Case). areOfKinds x (b .picks) ≡ true) same-case a, subst (λ (x : Case). ruleIsTrue x (b .picks) ≡ true) same-case q, n ∙ ap length l, w ∙ ap (λ (x : List ℕ). written x steps) l)
+      let (b, r, n, w) = Building.built-tells (plan L question site given (length state) (length steps)) state steps k e in
+      let t = Building.plan-tells L question site given (length state) (length steps) b r in
+      let same-case : t .case ≡ c = accepted-eq (t .case) c (sym (t .is-case) ∙ is-case) in
+      let same : b .problem ≡ p = accepted-eq (b .problem) p (sym (t .is-problem) ∙ ap (ground L) same-case ∙ grounds) in
+      let f : taken given ≡ accepted (b .picks) = subst₂ (λ (x : Case) (y : Problem). Building.picksGiven x y given ≡ accepted (b .picks)) same-case same (t .given) in
+      let l : b .steps ≡ builtSteps p (b .picks) = t .steps ∙ ap (λ (y : Problem). builtSteps y (b .picks)) same in
+      (b .picks, f, taken-picks given (b .picks) f, subst (λ (x : Case). areOfKinds x (b .picks) ≡ true) same-case (t .kinds), subst (λ (x : Case). ruleIsTrue x (b .picks) ≡ true) same-case (t .rule), n ∙ ap length l, w ∙ ap (λ (x : List ℕ). written x steps) l)
 
   -- (they are few enough to be lent)
   built-few : (picks : List Tuple) → arePicks c picks ≡ true → areOfKinds c picks ≡ true → length (builtSteps p picks) ≤ stepLimit
   built-few picks a k =
       let n = counts picks a k in
-      let b = Accepting.bound-below p in
-      let f = Reader.acceptance question site p is-problem .few-atoms in
+      let b = Count.bound-below p in
+      let f = Reader.acceptance L few question site p is-problem .few-atoms in
       omega (arith, n .0, n .1)
 
   -- The built steps, lent as numbers, are accepted.
-  pub built-accepted : (picks : List Tuple) → arePicks c picks ≡ true → areOfKinds c picks ≡ true → ruleIsTrue c picks ≡ true → stepsAreAccepted question site (asNumbers (builtSteps p picks)) ≡ true
+  pub built-accepted : (picks : List Tuple) → arePicks c picks ≡ true → areOfKinds c picks ≡ true → ruleIsTrue c picks ≡ true → stepsAreAccepted L question site (asNumbers (builtSteps p picks)) ≡ true
   built-accepted picks a k r = acceptance (asNumbers (builtSteps p picks)) (builtSteps p picks) (lent-steps (builtSteps p picks) (built-few picks a k)) ∙ complete picks a k r .0
 
   -- The picks read from them are the same tuples, no more and no fewer.
@@ -271,7 +276,7 @@ module _ (question site : List ℕ) (c : Case) (p : Problem) (is-case : readCase
 
   -- Reading the built steps, lent as numbers, leaves the words of the picks that were given, word for word.
   pub built-read : (picks : List Tuple) → arePicks c picks ≡ true → areOfKinds c picks ≡ true → ruleIsTrue c picks ≡ true → (words state : List ℕ) → picksLength p ≤ length words → stateLength p ≤ length state
-      → picksFromSteps question site (asNumbers (builtSteps p picks)) words state .picks ≡ written (pickWords p picks) words
+      → picksFromSteps L question site (asNumbers (builtSteps p picks)) words state .picks ≡ written (pickWords p picks) words
   unfolding picksIfAccepted
   built-read picks a k r words state h g =
       let (n, b) = counts picks a k in
@@ -291,7 +296,7 @@ module _ (question site : List ℕ) (c : Case) (p : Problem) (is-case : readCase
   -- ---- 6, polynomial: the bound is a polynomial in the number of elements; the question's text alone fixes its terms, whatever the
   -- site holds.
   pub polynomial : (q : Question) → readQuestion question ≡ accepted q → bound p ≡ boundPolynomial q (c .site .size)
-  polynomial q e = value ∙ ap (λ (x : Question). boundPolynomial x (c .site .size)) (accepted-eq (c .question) q (sym (Reader.case-question question site c is-case) ∙ e))
+  polynomial q e = value ∙ ap (λ (x : Question). boundPolynomial x (c .site .size)) (accepted-eq (c .question) q (sym (Reader.case-question L question site c is-case) ∙ e))
     where
       value : bound p ≡ boundPolynomial (c .question) (c .site .size)
       value = rw same-problem (Polynomial.bound-value c)
@@ -373,15 +378,15 @@ module _ (question site : List ℕ) (c : Case) (p : Problem) (is-case : readCase
   -- ---- 11, many step lists of one case, in one call: it answers 0 and place 0, every record gets its list's reply, and the initial
   -- state is left;
   pub trying : (steps : List ℕ) (tries : List Try) (state : List ℕ) → stateLength p ≤ length state
-      → tryLists question site steps tries state ≡ record { answer = accepted 0; tries = map (tried p steps) tries; state = written (stateWords p (initial p)) state }
-  trying steps tries state room = Trying.trying question site p is-problem state room steps tries
+      → tryLists L question site steps tries state ≡ record { answer = accepted 0; tries = map (tried p steps) tries; state = written (stateWords p (initial p)) state }
+  trying steps tries state room = Trying.trying L question site p is-problem state room steps tries
 
   -- a record keeps its list, and one within the lent steps gets what a check of that list alone answers, as if it were lent by itself;
   pub tries-alone : (steps : List ℕ) (t : Try) (state : List ℕ) → stateLength p ≤ length state → t .first + t .len ≤ length steps
-      → let alone = checkSteps question site (asNumbers (take (t .len) (drop (t .first) steps))) state .answer in
+      → let alone = checkSteps L question site (asNumbers (take (t .len) (drop (t .first) steps))) state .answer in
       tried p steps t ≡ record { first = t .first; len = t .len; number = replyNumber alone; place = replyPlace alone }
   unfolding tried
-  tries-alone steps t state room h = ap (λ (r : Result ℕ). record { first = t .first; len = t .len; number = replyNumber r; place = replyPlace r }) (Trying.alone question site p is-problem state room steps (t .first) (t .len) h)
+  tries-alone steps t state room h = ap (λ (r : Result ℕ). record { first = t .first; len = t .len; number = replyNumber r; place = replyPlace r }) (Trying.alone L question site p is-problem state room steps (t .first) (t .len) h)
 
   -- any other is 1 or 12;
   pub tries-outside : (steps : List ℕ) (t : Try) → length steps < t .first + t .len
@@ -411,7 +416,7 @@ module _ (question site : List ℕ) (c : Case) (p : Problem) (is-case : readCase
   -- So whenever the building call builds steps before and after such a pick is added, or before and after it is dropped, its two
   -- counts differ by at most that.
   pub one-pick-built : (before after : Given) (state₁ steps₁ state₂ steps₂ : List ℕ) (m n : ℕ) (P Q : List Tuple) (more : Tuple)
-      → buildSteps question site before state₁ steps₁ .answer ≡ accepted m → buildSteps question site after state₂ steps₂ .answer ≡ accepted n
+      → buildSteps L question site before state₁ steps₁ .answer ≡ accepted m → buildSteps L question site after state₂ steps₂ .answer ≡ accepted n
       → taken before ≡ accepted P → taken after ≡ accepted Q → isAmong more P ≡ false → areSamePicks Q (more ∷ P) ≡ true
       → (n ≤ m + allowance p (more .relation)) × (m ≤ n + allowance p (more .relation))
   one-pick-built before after state₁ steps₁ state₂ steps₂ m n P Q more em en tP tQ new is =
@@ -426,9 +431,9 @@ module _ (question site : List ℕ) (c : Case) (p : Problem) (is-case : readCase
       (omega (arith, f), omega (arith, g))
 
   -- The call that tells them writes the allowance of every `choose`, in order, at the front of its buffer.
-  pub allowances-are : (old : List ℕ) → length (chosenNumbers p) ≤ length old → allowances question site old ≡ record { answer = accepted 0; allowances = written (map (allowance p) (chosenNumbers p)) old }
-  unfolding allowances allowedFrom allowancesOf roomFor refuseIf _>>=_
-  allowances-are old h = let e : ltb (length old) (length (chosenNumbers p)) ≡ false = le-ltb (length old) (length (chosenNumbers p)) h in rw (is-problem, e) refl
+  pub allowances-are : (old : List ℕ) → length (chosenNumbers p) ≤ length old → allowances L question site old ≡ record { answer = accepted 0; allowances = written (map (allowance p) (chosenNumbers p)) old }
+  unfolding allowances allowedFrom allowancesOf asked nothing roomFor refuseIf _>>=_
+  allowances-are old h = let e : ltb (length old) (length (chosenNumbers p)) ≡ false = le-ltb (length old) (length (chosenNumbers p)) h in rw (is-case, grounds, e) refl
 
 -- ---- A text is read as a number exactly if it is what is written for it and has at most 7 digits; and as steps exactly if it is what
 -- the desk program writes for them. So every step list within the limits has a text, and one text only.
@@ -443,77 +448,111 @@ steps-texts text steps = (
 
 -- ---- 9, demand 1, for whatever is handed over: each call refuses only with numbers of its own, keeps every buffer's length, and a
 -- refusal leaves what document 01 says it leaves.
-module _ (question site : List ℕ) where
-  pub sizes-refuse : (k place : ℕ) → sizes question site ≡ refused k place → (1 ≤ k) × (k ≤ 11)
-  sizes-refuse k place e = Refusals.sizes-refuse question site k place e
+module _ (L : CaseLimits) (question site : List ℕ) where
+  pub sizes-refuse : (k place : ℕ) → sizes L question site ≡ refused k place → isIn k caseNumbers ≡ true
+  sizes-refuse k place e = Refusals.sizes-refuse L question site k place e
 
-  pub action-refuse : (n k place : ℕ) → action question site n ≡ refused k place → ((1 ≤ k) × (k ≤ 11)) ⊎ (k ≡ 13)
-  action-refuse n k place e = Refusals.action-refuse question site n k place e
+  pub action-refuse : (n k place : ℕ) → action L question site n ≡ refused k place → isIn k (13 ∷ caseNumbers) ≡ true
+  action-refuse n k place e = Refusals.action-refuse L question site n k place e
 
-  -- Checking: 1 to 15; 1 to 12 leave the state's buffer as it was.
-  pub check-refuse : (steps : Given) (state : List ℕ) (k place : ℕ) → checkSteps question site steps state .answer ≡ refused k place → (1 ≤ k) × (k ≤ 15) × (k ≤ 12 → checkSteps question site steps state .state ≡ state)
-  check-refuse steps state k place e = let (a, b) = Refusals.check-refuse question site steps state k place e in (a, b, Buffers.check-leaves question site steps state k place e)
+  -- Checking: a refusal before the steps run leaves the state's buffer as it was.
+  pub check-refuse : (steps : Given) (state : List ℕ) (k place : ℕ) → checkSteps L question site steps state .answer ≡ refused k place
+      → (isIn k (readyNumbers ++ runNumbers) ≡ true) × (isIn k readyNumbers ≡ true → checkSteps L question site steps state .state ≡ state)
+  check-refuse steps state k place e = (Refusals.check-refuse L question site steps state k place e, Buffers.check-leaves L question site steps state k place e)
 
-  pub check-length : (steps : Given) (state : List ℕ) → length (checkSteps question site steps state .state) ≡ length state
-  check-length steps state = Buffers.check-length question site steps state
+  pub check-length : (steps : Given) (state : List ℕ) → length (checkSteps L question site steps state .state) ≡ length state
+  check-length steps state = Buffers.check-length L question site steps state
 
-  -- Reading picks: 1 to 15, which all leave the picks' buffer as it was; 1 to 12 leave the state's too.
-  pub read-refuse : (steps : Given) (picks state : List ℕ) (k place : ℕ) → picksFromSteps question site steps picks state .answer ≡ refused k place
-      → (1 ≤ k) × (k ≤ 15) × (picksFromSteps question site steps picks state .picks ≡ picks) × (k ≤ 12 → picksFromSteps question site steps picks state .state ≡ state)
-  read-refuse steps picks state k place e = let (a, b) = Refusals.read-refuse question site steps picks state k place e in let (f, g) = Buffers.read-leaves question site steps picks state k place e in (a, b, f, g)
+  -- Reading picks: every refusal leaves the picks' buffer as it was; one before the steps run leaves the state's too.
+  pub read-refuse : (steps : Given) (picks state : List ℕ) (k place : ℕ) → picksFromSteps L question site steps picks state .answer ≡ refused k place
+      → (isIn k (readyNumbers ++ runNumbers) ≡ true) × (picksFromSteps L question site steps picks state .picks ≡ picks) × (isIn k readyNumbers ≡ true → picksFromSteps L question site steps picks state .state ≡ state)
+  read-refuse steps picks state k place e = let (f, g) = Buffers.read-leaves L question site steps picks state k place e in (Refusals.read-refuse L question site steps picks state k place e, f, g)
 
-  pub read-length : (steps : Given) (picks state : List ℕ) → (length (picksFromSteps question site steps picks state .picks) ≡ length picks) × (length (picksFromSteps question site steps picks state .state) ≡ length state)
-  read-length steps picks state = Buffers.read-length question site steps picks state
+  pub read-length : (steps : Given) (picks state : List ℕ) → (length (picksFromSteps L question site steps picks state .picks) ≡ length picks) × (length (picksFromSteps L question site steps picks state .state) ≡ length state)
+  read-length steps picks state = Buffers.read-length L question site steps picks state
 
-  -- Building: 1 to 12, 16 and 17, which all leave both buffers as they were.
-  pub build-refuse : (picks : Given) (state steps : List ℕ) (k place : ℕ) → buildSteps question site picks state steps .answer ≡ refused k place
-      → (((1 ≤ k) × (k ≤ 12)) ⊎ ((k ≡ 16) ⊎ (k ≡ 17))) × (buildSteps question site picks state steps .state ≡ state) × (buildSteps question site picks state steps .steps ≡ steps)
-  build-refuse picks state steps k place e = let (f, g) = Buffers.build-leaves question site picks state steps k place e in (Refusals.build-refuse question site picks state steps k place e, f, g)
+  -- Building: every refusal leaves both buffers as they were.
+  pub build-refuse : (picks : Given) (state steps : List ℕ) (k place : ℕ) → buildSteps L question site picks state steps .answer ≡ refused k place
+      → (isIn k (readyNumbers ++ picksNumbers) ≡ true) × (buildSteps L question site picks state steps .state ≡ state) × (buildSteps L question site picks state steps .steps ≡ steps)
+  build-refuse picks state steps k place e = let (f, g) = Buffers.build-leaves L question site picks state steps k place e in (Refusals.build-refuse L question site picks state steps k place e, f, g)
 
-  pub build-length : (picks : Given) (state steps : List ℕ) → (length (buildSteps question site picks state steps .state) ≡ length state) × (length (buildSteps question site picks state steps .steps) ≡ length steps)
-  build-length picks state steps = Buffers.build-length question site picks state steps
+  pub build-length : L .elements ≤ 64 → (picks : Given) (state steps : List ℕ) → (length (buildSteps L question site picks state steps .state) ≡ length state) × (length (buildSteps L question site picks state steps .steps) ≡ length steps)
+  build-length few picks state steps = Buffers.build-length L question site picks state steps few
 
   -- ---- 14, document 02, job 6. Judging answers as building does, but for the count of steps: exactly so where the state and the steps have
   -- room for the problem, if one is read; where none is, whatever is lent.
-  pub judging : (picks : Given) (state steps : List ℕ) → ((p : Problem) → readProblem question site ≡ accepted p → (stateLength p ≤ length state) × (bound p ≤ length steps))
-      → judge question site picks ≡ forget (buildSteps question site picks state steps .answer)
-  judging picks state steps rooms = Judging.alike question site picks state steps rooms
+  pub judging : (picks : Given) (state steps : List ℕ) → ((p : Problem) → readProblem L question site ≡ accepted p → (stateLength p ≤ length state) × (bound p ≤ length steps))
+      → judge L question site picks ≡ forget (buildSteps L question site picks state steps .answer)
+  judging picks state steps rooms = Judging.alike L question site picks state steps rooms
 
-  -- Many step lists: 1 to 12, which leave the records and the state's buffer as they were.
-  pub tries-refuse : (steps : List ℕ) (tries : List Try) (state : List ℕ) (k place : ℕ) → tryLists question site steps tries state .answer ≡ refused k place
-      → (1 ≤ k) × (k ≤ 12) × (tryLists question site steps tries state .tries ≡ tries) × (tryLists question site steps tries state .state ≡ state)
-  tries-refuse steps tries state k place e = Trying.tries-refuse question site steps tries state k place e
+  -- So its numbers are those of building.
+  pub judge-refuse : (picks : Given) (k place : ℕ) → judge L question site picks ≡ refused k place → isIn k (readyNumbers ++ picksNumbers) ≡ true
+  judge-refuse picks k place e = Refusals.judge-refuse L question site picks k place e
 
-  pub tries-length : (steps : List ℕ) (tries : List Try) (state : List ℕ) → (length (tryLists question site steps tries state .tries) ≡ length tries) × (length (tryLists question site steps tries state .state) ≡ length state)
-  tries-length steps tries state = Trying.tries-length question site steps tries state
+  -- Many step lists: every refusal of the call leaves the records and the state's buffer as they were.
+  pub tries-refuse : (steps : List ℕ) (tries : List Try) (state : List ℕ) (k place : ℕ) → tryLists L question site steps tries state .answer ≡ refused k place
+      → (isIn k readyNumbers ≡ true) × (tryLists L question site steps tries state .tries ≡ tries) × (tryLists L question site steps tries state .state ≡ state)
+  tries-refuse steps tries state k place e = Trying.tries-refuse L question site steps tries state k place e
 
-  -- Allowances: 1 to 12, which all leave the buffer as it was.
-  pub allowances-refuse : (old : List ℕ) (k place : ℕ) → allowances question site old .answer ≡ refused k place → (1 ≤ k) × (k ≤ 12) × (allowances question site old .allowances ≡ old)
-  allowances-refuse old k place e = OnePick.allowances-refuse question site old k place e
+  pub tries-length : (steps : List ℕ) (tries : List Try) (state : List ℕ) → (length (tryLists L question site steps tries state .tries) ≡ length tries) × (length (tryLists L question site steps tries state .state) ≡ length state)
+  tries-length steps tries state = Trying.tries-length L question site steps tries state
 
-  pub allowances-length : (old : List ℕ) → length (allowances question site old .allowances) ≡ length old
-  allowances-length old = OnePick.allowances-length question site old
+  -- Allowances: every refusal leaves the buffer as it was.
+  pub allowances-refuse : (old : List ℕ) (k place : ℕ) → allowances L question site old .answer ≡ refused k place → (isIn k readyNumbers ≡ true) × (allowances L question site old .allowances ≡ old)
+  allowances-refuse old k place e = OnePick.allowances-refuse L question site old k place e
+
+  pub allowances-length : (old : List ℕ) → length (allowances L question site old .allowances) ≡ length old
+  allowances-length old = OnePick.allowances-length L question site old
 
 -- ---- 10, the desk program: unless it refuses, what it prints (`Desk.report`) are the two records of one case: picks of the declared
 -- kinds of which the rule is true, and steps that reach the goal and are read as the same tuples.
 pub desk-records : (input : List ℕ) (b : Plan) → answer input ≡ accepted b
-    → (c : Case) × (readCase (sheets input .question) (sheets input .site) ≡ accepted c) × (ground c ≡ accepted (b .problem)) × (arePicks c (b .picks) ≡ true) × (areOfKinds c (b .picks) ≡ true) × (ruleIsTrue c (b .picks) ≡ true) × (reachesGoal (b .problem) (b .steps) ≡ true) × (areSamePicks (picksOf (b .problem) (b .steps)) (b .picks) ≡ true)
+    → (c : Case) × (readCase usual (sheets input .question) (sheets input .site) ≡ accepted c) × (ground usual c ≡ accepted (b .problem)) × (arePicks c (b .picks) ≡ true) × (areOfKinds c (b .picks) ≡ true) × (ruleIsTrue c (b .picks) ≡ true) × (reachesGoal (b .problem) (b .steps) ≡ true) × (areSamePicks (picksOf (b .problem) (b .steps)) (b .picks) ≡ true)
 desk-records input b e = let (c, rc, rg, h) = Filed.desk-filed input b e in let (a, k, r, g, s) = h in (c, rc, rg, a, k, r, g, s)
 
 -- ---- 13, document 02, job 3: for every case that is read, be it over the limits of 11 or not, one walk of its tree visits its nodes,
 -- each once and in preorder, and what it counts are the numbers of nodes, atoms and actions, and the bound.
-module _ (question site : List ℕ) (c : Case) (is-case : readCase question site ≡ accepted c) where
+module _ (L : CaseLimits) (question site : List ℕ) (c : Case) (is-case : readCase L question site ≡ accepted c) where
   pub visited-are : map (λ (q : Part). q .tree) (walked (problemOf c) .visited) ≡ nodes (treeOf (c .question))
   visited-are = Walks.visited-are c
 
   pub visited-once : map (λ (q : Part). q .node) (walked (problemOf c) .visited) ≡ below (length (nodes (treeOf (c .question))))
   visited-once = Walks.visited-once c
 
-  pub tallied : tally question site ≡ accepted (record { nodeCount = length (nodes (treeOf (c .question))); sizes = sizesOf (problemOf c) })
+  pub tallied : tally L question site ≡ accepted (record { nodeCount = length (nodes (treeOf (c .question))); sizes = sizesOf (problemOf c) })
   unfolding tally _>>=_
   tallied = rw is-case (ap accepted (Walks.tally-is c))
 
 -- The sizes call answers those counts, or 11 where there are more atoms or actions than the limits allow.
-pub sizes-tallied : (question site : List ℕ)
-    → sizes question site ≡ (tally question site >>= λ t. refuseIf (ltb atomLimit (t .sizes .atomCount) || ltb actionLimit (t .sizes .actionCount)) 11 0 >>= λ _. accepted (t .sizes))
-sizes-tallied question site = Walks.sizes-tally question site
+pub sizes-tallied : (L : CaseLimits) (question site : List ℕ)
+    → sizes L question site ≡ (tally L question site >>= λ t. refuseIf (ltb (L .atoms) (t .sizes .atomCount) || ltb (L .actions) (t .sizes .actionCount)) 11 0 >>= λ _. accepted (t .sizes))
+sizes-tallied L question site = Walks.sizes-tally L question site
+
+-- ---- 15, limits: a case that is accepted is the same problem by larger limits, and each call answers about it as before.
+module _ (L M : CaseLimits) (larger : Wider.Wider L M) (question site : List ℕ) (p : Problem) (is-problem : readProblem L question site ≡ accepted p) where
+  pub kept-problem : readProblem M question site ≡ accepted p
+  kept-problem = Wider.problem-wider L M larger question site p is-problem
+
+  pub kept-sizes : sizes L question site ≡ sizes M question site
+  kept-sizes = Wider.same-sizes L M larger question site p is-problem
+
+  pub kept-action : (k : ℕ) → action L question site k ≡ action M question site k
+  kept-action k = Wider.same-action L M larger question site p is-problem k
+
+  pub kept-check : (steps : Given) (state : List ℕ) → checkSteps L question site steps state ≡ checkSteps M question site steps state
+  kept-check steps state = Wider.same-check L M larger question site p is-problem steps state
+
+  pub kept-read : (steps : Given) (picks state : List ℕ) → picksFromSteps L question site steps picks state ≡ picksFromSteps M question site steps picks state
+  kept-read steps picks state = Wider.same-read L M larger question site p is-problem steps picks state
+
+  pub kept-build : (picks : Given) (state steps : List ℕ) → buildSteps L question site picks state steps ≡ buildSteps M question site picks state steps
+  kept-build picks state steps = Wider.same-build L M larger question site p is-problem picks state steps
+
+  pub kept-judgement : (picks : Given) → judge L question site picks ≡ judge M question site picks
+  kept-judgement picks = Wider.same-judgement L M larger question site p is-problem picks
+
+  pub kept-tries : (steps : List ℕ) (tries : List Try) (state : List ℕ) → tryLists L question site steps tries state ≡ tryLists M question site steps tries state
+  kept-tries steps tries state = Wider.same-tries L M larger question site p is-problem steps tries state
+
+  pub kept-allowances : (old : List ℕ) → allowances L question site old ≡ allowances M question site old
+  kept-allowances old = Wider.same-allowances L M larger question site p is-problem old

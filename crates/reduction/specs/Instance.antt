@@ -3,6 +3,8 @@ use Prim.Native.Nat.{ℕ}
 use mathlib.Core.Path.{_≡_, refl}
 use mathlib.Core.Bool.{true}
 use mathlib.Core.List.{List, [], _∷_}
+use native.Mathlib.Omega.{arith}
+use Rattle.definitions.specs.Limits.{usual}
 use Rattle.definitions.specs.Opened.{everything}
 use Rattle.definitions.specs.Text.{bytes}
 use Rattle.definitions.specs.Refusal.{accepted}
@@ -19,14 +21,14 @@ question = bytes "choose\tT\t1\nrule\t(forall (?y) (T ?y))\n"
 abbrev site : List ℕ
 site = bytes "size\t1\n"
 
-accepts : caseIsAccepted question site ≡ true
+accepts : caseIsAccepted usual question site ≡ true
 unfolding everything
 accepts = refl
 
-runs : stepsAreAccepted question site (asNumbers (0 ∷ 1 ∷ 2 ∷ 3 ∷ [])) ≡ true
+runs : stepsAreAccepted usual question site (asNumbers (0 ∷ 1 ∷ 2 ∷ 3 ∷ [])) ≡ true
 unfolding everything
 runs = refl
 
-pub one : (c : Case) × (p : Problem) × (readCase question site ≡ accepted c) × (readProblem question site ≡ accepted p)
+pub one : (c : Case) × (p : Problem) × (readCase usual question site ≡ accepted c) × (readProblem usual question site ≡ accepted p)
     × ((steps : List ℕ) × (takeSteps (asNumbers (0 ∷ 1 ∷ 2 ∷ 3 ∷ [])) ≡ accepted steps) × (arePicks c (picksOf p steps) ≡ true) × (areOfKinds c (picksOf p steps) ≡ true) × (ruleIsTrue c (picksOf p steps) ≡ true))
-one = let (c, p, a, b) = accepted-case question site .0 accepts in (c, p, a, b, soundness question site c p a b (asNumbers (0 ∷ 1 ∷ 2 ∷ 3 ∷ [])) runs)
+one = let (c, p, a, b) = accepted-case usual question site .0 accepts in (c, p, a, b, soundness usual (omega arith) (omega arith) question site c p a b (asNumbers (0 ∷ 1 ∷ 2 ∷ 3 ∷ [])) runs)

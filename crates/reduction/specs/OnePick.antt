@@ -1,23 +1,24 @@
 -- One pick more or less: a node that does not mention its relation keeps its true atoms, so the built steps move by at most the
 -- allowance; and what the call that tells allowances refuses with.
 use Prim.Native.Nat.{ℕ, suc, _+_, _/_, _%_, _≤_}
-use mathlib.Core.Path.{_≡_, refl, sym, ap, ap₂, subst, _∙_}
+use mathlib.Core.Path.{_≡_, refl, sym, ap, ap₂, subst}
 use mathlib.Core.Logic.{_⊎_, ⊎-elim}
 use mathlib.Core.Bool.{Bool, true, false, not, _&&_, _||_}
 use mathlib.Core.List.{List, [], _∷_, map, List·Memᴰ, List·Memᴰ·head, List·Memᴰ·tail, List·Memᴰ·cases-cons}
 use native.Mathlib.Omega.{arith}
-use borrow.Author.Tests.{eqb-false, ltb-false}
-use lib.Dec.{T, eqb, ltb}
+use borrow.Author.Tests.{eqb-false}
+use lib.Dec.{T, eqb}
 use lib.ListN.{length, length-map}
+use Rattle.definitions.specs.Limits.{CaseLimits}
 use Rattle.definitions.specs.Lists.{if_then_else_, all, any, filter, below, upTo, isIn, sum}
-use Rattle.definitions.specs.Refusal.{Result, refused, accepted, _>>=_, refuseIf}
+use Rattle.definitions.specs.Refusal.{Result, refused, accepted, readyNumbers}
 use Rattle.definitions.specs.Relations.{Tuple, isAmong}
 use Rattle.definitions.specs.Truth.{Case, holds, membersOf, arePicks}
 use Rattle.definitions.specs.Tree.{Tree, Trees, leaf, forallNode, existsNode, andNode, orNode, end, _then_}
 use Rattle.definitions.specs.Atoms.{Problem, nodeWidth}
 use Rattle.definitions.specs.Actions.{Values, withValue, valuesAt}
 use Rattle.definitions.specs.Built.{treeHolds, treesHold, someHolds, isTrueAt, trueRows, chosenNumbers, builtCount}
-use Rattle.definitions.specs.Outcome.{readProblem, roomFor, sizes}
+use Rattle.definitions.specs.Outcome.{Ready, asked, nothing, roomFor}
 use Rattle.definitions.specs.Demand.{areSamePicks}
 use Rattle.definitions.specs.Allowance.{mentions, mentionsIn, allowance, allowancesOf, allowedFrom, allowances}
 use Rattle.laws.specs.Booleans.{T-and-l, T-and-r, T-of, T-ext, or-both}
@@ -25,9 +26,10 @@ use Rattle.laws.specs.Lists.{all-at, filter-same, length-below}
 use Rattle.laws.specs.Tuples.{among-mem, mem-among}
 use Rattle.laws.specs.Repeats.{Once, distinct-once, filter-le, pigeon}
 use Rattle.laws.specs.Results.{refused-accepted}
-use Rattle.reduction.specs.Picks.{picks-distinct}
-use Rattle.reduction.specs.Refusals.{Refuses, told, sizes-refuse}
-use Rattle.reduction.specs.Buffers.{written-length}
+use Rattle.laws.specs.Picks.{picks-distinct}
+use Rattle.laws.specs.Asked
+use Rattle.laws.specs.Refusals.{In, Refuses, Early, told, asked-by, nothing-by, room-by}
+use Rattle.reduction.specs.Buffers.{written-length, has-room}
 
 -- tests that agree everywhere
 module _ {A : Type 0} (f g : A → Bool) (h : (x : A) → f x ≡ g x) where
@@ -132,52 +134,33 @@ count-moves-both p c P Q t a b new is =
     let n = one-more P Q t is (distinct-once P (picks-distinct c P (T-of a))) (distinct-once Q (picks-distinct c Q (T-of b))) new in
     (count-moves p (t .relation) P Q (elsewhere P Q t is) (omega arith), count-moves p (t .relation) Q P (λ u d. sym (elsewhere P Q t is u d)) (omega arith))
 
--- ---- the call: 1 to 12, which leave the buffer as it was; its length stays
-module _ (question site old : List ℕ) where
-  abbrev room : Problem → Result Problem
-  room p = roomFor (length (chosenNumbers p)) (length old) >>= λ _. accepted p
+-- ---- the call: a refusal leaves the buffer as it was; its length stays
+module _ (L : CaseLimits) (question site old : List ℕ) where
+  abbrev rooms : Problem → Result (Unit {0})
+  rooms p = roomFor (length (chosenNumbers p)) (length old)
 
-  abbrev Early : ℕ → Type 0
-  Early k = (1 ≤ k) × (k ≤ 12)
+  abbrev ready : Result (Ready (Unit {0}))
+  ready = asked L question site nothing nothing nothing rooms
 
-  sized : (k place : ℕ) → readProblem question site ≡ refused k place → sizes question site ≡ refused k place
-  unfolding sizes _>>=_
-  sized k place e = rw e refl
+  pub allowances-refuse : (k place : ℕ) → allowances L question site old .answer ≡ refused k place → In readyNumbers k × (allowances L question site old .allowances ≡ old)
+  unfolding allowances allowedFrom
+  allowances-refuse k place e = go ready (asked-by L question site nothing rooms nothing-by (λ p. room-by (length (chosenNumbers p)) (length old))) e
+    where
+      number-is : (j at : ℕ) → _≡_ {A = Result ℕ} (refused j at) (refused k place) → j ≡ k
+      number-is j at e = cc
 
-  room-by : (p : Problem) (b : Bool) → Refuses Early (allowedFrom (refuseIf b 12 (length (chosenNumbers p)) >>= λ _. accepted p) old .answer)
-  unfolding Refuses refuseIf allowedFrom _>>=_
-  room-by p true = (omega arith, omega arith)
-  room-by p false = tt
+      go : (m : Result (Ready (Unit {0}))) → Refuses Early m → allowedFrom m old .answer ≡ refused k place → In readyNumbers k × (allowedFrom m old .allowances ≡ old)
+      go (refused j at) h e = (subst (In readyNumbers) (number-is j at e) (told Early (refused j at) j at refl h), refl)
+      go (accepted r) h e = absurd (refused-accepted (sym e))
 
-  problem-by : (m : Result Problem) → readProblem question site ≡ m → Refuses Early (allowedFrom (m >>= room) old .answer)
-  unfolding Refuses roomFor allowedFrom _>>=_
-  problem-by (refused k place) q = let h = sizes-refuse question site k place (sized k place q) in (h .0, omega (arith, h .1))
-  problem-by (accepted p) q = room-by p (ltb (length old) (length (chosenNumbers p)))
-
-  kept : (m : Result Problem) (k place : ℕ) → allowedFrom m old .answer ≡ refused k place → allowedFrom m old .allowances ≡ old
-  unfolding allowedFrom
-  kept (refused j at) k place e = refl
-  kept (accepted p) k place e = absurd (refused-accepted (sym e))
-
-  pub allowances-refuse : (k place : ℕ) → allowances question site old .answer ≡ refused k place → (1 ≤ k) × (k ≤ 12) × (allowances question site old .allowances ≡ old)
-  unfolding allowances
-  allowances-refuse k place e =
-      let (a, b) = told Early (allowances question site old .answer) k place e (problem-by (readProblem question site) refl) in
-      (a, b, kept (readProblem question site >>= room) k place e)
-
-  room-length : (p : Problem) (b : Bool) → ltb (length old) (length (chosenNumbers p)) ≡ b → length (allowedFrom (refuseIf b 12 (length (chosenNumbers p)) >>= λ _. accepted p) old .allowances) ≡ length old
-  unfolding refuseIf allowedFrom allowancesOf _>>=_
-  room-length p true e = refl
-  room-length p false e =
-      let h = ltb-false (length old) (length (chosenNumbers p)) e in
-      let l = length-map (chosenNumbers p) (allowance p) in
-      written-length (map (allowance p) (chosenNumbers p)) old (omega arith)
-
-  problem-length : (m : Result Problem) → length (allowedFrom (m >>= room) old .allowances) ≡ length old
-  unfolding roomFor allowedFrom _>>=_
-  problem-length (refused k place) = refl
-  problem-length (accepted p) = room-length p (ltb (length old) (length (chosenNumbers p))) refl
-
-  pub allowances-length : length (allowances question site old .allowances) ≡ length old
-  unfolding allowances
-  allowances-length = problem-length (readProblem question site)
+  pub allowances-length : length (allowances L question site old .allowances) ≡ length old
+  unfolding allowances allowedFrom allowancesOf
+  allowances-length = go ready (λ r e. has-room (length (chosenNumbers (r .problem))) (length old) tt (Asked.parts L question site nothing nothing nothing rooms r e .has-room))
+    where
+      go : (m : Result (Ready (Unit {0}))) → ((r : Ready (Unit {0})) → m ≡ accepted r → length (chosenNumbers (r .problem)) ≤ length old) → length (allowedFrom m old .allowances) ≡ length old
+      go (refused k place) h = refl
+      go (accepted r) h =
+          let p = r .problem in
+          let q = h r refl in
+          let l = length-map (chosenNumbers p) (allowance p) in
+          written-length (map (allowance p) (chosenNumbers p)) old (omega arith)

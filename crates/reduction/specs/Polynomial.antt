@@ -19,10 +19,10 @@ use Rattle.definitions.specs.Built.{mostPicks, bound, pickExponent, nodeExponen
 use Rattle.laws.specs.Lists.{flat-mem, length-below, map-mem, mem-below, mem-getD}
 use Rattle.laws.specs.Repeats.{filter-le, filter-lt}
 use Rattle.laws.specs.Numbers.{noNode}
-use Rattle.reduction.specs.Reader.{Accepted}
-use Rattle.reduction.specs.Parts.{Within}
-use Rattle.reduction.specs.Means.{here-at}
-use Rattle.reduction.specs.Grounded.{good, relation-cases}
+use Rattle.laws.specs.Reader.{Accepted}
+use Rattle.laws.specs.Parts.{Within}
+use Rattle.laws.specs.Means.{here-at}
+use Rattle.laws.specs.Grounded.{good, relation-cases}
 
 value-append : (ks ls : List ℕ) (n : ℕ) → polynomial (ks ++ ls) n ≡ polynomial ks n + polynomial ls n
 unfolding polynomial sum

@@ -15,8 +15,8 @@ use Rattle.definitions.specs.Strips.{mayTake, after, runFrom, run}
 use Rattle.laws.specs.Lists.{any-none, map-mem}
 use Rattle.laws.specs.Blocks.{item-none}
 use Rattle.laws.specs.Numbers.{IsAction, action-is, atom-below}
-use Rattle.reduction.specs.Means.{Good}
-use Rattle.reduction.specs.Valid.{adds-valid}
+use Rattle.laws.specs.Means.{Good}
+use Rattle.laws.specs.Valid.{adds-valid}
 
 module _ (p : Problem) (G : Good p) where
   abbrev Ends : State → Type 0

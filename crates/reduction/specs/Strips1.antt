@@ -14,8 +14,8 @@ use Rattle.definitions.specs.Strips.{mayTake, after, runFrom, run}
 use Rattle.laws.specs.Booleans.{T-of}
 use Rattle.laws.specs.Lists.{some-eq}
 use Rattle.laws.specs.Numbers.{IsAtom, action-is}
-use Rattle.reduction.specs.Means.{Good}
-use Rattle.reduction.specs.Valid.{needs-valid, after-cases, may-at}
+use Rattle.laws.specs.Means.{Good}
+use Rattle.laws.specs.Valid.{needs-valid, after-cases, may-at}
 
 unfoldable isAdded : Atom → Bool
 isAdded guess = false

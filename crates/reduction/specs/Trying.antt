@@ -1,6 +1,6 @@
 -- Many step lists of one case: each gets what a check of it alone gives, and the call keeps what it is lent.
 use Prim.Native.Nat.{ℕ, zero, suc, _+_, _-_, _≤_, _<_}
-use mathlib.Core.Path.{_≡_, refl, sym, ap, ap₂, subst, _∙_}
+use mathlib.Core.Path.{_≡_, refl, sym, ap, subst, _∙_}
 use mathlib.Core.Logic.{_↔_}
 use mathlib.Core.Bool.{Bool, true, false}
 use mathlib.Core.List.{List, [], _∷_, map}
@@ -9,20 +9,26 @@ use lib.Dec.{ltb}
 use lib.ListN.{length, take, drop, length-drop}
 use lib.Seq.{length-take-le}
 use borrow.Author.Tests.{lt-ltb, le-ltb, ltb-false}
-use Rattle.definitions.specs.Limits.{stepLimit}
-use Rattle.definitions.specs.Lists.{if_then_else_}
-use Rattle.definitions.specs.Refusal.{Result, refused, accepted, _>>=_, refuseIf}
+use Rattle.definitions.specs.Limits.{CaseLimits, stepLimit}
+use Rattle.definitions.specs.Lists.{if_then_else_, any, isIn}
+use Rattle.definitions.specs.Refusal.{Result, refused, accepted, _>>=_, refuseIf, readyNumbers, runNumbers}
 use Rattle.definitions.specs.Truth.{Case}
 use Rattle.definitions.specs.Atoms.{Problem, initial, stateWords}
 use Rattle.definitions.specs.Strips.{run, reachesGoal}
-use Rattle.definitions.specs.Outcome.{replyNumber, replyPlace, readCase, ground, readProblem, roomFor, stateLength, written, asNumbers, takeSteps, readyToRun, checkedFrom, checkSteps, sizes}
+use Rattle.definitions.specs.Outcome.{replyNumber, replyPlace, Ready, nothing, readProblem, roomFor, stateLength, written, asNumbers, takeSteps, readyToRun, checkedFrom, checkSteps}
 use Rattle.definitions.specs.Tries.{Try, tryList, tried, readyToTry, triedFrom, tryLists}
 use Rattle.laws.specs.Booleans.{T-of}
-use Rattle.laws.specs.Results.{accepted-eq, bind-parts, is-accepted, not-refused, refused-accepted}
+use Rattle.laws.specs.Results.{bind-parts, is-accepted, not-refused, refused-accepted}
 use Rattle.laws.specs.Words.{state-length}
 use Rattle.reduction.specs.Accepting.{run-accepts, run-count}
-use Rattle.reduction.specs.Refusals.{run-refuses, sizes-refuse}
+use Rattle.laws.specs.Asked
+use Rattle.laws.specs.Refusals.{In, Refuses, Early, told, run-refuses, asked-by, nothing-by, room-by}
 use Rattle.reduction.specs.Buffers.{written-length, has-room}
+
+-- no step is refused with number 0
+run-not-zero : In runNumbers 0 → ⊥
+unfolding isIn any
+run-not-zero h = T-of h
 
 -- ---- one list
 part-length : (first len : ℕ) (steps : List ℕ) → first + len ≤ length steps → length (take len (drop first steps)) ≡ len
@@ -52,7 +58,7 @@ module _ (p : Problem) (steps : List ℕ) (first len : ℕ) where
   not-zero k place e z = go (ltb stepLimit len) (ltb (length steps) (first + len)) e
     where
       late : run p (take len (drop first steps)) .answer ≡ refused k place → ⊥
-      late e = let h = run-refuses p (take len (drop first steps)) k place e in absurd (omega (arith, h .0, z))
+      late e = run-not-zero (subst (In runNumbers) z (run-refuses p (take len (drop first steps)) k place e))
 
       number-is : (j at : ℕ) → _≡_ {A = Result ℕ} (refused j at) (refused k place) → j ≡ k
       number-is j at e = ap (λ (r : Result ℕ). elim r as (λ _. ℕ) [ refused a b ↦ a | accepted n ↦ 0 ]) e
@@ -91,73 +97,63 @@ outside p steps t h = let e : ltb (length steps) (t .first + t .len) ≡ true = 
     go true = refl
     go false = refl
 
-module _ (question site : List ℕ) (p : Problem) (is-problem : readProblem question site ≡ accepted p) (state : List ℕ) (room : stateLength p ≤ length state) where
-  -- a list that is all there gets what checking it alone answers
-  checked : (c : Case) → readCase question site ≡ accepted c → ground c ≡ accepted p → (ks : List ℕ) → checkSteps question site (asNumbers ks) state .answer ≡ (refuseIf (ltb stepLimit (length ks)) 1 zero >>= λ _. run p ks .answer)
-  unfolding checkSteps readyToRun takeSteps roomFor refuseIf checkedFrom _>>=_
-  checked c a g ks = let e : ltb (length state) (stateLength p) ≡ false = le-ltb (length state) (stateLength p) room in go e (ltb stepLimit (length ks)) refl
-    where
-      go : ltb (length state) (stateLength p) ≡ false → (b : Bool) → ltb stepLimit (length ks) ≡ b → checkSteps question site (asNumbers ks) state .answer ≡ (_>>=_ {A = Unit {0}} (refuseIf b 1 zero) (λ _. run p ks .answer))
-      go e true t = rw (a, t) refl
-      go e false t = rw (a, t, g, e) refl
+module _ (L : CaseLimits) (question site : List ℕ) (p : Problem) (is-problem : readProblem L question site ≡ accepted p) (state : List ℕ) (room : stateLength p ≤ length state) where
+  abbrev rooms : Problem → Result (Unit {0})
+  rooms q = roomFor (stateLength q) (length state)
 
-  pub alone : (steps : List ℕ) (first len : ℕ) → first + len ≤ length steps → tryList p steps first len ≡ checkSteps question site (asNumbers (take len (drop first steps))) state .answer
-  unfolding readProblem
+  has : rooms p ≡ accepted tt
+  unfolding roomFor refuseIf
+  has = let e : ltb (length state) (stateLength p) ≡ false = le-ltb (length state) (stateLength p) room in rw e refl
+
+  -- a list that is all there gets what checking it alone answers
+  checked : (ks : List ℕ) → checkSteps L question site (asNumbers ks) state .answer ≡ (refuseIf (ltb stepLimit (length ks)) 1 zero >>= λ _. run p ks .answer)
+  unfolding checkSteps readyToRun takeSteps refuseIf checkedFrom _>>=_
+  checked ks = go (ltb stepLimit (length ks)) refl
+    where
+      third : Case → Result (List ℕ)
+      third c = takeSteps (asNumbers ks)
+
+      go : (b : Bool) → ltb stepLimit (length ks) ≡ b → checkSteps L question site (asNumbers ks) state .answer ≡ (_>>=_ {A = Unit {0}} (refuseIf b 1 zero) (λ _. run p ks .answer))
+      go true t = let (c, a, g) = Asked.problem-parts L question site p is-problem in rw (Asked.third-refused L question site third nothing nothing rooms c a 1 zero (rw t refl)) refl
+      go false t = let (c, a, g) = Asked.problem-parts L question site p is-problem in rw (Asked.ready L question site third nothing nothing rooms c a ks (rw t refl) (Asked.untested c) p g (Asked.untested c) has) refl
+
+  pub alone : (steps : List ℕ) (first len : ℕ) → first + len ≤ length steps → tryList p steps first len ≡ checkSteps L question site (asNumbers (take len (drop first steps))) state .answer
   alone steps first len h =
-      let (c, a, g) = bind-parts (readCase question site) ground p is-problem in
       let ks : List ℕ = take len (drop first steps) in
-      there p steps first len h ∙ ap (λ (k : ℕ). refuseIf (ltb stepLimit k) 1 zero >>= λ _. run p ks .answer) (sym (part-length first len steps h)) ∙ sym (checked c a g ks)
+      there p steps first len h ∙ ap (λ (k : ℕ). refuseIf (ltb stepLimit k) 1 zero >>= λ _. run p ks .answer) (sym (part-length first len steps h)) ∙ sym (checked ks)
 
   -- ---- the call
-  ready : readyToTry question site (length state) ≡ accepted p
-  unfolding readyToTry roomFor refuseIf _>>=_
-  ready = let e : ltb (length state) (stateLength p) ≡ false = le-ltb (length state) (stateLength p) room in rw (is-problem, e) refl
+  pub trying : (steps : List ℕ) (tries : List Try) → tryLists L question site steps tries state ≡ record { answer = accepted 0; tries = map (tried p steps) tries; state = written (stateWords p (initial p)) state }
+  unfolding tryLists readyToTry triedFrom
+  trying steps tries = let (c, a, g) = Asked.problem-parts L question site p is-problem in
+      rw (Asked.ready L question site nothing nothing nothing rooms c a tt (Asked.untested c) (Asked.untested c) p g (Asked.untested c) has) refl
 
-  pub trying : (steps : List ℕ) (tries : List Try) → tryLists question site steps tries state ≡ record { answer = accepted 0; tries = map (tried p steps) tries; state = written (stateWords p (initial p)) state }
-  unfolding tryLists triedFrom
-  trying steps tries = rw ready refl
-
--- whatever is handed over: a refusal is 1 to 12 and leaves both buffers; their lengths stay
-module _ (question site steps : List ℕ) (tries : List Try) (state : List ℕ) where
-  problem-refuse : (k place : ℕ) → readProblem question site ≡ refused k place → (1 ≤ k) × (k ≤ 11)
-  unfolding sizes _>>=_
-  problem-refuse k place e = sizes-refuse question site k place (rw e refl)
-
-  pub tries-refuse : (k place : ℕ) → tryLists question site steps tries state .answer ≡ refused k place
-      → (1 ≤ k) × (k ≤ 12) × (tryLists question site steps tries state .tries ≡ tries) × (tryLists question site steps tries state .state ≡ state)
-  unfolding tryLists triedFrom readyToTry roomFor refuseIf _>>=_
-  tries-refuse k place e = go (readyToTry question site (length state)) refl e
-    where
-      early : (m : Result Problem) → readProblem question site ≡ m → (m >>= λ p. roomFor (stateLength p) (length state) >>= λ _. accepted p) ≡ refused k place → (1 ≤ k) × (k ≤ 12)
-      early (refused j at) a e = let h = problem-refuse j at a in let q : j ≡ k = cc in (omega (arith, h .0, q), omega (arith, h .1, q))
-      early (accepted p) a e = go (ltb (length state) (stateLength p)) e
-        where
-          go : (b : Bool) → (refuseIf b 12 (stateLength p) >>= λ _. accepted p) ≡ refused k place → (1 ≤ k) × (k ≤ 12)
-          go true e = let q : 12 ≡ k = cc in (omega (arith, q), omega (arith, q))
-          go false e = absurd (refused-accepted (sym e))
-
-      again : (j at : ℕ) → _≡_ {A = Result ℕ} (refused j at) (refused k place) → _≡_ {A = Result Problem} (refused j at) (refused k place)
-      again j at e = let a : j ≡ k = cc in let b : at ≡ place = cc in ap₂ refused a b
-
-      go : (m : Result Problem) → readyToTry question site (length state) ≡ m → triedFrom m steps tries state .answer ≡ refused k place
-          → (1 ≤ k) × (k ≤ 12) × (triedFrom m steps tries state .tries ≡ tries) × (triedFrom m steps tries state .state ≡ state)
-      go (refused j at) r e = let (a, b) = early (readProblem question site) refl (r ∙ again j at e) in (a, b, refl, refl)
-      go (accepted p) r e = absurd (refused-accepted (sym e))
-
-  pub tries-length : (length (tryLists question site steps tries state .tries) ≡ length tries) × (length (tryLists question site steps tries state .state) ≡ length state)
+-- whatever is handed over: a refusal has a number from before the steps, and leaves both buffers; their lengths stay
+module _ (L : CaseLimits) (question site steps : List ℕ) (tries : List Try) (state : List ℕ) where
+  pub tries-refuse : (k place : ℕ) → tryLists L question site steps tries state .answer ≡ refused k place
+      → In readyNumbers k × (tryLists L question site steps tries state .tries ≡ tries) × (tryLists L question site steps tries state .state ≡ state)
   unfolding tryLists triedFrom readyToTry
-  tries-length = go (readyToTry question site (length state)) room-there
+  tries-refuse k place e = go (readyToTry L question site (length state)) (asked-by L question site nothing (λ p. roomFor (stateLength p) (length state)) nothing-by (λ p. room-by (stateLength p) (length state))) e
+    where
+      go : (m : Result (Ready (Unit {0}))) → Refuses Early m → triedFrom m steps tries state .answer ≡ refused k place
+          → In readyNumbers k × (triedFrom m steps tries state .tries ≡ tries) × (triedFrom m steps tries state .state ≡ state)
+      go (refused j at) h e = (subst (In readyNumbers) (number-is j at e) (told Early (refused j at) j at refl h), refl, refl)
+        where
+          number-is : (j at : ℕ) → _≡_ {A = Result ℕ} (refused j at) (refused k place) → j ≡ k
+          number-is j at e = cc
+      go (accepted r) h e = absurd (refused-accepted (sym e))
+
+  pub tries-length : (length (tryLists L question site steps tries state .tries) ≡ length tries) × (length (tryLists L question site steps tries state .state) ≡ length state)
+  unfolding tryLists triedFrom readyToTry
+  tries-length = go (readyToTry L question site (length state)) room-there
     where
       same : (f : Try → Try) (ts : List Try) → length (map f ts) ≡ length ts
       same f [] = refl
       same f (t ∷ ts) = ap suc (same f ts)
 
-      room-there : (p : Problem) → readyToTry question site (length state) ≡ accepted p → stateLength p ≤ length state
-      room-there p e =
-          let (q, a, e₁) = bind-parts (readProblem question site) _ p e in
-          let (u, b, e₂) = bind-parts (roomFor (stateLength q) (length state)) _ p e₁ in
-          subst (λ (x : Problem). stateLength x ≤ length state) (accepted-eq q p e₂) (has-room (stateLength q) (length state) u b)
+      room-there : (r : Ready (Unit {0})) → readyToTry L question site (length state) ≡ accepted r → stateLength (r .problem) ≤ length state
+      room-there r e = has-room (stateLength (r .problem)) (length state) tt (Asked.parts L question site nothing nothing nothing (λ p. roomFor (stateLength p) (length state)) r e .has-room)
 
-      go : (m : Result Problem) → ((p : Problem) → m ≡ accepted p → stateLength p ≤ length state) → (length (triedFrom m steps tries state .tries) ≡ length tries) × (length (triedFrom m steps tries state .state) ≡ length state)
+      go : (m : Result (Ready (Unit {0}))) → ((r : Ready (Unit {0})) → m ≡ accepted r → stateLength (r .problem) ≤ length state) → (length (triedFrom m steps tries state .tries) ≡ length tries) × (length (triedFrom m steps tries state .state) ≡ length state)
       go (refused k place) h = (refl, refl)
-      go (accepted p) h = let l = state-length p (initial p) in let q = h p refl in (same (tried p steps) tries, written-length (stateWords p (initial p)) state (omega (arith, l, q)))
+      go (accepted r) h = let p = r .problem in let l = state-length p (initial p) in let q = h r refl in (same (tried p steps) tries, written-length (stateWords p (initial p)) state (omega (arith, l, q)))

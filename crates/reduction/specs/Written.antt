@@ -25,14 +25,14 @@ use Rattle.laws.specs.Tuples.{among-mem, same-eq, same-refl}
 use Rattle.laws.specs.Repeats.{Once, distinct-once, once-middle}
 use Rattle.laws.specs.Rows.{length-places, places-below}
 use Rattle.laws.specs.Numbers.{noRelation}
-use Rattle.reduction.specs.Reader.{Accepted, Apart}
-use Rattle.reduction.specs.Sound.{Inside}
-use Rattle.reduction.specs.Grounded.{good, chosen-at, chosen-index}
-use Rattle.reduction.specs.Pairs.{Pair, setOf, tupleOf, pairs, pairs-ready, tuple-back, IsPair, tuple-pair, tuples-once}
-use Rattle.reduction.specs.Picks.{picks-inside, picks-distinct}
-use Rattle.reduction.specs.Decimals.{number-decimal, digits-of}
-use Rattle.reduction.specs.Told.{picks-told}
-use Rattle.reduction.specs.Lines.{Without, digits-without, name-without, joined, AllWithout, print-joined, split-joined, joined-without, read-line, read-end}
+use Rattle.laws.specs.Reader.{Accepted, Apart}
+use Rattle.laws.specs.Sound.{Inside}
+use Rattle.laws.specs.Grounded.{good, chosen-at, chosen-index}
+use Rattle.laws.specs.Pairs.{Pair, tupleOf, pairs, pairs-ready, tuple-back, IsPair, tuple-pair, tuples-once}
+use Rattle.laws.specs.Picks.{picks-inside, picks-distinct}
+use Rattle.laws.specs.Decimals.{number-decimal, digits-of}
+use Rattle.laws.specs.Told.{picks-told}
+use Rattle.laws.specs.Lines.{Without, digits-without, name-without, joined, AllWithout, print-joined, split-joined, joined-without, read-line, read-end}
 
 -- ---- a written line, and a line's entry
 pub print-then : {S : Type 0} (line : S → Line → Result S) (s : S) (at : ℕ) (fs : List (List ℕ)) (rest : List ℕ) → AllWithout 10 fs
@@ -49,7 +49,7 @@ decimal-without sep h n = digits-without sep h (decimalIn 20 n) (T-of (digits-of
 
 -- the record words have neither of the two bytes
 words-without : (Without 9 (bytes "step") × Without 10 (bytes "step")) × (Without 9 (bytes "pick") × Without 10 (bytes "pick"))
-unfolding bytes all
+unfolding all
 words-without = ((tt, tt), (tt, tt))
 
 -- ---- steps
@@ -58,7 +58,7 @@ unfolding AllWithout
 step-fields k sep h w = (w, (decimal-without sep h k, tt))
 
 step-entry : (k : ℕ) → k < 10 ^ 7 → entry (bytes "step" ∷ decimal k ∷ []) ≡ some (step k)
-unfolding entry bytes same withOne option
+unfolding entry same withOne option
 step-entry k h = rw (number-decimal k h) refl
 
 step-line : (acc : List ℕ) (at k : ℕ) → k < 10 ^ 7 → stepsLine acc (record { at = at; ended = true; content = joined (bytes "step" ∷ decimal k ∷ []) }) ≡ accepted (acc ++ (k ∷ []))
@@ -99,7 +99,7 @@ unfolding AllWithout
 pick-fields sep h w name xs v = (w, (v, elements-without sep h xs))
 
 pick-entry : (name xs : List ℕ) → 1 ≤ length xs → length xs ≤ 3 → ((x : ℕ) → List·Memᴰ x xs → x < 10 ^ 7) → entry (bytes "pick" ∷ name ∷ map decimal xs) ≡ some (pick name xs)
-unfolding entry bytes same withElements option isBetween
+unfolding entry same withElements option isBetween
 pick-entry name xs a b h =
     let e = length-map xs decimal in
     rw (le-leb 1 (length (map decimal xs)) (omega arith), le-leb (length (map decimal xs)) 3 (omega arith), elements-read xs h) refl

@@ -9,7 +9,7 @@ use native.Mathlib.Decide.{decLt}
 use lib.ListN.{length, take, drop, length-drop, drop-of-length-le}
 use lib.Seq.{slice, length-slice, take-length, take-all, drop-length, drop-drop}
 use Rattle.definitions.specs.Lists.{same, isEmpty}
-use Rattle.definitions.specs.Text.{bytes, split, linesFrom, lines, fields}
+use Rattle.definitions.specs.Text.{split, linesFrom, lines, fields}
 use Rattle.definitions.specs.Desk.{isRecord, isRule, isStep, isPickOrStep, afterRule, firstPickOrStep, startsWithStep, siteAndRest, afterQuestion, cutAt, sheets}
 use Rattle.text.specs.Spans.{indexOf}
 use Rattle.records.specs.Lines.{linesAt}
@@ -92,29 +92,29 @@ wordAt s at end w = isRecord w (split 9 (slice at end s))
 
 module _ (s : List ℕ) (at end next : ℕ) (l : LineAt s at end next) where
   pub rule-here : wordAt s at end (114 ∷ 117 ∷ 108 ∷ 101 ∷ []) ≡ true → min (afterRule (length s) (linesAt s at)) (length s) ≡ next
-  unfolding afterRule isRule fields bytes
+  unfolding afterRule isRule fields
   rule-here e =
       let n : at + length (slice at end s) + 1 ≡ end + 1 = omega (arith, length-slice at end s (l .ends), l .begins) in
       rw (l .lines, e, n) (sym (l .after))
 
   pub rule-later : wordAt s at end (114 ∷ 117 ∷ 108 ∷ 101 ∷ []) ≡ false → afterRule (length s) (linesAt s at) ≡ afterRule (length s) (linesAt s next)
-  unfolding afterRule isRule fields bytes
+  unfolding afterRule isRule fields
   rule-later e = rw (l .lines, e)
 
   pub pick-here : wordAt s at end (112 ∷ 105 ∷ 99 ∷ 107 ∷ []) ≡ true → firstPickOrStep (length s) (linesAt s at) ≡ at
-  unfolding firstPickOrStep isPickOrStep isStep fields bytes
+  unfolding firstPickOrStep isPickOrStep isStep fields
   pick-here e = rw (l .lines, e)
 
   pub step-here : wordAt s at end (112 ∷ 105 ∷ 99 ∷ 107 ∷ []) ≡ false → wordAt s at end (115 ∷ 116 ∷ 101 ∷ 112 ∷ []) ≡ true → firstPickOrStep (length s) (linesAt s at) ≡ at
-  unfolding firstPickOrStep isPickOrStep isStep fields bytes
+  unfolding firstPickOrStep isPickOrStep isStep fields
   step-here e f = rw (l .lines, e, f)
 
   pub pick-later : wordAt s at end (112 ∷ 105 ∷ 99 ∷ 107 ∷ []) ≡ false → wordAt s at end (115 ∷ 116 ∷ 101 ∷ 112 ∷ []) ≡ false → firstPickOrStep (length s) (linesAt s at) ≡ firstPickOrStep (length s) (linesAt s next)
-  unfolding firstPickOrStep isPickOrStep isStep fields bytes
+  unfolding firstPickOrStep isPickOrStep isStep fields
   pick-later e f = rw (l .lines, e, f)
 
   pub starts-is : startsWithStep (linesAt s at) ≡ wordAt s at end (115 ∷ 116 ∷ 101 ∷ 112 ∷ [])
-  unfolding startsWithStep isStep fields bytes
+  unfolding startsWithStep isStep fields
   starts-is = rw (l .lines)
 
 module _ (s : List ℕ) (at : ℕ) (e : at ≡ length s) where

@@ -13,7 +13,7 @@ use Rattle.laws.specs.Lists.{getD-mem}
 use Rattle.names.specs.declared.Signature.{Signature}
 use Rattle.names.specs.Signatures.{relationIn, relsOf, chosenOf, allOf}
 use Rattle.names.proofs.Laws.{length-relations, relation-at}
-use Rattle.reduction.specs.Reader.{Accepted}
+use Rattle.laws.specs.Reader.{Accepted}
 use Rattle.reporting.specs.Report.{nameAt}
 use Rattle.reporting.specs.Agrees.{noRelation, part-is}
 use Rattle.reporting.specs.Short.{name-short}

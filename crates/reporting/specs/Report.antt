@@ -1,11 +1,12 @@
 -- The report's `count` and `pick` lines as the code has them: names as spans of the question, picks as bits of words, each `choose`
 -- from a new word on. Assumes nothing.
 use Prim.Native.Nat.{ℕ, suc, _+_, _-_, _*_, _/_, _^_, _≤_, _<_}
-use mathlib.Core.Path.{_≡_, refl, sym, _∙_}
+use mathlib.Core.Path.{_≡_, refl, sym, ap, _∙_}
 use mathlib.Core.Bool.{true, false}
 use mathlib.Core.List.{List, [], _∷_, _++_, map}
 use native.Mathlib.Numerals.{add-one}
 use native.Mathlib.Omega.{arith}
+use native.Mathlib.Nat.{le-trans, pow-le-pow-left, pow-le-pow-right}
 use lib.ListN.{length, take, drop, getD}
 use Rattle.definitions.specs.Lists.{if_then_else_, flatMap, from, below}
 use Rattle.definitions.specs.Text.{bytes, decimal}
@@ -15,6 +16,7 @@ use Rattle.bits.specs.Table.{bit, count}
 use Rattle.names.specs.declared.Signature.{Signature}
 use Rattle.names.specs.Signatures.{Sound}
 use Rattle.tuples.specs.Marks.{firstWord}
+use Rattle.tuples.proofs.Words.{words-most}
 
 -- the name and the number of tuples of relation i of the signature
 unfoldable pub nameAt : List ℕ → Signature → ℕ → List ℕ
@@ -135,3 +137,15 @@ module _ (q : List ℕ) (g : Signature) (s : Sound q g) (j : ℕ) (h : j < g .ch
 
   pub arities-before : (i : ℕ) → i < g .rels + j → getD (g .arity) i 0 ≤ 3
   arities-before i l = s .arities i (omega arith) .1
+
+-- over 16 elements no relation has more than 4,096 tuples, nor more than 64 words
+pub power-few : (n k : ℕ) → n ≤ 16 → k ≤ 3 → n ^ k ≤ 4096
+power-few n k h l = le-trans (pow-le-pow-left h k) (pow-le-pow-right {n = 16} (omega arith) l)
+
+pub first-few : (q : List ℕ) (g : Signature) → Sound q g → (n j r : ℕ) → n ≤ 16 → j < g .chosen → r ≡ firstWord g n (g .rels) (g .rels + j - g .rels) → r ≤ 64 * j
+unfolding wordsFor
+first-few q g s n j r h l e =
+    let z : g .rels + j - g .rels ≡ j = omega arith in
+    let w = words-most 16 g n (g .rels) j h (λ i b. s .arities (g .rels + i) (omega arith)) in
+    let f : r ≡ firstWord g n (g .rels) j = e ∙ ap (firstWord g n (g .rels)) z in
+    omega arith

@@ -17,10 +17,9 @@ use Rattle.bits.specs.Table.{bit, count}
 use Rattle.laws.specs.Booleans.{T-and-r}
 use Rattle.names.specs.declared.Signature.{Signature}
 use Rattle.names.specs.Signatures.{Sound}
-use Rattle.tuples.proofs.Rows.{power-le}
 use Rattle.printing.specs.Decimals.{decimal-length}
 use Rattle.printing.specs.Lines.{field, elements, no-is, ok-is, step-is, sizes-is, count-is, pick-is}
-use Rattle.reporting.specs.Report.{nameAt, wordAt, countAt, counts, rowLine, rowLines, picksAt, picks}
+use Rattle.reporting.specs.Report.{nameAt, wordAt, countAt, counts, rowLine, rowLines, picksAt, picks, power-few}
 
 -- ---- numbers and names
 
@@ -144,7 +143,7 @@ module _ (q : List ℕ) (g : Signature) (n : ℕ) (words : List ℕ) (s : Sound 
       let k : ℕ = getD (g .arity) (g .rels + j) 0 in
       let m : k ≤ 3 = s .arities (g .rels + j) (omega arith) .1 in
       let r = flat-short (rowLine words (64 * wordAt g n j) (nameAt q g (g .rels + j)) n k) 27 0 (n ^ k) (λ i u. let z : 0 + i ≡ i = omega arith in rw z (row-short i (named j h) m)) in
-      let w = power-le n k l m in
+      let w = power-few n k l m in
       omega arith
     where
       row-short : (i : ℕ) → length (nameAt q g (g .rels + j)) ≤ 12 → getD (g .arity) (g .rels + j) 0 ≤ 3 → length (rowLine words (64 * wordAt g n j) (nameAt q g (g .rels + j)) n (getD (g .arity) (g .rels + j) 0) i) ≤ 27

@@ -19,7 +19,7 @@ use Rattle.laws.specs.Words.{front-bit, back-bit}
 use Rattle.names.specs.declared.Signature.{Signature}
 use Rattle.names.specs.Signatures.{allOf}
 use Rattle.tuples.specs.Marks.{firstWord}
-use Rattle.reduction.specs.Lent.{words-of}
+use Rattle.laws.specs.Lent.{words-of}
 use Rattle.reporting.specs.Report.{rowsAt, wordAt}
 use Rattle.reporting.specs.Agrees.{Agrees, relation-rows}
 

@@ -1,8 +1,7 @@
 // Parts of the desk program's reply (document 01, "The desk program"): the cut of its input, and the report up to its steps.
 ghost use mathlib.Core.Path.{_≡_};
-ghost use mathlib.Core.List.{[], _∷_};
 ghost use Prim.Native.Nat.{_+_, _*_, _^_, _≤_, _<_, min};
-ghost use lib.ListN.{length, getD};
+ghost use lib.ListN.{length};
 ghost use lib.Seq.{slice};
 ghost use Rattle.definitions.specs.Text.{lines, split};
 ghost use Rattle.definitions.specs.Desk.{isRecord, afterRule, firstPickOrStep, startsWithStep};

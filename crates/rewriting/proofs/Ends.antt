@@ -10,7 +10,8 @@ use lib.Dec.{eqb}
 use Rattle.definitions.specs.Lists.{any, same, option}
 use Rattle.definitions.specs.Text.{isCapital, isBetween, isDigit}
 use Rattle.definitions.specs.Relations.{Relation, numberOf}
-use Rattle.definitions.specs.Formula.{Formula, literal, Quant, quant, quantWord, writeVars, writeList, write, span, isKnown, sortOf}
+use Rattle.definitions.specs.Formula.{Formula, literal, Quant, quant, quantWord, writeVars, writeList, write, isKnown, sortOf}
+use Rattle.definitions.specs.Parsing.{span}
 use Rattle.definitions.specs.Writing.{IsWord, name-is, span-in, span-append, inside-first}
 use Rattle.definitions.specs.Tree.{Tree, nodes, nest, leafOf}
 use Rattle.names.specs.Signatures.{allOf}
@@ -19,8 +20,8 @@ use Rattle.formula.specs.Seen.{names}
 use Rattle.formula.specs.Spans.{length-names}
 use Rattle.formula.specs.Steps.{front-rest, slice-front}
 use Rattle.formula.specs.declared.Scope.{Scope}
-use Rattle.tables.specs.Postorder.{pad, post, Rows, leafKind, leafRow}
-use Rattle.tables.specs.declared.Row.{Row}
+use Rattle.tree.specs.Postorder.{pad, post, Rows, leafKind, leafRow}
+use Rattle.tree.specs.declared.Row.{Row}
 use Rattle.rewriting.specs.Trees.{treeIn, quantNode, quantKind, chain, tree-lit, tree-quant, post-nest, nodes-nest}
 use Rattle.rewriting.specs.Sizes.{known-few}
 use Rattle.rewriting.specs.Ready.{levelOf, Adds, pushed, numbered, Fine, Ready, ListReady, VarsReady, Walked, Opened, Filled}

@@ -13,9 +13,10 @@ use borrow.Author.Tests.{ltb-false, ne-eqb}
 use Rattle.definitions.specs.Limits.{formLimit, nestingLimit}
 use Rattle.definitions.specs.Lists.{if_then_else_, filter, option}
 use Rattle.definitions.specs.Relations.{Relation, builtIn, isTotal}
-use Rattle.definitions.specs.Formula.{Formula, ands, forms, nesting, isKnown, isScoped, allForms, totals, readFormula}
+use Rattle.definitions.specs.Formula.{Formula, ands, forms, nesting, isKnown, isScoped, allForms, totals}
+use Rattle.definitions.specs.Parsing.{readFormula}
 use Rattle.definitions.specs.Writing.{accepted-texts}
-use Rattle.definitions.specs.Sheets.{Question, relationsOf, firstChosen}
+use Rattle.definitions.specs.Sheets.{Question, relationsOf, firstChosen, firstRel}
 use Rattle.definitions.specs.Tree.{Tree, Trees, andNode, end, _then_, asIs, totalities, joined, treeOf, nodes, nodesAll, howMany}
 use Rattle.text.specs.Spans.{kindOf}
 use Rattle.names.specs.Signatures.{Sound, allOf, relsOf, chosenOf, relationIn, relationsFrom}
@@ -27,10 +28,10 @@ use Rattle.formula.specs.Bound.{slice-rest, names-none}
 use Rattle.formula.specs.declared.Scope.{Scope}
 use Rattle.tree.specs.Tables.{IsTable, Fits}
 use Rattle.tree.specs.declared.Nodes.{Nodes}
-use Rattle.tables.specs.Postorder.{post, postAll, inner, innerAll, Rows, rowsIn, Small, AllSmall, leafRow, quantRow, joinRow}
-use Rattle.tables.specs.Pass.{Ranged}
-use Rattle.tables.specs.Whole.{Of, tree-ranged}
-use Rattle.tables.specs.declared.Row.{Row}
+use Rattle.tree.specs.Postorder.{post, postAll, inner, innerAll, Rows, rowsIn, Small, AllSmall, leafRow, quantRow, joinRow}
+use Rattle.tree.specs.Pass.{Ranged}
+use Rattle.tree.specs.Whole.{Of, tree-ranged}
+use Rattle.tree.specs.declared.Row.{Row}
 use Rattle.rewriting.specs.Trees.{treeIn, length-post, length-postAll, rows-le}
 use Rattle.rewriting.specs.Sizes.{FewPlaces, tree-small}
 use Rattle.rewriting.specs.Ready.{Adds, pushed, numbered, Ready, ReadyIn, Walked}
@@ -402,7 +403,7 @@ unfolding allOf relationsOf
 relations-are s at stop g q i = rw (i .rels, i .chosen)
 
 tree-is : (s : List ℕ) (at stop : ℕ) (g : Signature) (q : Question) → IsQuestion s at stop g q → rootOf s g (q .rule .formula) ≡ treeOf q
-unfolding treeOf firstChosen
+unfolding treeOf firstChosen firstRel builtIn
 tree-is s at stop g q i =
     ap (λ (l : List Relation). joined (asIs l [] (q .rule .formula)) (totalities (5 + g .rels) (chosenOf s g))) (relations-are s at stop g q i)
     ∙ ap (λ (n : ℕ). joined (asIs (relationsOf q) [] (q .rule .formula)) (totalities (5 + n) (chosenOf s g))) (sym (rels-long s g) ∙ ap length (sym (i .rels)))

@@ -6,8 +6,8 @@ use mathlib.Core.Path.{_≡_, refl, sym, ap, subst, _∙_}
 use mathlib.Core.List.{List, [], _∷_, _++_, append-assoc, append-nil}
 use lib.ListN.{length, set, take, length-set, length-append}
 use lib.Seq.{take-suc-set}
-use Rattle.tables.specs.Postorder.{Rows, rowsIn, quantRow}
-use Rattle.tables.specs.declared.Row.{Row}
+use Rattle.tree.specs.Postorder.{Rows, rowsIn, quantRow}
+use Rattle.tree.specs.declared.Row.{Row}
 use Rattle.rewriting.specs.Trees.{chain}
 use Rattle.rewriting.specs.Ready.{Adds, pushed, numbered}
 

@@ -7,7 +7,8 @@ use mathlib.Core.Bool.{Bool, true, false, not}
 use mathlib.Core.List.{List, [], _∷_, _++_, append-assoc, append-nil}
 use lib.ListN.{length, getD, drop, length-append, length-drop}
 use lib.Seq.{drop-drop}
-use Rattle.definitions.specs.Formula.{Formula, Formulas, literal, negation, implication, conjunction, disjunction, exists, forall, nil, cons, Join, ands, ors, Quant, somes, everys, join, quant, joinWord, quantWord, notWord, impWord, writeVars, writeList, write, writeParts, isNot, isImplies, isOther, kindOf, forms, formsAll}
+use Rattle.definitions.specs.Formula.{Formula, Formulas, literal, negation, implication, conjunction, disjunction, exists, forall, nil, cons, Join, ands, ors, Quant, somes, everys, join, quant, joinWord, quantWord, notWord, impWord, writeVars, writeList, write, writeParts, forms, formsAll}
+use Rattle.definitions.specs.Parsing.{isNot, isImplies, isOther, kindOf}
 use Rattle.definitions.specs.Tree.{Tree, Trees, end, _then_, nodes, nodesAll, howMany}
 use Rattle.names.specs.Signatures.{Lent, allOf}
 use Rattle.names.specs.declared.Signature.{Signature}
@@ -15,9 +16,9 @@ use Rattle.formula.specs.Seen.{names}
 use Rattle.formula.specs.Spans.{length-names}
 use Rattle.formula.specs.Steps.{front-rest}
 use Rattle.formula.specs.declared.Scope.{Scope}
-use Rattle.tables.specs.Postorder.{post, postAll, Rows, joinRow}
-use Rattle.tables.specs.Whole.{nodes-le}
-use Rattle.tables.specs.declared.Row.{Row}
+use Rattle.tree.specs.Postorder.{post, postAll, Rows, joinRow}
+use Rattle.tree.specs.Whole.{nodes-le}
+use Rattle.tree.specs.declared.Row.{Row}
 use Rattle.rewriting.specs.Trees.{treeIn, treesIn, joinNode, joinKind, tree-neg, tree-imp, tree-join, trees-nil, trees-cons, post-join, nodes-join, length-post, length-postAll, rows-le, rows-le-all}
 use Rattle.rewriting.specs.Ready.{asJoin, asQuant, joinHead, quantHead, Adds, pushed, numbered, Fine, AllFine, Fixed, Ready, PartsReady, ReadyIn, PartsReadyIn, Walked, WalkedParts}
 use Rattle.rewriting.proofs.Tables.{adds-none, adds-push, adds-number, adds-both, adds-as}

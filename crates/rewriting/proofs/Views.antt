@@ -7,7 +7,8 @@ use mathlib.Core.List.{List, _∷_, _++_, append-assoc}
 use lib.ListN.{length, length-append}
 use Rattle.definitions.specs.Text.{isRelationName}
 use Rattle.definitions.specs.Relations.{Relation}
-use Rattle.definitions.specs.Formula.{Formula, Formulas, literal, negation, implication, conjunction, disjunction, exists, forall, cons, Join, ands, ors, Quant, somes, everys, join, quant, writeVars, write, Variables, WellFormed, g-lit, g-neg, g-imp, g-and, g-or, g-exists, g-forall, AllWellFormed, a-good, begins, Head, isNot, isImplies, isAnd, isOr, isExists, isForall, isOther, kindOf, forms, formsAll, nesting, nestingAll, isKnown, areKnown}
+use Rattle.definitions.specs.Formula.{Formula, Formulas, literal, negation, implication, conjunction, disjunction, exists, forall, cons, Join, ands, ors, Quant, somes, everys, join, quant, writeVars, write, Variables, WellFormed, g-lit, g-neg, g-imp, g-and, g-or, g-exists, g-forall, AllWellFormed, a-good, forms, formsAll, nesting, nestingAll, isKnown, areKnown}
+use Rattle.definitions.specs.Parsing.{begins, Head, isNot, isImplies, isAnd, isOr, isExists, isForall, isOther, kindOf}
 use Rattle.definitions.specs.Writing.{and-l, and-r, name-is, kind-lit}
 use Rattle.rewriting.specs.Ready.{asJoin, asQuant, joinHead, quantHead, Fine, AllFine}
 

@@ -10,7 +10,8 @@ use lib.Seq.{slice, drop-drop}
 use Rattle.definitions.specs.Lists.{same, option, position}
 use Rattle.definitions.specs.Text.{isSmall, isBetween, isDigit}
 use Rattle.definitions.specs.Relations.{Relation, static, numberOf, builtIn}
-use Rattle.definitions.specs.Formula.{span, writeVars, Variables, a-word}
+use Rattle.definitions.specs.Formula.{writeVars, Variables, a-word}
+use Rattle.definitions.specs.Parsing.{span}
 use Rattle.definitions.specs.Writing.{vars-stop}
 use Rattle.text.specs.Spans.{placeOf}
 use Rattle.text.specs.declared.Found.the-variants.{At, Nowhere}
@@ -22,9 +23,9 @@ use Rattle.formula.specs.Spans.{spans-next, spans-push}
 use Rattle.formula.specs.Steps.{front-rest, slice-front}
 use Rattle.formula.specs.Bound.{var-ends}
 use Rattle.formula.specs.declared.Scope.{Scope}
-use Rattle.tables.specs.Postorder.{leafRow}
-use Rattle.tables.specs.Free.{pad-more}
-use Rattle.tables.specs.declared.Row.{Row}
+use Rattle.tree.specs.Postorder.{leafRow}
+use Rattle.tree.specs.Free.{pad-more}
+use Rattle.tree.specs.declared.Row.{Row}
 use Rattle.rewriting.specs.Ready.{levelOf, VarsReady, ListReady, Filled, Opened}
 use Rattle.rewriting.specs.declared.Leaf.{Leaf}
 use Rattle.rewriting.specs.declared.Bound.{Bound}

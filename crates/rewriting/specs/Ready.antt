@@ -6,14 +6,15 @@ use mathlib.Core.List.{List, _∷_, _++_, map}
 use lib.ListN.{length, drop, set}
 use Rattle.definitions.specs.Lists.{same, option, position}
 use Rattle.definitions.specs.Relations.{Relation}
-use Rattle.definitions.specs.Formula.{Formula, Formulas, write, writeVars, writeList, writeParts, WellFormed, AllWellFormed, Variables, Join, ands, ors, Quant, somes, everys, Head, isAnd, isOr, isExists, isForall, forms, formsAll, nesting, nestingAll, isKnown, areKnown}
+use Rattle.definitions.specs.Formula.{Formula, Formulas, write, writeVars, writeList, writeParts, WellFormed, AllWellFormed, Variables, Join, ands, ors, Quant, somes, everys, forms, formsAll, nesting, nestingAll, isKnown, areKnown}
+use Rattle.definitions.specs.Parsing.{Head, isAnd, isOr, isExists, isForall}
 use Rattle.definitions.specs.Tree.{nodes, nodesAll, howMany}
 use Rattle.names.specs.Signatures.{Lent, allOf}
 use Rattle.names.specs.declared.Signature.{Signature}
 use Rattle.formula.specs.Seen.{names}
 use Rattle.formula.specs.declared.Scope.{Scope}
-use Rattle.tables.specs.Postorder.{post, postAll, Rows, rowsIn, leafRow}
-use Rattle.tables.specs.declared.Row.{Row}
+use Rattle.tree.specs.Postorder.{post, postAll, Rows, rowsIn, leafRow}
+use Rattle.tree.specs.declared.Row.{Row}
 use Rattle.rewriting.specs.Trees.{treeIn, treesIn}
 use Rattle.rewriting.specs.Sizes.{FewPlaces}
 use Rattle.rewriting.specs.declared.Bound.{Bound}

@@ -8,7 +8,8 @@ use lib.ListN.{length}
 use lib.Seq.{slice}
 use Rattle.definitions.specs.Lists.{if_then_else_}
 use Rattle.definitions.specs.Relations.{isTotal}
-use Rattle.definitions.specs.Formula.{Formula, readFormula}
+use Rattle.definitions.specs.Formula.{Formula}
+use Rattle.definitions.specs.Parsing.{readFormula}
 use Rattle.definitions.specs.Sheets.{Question, relationsOf}
 use Rattle.definitions.specs.Tree.{Tree, Trees, leaf, forallNode, existsNode, end, _then_, asIs, totalities, joined, treeOf}
 use Rattle.text.specs.Spans.{kindOf}
@@ -17,8 +18,8 @@ use Rattle.names.specs.declared.Signature.{Signature}
 use Rattle.formula.specs.Seen.{ruleNumber}
 use Rattle.tree.specs.Tables.{IsTable, Fits}
 use Rattle.tree.specs.declared.Nodes.{Nodes}
-use Rattle.tables.specs.Whole.{Of}
-use Rattle.tables.specs.Postorder.{Rows}
+use Rattle.tree.specs.Whole.{Of}
+use Rattle.tree.specs.Postorder.{Rows}
 
 -- "for all a some b" of a relation; what a relation adds by the number of its kind
 abbrev pub totalityOf : ℕ → Tree

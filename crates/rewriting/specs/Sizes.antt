@@ -1,7 +1,7 @@
 -- The tree of a formula that is accepted has a table: few levels, each below 4, and relations that there are. Assumes nothing.
 use Prim.Native.Nat.{ℕ, zero, suc, _+_, _≤_, _<_}
 use native.Mathlib.Omega.{arith}
-use mathlib.Core.Path.{_≡_, refl, ap}
+use mathlib.Core.Path.{_≡_, refl}
 use mathlib.Core.Option.{Option, none, some}
 use mathlib.Core.Bool.{Bool, true, false, not, _&&_, _||_}
 use mathlib.Core.List.{List, [], _∷_, _++_, map}
@@ -14,7 +14,7 @@ use Rattle.definitions.specs.Formula.{Formula, Formulas, literal, negation, imp
 use Rattle.definitions.specs.Tree.{Tree, Trees, end, _then_, nest, leafOf}
 use Rattle.definitions.specs.Writing.{and-l, and-r}
 use Rattle.names.proofs.Laws.{position-some}
-use Rattle.tables.specs.Postorder.{Small, AllSmall}
+use Rattle.tree.specs.Postorder.{Small, AllSmall}
 use Rattle.rewriting.specs.Trees.{treeIn, treesIn, joinNode, quantNode, tree-lit, tree-neg, tree-imp, tree-join, trees-nil, trees-cons, tree-quant}
 
 -- no relation has more than 3 places

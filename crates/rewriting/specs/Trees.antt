@@ -8,8 +8,8 @@ use lib.ListN.{length, length-append, length-map}
 use Rattle.definitions.specs.Relations.{Relation}
 use Rattle.definitions.specs.Formula.{Formula, Formulas, literal, negation, implication, conjunction, disjunction, exists, forall, nil, cons, Join, ands, ors, Quant, somes, everys, join, quant, forms, formsAll, sortOf}
 use Rattle.definitions.specs.Tree.{Tree, Trees, leaf, forallNode, existsNode, andNode, orNode, end, _then_, nest, leafOf, asIs, negated, allAsIs, allNegated, nodes, nodesAll, howMany}
-use Rattle.tables.specs.Postorder.{post, postAll, inner, innerAll, quantRow, joinRow}
-use Rattle.tables.specs.declared.Row.{Row}
+use Rattle.tree.specs.Postorder.{post, postAll, inner, innerAll, quantRow, joinRow}
+use Rattle.tree.specs.declared.Row.{Row}
 
 -- `true`: as it stands; `false`: under a negation
 unfoldable pub treeIn : Bool → List Relation → List (List ℕ) → Formula → Tree

@@ -7,20 +7,21 @@ ghost use lib.ListN.{length, drop};
 ghost use lib.Seq.{slice};
 ghost use Rattle.definitions.specs.Lists.{option};
 ghost use Rattle.definitions.specs.Relations.{numberOf};
-ghost use Rattle.definitions.specs.Formula.{kindOf, isImplies, isOther, joinWord, totals};
+ghost use Rattle.definitions.specs.Formula.{joinWord, totals};
+ghost use Rattle.definitions.specs.Parsing.{kindOf, isImplies, isOther};
 ghost use Rattle.definitions.specs.Tree.{nodesAll, totalities as totalitiesOf};
 ghost use Rattle.names.specs.Signatures.{Lent, allOf, chosenOf};
 ghost use Rattle.formula.specs.Seen.{names, totalOf};
-ghost use Rattle.tables.specs.Postorder.{post, postAll, leafKind, leafRow, quantRow, joinRow, rowsFrom};
+ghost use Rattle.tree.specs.Postorder.{post, postAll, leafKind, leafRow, quantRow, joinRow, rowsFrom};
 ghost use Rattle.rewriting.specs.Trees.{joinKind, quantKind, chain as chainOf};
 ghost use Rattle.rewriting.specs.Ready.{asJoin, asQuant, joinHead, quantHead, levelOf, Adds, ReadyIn, PartsReadyIn, ListReady, VarsReady, Walks, WalksParts, Opened, Filled};
 ghost use Rattle.rewriting.specs.Rule.{totalityOf, oneTotality, Accepted, RowsOf, TableOf};
 use formula::Kind;
 use formula::Scope;
 use names::Signature;
-use tables::Row;
 use text::Found;
 use tree::Nodes;
+use tree::Row;
 
 // How many rows of a lent table are in use, and how many preorder numbers are taken.
 struct Used {
@@ -53,12 +54,6 @@ struct Bound {
 struct Leaf {
     row: Row,
     at: usize,
-}
-
-fn wide(x: u8) -> usize
-    ensures { λ r. ⌜ r ≡ x ⌝ }
-{
-    x as usize
 }
 
 // A literal's kind: a tuple, or a not-tuple.
@@ -125,7 +120,7 @@ fn chain(rows: &mut [u8], len: usize, kind: u8, which: usize, level: usize, k: u
         return;
     }
     let row = quant_row(kind, which + (k - 1), level + (k - 1));
-    tables::put_row(rows, len, row);
+    tree::put_row(rows, len, row);
     chain(rows, len + 1, kind, which, level, k - 1);
 }
 
@@ -166,7 +161,7 @@ fn fill(s: &[u8], at: usize, row: Row, sc: Scope) -> Leaf
     while s[i] == 32 {
         let e = formula::run(s, i + 2, true);
         let l = level(s, i + 1, e, sc);
-        let n = wide(full.width);
+        let n = tree::wide(full.width);
         full.levels[n] = l;
         full.width += 1;
         i = e;
@@ -228,7 +223,7 @@ fn literal(
     let l = fill(s, a, none, sc);
     let row = l.row;
     let end = l.at;
-    tables::put_row(rows, len, row);
+    tree::put_row(rows, len, row);
     Walk {
         len: len + 1,
         nodes,
@@ -352,7 +347,7 @@ fn arrow(
     let y = part(s, x.at + 1, pos, from, to, m, sc, rows, x.len, x.nodes);
     let kind = join_kind(pos, false);
     let row = join_row(kind, nodes, 2);
-    tables::put_row(rows, y.len, row);
+    tree::put_row(rows, y.len, row);
     Walk {
         len: y.len + 1,
         nodes: y.nodes,
@@ -391,7 +386,7 @@ fn gather(
     let y = further(s, x.at, pos, 1, from, to, m, sc, rows, x.len, x.nodes);
     let kind = join_kind(pos, conj);
     let row = join_row(kind, nodes, y.many);
-    tables::put_row(rows, y.len, row);
+    tree::put_row(rows, y.len, row);
     Walk {
         len: y.len + 1,
         nodes: y.nodes,
@@ -497,11 +492,11 @@ fn totality(rows: &mut [u8], len: usize, nodes: usize, relation: usize)
     ensures { λ r. ⌜ Adds (rowsFrom (now (rows .entry)) len nodes) (post nodes (totalityOf relation)) 2 (rowsFrom (now (rows .exit)) (len + 3) (nodes + 2)) ⌝ }
 {
     let a = pair_row(relation);
-    tables::put_row(rows, len, a);
+    tree::put_row(rows, len, a);
     let b = quant_row(1, nodes + 1, 1);
-    tables::put_row(rows, len + 1, b);
+    tree::put_row(rows, len + 1, b);
     let c = quant_row(0, nodes, 0);
-    tables::put_row(rows, len + 2, c);
+    tree::put_row(rows, len + 2, c);
 }
 
 // ... if it is of a total kind.
@@ -561,7 +556,7 @@ fn rows_of(text: &[u8], at: usize, end: usize, sig: Signature, rows: &mut [u8]) 
     let w = positive(text, at, &from, &to, m, sc, rows, 0, 1);
     let u = totalities(rows, w.len, w.nodes, sig);
     let row = join_row(2, 0, total + 1);
-    tables::put_row(rows, u.len, row);
+    tree::put_row(rows, u.len, row);
     Used {
         len: u.len + 1,
         nodes: u.nodes,
@@ -573,7 +568,7 @@ pub fn nodes_of(text: &[u8], at: usize, end: usize, sig: Signature) -> Nodes
     requires { ⌜ Accepted (now text) at end sig ⌝ }
     ensures { λ r. ⌜ TableOf (now (text .entry)) at end sig r ⌝ }
 {
-    let mut rows = [0u8; tables::BYTES];
+    let mut rows = [0u8; tree::BYTES];
     let u = rows_of(text, at, end, sig, &mut rows);
-    tables::tabulate(&rows, u.len, u.nodes)
+    tree::tabulate(&rows, u.len, u.nodes)
 }

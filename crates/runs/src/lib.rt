@@ -1,17 +1,19 @@
-// Steps taken one by one in a lent state.
+// Steps taken one by one in a lent state, from the initial state on or from any other.
 ghost use mathlib.Core.Path.{_≡_};
-ghost use mathlib.Core.Bool.{true, false};
+ghost use mathlib.Core.Bool.{false};
 ghost use mathlib.Core.Option.{some};
 ghost use Prim.Native.Nat.{_*_, _≤_};
 ghost use lib.ListN.{length};
 ghost use Rattle.definitions.specs.Lists.{option};
-ghost use Rattle.definitions.specs.Atoms.{Problem, atoms};
+ghost use Rattle.definitions.specs.Atoms.{Problem, atoms, wordsFor};
 ghost use Rattle.definitions.specs.Actions.{Action, actionAt};
 ghost use Rattle.definitions.specs.Strips.{runFrom, mayTake, after};
 ghost use Rattle.bits.specs.Table.{bit};
 ghost use Rattle.ground.specs.Of.{Is};
 ghost use Rattle.decode.specs.Decoded.{Grounded};
 ghost use Rattle.runs.specs.Ended.{ended, isNothing};
+ghost use Rattle.initial.specs.Rows.{atomsIn};
+ghost use Rattle.runs.specs.Checks.{Runs};
 
 // How a list of steps ends: all taken and the goal reached (how many), no action of that number (which step), one that may not be
 // taken (which), or no goal (how many).
@@ -100,4 +102,14 @@ pub fn step(state: &mut [u64], table: &[usize], number: usize)
 {
     let a = decode::action_at(table, number);
     ground::take(state, table, a);
+}
+
+// The initial state is written, and the steps are taken one by one.
+pub fn start_and_run(table: &[usize], facts: &[u64], steps: &[u32], state: &mut [u64]) -> End
+    requires { ⌜ Grounded (now table) ⌝ }
+    requires { ⌜ wordsFor (atomsIn (now table)) ≤ length (now state) ⌝ }
+    ensures { λ r. ⌜ Runs (now (table .entry)) (now (facts .entry)) (now (steps .entry)) (now (state .entry)) r (now (state .exit)) ⌝ }
+{
+    initial::initial_state(table, facts, state);
+    run(state, table, steps)
 }

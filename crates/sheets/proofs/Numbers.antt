@@ -12,6 +12,7 @@ use lib.Seq.{set-at, drop-cons}
 use Rattle.definitions.specs.Lists.{if_then_else_, flatMap}
 use Rattle.definitions.specs.Text.{Line, bytes, decimalIn, decimal}
 use Rattle.definitions.specs.Desk.{printLine, stepLine}
+use Rattle.definitions.specs.Limits.{textLimit}
 use Rattle.definitions.specs.Refusal.{Result, refused, accepted, _>>=_, given, readLines, readText}
 use Rattle.definitions.specs.Sheets as D
 use Rattle.definitions.specs.Outcome.{written}
@@ -20,7 +21,7 @@ use Rattle.records.specs.Entries.{entryIn, Reads}
 use Rattle.records.specs.declared.Entry.{Entry}
 use Rattle.records.specs.declared.Entry.the-variants.{Wrong, Rel, Choose, Rule, Size, Fact, Pick, Step}
 use Rattle.records.proofs.Runs.{read-long, read-start, read-stop, read-went, read-halted}
-use Rattle.reduction.specs.Told.{steps-told}
+use Rattle.laws.specs.Told.{steps-told}
 use Rattle.sheets.specs.Reading.{answered, verdictOf, RoomFor, Writes, left}
 use Rattle.sheets.specs.declared.Verdict.the-variants.{Number, Fault}
 use Rattle.sheets.specs.declared.Answer.{Answer}
@@ -76,11 +77,11 @@ module _ (s : List ℕ) (at next : ℕ) (ks : List ℕ) where
 unfoldable pub Reached : List ℕ → ℕ → ℕ → Type 0
 Reached s at n = (ks : List ℕ) × (length ks ≡ n) × (D.readSteps s ≡ readAt D.addToSteps s at ks)
 
-pub long-answer : (s : List ℕ) → 65536 < length s → Refused 1 0 ≡ answered length (D.readSteps s)
+pub long-answer : (s : List ℕ) → textLimit < length s → Refused 1 0 ≡ answered length (D.readSteps s)
 unfolding answered
 long-answer s h = rw (steps-by s, read-long D.addToSteps s [] h)
 
-pub reach-start : (s : List ℕ) → length s ≤ 65536 → Reached s 0 0
+pub reach-start : (s : List ℕ) → length s ≤ textLimit → Reached s 0 0
 unfolding Reached
 reach-start s h = ([], refl, steps-by s ∙ read-start D.addToSteps s [] h)
 
@@ -141,9 +142,9 @@ short r room k p w = let q = writes-is r room w in clash 1 k (q .0) (sym p ∙ q
 
 pub write-start : (s old : List ℕ) → Writes (D.readSteps s) (length old) → Written s old 0 0 old
 unfolding Written
-write-start s old w = ([], refl, steps-by s ∙ read-start D.addToSteps s [] (go (decLt 65536 (length s))), refl)
+write-start s old w = ([], refl, steps-by s ∙ read-start D.addToSteps s [] (go (decLt textLimit (length s))), refl)
   where
-    go : Dec (65536 < length s) → length s ≤ 65536
+    go : Dec (textLimit < length s) → length s ≤ textLimit
     go (yes h) = absurd (short (D.readSteps s) (length old) 0 (steps-by s ∙ read-long D.addToSteps s [] h) w)
     go (no h) = omega arith
 
@@ -181,7 +182,7 @@ some-digit k n = go (leb n 9)
     go false = omega (arith, length-append (decimalIn k (n / 10)) ((n % 10 + 48) ∷ []))
 
 step-long : (k : ℕ) → 7 ≤ length (stepLine k)
-unfolding stepLine printLine decimal bytes
+unfolding stepLine printLine decimal
 step-long k = omega (arith, some-digit 19 k, length-append (decimalIn 20 k) (10 ∷ []))
 
 pub lines-long : (ks : List ℕ) → 7 * length ks ≤ length (flatMap stepLine ks)

@@ -1,22 +1,23 @@
 -- What the readers of a site, of picks and of steps answer and leave, by what the definitions read.
-use Prim.Native.Nat.{ℕ, zero, suc, _+_, _*_, _≤_}
+use Prim.Native.Nat.{ℕ, zero, suc, _+_, _*_, _^_, _≤_}
 use mathlib.Core.Path.{_≡_}
 use mathlib.Core.Bool.{Bool, false}
 use mathlib.Core.List.{List, []}
 use mathlib.Core.Option.{Option, none, some}
 use lib.ListN.{length}
-use Rattle.definitions.specs.Limits.{textLimit}
+use Rattle.definitions.specs.Limits.{CaseLimits, textLimit}
 use Rattle.definitions.specs.Refusal.{Result, refused, accepted, _>>=_, given}
 use Rattle.definitions.specs.Relations.{Tuple}
 use Rattle.definitions.specs.Sheets as D
+use Rattle.definitions.specs.Atoms.{wordsFor}
 use Rattle.definitions.specs.Outcome.{written}
 use Rattle.bits.specs.Table.{bit}
-use Rattle.records.specs.Entries.{entryIn}
+use Rattle.records.specs.Entries.{entryIn, Reads}
 use Rattle.records.specs.declared.Entry.{Entry}
 use Rattle.records.specs.declared.Entry.the-variants.{Wrong, Rel, Choose, Rule, Size, Fact, Pick, Step}
 use Rattle.names.specs.declared.Signature.{Signature}
 use Rattle.names.specs.Signatures.{relsOf, chosenOf}
-use Rattle.tuples.specs.Marks.{bitOf, marks, AllValid}
+use Rattle.tuples.specs.Marks.{Roomy, bitOf, marks, AllValid}
 use Rattle.sheets.specs.declared.Turn.{Turn}
 use Rattle.sheets.specs.declared.Turn.the-variants.{Next, Fault}
 use Rattle.sheets.specs.declared.Answer.{Answer}
@@ -31,6 +32,14 @@ answered f (accepted a) = Done (f a)
 
 -- ---- a site
 
+-- a table of so many words holds the facts of the site, by what its first line says of its size
+abbrev pub SizeRoom : List ℕ → Signature → ℕ → ℕ → Type 0
+SizeRoom s g most room = (k next : ℕ) → Reads s 0 next (Size k) → k ≤ most → Roomy (g .from) (g .to) (g .arity) 0 (g .rels) k room
+
+-- the same for any relations: none has more words than one of three places, and there are at most 8
+abbrev pub FactsRoom : List ℕ → ℕ → ℕ → Type 0
+FactsRoom s most room = (k next : ℕ) → Reads s 0 next (Size k) → k ≤ most → 8 * wordsFor (k ^ 3) ≤ room
+
 unfoldable pub sizeIn : D.Site → ℕ
 sizeIn st = st .size
 
@@ -43,27 +52,31 @@ unfoldable pub draft : ℕ → List Tuple → D.SiteDraft
 draft n facts = record { sized = sizedOf n; facts = facts }
 
 -- the table holds the facts, all of them tuples of a `rel` over n elements
-unfoldable pub Facts : Signature → ℕ → List Tuple → (ℕ → Bool) → Type 0
-Facts g n facts p = (n ≤ 16) × (p ≡ marks (bitOf g n 0) facts) × AllValid g n 0 (g .rels) facts × (n ≡ 0 → facts ≡ [])
+unfoldable pub Facts : CaseLimits → Signature → ℕ → List Tuple → (ℕ → Bool) → Type 0
+Facts L g n facts p = (n ≤ L .elements) × (p ≡ marks (bitOf g n 0) facts) × AllValid g n 0 (g .rels) facts × (n ≡ 0 → facts ≡ [])
 
 -- one line of a site
-unfoldable pub SiteTurns : Signature → Result D.SiteDraft → ℕ → Turn → (ℕ → Bool) → Type 0
-SiteTurns g res at (Next n) p = (facts : List Tuple) × (res ≡ accepted (draft n facts)) × Facts g n facts p
-SiteTurns g res at (Fault k) p = res ≡ refused k at
+unfoldable pub SiteTurns : CaseLimits → Signature → Result D.SiteDraft → ℕ → Turn → (ℕ → Bool) → Type 0
+SiteTurns L g res at (Next n) p = (facts : List Tuple) × (res ≡ accepted (draft n facts)) × Facts L g n facts p
+SiteTurns L g res at (Fault k) p = res ≡ refused k at
 
-unfoldable pub SiteTurned : List ℕ → Signature → List ℕ → ℕ → Entry → List ℕ → List ℕ → Turn → Type 0
-SiteTurned q g s n x old new r = (at : ℕ) → (facts : List Tuple) → Facts g n facts (bit old) → SiteTurns g (given (entryIn s x) 2 at >>= D.addToSite (relsOf q g) (draft n facts) at) at r (bit new)
+unfoldable pub SiteTurned : CaseLimits → List ℕ → Signature → List ℕ → ℕ → Entry → List ℕ → List ℕ → Turn → Type 0
+SiteTurned L q g s n x old new r = (at : ℕ) → (facts : List Tuple) → Facts L g n facts (bit old) → SiteTurns L g (given (entryIn s x) 2 at >>= D.addToSite L (relsOf q g) (draft n facts) at) at r (bit new)
 
 -- a whole site: its facts are in the table
-unfoldable pub GotSite : Signature → Result D.Site → Answer → (ℕ → Bool) → Type 0
-GotSite g (refused k place) r p = r ≡ Refused k place
-GotSite g (accepted st) r p = (r ≡ Done (st .size)) × (p ≡ marks (bitOf g (st .size) 0) (st .facts)) × AllValid g (st .size) 0 (g .rels) (st .facts) × (1 ≤ st .size) × (st .size ≤ 16)
+unfoldable pub GotSite : CaseLimits → Signature → Result D.Site → Answer → (ℕ → Bool) → Type 0
+GotSite L g (refused k place) r p = r ≡ Refused k place
+GotSite L g (accepted st) r p = (r ≡ Done (st .size)) × (p ≡ marks (bitOf g (st .size) 0) (st .facts)) × AllValid g (st .size) 0 (g .rels) (st .facts) × (1 ≤ st .size) × (st .size ≤ L .elements)
 
-unfoldable pub FactsIn : Signature → Result D.Site → (ℕ → Bool) → Type 0
-FactsIn g (refused k place) p = p ≡ λ i. false
-FactsIn g (accepted st) p = (p ≡ marks (bitOf g (st .size) 0) (st .facts)) × AllValid g (st .size) 0 (g .rels) (st .facts) × (1 ≤ st .size) × (st .size ≤ 16)
+unfoldable pub FactsIn : CaseLimits → Signature → Result D.Site → (ℕ → Bool) → Type 0
+FactsIn L g (refused k place) p = p ≡ λ i. false
+FactsIn L g (accepted st) p = (p ≡ marks (bitOf g (st .size) 0) (st .facts)) × AllValid g (st .size) 0 (g .rels) (st .facts) × (1 ≤ st .size) × (st .size ≤ L .elements)
 
 -- ---- picks
+
+-- a table of so many words holds the picks of every text, over n elements
+abbrev pub PicksRoom : Signature → ℕ → ℕ → Type 0
+PicksRoom g n room = Roomy (g .from) (g .to) (g .arity) (g .rels) (g .chosen) n room
 
 -- the table holds the picks, all of them tuples of a `choose` over n elements
 unfoldable pub Picks : Signature → ℕ → List Tuple → (ℕ → Bool) → Type 0

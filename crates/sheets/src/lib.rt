@@ -1,15 +1,20 @@
-// The readers of the site, of picks and of steps: a value, or the refusal's number and place (1 to 3, 7, 9, 10).
+// The readers of the site, of picks and of steps: a value, or the refusal's number and place (1 to 3, 7, 9, 10); and of a case, which
+// is a question and a site.
 ghost use mathlib.Core.Path.{_≡_};
 ghost use mathlib.Core.Bool.{false};
 ghost use Prim.Native.Nat.{ℕ, _+_, _*_, _≤_};
 ghost use lib.ListN.{length, set as «set-at»};
 ghost use Rattle.bits.specs.Table.{bit};
+ghost use Rattle.definitions.specs.Limits.{CaseLimits};
 ghost use Rattle.definitions.specs.Sheets.{readSite, readPicks, readSteps};
 ghost use Rattle.names.specs.Signatures.{Sound, withArrays, relsOf, chosenOf};
-ghost use Rattle.tuples.specs.Marks.{Arrays};
-ghost use Rattle.sheets.specs.Reading.{answered, sizeIn, SiteTurned, GotSite, FactsIn, PickTurned, GotPicks, PicksIn, verdictOf, RoomFor, left};
+ghost use Rattle.tuples.specs.Marks.{Arrays, Roomy};
+ghost use Rattle.sheets.specs.Reading.{answered, sizeIn, SizeRoom, FactsRoom, PicksRoom, SiteTurned, GotSite, FactsIn, PickTurned, GotPicks, PicksIn, verdictOf, RoomFor, left};
 ghost use Rattle.sheets.specs.declared.Answer.the-variants.{Done};
+ghost use Rattle.definitions.specs.Outcome.{readCase};
+ghost use Rattle.sheets.specs.Opening.{CaseRead, failed};
 use names::Signature;
+use question::Span;
 use records::Entry;
 
 // The most steps that a text has: a step line has at least 7 bytes, and a text at most 65,536.
@@ -32,7 +37,8 @@ enum Turn {
     Fault(u32),
 }
 
-// One line of a site, where n is the size so far; of a signature the arrays and the number m of `rel` relations.
+// One line of a site, where n is the size so far and `most` the most that it may be; of a signature the arrays and the number m of
+// `rel` relations.
 fn site_turn(
     q: &[u8],
     from: &[usize],
@@ -40,13 +46,14 @@ fn site_turn(
     arity: &[usize],
     m: usize,
     s: &[u8],
+    most: usize,
     n: usize,
     table: &mut [u64],
     x: Entry,
 ) -> Turn
-    requires { ⌜ Arrays 0 m (now from) (now to) (now arity) × (64 * m ≤ length (now table)) × (n ≤ 16) ⌝ }
-    ensures { λ r. ⌜ ((g : Signature) → m ≡ g .rels
-        → SiteTurned (now (q .entry)) (withArrays g (now (from .entry)) (now (to .entry)) (now (arity .entry))) (now (s .entry)) n x (now (table .entry)) (now (table .exit)) r) ⌝ }
+    requires { ⌜ Arrays 0 m (now from) (now to) (now arity) × (most ≤ 64) × (n ≤ most) × ((n ≡ 0 → ⊥) → Roomy (now from) (now to) (now arity) 0 m n (length (now table))) ⌝ }
+    ensures { λ r. ⌜ ((L : CaseLimits) → L .elements ≡ most → (g : Signature) → m ≡ g .rels
+        → SiteTurned L (now (q .entry)) (withArrays g (now (from .entry)) (now (to .entry)) (now (arity .entry))) (now (s .entry)) n x (now (table .entry)) (now (table .exit)) r) ⌝ }
 {
     match x {
         Entry::Wrong => Turn::Fault(2),
@@ -60,10 +67,11 @@ fn site_turn(
             if k < 1 {
                 return Turn::Fault(9);
             }
-            if 16 < k {
+            let size = k as usize;
+            if most < size {
                 return Turn::Fault(9);
             }
-            Turn::Next(k as usize)
+            Turn::Next(size)
         }
         Entry::Fact(a, e, p) => {
             if n == 0 {
@@ -81,9 +89,9 @@ fn site_turn(
 }
 
 // Reads a site into the table.
-fn site_lines(q: &[u8], g: Signature, s: &[u8], table: &mut [u64]) -> Answer
-    requires { ⌜ Sound (now q) g × (512 ≤ length (now table)) × (bit (now table) ≡ λ i. false) ⌝ }
-    ensures { λ r. ⌜ GotSite g (readSite (relsOf (now (q .entry)) g) (now (s .entry))) r (bit (now (table .exit))) ⌝ }
+fn site_lines(q: &[u8], g: Signature, s: &[u8], most: usize, table: &mut [u64]) -> Answer
+    requires { ⌜ Sound (now q) g × (most ≤ 64) × SizeRoom (now s) g most (length (now table)) × (bit (now table) ≡ λ i. false) ⌝ }
+    ensures { λ r. ⌜ ((L : CaseLimits) → L .elements ≡ most → GotSite L g (readSite L (relsOf (now (q .entry)) g) (now (s .entry))) r (bit (now (table .exit)))) ⌝ }
 {
     let end = s.len();
     if 65536 < end {
@@ -97,7 +105,7 @@ fn site_lines(q: &[u8], g: Signature, s: &[u8], table: &mut [u64]) -> Answer
     while at < end {
         let l = records::line(s, at);
         let x = l.entry;
-        let t = site_turn(q, &from, &to, &arity, g.rels, s, n, table, x);
+        let t = site_turn(q, &from, &to, &arity, g.rels, s, most, n, table, x);
         match t {
             Turn::Next(m) => {
                 n = m;
@@ -114,12 +122,13 @@ fn site_lines(q: &[u8], g: Signature, s: &[u8], table: &mut [u64]) -> Answer
     Answer::Done(n)
 }
 
-// Reads a site: its size, and its facts as bits of the table, which comes in cleared and stays so where the site is refused.
-pub fn site(q: &[u8], g: Signature, s: &[u8], table: &mut [u64]) -> Answer
-    requires { ⌜ Sound (now q) g × (512 ≤ length (now table)) × (bit (now table) ≡ λ i. false) ⌝ }
-    ensures { λ r. ⌜ (r ≡ answered sizeIn (readSite (relsOf (now (q .entry)) g) (now (s .entry)))) × FactsIn g (readSite (relsOf (now (q .entry)) g) (now (s .entry))) (bit (now (table .exit))) ⌝ }
+// Reads a site of at most `most` elements: its size, and its facts as bits of the table, which comes in cleared and stays so where the
+// site is refused.
+pub fn site(q: &[u8], g: Signature, s: &[u8], most: usize, table: &mut [u64]) -> Answer
+    requires { ⌜ Sound (now q) g × (most ≤ 64) × SizeRoom (now s) g most (length (now table)) × (bit (now table) ≡ λ i. false) ⌝ }
+    ensures { λ r. ⌜ ((L : CaseLimits) → L .elements ≡ most → (r ≡ answered sizeIn (readSite L (relsOf (now (q .entry)) g) (now (s .entry)))) × FactsIn L g (readSite L (relsOf (now (q .entry)) g) (now (s .entry))) (bit (now (table .exit)))) ⌝ }
 {
-    let r = site_lines(q, g, s, table);
+    let r = site_lines(q, g, s, most, table);
     match r {
         Answer::Done(n) => Answer::Done(n),
         Answer::Refused(k, place) => {
@@ -143,7 +152,7 @@ fn picks_turn(
     table: &mut [u64],
     x: Entry,
 ) -> u32
-    requires { ⌜ Arrays lo m (now from) (now to) (now arity) × (64 * m ≤ length (now table)) × (n ≤ 16) ⌝ }
+    requires { ⌜ Arrays lo m (now from) (now to) (now arity) × (n ≤ 64) × Roomy (now from) (now to) (now arity) lo m n (length (now table)) ⌝ }
     ensures { λ r. ⌜ ((g : Signature) → lo ≡ g .rels → m ≡ g .chosen
         → PickTurned (now (q .entry)) (withArrays g (now (from .entry)) (now (to .entry)) (now (arity .entry))) (now (s .entry)) n x (now (table .entry)) (now (table .exit)) r) ⌝ }
 {
@@ -161,7 +170,7 @@ fn picks_turn(
 
 // Reads picks over n elements into the table.
 fn picks_lines(q: &[u8], g: Signature, s: &[u8], n: usize, table: &mut [u64]) -> Answer
-    requires { ⌜ Sound (now q) g × (256 ≤ length (now table)) × (n ≤ 16) × (bit (now table) ≡ λ i. false) ⌝ }
+    requires { ⌜ Sound (now q) g × (n ≤ 64) × PicksRoom g n (length (now table)) × (bit (now table) ≡ λ i. false) ⌝ }
     ensures { λ r. ⌜ GotPicks g n (readPicks (chosenOf (now (q .entry)) g) (5 + g .rels) n (now (s .entry))) r (bit (now (table .exit))) ⌝ }
 {
     let end = s.len();
@@ -189,7 +198,7 @@ fn picks_lines(q: &[u8], g: Signature, s: &[u8], n: usize, table: &mut [u64]) ->
 // Reads picks over n elements: how many, and the picks as bits of the table, which comes in cleared and stays so where they are
 // refused.
 pub fn picks(q: &[u8], g: Signature, s: &[u8], n: usize, table: &mut [u64]) -> Answer
-    requires { ⌜ Sound (now q) g × (256 ≤ length (now table)) × (n ≤ 16) × (bit (now table) ≡ λ i. false) ⌝ }
+    requires { ⌜ Sound (now q) g × (n ≤ 64) × PicksRoom g n (length (now table)) × (bit (now table) ≡ λ i. false) ⌝ }
     ensures { λ r. ⌜ (r ≡ answered length (readPicks (chosenOf (now (q .entry)) g) (5 + g .rels) n (now (s .entry)))) × PicksIn g n (readPicks (chosenOf (now (q .entry)) g) (5 + g .rels) n (now (s .entry))) (bit (now (table .exit))) ⌝ }
 {
     let r = picks_lines(q, g, s, n, table);
@@ -260,4 +269,57 @@ pub fn steps(s: &[u8], out: &mut [u32]) -> Answer
         at = l.next;
     }
     Answer::Done(n)
+}
+
+// What was read: a refusal's number and place; or fault 0, the relations, the rule's span and the number of elements.
+pub struct Opened {
+    pub fault: u32,
+    pub place: usize,
+    pub sig: Signature,
+    pub rule: Span,
+    pub n: usize,
+}
+
+// A case that is refused.
+fn refusal(q: question::Asked, fault: u32, place: usize) -> Opened
+    ensures { λ r. ⌜ r ≡ failed q fault place ⌝ }
+{
+    let sig = q.sig;
+    let rule = q.rule;
+    Opened {
+        fault,
+        place,
+        sig,
+        rule,
+        n: 0,
+    }
+}
+
+// Reads the question, then the text of a site of at most `most` elements, whose facts go to the lent table, which comes in cleared and
+// has words enough for the size that the site's first line says.
+pub fn read_case(question: &[u8], text: &[u8], most: usize, facts: &mut [u64]) -> Opened
+    requires { ⌜ (most ≤ 64) × FactsRoom (now text) most (length (now facts)) × (bit (now facts) ≡ λ i. false) ⌝ }
+    ensures { λ r. ⌜ ((L : CaseLimits) → L .elements ≡ most → CaseRead (now (question .entry)) (readCase L (now (question .entry)) (now (text .entry))) r (bit (now (facts .exit)))) ⌝ }
+{
+    let q = question::question(question);
+    let fault = q.fault;
+    if fault != 0 {
+        let place = q.place;
+        return refusal(q, fault, place);
+    }
+    let sig = q.sig;
+    let s = site(question, sig, text, most, facts);
+    match s {
+        Answer::Refused(k, place) => refusal(q, k, place),
+        Answer::Done(n) => {
+            let rule = q.rule;
+            Opened {
+                fault: 0,
+                place: 0,
+                sig,
+                rule,
+                n,
+            }
+        }
+    }
 }

@@ -5,7 +5,7 @@
 // site. A number has four bytes, the least first; the calls are 0 tally, 1 sizes, 2 allowances.
 ghost use Prim.Native.Nat.{_≤_, _<_};
 ghost use lib.ListN.{length};
-use cases::Reply;
+use asking::Reply;
 use cases::Sizing;
 use counting::Tallied;
 

@@ -20,15 +20,15 @@ use Rattle.definitions.specs.Built.{treeHolds, isTrueAt, isPicked, setSteps, no
 use Rattle.laws.specs.Booleans.{T-or, or-l, or-r, T-of, T-true, T-false, T-ext, not-or}
 use Rattle.laws.specs.Tuples.{among-mem, mem-among}
 use Rattle.laws.specs.Numbers.{IsAtom, IsAction, action-at, set-below}
-use Rattle.reduction.specs.Means.{Good, means, means-at}
-use Rattle.reduction.specs.Sound.{holds-split, holds-base, holds-pick, OfKinds, tupleAt, initial-at}
-use Rattle.reduction.specs.Does.{Takes}
-use Rattle.reduction.specs.Reader.{Accepted}
-use Rattle.reduction.specs.Grounded.{good}
-use Rattle.reduction.specs.Kinds.{tested-kinds, root-means}
-use Rattle.reduction.specs.Picks.{picks-inside}
-use Rattle.reduction.specs.Pairs.{Pair, pair-action, setOf, tupleOf, pairs, sets-are, pairs-ready, picked-in, in-picked}
-use Rattle.reduction.specs.Complete.{built-are, built-takes}
+use Rattle.laws.specs.Means.{Good, means, means-at}
+use Rattle.laws.specs.Sound.{holds-split, holds-base, holds-pick, OfKinds, tupleAt, initial-at}
+use Rattle.laws.specs.Does.{Takes}
+use Rattle.laws.specs.Reader.{Accepted}
+use Rattle.laws.specs.Grounded.{good}
+use Rattle.laws.specs.Kinds.{tested-kinds, root-means}
+use Rattle.laws.specs.Picks.{picks-inside}
+use Rattle.laws.specs.Pairs.{Pair, pair-action, setOf, tupleOf, pairs, sets-are, pairs-ready, picked-in, in-picked}
+use Rattle.laws.specs.Complete.{built-are, built-takes}
 use Rattle.states.specs.Changes.{sort, whose, which, sameAtom, after-at, free-sort, stays}
 use Rattle.states.specs.Tuples.{same-tuple, tuple-step}
 use Rattle.states.specs.Deciding.{isProofAtom, says, Knows, may-told, part-told}
@@ -118,7 +118,7 @@ module _ (p : Problem) (G : Good p) where
     unfolding tupleHolds isPicked
     picked-holds r row = T-ext _ _
         (λ t. ⊎-elim (λ q. holds-base (p .source) F r _ q)
-        (λ q. let m = among-mem (tupleAt p r row) F q in holds-pick (p .source) F r _ (G .low-static r (K .inside (tupleAt p r row) m .chosen)) m)
+        (λ q. let m = among-mem (tupleAt p r row) F q in holds-pick (p .source) F r _ (G .high-chosen r (K .inside (tupleAt p r row) m .chosen)) m)
         (T-or (holds (p .source) [] r (placesOf (p .size) (relationAt p r .arity) row)) _ t))
         (λ t. ⊎-elim (λ q. or-l (holds (p .source) [] r (placesOf (p .size) (relationAt p r .arity) row)) _ q)
         (λ q. or-r (holds (p .source) [] r (placesOf (p .size) (relationAt p r .arity) row)) _ (mem-among (tupleAt p r row) F (q .1)))

@@ -12,8 +12,8 @@ use Rattle.definitions.specs.Actions.{Action, freeAtoms, adds, removes}
 use Rattle.definitions.specs.Strips.{after}
 use Rattle.laws.specs.Booleans.{and-T, T-and-l, T-and-r, T-of, T-ext}
 use Rattle.laws.specs.Numbers.{IsAtom, IsAction, atom-injective}
-use Rattle.reduction.specs.Means.{Good}
-use Rattle.reduction.specs.Valid.{adds-valid, removes-valid}
+use Rattle.laws.specs.Means.{Good}
+use Rattle.laws.specs.Valid.{adds-valid, removes-valid}
 
 -- ---- an atom as its sort and two numbers, and when two are the same
 unfoldable pub sort : Atom → ℕ

@@ -19,9 +19,9 @@ use Rattle.definitions.specs.Built.{treeHolds, isTrueAt}
 use Rattle.laws.specs.Lists.{drop-mem, take-mem}
 use Rattle.laws.specs.Members.{before-some, up-step}
 use Rattle.laws.specs.Numbers.{IsAtom, IsAction}
-use Rattle.reduction.specs.Parts.{Bnd, bnd-with, HereAll, under-forall, under-exists, parts-and, parts-or, head-here, tail-here}
-use Rattle.reduction.specs.Means.{Good, means, here-as, values-bnd, forall-at, means-at, parts-mean}
-use Rattle.reduction.specs.Valid.{needs-valid}
+use Rattle.laws.specs.Parts.{Bnd, bnd-with, HereAll, under-forall, under-exists, parts-and, parts-or, head-here, tail-here}
+use Rattle.laws.specs.Means.{Good, means, here-as, values-bnd, forall-at, means-at, parts-mean}
+use Rattle.laws.specs.Valid.{needs-valid}
 
 -- ---- lists
 pub all-same : {A : Type 0} (f g : A → Bool) (l : List A) → ((x : A) → List·Memᴰ x l → f x ≡ g x) → all f l ≡ all g l

@@ -23,11 +23,11 @@ use Rattle.laws.specs.Lists.{mem-below, below-lt, any-of, any-at}
 use Rattle.laws.specs.Tuples.{among-mem, mem-among}
 use Rattle.laws.specs.Rows.{Below, below-cons, pair-places}
 use Rattle.laws.specs.Numbers.{noRelation, inj-fun}
-use Rattle.reduction.specs.Means.{Good}
-use Rattle.reduction.specs.Sound.{tup, Inside, tupleAt}
-use Rattle.reduction.specs.Reader.{Accepted}
-use Rattle.reduction.specs.Kinds.{two-at, two-of}
-use Rattle.reduction.specs.Grounded.{good, chosen-at, chosen-index, chosen-is, count-relations}
+use Rattle.laws.specs.Means.{Good}
+use Rattle.laws.specs.Sound.{tup, Inside, tupleAt}
+use Rattle.laws.specs.Reader.{Accepted}
+use Rattle.laws.specs.Kinds.{two-at, two-of}
+use Rattle.laws.specs.Grounded.{good, chosen-at, chosen-index, chosen-is, count-relations}
 
 -- ---- two of n
 unfoldable pub hasTwo : (ℕ → Bool) → ℕ → Bool

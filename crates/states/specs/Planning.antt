@@ -7,7 +7,7 @@ use mathlib.Core.Bool.{Bool, true, false, not, _&&_, _||_, or-false}
 use mathlib.Core.Option.{Option, none, some}
 use mathlib.Core.List.{List, [], _∷_, _++_, map, append-assoc, append-nil, List·Memᴰ}
 use native.Mathlib.Omega.{arith}
-use native.Mathlib.Nat.{add-zero, zero-add, mod-lt, div-lt-iff-lt-mul, div-add-mod'}
+use native.Mathlib.Nat.{add-zero, zero-add, div-lt-iff-lt-mul, div-add-mod'}
 use lib.Dec.{T, ltb, leb, eqb, ltb→lt, lt→ltb, leb→le, le→leb, eqb→eq}
 use borrow.Author.Tests.{eq-eqb}
 use lib.ListN.{length, getD, take}
@@ -24,8 +24,8 @@ use Rattle.laws.specs.Lists.{getD-mem}
 use Rattle.laws.specs.Members.{in-mem, select-rank, least-in}
 use Rattle.laws.specs.Positions.{place, position-place, place-lt, least-place, position-none}
 use Rattle.laws.specs.Numbers.{IsAtom, IsAction, noNode}
-use Rattle.reduction.specs.Means.{Good, means}
-use Rattle.reduction.specs.Does.{some-any}
+use Rattle.laws.specs.Means.{Good, means}
+use Rattle.laws.specs.Does.{some-any}
 use Rattle.states.specs.Changes.{sort, whose, which, sameAtom, after-at, stays}
 use Rattle.states.specs.Deciding.{isProofAtom, Decided, says, Knows, and-may, or-may, exists-may, forall-may}
 

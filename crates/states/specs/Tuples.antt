@@ -21,8 +21,8 @@ use Rattle.definitions.specs.Built.{isPicked, chosenNumbers}
 use Rattle.laws.specs.Booleans.{and-T, T-and-l, T-and-r, T-ext, T-false}
 use Rattle.laws.specs.Tuples.{sameTuple-eq, sameTuple-refl}
 use Rattle.laws.specs.Numbers.{IsAtom, IsAction, action-is, set-below}
-use Rattle.reduction.specs.Means.{Good}
-use Rattle.reduction.specs.Sound.{picks-cons, holds-empty, tupleAt, same-row, initial-at}
+use Rattle.laws.specs.Means.{Good}
+use Rattle.laws.specs.Sound.{picks-cons, holds-empty, tupleAt, same-row, initial-at}
 use Rattle.states.specs.Changes.{sort, whose, which, sameAtom, after-at, free-sort, any-append, stays}
 
 -- all steps were taken, whether the goal holds or not
@@ -120,7 +120,7 @@ module _ (p : Problem) (G : Good p) where
     not-at-first : T (isChosen (relationAt p r .kind)) → initial p (atomNumber p (tuple r row)) ≡ false
     unfolding IsAtom isInitial tupleHolds
     not-at-first c = initial-at p G (tuple r row) (l, h) ∙ T-false (holds (p .source) [] r (placesOf (p .size) (relationAt p r .arity) row))
-        (λ t. holds-empty (p .source) r _ (G .low-static r c) (λ u m e. G .facts-static u m (subst (λ (z : ℕ). T (isChosen (relationAt p z .kind))) (sym e) c)) t)
+        (λ t. holds-empty (p .source) r _ (G .high-chosen r c) t)
 
     -- after steps that were all taken, a tuple of a `choose` holds exactly if it is one of the picks read from them
     pub tuples-left : T (isChosen (relationAt p r .kind)) → (ks : List ℕ) → T (areTaken (run p ks .answer))

@@ -60,10 +60,10 @@ fn of_nodes(n: usize, t: tree::Nodes) -> Walked
     let mut nodes: usize = 0;
     while nodes < t.count {
         let row = t.rows[nodes];
-        let kind = layout::wide(row.kind);
-        let rows = rows::power(n, layout::wide(row.width));
+        let kind = tree::wide(row.kind);
+        let rows = rows::power(n, tree::wide(row.width));
         atoms = atoms + layout::node_width(n, rows, kind);
-        actions = actions + rows * layout::choices(n, kind, layout::wide(row.many));
+        actions = actions + rows * layout::choices(n, kind, tree::wide(row.many));
         nodes += 1;
     }
     Walked {

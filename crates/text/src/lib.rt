@@ -1,6 +1,6 @@
 // Spans of a text: where a byte first stands, equal spans, decimal numbers and relation names (document 01, "The sheets").
 ghost use mathlib.Core.Path.{_≡_};
-ghost use Prim.Native.Nat.{ℕ, _+_, _≤_, _<_};
+ghost use Prim.Native.Nat.{_+_, _≤_, _<_};
 ghost use lib.ListN.{length};
 ghost use lib.Seq.{slice};
 ghost use Rattle.definitions.specs.Lists.{same as sameText};

@@ -4,9 +4,10 @@ use mathlib.Core.Path.{_≡_, refl, ap, _∙_}
 use mathlib.Core.List.{List, [], _∷_, map}
 use native.Mathlib.Omega.{arith}
 use lib.ListN.{length}
+use Rattle.definitions.specs.Limits.{CaseLimits}
 use Rattle.definitions.specs.Refusal.{Result, refused, accepted}
 use Rattle.definitions.specs.Atoms.{Problem}
-use Rattle.definitions.specs.Outcome.{replyNumber, replyPlace}
+use Rattle.definitions.specs.Outcome.{replyNumber, replyPlace, Ready as Opens}
 use Rattle.definitions.specs.Tries.{Try as Record, tried, readyToTry, triedFrom, tryLists}
 use Rattle.tries.specs.declared.Try.{Try}
 use Rattle.tries.specs.declared.Begun.{Begun}
@@ -15,10 +16,10 @@ use Rattle.tries.specs.Begun.{BegunBy, Ready, Serves}
 use Rattle.tries.specs.Each.{answer, upTo, all}
 
 -- what the walk over the records asks
-pub begun-asks : (x : Result Problem) (many : ℕ) (old : List ℕ) (c : Begun) (w mid : List ℕ) → BegunBy x many old c w mid → (c .many ≤ many) × (0 < c .many → Ready w mid (c .words))
+pub begun-asks : (x : Result (Opens (Unit {0}))) (many : ℕ) (old : List ℕ) (c : Begun) (w mid : List ℕ) → BegunBy x many old c w mid → (c .many ≤ many) × (0 < c .many → Ready w mid (c .words))
 unfolding BegunBy
 begun-asks (refused k place) many old c w mid h = (omega (arith, h .none), λ l. absurd (omega (arith, l, h .none)))
-begun-asks (accepted p) many old c w mid h = (omega (arith, h .all), λ l. h .ready)
+begun-asks (accepted a) many old c w mid h = (omega (arith, h .all), λ l. h .ready)
 
 -- what it ends with
 abbrev pub Ends : (tab state : List ℕ) (c : Begun) (steps : List ℕ) (es ys : List Try) → Type 0
@@ -31,18 +32,18 @@ all-tried p steps [] = refl
 all-tried p steps (e ∷ es) = ap (λ (r : List Record). tried p steps (recorded e) ∷ r) (all-tried p steps es)
 
 -- from the parts to the whole
-pub outcome : (question site steps old : List ℕ) (es : List Try) (c : Begun) (w mid : List ℕ) (ys : List Try)
-    → BegunBy (readyToTry question site (length old)) (length es) old c w mid → Ends w mid c steps es ys
-    → (record { number = c .number; place = c .place } ≡ answerOf (tryLists question site steps (records es) old .answer))
-    × ((records ys ≡ tryLists question site steps (records es) old .tries) × (mid ≡ tryLists question site steps (records es) old .state))
+pub outcome : (L : CaseLimits) (question site steps old : List ℕ) (es : List Try) (c : Begun) (w mid : List ℕ) (ys : List Try)
+    → BegunBy (readyToTry L question site (length old)) (length es) old c w mid → Ends w mid c steps es ys
+    → (record { number = c .number; place = c .place } ≡ answerOf (tryLists L question site steps (records es) old .answer))
+    × ((records ys ≡ tryLists L question site steps (records es) old .tries) × (mid ≡ tryLists L question site steps (records es) old .state))
 unfolding tryLists triedFrom answerOf replyNumber replyPlace BegunBy
-outcome question site steps old es c w mid ys begun ends = go (readyToTry question site (length old)) begun
+outcome L question site steps old es c w mid ys begun ends = go (readyToTry L question site (length old)) begun
   where
-    go : (x : Result Problem) → BegunBy x (length es) old c w mid
+    go : (x : Result (Opens (Unit {0}))) → BegunBy x (length es) old c w mid
         → (record { number = c .number; place = c .place } ≡ answerOf (triedFrom x steps (records es) old .answer))
         × ((records ys ≡ triedFrom x steps (records es) old .tries) × (mid ≡ triedFrom x steps (records es) old .state))
     go (refused k place) h = ((λ i. record { number = h .number i; place = h .where-it-is i }), (ap records (ends .1 (h .none)), h .state))
-    go (accepted p) h = (
+    go (accepted a) h = (
       (λ i. record { number = h .number i; place = h .no-place i }),
-      (ap records (ends .0 p (h .serves) ∙ ap (λ (k : ℕ). upTo (answer p steps) k es) (h .all) ∙ all (answer p steps) es) ∙ all-tried p steps es, h .state),
+      (ap records (ends .0 (a .problem) (h .serves) ∙ ap (λ (k : ℕ). upTo (answer (a .problem) steps) k es) (h .all) ∙ all (answer (a .problem) steps) es) ∙ all-tried (a .problem) steps es, h .state),
     )

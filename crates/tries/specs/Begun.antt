@@ -5,7 +5,7 @@ use mathlib.Core.List.{List}
 use lib.ListN.{length, take}
 use Rattle.definitions.specs.Refusal.{Result, refused, accepted}
 use Rattle.definitions.specs.Atoms.{Problem, initial, atoms, stateWords}
-use Rattle.definitions.specs.Outcome.{written}
+use Rattle.definitions.specs.Outcome.{written, Ready as Opens}
 use Rattle.bits.specs.Table.{bit}
 use Rattle.ground.specs.Of.{Is}
 use Rattle.decode.specs.Decoded.{Grounded}
@@ -38,6 +38,6 @@ pub record Tryable (p : Problem) (many : ℕ) (old : List ℕ) (r : Begun) (w ne
   pub ready : Ready w new (r .words)
   pub serves : Serves p w new (r .words)
 
-unfoldable pub BegunBy : Result Problem → (many : ℕ) (old : List ℕ) → Begun → (w new : List ℕ) → Type 0
+unfoldable pub BegunBy : Result (Opens (Unit {0})) → (many : ℕ) (old : List ℕ) → Begun → (w new : List ℕ) → Type 0
 BegunBy (refused k place) many old r w new = NotTried k place old r new
-BegunBy (accepted p) many old r w new = Tryable p many old r w new
+BegunBy (accepted a) many old r w new = Tryable (a .problem) many old r w new

@@ -7,25 +7,24 @@ use native.Mathlib.Omega.{arith}
 use lib.ListN.{length, take, drop, replicate, length-append, drop-of-length-le}
 use lib.Seq.{length-take-le, take-append-seam}
 use borrow.Author.Tests.{lt-ltb, le-ltb}
-use Rattle.definitions.specs.Limits.{stepLimit}
-use Rattle.definitions.specs.Refusal.{_>>=_, refuseIf}
+use Rattle.definitions.specs.Limits.{CaseLimits, stepLimit}
+use Rattle.definitions.specs.Refusal.{Result, refused, accepted, _>>=_, refuseIf}
 use Rattle.definitions.specs.Truth.{Case}
 use Rattle.definitions.specs.Atoms.{Problem, State, problemOf, initial, atoms, wordsFor, stateWords}
 use Rattle.definitions.specs.Strips.{run, runFrom}
-use Rattle.definitions.specs.Outcome.{readCase, ground, readProblem, roomFor, stateLength, written, replyNumber, replyPlace}
+use Rattle.definitions.specs.Outcome.{readCase, asked, nothing, roomFor, stateLength, written, replyNumber, replyPlace}
+use Rattle.laws.specs.Asked
 use Rattle.laws.specs.Words.{words-for, state-length}
 use Rattle.bits.specs.Table.{bit}
 use Rattle.ground.specs.Of.{Is}
 use Rattle.ground.specs.Lines.{Fits}
 use Rattle.initial.specs.Rows.{atomsIn}
 use Rattle.initial.specs.Initial.{Begun as Started}
-use Rattle.opening.specs.declared.Opened.{Opened}
-use Rattle.opening.specs.Read.{Holds, CaseRead}
-use Rattle.grounding.specs.declared.Sized.{Sized as Counted}
-use Rattle.grounding.specs.Grounds.{GroundsTo}
 use Rattle.runs.specs.declared.End.{End}
 use Rattle.runs.specs.Ended.{ended}
-use Rattle.cases.specs.Known.{case-refused, case-read, case-over, grounds, tabled, table-is, atoms-few, words-are, words-fit, room-short, room-there, facts-held}
+use Rattle.asking.specs.declared.Front.{Front}
+use Rattle.asking.specs.Fronts.{Fronted, Held, front-refused, front-held}
+use Rattle.asking.specs.Known.{case-over, grounds, tabled, table-is, atoms-few, words-are, words-fit, room-short, room-there, facts-held}
 use Rattle.tries.specs.declared.Begun.{Begun}
 use Rattle.definitions.specs.Tries.{readyToTry, tryList}
 use Rattle.tries.specs.Recorded.{verdictOf}
@@ -36,56 +35,71 @@ append-none : (l : List ℕ) → l ++ [] ≡ l
 append-none [] = refl
 append-none (x ∷ l) = ap (λ (t : List ℕ). x ∷ t) (append-none l)
 
-module _ (question site old : List ℕ) (many : ℕ) (o : Opened) (facts : List ℕ) (read : CaseRead question (readCase question site) o (bit facts)) where
-  pub begun-case : (o .fault ≡ 0 → ⊥) → (r : Begun) → r ≡ record { number = o .fault; place = o .place; words = 0; many = 0 } → (w : List ℕ) → BegunBy (readyToTry question site (length old)) many old r w old
-  unfolding BegunBy readyToTry readProblem _>>=_
-  begun-case z r er w = rw (er, case-refused question site o (bit facts) read z) (record { number = refl; where-it-is = refl; none = refl; state = refl })
+module _ (L : CaseLimits) (question site old : List ℕ) (many : ℕ) (r : Front) (facts w : List ℕ) (opens : Fronted L question site r facts w) where
+  abbrev rooms : Problem → Result (Unit {0})
+  rooms p = roomFor (stateLength p) (length old)
 
-  module _ (z : o .fault ≡ 0) (m : Counted) (w : List ℕ) (g : (c : Case) → Holds question c o (bit facts) → GroundsTo (ground c) m w) where
-    pub begun-over : m .over ≡ true → (r : Begun) → r ≡ record { number = 11; place = 0; words = 0; many = 0 } → BegunBy (readyToTry question site (length old)) many old r w old
-    unfolding BegunBy readyToTry readProblem _>>=_
-    begun-over t r er = let (c, e, h) = case-read question site o (bit facts) read z in rw (er, e, case-over c m w (g c h) t) (record { number = refl; where-it-is = refl; none = refl; state = refl })
+  abbrev Begins : Begun → List ℕ → Type 0
+  Begins b new = BegunBy (readyToTry L question site (length old)) many old b w new
 
-    module _ (f : m .over ≡ false) where
+  refused-with : (j place : ℕ) → asked L question site nothing nothing nothing rooms ≡ refused j place → (b : Begun) → b ≡ record { number = j; place = place; words = 0; many = 0 } → Begins b old
+  unfolding BegunBy readyToTry
+  refused-with j place e b eb = rw (eb, e) (record { number = refl; where-it-is = refl; none = refl; state = refl })
+
+  pub begun-case : (r .fault ≡ 0 → ⊥) → (b : Begun) → b ≡ record { number = r .fault; place = r .place; words = 0; many = 0 } → Begins b old
+  begun-case z = refused-with _ _ (Asked.case-refused L question site nothing nothing nothing rooms _ _ (front-refused L question site r facts w opens z))
+
+  module _ (z : r .fault ≡ 0) where
+    -- the case that was read
+    abbrev its : (c : Case) × (readCase L question site ≡ accepted c) × Held L question c r facts w
+    its = front-held L question site r facts w opens z
+
+    pub begun-over : r .m .over ≡ true → (b : Begun) → b ≡ record { number = 11; place = 0; words = 0; many = 0 } → Begins b old
+    begun-over t =
+        let (c, e, h) = its in
+        refused-with 11 0 (Asked.limits-refused L question site nothing nothing nothing rooms c e tt (Asked.untested c) (Asked.untested c) 11 0 (case-over L c _ _ (h .grounded) t))
+
+    module _ (f : r .m .over ≡ false) where
       abbrev k : ℕ
-      k = (m .atoms + 63) / 64
+      k = (r .m .atoms + 63) / 64
 
-      pub begun-short : length old < k → (r : Begun) → r ≡ record { number = 12; place = k; words = 0; many = 0 } → BegunBy (readyToTry question site (length old)) many old r w old
-      unfolding BegunBy readyToTry readProblem _>>=_
-      begun-short l r er =
-          let (c, e, h) = case-read question site o (bit facts) read z in
-          let q = words-are c m w (g c h) f in
-          let b = room-short (stateLength (problemOf c)) (length old) (subst (λ (n : ℕ). length old < n) q l) in
-          rw (er, e, grounds c m w (g c h) f, b) (record { number = refl; where-it-is = q; none = refl; state = refl })
+      words-of : k ≡ stateLength (problemOf (its .0))
+      words-of = words-are L (its .0) _ _ (its .2 .grounded) f
 
-      pub begun-atoms : m .atoms ≤ 65536
-      begun-atoms = let (c, e, h) = case-read question site o (bit facts) read z in atoms-few c m w (g c h) f
+      pub begun-short : length old < k → (b : Begun) → b ≡ record { number = 12; place = k; words = 0; many = 0 } → Begins b old
+      begun-short l =
+          let (c, e, h) = its in
+          let short : rooms (problemOf c) ≡ refused 12 k = ap (λ (j : ℕ). roomFor j (length old)) (sym words-of) ∙ room-short k (length old) l in
+          refused-with 12 k (Asked.room-refused L question site nothing nothing nothing rooms c e tt (Asked.untested c) (Asked.untested c) (problemOf c) (grounds L c _ _ (h .grounded) f) (Asked.untested c) 12 k short)
 
-      pub begun-fits : (part : List ℕ) → length part ≡ k → Fits w × (wordsFor (atomsIn w) ≤ length part)
-      begun-fits part l = let (c, e, h) = case-read question site o (bit facts) read z in (table-is c m w (g c h) f .fits, words-fit c m w (g c h) f (length part) (sym l))
+      pub begun-atoms : r .m .atoms ≤ L .atoms
+      begun-atoms = atoms-few L (its .0) _ _ (its .2 .grounded) f
 
-      pub begun-ready : k ≤ length old → (part new : List ℕ) → Started w facts (take k old) part → new ≡ part ++ drop k old
-          → BegunBy (readyToTry question site (length old)) many old (record { number = 0; place = 0; words = k; many = many }) w new
-      unfolding BegunBy readyToTry readProblem _>>=_ Started written stateLength wordsFor
-      begun-ready l part new started n =
-          let (c, e, h) = case-read question site o (bit facts) read z in
+      pub begun-fits : k ≤ length old → Fits w × (wordsFor (atomsIn w) ≤ length (take k old))
+      begun-fits l = let (c, e, h) = its in (table-is L c _ _ (h .grounded) f .fits, words-fit L c _ _ (h .grounded) f (length (take k old)) (sym (length-take-le k old l)))
+
+      pub begun-ready : L .atoms ≤ 65536 → k ≤ length old → (part new : List ℕ) → Started w facts (take k old) part → new ≡ part ++ drop k old
+          → Begins (record { number = 0; place = 0; words = k; many = many }) new
+      unfolding BegunBy readyToTry Started written stateLength wordsFor
+      begun-ready few l part new started n =
+          let (c, e, h) = its in
           let p : Problem = problemOf c in
-          let t = tabled c m w (g c h) f in
-          let q : k ≡ stateLength p = words-are c m w (g c h) f in
+          let t = tabled L c _ _ (h .grounded) f in
+          let q : k ≡ stateLength p = words-of in
           let b = room-there (stateLength p) (length old) (subst (λ (n : ℕ). n ≤ length old) q l) in
           let s : length (stateWords p (initial p)) ≡ stateLength p = state-length p (initial p) in
           let lk : length (take k old) ≡ k = length-take-le k old l in
-          let begins = started p (t .is) (t .ends) (facts-held question c o facts h) in
-          let its : part ≡ stateWords p (initial p) = begins .its-words ∙ ap (λ (r : List ℕ). stateWords p (initial p) ++ r) (drop-of-length-le (take k old) {i = length (stateWords p (initial p))} (omega (arith, lk, s, q))) ∙ append-none (stateWords p (initial p)) in
-          let lp : length part ≡ k = ap (λ (r : List ℕ). length r) its ∙ s ∙ sym q in
+          let begins = started p (t .is) (t .ends) (facts-held question c _ facts (h .holds)) in
+          let its-words : part ≡ stateWords p (initial p) = begins .its-words ∙ ap (λ (r : List ℕ). stateWords p (initial p) ++ r) (drop-of-length-le (take k old) {i = length (stateWords p (initial p))} (omega (arith, lk, s, q))) ∙ append-none (stateWords p (initial p)) in
+          let lp : length part ≡ k = ap (λ (r : List ℕ). length r) its-words ∙ s ∙ sym q in
           let front : take k new ≡ part = ap₂ take (sym lp) n ∙ take-append-seam part (drop k old) in
           let there : k ≤ length new = let ln : length new ≡ length part + length (drop k old) = ap (λ (r : List ℕ). length r) n ∙ length-append part (drop k old) in omega (arith, ln, lp) in
-          rw (e, grounds c m w (g c h) f, b) (record {
+          rw (Asked.ready L question site nothing nothing nothing rooms c e tt (Asked.untested c) (Asked.untested c) p (grounds L c _ _ (h .grounded) f) (Asked.untested c) b) (record {
             number = refl;
             no-place = refl;
             all = refl;
-            state = n ∙ ap₂ (λ (r : List ℕ) (j : ℕ). r ++ drop j old) its (q ∙ sym s);
-            ready = record { grounded = table-is c m w (g c h) f; there = there; few = let a = atoms-few c m w (g c h) f in omega (arith, a) };
+            state = n ∙ ap₂ (λ (r : List ℕ) (j : ℕ). r ++ drop j old) its-words (q ∙ sym s);
+            ready = record { grounded = table-is L c _ _ (h .grounded) f; there = there; few = omega (arith, few, begun-atoms) };
             serves = record { is = t .is; room = subst (λ (j : ℕ). atoms p ≤ 64 * j) (sym q) (words-for (atoms p) .0); begins = ap bit front ∙ begins .exact (lk ∙ q) };
           })
 

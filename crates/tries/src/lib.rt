@@ -1,10 +1,13 @@
 // Many step lists for one case. The case is read and grounded once, and its initial state is computed once; each record of a lent table
 // gets the number and the place that a check of its list alone would return.
 ghost use mathlib.Core.Path.{_≡_};
-ghost use Prim.Native.Nat.{_+_, _<_, _≤_};
-ghost use lib.ListN.{length as «length-of», take};
+ghost use mathlib.Core.Bool.{false};
+ghost use Prim.Native.Nat.{_<_, _≤_};
+ghost use lib.ListN.{length as «length-of»};
+ghost use Rattle.definitions.specs.Limits.{usual};
 ghost use Rattle.definitions.specs.Atoms.{Problem};
-ghost use Rattle.definitions.specs.Outcome.{written};
+ghost use Rattle.bits.specs.Table.{bit};
+ghost use Rattle.sheets.specs.Reading.{FactsRoom};
 ghost use Rattle.rows.specs.Values.{Most};
 ghost use Rattle.ground.specs.Lines.{tableLength};
 ghost use Rattle.runs.specs.Ended.{ended};
@@ -74,18 +77,6 @@ fn verdict_of(e: End) -> Verdict
     }
 }
 
-// The first k words of src become those of dst.
-fn copy(dst: &mut [u64], src: &[u64], k: usize)
-    requires { ⌜ (k ≤ «length-of» (now dst)) × (k ≤ «length-of» (now src)) ⌝ }
-    ensures { λ r. ⌜ now (dst .exit) ≡ written (take k (now (src .entry))) (now (dst .entry)) ⌝ }
-{
-    let mut i: usize = 0;
-    while i < k {
-        dst[i] = src[i];
-        i += 1;
-    }
-}
-
 // A case that is refused: no list is to be tried.
 fn not_begun(number: u32, place: usize) -> Begun
     ensures { λ r. ⌜ r ≡ record { number = number; place = place; words = 0; many = 0 } ⌝ }
@@ -98,7 +89,50 @@ fn not_begun(number: u32, place: usize) -> Begun
     }
 }
 
-// Everything before the lists: the case's refusals, 11 and 12; else the problem's table, and the initial state in the lent words.
+// Everything before the lists, with the lent words for the site's facts: the case's refusals, 11 and 12; else the problem's table, and
+// the initial state in the lent words.
+fn begin_in(
+    question: &[u8],
+    site: &[u8],
+    many: usize,
+    facts: &mut [u64],
+    table: &mut [usize],
+    state: &mut [u64],
+) -> Begun
+    requires { ⌜ FactsRoom (now site) 16 («length-of» (now facts)) × (bit (now facts) ≡ λ i. false) ⌝ }
+    requires { ⌜ («length-of» (now table) ≡ tableLength) × Most (now table) 0 ⌝ }
+    ensures { λ r. ⌜ BegunBy (readyToTry usual (now (question .entry)) (now (site .entry)) («length-of» (now (state .entry)))) many (now (state .entry)) r (now (table .exit)) (now (state .exit)) ⌝ }
+{
+    let f = asking::open_case(
+        question,
+        site,
+        asking::ELEMENTS,
+        asking::ATOMS,
+        asking::ACTIONS,
+        facts,
+        table,
+    );
+    if f.fault != 0 {
+        return not_begun(f.fault, f.place);
+    }
+    let m = f.m;
+    if m.over {
+        return not_begun(11, 0);
+    }
+    let words = (m.atoms + 63) / 64;
+    if state.len() < words {
+        return not_begun(12, words);
+    }
+    initial::initial_state(table, facts, &mut state[..words]);
+    Begun {
+        number: 0,
+        place: 0,
+        words,
+        many,
+    }
+}
+
+// Everything before the lists.
 pub fn begin(
     question: &[u8],
     site: &[u8],
@@ -107,28 +141,10 @@ pub fn begin(
     state: &mut [u64],
 ) -> Begun
     requires { ⌜ («length-of» (now table) ≡ tableLength) × Most (now table) 0 ⌝ }
-    ensures { λ r. ⌜ BegunBy (readyToTry (now (question .entry)) (now (site .entry)) («length-of» (now (state .entry)))) many (now (state .entry)) r (now (table .exit)) (now (state .exit)) ⌝ }
+    ensures { λ r. ⌜ BegunBy (readyToTry usual (now (question .entry)) (now (site .entry)) («length-of» (now (state .entry)))) many (now (state .entry)) r (now (table .exit)) (now (state .exit)) ⌝ }
 {
-    let mut facts = [0u64; 512];
-    let o = opening::read_case(question, site, &mut facts);
-    if o.fault != 0 {
-        return not_begun(o.fault, o.place);
-    }
-    let m = grounding::ground_case(question, o, table);
-    if m.over {
-        return not_begun(11, 0);
-    }
-    let words = (m.atoms + 63) / 64;
-    if state.len() < words {
-        return not_begun(12, words);
-    }
-    initial::initial_state(table, &facts, &mut state[..words]);
-    Begun {
-        number: 0,
-        place: 0,
-        words,
-        many,
-    }
+    let mut facts = [0u64; asking::FACTS];
+    begin_in(question, site, many, &mut facts, table, state)
 }
 
 // One list: 1 for one that is too long, 12 for one that is not all there; else its steps are run, in a copy of the initial state.
@@ -159,7 +175,7 @@ pub fn try_list(
         };
     }
     let mut copied = [0u64; 1024];
-    copy(&mut copied, state, words);
+    ground::copy(&mut copied, state, words);
     let e = runs::run(&mut copied[..words], table, &steps[from..end]);
     verdict_of(e)
 }
@@ -195,9 +211,9 @@ pub fn try_lists(
     tries: &mut [Try],
     state: &mut [u64],
 ) -> Answer
-    ensures { λ r. ⌜ r ≡ answerOf (tryLists (now (question .entry)) (now (site .entry)) (now (steps .entry)) (records (now (tries .entry))) (now (state .entry)) .answer) ⌝ }
-    ensures { λ r. ⌜ records (now (tries .exit)) ≡ tryLists (now (question .entry)) (now (site .entry)) (now (steps .entry)) (records (now (tries .entry))) (now (state .entry)) .tries ⌝ }
-    ensures { λ r. ⌜ now (state .exit) ≡ tryLists (now (question .entry)) (now (site .entry)) (now (steps .entry)) (records (now (tries .entry))) (now (state .entry)) .state ⌝ }
+    ensures { λ r. ⌜ r ≡ answerOf (tryLists usual (now (question .entry)) (now (site .entry)) (now (steps .entry)) (records (now (tries .entry))) (now (state .entry)) .answer) ⌝ }
+    ensures { λ r. ⌜ records (now (tries .exit)) ≡ tryLists usual (now (question .entry)) (now (site .entry)) (now (steps .entry)) (records (now (tries .entry))) (now (state .entry)) .tries ⌝ }
+    ensures { λ r. ⌜ now (state .exit) ≡ tryLists usual (now (question .entry)) (now (site .entry)) (now (steps .entry)) (records (now (tries .entry))) (now (state .entry)) .state ⌝ }
 {
     let mut table = [0usize; ground::TABLE];
     let many = tries.len();

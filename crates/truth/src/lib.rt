@@ -1,9 +1,8 @@
 // Whether the rule is true of picks: each node is searched element by element and part by part, and left at the first witness or the
 // first failure. Nothing is written; facts and picks are lent as bits.
 ghost use mathlib.Core.Path.{_≡_};
-ghost use mathlib.Core.Bool.{Bool};
 ghost use mathlib.Core.List.{List};
-ghost use Prim.Native.Nat.{ℕ, _+_, _*_, _^_, _<_, _≤_};
+ghost use Prim.Native.Nat.{_+_, _*_, _^_, _<_, _≤_};
 ghost use lib.ListN.{length, getD};
 ghost use Rattle.definitions.specs.Relations.{Tuple, builtInHolds};
 ghost use Rattle.definitions.specs.Truth.{Case};

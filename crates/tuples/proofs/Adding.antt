@@ -26,6 +26,7 @@ use Rattle.tuples.specs.declared.Mark.the-variants.{Bit, Fault}
 use Rattle.tuples.specs.Marks.{areBelow, InRow, firstWord, bitOf, marks, Valid, AllValid, Stands, Spotted, Adds, Added}
 use Rattle.tuples.proofs.Rows.{row-power, power-le}
 use Rattle.tuples.proofs.Bits.{marks-among, valid-snoc, marks-put}
+use Rattle.tuples.proofs.Words.{its-words}
 
 -- a signature of no relation: bounds hold for every signature with the arrays, so for this one
 pub noSignature : Signature
@@ -80,9 +81,9 @@ module _ (q : List ℕ) (g : Signature) (lo m n : ℕ) (name xs : List ℕ) (k :
       unfolding Spotted InRow
       spot-outside z = (omega arith, λ ts at. tuple-9 (relationsFrom q g lo m) (5 + lo) n ts at name xs (5 + i) used-there (subst (λ (r : Found). InRow n xs r) z u))
 
-      module _ (b : ℕ) (z : r ≡ At b) (t : ℕ) (h : (t ≡ firstWord g n lo (i - lo)) × (t ≤ 64 * (i - lo))) (n16 : n ≤ 16) (k3 : k ≤ 3) where
-        pub row-limit : b < 4096
-        row-limit = omega (arith, row-power n xs b r z u, power-le n (length xs) n16 (omega arith))
+      module _ (b : ℕ) (z : r ≡ At b) (t : ℕ) (h : (t ≡ firstWord g n lo (i - lo)) × (t ≤ 4096 * (i - lo))) (few : n ≤ 64) (k3 : k ≤ 3) where
+        pub row-limit : b < 262144
+        row-limit = omega (arith, row-power n xs b r z u, power-le n (length xs) few (omega arith))
 
         inside : areBelow n xs ≡ true
         unfolding InRow
@@ -111,7 +112,7 @@ module _ (q : List ℕ) (g : Signature) (lo m n : ℕ) (name xs : List ℕ) (k :
               tuple = record { relation = 5 + i; places = xs };
               valid = valid;
               its-bit = its-bit;
-              small = omega (arith, row-limit);
+              small = subst (λ (x : ℕ). x < 64 * firstWord g n lo m) its-bit (its-words g n lo m (record { relation = 5 + i; places = xs }) valid m (omega arith));
               adds = λ ts at. tuple-in (relationsFrom q g lo m) (5 + lo) n ts at name xs (5 + i) used-there inside;
             }
 
@@ -131,7 +132,7 @@ module _ (q : List ℕ) (g : Signature) (lo m n : ℕ) (name xs : List ℕ) (old
     unfolding Spotted
     there = subst (λ (r : Mark). Spotted q g lo m n name xs r) p w
 
-    pub spot-limit : b < 64 * (64 * m)
+    pub spot-limit : b < 64 * firstWord g n lo m
     spot-limit = there .small
 
     among : (ts : List Tuple) → AllValid g n lo m ts → bit old ≡ marks (bitOf g n lo) ts → bit old b ≡ isAmong (there .tuple) ts
@@ -159,7 +160,7 @@ word-next g n lo j sum p l h e =
     let y : j ≡ lo + (j - lo) = omega arith in
     rw z (ap₂ (λ (x y : ℕ). x + (y + 63) / 64) h (e ∙ ap (λ (i : ℕ). n ^ getD (g .arity) i 0) y))
 
-pub word-limit : (lo j sum p : ℕ) → lo ≤ j → sum ≤ 64 * (j - lo) → p ≤ 4096 → sum + (p + 63) / 64 ≤ 64 * (j + 1 - lo)
+pub word-limit : (lo j sum p : ℕ) → lo ≤ j → sum ≤ 4096 * (j - lo) → p ≤ 262144 → sum + (p + 63) / 64 ≤ 4096 * (j + 1 - lo)
 word-limit lo j sum p l b q = omega arith
 
 pub word-none : (g : Signature) (n lo : ℕ) → 0 ≡ firstWord g n lo (lo - lo)

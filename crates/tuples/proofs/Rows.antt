@@ -1,4 +1,4 @@
--- Rows of elements, one place at a time and for any number of places; the powers of at most 16 elements.
+-- Rows of elements, one place at a time and for any number of places; the powers of at most 64 elements.
 use Prim.Native.Nat.{ℕ, suc, _+_, _-_, _*_, _^_, _≤_, _<_}
 use mathlib.Core.Path.{_≡_, refl, sym, ap₂, subst, _∙_}
 use mathlib.Core.Bool.{true, _&&_, and-true, and-false, and-assoc}
@@ -73,8 +73,8 @@ row-none n = (refl, refl)
 
 -- ---- sizes
 
-pub power-le : (n k : ℕ) → n ≤ 16 → k ≤ 3 → n ^ k ≤ 4096
-power-le n k h l = le-trans (pow-le-pow-left h k) (pow-le-pow-right {n = 16} (omega arith) l)
+pub power-le : (n k : ℕ) → n ≤ 64 → k ≤ 3 → n ^ k ≤ 262144
+power-le n k h l = le-trans (pow-le-pow-left h k) (pow-le-pow-right {n = 64} (omega arith) l)
 
 pub power-next : (n i r : ℕ) → r ≡ n ^ i → r * n ≡ n ^ (i + 1)
 power-next n i r e = let z : i + 1 ≡ suc i = omega arith in rw (z, pow-suc n i, e)
@@ -83,21 +83,21 @@ pub row-power : (n : ℕ) (xs : List ℕ) (b : ℕ) (f : Found) → f ≡ At b �
 unfolding InRow
 row-power n xs b f e w = let v = subst (λ (f : Found). InRow n xs f) e w in rw (v .1) (row-lt n xs (v .0))
 
-pub row-small : (n : ℕ) (xs : List ℕ) (f : Found) → InRow n xs f → n ≤ 16 → length xs ≤ 2 → RowBelow 256 f
+pub row-small : (n : ℕ) (xs : List ℕ) (f : Found) → InRow n xs f → n ≤ 64 → length xs ≤ 2 → RowBelow 4096 f
 unfolding RowBelow
 row-small n xs Nowhere w h l = tt
 row-small n xs (At b) w h l =
-    let e : n ^ length xs ≤ 256 = le-trans (pow-le-pow-left h (length xs)) (pow-le-pow-right {n = 16} (omega arith) l) in
+    let e : n ^ length xs ≤ 4096 = le-trans (pow-le-pow-left h (length xs)) (pow-le-pow-right {n = 64} (omega arith) l) in
     omega (arith, row-power n xs b (At b) refl w)
 
 pub small-row : (k b : ℕ) (f : Found) → f ≡ At b → RowBelow k f → b < k
 unfolding RowBelow
 small-row k b f e w = subst (λ (f : Found). RowBelow k f) e w
 
-pub small-times : (b n : ℕ) → b < 256 → n ≤ 16 → b * n ≤ 4096
-small-times b n h k = mul-le-mul {n₂ = 256} (omega arith) k
+pub small-times : (b n : ℕ) → b < 4096 → n ≤ 64 → b * n ≤ 262144
+small-times b n h k = mul-le-mul {n₂ = 4096} (omega arith) k
 
-pub no-row : RowBelow 256 (At 0)
+pub no-row : RowBelow 4096 (At 0)
 unfolding RowBelow
 no-row = omega arith
 

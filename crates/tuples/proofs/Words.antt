@@ -6,6 +6,7 @@ use mathlib.Core.Bool.{Bool, false, _&&_}
 use mathlib.Core.List.{List, [], _∷_, _++_, map}
 use native.Mathlib.Decide.{decLt}
 use native.Mathlib.Omega.{arith}
+use native.Mathlib.Nat.{suc-mul, mul-zero, pow-suc, le-trans, pow-le-pow-left, pow-le-pow-right}
 use lib.Dec.{ltb}
 use lib.ListN.{getD}
 use borrow.Author.Tests.{ne-eqb, lt-ltb, le-ltb}
@@ -24,6 +25,25 @@ use Rattle.names.specs.declared.Signature.{Signature}
 use Rattle.tuples.specs.Marks.{areBelow, firstWord, bitOf, marks, Valid, AllValid}
 use Rattle.tuples.proofs.Rows.{row-lt}
 use Rattle.tuples.proofs.Bits.{words-apart, row-bound, marks-among}
+
+words-mono : (a b : ℕ) → a ≤ b → wordsFor a ≤ wordsFor b
+unfolding wordsFor
+words-mono a b h = omega arith
+
+-- ---- how many words there are at the most: none of m relations has more than one of three places
+
+cube-le : (k n a : ℕ) → n ≤ k → 1 ≤ a → a ≤ 3 → n ^ a ≤ k ^ 3
+cube-le k n zero h l m = absurd (omega arith)
+cube-le zero n (suc b) h l m = let e : n ≡ 0 = omega arith in rw (e, pow-suc 0 b, mul-zero (0 ^ b)) (omega arith)
+cube-le (suc k) n (suc b) h l m = le-trans (pow-le-pow-left h (suc b)) (pow-le-pow-right {n = suc k} (omega arith) m)
+
+pub words-most : (k : ℕ) (g : Signature) (n lo m : ℕ) → n ≤ k → ((i : ℕ) → i < m → (1 ≤ getD (g .arity) (lo + i) 0) × (getD (g .arity) (lo + i) 0 ≤ 3)) → firstWord g n lo m ≤ m * wordsFor (k ^ 3)
+unfolding firstWord
+words-most k g n lo zero h a = omega arith
+words-most k g n lo (suc m) h a =
+    let w = words-mono (n ^ getD (g .arity) (lo + m) 0) (k ^ 3) (cube-le k n (getD (g .arity) (lo + m) 0) h (a m (omega arith) .0) (a m (omega arith) .1)) in
+    let z : suc m * wordsFor (k ^ 3) ≡ m * wordsFor (k ^ 3) + wordsFor (k ^ 3) = suc-mul m (wordsFor (k ^ 3)) in
+    omega (arith, words-most k g n lo m h (λ i l. a i (omega arith)))
 
 -- ---- bit by bit
 
@@ -57,7 +77,7 @@ module _ (g : Signature) (n lo m : ℕ) where
 
   module _ (t : Tuple) (v : Valid g n lo m t) where
     -- the words of a tuple's relation
-    its-words : (i : ℕ) → t .relation - (5 + lo) < i → bitOf g n lo t < 64 * firstWord g n lo i
+    pub its-words : (i : ℕ) → t .relation - (5 + lo) < i → bitOf g n lo t < 64 * firstWord g n lo i
     unfolding bitOf
     its-words i h =
         let d : ℕ = i - suc (t .relation - (5 + lo)) in

@@ -14,7 +14,7 @@ use Rattle.bits.specs.Table.{bit}
 use Rattle.text.specs.declared.Found.{Found}
 use Rattle.text.specs.declared.Found.the-variants.{At, Nowhere}
 use Rattle.names.specs.declared.Signature.{Signature}
-use Rattle.names.specs.Signatures.{relationsFrom}
+use Rattle.names.specs.Signatures.{relationsFrom, withArrays}
 use Rattle.tuples.specs.declared.Mark.{Mark}
 use Rattle.tuples.specs.declared.Mark.the-variants.{Bit, Fault}
 
@@ -45,6 +45,10 @@ pub record Arrays (lo m : ℕ) (from to arity : List ℕ) : Type 0 where
   pub length-arity : 12 ≤ length arity
   pub arities : (j : ℕ) → j < lo + m → getD arity j 0 ≤ 3
 
+-- a table of so many words holds all tuples of the m relations from lo on, over n elements
+unfoldable pub Roomy : (from to arity : List ℕ) → ℕ → ℕ → ℕ → ℕ → Type 0
+Roomy from to arity lo m n room = (g : Signature) → firstWord (withArrays g from to arity) n lo m ≤ room
+
 -- the bit of a tuple
 unfoldable pub bitOf : Signature → ℕ → ℕ → Tuple → ℕ
 bitOf g n lo t = 64 * firstWord g n lo (t .relation - (5 + lo)) + rowOf n (t .places)
@@ -66,7 +70,7 @@ pub record Stands (q : List ℕ) (g : Signature) (lo m n : ℕ) (name xs : List 
   pub tuple : Tuple
   pub valid : Valid g n lo m tuple
   pub its-bit : bitOf g n lo tuple ≡ b
-  pub small : b < 64 * (64 * m)
+  pub small : b < 64 * firstWord g n lo m
   pub adds : (ts : List Tuple) → (at : ℕ) → addTuple (relationsFrom q g lo m) (5 + lo) n ts at name xs ≡ (refuseIf (isAmong tuple ts) 10 at >>= λ _. accepted (ts ++ (tuple ∷ [])))
 
 -- where a tuple of the text stands, or that it is refused

@@ -6,7 +6,7 @@ ghost use lib.ListN.{length, getD};
 ghost use lib.Seq.{slice};
 ghost use Rattle.records.specs.Entries.{listOf};
 ghost use Rattle.names.specs.Signatures.{withArrays};
-ghost use Rattle.tuples.specs.Marks.{InRow, RowBelow, firstWord, Arrays, Spotted, Added};
+ghost use Rattle.tuples.specs.Marks.{InRow, RowBelow, firstWord, Arrays, Roomy, Spotted, Added};
 use names::Signature;
 use records::Places;
 use text::Found;
@@ -31,7 +31,7 @@ fn count(p: Places) -> usize
 
 // The row of some places and one more, where all are below n.
 fn one_more(f: Found, x: usize, n: usize) -> Found
-    requires { ⌜ (n ≤ 16) × RowBelow 256 f ⌝ }
+    requires { ⌜ (n ≤ 64) × RowBelow 4096 f ⌝ }
     ensures { λ r. ⌜ ((xs : List ℕ) → InRow n xs f → InRow n (xs ++ (x ∷ [])) r) ⌝ }
 {
     match f {
@@ -47,7 +47,7 @@ fn one_more(f: Found, x: usize, n: usize) -> Found
 
 // The row of the elements, where all are below n.
 fn row(p: Places, n: usize) -> Found
-    requires { ⌜ n ≤ 16 ⌝ }
+    requires { ⌜ n ≤ 64 ⌝ }
     ensures { λ r. ⌜ InRow n (listOf p) r ⌝ }
 {
     match p {
@@ -67,7 +67,7 @@ fn row(p: Places, n: usize) -> Found
 
 // n to the power k.
 fn power(n: usize, k: usize) -> usize
-    requires { ⌜ (n ≤ 16) × (k ≤ 3) ⌝ }
+    requires { ⌜ (n ≤ 64) × (k ≤ 3) ⌝ }
     ensures { λ r. ⌜ r ≡ n ^ k ⌝ }
 {
     let mut r: usize = 1;
@@ -81,8 +81,8 @@ fn power(n: usize, k: usize) -> usize
 
 // The first word of relation i, where relation lo has the first word of all, by the array of the arities.
 fn word_of(arity: &[usize], n: usize, lo: usize, i: usize) -> usize
-    requires { ⌜ (n ≤ 16) × (lo ≤ i) × (i ≤ 12) × (12 ≤ length (now arity)) × ((j : ℕ) → j < i → getD (now arity) j 0 ≤ 3) ⌝ }
-    ensures { λ r. ⌜ ((g : Signature) → (from to : List ℕ) → r ≡ firstWord (withArrays g from to (now (arity .entry))) n lo (i - lo)) × (r ≤ 64 * (i - lo)) ⌝ }
+    requires { ⌜ (n ≤ 64) × (lo ≤ i) × (i ≤ 12) × (12 ≤ length (now arity)) × ((j : ℕ) → j < i → getD (now arity) j 0 ≤ 3) ⌝ }
+    ensures { λ r. ⌜ ((g : Signature) → (from to : List ℕ) → r ≡ firstWord (withArrays g from to (now (arity .entry))) n lo (i - lo)) × (r ≤ 4096 * (i - lo)) ⌝ }
 {
     let mut j = lo;
     let mut sum: usize = 0;
@@ -96,8 +96,8 @@ fn word_of(arity: &[usize], n: usize, lo: usize, i: usize) -> usize
 
 // The first word of relation i of a signature.
 pub fn first_word(g: Signature, n: usize, lo: usize, i: usize) -> usize
-    requires { ⌜ (n ≤ 16) × (lo ≤ i) × (i ≤ 12) × ((j : ℕ) → j < i → getD (g .arity) j 0 ≤ 3) ⌝ }
-    ensures { λ r. ⌜ (r ≡ firstWord g n lo (i - lo)) × (r ≤ 64 * (i - lo)) ⌝ }
+    requires { ⌜ (n ≤ 64) × (lo ≤ i) × (i ≤ 12) × ((j : ℕ) → j < i → getD (g .arity) j 0 ≤ 3) ⌝ }
+    ensures { λ r. ⌜ (r ≡ firstWord g n lo (i - lo)) × (r ≤ 4096 * (i - lo)) ⌝ }
 {
     let arity = g.arity;
     word_of(&arity, n, lo, i)
@@ -117,7 +117,7 @@ fn spot(
     e: usize,
     p: Places,
 ) -> Mark
-    requires { ⌜ Arrays lo m (now from) (now to) (now arity) × (n ≤ 16) ⌝ }
+    requires { ⌜ Arrays lo m (now from) (now to) (now arity) × (n ≤ 64) ⌝ }
     ensures { λ r. ⌜ ((g : Signature) → Spotted (now (q .entry)) (withArrays g (now (from .entry)) (now (to .entry)) (now (arity .entry))) lo m n (slice a e (now (s .entry))) (listOf p) r) ⌝ }
 {
     let k = count(p);
@@ -152,7 +152,7 @@ pub fn add(
     p: Places,
     table: &mut [u64],
 ) -> u32
-    requires { ⌜ Arrays lo m (now from) (now to) (now arity) × (n ≤ 16) × (64 * m ≤ length (now table)) ⌝ }
+    requires { ⌜ Arrays lo m (now from) (now to) (now arity) × (n ≤ 64) × Roomy (now from) (now to) (now arity) lo m n (length (now table)) ⌝ }
     ensures { λ r. ⌜ ((g : Signature) → Added (now (q .entry)) (withArrays g (now (from .entry)) (now (to .entry)) (now (arity .entry))) lo m n (slice a e (now (s .entry))) (listOf p) (now (table .entry)) (now (table .exit)) r) ⌝ }
 {
     let t = spot(q, from, to, arity, lo, m, n, s, a, e, p);

@@ -1,33 +1,13 @@
--- `allowances::allowances` meets its contract: the case is refused, or what it gives is told. Assumes nothing.
-use native.Mathlib.Omega.{arith}
+-- `allowances::allowances` meets its contract: the words that it lends for the facts are enough, and clear. Assumes nothing.
 use Rattle.sheets.proofs.Loops.{zeros-clear}
-use Rattle.cases.specs.Known.{case-read}
-use Rattle.allowances.specs.Allows.{call-refused, call-allows}
+use Rattle.asking.specs.Fronts.{few-room}
 use borrow.Author.Needs.{needs}
 use Rattle.allowances.proofs.allowances.Statement.{statement}
 use Rattle.allowances.proofs.allowances.Tie as tie
 
-read-case-requires : tie.Need-read-case-requires
-read-case-requires c κs = (omega arith, zeros-clear 512)
-
-returns : tie.Need-returns
-returns c = call-refused _ _ _ _ _ (c .before .before .before .read-case .ensures) (c .if1 .taken)
-
-of-case-requires : tie.Need-of-case-requires
-of-case-requires c κs =
-    let (x, e, h) = case-read _ _ _ _ (c .before .before .before .before .read-case .ensures) (c .before .if1 .left) in
-    record { case = x; facts = _; holds = h }
-
-returns-2 : tie.Need-returns-2
-returns-2 c = call-allows _ _ _ _ _ (c .before .before .before .before .before .before .before .read-case .ensures) (c .before .before .before .before .if1 .left) _ _ (c .before .before .of-case .ensures)
+allowances-in-requires : tie.Need-allowances-in-requires
+allowances-in-requires c κs = (few-room _, zeros-clear 512)
 
 pub allowances-spec : {M : Type 1} → statement M
 allowances-spec =
-    tie.close
-    (tie.spec
-    (λ c. search needs)
-    read-case-requires
-    returns
-    of-case-requires
-    (λ c. search needs)
-    returns-2)
+    tie.close (tie.spec (λ c. search needs) allowances-in-requires (λ c. search needs) (λ c. search needs))

@@ -4,10 +4,11 @@ use mathlib.Core.Path.{refl, sym, ap, _∙_}
 use mathlib.Core.List.{map}
 use native.Mathlib.Omega.{arith}
 use lib.Seq.{length-take-le}
+use Rattle.definitions.specs.Limits.{usual}
 use Rattle.definitions.specs.Lists.{from}
 use Rattle.definitions.specs.Atoms.{problemOf}
 use Rattle.definitions.specs.Allowance.{allowance}
-use Rattle.reduction.specs.Grounded.{good}
+use Rattle.laws.specs.Grounded.{good}
 use Rattle.grounding.specs.Grounds.{declared, rule-fine, inputs}
 use Rattle.allowances.specs.Allows.{allows-over, allows-short, allows-written}
 use borrow.Author.Needs.{needs}
@@ -21,14 +22,18 @@ nodes-of-requires : tie.Need-nodes-of-requires
 nodes-of-requires c κs = rule-fine _ _ _ _ (c .before .before .before .before .before .pre .holds)
 
 returns : tie.Need-returns
-returns c = λ x facts A h.
-    let i = inputs _ _ x facts h _ _ (c .before .before .before .before .relations-of .ensures .1) (c .before .before .before .nodes-of .ensures) in
-    allows-over x _ _ (c .before .before .of-tables .ensures (problemOf x) i) (sym (c .if1 .taken) ∙ c .before .too-many .ensures)
+returns c = λ site facts read z.
+    let counts = c .before .before .of-tables .ensures in
+    let over = sym (c .if1 .taken) ∙ c .before .too-many .ensures in
+    allows-over usual _ site _ _ facts read z _ (λ x h. counts (problemOf x) (inputs _ _ x facts h _ _ (c .before .before .before .before .relations-of .ensures .1) (c .before .before .before .nodes-of .ensures))) over
 
 returns-2 : tie.Need-returns-2
-returns-2 c = λ x facts A h.
-    let i = inputs _ _ x facts h _ _ (c .before .before .before .before .before .relations-of .ensures .1) (c .before .before .before .before .nodes-of .ensures) in
-    allows-short x _ _ (c .before .before .before .of-tables .ensures (problemOf x) i) (sym (c .before .if1 .left) ∙ c .before .before .too-many .ensures) _ A _ facts h (c .if2 .taken)
+returns-2 c = λ site facts read z.
+    let counts = c .before .before .before .of-tables .ensures in
+    let within = sym (c .before .if1 .left) ∙ c .before .before .too-many .ensures in
+    let rels = c .before .before .before .before .before .relations-of .ensures .1 in
+    let nodes = c .before .before .before .before .nodes-of .ensures in
+    allows-short usual _ site _ _ facts read z _ (λ x h. counts (problemOf x) (inputs _ _ x facts h _ _ rels nodes)) (omega arith) within (c .if2 .taken)
 
 add-write : tie.Need-add-write
 add-write c = omega (arith, c .before .before .before .before .before .before .before .before .before .before .before .pre .holds .sound .rels-le)
@@ -40,17 +45,20 @@ write-requires : tie.Need-write-requires
 write-requires c κs =
     let s = c .before .before .before .before .before .before .before .before .before .before .before .before in
     let l = length-take-le (s .args .o .sig .chosen) (s .args .out .now) (omega arith) in
-    (s .pre .holds .some-elements, omega (arith, s .pre .holds .few-elements), c .before .before .before .before .before .before .nodes-of .ensures .fits, omega (arith, l, s .pre .holds .sound .rels-le, s .pre .holds .sound .chosen-le))
+    let h = s .pre .holds in
+    (h .some-elements, omega (arith, h .few-elements), c .before .before .before .before .before .before .nodes-of .ensures .fits, omega (arith, l, h .sound .rels-le, h .sound .chosen-le))
 
 returns-3 : tie.Need-returns-3
-returns-3 c = λ x facts A h.
+returns-3 c = λ site facts read z.
     let s = c .before .before .before .before .before .before .before .before .before .before .before .before .before .before .before in
-    let i = inputs _ _ x facts h _ _ (c .before .before .before .before .before .before .before .before .before .before .relations-of .ensures .1) (c .before .before .before .before .before .before .before .before .before .nodes-of .ensures) in
     let l = length-take-le (s .args .o .sig .chosen) (s .args .out .now) (omega arith) in
-    allows-written x _ _ (c .before .before .before .before .before .before .before .before .of-tables .ensures (problemOf x) i)
-    (sym (c .before .before .before .before .before .before .if1 .left) ∙ c .before .before .before .before .before .before .before .too-many .ensures) _ A _ facts h (omega arith) _ _
-    (c .before .before .write .ensures (problemOf x) _ (good x A) i
-    ∙ ap (λ (k : ℕ). map (allowance (problemOf x)) (from (5 + s .args .o .sig .rels) k)) l) refl
+    let within = sym (c .before .before .before .before .before .before .if1 .left) ∙ c .before .before .before .before .before .before .before .too-many .ensures in
+    let rels = c .before .before .before .before .before .before .before .before .before .before .relations-of .ensures .1 in
+    let nodes = c .before .before .before .before .before .before .before .before .before .nodes-of .ensures in
+    let counts = c .before .before .before .before .before .before .before .before .of-tables .ensures in
+    let writes = c .before .before .write .ensures in
+    allows-written usual _ site _ _ facts read z _ (λ x h. counts (problemOf x) (inputs _ _ x facts h _ _ rels nodes)) (omega arith) within (omega arith) _ _
+    (λ x A h. writes (problemOf x) _ (good x A) (inputs _ _ x facts h _ _ rels nodes) ∙ ap (λ (k : ℕ). map (allowance (problemOf x)) (from (5 + s .args .o .sig .rels) k)) l) refl
 
 pub of-case-spec : {M : Type 1} → statement M
 of-case-spec =

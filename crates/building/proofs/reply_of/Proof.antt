@@ -1,7 +1,7 @@
 -- `building::reply_of` meets its contract: each answer is the result that `answered` gives it. Assumes nothing.
 use mathlib.Core.Path.{sym, ap}
 use Rattle.plans.specs.Answers.{answered}
-use Rattle.cases.specs.Replies.{resultOf}
+use Rattle.asking.specs.Replies.{resultOf}
 use borrow.Author.Needs.{needs}
 use Rattle.building.proofs.reply_of.Statement.{statement}
 use Rattle.building.proofs.reply_of.Tie as tie

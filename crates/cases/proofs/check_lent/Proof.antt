@@ -1,36 +1,13 @@
--- `cases::check_lent` meets its contract: the case is refused, the steps are too many, or they are run. Assumes nothing.
-use native.Mathlib.Omega.{arith}
+-- `cases::check_lent` meets its contract: the words that it lends are enough, and clear. Assumes nothing.
 use Rattle.sheets.proofs.Loops.{zeros-clear}
-use Rattle.cases.specs.Known.{case-in}
-use Rattle.cases.specs.Replies.{call-case, call-steps, call-ran, lent-many, lent-few}
+use Rattle.asking.specs.Fronts.{few-room}
 use borrow.Author.Needs.{needs}
 use Rattle.cases.proofs.check_lent.Statement.{statement}
 use Rattle.cases.proofs.check_lent.Tie as tie
 
-read-case-requires : tie.Need-read-case-requires
-read-case-requires c κs = (omega arith, zeros-clear 512)
-
-returns : tie.Need-returns
-returns c = call-case _ _ _ _ _ _ (c .before .before .before .read-case .ensures) (c .if1 .taken)
-
-returns-2 : tie.Need-returns-2
-returns-2 c = call-steps _ _ _ _ _ _ (c .before .before .before .before .read-case .ensures) (c .before .if1 .left) _ _ (lent-many _ (c .if2 .taken))
-
-check-case-requires : tie.Need-check-case-requires
-check-case-requires c κs = case-in _ _ _ _ (c .before .before .before .before .before .before .read-case .ensures) (c .before .before .before .if1 .left)
-
-returns-3 : tie.Need-returns-3
-returns-3 c = call-ran _ _ _ _ _ _ (c .before .before .before .before .before .before .before .before .before .read-case .ensures) (c .before .before .before .before .before .before .if1 .left) _ (lent-few _ (omega arith)) _ _ (c .before .before .check-case .ensures)
+check-lent-in-requires : tie.Need-check-lent-in-requires
+check-lent-in-requires c κs = (few-room _, zeros-clear 512)
 
 pub check-lent-spec : {M : Type 1} → statement M
 check-lent-spec =
-    tie.close
-    (tie.spec
-    (λ c. search needs)
-    read-case-requires
-    returns
-    returns-2
-    (λ c. search needs)
-    check-case-requires
-    (λ c. search needs)
-    returns-3)
+    tie.close (tie.spec (λ c. search needs) check-lent-in-requires (λ c. search needs) (λ c. search needs))

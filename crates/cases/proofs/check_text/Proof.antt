@@ -1,44 +1,13 @@
--- `cases::check_text` meets its contract: the case is refused, or a list is lent that has room for the steps of the text. Assumes nothing.
-use native.Mathlib.Omega.{arith}
+-- `cases::check_text` meets its contract: the words that it lends are enough, and clear. Assumes nothing.
 use Rattle.sheets.proofs.Loops.{zeros-clear}
-use Rattle.cases.specs.Known.{case-in}
-use Rattle.cases.specs.Replies.{call-case}
+use Rattle.asking.specs.Fronts.{few-room}
 use borrow.Author.Needs.{needs}
 use Rattle.cases.proofs.check_text.Statement.{statement}
 use Rattle.cases.proofs.check_text.Tie as tie
 
-read-case-requires : tie.Need-read-case-requires
-read-case-requires c κs = (omega arith, zeros-clear 512)
-
-returns : tie.Need-returns
-returns c = call-case _ _ _ _ _ _ (c .before .before .before .read-case .ensures) (c .if1 .taken)
-
-check-listed-requires : tie.Need-check-listed-requires
-check-listed-requires c κs = (case-in _ _ _ _ (c .before .before .before .before .before .before .before .read-case .ensures) (c .before .before .before .before .if1 .left), λ few. omega arith)
-
-returns-2 : tie.Need-returns-2
-returns-2 c = c .before .before .before .check-listed .ensures _ (c .before .before .before .before .before .before .before .before .before .before .before .read-case .ensures) (c .before .before .before .before .before .before .before .before .if1 .left)
-
-check-listed-requires-2 : tie.Need-check-listed-requires-2
-check-listed-requires-2 c κs = (case-in _ _ _ _ (c .before .before .before .before .before .before .before .read-case .ensures) (c .before .before .before .before .if1 .left), λ few. omega arith)
-
-returns-3 : tie.Need-returns-3
-returns-3 c = c .before .before .before .check-listed2 .ensures _ (c .before .before .before .before .before .before .before .before .before .before .before .read-case .ensures) (c .before .before .before .before .before .before .before .before .if1 .left)
+check-text-in-requires : tie.Need-check-text-in-requires
+check-text-in-requires c κs = (few-room _, zeros-clear 512)
 
 pub check-text-spec : {M : Type 1} → statement M
 check-text-spec =
-    tie.close
-    (tie.spec
-    (λ c. search needs)
-    read-case-requires
-    returns
-    (λ c. search needs)
-    (λ c. search needs)
-    check-listed-requires
-    (λ c. search needs)
-    returns-2
-    (λ c. search needs)
-    (λ c. search needs)
-    check-listed-requires-2
-    (λ c. search needs)
-    returns-3)
+    tie.close (tie.spec (λ c. search needs) check-text-in-requires (λ c. search needs) (λ c. search needs))

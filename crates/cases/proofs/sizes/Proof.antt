@@ -4,25 +4,13 @@ use borrow.Author.Needs.{needs}
 use Rattle.cases.proofs.sizes.Statement.{statement}
 use Rattle.cases.proofs.sizes.Tie as tie
 
-tally-requires : tie.Need-tally-requires
-tally-requires c κs = search needs
-
-enum-known-a : tie.Need-enum-known-a
-enum-known-a c = search needs
-
-enum-known-a-2 : tie.Need-enum-known-a-2
-enum-known-a-2 c = search needs
-
-limited-requires : tie.Need-limited-requires
-limited-requires c κs = search needs
-
 returns : tie.Need-returns
-returns c = sizes-refused _ _ _ (c .before .before .before .tally .ensures) _ _ (c .before .a .given .1)
+returns c = sizes-refused _ _ _ _ (c .before .before .before .tally .ensures) _ _ (c .before .a .given .1)
 
 returns-2 : tie.Need-returns-2
-returns-2 c = sizes-counted _ _ _ (c .before .before .before .before .tally .ensures) _ (c .before .before .a2 .given .1) _ (c .limited .ensures)
+returns-2 c = sizes-counted _ _ _ _ (c .before .before .before .before .tally .ensures) _ (c .before .before .a2 .given .1) _ (c .limited .ensures)
 
 pub sizes-spec : {M : Type 1} → statement M
 sizes-spec =
     tie.close
-    (tie.spec tally-requires enum-known-a enum-known-a-2 limited-requires returns returns-2)
+    (tie.spec (λ c κs. search needs) (λ c. search needs) (λ c. search needs) (λ c κs. search needs) returns returns-2)

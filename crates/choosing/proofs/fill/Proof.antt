@@ -8,7 +8,7 @@ use Rattle.choosing.proofs.fill.Tie as tie
 use Rattle.choosing.proofs.fill.Reads as reads
 use Rattle.choosing.proofs.fill.Lts as lts
 use Rattle.choosing.proofs.no_nodes.Reads as no-nodes-reads
-use Rattle.table.proofs.fill.Reads as fill-reads
+use Rattle.layout.proofs.fill.Reads as fill-reads
 
 -- src/lib.rt:51:9
 no-nodes-requires : tie.Need-no-nodes-requires

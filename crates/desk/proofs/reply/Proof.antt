@@ -15,13 +15,19 @@ slice-aggregate-check : tie.Need-slice-aggregate-check
 slice-aggregate-check c = sym (length-take-le _ _ (omega (arith, c .before .before .before .cut-input .ensures .asked, c .before .before .before .cut-input .ensures .within)))
 
 returns-2 : tie.Need-returns-2
-returns-2 c = answers-checked _ _ _ _ (omega (arith, c .before .before .before .before .before .before .before .if1 .left)) _ _ _ (c .before .before .before .before .before .before .cut-input .ensures) (c .before .before .before .before .before .if2 .taken) _ (part-to-end (c .before .before .before .before .before .before .before .before .before .args .input .now) (c .before .before .before .before .before .before .cut-input .result .site)) (c .check .ensures)
+returns-2 c =
+    let x = c .before .before .before .before .before .before in
+    let s = x .before .before .before in
+    answers-checked _ _ _ _ (omega (arith, x .before .if1 .left)) _ _ _ (x .cut-input .ensures) (c .before .before .before .before .before .if2 .taken) _ (part-to-end (s .args .input .now) (x .cut-input .result .site)) (c .check .ensures)
 
 slice-aggregate-build : tie.Need-slice-aggregate-build
 slice-aggregate-build c = sym (length-take-le _ _ (omega (arith, c .before .before .before .cut-input .ensures .asked, c .before .before .before .cut-input .ensures .within)))
 
 returns-3 : tie.Need-returns-3
-returns-3 c = answers-built _ _ _ _ (omega (arith, c .before .before .before .before .before .before .before .if1 .left)) _ _ _ (c .before .before .before .before .before .before .cut-input .ensures) (c .before .before .before .before .before .if2 .left) _ (part-to-end (c .before .before .before .before .before .before .before .before .before .args .input .now) (c .before .before .before .before .before .before .cut-input .result .site)) (c .build .ensures)
+returns-3 c =
+    let x = c .before .before .before .before .before .before in
+    let s = x .before .before .before in
+    answers-built _ _ _ _ (omega (arith, x .before .if1 .left)) _ _ _ (x .cut-input .ensures) (c .before .before .before .before .before .if2 .left) _ (part-to-end (s .args .input .now) (x .cut-input .result .site)) (c .build .ensures)
 
 pub reply-spec : {M : Type 1} → statement M
 reply-spec =

@@ -6,16 +6,29 @@ use Rattle.desk.proofs.report.Statement.{statement}
 use Rattle.desk.proofs.report.Tie as tie
 
 head-requires : tie.Need-head-requires
-head-requires c κs = let R = c .before .before .before .before .before .before .pre .0 in (R .sound, R .some-elements, R .few-elements, R .words-fit, omega (arith, head-fits _ _ (c .before .before .before .before .before .before .args .m) _ (c .before .before .before .before .before .before .args .words .now) _ R))
+head-requires c κs =
+    let s = c .before .before .before .before .before .before .before .before in
+    let R = s .pre .0 in
+    (R .sound, R .some-elements, R .few-elements, R .words-fit, omega (arith, head-fits _ _ _ (s .args .words .now) _ R))
 
 step-lines-requires : tie.Need-step-lines-requires
-step-lines-requires c κs = (omega arith, steps-room _ _ (c .before .before .before .before .before .before .before .before .before .before .args .m) _ _ _ (c .before .before .before .before .before .before .before .before .before .before .pre .0) (λ j. omega (arith, c .before .before .before .before .before .before .shared-slice-known3 .given j)) _ _ _ (c .before .before .before .before .before .before .before .before .before .before .pre .1) (c .before .before .before .head .ensures))
+step-lines-requires c κs =
+    let s = c .before .before .before .before .before .before .before .before .before .before .before .before in
+    let x = c .before .before .before .before .before .before .before .before in
+    (omega arith, steps-room _ _ _ _ _ (s .pre .0) (λ j. omega (arith, x .shared-slice-known3 .given j)) _ _ _ (s .pre .1) (c .before .before .before .head .ensures))
 
 ok-line-requires : tie.Need-ok-line-requires
-ok-line-requires c κs = count-room _ _ (c .before .before .before .before .before .before .before .before .before .before .before .before .before .before .args .m) _ _ _ (c .before .before .before .before .before .before .before .before .before .before .before .before .before .before .pre .0) (λ j. omega (arith, c .before .before .before .before .before .before .before .before .before .before .shared-slice-known3 .given j)) _ _ _ (c .before .before .before .before .before .before .before .before .before .before .before .before .before .before .pre .1) (c .before .before .before .before .before .before .before .head .ensures) _ _ (c .before .before .before .step-lines .ensures) _
+ok-line-requires c κs =
+    let s = c .before .before .before .before .before .before .before .before .before .before .before .before .before .before .before .before in
+    let x = c .before .before .before .before .before .before .before .before .before .before .before .before in
+    count-room _ _ _ _ _ (s .pre .0) (λ j. omega (arith, x .shared-slice-known3 .given j)) _ _ _ (s .pre .1) (c .before .before .before .before .before .before .before .head .ensures) _ _ (c .before .before .before .step-lines .ensures) _
 
 returns : tie.Need-returns
-returns c = reported _ _ _ _ _ _ (c .before .before .before .before .before .before .before .before .before .before .before .before .before .before .before .before .before .pre .0) (λ j. omega (arith, c .before .before .before .before .before .before .before .before .before .before .before .before .before .shared-slice-known3 .given j)) _ _ _ (c .before .before .before .before .before .before .before .before .before .before .before .before .before .before .before .before .before .pre .1) (c .before .before .before .before .before .before .before .before .before .before .head .ensures) _ _ (c .before .before .before .before .before .before .step-lines .ensures) _ _ (c .before .before .ok-line .ensures)
+returns c =
+    let s = c .before .before .before .before .before .before .before .before .before .before .before .before .before .before .before .before .before .before .before in
+    let x = c .before .before .before .before .before .before .before .before .before .before .before .before .before .before .before in
+    let y = c .before .before .before .before .before .before in
+    reported _ _ _ _ _ (s .pre .0) (λ j. omega (arith, x .shared-slice-known3 .given j)) _ _ _ (s .pre .1) (y .before .before .before .before .head .ensures) _ _ (y .step-lines .ensures) _ _ (c .before .before .ok-line .ensures)
 
 pub report-spec : {M : Type 1} → statement M
 report-spec =

@@ -1,6 +1,7 @@
 use Prim.Native.Nat.{_+_, _/_}
 use mathlib.Core.Path.{sym, subst, _∙_}
 use native.Mathlib.Omega.{arith}
+use Rattle.ground.specs.ChangeLaws.{put-raise}
 use Rattle.initial.specs.Rows.{Room}
 use Rattle.initial.specs.RowLaws.{atoms-few, atoms-words}
 use Rattle.initial.specs.InitialLaws.{begun}
@@ -31,7 +32,7 @@ returns c =
     begun w (start .args .facts .now) (start .args .state .now) _ ((line .result .atoms + 63) / 64) (start .pre .0)
     (λ j. omega (arith, c .before .before .before .before .before .before .before .before .before .before .before .before .before .before .before .slice-known .given j)) (λ j. omega (arith, c .slice-known4 .given j))
     (c .before .before .put-relations .kept .0 ∙ wrote .kept .0 ∙ filled .kept .0) m (omega (arith, m, start .pre .1)) (filled .ensures .1)
-    (λ h. wrote .ensures (omega (arith, filled .kept .0)))
+    (λ h. wrote .ensures (omega (arith, filled .kept .0)) ∙ sym (put-raise _ _))
     (λ h. c .before .before .put-relations .ensures (subst (Room w) (sym (wrote .kept .0 ∙ filled .kept .0)) h))
 
 pub initial-state-spec : {M : Type 1} → statement M

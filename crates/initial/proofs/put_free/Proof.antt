@@ -1,11 +1,12 @@
 use borrow.Author.Needs.{needs}
 use Prim.Native.Nat.{_+_, _-_, _*_, _≤_}
-use mathlib.Core.Path.{_≡_, refl, _∙_}
+use mathlib.Core.Path.{_≡_, refl, sym, _∙_}
 use mathlib.Core.Bool.{true}
 use native.Mathlib.Omega.{arith}
 use lib.ListN.{length}
 use Rattle.bits.specs.Table.{bit, paste}
 use Rattle.bits.proofs.Laws.{paste-zero}
+use Rattle.ground.specs.ChangeLaws.{put-raise}
 use Rattle.initial.specs.RowLaws.{range-step}
 use Rattle.initial.proofs.put_free.Statement.{statement}
 use Rattle.initial.proofs.put_free.Tie as tie
@@ -29,7 +30,7 @@ loop-again c =
       omega arith,
       wrote .kept .0 ∙ l .inv .1,
       λ h.
-          range-step (bit (start .args .state .now)) (start .args .from) (λ i. true) (l .k) (l .inv .2 h) (wrote .ensures (omega (arith, l .inv .1))) refl,
+          range-step (bit (start .args .state .now)) (start .args .from) (λ i. true) (l .k) (l .inv .2 h) (wrote .ensures (omega (arith, l .inv .1)) ∙ sym (put-raise _ _)) refl,
     )
 
 same-length : tie.Need-same-length Inv-loop μ-loop

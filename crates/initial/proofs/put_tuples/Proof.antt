@@ -1,10 +1,11 @@
 use borrow.Author.Needs.{needs}
 use Prim.Native.Nat.{_+_, _-_, _*_, _≤_}
-use mathlib.Core.Path.{_≡_, refl, _∙_}
+use mathlib.Core.Path.{_≡_, refl, sym, _∙_}
 use native.Mathlib.Nat.{zero-mul, div-le-self}
 use native.Mathlib.Omega.{arith}
 use lib.ListN.{length}
 use Rattle.bits.specs.Table.{bit}
+use Rattle.ground.specs.ChangeLaws.{put-raise}
 use Rattle.initial.specs.Rows.{PairOf, rowsIn, tuplesPut}
 use Rattle.initial.specs.RowLaws.{pair-high, tuples-none, tuples-step, holding-in, rows-le}
 use Rattle.initial.proofs.put_tuples.Statement.{statement}
@@ -46,7 +47,7 @@ loop-again c =
       λ h.
           let q = holding-in (a .facts .now) (a .n) (a .r) (a .k) (a .first) (l .row) (omega (arith, count .ensures)) in
           tuples-step (a .facts .now) (a .n) (a .r) (a .k) (a .first) (bit (a .state .now)) (l .row) (l .inv .3 h) (held .ensures)
-          (raised .ensures (omega (arith, l .inv .2, held .ensures))),
+          (raised .ensures (omega (arith, l .inv .2, held .ensures)) ∙ sym (put-raise _ _)),
     )
 
 same-length : tie.Need-same-length Inv-loop μ-loop

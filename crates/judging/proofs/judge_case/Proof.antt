@@ -1,137 +1,112 @@
+-- `judging::judge_case` meets its contract: each return is a law of `Judges`: 11, 12, 10, or what is decided. Assumes nothing.
 use mathlib.Core.Path.{_∙_}
 use native.Mathlib.Omega.{arith}
+use Rattle.definitions.specs.Limits.{usual}
 use Rattle.definitions.specs.Atoms.{problemOf}
 use Rattle.layout.specs.LaidLaws.{most-zeros}
 use Rattle.ground.specs.Lines.{tableLength}
 use Rattle.grounding.specs.Grounds.{declared, rule-fine, inputs}
 use Rattle.choosing.specs.Bare.{bare, length-same, spare-same}
-use Rattle.judging.specs.Judges.{some-relations, ends-over, ends-short, ends-spare, ends-judged, asked}
+use Rattle.judging.specs.Judges.{some-relations, ends-over, ends-short, ends-spare, ends-judged, asks-of}
 use borrow.Author.Needs.{needs}
 use Rattle.judging.proofs.judge_case.Statement.{statement}
 use Rattle.judging.proofs.judge_case.Tie as tie
-use Rattle.judging.proofs.judge_case.Reads as reads
-use Rattle.judging.proofs.judge_case.Lts as lts
-use Rattle.choosing.proofs.fill.Reads as fill-reads
-use Rattle.judging.proofs.decide.Reads as decide-reads
-use Rattle.judging.proofs.spare_word.Reads as spare-word-reads
-use Rattle.layout.proofs.lay_out.Reads as lay-out-reads
-use Rattle.reading.proofs.picks_length.Reads as picks-length-reads
-use Rattle.relations.proofs.relations_of.Reads as relations-of-reads
-use Rattle.rewriting.proofs.nodes_of.Reads as nodes-of-reads
 
--- src/lib.rt:108:9
 relations-of-requires : tie.Need-relations-of-requires
 relations-of-requires c κs = declared _ _ _ _ (c .before .before .before .before .before .pre .holds)
 
--- src/lib.rt:109:9
 nodes-of-requires : tie.Need-nodes-of-requires
 nodes-of-requires c κs = rule-fine _ _ _ _ (c .before .before .before .before .before .before .pre .holds)
 
--- src/lib.rt:110:9
-lay-out-requires : tie.Need-lay-out-requires
-lay-out-requires c κs = search needs
-
--- src/lib.rt:112:9
 returns : tie.Need-returns
-returns c =
-    record {
-      fit = λ j. omega (arith, c .before .before .before .before .before .before .shared-slice-known3 .given j);
-      judges = λ x F h A held. ends-over x _ F _ (c .before .lay-out .ensures (problemOf x) (inputs _ _ x _ h _ _ (c .before .before .before .relations-of .ensures .1) (c .before .before .nodes-of .ensures))) (c .if1 .taken);
-    }
+returns c = record {
+  fit = λ j. omega (arith, c .before .before .before .before .before .before .shared-slice-known3 .given j);
+  judges = λ site picks x read h A given F handed.
+      let i = inputs _ _ x _ h _ _ (c .before .before .before .relations-of .ensures .1) (c .before .before .nodes-of .ensures) in
+      ends-over usual _ site picks x read _ given F handed _ (c .before .lay-out .ensures (problemOf x) i) (c .if1 .taken);
+}
 
--- src/lib.rt:116:20
-slice-aggregate-fill : tie.Need-slice-aggregate-fill
-slice-aggregate-fill c = search needs
-
--- src/lib.rt:116:5
 fill-requires : tie.Need-fill-requires
 fill-requires c κs =
-    let s = c .before .before .before .before .before .before .before .before .before .before .before .pre in (
-      search needs,
-      most-zeros tableLength 0,
-      search needs,
-      search needs,
-      c .before .before .before .before .before .relations-of .ensures .0,
-      c .before .before .before .lay-out .ensures (problemOf (s .case)) (inputs _ _ (s .case) _ (s .holds) _ _ (c .before .before .before .before .before .relations-of .ensures .1) (c .before .before .before .before .nodes-of .ensures)) .small (c .before .before .if1 .left),
-    )
+    let at-lay-out = c .before .before .before in
+    let at-nodes-of = at-lay-out .before in
+    let at-relations-of = at-nodes-of .before in
+    let s = at-relations-of .before .before .before .before .before .before in
+    let i = inputs _ _ (s .pre .case) _ (s .pre .holds) _ _ (at-relations-of .relations-of .ensures .1) (at-nodes-of .nodes-of .ensures) in
+    (search needs, most-zeros tableLength 0, search needs, search needs, at-relations-of .relations-of .ensures .0, at-lay-out .lay-out .ensures (problemOf (s .pre .case)) i .small (c .before .before .if1 .left))
 
--- src/lib.rt:117:38
-slice-aggregate-picks-length : tie.Need-slice-aggregate-picks-length
-slice-aggregate-picks-length c = search needs
-
--- src/lib.rt:117:9
-picks-length-requires : tie.Need-picks-length-requires
-picks-length-requires c κs = search needs
-
--- src/lib.rt:119:9
 returns-2 : tie.Need-returns-2
 returns-2 c =
+    let at-fill = c .before .before .before .before in
+    let at-if1 = at-fill .before .before .before in
+    let at-lay-out = at-if1 .before in
+    let at-nodes-of = at-lay-out .before in
+    let at-relations-of = at-nodes-of .before in
+    let at-shared-slice-known3 = at-relations-of .before .before .before in
     record {
-      fit = λ j. omega (arith, c .before .before .before .before .before .before .before .before .before .before .before .before .before .shared-slice-known3 .given j);
-      judges = λ x F h A held.
-          let i = inputs _ _ x _ h _ _ (c .before .before .before .before .before .before .before .before .before .before .relations-of .ensures .1) (c .before .before .before .before .before .before .before .before .before .nodes-of .ensures) in
-          let l = c .before .before .before .before .before .before .before .before .lay-out .ensures (problemOf x) i in
-          let is = c .before .before .before .before .fill .ensures .1 (problemOf x) _ (some-relations x) i (l .starts) in
-          ends-short x _ F _ l (c .before .before .before .before .before .before .before .if1 .left) _ (c .before .picks-length .ensures .1 (bare (problemOf x)) is ∙ length-same (problemOf x)) (c .if2 .taken);
+      fit = λ j. omega (arith, at-shared-slice-known3 .shared-slice-known3 .given j);
+      judges = λ site picks x read h A given F handed.
+          let i = inputs _ _ x _ h _ _ (at-relations-of .relations-of .ensures .1) (at-nodes-of .nodes-of .ensures) in
+          let l = at-lay-out .lay-out .ensures (problemOf x) i in
+          let is = at-fill .fill .ensures .1 (problemOf x) _ (some-relations x) i (l .starts) in
+          let q = c .before .picks-length .ensures .1 (bare (problemOf x)) is ∙ length-same (problemOf x) in
+          ends-short usual _ site picks x read _ given F handed _ l (at-if1 .if1 .left) _ q (c .if2 .taken);
     }
 
--- src/lib.rt:121:24
-slice-aggregate-spare-word : tie.Need-slice-aggregate-spare-word
-slice-aggregate-spare-word c = search needs
-
--- src/lib.rt:121:9
-spare-word-requires : tie.Need-spare-word-requires
-spare-word-requires c κs = search needs
-
--- src/lib.rt:123:21
-enum-known-s : tie.Need-enum-known-s
-enum-known-s c = search needs
-
--- src/lib.rt:124:32
-enum-told : tie.Need-enum-told
-enum-told c = search needs
-
--- src/lib.rt:124:32
-slice-aggregate-decide : tie.Need-slice-aggregate-decide
-slice-aggregate-decide c = search needs
-
--- src/lib.rt:124:25
 decide-requires : tie.Need-decide-requires
 decide-requires c κs =
-    let s = c .before .before .before .before .before .before .before .before .before .before .before .before .before .before .before .before .before .before .before .before .before .pre in (
-      c .before .before .before .before .before .before .before .before .before .fill .ensures .0,
-      s .holds .some-elements,
-      omega (arith, s .holds .few-elements),
-      c .before .before .before .before .before .before .before .before .before .before .before .before .before .before .before .relations-of .ensures .0,
-      c .before .before .before .before .before .before .before .before .before .before .before .before .before .before .nodes-of .ensures .fits,
-      record { case = s .case; accepted-case = s .accepted-case; inputs = inputs _ _ (s .case) _ (s .holds) _ _ (c .before .before .before .before .before .before .before .before .before .before .before .before .before .before .before .relations-of .ensures .1) (c .before .before .before .before .before .before .before .before .before .before .before .before .before .before .nodes-of .ensures) },
-    )
+    let at-fill = c .before .before .before .before .before .before .before .before .before in
+    let at-nodes-of = at-fill .before .before .before .before .before in
+    let at-relations-of = at-nodes-of .before in
+    let s = at-relations-of .before .before .before .before .before .before in
+    let k = s .pre in
+    let i = inputs _ _ (k .case) _ (k .holds) _ _ (at-relations-of .relations-of .ensures .1) (at-nodes-of .nodes-of .ensures) in
+    (at-fill .fill .ensures .0, k .holds .some-elements, k .holds .few-elements, at-relations-of .relations-of .ensures .0, at-nodes-of .nodes-of .ensures .fits, record { case = k .case; accepted-case = k .accepted-case; inputs = i })
 
--- src/lib.rt:101:1
 returns-3 : tie.Need-returns-3
 returns-3 c =
+    let at-spare-word = c .before .before .before in
+    let at-if2 = at-spare-word .before .before in
+    let at-picks-length = at-if2 .before in
+    let at-fill = at-picks-length .before .before .before in
+    let at-if1 = at-fill .before .before .before in
+    let at-lay-out = at-if1 .before in
+    let at-nodes-of = at-lay-out .before in
+    let at-relations-of = at-nodes-of .before in
+    let at-shared-slice-known3 = at-relations-of .before .before .before in
     record {
-      fit = λ j. omega (arith, c .before .before .before .before .before .before .before .before .before .before .before .before .before .before .before .before .before .before .shared-slice-known3 .given j);
-      judges = λ x F h A held.
-          let i = inputs _ _ x _ h _ _ (c .before .before .before .before .before .before .before .before .before .before .before .before .before .before .before .relations-of .ensures .1) (c .before .before .before .before .before .before .before .before .before .before .before .before .before .before .nodes-of .ensures) in
-          let l = c .before .before .before .before .before .before .before .before .before .before .before .before .before .lay-out .ensures (problemOf x) i in
-          let is = c .before .before .before .before .before .before .before .before .before .fill .ensures .1 (problemOf x) _ (some-relations x) i (l .starts) in
-          ends-spare x _ F _ l (c .before .before .before .before .before .before .before .before .before .before .before .before .if1 .left) _ (c .before .before .before .before .before .before .picks-length .ensures .1 (bare (problemOf x)) is ∙ length-same (problemOf x)) (omega arith) _ (c .before .before .before .spare-word .ensures (bare (problemOf x)) is ∙ spare-same (problemOf x) _) _ (c .before .s .given .1);
+      fit = λ j. omega (arith, at-shared-slice-known3 .shared-slice-known3 .given j);
+      judges = λ site picks x read h A given F handed.
+          let i = inputs _ _ x _ h _ _ (at-relations-of .relations-of .ensures .1) (at-nodes-of .nodes-of .ensures) in
+          let l = at-lay-out .lay-out .ensures (problemOf x) i in
+          let is = at-fill .fill .ensures .1 (problemOf x) _ (some-relations x) i (l .starts) in
+          let q = at-picks-length .picks-length .ensures .1 (bare (problemOf x)) is ∙ length-same (problemOf x) in
+          let e = at-spare-word .spare-word .ensures (bare (problemOf x)) is ∙ spare-same (problemOf x) _ in
+          ends-spare usual _ site picks x read _ given F handed _ l (at-if1 .if1 .left) _ q (omega (arith, at-if2 .if2 .left)) _ e _ (c .before .s .given .1);
     }
 
--- src/lib.rt:101:1
 returns-4 : tie.Need-returns-4
 returns-4 c =
+    let at-enum-told = c .before .before in
+    let at-spare-word = at-enum-told .before .before in
+    let at-if2 = at-spare-word .before .before in
+    let at-picks-length = at-if2 .before in
+    let at-fill = at-picks-length .before .before .before in
+    let at-if1 = at-fill .before .before .before in
+    let at-lay-out = at-if1 .before in
+    let at-nodes-of = at-lay-out .before in
+    let at-relations-of = at-nodes-of .before in
+    let at-shared-slice-known3 = at-relations-of .before .before .before in
     record {
-      fit = λ j. omega (arith, c .before .before .before .before .before .before .before .before .before .before .before .before .before .before .before .before .before .before .before .shared-slice-known3 .given j);
-      judges = λ x F h A held.
-          let i = inputs _ _ x _ h _ _ (c .before .before .before .before .before .before .before .before .before .before .before .before .before .before .before .before .relations-of .ensures .1) (c .before .before .before .before .before .before .before .before .before .before .before .before .before .before .before .nodes-of .ensures) in
-          let l = c .before .before .before .before .before .before .before .before .before .before .before .before .before .before .lay-out .ensures (problemOf x) i in
-          let is = c .before .before .before .before .before .before .before .before .before .before .fill .ensures .1 (problemOf x) _ (some-relations x) i (l .starts) in
-          let q = c .before .before .before .before .before .before .before .picks-length .ensures .1 (bare (problemOf x)) is ∙ length-same (problemOf x) in
-          let e = c .before .before .before .before .spare-word .ensures (bare (problemOf x)) is ∙ spare-same (problemOf x) _ in
-          ends-judged x _ F _ l (c .before .before .before .before .before .before .before .before .before .before .before .before .before .if1 .left) _ q (omega arith) _ e (c .before .before .enum-told .given .1) _
-          (c .decide .ensures x F (asked x _ F _ l (c .before .before .before .before .before .before .before .before .before .before .before .before .before .if1 .left) _ q (omega arith) _ e (c .before .before .enum-told .given .1) _ _ _ h A held _ _ _ _ i is));
+      fit = λ j. omega (arith, at-shared-slice-known3 .shared-slice-known3 .given j);
+      judges = λ site picks x read h A given F handed.
+          let i = inputs _ _ x _ h _ _ (at-relations-of .relations-of .ensures .1) (at-nodes-of .nodes-of .ensures) in
+          let l = at-lay-out .lay-out .ensures (problemOf x) i in
+          let is = at-fill .fill .ensures .1 (problemOf x) _ (some-relations x) i (l .starts) in
+          let q = at-picks-length .picks-length .ensures .1 (bare (problemOf x)) is ∙ length-same (problemOf x) in
+          let e = at-spare-word .spare-word .ensures (bare (problemOf x)) is ∙ spare-same (problemOf x) _ in
+          let asks = asks-of usual _ site picks x read _ given F handed _ l (at-if1 .if1 .left) _ q (omega (arith, at-if2 .if2 .left)) _ e (at-enum-told .enum-told .given .1) _ _ h A _ _ _ _ i is in
+          ends-judged usual _ site picks x read _ given F handed _ l (at-if1 .if1 .left) _ q (omega (arith, at-if2 .if2 .left)) _ e (at-enum-told .enum-told .given .1) _ (c .decide .ensures x F asks);
     }
 
 pub judge-case-spec : {M : Type 1} → statement M
@@ -140,18 +115,18 @@ judge-case-spec =
     (tie.spec
     relations-of-requires
     nodes-of-requires
-    lay-out-requires
+    (λ c κs. search needs)
     returns
-    slice-aggregate-fill
+    (λ c. search needs)
     fill-requires
-    slice-aggregate-picks-length
-    picks-length-requires
+    (λ c. search needs)
+    (λ c κs. search needs)
     returns-2
-    slice-aggregate-spare-word
-    spare-word-requires
-    enum-known-s
-    enum-told
-    slice-aggregate-decide
+    (λ c. search needs)
+    (λ c κs. search needs)
+    (λ c. search needs)
+    (λ c. search needs)
+    (λ c. search needs)
     decide-requires
     returns-3
     returns-4)

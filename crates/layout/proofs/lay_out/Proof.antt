@@ -32,8 +32,9 @@ add-bound-2 : tie.Need-add-bound-2
 add-bound-2 c = omega (arith, c .before .before .before .before .before .relation-starts .ensures .at-is, rel-bound (c .before .before .before .before .before .before .args .n) (c .before .before .before .before .before .before .args .g) (c .before .before .before .before .before .before .pre .1) (c .before .before .before .before .before .before .pre .2) (c .before .before .before .before .before .before .args .g .count), c .before .before .before .before .before .before .pre .2 .count, c .before .before .before .node-starts .ensures .at-is, node-bound (c .before .before .before .before .before .before .args .n) (c .before .before .before .before .before .before .args .t) (c .before .before .before .before .before .relation-starts .result .at) (c .before .before .before .before .before .relation-starts .result .sets + 1) (c .before .before .before .before .before .before .pre .1) (c .before .before .before .before .before .before .pre .3) (c .before .before .before .before .before .before .args .t .count), c .before .before .before .before .before .before .pre .3 .few, c .before .before .before .before .before .relation-starts .ensures .picks-are, pick-bound (c .before .before .before .before .before .before .args .n) (c .before .before .before .before .before .before .args .g) (c .before .before .before .before .before .before .pre .1) (c .before .before .before .before .before .before .pre .2) (c .before .before .before .before .before .before .args .g .count))
 
 returns : tie.Need-returns
-returns c = λ p is. laid (c .before .before .before .before .before .before .before .before .before .before .before .before .before .args .n) p (c .before .before .before .before .before .before .before .before .before .before .before .before .before .args .g) (c .before .before .before .before .before .before .before .before .before .before .before .before .before .args .t) is (c .before .before .before .before .before .before .before .before .before .before .before .before .before .pre .3) (c .before .before .before .before .before .before .before .before .before .before .before .before .relation-starts .result .rel) (c .before .before .before .before .before .before .before .before .before .before .before .before .relation-starts .result .neg) (c .before .before .before .before .before .before .before .before .before .before .before .before .relation-starts .result .dom) (c .before .before .before .before .before .before .before .before .before .before .before .before .relation-starts .result .set) (c .before .before .before .before .before .before .before .before .before .before .node-starts .result .node) (c .before .before .before .before .before .before .before .before .before .before .node-starts .result .act) (c .before .before .before .before .before .before .before .before .before .before .before .before .relation-starts .result .at) (c .before .before .before .before .before .before .before .before .before .before .before .before .relation-starts .result .sets) (c .before .before .before .before .before .before .before .before .before .before .before .before .relation-starts .result .picks) (c .before .before .before .before .before .before .before .before .before .before .node-starts .result .at) (c .before .before .before .before .before .before .before .before .before .before .node-starts .result .acts) (c .before .before .before .before .before .before .too-many .result)
-    (c .before .before .before .before .before .before .before .before .before .before .before .before .relation-starts .ensures) (c .before .before .before .before .before .before .before .before .before .before .node-starts .ensures) (c .before .before .before .before .before .before .too-many .ensures)
+returns c =
+    let known = c .before .before .before .before .before .before .before .before .before .before .before .before .before .pre in
+    λ p is. laid _ p _ _ is (known .3) _ _ _ _ _ _ _ _ _ _ _ _ (c .before .before .before .before .before .before .before .before .before .before .before .before .relation-starts .ensures) (c .before .before .before .before .before .before .before .before .before .before .node-starts .ensures) _ _ (known .4) (known .5) (c .before .before .before .before .before .before .too-many .ensures)
 
 pub lay-out-spec : {M : Type 1} → statement M
 lay-out-spec =

@@ -14,7 +14,7 @@ use Rattle.layout.proofs.node_starts.Reads as reads
 use Rattle.layout.proofs.node_starts.Lts as lts
 use Rattle.layout.proofs.choices.Reads as choices-reads
 use Rattle.layout.proofs.node_width.Reads as node-width-reads
-use Rattle.layout.proofs.wide.Reads as wide-reads
+use Rattle.tree.proofs.wide.Reads as wide-reads
 use Rattle.rows.proofs.power.Reads as power-reads
 
 abbrev Inv-loop : tie.InvT-loop
@@ -29,7 +29,7 @@ row c = getD (c .before .before .args .t2 .rows) (c .before .loop .v) noNode
 
 -- how many values its free variables have
 rows-are : (c : tie.After-power Inv-loop μ-loop) → c .power .result ≡ c .before .before .before .before .before .before .args .n ^ row (c .before .before .before .before) .width
-rows-are c = c .power .ensures ∙ ap (λ (k : ℕ). c .before .before .before .before .before .before .args .n ^ k) (c .before .wide2 .ensures)
+rows-are c = c .power .ensures ∙ ap (λ (k : ℕ). c .before .before .before .before .before .before .args .n ^ k) (c .before .wide2 .ensures .0)
 
 rows-small : (c : tie.After-power Inv-loop μ-loop) → c .power .result ≤ 64 ^ 4
 rows-small c =
@@ -40,7 +40,7 @@ rows-small c =
 -- how many actions it has at each of these, and in all
 row-choices : (c : tie.After-choices Inv-loop μ-loop)
     → let s = c .before .before .before .before .before .before .before in c .choices .result ≡ choicesOf (s .before .before .args .n) (row s .kind) (row s .many)
-row-choices c = let s = c .before .before .before .before .before .before .before in c .choices .ensures ∙ ap₂ (choicesOf (s .before .before .args .n)) (c .before .before .before .before .before .wide .ensures) (c .before .wide3 .ensures)
+row-choices c = let s = c .before .before .before .before .before .before .before in c .choices .ensures ∙ ap₂ (choicesOf (s .before .before .args .n)) (c .before .before .before .before .before .wide .ensures .0) (c .before .wide3 .ensures .0)
 
 acts-small : (c : tie.After-choices Inv-loop μ-loop) → c .before .before .before .power .result * c .choices .result ≤ 64 ^ 4 * 64
 acts-small c =
@@ -50,7 +50,7 @@ acts-small c =
 -- how many atoms it has
 row-width : (c : tie.After-node-width Inv-loop μ-loop)
     → let s = c .before .before .before .before .before in c .node-width .result ≡ nodeWidth (s .before .before .args .n) (c .before .power .result) (row s .kind)
-row-width c = c .node-width .ensures ∙ ap (nodeWidth (c .before .before .before .before .before .before .before .args .n) (c .before .power .result)) (c .before .before .before .wide .ensures)
+row-width c = c .node-width .ensures ∙ ap (nodeWidth (c .before .before .before .before .before .before .before .args .n) (c .before .power .result)) (c .before .before .before .wide .ensures .0)
 
 loop-holds : tie.Need-loop-holds Inv-loop μ-loop
 loop-holds c = (omega arith, refl, refl, nodes-first (c .args .n) (c .args .t2) (c .args .from) (c .args .first))
@@ -64,7 +64,7 @@ element-copy-out-row c = omega (arith, c .before .before .pre .2 .few)
 power-requires : tie.Need-power-requires Inv-loop μ-loop
 power-requires c κs =
     let s = c .before .before .before .before .before in
-    let w = c .wide2 .ensures in
+    let w = c .wide2 .ensures .0 in
     (s .pre .0, pow-fits (s .args .n) (c .wide2 .result) (s .pre .1) (omega (arith, w, s .pre .2 .nodes .node (c .before .before .before .before .loop .v) .width)))
 
 node-width-requires : tie.Need-node-width-requires Inv-loop μ-loop

@@ -8,10 +8,10 @@ use Rattle.layout.proofs.too_many.Reads as reads
 use Rattle.layout.proofs.too_many.Lts as lts
 
 returns : tie.Need-returns
-returns c = too-many 65536 131072 (c .before .args .atoms) (c .before .args .actions) (omega arith)
+returns c = too-many (c .before .args .most-atoms) (c .before .args .most-actions) (c .before .args .atoms) (c .before .args .actions) (omega arith)
 
 returns-2 : tie.Need-returns-2
-returns-2 c = not-first 65536 131072 (c .before .args .atoms) (c .before .args .actions) _ (omega arith) refl
+returns-2 c = not-first (c .before .args .most-atoms) (c .before .args .most-actions) (c .before .args .atoms) (c .before .args .actions) _ (omega arith) refl
 
 pub too-many-spec : {M : Type 1} → statement M
 too-many-spec = tie.close (tie.spec returns returns-2)

@@ -6,7 +6,7 @@ use Rattle.lines.proofs.block_line.Tie as tie
 use Rattle.lines.proofs.block_line.Reads as reads
 use Rattle.lines.proofs.block_line.Lts as lts
 use Rattle.lines.proofs.own_line.Reads as own-line-reads
-use Rattle.lines.proofs.wide.Reads as wide-reads
+use Rattle.tree.proofs.wide.Reads as wide-reads
 
 -- src/lib.rt:150:9
 wide-requires : tie.Need-wide-requires

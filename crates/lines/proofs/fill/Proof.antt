@@ -1,3 +1,4 @@
+use native.Mathlib.Omega.{arith}
 use Rattle.lines.specs.Numbers.{all-lined}
 use borrow.Author.Needs.{needs}
 use Rattle.lines.proofs.fill.Statement.{statement}
@@ -6,7 +7,7 @@ use Rattle.lines.proofs.fill.Reads as reads
 use Rattle.lines.proofs.fill.Lts as lts
 use Rattle.lines.proofs.fill_nodes.Reads as fill-nodes-reads
 use Rattle.lines.proofs.fill_parts.Reads as fill-parts-reads
-use Rattle.lines.proofs.fill_range.Reads as fill-range-reads
+use Rattle.layout.proofs.fill_range.Reads as fill-range-reads
 
 -- src/lib.rt:244:5
 fill-nodes-requires : tie.Need-fill-nodes-requires
@@ -18,7 +19,9 @@ fill-parts-requires c κs = search needs
 
 -- src/lib.rt:246:5
 fill-range-requires : tie.Need-fill-range-requires
-fill-range-requires c κs = search needs
+fill-range-requires c κs =
+    let s = c .before .before .before .before .before .before .before .before .before .before in
+    omega (arith, c .before .before .before .fill-parts .kept .0, c .before .before .before .before .before .before .before .fill-nodes .kept .0, s .pre .0, s .pre .3)
 
 -- src/lib.rt:240:1
 same-length : tie.Need-same-length

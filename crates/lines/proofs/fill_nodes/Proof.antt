@@ -5,16 +5,16 @@ use native.Mathlib.Omega.{arith}
 use borrow.Author.Needs.{needs}
 use lib.ListN.{length}
 use Rattle.rows.specs.Values.{Most}
-use Rattle.table.specs.Filled.{splice, tab}
-use Rattle.table.specs.SpliceLaws.{tab-none}
-use Rattle.table.specs.TurnLaws.{one-more}
+use Rattle.layout.specs.Filled.{splice, tab}
+use Rattle.layout.specs.SpliceLaws.{tab-none}
+use Rattle.layout.specs.TurnLaws.{one-more}
 use Rattle.lines.specs.Numbers.{nodeLines, node-turn}
 use Rattle.lines.proofs.fill_nodes.Statement.{statement}
 use Rattle.lines.proofs.fill_nodes.Tie as tie
 use Rattle.lines.proofs.fill_nodes.Reads as reads
 use Rattle.lines.proofs.fill_nodes.Lts as lts
 use Rattle.lines.proofs.node_line.Reads as node-line-reads
-use Rattle.lines.proofs.store.Reads as store-reads
+use Rattle.layout.proofs.store.Reads as store-reads
 
 abbrev Inv-loop : tie.InvT-loop
 Inv-loop lines₀ n t v₀ lines v = (v ≤ t .count) × (length lines ≡ length lines₀) × (lines ≡ splice 0 (tab (nodeLines n t) v) lines₀) × ((u : ℕ) → u < v → Most (nodeLines n t u) (2 ^ 32))

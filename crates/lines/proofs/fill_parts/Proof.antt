@@ -5,9 +5,9 @@ use native.Mathlib.Omega.{arith}
 use borrow.Author.Needs.{needs}
 use lib.ListN.{length}
 use Rattle.rows.specs.Values.{Most}
-use Rattle.table.specs.Filled.{splice, tab}
-use Rattle.table.specs.SpliceLaws.{tab-none}
-use Rattle.table.specs.TurnLaws.{one-more}
+use Rattle.layout.specs.Filled.{splice, tab}
+use Rattle.layout.specs.SpliceLaws.{tab-none}
+use Rattle.layout.specs.TurnLaws.{one-more}
 use Rattle.lines.specs.Numbers.{partLines, part-turn}
 use Rattle.lines.proofs.fill_parts.Statement.{statement}
 use Rattle.lines.proofs.fill_parts.Tie as tie
@@ -15,7 +15,7 @@ use Rattle.lines.proofs.fill_parts.Reads as reads
 use Rattle.lines.proofs.fill_parts.Lts as lts
 use Rattle.lines.proofs.bits_of.Reads as bits-of-reads
 use Rattle.lines.proofs.part_line.Reads as part-line-reads
-use Rattle.lines.proofs.store.Reads as store-reads
+use Rattle.layout.proofs.store.Reads as store-reads
 
 abbrev Inv-loop : tie.InvT-loop
 Inv-loop lines₀ n g t bits i₀ lines i = (i ≤ t .placed) × (length lines ≡ length lines₀) × (lines ≡ splice 448 (tab (partLines n g t) i) lines₀) × ((u : ℕ) → u < i → Most (partLines n g t u) (2 ^ 32))

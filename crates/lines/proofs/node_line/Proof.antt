@@ -7,8 +7,8 @@ use Rattle.lines.proofs.node_line.Reads as reads
 use Rattle.lines.proofs.node_line.Lts as lts
 use Rattle.lines.proofs.block_line.Reads as block-line-reads
 use Rattle.lines.proofs.own_line.Reads as own-line-reads
+use Rattle.tree.proofs.wide.Reads as wide-reads
 use Rattle.lines.proofs.turns_of.Reads as turns-of-reads
-use Rattle.lines.proofs.wide.Reads as wide-reads
 
 mul-y : tie.Need-mul-y
 mul-y c = let s = c .before .before .before .before in omega (arith, c .wide2 .ensures .0, which-small (s .args .n) (s .args .t2) (s .pre .1) (s .args .x) (c .before .before .before .wide .result))

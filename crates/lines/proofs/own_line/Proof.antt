@@ -5,7 +5,7 @@ use Rattle.lines.proofs.own_line.Statement.{statement}
 use Rattle.lines.proofs.own_line.Tie as tie
 use Rattle.lines.proofs.own_line.Reads as reads
 use Rattle.lines.proofs.own_line.Lts as lts
-use Rattle.lines.proofs.wide.Reads as wide-reads
+use Rattle.tree.proofs.wide.Reads as wide-reads
 
 -- src/lib.rt:136:9
 wide-requires : tie.Need-wide-requires

@@ -9,7 +9,7 @@ use Rattle.lines.proofs.turns_of.Statement.{statement}
 use Rattle.lines.proofs.turns_of.Tie as tie
 use Rattle.lines.proofs.turns_of.Reads as reads
 use Rattle.lines.proofs.turns_of.Lts as lts
-use Rattle.lines.proofs.wide.Reads as wide-reads
+use Rattle.tree.proofs.wide.Reads as wide-reads
 
 abbrev Inv-loop : tie.InvT-loop
 Inv-loop n level levels width i₀ i = (i ≤ width) × ((k : ℕ) → k < i → getD levels k 0 ≡ level → ⊥)

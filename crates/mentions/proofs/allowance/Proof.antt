@@ -32,11 +32,11 @@ node c = c .before .before .args .t2 .count - (c .before .nodes .done + 1)
 part-there : (c : tie.In-parts Inv-parts μ-parts Inv-nodes μ-nodes) → c .before .before .before .wide .result + c .before .parts .k < 64
 part-there c =
     let s = c .before .before .before .before .before .before .before in
-    omega (arith, c .before .before .before .wide .ensures, c .before .before .wide2 .ensures, s .pre .2 .few-parts, s .pre .2 .nodes .node (node (c .before .before .before .before .before)) .parts)
+    omega (arith, c .before .before .before .wide .ensures .0, c .before .before .wide2 .ensures .0, s .pre .2 .few-parts, s .pre .2 .nodes .node (node (c .before .before .before .before .before)) .parts)
 
 -- how many values its free variables have, and how many atoms it has
 rows-are : (c : tie.After-power Inv-parts μ-parts Inv-nodes μ-nodes) → let s = c .before .before .before .before .before .before .before .before in c .power .result ≡ s .before .before .args .n ^ getD (s .before .before .args .t2 .rows) (node s) noNode .width
-rows-are c = let s = c .before .before .before .before .before .before .before .before in c .power .ensures ∙ ap (λ (k : ℕ). s .before .before .args .n ^ k) (c .before .wide5 .ensures)
+rows-are c = let s = c .before .before .before .before .before .before .before .before in c .power .ensures ∙ ap (λ (k : ℕ). s .before .before .args .n ^ k) (c .before .wide5 .ensures .0)
 
 rows-small : (c : tie.After-power Inv-parts μ-parts Inv-nodes μ-nodes) → c .power .result ≤ 64 ^ 4
 rows-small c =
@@ -45,7 +45,7 @@ rows-small c =
     size-most (b .args .n) (getD (b .args .t2 .rows) (node s) noNode .width) (c .power .result) (rows-are c) (b .pre .1) (b .pre .2 .nodes .node (node s) .width)
 
 row-width : (c : tie.After-node-width Inv-parts μ-parts Inv-nodes μ-nodes) → let s = c .before .before .before .before .before .before .before .before .before in c .node-width .result ≡ rowWidth (s .before .before .args .n) (s .before .before .args .t2) (node s)
-row-width c = let s = c .before .before .before .before .before .before .before .before .before in c .node-width .ensures ∙ ap₂ (nodeWidth (s .before .before .args .n)) (rows-are (c .before)) (c .before .before .before .wide4 .ensures)
+row-width c = let s = c .before .before .before .before .before .before .before .before .before in c .node-width .ensures ∙ ap₂ (nodeWidth (s .before .before .args .n)) (rows-are (c .before)) (c .before .before .before .wide4 .ensures .0)
 
 width-small : (c : tie.After-node-width Inv-parts μ-parts Inv-nodes μ-nodes) → c .node-width .result ≤ 64 ^ 4 * 64
 width-small c =
@@ -78,7 +78,7 @@ element-copy-out-q : tie.Need-element-copy-out-q Inv-parts μ-parts Inv-nodes μ
 element-copy-out-q c = omega (arith, part-there c)
 
 array-read-marked : tie.Need-array-read-marked Inv-parts μ-parts Inv-nodes μ-nodes
-array-read-marked c = omega (arith, c .wide3 .ensures, which-small _ (c .before .before .before .before .before .before .before .before .before .pre .2 .parts .part (c .before .before .before .before .before .wide .result + c .before .before .before .parts .k)))
+array-read-marked c = omega (arith, c .wide3 .ensures .0, which-small _ (c .before .before .before .before .before .before .before .before .before .pre .2 .parts .part (c .before .before .before .before .before .wide .result + c .before .before .before .parts .k)))
 
 add-k : tie.Need-add-k Inv-parts μ-parts Inv-nodes μ-nodes
 add-k c = omega (arith, part-there (c .before .before .before))
@@ -89,7 +89,7 @@ parts-again c =
     let u = c .before .before .before .before in (
       omega arith,
       hits-next (s .args .t2 .parts) (c .before .before .before .before .before .before .before .before .before .nodes .marks) (s .args .r) (c .before .before .before .before .before .before .wide .result)
-          (u .parts .k) (c .before .wide3 .result) (u .parts .hit) (c .found .result) (u .parts .inv .1) (c .before .wide3 .ensures) (c .found .ensures),
+          (u .parts .k) (c .before .wide3 .result) (u .parts .hit) (c .found .result) (u .parts .inv .1) (c .before .wide3 .ensures .0) (c .found .ensures),
     )
 
 array-write-marks : tie.Need-array-write-marks Inv-parts μ-parts Inv-nodes μ-nodes
@@ -98,7 +98,7 @@ array-write-marks c = omega (arith, c .before .before .before .before .before .b
 power-requires : tie.Need-power-requires Inv-parts μ-parts Inv-nodes μ-nodes
 power-requires c κs =
     let s = c .before .before .before .before .before .before .before .before .before in
-    let w = c .wide5 .ensures in
+    let w = c .wide5 .ensures .0 in
     (s .pre .0, pow-fits (s .args .n) (c .wide5 .result) (s .pre .1) (omega (arith, w, s .pre .2 .nodes .node (node (c .before .before .before .before .before .before .before)) .width)))
 
 node-width-requires : tie.Need-node-width-requires Inv-parts μ-parts Inv-nodes μ-nodes
@@ -129,9 +129,9 @@ nodes-again c =
     let d = c .before .before .before .before .before .before in
     let h = subst (λ (k : ℕ). d .parts .hit ≡ hits (s .args .t2 .parts) (u .nodes .marks) (s .args .r) (a .wide .result) k) e (d .parts .inv .1) in (
       few,
-      marks-next (s .args .t2) (s .args .r) (u .nodes .done) (node w) (a .wide .result) (b .wide2 .result) (u .nodes .marks) (d .parts .hit) refl (a .wide .ensures) (b .wide2 .ensures) (u .nodes .inv .1) h,
+      marks-next (s .args .t2) (s .args .r) (u .nodes .done) (node w) (a .wide .result) (b .wide2 .result) (u .nodes .marks) (d .parts .hit) refl (a .wide .ensures .0) (b .wide2 .ensures .0) (u .nodes .inv .1) h,
       atoms-next (s .args .n) (s .args .t2) (s .args .r) (u .nodes .done) (node w) (a .wide .result) (b .wide2 .result) (u .nodes .total) (c .before .node-width .result) (c .counted .result)
-          (u .nodes .marks) (d .parts .hit) refl (a .wide .ensures) (b .wide2 .ensures) (u .nodes .inv .1) h (row-width (c .before)) (c .counted .ensures) (u .nodes .inv .2),
+          (u .nodes .marks) (d .parts .hit) refl (a .wide .ensures .0) (b .wide2 .ensures .0) (u .nodes .inv .1) h (row-width (c .before)) (c .counted .ensures) (u .nodes .inv .2),
     )
 
 returns : tie.Need-returns Inv-parts μ-parts Inv-nodes μ-nodes

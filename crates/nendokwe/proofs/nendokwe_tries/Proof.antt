@@ -40,6 +40,7 @@ use denote.Exit.{yes}
 use denote.Signature.{plain}
 use Rattle.tries.specs.declared.Try.{Try}
 use Rattle.tries.specs.declared.Answer.{Answer}
+use Rattle.definitions.specs.Limits.{usual}
 use Rattle.definitions.specs.Tries.{Tried, tryLists}
 use Rattle.tries.specs.Recorded.{records, answerOf, answer-told}
 use Rattle.tries.proofs.Relent.{Kept, lend-on, take-back}
@@ -166,7 +167,7 @@ module _ {M : Type 1} (𝓤 : URA M) (H : Heap 𝓤) (A : Atoms 𝓤) (W : Given
 
   -- what the call gives
   abbrev out : Tried
-  out = tryLists que sit ss (records es) ws
+  out = tryLists usual que sit ss (records es) ws
 
   -- what the call is handed
   goes-call : (ν₁ ν₂ : ℕ) (δ₁ δ₂ : GName)

@@ -1,9 +1,8 @@
 -- `printing::elements` meets its contract. What is left to print are the places that the loop has not passed; `width` is the weight of the last of those that it has.
-use Prim.Native.Nat.{_-_, _/_, _%_, _^_, _≤_}
+use Prim.Native.Nat.{_-_, _/_, _%_, _^_}
 use mathlib.Core.Path.{_≡_, refl}
 use native.Mathlib.Omega.{arith}
 use native.Mathlib.Nat.{one-le-pow}
-use borrow.Author.Needs.{needs}
 use Rattle.definitions.specs.Atoms.{placesOf}
 use Rattle.printing.specs.Printed.{Left, begin, recut, room-for, next as then, finished, left-length}
 use Rattle.printing.specs.Lines.{field, elements, next-place, no-places, narrower}

@@ -3,7 +3,6 @@ use mathlib.Core.List.{[], _∷_}
 use native.Mathlib.Omega.{arith}
 use borrow.Author.Needs.{needs}
 use Rattle.printing.specs.Printed.{begin, room-for, next as then, finish}
-use Rattle.definitions.specs.Text.{decimal as decimalOf}
 use Rattle.printing.specs.Lines.{field-is}
 use Rattle.printing.proofs.field.Statement.{statement}
 use Rattle.printing.proofs.field.Tie as tie

@@ -1,5 +1,5 @@
 -- `question::after_rule` meets its contract.
-use mathlib.Core.Path.{refl, sym, ap}
+use mathlib.Core.Path.{sym, ap}
 use borrow.Author.Needs.{needs}
 use Rattle.question.specs.Drafts.{laterOf}
 use Rattle.question.proofs.after_rule.Statement.{statement}

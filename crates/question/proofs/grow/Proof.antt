@@ -1,6 +1,6 @@
 -- `question::grow` meets its contract.
 use Prim.Native.Nat.{_-_}
-use mathlib.Core.Path.{refl, sym, ap, _∙_}
+use mathlib.Core.Path.{sym, ap, _∙_}
 use borrow.Author.Needs.{needs}
 use Rattle.question.specs.Drafts.{grownBy}
 use Rattle.question.proofs.grow.Statement.{statement}

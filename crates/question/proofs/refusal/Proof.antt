@@ -1,5 +1,5 @@
 -- `question::refusal` meets its contract.
-use mathlib.Core.Path.{refl, ap}
+use mathlib.Core.Path.{ap}
 use borrow.Author.Needs.{needs}
 use Rattle.names.specs.declared.Signature.{Signature}
 use Rattle.question.specs.Drafts.{refusedWith}

@@ -1,21 +1,21 @@
 -- `question::rule_part` meets its contract. The question's own answer says where the rule's field lies in the text.
 use native.Mathlib.Omega.{arith}
 use borrow.Author.Needs.{needs}
-use Rattle.question.proofs.Ending.{part-in, part-is}
+use Rattle.question.proofs.Ending.{part-in, part-is, part-start}
 use Rattle.question.proofs.rule_part.Statement.{statement}
 use Rattle.question.proofs.rule_part.Tie as tie
 
 sub-result : tie.Need-sub-result
-sub-result c = part-in (c .before .before .before .args .s .now) (c .before .question .result) (c .before .question .ensures) .0
+sub-result c = part-in _ _ (c .before .question .ensures) .0
 
 part-result-start : tie.Need-part-result-start
-part-result-start c = let r = part-in (c .before .before .before .args .s .now) (c .before .question .result) (c .before .question .ensures) in omega arith
+part-result-start c = let r = part-in _ _ (c .before .question .ensures) in omega arith
 
 part-result-end : tie.Need-part-result-end
-part-result-end c = part-in (c .before .before .before .args .s .now) (c .before .question .result) (c .before .question .ensures) .1
+part-result-end c = part-in _ _ (c .before .question .ensures) .1
 
 returns : tie.Need-returns
-returns c = part-is (c .before .before .before .before .args .s .now) (c .before .before .question .result) (c .before .before .question .ensures)
+returns c = (part-is _ _ (c .before .before .question .ensures), part-start _ _ (c .before .before .question .ensures))
 
 pub rule-part-spec : {M : Type 1} → statement M
 rule-part-spec =

@@ -1,5 +1,5 @@
 -- `question::rule_span` meets its contract.
-use mathlib.Core.Path.{refl, sym, ap}
+use mathlib.Core.Path.{sym, ap}
 use borrow.Author.Needs.{needs}
 use Rattle.question.specs.Drafts.{spanIn}
 use Rattle.question.proofs.rule_span.Statement.{statement}

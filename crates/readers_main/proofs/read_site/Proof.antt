@@ -1,13 +1,19 @@
--- `readers_main::read_site` meets its contract. A question's signature is sound, and a table of zeros is cleared.
+-- `readers_main::read_site` meets its contract. A question's signature is sound, and a table of zeros is cleared and large enough.
 use native.Mathlib.Omega.{arith}
 use borrow.Author.Needs.{needs}
 use Rattle.question.proofs.Ending.{question-sound}
+use native.Mathlib.Nat.{pow-le-pow-left}
+use Rattle.definitions.specs.Atoms.{wordsFor}
 use Rattle.sheets.proofs.Loops.{zeros-clear}
+use Rattle.sheets.proofs.Turns.{facts-room}
 use Rattle.readers_main.proofs.read_site.Statement.{statement}
 use Rattle.readers_main.proofs.read_site.Tie as tie
 
 site-requires : tie.Need-site-requires
-site-requires c κs = (question-sound _ _ (c .before .before .before .question .ensures), omega arith, zeros-clear 512)
+unfolding wordsFor
+site-requires c κs =
+    let sound = question-sound _ _ (c .before .before .before .question .ensures) in
+    (sound, omega arith, λ k next r l. let e = pow-le-pow-left l 3 in facts-room _ _ sound k 512 (omega (arith, e)), zeros-clear 512)
 
 pub read-site-spec : {M : Type 1} → statement M
 read-site-spec =

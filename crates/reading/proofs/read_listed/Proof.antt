@@ -1,25 +1,39 @@
 -- `reading::read_listed` meets its contract: the text is refused, or its steps, which the list has room for, are run. Assumes nothing.
+use native.Mathlib.Omega.{arith}
 use mathlib.Core.Path.{sym}
 use mathlib.Core.List.{[]}
-use native.Mathlib.Omega.{arith}
 use lib.Seq.{length-take-le}
-use Rattle.cases.specs.Replies.{text-refused, text-taken, text-room}
-use Rattle.reading.specs.Reads.{call-steps, call-ran}
+use Rattle.asking.specs.Replies.{text-refused, text-taken, text-room}
+use Rattle.reading.specs.Reads.{call-steps}
 use borrow.Author.Needs.{needs}
 use Rattle.reading.proofs.read_listed.Statement.{statement}
 use Rattle.reading.proofs.read_listed.Tie as tie
 
-slice-reshare-prefix-read-picks : tie.Need-slice-reshare-prefix-read-picks
-slice-reshare-prefix-read-picks c = omega (arith, c .before .before .before .before .list .given, text-room _ [] _ _ _ (c .before .before .before .before .before .steps .ensures .0) (c .before .a2 .given .1) (c .before .before .before .before .before .before .before .before .before .before .before .before .before .pre .1))
+slice-reshare-prefix-read-steps : tie.Need-slice-reshare-prefix-read-steps
+slice-reshare-prefix-read-steps c =
+    let at-list = c .before .before .before .before in
+    let at-steps = at-list .before in
+    let s = at-steps .before .before .before .before .before .before .before .before in
+    omega (arith, at-list .list .given, text-room _ [] _ _ _ (at-steps .steps .ensures .0) (c .before .a2 .given .1) (s .pre .1))
 
-slice-aggregate-read-picks : tie.Need-slice-aggregate-read-picks
-slice-aggregate-read-picks c = sym (length-take-le _ _ (omega (arith, c .before .before .before .before .before .list .given, text-room _ [] _ _ _ (c .before .before .before .before .before .before .steps .ensures .0) (c .before .before .a2 .given .1) (c .before .before .before .before .before .before .before .before .before .before .before .before .before .before .pre .1))))
+slice-aggregate-read-steps : tie.Need-slice-aggregate-read-steps
+slice-aggregate-read-steps c =
+    let at-list = c .before .before .before .before .before in
+    let at-steps = at-list .before in
+    let s = at-steps .before .before .before .before .before .before .before .before in
+    sym (length-take-le _ _ (omega (arith, at-list .list .given, text-room _ [] _ _ _ (at-steps .steps .ensures .0) (c .before .before .a2 .given .1) (s .pre .1))))
 
 returns : tie.Need-returns
-returns c = λ site read z. call-steps _ _ _ _ _ _ _ read z _ _ (text-refused _ [] _ _ _ (c .before .before .before .before .before .steps .ensures .0) (c .before .a .given .1))
+returns c =
+    let at-steps = c .before .before .before .before .before in
+    λ L q site front z. call-steps _ _ _ _ _ _ L q site front z _ _ (text-refused _ [] _ _ _ (at-steps .steps .ensures .0) (c .before .a .given .1))
 
 returns-2 : tie.Need-returns-2
-returns-2 c = λ site read z. call-ran _ _ _ _ _ _ _ read z _ (text-taken _ _ _ _ (c .before .before .before .before .before .before .before .before .before .before .before .before .before .steps .ensures .0) (c .before .before .before .before .before .before .before .before .before .a2 .given .1) _ (c .before .before .before .before .before .before .before .before .before .before .before .before .before .steps .ensures .1 _ (c .before .before .before .before .before .before .before .before .before .a2 .given .1))) _ _ _ (c .before .before .before .before .read-picks .ensures)
+returns-2 c =
+    let at-read-steps = c .before .before .before .before in
+    let at-a2 = at-read-steps .before .before .before .before .before in
+    let at-steps = at-a2 .before .before .before .before in
+    at-read-steps .read-steps .ensures _ (text-taken _ _ _ _ (at-steps .steps .ensures .0) (at-a2 .a2 .given .1) _ (at-steps .steps .ensures .1 _ (at-a2 .a2 .given .1)))
 
 pub read-listed-spec : {M : Type 1} → statement M
 read-listed-spec =
@@ -28,8 +42,8 @@ read-listed-spec =
     (λ c κs. search needs)
     (λ c. search needs)
     (λ c. search needs)
-    slice-reshare-prefix-read-picks
-    slice-aggregate-read-picks
+    slice-reshare-prefix-read-steps
+    slice-aggregate-read-steps
     (λ c κs. search needs)
     (λ c. search needs)
     returns

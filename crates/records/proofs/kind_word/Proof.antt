@@ -1,5 +1,5 @@
 -- `records::kind_word` meets its contract.
-use mathlib.Core.Path.{refl, sym, _∙_}
+use mathlib.Core.Path.{sym, _∙_}
 use borrow.Author.Needs.{needs}
 use Rattle.records.proofs.Fields.{kind-2, kind-3, kind-4, kind-5, kind-0}
 use Rattle.records.proofs.kind_word.Statement.{statement}

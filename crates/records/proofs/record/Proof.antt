@@ -1,5 +1,5 @@
 -- `records::record` meets its contract. The record word's number says which of the seven forms the fields after it must have.
-use mathlib.Core.Path.{refl, _∙_}
+use mathlib.Core.Path.{_∙_}
 use native.Mathlib.Omega.{arith}
 use borrow.Author.Needs.{needs}
 use Rattle.text.proofs.Laws.{end-within}

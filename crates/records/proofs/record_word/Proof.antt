@@ -1,5 +1,5 @@
 -- `records::record_word` meets its contract.
-use mathlib.Core.Path.{refl, sym, _∙_}
+use mathlib.Core.Path.{sym, _∙_}
 use borrow.Author.Needs.{needs}
 use Rattle.records.proofs.Fields.{word-1, word-2, word-3, word-4, word-5, word-6, word-7, word-0}
 use Rattle.records.proofs.record_word.Statement.{statement}

@@ -1,8 +1,7 @@
 -- `reporting::count` meets its contract.
 use native.Mathlib.Omega.{arith}
 use Rattle.printing.specs.Printed.{begin, finish}
-use Rattle.tuples.proofs.Rows.{power-le}
-use Rattle.reporting.specs.Report.{count-is, its-arity, its-name, its-index, arities-before}
+use Rattle.reporting.specs.Report.{count-is, its-arity, its-name, its-index, arities-before, power-few, first-few}
 use borrow.Author.Needs.{needs}
 use Rattle.reporting.proofs.count.Statement.{statement}
 use Rattle.reporting.proofs.count.Tie as tie
@@ -11,26 +10,26 @@ first-word-requires : tie.Need-first-word-requires
 first-word-requires c κs =
     let a = c .before .before .before .args in
     let p = c .before .before .before .pre in
-    (p .2, omega arith, omega (arith, its-index (a .q .now) (a .t4) (p .0) (a .j) (p .3)), arities-before (a .q .now) (a .t4) (p .0) (a .j) (p .3))
+    (omega (arith, p .2), omega arith, omega (arith, its-index (a .q .now) (a .t4) (p .0) (a .j) (p .3)), arities-before (a .q .now) (a .t4) (p .0) (a .j) (p .3))
 
 power-requires : tie.Need-power-requires
 power-requires c κs =
     let a = c .before .before .before .before .before .args in
     let p = c .before .before .before .before .before .pre in
-    (p .1, omega (arith, power-le (a .n) _ (p .2) (its-arity (a .q .now) (a .t4) (p .0) (a .j) (p .3))))
+    (p .1, omega (arith, power-few (a .n) _ (p .2) (its-arity (a .q .now) (a .t4) (p .0) (a .j) (p .3))))
 
 add-ones : tie.Need-add-ones
 add-ones c =
     let a = c .before .before .before .before .before .before .args in
     let p = c .before .before .before .before .before .before .pre in
-    omega (arith, c .power .ensures, power-le (a .n) _ (p .2) (its-arity (a .q .now) (a .t4) (p .0) (a .j) (p .3)))
+    omega (arith, c .power .ensures, power-few (a .n) _ (p .2) (its-arity (a .q .now) (a .t4) (p .0) (a .j) (p .3)))
 
 ones-requires : tie.Need-ones-requires
 ones-requires c κs =
     let a = c .before .before .before .before .before .before .args in
     let p = c .before .before .before .before .before .before .pre in
-    let w = power-le (a .n) _ (p .2) (its-arity (a .q .now) (a .t4) (p .0) (a .j) (p .3)) in
-    (omega (arith, c .power .ensures, c .before .before .first-word .ensures .1, p .3, p .4), omega (arith, c .power .ensures))
+    let w = power-few (a .n) _ (p .2) (its-arity (a .q .now) (a .t4) (p .0) (a .j) (p .3)) in
+    (omega (arith, c .power .ensures, first-few _ _ (p .0) _ _ _ (p .2) (p .3) (c .before .before .first-word .ensures .0), p .3, p .4), omega (arith, c .power .ensures))
 
 sub-count-line : tie.Need-sub-count-line
 sub-count-line c = let a = c .before .before .before .before .before .before .before .before .before .before .args in let p = c .before .before .before .before .before .before .before .before .before .before .pre in its-name (a .q .now) (a .t4) (p .0) (a .j) (p .3) .0

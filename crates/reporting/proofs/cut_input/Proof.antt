@@ -1,5 +1,4 @@
 -- `reporting::cut_input` meets its contract.
-use mathlib.Core.Path.{sym, _∙_}
 use borrow.Rule.Slice.PartAt.{part-to-end}
 use Rattle.reporting.specs.Cutting.{cut-at}
 use borrow.Author.Needs.{needs}

@@ -2,7 +2,7 @@
 use native.Mathlib.Omega.{arith}
 use Rattle.definitions.specs.Desk.{sizesLine}
 use Rattle.printing.specs.Printed.{begin, room-for, next as then, finish}
-use Rattle.reporting.specs.Report.{counts as countsOf, picks as picksOf, head-is}
+use Rattle.reporting.specs.Report.{counts as countsOf, head-is}
 use borrow.Author.Needs.{needs}
 use Rattle.reporting.proofs.head.Statement.{statement}
 use Rattle.reporting.proofs.head.Tie as tie

@@ -1,7 +1,5 @@
 -- `reporting::row_line` meets its contract.
 use mathlib.Core.Path.{sym, _∙_}
-use mathlib.Core.List.{[]}
-use native.Mathlib.Omega.{arith}
 use Rattle.printing.specs.Printed.{begin, finish, finished}
 use Rattle.reporting.specs.Report.{row-set, row-clear}
 use borrow.Author.Needs.{needs}

@@ -1,8 +1,6 @@
 -- `reporting::row_lines` meets its contract. What is left to print are the lines of the rows that the loop has not passed.
 use Prim.Native.Nat.{_-_, _^_, _≤_}
-use mathlib.Core.Path.{_≡_, refl, _∙_}
 use native.Mathlib.Omega.{arith}
-use borrow.Author.Needs.{needs}
 use Rattle.printing.specs.Printed.{Left, begin, recut, room-for, next as then, finished, left-length}
 use Rattle.reporting.specs.Report.{rowLine, rowLines, textsFrom, row-lines, next-text, no-text}
 use Rattle.reporting.proofs.row_lines.Statement.{statement}

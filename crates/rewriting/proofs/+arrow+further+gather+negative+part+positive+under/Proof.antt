@@ -4,16 +4,15 @@ use mathlib.Core.Path.{refl, sym, ap, subst, _∙_}
 use mathlib.Core.Bool.{Bool, true, false}
 use native.Mathlib.Omega.{arith}
 use borrow.Author.Needs.{needs}
-use Prim.Native.Nat.{_+_, _-_, _*_}
+use Prim.Native.Nat.{_+_, _-_, _*_, ℕ, _<_}
 use lib.ListN.{length}
 use Rattle.formula.specs.Seen.{headOf}
-use Rattle.tables.specs.Postorder.{joinRow, rowsFrom}
+use Rattle.tree.specs.Postorder.{joinRow, rowsFrom}
 use Rattle.rewriting.specs.Trees.{chain as chainOf}
 use Rattle.rewriting.specs.Ready.{asJoin, asQuant, Adds, Walked}
 use Rattle.rewriting.proofs.Words.{list-in}
 use Rattle.rewriting.proofs.Turns.{over, over-parts, ready-in, ready-end, ready-nodes, neg-view, imp-view, join-view, quant-view, walked-more, parts-many, neg-ready, neg-place, neg-done, imp-ready-1, imp-ready-2, imp-place, imp-space, imp-done, join-ready, join-parts, join-one, join-place, join-space, join-done, join-some, parts-in, parts-some, parts-end, part-ready, part-next, parts-done}
 use Rattle.rewriting.proofs.Ends.{quant-list, quant-ready, quant-nodes, quant-levels, quant-place, quant-space, quant-done}
-use Prim.Native.Nat.{ℕ, _<_}
 use borrow.Fn.Kinds.{In}
 use borrow.Fn.PlainCycle.{Measures, is, falls, and}
 use Rattle.rewriting.proofs.arrow.Reads as arrow
@@ -45,7 +44,7 @@ use Rattle.rewriting.proofs.join_row.Reads as join-row-reads
 use Rattle.rewriting.proofs.join_word.Reads as join-word-reads
 use Rattle.rewriting.proofs.literal.Reads as literal-reads
 use Rattle.rewriting.proofs.quant_kind.Reads as quant-kind-reads
-use Rattle.tables.proofs.put_row.Reads as put-row-reads
+use Rattle.tree.proofs.put_row.Reads as put-row-reads
 use Rattle.rewriting.proofs.+arrow+further+gather+negative+part+positive+under.{statement}
 use Rattle.rewriting.proofs.+arrow+further+gather+negative+part+positive+under.Tie.{close}
 

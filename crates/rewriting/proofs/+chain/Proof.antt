@@ -1,20 +1,19 @@
 -- `chain` meets its contract; the quantifiers that are left fall.
 use mathlib.Core.Path.{_≡_, subst, _∙_}
 use native.Mathlib.Omega.{arith}
-use Prim.Native.Nat.{_+_, _-_}
-use Rattle.tables.specs.Lent.{rows-many}
-use Rattle.tables.specs.Postorder.{rowsFrom}
+use Prim.Native.Nat.{_+_, _-_, ℕ, _<_}
+use Rattle.tree.specs.Lent.{rows-many}
+use Rattle.tree.specs.Postorder.{rowsFrom}
 use Rattle.rewriting.specs.Trees.{chain as chainOf}
 use Rattle.rewriting.specs.Ready.{Adds}
 use Rattle.rewriting.proofs.Tables.{chain-none, chain-more}
-use Prim.Native.Nat.{ℕ, _<_}
 use borrow.Fn.Kinds.{In}
 use borrow.Fn.PlainCycle.{Measures, is, falls, and}
 use Rattle.rewriting.proofs.chain.Reads as chain
 use Rattle.rewriting.proofs.chain.Kinds as chain-kinds
 use Rattle.rewriting.proofs.+chain.Lts-chain as chain-lts
 use Rattle.rewriting.proofs.quant_row.Reads as quant-row-reads
-use Rattle.tables.proofs.put_row.Reads as put-row-reads
+use Rattle.tree.proofs.put_row.Reads as put-row-reads
 use Rattle.rewriting.proofs.+chain.{statement}
 use Rattle.rewriting.proofs.+chain.Tie.{close}
 

@@ -6,10 +6,10 @@ use mathlib.Core.List.{List, [], _∷_, _++_}
 use native.Mathlib.Omega.{arith}
 use borrow.Author.Needs.{needs}
 use lib.ListN.{length, drop}
-use Rattle.definitions.specs.Formula.{span}
+use Rattle.definitions.specs.Parsing.{span}
 use Rattle.formula.specs.declared.Scope.{Scope}
-use Rattle.tables.specs.declared.Row.{Row}
-use Rattle.tables.specs.Postorder.{leafRow}
+use Rattle.tree.specs.declared.Row.{Row}
+use Rattle.tree.specs.Postorder.{leafRow}
 use Rattle.rewriting.specs.declared.Leaf.{Leaf}
 use Rattle.rewriting.specs.Ready.{VarsReady, Filled}
 use Rattle.rewriting.proofs.Words.{More, vars-in, vars-more, fill-none, fill-more}
@@ -70,7 +70,7 @@ level-requires c κs = c .before .before .before .loop .inv .0 .small
 element-write-full : tie.Need-element-write-full Inv-loop μ-loop
 element-write-full c =
     let m = first (c .before .before .before) (c .before .before .run .result) (c .before .before .run .ensures) in
-    omega (arith, c .wide .ensures, c .before .before .before .before .before .loop .inv .0 .fits, ap length (m .is))
+    omega (arith, c .wide .ensures .0, c .before .before .before .before .before .loop .inv .0 .fits, ap length (m .is))
 
 add-full : tie.Need-add-full Inv-loop μ-loop
 add-full c = omega (arith, c .before .before .before .before .before .loop .inv .0 .fits)
@@ -89,7 +89,7 @@ loop-again c =
       λ r h. t .before .before .loop .inv .1 r (λ p k ls w q.
           let m = one t w (e .result) (e .ensures) in
           fill-more (text t) (place t) (scope t) (row t .width) (row t) (c .wide .result) (l .result) (e .result) r w m refl
-          (c .wide .ensures) (l .ensures) p k ls q (λ z. h p k (ls ++ (l .result ∷ [])) (m .next) z)),
+          (c .wide .ensures .0) (l .ensures) p k ls q (λ z. h p k (ls ++ (l .result ∷ [])) (m .next) z)),
     )
 
 returns : tie.Need-returns Inv-loop μ-loop

@@ -1,6 +1,6 @@
 -- `pair_row` meets its contract.
 use mathlib.Core.Path.{refl}
-use Rattle.tables.specs.Postorder.{pad}
+use Rattle.tree.specs.Postorder.{pad}
 use borrow.Author.Needs.{needs}
 use Rattle.rewriting.proofs.pair_row.Statement.{statement}
 use Rattle.rewriting.proofs.pair_row.Tie as tie

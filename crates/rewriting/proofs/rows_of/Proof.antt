@@ -7,8 +7,8 @@ use Prim.Native.Nat.{_+_}
 use lib.ListN.{length}
 use Rattle.definitions.specs.Formula.{totals}
 use Rattle.names.specs.Signatures.{chosenOf}
-use Rattle.tables.specs.Lent.{rows-many}
-use Rattle.tables.specs.Postorder.{joinRow, rowsFrom}
+use Rattle.tree.specs.Lent.{rows-many}
+use Rattle.tree.specs.Postorder.{joinRow, rowsFrom}
 use Rattle.rewriting.proofs.Turns.{walked-len, walked-nodes}
 use Rattle.rewriting.proofs.Root.{formed, own, top-ready, plain-forms, joined-forms, of-plain, joined-space, of-joined}
 use borrow.Author.Needs.{needs}

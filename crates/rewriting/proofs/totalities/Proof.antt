@@ -3,8 +3,8 @@ use mathlib.Core.Path.{_≡_, refl, sym, _∙_}
 use Prim.Native.Nat.{_+_, _-_, _≤_}
 use native.Mathlib.Omega.{arith}
 use lib.ListN.{length}
-use Rattle.tables.specs.Lent.{rows-many}
-use Rattle.tables.specs.Postorder.{rowsFrom}
+use Rattle.tree.specs.Lent.{rows-many}
+use Rattle.tree.specs.Postorder.{rowsFrom}
 use Rattle.rewriting.proofs.Root.{Left, left-start, left-space, left-nodes, left-again, left-end}
 use Rattle.rewriting.proofs.totalities.Statement.{statement}
 use Rattle.rewriting.proofs.totalities.Tie as tie

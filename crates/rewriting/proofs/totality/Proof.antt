@@ -1,7 +1,7 @@
 -- `totality` meets its contract.
 use Prim.Native.Nat.{_+_}
-use Rattle.tables.specs.Lent.{rows-many}
-use Rattle.tables.specs.Postorder.{rowsFrom}
+use Rattle.tree.specs.Lent.{rows-many}
+use Rattle.tree.specs.Postorder.{rowsFrom}
 use Rattle.rewriting.proofs.Root.{totality-adds}
 use borrow.Author.Needs.{needs}
 use Rattle.rewriting.proofs.totality.Statement.{statement}

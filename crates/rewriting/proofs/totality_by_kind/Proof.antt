@@ -1,6 +1,6 @@
 -- `totality_by_kind` meets its contract.
 use mathlib.Core.Path.{sym, _∙_}
-use Rattle.tables.specs.Lent.{rows-many}
+use Rattle.tree.specs.Lent.{rows-many}
 use Rattle.rewriting.proofs.Root.{one-none, one-some}
 use borrow.Author.Needs.{needs}
 use Rattle.rewriting.proofs.totality_by_kind.Statement.{statement}

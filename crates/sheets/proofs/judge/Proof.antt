@@ -1,5 +1,5 @@
 -- `sheets::judge` meets its contract.
-use mathlib.Core.Path.{refl, sym, ap}
+use mathlib.Core.Path.{sym, ap}
 use borrow.Author.Needs.{needs}
 use Rattle.sheets.specs.Reading.{verdictOf}
 use Rattle.sheets.proofs.judge.Statement.{statement}

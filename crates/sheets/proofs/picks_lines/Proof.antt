@@ -1,9 +1,10 @@
 -- `sheets::picks_lines` meets its contract. The lines up to `at` gave the k picks in the table, so reading the text is reading the rest from there.
 use Prim.Native.Nat.{ℕ, _-_, _≤_}
-use mathlib.Core.Path.{_≡_, refl}
+use mathlib.Core.Path.{_≡_, refl, sym, subst}
 use native.Mathlib.Omega.{arith}
 use lib.ListN.{length}
 use borrow.Author.Needs.{needs}
+use Rattle.tuples.specs.Marks.{Roomy}
 use Rattle.sheets.proofs.Loops.{PicksAt, picks-long, picks-start, picks-next, picks-fault, picks-done}
 use Rattle.sheets.proofs.Turns.{sound-arrays}
 use Rattle.sheets.proofs.picks_lines.Statement.{statement}
@@ -16,17 +17,25 @@ abbrev μ-loop : tie.MeasureT-loop
 μ-loop q g s n table₀ end from to arity at₀ k₀ table at k = end - at
 
 returns : tie.Need-returns Inv-loop μ-loop
-returns c = picks-long (c .before .before .before .before .args .q .now) (c .before .before .before .before .args .g) (c .before .before .before .before .args .n) (c .before .before .before .before .args .s .now) _ (c .if1 .taken)
+returns c = picks-long _ _ _ _ _ (c .if1 .taken)
 
 loop-holds : tie.Need-loop-holds Inv-loop μ-loop
-loop-holds c = (omega arith, omega arith, refl, picks-start (c .before .before .before .before .before .before .before .args .q .now) (c .before .before .before .before .before .before .before .args .g) (c .before .before .before .before .before .before .before .args .n) (c .before .before .before .before .before .before .before .args .s .now) _ (omega arith) (c .before .before .before .before .before .before .before .pre .3))
+loop-holds c = (omega arith, omega arith, refl, picks-start _ _ _ _ _ (omega arith) (c .before .before .before .before .before .before .before .pre .3))
 
 picks-turn-requires : tie.Need-picks-turn-requires Inv-loop μ-loop
-picks-turn-requires c κs = let a : length (c .before .before .before .before .before .before .before .before .before .before .before .before .before .before .args .g .from) ≡ 12 = search needs in let b : length (c .before .before .before .before .before .before .before .before .before .before .before .before .before .before .args .g .to) ≡ 12 = search needs in let d : length (c .before .before .before .before .before .before .before .before .before .before .before .before .before .before .args .g .arity) ≡ 12 = search needs in
-    (sound-arrays (c .before .before .before .before .before .before .before .before .before .before .before .before .before .before .args .q .now) (c .before .before .before .before .before .before .before .before .before .before .before .before .before .before .args .g) (c .before .before .before .before .before .before .before .before .before .before .before .before .before .before .args .g .rels) (c .before .before .before .before .before .before .before .before .before .before .before .before .before .before .args .g .chosen) (c .before .before .before .before .before .before .before .before .before .before .before .before .before .before .pre .0) (omega arith) a b d, omega (arith, c .before .before .before .before .before .before .loop .inv .2, c .before .before .before .before .before .before .before .before .before .before .before .before .before .before .pre .1, c .before .before .before .before .before .before .before .before .before .before .before .before .before .before .pre .0 .chosen-le), c .before .before .before .before .before .before .before .before .before .before .before .before .before .before .pre .2)
+picks-turn-requires c κs =
+    let g = c .before .before .before .before .before .before .before .before .before .before .before .before .before .before .args .g in
+    let a : length (c .before .before .before .before .before .before .before .before .before .before .before .before .before .before .args .g .from) ≡ 12 = search needs in
+    let b : length (c .before .before .before .before .before .before .before .before .before .before .before .before .before .before .args .g .to) ≡ 12 = search needs in
+    let d : length (c .before .before .before .before .before .before .before .before .before .before .before .before .before .before .args .g .arity) ≡ 12 = search needs in
+    let known = c .before .before .before .before .before .before .before .before .before .before .before .before .before .before .pre in (
+      sound-arrays _ g (g .rels) (g .chosen) (known .0) (omega arith) a b d,
+      known .1,
+      subst (λ (k : ℕ). Roomy (g .from) (g .to) (g .arity) (g .rels) (g .chosen) (c .before .before .before .before .before .before .before .before .before .before .before .before .before .before .args .n) k) (sym (c .before .before .before .before .before .before .loop .inv .2)) (known .2),
+    )
 
 returns-2 : tie.Need-returns-2 Inv-loop μ-loop
-returns-2 c = picks-fault (c .before .before .before .before .before .before .before .before .before .before .before .before .before .before .before .before .before .before .args .q .now) (c .before .before .before .before .before .before .before .before .before .before .before .before .before .before .before .before .before .before .args .g) (c .before .before .before .before .before .before .before .before .before .before .before .before .before .before .before .before .before .before .args .n) (c .before .before .before .before .before .before .before .before .before .before .before .before .before .before .before .before .before .before .args .s .now) (c .before .before .before .before .before .before .before .before .before .before .loop .at) (c .before .before .before .before .before .before .before .before .before .before .loop .k) (c .before .before .before .before .before .before .before .before .before .before .loop .table) (c .before .before .before .before .before .before .before .before .before .before .loop .inv .3) (c .before .before .before .before .before .before .before .before .line .result .next) (c .before .before .before .before .before .before .before .before .line .result .entry) (c .before .before .before .before .before .before .before .before .line .ensures .2) _ _ (c .before .before .before .picks-turn .ensures (c .before .before .before .before .before .before .before .before .before .before .before .before .before .before .before .before .before .before .args .g) refl refl) _ (c .if2 .taken)
+returns-2 c = picks-fault _ _ _ _ _ _ _ (c .before .before .before .before .before .before .before .before .before .before .loop .inv .3) _ _ (c .before .before .before .before .before .before .before .before .line .ensures .2) _ _ (c .before .before .before .picks-turn .ensures (c .before .before .before .before .before .before .before .before .before .before .before .before .before .before .before .before .before .before .args .g) refl refl) _ (c .if2 .taken)
 
 loop-less : tie.Need-loop-less Inv-loop μ-loop
 loop-less c = omega (arith, c .before .before .before .before .before .before .before .before .line .ensures .0, c .before .before .before .before .before .before .before .before .line .ensures .1)
@@ -38,7 +47,7 @@ same-length-2 : tie.Need-same-length-2 Inv-loop μ-loop
 same-length-2 c = c .before .loop .inv .2
 
 returns-3 : tie.Need-returns-3 Inv-loop μ-loop
-returns-3 c = picks-done (c .before .before .before .before .before .before .before .before .before .args .q .now) (c .before .before .before .before .before .before .before .before .before .args .g) (c .before .before .before .before .before .before .before .before .before .args .n) (c .before .before .before .before .before .before .before .before .before .args .s .now) (c .before .loop .at) (c .before .loop .k) (c .before .loop .table) (c .before .loop .inv .3) (omega arith)
+returns-3 c = picks-done _ _ _ _ _ _ _ (c .before .loop .inv .3) (omega arith)
 
 pub picks-lines-spec : {M : Type 1} → statement M
 picks-lines-spec =

@@ -29,7 +29,7 @@ counts-small c = node-counts (c .before .args .n) (c .before .pre .1) (c .before
 
 -- how many values its free variables have
 rows-are : (c : tie.After-power Inv-loop μ-loop) → c .power .result ≡ c .before .before .before .before .before .before .args .n ^ row (c .before .before .before .before) .width
-rows-are c = c .power .ensures ∙ ap (λ (k : ℕ). c .before .before .before .before .before .before .args .n ^ k) (c .before .wide2 .ensures)
+rows-are c = c .power .ensures ∙ ap (λ (k : ℕ). c .before .before .before .before .before .before .args .n ^ k) (c .before .wide2 .ensures .0)
 
 rows-small : (c : tie.After-power Inv-loop μ-loop) → c .power .result ≤ 64 ^ 4
 rows-small c =
@@ -40,7 +40,7 @@ rows-small c =
 -- how many atoms it has
 row-width : (c : tie.After-node-width Inv-loop μ-loop)
     → let s = c .before .before .before .before .before in c .node-width .result ≡ nodeWidth (s .before .before .args .n) (c .before .power .result) (row s .kind)
-row-width c = c .node-width .ensures ∙ ap (nodeWidth (c .before .before .before .before .before .before .before .args .n) (c .before .power .result)) (c .before .before .before .wide .ensures)
+row-width c = c .node-width .ensures ∙ ap (nodeWidth (c .before .before .before .before .before .before .before .args .n) (c .before .power .result)) (c .before .before .before .wide .ensures .0)
 
 width-small : (c : tie.After-node-width Inv-loop μ-loop) → c .node-width .result ≤ 64 ^ 4 * 64
 width-small c =
@@ -51,7 +51,7 @@ width-small c =
 -- how many actions it has at each of these, and in all
 row-choices : (c : tie.After-choices Inv-loop μ-loop)
     → let s = c .before .before .before .before .before .before .before in c .choices .result ≡ choicesOf (s .before .before .args .n) (row s .kind) (row s .many)
-row-choices c = let s = c .before .before .before .before .before .before .before in c .choices .ensures ∙ ap₂ (choicesOf (s .before .before .args .n)) (c .before .before .before .before .before .wide .ensures) (c .before .wide3 .ensures)
+row-choices c = let s = c .before .before .before .before .before .before .before in c .choices .ensures ∙ ap₂ (choicesOf (s .before .before .args .n)) (c .before .before .before .before .before .wide .ensures .0) (c .before .wide3 .ensures .0)
 
 acts-small : (c : tie.After-choices Inv-loop μ-loop) → c .before .before .before .power .result * c .choices .result ≤ 64 ^ 4 * 64
 acts-small c =
@@ -70,7 +70,7 @@ element-copy-out-row c = omega (arith, c .before .before .pre .2 .few)
 power-requires : tie.Need-power-requires Inv-loop μ-loop
 power-requires c κs =
     let s = c .before .before .before .before .before in
-    let w = c .wide2 .ensures in
+    let w = c .wide2 .ensures .0 in
     (s .pre .0, pow-fits (s .args .n) (c .wide2 .result) (s .pre .1) (omega (arith, w, s .pre .2 .nodes .node (c .before .before .before .before .loop .nodes) .width)))
 
 node-width-requires : tie.Need-node-width-requires Inv-loop μ-loop

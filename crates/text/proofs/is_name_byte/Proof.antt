@@ -1,5 +1,5 @@
 -- `text::is_name_byte` meets its contract.
-use mathlib.Core.Path.{refl, sym, _∙_}
+use mathlib.Core.Path.{sym, _∙_}
 use borrow.Author.Needs.{needs}
 use Rattle.text.proofs.Names.{byte-capital, byte-digit, byte-other}
 use Rattle.text.proofs.is_name_byte.Statement.{statement}

@@ -1,5 +1,5 @@
 -- `tries::try_list` meets its contract: each way out is a law of `Laws`. Assumes nothing.
-use mathlib.Core.Path.{refl, _∙_}
+use mathlib.Core.Path.{_∙_}
 use native.Mathlib.Omega.{arith}
 use Rattle.tries.specs.Laws.{list-long, list-outside, list-there, list-ran}
 use borrow.Author.Needs.{needs}
@@ -13,7 +13,7 @@ returns-2 : tie.Need-returns-2
 returns-2 c = λ p s. list-outside p _ _ _ (omega arith) _ _ (c .before .before .wide .ensures) (c .before .wide2 .ensures) (omega arith)
 
 slice-aggregate-run : tie.Need-slice-aggregate-run
-slice-aggregate-run c = list-there _ _ (c .before .before .copy .last .0) _ (c .before .before .before .before .before .before .before .before .before .before .before .pre) (c .before .before .copy .ensures)
+slice-aggregate-run c = list-there _ _ (c .before .before .copy .last .0) _ (c .before .before .before .before .before .before .before .before .before .before .before .pre) (c .before .before .copy .ensures .0)
 
 returns-3 : tie.Need-returns-3
 returns-3 c =
@@ -21,7 +21,7 @@ returns-3 c =
     let first = c .before .before .before .before .before .before .before .before .before .before .wide in
     let second = c .before .before .before .before .before .before .before .before .before .wide2 in
     let copied = c .before .before .before .before .before .before .copy in
-    λ p serves. c .verdict-of .ensures ∙ list-ran p _ _ _ (omega arith) _ _ (first .ensures) (second .ensures) (omega arith) _ _ (copied .last .0) _ (start .pre) (copied .ensures) serves _ (λ x i r. (c .before .before .run .ensures x i r .0, tt))
+    λ p serves. c .verdict-of .ensures ∙ list-ran p _ _ _ (omega arith) _ _ (first .ensures) (second .ensures) (omega arith) _ _ (copied .last .0) _ (start .pre) (copied .ensures .0) serves _ (λ x i r. (c .before .before .run .ensures x i r .0, tt))
 
 pub try-list-spec : {M : Type 1} → statement M
 try-list-spec =

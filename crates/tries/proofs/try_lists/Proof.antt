@@ -50,6 +50,7 @@ use Rattle.layout.specs.LaidLaws.{most-zeros}
 use Rattle.tries.specs.declared.Try.{Try}
 use Rattle.tries.specs.declared.Answer.{Answer}
 use Rattle.tries.specs.declared.Begun.{Begun}
+use Rattle.definitions.specs.Limits.{usual}
 use Rattle.definitions.specs.Tries.{readyToTry}
 use Rattle.tries.specs.Begun.{BegunBy, Ready}
 use Rattle.tries.specs.Answers.{Ends, begun-asks, outcome}
@@ -257,7 +258,7 @@ module _ {M : Type 1} (𝓤 : URA M) (H : Heap 𝓤) (A : Atoms 𝓤) (W : Given
   to-begin l ν₁ ν₂ δ₁ δ₂ = (((κ₀, (κ₁, (ν₁ ∷ [], (ν₂ ∷ [], tt)))), (q₀, (q₁, (fullShare, (fullShare, tt)))), tt, begin-args l δ₁ δ₂, (s₀ ∷ [], (s₁ ∷ [], (vint w64 n ∷ [], (sliceVal (l, 0) tableLength ∷ [], (s₄ ∷ [], tt)))))), tt)
 
   abbrev Began : Begun → List ℕ → List ℕ → Type 0
-  Began r tab mid = BegunBy (readyToTry que sit (length ws)) n ws r tab mid
+  Began r tab mid = BegunBy (readyToTry usual que sit (length ws)) n ws r tab mid
 
   abbrev each-args : ℕ → Begun → List ℕ → List ℕ → GName → GName → GName → RefT (List ℕ) × (RefT (List ℕ) × (ℕ × (ℕ × (RefT (List ℕ) × (RefT (List Try) × Unit {0})))))
   each-args l r tab mid δ₃ δ₄ δ₅ = (to l 0 δ₃ tab, (to b₄ o₄ δ₄ mid, (r .words, (r .many, (x₂, (to b o δ₅ es, tt))))))
@@ -298,7 +299,7 @@ module _ {M : Type 1} (𝓤 : URA M) (H : Heap 𝓤) (A : Atoms 𝓤) (W : Given
               ),
             ),
           ),
-        )) $ (let h = outcome que sit ss ws es r tab mid ys q e in says-all ! (told-too 𝓤 (h .0) (told-too 𝓤 (h .1 .0) (told-one 𝓤 (h .1 .1))))) $
+        )) $ (let h = outcome usual que sit ss ws es r tab mid ys q e in says-all ! (told-too 𝓤 (h .0) (told-too 𝓤 (h .1 .0) (told-one 𝓤 (h .1 .1))))) $
         nothing ! $ move ! (10 ∷ 0 ∷ []) $ join ! $ move ! (8 ∷ 0 ∷ []) $ join ! $ move ! (6 ∷ 0 ∷ []) $ join ! $ move ! (4 ∷ 0 ∷ []) $ join ! $ move ! (2 ∷ 0 ∷ []) $ join ! $ frame ! $ nothing ! $ move ! (5 ∷ 0 ∷ []) $ fjoin ! $
         move ! (4 ∷ 0 ∷ []) $ fjoin ! $ move ! (3 ∷ 0 ∷ []) $ fjoin ! $ move ! (2 ∷ 0 ∷ []) $ fjoin ! $ move ! (1 ∷ 0 ∷ []) $ fjoin ! $
         owned ! R.the-row (Is R.the-row) (LL.makes R.the-type R′.the-plain 𝓤 H A) (told r) _ (told-fits r is) $ move ! (1 ∷ 0 ∷ []) $ done !

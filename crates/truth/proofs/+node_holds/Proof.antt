@@ -462,10 +462,7 @@ node-holds-parts-holds t c =
       parts-start (a .n) (a .lines .now) (a .facts .now) (a .picks .now) (a .v)
           (x .result .kind) (x .result .level) (x .result .many) (eqb (x .result .join) 1) (eqb (x .result .kind) 1)
           (valueIn (set (e .values) (x .result .level) (u .result))),
-      passed-over (a .n) (a .lines .now) (a .facts .now) (a .picks .now) (a .v)
-          (x .result .level) (x .result .first) (x .result .many) (eqb (x .result .join) 1) (valueIn (a .t6)) (valueIn (set (e .values) (x .result .level) (u .result)))
-          (valueOf (x .result .kind) (elementIn (a .lines .now) (x .result .range) (x .result .count - e .left)) (valueIn (a .t6) (x .result .level))) (e .seen)
-          (values-are (a .t6) (x .result .kind) (x .result .level) (elementIn (a .lines .now) (x .result .range) (x .result .count - e .left)) (u .result) (e .values) (e .inv .2) (u .ensures)) (e .inv .5),
+      passed-over (a .n) (a .lines .now) (a .facts .now) (a .picks .now) (a .v) (x .result .level) (x .result .first) (x .result .many) (eqb (x .result .join) 1) (valueIn (a .t6)) (valueIn (set (e .values) (x .result .level) (u .result))) (valueOf (x .result .kind) (elementIn (a .lines .now) (x .result .range) (x .result .count - e .left)) (valueIn (a .t6) (x .result .level))) (e .seen) (values-are (a .t6) (x .result .kind) (x .result .level) (elementIn (a .lines .now) (x .result .range) (x .result .count - e .left)) (u .result) (e .values) (e .inv .2) (u .ensures)) (e .inv .5),
     )
 
 -- src/lib.rt:235:41
@@ -671,8 +668,7 @@ node-holds-node-holds-requires t c κs =
         higher .1,
         within-set (a .n) (e .values) (x .result .level) (u .result)
             (value-small (a .n) (x .result .kind) (elementIn (a .lines .now) (x .result .range) (x .result .count - e .left)) (getD (a .t6) (x .result .level) 0) (u .result) (u .ensures)
-            (element-small (a .n) (a .lines .now) (s .pre .1 .0) (a .v) (s .pre .1 .1) (x .result) (x .ensures) (x .result .count - e .left)
-            (omega (arith, c .before .before .before .before .before .before .before .before .before .elements-test .taken, e .inv .0))) (s .pre .1 .2 (x .result .level))) (e .inv .3),
+            (element-small (a .n) (a .lines .now) (s .pre .1 .0) (a .v) (s .pre .1 .1) (x .result) (x .ensures) (x .result .count - e .left) (omega (arith, c .before .before .before .before .before .before .before .before .before .elements-test .taken, e .inv .0))) (s .pre .1 .2 (x .result .level))) (e .inv .3),
       ),
     )
 
@@ -746,8 +742,7 @@ node-holds-leaf-holds-requires t c κs =
       omega (arith, parts-small (a .n) (a .lines .now) (s .pre .1 .0) (a .v) (s .pre .1 .1) (x .result) (x .ensures), c .before .before .before .before .before .before .parts-test .taken),
       within-set (a .n) (e .values) (x .result .level) (u .result)
           (value-small (a .n) (x .result .kind) (elementIn (a .lines .now) (x .result .range) (x .result .count - e .left)) (getD (a .t6) (x .result .level) 0) (u .result) (u .ensures)
-          (element-small (a .n) (a .lines .now) (s .pre .1 .0) (a .v) (s .pre .1 .1) (x .result) (x .ensures) (x .result .count - e .left)
-          (omega (arith, c .before .before .before .before .before .before .before .before .before .elements-test .taken, e .inv .0))) (s .pre .1 .2 (x .result .level))) (e .inv .3),
+          (element-small (a .n) (a .lines .now) (s .pre .1 .0) (a .v) (s .pre .1 .1) (x .result) (x .ensures) (x .result .count - e .left) (omega (arith, c .before .before .before .before .before .before .before .before .before .elements-test .taken, e .inv .0))) (s .pre .1 .2 (x .result .level))) (e .inv .3),
     )
 
 -- src/lib.rt:244:16
@@ -833,8 +828,7 @@ node-holds-cell t c =
     (set (e .values) (x .result .level) (u .result)) (c .if1 .b) (w .2 .left)
     (within-set (a .n) (e .values) (x .result .level) (u .result)
     (value-small (a .n) (x .result .kind) (elementIn (a .lines .now) (x .result .range) (x .result .count - e .left)) (getD (a .t6) (x .result .level) 0) (u .result) (u .ensures)
-    (element-small (a .n) (a .lines .now) (s .pre .1 .0) (a .v) (s .pre .1 .1) (x .result) (x .ensures) (x .result .count - e .left)
-    (omega (arith, c .before .before .before .before .before .before .before .elements-test .taken, e .inv .0))) (s .pre .1 .2 (x .result .level))) (e .inv .3))
+    (element-small (a .n) (a .lines .now) (s .pre .1 .0) (a .v) (s .pre .1 .1) (x .result) (x .ensures) (x .result .count - e .left) (omega (arith, c .before .before .before .before .before .before .before .elements-test .taken, e .inv .0))) (s .pre .1 .2 (x .result .level))) (e .inv .3))
     (w .4 ∙ w .3 .ensures)))
     (c .if1 .came)
 
@@ -908,8 +902,7 @@ node-holds-elements-again t c =
       steady-next (a .t6) (x .result .level) (e .values) (u .result) (e .inv .2),
       within-set (a .n) (e .values) (x .result .level) (u .result)
           (value-small (a .n) (x .result .kind) (elementIn (a .lines .now) (x .result .range) (x .result .count - e .left)) (getD (a .t6) (x .result .level) 0) (u .result) (u .ensures)
-          (element-small (a .n) (a .lines .now) (s .pre .1 .0) (a .v) (s .pre .1 .1) (x .result) (x .ensures) (x .result .count - e .left)
-          (omega (arith, c .before .before .before .before .before .before .before .before .before .before .before .elements-test .taken, e .inv .0))) (s .pre .1 .2 (x .result .level))) (e .inv .3),
+          (element-small (a .n) (a .lines .now) (s .pre .1 .0) (a .v) (s .pre .1 .1) (x .result) (x .ensures) (x .result .count - e .left) (omega (arith, c .before .before .before .before .before .before .before .before .before .before .before .elements-test .taken, e .inv .0))) (s .pre .1 .2 (x .result .level))) (e .inv .3),
       one-gone (AllTurns (a .n) (a .lines .now) (a .facts .now) (a .picks .now) (a .v)
           (x .result .kind) (x .result .level) (x .result .many) (eqb (x .result .join) 1) (eqb (x .result .kind) 1)
           (valueIn (a .t6)) (elementIn (a .lines .now) (x .result .range)) (x .result .count)) (x .result .count) (e .left) (omega (arith, c .before .before .before .before .before .before .before .before .before .before .before .elements-test .taken)) (e .inv .0)
@@ -919,10 +912,7 @@ node-holds-elements-again t c =
           (valueIn (set (e .values) (x .result .level) (u .result))) (values-are (a .t6) (x .result .kind) (x .result .level) (elementIn (a .lines .now) (x .result .range) (x .result .count - e .left)) (u .result) (e .values) (e .inv .2) (u .ensures))
           (o .i) (o .inv .3) (d .result) (d .ensures)
           (c .before .before .before .before .if1 .b) (r .result) (omega (arith, c .before .before .before .before .before .before .before .before .parts-test .taken)) (node-holds-cell t (c .before .before .before .before)) (r .ensures) (c .before .before .if3 .taken) (c .before .if4 .left)),
-      passed-back (a .n) (a .lines .now) (a .facts .now) (a .picks .now) (a .v)
-          (x .result .level) (x .result .first) (x .result .many) (eqb (x .result .join) 1) (valueIn (a .t6)) (valueIn (set (e .values) (x .result .level) (u .result)))
-          (valueOf (x .result .kind) (elementIn (a .lines .now) (x .result .range) (x .result .count - e .left)) (valueIn (a .t6) (x .result .level))) (o .seen)
-          (values-are (a .t6) (x .result .kind) (x .result .level) (elementIn (a .lines .now) (x .result .range) (x .result .count - e .left)) (u .result) (e .values) (e .inv .2) (u .ensures)) (o .inv .4),
+      passed-back (a .n) (a .lines .now) (a .facts .now) (a .picks .now) (a .v) (x .result .level) (x .result .first) (x .result .many) (eqb (x .result .join) 1) (valueIn (a .t6)) (valueIn (set (e .values) (x .result .level) (u .result))) (valueOf (x .result .kind) (elementIn (a .lines .now) (x .result .range) (x .result .count - e .left)) (valueIn (a .t6) (x .result .level))) (o .seen) (values-are (a .t6) (x .result .kind) (x .result .level) (elementIn (a .lines .now) (x .result .range) (x .result .count - e .left)) (u .result) (e .values) (e .inv .2) (u .ensures)) (o .inv .4),
     )
 
 -- src/lib.rt:254:13
@@ -1059,8 +1049,7 @@ node-holds-parts-again t c =
           (x .result .kind) (x .result .level) (x .result .many) (eqb (x .result .join) 1) (eqb (x .result .kind) 1)
           (valueIn (set (e .values) (x .result .level) (u .result))) (o .i) (o .inv .3)
           (c .before .before .before .if1 .b) (r .result) (omega (arith, c .before .before .before .before .before .before .before .parts-test .taken)) (node-holds-cell t (c .before .before .before)) (r .ensures) (c .before .if3 .left),
-      passed-next (a .n) (a .lines .now) (a .facts .now) (a .picks .now) (a .v)
-          (x .result .level) (x .result .first) (x .result .many) (eqb (x .result .join) 1) (valueIn (set (e .values) (x .result .level) (u .result))) (o .seen) (o .inv .4) (o .i) (still-is (a .n) (a .lines .now) (a .facts .now) (a .picks .now) (a .v) (x .result) (x .ensures))
+      passed-next (a .n) (a .lines .now) (a .facts .now) (a .picks .now) (a .v) (x .result .level) (x .result .first) (x .result .many) (eqb (x .result .join) 1) (valueIn (set (e .values) (x .result .level) (u .result))) (o .seen) (o .inv .4) (o .i) (still-is (a .n) (a .lines .now) (a .facts .now) (a .picks .now) (a .v) (x .result) (x .ensures))
           (c .before .before .before .if1 .b) (r .result) (o .inv .1) (omega (arith, c .before .before .before .before .before .before .before .parts-test .taken)) (node-holds-cell t (c .before .before .before)) (r .ensures) (c .before .if3 .left) (l .result) (l .ensures),
     )
 
@@ -1133,8 +1122,7 @@ node-holds-elements-again-2 t c =
       steady-next (a .t6) (x .result .level) (e .values) (u .result) (e .inv .2),
       within-set (a .n) (e .values) (x .result .level) (u .result)
           (value-small (a .n) (x .result .kind) (elementIn (a .lines .now) (x .result .range) (x .result .count - e .left)) (getD (a .t6) (x .result .level) 0) (u .result) (u .ensures)
-          (element-small (a .n) (a .lines .now) (s .pre .1 .0) (a .v) (s .pre .1 .1) (x .result) (x .ensures) (x .result .count - e .left)
-          (omega (arith, c .before .before .before .before .elements-test .taken, e .inv .0))) (s .pre .1 .2 (x .result .level))) (e .inv .3),
+          (element-small (a .n) (a .lines .now) (s .pre .1 .0) (a .v) (s .pre .1 .1) (x .result) (x .ensures) (x .result .count - e .left) (omega (arith, c .before .before .before .before .elements-test .taken, e .inv .0))) (s .pre .1 .2 (x .result .level))) (e .inv .3),
       one-gone (AllTurns (a .n) (a .lines .now) (a .facts .now) (a .picks .now) (a .v)
           (x .result .kind) (x .result .level) (x .result .many) (eqb (x .result .join) 1) (eqb (x .result .kind) 1)
           (valueIn (a .t6)) (elementIn (a .lines .now) (x .result .range)) (x .result .count)) (x .result .count) (e .left) (omega (arith, c .before .before .before .before .elements-test .taken)) (e .inv .0)
@@ -1144,10 +1132,7 @@ node-holds-elements-again-2 t c =
           (valueIn (set (e .values) (x .result .level) (u .result))) (values-are (a .t6) (x .result .kind) (x .result .level) (elementIn (a .lines .now) (x .result .range) (x .result .count - e .left)) (u .result) (e .values) (e .inv .2) (u .ensures))
           (o .i) (o .inv .3) (d .result) (d .ensures)
           (omega arith) (c .if6 .taken)),
-      passed-back (a .n) (a .lines .now) (a .facts .now) (a .picks .now) (a .v)
-          (x .result .level) (x .result .first) (x .result .many) (eqb (x .result .join) 1) (valueIn (a .t6)) (valueIn (set (e .values) (x .result .level) (u .result)))
-          (valueOf (x .result .kind) (elementIn (a .lines .now) (x .result .range) (x .result .count - e .left)) (valueIn (a .t6) (x .result .level))) (o .seen)
-          (values-are (a .t6) (x .result .kind) (x .result .level) (elementIn (a .lines .now) (x .result .range) (x .result .count - e .left)) (u .result) (e .values) (e .inv .2) (u .ensures)) (o .inv .4),
+      passed-back (a .n) (a .lines .now) (a .facts .now) (a .picks .now) (a .v) (x .result .level) (x .result .first) (x .result .many) (eqb (x .result .join) 1) (valueIn (a .t6)) (valueIn (set (e .values) (x .result .level) (u .result))) (valueOf (x .result .kind) (elementIn (a .lines .now) (x .result .range) (x .result .count - e .left)) (valueIn (a .t6) (x .result .level))) (o .seen) (values-are (a .t6) (x .result .kind) (x .result .level) (elementIn (a .lines .now) (x .result .range) (x .result .count - e .left)) (u .result) (e .values) (e .inv .2) (u .ensures)) (o .inv .4),
     )
 
 -- src/lib.rt:202:1
@@ -1269,9 +1254,7 @@ node-holds-returns-3 t c =
     fixed-ends (a .n) (a .lines .now) (a .facts .now) (a .picks .now) (a .v)
     (x .result .kind) (x .result .level) (x .result .many) (eqb (x .result .join) 1) (eqb (x .result .kind) 1)
     (valueIn (a .t6)) (elementIn (a .lines .now) (x .result .range)) (x .result .count) (x .result .count - e .left) (e .inv .4) (x .result .first) (still-is (a .n) (a .lines .now) (a .facts .now) (a .picks .now) (a .v) (x .result) (x .ensures))
-    (valueIn (set (e .values) (x .result .level) (u .result)))
-    (valueOf (x .result .kind) (elementIn (a .lines .now) (x .result .range) (x .result .count - e .left)) (valueIn (a .t6) (x .result .level)))
-    (values-are (a .t6) (x .result .kind) (x .result .level) (elementIn (a .lines .now) (x .result .range) (x .result .count - e .left)) (u .result) (e .values) (e .inv .2) (u .ensures))
+    (valueIn (set (e .values) (x .result .level) (u .result))) (valueOf (x .result .kind) (elementIn (a .lines .now) (x .result .range) (x .result .count - e .left)) (valueIn (a .t6) (x .result .level))) (values-are (a .t6) (x .result .kind) (x .result .level) (elementIn (a .lines .now) (x .result .range) (x .result .count - e .left)) (u .result) (e .values) (e .inv .2) (u .ensures))
     (o .i) (omega (arith, c .before .before .before .before .before .before .before .before .parts-test .taken)) (sym (f .ensures) ∙ c .if5 .taken)
     (c .before .before .before .before .if1 .b) (r .result) (node-holds-cell t (c .before .before .before .before)) (r .ensures) (c .before .before .if3 .taken) (d .result) (d .ensures) (c .before .if4 .left) (o .answer) (o .inv .2)
 

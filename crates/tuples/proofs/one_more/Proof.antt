@@ -6,10 +6,10 @@ use Rattle.tuples.proofs.one_more.Statement.{statement}
 use Rattle.tuples.proofs.one_more.Tie as tie
 
 mul-t7 : tie.Need-mul-t7
-mul-t7 c = omega (arith, small-times _ (c .before .before .before .before .args .n) (small-row 256 _ _ (c .before .before .f .given .1) (c .before .before .before .before .pre .1)) (omega arith))
+mul-t7 c = omega (arith, small-times _ (c .before .before .before .before .args .n) (small-row 4096 _ _ (c .before .before .f .given .1) (c .before .before .before .before .pre .1)) (omega arith))
 
 add-t8 : tie.Need-add-t8
-add-t8 c = omega (arith, small-times _ (c .before .before .before .before .args .n) (small-row 256 _ _ (c .before .before .f .given .1) (c .before .before .before .before .pre .1)) (omega arith))
+add-t8 c = omega (arith, small-times _ (c .before .before .before .before .args .n) (small-row 4096 _ _ (c .before .before .f .given .1) (c .before .before .before .before .pre .1)) (omega arith))
 
 returns : tie.Need-returns
 returns c = λ xs w. more-inside (c .before .before .before .before .args .n) _ (c .before .before .before .before .args .x) xs w _ (c .before .before .f .given .1) (omega arith)

@@ -1,6 +1,6 @@
 -- `tuples::power` meets its contract. r is the power that i factors give.
 use Prim.Native.Nat.{_+_, _-_, _^_, _≤_}
-use mathlib.Core.Path.{_≡_, refl, sym}
+use mathlib.Core.Path.{_≡_, sym}
 use native.Mathlib.Omega.{arith}
 use native.Mathlib.Nat.{pow-zero}
 use Rattle.tuples.proofs.Rows.{power-le, power-next}

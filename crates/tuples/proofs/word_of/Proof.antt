@@ -1,6 +1,6 @@
 -- `tuples::word_of` meets its contract. The sum is the words of the relations from lo up to j.
 use Prim.Native.Nat.{ℕ, _-_, _*_, _≤_}
-use mathlib.Core.Path.{_≡_, refl}
+use mathlib.Core.Path.{_≡_}
 use mathlib.Core.List.{List}
 use native.Mathlib.Omega.{arith}
 use lib.ListN.{getD}
@@ -14,7 +14,7 @@ use Rattle.tuples.proofs.word_of.Statement.{statement}
 use Rattle.tuples.proofs.word_of.Tie as tie
 
 abbrev Inv-loop : tie.InvT-loop
-Inv-loop arity n lo i j₀ sum₀ j sum = (lo ≤ j) × (j ≤ i) × ((g : Signature) → (from to : List ℕ) → sum ≡ firstWord (withArrays g from to arity) n lo (j - lo)) × (sum ≤ 64 * (j - lo))
+Inv-loop arity n lo i j₀ sum₀ j sum = (lo ≤ j) × (j ≤ i) × ((g : Signature) → (from to : List ℕ) → sum ≡ firstWord (withArrays g from to arity) n lo (j - lo)) × (sum ≤ 4096 * (j - lo))
 
 abbrev μ-loop : tie.MeasureT-loop
 μ-loop arity n lo i j₀ sum₀ j sum = i - j

@@ -1,0 +1,107 @@
+-- What the opening of a call tells: the case is refused, or it was read, its facts stand in the table of bits, and its problem is
+-- grounded or over the limits.
+use Prim.Native.Nat.{ℕ, _*_, _^_, _≤_, _<_}
+use mathlib.Core.Path.{_≡_, refl, sym, ap₂, subst, _∙_}
+use mathlib.Core.List.{List}
+use native.Mathlib.Omega.{arith}
+use native.Mathlib.Nat.{pow-le-pow-left}
+use Rattle.definitions.specs.Limits.{CaseLimits}
+use Rattle.definitions.specs.Refusal.{Result, refused, accepted}
+use Rattle.definitions.specs.Truth.{Case}
+use Rattle.definitions.specs.Outcome.{readCase, ground}
+use Rattle.laws.specs.Reader.{Accepted, gives-if, case-fits}
+use Rattle.bits.specs.Table.{bit}
+use Rattle.definitions.specs.Atoms.{wordsFor}
+use Rattle.sheets.specs.Reading.{FactsRoom}
+use Rattle.sheets.specs.declared.Opened.{Opened}
+use Rattle.sheets.specs.Opening.{Holds, CaseRead}
+use Rattle.grounding.specs.declared.Sized.{Sized}
+use Rattle.grounding.specs.Grounds.{GroundsTo}
+use Rattle.asking.specs.declared.Front.{Front}
+use Rattle.asking.specs.Within.{case-within}
+
+-- limits by their numbers, as code has them
+abbrev pub limits : ℕ → ℕ → ℕ → CaseLimits
+limits most mostAtoms mostActions = record { elements = most; atoms = mostAtoms; actions = mostActions }
+
+-- the case c was read and grounded
+pub record Held (L : CaseLimits) (question : List ℕ) (c : Case) (r : Front) (facts table : List ℕ) : Type 0 where
+  pub no-fault : r .fault ≡ 0
+  pub accepts : Accepted c
+  pub holds : Holds question c (r .o) (bit facts)
+  pub within : r .o .n ≤ L .elements
+  pub grounded : GroundsTo (ground L c) (r .m) table
+
+-- a refusal's number and place; the number is never 0
+pub record Stopped (k place : ℕ) (r : Front) : Type 0 where
+  pub number : r .fault ≡ k
+  pub where-it-is : r .place ≡ place
+  pub some-fault : 0 < r .fault
+
+unfoldable pub FrontedBy : CaseLimits → List ℕ → Result Case → Front → List ℕ → List ℕ → Type 0
+FrontedBy L question (refused k place) r facts table = Stopped k place r
+FrontedBy L question (accepted c) r facts table = Held L question c r facts table
+
+abbrev pub Fronted : CaseLimits → List ℕ → List ℕ → Front → List ℕ → List ℕ → Type 0
+Fronted L question site r facts table = FrontedBy L question (readCase L question site) r facts table
+
+-- some case was read and grounded: what is known inside a call
+pub record Ready (question : List ℕ) (r : Front) (facts table : List ℕ) : Type 0 where
+  pub limits-are : CaseLimits
+  pub case : Case
+  pub held : Held limits-are question case r facts table
+  pub atoms-few : limits-are .atoms ≤ 1048576
+  pub actions-few : limits-are .actions ≤ 8388608
+
+module _ (L : CaseLimits) (question site : List ℕ) (r : Front) (facts table : List ℕ) (f : Fronted L question site r facts table) where
+  pub front-refused : (r .fault ≡ 0 → ⊥) → readCase L question site ≡ refused (r .fault) (r .place)
+  unfolding FrontedBy
+  front-refused z = go (readCase L question site) f
+    where
+      go : (x : Result Case) → FrontedBy L question x r facts table → x ≡ refused (r .fault) (r .place)
+      go (refused k place) h = ap₂ refused (sym (h .number)) (sym (h .where-it-is))
+      go (accepted c) h = absurd (z (h .no-fault))
+
+  pub front-held : r .fault ≡ 0 → (c : Case) × (readCase L question site ≡ accepted c) × Held L question c r facts table
+  unfolding FrontedBy
+  front-held z = go (readCase L question site) refl f
+    where
+      go : (x : Result Case) → readCase L question site ≡ x → FrontedBy L question x r facts table → (c : Case) × (readCase L question site ≡ accepted c) × Held L question c r facts table
+      go (refused k place) e h = absurd (omega (arith, h .some-fault))
+      go (accepted c) e h = (c, e, h)
+
+  pub front-ready : L .atoms ≤ 1048576 → L .actions ≤ 8388608 → r .fault ≡ 0 → Ready question r facts table
+  front-ready a b z = let (c, e, h) = front-held z in record { limits-are = L; case = c; held = h; atoms-few = a; actions-few = b }
+
+-- ---- from what reading and grounding say
+module _ (L : CaseLimits) (few : L .elements ≤ 64) (question site : List ℕ) (o : Opened) (facts : List ℕ) (read : CaseRead question (readCase L question site) o (bit facts)) where
+  pub fronts-refused : (o .fault ≡ 0 → ⊥) → (r : Front) → r .fault ≡ o .fault → r .place ≡ o .place → (table : List ℕ) → Fronted L question site r facts table
+  unfolding FrontedBy CaseRead
+  fronts-refused z r a b table = go (readCase L question site) read
+    where
+      go : (x : Result Case) → CaseRead question x o (bit facts) → FrontedBy L question x r facts table
+      go (refused k place) h = record { number = a ∙ h .number; where-it-is = b ∙ h .where-it-is; some-fault = omega (arith, h .some-fault) }
+      go (accepted c) h = absurd (z (h .no-fault))
+
+  pub fronts-read : o .fault ≡ 0 → (m : Sized) (table : List ℕ) → ((c : Case) → Holds question c o (bit facts) → GroundsTo (ground L c) m table) → (r : Front) → r ≡ record { fault = 0; place = 0; o = o; m = m } → Fronted L question site r facts table
+  unfolding FrontedBy CaseRead
+  fronts-read z m table g r e = go (readCase L question site) refl read
+    where
+      go : (x : Result Case) → readCase L question site ≡ x → CaseRead question x o (bit facts) → FrontedBy L question x r facts table
+      go (refused k place) q h = absurd (omega (arith, h .some-fault))
+      go (accepted c) q h = rw e (record {
+        no-fault = refl;
+        accepts = gives-if Accepted (readCase L question site) c q (case-fits L few question site);
+        holds = h;
+        within = subst (λ (n : ℕ). n ≤ L .elements) (sym (h .size)) (case-within L question site c q);
+        grounded = g c h;
+      })
+
+-- ---- room for the facts: what holds 8 relations of three places over the most elements holds any, and 512 words do so for 16
+pub facts-room : (site : List ℕ) (most room : ℕ) → 8 * wordsFor (most ^ 3) ≤ room → FactsRoom site most room
+unfolding wordsFor
+facts-room site most room h k next r l = let e = pow-le-pow-left l 3 in omega arith
+
+pub few-room : (site : List ℕ) → FactsRoom site 16 512
+unfolding wordsFor
+few-room site = facts-room site 16 512 (omega arith)

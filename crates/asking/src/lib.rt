@@ -1,0 +1,94 @@
+// What every call begins with: a case is read and its problem grounded, by limits that the caller chooses. What is wrong with the case is
+// told; that it has too many atoms or actions is only noted, since a third input may be refused before that.
+ghost use mathlib.Core.Path.{_≡_};
+ghost use mathlib.Core.Bool.{false};
+ghost use Prim.Native.Nat.{_≤_};
+ghost use lib.ListN.{length};
+ghost use Rattle.rows.specs.Values.{Most};
+ghost use Rattle.bits.specs.Table.{bit};
+ghost use Rattle.ground.specs.Lines.{tableLength};
+ghost use Rattle.layout.specs.Laid.{numberLimit};
+ghost use Rattle.sheets.specs.Reading.{FactsRoom};
+ghost use Rattle.runs.specs.Ended.{ended};
+ghost use Rattle.asking.specs.Fronts.{limits, Fronted};
+ghost use Rattle.asking.specs.Replies.{resultOf};
+use grounding::Sized;
+use runs::End;
+use sheets::Opened;
+
+// The most elements, atoms and actions that a case may have, and the most steps that may be lent.
+pub const ELEMENTS: usize = 16;
+
+pub const ATOMS: usize = 65536;
+
+pub const ACTIONS: usize = 131072;
+
+pub const STEPS: usize = 65536;
+
+// Words for the facts of every case, and for the picks of a text.
+pub const FACTS: usize = 512;
+
+pub const PICKS: usize = 256;
+
+// All is well, with the step count; or a refusal with its number and place.
+pub enum Reply {
+    Accepted(usize),
+    Refused(u32, usize),
+}
+
+// How a run ended, as a reply.
+pub fn reply_of(e: End) -> Reply
+    ensures { λ r. ⌜ resultOf r ≡ ended e ⌝ }
+{
+    match e {
+        End::Done(i) => Reply::Accepted(i),
+        End::NoAction(i) => Reply::Refused(13, i),
+        End::NotNow(i) => Reply::Refused(14, i),
+        End::NoGoal(i) => Reply::Refused(15, i),
+    }
+}
+
+// A refusal's number and place; or fault 0, what was read of the case, and how large its problem is.
+pub struct Front {
+    pub fault: u32,
+    pub place: usize,
+    pub o: Opened,
+    pub m: Sized,
+}
+
+// Reads the question and the site, and grounds the case: its facts go to the lent words, which come in cleared and are enough for the
+// size that the site says, its problem to the lent table of zeros, unless there are more atoms or actions than there may be.
+pub fn open_case(
+    question: &[u8],
+    site: &[u8],
+    most: usize,
+    most_atoms: usize,
+    most_actions: usize,
+    facts: &mut [u64],
+    table: &mut [usize],
+) -> Front
+    requires { ⌜ (most ≤ 64) × («most_atoms» ≤ numberLimit) × («most_actions» ≤ numberLimit) ⌝ }
+    requires { ⌜ FactsRoom (now site) most (length (now facts)) × (bit (now facts) ≡ λ i. false) ⌝ }
+    requires { ⌜ (length (now table) ≡ tableLength) × Most (now table) 0 ⌝ }
+    ensures { λ r. ⌜ Fronted (limits most «most_atoms» «most_actions») (now (question .entry)) (now (site .entry)) r (now (facts .exit)) (now (table .exit)) ⌝ }
+{
+    let o = sheets::read_case(question, site, most, facts);
+    let fault = o.fault;
+    if fault != 0 {
+        let place = o.place;
+        let m = Sized {
+            over: true,
+            atoms: 0,
+            actions: 0,
+            bound: 0,
+        };
+        return Front { fault, place, o, m };
+    }
+    let m = grounding::ground_case(question, o, most_atoms, most_actions, table);
+    Front {
+        fault: 0,
+        place: 0,
+        o,
+        m,
+    }
+}

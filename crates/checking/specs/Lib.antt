@@ -1,2 +1,0 @@
--- Words of this crate's contracts.
-pub mod Checks

@@ -1,0 +1,510 @@
+-- What acceptance gives: a question and site that `readProblem` accepts are those of a case that is `Accepted`.
+use Prim.Native.Nat.{ℕ, zero, suc, _+_, _-_, _<_, _≤_}
+use mathlib.Core.Path.{_≡_, refl, sym, ap, subst, _∙_}
+use mathlib.Core.Logic.{_⊎_, inl, inr, ⊎-elim}
+use mathlib.Core.Bool.{Bool, true, false, not, _&&_, _||_}
+use mathlib.Core.Option.{Option, none, some}
+use mathlib.Core.List.{List, [], _∷_, _++_, List·Memᴰ, List·Memᴰ·not-nil, List·Memᴰ·append-cases, List·Memᴰ·eq-of-singleton, append-assoc, append-nil, nil≢cons}
+use native.Mathlib.Omega.{arith}
+use lib.Dec.{T, ltb, leb, eqb, nltb→le, eqb→eq, leb→le, T-not, not-T}
+use lib.ListN.{length, getD}
+use Rattle.definitions.specs.Limits.{CaseLimits}
+use Rattle.definitions.specs.Lists.{if_then_else_, all, any, same, isEmpty, option, position}
+use Rattle.definitions.specs.Text.{Line, fields, isBetween, isRelationName, number, lines, bytes}
+use Rattle.definitions.specs.Refusal.{Result, refused, accepted, _>>=_, refuseIf, given, readLines, readText}
+use Rattle.definitions.specs.Limits.{textLimit}
+use Rattle.definitions.specs.Relations.{Kind, static, plain, Fun, PFun, Inj, PInj, isChosen, isFunction, Relation, Tuple, isAmong, areDistinct, builtIn, isDeclared}
+use Rattle.definitions.specs.Formula.{allForms, nesting, isKnown, isScoped}
+use Rattle.definitions.specs.Parsing.{readFormula}
+use Rattle.definitions.specs.Sheets
+use Sheets.{Entry, rel, choose, rule, size, fact, pick, step, arityOf, chooseOf, withOne, withTwo, withElements, entry, entryOf, Rule, Draft, Question, relations, isRuled, isNewName, addRel, addChoose, addRule, addToQuestion, questionLine, readQuestion, relationsOf, firstRel, used, addTuple, SiteDraft, Site, addSize, addFact, addToSite, siteLine, readSite, numbers, addToPicks, picksLine, readPicks}
+use Rattle.definitions.specs.Truth.{Case}
+use Rattle.definitions.specs.Atoms.{Problem, problemOf, atoms}
+use Rattle.definitions.specs.Actions.{actions}
+use Rattle.definitions.specs.Outcome.{readCase, ground, readProblem}
+use Rattle.laws.specs.Booleans.{T-and-l, T-and-r, T-of, T-or, not-not-T, not-or-l, not-or-r, or-l, or-r}
+use Rattle.laws.specs.Tuples.{distinct-snoc, same-eq, same-refl}
+use Rattle.laws.specs.Numbers.{noRelation}
+
+-- ---- what holds of a result if it is accepted, of an option if there is something
+unfoldable pub Gives : {A : Type 0} → (A → Type 0) → Result A → Type 0
+Gives P (refused k place) = Unit {0}
+Gives P (accepted a) = P a
+
+unfoldable pub Holds : {A : Type 0} → (A → Type 0) → Option A → Type 0
+Holds P none = Unit {0}
+Holds P (some a) = P a
+
+module _ {A B : Type 0} where
+  gives-bind : (P : A → Type 0) (Q : B → Type 0) (m : Result A) (f : A → Result B) → Gives P m → ((a : A) → P a → Gives Q (f a)) → Gives Q (m >>= f)
+  unfolding Gives _>>=_
+  gives-bind P Q (refused k place) f h g = tt
+  gives-bind P Q (accepted a) f h g = g a h
+
+  pub holds-option : (P : A → Type 0) (Q : B → Type 0) (m : Option A) (f : A → Option B) → Holds P m → ((a : A) → P a → Holds Q (f a)) → Holds Q (option m none f)
+  unfolding Holds option
+  holds-option P Q none f h g = tt
+  holds-option P Q (some a) f h g = g a h
+
+gives-refuse : (b : Bool) (k at : ℕ) → Gives (λ _. T (not b)) (refuseIf b k at)
+unfolding Gives refuseIf
+gives-refuse true k at = tt
+gives-refuse false k at = tt
+
+module _ {A : Type 0} where
+  gives-given : (P : A → Type 0) (o : Option A) (k at : ℕ) → Holds P o → Gives P (given o k at)
+  unfolding Gives given Holds
+  gives-given P none k at h = tt
+  gives-given P (some a) k at h = h
+
+  pub holds-if : (P : A → Type 0) (b : Bool) (x y : Option A) → (T b → Holds P x) → Holds P y → Holds P (if b then x else y)
+  holds-if P true x y h g = h tt
+  holds-if P false x y h g = g
+
+  pub holds-self : (o : Option A) → Holds (λ a. o ≡ some a) o
+  unfolding Holds
+  holds-self none = tt
+  holds-self (some a) = refl
+
+  pub holds-none : (P : A → Type 0) → Holds P none
+  unfolding Holds
+  holds-none P = tt
+
+  pub holds-some : (P : A → Type 0) (a : A) → P a → Holds P (some a)
+  unfolding Holds
+  holds-some P a h = h
+
+  gives-accepted : (P : A → Type 0) (a : A) → P a → Gives P (accepted a)
+  unfolding Gives
+  gives-accepted P a h = h
+
+  gives-refused : (P : A → Type 0) (k at : ℕ) → Gives P (refused k at)
+  unfolding Gives
+  gives-refused P k at = tt
+
+  gives-self : (r : Result A) → Gives (λ a. r ≡ accepted a) r
+  unfolding Gives
+  gives-self (refused k place) = tt
+  gives-self (accepted a) = refl
+
+  gives-any : (r : Result A) → Gives (λ _. Unit {0}) r
+  unfolding Gives
+  gives-any (refused k place) = tt
+  gives-any (accepted a) = tt
+
+  pub gives-if : (P : A → Type 0) (r : Result A) (a : A) → r ≡ accepted a → Gives P r → P a
+  unfolding Gives
+  gives-if P r a e h = subst (Gives P) e h
+
+  gives-lines : (P : A → Type 0) (line : A → Line → Result A) → ((s : A) (l : Line) → P s → Gives P (line s l)) → (s : A) (ls : List Line) → P s → Gives P (readLines line s ls)
+  unfolding readLines
+  gives-lines P line h s [] p = gives-accepted P s p
+  gives-lines P line h s (l ∷ ls) p = gives-bind P P (line s l) (λ s′. readLines line s′ ls) (h s l p) (λ a q. gives-lines P line h a ls q)
+
+  gives-text : (P : A → Type 0) (line : A → Line → Result A) → ((s : A) (l : Line) → P s → Gives P (line s l)) → (s : A) (text : List ℕ) → P s → Gives P (readText line s text)
+  unfolding readText
+  gives-text P line h s text p = gives-bind (λ _. T (not (ltb textLimit (length text)))) P (refuseIf (ltb textLimit (length text)) 1 zero) (λ _. readLines line s (lines text)) (gives-refuse (ltb textLimit (length text)) 1 zero) (λ a q. gives-lines P line h s (lines text) p)
+
+-- ---- one record: its arity is 1 to 3, and 2 for the function kinds
+abbrev pub Arity : ℕ → Type 0
+Arity a = (1 ≤ a) × (a ≤ 3)
+
+pub record Fit (arity : ℕ) (kind : Kind) : Type 0 where
+  pub few : Arity arity
+  pub chosen : T (isChosen kind)
+  pub pairs : T (isFunction kind) → arity ≡ 2
+
+unfoldable EntryFits : Entry → Type 0
+EntryFits (rel name a) = Arity a
+EntryFits (choose name a k) = Fit a k
+EntryFits (rule f) = Unit {0}
+EntryFits (size n) = Unit {0}
+EntryFits (fact name xs) = Unit {0}
+EntryFits (pick name xs) = Unit {0}
+EntryFits (step k) = Unit {0}
+
+between : (a e b : ℕ) → T (isBetween a e b) → (a ≤ b) × (b ≤ e)
+unfolding isBetween
+between a e b t = (leb→le a b (T-and-l (leb a b) _ t), leb→le b e (T-and-r (leb a b) _ t))
+
+all-there : {A : Type 0} (o : Option A) → Holds (λ _. Unit {0}) o
+unfolding Holds
+all-there none = tt
+all-there (some a) = tt
+
+arity-fits : (f : List ℕ) → Holds Arity (arityOf f)
+unfolding arityOf
+arity-fits f = holds-option (λ _. Unit {0}) Arity (number f) _ (all-there (number f)) (λ a _. holds-if Arity (isBetween 1 3 a) (some a) none (λ t. holds-some Arity a (between 1 3 a t)) (holds-none Arity))
+
+two-few : Arity 2
+two-few = (omega arith, omega arith)
+
+choose-fits : (name f : List ℕ) → Holds EntryFits (chooseOf name f)
+unfolding chooseOf EntryFits isChosen isFunction
+choose-fits name f =
+    holds-if EntryFits (same f (bytes "Fun")) _ _ (λ t. holds-some EntryFits (choose name 2 Fun) (record { few = two-few; chosen = tt; pairs = λ t. refl }))
+    (holds-if EntryFits (same f (bytes "PFun")) _ _ (λ t. holds-some EntryFits (choose name 2 PFun) (record { few = two-few; chosen = tt; pairs = λ t. refl }))
+    (holds-if EntryFits (same f (bytes "Inj")) _ _ (λ t. holds-some EntryFits (choose name 2 Inj) (record { few = two-few; chosen = tt; pairs = λ t. refl }))
+    (holds-if EntryFits (same f (bytes "PInj")) _ _ (λ t. holds-some EntryFits (choose name 2 PInj) (record { few = two-few; chosen = tt; pairs = λ t. refl }))
+    (holds-option Arity EntryFits (arityOf f) _ (arity-fits f) (λ a h. holds-some EntryFits (choose name a plain) (record { few = h; chosen = tt; pairs = λ t. absurd t }))))))
+
+two-fits : (make : List ℕ → List ℕ → Option Entry) → ((f g : List ℕ) → Holds EntryFits (make f g)) → (fs : List (List ℕ)) → Holds EntryFits (withTwo make fs)
+unfolding withTwo Holds
+two-fits make h [] = tt
+two-fits make h (f ∷ []) = tt
+two-fits make h (f ∷ g ∷ []) = h f g
+two-fits make h (f ∷ g ∷ k ∷ fs) = tt
+
+one-fits : (make : List ℕ → Option Entry) → ((f : List ℕ) → Holds EntryFits (make f)) → (fs : List (List ℕ)) → Holds EntryFits (withOne make fs)
+unfolding withOne Holds
+one-fits make h [] = tt
+one-fits make h (f ∷ []) = h f
+one-fits make h (f ∷ g ∷ fs) = tt
+
+elements-fit : (make : List ℕ → List ℕ → Entry) → ((f g : List ℕ) → EntryFits (make f g)) → (fs : List (List ℕ)) → Holds EntryFits (withElements make fs)
+unfolding withElements
+elements-fit make h [] = holds-none EntryFits
+elements-fit make h (f ∷ fs) = holds-if EntryFits (isBetween 1 3 (length fs)) _ none (λ t. holds-option (λ _. Unit {0}) EntryFits (numbers fs) _ (all-there (numbers fs)) (λ xs _. holds-some EntryFits (make f xs) (h f xs))) (holds-none EntryFits)
+
+entry-fits : (fs : List (List ℕ)) → Holds EntryFits (entry fs)
+unfolding entry EntryFits
+entry-fits [] = holds-none EntryFits
+entry-fits (w ∷ fs) =
+    holds-if EntryFits (same w (bytes "rel")) _ _ (λ t. two-fits (λ name a. option (arityOf a) none (λ k. some (rel name k))) (λ name a. holds-option Arity EntryFits (arityOf a) _ (arity-fits a) (λ k h. holds-some EntryFits (rel name k) h)) fs)
+    (holds-if EntryFits (same w (bytes "choose")) _ _ (λ t. two-fits chooseOf choose-fits fs)
+    (holds-if EntryFits (same w (bytes "rule")) _ _ (λ t. one-fits (λ f. some (rule f)) (λ f. holds-some EntryFits (rule f) tt) fs)
+    (holds-if EntryFits (same w (bytes "size")) _ _ (λ t. one-fits (λ f. option (number f) none (λ n. some (size n))) (λ f. holds-option (λ _. Unit {0}) EntryFits (number f) _ (all-there (number f)) (λ n _. holds-some EntryFits (size n) tt)) fs)
+    (holds-if EntryFits (same w (bytes "fact")) _ _ (λ t. elements-fit fact (λ f g. tt) fs)
+    (holds-if EntryFits (same w (bytes "pick")) _ _ (λ t. elements-fit pick (λ f g. tt) fs)
+    (holds-if EntryFits (same w (bytes "step")) _ _ (λ t. one-fits (λ f. option (number f) none (λ n. some (step n))) (λ f. holds-option (λ _. Unit {0}) EntryFits (number f) _ (all-there (number f)) (λ n _. holds-some EntryFits (step n) tt)) fs)
+    (holds-none EntryFits)))))))
+
+line-fits : (l : Line) → Gives EntryFits (entryOf l)
+unfolding entryOf
+line-fits l = gives-given EntryFits _ 2 (l .at) (holds-if EntryFits (l .ended) (entry (fields l)) none (λ t. entry-fits (fields l)) (holds-none EntryFits))
+
+-- ---- names are apart
+unfoldable pub Apart : List Relation → Type 0
+Apart [] = Unit {0}
+Apart (k ∷ ks) = T (not (isDeclared ks (k .name))) × Apart ks
+
+declared-snoc : (ks : List Relation) (x : Relation) (name : List ℕ) → T (isDeclared (ks ++ (x ∷ [])) name) → T (isDeclared ks name) ⊎ T (same (x .name) name)
+unfolding isDeclared any
+declared-snoc [] x name t = ⊎-elim (λ q. inr q) (λ q. absurd q) (T-or (same (x .name) name) _ t)
+declared-snoc (k ∷ ks) x name t = ⊎-elim (λ q. inl (or-l (same (k .name) name) _ q)) (λ q. ⊎-elim (λ r. inl (or-r (same (k .name) name) _ r)) (λ r. inr r) (declared-snoc ks x name q)) (T-or (same (k .name) name) _ t)
+
+apart-snoc : (ks : List Relation) (x : Relation) → Apart ks → T (not (isDeclared ks (x .name))) → Apart (ks ++ (x ∷ []))
+unfolding Apart isDeclared any
+apart-snoc [] x a h = (tt, tt)
+apart-snoc (k ∷ ks) x a h = (
+  not-T (isDeclared (ks ++ (x ∷ [])) (k .name)) (λ t. ⊎-elim (λ q. T-not (isDeclared ks (k .name)) (a .0) q) (λ q. T-not (same (k .name) (x .name) || isDeclared ks (x .name)) h (or-l (same (k .name) (x .name)) _ (subst (λ (n : List ℕ). T (same (k .name) n)) (sym (same-eq (x .name) (k .name) q)) (same-refl (k .name))))) (declared-snoc ks x (k .name) t)),
+  apart-snoc ks x (a .1) (not-T (isDeclared ks (x .name)) (λ t. T-not (same (k .name) (x .name) || isDeclared ks (x .name)) h (or-r (same (k .name) (x .name)) _ t))),
+)
+
+-- ---- the question's lines so far
+pub record RelFits (k : Relation) : Type 0 where
+  pub few : Arity (k .arity)
+  pub is-static : k .kind ≡ static
+
+pub record RuleFits (rels chosen : List Relation) (r : Rule) : Type 0 where
+  pub scoped : T (isScoped [] (r .formula))
+  pub known : T (isKnown (relations rels chosen) (r .formula))
+  pub nested : nesting (r .formula) ≤ 4
+  pub few-forms : allForms chosen (r .formula) ≤ 64
+  pub some-chosen : T (not (isEmpty chosen))
+
+record DraftFits (d : Draft) : Type 0 where
+  rels-fit : (k : Relation) → List·Memᴰ k (d .rels) → RelFits k
+  chosen-fit : (k : Relation) → List·Memᴰ k (d .chosen) → Fit (k .arity) (k .kind)
+  chosen-named : (k : Relation) → List·Memᴰ k (d .chosen) → T (isRelationName (k .name))
+  apart : Apart (relations (d .rels) (d .chosen))
+  ruled-fits : Holds (RuleFits (d .rels) (d .chosen)) (d .ruled)
+
+mem-snoc : {A : Type 0} (P : A → Type 0) (l : List A) (x : A) → ((y : A) → List·Memᴰ y l → P y) → P x → (y : A) → List·Memᴰ y (l ++ (x ∷ [])) → P y
+mem-snoc P l x h p y m = ⊎-elim (λ q. h y q) (λ q. subst P (sym (List·Memᴰ·eq-of-singleton q)) p) (List·Memᴰ·append-cases l m)
+
+empty-nil : {A : Type 0} (l : List A) → T (not (not (isEmpty l))) → l ≡ []
+unfolding isEmpty
+empty-nil [] t = refl
+empty-nil (x ∷ l) t = absurd t
+
+relations-snoc : (rels chosen : List Relation) (x : Relation) → relations rels (chosen ++ (x ∷ [])) ≡ relations rels chosen ++ (x ∷ [])
+unfolding relations builtIn
+relations-snoc rels chosen x = ap (λ (l : List Relation). builtIn ++ l) (sym (append-assoc rels chosen (x ∷ []))) ∙ sym (append-assoc builtIn (rels ++ chosen) (x ∷ []))
+
+relations-snoc-rel : (rels : List Relation) (x : Relation) → relations (rels ++ (x ∷ [])) [] ≡ relations rels [] ++ (x ∷ [])
+unfolding relations builtIn
+relations-snoc-rel rels x = ap (λ (l : List Relation). builtIn ++ l) (append-nil (rels ++ (x ∷ [])) ∙ ap (λ (l : List Relation). l ++ (x ∷ [])) (sym (append-nil rels))) ∙ sym (append-assoc builtIn (rels ++ []) (x ∷ []))
+
+-- where nothing was chosen there is no rule yet
+no-rule : (rels chosen : List Relation) (o : Option Rule) → Holds (RuleFits rels chosen) o → T (not (not (isEmpty chosen))) → (P : Rule → Type 0) → Holds P o
+unfolding Holds
+no-rule rels chosen none h t P = tt
+no-rule rels chosen (some r) h t P = absurd (T-not (not (isEmpty chosen)) t (h .some-chosen))
+
+not-ruled : (o : Option Rule) → T (not (isRuled o)) → (P : Rule → Type 0) → Holds P o
+unfolding Holds isRuled
+not-ruled none t P = tt
+not-ruled (some r) t P = absurd t
+
+new-name : (d : Draft) (name : List ℕ) → T (not (not (isNewName d name))) → T (not (isDeclared (relations (d .rels) (d .chosen)) name))
+unfolding isNewName
+new-name d name t = T-and-r (isRelationName name) _ (not-not-T (isNewName d name) t)
+
+formed-name : (d : Draft) (name : List ℕ) → T (not (not (isNewName d name))) → T (isRelationName name)
+unfolding isNewName
+formed-name d name t = T-and-l (isRelationName name) _ (not-not-T (isNewName d name) t)
+
+rel-line : (d : Draft) (at : ℕ) (name : List ℕ) (arity : ℕ) → DraftFits d → Arity arity → Gives DraftFits (addRel d at name arity)
+unfolding addRel
+rel-line d at name arity D h =
+    gives-bind (λ _. T (not (not (isEmpty (d .chosen)) || leb 8 (length (d .rels))))) DraftFits _ _ (gives-refuse (not (isEmpty (d .chosen)) || leb 8 (length (d .rels))) 3 at)
+    (λ _ t. gives-bind (λ _. T (not (not (isNewName d name)))) DraftFits _ _ (gives-refuse (not (isNewName d name)) 4 at)
+    (λ _ u. gives-accepted DraftFits _ (record {
+      rels-fit = mem-snoc RelFits (d .rels) (record { name = name; arity = arity; kind = static }) (D .rels-fit) (record { few = h; is-static = refl });
+      chosen-fit = D .chosen-fit;
+      chosen-named = D .chosen-named;
+      apart = go (d .chosen) (empty-nil (d .chosen) (not-or-l (not (isEmpty (d .chosen))) (leb 8 (length (d .rels))) t)) (D .apart) (new-name d name u);
+      ruled-fits = no-rule (d .rels) (d .chosen) (d .ruled) (D .ruled-fits) (not-or-l (not (isEmpty (d .chosen))) (leb 8 (length (d .rels))) t) (RuleFits (d .rels ++ (record { name = name; arity = arity; kind = static } ∷ [])) (d .chosen));
+    })))
+  where
+    go : (ch : List Relation) → ch ≡ [] → Apart (relations (d .rels) ch) → T (not (isDeclared (relations (d .rels) ch) name)) → Apart (relations (d .rels ++ (record { name = name; arity = arity; kind = static } ∷ [])) ch)
+    go [] e a n = subst Apart (sym (relations-snoc-rel (d .rels) (record { name = name; arity = arity; kind = static }))) (apart-snoc (relations (d .rels) []) (record { name = name; arity = arity; kind = static }) a n)
+    go (x ∷ ch) e a n = absurd (nil≢cons (sym e))
+
+choose-line : (d : Draft) (at : ℕ) (name : List ℕ) (arity : ℕ) (kind : Kind) → DraftFits d → Fit arity kind → Gives DraftFits (addChoose d at name arity kind)
+unfolding addChoose
+choose-line d at name arity kind D h =
+    gives-bind (λ _. T (not (isRuled (d .ruled) || leb 4 (length (d .chosen))))) DraftFits _ _ (gives-refuse (isRuled (d .ruled) || leb 4 (length (d .chosen))) 3 at)
+    (λ _ t. gives-bind (λ _. T (not (not (isNewName d name)))) DraftFits _ _ (gives-refuse (not (isNewName d name)) 4 at)
+    (λ _ u. gives-accepted DraftFits _ (record {
+      rels-fit = D .rels-fit;
+      chosen-fit = mem-snoc (λ (k : Relation). Fit (k .arity) (k .kind)) (d .chosen) (record { name = name; arity = arity; kind = kind }) (D .chosen-fit) h;
+      chosen-named = mem-snoc (λ (k : Relation). T (isRelationName (k .name))) (d .chosen) (record { name = name; arity = arity; kind = kind }) (D .chosen-named) (formed-name d name u);
+      apart = subst Apart (sym (relations-snoc (d .rels) (d .chosen) (record { name = name; arity = arity; kind = kind }))) (apart-snoc (relations (d .rels) (d .chosen)) (record { name = name; arity = arity; kind = kind }) (D .apart) (new-name d name u));
+      ruled-fits = not-ruled (d .ruled) (not-or-l (isRuled (d .ruled)) (leb 4 (length (d .chosen))) t) (RuleFits (d .rels) (d .chosen ++ (record { name = name; arity = arity; kind = kind } ∷ [])));
+    })))
+
+rule-line : (d : Draft) (at : ℕ) (text : List ℕ) → DraftFits d → Gives DraftFits (addRule d at text)
+unfolding addRule
+rule-line d at text D =
+    gives-bind (λ _. T (not (isRuled (d .ruled) || isEmpty (d .chosen)))) DraftFits _ _ (gives-refuse (isRuled (d .ruled) || isEmpty (d .chosen)) 3 at)
+    (λ _ t. gives-bind (λ _. Unit {0}) DraftFits (given (readFormula text) 5 at) _ (gives-given (λ _. Unit {0}) (readFormula text) 5 at (all-there (readFormula text)))
+    (λ f _. gives-bind (λ _. T (not (ltb 64 (allForms (d .chosen) f) || ltb 4 (nesting f)))) DraftFits _ _ (gives-refuse (ltb 64 (allForms (d .chosen) f) || ltb 4 (nesting f)) 6 at)
+    (λ _ u. gives-bind (λ _. T (not (not (isKnown (relations (d .rels) (d .chosen)) f)))) DraftFits _ _ (gives-refuse (not (isKnown (relations (d .rels) (d .chosen)) f)) 7 at)
+    (λ _ v. gives-bind (λ _. T (not (not (isScoped [] f)))) DraftFits _ _ (gives-refuse (not (isScoped [] f)) 8 at)
+    (λ _ w. gives-accepted DraftFits _ (record {
+      rels-fit = D .rels-fit;
+      chosen-fit = D .chosen-fit;
+      chosen-named = D .chosen-named;
+      apart = D .apart;
+      ruled-fits = holds-some (RuleFits (d .rels) (d .chosen)) _ (record {
+        scoped = not-not-T (isScoped [] f) w;
+        known = not-not-T (isKnown (relations (d .rels) (d .chosen)) f) v;
+        nested = nltb→le 4 (nesting f) (not-or-r (ltb 64 (allForms (d .chosen) f)) (ltb 4 (nesting f)) u);
+        few-forms = nltb→le 64 (allForms (d .chosen) f) (not-or-l (ltb 64 (allForms (d .chosen) f)) (ltb 4 (nesting f)) u);
+        some-chosen = not-or-r (isRuled (d .ruled)) (isEmpty (d .chosen)) t;
+      });
+    }))))))
+
+question-entry : (d : Draft) (at : ℕ) (e : Entry) → DraftFits d → EntryFits e → Gives DraftFits (addToQuestion d at e)
+unfolding addToQuestion EntryFits
+question-entry d at (rel name a) D h = rel-line d at name a D h
+question-entry d at (choose name a k) D h = choose-line d at name a k D h
+question-entry d at (rule f) D h = rule-line d at f D
+question-entry d at (size n) D h = gives-refused DraftFits 3 at
+question-entry d at (fact name xs) D h = gives-refused DraftFits 3 at
+question-entry d at (pick name xs) D h = gives-refused DraftFits 3 at
+question-entry d at (step k) D h = gives-refused DraftFits 3 at
+
+line-step : (d : Draft) (l : Line) → DraftFits d → Gives DraftFits (questionLine d l)
+unfolding questionLine
+line-step d l D = gives-bind EntryFits DraftFits (entryOf l) (addToQuestion d (l .at)) (line-fits l) (λ e h. question-entry d (l .at) e D h)
+
+-- what of a question the readers assure
+pub record QuestionFits (q : Question) : Type 0 where
+  pub rels-fit : (k : Relation) → List·Memᴰ k (q .rels) → RelFits k
+  pub chosen-fit : (k : Relation) → List·Memᴰ k (q .chosen) → Fit (k .arity) (k .kind)
+  pub chosen-named : (k : Relation) → List·Memᴰ k (q .chosen) → T (isRelationName (k .name))
+  pub apart : Apart (relationsOf q)
+  pub rule-fits : RuleFits (q .rels) (q .chosen) (q .rule)
+
+builtIn-apart : Apart (relations [] [])
+unfolding relations builtIn Apart isDeclared any same
+builtIn-apart = (tt, (tt, (tt, (tt, (tt, tt)))))
+
+pub question-fits : (text : List ℕ) → Gives QuestionFits (readQuestion text)
+unfolding readQuestion relationsOf
+question-fits text =
+    gives-bind DraftFits QuestionFits (readText questionLine (record { rels = []; chosen = []; ruled = none }) text) _
+    (gives-text DraftFits questionLine line-step (record { rels = []; chosen = []; ruled = none }) text
+    (record { rels-fit = λ k m. absurd (List·Memᴰ·not-nil m); chosen-fit = λ k m. absurd (List·Memᴰ·not-nil m); chosen-named = λ k m. absurd (List·Memᴰ·not-nil m); apart = builtIn-apart; ruled-fits = holds-none (RuleFits [] []) }))
+    (λ d D. gives-bind (RuleFits (d .rels) (d .chosen)) QuestionFits (given (d .ruled) 3 (length text)) _ (gives-given (RuleFits (d .rels) (d .chosen)) (d .ruled) 3 (length text) (D .ruled-fits))
+    (λ r R. gives-accepted QuestionFits _ (record { rels-fit = D .rels-fit; chosen-fit = D .chosen-fit; chosen-named = D .chosen-named; apart = D .apart; rule-fits = R })))
+
+-- ---- tuples of a sheet
+-- a tuple of one of the relations, whose numbers begin at `first`, over n elements
+pub record TupleFits (rs : List Relation) (first n : ℕ) (t : Tuple) : Type 0 where
+  pub index : ℕ
+  pub numbered : t .relation ≡ first + index
+  pub inside : index < length rs
+  pub length-arity : length (t .places) ≡ getD rs index noRelation .arity
+  pub small : T (all (λ x. ltb x n) (t .places))
+
+pub record TuplesFit (rs : List Relation) (first n : ℕ) (ts : List Tuple) : Type 0 where
+  pub each-fits : (t : Tuple) → List·Memᴰ t ts → TupleFits rs first n t
+  pub distinct : T (areDistinct ts)
+
+pub position-holds : {A : Type 0} (p : A → Bool) (xs : List A) (d : A) → Holds (λ i. (i < length xs) × T (p (getD xs i d))) (position p xs)
+unfolding position Holds option
+position-holds p [] d = tt
+position-holds {A} p (x ∷ xs) d = go (p x) refl (position p xs) (position-holds p xs d)
+  where
+    go : (b : Bool) → p x ≡ b → (o : Option ℕ) → Holds (λ i. (i < length xs) × T (p (getD xs i d))) o → Holds (λ i. (i < suc (length xs)) × T (p (getD (x ∷ xs) i d))) (if b then some zero else option o none (λ i. some (suc i)))
+    go true e o h = (omega arith, T-of e)
+    go false e none h = tt
+    go false e (some i) h = (omega (arith, h .0), h .1)
+
+tuple-line : (rs : List Relation) (first n : ℕ) (ts : List Tuple) (at : ℕ) (name xs : List ℕ) → TuplesFit rs first n ts → Gives (TuplesFit rs first n) (addTuple rs first n ts at name xs)
+unfolding addTuple used
+tuple-line rs first n ts at name xs F =
+    gives-bind Used (TuplesFit rs first n) (given (option found none (λ i. some (first + i))) 7 at) _
+    (gives-given Used (option found none (λ i. some (first + i))) 7 at (holds-option (λ i. (i < length rs) × T (same (getD rs i noRelation .name) name && eqb (getD rs i noRelation .arity) (length xs))) Used found _ (position-holds (λ (r : Relation). same (r .name) name && eqb (r .arity) (length xs)) rs noRelation)
+    (λ i h. holds-some Used (first + i) (i, refl, h .0, sym (eqb→eq _ _ (T-and-r (same (getD rs i noRelation .name) name) _ (h .1)))))))
+    (λ r u. gives-bind (λ _. T (not (not (all (λ x. ltb x n) xs)))) (TuplesFit rs first n) _ _ (gives-refuse (not (all (λ x. ltb x n) xs)) 9 at)
+    (λ _ v. gives-bind (λ _. T (not (isAmong (record { relation = r; places = xs }) ts))) (TuplesFit rs first n) _ _ (gives-refuse (isAmong (record { relation = r; places = xs }) ts) 10 at)
+    (λ _ w. gives-accepted (TuplesFit rs first n) _ (record {
+      each-fits = mem-snoc (TupleFits rs first n) ts (record { relation = r; places = xs }) (F .each-fits) (record { index = u .0; numbered = u .1; inside = u .2; length-arity = u .3; small = not-not-T (all (λ x. ltb x n) xs) v });
+      distinct = distinct-snoc ts (record { relation = r; places = xs }) (F .distinct) w;
+    }))))
+  where
+    found : Option ℕ
+    found = position (λ (r : Relation). same (r .name) name && eqb (r .arity) (length xs)) rs
+
+    Used : ℕ → Type 0
+    Used r = (i : ℕ) × (r ≡ first + i) × (i < length rs) × (length xs ≡ getD rs i noRelation .arity)
+
+-- ---- the site's lines so far
+record SizedFits (rs : List Relation) (facts : List Tuple) (n : ℕ) : Type 0 where
+  some-element : 1 ≤ n
+  few-elements : n ≤ 64
+  facts-fit : TuplesFit rs firstRel n facts
+
+unfoldable DraftSite : List Relation → Option ℕ → List Tuple → Type 0
+DraftSite rs none facts = facts ≡ []
+DraftSite rs (some n) facts = SizedFits rs facts n
+
+abbrev SiteSoFar : List Relation → SiteDraft → Type 0
+SiteSoFar rs d = DraftSite rs (d .sized) (d .facts)
+
+size-line : (L : CaseLimits) → L .elements ≤ 64 → (rs : List Relation) (d : SiteDraft) (at n : ℕ) (o : Option ℕ) → DraftSite rs o (d .facts) → Gives (SiteSoFar rs) (addSize L d at n o)
+unfolding addSize DraftSite areDistinct
+size-line L few rs d at n none D = gives-bind (λ _. T (not (not (isBetween 1 (L .elements) n)))) (SiteSoFar rs) (refuseIf (not (isBetween 1 (L .elements) n)) 9 at) _ (gives-refuse (not (isBetween 1 (L .elements) n)) 9 at)
+    (λ _ t. let b = between 1 (L .elements) n (not-not-T (isBetween 1 (L .elements) n) t) in gives-accepted (SiteSoFar rs) _ (record { some-element = b .0; few-elements = omega (arith, b .1); facts-fit = subst (TuplesFit rs firstRel n) (sym D) (record { each-fits = λ t m. absurd (List·Memᴰ·not-nil m); distinct = tt }) }))
+size-line L few rs d at n (some m) D = gives-refused (SiteSoFar rs) 3 at
+
+fact-line : (rs : List Relation) (facts : List Tuple) (o : Option ℕ) (at : ℕ) (name xs : List ℕ) → DraftSite rs o facts → Gives (SiteSoFar rs) (addFact rs (record { sized = o; facts = facts }) at name xs)
+unfolding addFact DraftSite given _>>=_
+fact-line rs facts none at name xs D = gives-refused (SiteSoFar rs) 3 at
+fact-line rs facts (some n) at name xs D =
+    gives-bind (TuplesFit rs firstRel n) (SiteSoFar rs) (addTuple rs firstRel n facts at name xs) _ (tuple-line rs firstRel n facts at name xs (D .facts-fit))
+    (λ ts F. gives-accepted (SiteSoFar rs) _ (record { some-element = D .some-element; few-elements = D .few-elements; facts-fit = F }))
+
+site-entry : (L : CaseLimits) → L .elements ≤ 64 → (rs : List Relation) (d : SiteDraft) (at : ℕ) (e : Entry) → SiteSoFar rs d → Gives (SiteSoFar rs) (addToSite L rs d at e)
+unfolding addToSite
+site-entry L few rs d at (rel name a) D = gives-refused (SiteSoFar rs) 3 at
+site-entry L few rs d at (choose name a k) D = gives-refused (SiteSoFar rs) 3 at
+site-entry L few rs d at (rule f) D = gives-refused (SiteSoFar rs) 3 at
+site-entry L few rs d at (size n) D = size-line L few rs d at n (d .sized) D
+site-entry L few rs d at (fact name xs) D = fact-line rs (d .facts) (d .sized) at name xs D
+site-entry L few rs d at (pick name xs) D = gives-refused (SiteSoFar rs) 3 at
+site-entry L few rs d at (step k) D = gives-refused (SiteSoFar rs) 3 at
+
+site-step : (L : CaseLimits) → L .elements ≤ 64 → (rs : List Relation) (d : SiteDraft) (l : Line) → SiteSoFar rs d → Gives (SiteSoFar rs) (siteLine L rs d l)
+unfolding siteLine
+site-step L few rs d l D = gives-bind EntryFits (SiteSoFar rs) (entryOf l) (addToSite L rs d (l .at)) (line-fits l) (λ e h. site-entry L few rs d (l .at) e D)
+
+pub record SiteFits (rs : List Relation) (s : Site) : Type 0 where
+  pub some-element : 1 ≤ s .size
+  pub few-elements : s .size ≤ 64
+  pub facts-fit : TuplesFit rs firstRel (s .size) (s .facts)
+
+site-end : (rs : List Relation) (facts : List Tuple) (o : Option ℕ) (k : ℕ) → DraftSite rs o facts → Gives (SiteFits rs) (given o 3 k >>= λ n. accepted (record { size = n; facts = facts }))
+unfolding DraftSite given _>>=_
+site-end rs facts none k D = gives-refused (SiteFits rs) 3 k
+site-end rs facts (some n) k D = gives-accepted (SiteFits rs) _ (record { some-element = D .some-element; few-elements = D .few-elements; facts-fit = D .facts-fit })
+
+pub site-fits : (L : CaseLimits) → L .elements ≤ 64 → (rs : List Relation) (text : List ℕ) → Gives (SiteFits rs) (readSite L rs text)
+unfolding readSite DraftSite
+site-fits L few rs text =
+    gives-bind (SiteSoFar rs) (SiteFits rs) (readText (siteLine L rs) (record { sized = none; facts = [] }) text) _
+    (gives-text (SiteSoFar rs) (siteLine L rs) (site-step L few rs) (record { sized = none; facts = [] }) text refl)
+    (λ d D. site-end rs (d .facts) (d .sized) (length text) D)
+
+-- ---- picks from a text
+module _ (rs : List Relation) (first n : ℕ) where
+  picks-entry : (ts : List Tuple) (at : ℕ) (e : Entry) → TuplesFit rs first n ts → Gives (TuplesFit rs first n) (addToPicks rs first n ts at e)
+  unfolding addToPicks
+  picks-entry ts at (rel name a) D = gives-refused _ 3 at
+  picks-entry ts at (choose name a k) D = gives-refused _ 3 at
+  picks-entry ts at (rule f) D = gives-refused _ 3 at
+  picks-entry ts at (size m) D = gives-refused _ 3 at
+  picks-entry ts at (fact name xs) D = gives-refused _ 3 at
+  picks-entry ts at (pick name xs) D = tuple-line rs first n ts at name xs D
+  picks-entry ts at (step k) D = gives-refused _ 3 at
+
+  picks-step : (ts : List Tuple) (l : Line) → TuplesFit rs first n ts → Gives (TuplesFit rs first n) (picksLine rs first n ts l)
+  unfolding picksLine
+  picks-step ts l D = gives-bind EntryFits (TuplesFit rs first n) (entryOf l) (addToPicks rs first n ts (l .at)) (line-fits l) (λ e h. picks-entry ts (l .at) e D)
+
+  pub picks-fit : (text : List ℕ) → Gives (TuplesFit rs first n) (readPicks rs first n text)
+  unfolding readPicks areDistinct
+  picks-fit text = gives-text (TuplesFit rs first n) (picksLine rs first n) picks-step [] text (record { each-fits = λ t m. absurd (List·Memᴰ·not-nil m); distinct = tt })
+
+-- ---- the case
+pub record Accepted (c : Case) : Type 0 where
+  pub question-fits : QuestionFits (c .question)
+  pub site-fits : SiteFits (c .question .rels) (c .site)
+
+pub case-fits : (L : CaseLimits) → L .elements ≤ 64 → (question site : List ℕ) → Gives Accepted (readCase L question site)
+unfolding readCase
+case-fits L few question site =
+    gives-bind QuestionFits Accepted (readQuestion question) _ (question-fits question)
+    (λ q Q. gives-bind (SiteFits (q .rels)) Accepted (readSite L (q .rels) site) _ (site-fits L few (q .rels) site)
+    (λ s S. gives-accepted Accepted _ (record { question-fits = Q; site-fits = S })))
+
+-- the case's question is the one read from the question's text
+pub case-question : (L : CaseLimits) (question site : List ℕ) (c : Case) → readCase L question site ≡ accepted c → readQuestion question ≡ accepted (c .question)
+unfolding readCase
+case-question L question site c e = gives-if (λ c. readQuestion question ≡ accepted (c .question)) (readCase L question site) c e
+    (gives-bind (λ q. readQuestion question ≡ accepted q) (λ c. readQuestion question ≡ accepted (c .question)) (readQuestion question) _ (gives-self (readQuestion question))
+    (λ q h. gives-bind (λ _. Unit {0}) (λ c. readQuestion question ≡ accepted (c .question)) (readSite L (q .rels) site) _ (gives-any (readSite L (q .rels) site)) (λ s _. gives-accepted (λ c. readQuestion question ≡ accepted (c .question)) _ h)))
+
+-- a problem that is read is that of an accepted case, and within the limits
+pub record ProblemFits (L : CaseLimits) (p : Problem) : Type 0 where
+  pub case : Case
+  pub is-problem : p ≡ problemOf case
+  pub is-accepted : Accepted case
+  pub few-atoms : atoms p ≤ L .atoms
+  pub few-actions : actions p ≤ L .actions
+
+module _ (L : CaseLimits) where
+  ground-fits : (c : Case) → Accepted c → Gives (ProblemFits L) (ground L c)
+  unfolding ground
+  ground-fits c A =
+      let p = problemOf c in
+      gives-bind (λ _. T (not (ltb (L .atoms) (atoms p) || ltb (L .actions) (actions p)))) (ProblemFits L) _ _ (gives-refuse (ltb (L .atoms) (atoms p) || ltb (L .actions) (actions p)) 11 zero)
+      (λ _ t. gives-accepted (ProblemFits L) p (record {
+        case = c;
+        is-problem = refl;
+        is-accepted = A;
+        few-atoms = nltb→le (L .atoms) (atoms p) (not-or-l (ltb (L .atoms) (atoms p)) (ltb (L .actions) (actions p)) t);
+        few-actions = nltb→le (L .actions) (actions p) (not-or-r (ltb (L .atoms) (atoms p)) (ltb (L .actions) (actions p)) t);
+      }))
+
+  -- what acceptance gives
+  pub acceptance : L .elements ≤ 64 → (question site : List ℕ) (p : Problem) → readProblem L question site ≡ accepted p → ProblemFits L p
+  unfolding readProblem
+  acceptance few question site p e =
+      gives-if (ProblemFits L) (readProblem L question site) p e
+      (gives-bind Accepted (ProblemFits L) (readCase L question site) (ground L) (case-fits L few question site) ground-fits)

@@ -1,0 +1,333 @@
+-- Which numbers each call refuses with, whatever is handed over. Numbers come as lists, so that a later one joins where it belongs.
+use Prim.Native.Nat.{ℕ, zero, suc, _<_}
+use mathlib.Core.Path.{_≡_, refl, subst}
+use mathlib.Core.Bool.{Bool, true, false}
+use mathlib.Core.Option.{Option, none, some}
+use mathlib.Core.List.{List, [], _∷_, _++_}
+use native.Mathlib.Omega.{arith}
+use lib.Dec.{ltb}
+use lib.ListN.{length}
+use Rattle.definitions.specs.Limits.{CaseLimits, textLimit}
+use Rattle.definitions.specs.Lists.{if_then_else_, all, any, option, isIn}
+use Rattle.definitions.specs.Text.{Line, lines}
+use Rattle.definitions.specs.Refusal.{Result, refused, accepted, _>>=_, refuseIf, given, readLines, readText, caseNumbers, readyNumbers, runNumbers, picksNumbers}
+use Rattle.definitions.specs.Relations.{Relation, Tuple}
+use Rattle.definitions.specs.Sheets.{Entry, rel, choose, rule, size, fact, pick, step, entryOf, Draft, addRel, addChoose, addRule, addToQuestion, questionLine, readQuestion, firstRel, addTuple, SiteDraft, addSize, addFact, addToSite, siteLine, readSite, addToPicks, picksLine, readPicks, addToSteps, stepsLine, readSteps}
+use Rattle.definitions.specs.Truth.{Case, firstOfOtherKind}
+use Rattle.definitions.specs.Atoms.{Problem, goal, atomNumber, State, initial}
+use Rattle.definitions.specs.Actions.{Action, actionAt}
+use Rattle.definitions.specs.Strips.{mayTake, after, runFrom, run}
+use Rattle.definitions.specs.Built.{chosenNumbers, bound}
+use Rattle.definitions.specs.Judgement.{judge}
+use Rattle.definitions.specs.Outcome.{readCase, ground, readProblem, Ready, asked, nothing, satisfying, roomFor, sizes, action, stateLength, picksLength, Given, asText, asNumbers, takeSteps, textPicks, picksRoom, spareWord, spareRefusal, takePicks, readyToRun, checkedFrom, checkSteps, picksReadFrom, picksFromSteps, kindRefusal, Plan, plan, builtFrom, buildSteps}
+use Rattle.laws.specs.Booleans.{T-of, T-true}
+use Rattle.laws.specs.Lists.{all-at}
+use Rattle.laws.specs.Members.{in-mem}
+
+-- of an answer that is a refusal, what holds of its number
+unfoldable pub Refuses : {A : Type 0} → (ℕ → Type 0) → Result A → Type 0
+Refuses P (refused k place) = P k
+Refuses P (accepted a) = Unit {0}
+
+module _ (P : ℕ → Type 0) where
+  bind-by : {A B : Type 0} (m : Result A) (f : A → Result B) → Refuses P m → ((a : A) → Refuses P (f a)) → Refuses P (m >>= f)
+  unfolding Refuses _>>=_
+  bind-by (refused k place) f h g = h
+  bind-by (accepted a) f h g = g a
+
+  if-by : (b : Bool) (k at : ℕ) → P k → Refuses P (refuseIf b k at)
+  unfolding Refuses refuseIf
+  if-by true k at h = h
+  if-by false k at h = tt
+
+  given-by : {A : Type 0} (o : Option A) (k at : ℕ) → P k → Refuses P (given o k at)
+  unfolding Refuses given
+  given-by none k at h = h
+  given-by (some a) k at h = tt
+
+  accepted-by : {A : Type 0} (a : A) → Refuses P (accepted a)
+  unfolding Refuses
+  accepted-by a = tt
+
+  refused-by : (A : Type 0) (k place : ℕ) → P k → Refuses {A = A} P (refused k place)
+  unfolding Refuses
+  refused-by A k place h = h
+
+  lines-by : {S : Type 0} (line : S → Line → Result S) → ((s : S) (l : Line) → Refuses P (line s l)) → (s : S) (ls : List Line) → Refuses P (readLines line s ls)
+  unfolding readLines
+  lines-by line h s [] = accepted-by s
+  lines-by line h s (l ∷ ls) = bind-by (line s l) (λ s′. readLines line s′ ls) (h s l) (λ s′. lines-by line h s′ ls)
+
+  text-by : {S : Type 0} (line : S → Line → Result S) → P 1 → ((s : S) (l : Line) → Refuses P (line s l)) → (s : S) (text : List ℕ) → Refuses P (readText line s text)
+  unfolding readText
+  text-by line p h s text = bind-by (refuseIf (ltb textLimit (length text)) 1 zero) _ (if-by (ltb textLimit (length text)) 1 zero p) (λ _. lines-by line h s (lines text))
+
+weaken : {A : Type 0} {P Q : ℕ → Type 0} → ((k : ℕ) → P k → Q k) → (r : Result A) → Refuses P r → Refuses Q r
+unfolding Refuses
+weaken f (refused k place) h = f k h
+weaken f (accepted a) h = tt
+
+-- ---- one of a list of numbers; of two lists the one that has all of the other
+abbrev pub In : List ℕ → ℕ → Type 0
+In ns k = isIn k ns ≡ true
+
+pub among : (ns ms : List ℕ) → all (λ k. isIn k ms) ns ≡ true → (k : ℕ) → In ns k → In ms k
+among ns ms h k e = T-true (isIn k ms) (all-at (λ k. isIn k ms) ns (T-of h) k (in-mem k ns (T-of e)))
+
+-- no refusal has number 0
+pub not-zero : (k : ℕ) → In caseNumbers k → 0 < k
+unfolding isIn any
+not-zero zero e = absurd (T-of e)
+not-zero (suc k) e = omega arith
+
+-- ---- reading the sheets and grounding
+abbrev pub Sheet : ℕ → Type 0
+Sheet = In caseNumbers
+
+entry-by : (l : Line) → Refuses Sheet (entryOf l)
+unfolding entryOf isIn any
+entry-by l = given-by Sheet _ 2 (l .at) refl
+
+-- a record of another sheet
+other : (A : Type 0) (at : ℕ) → Refuses {A = A} Sheet (refused 3 at)
+unfolding isIn any
+other A at = refused-by Sheet A 3 at refl
+
+-- ---- the question
+question-add : (d : Draft) (at : ℕ) (e : Entry) → Refuses Sheet (addToQuestion d at e)
+unfolding addToQuestion addRel addChoose addRule isIn any
+question-add d at (rel name arity) = bind-by Sheet _ _ (if-by Sheet _ 3 at refl) (λ _. bind-by Sheet _ _ (if-by Sheet _ 4 at refl) (λ _. accepted-by Sheet _))
+question-add d at (choose name arity kind) = bind-by Sheet _ _ (if-by Sheet _ 3 at refl) (λ _. bind-by Sheet _ _ (if-by Sheet _ 4 at refl) (λ _. accepted-by Sheet _))
+question-add d at (rule text) = bind-by Sheet _ _ (if-by Sheet _ 3 at refl) (λ _. bind-by Sheet _ _ (given-by Sheet _ 5 at refl) (λ f. bind-by Sheet _ _ (if-by Sheet _ 6 at refl)
+    (λ _. bind-by Sheet _ _ (if-by Sheet _ 7 at refl) (λ _. bind-by Sheet _ _ (if-by Sheet _ 8 at refl) (λ _. accepted-by Sheet _)))))
+question-add d at (size n) = other Draft at
+question-add d at (fact name xs) = other Draft at
+question-add d at (pick name xs) = other Draft at
+question-add d at (step k) = other Draft at
+
+pub question-by : (text : List ℕ) → Refuses Sheet (readQuestion text)
+unfolding readQuestion questionLine isIn any
+question-by text = bind-by Sheet _ _ (text-by Sheet questionLine refl (λ d l. bind-by Sheet (entryOf l) _ (entry-by l) (question-add d (l .at))) _ text) (λ d. bind-by Sheet _ _ (given-by Sheet (d .ruled) 3 (length text) refl) (λ r. accepted-by Sheet _))
+
+-- ---- tuples, the site, picks, steps
+tuple-by : (rs : List Relation) (first n : ℕ) (ts : List Tuple) (at : ℕ) (name xs : List ℕ) → Refuses Sheet (addTuple rs first n ts at name xs)
+unfolding addTuple isIn any
+tuple-by rs first n ts at name xs = bind-by Sheet _ _ (given-by Sheet _ 7 at refl) (λ r. bind-by Sheet _ _ (if-by Sheet _ 9 at refl) (λ _. bind-by Sheet _ _ (if-by Sheet _ 10 at refl) (λ _. accepted-by Sheet _)))
+
+size-by : (L : CaseLimits) (d : SiteDraft) (at n : ℕ) (o : Option ℕ) → Refuses Sheet (addSize L d at n o)
+unfolding addSize isIn any
+size-by L d at n none = bind-by Sheet _ _ (if-by Sheet _ 9 at refl) (λ _. accepted-by Sheet _)
+size-by L d at n (some m) = other SiteDraft at
+
+site-add : (L : CaseLimits) (rels : List Relation) (d : SiteDraft) (at : ℕ) (e : Entry) → Refuses Sheet (addToSite L rels d at e)
+unfolding addToSite addFact isIn any
+site-add L rels d at (rel name arity) = other SiteDraft at
+site-add L rels d at (choose name arity kind) = other SiteDraft at
+site-add L rels d at (rule text) = other SiteDraft at
+site-add L rels d at (size n) = size-by L d at n (d .sized)
+site-add L rels d at (fact name xs) = bind-by Sheet _ _ (given-by Sheet (d .sized) 3 at refl) (λ n. bind-by Sheet _ _ (tuple-by rels firstRel n (d .facts) at name xs) (λ ts. accepted-by Sheet _))
+site-add L rels d at (pick name xs) = other SiteDraft at
+site-add L rels d at (step k) = other SiteDraft at
+
+pub site-by : (L : CaseLimits) (rels : List Relation) (text : List ℕ) → Refuses Sheet (readSite L rels text)
+unfolding readSite siteLine isIn any
+site-by L rels text = bind-by Sheet _ _ (text-by Sheet (siteLine L rels) refl (λ d l. bind-by Sheet (entryOf l) _ (entry-by l) (site-add L rels d (l .at))) _ text) (λ d. bind-by Sheet _ _ (given-by Sheet (d .sized) 3 (length text) refl) (λ n. accepted-by Sheet _))
+
+picks-add : (rs : List Relation) (first n : ℕ) (ts : List Tuple) (at : ℕ) (e : Entry) → Refuses Sheet (addToPicks rs first n ts at e)
+unfolding addToPicks
+picks-add rs first n ts at (rel name arity) = other (List Tuple) at
+picks-add rs first n ts at (choose name arity kind) = other (List Tuple) at
+picks-add rs first n ts at (rule text) = other (List Tuple) at
+picks-add rs first n ts at (size m) = other (List Tuple) at
+picks-add rs first n ts at (fact name xs) = other (List Tuple) at
+picks-add rs first n ts at (pick name xs) = tuple-by rs first n ts at name xs
+picks-add rs first n ts at (step k) = other (List Tuple) at
+
+steps-add : (ks : List ℕ) (at : ℕ) (e : Entry) → Refuses Sheet (addToSteps ks at e)
+unfolding addToSteps
+steps-add ks at (rel name arity) = other (List ℕ) at
+steps-add ks at (choose name arity kind) = other (List ℕ) at
+steps-add ks at (rule text) = other (List ℕ) at
+steps-add ks at (size m) = other (List ℕ) at
+steps-add ks at (fact name xs) = other (List ℕ) at
+steps-add ks at (pick name xs) = other (List ℕ) at
+steps-add ks at (step k) = accepted-by Sheet _
+
+steps-by : (g : Given) → Refuses Sheet (takeSteps g)
+unfolding takeSteps readSteps stepsLine isIn any
+steps-by (asText text) = text-by Sheet stepsLine refl (λ ks l. bind-by Sheet (entryOf l) _ (entry-by l) (steps-add ks (l .at))) [] text
+steps-by (asNumbers ks) = bind-by Sheet _ _ (if-by Sheet _ 1 zero refl) (λ _. accepted-by Sheet _)
+
+picks-by : (c : Case) (g : Given) → Refuses Sheet (textPicks c g)
+unfolding textPicks readPicks picksLine isIn any
+picks-by c (asText text) = text-by Sheet _ refl (λ ts l. bind-by Sheet (entryOf l) _ (entry-by l) (picks-add _ _ _ ts (l .at))) [] text
+picks-by c (asNumbers words) = accepted-by Sheet _
+
+-- ---- whole calls
+case-by : (L : CaseLimits) (question site : List ℕ) → Refuses Sheet (readCase L question site)
+unfolding readCase
+case-by L question site = bind-by Sheet _ _ (question-by question) (λ q. bind-by Sheet _ _ (site-by L (q .rels) site) (λ s. accepted-by Sheet _))
+
+ground-by : (L : CaseLimits) (c : Case) → Refuses Sheet (ground L c)
+unfolding ground isIn any
+ground-by L c = bind-by Sheet _ _ (if-by Sheet _ 11 zero refl) (λ _. accepted-by Sheet _)
+
+abbrev pub Early : ℕ → Type 0
+Early = In readyNumbers
+
+sheet-early : (k : ℕ) → Sheet k → Early k
+unfolding isIn all any
+sheet-early = among caseNumbers readyNumbers refl
+
+pub room-by : (needed room : ℕ) → Refuses Early (roomFor needed room)
+unfolding roomFor isIn any
+room-by needed room = if-by Early _ 12 needed refl
+
+-- what every call begins with
+pub asked-by : {A : Type 0} (L : CaseLimits) (question site : List ℕ) (third : Case → Result A) (rooms : Problem → Result (Unit {0})) → ((c : Case) → Refuses Sheet (third c)) → ((p : Problem) → Refuses Early (rooms p)) → Refuses Early (asked L question site third nothing nothing rooms)
+unfolding asked nothing
+asked-by L question site third rooms h g =
+    bind-by Early _ _ (weaken sheet-early _ (case-by L question site)) (λ c. bind-by Early _ _ (weaken sheet-early _ (h c)) (λ t. bind-by Early _ _ (accepted-by Early tt) (λ _.
+    bind-by Early _ _ (weaken sheet-early _ (ground-by L c)) (λ p. bind-by Early _ _ (accepted-by Early tt) (λ _. bind-by Early _ _ (g p) (λ _. accepted-by Early _))))))
+
+-- of a case alone, where no buffer is lent
+alone-by : {A : Type 0} (L : CaseLimits) (question site : List ℕ) (third : Case → Result A) → ((c : Case) → Refuses Sheet (third c)) → Refuses Sheet (asked L question site third nothing nothing nothing)
+unfolding asked nothing
+alone-by L question site third h =
+    bind-by Sheet _ _ (case-by L question site) (λ c. bind-by Sheet _ _ (h c) (λ t. bind-by Sheet _ _ (accepted-by Sheet tt) (λ _.
+    bind-by Sheet _ _ (ground-by L c) (λ p. bind-by Sheet _ _ (accepted-by Sheet tt) (λ _. bind-by Sheet _ _ (accepted-by Sheet tt) (λ _. accepted-by Sheet _))))))
+
+pub nothing-by : {A : Type 0} (a : A) → Refuses Sheet (nothing a)
+unfolding nothing
+nothing-by a = accepted-by Sheet tt
+
+-- what a run refuses with
+abbrev pub Late : ℕ → Type 0
+Late = In runNumbers
+
+run-by : (p : Problem) (ks : List ℕ) (s : State) (i : ℕ) → Refuses Late (runFrom p s i ks .answer)
+unfolding runFrom option isIn any
+run-by p [] s i = go (s (atomNumber p goal))
+  where
+    go : (b : Bool) → Refuses Late (if b then accepted i else refused 15 i)
+    go true = accepted-by Late i
+    go false = refused-by Late ℕ 15 i refl
+run-by p (j ∷ ks) s i = go (actionAt p j) (λ a. run-by p ks (after p s a) (suc i))
+  where
+    may : (a : Action) (b : Bool) → Refuses Late (runFrom p (after p s a) (suc i) ks .answer) → Refuses Late ((if b then runFrom p (after p s a) (suc i) ks else record { answer = refused 14 i; state = s }) .answer)
+    may a true r = r
+    may a false r = refused-by Late ℕ 14 i refl
+
+    go : (o : Option Action) → ((a : Action) → Refuses Late (runFrom p (after p s a) (suc i) ks .answer)) → Refuses Late (option o (record { answer = refused 13 i; state = s }) (λ a. if mayTake p s a then runFrom p (after p s a) (suc i) ks else record { answer = refused 14 i; state = s }) .answer)
+    go none r = refused-by Late ℕ 13 i refl
+    go (some a) r = may a (mayTake p s a) (r a)
+
+-- ---- what each call refuses with
+pub told : {A : Type 0} (P : ℕ → Type 0) (r : Result A) (k place : ℕ) → r ≡ refused k place → Refuses P r → P k
+unfolding Refuses
+told P r k place e h = subst (Refuses P) e h
+
+pub run-refuses : (p : Problem) (ks : List ℕ) (k place : ℕ) → run p ks .answer ≡ refused k place → In runNumbers k
+unfolding run
+run-refuses p ks k place e = told Late (runFrom p (initial p) zero ks .answer) k place e (run-by p ks (initial p) zero)
+
+module _ (L : CaseLimits) (question site : List ℕ) where
+  pub problem-refuse : (k place : ℕ) → readProblem L question site ≡ refused k place → In caseNumbers k
+  unfolding readProblem
+  problem-refuse k place e = told Sheet (readProblem L question site) k place e (bind-by Sheet _ _ (case-by L question site) (ground-by L))
+
+  pub sizes-refuse : (k place : ℕ) → sizes L question site ≡ refused k place → In caseNumbers k
+  unfolding sizes
+  sizes-refuse k place e = told Sheet (sizes L question site) k place e (bind-by Sheet _ _ (alone-by L question site nothing nothing-by) (λ r. accepted-by Sheet _))
+
+  abbrev Asks : ℕ → Type 0
+  Asks = In (13 ∷ caseNumbers)
+
+  pub action-refuse : (n k place : ℕ) → action L question site n ≡ refused k place → In (13 ∷ caseNumbers) k
+  unfolding action isIn all any
+  action-refuse n k place e = told Asks (action L question site n) k place e
+      (bind-by Asks _ _ (weaken (among caseNumbers (13 ∷ caseNumbers) refl) _ (alone-by L question site nothing nothing-by)) (λ r. given-by Asks (actionAt (r .problem) n) 13 n refl))
+
+  -- ---- steps, checked and read
+  abbrev Checks : ℕ → Type 0
+  Checks = In (readyNumbers ++ runNumbers)
+
+  early-checks : (k : ℕ) → Early k → Checks k
+  unfolding isIn all any
+  early-checks = among readyNumbers (readyNumbers ++ runNumbers) refl
+
+  run-checks : (r : Ready (List ℕ)) → Refuses Checks (run (r .problem) (r .third) .answer)
+  unfolding run isIn all any
+  run-checks r = weaken (among runNumbers (readyNumbers ++ runNumbers) refl) _ (run-by (r .problem) (r .third) (initial (r .problem)) zero)
+
+  ready-by : (g : Given) (rooms : Problem → Result (Unit {0})) → ((p : Problem) → Refuses Early (rooms p)) → Refuses Early (readyToRun L question site g rooms)
+  unfolding readyToRun
+  ready-by g rooms h = asked-by L question site (λ c. takeSteps g) rooms (λ c. steps-by g) h
+
+  pub check-refuse : (steps : Given) (state : List ℕ) (k place : ℕ) → checkSteps L question site steps state .answer ≡ refused k place → In (readyNumbers ++ runNumbers) k
+  unfolding checkSteps checkedFrom
+  check-refuse steps state k place e = told Checks _ k place e (go _ (ready-by steps (λ p. roomFor (stateLength p) (length state)) (λ p. room-by (stateLength p) (length state))))
+    where
+      go : (m : Result (Ready (List ℕ))) → Refuses Early m → Refuses Checks (checkedFrom m state .answer)
+      go (refused j at) h = refused-by Checks ℕ j at (early-checks j (told Early (refused j at) j at refl h))
+      go (accepted r) h = run-checks r
+
+  pub read-refuse : (steps : Given) (picks state : List ℕ) (k place : ℕ) → picksFromSteps L question site steps picks state .answer ≡ refused k place → In (readyNumbers ++ runNumbers) k
+  unfolding picksFromSteps picksReadFrom
+  read-refuse steps picks state k place e = told Checks _ k place e
+      (go _ (ready-by steps (λ p. roomFor (picksLength p) (length picks) >>= λ _. roomFor (stateLength p) (length state)) (λ p. bind-by Early _ _ (room-by (picksLength p) (length picks)) (λ _. room-by (stateLength p) (length state)))))
+    where
+      go : (m : Result (Ready (List ℕ))) → Refuses Early m → Refuses Checks (picksReadFrom m picks state .answer)
+      go (refused j at) h = refused-by Checks ℕ j at (early-checks j (told Early (refused j at) j at refl h))
+      go (accepted r) h = run-checks r
+
+  -- ---- picks, built from and judged
+  abbrev Builds : ℕ → Type 0
+  Builds = In (readyNumbers ++ picksNumbers)
+
+  early-by : {A : Type 0} (m : Result A) → Refuses Early m → Refuses Builds m
+  unfolding isIn all any
+  early-by m h = weaken (among readyNumbers (readyNumbers ++ picksNumbers) refl) m h
+
+  picks-room : (p : Problem) (g : Given) → Refuses Early (picksRoom p g)
+  unfolding picksRoom
+  picks-room p (asText text) = accepted-by Early tt
+  picks-room p (asNumbers words) = room-by (picksLength p) (length words)
+
+  spare-by : (o : Option ℕ) → Refuses Builds (spareRefusal o)
+  unfolding spareRefusal isIn any
+  spare-by none = accepted-by Builds tt
+  spare-by (some j) = refused-by Builds (Unit {0}) 10 j refl
+
+  take-by : (p : Problem) (g : Given) (read : List Tuple) → Refuses Builds (takePicks p g read)
+  unfolding takePicks
+  take-by p (asText text) read = accepted-by Builds read
+  take-by p (asNumbers words) read = bind-by Builds _ _ (spare-by (spareWord p words zero (chosenNumbers p))) (λ _. accepted-by Builds _)
+
+  kind-by : (o : Option ℕ) → Refuses Builds (kindRefusal o)
+  unfolding kindRefusal isIn any
+  kind-by none = accepted-by Builds tt
+  kind-by (some i) = refused-by Builds (Unit {0}) 16 i refl
+
+  satisfying-by : (c : Case) (p : Problem) (g : Given) (read : List Tuple) → Refuses Builds (satisfying c p g read)
+  unfolding satisfying isIn any
+  satisfying-by c p g read = bind-by Builds _ _ (take-by p g read) (λ F. bind-by Builds _ _ (kind-by (firstOfOtherKind c F)) (λ _. bind-by Builds _ _ (if-by Builds _ 17 zero refl) (λ _. accepted-by Builds _)))
+
+  plan-by : (g : Given) (stateRoom stepsRoom : ℕ) → Refuses Builds (plan L question site g stateRoom stepsRoom)
+  unfolding plan
+  plan-by g stateRoom stepsRoom = bind-by Builds _ _
+      (early-by _ (asked-by L question site (λ c. textPicks c g) _ (λ c. picks-by c g) (λ p. bind-by Early _ _ (picks-room p g) (λ _. bind-by Early _ _ (room-by (stateLength p) stateRoom) (λ _. room-by (bound p) stepsRoom)))))
+      (λ r. bind-by Builds _ _ (satisfying-by (r .case) (r .problem) g (r .third)) (λ F. accepted-by Builds _))
+
+  pub build-refuse : (picks : Given) (state steps : List ℕ) (k place : ℕ) → buildSteps L question site picks state steps .answer ≡ refused k place → In (readyNumbers ++ picksNumbers) k
+  unfolding buildSteps builtFrom
+  build-refuse picks state steps k place e = told Builds _ k place e (go _ (plan-by picks (length state) (length steps)))
+    where
+      go : (m : Result Plan) → Refuses Builds m → Refuses Builds (builtFrom m state steps .answer)
+      go (refused j at) h = refused-by Builds ℕ j at (told Builds (refused j at) j at refl h)
+      go (accepted b) h = accepted-by Builds _
+
+  pub judge-refuse : (picks : Given) (k place : ℕ) → judge L question site picks ≡ refused k place → In (readyNumbers ++ picksNumbers) k
+  unfolding judge
+  judge-refuse picks k place e = told Builds _ k place e (bind-by Builds _ _ (early-by _ (asked-by L question site (λ c. textPicks c picks) _ (λ c. picks-by c picks) (λ p. picks-room p picks)))
+      (λ r. bind-by Builds _ _ (satisfying-by (r .case) (r .problem) picks (r .third)) (λ F. accepted-by Builds _)))

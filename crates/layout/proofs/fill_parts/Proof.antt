@@ -1,0 +1,138 @@
+-- `layout::fill_parts` meets its contract.
+use Prim.Native.Nat.{ℕ, _-_, _^_, _≤_, _<_}
+use mathlib.Core.Path.{_≡_, refl, _∙_, subst}
+use mathlib.Core.List.{List}
+use native.Mathlib.Omega.{arith}
+use borrow.Author.Needs.{needs}
+use lib.ListN.{length, getD}
+use Rattle.tree.specs.Tables.{noPart}
+use Rattle.rows.specs.Values.{Most}
+use Rattle.layout.specs.Filled.{partsPlace, splice, tab, numbersIn}
+use Rattle.layout.specs.SpliceLaws.{tab-none}
+use Rattle.layout.specs.PartLaws.{line-from, start-most}
+use Rattle.layout.specs.TurnLaws.{part-turn, part-last, one-more}
+use Rattle.layout.proofs.fill_parts.Statement.{statement}
+use Rattle.layout.proofs.fill_parts.Tie as tie
+
+abbrev Inv-loop : tie.InvT-loop
+Inv-loop table₀ n t rel neg node i₀ table i = (i ≤ t .placed) × (length table ≡ length table₀) × (table ≡ splice partsPlace (tab (λ (i : ℕ). numbersIn n rel neg node (getD (t .parts) i noPart)) i) table₀) × ((u : ℕ) → u < i → Most (numbersIn n rel neg node (getD (t .parts) u noPart)) (2 ^ 32))
+
+abbrev μ-loop : tie.MeasureT-loop
+μ-loop table₀ n t rel neg node i₀ table i = t .placed - i
+
+loop-holds : tie.Need-loop-holds Inv-loop μ-loop
+loop-holds c =
+    let s = c .before .before .before .before in
+    (omega arith, refl, tab-none (λ (i : ℕ). numbersIn (s .args .n) (s .args .l .rel) (s .args .l .neg) (s .args .l .node) (getD (s .args .t3 .parts) i noPart)) partsPlace (s .args .table .now), λ u h. absurd (omega arith))
+
+mul-q : tie.Need-mul-q Inv-loop μ-loop
+mul-q c = omega (arith, c .before .before .before .before .before .before .pre .3 .few-parts)
+
+element-copy-out-q : tie.Need-element-copy-out-q Inv-loop μ-loop
+element-copy-out-q c = omega (arith, c .before .before .before .before .before .before .pre .3 .few-parts)
+
+start-of-requires : tie.Need-start-of-requires Inv-loop μ-loop
+start-of-requires c κs =
+    let s = c .before .before .before .before .before .before .before .before .before .before .before in
+    let a : length (s .args .l .rel) ≡ 18 = search needs in
+    let b : length (s .args .l .neg) ≡ 17 = search needs in
+    let d : length (s .args .l .node) ≡ 65 = search needs in
+    let w = c .wide .ensures .0 in
+    let f = c .before .before .before .before .before .before .before .before .before .before .before .pre .3 .parts .part (c .before .before .before .before .before .before .loop .i) in
+    ((λ h. rw w (f .relation h)), (λ h. rw w (f .node h)), omega (arith, a), omega (arith, b), omega (arith, d))
+
+part-numbers-requires : tie.Need-part-numbers-requires Inv-loop μ-loop
+part-numbers-requires c κs =
+    let s = c .before .before .before .before .before .before .before .before .before .before .before .before in
+    (s .pre .1, s .pre .2, s .pre .3 .parts .part (c .before .before .before .before .before .before .before .loop .i), rw (c .start-of .ensures) (start-most (s .args .l) _ (s .pre .4) _ _))
+
+mul-store : tie.Need-mul-store Inv-loop μ-loop
+mul-store c = omega (arith, c .before .before .before .before .before .before .before .before .before .before .before .before .before .before .pre .3 .few-parts)
+
+add-store : tie.Need-add-store Inv-loop μ-loop
+add-store c = omega (arith, c .before .before .before .before .before .before .before .before .before .before .before .before .before .before .pre .3 .few-parts)
+
+store-requires : tie.Need-store-requires Inv-loop μ-loop
+store-requires c κs = omega (arith, c .before .before .before .before .before .before .before .before .before .before .before .before .before .before .before .pre .3 .few-parts, c .before .before .before .before .before .before .before .before .before .before .before .before .before .before .before .pre .0, c .before .before .before .before .before .before .before .before .before .before .loop .inv .1)
+
+add-i : tie.Need-add-i Inv-loop μ-loop
+add-i c = omega (arith, c .before .before .before .before .before .before .before .before .before .before .before .before .before .before .before .before .before .before .pre .3 .few-parts)
+
+loop-less : tie.Need-loop-less Inv-loop μ-loop
+loop-less c = omega (arith, c .before .before .before .before .before .before .before .before .before .before .before .before .before .before .before .before .before .before .pre .3 .few-parts)
+
+loop-again : tie.Need-loop-again Inv-loop μ-loop
+loop-again c =
+    let s = c .before .before .before .before .before .before .before .before .before .before .before .before .before .before .before .before .before .before in
+    let l = c .before .before .before .before .before .before .before .before .before .before .before .before .before .loop in
+    let p = c .before .before .before .before .before .part-numbers .ensures in
+    let line = line-from (s .args .n) (s .args .l .rel) (s .args .l .neg) (s .args .l .node) (getD (s .args .t3 .parts) (l .i) noPart) _ _ _ (c .before .before .before .before .before .before .before .wide .ensures .0) (c .before .before .before .before .before .before .start-of .ensures) (p .0) in
+    let k = c .before .before .before .before .before .before .before .before .before .before .before .before .loop-test .taken in (
+      omega (arith, k),
+      c .before .before .store .kept .0 ∙ l .inv .1,
+      part-turn (s .args .n) (s .args .t3) (s .args .l .rel) (s .args .l .neg) (s .args .l .node) (l .table) (s .args .table .now) (c .before .before .store .last .0) (s .pre .0) (l .i) _ (omega (arith, k, s .pre .3 .few-parts)) line (l .inv .2) (c .before .before .store .ensures),
+      one-more (λ (u : ℕ). Most (numbersIn (s .args .n) (s .args .l .rel) (s .args .l .neg) (s .args .l .node) (getD (s .args .t3 .parts) u noPart)) (2 ^ 32)) (l .i) (l .inv .3) (subst (λ (xs : List ℕ). Most xs (2 ^ 32)) line (p .1)),
+    )
+
+start-of-requires-2 : tie.Need-start-of-requires-2 Inv-loop μ-loop
+start-of-requires-2 c κs =
+    let s = c .before .before .before .before .before .before .before .before .before .before .before in
+    let a : length (s .args .l .rel) ≡ 18 = search needs in
+    let b : length (s .args .l .neg) ≡ 17 = search needs in
+    let d : length (s .args .l .node) ≡ 65 = search needs in
+    let w = c .wide2 .ensures .0 in
+    let f = c .before .before .before .before .before .before .before .before .before .before .before .pre .3 .root in
+    ((λ h. rw w (f .relation h)), (λ h. rw w (f .node h)), omega (arith, a), omega (arith, b), omega (arith, d))
+
+part-numbers-requires-2 : tie.Need-part-numbers-requires-2 Inv-loop μ-loop
+part-numbers-requires-2 c κs =
+    let s = c .before .before .before .before .before .before .before .before .before .before .before .before in
+    (s .pre .1, s .pre .2, s .pre .3 .root, rw (c .start-of2 .ensures) (start-most (s .args .l) _ (s .pre .4) _ _))
+
+store-requires-2 : tie.Need-store-requires-2 Inv-loop μ-loop
+store-requires-2 c κs = omega (arith, c .before .before .before .before .before .before .before .before .before .before .before .before .before .before .before .pre .3 .few-parts, c .before .before .before .before .before .before .before .before .before .before .before .before .before .before .before .pre .0, c .before .before .before .before .before .before .before .before .before .before .loop .inv .1)
+
+returns : tie.Need-returns Inv-loop μ-loop
+returns c =
+    let s = c .before .before .before .before .before .before .before .before .before .before .before .before .before .before .before .before .before .before in
+    let l = c .before .before .before .before .before .before .before .before .before .before .before .before .before .loop in
+    let p = c .before .before .before .before .before .part-numbers2 .ensures in
+    let line = line-from (s .args .n) (s .args .l .rel) (s .args .l .neg) (s .args .l .node) (s .args .t3 .root) _ _ _ (c .before .before .before .before .before .before .before .wide2 .ensures .0) (c .before .before .before .before .before .before .start-of2 .ensures) (p .0) in
+    let e : l .i ≡ s .args .t3 .placed = omega (arith, c .before .before .before .before .before .before .before .before .before .before .before .before .loop-test .left, l .inv .0) in (
+      part-last (s .args .n) (s .args .t3) (s .args .l) (l .table) (s .args .table .now) (c .before .before .store2 .last .0) (l .i) _ e line (l .inv .2) (c .before .before .store2 .ensures),
+      λ u h. l .inv .3 u (omega (arith, e)),
+      subst (λ (xs : List ℕ). Most xs (2 ^ 32)) line (p .1),
+    )
+
+pub fill-parts-spec : {M : Type 1} → statement M
+fill-parts-spec =
+    tie.close
+    (tie.spec
+    Inv-loop
+    μ-loop
+    loop-holds
+    mul-q
+    element-copy-out-q
+    (λ c. search needs)
+    (λ c. search needs)
+    (λ c. search needs)
+    (λ c κs. search needs)
+    start-of-requires
+    part-numbers-requires
+    mul-store
+    add-store
+    (λ c. search needs)
+    store-requires
+    add-i
+    loop-less
+    loop-again
+    (λ c. search needs)
+    (λ c. search needs)
+    (λ c. search needs)
+    (λ c κs. search needs)
+    start-of-requires-2
+    part-numbers-requires-2
+    (λ c. search needs)
+    store-requires-2
+    (λ c. search needs)
+    returns)

@@ -1,0 +1,20 @@
+-- `layout::range_start` meets its contract.
+use mathlib.Core.Path.{refl}
+use native.Mathlib.Omega.{arith}
+use borrow.Author.Tests.{lt-ltb, le-ltb}
+use Rattle.layout.specs.Filled.{rangeStart}
+use Rattle.layout.proofs.range_start.Statement.{statement}
+use Rattle.layout.proofs.range_start.Tie as tie
+use Rattle.layout.proofs.range_start.Reads as reads
+use Rattle.layout.proofs.range_start.Lts as lts
+
+returns : tie.Need-returns
+unfolding rangeStart
+returns c = (rw (lt-ltb (c .before .args .kind) 2 (omega arith)) refl, omega arith)
+
+returns-2 : tie.Need-returns-2
+unfolding rangeStart
+returns-2 c = (rw (le-ltb (c .before .args .kind) 2 (omega arith)) refl, omega arith)
+
+pub range-start-spec : {M : Type 1} → statement M
+range-start-spec = tie.close (tie.spec returns returns-2)

@@ -1,0 +1,85 @@
+-- One turn of each loop that fills the table, and its end.
+use mathlib.Core.Path.{_≡_, refl, sym, ap, ap₂, _∙_, subst}
+use mathlib.Core.List.{List, [], _∷_, _++_}
+use Prim.Native.Nat.{ℕ, _+_, _*_, _^_, _≤_, _<_}
+use native.Mathlib.Decide.{decLt}
+use native.Mathlib.Omega.{arith}
+use native.Mathlib.Numerals.{add-one}
+use lib.ListN.{length, getD, set}
+use lib.Seq.{paste, paste-suc}
+use Rattle.definitions.specs.Lists.{below}
+use Rattle.laws.specs.Lists.{length-below, getD-below}
+use Rattle.tree.specs.Tables.{noPart}
+use Rattle.tree.specs.declared.NodeRow.{NodeRow}
+use Rattle.tree.specs.declared.Nodes.{Nodes}
+use Rattle.rows.specs.Values.{Most}
+use Rattle.ground.specs.Lines.{tableLength, rootPlace, relationPlace, nodePlace, partPlace}
+use Rattle.layout.specs.declared.Relations.{Relations}
+use Rattle.layout.specs.declared.Layout.{Layout}
+use Rattle.layout.specs.Filled.{relationsPlace, nodesPlace, partsPlace, nodeLength, splice, tab, relationNumbers, relationEnd, rangeStart, rangeCount, nodeFrom, nodeEnd, nodeNumbers, numbersIn, partNumbers, relationLines, nodeLines, partLines}
+use Rattle.layout.specs.SpliceLaws.{splice-all, tab-next, tab-end, each-most}
+use Rattle.layout.specs.PartLaws.{length-part}
+use Rattle.layout.specs.FilledLaws.{length-relation, length-relation-end, length-node, length-node-end}
+use Rattle.layout.specs.Laid.{numberLimit}
+
+module _ (g : Relations) (l : Layout) (w d z : List ℕ) (len : length d ≡ tableLength) where
+  pub relation-turn : (r : ℕ) → r < 17 → w ≡ splice relationsPlace (tab (relationNumbers g l) r) d
+      → z ≡ splice (relationPlace r) (getD (l .set) r 0 ∷ getD (l .rel) r 0 ∷ getD (l .neg) r 0 ∷ getD (l .dom) r 0 ∷ getD (g .kind) r 0 ∷ []) w → z ≡ splice relationsPlace (tab (relationNumbers g l) (r + 1)) d
+  unfolding relationNumbers
+  relation-turn r h e q = tab-next (relationNumbers g l) 5 (length-relation g l) relationsPlace r (relationNumbers g l r) w d z (omega arith) refl e q
+
+  pub relation-last : (r : ℕ) → r ≤ 17 → r ≡ g .count → w ≡ splice relationsPlace (tab (relationNumbers g l) r) d → z ≡ splice (relationPlace r) (getD (l .set) r 0 ∷ getD (l .rel) r 0 ∷ 0 ∷ 0 ∷ 0 ∷ []) w → z ≡ splice relationsPlace (relationLines g l) d
+  unfolding relationLines relationEnd
+  relation-last r b h e q =
+      q ∙ tab-end (relationNumbers g l) 5 (length-relation g l) relationsPlace r (relationEnd l r) w d (omega (arith, length-relation-end l r)) e
+      ∙ ap (λ (k : ℕ). splice relationsPlace (tab (relationNumbers g l) k ++ relationEnd l k) d) h
+
+module _ (n : ℕ) (t : Nodes) (l : Layout) (w d z : List ℕ) (len : length d ≡ tableLength) where
+  pub node-turn : (v : ℕ) (line : List ℕ) → v < 64 → line ≡ nodeNumbers n t l v → w ≡ splice nodesPlace (tab (nodeNumbers n t l) v) d → z ≡ splice (nodePlace v) line w → z ≡ splice nodesPlace (tab (nodeNumbers n t l) (v + 1)) d
+  node-turn v line h = tab-next (nodeNumbers n t l) nodeLength (length-node n t l) nodesPlace v line w d z (omega arith)
+
+  pub node-last : (v : ℕ) → v ≤ 64 → v ≡ t .count → w ≡ splice nodesPlace (tab (nodeNumbers n t l) v) d → z ≡ splice (nodePlace v) (getD (l .act) v 0 ∷ getD (l .node) v 0 ∷ 0 ∷ 0 ∷ 0 ∷ 0 ∷ 0 ∷ 0 ∷ 0 ∷ 0 ∷ 0 ∷ 0 ∷ 0 ∷ []) w → z ≡ splice nodesPlace (nodeLines n t l) d
+  unfolding nodeLines nodeEnd
+  node-last v b h e q =
+      q ∙ tab-end (nodeNumbers n t l) nodeLength (length-node n t l) nodesPlace v (nodeEnd l v) w d (omega (arith, length-node-end l v)) e
+      ∙ ap (λ (k : ℕ). splice nodesPlace (tab (nodeNumbers n t l) k ++ nodeEnd l k) d) h
+
+-- a node's line from its bytes
+pub node-line : (n act node : ℕ) (x : NodeRow) (a b c d e f g h i r k : ℕ) → (a ≡ x .kind) × (a < 256) → (b ≡ x .level) × (b < 256) → (c ≡ x .first) × (c < 256) → (d ≡ x .many) × (d < 256) → (e ≡ x .width) × (e < 256)
+    → (f ≡ getD (x .levels) 0 0) × (f < 256) → (g ≡ getD (x .levels) 1 0) × (g < 256) → (h ≡ getD (x .levels) 2 0) × (h < 256) → (i ≡ getD (x .levels) 3 0) × (i < 256)
+    → (r ≡ rangeStart a) × (r ≤ tableLength) → (k ≡ rangeCount n a) × (k ≤ 64) → act ≤ numberLimit → node ≤ numberLimit
+    → (act ∷ node ∷ a ∷ b ∷ c ∷ d ∷ e ∷ f ∷ g ∷ h ∷ i ∷ r ∷ k ∷ [] ≡ nodeFrom n act node x) × Most (act ∷ node ∷ a ∷ b ∷ c ∷ d ∷ e ∷ f ∷ g ∷ h ∷ i ∷ r ∷ k ∷ []) (2 ^ 32)
+unfolding nodeFrom
+node-line n act node x a b c d e f g h i r k p₁ p₂ p₃ p₄ p₅ p₆ p₇ p₈ p₉ p₁₀ p₁₁ u v = (
+  rw (p₁₀ .0, p₁₁ .0, p₁ .0, p₂ .0, p₃ .0, p₄ .0, p₅ .0, p₆ .0, p₇ .0, p₈ .0, p₉ .0) refl,
+  each-most (2 ^ 32) (act ∷ node ∷ a ∷ b ∷ c ∷ d ∷ e ∷ f ∷ g ∷ h ∷ i ∷ r ∷ k ∷ [])
+      (omega arith, (omega arith, (omega arith, (omega arith, (omega arith, (omega arith, (omega arith, (omega arith, (omega arith, (omega arith, (omega arith, (omega arith, (omega arith, tt))))))))))))),
+)
+
+module _ (n : ℕ) (t : Nodes) (rel neg node w d z : List ℕ) (len : length d ≡ tableLength) where
+  pub part-turn : (i : ℕ) (line : List ℕ) → i < 64 → line ≡ numbersIn n rel neg node (getD (t .parts) i noPart) → w ≡ splice partsPlace (tab (λ (i : ℕ). numbersIn n rel neg node (getD (t .parts) i noPart)) i) d
+      → z ≡ splice (partPlace i) line w → z ≡ splice partsPlace (tab (λ (i : ℕ). numbersIn n rel neg node (getD (t .parts) i noPart)) (i + 1)) d
+  part-turn i line h = tab-next (λ (i : ℕ). numbersIn n rel neg node (getD (t .parts) i noPart)) 5 (λ i. length-part n rel neg node (getD (t .parts) i noPart)) partsPlace i line w d z (omega arith)
+
+pub part-last : (n : ℕ) (t : Nodes) (l : Layout) (w d z : List ℕ) (i : ℕ) (line : List ℕ) → i ≡ t .placed → line ≡ partNumbers n l (t .root)
+    → w ≡ splice partsPlace (tab (λ (i : ℕ). partNumbers n l (getD (t .parts) i noPart)) i) d → z ≡ splice rootPlace line w → z ≡ splice rootPlace (partNumbers n l (t .root)) (splice partsPlace (partLines n t l) d)
+unfolding partLines
+part-last n t l w d z i line h c e q = q ∙ ap₂ (splice rootPlace) c (rw h at e)
+
+-- the range of all elements, element after element, from a place on
+module _ (place : ℕ) (d w : List ℕ) (n i : ℕ) where
+  pub range-turn : place + n ≤ length d → i < n → w ≡ paste d place (below n) i → set w (place + i) i ≡ paste d place (below n) (i + 1)
+  range-turn h k e =
+      ap (λ (x : List ℕ). set x (place + i) i) e ∙ ap (set (paste d place (below n) i) (place + i)) (sym (getD-below n i k))
+      ∙ paste-suc d place (below n) i 0 (omega arith) (omega (arith, length-below n)) ∙ ap (paste d place (below n)) (sym (add-one i))
+
+  pub range-end : i ≤ n → n ≤ i → w ≡ paste d place (below n) i → w ≡ splice place (below n) d
+  range-end h k e = e ∙ splice-all d place (below n) i (omega (arith, length-below n)) (omega (arith, length-below n))
+
+-- what holds of all before the next and of the next holds of all up to it
+pub one-more : (P : ℕ → Type 0) (v : ℕ) → ((u : ℕ) → u < v → P u) → P v → (u : ℕ) → u < v + 1 → P u
+one-more P v h q u l = go (decLt u v)
+  where
+    go : Dec (u < v) → P u
+    go (yes k) = h u k
+    go (no k) = let e : v ≡ u = omega arith in subst P e q

@@ -1,2 +1,0 @@
--- Words of this crate.
-pub mod Read

@@ -1,0 +1,145 @@
+-- Larger limits: what is accepted under smaller ones is accepted under them as the same case and the same problem, so that every call
+-- answers the same.
+use Prim.Native.Nat.{ℕ, zero, _≤_}
+use mathlib.Core.Path.{_≡_, refl, ap, _∙_}
+use mathlib.Core.Bool.{true, not, _||_}
+use mathlib.Core.Option.{Option, none, some}
+use mathlib.Core.List.{List, [], _∷_}
+use native.Mathlib.Omega.{arith}
+use lib.Dec.{leb, ltb}
+use lib.ListN.{length}
+use borrow.Author.Tests.{le-leb, leb-true, le-ltb, ltb-false, not-false}
+use Rattle.definitions.specs.Limits.{CaseLimits, textLimit}
+use Rattle.definitions.specs.Text.{Line, lines, isBetween}
+use Rattle.definitions.specs.Refusal.{Result, accepted, _>>=_, refuseIf, given, readLines, readText}
+use Rattle.definitions.specs.Relations.{Relation}
+use Rattle.definitions.specs.Sheets.{Entry, rel, choose, rule, size, fact, pick, step, entryOf, SiteDraft, Site, addSize, addToSite, siteLine, readSite, readQuestion}
+use Rattle.definitions.specs.Truth.{Case}
+use Rattle.definitions.specs.Atoms.{Problem, problemOf, atoms}
+use Rattle.definitions.specs.Actions.{actions}
+use Rattle.definitions.specs.Relations.{Tuple}
+use Rattle.definitions.specs.Actions.{actionAt}
+use Rattle.definitions.specs.Built.{builtSteps}
+use Rattle.definitions.specs.Outcome.{readCase, ground, readProblem, Ready, asked, nothing, sizes, sizesOf, action, Given, takeSteps, textPicks, satisfying, readyToRun, checkedFrom, checkSteps, picksReadFrom, picksFromSteps, plan, builtFrom, buildSteps}
+use Rattle.definitions.specs.Judgement.{judge}
+use Rattle.definitions.specs.Tries.{Try, readyToTry, triedFrom, tryLists}
+use Rattle.definitions.specs.Allowance.{allowedFrom, allowances}
+use Rattle.definitions.specs.Writing.{and-l, and-r}
+use Rattle.laws.specs.Booleans.{or-both}
+use Rattle.laws.specs.Results.{refused-accepted, bind-parts, not-refused}
+use Rattle.laws.specs.Asked
+use Rattle.laws.specs.Told
+
+-- each of the limits is at least the other's
+pub record Wider (L M : CaseLimits) : Type 0 where
+  pub elements : L .elements ≤ M .elements
+  pub atoms : L .atoms ≤ M .atoms
+  pub actions : L .actions ≤ M .actions
+
+-- a size within the limits is taken
+size-within : (M : CaseLimits) (d : SiteDraft) (at n : ℕ) → leb 1 n ≡ true → leb n (M .elements) ≡ true → addSize M d at n none ≡ accepted (record { sized = some n; facts = d .facts })
+unfolding addSize isBetween refuseIf _>>=_
+size-within M d at n a b = rw (a, b) refl
+
+module _ (L M : CaseLimits) (w : Wider L M) where
+  size-wider : (d : SiteDraft) (at n : ℕ) (o : Option ℕ) (e : SiteDraft) → addSize L d at n o ≡ accepted e → addSize M d at n o ≡ accepted e
+  unfolding addSize isBetween
+  size-wider d at n none e q =
+      let (u, r, f) = bind-parts (refuseIf (not (isBetween 1 (L .elements) n)) 9 at) _ e q in
+      let b = not-false (isBetween 1 (L .elements) n) (not-refused (not (isBetween 1 (L .elements) n)) 9 at u r) in
+      let high = leb-true n (L .elements) (and-r (leb 1 n) _ b) in
+      size-within M d at n (and-l (leb 1 n) _ b) (le-leb n (M .elements) (omega (arith, w .elements))) ∙ f
+  size-wider d at n (some m) e q = absurd (refused-accepted q)
+
+  entry-wider : (rels : List Relation) (d : SiteDraft) (at : ℕ) (x : Entry) (e : SiteDraft) → addToSite L rels d at x ≡ accepted e → addToSite M rels d at x ≡ accepted e
+  unfolding addToSite
+  entry-wider rels d at (rel name arity) e q = q
+  entry-wider rels d at (choose name arity kind) e q = q
+  entry-wider rels d at (rule text) e q = q
+  entry-wider rels d at (size n) e q = size-wider d at n (d .sized) e q
+  entry-wider rels d at (fact name xs) e q = q
+  entry-wider rels d at (pick name xs) e q = q
+  entry-wider rels d at (step k) e q = q
+
+  line-wider : (rels : List Relation) (d : SiteDraft) (l : Line) (e : SiteDraft) → siteLine L rels d l ≡ accepted e → siteLine M rels d l ≡ accepted e
+  unfolding siteLine _>>=_
+  line-wider rels d l e q = let (x, a, b) = bind-parts (entryOf l) (addToSite L rels d (l .at)) e q in rw a (entry-wider rels d (l .at) x e b)
+
+  lines-wider : (rels : List Relation) (d : SiteDraft) (ls : List Line) (e : SiteDraft) → readLines (siteLine L rels) d ls ≡ accepted e → readLines (siteLine M rels) d ls ≡ accepted e
+  unfolding readLines _>>=_
+  lines-wider rels d [] e q = q
+  lines-wider rels d (l ∷ ls) e q =
+      let (x, a, b) = bind-parts (siteLine L rels d l) (λ y. readLines (siteLine L rels) y ls) e q in
+      rw (line-wider rels d l x a) (lines-wider rels x ls e b)
+
+  site-wider : (rels : List Relation) (text : List ℕ) (s : Site) → readSite L rels text ≡ accepted s → readSite M rels text ≡ accepted s
+  unfolding readSite readText _>>=_
+  site-wider rels text s q =
+      let (d, a, b) = bind-parts (readText (siteLine L rels) _ text) _ s q in
+      let (u, t, f) = bind-parts (refuseIf (ltb textLimit (length text)) 1 zero) _ d a in
+      rw (t, lines-wider rels _ (lines text) d f) b
+
+  pub case-wider : (question site : List ℕ) (c : Case) → readCase L question site ≡ accepted c → readCase M question site ≡ accepted c
+  unfolding readCase _>>=_
+  case-wider question site c q =
+      let (x, a, b) = bind-parts (readQuestion question) _ c q in
+      let (y, e, f) = bind-parts (readSite L (x .rels) site) _ c b in
+      rw (a, site-wider (x .rels) site y e) f
+
+  pub ground-wider : (c : Case) (p : Problem) → ground L c ≡ accepted p → ground M c ≡ accepted p
+  unfolding ground refuseIf _>>=_
+  ground-wider c p q =
+      let (u, a, b) = bind-parts (refuseIf (ltb (L .atoms) (atoms (problemOf c)) || ltb (L .actions) (actions (problemOf c))) 11 zero) (λ _. accepted (problemOf c)) p q in
+      let (m, n) = or-both (ltb (L .atoms) (atoms (problemOf c))) _ (not-refused _ 11 zero u a) in
+      let x = ltb-false (L .atoms) (atoms (problemOf c)) m in
+      let y = ltb-false (L .actions) (actions (problemOf c)) n in
+      rw (le-ltb (M .atoms) (atoms (problemOf c)) (omega (arith, w .atoms)), le-ltb (M .actions) (actions (problemOf c)) (omega (arith, w .actions))) b
+
+  pub problem-wider : (question site : List ℕ) (p : Problem) → readProblem L question site ≡ accepted p → readProblem M question site ≡ accepted p
+  problem-wider question site p q =
+      let (c, a, g) = Asked.problem-parts L question site p q in
+      Asked.problem-from M question site c p (case-wider question site c a) (ground-wider c p g)
+
+  -- so whatever is asked of an accepted case is answered alike
+  pub asked-wider : {A : Type 0} (question site : List ℕ) (p : Problem) → readProblem L question site ≡ accepted p → (third : Case → Result A) (early late : Case → Result (Unit {0})) (rooms : Problem → Result (Unit {0}))
+      → asked L question site third early late rooms ≡ asked M question site third early late rooms
+  unfolding asked _>>=_
+  asked-wider question site p q third early late rooms =
+      let (c, a, g) = Asked.problem-parts L question site p q in
+      rw (a, g, case-wider question site c a, ground-wider c p g) refl
+
+-- ---- the calls
+module _ (L M : CaseLimits) (w : Wider L M) (question site : List ℕ) (p : Problem) (is-problem : readProblem L question site ≡ accepted p) where
+  pub same-sizes : sizes L question site ≡ sizes M question site
+  unfolding sizes
+  same-sizes = ap (λ (r : Result (Ready (Unit {0}))). r >>= λ x. accepted (sizesOf (x .problem))) (asked-wider L M w question site p is-problem nothing nothing nothing nothing)
+
+  pub same-action : (k : ℕ) → action L question site k ≡ action M question site k
+  unfolding action
+  same-action k = ap (λ (r : Result (Ready (Unit {0}))). r >>= λ x. given (actionAt (x .problem) k) 13 k) (asked-wider L M w question site p is-problem nothing nothing nothing nothing)
+
+  pub same-check : (steps : Given) (state : List ℕ) → checkSteps L question site steps state ≡ checkSteps M question site steps state
+  unfolding checkSteps readyToRun
+  same-check steps state = ap (λ (r : Result (Ready (List ℕ))). checkedFrom r state) (asked-wider L M w question site p is-problem (λ c. takeSteps steps) nothing nothing _)
+
+  pub same-read : (steps : Given) (picks state : List ℕ) → picksFromSteps L question site steps picks state ≡ picksFromSteps M question site steps picks state
+  unfolding picksFromSteps readyToRun
+  same-read steps picks state = ap (λ (r : Result (Ready (List ℕ))). picksReadFrom r picks state) (asked-wider L M w question site p is-problem (λ c. takeSteps steps) nothing nothing _)
+
+  pub same-build : (picks : Given) (state steps : List ℕ) → buildSteps L question site picks state steps ≡ buildSteps M question site picks state steps
+  unfolding buildSteps plan
+  same-build picks state steps = ap
+      (λ (r : Result (Ready (List Tuple))). builtFrom (r >>= λ x. satisfying (x .case) (x .problem) picks (x .third) >>= λ F. accepted (record { problem = x .problem; picks = F; steps = builtSteps (x .problem) F })) state steps)
+      (asked-wider L M w question site p is-problem (λ c. textPicks c picks) nothing nothing _)
+
+  pub same-judgement : (picks : Given) → judge L question site picks ≡ judge M question site picks
+  unfolding judge
+  same-judgement picks = ap (λ (r : Result (Ready (List Tuple))). r >>= λ x. satisfying (x .case) (x .problem) picks (x .third) >>= λ _. accepted zero) (asked-wider L M w question site p is-problem (λ c. textPicks c picks) nothing nothing _)
+
+  pub same-tries : (steps : List ℕ) (tries : List Try) (state : List ℕ) → tryLists L question site steps tries state ≡ tryLists M question site steps tries state
+  unfolding tryLists readyToTry
+  same-tries steps tries state = ap (λ (r : Result (Ready (Unit {0}))). triedFrom r steps tries state) (asked-wider L M w question site p is-problem nothing nothing nothing _)
+
+  pub same-allowances : (old : List ℕ) → allowances L question site old ≡ allowances M question site old
+  unfolding allowances
+  same-allowances old = ap (λ (r : Result (Ready (Unit {0}))). allowedFrom r old) (asked-wider L M w question site p is-problem nothing nothing nothing _)

@@ -1,3 +1,0 @@
--- Relations by number.
-pub mod Numbered
-pub mod NumberedLaws

@@ -1,6 +1,0 @@
--- What is written into the table of a grounded problem.
-pub mod Filled
-pub mod SpliceLaws
-pub mod PartLaws
-pub mod FilledLaws
-pub mod TurnLaws
