@@ -4,7 +4,7 @@ use mathlib.Core.Path.{_≡_, refl, sym, ap, ap₂, subst, _∙_}
 use mathlib.Core.Bool.{true, false}
 use mathlib.Core.List.{List, [], _∷_, _++_}
 use native.Mathlib.Omega.{arith}
-use lib.ListN.{length, take, drop, replicate, length-append, drop-of-length-le}
+use lib.ListN.{length, take, drop, length-append, drop-of-length-le}
 use lib.Seq.{length-take-le, take-append-seam}
 use borrow.Author.Tests.{lt-ltb, le-ltb}
 use Rattle.definitions.specs.Limits.{CaseLimits, stepLimit}
@@ -104,16 +104,26 @@ module _ (L : CaseLimits) (question site old : List ℕ) (many : ℕ) (r : Front
           })
 
 -- ---- one list
-module _ (w state copied : List ℕ) (words : ℕ) (ready : Ready w state words) (c : copied ≡ written (take words state) (replicate 1024 0)) where
+module _ (w state old copied : List ℕ) (words : ℕ) (ready : Ready w state words) (c : copied ≡ written (take words state) old) where
   -- the copy begins with the state's words
   same : take words copied ≡ take words state
   unfolding written
   same =
       let lt : length (take words state) ≡ words = length-take-le words state (ready .there) in
-      ap (take words) c ∙ ap (λ (j : ℕ). take j (take words state ++ drop (length (take words state)) (replicate 1024 0))) (sym lt) ∙ take-append-seam (take words state) (drop (length (take words state)) (replicate 1024 0))
+      ap (take words) c ∙ ap (λ (j : ℕ). take j (take words state ++ drop (length (take words state)) old)) (sym lt) ∙ take-append-seam (take words state) (drop (length (take words state)) old)
 
   pub list-there : words ≡ length (take words copied)
   list-there = sym (ap (λ (r : List ℕ). length r) same ∙ length-take-le words state (ready .there))
+
+  -- so a run in it is a run from the initial state
+  pub copy-ran : (p : Problem) → Serves p w state words → (steps : List ℕ) (e : End)
+      → ((p : Problem) → Is p w → atoms p ≤ 64 * length (take words copied) → (ended e ≡ runFrom p (bit (take words copied)) 0 steps .answer) × Unit {0})
+      → verdictOf (ended e) ≡ verdictOf (run p steps .answer)
+  unfolding run
+  copy-ran p serves steps e ran =
+      let r = ran p (serves .is) (subst (λ (j : ℕ). atoms p ≤ 64 * j) list-there (serves .room)) .0 in
+      let b : bit (take words copied) ≡ initial p = ap bit same ∙ serves .begins in
+      ap verdictOf (r ∙ ap (λ (s : State). runFrom p s 0 steps .answer) b)
 
 module _ (p : Problem) (steps : List ℕ) (first count : ℕ) where
   pub list-long : stepLimit < count → record { number = 1; place = 0 } ≡ verdictOf (tryList p steps first count)
@@ -128,14 +138,10 @@ module _ (p : Problem) (steps : List ℕ) (first count : ℕ) where
         let e : from + many ≡ first + count = ap₂ (λ (a b : ℕ). a + b) ef em in
         rw (le-ltb stepLimit count l, lt-ltb (length steps) (first + count) (subst (λ (k : ℕ). length steps < k) e o)) (ap (λ (k : ℕ). record { number = 12; place = k }) e)
 
-    pub list-ran : from + many ≤ length steps → (w state copied : List ℕ) (words : ℕ) → (ready : Ready w state words) → copied ≡ written (take words state) (replicate 1024 0) → Serves p w state words
-        → (e : End) → ((p : Problem) → Is p w → atoms p ≤ 64 * length (take words copied) → (ended e ≡ runFrom p (bit (take words copied)) 0 (take (from + many - from) (drop from steps)) .answer) × Unit {0})
-        → verdictOf (ended e) ≡ verdictOf (tryList p steps first count)
-    unfolding tryList refuseIf roomFor run _>>=_
-    list-ran i w state copied words ready c serves e ran =
+    pub list-ran : from + many ≤ length steps → verdictOf (run p (take (from + many - from) (drop from steps)) .answer) ≡ verdictOf (tryList p steps first count)
+    unfolding tryList refuseIf roomFor _>>=_
+    list-ran i =
         let s : from + many ≡ first + count = ap₂ (λ (a b : ℕ). a + b) ef em in
         let m : from + many - from ≡ count = omega (arith, em) in
-        let r = ran p (serves .is) (subst (λ (j : ℕ). atoms p ≤ 64 * j) (list-there w state copied words ready c) (serves .room)) .0 in
-        let b : bit (take words copied) ≡ initial p = ap bit (same w state copied words ready c) ∙ serves .begins in
         rw (le-ltb stepLimit count l, le-ltb (length steps) (first + count) (subst (λ (k : ℕ). k ≤ length steps) s i))
-        (ap verdictOf (r ∙ ap₂ (λ (s : State) (j : ℕ). runFrom p s 0 (take j (drop from steps)) .answer) b m ∙ ap (λ (j : ℕ). runFrom p (initial p) 0 (take count (drop j steps)) .answer) ef))
+        (ap (λ (j : ℕ). verdictOf (run p (take j (drop from steps)) .answer)) m ∙ ap (λ (j : ℕ). verdictOf (run p (take count (drop j steps)) .answer)) ef)

@@ -6,6 +6,7 @@ ghost use Prim.Native.Nat.{_<_, _≤_};
 ghost use lib.ListN.{length as «length-of»};
 ghost use Rattle.definitions.specs.Limits.{usual};
 ghost use Rattle.definitions.specs.Atoms.{Problem};
+ghost use Rattle.definitions.specs.Strips.{run};
 ghost use Rattle.bits.specs.Table.{bit};
 ghost use Rattle.sheets.specs.Reading.{FactsRoom};
 ghost use Rattle.rows.specs.Values.{Most};
@@ -147,6 +148,27 @@ pub fn begin(
     begin_in(question, site, many, &mut facts, table, state)
 }
 
+// The words of a state at the most. Most problems need few, and no more is cleared for them.
+const WORDS: usize = 1024;
+
+const FEW: usize = 16;
+
+// Steps are run in a copy of the state, which is made in the lent words.
+fn run_copy(
+    copied: &mut [u64],
+    table: &[usize],
+    state: &[u64],
+    words: usize,
+    steps: &[u32],
+) -> Verdict
+    requires { ⌜ Ready (now table) (now state) words × (words ≤ «length-of» (now copied)) ⌝ }
+    ensures { λ r. ⌜ ((p : Problem) → Serves p (now (table .entry)) (now (state .entry)) words → r ≡ verdictOf (run p (now (steps .entry)) .answer)) ⌝ }
+{
+    ground::copy(copied, state, words);
+    let e = runs::run(&mut copied[..words], table, steps);
+    verdict_of(e)
+}
+
 // One list: 1 for one that is too long, 12 for one that is not all there; else its steps are run, in a copy of the initial state.
 pub fn try_list(
     table: &[usize],
@@ -174,10 +196,12 @@ pub fn try_list(
             place: end as u64,
         };
     }
-    let mut copied = [0u64; 1024];
-    ground::copy(&mut copied, state, words);
-    let e = runs::run(&mut copied[..words], table, &steps[from..end]);
-    verdict_of(e)
+    if words <= FEW {
+        let mut few = [0u64; FEW];
+        return run_copy(&mut few, table, state, words, &steps[from..end]);
+    }
+    let mut copied = [0u64; WORDS];
+    run_copy(&mut copied, table, state, words, &steps[from..end])
 }
 
 // The walk over the lent records: each of the first `many` is answered, and the others stay.

@@ -1,7 +1,7 @@
 -- `tries::try_list` meets its contract: each way out is a law of `Laws`. Assumes nothing.
 use mathlib.Core.Path.{_∙_}
 use native.Mathlib.Omega.{arith}
-use Rattle.tries.specs.Laws.{list-long, list-outside, list-there, list-ran}
+use Rattle.tries.specs.Laws.{list-long, list-outside, list-ran}
 use borrow.Author.Needs.{needs}
 use Rattle.tries.proofs.try_list.Statement.{statement}
 use Rattle.tries.proofs.try_list.Tie as tie
@@ -12,16 +12,23 @@ returns c = λ p s. list-long p _ _ _ (omega arith)
 returns-2 : tie.Need-returns-2
 returns-2 c = λ p s. list-outside p _ _ _ (omega arith) _ _ (c .before .before .wide .ensures) (c .before .wide2 .ensures) (omega arith)
 
-slice-aggregate-run : tie.Need-slice-aggregate-run
-slice-aggregate-run c = list-there _ _ (c .before .before .copy .last .0) _ (c .before .before .before .before .before .before .before .before .before .before .before .pre) (c .before .before .copy .ensures .0)
+run-copy-requires : tie.Need-run-copy-requires
+run-copy-requires c κs = (c .before .before .before .before .before .before .before .before .before .before .pre, omega arith)
 
 returns-3 : tie.Need-returns-3
 returns-3 c =
-    let start = c .before .before .before .before .before .before .before .before .before .before .before .before .before .before .before in
-    let first = c .before .before .before .before .before .before .before .before .before .before .wide in
-    let second = c .before .before .before .before .before .before .before .before .before .wide2 in
-    let copied = c .before .before .before .before .before .before .copy in
-    λ p serves. c .verdict-of .ensures ∙ list-ran p _ _ _ (omega arith) _ _ (first .ensures) (second .ensures) (omega arith) _ _ (copied .last .0) _ (start .pre) (copied .ensures .0) serves _ (λ x i r. (c .before .before .run .ensures x i r .0, tt))
+    let second = c .before .before .before .before .before .before in
+    λ p serves. c .before .run-copy .ensures p serves ∙ list-ran p _ _ _ (omega arith) _ _ (second .before .wide .ensures) (second .wide2 .ensures) (omega arith)
+
+run-copy-requires-2 : tie.Need-run-copy-requires-2
+run-copy-requires-2 c κs =
+    let ready = c .before .before .before .before .before .before .before .before .before .before .pre in
+    (ready, omega (arith, ready .few))
+
+returns-4 : tie.Need-returns-4
+returns-4 c =
+    let second = c .before .before .before .before .before .before in
+    λ p serves. c .before .run-copy2 .ensures p serves ∙ list-ran p _ _ _ (omega arith) _ _ (second .before .wide .ensures) (second .wide2 .ensures) (omega arith)
 
 pub try-list-spec : {M : Type 1} → statement M
 try-list-spec =
@@ -33,13 +40,16 @@ try-list-spec =
     (λ c. search needs)
     returns-2
     (λ c. search needs)
-    (λ c κs. search needs)
-    (λ c. search needs)
-    slice-aggregate-run
     (λ c. search needs)
     (λ c. search needs)
     (λ c. search needs)
     (λ c. search needs)
-    (λ c κs. search needs)
-    (λ c κs. search needs)
-    returns-3)
+    run-copy-requires
+    returns-3
+    (λ c. search needs)
+    (λ c. search needs)
+    (λ c. search needs)
+    (λ c. search needs)
+    (λ c. search needs)
+    run-copy-requires-2
+    returns-4)
