@@ -31,7 +31,7 @@ use Rattle.definitions.specs.Limits.{CaseLimits, usual, stepLimit, textLimit}
 use Rattle.definitions.specs.Lists.{if_then_else_, flatMap, below, isIn}
 use Rattle.definitions.specs.Text.{number, decimal}
 use Rattle.definitions.specs.Desk.{stepLine, pickLine, sheets, answer}
-use Rattle.definitions.specs.Refusal.{Result, refused, accepted, _>>=_, refuseIf, caseNumbers, readyNumbers, runNumbers, picksNumbers}
+use Rattle.definitions.specs.Refusal.{Result, refused, accepted, _>>=_, refuseIf, caseNumbers, readyNumbers, runNumbers, picksNumbers, given}
 use Rattle.definitions.specs.Relations.{Tuple, isAmong}
 use Rattle.definitions.specs.Sheets.{Question, readQuestion, readPicks, firstChosen, readSteps}
 use Rattle.definitions.specs.Truth.{Case, arePicks, areOfKinds, firstOfOtherKind, ruleIsTrue}
@@ -39,12 +39,12 @@ use Rattle.definitions.specs.Atoms.{Problem, problemOf, Atom, itemAt, atomBlock
 use Rattle.definitions.specs.Actions.{Action, set, actionAt, actions, actionNumber, needs, adds, removes}
 use Rattle.definitions.specs.Strips.{reachesGoal, run, picksOf}
 use Rattle.definitions.specs.Built.{chosenNumbers, builtSteps, builtCount, bound, boundExponents, boundPolynomial, pickedRows}
-use Rattle.definitions.specs.Outcome.{replyNumber, replyPlace, sizes, action, readCase, ground, readProblem, asked, nothing, roomFor, stateLength, written, picksLength, pickWords, bitOf, lentPicks, spareWord, Given, asText, asNumbers, takeSteps, textPicks, picksRoom, takePicks, readyToRun, Checked, checkedFrom, checkSteps, picksIfAccepted, picksReadFrom, picksFromSteps, kindRefusal, Plan, plan, Built, builtFrom, buildSteps, Ready, PicksRead, sizesOf}
+use Rattle.definitions.specs.Outcome.{replyNumber, replyPlace, sizes, action, readCase, ground, readProblem, asked, nothing, roomFor, stateLength, written, picksLength, pickWords, bitOf, lentPicks, spareWord, Given, asText, asNumbers, takeSteps, textPicks, picksRoom, takePicks, readyToRun, Checked, checkedFrom, checkSteps, picksIfAccepted, picksReadFrom, picksFromSteps, kindRefusal, Plan, plan, Built, builtFrom, buildSteps, Ready, PicksRead, sizesOf, satisfying}
 use Rattle.definitions.specs.Tree.{Part, nodes, treeOf}
 use Rattle.definitions.specs.Tally.{walked, tally}
 use Rattle.definitions.specs.Allowance.{allowance, allowancesOf, allowedFrom, allowances}
 use Rattle.definitions.specs.Demand.{isAccepted, caseIsAccepted, stepsAreAccepted, areSamePicks}
-use Rattle.definitions.specs.Tries.{Try, tried, tryLists}
+use Rattle.definitions.specs.Tries.{Try, tried, tryLists, readyToTry, triedFrom}
 use Rattle.definitions.specs.Judgement.{judge, forget}
 use Rattle.laws.specs.Numbers
 use Rattle.laws.specs.Words
@@ -534,25 +534,35 @@ module _ (L M : CaseLimits) (larger : Wider.Wider L M) (question site : List ℕ
   kept-problem = Wider.problem-wider L M larger question site p is-problem
 
   pub kept-sizes : sizes L question site ≡ sizes M question site
-  kept-sizes = Wider.same-sizes L M larger question site p is-problem
+  unfolding sizes
+  kept-sizes = ap (λ (r : Result (Ready (Unit {0}))). r >>= λ x. accepted (sizesOf (x .problem))) (Wider.asked-wider L M larger question site p is-problem nothing nothing nothing nothing)
 
   pub kept-action : (k : ℕ) → action L question site k ≡ action M question site k
-  kept-action k = Wider.same-action L M larger question site p is-problem k
+  unfolding action
+  kept-action k = ap (λ (r : Result (Ready (Unit {0}))). r >>= λ x. given (actionAt (x .problem) k) 13 k) (Wider.asked-wider L M larger question site p is-problem nothing nothing nothing nothing)
 
   pub kept-check : (steps : Given) (state : List ℕ) → checkSteps L question site steps state ≡ checkSteps M question site steps state
-  kept-check steps state = Wider.same-check L M larger question site p is-problem steps state
+  unfolding checkSteps readyToRun
+  kept-check steps state = ap (λ (r : Result (Ready (List ℕ))). checkedFrom r state) (Wider.asked-wider L M larger question site p is-problem (λ c. takeSteps steps) nothing nothing _)
 
   pub kept-read : (steps : Given) (picks state : List ℕ) → picksFromSteps L question site steps picks state ≡ picksFromSteps M question site steps picks state
-  kept-read steps picks state = Wider.same-read L M larger question site p is-problem steps picks state
+  unfolding picksFromSteps readyToRun
+  kept-read steps picks state = ap (λ (r : Result (Ready (List ℕ))). picksReadFrom r picks state) (Wider.asked-wider L M larger question site p is-problem (λ c. takeSteps steps) nothing nothing _)
 
   pub kept-build : (picks : Given) (state steps : List ℕ) → buildSteps L question site picks state steps ≡ buildSteps M question site picks state steps
-  kept-build picks state steps = Wider.same-build L M larger question site p is-problem picks state steps
+  unfolding buildSteps plan
+  kept-build picks state steps = ap
+      (λ (r : Result (Ready (List Tuple))). builtFrom (r >>= λ x. satisfying (x .case) (x .problem) picks (x .third) >>= λ F. accepted (record { problem = x .problem; picks = F; steps = builtSteps (x .problem) F })) state steps)
+      (Wider.asked-wider L M larger question site p is-problem (λ c. textPicks c picks) nothing nothing _)
 
   pub kept-judgement : (picks : Given) → judge L question site picks ≡ judge M question site picks
-  kept-judgement picks = Wider.same-judgement L M larger question site p is-problem picks
+  unfolding judge
+  kept-judgement picks = ap (λ (r : Result (Ready (List Tuple))). r >>= λ x. satisfying (x .case) (x .problem) picks (x .third) >>= λ _. accepted zero) (Wider.asked-wider L M larger question site p is-problem (λ c. textPicks c picks) nothing nothing _)
 
   pub kept-tries : (steps : List ℕ) (tries : List Try) (state : List ℕ) → tryLists L question site steps tries state ≡ tryLists M question site steps tries state
-  kept-tries steps tries state = Wider.same-tries L M larger question site p is-problem steps tries state
+  unfolding tryLists readyToTry
+  kept-tries steps tries state = ap (λ (r : Result (Ready (Unit {0}))). triedFrom r steps tries state) (Wider.asked-wider L M larger question site p is-problem nothing nothing nothing _)
 
   pub kept-allowances : (old : List ℕ) → allowances L question site old ≡ allowances M question site old
-  kept-allowances old = Wider.same-allowances L M larger question site p is-problem old
+  unfolding allowances
+  kept-allowances old = ap (λ (r : Result (Ready (Unit {0}))). allowedFrom r old) (Wider.asked-wider L M larger question site p is-problem nothing nothing nothing _)

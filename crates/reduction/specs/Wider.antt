@@ -1,7 +1,7 @@
 -- Larger limits: what is accepted under smaller ones is accepted under them as the same case and the same problem, so that every call
 -- answers the same.
 use Prim.Native.Nat.{ℕ, zero, _≤_}
-use mathlib.Core.Path.{_≡_, refl, ap, _∙_}
+use mathlib.Core.Path.{_≡_, refl, _∙_}
 use mathlib.Core.Bool.{true, not, _||_}
 use mathlib.Core.Option.{Option, none, some}
 use mathlib.Core.List.{List, [], _∷_}
@@ -11,19 +11,13 @@ use lib.ListN.{length}
 use borrow.Author.Tests.{le-leb, leb-true, le-ltb, ltb-false, not-false}
 use Rattle.definitions.specs.Limits.{CaseLimits, textLimit}
 use Rattle.definitions.specs.Text.{Line, lines, isBetween}
-use Rattle.definitions.specs.Refusal.{Result, accepted, _>>=_, refuseIf, given, readLines, readText}
+use Rattle.definitions.specs.Refusal.{Result, accepted, _>>=_, refuseIf, readLines, readText}
 use Rattle.definitions.specs.Relations.{Relation}
 use Rattle.definitions.specs.Sheets.{Entry, rel, choose, rule, size, fact, pick, step, entryOf, SiteDraft, Site, addSize, addToSite, siteLine, readSite, readQuestion}
 use Rattle.definitions.specs.Truth.{Case}
 use Rattle.definitions.specs.Atoms.{Problem, problemOf, atoms}
 use Rattle.definitions.specs.Actions.{actions}
-use Rattle.definitions.specs.Relations.{Tuple}
-use Rattle.definitions.specs.Actions.{actionAt}
-use Rattle.definitions.specs.Built.{builtSteps}
-use Rattle.definitions.specs.Outcome.{readCase, ground, readProblem, Ready, asked, nothing, sizes, sizesOf, action, Given, takeSteps, textPicks, satisfying, readyToRun, checkedFrom, checkSteps, picksReadFrom, picksFromSteps, plan, builtFrom, buildSteps}
-use Rattle.definitions.specs.Judgement.{judge}
-use Rattle.definitions.specs.Tries.{Try, readyToTry, triedFrom, tryLists}
-use Rattle.definitions.specs.Allowance.{allowedFrom, allowances}
+use Rattle.definitions.specs.Outcome.{readCase, ground, readProblem, asked}
 use Rattle.definitions.specs.Writing.{and-l, and-r}
 use Rattle.laws.specs.Booleans.{or-both}
 use Rattle.laws.specs.Results.{refused-accepted, bind-parts, not-refused}
@@ -107,39 +101,3 @@ module _ (L M : CaseLimits) (w : Wider L M) where
   asked-wider question site p q third early late rooms =
       let (c, a, g) = Asked.problem-parts L question site p q in
       rw (a, g, case-wider question site c a, ground-wider c p g) refl
-
--- ---- the calls
-module _ (L M : CaseLimits) (w : Wider L M) (question site : List ℕ) (p : Problem) (is-problem : readProblem L question site ≡ accepted p) where
-  pub same-sizes : sizes L question site ≡ sizes M question site
-  unfolding sizes
-  same-sizes = ap (λ (r : Result (Ready (Unit {0}))). r >>= λ x. accepted (sizesOf (x .problem))) (asked-wider L M w question site p is-problem nothing nothing nothing nothing)
-
-  pub same-action : (k : ℕ) → action L question site k ≡ action M question site k
-  unfolding action
-  same-action k = ap (λ (r : Result (Ready (Unit {0}))). r >>= λ x. given (actionAt (x .problem) k) 13 k) (asked-wider L M w question site p is-problem nothing nothing nothing nothing)
-
-  pub same-check : (steps : Given) (state : List ℕ) → checkSteps L question site steps state ≡ checkSteps M question site steps state
-  unfolding checkSteps readyToRun
-  same-check steps state = ap (λ (r : Result (Ready (List ℕ))). checkedFrom r state) (asked-wider L M w question site p is-problem (λ c. takeSteps steps) nothing nothing _)
-
-  pub same-read : (steps : Given) (picks state : List ℕ) → picksFromSteps L question site steps picks state ≡ picksFromSteps M question site steps picks state
-  unfolding picksFromSteps readyToRun
-  same-read steps picks state = ap (λ (r : Result (Ready (List ℕ))). picksReadFrom r picks state) (asked-wider L M w question site p is-problem (λ c. takeSteps steps) nothing nothing _)
-
-  pub same-build : (picks : Given) (state steps : List ℕ) → buildSteps L question site picks state steps ≡ buildSteps M question site picks state steps
-  unfolding buildSteps plan
-  same-build picks state steps = ap
-      (λ (r : Result (Ready (List Tuple))). builtFrom (r >>= λ x. satisfying (x .case) (x .problem) picks (x .third) >>= λ F. accepted (record { problem = x .problem; picks = F; steps = builtSteps (x .problem) F })) state steps)
-      (asked-wider L M w question site p is-problem (λ c. textPicks c picks) nothing nothing _)
-
-  pub same-judgement : (picks : Given) → judge L question site picks ≡ judge M question site picks
-  unfolding judge
-  same-judgement picks = ap (λ (r : Result (Ready (List Tuple))). r >>= λ x. satisfying (x .case) (x .problem) picks (x .third) >>= λ _. accepted zero) (asked-wider L M w question site p is-problem (λ c. textPicks c picks) nothing nothing _)
-
-  pub same-tries : (steps : List ℕ) (tries : List Try) (state : List ℕ) → tryLists L question site steps tries state ≡ tryLists M question site steps tries state
-  unfolding tryLists readyToTry
-  same-tries steps tries state = ap (λ (r : Result (Ready (Unit {0}))). triedFrom r steps tries state) (asked-wider L M w question site p is-problem nothing nothing nothing _)
-
-  pub same-allowances : (old : List ℕ) → allowances L question site old ≡ allowances M question site old
-  unfolding allowances
-  same-allowances old = ap (λ (r : Result (Ready (Unit {0}))). allowedFrom r old) (asked-wider L M w question site p is-problem nothing nothing nothing _)

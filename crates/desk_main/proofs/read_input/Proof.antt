@@ -16,9 +16,6 @@ abbrev μ-loop : tie.MeasureT-loop
 loop-holds : tie.Need-loop-holds Inv-loop μ-loop
 loop-holds c = (refl, omega arith)
 
-read-more-requires : tie.Need-read-more-requires Inv-loop μ-loop
-read-more-requires c κs = omega arith
-
 same-length : tie.Need-same-length Inv-loop μ-loop
 same-length c = c .before .before .before .read-more .kept .0 ∙ c .before .before .before .before .before .before .loop .inv .0
 
@@ -50,7 +47,7 @@ read-input-spec =
     Inv-loop
     μ-loop
     loop-holds
-    read-more-requires
+    (λ c κs. omega arith)
     same-length
     returns
     same-length-2
