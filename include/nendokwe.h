@@ -7,7 +7,10 @@
  * Every call answers whatever is handed over. It writes a refusal's number to *number and its place to *place, or 0 and the count named
  * at the call. docs/GUIDE.md says what the numbers mean. A buffer that is too short is 12, and the place is the length that is needed; a
  * refused call leaves every buffer as it was, except that 13, 14 and 15 leave the state before the step that failed (15: the last one).
- * Words and entries past what is written stay as they were. A call needs at most 512 KiB of stack, nendokwe_desk the same.
+ * Words and entries past what is written stay as they were. With 1.5 MiB of stack every call answers.
+ *
+ * A text has at most 1,048,576 bytes, a list 1,048,576 steps, a case 64 elements, 1,048,576 atoms and 4,194,304 actions. The desk program
+ * keeps to 16,384 bytes, 16 elements, 65,536 atoms, 131,072 actions and 8,192 built steps.
  */
 #ifndef NENDOKWE_H
 #define NENDOKWE_H

@@ -9,6 +9,7 @@ import pathlib
 import struct
 import sys
 
+LANDED = {"-", "big"}  # what the answers of a block may rest on
 if len(sys.argv) != 2:
     sys.exit(__doc__)
 lines = iter(pathlib.Path(sys.argv[1]).read_text().split("\n"))
@@ -22,7 +23,7 @@ for line in lines:
         texts[word] = "".join(text + "\n" for text in iter(lambda: next(lines), "."))
     elif word == "lent":
         lent = [int(n) for n in line.split()[1:]]
-    elif word in ("judge_text", "judge") and needs == "-":
+    elif word in ("judge_text", "judge") and LANDED.issuperset(needs.split()):
         question, site = texts["question"].encode(), texts["site"].encode()
         picks = texts["text"].encode() if word == "judge_text" else b"".join(struct.pack("<Q", n) for n in lent)
         cases += struct.pack("<4I", len(question), len(site), len(picks), int(word == "judge")) + question + site + picks

@@ -9,6 +9,7 @@ import pathlib
 import struct
 import sys
 
+LANDED = {"-", "big"}  # what the answers of a block may rest on
 if len(sys.argv) < 2:
     sys.exit(__doc__)
 CALLS = {"tally": 0, "sizes": 1, "allowances": 2}
@@ -22,11 +23,11 @@ for script in sys.argv[1:]:
             needs = line[8:]
         elif word in texts:
             texts[word] = "".join(text + "\n" for text in iter(lambda: next(lines), "."))
-        elif word in CALLS and needs == "-":
+        elif word in CALLS and LANDED.issuperset(needs.split()):
             question, site = texts["question"].encode(), texts["site"].encode()
             head = struct.pack("<4I", len(question), len(site), CALLS[word], int(rest[0]) if rest else 0)
             cases += head + question + site
             answers += next(lines) + "\n"
-assert len(cases) < 65536
+assert len(cases) <= 262144
 (here / "stdin").write_bytes(cases)
 (here / "stdout").write_text(answers)

@@ -9,6 +9,7 @@ import pathlib
 import struct
 import sys
 
+LANDED = {"-", "big"}  # what the answers of a block may rest on
 if len(sys.argv) != 2:
     sys.exit(__doc__)
 lines = iter(pathlib.Path(sys.argv[1]).read_text().split("\n"))
@@ -22,7 +23,7 @@ for line in lines:
         texts[word] = "".join(text + "\n" for text in iter(lambda: next(lines), "."))
     elif word in numbers:
         numbers[word] = [int(n) for n in line.split()[1:]]
-    elif word == "tries" and needs == "-":
+    elif word == "tries" and LANDED.issuperset(needs.split()):
         question, site = texts["question"].encode(), texts["site"].encode()
         head = [len(question), len(site), len(numbers["lent"]), len(numbers["lists"]) // 2, int(line.split()[1])]
         written = struct.pack("<5I", *head) + question + site

@@ -3,12 +3,11 @@
 //! that a plan that goes wrong leaves the state it had reached.
 
 use crate::ground::{Action, Problem};
+use crate::limits::{self, Limits, USUAL};
 use crate::plans::{build as build_plan, follow, read_picks};
 use crate::sheets::{self, pick_words, Question, Structure, Tables};
 use crate::text::{cause, Refusal, Reply};
 use crate::tree::Shape;
-
-pub(crate) const STEP_LIMIT: usize = 65_536;
 
 #[derive(Clone, Copy, Debug, PartialEq, Eq)]
 pub struct Sizes {
@@ -22,15 +21,16 @@ pub struct Sizes {
 pub(crate) fn case<'t>(
     question: &'t [u8],
     site: &[u8],
+    limits: &Limits,
 ) -> Result<(Question<'t>, Structure), Refusal> {
     let question = sheets::question(question)?;
-    let structure = sheets::site(site, &question.signature)?;
+    let structure = sheets::site(site, &question.signature, limits)?;
     Ok((question, structure))
 }
 
 pub fn sizes(question: &[u8], site: &[u8]) -> Result<Sizes, Refusal> {
-    let (question, structure) = case(question, site)?;
-    let problem = Problem::new(&question, &structure)?;
+    let (question, structure) = case(question, site, &USUAL)?;
+    let problem = Problem::new(&question, &structure, &USUAL)?;
     Ok(Sizes {
         n: u64::from(problem.n),
         atoms: u64::from(problem.atoms),
@@ -49,8 +49,8 @@ pub fn rule_part(question: &[u8]) -> (&[u8], Option<Refusal>) {
 
 /// What the action of this number does.
 pub fn action(question: &[u8], site: &[u8], number: u64) -> Result<Action, Refusal> {
-    let (question, structure) = case(question, site)?;
-    let problem = Problem::new(&question, &structure)?;
+    let (question, structure) = case(question, site, &USUAL)?;
+    let problem = Problem::new(&question, &structure, &USUAL)?;
     let small = u32::try_from(number).ok();
     let none = Refusal { number: cause::NO_ACTION, place: number };
     small.and_then(|number| problem.action(number)).ok_or(none)
@@ -61,8 +61,8 @@ pub fn action(question: &[u8], site: &[u8], number: u64) -> Result<Action, Refus
 /// part, element or z.
 pub fn action_details(question: &[u8], site: &[u8], number: u64) -> Result<[u64; 4], Refusal> {
     let found = action(question, site, number)?;
-    let (question, structure) = case(question, site)?;
-    let problem = Problem::new(&question, &structure)?;
+    let (question, structure) = case(question, site, &USUAL)?;
+    let problem = Problem::new(&question, &structure, &USUAL)?;
     let details = match found {
         Action::Set(set) => {
             let relation = question.signature.chosen().start as u32 + set.choose;
@@ -89,12 +89,12 @@ pub fn action_number(
     site: &[u8],
     action: &Action,
 ) -> Result<Option<u32>, Refusal> {
-    let (question, structure) = case(question, site)?;
-    Ok(Problem::new(&question, &structure)?.number(action))
+    let (question, structure) = case(question, site, &USUAL)?;
+    Ok(Problem::new(&question, &structure, &USUAL)?.number(action))
 }
 
 fn lent_steps(steps: &[u32]) -> Result<&[u32], Refusal> {
-    if steps.len() > STEP_LIMIT {
+    if steps.len() > limits::STEPS {
         return Err(Refusal::new(cause::TOO_LONG, 0));
     }
     Ok(steps)
@@ -123,9 +123,9 @@ fn check_with<S: AsRef<[u32]>>(
     steps: impl FnOnce() -> Result<S, Refusal>,
     state: &mut [u64],
 ) -> Result<usize, Refusal> {
-    let (question, structure) = case(question, site)?;
+    let (question, structure) = case(question, site, &USUAL)?;
     let steps = steps()?;
-    let problem = Problem::new(&question, &structure)?;
+    let problem = Problem::new(&question, &structure, &USUAL)?;
     room(state.len(), problem.words())?;
     follow(&problem, steps.as_ref(), state)
 }
@@ -159,9 +159,9 @@ fn picks_with<S: AsRef<[u32]>>(
     picks: &mut [u64],
     state: &mut [u64],
 ) -> Result<usize, Refusal> {
-    let (question, structure) = case(question, site)?;
+    let (question, structure) = case(question, site, &USUAL)?;
     let steps = steps()?;
-    let problem = Problem::new(&question, &structure)?;
+    let problem = Problem::new(&question, &structure, &USUAL)?;
     room(picks.len(), pick_words(&question.signature, structure.n))?;
     room(state.len(), problem.words())?;
     let count = follow(&problem, steps.as_ref(), state)?;
@@ -198,9 +198,9 @@ fn build_sheet(
     state: &mut [u64],
     steps: &mut [u32],
 ) -> Result<usize, Refusal> {
-    let (question, structure) = case(question, site)?;
+    let (question, structure) = case(question, site, &USUAL)?;
     let picks = sheets::picks(picks, &question.signature, structure.n)?;
-    let problem = Problem::new(&question, &structure)?;
+    let problem = Problem::new(&question, &structure, &USUAL)?;
     room(state.len(), problem.words())?;
     room(steps.len(), problem.bound as usize)?;
     write_plan(&problem, &picks, state, steps)
@@ -214,8 +214,8 @@ fn build_lent(
     state: &mut [u64],
     steps: &mut [u32],
 ) -> Result<usize, Refusal> {
-    let (question, structure) = case(question, site)?;
-    let problem = Problem::new(&question, &structure)?;
+    let (question, structure) = case(question, site, &USUAL)?;
+    let problem = Problem::new(&question, &structure, &USUAL)?;
     room(picks.len(), pick_words(&question.signature, structure.n))?;
     room(state.len(), problem.words())?;
     room(steps.len(), problem.bound as usize)?;

@@ -2,6 +2,7 @@
 
 use crate::cases::{case, room};
 use crate::ground::Problem;
+use crate::limits::EARLY;
 use crate::plans::{build, follow, read_picks, rows};
 use crate::sheets::{self, Relation, Tables};
 use crate::text::{cause, lines, Refusal};
@@ -56,9 +57,9 @@ fn split(input: &[u8]) -> Sheets<'_> {
 }
 
 fn checked(sheets: &Sheets) -> Result<Vec<u8>, Refusal> {
-    let (question, structure) = case(sheets.question, sheets.site)?;
+    let (question, structure) = case(sheets.question, sheets.site, &EARLY)?;
     let steps = sheets::steps(sheets.record)?;
-    let problem = Problem::new(&question, &structure)?;
+    let problem = Problem::new(&question, &structure, &EARLY)?;
     let mut state = vec![0; problem.words()];
     follow(&problem, &steps, &mut state)?;
     let mut picks = Tables::new(question.signature.chosen_relations(), structure.n);
@@ -67,9 +68,9 @@ fn checked(sheets: &Sheets) -> Result<Vec<u8>, Refusal> {
 }
 
 fn built(sheets: &Sheets) -> Result<Vec<u8>, Refusal> {
-    let (question, structure) = case(sheets.question, sheets.site)?;
+    let (question, structure) = case(sheets.question, sheets.site, &EARLY)?;
     let picks = sheets::picks(sheets.record, &question.signature, structure.n)?;
-    let problem = Problem::new(&question, &structure)?;
+    let problem = Problem::new(&question, &structure, &EARLY)?;
     room(STEP_ROOM, problem.bound as usize)?;
     let plan = build(&problem, &picks)?;
     Ok(print(&problem, &picks, &plan.steps))

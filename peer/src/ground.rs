@@ -1,14 +1,12 @@
 //! The grounded STRIPS problem: every atom and every action has a number, and
 //! both are worked out from the layout instead of being listed.
 
+use crate::limits::Limits;
 use crate::records::Kind;
 use crate::sheets::{Question, Structure};
-use crate::text::{cause, Refusal};
+use crate::text::Refusal;
 use crate::tree::{Literal, Node, Part, Shape, Tree, Variables, NESTING_LIMIT};
 use std::ops::Range;
-
-pub(crate) const ATOM_LIMIT: u32 = 65_536;
-pub(crate) const ACTION_LIMIT: u32 = 131_072;
 
 pub const GUESS: u32 = 0;
 pub const PROOF: u32 = 1;
@@ -98,7 +96,7 @@ impl PartAtom {
 }
 
 /// Divides by multiplying. With 2^32 / by rounded up this is exact for every
-/// action number (below 2^17) and every divisor in use (at most 64).
+/// action number (below 2^22) and every divisor in use (at most 64).
 #[derive(Clone, Copy, Debug)]
 pub struct Divisor {
     by: u32,
@@ -152,7 +150,11 @@ pub struct Problem<'c> {
 
 impl<'c> Problem<'c> {
     /// Numbers the atoms and actions of a case, or refuses it as too large.
-    pub fn new(question: &'c Question, structure: &'c Structure) -> Result<Self, Refusal> {
+    pub fn new(
+        question: &'c Question,
+        structure: &'c Structure,
+        limits: &Limits,
+    ) -> Result<Self, Refusal> {
         let mut problem = Problem {
             question,
             structure,
@@ -168,9 +170,7 @@ impl<'c> Problem<'c> {
         };
         problem.lay_relations();
         problem.lay_nodes(&question.tree);
-        if problem.atoms > ATOM_LIMIT || problem.actions() > ACTION_LIMIT {
-            return Err(Refusal::new(cause::PROBLEM_SIZE, 0));
-        }
+        limits.admit(problem.atoms.into(), problem.actions().into())?;
         problem.lay_parts(&question.tree);
         Ok(problem)
     }

@@ -3,6 +3,7 @@
 //! the site's tuples or among the picks.
 
 use crate::cases::{case, room};
+use crate::limits::USUAL;
 use crate::measures::within_limits;
 use crate::plans::broken_kind;
 use crate::sheets::{self, pick_words, Question, Structure, Tables};
@@ -20,14 +21,14 @@ pub fn judge(question: &[u8], site: &[u8], picks: &[u64]) -> Reply {
 }
 
 fn judge_sheet(question: &[u8], site: &[u8], picks: &[u8]) -> Result<usize, Refusal> {
-    let (question, structure) = case(question, site)?;
+    let (question, structure) = case(question, site, &USUAL)?;
     let picks = sheets::picks(picks, &question.signature, structure.n)?;
     within_limits(&question, &structure)?;
     verdict(&question, &structure, &picks)
 }
 
 fn judge_lent(question: &[u8], site: &[u8], picks: &[u64]) -> Result<usize, Refusal> {
-    let (question, structure) = case(question, site)?;
+    let (question, structure) = case(question, site, &USUAL)?;
     within_limits(&question, &structure)?;
     room(picks.len(), pick_words(&question.signature, structure.n))?;
     let picks = sheets::lent_picks(picks, &question.signature, structure.n)?;

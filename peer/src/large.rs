@@ -1,6 +1,7 @@
-//! Large cases whose plans are built, and texts that are as long or as deep as they may be.
+//! Large cases whose plans are built, and sites full of facts.
 
-use crate::sample::{facts, needs, steps_text, Sample};
+use crate::limits::USUAL;
+use crate::sample::{needs, steps_text, Sample};
 use crate::sheets;
 use crate::text::Reply;
 use crate::trial::{Calls, Peer};
@@ -9,13 +10,13 @@ const PATH_RULE: &str = "(forall (?x) (implies (not (MAX ?x)) (exists (?u ?y ?z)
 (and (E ?y ?z) (F ?x ?y) (SUC ?x ?u) (F ?u ?z)))))";
 const DEEP_RULE: &str = "(forall (?a ?b ?c ?d) (or (D ?a ?b) (T ?c ?d)))";
 const LAST_RULE: &str = "(exists (?a ?b ?c ?d) (and (D ?a ?b) (T ?c ?d)))";
+const ZONES_RULE: &str = "(and (forall (?x ?g) (implies (F ?x ?g) (GROUP ?g))) (forall (?x ?y) \
+(implies (DOOR ?x ?y) (not (exists (?g) (and (F ?x ?g) (F ?y ?g)))))))";
+const ROUND_RULE: &str = "(forall (?x ?u) (implies (SUC ?x ?u) (forall (?y) (implies (F ?x ?y) \
+(exists (?z) (and (DOOR ?y ?z) (F ?u ?z)))))))";
 
-/// How many brackets may be open together.
-const OPEN: usize = 128;
-
-/// A directed Hamiltonian path through 15 vertices with half of all edges.
-pub fn path() -> Sample {
-    let n = 15;
+/// A directed Hamiltonian path through so many vertices, a number that 7 does not divide, with half of all edges.
+pub fn path(n: usize) -> Sample {
     let order: Vec<usize> = (0..n).map(|place| place * 7 % n).collect();
     let mut site = format!("size\t{n}\n");
     for (from, to) in (0..n * n).map(|row| (row / n, row % n)) {
@@ -28,10 +29,40 @@ pub fn path() -> Sample {
         picks += &format!("pick\tF\t{place}\t{vertex}\n");
     }
     let question = format!("rel\tE\t2\nchoose\tF\tInj\nrule\t{PATH_RULE}\n");
-    planned(question, site, picks)
+    filed(question, site, picks)
 }
 
-/// Four nested quantifiers over a disjunction that nearly always holds; with 13 elements nearly as large as a case may be.
+/// The doors of an airport of 64 zones, eight by eight: from each zone to all that touch it.
+fn doors() -> String {
+    let near = |one: usize, other: usize| one.abs_diff(other) <= 1;
+    let mut site = String::from("size\t64\n");
+    for (from, to) in (0..64 * 64).map(|row| (row / 64, row % 64)) {
+        if from != to && near(from / 8, to / 8) && near(from % 8, to % 8) {
+            site += &format!("fact\tDOOR\t{from}\t{to}\n");
+        }
+    }
+    site
+}
+
+/// A card group of four for each zone of an airport, so that no door joins two zones of one group.
+pub fn zones() -> Sample {
+    let question = format!("rel\tDOOR\t2\nrel\tGROUP\t1\nchoose\tF\tFun\nrule\t{ZONES_RULE}\n");
+    let groups: String = (0..4).map(|group| format!("fact\tGROUP\t{group}\n")).collect();
+    let group = |zone: usize| zone / 8 % 2 * 2 + zone % 2;
+    let picks = (0..64).map(|zone| format!("pick\tF\t{zone}\t{}\n", group(zone)));
+    filed(question, doors() + &groups, picks.collect())
+}
+
+/// A round through all zones of an airport, by doors: row after row, every other row backwards.
+pub fn round() -> Sample {
+    let question = format!("rel\tDOOR\t2\nchoose\tF\tInj\nrule\t{ROUND_RULE}\n");
+    let zone =
+        |stop: usize| if (stop / 8).is_multiple_of(2) { stop } else { stop / 8 * 8 + 7 - stop % 8 };
+    let picks = (0..64).map(|stop| format!("pick\tF\t{stop}\t{}\n", zone(stop)));
+    filed(question, doors(), picks.collect())
+}
+
+/// Four nested quantifiers over a disjunction that nearly always holds; with 26 elements nearly as large as a case may be.
 pub fn deep(n: usize) -> Sample {
     let mut site = format!("size\t{n}\n");
     let mut picks = String::new();
@@ -42,7 +73,7 @@ pub fn deep(n: usize) -> Sample {
         picks += &format!("pick\tT\t{first}\t{second}\n");
     }
     let question = format!("rel\tD\t2\nchoose\tT\t2\nrule\t{DEEP_RULE}\n");
-    planned(question, site, picks)
+    filed(question, site, picks)
 }
 
 /// Four nested quantifiers that have one witness, the last of all.
@@ -50,12 +81,12 @@ pub fn last(n: usize) -> Sample {
     let question = format!("rel\tD\t2\nchoose\tT\t2\nrule\t{LAST_RULE}\n");
     let end = n - 1;
     let site = format!("size\t{n}\nfact\tD\t{end}\t{end}\n");
-    planned(question, site, format!("pick\tT\t{end}\t{end}\n"))
+    filed(question, site, format!("pick\tT\t{end}\t{end}\n"))
 }
 
-/// The path of [`path`] with two vertices exchanged, so that its first edge is none.
+/// The path of 15 with two vertices exchanged, so that its first edge is none.
 pub fn broken_path() -> Sample {
-    let path = path();
+    let path = path(15);
     let picks = String::from_utf8_lossy(&path.picks).replace("\t1\t7\n", "\t1\t13\n");
     picked(&path, picks.replace("\t4\t13\n", "\t4\t7\n"))
 }
@@ -70,7 +101,7 @@ pub fn broken_deep(n: usize) -> Sample {
 /// The same case with other picks, as text and lent, and no steps.
 fn picked(sample: &Sample, picks: String) -> Sample {
     let question = sheets::question(&sample.question).expect("an accepted question");
-    let site = sheets::site(&sample.site, &question.signature).expect("an accepted site");
+    let site = sheets::site(&sample.site, &question.signature, &USUAL).expect("an accepted site");
     let tables = sheets::picks(picks.as_bytes(), &question.signature, site.n);
     let lent_picks = tables.expect("picks of their form").words;
     let (question, site) = (sample.question.clone(), sample.site.clone());
@@ -78,9 +109,13 @@ fn picked(sample: &Sample, picks: String) -> Sample {
 }
 
 /// A case with its picks and its built steps, both as text and lent.
-pub fn planned(question: String, site: String, picks: String) -> Sample {
-    let (question, site) = (question.into_bytes(), site.into_bytes());
-    let mut sample = Sample { question, site, picks: picks.into(), ..Sample::default() };
+fn filed(question: String, site: String, picks: String) -> Sample {
+    let (question, site, picks) = (question.into(), site.into(), picks.into());
+    planned(Sample { question, site, picks, ..Sample::default() })
+}
+
+/// The same case with the plan of its picks.
+pub fn planned(mut sample: Sample) -> Sample {
     let [words, state, steps] = needs(&sample).expect("an accepted case");
     let (mut state, mut steps) = (vec![0; state], vec![0; steps]);
     let case = [&sample.question[..], &sample.site[..]];
@@ -107,103 +142,81 @@ pub fn padded(sample: &Sample, length: usize) -> Sample {
     Sample { lent_steps: steps, ..sample.clone() }
 }
 
-/// A case of a rule alone, over one element.
-fn ruled(rule: &str) -> Sample {
-    let question = format!("choose\tT\t2\nrule\t{rule}\n");
-    Sample { question: question.into(), site: b"size\t1\n".to_vec(), ..Sample::default() }
-}
-
-/// As many copies of a part as fit a rule of so many bytes, between a head and a tail.
-fn filled(bytes: usize, head: &str, part: &str, tail: &str) -> Sample {
-    let rest = ruled("");
-    let room = bytes - rest.question.len() - rest.site.len() - head.len() - tail.len();
-    ruled(&format!("{head}{}{tail}", part.repeat(room / part.len())))
-}
-
-/// A rule so many times inside itself.
-fn nested(times: usize, head: &str, inner: &str, tail: &str) -> Sample {
-    ruled(&format!("{}{inner}{}", head.repeat(times), tail.repeat(times)))
-}
-
-/// Lines of a case that fill so many bytes.
-fn lined(bytes: usize, line: impl Fn(usize) -> String) -> Vec<u8> {
-    let mut text = Vec::new();
-    for row in 0.. {
-        let line = line(row);
-        if text.len() + line.len() > bytes {
-            break;
+/// A site of 16 elements that is close to this many kilobytes of facts, 64 at the most.
+pub fn facts(kilobytes: usize) -> Sample {
+    let mut site = String::from("size\t16\n");
+    'rows: for row in 0..16 * 16 * 16 {
+        for name in ["ROOM", "DOOR"] {
+            let line = format!("fact\t{name}\t{}\t{}\t{}\n", row / 256, row / 16 % 16, row % 16);
+            if site.len() + line.len() > kilobytes * 1_024 {
+                break 'rows;
+            }
+            site += &line;
         }
-        text.extend(line.bytes());
     }
-    text
+    let question = "rel\tROOM\t3\nrel\tDOOR\t3\nchoose\tT\t1\nrule\t(forall (?x) (T ?x))\n";
+    Sample { question: question.into(), site: site.into(), ..Sample::default() }
 }
 
-/// Three places of 16 elements each, by the row.
-fn places(row: usize) -> String {
-    format!("{}\t{}\t{}", row / 256 % 16, row / 16 % 16, row % 16)
+/// A site of 64 elements and exactly so many bytes, of facts.
+pub fn wide_facts(bytes: usize) -> Sample {
+    let question = "rel\tDOOR\t2\nrel\tROOM\t3\nchoose\tT\t1\nrule\t(forall (?x) (T ?x))\n";
+    let head = "size\t64\n";
+    let fact = |first, row| format!("fact\tROOM\t{first}\t{}", two_of(row));
+    let (long, short) = (|row| fact(first_of(row), row), |row| fact(0, row));
+    let rest = bytes - head.len();
+    let site = format!("{head}{}", exactly(rest, rest.div_ceil(19), long, short));
+    Sample { question: question.into(), site: site.into(), ..Sample::default() }
 }
 
-/// The texts that need the most stack, each sheet, or with `desk` all of them together, of at most so many bytes.
-pub fn worst(bytes: usize, desk: bool) -> Vec<(String, Sample)> {
-    let leaf = "(T ?a ?b)";
-    let mut texts: Vec<(String, Sample)> = Vec::new();
-    let mut add = |name: &str, sample: Sample| texts.push((name.to_string(), sample));
-    add("one long literal", filled(bytes, "(T ?a", " ?a", ")"));
-    add("one long and", filled(bytes, "(forall (?a ?b) (and (T ?a ?b)", " (T ?a ?b)", "))"));
-    let listed = " (forall (?a ?b) (T ?a ?b))";
-    add("lists of two variables", filled(bytes, "(or (T ?a ?b)", listed, ")"));
-    for (name, head, tail) in [
-        ("not", "(not ", ")"),
-        ("and", "(and ", ")"),
-        ("or, in a later part", "(or (T ?a ?b) ", ")"),
-        ("implies", "(implies ", " (T ?a ?b))"),
-        ("implies, in its end", "(implies (T ?a ?b) ", ")"),
-        ("forall of one", "(forall (?a) ", ")"),
-        ("exists of four", "(exists (?a ?b ?c ?d) ", ")"),
-    ] {
-        for times in [OPEN - 2, OPEN - 1, OPEN] {
-            let brackets = times + 1;
-            add(&format!("{name}, {brackets} open"), nested(times, head, leaf, tail));
-        }
-        add(&format!("{name}, never closed"), filled(bytes, head, head, ""));
-    }
-    add("brackets alone", filled(bytes, "", "(", ""));
-    // 64 forms, four of them quantified variables.
-    let four = |inner: &Sample| {
-        let rule =
-            String::from_utf8_lossy(&inner.question[16..inner.question.len() - 1]).to_string();
-        ruled(&format!("(forall (?a ?b ?c ?d) {rule})"))
-    };
-    add("59 nots under four", four(&nested(59, "(not ", leaf, ")")));
-    add("59 ands under four", four(&nested(59, "(and ", leaf, ")")));
-    add("59 ands over four", nested(59, "(and ", "(forall (?a ?b ?c ?d) (T ?a ?b))", ")"));
-    add("29 ors in a later part", four(&nested(29, "(or (T ?a ?b) ", leaf, ")")));
-    add("29 implications", four(&nested(29, "(implies ", leaf, " (T ?c ?d))")));
-    add("an and of 59", four(&ruled(&format!("(and{})", " (T ?a ?b)".repeat(59)))));
-    let quantified = "(exists (?a) (forall (?b) (exists (?c) (forall (?d) ";
-    let inner = nested(59, "(not ", leaf, ")");
-    let inner = String::from_utf8_lossy(&inner.question[16..inner.question.len() - 1]).to_string();
-    add("59 nots under one and one", ruled(&format!("{quantified}{inner}))))")));
-    if desk {
-        add("facts", facts(bytes / 1_024 - 1));
-        add("the largest plan", deep(7));
-    } else {
-        add("facts", facts(bytes / 1_024));
-        add("the largest plan", deep(13));
-        add("the longest plan", padded(&deep(13), 65_536));
-    }
-    add("picks", {
-        let question = b"choose\tT\t3\nrule\t(exists (?a ?b ?c) (T ?a ?b ?c))\n".to_vec();
-        let site = b"size\t16\n".to_vec();
-        let rest = if desk { question.len() + site.len() } else { 0 };
-        let picks = lined(bytes - rest, |row| format!("pick\tT\t{}\n", places(row)));
-        Sample { question, site, picks, ..Sample::default() }
-    });
-    add("steps", {
-        let mut sample = nested(0, "", "(exists (?a ?b) (T ?a ?b))", "");
-        let rest = if desk { sample.question.len() + sample.site.len() } else { 0 };
-        sample.steps = lined(bytes - rest, |_| "step\t0\n".into());
-        sample
-    });
-    texts
+/// Picks of three places over 64 elements, exactly so many bytes.
+pub fn wide_picks(bytes: usize) -> Sample {
+    let question = "choose\tT\t3\nrule\t(exists (?a ?b ?c) (T ?a ?b ?c))\n";
+    let pick = |first, row| format!("pick\tT\t{first}\t{}", two_of(row));
+    let (long, short) = (|row| pick(first_of(row), row), |row| pick(0, row));
+    let picks = exactly(bytes, bytes.div_ceil(16), long, short);
+    let site = b"size\t64\n".to_vec();
+    Sample { question: question.into(), site, picks: picks.into(), ..Sample::default() }
+}
+
+/// An element of two digits, and two more at a line's end, all three fixed by the row.
+fn first_of(row: usize) -> usize {
+    10 + row / 54 / 54
+}
+
+fn two_of(row: usize) -> String {
+    format!("{}\t{}\n", 10 + row / 54 % 54, 10 + row % 54)
+}
+
+/// So many lines of exactly so many bytes together: long ones, and before them as many as it takes that are a byte shorter.
+pub fn exactly(
+    bytes: usize,
+    lines: usize,
+    long: impl Fn(usize) -> String,
+    short: impl Fn(usize) -> String,
+) -> String {
+    let shorter = lines * long(0).len() - bytes;
+    (0..shorter).map(short).chain((shorter..lines).map(long)).collect()
+}
+
+/// The case of some tuple among five, whose plan goes on proving it for as long as is wanted: by element 0 (step 6) or 4 (step 10).
+pub fn some() -> Sample {
+    let question = b"choose\tT\t1\nrule\t(exists (?x) (T ?x))\n".to_vec();
+    Sample { question, site: b"size\t5\n".to_vec(), ..Sample::default() }
+}
+
+/// Its plan as a text of exactly so many bytes, with as many steps as fit.
+pub fn long_text(bytes: usize) -> Sample {
+    let (head, tail) = ("step\t0\nstep\t4\nstep\t5\n", "step\t11\n");
+    let rest = bytes - head.len() - tail.len();
+    let middle = exactly(rest, rest / 7, |_| "step\t10\n".into(), |_| "step\t6\n".into());
+    Sample { steps: format!("{head}{middle}{tail}").into(), ..some() }
+}
+
+/// Its plan as so many lent steps, the last two of which reach the goal.
+pub fn long_list(steps: usize) -> Sample {
+    let mut lent_steps = vec![6; steps];
+    lent_steps[..3].copy_from_slice(&[0, 4, 5]);
+    lent_steps[steps - 2..].fill(11);
+    Sample { lent_steps, ..some() }
 }

@@ -11,18 +11,23 @@
 
 pub mod cases;
 pub mod desk;
+pub mod digest;
+pub mod edges;
 pub mod formula;
 pub mod ground;
 pub mod judging;
 pub mod large;
+pub mod limits;
 pub mod measures;
 #[cfg(feature = "ours")]
 pub mod ours;
 pub mod plans;
 pub mod records;
 pub mod sample;
+pub mod script;
 pub mod sheets;
 pub mod text;
+pub mod texts;
 pub mod tree;
 pub mod trial;
 pub mod tries;

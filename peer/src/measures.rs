@@ -2,9 +2,10 @@
 //! pick more or less can move the number of steps that are built.
 
 use crate::cases::{case, room};
-use crate::ground::{Problem, ACTION_LIMIT, ATOM_LIMIT};
+use crate::ground::Problem;
+use crate::limits::USUAL;
 use crate::sheets::{Question, Structure};
-use crate::text::{cause, Refusal, Reply};
+use crate::text::{Refusal, Reply};
 use crate::tree::{Part, Shape, Tree};
 
 /// How many nodes, atoms and actions there are.
@@ -17,17 +18,14 @@ pub struct Tally {
 
 /// Counts in one walk of the tree; no limit is asked.
 pub fn tally(question: &[u8], site: &[u8]) -> Result<Tally, Refusal> {
-    let (question, structure) = case(question, site)?;
+    let (question, structure) = case(question, site, &USUAL)?;
     Ok(tally_of(&question, &structure))
 }
 
 /// Refuses a case that has too many atoms or actions.
 pub(crate) fn within_limits(question: &Question, structure: &Structure) -> Result<(), Refusal> {
     let Tally { atoms, actions, .. } = tally_of(question, structure);
-    if atoms > u64::from(ATOM_LIMIT) || actions > u64::from(ACTION_LIMIT) {
-        return Err(Refusal::new(cause::PROBLEM_SIZE, 0));
-    }
-    Ok(())
+    USUAL.admit(atoms, actions)
 }
 
 fn tally_of(question: &Question, structure: &Structure) -> Tally {
@@ -72,8 +70,8 @@ pub fn allowances(question: &[u8], site: &[u8], out: &mut [u64]) -> Reply {
 }
 
 fn allowances_with(question: &[u8], site: &[u8], out: &mut [u64]) -> Result<usize, Refusal> {
-    let (question, structure) = case(question, site)?;
-    let problem = Problem::new(&question, &structure)?;
+    let (question, structure) = case(question, site, &USUAL)?;
+    let problem = Problem::new(&question, &structure, &USUAL)?;
     let chosen = question.signature.chosen();
     room(out.len(), chosen.len())?;
     for (entry, relation) in out.iter_mut().zip(chosen) {

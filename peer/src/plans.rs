@@ -155,7 +155,7 @@ pub(crate) fn broken_kind(signature: &Signature, n: u32, picks: &Tables) -> Opti
     let chosen = signature.chosen_relations();
     (0..chosen.len()).find(|&choose| {
         let kind = chosen[choose].kind;
-        let (mut firsts, mut seconds) = (0u32, 0u32);
+        let (mut firsts, mut seconds) = (0u64, 0u64);
         kind.is_function()
             && rows(picks.relation(choose)).any(|row| {
                 let first = 1 << (row / n);

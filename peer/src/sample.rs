@@ -1,7 +1,9 @@
 //! Random cases, sound and damaged, from a seed that fixes every one of them.
 
 use crate::cases::{build, picks_text, sizes};
+use crate::desk::INPUT_LIMIT;
 use crate::ground::{Action, Problem};
+use crate::limits::{self, USUAL};
 use crate::records::Kind;
 use crate::sheets;
 use crate::text::Reply;
@@ -77,7 +79,7 @@ pub fn sound(random: &mut Random) -> Sample {
         question += &format!("choose\t{name}\t{}\n", kind_field(*kind));
     }
     question += &format!("rule\t{rule}\n");
-    let n = if random.once_in(40) { random.within(5, 16) } else { random.within(1, 4) };
+    let n = size(random);
     let mut site = format!("size\t{n}\n");
     let density = random.within(0, 4);
     for rel in &rels {
@@ -92,6 +94,15 @@ pub fn sound(random: &mut Random) -> Sample {
     let mut sample = Sample { question, site, picks: picks.into_bytes(), ..Sample::default() };
     fill_records(random, &mut sample);
     sample
+}
+
+/// Mostly few elements, now and then more than the desk takes, and one too many for any call.
+fn size(random: &mut Random) -> usize {
+    match random.below(120) {
+        0 => random.within(17, USUAL.elements as usize + 1),
+        1..=3 => random.within(5, 16),
+        _ => random.within(1, 4),
+    }
 }
 
 fn declare(random: &mut Random, least: usize, prefix: &str) -> Vec<Declared> {
@@ -269,10 +280,10 @@ fn picks_of(random: &mut Random, of: &Declared, n: usize, density: usize, to: &m
 /// Lends the picks as bits, and finds steps that come near a plan.
 fn fill_records(random: &mut Random, sample: &mut Sample) {
     let Ok(question) = sheets::question(&sample.question) else { return };
-    let Ok(structure) = sheets::site(&sample.site, &question.signature) else { return };
+    let Ok(structure) = sheets::site(&sample.site, &question.signature, &USUAL) else { return };
     let Ok(tables) = sheets::picks(&sample.picks, &question.signature, structure.n) else { return };
     sample.lent_picks = tables.words;
-    let Ok(problem) = Problem::new(&question, &structure) else { return };
+    let Ok(problem) = Problem::new(&question, &structure, &USUAL) else { return };
     let mut steps = vec![0; problem.bound as usize];
     let mut state = vec![0; problem.words()];
     let picks = &sample.lent_picks;
@@ -339,18 +350,18 @@ fn vary(random: &mut Random, steps: &mut Vec<u32>, actions: usize) {
 
 /// What a damaged word may become.
 #[rustfmt::skip]
-const WORDS: [&str; 37] = [
+const WORDS: [&str; 39] = [
     "(", ")", ") ", " (", "and", "or", "not", "implies", "exists", "forall", "?x", "?y", "?z",
     "?abcdefgh", "?X", "EQ", "LT", "ZERO", "R", "T", "CT", "0", "1", "2", "3", "4", "16", "17",
-    "01", "", "Fun", "PInj", "(and (ZERO ?x))", "(not (not (EQ ?x ?x)))", "rel", "pick", "\t",
+    "64", "65", "01", "", "Fun", "PInj", "(and (ZERO ?x))", "(not (not (EQ ?x ?x)))", "rel", "pick", "\t",
 ];
 
 /// Lines that are wrong in most places, if not in all.
 #[rustfmt::skip]
-const ODD_LINES: [&str; 26] = [
+const ODD_LINES: [&str; 28] = [
     "rel\tEQ\t2\n", "rel\tR\t4\n", "rel\tr\t1\n", "rel\tABCDEFGHIJKLM\t1\n", "rel\tW\t1\n",
     "choose\tW\tfun\n", "choose\tW\tInj\n", "choose\tW\t0\n", "rule\n", "rule\t\n", "rule\t(T)\n",
-    "size\t17\n", "size\t0\n", "size\t3\n", "size\t03\n", "fact\tT\n", "fact\tR\t0\t0\t0\t0\n",
+    "size\t64\n", "size\t65\n", "size\t17\n", "size\t0\n", "size\t3\n", "size\t03\n", "fact\tT\n", "fact\tR\t0\t0\t0\t0\n",
     "fact\tR\t0\n", "pick\tF\t0\t0\n", "pick\tLT\t0\t0\n", "step\t12345678\n", "step\t00\n",
     "step\t1\n", "step\t9999999\n", "\t\n", "end\n",
 ];
@@ -380,7 +391,8 @@ pub fn damage(random: &mut Random, sample: &mut Sample) {
 
 /// Lengthens a sheet to about one of the limits by repeating its last line.
 fn stretch(random: &mut Random, sheet: &mut Vec<u8>) {
-    let length = *random.choose(&[16_300, 16_384, 16_385, 65_535, 65_536, 65_537, 65_600]);
+    let about = *random.choose(&[INPUT_LIMIT, 65_536, limits::TEXT]);
+    let length = random.within(about - 2, about + 2);
     let last = sheet[..sheet.len().saturating_sub(1)].iter().rposition(|&b| b == b'\n');
     let line = sheet[last.map_or(0, |before| before + 1)..].to_vec();
     if !line.is_empty() {
@@ -399,8 +411,8 @@ fn damage_lent(random: &mut Random, sample: &mut Sample) {
         let step = random.below(sample.lent_steps.len());
         sample.lent_steps[step] = random.word() as u32;
     }
-    if random.once_in(200) {
-        let count = random.within(65_534, 65_538);
+    if random.once_in(400) {
+        let count = random.within(limits::STEPS - 2, limits::STEPS + 2);
         let last = sample.lent_steps.last().copied().unwrap_or(0);
         sample.lent_steps.resize(count, last);
     }
@@ -474,20 +486,4 @@ pub fn needs(sample: &Sample) -> Option<[usize; 3]> {
         Reply::Accepted(_) => return None,
     };
     Some([picks, sizes.atoms.div_ceil(64) as usize, sizes.bound as usize])
-}
-
-/// A case whose site is close to this many kilobytes of facts, 64 at the most.
-pub fn facts(kilobytes: usize) -> Sample {
-    let question = "rel\tROOM\t3\nrel\tDOOR\t3\nchoose\tT\t1\nrule\t(forall (?x) (T ?x))\n";
-    let mut site = String::from("size\t16\n");
-    'rows: for row in 0..16 * 16 * 16 {
-        for name in ["ROOM", "DOOR"] {
-            let line = format!("fact\t{name}\t{}\t{}\t{}\n", row / 256, row / 16 % 16, row % 16);
-            if site.len() + line.len() > kilobytes * 1_024 {
-                break 'rows;
-            }
-            site += &line;
-        }
-    }
-    Sample { question: question.into(), site: site.into(), ..Sample::default() }
 }

@@ -1,6 +1,7 @@
 //! The four sheets: question, site, picks and steps.
 
 use crate::formula::{is_relation_name, parse};
+use crate::limits::Limits;
 use crate::records::{record, Kind, Record, Tuple};
 use crate::text::{cause, limit, lines, Line, Refusal};
 use crate::tree::{grow, Tree};
@@ -8,7 +9,6 @@ use std::ops::Range;
 
 const REL_LIMIT: usize = 8;
 const CHOOSE_LIMIT: usize = 4;
-const SIZE_LIMIT: u32 = 16;
 
 #[derive(Clone, Copy, Debug)]
 pub struct Relation<'t> {
@@ -158,14 +158,14 @@ pub struct Structure {
     pub tables: Tables,
 }
 
-pub fn site(text: &[u8], signature: &Signature) -> Result<Structure, Refusal> {
+pub fn site(text: &[u8], signature: &Signature, limits: &Limits) -> Result<Structure, Refusal> {
     limit(text)?;
     let fixed = &signature.relations[..signature.first_chosen];
     let mut structure = None;
     for line in lines(text) {
         match (record(&line)?, &mut structure) {
             (Record::Size { n }, None) => {
-                if !(1..=SIZE_LIMIT).contains(&n) {
+                if !(1..=limits.elements).contains(&n) {
                     return Err(line.refuse(cause::ELEMENT_RANGE));
                 }
                 structure = Some(bare_structure(fixed, n as usize));

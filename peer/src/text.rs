@@ -1,7 +1,6 @@
 //! Lines and decimal numbers of the sheets, and the reply that calls give.
 
-/// The longest text a call reads.
-pub const TEXT_LIMIT: usize = 65_536;
+use crate::limits;
 
 /// The refusal numbers of the paper, by cause.
 pub mod cause {
@@ -103,7 +102,7 @@ impl<'t> Iterator for Lines<'t> {
 
 /// Refuses a sheet that is too long, before any of its lines is read.
 pub fn limit(text: &[u8]) -> Result<(), Refusal> {
-    if text.len() > TEXT_LIMIT {
+    if text.len() > limits::TEXT {
         return Err(Refusal::new(cause::TOO_LONG, 0));
     }
     Ok(())

@@ -158,11 +158,13 @@ pub enum Call {
     Build,
     JudgeText,
     Judge,
+    Tries,
+    Allowances,
     DeskPicks,
     DeskSteps,
 }
 
-pub const CALLS: [Call; 13] = [
+pub const CALLS: [Call; 15] = [
     Call::Sizes,
     Call::Rule,
     Call::Action,
@@ -174,6 +176,8 @@ pub const CALLS: [Call; 13] = [
     Call::Build,
     Call::JudgeText,
     Call::Judge,
+    Call::Tries,
+    Call::Allowances,
     Call::DeskPicks,
     Call::DeskSteps,
 ];
@@ -185,7 +189,7 @@ pub type Rooms = [usize; 3];
 #[derive(Clone, Debug, PartialEq, Eq)]
 pub struct Outcome {
     pub reply: Reply,
-    /// The sizes, where the rule lies, or an action's details.
+    /// The sizes, where the rule lies, an action's details, or what each list among many got.
     pub found: Vec<u64>,
     pub picks: Vec<u64>,
     pub state: Vec<u64>,
@@ -219,6 +223,25 @@ fn found<const N: usize>(numbers: Result<[u64; N], Refusal>, into: &mut Vec<u64>
     }
 }
 
+/// All lent steps, all but the last, and one that ends past them.
+fn lists(steps: usize) -> [Try; 3] {
+    let all = steps as u32;
+    [(0, all), (0, all.saturating_sub(1)), (1, all)].map(|(first, length)| Try {
+        first,
+        length,
+        number: 7,
+        place: 7,
+    })
+}
+
+fn tried(program: &impl Calls, sample: &Sample, state: &mut [u64], into: &mut Vec<u64>) -> Reply {
+    let mut tries = lists(sample.lent_steps.len());
+    let case = [&sample.question[..], &sample.site[..]];
+    let reply = program.tries(case, &sample.lent_steps, &mut tries, state);
+    into.extend(tries.iter().flat_map(|list| [list.number.into(), list.place]));
+    reply
+}
+
 /// Makes one call, with buffers of these lengths.
 pub fn run(program: &impl Calls, call: Call, sample: &Sample, rooms: Rooms) -> Outcome {
     let mut outcome = Outcome::fresh(rooms);
@@ -246,6 +269,9 @@ pub fn run(program: &impl Calls, call: Call, sample: &Sample, rooms: Rooms) -> O
         Call::Build => program.build(case, &lent, state, steps),
         Call::JudgeText => program.judge_text(case, &sample.picks),
         Call::Judge => program.judge(case, &lent),
+        Call::Tries => tried(program, sample, state, &mut outcome.found),
+        // The picks' buffer serves for the allowances.
+        Call::Allowances => program.allowances(case, picks),
         Call::DeskPicks | Call::DeskSteps => {
             let input = desk_input(sample, call == Call::DeskSteps);
             outcome.printed = program.desk(&input);

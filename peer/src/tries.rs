@@ -1,7 +1,8 @@
 //! Many step lists for one case, in one call.
 
-use crate::cases::{case, room, STEP_LIMIT};
+use crate::cases::{case, room};
 use crate::ground::Problem;
+use crate::limits::{self, USUAL};
 use crate::plans::follow;
 use crate::text::{cause, Refusal, Reply};
 
@@ -34,8 +35,8 @@ fn tries_with(
     tries: &mut [Try],
     state: &mut [u64],
 ) -> Result<usize, Refusal> {
-    let (question, structure) = case(question, site)?;
-    let problem = Problem::new(&question, &structure)?;
+    let (question, structure) = case(question, site, &USUAL)?;
+    let problem = Problem::new(&question, &structure, &USUAL)?;
     room(state.len(), problem.words())?;
     for record in tries {
         let list = one_list(steps, *record);
@@ -51,7 +52,7 @@ fn tries_with(
 
 /// The steps of a record's list, if it is short enough and all of it is lent.
 fn one_list(steps: &[u32], record: Try) -> Result<&[u32], Refusal> {
-    if record.length as usize > STEP_LIMIT {
+    if record.length as usize > limits::STEPS {
         return Err(Refusal::new(cause::TOO_LONG, 0));
     }
     let first = u64::from(record.first);

@@ -90,8 +90,8 @@ fn limits() {
     assert_eq!(refusal, Refusal { number: 6, place: 11 });
     let five = b"choose\tT\t1\nrule\t(forall (?a ?b ?c ?d) (exists (?e) (T ?e)))\n";
     assert_eq!(sizes(five, b"size\t1\n").unwrap_err().number, 6);
-    assert!(sizes(ONE, b"size\t16\n").is_ok());
-    for size in [&b"size\t0\n"[..], b"size\t17\n"] {
+    assert!(sizes(ONE, b"size\t64\n").is_ok());
+    for size in [&b"size\t0\n"[..], b"size\t65\n"] {
         assert_eq!(sizes(ONE, size).unwrap_err(), Refusal { number: 9, place: 0 });
     }
 }
@@ -121,7 +121,7 @@ fn short_buffers() {
     assert_eq!(reply(1, 3, 38), Reply::Accepted(16));
     assert!(steps[16..].iter().all(|&step| step == 9));
     assert_eq!(build(SAT, SAT_SITE, &[8], &mut [0; 3], &mut [0; 38]), refused(10, 0));
-    assert_eq!(check(SAT, SAT_SITE, &[0; 65_537], &mut []), refused(1, 0));
+    assert_eq!(check(SAT, SAT_SITE, &vec![0; 1_048_577], &mut []), refused(1, 0));
 }
 
 #[test]
@@ -135,9 +135,10 @@ fn picks_read_back() {
 }
 
 #[test]
-fn path_of_fifteen() {
+fn path_of_fifteen_and_of_thirty_one() {
     let question = b"rel\tE\t2\nchoose\tF\tInj\nrule\t(forall (?x) (implies (not (MAX ?x)) \
 (exists (?u ?y ?z) (and (E ?y ?z) (F ?x ?y) (SUC ?x ?u) (F ?u ?z)))))\n";
     assert_eq!(sizes_of(question, b"size\t15\n"), [15, 56_644, 105_363, 54_318]);
-    assert_eq!(sizes(question, b"size\t16\n").unwrap_err(), Refusal { number: 11, place: 0 });
+    assert_eq!(sizes_of(question, b"size\t31\n"), [31, 964_228, 1_879_843, 954_462]);
+    assert_eq!(sizes(question, b"size\t32\n").unwrap_err(), Refusal { number: 11, place: 0 });
 }

@@ -46,7 +46,7 @@ fn refusals_come_in_the_builders_order() {
 fn too_large_a_case_is_no_yes() {
     let rule = "(forall (?a ?b ?c ?d) (or (T ?a ?b) (T ?c ?d)))";
     let question = format!("choose\tT\t2\nrule\t{rule}\n");
-    assert_eq!(judge(question.as_bytes(), b"size\t16\n", &[u64::MAX; 4]), no(11, 0));
+    assert_eq!(judge(question.as_bytes(), b"size\t32\n", &[u64::MAX; 16]), no(11, 0));
 }
 
 #[test]

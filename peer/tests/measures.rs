@@ -22,7 +22,7 @@ fn tallies() {
     let count = |case: [&[u8]; 2]| tally(case[0], case[1]);
     assert_eq!(count(SHEET), Ok(Tally { nodes: 2, atoms: 47, actions: 10 }));
     assert_eq!(count(TOTAL), Ok(Tally { nodes: 4, atoms: 54, actions: 15 }));
-    assert_eq!(count([SHEET[0], b"size\t17\n"]), Err(Refusal { number: 9, place: 0 }));
+    assert_eq!(count([SHEET[0], b"size\t65\n"]), Err(Refusal { number: 9, place: 0 }));
 }
 
 #[test]

@@ -30,17 +30,17 @@ fn each_list_starts_from_the_initial_state() {
 
 #[test]
 fn lists_that_are_empty_too_long_or_outside() {
-    let lists = [(0, 0), (2, 0), (3, 0), (1, 2), (u32::MAX, 4), (0, 65_536), (0, 65_537)];
+    let lists = [(0, 0), (2, 0), (3, 0), (1, 2), (u32::MAX, 4), (0, 1_048_576), (0, 1_048_577)];
     let (replies, state) = tried(&[0, 1], &lists);
     let sum = (12, u64::from(u32::MAX) + 4);
-    assert_eq!(replies, [(15, 0), (15, 0), (12, 3), (12, 3), sum, (12, 65_536), (1, 0)]);
+    assert_eq!(replies, [(15, 0), (15, 0), (12, 3), (12, 3), sum, (12, 1_048_576), (1, 0)]);
     assert_eq!(state, [19273, 7]);
     assert_eq!(tried(&[], &[]).1, [19273, 7]);
 }
 
 #[test]
 fn a_refused_case_leaves_everything() {
-    for (site, room, number, place) in [(SITE, 0, 12, 1), (b"size\t17\n", 1, 9, 0)] {
+    for (site, room, number, place) in [(SITE, 0, 12, 1), (b"size\t65\n", 1, 9, 0)] {
         let (mut records, mut state) = ([asked(0, 1)], vec![7; room]);
         let reply = tries(QUESTION, site, &[0], &mut records, &mut state);
         assert_eq!(reply, Reply::Refused(Refusal { number, place }));

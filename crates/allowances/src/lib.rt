@@ -60,7 +60,7 @@ fn of_case(question: &[u8], o: Opened, out: &mut [u64]) -> Reply
 
 // One number for each `choose`, in order, at the front of the lent buffer, with the lent words for the site's facts.
 fn allowances_in(question: &[u8], site: &[u8], out: &mut [u64], facts: &mut [u64]) -> Reply
-    requires { ⌜ FactsRoom (now site) 16 (length (now facts)) × (bit (now facts) ≡ λ i. false) ⌝ }
+    requires { ⌜ FactsRoom (now site) 64 (length (now facts)) × (bit (now facts) ≡ λ i. false) ⌝ }
     ensures { λ r. ⌜ Allows usual (now (question .entry)) (now (site .entry)) (now (out .entry)) r (now (out .exit)) ⌝ }
 {
     let o = sheets::read_case(question, site, asking::ELEMENTS, facts);
@@ -75,6 +75,10 @@ pub fn allowances(question: &[u8], site: &[u8], out: &mut [u64]) -> Reply
     ensures answer { λ r. ⌜ resultOf r ≡ «allowances-of» usual (now (question .entry)) (now (site .entry)) (now (out .entry)) .answer ⌝ }
     ensures left { λ r. ⌜ now (out .exit) ≡ «allowances-of» usual (now (question .entry)) (now (site .entry)) (now (out .entry)) .allowances ⌝ }
 {
+    if asking::is_small(site) {
+        let mut few = [0u64; asking::FEW];
+        return allowances_in(question, site, out, &mut few);
+    }
     let mut facts = [0u64; asking::FACTS];
     allowances_in(question, site, out, &mut facts)
 }

@@ -17,14 +17,17 @@ use Rattle.sheets.proofs.Turns.{picks-room}
 use Rattle.asking.specs.Within.{case-within}
 
 -- four relations of three places over the most elements have no fewer words
-pub picks-enough : (L : CaseLimits) (question site : List ℕ) (c : Case) (o : Opened) (facts : ℕ → Bool) → readCase L question site ≡ accepted c → Holds question c o facts → (room : ℕ) → 4 * wordsFor (L .elements ^ 3) ≤ room → PicksRoom (o .sig) (o .n) room
+pub picks-enough : (question : List ℕ) (c : Case) (o : Opened) (facts : ℕ → Bool) → Holds question c o facts → (most room : ℕ) → o .n ≤ most → 4 * wordsFor (most ^ 3) ≤ room → PicksRoom (o .sig) (o .n) room
 unfolding wordsFor
-picks-enough L question site c o facts e h room k =
-    let n : o .n ≤ L .elements = subst (λ (x : ℕ). x ≤ L .elements) (sym (h .size)) (case-within L question site c e) in
+picks-enough question c o facts h most room n k =
     let q = pow-le-pow-left n 3 in
     picks-room question (o .sig) (h .sound) (o .n) room (omega (arith, q))
 
--- 256 words do so for 16
-pub few-picks : (room : ℕ) → 256 ≤ room → 4 * wordsFor (usual .elements ^ 3) ≤ room
+-- 256 words do so for 16, 16,384 for 64
+pub few-picks : 4 * wordsFor (16 ^ 3) ≤ 256
 unfolding wordsFor
-few-picks room h = omega arith
+few-picks = omega arith
+
+pub many-picks : 4 * wordsFor (64 ^ 3) ≤ 16384
+unfolding wordsFor
+many-picks = omega arith

@@ -1,18 +1,15 @@
 -- What the opening of a call tells: the case is refused, or it was read, its facts stand in the table of bits, and its problem is
 -- grounded or over the limits.
-use Prim.Native.Nat.{ℕ, _*_, _^_, _≤_, _<_}
+use Prim.Native.Nat.{ℕ, _≤_, _<_}
 use mathlib.Core.Path.{_≡_, refl, sym, ap₂, subst, _∙_}
 use mathlib.Core.List.{List}
 use native.Mathlib.Omega.{arith}
-use native.Mathlib.Nat.{pow-le-pow-left}
 use Rattle.definitions.specs.Limits.{CaseLimits}
 use Rattle.definitions.specs.Refusal.{Result, refused, accepted}
 use Rattle.definitions.specs.Truth.{Case}
 use Rattle.definitions.specs.Outcome.{readCase, ground}
 use Rattle.laws.specs.Reader.{Accepted, gives-if, case-fits}
 use Rattle.bits.specs.Table.{bit}
-use Rattle.definitions.specs.Atoms.{wordsFor}
-use Rattle.sheets.specs.Reading.{FactsRoom}
 use Rattle.sheets.specs.declared.Opened.{Opened}
 use Rattle.sheets.specs.Opening.{Holds, CaseRead}
 use Rattle.grounding.specs.declared.Sized.{Sized}
@@ -96,12 +93,3 @@ module _ (L : CaseLimits) (few : L .elements ≤ 64) (question site : List ℕ) 
         within = subst (λ (n : ℕ). n ≤ L .elements) (sym (h .size)) (case-within L question site c q);
         grounded = g c h;
       })
-
--- ---- room for the facts: what holds 8 relations of three places over the most elements holds any, and 512 words do so for 16
-pub facts-room : (site : List ℕ) (most room : ℕ) → 8 * wordsFor (most ^ 3) ≤ room → FactsRoom site most room
-unfolding wordsFor
-facts-room site most room h k next r l = let e = pow-le-pow-left l 3 in omega arith
-
-pub few-room : (site : List ℕ) → FactsRoom site 16 512
-unfolding wordsFor
-few-room site = facts-room site 16 512 (omega arith)

@@ -1,7 +1,7 @@
 // What every call begins with: a case is read and its problem grounded, by limits that the caller chooses. What is wrong with the case is
 // told; that it has too many atoms or actions is only noted, since a third input may be refused before that.
 ghost use mathlib.Core.Path.{_≡_};
-ghost use mathlib.Core.Bool.{false};
+ghost use mathlib.Core.Bool.{true, false};
 ghost use Prim.Native.Nat.{_≤_};
 ghost use lib.ListN.{length};
 ghost use Rattle.rows.specs.Values.{Most};
@@ -11,24 +11,63 @@ ghost use Rattle.layout.specs.Laid.{numberLimit};
 ghost use Rattle.sheets.specs.Reading.{FactsRoom};
 ghost use Rattle.runs.specs.Ended.{ended};
 ghost use Rattle.asking.specs.Fronts.{limits, Fronted};
+ghost use Rattle.asking.specs.Rooms.{saysSmall};
 ghost use Rattle.asking.specs.Replies.{resultOf};
 use grounding::Sized;
+use records::Entry;
 use runs::End;
 use sheets::Opened;
 
 // The most elements, atoms and actions that a case may have, and the most steps that may be lent.
-pub const ELEMENTS: usize = 16;
+pub const ELEMENTS: usize = 64;
 
-pub const ATOMS: usize = 65536;
+pub const ATOMS: usize = 1048576;
 
-pub const ACTIONS: usize = 131072;
+pub const ACTIONS: usize = 4194304;
 
-pub const STEPS: usize = 65536;
+pub const STEPS: usize = 1048576;
 
 // Words for the facts of every case, and for the picks of a text.
-pub const FACTS: usize = 512;
+pub const FACTS: usize = 32768;
 
-pub const PICKS: usize = 256;
+pub const PICKS: usize = 16384;
+
+// Most sites are small: FEW words hold the facts of SMALL elements, and FEW_PICKS the picks of a text over SMALL_SIZE of them, which
+// is the same number. For them no more is cleared.
+const SMALL: u32 = 16;
+
+pub const SMALL_SIZE: usize = 16;
+
+pub const FEW: usize = 512;
+
+pub const FEW_PICKS: usize = 256;
+
+fn says_small(x: Entry) -> bool
+    ensures { λ r. ⌜ r ≡ saysSmall x ⌝ }
+{
+    match x {
+        Entry::Wrong => true,
+        Entry::Rel(_, _, _) => true,
+        Entry::Choose(_, _, _, _) => true,
+        Entry::Rule(_, _) => true,
+        Entry::Size(k) => k <= SMALL,
+        Entry::Fact(_, _, _) => true,
+        Entry::Pick(_, _, _) => true,
+        Entry::Step(_) => true,
+    }
+}
+
+// Whether the FEW words hold the facts of the site, by what its first line says of its size.
+pub fn is_small(site: &[u8]) -> bool
+    ensures { λ r. ⌜ (r ≡ true → FactsRoom (now (site .entry)) 64 512) ⌝ }
+{
+    if site.len() == 0 {
+        return true;
+    }
+    let l = records::line(site, 0);
+    let x = l.entry;
+    says_small(x)
+}
 
 // All is well, with the step count; or a refusal with its number and place.
 pub enum Reply {

@@ -28,7 +28,7 @@ use Rattle.picks.specs.declared.Spare.the-variants.{Clear, Word}
 use Rattle.asking.specs.declared.Front.{Front}
 use Rattle.asking.specs.declared.Reply.{Reply}
 use Rattle.asking.specs.declared.Reply.the-variants.{Refused}
-use Rattle.asking.specs.Fronts.{Held}
+use Rattle.asking.specs.Fronts.{Held, Fronted}
 use Rattle.asking.specs.Known.{facts-held, case-over, grounds, tabled, actions-few, words-are, room-short, room-there}
 use Rattle.asking.specs.Replies.{resultOf}
 
@@ -153,3 +153,8 @@ pub record FromWords (f : Front) (facts table words state steps : List ℕ) (r :
   pub fit : Words words
   pub builds : (L : CaseLimits) → L .actions ≤ 2 ^ 32 → (question site : List ℕ) (picks : Outcome.Given) (c : Case) → Outcome.readCase L question site ≡ accepted c → Held L question c f facts table
       → (given F : List Tuple) → Handed c picks words given F → Answers L question site picks state steps r state′ steps′
+
+-- and from a text, whatever site was opened
+abbrev pub FromText : List ℕ → Front → (facts table text state steps : List ℕ) → Reply → (state′ steps′ : List ℕ) → Type 0
+FromText question f facts table text state steps r state′ steps′ =
+    (L : CaseLimits) (site : List ℕ) → Fronted L question site f facts table → f .fault ≡ 0 → L .actions ≤ 2 ^ 32 → Answers L question site (Outcome.asText text) state steps r state′ steps′

@@ -1,6 +1,6 @@
 -- What the calls answer and leave, by what was opened: the case is refused, the picks' text is, or steps are built from words.
 use Prim.Native.Nat.{ℕ, _+_, _*_, _^_, _≤_}
-use mathlib.Core.Path.{_≡_, refl, sym, _∙_}
+use mathlib.Core.Path.{_≡_, refl, sym, subst, _∙_}
 use mathlib.Core.Bool.{false}
 use mathlib.Core.List.{List}
 use lib.ListN.{length}
@@ -10,7 +10,7 @@ use Rattle.definitions.specs.Atoms.{wordsFor}
 use Rattle.definitions.specs.Outcome.{Given, asText, asNumbers}
 use Rattle.laws.specs.Asked as Order
 use Rattle.bits.specs.Table.{bit}
-use Rattle.names.specs.Signatures.{Sound, chosenOf}
+use Rattle.names.specs.Signatures.{chosenOf}
 use Rattle.sheets.specs.declared.Answer.{Answer}
 use Rattle.sheets.specs.declared.Answer.the-variants.{Done, Refused as Bad}
 use Rattle.sheets.specs.Reading.{answered, PicksIn, PicksRoom}
@@ -37,11 +37,13 @@ module _ (L : CaseLimits) (question site : List ℕ) (f : Front) (facts table : 
     pub few-atoms : f .m .over ≡ false → f .m .atoms ≤ L .atoms
     few-atoms o = let (c, e, h) = front-held L question site f facts table front z in atoms-few L c (f .m) table (h .grounded) o
 
-    -- what reading picks asks for
-    pub picks-asked : (room : ℕ) → 4 * wordsFor (L .elements ^ 3) ≤ room → Sound question (f .o .sig) × (f .o .n ≤ 64) × PicksRoom (f .o .sig) (f .o .n) room
-    picks-asked room l =
-        let (c, e, h) = front-held L question site f facts table front z in
-        (h .holds .sound, h .holds .few-elements, picks-enough L question site c (f .o) (bit facts) e (h .holds) room l)
+    -- words for the picks of every text
+    pub picks-asked : (most room : ℕ) → f .o .n ≤ most → 4 * wordsFor (most ^ 3) ≤ room → PicksRoom (f .o .sig) (f .o .n) room
+    picks-asked most room n l = let (c, e, h) = front-held L question site f facts table front z in picks-enough question c (f .o) (bit facts) (h .holds) most room n l
+
+    -- at most as many elements
+    pub few-elements : f .o .n ≤ L .elements
+    few-elements = let (c, e, h) = front-held L question site f facts table front z in h .within
 
     -- picks as a text
     module _ (text : List ℕ) (state steps : List ℕ) (a : Answer) (q : a ≡ answered length (readPicks (chosenOf question (f .o .sig)) (5 + f .o .sig .rels) (f .o .n) text)) where
@@ -52,14 +54,14 @@ module _ (L : CaseLimits) (question site : List ℕ) (f : Front) (facts table : 
           let t = sym (text-read question c (h .accepts) (f .o) (bit facts) (h .holds) text) ∙ sheet-refused length _ a k place q e in
           ends L question site (asText text) state steps k place (Order.third-refused L question site _ _ _ _ c ec k place t) (Refused k place) refl
 
-      pub call-text : L .actions ≤ 2 ^ 32 → (k : ℕ) → a ≡ Done k → (words : List ℕ) → 4 * wordsFor (L .elements ^ 3) ≤ length words
+      pub call-text : L .actions ≤ 2 ^ 32 → (k : ℕ) → a ≡ Done k → (words : List ℕ) (room : ℕ) → length words ≡ room → PicksRoom (f .o .sig) (f .o .n) room
           → PicksIn (f .o .sig) (f .o .n) (readPicks (chosenOf question (f .o .sig)) (5 + f .o .sig .rels) (f .o .n) text) (bit words)
           → (r : Reply) (state′ steps′ : List ℕ) → FromWords f facts table words state steps r state′ steps′ → Answers L question site (asText text) state steps r state′ steps′
-      call-text few k e words room held r state′ steps′ b =
+      call-text few k e words room l enough held r state′ steps′ b =
           let (c, ec, h) = front-held L question site f facts table front z in
           let (F, g, _) = sheet-read length _ a k q e in
           let t = sym (text-read question c (h .accepts) (f .o) (bit facts) (h .holds) text) ∙ g in
-          b .builds L few question site (asText text) c ec h F F (text-handed question c (h .accepts) (f .o) (bit facts) (h .holds) text F t words (b .fit) (picks-asked (length words) room .2) held)
+          b .builds L few question site (asText text) c ec h F F (text-handed question c (h .accepts) (f .o) (bit facts) (h .holds) text F t words (b .fit) (subst (λ (k : ℕ). PicksRoom (f .o .sig) (f .o .n) k) (sym l) enough) held)
 
     -- picks as words
     pub call-lent : L .actions ≤ 2 ^ 32 → (words state steps : List ℕ) (r : Reply) (state′ steps′ : List ℕ) → FromWords f facts table words state steps r state′ steps′ → Answers L question site (asNumbers words) state steps r state′ steps′

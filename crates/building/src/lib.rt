@@ -7,11 +7,11 @@ ghost use lib.ListN.{length};
 ghost use Rattle.definitions.specs.Limits.{usual};
 ghost use Rattle.definitions.specs.Outcome.{asText, asNumbers, buildSteps};
 ghost use Rattle.bits.specs.Table.{bit};
-ghost use Rattle.sheets.specs.Reading.{FactsRoom};
+ghost use Rattle.sheets.specs.Reading.{FactsRoom, PicksRoom};
 ghost use Rattle.plans.specs.Answers.{answered};
 ghost use Rattle.asking.specs.Fronts.{Ready};
 ghost use Rattle.asking.specs.Replies.{resultOf};
-ghost use Rattle.building.specs.Builds.{Answers, FromWords};
+ghost use Rattle.building.specs.Builds.{Answers, FromWords, FromText};
 use asking::Front;
 use asking::Reply;
 use sheets::Answer;
@@ -38,7 +38,7 @@ fn build_picks(
     steps: &mut [u32],
 ) -> Reply
     requires { ⌜ ((q : List ℕ) × Ready q f (now facts) (now table)) ⌝ }
-    requires { ⌜ (f .m .over ≡ false → f .m .atoms ≤ 2 ^ 16) ⌝ }
+    requires { ⌜ (f .m .over ≡ false → f .m .atoms ≤ 2 ^ 20) ⌝ }
     ensures { λ r. ⌜ FromWords f (now (facts .entry)) (now (table .entry)) (now (picks .entry)) (now (state .entry)) (now (steps .entry)) r (now (state .exit)) (now (steps .exit)) ⌝ }
 {
     let m = f.m;
@@ -67,6 +67,30 @@ fn build_picks(
     }
 }
 
+// Steps of a case that was opened, from picks as a text: they are read into the lent words, which are enough and come in cleared.
+fn build_listed(
+    question: &[u8],
+    f: Front,
+    facts: &[u64],
+    table: &[usize],
+    picks: &[u8],
+    words: &mut [u64],
+    state: &mut [u64],
+    steps: &mut [u32],
+) -> Reply
+    requires { ⌜ Ready (now question) f (now facts) (now table) × (f .m .over ≡ false → f .m .atoms ≤ 2 ^ 20) ⌝ }
+    requires { ⌜ PicksRoom (f .o .sig) (f .o .n) (length (now words)) × (bit (now words) ≡ λ i. false) ⌝ }
+    ensures { λ r. ⌜ FromText (now (question .entry)) f (now (facts .entry)) (now (table .entry)) (now (picks .entry)) (now (state .entry)) (now (steps .entry)) r (now (state .exit)) (now (steps .exit)) ⌝ }
+{
+    let o = f.o;
+    let sig = o.sig;
+    let a = sheets::picks(question, sig, picks, o.n, words);
+    match a {
+        Answer::Refused(k, place) => Reply::Refused(k, place),
+        Answer::Done(_) => build_picks(f, facts, table, words, state, steps),
+    }
+}
+
 // Steps from picks as a text; the words for the facts are lent.
 fn build_text_in(
     question: &[u8],
@@ -76,7 +100,7 @@ fn build_text_in(
     steps: &mut [u32],
     facts: &mut [u64],
 ) -> Reply
-    requires { ⌜ FactsRoom (now site) 16 (length (now facts)) × (bit (now facts) ≡ λ i. false) ⌝ }
+    requires { ⌜ FactsRoom (now site) 64 (length (now facts)) × (bit (now facts) ≡ λ i. false) ⌝ }
     ensures { λ r. ⌜ Answers usual (now (question .entry)) (now (site .entry)) (asText (now (picks .entry))) (now (state .entry)) (now (steps .entry)) r (now (state .exit)) (now (steps .exit)) ⌝ }
 {
     let mut table = [0usize; ground::TABLE];
@@ -92,15 +116,13 @@ fn build_text_in(
     if f.fault != 0 {
         return Reply::Refused(f.fault, f.place);
     }
-    let mut words = [0u64; asking::PICKS];
     let o = f.o;
-    let sig = o.sig;
-    let n = o.n;
-    let a = sheets::picks(question, sig, picks, n, &mut words);
-    match a {
-        Answer::Refused(k, place) => Reply::Refused(k, place),
-        Answer::Done(_) => build_picks(f, facts, &table, &words, state, steps),
+    if o.n <= asking::SMALL_SIZE {
+        let mut few = [0u64; asking::FEW_PICKS];
+        return build_listed(question, f, facts, &table, picks, &mut few, state, steps);
     }
+    let mut words = [0u64; asking::PICKS];
+    build_listed(question, f, facts, &table, picks, &mut words, state, steps)
 }
 
 // Builds steps from picks that are handed over as a text.
@@ -115,6 +137,10 @@ pub fn build_text(
     ensures state { λ r. ⌜ now (state .exit) ≡ buildSteps usual (now (question .entry)) (now (site .entry)) (asText (now (picks .entry))) (now (state .entry)) (now (steps .entry)) .state ⌝ }
     ensures steps { λ r. ⌜ now (steps .exit) ≡ buildSteps usual (now (question .entry)) (now (site .entry)) (asText (now (picks .entry))) (now (state .entry)) (now (steps .entry)) .steps ⌝ }
 {
+    if asking::is_small(site) {
+        let mut few = [0u64; asking::FEW];
+        return build_text_in(question, site, picks, state, steps, &mut few);
+    }
     let mut facts = [0u64; asking::FACTS];
     build_text_in(question, site, picks, state, steps, &mut facts)
 }
@@ -128,7 +154,7 @@ fn build_lent_in(
     steps: &mut [u32],
     facts: &mut [u64],
 ) -> Reply
-    requires { ⌜ FactsRoom (now site) 16 (length (now facts)) × (bit (now facts) ≡ λ i. false) ⌝ }
+    requires { ⌜ FactsRoom (now site) 64 (length (now facts)) × (bit (now facts) ≡ λ i. false) ⌝ }
     ensures { λ r. ⌜ Answers usual (now (question .entry)) (now (site .entry)) (asNumbers (now (picks .entry))) (now (state .entry)) (now (steps .entry)) r (now (state .exit)) (now (steps .exit)) ⌝ }
 {
     let mut table = [0usize; ground::TABLE];
@@ -159,6 +185,10 @@ pub fn build_lent(
     ensures state { λ r. ⌜ now (state .exit) ≡ buildSteps usual (now (question .entry)) (now (site .entry)) (asNumbers (now (picks .entry))) (now (state .entry)) (now (steps .entry)) .state ⌝ }
     ensures steps { λ r. ⌜ now (steps .exit) ≡ buildSteps usual (now (question .entry)) (now (site .entry)) (asNumbers (now (picks .entry))) (now (state .entry)) (now (steps .entry)) .steps ⌝ }
 {
+    if asking::is_small(site) {
+        let mut few = [0u64; asking::FEW];
+        return build_lent_in(question, site, picks, state, steps, &mut few);
+    }
     let mut facts = [0u64; asking::FACTS];
     build_lent_in(question, site, picks, state, steps, &mut facts)
 }

@@ -1,5 +1,5 @@
 // Makes the public calls that the script on standard input asks for, and writes each reply with the buffers that were lent. A buffer
-// begins as sevens and is written whole, so that a word that should have stayed shows.
+// begins as sevens and is written whole, so that a word that should have stayed shows; sevens at its end are only counted, as in ` 7*12`.
 //
 // The script's lines, words a space apart and numbers in decimal:
 //
@@ -7,18 +7,18 @@
 //     question                  the lines that follow, up to a line with a full stop alone, are the question of the calls below
 //     site                      the same, the site
 //     text                      the same, the steps or the picks that are sent as a text
-//     lent N N ..               these numbers are the steps or the picks that are lent to the calls below, at most 80
+//     lent N N ..               these numbers are the steps or the picks that are lent to the calls below, at most 200
 //     sizes                     the sizes
 //     action K                  the action of the number K
-//     check_text STATE          checks the text's steps: of 8 words the first STATE are lent for the state
+//     check_text STATE          checks the text's steps: of 400 words the first STATE are lent for the state
 //     check_lent STATE          checks the lent steps
-//     picks_text PICKS STATE    reads the picks of the text's steps: of 4 words the first PICKS are lent, of 16 words the first STATE
+//     picks_text PICKS STATE    reads the picks of the text's steps: of 4 words the first PICKS are lent
 //     picks_lent PICKS STATE    reads the picks of the lent steps
-//     build_text STATE STEPS    builds the steps of the text's picks: of 16 words the first STATE are lent, of 200 steps the first STEPS
+//     build_text STATE STEPS    builds the steps of the text's picks: of 200 steps the first STEPS are lent
 //     build_lent STATE STEPS    builds the steps of the lent picks
 //
 // Of the steps that were built one more than was lent is written. Any other line ends the run, and is written, with all that follows it,
-// under a word that says so. A script has 65,536 bytes at the most; what follows them is not read.
+// under a word that says so. A script has 131,072 bytes at the most; what follows them is not read.
 ghost use Prim.Native.Nat.{_≤_, _<_};
 ghost use lib.ListN.{length};
 use asking::Reply;
@@ -70,14 +70,39 @@ fn reply(what: &[u8], r: Reply) {
     }
 }
 
+// So many sevens.
+fn sevens(k: usize) {
+    if k == 0 {
+        return;
+    }
+    io::write_all(1, b" 7*");
+    io::print_decimal(1, k as u64);
+}
+
+// How many words there are in front of the sevens at the end.
+fn front(w: &[u64]) -> usize
+    ensures { λ r. ⌜ r ≤ length (now (w .entry)) ⌝ }
+{
+    let mut n = w.len();
+    while 0 < n {
+        if w[n - 1] != 7 {
+            return n;
+        }
+        n -= 1;
+    }
+    n
+}
+
 // Words after the name of their buffer.
 fn words(what: &[u8], w: &[u64]) {
     io::write_all(1, what);
+    let n = front(w);
     let mut i = 0;
-    while i < w.len() {
+    while i < n {
         number(w[i]);
         i += 1;
     }
+    sevens(w.len() - n);
 }
 
 // One step.
@@ -398,14 +423,14 @@ fn call_on_steps(
     b: usize,
 ) -> bool {
     let mut picks = [7u64; 4];
-    let mut state = [7u64; 16];
+    let mut state = [7u64; 400];
     let n = lent.len();
     if list.len() < n {
         return false;
     }
     if narrow(lent, list) {
         if name == 8 {
-            return check_lent(question, site, &list[..n], &mut state[..8], a);
+            return check_lent(question, site, &list[..n], &mut state, a);
         }
         return picks_lent(question, site, &list[..n], &mut picks, a, &mut state, b);
     }
@@ -415,10 +440,10 @@ fn call_on_steps(
 // The calls on a text, with up to two lengths.
 fn call_on_text(question: &[u8], site: &[u8], text: &[u8], name: u32, a: usize, b: usize) -> bool {
     let mut picks = [7u64; 4];
-    let mut state = [7u64; 16];
+    let mut state = [7u64; 400];
     let mut list = [7u32; 201];
     if name == 7 {
-        return check_text(question, site, text, &mut state[..8], a);
+        return check_text(question, site, text, &mut state, a);
     }
     if name == 9 {
         return picks_text(question, site, text, &mut picks, a, &mut state, b);
@@ -428,7 +453,7 @@ fn call_on_text(question: &[u8], site: &[u8], text: &[u8], name: u32, a: usize, 
 
 // The call on lent picks, with two lengths.
 fn call_on_picks(question: &[u8], site: &[u8], lent: &[u64], a: usize, b: usize) -> bool {
-    let mut state = [7u64; 16];
+    let mut state = [7u64; 400];
     let mut list = [7u32; 201];
     build_lent(question, site, lent, &mut state, a, &mut list, b)
 }
@@ -567,7 +592,7 @@ fn call(
     if name == 12 {
         return call_on_picks(question, site, lent, a, b);
     }
-    let mut list = [0u32; 80];
+    let mut list = [0u32; 200];
     call_on_steps(question, site, lent, &mut list, name, a, b)
 }
 
@@ -619,7 +644,7 @@ fn turn(s: &[u8], at: usize, end: usize, mut t: Script) -> Script
         return t;
     }
     let mut lengths = [0u64; 2];
-    let mut lent = [0u64; 80];
+    let mut lent = [0u64; 200];
     if make(s, t, line, w, k, &mut lengths, &mut lent) {
         io::write_all(1, b"\n");
         return t;
@@ -662,7 +687,7 @@ fn run(s: &[u8]) -> Found {
 
 // Runs the script.
 fn main() {
-    let mut script = [0u8; 65536];
+    let mut script = [0u8; 131072];
     let count = io::read_full(0, &mut script);
     let r = run(&script[..count]);
     match r {

@@ -67,7 +67,7 @@ pub enum Asked {
 
 // The action of number k, with the lent words for the site's facts.
 fn action_in(question: &[u8], site: &[u8], k: usize, facts: &mut [u64]) -> Asked
-    requires { ⌜ FactsRoom (now site) 16 (length (now facts)) × (bit (now facts) ≡ λ i. false) ⌝ }
+    requires { ⌜ FactsRoom (now site) 64 (length (now facts)) × (bit (now facts) ≡ λ i. false) ⌝ }
     ensures { λ r. ⌜ actionOf r ≡ found («action-of» usual (now (question .entry)) (now (site .entry)) k) ⌝ }
 {
     let mut table = [0usize; ground::TABLE];
@@ -98,6 +98,10 @@ fn action_in(question: &[u8], site: &[u8], k: usize, facts: &mut [u64]) -> Asked
 pub fn action(question: &[u8], site: &[u8], k: usize) -> Asked
     ensures { λ r. ⌜ actionOf r ≡ found («action-of» usual (now (question .entry)) (now (site .entry)) k) ⌝ }
 {
+    if asking::is_small(site) {
+        let mut few = [0u64; asking::FEW];
+        return action_in(question, site, k, &mut few);
+    }
     let mut facts = [0u64; asking::FACTS];
     action_in(question, site, k, &mut facts)
 }
@@ -141,15 +145,17 @@ fn check_listed(
     }
 }
 
-// Checks steps that are handed over as a text, with the lent words for the site's facts.
-fn check_text_in(
+// Checks steps that are handed over as a text, with the lent words for the site's facts and the lent list for the steps.
+fn check_text_with(
     question: &[u8],
     site: &[u8],
     steps: &[u8],
     state: &mut [u64],
     facts: &mut [u64],
+    list: &mut [u32],
 ) -> Reply
-    requires { ⌜ FactsRoom (now site) 16 (length (now facts)) × (bit (now facts) ≡ λ i. false) ⌝ }
+    requires { ⌜ FactsRoom (now site) 64 (length (now facts)) × (bit (now facts) ≡ λ i. false) ⌝ }
+    requires { ⌜ RoomFor (now steps) (length (now list)) ⌝ }
     ensures { λ r. ⌜ Checked usual (now (question .entry)) (now (site .entry)) (asText (now (steps .entry))) (now (state .entry)) r (now (state .exit)) ⌝ }
 {
     let mut table = [0usize; ground::TABLE];
@@ -165,21 +171,26 @@ fn check_text_in(
     if f.fault != 0 {
         return Reply::Refused(f.fault, f.place);
     }
-    if steps.len() <= sheets::SHORT {
-        let mut few = [0u32; sheets::FEW];
-        return check_listed(f, facts, &table, steps, &mut few, state);
-    }
-    let mut list = [0u32; sheets::STEPS];
-    check_listed(f, facts, &table, steps, &mut list, state)
+    check_listed(f, facts, &table, steps, list, state)
 }
 
-// Checks steps that are handed over as a text.
-pub fn check_text(question: &[u8], site: &[u8], steps: &[u8], state: &mut [u64]) -> Reply
-    ensures answer { λ r. ⌜ resultOf r ≡ checkSteps usual (now (question .entry)) (now (site .entry)) (asText (now (steps .entry))) (now (state .entry)) .answer ⌝ }
-    ensures left { λ r. ⌜ now (state .exit) ≡ checkSteps usual (now (question .entry)) (now (site .entry)) (asText (now (steps .entry))) (now (state .entry)) .state ⌝ }
+// The same with a list that goes by the text's length.
+fn check_text_in(
+    question: &[u8],
+    site: &[u8],
+    steps: &[u8],
+    state: &mut [u64],
+    facts: &mut [u64],
+) -> Reply
+    requires { ⌜ FactsRoom (now site) 64 (length (now facts)) × (bit (now facts) ≡ λ i. false) ⌝ }
+    ensures { λ r. ⌜ Checked usual (now (question .entry)) (now (site .entry)) (asText (now (steps .entry))) (now (state .entry)) r (now (state .exit)) ⌝ }
 {
-    let mut facts = [0u64; asking::FACTS];
-    check_text_in(question, site, steps, state, &mut facts)
+    if steps.len() <= sheets::LONG {
+        let mut many = [0u32; sheets::MANY];
+        return check_text_with(question, site, steps, state, facts, &mut many);
+    }
+    let mut list = [0u32; sheets::STEPS];
+    check_text_with(question, site, steps, state, facts, &mut list)
 }
 
 // Checks steps that are lent as numbers, with the lent words for the site's facts.
@@ -190,7 +201,7 @@ fn check_lent_in(
     state: &mut [u64],
     facts: &mut [u64],
 ) -> Reply
-    requires { ⌜ FactsRoom (now site) 16 (length (now facts)) × (bit (now facts) ≡ λ i. false) ⌝ }
+    requires { ⌜ FactsRoom (now site) 64 (length (now facts)) × (bit (now facts) ≡ λ i. false) ⌝ }
     ensures { λ r. ⌜ Checked usual (now (question .entry)) (now (site .entry)) (asNumbers (now (steps .entry))) (now (state .entry)) r (now (state .exit)) ⌝ }
 {
     let mut table = [0usize; ground::TABLE];
@@ -212,11 +223,44 @@ fn check_lent_in(
     check_steps(f, facts, &table, steps, state)
 }
 
+// The same for a site that is not small or a text that is not short. The long arrays stand here and not in the call, so that a small
+// case makes no room for them.
+fn check_text_wide(question: &[u8], site: &[u8], steps: &[u8], state: &mut [u64]) -> Reply
+    ensures { λ r. ⌜ Checked usual (now (question .entry)) (now (site .entry)) (asText (now (steps .entry))) (now (state .entry)) r (now (state .exit)) ⌝ }
+{
+    if asking::is_small(site) {
+        let mut few = [0u64; asking::FEW];
+        return check_text_in(question, site, steps, state, &mut few);
+    }
+    let mut facts = [0u64; asking::FACTS];
+    check_text_in(question, site, steps, state, &mut facts)
+}
+
+// Checks steps that are handed over as a text.
+pub fn check_text(question: &[u8], site: &[u8], steps: &[u8], state: &mut [u64]) -> Reply
+    ensures answer { λ r. ⌜ resultOf r ≡ checkSteps usual (now (question .entry)) (now (site .entry)) (asText (now (steps .entry))) (now (state .entry)) .answer ⌝ }
+    ensures left { λ r. ⌜ now (state .exit) ≡ checkSteps usual (now (question .entry)) (now (site .entry)) (asText (now (steps .entry))) (now (state .entry)) .state ⌝ }
+{
+    if steps.len() <= sheets::SHORT {
+        if asking::is_small(site) {
+            let mut few = [0u64; asking::FEW];
+            let mut list = [0u32; sheets::FEW];
+            return check_text_with(question, site, steps, state, &mut few, &mut list);
+        }
+        return check_text_wide(question, site, steps, state);
+    }
+    check_text_wide(question, site, steps, state)
+}
+
 // Checks steps that are lent as numbers.
 pub fn check_lent(question: &[u8], site: &[u8], steps: &[u32], state: &mut [u64]) -> Reply
     ensures answer { λ r. ⌜ resultOf r ≡ checkSteps usual (now (question .entry)) (now (site .entry)) (asNumbers (now (steps .entry))) (now (state .entry)) .answer ⌝ }
     ensures left { λ r. ⌜ now (state .exit) ≡ checkSteps usual (now (question .entry)) (now (site .entry)) (asNumbers (now (steps .entry))) (now (state .entry)) .state ⌝ }
 {
+    if asking::is_small(site) {
+        let mut few = [0u64; asking::FEW];
+        return check_lent_in(question, site, steps, state, &mut few);
+    }
     let mut facts = [0u64; asking::FACTS];
     check_lent_in(question, site, steps, state, &mut facts)
 }

@@ -36,7 +36,7 @@ pub enum Tallied {
 
 // The tally of a question and a site, with the lent words for the site's facts.
 fn tally_in(question: &[u8], site: &[u8], facts: &mut [u64]) -> Tallied
-    requires { ⌜ FactsRoom (now site) 16 (length (now facts)) × (bit (now facts) ≡ λ i. false) ⌝ }
+    requires { ⌜ FactsRoom (now site) 64 (length (now facts)) × (bit (now facts) ≡ λ i. false) ⌝ }
     ensures { λ r. ⌜ talliedOf r ≡ «tally-of» usual (now (question .entry)) (now (site .entry)) ⌝ }
 {
     let o = sheets::read_case(question, site, asking::ELEMENTS, facts);
@@ -51,6 +51,10 @@ fn tally_in(question: &[u8], site: &[u8], facts: &mut [u64]) -> Tallied
 pub fn tally(question: &[u8], site: &[u8]) -> Tallied
     ensures { λ r. ⌜ talliedOf r ≡ «tally-of» usual (now (question .entry)) (now (site .entry)) ⌝ }
 {
+    if asking::is_small(site) {
+        let mut few = [0u64; asking::FEW];
+        return tally_in(question, site, &mut few);
+    }
     let mut facts = [0u64; asking::FACTS];
     tally_in(question, site, &mut facts)
 }

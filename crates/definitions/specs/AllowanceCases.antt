@@ -62,7 +62,7 @@ table =
     ∷ allows deepQ "size\t3\n" (0 ∷ 0 ∷ []) (7 ∷ 19 ∷ [])
     -- refusals: the question, the site, 11 before 12, 12 by the number of `choose` lines
     ∷ refuses "choose\tT\t1\n" "" [] 3 11
-    ∷ refuses oneQ "size\t17\n" [] 9 0
+    ∷ refuses oneQ "size\t65\n" [] 9 0
     ∷ refuses unusedQ "size\t5\n" (7 ∷ []) 12 2
     ∷ refuses oneQ oneS [] 12 1
     -- one pick more, and the allowance itself more steps

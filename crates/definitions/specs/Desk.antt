@@ -4,7 +4,7 @@ use mathlib.Core.Bool.{Bool, false, _||_}
 use mathlib.Core.List.{List, [], _∷_, _++_, map}
 use lib.ListN.{length, take, drop}
 use lib.Dec.{ltb}
-use Rattle.definitions.specs.Limits.{usual, deskBytes, deskSteps, deskWords}
+use Rattle.definitions.specs.Limits.{early, deskBytes, deskSteps, deskWords}
 use Rattle.definitions.specs.Lists.{if_then_else_, same, flatMap}
 use Rattle.definitions.specs.Text.{bytes, decimal, Line, lines, fields}
 use Rattle.definitions.specs.Refusal.{Result, refused, accepted, _>>=_, refuseIf}
@@ -92,7 +92,7 @@ printed (accepted r) = report r
 
 unfoldable pub checkedPlan : List ℕ → List ℕ → List ℕ → Result Plan
 checkedPlan question site steps = do
-  r ← readyToRun usual question site (asText steps) (λ p. roomFor (stateLength p) deskWords)
+  r ← readyToRun early question site (asText steps) (λ p. roomFor (stateLength p) deskWords)
   _ ← run (r .problem) (r .third) .answer
   accepted (record { problem = r .problem; picks = picksOf (r .problem) (r .third); steps = r .third })
 
@@ -103,7 +103,7 @@ startsWithStep (l ∷ ls) = isStep l
 unfoldable pub answerOf : Sheets → Result Plan
 answerOf s =
     if startsWithStep (lines (s .rest)) then checkedPlan (s .question) (s .site) (s .rest)
-    else plan usual (s .question) (s .site) (asText (s .rest)) deskWords deskSteps
+    else plan early (s .question) (s .site) (asText (s .rest)) deskWords deskSteps
 
 -- more input than the program reads is 1
 unfoldable pub answer : List ℕ → Result Plan

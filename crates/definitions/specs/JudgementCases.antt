@@ -10,7 +10,7 @@ use Rattle.definitions.specs.Text.{bytes}
 use Rattle.definitions.specs.Outcome.{Given, asText, asNumbers}
 use Rattle.definitions.specs.Opened.{everything}
 use Rattle.definitions.specs.Drawer
-use Rattle.definitions.specs.Whole.{replies, funQ, twoQ, overQ, twoS, sixteenS}
+use Rattle.definitions.specs.Whole.{replies, funQ, twoQ, overQ, twoS, sixtyFourS}
 use Rattle.definitions.specs.Judgement.{judge}
 
 -- a question, a site and picks, and the reply's number and place
@@ -48,14 +48,14 @@ rows =
     ∷ judged bothQ twoS (asNumbers (0 ∷ 19 ∷ [])) 10 1
     ∷ judged bothQ twoS (asNumbers (4 ∷ [])) 12 2
     -- 11 before 12, and it is no yes; a text that is refused before 11
-    ∷ judged overQ sixteenS (asNumbers []) 11 0
-    ∷ judged overQ sixteenS (asText []) 11 0
-    ∷ judged overQ sixteenS (asText (bytes "x\n")) 2 0
+    ∷ judged overQ sixtyFourS (asNumbers []) 11 0
+    ∷ judged overQ sixtyFourS (asText []) 11 0
+    ∷ judged overQ sixtyFourS (asText (bytes "x\n")) 2 0
     -- the question first, then the site
     ∷ judged "x\n" "x\n" (asText (bytes "x\n")) 2 0
     ∷ judged Drawer.oneQ "size\t0\n" (asText (bytes "x\n")) 9 0
     ∷ []
 
 pub rows-are-so : all isSo rows ≡ true
-unfolding everything judge judged isSo rows replies bothQ funQ twoQ overQ twoS sixteenS Drawer.oneQ Drawer.oneS
+unfolding everything judge judged isSo rows replies bothQ funQ twoQ overQ twoS sixtyFourS Drawer.oneQ Drawer.oneS
 rows-are-so = refl

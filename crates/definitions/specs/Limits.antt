@@ -4,7 +4,7 @@ use Prim.Native.Nat.{ℕ}
 -- "The sheets": bytes of a text, digits of a number, bytes of a relation's name and of a variable, arity, lines of each kind,
 -- variables in one list, brackets open at one time
 abbrev pub textLimit : ℕ
-textLimit = 65536
+textLimit = 1048576
 
 abbrev pub digitLimit : ℕ
 digitLimit = 7
@@ -45,13 +45,17 @@ pub record CaseLimits : Type 0 where
   pub actions : ℕ
 
 abbrev pub usual : CaseLimits
-usual = record { elements = 16; atoms = 65536; actions = 131072 }
+usual = record { elements = 64; atoms = 1048576; actions = 4194304 }
+
+-- the limits of document 01, which the desk program keeps
+abbrev pub early : CaseLimits
+early = record { elements = 16; atoms = 65536; actions = 131072 }
 
 -- "Refusal sheet": steps handed over
 abbrev pub stepLimit : ℕ
-stepLimit = 65536
+stepLimit = 1048576
 
--- "The desk program": bytes it reads, steps it has space for, words of its state (enough for all the atoms of a usual case)
+-- "The desk program": bytes it reads, steps it has space for, words of its state (enough for all the atoms of an early case)
 abbrev pub deskBytes : ℕ
 deskBytes = 16384
 

@@ -51,9 +51,9 @@ table =
     ∷ visits satQ satS (0 ∷ 1 ∷ 2 ∷ 3 ∷ 4 ∷ [])
     ∷ visits wideQ "size\t2\n" (0 ∷ 1 ∷ 2 ∷ 3 ∷ 4 ∷ 5 ∷ 6 ∷ 7 ∷ [])
     -- over both limits, and counted all the same; an `or` has an action for each part
-    ∷ counts wideQ "size\t16\n" 8 333683 659746 332066
+    ∷ counts wideQ "size\t64\n" 8 84177347 168038530 84152450
     ∷ refuses "choose\tT\t1\n" "" 3 11
-    ∷ refuses oneQ "size\t17\n" 9 0
+    ∷ refuses oneQ "size\t65\n" 9 0
     ∷ []
 
 pub table-is-so : all isSo table ≡ true

@@ -52,12 +52,12 @@ rows =
     one (0 ∷ 1 ∷ 2 ∷ 3 ∷ 4 ∷ []) (list 0 4 ∷ list 0 4 ∷ list 1 3 ∷ list 4 1 ∷ list 0 3 ∷ []) (7 ∷ 7 ∷ []) (0 ∷ 4 ∷ 0 ∷ 4 ∷ 0 ∷ 4 ∷ 0 ∷ 4 ∷ 1 ∷ 3 ∷ 14 ∷ 1 ∷ 4 ∷ 1 ∷ 13 ∷ 0 ∷ 0 ∷ 3 ∷ 15 ∷ 3 ∷ []) (19273 ∷ 7 ∷ [])
     -- an empty list, at the end of the steps too; one past the end is 12, with the sum
     ∷ one (0 ∷ 1 ∷ []) (list 0 0 ∷ list 2 0 ∷ list 3 0 ∷ list 1 2 ∷ []) (7 ∷ []) (0 ∷ 0 ∷ 15 ∷ 0 ∷ 2 ∷ 0 ∷ 15 ∷ 0 ∷ 3 ∷ 0 ∷ 12 ∷ 3 ∷ 1 ∷ 2 ∷ 12 ∷ 3 ∷ []) (19273 ∷ [])
-    -- a sum past 2^32; 65,536 steps are not too many, one more is 1 and not 12; the list after them is still tried
+    -- a sum past 2^32; 1,048,576 steps are not too many, one more is 1 and not 12; the list after them is still tried
     ∷ one
     (0 ∷ 1 ∷ 2 ∷ 3 ∷ [])
-    (list 4294967295 4 ∷ list 0 65536 ∷ list 0 65537 ∷ list 4294967295 4294967295 ∷ list 0 4 ∷ [])
+    (list 4294967295 4 ∷ list 0 1048576 ∷ list 0 1048577 ∷ list 4294967295 4294967295 ∷ list 0 4 ∷ [])
     (7 ∷ [])
-    (4294967295 ∷ 4 ∷ 12 ∷ 4294967299 ∷ 0 ∷ 65536 ∷ 12 ∷ 65536 ∷ 0 ∷ 65537 ∷ 1 ∷ 0 ∷ 4294967295 ∷ 4294967295 ∷ 1 ∷ 0 ∷ 0 ∷ 4 ∷ 0 ∷ 4 ∷ [])
+    (4294967295 ∷ 4 ∷ 12 ∷ 4294967299 ∷ 0 ∷ 1048576 ∷ 12 ∷ 1048576 ∷ 0 ∷ 1048577 ∷ 1 ∷ 0 ∷ 4294967295 ∷ 4294967295 ∷ 1 ∷ 0 ∷ 0 ∷ 4 ∷ 0 ∷ 4 ∷ [])
     (19273 ∷ [])
     -- two lists, the second of which could be taken only where the first ended
     ∷ one (0 ∷ 1 ∷ 2 ∷ 3 ∷ []) (list 0 2 ∷ list 2 2 ∷ []) (7 ∷ []) (0 ∷ 2 ∷ 15 ∷ 2 ∷ 2 ∷ 2 ∷ 14 ∷ 0 ∷ []) (19273 ∷ [])
@@ -66,8 +66,8 @@ rows =
     -- no room for the state; a question, a site and atoms that are refused
     ∷ refusedCase oneQ oneS [] 12 1
     ∷ refusedCase "choose\tT\t1\n" oneS (7 ∷ []) 3 11
-    ∷ refusedCase oneQ "size\t17\n" (7 ∷ []) 9 0
-    ∷ refusedCase "choose\tT\t1\nrule\t(forall (?a ?b ?c ?d) (or (LT ?a ?b) (LT ?c ?d)))\n" "size\t16\n" (7 ∷ []) 11 0
+    ∷ refusedCase oneQ "size\t65\n" (7 ∷ []) 9 0
+    ∷ refusedCase "choose\tT\t1\nrule\t(forall (?a ?b ?c ?d) (or (LT ?a ?b) (LT ?c ?d)))\n" "size\t64\n" (7 ∷ []) 11 0
     ∷ []
 
 pub rows-are-so : all isSo rows ≡ true

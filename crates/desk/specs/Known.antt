@@ -6,7 +6,7 @@ use mathlib.Core.List.{List, _++_}
 use native.Mathlib.Nat.{pow-le-pow-left}
 use native.Mathlib.Omega.{arith}
 use lib.ListN.{length}
-use Rattle.definitions.specs.Limits.{CaseLimits, usual}
+use Rattle.definitions.specs.Limits.{CaseLimits, early}
 use Rattle.definitions.specs.Refusal.{Result, accepted}
 use Rattle.definitions.specs.Relations.{Tuple}
 use Rattle.definitions.specs.Truth.{Case}
@@ -29,7 +29,7 @@ use Rattle.desk.specs.Replied.{Reportable, reportOf}
 
 -- the limits of the desk program
 abbrev pub own : CaseLimits
-own = usual
+own = early
 
 -- the case that was read from the question and the site
 pub record Known (question site : List ℕ) (f : Front) (facts table : List ℕ) : Type 0 where

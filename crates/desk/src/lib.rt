@@ -3,7 +3,7 @@ ghost use mathlib.Core.Path.{_≡_};
 ghost use mathlib.Core.List.{List};
 ghost use Prim.Native.Nat.{ℕ, _≤_};
 ghost use lib.ListN.{length};
-ghost use Rattle.definitions.specs.Limits.{usual};
+ghost use Rattle.definitions.specs.Limits.{early};
 ghost use Rattle.definitions.specs.Refusal.{refused, accepted};
 ghost use Rattle.definitions.specs.Relations.{Tuple};
 ghost use Rattle.definitions.specs.Outcome.{written, asText, takeSteps, plan};
@@ -124,7 +124,7 @@ fn build_case(
 ) -> usize
     requires { ⌜ IsPicked (now question) f (now facts) (now table) (now picks) × (256 ≤ length (now picks)) × (573952 ≤ length (now out)) ⌝ }
     ensures { λ r. ⌜ ((site text : List ℕ) (F : List Tuple) (k : Known (now (question .entry)) site f (now (facts .entry)) (now (table .entry))) → Picked (now (question .entry)) (k .case) (f .o) text F (now (picks .entry))
-        → Replies (printed (plan usual (now (question .entry)) site (asText text) 1024 8192)) (now (out .entry)) (now (out .exit)) r) ⌝ }
+        → Replies (printed (plan early (now (question .entry)) site (asText text) 1024 8192)) (now (out .entry)) (now (out .exit)) r) ⌝ }
 {
     let m = f.m;
     if m.over {
@@ -146,7 +146,7 @@ fn build_case(
 // From any other third sheet, which has picks, steps are built.
 fn build(out: &mut [u8], question: &[u8], site: &[u8], text: &[u8]) -> usize
     requires { ⌜ 573952 ≤ length (now out) ⌝ }
-    ensures { λ r. ⌜ Replies (printed (plan usual (now (question .entry)) (now (site .entry)) (asText (now (text .entry))) 1024 8192)) (now (out .entry)) (now (out .exit)) r ⌝ }
+    ensures { λ r. ⌜ Replies (printed (plan early (now (question .entry)) (now (site .entry)) (asText (now (text .entry))) 1024 8192)) (now (out .entry)) (now (out .exit)) r ⌝ }
 {
     let mut facts = [0u64; FACTS];
     let mut table = [0usize; ground::TABLE];

@@ -1,18 +1,19 @@
 -- What the calls answer, by what was read: the case is refused, the picks' text is, or words are judged.
-use Prim.Native.Nat.{ℕ, _+_, _≤_}
-use mathlib.Core.Path.{_≡_, refl, sym, _∙_}
+use Prim.Native.Nat.{ℕ, _+_, _*_, _^_, _≤_}
+use mathlib.Core.Path.{_≡_, refl, sym, subst, _∙_}
 use mathlib.Core.Bool.{Bool}
 use mathlib.Core.List.{List}
 use native.Mathlib.Omega.{arith}
 use lib.ListN.{length}
 use Rattle.definitions.specs.Limits.{usual}
 use Rattle.definitions.specs.Sheets.{readPicks}
+use Rattle.definitions.specs.Atoms.{wordsFor}
 use Rattle.definitions.specs.Outcome.{Given, asText, asNumbers, readCase}
 use Rattle.definitions.specs.Judgement.{judge}
 use Rattle.laws.specs.Asked as Order
 use Rattle.laws.specs.Reader.{Accepted, gives-if, case-fits}
 use Rattle.bits.specs.Table.{bit}
-use Rattle.names.specs.Signatures.{Sound, chosenOf}
+use Rattle.names.specs.Signatures.{chosenOf}
 use Rattle.sheets.specs.declared.Answer.{Answer}
 use Rattle.sheets.specs.declared.Answer.the-variants.{Done, Refused as Bad}
 use Rattle.sheets.specs.Reading.{answered, PicksIn, PicksRoom}
@@ -21,7 +22,7 @@ use Rattle.sheets.specs.declared.Opened.{Opened}
 use Rattle.sheets.specs.Opening.{CaseRead, case-refused, case-read}
 use Rattle.asking.specs.declared.Reply.{Reply}
 use Rattle.asking.specs.declared.Reply.the-variants.{Refused}
-use Rattle.asking.specs.Elements.{picks-enough, few-picks}
+use Rattle.asking.specs.Elements.{picks-enough}
 use Rattle.asking.specs.Replies.{resultOf}
 use Rattle.picks.specs.Picked.{text-read}
 use Rattle.picks.specs.Handed.{text-handed, lent-handed}
@@ -38,11 +39,13 @@ module _ (question site : List ℕ) (o : Opened) (facts : ℕ → Bool) (read : 
         let (c, e, h) = case-read usual question site o facts read z in
         record { case = c; accepted-case = gives-if Accepted (readCase usual question site) c e (case-fits usual (omega arith) question site); holds = h }
 
-    -- what reading picks asks for
-    pub picks-asked : (room : ℕ) → 256 ≤ room → Sound question (o .sig) × (o .n ≤ 64) × PicksRoom (o .sig) (o .n) room
-    picks-asked room l =
-        let (c, e, h) = case-read usual question site o facts read z in
-        (h .sound, h .few-elements, picks-enough usual question site c o facts e h room (few-picks room l))
+    -- words for the picks of every text
+    pub picks-asked : (most room : ℕ) → o .n ≤ most → 4 * wordsFor (most ^ 3) ≤ room → PicksRoom (o .sig) (o .n) room
+    picks-asked most room n l = let (c, e, h) = case-read usual question site o facts read z in picks-enough question c o facts h most room n l
+
+    -- at most as many elements
+    pub few-elements : o .n ≤ 64
+    few-elements = let (c, e, h) = case-read usual question site o facts read z in h .few-elements
 
     -- picks as a text
     module _ (text : List ℕ) (a : Answer) (q : a ≡ answered length (readPicks (chosenOf question (o .sig)) (5 + o .sig .rels) (o .n) text)) where
@@ -54,14 +57,14 @@ module _ (question site : List ℕ) (o : Opened) (facts : ℕ → Bool) (read : 
           let t = sym (text-read question c A o facts h text) ∙ sheet-refused length _ a k place q w in
           ends usual question site (asText text) k place (Order.third-refused usual question site _ _ _ _ c e k place t) (Refused k place) refl
 
-      pub call-text : (k : ℕ) → a ≡ Done k → (words : List ℕ) → 256 ≤ length words → PicksIn (o .sig) (o .n) (readPicks (chosenOf question (o .sig)) (5 + o .sig .rels) (o .n) text) (bit words)
+      pub call-text : (k : ℕ) → a ≡ Done k → (words : List ℕ) (room : ℕ) → length words ≡ room → PicksRoom (o .sig) (o .n) room → PicksIn (o .sig) (o .n) (readPicks (chosenOf question (o .sig)) (5 + o .sig .rels) (o .n) text) (bit words)
           → (r : Reply) → FromWords question o facts words r → resultOf r ≡ judge usual question site (asText text)
-      call-text k w words room held r b =
+      call-text k w words room l enough held r b =
           let (c, e, h) = case-read usual question site o facts read z in
           let A = gives-if Accepted (readCase usual question site) c e (case-fits usual (omega arith) question site) in
           let (F, f, _) = sheet-read length _ a k q w in
           let t = sym (text-read question c A o facts h text) ∙ f in
-          b .judges site (asText text) c e h A F F (text-handed question c A o facts h text F t words (b .fit) (picks-asked (length words) room .2) held)
+          b .judges site (asText text) c e h A F F (text-handed question c A o facts h text F t words (b .fit) (subst (λ (k : ℕ). PicksRoom (o .sig) (o .n) k) (sym l) enough) held)
 
     -- picks as words
     pub call-lent : (words : List ℕ) (r : Reply) → FromWords question o facts words r → resultOf r ≡ judge usual question site (asNumbers words)

@@ -16,7 +16,7 @@ use Rattle.definitions.specs.Truth.{Case, arePicks, ruleIsTrue, firstOfOtherKin
 use Rattle.definitions.specs.Atoms.{Problem, problemOf, problemWith, relationAt, atoms}
 use Rattle.definitions.specs.Actions.{actions}
 use Rattle.definitions.specs.Built.{chosenNumbers}
-use Rattle.definitions.specs.Outcome.{readCase, ground, Ready, asked, nothing, Given, picksRoom, textPicks, takePicks, picksLength, spareWord, kindRefusal, satisfying}
+use Rattle.definitions.specs.Outcome.{readCase, ground, Ready, asked, nothing, Given, asText, picksRoom, textPicks, takePicks, picksLength, spareWord, kindRefusal, satisfying}
 use Rattle.definitions.specs.Judgement.{judge}
 use Rattle.laws.specs.Asked as Order
 use Rattle.bits.specs.Table.{bit, Words}
@@ -38,7 +38,7 @@ use Rattle.picks.specs.KindLaws.{kinds-are}
 use Rattle.lines.specs.Lined.{Lined}
 use Rattle.lines.specs.Numbers.{LinesOf}
 use Rattle.sheets.specs.declared.Opened.{Opened}
-use Rattle.sheets.specs.Opening.{Holds}
+use Rattle.sheets.specs.Opening.{Holds, CaseRead}
 use Rattle.asking.specs.declared.Reply.{Reply}
 use Rattle.asking.specs.declared.Reply.the-variants.{Refused, Accepted as Yes}
 use Rattle.asking.specs.Replies.{resultOf}
@@ -79,6 +79,10 @@ pub record FromWords (question : List ℕ) (o : Opened) (facts : ℕ → Bool) (
   pub fit : Words words
   pub judges : (site : List ℕ) (picks : Given) (c : Case) → readCase usual question site ≡ accepted c → Holds question c o facts → Accepted c
       → (given F : List Tuple) → Handed c picks words given F → resultOf r ≡ judge usual question site picks
+
+-- and of picks as a text, whatever site was read
+abbrev pub FromText : List ℕ → Opened → (ℕ → Bool) → List ℕ → Reply → Type 0
+FromText question o facts text r = (site : List ℕ) → CaseRead question (readCase usual question site) o facts → o .fault ≡ 0 → resultOf r ≡ judge usual question site (asText text)
 
 -- ---- lines of a case
 pub lines-of : (c : Case) (n : ℕ) (g : Relations) (t : Nodes) (w : List ℕ) → 0 < n → n ≤ 64 → Fits t → Inputs (problemOf c) n g t → Lined n g t w → LinesOf c n w

@@ -17,10 +17,10 @@ ghost use Rattle.tree.specs.Tables.{Fits as «Tree-fits»};
 ghost use Rattle.ground.specs.Lines.{Fits};
 ghost use Rattle.layout.specs.Laid.{RelationsFit, Inputs};
 ghost use Rattle.initial.specs.Initial.{FactsIn};
-ghost use Rattle.sheets.specs.Reading.{FactsRoom};
+ghost use Rattle.sheets.specs.Reading.{FactsRoom, PicksRoom};
 ghost use Rattle.picks.specs.Words.{PicksAre};
 ghost use Rattle.asking.specs.Replies.{resultOf};
-ghost use Rattle.judging.specs.Judges.{verdict, AcceptedIn, SomeCase, Asks, FromWords};
+ghost use Rattle.judging.specs.Judges.{verdict, AcceptedIn, SomeCase, Asks, FromWords, FromText};
 use asking::Reply;
 use layout::Relations;
 use sheets::Answer;
@@ -84,36 +84,52 @@ fn judge_case(question: &[u8], o: Opened, facts: &[u64], picks: &[u64]) -> Reply
     }
 }
 
+// Of a case that was read, from picks as a text: they are read into the lent words, which are enough and come in cleared.
+fn judge_listed(question: &[u8], o: Opened, facts: &[u64], picks: &[u8], words: &mut [u64]) -> Reply
+    requires { ⌜ AcceptedIn (now question) o (bit (now facts)) ⌝ }
+    requires { ⌜ PicksRoom (o .sig) (o .n) (length (now words)) × (bit (now words) ≡ λ i. false) ⌝ }
+    ensures { λ r. ⌜ FromText (now (question .entry)) o (bit (now (facts .entry))) (now (picks .entry)) r ⌝ }
+{
+    let sig = o.sig;
+    let a = sheets::picks(question, sig, picks, o.n, words);
+    match a {
+        Answer::Refused(k, place) => Reply::Refused(k, place),
+        Answer::Done(_) => judge_case(question, o, facts, words),
+    }
+}
+
 // Judges picks as a text; the words for the facts are lent.
 fn judge_text_in(question: &[u8], site: &[u8], picks: &[u8], facts: &mut [u64]) -> Reply
-    requires { ⌜ FactsRoom (now site) 16 (length (now facts)) × (bit (now facts) ≡ λ i. false) ⌝ }
+    requires { ⌜ FactsRoom (now site) 64 (length (now facts)) × (bit (now facts) ≡ λ i. false) ⌝ }
     ensures { λ r. ⌜ resultOf r ≡ judge usual (now (question .entry)) (now (site .entry)) (asText (now (picks .entry))) ⌝ }
 {
     let o = sheets::read_case(question, site, asking::ELEMENTS, facts);
     if o.fault != 0 {
         return Reply::Refused(o.fault, o.place);
     }
-    let mut words = [0u64; asking::PICKS];
-    let sig = o.sig;
-    let n = o.n;
-    let a = sheets::picks(question, sig, picks, n, &mut words);
-    match a {
-        Answer::Refused(k, place) => Reply::Refused(k, place),
-        Answer::Done(_) => judge_case(question, o, facts, &words),
+    if o.n <= asking::SMALL_SIZE {
+        let mut few = [0u64; asking::FEW_PICKS];
+        return judge_listed(question, o, facts, picks, &mut few);
     }
+    let mut words = [0u64; asking::PICKS];
+    judge_listed(question, o, facts, picks, &mut words)
 }
 
 // Whether the rule is true of picks that are handed over as a text.
 pub fn judge_text(question: &[u8], site: &[u8], picks: &[u8]) -> Reply
     ensures { λ r. ⌜ resultOf r ≡ judge usual (now (question .entry)) (now (site .entry)) (asText (now (picks .entry))) ⌝ }
 {
+    if asking::is_small(site) {
+        let mut few = [0u64; asking::FEW];
+        return judge_text_in(question, site, picks, &mut few);
+    }
     let mut facts = [0u64; asking::FACTS];
     judge_text_in(question, site, picks, &mut facts)
 }
 
 // Judges lent picks; the words for the facts are lent too.
 fn judge_lent_in(question: &[u8], site: &[u8], picks: &[u64], facts: &mut [u64]) -> Reply
-    requires { ⌜ FactsRoom (now site) 16 (length (now facts)) × (bit (now facts) ≡ λ i. false) ⌝ }
+    requires { ⌜ FactsRoom (now site) 64 (length (now facts)) × (bit (now facts) ≡ λ i. false) ⌝ }
     ensures { λ r. ⌜ resultOf r ≡ judge usual (now (question .entry)) (now (site .entry)) (asNumbers (now (picks .entry))) ⌝ }
 {
     let o = sheets::read_case(question, site, asking::ELEMENTS, facts);
@@ -127,6 +143,10 @@ fn judge_lent_in(question: &[u8], site: &[u8], picks: &[u64], facts: &mut [u64])
 pub fn judge_lent(question: &[u8], site: &[u8], picks: &[u64]) -> Reply
     ensures { λ r. ⌜ resultOf r ≡ judge usual (now (question .entry)) (now (site .entry)) (asNumbers (now (picks .entry))) ⌝ }
 {
+    if asking::is_small(site) {
+        let mut few = [0u64; asking::FEW];
+        return judge_lent_in(question, site, picks, &mut few);
+    }
     let mut facts = [0u64; asking::FACTS];
     judge_lent_in(question, site, picks, &mut facts)
 }

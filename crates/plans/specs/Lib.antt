@@ -8,6 +8,7 @@
 --   EndLaws      the way from part to part, and what is lent out, as the code has it
 --   BuildLaws    what `build` finds, as what the definitions give
 --   Starts       the initial state, and what is built from it
+--   Twice        the way followed twice, first with no steps lent, gives the same
 pub mod Setting
 pub mod SetLaws
 pub mod Following
@@ -17,3 +18,4 @@ pub mod BuiltLaws
 pub mod EndLaws
 pub mod BuildLaws
 pub mod Starts
+pub mod Twice

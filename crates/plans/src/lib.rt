@@ -3,11 +3,12 @@
 // lent is written.
 ghost use mathlib.Core.Path.{_≡_};
 ghost use mathlib.Core.Bool.{true};
-ghost use Prim.Native.Nat.{_+_, _/_, _^_, _<_, _≤_, _*_};
+ghost use Prim.Native.Nat.{ℕ, _+_, _/_, _^_, _<_, _≤_, _*_};
+ghost use mathlib.Core.Option.{none};
 ghost use mathlib.Core.List.{List};
 ghost use lib.ListN.{length, take};
 ghost use Rattle.definitions.specs.Relations.{Tuple, isChosen};
-ghost use Rattle.definitions.specs.Truth.{Case, arePicks};
+ghost use Rattle.definitions.specs.Truth.{Case, arePicks, firstOfOtherKind};
 ghost use Rattle.definitions.specs.Atoms.{Problem, problemOf, initial as «initial-of», atoms as «atoms-of», relationAt, tuplesOf};
 ghost use Rattle.definitions.specs.Actions.{actions};
 ghost use Rattle.definitions.specs.Built.{bound};
@@ -113,16 +114,19 @@ pub fn set_picks(state: &mut [u64], steps: &mut [u32], table: &[usize], picks: &
     k
 }
 
-// The words of a state at the most.
-const WORDS: usize = 1024;
-
 // Most problems are small: FEW words hold a state of SMALL atoms, and built steps are fewer than atoms. For them no large buffer is
 // cleared.
 const FEW: usize = 16;
 
 const SMALL: usize = 64 * FEW;
 
+// Up to LARGE atoms, of which WORDS words hold a state, the steps are kept until the rule is known to be true.
+const WORDS: usize = 1024;
+
 const LARGE: usize = 65536;
+
+// The words of a state at the most: those of 1,048,576 atoms.
+const MOST: usize = 16384;
 
 // Whether the goal was proved, and how many steps were taken.
 pub struct Followed {
@@ -183,8 +187,8 @@ pub enum Answer {
     RuleFalse,
 }
 
-// Steps from picks of the declared kinds. They are taken in a state of its own and written to `made`; if the goal was proved, both are
-// copied to what is lent.
+// Steps from picks of the declared kinds. They are taken in a scratch copy of the state and written to `made`; if the goal was proved,
+// both are copied to what is lent.
 fn build_in(
     made: &mut [u32],
     state: &mut [u64],
@@ -228,7 +232,7 @@ fn build_small(
     build_in(&mut made, state, steps, start, table, atoms, picks)
 }
 
-// The same for any problem.
+// The same for up to LARGE atoms.
 fn build_large(
     state: &mut [u64],
     steps: &mut [u32],
@@ -293,7 +297,79 @@ fn build_from(
     build(state, steps, &start[..words], table, atoms, picks)
 }
 
-// The same; for a small problem few words are cleared.
+// The initial state is written to just the words that it needs; from it the built steps are taken.
+fn start_and_follow(
+    state: &mut [u64],
+    steps: &mut [u32],
+    table: &[usize],
+    facts: &[u64],
+    atoms: usize,
+    picks: &[u64],
+) -> Followed
+    requires { ⌜ Fits (now table) × (atomsIn (now table) ≡ atoms) × (atoms ≤ 2 ^ 20) × (length (now state) ≡ (atoms + 63) / 64) ⌝ }
+    ensures { λ r. ⌜ ((c : Case) (F : List Tuple) (room : ℕ) → Prepared c F (now (table .entry)) (now (facts .entry)) (now (picks .entry)) atoms room
+        → Follows (problemOf c) (rowsIn (problemOf c) (now (picks .entry))) (out («initial-of» (problemOf c)) (now (steps .entry)) 0) (out (bit (now (state .exit))) (now (steps .exit)) (r .count)) (r .holds)) ⌝ }
+{
+    initial::initial_state(table, facts, state);
+    follow(state, steps, table, atoms, picks)
+}
+
+// Steps from picks of the declared kinds, which would be too many to be kept: the way is followed once in a scratch state with no room
+// for steps, which tells whether the rule is true; if it is, a second time in what is lent.
+fn follow_twice(
+    state: &mut [u64],
+    steps: &mut [u32],
+    table: &[usize],
+    facts: &[u64],
+    atoms: usize,
+    picks: &[u64],
+) -> Answer
+    requires { ⌜ Fits (now table) × (atomsIn (now table) ≡ atoms) × (atoms ≤ 2 ^ 20) × ((atoms + 63) / 64 ≤ length (now state)) ⌝ }
+    ensures { λ r. ⌜ ((c : Case) (F : List Tuple) → Prepared c F (now (table .entry)) (now (facts .entry)) (now (picks .entry)) atoms (length (now (steps .entry))) → none ≡ firstOfOtherKind c F
+        → Gives c (problemOf c) F (now (state .entry)) (now (steps .entry)) r (now (state .exit)) (now (steps .exit))) ⌝ }
+{
+    let words = (atoms + 63) / 64;
+    let mut left = [0u64; MOST];
+    let once = start_and_follow(
+        &mut left[..words],
+        &mut steps[..0],
+        table,
+        facts,
+        atoms,
+        picks,
+    );
+    if once.holds {
+        let again = start_and_follow(&mut state[..words], steps, table, facts, atoms, picks);
+        return Answer::Steps(again.count);
+    }
+    Answer::RuleFalse
+}
+
+// The steps built from picks and the state that they leave, of a problem of more than LARGE atoms.
+fn build_twice(
+    state: &mut [u64],
+    steps: &mut [u32],
+    table: &[usize],
+    facts: &[u64],
+    atoms: usize,
+    picks: &[u64],
+) -> Answer
+    requires { ⌜ Fits (now table) × (atomsIn (now table) ≡ atoms) × (atoms ≤ 2 ^ 20) × ((atoms + 63) / 64 ≤ length (now state)) ⌝ }
+    ensures { λ r. ⌜ ((c : Case) (F : List Tuple) → Prepared c F (now (table .entry)) (now (facts .entry)) (now (picks .entry)) atoms (length (now (steps .entry)))
+        → Gives c (problemOf c) F (now (state .entry)) (now (steps .entry)) r (now (state .exit)) (now (steps .exit))) ⌝ }
+{
+    let kinds = picks::test_kinds(table, picks);
+    match kinds {
+        picks::Kinds::Broken(i) => {
+            return Answer::OtherKind(i);
+        }
+        picks::Kinds::Kept => {
+            return follow_twice(state, steps, table, facts, atoms, picks);
+        }
+    }
+}
+
+// The steps built from picks and the state that they leave, from the initial state on; for a small problem few words are cleared.
 pub fn start_and_build(
     state: &mut [u64],
     steps: &mut [u32],
@@ -302,7 +378,7 @@ pub fn start_and_build(
     atoms: usize,
     picks: &[u64],
 ) -> Answer
-    requires { ⌜ Fits (now table) × (atomsIn (now table) ≡ atoms) × (atoms ≤ 2 ^ 16) × ((atoms + 63) / 64 ≤ length (now state)) ⌝ }
+    requires { ⌜ Fits (now table) × (atomsIn (now table) ≡ atoms) × (atoms ≤ 2 ^ 20) × ((atoms + 63) / 64 ≤ length (now state)) ⌝ }
     ensures { λ r. ⌜ ((c : Case) (F : List Tuple) → Prepared c F (now (table .entry)) (now (facts .entry)) (now (picks .entry)) atoms (length (now (steps .entry)))
         → Gives c (problemOf c) F (now (state .entry)) (now (steps .entry)) r (now (state .exit)) (now (steps .exit))) ⌝ }
 {
@@ -310,6 +386,9 @@ pub fn start_and_build(
         let mut few = [0u64; FEW];
         return build_from(&mut few, state, steps, table, facts, atoms, picks);
     }
-    let mut start = [0u64; WORDS];
-    build_from(&mut start, state, steps, table, facts, atoms, picks)
+    if atoms <= LARGE {
+        let mut start = [0u64; WORDS];
+        return build_from(&mut start, state, steps, table, facts, atoms, picks);
+    }
+    build_twice(state, steps, table, facts, atoms, picks)
 }

@@ -9,6 +9,7 @@ use lib.Dec.{eqb, leb}
 use lib.ListN.{length}
 use lib.Seq.{slice}
 use borrow.Author.Tests.{eq-eqb, ne-eqb, eqb-true, eqb-false, leb-false, not-false}
+use Rattle.definitions.specs.Limits.{textLimit}
 use Rattle.definitions.specs.Lists.{if_then_else_, isEmpty}
 use Rattle.definitions.specs.Refusal.{Result, refused, accepted, _>>=_, refuseIf, given, readText}
 use Rattle.definitions.specs.Relations.{Kind, static}
@@ -170,11 +171,11 @@ unfoldable pub HeadAt : List ℕ → Signature → ℕ → Type 0
 HeadAt s g at = Sound s g × Roomy g × (D.readQuestion s ≡ (readAt D.addToQuestion s at (draftOf s g) >>= whole s))
 
 module _ (s : List ℕ) (g : Signature) (r0 : g .rels ≡ 0) (c0 : g .chosen ≡ 0) where
-  pub head-long : 65536 < length s → D.readQuestion s ≡ refused 1 0
+  pub head-long : textLimit < length s → D.readQuestion s ≡ refused 1 0
   unfolding _>>=_
   head-long h = question-by s g r0 c0 ∙ ap (λ (r : Result D.Draft). r >>= whole s) (read-long D.addToQuestion s (draftOf s g) h)
 
-  pub head-start : Roomy g → length s ≤ 65536 → HeadAt s g 0
+  pub head-start : Roomy g → length s ≤ textLimit → HeadAt s g 0
   unfolding HeadAt
   head-start w h = (
     record { rels-le = omega arith; chosen-le = omega arith; spans = λ i l. absurd (omega arith); arities = λ i l. absurd (omega arith) },
@@ -217,7 +218,7 @@ module _ (s : List ℕ) (g : Signature) (at : ℕ) (h : HeadAt s g at) where
   unfolding Headed HeadBy HeadAt whole draftOf given _>>=_
   head-missing z p e = h .2 ∙ ap (λ (r : Result D.Draft). r >>= whole s) (read-stop D.addToQuestion s at (draftOf s g) z)
 
-pub headed-long : (s : List ℕ) (g : Signature) (p : Span) (e : ℕ) → g .rels ≡ 0 → g .chosen ≡ 0 → 65536 < length s → Headed s (record { fault = 1; place = 0; sig = g; span = p; next = e })
+pub headed-long : (s : List ℕ) (g : Signature) (p : Span) (e : ℕ) → g .rels ≡ 0 → g .chosen ≡ 0 → textLimit < length s → Headed s (record { fault = 1; place = 0; sig = g; span = p; next = e })
 unfolding Headed HeadBy
 headed-long s g p e r c h = head-long s g r c h
 

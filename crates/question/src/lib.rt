@@ -202,7 +202,7 @@ fn question_head(s: &[u8]) -> Head
     let end = s.len();
     let none = Span { from: 0, to: 0 };
     let mut g = no_relations();
-    if 65536 < end {
+    if text::LIMIT < end {
         return stopped(1, 0, g, none);
     }
     let mut at = 0;

@@ -45,8 +45,8 @@ fn read_site(s: &[u8]) {
         b"rel\tD\t1\nrel\tE\t2\nchoose\tT\t1\nchoose\tF\tFun\nrule\t(forall (?y) (or (D ?y) (T ?y)))\n";
     let q = question::question(text);
     let g = q.sig;
-    let mut table = [0u64; 512];
-    let a = sheets::site(text, g, s, 16, &mut table);
+    let mut table = [0u64; 32768];
+    let a = sheets::site(text, g, s, 64, &mut table);
     answer(b"site", a);
 }
 
@@ -61,7 +61,7 @@ fn read_picks(s: &[u8]) {
 }
 
 fn read_steps(s: &[u8]) {
-    let mut out = [0u32; 9362];
+    let mut out = [0u32; sheets::STEPS];
     let a = sheets::steps(s, &mut out);
     answer(b"steps", a);
 }
@@ -136,8 +136,8 @@ fn sites1() {
     read_site(b"");
     read_site(b"size\t2\n");
     read_site(b"size\t0\n");
-    read_site(b"size\t17\n");
-    read_site(b"size\t16\n");
+    read_site(b"size\t65\n");
+    read_site(b"size\t64\n");
     read_site(b"size\t1\n");
     read_site(b"fact\tD\t0\nsize\t2\n");
     read_site(b"size\t2\nsize\t2\n");
@@ -166,6 +166,8 @@ fn sites3() {
 }
 
 fn sites4() {
+    read_site(b"size\t64\nfact\tE\t63\t63\nfact\tD\t63\n");
+    read_site(b"size\t64\nfact\tE\t63\t64\n");
     read_site(b"size\t2\nfact\tS\t9\n");
     read_site(b"size\t2\nfact\tS\tx\n");
     read_site(b"size\t2\n\n");
@@ -213,15 +215,32 @@ fn steps2() {
     read_steps(b"Step\t1\n");
 }
 
-// A byte over the limit, and the limit itself.
+// The same step on line after line.
+fn repeat(out: &mut [u8]) {
+    let line = [115u8, 116, 101, 112, 9, 48, 10];
+    let mut i = 0;
+    while i < out.len() {
+        out[i] = line[i % 7];
+        i += 1;
+    }
+}
+
+fn read_repeated(text: &mut [u8]) {
+    repeat(text);
+    read_steps(text);
+}
+
+// Texts that were too long at first: lines of 65,537 bytes are read, and 9,363 steps; the last of 9,363 lines is not ended.
 fn long() {
-    let over = [10u8; 65537];
-    ask(&over);
-    read_site(&over);
-    read_picks(&over);
-    read_steps(&over);
-    ask(&over[1..]);
-    read_steps(&over[1..]);
+    let lines = [10u8; 65537];
+    ask(&lines);
+    read_site(&lines);
+    read_picks(&lines);
+    read_steps(&lines);
+    let mut steps = [0u8; 65541];
+    read_repeated(&mut steps);
+    let mut cut = [0u8; 65540];
+    read_repeated(&mut cut);
 }
 
 fn main() {

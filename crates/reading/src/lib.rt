@@ -91,16 +91,18 @@ fn read_listed(
     }
 }
 
-// Picks from steps as a text; the words for the facts are lent.
-fn picks_text_in(
+// Picks from steps as a text; the words for the facts and the list for the steps are lent.
+fn picks_text_with(
     question: &[u8],
     site: &[u8],
     steps: &[u8],
     picks: &mut [u64],
     state: &mut [u64],
     facts: &mut [u64],
+    list: &mut [u32],
 ) -> Reply
-    requires { ⌜ FactsRoom (now site) 16 (length (now facts)) × (bit (now facts) ≡ λ i. false) ⌝ }
+    requires { ⌜ FactsRoom (now site) 64 (length (now facts)) × (bit (now facts) ≡ λ i. false) ⌝ }
+    requires { ⌜ RoomFor (now steps) (length (now list)) ⌝ }
     ensures { λ r. ⌜ PicksRead usual (now (question .entry)) (now (site .entry)) (asText (now (steps .entry))) (now (picks .entry)) (now (state .entry)) r (now (picks .exit)) (now (state .exit)) ⌝ }
 {
     let mut table = [0usize; ground::TABLE];
@@ -116,12 +118,46 @@ fn picks_text_in(
     if f.fault != 0 {
         return Reply::Refused(f.fault, f.place);
     }
-    if steps.len() <= sheets::SHORT {
-        let mut few = [0u32; sheets::FEW];
-        return read_listed(f, facts, &table, steps, &mut few, picks, state);
+    read_listed(f, facts, &table, steps, list, picks, state)
+}
+
+// The same with a list that goes by the text's length.
+fn picks_text_in(
+    question: &[u8],
+    site: &[u8],
+    steps: &[u8],
+    picks: &mut [u64],
+    state: &mut [u64],
+    facts: &mut [u64],
+) -> Reply
+    requires { ⌜ FactsRoom (now site) 64 (length (now facts)) × (bit (now facts) ≡ λ i. false) ⌝ }
+    ensures { λ r. ⌜ PicksRead usual (now (question .entry)) (now (site .entry)) (asText (now (steps .entry))) (now (picks .entry)) (now (state .entry)) r (now (picks .exit)) (now (state .exit)) ⌝ }
+{
+    if steps.len() <= sheets::LONG {
+        let mut many = [0u32; sheets::MANY];
+        return picks_text_with(question, site, steps, picks, state, facts, &mut many);
     }
     let mut list = [0u32; sheets::STEPS];
-    read_listed(f, facts, &table, steps, &mut list, picks, state)
+    picks_text_with(question, site, steps, picks, state, facts, &mut list)
+}
+
+// The same for a site that is not small or a text that is not short. The long arrays stand here and not in the call, so that a small
+// case makes no room for them.
+fn picks_text_wide(
+    question: &[u8],
+    site: &[u8],
+    steps: &[u8],
+    picks: &mut [u64],
+    state: &mut [u64],
+) -> Reply
+    ensures { λ r. ⌜ PicksRead usual (now (question .entry)) (now (site .entry)) (asText (now (steps .entry))) (now (picks .entry)) (now (state .entry)) r (now (picks .exit)) (now (state .exit)) ⌝ }
+{
+    if asking::is_small(site) {
+        let mut few = [0u64; asking::FEW];
+        return picks_text_in(question, site, steps, picks, state, &mut few);
+    }
+    let mut facts = [0u64; asking::FACTS];
+    picks_text_in(question, site, steps, picks, state, &mut facts)
 }
 
 // Reads picks from steps that are handed over as a text.
@@ -136,8 +172,15 @@ pub fn picks_text(
     ensures picks { λ r. ⌜ now (picks .exit) ≡ picksFromSteps usual (now (question .entry)) (now (site .entry)) (asText (now (steps .entry))) (now (picks .entry)) (now (state .entry)) .picks ⌝ }
     ensures state { λ r. ⌜ now (state .exit) ≡ picksFromSteps usual (now (question .entry)) (now (site .entry)) (asText (now (steps .entry))) (now (picks .entry)) (now (state .entry)) .state ⌝ }
 {
-    let mut facts = [0u64; asking::FACTS];
-    picks_text_in(question, site, steps, picks, state, &mut facts)
+    if steps.len() <= sheets::SHORT {
+        if asking::is_small(site) {
+            let mut few = [0u64; asking::FEW];
+            let mut list = [0u32; sheets::FEW];
+            return picks_text_with(question, site, steps, picks, state, &mut few, &mut list);
+        }
+        return picks_text_wide(question, site, steps, picks, state);
+    }
+    picks_text_wide(question, site, steps, picks, state)
 }
 
 // Picks from lent steps; the words for the facts are lent.
@@ -149,7 +192,7 @@ fn picks_lent_in(
     state: &mut [u64],
     facts: &mut [u64],
 ) -> Reply
-    requires { ⌜ FactsRoom (now site) 16 (length (now facts)) × (bit (now facts) ≡ λ i. false) ⌝ }
+    requires { ⌜ FactsRoom (now site) 64 (length (now facts)) × (bit (now facts) ≡ λ i. false) ⌝ }
     ensures { λ r. ⌜ PicksRead usual (now (question .entry)) (now (site .entry)) (asNumbers (now (steps .entry))) (now (picks .entry)) (now (state .entry)) r (now (picks .exit)) (now (state .exit)) ⌝ }
 {
     let mut table = [0usize; ground::TABLE];
@@ -183,6 +226,10 @@ pub fn picks_lent(
     ensures picks { λ r. ⌜ now (picks .exit) ≡ picksFromSteps usual (now (question .entry)) (now (site .entry)) (asNumbers (now (steps .entry))) (now (picks .entry)) (now (state .entry)) .picks ⌝ }
     ensures state { λ r. ⌜ now (state .exit) ≡ picksFromSteps usual (now (question .entry)) (now (site .entry)) (asNumbers (now (steps .entry))) (now (picks .entry)) (now (state .entry)) .state ⌝ }
 {
+    if asking::is_small(site) {
+        let mut few = [0u64; asking::FEW];
+        return picks_lent_in(question, site, steps, picks, state, &mut few);
+    }
     let mut facts = [0u64; asking::FACTS];
     picks_lent_in(question, site, steps, picks, state, &mut facts)
 }

@@ -5,6 +5,7 @@ use mathlib.Core.Option.{Option}
 use mathlib.Core.List.{List, _∷_}
 use lib.ListN.{length}
 use borrow.Author.Tests.{lt-ltb, le-ltb}
+use Rattle.definitions.specs.Limits.{textLimit}
 use Rattle.definitions.specs.Text.{Line, lines}
 use Rattle.definitions.specs.Refusal.{Result, refused, accepted, _>>=_, refuseIf, given, readLines, readText}
 use Rattle.definitions.specs.Sheets as D
@@ -14,13 +15,13 @@ use Rattle.records.specs.declared.Entry.{Entry}
 use Rattle.records.proofs.Fields.{lines-stop}
 
 module _ {S : Type 0} (add : S → ℕ → D.Entry → Result S) where
-  pub read-long : (s : List ℕ) (st : S) → 65536 < length s → readText (lineBy add) st s ≡ refused 1 0
+  pub read-long : (s : List ℕ) (st : S) → textLimit < length s → readText (lineBy add) st s ≡ refused 1 0
   unfolding readText refuseIf _>>=_
-  read-long s st h = rw (lt-ltb 65536 (length s) h)
+  read-long s st h = rw (lt-ltb textLimit (length s) h)
 
-  pub read-start : (s : List ℕ) (st : S) → length s ≤ 65536 → readText (lineBy add) st s ≡ readAt add s 0 st
+  pub read-start : (s : List ℕ) (st : S) → length s ≤ textLimit → readText (lineBy add) st s ≡ readAt add s 0 st
   unfolding readText refuseIf _>>=_ readAt linesAt lines
-  read-start s st h = rw (le-ltb 65536 (length s) h)
+  read-start s st h = rw (le-ltb textLimit (length s) h)
 
   pub read-stop : (s : List ℕ) (at : ℕ) (st : S) → at ≡ length s → readAt add s at st ≡ accepted st
   unfolding readAt readLines

@@ -16,7 +16,8 @@
 --   12  one-pick, one-pick-built, allowances-are, allowances-refuse, allowances-length
 --   13  visited-are, visited-once, tallied, sizes-tallied
 --   14  judging
---   15  kept-problem, kept-sizes, kept-action, kept-check, kept-read, kept-build, kept-judgement, kept-tries, kept-allowances
+--   15  kept-problem, kept-sizes, kept-action, kept-check, kept-read, kept-build, kept-judgement, kept-tries, kept-allowances;
+--       grown, long-text, many-steps, desk-limits, desk-steps
 use Prim.Native.Nat.{ℕ, zero, _+_, _*_, _^_, _<_, _≤_}
 use mathlib.Core.Path.{_≡_, refl, sym, ap, subst, subst₂, _∙_}
 use mathlib.Core.Logic.{_⊎_, ⊎-elim, _↔_}
@@ -27,11 +28,11 @@ use native.Mathlib.Omega.{arith}
 use lib.Dec.{ltb}
 use lib.ListN.{length, getD, take, drop, length-append}
 use borrow.Author.Tests.{le-ltb}
-use Rattle.definitions.specs.Limits.{CaseLimits, usual, stepLimit, textLimit}
+use Rattle.definitions.specs.Limits.{CaseLimits, usual, early, stepLimit, textLimit, deskBytes}
 use Rattle.definitions.specs.Lists.{if_then_else_, flatMap, below, isIn}
-use Rattle.definitions.specs.Text.{number, decimal}
+use Rattle.definitions.specs.Text.{number, decimal, Line}
 use Rattle.definitions.specs.Desk.{stepLine, pickLine, sheets, answer}
-use Rattle.definitions.specs.Refusal.{Result, refused, accepted, _>>=_, refuseIf, caseNumbers, readyNumbers, runNumbers, picksNumbers, given}
+use Rattle.definitions.specs.Refusal.{Result, refused, accepted, _>>=_, refuseIf, caseNumbers, readyNumbers, runNumbers, picksNumbers, given, readText}
 use Rattle.definitions.specs.Relations.{Tuple, isAmong}
 use Rattle.definitions.specs.Sheets.{Question, readQuestion, readPicks, firstChosen, readSteps}
 use Rattle.definitions.specs.Truth.{Case, arePicks, areOfKinds, firstOfOtherKind, ruleIsTrue}
@@ -73,6 +74,7 @@ use Rattle.laws.specs.Building
 use Rattle.laws.specs.Refusals
 use Rattle.reduction.specs.Buffers
 use Rattle.reduction.specs.Filed
+use Rattle.reduction.specs.Short
 use Rattle.laws.specs.Decimals
 use Rattle.laws.specs.Told
 use Rattle.reduction.specs.Written
@@ -507,7 +509,7 @@ module _ (L : CaseLimits) (question site : List ℕ) where
 -- ---- 10, the desk program: unless it refuses, what it prints (`Desk.report`) are the two records of one case: picks of the declared
 -- kinds of which the rule is true, and steps that reach the goal and are read as the same tuples.
 pub desk-records : (input : List ℕ) (b : Plan) → answer input ≡ accepted b
-    → (c : Case) × (readCase usual (sheets input .question) (sheets input .site) ≡ accepted c) × (ground usual c ≡ accepted (b .problem)) × (arePicks c (b .picks) ≡ true) × (areOfKinds c (b .picks) ≡ true) × (ruleIsTrue c (b .picks) ≡ true) × (reachesGoal (b .problem) (b .steps) ≡ true) × (areSamePicks (picksOf (b .problem) (b .steps)) (b .picks) ≡ true)
+    → (c : Case) × (readCase early (sheets input .question) (sheets input .site) ≡ accepted c) × (ground early c ≡ accepted (b .problem)) × (arePicks c (b .picks) ≡ true) × (areOfKinds c (b .picks) ≡ true) × (ruleIsTrue c (b .picks) ≡ true) × (reachesGoal (b .problem) (b .steps) ≡ true) × (areSamePicks (picksOf (b .problem) (b .steps)) (b .picks) ≡ true)
 desk-records input b e = let (c, rc, rg, h) = Filed.desk-filed input b e in let (a, k, r, g, s) = h in (c, rc, rg, a, k, r, g, s)
 
 -- ---- 13, document 02, job 3: for every case that is read, be it over the limits of 11 or not, one walk of its tree visits its nodes,
@@ -566,3 +568,21 @@ module _ (L M : CaseLimits) (larger : Wider.Wider L M) (question site : List ℕ
   pub kept-allowances : (old : List ℕ) → allowances L question site old ≡ allowances M question site old
   unfolding allowances
   kept-allowances old = ap (λ (r : Result (Ready (Unit {0}))). allowedFrom r old) (Wider.asked-wider L M larger question site p is-problem nothing nothing nothing _)
+
+-- Document 02, job 10: so every case of document 01 is the same problem by the limits that are usual now, and is answered as before.
+pub grown : Wider.Wider early usual
+grown = record { elements = omega arith; atoms = omega arith; actions = omega arith }
+
+-- One byte more than a text may have, or one lent step more, is 1.
+pub long-text : {S : Type 0} (line : S → Line → Result S) (s : S) (text : List ℕ) → textLimit < length text → readText line s text ≡ refused 1 0
+long-text line s text h = Short.text-long line s text h
+
+pub many-steps : (steps : List ℕ) → stepLimit < length steps → takeSteps (asNumbers steps) ≡ refused 1 0
+many-steps steps h = Short.lent-many steps h
+
+-- The desk program meets neither: no sheet of an input that it reads, and no list of steps on one, is longer than that input.
+pub desk-limits : (input : List ℕ) → length input ≤ deskBytes → (length (sheets input .question) ≤ deskBytes) × (length (sheets input .site) ≤ deskBytes) × (length (sheets input .rest) ≤ deskBytes)
+desk-limits input h = Short.sheets-short input deskBytes h
+
+pub desk-steps : (input steps : List ℕ) → length input ≤ deskBytes → readSteps (sheets input .rest) ≡ accepted steps → length steps ≤ deskBytes
+desk-steps input steps h e = let (q, s, r) = Short.sheets-short input deskBytes h in omega (arith, r, Short.steps-fewer (sheets input .rest) steps e)

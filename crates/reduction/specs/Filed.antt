@@ -6,7 +6,7 @@ use mathlib.Core.List.{List}
 use native.Mathlib.Omega.{arith}
 use lib.Dec.{ltb}
 use lib.ListN.{length}
-use Rattle.definitions.specs.Limits.{CaseLimits, usual, deskBytes, deskWords, deskSteps}
+use Rattle.definitions.specs.Limits.{CaseLimits, early, deskBytes, deskWords, deskSteps}
 use Rattle.definitions.specs.Lists.{if_then_else_}
 use Rattle.definitions.specs.Text.{lines}
 use Rattle.definitions.specs.Refusal.{accepted, _>>=_, refuseIf}
@@ -64,12 +64,12 @@ module _ (L : CaseLimits) (few : L .elements ≤ 64) (question site : List ℕ) 
           let (a, k, r) = subst (λ (q : Problem). reachesGoal q ks ≡ true → (arePicks c (picksOf q ks) ≡ true) × (areOfKinds c (picksOf q ks) ≡ true) × (ruleIsTrue c (picksOf q ks) ≡ true)) (sym e) (sound-case c A ks) g in
           (a, k, r, g, same-picks (picksOf p ks) (picksOf p ks) (λ t m. m) (λ t m. m))
 
-pub desk-filed : (input : List ℕ) (b : Plan) → answer input ≡ accepted b → Filed usual (sheets input .question) (sheets input .site) b
+pub desk-filed : (input : List ℕ) (b : Plan) → answer input ≡ accepted b → Filed early (sheets input .question) (sheets input .site) b
 unfolding answer answerOf checkedPlan
 desk-filed input b e =
     let (u, f, g) = bind-parts (refuseIf (ltb deskBytes (length input)) 1 zero) _ b e in
     go (sheets input) (startsWithStep (lines (sheets input .rest))) g
   where
-    go : (s : Sheets) (t : Bool) → (if t then checkedPlan (s .question) (s .site) (s .rest) else plan usual (s .question) (s .site) (asText (s .rest)) deskWords deskSteps) ≡ accepted b → Filed usual (s .question) (s .site) b
-    go s true e = checked-filed usual (omega arith) (s .question) (s .site) (s .rest) deskWords b e
-    go s false e = plan-filed usual (omega arith) (s .question) (s .site) (asText (s .rest)) deskWords deskSteps b e
+    go : (s : Sheets) (t : Bool) → (if t then checkedPlan (s .question) (s .site) (s .rest) else plan early (s .question) (s .site) (asText (s .rest)) deskWords deskSteps) ≡ accepted b → Filed early (s .question) (s .site) b
+    go s true e = checked-filed early (omega arith) (s .question) (s .site) (s .rest) deskWords b e
+    go s false e = plan-filed early (omega arith) (s .question) (s .site) (asText (s .rest)) deskWords deskSteps b e

@@ -12,6 +12,7 @@
 --   Written      sheets of steps and picks, written and read back
 --   Buffers      what is left in lent buffers
 --   Filed        what the desk program prints
+--   Short        where the limits of texts and steps lie, and that the desk stays below them
 --   Judging      judging answers as building does with room enough
 --   Trying       many step lists of one case, each as if checked alone
 --   OnePick      one pick more or less: how far the built steps move
@@ -28,6 +29,7 @@ pub mod Wider
 pub mod Written
 pub mod Buffers
 pub mod Filed
+pub mod Short
 pub mod Judging
 pub mod Trying
 pub mod OnePick

@@ -7,7 +7,7 @@ use mathlib.Core.List.{List, [], _∷_, _++_, append-assoc}
 use native.Mathlib.Omega.{arith}
 use lib.ListN.{length, take, drop, length-append}
 use borrow.Author.Tests.{lt-ltb, le-ltb}
-use Rattle.definitions.specs.Limits.{usual}
+use Rattle.definitions.specs.Limits.{early}
 use Rattle.definitions.specs.Lists.{if_then_else_, flatMap}
 use Rattle.definitions.specs.Text.{bytes, decimal}
 use Rattle.definitions.specs.Refusal.{Result, refused, accepted, _>>=_, refuseIf}
@@ -35,16 +35,16 @@ unfolding desk answer refuseIf _>>=_
 fits input h = rw (le-ltb 16384 (length input) h)
 
 module _ (input : List ℕ) (h : length input ≤ 16384) (question site : ℕ) (steps : Bool) (c : CutAt input question site steps) where
-  cut-answer : desk input ≡ printed (if steps then checkedPlan (take question input) (take (site - question) (drop question input)) (drop site input) else plan usual (take question input) (take (site - question) (drop question input)) (asText (drop site input)) 1024 8192)
+  cut-answer : desk input ≡ printed (if steps then checkedPlan (take question input) (take (site - question) (drop question input)) (drop site input) else plan early (take question input) (take (site - question) (drop question input)) (asText (drop site input)) 1024 8192)
   unfolding answerOf
   cut-answer =
       fits input h ∙ ap (λ (s : Sheets). printed (answerOf s)) (c .sheets)
-      ∙ ap (λ (b : Bool). printed (if b then checkedPlan (take question input) (take (site - question) (drop question input)) (drop site input) else plan usual (take question input) (take (site - question) (drop question input)) (asText (drop site input)) 1024 8192)) (sym (c .begins))
+      ∙ ap (λ (b : Bool). printed (if b then checkedPlan (take question input) (take (site - question) (drop question input)) (drop site input) else plan early (take question input) (take (site - question) (drop question input)) (asText (drop site input)) 1024 8192)) (sym (c .begins))
 
   pub checked-answer : steps ≡ true → desk input ≡ printed (checkedPlan (take question input) (take (site - question) (drop question input)) (drop site input))
   checked-answer e = cut-answer ∙ rw e
 
-  pub built-answer : steps ≡ false → desk input ≡ printed (plan usual (take question input) (take (site - question) (drop question input)) (asText (drop site input)) 1024 8192)
+  pub built-answer : steps ≡ false → desk input ≡ printed (plan early (take question input) (take (site - question) (drop question input)) (asText (drop site input)) 1024 8192)
   built-answer e = cut-answer ∙ rw e
 
 -- ---- a refusal, a report

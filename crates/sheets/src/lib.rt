@@ -17,13 +17,18 @@ use names::Signature;
 use question::Span;
 use records::Entry;
 
-// The most steps that a text has: a step line has at least 7 bytes, and a text at most 65,536.
-pub const STEPS: usize = 9362;
+// The most steps that a text has: a step line has at least 7 bytes.
+pub const STEPS: usize = text::LIMIT / 7;
 
-// Most texts are short: a list of FEW numbers holds the steps of a text of SHORT bytes, and no long list is cleared for it.
+// Most texts are short: a list of FEW numbers holds the steps of a text of SHORT bytes, one of MANY those of a text of LONG bytes, and
+// no longer list is cleared for them.
 pub const FEW: usize = 512;
 
 pub const SHORT: usize = 7 * FEW;
+
+pub const MANY: usize = 9362;
+
+pub const LONG: usize = 7 * MANY;
 
 // A site's size, a count of picks or of steps; or a refusal's number and place.
 pub enum Answer {
@@ -94,7 +99,7 @@ fn site_lines(q: &[u8], g: Signature, s: &[u8], most: usize, table: &mut [u64]) 
     ensures { λ r. ⌜ ((L : CaseLimits) → L .elements ≡ most → GotSite L g (readSite L (relsOf (now (q .entry)) g) (now (s .entry))) r (bit (now (table .exit)))) ⌝ }
 {
     let end = s.len();
-    if 65536 < end {
+    if text::LIMIT < end {
         return Answer::Refused(1, 0);
     }
     let from = g.from;
@@ -174,7 +179,7 @@ fn picks_lines(q: &[u8], g: Signature, s: &[u8], n: usize, table: &mut [u64]) ->
     ensures { λ r. ⌜ GotPicks g n (readPicks (chosenOf (now (q .entry)) g) (5 + g .rels) n (now (s .entry))) r (bit (now (table .exit))) ⌝ }
 {
     let end = s.len();
-    if 65536 < end {
+    if text::LIMIT < end {
         return Answer::Refused(1, 0);
     }
     let from = g.from;
@@ -248,7 +253,7 @@ pub fn steps(s: &[u8], out: &mut [u32]) -> Answer
     requires { ⌜ RoomFor (now s) (length (now out)) ⌝ }
     ensures { λ r. ⌜ (r ≡ answered length (readSteps (now (s .entry)))) × ((n : ℕ) → r ≡ Done n → now (out .exit) ≡ left (readSteps (now (s .entry))) (now (out .entry))) ⌝ }
 {
-    if 65536 < s.len() {
+    if text::LIMIT < s.len() {
         return Answer::Refused(1, 0);
     }
     let mut at = 0;

@@ -134,7 +134,7 @@ fn run_case(question: &[u8], site: &[u8], call: usize, room: usize) {
 
 // The case that begins at a place of the file; where the next one begins.
 fn run_at(s: &[u8], at: usize) -> usize
-    requires { ⌜ at ≤ 65536 ⌝ }
+    requires { ⌜ at ≤ 262144 ⌝ }
 {
     let question = at + 16;
     let site = question + count_at(s, at);
@@ -150,7 +150,7 @@ fn run_at(s: &[u8], at: usize) -> usize
 
 // Each case begins past the one before it.
 fn run_all(s: &[u8])
-    requires { ⌜ length (now s) ≤ 65536 ⌝ }
+    requires { ⌜ length (now s) ≤ 262144 ⌝ }
 {
     let mut at = 0;
     let mut left: usize = 10000;
@@ -164,7 +164,7 @@ fn run_all(s: &[u8])
 }
 
 fn main() {
-    let mut cases = [0u8; 65536];
+    let mut cases = [0u8; 262144];
     let count = io::read_full(0, &mut cases);
     run_all(&cases[..count]);
 }

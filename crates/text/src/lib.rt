@@ -7,6 +7,9 @@ ghost use Rattle.definitions.specs.Lists.{same as sameText};
 ghost use Rattle.definitions.specs.Text.{number as numberOf, isRelationName, isCapital, isDigit};
 ghost use Rattle.text.specs.Spans.{indexOf, isNameByte, numOf};
 
+// The most bytes of a text.
+pub const LIMIT: usize = 1048576;
+
 // A number of a field, or none.
 pub enum Num {
     Is(u32),

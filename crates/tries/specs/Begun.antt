@@ -15,7 +15,7 @@ use Rattle.tries.specs.declared.Begun.{Begun}
 pub record Ready (w state : List ℕ) (words : ℕ) : Type 0 where
   pub grounded : Grounded w
   pub there : words ≤ length state
-  pub few : words ≤ 1024
+  pub few : words ≤ 16384
 
 -- they are those of the problem p and of its initial state
 pub record Serves (p : Problem) (w state : List ℕ) (words : ℕ) : Type 0 where

@@ -78,7 +78,7 @@ module _ (L : CaseLimits) (question site old : List ℕ) (many : ℕ) (r : Front
       pub begun-fits : k ≤ length old → Fits w × (wordsFor (atomsIn w) ≤ length (take k old))
       begun-fits l = let (c, e, h) = its in (table-is L c _ _ (h .grounded) f .fits, words-fit L c _ _ (h .grounded) f (length (take k old)) (sym (length-take-le k old l)))
 
-      pub begun-ready : L .atoms ≤ 65536 → k ≤ length old → (part new : List ℕ) → Started w facts (take k old) part → new ≡ part ++ drop k old
+      pub begun-ready : L .atoms ≤ 1048576 → k ≤ length old → (part new : List ℕ) → Started w facts (take k old) part → new ≡ part ++ drop k old
           → Begins (record { number = 0; place = 0; words = k; many = many }) new
       unfolding BegunBy readyToTry Started written stateLength wordsFor
       begun-ready few l part new started n =

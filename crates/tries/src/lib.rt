@@ -100,7 +100,7 @@ fn begin_in(
     table: &mut [usize],
     state: &mut [u64],
 ) -> Begun
-    requires { ⌜ FactsRoom (now site) 16 («length-of» (now facts)) × (bit (now facts) ≡ λ i. false) ⌝ }
+    requires { ⌜ FactsRoom (now site) 64 («length-of» (now facts)) × (bit (now facts) ≡ λ i. false) ⌝ }
     requires { ⌜ («length-of» (now table) ≡ tableLength) × Most (now table) 0 ⌝ }
     ensures { λ r. ⌜ BegunBy (readyToTry usual (now (question .entry)) (now (site .entry)) («length-of» (now (state .entry)))) many (now (state .entry)) r (now (table .exit)) (now (state .exit)) ⌝ }
 {
@@ -144,14 +144,23 @@ pub fn begin(
     requires { ⌜ («length-of» (now table) ≡ tableLength) × Most (now table) 0 ⌝ }
     ensures { λ r. ⌜ BegunBy (readyToTry usual (now (question .entry)) (now (site .entry)) («length-of» (now (state .entry)))) many (now (state .entry)) r (now (table .exit)) (now (state .exit)) ⌝ }
 {
+    if asking::is_small(site) {
+        let mut few = [0u64; asking::FEW];
+        return begin_in(question, site, many, &mut few, table, state);
+    }
     let mut facts = [0u64; asking::FACTS];
     begin_in(question, site, many, &mut facts, table, state)
 }
 
-// The words of a state at the most. Most problems need few, and no more is cleared for them.
-const WORDS: usize = 1024;
+// The words of a state at the most. Most problems need few, many no more than MANY, and what is cleared goes by that.
+const WORDS: usize = 16384;
+
+const MANY: usize = 1024;
 
 const FEW: usize = 16;
+
+// The most steps of a list.
+const STEPS: u32 = 1048576;
 
 // Steps are run in a copy of the state, which is made in the lent words.
 fn run_copy(
@@ -181,7 +190,7 @@ pub fn try_list(
     requires { ⌜ Ready (now table) (now state) words ⌝ }
     ensures { λ r. ⌜ ((p : Problem) → Serves p (now (table .entry)) (now (state .entry)) words → r ≡ verdictOf (tryList p (now (steps .entry)) first length)) ⌝ }
 {
-    if 65536 < length {
+    if STEPS < length {
         return Verdict {
             number: 1,
             place: 0,
@@ -199,6 +208,10 @@ pub fn try_list(
     if words <= FEW {
         let mut few = [0u64; FEW];
         return run_copy(&mut few, table, state, words, &steps[from..end]);
+    }
+    if words <= MANY {
+        let mut many = [0u64; MANY];
+        return run_copy(&mut many, table, state, words, &steps[from..end]);
     }
     let mut copied = [0u64; WORDS];
     run_copy(&mut copied, table, state, words, &steps[from..end])

@@ -46,8 +46,8 @@ fn run_one(fd: i32) -> bool {
         return false;
     }
     let count = length_in(head);
-    let mut input = [0u8; 65536];
-    if 65536 < count {
+    let mut input = [0u8; 100000];
+    if 100000 < count {
         return false;
     }
     run(fd, &head[..4], &mut input[..count])

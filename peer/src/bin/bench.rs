@@ -1,9 +1,12 @@
 //! Times both programs on the same inputs, turn about, and prints the ratios.
 //!
-//!     bench [ROUNDS]
+//!     bench [ROUNDS] [WORD]      all jobs, or those whose names have the word
 
-use peer::large::{broken_deep, broken_path, deep, last, padded, path};
-use peer::sample::{facts, needs, sound, Random, Sample};
+use peer::large::{
+    broken_deep, broken_path, deep, facts, last, long_text, padded, path, round, wide_facts, zones,
+};
+use peer::limits::{STEPS, TEXT};
+use peer::sample::{needs, sound, Random, Sample};
 use peer::trial::{Calls, Other, Peer, LINKED};
 use peer::Reply;
 use std::hint::black_box;
@@ -88,8 +91,8 @@ impl Job {
     }
 }
 
-/// A plan as text of nearly 65,536 bytes.
-fn long_text(sample: &Sample) -> Sample {
+/// A plan's steps as a text of nearly 65,536 bytes.
+fn step_lines(sample: &Sample) -> Sample {
     let mut steps = Vec::new();
     for step in &sample.lent_steps {
         let line = format!("step\t{step}\n");
@@ -113,10 +116,13 @@ fn small_cases() -> Vec<Sample> {
     cases
 }
 
+fn planned_job(what: &str, work: Work, sample: &Sample) -> Job {
+    Job::new(&format!("{what}, {} steps", sample.lent_steps.len()), work, sample)
+}
+
 fn jobs() -> Vec<Job> {
-    let (path, deep) = (path(), deep(13));
-    let named = |what: &str, sample: &Sample| format!("{what}, {} steps", sample.lent_steps.len());
-    let job = |what: &str, work, sample: &Sample| Job::new(&named(what, sample), work, sample);
+    let (path, deep) = (path(15), deep(13));
+    let job = planned_job;
     vec![
         Job::new("read 16 KB of facts", Work::Sizes, &facts(16)),
         Job::new("read 32 KB of facts", Work::Sizes, &facts(32)),
@@ -129,13 +135,55 @@ fn jobs() -> Vec<Job> {
         job("four deep: check", Work::CheckLent, &deep),
         job("four deep: read picks", Work::Picks, &deep),
         job("four deep: check lent", Work::CheckLent, &padded(&deep, 65_536)),
-        Job::new("four deep: 64 KB of step lines", Work::CheckText, &long_text(&deep)),
+        Job::new("four deep: 64 KB of step lines", Work::CheckText, &step_lines(&deep)),
         Job {
             name: "1,000 small cases: all three".into(),
             work: Work::Small,
             samples: small_cases(),
         },
     ]
+}
+
+/// What no case of 16 elements can be.
+fn wide_jobs() -> Vec<Job> {
+    let cases = [
+        ("airport of 64, zones", zones()),
+        ("airport of 64, a round", round()),
+        ("path of 31", path(31)),
+        ("four deep of 26", deep(26)),
+    ];
+    let mut jobs = Vec::new();
+    for (name, sample) in &cases {
+        for (what, work) in [
+            ("build from text", Work::BuildText),
+            ("build, lent picks", Work::BuildLent),
+            ("check", Work::CheckLent),
+            ("yes or no", Work::JudgeLent),
+        ] {
+            jobs.push(planned_job(&format!("{name}: {what}"), work, sample));
+        }
+    }
+    jobs
+}
+
+/// Three sizes of each, so that what a byte or a step costs can be seen not to grow.
+fn growing_jobs() -> Vec<(usize, Job)> {
+    // Short, so that lists of every length have the same steps over and over.
+    let plan = deep(4);
+    let mut jobs = Vec::new();
+    for bytes in [16_384, 65_536, TEXT] {
+        jobs.push((
+            bytes,
+            Job::new("bytes of facts, 64 elements", Work::Sizes, &wide_facts(bytes)),
+        ));
+    }
+    for bytes in [16_384, 65_536, TEXT] {
+        jobs.push((bytes, Job::new("bytes of step lines", Work::CheckText, &long_text(bytes))));
+    }
+    for steps in [16_384, 65_536, 1_000_000, STEPS] {
+        jobs.push((steps, Job::new("lent steps", Work::CheckLent, &padded(&plan, steps))));
+    }
+    jobs
 }
 
 /// The small cases whose picks are of their kinds, those of which the rule is true or the others.
@@ -154,11 +202,13 @@ fn judgements() -> Vec<(String, Vec<Sample>)> {
     vec![
         (format!("{} small cases, true", yes.len()), yes),
         (format!("{} small cases, false", no.len()), no),
-        ("path of 15, true".into(), vec![path()]),
+        ("path of 15, true".into(), vec![path(15)]),
         ("path of 15, false at the first element".into(), vec![broken_path()]),
         ("four deep, true in every row".into(), vec![deep(13)]),
         ("four deep, false in the first row".into(), vec![broken_deep(13)]),
         ("four deep, true at the last witness".into(), vec![last(13)]),
+        ("airport of 64, zones".into(), vec![zones()]),
+        ("airport of 64, a round".into(), vec![round()]),
     ]
 }
 
@@ -169,7 +219,7 @@ fn print_judgements(rounds: u32, buffers: &mut Buffers) {
         "{:<46} {:>9} {:>9} {:>9} {:>9} {:>9}",
         "microseconds", "building", "judging", "of it", "peer's", "ratio"
     );
-    for (name, samples) in judgements() {
+    for (name, samples) in judgements().into_iter().filter(|(name, _)| wanted(name)) {
         let kinds = [
             ("text", Work::BuildText, Work::JudgeText),
             ("lent", Work::BuildLent, Work::JudgeLent),
@@ -185,19 +235,40 @@ fn print_judgements(rounds: u32, buffers: &mut Buffers) {
     }
 }
 
+/// Whether a job is wanted: every one is, unless a word was given.
+fn wanted(name: &str) -> bool {
+    std::env::args().nth(2).is_none_or(|word| name.contains(&word))
+}
+
+/// Nanoseconds for each byte or step, at growing sizes.
+fn print_growth(rounds: u32, buffers: &mut Buffers) {
+    println!();
+    println!(
+        "{:<56} {:>11} {:>11} {:>7}",
+        "nanoseconds each, least of all rounds", "peer", "ours", "ratio"
+    );
+    for (size, job) in growing_jobs().into_iter().filter(|(_, job)| wanted(&job.name)) {
+        let [peer, other] = job.time(rounds, buffers).map(|time| 1e3 * time / size as f64);
+        let name = format!("{size} {}", job.name);
+        println!("{name:<56} {peer:>11.2} {other:>11.2} {:>7.2}", other / peer);
+    }
+}
+
 fn main() {
     let rounds = std::env::args().nth(1).and_then(|text| text.parse().ok()).unwrap_or(30);
-    let mut buffers = Buffers { picks: vec![0; 256], state: vec![0; 1024], steps: vec![0; 65_536] };
+    let mut buffers =
+        Buffers { picks: vec![0; 16_384], state: vec![0; 16_384], steps: vec![0; STEPS] };
     if !LINKED {
         println!("The library is not linked: the peer is timed against itself.");
     }
     println!(
-        "{:<46} {:>11} {:>11} {:>7}",
+        "{:<56} {:>11} {:>11} {:>7}",
         "microseconds, least of all rounds", "peer", "ours", "ratio"
     );
-    for job in jobs() {
+    for job in jobs().into_iter().chain(wide_jobs()).filter(|job| wanted(&job.name)) {
         let [peer, other] = job.time(rounds, &mut buffers);
-        println!("{:<46} {peer:>11.1} {other:>11.1} {:>7.2}", job.name, other / peer);
+        println!("{:<56} {peer:>11.1} {other:>11.1} {:>7.2}", job.name, other / peer);
     }
+    print_growth(rounds, &mut buffers);
     print_judgements(rounds, &mut buffers);
 }

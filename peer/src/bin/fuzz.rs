@@ -46,8 +46,13 @@ fn judges(call: Call) -> bool {
     matches!(call, Call::JudgeText | Call::Judge)
 }
 
+/// How many entries the allowances of a case have.
+fn chosen(sample: &Sample) -> usize {
+    sample.question.split(|&byte| byte == b'\n').filter(|line| line.starts_with(b"choose")).count()
+}
+
 /// Whether everything a call must leave alone is as it was.
-fn kept(outcome: &Outcome, call: Call, needs: Option<Rooms>) -> bool {
+fn kept(sample: &Sample, outcome: &Outcome, call: Call, needs: Option<Rooms>) -> bool {
     let [picks, state, _] = needs.unwrap_or([0; 3]);
     let reads_picks = matches!(call, Call::PicksText | Call::Picks);
     let builds = matches!(call, Call::BuildText | Call::Build);
@@ -55,6 +60,7 @@ fn kept(outcome: &Outcome, call: Call, needs: Option<Rooms>) -> bool {
     let (picks, state, steps) = match outcome.reply {
         Reply::Accepted(_) if matches!(call, Call::Sizes | Call::Rule | Call::Action) => (0, 0, 0),
         Reply::Accepted(_) if judges(call) => (0, 0, 0),
+        Reply::Accepted(_) if call == Call::Allowances => (chosen(sample), 0, 0),
         Reply::Accepted(_) if reads_picks => (picks, state, 0),
         Reply::Accepted(count) if builds => (0, state, count as usize),
         Reply::Accepted(_) => (0, state, 0),
@@ -76,6 +82,7 @@ fn known(outcome: &Outcome, call: Call) -> bool {
     match call {
         Call::Sizes => (1..=11).contains(&refusal.number),
         Call::Action => matches!(refusal.number, 1..=11 | 13),
+        Call::Tries | Call::Allowances => (1..=12).contains(&refusal.number),
         Call::BuildText | Call::Build => matches!(refusal.number, 1..=12 | 16 | 17),
         Call::JudgeText | Call::Judge => matches!(refusal.number, 1..=12 | 16 | 17),
         _ => (1..=15).contains(&refusal.number),
@@ -114,7 +121,7 @@ fn sane(sample: &Sample, call: Call, rooms: Rooms, outcome: &Outcome) -> bool {
         Call::Build => round_trip(sample, outcome, needs),
         _ => !judges(call) || as_built(sample, call, rooms, outcome),
     };
-    kept(outcome, call, needs) && known(outcome, call) && whole
+    kept(sample, outcome, call, needs) && known(outcome, call) && whole
 }
 
 fn main() -> ExitCode {

@@ -1,108 +1,15 @@
 //! What a case measures, on both programs.
 //!
-//!     measures run SCRIPT ..         the calls `tally`, `sizes`, `allowances`, `judge_text` and `judge` of scripts of
-//!                                    vectors, held to the answers that stand there (`tally` on this program alone)
 //!     measures compare [INPUTS] [SEED]  random cases: allowances entry by entry, and that one pick less moves
 //!                                    the built steps by no more
 //!     measures bench [ROUNDS]        the sizes and the allowances of 1,000 small cases
 
 use peer::sample::{damage, needs, sound, Random, Sample};
-use peer::trial::{argument, numbers, Calls, Other, Peer, GUARD, LINKED};
-use peer::{tally, Refusal, Reply};
+use peer::trial::{argument, Calls, Other, Peer, GUARD, LINKED};
+use peer::Reply;
 use std::hint::black_box;
 use std::process::ExitCode;
 use std::time::Instant;
-
-fn tally_line(case: [&[u8]; 2]) -> String {
-    match tally(case[0], case[1]) {
-        Ok(found) => format!("= {} {} {}", found.nodes, found.atoms, found.actions),
-        Err(Refusal { number, place }) => format!("= {number} {place}"),
-    }
-}
-
-fn sizes_line(program: &impl Calls, case: [&[u8]; 2]) -> String {
-    match program.sizes(case[0], case[1]) {
-        Ok(found) => {
-            format!("= 0 0 {} {} {} {}", found.n, found.atoms, found.actions, found.bound)
-        }
-        Err(Refusal { number, place }) => format!("= {number} {place} 7 7 7 7"),
-    }
-}
-
-fn allowances_line(program: &impl Calls, case: [&[u8]; 2], room: usize) -> String {
-    let mut out = vec![7; room];
-    let (number, place) = numbers(program.allowances(case, &mut out));
-    let entries: String = out.iter().map(|entry| format!(" {entry}")).collect();
-    format!("= {number} {place} allowances{entries}")
-}
-
-fn reply_line(reply: Reply) -> String {
-    let (number, place) = numbers(reply);
-    format!("= {number} {place}")
-}
-
-/// What a script has set for its next calls: question, site, text, and lent words.
-#[derive(Default)]
-struct Script {
-    sheets: [Vec<u8>; 3],
-    lent: Vec<u64>,
-}
-
-impl Script {
-    /// The answers of both programs to a call, if it is one of those that are made here.
-    fn answers(&self, word: &str, rest: &str) -> Option<Vec<String>> {
-        let case = [&self.sheets[0][..], &self.sheets[1][..]];
-        let (text, lent) = (&self.sheets[2], &self.lent);
-        Some(match word {
-            "tally" => vec![tally_line(case)],
-            "sizes" => vec![sizes_line(&Peer, case), sizes_line(&Other, case)],
-            "allowances" => {
-                let room = rest.parse().expect("how many entries are lent");
-                vec![allowances_line(&Peer, case, room), allowances_line(&Other, case, room)]
-            }
-            "judge_text" => {
-                [Peer.judge_text(case, text), Other.judge_text(case, text)].map(reply_line).into()
-            }
-            "judge" => [Peer.judge(case, lent), Other.judge(case, lent)].map(reply_line).into(),
-            _ => return None,
-        })
-    }
-}
-
-/// The calls of one script that need nothing but what is here: how many, and how many answers differ.
-fn run_one(path: &str) -> (u32, u32) {
-    let text = std::fs::read_to_string(path).expect("a script");
-    let (mut script, mut wanted, mut calls, mut wrong) = (Script::default(), true, 0, 0);
-    let mut lines = text.lines();
-    while let Some(line) = lines.next() {
-        let (word, rest) = line.split_once(' ').unwrap_or((line, ""));
-        if let Some(needs) = line.strip_prefix("# needs ") {
-            wanted = needs == "-";
-        }
-        if let Some(sheet) = ["question", "site", "text"].iter().position(|&sheet| sheet == word) {
-            let part = lines.by_ref().take_while(|&line| line != ".");
-            script.sheets[sheet] = part.flat_map(|line| line.bytes().chain([b'\n'])).collect();
-        }
-        if word == "lent" {
-            script.lent = rest.split(' ').filter_map(|number| number.parse().ok()).collect();
-        }
-        let Some(answers) = script.answers(word, rest).filter(|_| wanted) else { continue };
-        calls += 1;
-        let required = lines.next().unwrap_or_default();
-        wrong += answers.iter().filter(|&answer| answer != required).count() as u32;
-    }
-    (calls, wrong)
-}
-
-fn run(paths: impl Iterator<Item = String>) -> ExitCode {
-    let (mut calls, mut wrong) = (0, 0);
-    for path in paths {
-        let (more, worse) = run_one(&path);
-        (calls, wrong) = (calls + more, wrong + worse);
-    }
-    println!("measures: {calls} calls, {wrong} answers differ");
-    ExitCode::from(u8::from(wrong > 0))
-}
 
 /// How many steps the other program builds from picks, if it builds any.
 fn built(sample: &Sample, picks: &[u8]) -> Option<u64> {
@@ -208,11 +115,10 @@ fn bench(rounds: u64) -> ExitCode {
 fn main() -> ExitCode {
     let what = std::env::args().nth(1).unwrap_or_default();
     match what.as_str() {
-        "run" => run(std::env::args().skip(2)),
         "compare" => compare(argument(2, 100_000), argument(3, 1)),
         "bench" => bench(argument(2, 200)),
         _ => {
-            println!("measures run SCRIPT .. | compare [INPUTS] [SEED] | bench [ROUNDS]");
+            println!("measures compare [INPUTS] [SEED] | bench [ROUNDS]");
             ExitCode::FAILURE
         }
     }

@@ -6,33 +6,31 @@
 //! Each call is made in a thread of that size, in a process of its own, and has to answer as the peer
 //! does. The desk program is `../target/bin/desk_main`, or what `NENDOKWE_DESK` names.
 
-use peer::large::worst;
-use peer::sample::{desk_input, Sample};
+use peer::desk::INPUT_LIMIT;
+use peer::limits::{STEPS, TEXT};
+use peer::sample::desk_input;
+use peer::texts::{worst, Text};
 use peer::trial::{run, Call, Calls, Other, Peer, CALLS, LINKED};
 use std::io::Write;
 use std::process::{Command, ExitCode, Stdio};
 use std::thread::Builder;
 
-/// What the desk reads at the most, and what a sheet has at the most.
-const DESK: usize = 16_384;
-const SHEET: usize = 65_536;
-
 /// Enough for every case that is built: picks, state, steps.
-const ROOMS: [usize; 3] = [256, 1_024, 65_536];
+const ROOMS: [usize; 3] = [16_384, 16_384, STEPS];
 
 fn program() -> String {
     let own = concat!(env!("CARGO_MANIFEST_DIR"), "/../target/bin/desk_main");
     std::env::var("NENDOKWE_DESK").unwrap_or(own.into())
 }
 
-fn texts(call: Call) -> Vec<(String, Sample)> {
+fn texts(call: Call) -> Vec<Text> {
     let desk = matches!(call, Call::DeskPicks | Call::DeskSteps);
-    worst(if desk { DESK } else { SHEET }, desk)
+    worst(if desk { INPUT_LIMIT } else { TEXT }, desk)
 }
 
 /// In a thread of so many kibibytes the call answers as the peer does. Too little ends the process.
 fn answers(call: Call, text: usize, kibibytes: usize) -> bool {
-    let (_, sample) = texts(call).swap_remove(text);
+    let sample = texts(call)[text].1();
     let expected = run(&Peer, call, &sample, ROOMS);
     let thread = Builder::new().stack_size(kibibytes << 10);
     let given = thread.spawn(move || run(&Other, call, &sample, ROOMS)).map(|given| given.join());
@@ -91,9 +89,9 @@ fn trials() -> Vec<Trial> {
             trials.push((format!("{call:?}"), name, enough));
         }
     }
-    for (name, sample) in worst(DESK, true) {
+    for (name, text) in worst(INPUT_LIMIT, true) {
         for planned in [false, true] {
-            let input = desk_input(&sample, planned);
+            let input = desk_input(&text(), planned);
             let enough = Box::new(move |kibibytes| desk_prints(&input, kibibytes));
             trials.push(("desk_main".into(), name.clone(), enough));
         }

@@ -1,12 +1,12 @@
 //! Many step lists in one call, on both programs.
 //!
-//!     tries run SCRIPT             the calls `tries` of a script of vectors: prints each answer of the
-//!                                  other program, and holds both to the answer that stands there
 //!     tries compare [INPUTS] [SEED]  random cases and lists: replies, records and every lent word, and
 //!                                  each record against a check of its list alone
 //!     tries bench [ROUNDS]         twenty lists in one call against twenty checks
 
-use peer::sample::{damage, facts, needs, sound, Random, Sample};
+use peer::large::facts;
+use peer::limits;
+use peer::sample::{damage, needs, sound, Random, Sample};
 use peer::trial::{argument, numbers, Calls, Other, Peer, GUARD, LINKED};
 use peer::{Reply, Try};
 use std::hint::black_box;
@@ -18,71 +18,6 @@ fn asked(first: u32, length: u32) -> Try {
     Try { first, length, number: 7, place: 7 }
 }
 
-/// What a script has set for its next call.
-#[derive(Default)]
-struct Script {
-    question: Vec<u8>,
-    site: Vec<u8>,
-    lent: Vec<u32>,
-    lists: Vec<Try>,
-}
-
-impl Script {
-    /// The answer of a program, as a script writes it.
-    fn answer(&self, program: &impl Calls, room: usize) -> String {
-        let (mut tries, mut state) = (self.lists.clone(), vec![7; room]);
-        let case = [&self.question[..], &self.site[..]];
-        let (number, place) = numbers(program.tries(case, &self.lent, &mut tries, &mut state));
-        let mut line = format!("= {number} {place} tries");
-        for record in &tries {
-            let Try { first, length, number, place } = record;
-            line += &format!(" {first} {length} {number} {place}");
-        }
-        line += " state";
-        for word in &state {
-            line += &format!(" {word}");
-        }
-        line
-    }
-}
-
-/// Runs the calls of blocks that need nothing but what is here.
-fn run(path: &str) -> ExitCode {
-    let text = std::fs::read_to_string(path).expect("a script");
-    let (mut script, mut wanted, mut calls, mut wrong) = (Script::default(), true, 0, 0);
-    let mut lines = text.lines();
-    while let Some(line) = lines.next() {
-        let (word, rest) = line.split_once(' ').unwrap_or((line, ""));
-        let numbers = || rest.split(' ').filter_map(|number| number.parse::<u32>().ok());
-        if let Some(needs) = line.strip_prefix("# needs ") {
-            wanted = needs == "-";
-        }
-        match word {
-            "question" | "site" => {
-                let part = lines.by_ref().take_while(|&line| line != ".");
-                let sheet = part.flat_map(|line| line.bytes().chain([b'\n'])).collect();
-                *(if word == "site" { &mut script.site } else { &mut script.question }) = sheet;
-            }
-            "lent" => script.lent = numbers().collect(),
-            "lists" => {
-                let all: Vec<u32> = numbers().collect();
-                script.lists = all.chunks(2).map(|list| asked(list[0], list[1])).collect();
-            }
-            "tries" if wanted => {
-                let room = rest.parse().expect("how many words are lent");
-                let (peer, other) = (script.answer(&Peer, room), script.answer(&Other, room));
-                println!("{other}");
-                calls += 1;
-                let required = lines.next();
-                wrong += u32::from(required != Some(&peer)) + u32::from(required != Some(&other));
-            }
-            _ => (),
-        }
-    }
-    println!("tries: {calls} calls, {wrong} answers differ");
-    ExitCode::from(u8::from(wrong > 0))
-}
-
 /// Lists in and about the lent steps, some of them far outside.
 fn lists(random: &mut Random, steps: usize) -> Vec<Try> {
     let mut tries = Vec::new();
@@ -90,7 +25,7 @@ fn lists(random: &mut Random, steps: usize) -> Vec<Try> {
         let first = random.below(steps + 2);
         let length = random.below(steps + 2 - first.min(steps + 1));
         tries.push(match random.below(12) {
-            0 => asked(first as u32, 65_536 + random.below(2) as u32),
+            0 => asked(first as u32, (limits::STEPS + random.below(2)) as u32),
             1 => asked(u32::MAX, length as u32),
             2 => asked(first as u32, u32::MAX),
             3..=6 => asked(0, steps as u32),
@@ -191,11 +126,10 @@ fn bench(rounds: u64) -> ExitCode {
 fn main() -> ExitCode {
     let what = std::env::args().nth(1).unwrap_or_default();
     match what.as_str() {
-        "run" => run(&std::env::args().nth(2).expect("a script")),
         "compare" => compare(argument(2, 100_000), argument(3, 1)),
         "bench" => bench(argument(2, 2_000)),
         _ => {
-            println!("tries run SCRIPT | compare [INPUTS] [SEED] | bench [ROUNDS]");
+            println!("tries compare [INPUTS] [SEED] | bench [ROUNDS]");
             ExitCode::FAILURE
         }
     }

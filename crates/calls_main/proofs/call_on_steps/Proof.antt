@@ -21,7 +21,6 @@ call-on-steps-spec =
     (λ c. search needs)
     slice-aggregate-check-lent
     (λ c. search needs)
-    (λ c. search needs)
     (λ c κs. search needs)
     (λ c. search needs)
     (λ c. search needs)

@@ -1,4 +1,4 @@
--- `calls_main::words` meets its contract: the loop ends with the list.
+-- `calls_main::words` meets its contract: the loop ends with the words in front, and there are no more of them than words.
 use Prim.Native.Nat.{_-_, _≤_}
 use native.Mathlib.Omega.{arith}
 use lib.ListN.{length}
@@ -7,10 +7,10 @@ use Rattle.calls_main.proofs.words.Statement.{statement}
 use Rattle.calls_main.proofs.words.Tie as tie
 
 abbrev Inv-loop : tie.InvT-loop
-Inv-loop what w i₀ i = i ≤ length w
+Inv-loop what w n i₀ i = (i ≤ n) × (n ≤ length w)
 
 abbrev μ-loop : tie.MeasureT-loop
-μ-loop what w i₀ i = length w - i
+μ-loop what w n i₀ i = n - i
 
 pub words-spec : {M : Type 1} → statement M
 words-spec =
@@ -19,11 +19,14 @@ words-spec =
     Inv-loop
     μ-loop
     (λ c κs. search needs)
-    (λ c. omega arith)
+    (λ c κs. search needs)
+    (λ c. (omega arith, c .front .ensures))
     (λ c. search needs)
     (λ c. search needs)
     (λ c κs. search needs)
     (λ c. search needs)
-    (λ c. search needs)
-    (λ c. search needs)
+    (λ c. omega arith)
+    (λ c. (omega arith, omega arith))
+    (λ c. omega arith)
+    (λ c κs. search needs)
     (λ c. search needs))

@@ -1,13 +1,26 @@
--- `cases::check_text` meets its contract: the words that it lends are enough, and clear. Assumes nothing.
+-- `cases::check_text` meets its contract: the words and the list that it lends are enough, and clear. Assumes nothing.
+use native.Mathlib.Omega.{arith}
 use Rattle.sheets.proofs.Loops.{zeros-clear}
-use Rattle.asking.specs.Fronts.{few-room}
 use borrow.Author.Needs.{needs}
 use Rattle.cases.proofs.check_text.Statement.{statement}
 use Rattle.cases.proofs.check_text.Tie as tie
 
-check-text-in-requires : tie.Need-check-text-in-requires
-check-text-in-requires c κs = (few-room _, zeros-clear 512)
+check-text-with-requires : tie.Need-check-text-with-requires
+check-text-with-requires c κs = ((c .before .before .before .before .is-small .ensures (c .before .before .before .if2 .taken), zeros-clear 512), λ few. omega arith)
 
 pub check-text-spec : {M : Type 1} → statement M
 check-text-spec =
-    tie.close (tie.spec (λ c. search needs) check-text-in-requires (λ c. search needs) (λ c. search needs))
+    tie.close
+    (tie.spec
+    (λ c κs. search needs)
+    (λ c. search needs)
+    (λ c. search needs)
+    check-text-with-requires
+    (λ c. search needs)
+    (λ c. search needs)
+    (λ c κs. search needs)
+    (λ c. search needs)
+    (λ c. search needs)
+    (λ c κs. search needs)
+    (λ c. search needs)
+    (λ c. search needs))

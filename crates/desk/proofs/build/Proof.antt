@@ -3,7 +3,8 @@ use native.Mathlib.Omega.{arith}
 use Rattle.layout.specs.LaidLaws.{most-zeros}
 use Rattle.ground.specs.Lines.{tableLength}
 use Rattle.sheets.proofs.Loops.{zeros-clear}
-use Rattle.asking.specs.Fronts.{few-room, front-refused}
+use Rattle.asking.specs.Fronts.{front-refused}
+use Rattle.asking.specs.Rooms.{few-room}
 use Rattle.desk.specs.Replied.{answer-as}
 use Rattle.desk.specs.Known.{own, case-known, picks-roomy}
 use Rattle.desk.specs.Planned.{plan-refused, text-refused, picks-taken, is-picked}

@@ -6,7 +6,8 @@ use lib.Seq.{length-take-le}
 use Rattle.layout.specs.LaidLaws.{most-zeros}
 use Rattle.ground.specs.Lines.{tableLength}
 use Rattle.sheets.proofs.Loops.{zeros-clear}
-use Rattle.asking.specs.Fronts.{few-room, front-refused}
+use Rattle.asking.specs.Fronts.{front-refused}
+use Rattle.asking.specs.Rooms.{few-room}
 use Rattle.asking.specs.Replies.{text-refused, text-taken, text-room}
 use Rattle.desk.specs.Replied.{answer-as}
 use Rattle.desk.specs.Known.{own, case-known}

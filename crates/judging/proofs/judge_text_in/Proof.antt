@@ -1,9 +1,9 @@
--- `judging::judge_text_in` meets its contract: the case is refused, the text is, or its picks are judged. Assumes nothing.
+-- `judging::judge_text_in` meets its contract: the case is refused, or words are lent that hold the picks of the text. Assumes nothing.
 use mathlib.Core.Path.{refl}
-use native.Mathlib.Omega.{arith}
 use Rattle.definitions.specs.Limits.{usual}
 use Rattle.sheets.proofs.Loops.{zeros-clear}
-use Rattle.judging.specs.Calls.{accepted-in, picks-asked, call-case, call-text-refused, call-text}
+use Rattle.asking.specs.Elements.{few-picks, many-picks}
+use Rattle.judging.specs.Calls.{accepted-in, few-elements, picks-asked, call-case}
 use borrow.Author.Needs.{needs}
 use Rattle.judging.proofs.judge_text_in.Statement.{statement}
 use Rattle.judging.proofs.judge_text_in.Tie as tie
@@ -11,32 +11,23 @@ use Rattle.judging.proofs.judge_text_in.Tie as tie
 returns : tie.Need-returns
 returns c = call-case _ _ _ _ (c .before .before .before .before .read-case .ensures usual refl) _ (c .if1 .taken)
 
-picks-requires : tie.Need-picks-requires
-picks-requires c κs =
-    let h = picks-asked _ _ _ _ (c .before .before .before .before .before .before .read-case .ensures usual refl) (c .before .before .if1 .left) 256 (omega arith) in
-    (h .0, h .1, h .2, zeros-clear 256)
-
-judge-case-requires : tie.Need-judge-case-requires
-judge-case-requires c κs =
-    let at-if1 = c .before .before .before .before .before .before .before .before in
-    let at-read-case = at-if1 .before .before .before .before in
-    accepted-in _ _ _ _ (at-read-case .read-case .ensures usual refl) (at-if1 .if1 .left)
+judge-listed-requires : tie.Need-judge-listed-requires
+judge-listed-requires c κs =
+    let read = c .before .before .before .before .before .before .before .before .read-case .ensures usual refl in
+    let z = c .before .before .before .before .if1 .left in
+    (accepted-in _ _ _ _ read z, (picks-asked _ _ _ _ read z 16 256 (c .before .before .if2 .taken) few-picks, zeros-clear 256))
 
 returns-2 : tie.Need-returns-2
-returns-2 c =
-    let at-picks = c .before .before .before .before in
-    let at-if1 = at-picks .before .before .before in
-    let at-read-case = at-if1 .before .before .before .before in
-    call-text-refused _ _ _ _ (at-read-case .read-case .ensures usual refl) (at-if1 .if1 .left) _ _ (at-picks .picks .ensures .0) _ _ (c .before .a .given .1)
+returns-2 c = c .before .judge-listed .ensures _ (c .before .before .before .before .before .before .before .before .before .before .read-case .ensures usual refl) (c .before .before .before .before .before .before .if1 .left)
+
+judge-listed-requires-2 : tie.Need-judge-listed-requires-2
+judge-listed-requires-2 c κs =
+    let read = c .before .before .before .before .before .before .before .before .read-case .ensures usual refl in
+    let z = c .before .before .before .before .if1 .left in
+    (accepted-in _ _ _ _ read z, (picks-asked _ _ _ _ read z 64 16384 (few-elements _ _ _ _ read z) many-picks, zeros-clear 16384))
 
 returns-3 : tie.Need-returns-3
-returns-3 c =
-    let at-enum-told = c .before .before .before in
-    let at-words2 = at-enum-told .before .before in
-    let at-picks = at-words2 .before in
-    let at-if1 = at-picks .before .before .before in
-    let at-read-case = at-if1 .before .before .before .before in
-    call-text _ _ _ _ (at-read-case .read-case .ensures usual refl) (at-if1 .if1 .left) _ _ (at-picks .picks .ensures .0) _ (at-enum-told .enum-told .given .1) _ (omega (arith, at-words2 .words2 .given)) (at-picks .picks .ensures .1) _ (c .judge-case .ensures)
+returns-3 c = c .before .judge-listed2 .ensures _ (c .before .before .before .before .before .before .before .before .before .before .read-case .ensures usual refl) (c .before .before .before .before .before .before .if1 .left)
 
 pub judge-text-in-spec : {M : Type 1} → statement M
 judge-text-in-spec =
@@ -46,12 +37,10 @@ judge-text-in-spec =
     (λ c. search needs)
     returns
     (λ c. search needs)
-    picks-requires
-    (λ c. search needs)
-    (λ c. search needs)
-    (λ c. search needs)
-    judge-case-requires
+    judge-listed-requires
     (λ c. search needs)
     returns-2
+    (λ c. search needs)
+    judge-listed-requires-2
     (λ c. search needs)
     returns-3)

@@ -1,4 +1,4 @@
--- The way is followed in a state and steps of its own; they are copied to what is lent if the goal was proved.
+-- The way is followed in a scratch copy of the state, with the steps kept; both are copied to what is lent if the goal was proved.
 use mathlib.Core.Path.{_≡_}
 use native.Mathlib.Omega.{arith}
 use lib.ListN.{length}

@@ -13,7 +13,7 @@ site-requires : tie.Need-site-requires
 unfolding wordsFor
 site-requires c κs =
     let sound = question-sound _ _ (c .before .before .before .question .ensures) in
-    (sound, omega arith, λ k next r l. let e = pow-le-pow-left l 3 in facts-room _ _ sound k 512 (omega (arith, e)), zeros-clear 512)
+    (sound, omega arith, λ k next r l. let e = pow-le-pow-left l 3 in facts-room _ _ sound k 32768 (omega (arith, e)), zeros-clear 32768)
 
 pub read-site-spec : {M : Type 1} → statement M
 read-site-spec =

@@ -21,14 +21,22 @@ returns-3 c =
     λ p serves. c .before .run-copy .ensures p serves ∙ list-ran p _ _ _ (omega arith) _ _ (second .before .wide .ensures) (second .wide2 .ensures) (omega arith)
 
 run-copy-requires-2 : tie.Need-run-copy-requires-2
-run-copy-requires-2 c κs =
-    let ready = c .before .before .before .before .before .before .before .before .before .before .pre in
-    (ready, omega (arith, ready .few))
+run-copy-requires-2 c κs = (c .before .before .before .before .before .before .before .before .before .before .before .pre, omega arith)
 
 returns-4 : tie.Need-returns-4
 returns-4 c =
-    let second = c .before .before .before .before .before .before in
+    let second = c .before .before .before .before .before .before .before in
     λ p serves. c .before .run-copy2 .ensures p serves ∙ list-ran p _ _ _ (omega arith) _ _ (second .before .wide .ensures) (second .wide2 .ensures) (omega arith)
+
+run-copy-requires-3 : tie.Need-run-copy-requires-3
+run-copy-requires-3 c κs =
+    let ready = c .before .before .before .before .before .before .before .before .before .before .before .pre in
+    (ready, omega (arith, ready .few))
+
+returns-5 : tie.Need-returns-5
+returns-5 c =
+    let second = c .before .before .before .before .before .before .before in
+    λ p serves. c .before .run-copy3 .ensures p serves ∙ list-ran p _ _ _ (omega arith) _ _ (second .before .wide .ensures) (second .wide2 .ensures) (omega arith)
 
 pub try-list-spec : {M : Type 1} → statement M
 try-list-spec =
@@ -52,4 +60,11 @@ try-list-spec =
     (λ c. search needs)
     (λ c. search needs)
     run-copy-requires-2
-    returns-4)
+    returns-4
+    (λ c. search needs)
+    (λ c. search needs)
+    (λ c. search needs)
+    (λ c. search needs)
+    (λ c. search needs)
+    run-copy-requires-3
+    returns-5)

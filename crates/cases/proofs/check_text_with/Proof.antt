@@ -1,0 +1,36 @@
+-- `cases::check_text_with` meets its contract: the case is refused, or its steps are read into the list. Assumes nothing.
+use native.Mathlib.Omega.{arith}
+use Rattle.layout.specs.LaidLaws.{most-zeros}
+use Rattle.ground.specs.Lines.{tableLength}
+use Rattle.asking.specs.Fronts.{front-ready}
+use Rattle.cases.specs.Replies.{call-case}
+use borrow.Author.Needs.{needs}
+use Rattle.cases.proofs.check_text_with.Statement.{statement}
+use Rattle.cases.proofs.check_text_with.Tie as tie
+
+open-case-requires : tie.Need-open-case-requires
+open-case-requires c κs = ((omega arith, omega arith, omega arith), (c .before .before .before .before .before .before .before .before .pre .0, (search needs, most-zeros tableLength 0)))
+
+returns : tie.Need-returns
+returns c = call-case _ _ _ _ _ _ _ _ (c .before .before .before .before .before .open-case .ensures) (c .if1 .taken)
+
+check-listed-requires : tie.Need-check-listed-requires
+check-listed-requires c κs = ((_, front-ready _ _ _ _ _ _ (c .before .before .before .before .before .before .before .before .before .open-case .ensures) (omega arith) (omega arith) (c .before .before .before .before .if1 .left)), c .before .before .before .before .before .before .before .before .before .before .before .before .before .before .before .before .before .before .pre .1)
+
+returns-2 : tie.Need-returns-2
+returns-2 c = c .before .before .before .before .check-listed .ensures _ _ _ (c .before .before .before .before .before .before .before .before .before .before .before .before .before .before .open-case .ensures) (c .before .before .before .before .before .before .before .before .before .if1 .left)
+
+pub check-text-with-spec : {M : Type 1} → statement M
+check-text-with-spec =
+    tie.close
+    (tie.spec
+    (λ c. search needs)
+    open-case-requires
+    (λ c. search needs)
+    returns
+    (λ c. search needs)
+    check-listed-requires
+    (λ c. search needs)
+    (λ c. search needs)
+    (λ c. search needs)
+    returns-2)

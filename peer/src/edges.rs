@@ -1,0 +1,329 @@
+//! Each limit, met exactly and passed by one, with the answer that it must get.
+//! The sizes were counted apart from both programs.
+
+use crate::large::{long_list, long_text, planned, some, wide_facts, wide_picks};
+use crate::limits::{STEPS, TEXT};
+use crate::sample::Sample;
+use crate::trial::{numbers, Call, Outcome, Rooms};
+
+/// A case, and calls on it with the lengths of their buffers and their answers.
+pub struct Edge {
+    pub name: &'static str,
+    pub sample: Box<dyn Fn() -> Sample>,
+    pub asked: Vec<(Call, Rooms, String)>,
+}
+
+/// What an outcome says at the front: the desk's first line, or number and place and what was found.
+pub fn answer(outcome: &Outcome) -> String {
+    if let Some(line) =
+        outcome.printed.split(|&byte| byte == b'\n').next().filter(|l| !l.is_empty())
+    {
+        return String::from_utf8_lossy(line).replace('\t', " ");
+    }
+    let (number, place) = numbers(outcome.reply);
+    outcome.found.iter().fold(format!("{number} {place}"), |line, found| format!("{line} {found}"))
+}
+
+fn edge(
+    name: &'static str,
+    sample: impl Fn() -> Sample + 'static,
+    asked: &[(Call, Rooms, &str)],
+) -> Edge {
+    let asked = asked.iter().map(|&(call, rooms, answer)| (call, rooms, answer.into())).collect();
+    Edge { name, sample: Box::new(sample), asked }
+}
+
+/// A case that every call refuses alike, and where lists to try keep the sevens they came with.
+fn refused(name: &'static str, sample: impl Fn() -> Sample + 'static, answer: &str) -> Edge {
+    let kept = format!("{answer} 7 7 7 7 7 7");
+    let asked = ON_CASES
+        .map(|call| (call, NONE, if call == Call::Tries { kept.clone() } else { answer.into() }));
+    Edge { name, sample: Box::new(sample), asked: asked.into() }
+}
+
+/// An `and` so many times over each `forall`, outermost first; the last ones over the inner part.
+fn chain(ands: &[usize], inner: &str) -> String {
+    let mut rule = inner.to_string();
+    for (depth, &times) in ands.iter().enumerate().rev() {
+        rule = format!("{}{rule}{}", "(and ".repeat(times), ")".repeat(times));
+        if depth > 0 {
+            let variable = ["?a", "?b", "?c", "?d"][depth - 1];
+            rule = format!("(forall ({variable}) {rule})");
+        }
+    }
+    rule
+}
+
+/// A case without facts: relations and chosen ones by arity, the latter T, U, V and W.
+fn case(n: usize, rels: &[usize], chosen: &[usize], rule: &str) -> Sample {
+    let mut question = String::new();
+    for (number, arity) in rels.iter().enumerate() {
+        question += &format!("rel\tR{number}\t{arity}\n");
+    }
+    for (name, arity) in ["T", "U", "V", "W"].iter().zip(chosen) {
+        question += &format!("choose\t{name}\t{arity}\n");
+    }
+    question += &format!("rule\t{rule}\n");
+    let site = format!("size\t{n}\n").into();
+    Sample { question: question.into(), site, ..Sample::default() }
+}
+
+/// The same with a pick for each element, or for each pair.
+fn picked(sample: Sample, n: usize, pairs: bool, pick: impl Fn(usize, usize) -> String) -> Sample {
+    let rows = if pairs { n * n } else { n };
+    let picks: String = (0..rows).map(|row| pick(row / n, row % n)).collect();
+    Sample { picks: picks.into(), ..sample }
+}
+
+fn each(n: usize) -> Sample {
+    let sample = case(n, &[], &[1], "(forall (?y) (T ?y))");
+    picked(sample, n, false, |_, e| format!("pick\tT\t{e}\n"))
+}
+
+/// A literal with so many variables that the question has so many bytes.
+fn long_question(bytes: usize) -> Sample {
+    let empty = case(1, &[], &[1], "(T)").question.len();
+    let room = bytes - empty;
+    // A variable takes three bytes with its space; the last is longer by what is left.
+    let rule = format!("(T{}{})", " ?a".repeat(room / 3), "a".repeat(room % 3));
+    case(1, &[], &[1], &rule)
+}
+
+/// 63 elements: nearly all atoms are tuples.
+fn many_atoms(ands: usize) -> Sample {
+    let rule = chain(&[ands, 1], "(T ?a ?a ?a)");
+    let sample = case(63, &[1, 1, 1, 2, 2, 2, 3], &[3], &rule);
+    picked(sample, 63, false, |_, e| format!("pick\tT\t{e}\t{e}\t{e}\n"))
+}
+
+/// 24 elements: nearly all atoms are nodes', and all of those are proved.
+fn many_proofs(ands: usize) -> Sample {
+    let rule = chain(&[ands, 1, 1, 2, 1], "(and (T ?a ?b) (T ?c ?d))");
+    let sample = case(24, &[1, 1, 2, 2, 2, 2, 2], &[2], &rule);
+    picked(sample, 24, true, |e, f| format!("pick\tT\t{e}\t{f}\n"))
+}
+
+/// 60 elements: an `or` of 18 parts in every row of three variables.
+fn many_actions(ands: usize) -> Sample {
+    let rule = chain(&[ands, 0, 24, 0], &format!("(or{})", " (T ?a) (U ?b) (V ?c)".repeat(6)));
+    let sample = case(60, &[], &[1, 1, 1, 1], &rule);
+    picked(sample, 60, false, |_, e| format!("pick\tT\t{e}\n"))
+}
+
+/// As many atoms, actions and steps as the desk takes, with so many of each kind of `and`.
+fn desk_atoms(ands: usize) -> Sample {
+    let sample = case(15, &[3; 8], &[3], &chain(&[ands, 13, 13], "(T ?a ?b ?b)"));
+    picked(sample, 15, true, |e, f| format!("pick\tT\t{e}\t{f}\t{f}\n"))
+}
+
+fn desk_actions(ands: usize) -> Sample {
+    let inner = "(or (T ?a) (U ?a ?b) (V ?b ?c) (W ?c ?d) (T ?d))";
+    case(12, &[], &[1, 2, 2, 2], &chain(&[ands, 0, 6, 2, 0], inner))
+}
+
+fn desk_steps(ands: usize) -> Sample {
+    let sample = case(15, &[], &[1, 1, 3, 3], &chain(&[ands, 3, 5], "(V ?a ?b ?b)"));
+    picked(sample, 15, true, |e, f| format!("pick\tV\t{e}\t{f}\t{f}\n"))
+}
+
+fn desk_bytes(bytes: usize) -> Sample {
+    let Sample { question, site, .. } = some();
+    long_text(bytes - question.len() - site.len())
+}
+
+const NONE: Rooms = [0; 3];
+
+/// The calls that read question and site first.
+const ON_CASES: [Call; 12] = [
+    Call::Sizes,
+    Call::Action,
+    Call::CheckText,
+    Call::Check,
+    Call::PicksText,
+    Call::Picks,
+    Call::BuildText,
+    Call::Build,
+    Call::JudgeText,
+    Call::Judge,
+    Call::Tries,
+    Call::Allowances,
+];
+
+fn elements() -> Vec<Edge> {
+    use Call::*;
+    let room = [1, 392, 130];
+    vec![
+        edge(
+            "64 elements",
+            || each(64),
+            &[
+                (Sizes, NONE, "0 0 64 25027 130 130"),
+                (BuildText, room, "0 130"),
+                (BuildText, [1, 391, 130], "12 392"),
+                (JudgeText, NONE, "0 0"),
+                (Action, [0, 0, 129], "0 0 6 0 0 0"),
+                (Action, [0, 0, 130], "13 130"),
+                (DeskPicks, NONE, "no 9 0"),
+            ],
+        ),
+        refused("65 elements", || each(65), "9 0"),
+    ]
+}
+
+fn bytes() -> Vec<Edge> {
+    use Call::*;
+    let (full, over) = (TEXT, TEXT + 1);
+    let room = [4_096, 8_646, 266_307];
+    let short = [1, 3, 0];
+    vec![
+        edge(
+            "a question of 1,048,576 bytes",
+            move || long_question(full),
+            &[(Sizes, NONE, "7 11")],
+        ),
+        edge("a question of 1,048,577 bytes", move || long_question(over), &[(Sizes, NONE, "1 0")]),
+        edge(
+            "a site of 1,048,576 bytes",
+            move || wide_facts(full),
+            &[(Sizes, NONE, "0 0 64 557507 130 130")],
+        ),
+        edge("a site of 1,048,577 bytes", move || wide_facts(over), &[(Sizes, NONE, "1 0")]),
+        edge(
+            "picks of 1,048,576 bytes",
+            move || wide_picks(full),
+            &[(BuildText, room, "0 66776"), (JudgeText, NONE, "0 0")],
+        ),
+        edge(
+            "picks of 1,048,577 bytes",
+            move || wide_picks(over),
+            &[(BuildText, room, "1 0"), (JudgeText, NONE, "1 0")],
+        ),
+        edge(
+            "steps of 1,048,576 bytes",
+            move || long_text(full),
+            &[(CheckText, short, "0 149796"), (PicksText, short, "0 149796")],
+        ),
+        edge(
+            "steps of 1,048,577 bytes",
+            move || long_text(over),
+            &[(CheckText, short, "1 0"), (PicksText, short, "1 0")],
+        ),
+    ]
+}
+
+fn steps() -> Vec<Edge> {
+    use Call::*;
+    let room = [1, 3, 0];
+    vec![
+        edge(
+            "1,048,576 lent steps",
+            || long_list(STEPS),
+            &[
+                (Check, room, "0 1048576"),
+                (Picks, room, "0 1048576"),
+                (Tries, room, "0 0 0 1048576 0 1048575 12 1048577"),
+            ],
+        ),
+        edge(
+            "1,048,577 lent steps",
+            || long_list(STEPS + 1),
+            &[(Check, room, "1 0"), (Picks, room, "1 0"), (Tries, room, "0 0 1 0 0 1048576 1 0")],
+        ),
+    ]
+}
+
+fn atoms() -> Vec<Edge> {
+    use Call::*;
+    let room = [4_096, 16_384, 250_176];
+    let full = [9, 16_384, 1_038_591];
+    vec![
+        edge(
+            "1,048,576 atoms of 63 elements",
+            || many_atoms(1),
+            &[
+                (Sizes, NONE, "0 0 63 1048576 250176 250176"),
+                (BuildText, room, "0 192"),
+                (BuildText, [0, 16_383, 0], "12 16384"),
+                (BuildText, [0, 16_384, 250_175], "12 250176"),
+                (JudgeText, NONE, "0 0"),
+                (Build, [3_906, 0, 0], "12 3907"),
+            ],
+        ),
+        refused("1,048,577 atoms of 63 elements", || many_atoms(2), "11 0"),
+        edge(
+            "1,048,576 atoms of 24 elements, 1,038,591 steps",
+            || planned(many_proofs(13)),
+            &[
+                (Sizes, NONE, "0 0 24 1048576 1038591 1038591"),
+                (BuildText, full, "0 1038591"),
+                (Build, full, "0 1038591"),
+                (Build, [9, 16_384, 1_038_590], "12 1038591"),
+                (Check, full, "0 1038591"),
+                (Picks, full, "0 1038591"),
+                // Its steps as a text are far too long.
+                (CheckText, full, "1 0"),
+                (JudgeText, NONE, "0 0"),
+                (Judge, full, "0 0"),
+                (Allowances, full, "0 0"),
+            ],
+        ),
+        refused("1,048,577 atoms of 24 elements", || many_proofs(14), "11 0"),
+    ]
+}
+
+fn actions() -> Vec<Edge> {
+    use Call::*;
+    let room = [4, 8_507, 522_304];
+    vec![
+        edge(
+            "4,194,304 actions of 60 elements",
+            || many_actions(2),
+            &[
+                (Sizes, NONE, "0 0 60 544385 4194304 522304"),
+                (Action, [0, 0, 4_194_303], "0 0 6 0 0 0"),
+                (Action, [0, 0, 4_194_304], "13 4194304"),
+                (BuildText, room, "0 522124"),
+                (JudgeText, NONE, "0 0"),
+            ],
+        ),
+        refused("4,194,305 actions of 60 elements", || many_actions(3), "11 0"),
+    ]
+}
+
+/// The desk's own limits, which no call has.
+fn desk() -> Vec<Edge> {
+    use Call::*;
+    vec![
+        edge("16 elements at the desk", || each(16), &[(DeskPicks, NONE, "sizes 16 1651 34 34")]),
+        edge("17 elements at the desk", || each(17), &[(DeskPicks, NONE, "no 9 0")]),
+        edge(
+            "16,384 bytes at the desk",
+            || desk_bytes(16_384),
+            &[(DeskSteps, NONE, "sizes 5 184 12 8")],
+        ),
+        edge("16,385 bytes at the desk", || desk_bytes(16_385), &[(DeskSteps, NONE, "no 1 0")]),
+        edge(
+            "65,536 atoms at the desk",
+            || desk_atoms(13),
+            &[(DeskPicks, NONE, "sizes 15 65536 6750 6750")],
+        ),
+        edge("65,537 atoms at the desk", || desk_atoms(14), &[(DeskPicks, NONE, "no 11 0")]),
+        edge(
+            "131,072 actions at the desk",
+            || desk_actions(6),
+            &[(DeskPicks, NONE, "no 12 48128")],
+        ),
+        edge("131,073 actions at the desk", || desk_actions(7), &[(DeskPicks, NONE, "no 11 0")]),
+        edge(
+            "8,192 steps at the desk",
+            || desk_steps(0),
+            &[(DeskPicks, NONE, "sizes 15 16383 8192 8192")],
+        ),
+        edge("8,193 steps at the desk", || desk_steps(1), &[(DeskPicks, NONE, "no 12 8193")]),
+    ]
+}
+
+/// Every limit, at it and past it.
+pub fn edges() -> Vec<Edge> {
+    [elements(), bytes(), steps(), atoms(), actions(), desk()].into_iter().flatten().collect()
+}
