@@ -9,7 +9,7 @@ held to the vectors and not to itself.
 import pathlib
 import sys
 
-LANDED = {"-", "big"}  # what a vector may rest on
+LANDED = {"-", "big", "labels"}  # what a vector may rest on
 if len(sys.argv) < 2:
     sys.exit(__doc__)
 here, inputs, outputs, index = pathlib.Path(__file__).parent, b"", b"", ""

@@ -199,7 +199,7 @@ fn build_sheet(
     steps: &mut [u32],
 ) -> Result<usize, Refusal> {
     let (question, structure) = case(question, site, &USUAL)?;
-    let picks = sheets::picks(picks, &question.signature, structure.n)?;
+    let picks = sheets::picks(picks, &question.signature, &structure)?;
     let problem = Problem::new(&question, &structure, &USUAL)?;
     room(state.len(), problem.words())?;
     room(steps.len(), problem.bound as usize)?;

@@ -2,6 +2,7 @@
 
 use crate::cases::{case, room};
 use crate::ground::Problem;
+use crate::labels::Labels;
 use crate::limits::EARLY;
 use crate::plans::{build, follow, read_picks, rows};
 use crate::sheets::{self, Relation, Tables};
@@ -64,20 +65,20 @@ fn checked(sheets: &Sheets) -> Result<Vec<u8>, Refusal> {
     follow(&problem, &steps, &mut state)?;
     let mut picks = Tables::new(question.signature.chosen_relations(), structure.n);
     read_picks(&problem, &state, &mut picks.words);
-    Ok(print(&problem, &picks, &steps))
+    Ok(print(&problem, &structure.labels, &picks, &steps))
 }
 
 fn built(sheets: &Sheets) -> Result<Vec<u8>, Refusal> {
     let (question, structure) = case(sheets.question, sheets.site, &EARLY)?;
-    let picks = sheets::picks(sheets.record, &question.signature, structure.n)?;
+    let picks = sheets::picks(sheets.record, &question.signature, &structure)?;
     let problem = Problem::new(&question, &structure, &EARLY)?;
     room(STEP_ROOM, problem.bound as usize)?;
     let plan = build(&problem, &picks)?;
-    Ok(print(&problem, &picks, &plan.steps))
+    Ok(print(&problem, &structure.labels, &picks, &plan.steps))
 }
 
 /// The sizes, all counts, the picks in atom order, the steps and their count.
-fn print(problem: &Problem, picks: &Tables, steps: &[u32]) -> Vec<u8> {
+fn print(problem: &Problem, labels: &Labels, picks: &Tables, steps: &[u32]) -> Vec<u8> {
     let mut output = Vec::new();
     let (n, atoms, actions) = (problem.n, problem.atoms, problem.actions());
     line(&mut output, format_args!("sizes\t{n}\t{atoms}\t{actions}\t{}", problem.bound));
@@ -88,7 +89,7 @@ fn print(problem: &Problem, picks: &Tables, steps: &[u32]) -> Vec<u8> {
     }
     for (choose, relation) in chosen.iter().enumerate() {
         for row in rows(picks.relation(choose)) {
-            print_pick(&mut output, relation, row, n);
+            print_pick(&mut output, labels, relation, row, n);
         }
     }
     for step in steps {
@@ -98,14 +99,14 @@ fn print(problem: &Problem, picks: &Tables, steps: &[u32]) -> Vec<u8> {
     output
 }
 
-fn print_pick(output: &mut Vec<u8>, relation: &Relation, row: u32, n: u32) {
-    let name = relation.name.escape_ascii();
-    let (first, second, third) = (row / n / n, row / n % n, row % n);
-    match relation.arity() {
-        1 => line(output, format_args!("pick\t{name}\t{third}")),
-        2 => line(output, format_args!("pick\t{name}\t{second}\t{third}")),
-        _ => line(output, format_args!("pick\t{name}\t{first}\t{second}\t{third}")),
+/// A picked tuple, each element by its label if it has one.
+fn print_pick(output: &mut Vec<u8>, labels: &Labels, relation: &Relation, row: u32, n: u32) {
+    let mut text = format!("pick\t{}", relation.name.escape_ascii());
+    let elements = [row / n / n, row / n % n, row % n];
+    for &element in &elements[3 - relation.arity()..] {
+        text += &labels.name(element).map_or(format!("\t{element}"), |name| format!("\t{name}"));
     }
+    line(output, format_args!("{text}"));
 }
 
 fn line(output: &mut Vec<u8>, text: Arguments) {

@@ -1,8 +1,9 @@
 //! Each limit, met exactly and passed by one, with the answer that it must get.
 //! The sizes were counted apart from both programs.
 
-use crate::large::{long_list, long_text, planned, some, wide_facts, wide_picks};
+use crate::large::{long_list, long_names, long_text, planned, some, wide_facts, wide_picks};
 use crate::limits::{STEPS, TEXT};
+use crate::naming::{label_lines, renamed};
 use crate::sample::Sample;
 use crate::trial::{numbers, Call, Outcome, Rooms};
 
@@ -78,6 +79,16 @@ fn picked(sample: Sample, n: usize, pairs: bool, pick: impl Fn(usize, usize) -> 
 fn each(n: usize) -> Sample {
     let sample = case(n, &[], &[1], "(forall (?y) (T ?y))");
     picked(sample, n, false, |_, e| format!("pick\tT\t{e}\n"))
+}
+
+/// The same with a label of 12 bytes for each element, picks that use it, and one line more.
+fn named(n: usize, line: &str) -> Sample {
+    let Sample { question, site, picks, .. } = each(n);
+    let (site, picks) = (String::from_utf8_lossy(&site), String::from_utf8_lossy(&picks));
+    let names = long_names(n);
+    let site = format!("{site}{}{line}", label_lines(&names).concat()).into();
+    let picks = renamed(&picks, &names, || true).into();
+    Sample { question, site, picks, ..Sample::default() }
 }
 
 /// A literal with so many variables that the question has so many bytes.
@@ -167,6 +178,37 @@ fn elements() -> Vec<Edge> {
             ],
         ),
         refused("65 elements", || each(65), "9 0"),
+    ]
+}
+
+/// The last line of a site of 64 labels begins at 1,406: 8 bytes for the size, 10 labels of 21 and 54 of 22.
+fn labels() -> Vec<Edge> {
+    use Call::*;
+    let calls = [Sizes, CheckText, Check, PicksText, Picks, BuildText, Build, JudgeText, Judge];
+    let refused = |answer: &'static str| calls.map(|call| (call, NONE, answer));
+    vec![
+        edge(
+            "64 labels of 12 bytes",
+            || named(64, ""),
+            &[
+                (Sizes, NONE, "0 0 64 25027 130 130"),
+                (BuildText, [1, 392, 130], "0 130"),
+                (JudgeText, NONE, "0 0"),
+            ],
+        ),
+        edge("a label for element 64", || named(64, "label\t64\tA\n"), &refused("9 1406")),
+        edge("a second label", || named(64, "label\t63\tA\n"), &refused("18 1406")),
+        edge("a label of 13 bytes", || named(64, "label\t63\tTERMINAL_0063\n"), &refused("2 1406")),
+        edge(
+            "16 labels at the desk",
+            || named(16, ""),
+            &[(DeskPicks, NONE, "sizes 16 1651 34 34")],
+        ),
+        edge(
+            "a second label at the desk",
+            || named(16, "label\t15\tA\n"),
+            &[(DeskPicks, NONE, "no 18 350"), (DeskSteps, NONE, "no 18 350")],
+        ),
     ]
 }
 
@@ -325,5 +367,6 @@ fn desk() -> Vec<Edge> {
 
 /// Every limit, at it and past it.
 pub fn edges() -> Vec<Edge> {
-    [elements(), bytes(), steps(), atoms(), actions(), desk()].into_iter().flatten().collect()
+    let edges = [elements(), labels(), bytes(), steps(), atoms(), actions(), desk()];
+    edges.into_iter().flatten().collect()
 }

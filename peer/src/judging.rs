@@ -22,7 +22,7 @@ pub fn judge(question: &[u8], site: &[u8], picks: &[u64]) -> Reply {
 
 fn judge_sheet(question: &[u8], site: &[u8], picks: &[u8]) -> Result<usize, Refusal> {
     let (question, structure) = case(question, site, &USUAL)?;
-    let picks = sheets::picks(picks, &question.signature, structure.n)?;
+    let picks = sheets::picks(picks, &question.signature, &structure)?;
     within_limits(&question, &structure)?;
     verdict(&question, &structure, &picks)
 }

@@ -1,6 +1,7 @@
 //! Large cases whose plans are built, and sites full of facts.
 
 use crate::limits::USUAL;
+use crate::naming::{label_lines, renamed, Names};
 use crate::sample::{needs, steps_text, Sample};
 use crate::sheets;
 use crate::text::Reply;
@@ -102,7 +103,7 @@ pub fn broken_deep(n: usize) -> Sample {
 fn picked(sample: &Sample, picks: String) -> Sample {
     let question = sheets::question(&sample.question).expect("an accepted question");
     let site = sheets::site(&sample.site, &question.signature, &USUAL).expect("an accepted site");
-    let tables = sheets::picks(picks.as_bytes(), &question.signature, site.n);
+    let tables = sheets::picks(picks.as_bytes(), &question.signature, &site);
     let lent_picks = tables.expect("picks of their form").words;
     let (question, site) = (sample.question.clone(), sample.site.clone());
     Sample { question, site, picks: picks.into(), lent_picks, ..Sample::default() }
@@ -177,6 +178,46 @@ pub fn wide_picks(bytes: usize) -> Sample {
     let picks = exactly(bytes, bytes.div_ceil(16), long, short);
     let site = b"size\t64\n".to_vec();
     Sample { question: question.into(), site, picks: picks.into(), ..Sample::default() }
+}
+
+/// A name of 12 bytes for each element, which differs from the others at its end alone.
+pub fn long_names(n: usize) -> Names {
+    (0..n).map(|element| Some(format!("TERMINAL_{element:03}"))).collect()
+}
+
+/// So many bytes of lines with three places each, once they are filled by names. Each tuple once where n is a power of 2.
+fn spread(bytes: usize, head: &str, n: usize) -> String {
+    let line = head.len() + "\tTERMINAL_000".len() * 3 + 1;
+    let tuples = (0..bytes / line).map(|row| row * 40_503 % (n * n * n));
+    tuples.map(|row| format!("{head}\t{}\t{}\t{}\n", row / n / n, row / n % n, row % n)).collect()
+}
+
+/// A site of close to so many bytes, of facts over 64 elements that all stand there by name; and the same facts by number.
+pub fn named_facts(bytes: usize) -> [Sample; 2] {
+    let question = "rel\tDOOR\t2\nrel\tROOM\t3\nchoose\tT\t1\nrule\t(forall (?x) (T ?x))\n";
+    let (head, names) = ("size\t64\n", long_names(64));
+    let labels = label_lines(&names).concat();
+    let facts = spread(bytes - head.len() - labels.len(), "fact\tROOM", 64);
+    let named = format!("{head}{labels}{}", renamed(&facts, &names, || true));
+    [named, format!("{head}{facts}")].map(|site| Sample {
+        question: question.into(),
+        site: site.into(),
+        ..Sample::default()
+    })
+}
+
+/// Picks of three places over so many elements, close to so many bytes, that all stand there by name; and the same picks by number.
+pub fn named_picks(bytes: usize, n: usize) -> [Sample; 2] {
+    let question = "choose\tT\t3\nrule\t(exists (?a ?b ?c) (T ?a ?b ?c))\n";
+    let names = long_names(n);
+    let (site, picks) = (format!("size\t{n}\n"), spread(bytes, "pick\tT", n));
+    let named = (site.clone() + &label_lines(&names).concat(), renamed(&picks, &names, || true));
+    [named, (site, picks)].map(|(site, picks)| Sample {
+        question: question.into(),
+        site: site.into(),
+        picks: picks.into(),
+        ..Sample::default()
+    })
 }
 
 /// An element of two digits, and two more at a line's end, all three fixed by the row.

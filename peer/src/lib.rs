@@ -16,9 +16,11 @@ pub mod edges;
 pub mod formula;
 pub mod ground;
 pub mod judging;
+pub mod labels;
 pub mod large;
 pub mod limits;
 pub mod measures;
+pub mod naming;
 #[cfg(feature = "ours")]
 pub mod ours;
 pub mod plans;

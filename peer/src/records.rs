@@ -1,6 +1,7 @@
-//! The seven kinds of line. A line's own form is judged here, in whatever
+//! The eight kinds of line. A line's own form is judged here, in whatever
 //! sheet it stands; the sheets then judge what the form lets through.
 
+use crate::labels::{Element, Name};
 use crate::text::{cause, number, Line, Refusal};
 
 /// How a chosen relation may be filled.
@@ -38,12 +39,12 @@ impl Kind {
 /// The elements of one `fact` or `pick` line, in order.
 #[derive(Clone, Copy, Debug, PartialEq, Eq)]
 pub struct Tuple {
-    elements: [u32; 3],
+    elements: [Element; 3],
     count: usize,
 }
 
 impl Tuple {
-    pub fn elements(&self) -> &[u32] {
+    pub fn elements(&self) -> &[Element] {
         &self.elements[..self.count]
     }
 }
@@ -54,6 +55,7 @@ pub enum Record<'t> {
     Choose { name: &'t [u8], kind: Kind },
     Rule { formula: &'t [u8] },
     Size { n: u32 },
+    Label { element: Element, name: Name },
     Fact { name: &'t [u8], tuple: Tuple },
     Pick { name: &'t [u8], tuple: Tuple },
     Step { action: u32 },
@@ -75,6 +77,9 @@ fn well_formed(bytes: &[u8]) -> Option<Record<'_>> {
         b"choose" => Record::Choose { name: fields.next()?, kind: kind(fields.next()?)? },
         b"rule" => Record::Rule { formula: fields.next()? },
         b"size" => Record::Size { n: number(fields.next()?)? },
+        b"label" => {
+            Record::Label { element: element(fields.next()?)?, name: Name::read(fields.next()?)? }
+        }
         _ => return None,
     };
     fields.next().is_none().then_some(record)
@@ -94,11 +99,21 @@ fn kind(field: &[u8]) -> Option<Kind> {
     }
 }
 
-/// One to three numbers; a fourth is left for the caller to find.
+/// A number or a name; whether any element has it is for the sheets to say.
+fn element(field: &[u8]) -> Option<Element> {
+    if field.first()?.is_ascii_digit() {
+        number(field).map(Element::Number)
+    } else {
+        Name::read(field).map(Element::Name)
+    }
+}
+
+/// One to three elements; a fourth is left for the caller to find.
 fn tuple<'t>(fields: &mut impl Iterator<Item = &'t [u8]>) -> Option<Tuple> {
-    let mut tuple = Tuple { elements: [number(fields.next()?)?, 0, 0], count: 1 };
+    let none = Element::Number(0);
+    let mut tuple = Tuple { elements: [element(fields.next()?)?, none, none], count: 1 };
     for field in fields.take(2) {
-        tuple.elements[tuple.count] = number(field)?;
+        tuple.elements[tuple.count] = element(field)?;
         tuple.count += 1;
     }
     Some(tuple)

@@ -281,7 +281,7 @@ fn picks_of(random: &mut Random, of: &Declared, n: usize, density: usize, to: &m
 fn fill_records(random: &mut Random, sample: &mut Sample) {
     let Ok(question) = sheets::question(&sample.question) else { return };
     let Ok(structure) = sheets::site(&sample.site, &question.signature, &USUAL) else { return };
-    let Ok(tables) = sheets::picks(&sample.picks, &question.signature, structure.n) else { return };
+    let Ok(tables) = sheets::picks(&sample.picks, &question.signature, &structure) else { return };
     sample.lent_picks = tables.words;
     let Ok(problem) = Problem::new(&question, &structure, &USUAL) else { return };
     let mut steps = vec![0; problem.bound as usize];
@@ -350,21 +350,26 @@ fn vary(random: &mut Random, steps: &mut Vec<u32>, actions: usize) {
 
 /// What a damaged word may become.
 #[rustfmt::skip]
-const WORDS: [&str; 39] = [
+const WORDS: [&str; 43] = [
     "(", ")", ") ", " (", "and", "or", "not", "implies", "exists", "forall", "?x", "?y", "?z",
     "?abcdefgh", "?X", "EQ", "LT", "ZERO", "R", "T", "CT", "0", "1", "2", "3", "4", "16", "17",
-    "64", "65", "01", "", "Fun", "PInj", "(and (ZERO ?x))", "(not (not (EQ ?x ?x)))", "rel", "pick", "\t",
+    "64", "65", "01", "", "LOBBY", "lobby", "CORRIDOR_001", "CORRIDOR_0001", "Fun", "PInj", "(and (ZERO ?x))", "(not (not (EQ ?x ?x)))", "rel", "pick", "\t",
 ];
 
 /// Lines that are wrong in most places, if not in all.
 #[rustfmt::skip]
-const ODD_LINES: [&str; 28] = [
+const ODD_LINES: [&str; 38] = [
     "rel\tEQ\t2\n", "rel\tR\t4\n", "rel\tr\t1\n", "rel\tABCDEFGHIJKLM\t1\n", "rel\tW\t1\n",
     "choose\tW\tfun\n", "choose\tW\tInj\n", "choose\tW\t0\n", "rule\n", "rule\t\n", "rule\t(T)\n",
     "size\t64\n", "size\t65\n", "size\t17\n", "size\t0\n", "size\t3\n", "size\t03\n", "fact\tT\n", "fact\tR\t0\t0\t0\t0\n",
     "fact\tR\t0\n", "pick\tF\t0\t0\n", "pick\tLT\t0\t0\n", "step\t12345678\n", "step\t00\n",
     "step\t1\n", "step\t9999999\n", "\t\n", "end\n",
+    "label\t0\tLOBBY\n", "label\t1\tEQ\n", "label\t0\tlobby\n", "label\t65\tLOBBY\n", "label\tLOBBY\tT\n",
+    "label\tLOBBY\t0\n", "label\t0\n", "label\t00\tA\n", "fact\tR\tLOBBY\n", "pick\tCT\tLOBBY\t65\n",
 ];
+
+/// What may stand for an element, or as a label, and seldom should.
+const ELEMENTS: [&str; 9] = ["0", "1", "2", "65", "LOBBY", "NOPE", "lobby", "01", "CORRIDOR_0001"];
 
 /// Spoils one sheet of a case, by bytes, by fields or by whole lines.
 pub fn damage(random: &mut Random, sample: &mut Sample) {
@@ -380,11 +385,12 @@ pub fn damage(random: &mut Random, sample: &mut Sample) {
         3 => &mut sample.picks,
         _ => &mut sample.steps,
     };
-    match random.below(3) {
+    match random.below(4) {
         _ if random.once_in(200) => stretch(random, sheet),
         0 => damage_bytes(random, sheet),
         1 => damage_lines(random, sheet, &foreign),
-        _ => damage_words(random, sheet),
+        2 => damage_words(random, sheet, &foreign),
+        _ => damage_elements(random, &mut sample.site, &mut sample.picks),
     }
     damage_lent(random, sample);
 }
@@ -458,17 +464,46 @@ fn odd_line(random: &mut Random) -> Vec<u8> {
     random.choose(&ODD_LINES).as_bytes().to_vec()
 }
 
-/// Replaces one word, field or bracket by another of about its sort.
-fn damage_words(random: &mut Random, sheet: &mut Vec<u8>) {
+/// Replaces one word, field or bracket by another of about its sort, or by one that stands in another sheet.
+fn damage_words(random: &mut Random, sheet: &mut Vec<u8>, foreign: &[u8]) {
     let is_break = |byte: &u8| b"\t\n ()".contains(byte);
     if sheet.is_empty() {
         return;
     }
+    let others: Vec<&[u8]> = foreign.split(is_break).filter(|word| !word.is_empty()).collect();
+    let word = if others.is_empty() || random.once_in(2) {
+        random.choose(&WORDS).as_bytes()
+    } else {
+        random.choose(&others)
+    };
     let place = random.below(sheet.len());
     let start = sheet[..place].iter().rposition(is_break).map_or(0, |before| before + 1);
     let length = sheet[start..].iter().position(is_break).unwrap_or(sheet.len() - start);
     let end = start + if length == 0 { 1 } else { length };
-    sheet.splice(start..end.min(sheet.len()), random.choose(&WORDS).bytes());
+    sheet.splice(start..end.min(sheet.len()), word.iter().copied());
+}
+
+/// Replaces some elements in one line of the site or the picks, or what makes a label.
+fn damage_elements(random: &mut Random, site: &mut Vec<u8>, picks: &mut Vec<u8>) {
+    let labels: Vec<Vec<u8>> = site
+        .split(|&byte| byte == b'\n')
+        .filter(|line| line.starts_with(b"label"))
+        .filter_map(|line| line.split(|&byte| byte == b'\t').nth(2).map(Vec::from))
+        .collect();
+    let sheet = if random.once_in(3) { picks } else { site };
+    let mut lines: Vec<Vec<u8>> = sheet.split(|&byte| byte == b'\n').map(Vec::from).collect();
+    let place = random.below(lines.len());
+    let first = if lines[place].starts_with(b"label") { 1 } else { 2 };
+    let mut fields: Vec<&[u8]> = lines[place].split(|&byte| byte == b'\t').collect();
+    for field in fields.iter_mut().skip(first) {
+        match random.below(4) {
+            0 => *field = random.choose(&ELEMENTS).as_bytes(),
+            1 if !labels.is_empty() => *field = &labels[random.below(labels.len())],
+            _ => (),
+        }
+    }
+    lines[place] = fields.join(&b'\t');
+    *sheet = lines.join(&b'\n');
 }
 
 /// The desk's input for a case, by picks or by steps.

@@ -1,6 +1,7 @@
 //! The four sheets: question, site, picks and steps.
 
 use crate::formula::{is_relation_name, parse};
+use crate::labels::{Element, Labels, Name};
 use crate::limits::Limits;
 use crate::records::{record, Kind, Record, Tuple};
 use crate::text::{cause, limit, lines, Line, Refusal};
@@ -151,17 +152,34 @@ impl Tables {
     }
 }
 
-/// A site: how many elements, and the tuples of every static relation.
+/// A site: how many elements, what they are called, and the tuples of every static relation.
 #[derive(Clone, Debug)]
 pub struct Structure {
     pub n: usize,
+    pub labels: Labels,
     pub tables: Tables,
+}
+
+impl Structure {
+    fn label(&mut self, line: &Line, element: Element, name: Name) -> Result<(), Refusal> {
+        // A name in the element's field is that element's label already, or no label at all.
+        let Element::Number(element) = element else {
+            return Err(line.refuse(cause::LABEL));
+        };
+        if element as usize >= self.n {
+            return Err(line.refuse(cause::ELEMENT_RANGE));
+        }
+        if !self.labels.give(element, name) {
+            return Err(line.refuse(cause::LABEL));
+        }
+        Ok(())
+    }
 }
 
 pub fn site(text: &[u8], signature: &Signature, limits: &Limits) -> Result<Structure, Refusal> {
     limit(text)?;
     let fixed = &signature.relations[..signature.first_chosen];
-    let mut structure = None;
+    let (mut structure, mut labels_over) = (None, false);
     for line in lines(text) {
         match (record(&line)?, &mut structure) {
             (Record::Size { n }, None) => {
@@ -170,10 +188,14 @@ pub fn site(text: &[u8], signature: &Signature, limits: &Limits) -> Result<Struc
                 }
                 structure = Some(bare_structure(fixed, n as usize));
             }
-            (Record::Fact { name, tuple }, Some(Structure { n, tables })) => {
+            (Record::Label { element, name }, Some(structure)) if !labels_over => {
+                structure.label(&line, element, name)?;
+            }
+            (Record::Fact { name, tuple }, Some(structure)) => {
+                labels_over = true;
                 let given = &fixed[BUILT_IN.len()..];
-                let (index, row) = place(&line, given, name, &tuple, *n)?;
-                if !tables.insert(BUILT_IN.len() + index, row) {
+                let (index, row) = place(&line, given, name, &tuple, structure)?;
+                if !structure.tables.insert(BUILT_IN.len() + index, row) {
                     return Err(line.refuse(cause::REPEATED));
                 }
             }
@@ -197,7 +219,7 @@ fn bare_structure(fixed: &[Relation], n: usize) -> Structure {
     }
     tables.insert(3, 0);
     tables.insert(4, n - 1);
-    Structure { n, tables }
+    Structure { n, labels: Labels::default(), tables }
 }
 
 /// Finds a tuple's relation among those its record may name, and its row.
@@ -206,7 +228,7 @@ fn place(
     relations: &[Relation],
     name: &[u8],
     tuple: &Tuple,
-    n: usize,
+    structure: &Structure,
 ) -> Result<(usize, usize), Refusal> {
     let elements = tuple.elements();
     let index = relations
@@ -214,22 +236,31 @@ fn place(
         .position(|relation| relation.name == name)
         .filter(|&index| relations[index].arity() == elements.len())
         .ok_or(line.refuse(cause::RELATION_USE))?;
-    if elements.iter().any(|&element| element as usize >= n) {
+    let Structure { n, labels, .. } = structure;
+    let outside = |&element: &Element| matches!(element, Element::Number(k) if k as usize >= *n);
+    if elements.iter().any(outside) {
         return Err(line.refuse(cause::ELEMENT_RANGE));
     }
-    let row = elements.iter().fold(0, |row, &element| row * n + element as usize);
+    let mut row = 0;
+    for &element in elements {
+        let element = match element {
+            Element::Number(number) => number,
+            Element::Name(name) => labels.find(name).ok_or(line.refuse(cause::LABEL))?,
+        };
+        row = row * n + element as usize;
+    }
     Ok((index, row))
 }
 
-pub fn picks(text: &[u8], signature: &Signature, n: usize) -> Result<Tables, Refusal> {
+pub fn picks(text: &[u8], signature: &Signature, structure: &Structure) -> Result<Tables, Refusal> {
     limit(text)?;
     let chosen = signature.chosen_relations();
-    let mut tables = Tables::new(chosen, n);
+    let mut tables = Tables::new(chosen, structure.n);
     for line in lines(text) {
         let Record::Pick { name, tuple } = record(&line)? else {
             return Err(line.refuse(cause::RECORD_ORDER));
         };
-        let (index, row) = place(&line, chosen, name, &tuple, n)?;
+        let (index, row) = place(&line, chosen, name, &tuple, structure)?;
         if !tables.insert(index, row) {
             return Err(line.refuse(cause::REPEATED));
         }

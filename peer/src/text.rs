@@ -21,6 +21,7 @@ pub mod cause {
     pub const NO_GOAL: u32 = 15;
     pub const KIND_BROKEN: u32 = 16;
     pub const RULE_FALSE: u32 = 17;
+    pub const LABEL: u32 = 18;
 }
 
 /// Why a call did nothing: the cause's number and where it was found.

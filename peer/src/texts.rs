@@ -1,6 +1,8 @@
 //! Texts that are as long or as deep as they may be, and cases with the largest tables and plans.
 
-use crate::large::{deep, facts, long_text, padded, round, wide_facts, wide_picks, zones};
+use crate::large::{
+    deep, facts, long_text, named_facts, named_picks, padded, round, wide_facts, wide_picks, zones,
+};
 use crate::limits;
 use crate::sample::Sample;
 
@@ -116,6 +118,25 @@ fn picked(bytes: usize) -> Sample {
     }
 }
 
+/// The bytes that the labels of 16 elements take.
+const LABELS: usize = 400;
+
+/// Labels, and picks that use them.
+fn named(bytes: usize) -> Sample {
+    let [named, _] = named_picks(bytes - LABELS, 16);
+    named
+}
+
+/// Labels that nothing uses, picks by number and steps that set as many: what is printed is longer than what was read.
+fn printed(bytes: usize) -> Sample {
+    let room = bytes - LABELS;
+    // Begin-proof, the three `exists` by the tuple (0, 0, 0), innermost first, and prove-goal.
+    let end = [4_096, 4_369, 4_113, 4_097, 8_465].map(|step| format!("step\t{step}\n")).concat();
+    let mut steps = lined(room - end.len(), |step| format!("step\t{step}\n"));
+    steps.extend(end.bytes());
+    Sample { site: named(bytes).site, steps, ..picked(room) }
+}
+
 /// What a desk input of so many bytes may hold besides a rule.
 fn desk_cases(bytes: usize) -> Vec<Text> {
     // Question and site come before picks and steps.
@@ -124,6 +145,8 @@ fn desk_cases(bytes: usize) -> Vec<Text> {
         ("facts".into(), Box::new(move || facts(bytes / 1_024 - 1))),
         ("the largest plan".into(), Box::new(|| deep(7))),
         ("picks".into(), Box::new(move || picked(bytes - rest))),
+        ("picks by label".into(), Box::new(move || named(bytes - rest))),
+        ("picks printed by label".into(), Box::new(move || printed(bytes - rest))),
         ("steps".into(), Box::new(move || long_text(bytes - rest))),
     ]
 }
@@ -133,8 +156,10 @@ fn wide_cases(bytes: usize) -> Vec<Text> {
     vec![
         ("facts of 16 elements".into(), Box::new(|| facts(64))),
         ("facts of 64 elements".into(), Box::new(move || wide_facts(bytes))),
+        ("facts by label".into(), Box::new(move || named_facts(bytes)[0].clone())),
         ("picks of 16 elements".into(), Box::new(|| picked(65_536))),
         ("picks of 64 elements".into(), Box::new(move || wide_picks(bytes))),
+        ("picks by label".into(), Box::new(move || named_picks(bytes, 64)[0].clone())),
         ("steps".into(), Box::new(move || long_text(bytes))),
         ("the largest tables".into(), Box::new(largest_tables)),
         ("a plan of 13 elements".into(), Box::new(|| deep(13))),

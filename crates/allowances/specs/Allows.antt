@@ -20,6 +20,7 @@ use Rattle.definitions.specs.Outcome.{readCase, ground, asked, nothing, roomFor
 use Rattle.definitions.specs.Tally.{Tally as Tallies}
 use Rattle.definitions.specs.Allowance
 use Rattle.laws.specs.Asked
+use Rattle.laws.specs.Alone
 use Rattle.laws.specs.Lists.{length-from}
 use Rattle.laws.specs.Walks.{tally-is}
 use Rattle.laws.specs.Reader.{Accepted as Accepts, gives-if, case-fits}
@@ -80,7 +81,7 @@ module _ (L : CaseLimits) (question site old : List ℕ) (o : Opened) (facts : �
     unfolding refuseIf _>>=_
     allows-over e =
         let (c, a, h) = its in
-        refused-with 11 0 (Asked.limits-refused L question site nothing nothing nothing rooms c a tt (Asked.untested c) (Asked.untested c) 11 0 (grounds true e))
+        refused-with 11 0 (Alone.limits-refused L question site nothing nothing nothing rooms c a tt (λ _. Asked.untested _) (Asked.untested c) 11 0 (grounds true e))
 
     module _ (few : L .elements ≤ 64) (within : false ≡ over) where
       accepts : Accepts (its .0)
@@ -100,7 +101,7 @@ module _ (L : CaseLimits) (question site old : List ℕ) (o : Opened) (facts : �
       allows-short l =
           let (c, a, h) = its in
           let short : rooms p ≡ refused 12 (o .sig .chosen) = ap (λ (k : ℕ). roomFor k (length old)) many ∙ room-short (o .sig .chosen) (length old) l in
-          refused-with 12 _ (Asked.room-refused L question site nothing nothing nothing rooms c a tt (Asked.untested c) (Asked.untested c) p grounded (Asked.untested c) 12 _ short)
+          refused-with 12 _ (Alone.room-refused L question site nothing nothing nothing rooms c a tt (λ _. Asked.untested _) (Asked.untested c) p grounded (Asked.untested c) 12 _ short)
 
       pub allows-written : o .sig .chosen ≤ length old → (part new : List ℕ) → ((c : Case) → Accepts c → Holds question c o facts → part ≡ map (Allowance.allowance (problemOf c)) (from (5 + o .sig .rels) (o .sig .chosen)))
           → new ≡ part ++ drop (o .sig .chosen) old → Allows L question site old (Accepted 0) new
@@ -109,7 +110,7 @@ module _ (L : CaseLimits) (question site old : List ℕ) (o : Opened) (facts : �
           let (c, a, h) = its in
           let f = Allowance.allowance p in
           let there : rooms p ≡ accepted tt = ap (λ (k : ℕ). roomFor k (length old)) many ∙ room-there (o .sig .chosen) (length old) l in
-          let g = Asked.ready L question site nothing nothing nothing rooms c a tt (Asked.untested c) (Asked.untested c) p grounded (Asked.untested c) there in
+          let g = Alone.ready L question site nothing nothing nothing rooms c a tt (λ _. Asked.untested _) (Asked.untested c) p grounded (Asked.untested c) there in
           let b : length (map f (chosenNumbers p)) ≡ o .sig .chosen = length-map (chosenNumbers p) f ∙ many in
           (rw g refl, rw (g, b) (n ∙ ap (λ (x : List ℕ). x ++ drop (o .sig .chosen) old) (e c accepts h ∙ ap (map f) (sym numbers))))
 

@@ -1,20 +1,16 @@
 -- Words that hold the picks over the most elements hold those of any text.
 use Prim.Native.Nat.{ℕ, _*_, _^_, _≤_}
-use mathlib.Core.Path.{_≡_, sym, subst}
+use mathlib.Core.Path.{_≡_}
 use mathlib.Core.Bool.{Bool}
 use mathlib.Core.List.{List}
 use native.Mathlib.Omega.{arith}
 use native.Mathlib.Nat.{pow-le-pow-left}
-use Rattle.definitions.specs.Limits.{CaseLimits, usual}
-use Rattle.definitions.specs.Refusal.{accepted}
 use Rattle.definitions.specs.Truth.{Case}
 use Rattle.definitions.specs.Atoms.{wordsFor}
-use Rattle.definitions.specs.Outcome.{readCase}
 use Rattle.sheets.specs.Reading.{PicksRoom}
 use Rattle.sheets.specs.declared.Opened.{Opened}
 use Rattle.sheets.specs.Opening.{Holds}
 use Rattle.sheets.proofs.Turns.{picks-room}
-use Rattle.asking.specs.Within.{case-within}
 
 -- four relations of three places over the most elements have no fewer words
 pub picks-enough : (question : List ℕ) (c : Case) (o : Opened) (facts : ℕ → Bool) → Holds question c o facts → (most room : ℕ) → o .n ≤ most → 4 * wordsFor (most ^ 3) ≤ room → PicksRoom (o .sig) (o .n) room

@@ -5,13 +5,15 @@ use mathlib.Core.Path.{_≡_, refl, sym, ap₂, subst, _∙_}
 use mathlib.Core.List.{List}
 use native.Mathlib.Omega.{arith}
 use Rattle.definitions.specs.Limits.{CaseLimits}
-use Rattle.definitions.specs.Refusal.{Result, refused, accepted}
+use Rattle.definitions.specs.Refusal.{Result, refused, accepted, _>>=_}
 use Rattle.definitions.specs.Truth.{Case}
-use Rattle.definitions.specs.Outcome.{readCase, ground}
+use Rattle.definitions.specs.Outcome.{CaseRead, readFiled, readCase, ground}
+use Rattle.laws.specs.Asked.{filed-case}
 use Rattle.laws.specs.Reader.{Accepted, gives-if, case-fits}
 use Rattle.bits.specs.Table.{bit}
 use Rattle.sheets.specs.declared.Opened.{Opened}
-use Rattle.sheets.specs.Opening.{Holds, CaseRead}
+use Rattle.tuples.specs.Labels.{LabelsAre}
+use Rattle.sheets.specs.Opening.{Holds, FiledRead}
 use Rattle.grounding.specs.declared.Sized.{Sized}
 use Rattle.grounding.specs.Grounds.{GroundsTo}
 use Rattle.asking.specs.declared.Front.{Front}
@@ -42,6 +44,14 @@ FrontedBy L question (accepted c) r facts table = Held L question c r facts tabl
 abbrev pub Fronted : CaseLimits → List ℕ → List ℕ → Front → List ℕ → List ℕ → Type 0
 Fronted L question site r facts table = FrontedBy L question (readCase L question site) r facts table
 
+-- the same of a case with its labels, whose words say where in the site's text each stands
+unfoldable pub FiledBy : CaseLimits → (question site : List ℕ) → Result CaseRead → Front → (labels facts table : List ℕ) → Type 0
+FiledBy L question site (refused k place) r labels facts table = Stopped k place r
+FiledBy L question site (accepted x) r labels facts table = Held L question (x .case) r facts table × LabelsAre site labels (r .o .n) (x .labels)
+
+abbrev pub Filed : CaseLimits → List ℕ → List ℕ → Front → (labels facts table : List ℕ) → Type 0
+Filed L question site r labels facts table = FiledBy L question site (readFiled L question site) r labels facts table
+
 -- some case was read and grounded: what is known inside a call
 pub record Ready (question : List ℕ) (r : Front) (facts table : List ℕ) : Type 0 where
   pub limits-are : CaseLimits
@@ -70,26 +80,48 @@ module _ (L : CaseLimits) (question site : List ℕ) (r : Front) (facts table : 
   pub front-ready : L .atoms ≤ 1048576 → L .actions ≤ 8388608 → r .fault ≡ 0 → Ready question r facts table
   front-ready a b z = let (c, e, h) = front-held z in record { limits-are = L; case = c; held = h; atoms-few = a; actions-few = b }
 
--- ---- from what reading and grounding say
-module _ (L : CaseLimits) (few : L .elements ≤ 64) (question site : List ℕ) (o : Opened) (facts : List ℕ) (read : CaseRead question (readCase L question site) o (bit facts)) where
-  pub fronts-refused : (o .fault ≡ 0 → ⊥) → (r : Front) → r .fault ≡ o .fault → r .place ≡ o .place → (table : List ℕ) → Fronted L question site r facts table
-  unfolding FrontedBy CaseRead
-  fronts-refused z r a b table = go (readCase L question site) read
+-- what was filed is a case, and its labels are at hand
+module _ (L : CaseLimits) (question site : List ℕ) (r : Front) (labels facts table : List ℕ) (f : Filed L question site r labels facts table) where
+  pub filed-alone : Fronted L question site r facts table
+  unfolding FiledBy FrontedBy readCase _>>=_
+  filed-alone = go (readFiled L question site) f
     where
-      go : (x : Result Case) → CaseRead question x o (bit facts) → FrontedBy L question x r facts table
-      go (refused k place) h = record { number = a ∙ h .number; where-it-is = b ∙ h .where-it-is; some-fault = omega (arith, h .some-fault) }
-      go (accepted c) h = absurd (z (h .no-fault))
+      go : (x : Result CaseRead) → FiledBy L question site x r labels facts table → FrontedBy L question (x >>= λ y. accepted (y .case)) r facts table
+      go (refused k place) h = h
+      go (accepted x) h = h .0
 
-  pub fronts-read : o .fault ≡ 0 → (m : Sized) (table : List ℕ) → ((c : Case) → Holds question c o (bit facts) → GroundsTo (ground L c) m table) → (r : Front) → r ≡ record { fault = 0; place = 0; o = o; m = m } → Fronted L question site r facts table
-  unfolding FrontedBy CaseRead
-  fronts-read z m table g r e = go (readCase L question site) refl read
+  pub filed-held : r .fault ≡ 0 → (x : CaseRead) × (readFiled L question site ≡ accepted x) × Held L question (x .case) r facts table × LabelsAre site labels (r .o .n) (x .labels)
+  unfolding FiledBy
+  filed-held z = go (readFiled L question site) refl f
     where
-      go : (x : Result Case) → readCase L question site ≡ x → CaseRead question x o (bit facts) → FrontedBy L question x r facts table
+      go : (x : Result CaseRead) → readFiled L question site ≡ x → FiledBy L question site x r labels facts table
+          → (x : CaseRead) × (readFiled L question site ≡ accepted x) × Held L question (x .case) r facts table × LabelsAre site labels (r .o .n) (x .labels)
+      go (refused k place) e h = absurd (omega (arith, h .some-fault))
+      go (accepted x) e h = (x, e, h .0, h .1)
+
+-- ---- from what reading and grounding say
+module _ (L : CaseLimits) (few : L .elements ≤ 64) (question site : List ℕ) (o : Opened) (labels facts : List ℕ) (read : FiledRead question site (readFiled L question site) o labels (bit facts)) where
+  pub fronts-refused : (o .fault ≡ 0 → ⊥) → (r : Front) → r .fault ≡ o .fault → r .place ≡ o .place → (table : List ℕ) → Filed L question site r labels facts table
+  unfolding FiledBy FiledRead
+  fronts-refused z r a b table = go (readFiled L question site) read
+    where
+      go : (x : Result CaseRead) → FiledRead question site x o labels (bit facts) → FiledBy L question site x r labels facts table
+      go (refused k place) h = record { number = a ∙ h .number; where-it-is = b ∙ h .where-it-is; some-fault = omega (arith, h .some-fault) }
+      go (accepted x) h = absurd (z (h .0 .no-fault))
+
+  pub fronts-read : o .fault ≡ 0 → (m : Sized) (table : List ℕ) → ((c : Case) → Holds question c o (bit facts) → GroundsTo (ground L c) m table) → (r : Front) → r ≡ record { fault = 0; place = 0; o = o; m = m } → Filed L question site r labels facts table
+  unfolding FiledBy FiledRead
+  fronts-read z m table g r e = go (readFiled L question site) refl read
+    where
+      go : (x : Result CaseRead) → readFiled L question site ≡ x → FiledRead question site x o labels (bit facts) → FiledBy L question site x r labels facts table
       go (refused k place) q h = absurd (omega (arith, h .some-fault))
-      go (accepted c) q h = rw e (record {
-        no-fault = refl;
-        accepts = gives-if Accepted (readCase L question site) c q (case-fits L few question site);
-        holds = h;
-        within = subst (λ (n : ℕ). n ≤ L .elements) (sym (h .size)) (case-within L question site c q);
-        grounded = g c h;
-      })
+      go (accepted x) q h = let w = filed-case L question site x q in rw e (
+        record {
+          no-fault = refl;
+          accepts = gives-if Accepted (readCase L question site) (x .case) w (case-fits L few question site);
+          holds = h .0;
+          within = subst (λ (n : ℕ). n ≤ L .elements) (sym (h .0 .size)) (case-within L question site (x .case) w);
+          grounded = g (x .case) (h .0);
+        },
+        h .1,
+      )

@@ -1,6 +1,6 @@
 -- Words for the facts: how many hold those of every site, and that few do for one whose first line says a small size.
 use Prim.Native.Nat.{ℕ, _*_, _^_, _≤_}
-use mathlib.Core.Path.{_≡_, refl, sym, ap, subst, _∙_}
+use mathlib.Core.Path.{_≡_, sym, ap, subst, _∙_}
 use mathlib.Core.Bool.{Bool, true}
 use mathlib.Core.List.{List, [], _∷_, nil≢cons}
 use mathlib.Core.Option.{Option, none, some}
@@ -18,7 +18,7 @@ use Rattle.laws.specs.Results.{given-some}
 use Rattle.records.proofs.Fields.{lines-stop}
 use Rattle.records.specs.Entries.{entryIn, Reads}
 use Rattle.records.specs.declared.Entry.{Entry}
-use Rattle.records.specs.declared.Entry.the-variants.{Wrong, Rel, Choose, Rule, Size, Fact, Pick, Step}
+use Rattle.records.specs.declared.Entry.the-variants.{Wrong, Rel, Choose, Rule, Size, Label, Fact, Pick, Step}
 use Rattle.sheets.specs.Reading.{FactsRoom}
 
 -- what holds 8 relations of three places over the most elements holds any
@@ -42,8 +42,9 @@ saysSmall (Rel a e k) = true
 saysSmall (Choose a e k kind) = true
 saysSmall (Rule a e) = true
 saysSmall (Size k) = leb k 16
-saysSmall (Fact a e xs) = true
-saysSmall (Pick a e xs) = true
+saysSmall (Label x a t e) = true
+saysSmall (Fact a t e xs) = true
+saysSmall (Pick a t e xs) = true
 saysSmall (Step k) = true
 
 -- the size that an entry says, if it says one
@@ -53,6 +54,7 @@ sizeSaid (some (S.rel name arity)) = none
 sizeSaid (some (S.choose name arity kind)) = none
 sizeSaid (some (S.rule text)) = none
 sizeSaid (some (S.size n)) = some n
+sizeSaid (some (S.label x name)) = none
 sizeSaid (some (S.fact name xs)) = none
 sizeSaid (some (S.pick name xs)) = none
 sizeSaid (some (S.step k)) = none
@@ -79,8 +81,9 @@ small-said s (Rel a t n) k h e = absurd (none-some e)
 small-said s (Choose a t n kind) k h e = absurd (none-some e)
 small-said s (Rule a t) k h e = absurd (none-some e)
 small-said s (Size n) k h e = subst (λ (m : ℕ). m ≤ 16) (some-eq e) (leb-true n 16 h)
-small-said s (Fact a t xs) k h e = absurd (none-some e)
-small-said s (Pick a t xs) k h e = absurd (none-some e)
+small-said s (Label x a t u) k h e = absurd (none-some e)
+small-said s (Fact a t u xs) k h e = absurd (none-some e)
+small-said s (Pick a t u xs) k h e = absurd (none-some e)
 small-said s (Step n) k h e = absurd (none-some e)
 
 -- so a first line that says no more than 16 asks for few words

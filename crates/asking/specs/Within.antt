@@ -10,9 +10,9 @@ use Rattle.definitions.specs.Limits.{CaseLimits}
 use Rattle.definitions.specs.Text.{Line, isBetween, lines}
 use Rattle.definitions.specs.Refusal.{accepted, _>>=_, readLines, readText}
 use Rattle.definitions.specs.Relations.{Relation}
-use Rattle.definitions.specs.Sheets.{Entry, rel, choose, rule, size, fact, pick, step, entryOf, SiteDraft, addSize, addFact, addToSite, siteLine, Site, readSite, readQuestion}
+use Rattle.definitions.specs.Sheets.{Entry, rel, choose, rule, size, label, fact, pick, step, Element, entryOf, SiteDraft, addSize, addLabel, addFact, addToSite, siteLine, Labelled, readSite, readQuestion}
 use Rattle.definitions.specs.Truth.{Case}
-use Rattle.definitions.specs.Outcome.{readCase}
+use Rattle.definitions.specs.Outcome.{CaseRead, readFiled, readCase}
 use Rattle.laws.specs.Booleans.{T-of, T-and-r}
 use Rattle.laws.specs.Lists.{none-some, some-eq}
 use Rattle.laws.specs.Results.{refused-accepted, accepted-eq, bind-parts, not-refused, given-some}
@@ -34,8 +34,18 @@ module _ (L : CaseLimits) where
       subst (λ (x : ℕ). x ≤ L .elements) q (between n (not-refused _ 9 at u r))
   size-few d next at n (some m) e k s = absurd (refused-accepted e)
 
+  label-few : (d next : SiteDraft) (at : ℕ) (x : Element) (name : List ℕ) → Few d → addLabel d at x name ≡ accepted next → Few next
+  unfolding addLabel
+  label-few d next at x name h e k s =
+      let (n, _, e₁) = bind-parts _ _ next e in
+      let (_, _, e₂) = bind-parts _ _ next e₁ in
+      let (_, _, e₃) = bind-parts _ _ next e₂ in
+      let (y, _, e₄) = bind-parts _ _ next e₃ in
+      let (_, _, e₅) = bind-parts _ _ next e₄ in
+      h k (ap (λ (x : SiteDraft). x .sized) (accepted-eq _ next e₅) ∙ s)
+
   module _ (rels : List Relation) where
-    fact-few : (d next : SiteDraft) (at : ℕ) (name xs : List ℕ) → Few d → addFact rels d at name xs ≡ accepted next → Few next
+    fact-few : (d next : SiteDraft) (at : ℕ) (name : List ℕ) (xs : List Element) → Few d → addFact rels d at name xs ≡ accepted next → Few next
     unfolding addFact
     fact-few d next at name xs h e k s =
         let (n, _, f) = bind-parts _ _ next e in
@@ -48,6 +58,7 @@ module _ (L : CaseLimits) where
     entry-few d next at (choose name arity kind) h e = absurd (refused-accepted e)
     entry-few d next at (rule text) h e = absurd (refused-accepted e)
     entry-few d next at (size n) h e = size-few d next at n (d .sized) e
+    entry-few d next at (label x name) h e = label-few d next at x name h e
     entry-few d next at (fact name xs) h e = fact-few d next at name xs h e
     entry-few d next at (pick name xs) h e = absurd (refused-accepted e)
     entry-few d next at (step k) h e = absurd (refused-accepted e)
@@ -60,18 +71,19 @@ module _ (L : CaseLimits) where
         let (x, _, g) = bind-parts (entryOf l) (addToSite L rels d (l .at)) next s in
         lines-few ls next last (entry-few d next (l .at) x h g) f
 
-    site-few : (text : List ℕ) (s : Site) → readSite L rels text ≡ accepted s → s .size ≤ L .elements
+    site-few : (text : List ℕ) (s : Labelled) → readSite L rels text ≡ accepted s → s .site .size ≤ L .elements
     unfolding readSite readText
     site-few text s e =
-        let (d, r, f) = bind-parts (readText (siteLine L rels) (record { sized = none; facts = [] }) text) _ s e in
+        let (d, r, f) = bind-parts (readText (siteLine L rels) (record { sized = none; labels = []; facts = [] }) text) _ s e in
         let (_, _, ls) = bind-parts _ _ d r in
         let (n, g, q) = bind-parts _ _ s f in
-        let k = lines-few (lines text) (record { sized = none; facts = [] }) d (λ m z. absurd (none-some z)) ls n (given-some (d .sized) 3 _ n g) in
-        subst (λ (x : Site). x .size ≤ L .elements) (accepted-eq _ s q) k
+        let k = lines-few (lines text) (record { sized = none; labels = []; facts = [] }) d (λ m z. absurd (none-some z)) ls n (given-some (d .sized) 3 _ n g) in
+        subst (λ (x : Labelled). x .site .size ≤ L .elements) (accepted-eq _ s q) k
 
   pub case-within : (question site : List ℕ) (c : Case) → readCase L question site ≡ accepted c → c .site .size ≤ L .elements
-  unfolding readCase
+  unfolding readCase readFiled
   case-within question site c e =
-      let (q, _, f) = bind-parts (readQuestion question) _ c e in
-      let (s, r, g) = bind-parts (readSite L (q .rels) site) _ c f in
-      subst (λ (x : Case). x .site .size ≤ L .elements) (accepted-eq _ c g) (site-few (q .rels) site s r)
+      let (x, a, b) = bind-parts (readFiled L question site) _ c e in
+      let (q, _, f) = bind-parts (readQuestion question) _ x a in
+      let (s, r, g) = bind-parts (readSite L (q .rels) site) _ x f in
+      subst (λ (y : Case). y .site .size ≤ L .elements) (ap (λ (y : CaseRead). y .case) (accepted-eq _ x g) ∙ accepted-eq _ c b) (site-few (q .rels) site s r)

@@ -8,9 +8,10 @@ ghost use Rattle.rows.specs.Values.{Most};
 ghost use Rattle.bits.specs.Table.{bit};
 ghost use Rattle.ground.specs.Lines.{tableLength};
 ghost use Rattle.layout.specs.Laid.{numberLimit};
+ghost use Rattle.tuples.specs.Labels.{NoLabels};
 ghost use Rattle.sheets.specs.Reading.{FactsRoom};
 ghost use Rattle.runs.specs.Ended.{ended};
-ghost use Rattle.asking.specs.Fronts.{limits, Fronted};
+ghost use Rattle.asking.specs.Fronts.{limits, Fronted, Filed};
 ghost use Rattle.asking.specs.Rooms.{saysSmall};
 ghost use Rattle.asking.specs.Replies.{resultOf};
 use grounding::Sized;
@@ -51,8 +52,9 @@ fn says_small(x: Entry) -> bool
         Entry::Choose(_, _, _, _) => true,
         Entry::Rule(_, _) => true,
         Entry::Size(k) => k <= SMALL,
-        Entry::Fact(_, _, _) => true,
-        Entry::Pick(_, _, _) => true,
+        Entry::Label(_, _, _, _) => true,
+        Entry::Fact(_, _, _, _) => true,
+        Entry::Pick(_, _, _, _) => true,
         Entry::Step(_) => true,
     }
 }
@@ -95,23 +97,25 @@ pub struct Front {
     pub m: Sized,
 }
 
-// Reads the question and the site, and grounds the case: its facts go to the lent words, which come in cleared and are enough for the
-// size that the site says, its problem to the lent table of zeros, unless there are more atoms or actions than there may be.
-pub fn open_case(
+// Reads the question and the site, and grounds the case: its labels go to the lent numbers, which come in all 0, its facts to the lent
+// words, which come in cleared and are enough for the size that the site says, its problem to the lent table of zeros, unless there are
+// more atoms or actions than there may be.
+pub fn open_filed(
     question: &[u8],
     site: &[u8],
     most: usize,
     most_atoms: usize,
     most_actions: usize,
+    labels: &mut [usize],
     facts: &mut [u64],
     table: &mut [usize],
 ) -> Front
     requires { ⌜ (most ≤ 64) × («most_atoms» ≤ numberLimit) × («most_actions» ≤ numberLimit) ⌝ }
-    requires { ⌜ FactsRoom (now site) most (length (now facts)) × (bit (now facts) ≡ λ i. false) ⌝ }
+    requires { ⌜ FactsRoom (now site) most (length (now facts)) × NoLabels (now labels) × (bit (now facts) ≡ λ i. false) ⌝ }
     requires { ⌜ (length (now table) ≡ tableLength) × Most (now table) 0 ⌝ }
-    ensures { λ r. ⌜ Fronted (limits most «most_atoms» «most_actions») (now (question .entry)) (now (site .entry)) r (now (facts .exit)) (now (table .exit)) ⌝ }
+    ensures { λ r. ⌜ Filed (limits most «most_atoms» «most_actions») (now (question .entry)) (now (site .entry)) r (now (labels .exit)) (now (facts .exit)) (now (table .exit)) ⌝ }
 {
-    let o = sheets::read_case(question, site, most, facts);
+    let o = sheets::read_filed(question, site, most, labels, facts);
     let fault = o.fault;
     if fault != 0 {
         let place = o.place;
@@ -130,4 +134,32 @@ pub fn open_case(
         o,
         m,
     }
+}
+
+// The same for a call that asks for no label.
+pub fn open_case(
+    question: &[u8],
+    site: &[u8],
+    most: usize,
+    most_atoms: usize,
+    most_actions: usize,
+    facts: &mut [u64],
+    table: &mut [usize],
+) -> Front
+    requires { ⌜ (most ≤ 64) × («most_atoms» ≤ numberLimit) × («most_actions» ≤ numberLimit) ⌝ }
+    requires { ⌜ FactsRoom (now site) most (length (now facts)) × (bit (now facts) ≡ λ i. false) ⌝ }
+    requires { ⌜ (length (now table) ≡ tableLength) × Most (now table) 0 ⌝ }
+    ensures { λ r. ⌜ Fronted (limits most «most_atoms» «most_actions») (now (question .entry)) (now (site .entry)) r (now (facts .exit)) (now (table .exit)) ⌝ }
+{
+    let mut labels = [0usize; sheets::LABELS];
+    open_filed(
+        question,
+        site,
+        most,
+        most_atoms,
+        most_actions,
+        &mut labels,
+        facts,
+        table,
+    )
 }

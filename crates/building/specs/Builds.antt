@@ -28,7 +28,7 @@ use Rattle.picks.specs.declared.Spare.the-variants.{Clear, Word}
 use Rattle.asking.specs.declared.Front.{Front}
 use Rattle.asking.specs.declared.Reply.{Reply}
 use Rattle.asking.specs.declared.Reply.the-variants.{Refused}
-use Rattle.asking.specs.Fronts.{Held, Fronted}
+use Rattle.asking.specs.Fronts.{Held, Filed}
 use Rattle.asking.specs.Known.{facts-held, case-over, grounds, tabled, actions-few, words-are, room-short, room-there}
 use Rattle.asking.specs.Replies.{resultOf}
 
@@ -44,7 +44,7 @@ rooms picks state steps p = Outcome.picksRoom p picks >>= λ _. Outcome.roomFor 
 
 module _ (L : CaseLimits) (question site : List ℕ) (picks : Outcome.Given) (state steps : List ℕ) where
   abbrev opening : Result (Outcome.Ready (List Tuple))
-  opening = Outcome.asked L question site (λ c. Outcome.textPicks c picks) Outcome.nothing Outcome.nothing (rooms picks (length state) (length steps))
+  opening = Outcome.asked L question site (λ x. Outcome.textPicks (x .case) (x .labels) picks) Outcome.nothing Outcome.nothing (rooms picks (length state) (length steps))
 
   from-plan : (x : Result Outcome.Plan) → Outcome.plan L question site picks (length state) (length steps) ≡ x → (r : Reply) (state′ steps′ : List ℕ)
       → Outcome.builtFrom x state steps ≡ record { answer = resultOf r; state = state′; steps = steps′ } → Answers L question site picks state steps r state′ steps′
@@ -63,14 +63,17 @@ module _ (L : CaseLimits) (question site : List ℕ) (picks : Outcome.Given) (st
   ends k place e r q = plan-refused k place (rw e refl) r q
 
   -- ---- the places where building from words can end
-  module _ (c : Case) (read : Outcome.readCase L question site ≡ accepted c) (f : Front) (facts table : List ℕ) (h : Held L question c f facts table)
-      (words : List ℕ) (given F : List Tuple) (handed : Handed c picks words given F) where
+  module _ (x : Outcome.CaseRead) (read : Outcome.readFiled L question site ≡ accepted x) (f : Front) (facts table : List ℕ) (h : Held L question (x .case) f facts table)
+      (words : List ℕ) (given F : List Tuple) (handed : Handed (x .case) (x .labels) picks words given F) where
+    abbrev c : Case
+    c = x .case
+
     abbrev p : Problem
     p = problemOf c
 
     pub builds-over : f .m .over ≡ true → Answers L question site picks state steps (Refused 11 0) state steps
     unfolding resultOf
-    builds-over o = ends 11 0 (Order.limits-refused L question site _ _ _ _ c read given (handed .is-read) (Order.untested c) 11 0 (case-over L c (f .m) table (h .grounded) o)) (Refused 11 0) refl
+    builds-over o = ends 11 0 (Order.limits-refused L question site _ _ _ _ x read given (handed .is-read) (Order.untested c) 11 0 (case-over L c (f .m) table (h .grounded) o)) (Refused 11 0) refl
 
     module _ (o : f .m .over ≡ false) where
       abbrev its : Tabled p (f .m) table
@@ -80,7 +83,7 @@ module _ (L : CaseLimits) (question site : List ℕ) (picks : Outcome.Given) (st
       count = words-are L c (f .m) table (h .grounded) o
 
       no-room : (k place : ℕ) → rooms picks (length state) (length steps) p ≡ refused k place → (r : Reply) → resultOf r ≡ refused k place → Answers L question site picks state steps r state steps
-      no-room k place j = ends k place (Order.room-refused L question site _ _ _ _ c read given (handed .is-read) (Order.untested c) p (grounds L c (f .m) table (h .grounded) o) (Order.untested c) k place j)
+      no-room k place j = ends k place (Order.room-refused L question site _ _ _ _ x read given (handed .is-read) (Order.untested c) p (grounds L c (f .m) table (h .grounded) o) (Order.untested c) k place j)
 
       module _ (k : ℕ) (q : k ≡ Outcome.picksLength p) where
         pub builds-picks : length words < k → Answers L question site picks state steps (Refused 12 k) state steps
@@ -108,19 +111,19 @@ module _ (L : CaseLimits) (question site : List ℕ) (picks : Outcome.Given) (st
                 no-room 12 (bound p) (rw (first-room, second-room, b) refl) (Refused 12 (f .m .bound)) (ap (refused 12) (its .bound-is))
 
             module _ (steps-room : f .m .bound ≤ length steps) (s : Spare) (t : spareFound s ≡ Outcome.spareWord p words zero (chosenNumbers p)) where
-              opened : opening ≡ accepted (record { case = c; problem = p; third = given })
+              opened : opening ≡ accepted (record { case = c; labels = x .labels; problem = p; third = given })
               unfolding rooms _>>=_
               opened =
                   let b = room-there (bound p) (length steps) (subst (λ (x : ℕ). x ≤ length steps) (its .bound-is) steps-room) in
-                  Order.ready L question site _ _ _ _ c read given (handed .is-read) (Order.untested c) p (grounds L c (f .m) table (h .grounded) o) (Order.untested c) (rw (first-room, second-room, b) refl)
+                  Order.ready L question site _ _ _ _ x read given (handed .is-read) (Order.untested c) p (grounds L c (f .m) table (h .grounded) o) (Order.untested c) (rw (first-room, second-room, b) refl)
 
-              planned-then : Outcome.plan L question site picks (length state) (length steps) ≡ (Outcome.satisfying c p picks given >>= λ G. accepted (record { problem = p; picks = G; steps = builtSteps p G }))
+              planned-then : Outcome.plan L question site picks (length state) (length steps) ≡ (Outcome.satisfying c p picks given >>= λ G. accepted (record { labels = x .labels; problem = p; picks = G; steps = builtSteps p G }))
               unfolding Outcome.plan rooms _>>=_
               planned-then = rw opened refl
 
               pub builds-spare : (j : ℕ) → s ≡ Word j → Answers L question site picks state steps (Refused 10 j) state steps
               unfolding resultOf spareFound _>>=_
-              builds-spare j e = plan-refused 10 j (planned-then ∙ rw (spare-refused c picks words given F handed j (sym t ∙ ap spareFound e)) refl) (Refused 10 j) refl
+              builds-spare j e = plan-refused 10 j (planned-then ∙ rw (spare-refused c (x .labels) picks words given F handed j (sym t ∙ ap spareFound e)) refl) (Refused 10 j) refl
 
               module _ (e : s ≡ Clear) where
                 clear : Outcome.spareWord p words zero (chosenNumbers p) ≡ none
@@ -146,15 +149,15 @@ module _ (L : CaseLimits) (question site : List ℕ) (picks : Outcome.Given) (st
                     → (r : Reply) → resultOf r ≡ answered a → Answers L question site picks state steps r state′ steps′
                 unfolding planned
                 builds-built few a state′ steps′ G r z =
-                    from-plan (planned c p F) (planned-then ∙ rw (spare-clear c picks words given F handed clear) refl) r state′ steps′ (rw z (G (prepared few)))
+                    from-plan (planned (x .labels) c p F) (planned-then ∙ rw (spare-clear c (x .labels) picks words given F handed clear) refl) r state′ steps′ (rw z (G (prepared few) (x .labels)))
 
 -- what is promised of building from words: they have 64 bits each, and whatever case and picks they are of, this is built
 pub record FromWords (f : Front) (facts table words state steps : List ℕ) (r : Reply) (state′ steps′ : List ℕ) : Type 0 where
   pub fit : Words words
-  pub builds : (L : CaseLimits) → L .actions ≤ 2 ^ 32 → (question site : List ℕ) (picks : Outcome.Given) (c : Case) → Outcome.readCase L question site ≡ accepted c → Held L question c f facts table
-      → (given F : List Tuple) → Handed c picks words given F → Answers L question site picks state steps r state′ steps′
+  pub builds : (L : CaseLimits) → L .actions ≤ 2 ^ 32 → (question site : List ℕ) (picks : Outcome.Given) (x : Outcome.CaseRead) → Outcome.readFiled L question site ≡ accepted x → Held L question (x .case) f facts table
+      → (given F : List Tuple) → Handed (x .case) (x .labels) picks words given F → Answers L question site picks state steps r state′ steps′
 
--- and from a text, whatever site was opened
-abbrev pub FromText : List ℕ → Front → (facts table text state steps : List ℕ) → Reply → (state′ steps′ : List ℕ) → Type 0
-FromText question f facts table text state steps r state′ steps′ =
-    (L : CaseLimits) (site : List ℕ) → Fronted L question site f facts table → f .fault ≡ 0 → L .actions ≤ 2 ^ 32 → Answers L question site (Outcome.asText text) state steps r state′ steps′
+-- and from a text, by the labels that were filed
+abbrev pub FromText : (question site : List ℕ) → Front → (labels facts table text state steps : List ℕ) → Reply → (state′ steps′ : List ℕ) → Type 0
+FromText question site f labels facts table text state steps r state′ steps′ =
+    (L : CaseLimits) → Filed L question site f labels facts table → f .fault ≡ 0 → L .actions ≤ 2 ^ 32 → Answers L question site (Outcome.asText text) state steps r state′ steps′

@@ -5,10 +5,12 @@ use mathlib.Core.Bool.{false}
 use mathlib.Core.List.{List}
 use lib.ListN.{length}
 use Rattle.definitions.specs.Limits.{CaseLimits}
-use Rattle.definitions.specs.Sheets.{readPicks}
+use Rattle.definitions.specs.Sheets.{Label, readPicks}
 use Rattle.definitions.specs.Atoms.{wordsFor}
 use Rattle.definitions.specs.Outcome.{Given, asText, asNumbers}
 use Rattle.laws.specs.Asked as Order
+use Rattle.laws.specs.Labels.{LabelsFit}
+use Rattle.tuples.specs.Labels.{LabelsAre}
 use Rattle.bits.specs.Table.{bit}
 use Rattle.names.specs.Signatures.{chosenOf}
 use Rattle.sheets.specs.declared.Answer.{Answer}
@@ -18,7 +20,7 @@ use Rattle.sheets.proofs.Numbers.{sheet-refused, sheet-read}
 use Rattle.asking.specs.declared.Front.{Front}
 use Rattle.asking.specs.declared.Reply.{Reply}
 use Rattle.asking.specs.declared.Reply.the-variants.{Refused}
-use Rattle.asking.specs.Fronts.{Fronted, front-refused, front-held}
+use Rattle.asking.specs.Fronts.{Fronted, front-refused, front-held, Filed, filed-held}
 use Rattle.asking.specs.Known.{atoms-few}
 use Rattle.asking.specs.Elements.{picks-enough}
 use Rattle.asking.specs.Replies.{resultOf}
@@ -45,26 +47,33 @@ module _ (L : CaseLimits) (question site : List ℕ) (f : Front) (facts table : 
     pub few-elements : f .o .n ≤ L .elements
     few-elements = let (c, e, h) = front-held L question site f facts table front z in h .within
 
-    -- picks as a text
-    module _ (text : List ℕ) (state steps : List ℕ) (a : Answer) (q : a ≡ answered length (readPicks (chosenOf question (f .o .sig)) (5 + f .o .sig .rels) (f .o .n) text)) where
-      pub call-text-refused : (k place : ℕ) → a ≡ Bad k place → Answers L question site (asText text) state steps (Refused k place) state steps
-      unfolding resultOf
-      call-text-refused k place e =
-          let (c, ec, h) = front-held L question site f facts table front z in
-          let t = sym (text-read question c (h .accepts) (f .o) (bit facts) (h .holds) text) ∙ sheet-refused length _ a k place q e in
-          ends L question site (asText text) state steps k place (Order.third-refused L question site _ _ _ _ c ec k place t) (Refused k place) refl
-
-      pub call-text : L .actions ≤ 2 ^ 32 → (k : ℕ) → a ≡ Done k → (words : List ℕ) (room : ℕ) → length words ≡ room → PicksRoom (f .o .sig) (f .o .n) room
-          → PicksIn (f .o .sig) (f .o .n) (readPicks (chosenOf question (f .o .sig)) (5 + f .o .sig .rels) (f .o .n) text) (bit words)
-          → (r : Reply) (state′ steps′ : List ℕ) → FromWords f facts table words state steps r state′ steps′ → Answers L question site (asText text) state steps r state′ steps′
-      call-text few k e words room l enough held r state′ steps′ b =
-          let (c, ec, h) = front-held L question site f facts table front z in
-          let (F, g, _) = sheet-read length _ a k q e in
-          let t = sym (text-read question c (h .accepts) (f .o) (bit facts) (h .holds) text) ∙ g in
-          b .builds L few question site (asText text) c ec h F F (text-handed question c (h .accepts) (f .o) (bit facts) (h .holds) text F t words (b .fit) (subst (λ (k : ℕ). PicksRoom (f .o .sig) (f .o .n) k) (sym l) enough) held)
-
     -- picks as words
     pub call-lent : L .actions ≤ 2 ^ 32 → (words state steps : List ℕ) (r : Reply) (state′ steps′ : List ℕ) → FromWords f facts table words state steps r state′ steps′ → Answers L question site (asNumbers words) state steps r state′ steps′
     call-lent few words state steps r state′ steps′ b =
         let (c, ec, h) = front-held L question site f facts table front z in
-        b .builds L few question site (asNumbers words) c ec h _ _ (lent-handed c (h .accepts) words (b .fit))
+        let (labels, e) = Order.case-filed L question site c ec in
+        b .builds L few question site (asNumbers words) (record { case = c; labels = labels }) e h _ _ (lent-handed c (h .accepts) labels words (b .fit))
+
+-- picks as a text, by the labels
+module _ (L : CaseLimits) (question site : List ℕ) (f : Front) (labels facts table : List ℕ) (filed : Filed L question site f labels facts table) (z : f .fault ≡ 0) where
+  pub labels-said : (ls : List Label) × LabelsAre site labels (f .o .n) ls
+  labels-said = let (x, e, h, l) = filed-held L question site f labels facts table filed z in (x .labels, l)
+
+  module _ (text state steps : List ℕ) (a : Answer) (words : List ℕ)
+      (read : (ls : List Label) → LabelsAre site labels (f .o .n) ls → (a ≡ answered length (readPicks (chosenOf question (f .o .sig)) (5 + f .o .sig .rels) (f .o .n) ls text)) × PicksIn (f .o .sig) (f .o .n) (readPicks (chosenOf question (f .o .sig)) (5 + f .o .sig .rels) (f .o .n) ls text) (bit words)) where
+    pub call-text-refused : (k place : ℕ) → a ≡ Bad k place → Answers L question site (asText text) state steps (Refused k place) state steps
+    unfolding resultOf
+    call-text-refused k place e =
+        let (x, ex, h, l) = filed-held L question site f labels facts table filed z in
+        let t = sym (text-read question (x .case) (h .accepts) (f .o) (bit facts) (h .holds) (x .labels) text) ∙ sheet-refused length _ a k place (read (x .labels) l .0) e in
+        ends L question site (asText text) state steps k place (Order.third-refused L question site _ _ _ _ x ex k place t) (Refused k place) refl
+
+    pub call-text : L .actions ≤ 2 ^ 32 → (k : ℕ) → a ≡ Done k → (room : ℕ) → length words ≡ room → PicksRoom (f .o .sig) (f .o .n) room
+        → (r : Reply) (state′ steps′ : List ℕ) → FromWords f facts table words state steps r state′ steps′ → Answers L question site (asText text) state steps r state′ steps′
+    call-text few k e room m enough r state′ steps′ b =
+        let (x, ex, h, l) = filed-held L question site f labels facts table filed z in
+        let (F, g, _) = sheet-read length _ a k (read (x .labels) l .0) e in
+        let t = sym (text-read question (x .case) (h .accepts) (f .o) (bit facts) (h .holds) (x .labels) text) ∙ g in
+        let fit = subst (λ (n : ℕ). LabelsFit n (x .labels)) (h .holds .size) (l .fit) in
+        b .builds L few question site (asText text) x ex h F F
+        (text-handed question (x .case) (h .accepts) (f .o) (bit facts) (h .holds) (x .labels) fit text F t words (b .fit) (subst (λ (n : ℕ). PicksRoom (f .o .sig) (f .o .n) n) (sym m) enough) (read (x .labels) l .1))

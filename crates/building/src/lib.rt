@@ -5,8 +5,10 @@ ghost use mathlib.Core.List.{List};
 ghost use Prim.Native.Nat.{ℕ, _^_, _≤_};
 ghost use lib.ListN.{length};
 ghost use Rattle.definitions.specs.Limits.{usual};
+ghost use Rattle.definitions.specs.Sheets.{Label};
 ghost use Rattle.definitions.specs.Outcome.{asText, asNumbers, buildSteps};
 ghost use Rattle.bits.specs.Table.{bit};
+ghost use Rattle.tuples.specs.Labels.{LabelsAre};
 ghost use Rattle.sheets.specs.Reading.{FactsRoom, PicksRoom};
 ghost use Rattle.plans.specs.Answers.{answered};
 ghost use Rattle.asking.specs.Fronts.{Ready};
@@ -70,7 +72,9 @@ fn build_picks(
 // Steps of a case that was opened, from picks as a text: they are read into the lent words, which are enough and come in cleared.
 fn build_listed(
     question: &[u8],
+    site: &[u8],
     f: Front,
+    labels: &[usize],
     facts: &[u64],
     table: &[usize],
     picks: &[u8],
@@ -78,13 +82,13 @@ fn build_listed(
     state: &mut [u64],
     steps: &mut [u32],
 ) -> Reply
-    requires { ⌜ Ready (now question) f (now facts) (now table) × (f .m .over ≡ false → f .m .atoms ≤ 2 ^ 20) ⌝ }
+    requires { ⌜ Ready (now question) f (now facts) (now table) × (f .m .over ≡ false → f .m .atoms ≤ 2 ^ 20) × ((ls : List Label) × LabelsAre (now site) (now labels) (f .o .n) ls) ⌝ }
     requires { ⌜ PicksRoom (f .o .sig) (f .o .n) (length (now words)) × (bit (now words) ≡ λ i. false) ⌝ }
-    ensures { λ r. ⌜ FromText (now (question .entry)) f (now (facts .entry)) (now (table .entry)) (now (picks .entry)) (now (state .entry)) (now (steps .entry)) r (now (state .exit)) (now (steps .exit)) ⌝ }
+    ensures { λ r. ⌜ FromText (now (question .entry)) (now (site .entry)) f (now (labels .entry)) (now (facts .entry)) (now (table .entry)) (now (picks .entry)) (now (state .entry)) (now (steps .entry)) r (now (state .exit)) (now (steps .exit)) ⌝ }
 {
     let o = f.o;
     let sig = o.sig;
-    let a = sheets::picks(question, sig, picks, o.n, words);
+    let a = sheets::picks(question, sig, picks, o.n, site, labels, words);
     match a {
         Answer::Refused(k, place) => Reply::Refused(k, place),
         Answer::Done(_) => build_picks(f, facts, table, words, state, steps),
@@ -103,13 +107,15 @@ fn build_text_in(
     requires { ⌜ FactsRoom (now site) 64 (length (now facts)) × (bit (now facts) ≡ λ i. false) ⌝ }
     ensures { λ r. ⌜ Answers usual (now (question .entry)) (now (site .entry)) (asText (now (picks .entry))) (now (state .entry)) (now (steps .entry)) r (now (state .exit)) (now (steps .exit)) ⌝ }
 {
+    let mut labels = [0usize; sheets::LABELS];
     let mut table = [0usize; ground::TABLE];
-    let f = asking::open_case(
+    let f = asking::open_filed(
         question,
         site,
         asking::ELEMENTS,
         asking::ATOMS,
         asking::ACTIONS,
+        &mut labels,
         facts,
         &mut table,
     );
@@ -119,10 +125,32 @@ fn build_text_in(
     let o = f.o;
     if o.n <= asking::SMALL_SIZE {
         let mut few = [0u64; asking::FEW_PICKS];
-        return build_listed(question, f, facts, &table, picks, &mut few, state, steps);
+        return build_listed(
+            question,
+            site,
+            f,
+            &labels,
+            facts,
+            &table,
+            picks,
+            &mut few,
+            state,
+            steps,
+        );
     }
     let mut words = [0u64; asking::PICKS];
-    build_listed(question, f, facts, &table, picks, &mut words, state, steps)
+    build_listed(
+        question,
+        site,
+        f,
+        &labels,
+        facts,
+        &table,
+        picks,
+        &mut words,
+        state,
+        steps,
+    )
 }
 
 // Builds steps from picks that are handed over as a text.

@@ -17,6 +17,7 @@ use Rattle.ground.specs.declared.Act.the-variants.{Set, Begin, And, Or, Exists,
 use Rattle.ground.specs.Of.{Is, said, actOf}
 use Rattle.decode.specs.Decoded.{Grounded}
 use Rattle.laws.specs.Asked as Order
+use Rattle.laws.specs.Alone
 use Rattle.grounding.specs.Grounds.{Tabled}
 use Rattle.asking.specs.declared.Front.{Front}
 use Rattle.asking.specs.Fronts.{Fronted, Held, front-refused, front-held}
@@ -71,7 +72,7 @@ module _ (L : CaseLimits) (question site : List ℕ) (k : ℕ) (r : Front) (fact
     pub asked-over : r .m .over ≡ true → actionOf (Refused 11 0) ≡ asks
     asked-over t =
         let (c, e, h) = its in
-        refused-with 11 0 (Order.limits-refused L question site _ _ _ _ c e tt (Order.untested c) (Order.untested c) 11 0 (case-over L c _ _ (h .grounded) t))
+        refused-with 11 0 (Alone.limits-refused L question site _ _ _ _ c e tt (λ _. Order.untested _) (Order.untested c) 11 0 (case-over L c _ _ (h .grounded) t))
 
     module _ (f : r .m .over ≡ false) where
       abbrev p : Problem
@@ -84,7 +85,7 @@ module _ (L : CaseLimits) (question site : List ℕ) (k : ℕ) (r : Front) (fact
       unfolding Outcome.action _>>=_
       asks-is =
           let (c, e, h) = its in
-          rw (Order.ready L question site Outcome.nothing Outcome.nothing Outcome.nothing Outcome.nothing c e tt (Order.untested c) (Order.untested c) p (grounds L c _ _ (h .grounded) f) (Order.untested c) (Order.untested p)) refl
+          rw (Alone.ready L question site Outcome.nothing Outcome.nothing Outcome.nothing Outcome.nothing c e tt (λ _. Order.untested _) (Order.untested c) p (grounds L c _ _ (h .grounded) f) (Order.untested c) (Order.untested p)) refl
 
       pub asked-table : Grounded table
       asked-table = table-is L (its .0) _ _ (its .2 .grounded) f

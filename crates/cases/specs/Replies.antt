@@ -13,6 +13,7 @@ use Rattle.definitions.specs.Strips.{run}
 use Rattle.definitions.specs.Outcome
 use Rattle.laws.specs.Words.{state-length}
 use Rattle.laws.specs.Asked
+use Rattle.laws.specs.Alone
 use Rattle.runs.specs.declared.End.{End}
 use Rattle.runs.specs.Ended.{ended}
 use Rattle.runs.specs.Checks.{Runs}
@@ -33,8 +34,8 @@ Checked L question site given old r new =
     (resultOf r ≡ Outcome.checkSteps L question site given old .answer) × (new ≡ Outcome.checkSteps L question site given old .state)
 
 module _ (L : CaseLimits) (question site : List ℕ) (given : Outcome.Given) (old : List ℕ) (f : Front) (facts table : List ℕ) (opens : Fronted L question site f facts table) where
-  abbrev third : Case → Result (List ℕ)
-  third c = Outcome.takeSteps given
+  abbrev third : Outcome.CaseRead → Result (List ℕ)
+  third x = Outcome.takeSteps given
 
   abbrev rooms : Problem → Result (Unit {0})
   rooms p = Outcome.roomFor (Outcome.stateLength p) (length old)
@@ -55,13 +56,13 @@ module _ (L : CaseLimits) (question site : List ℕ) (given : Outcome.Given) (ol
     its = front-held L question site f facts table opens z
 
     pub call-steps : (k place : ℕ) → Outcome.takeSteps given ≡ refused k place → Answers (Refused k place) old
-    call-steps k place t = refused-with k place (Asked.third-refused L question site third _ _ rooms (its .0) (its .1) k place t)
+    call-steps k place t = refused-with k place (Alone.third-refused L question site third _ _ rooms (its .0) (its .1) k place (λ _. t))
 
     module _ (ks : List ℕ) (t : Outcome.takeSteps given ≡ accepted ks) where
       pub call-over : f .m .over ≡ true → Answers (Refused 11 0) old
       call-over o =
           let (c, e, h) = its in
-          refused-with 11 0 (Asked.limits-refused L question site third _ _ rooms c e ks t (Asked.untested c) 11 0 (case-over L c _ _ (h .grounded) o))
+          refused-with 11 0 (Alone.limits-refused L question site third _ _ rooms c e ks (λ _. t) (Asked.untested c) 11 0 (case-over L c _ _ (h .grounded) o))
 
       module _ (o : f .m .over ≡ false) where
         abbrev words : ℕ
@@ -75,7 +76,7 @@ module _ (L : CaseLimits) (question site : List ℕ) (given : Outcome.Given) (ol
             let (c, e, h) = its in
             let short = room-short words (length old) l in
             let b : rooms (problemOf c) ≡ refused 12 words = ap (λ (k : ℕ). Outcome.roomFor k (length old)) (sym words-of) ∙ short in
-            refused-with 12 words (Asked.room-refused L question site third _ _ rooms c e ks t (Asked.untested c) (problemOf c) (grounds L c _ _ (h .grounded) o) (Asked.untested c) 12 words b)
+            refused-with 12 words (Alone.room-refused L question site third _ _ rooms c e ks (λ _. t) (Asked.untested c) (problemOf c) (grounds L c _ _ (h .grounded) o) (Asked.untested c) 12 words b)
 
         pub call-ran : words ≤ length old → (e : End) (part new : List ℕ) (r : Reply) → Runs table facts ks (take words old) e part → new ≡ part ++ drop words old → resultOf r ≡ ended e → Answers r new
         unfolding Outcome.checkSteps Outcome.readyToRun Outcome.checkedFrom Outcome.written
@@ -83,7 +84,7 @@ module _ (L : CaseLimits) (question site : List ℕ) (given : Outcome.Given) (ol
             let (c, a, h) = its in
             let p : Problem = problemOf c in
             let b = room-there (Outcome.stateLength p) (length old) (subst (λ (k : ℕ). k ≤ length old) words-of l) in
-            let g = Asked.ready L question site third Outcome.nothing Outcome.nothing rooms c a ks t (Asked.untested c) p (grounds L c _ _ (h .grounded) o) (Asked.untested c) b in
+            let g = Alone.ready L question site third Outcome.nothing Outcome.nothing rooms c a ks (λ _. t) (Asked.untested c) p (grounds L c _ _ (h .grounded) o) (Asked.untested c) b in
             let ran = ran-of L c _ _ (h .grounded) o question _ facts ks _ part e (h .holds) (sym (length-take-le words old l)) runs in
             let s : length (stateWords p (run p ks .state)) ≡ words = state-length p (run p ks .state) ∙ sym words-of in
             (rw g (q ∙ ran .answer), rw (g, s) (n ∙ ap (λ (x : List ℕ). x ++ drop words old) (ran .state)))

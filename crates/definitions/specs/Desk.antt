@@ -1,14 +1,15 @@
--- Document 01, "The desk program": the bytes it prints for the bytes it reads.
+-- Document 01, "The desk program": the bytes it prints for the bytes it reads; elements by their labels since document 02, job 1.
 use Prim.Native.Nat.{ℕ, zero, _+_}
 use mathlib.Core.Bool.{Bool, false, _||_}
 use mathlib.Core.List.{List, [], _∷_, _++_, map}
 use lib.ListN.{length, take, drop}
 use lib.Dec.{ltb}
 use Rattle.definitions.specs.Limits.{early, deskBytes, deskSteps, deskWords}
-use Rattle.definitions.specs.Lists.{if_then_else_, same, flatMap}
+use Rattle.definitions.specs.Lists.{if_then_else_, same, option, flatMap}
 use Rattle.definitions.specs.Text.{bytes, decimal, Line, lines, fields}
 use Rattle.definitions.specs.Refusal.{Result, refused, accepted, _>>=_, refuseIf}
 use Rattle.definitions.specs.Relations.{Tuple}
+use Rattle.definitions.specs.Sheets.{Label, nameOf}
 use Rattle.definitions.specs.Atoms.{Problem, relationAt, placesOf}
 use Rattle.definitions.specs.Strips.{run, picksOf}
 use Rattle.definitions.specs.Built.{chosenNumbers, pickedRows}
@@ -69,8 +70,12 @@ sizesLine s = printLine (bytes "sizes" ∷ decimal (s .elements) ∷ decimal (s 
 unfoldable pub countLine : Problem → List Tuple → ℕ → List ℕ
 countLine p picks r = printLine (bytes "count" ∷ relationAt p r .name ∷ decimal (length (pickedRows p picks r)) ∷ [])
 
-unfoldable pub pickLine : Problem → ℕ → ℕ → List ℕ
-pickLine p r row = printLine (bytes "pick" ∷ relationAt p r .name ∷ map decimal (placesOf (p .size) (relationAt p r .arity) row))
+-- an element as it is printed: its label, or its number where it has none
+unfoldable pub said : List Label → ℕ → List ℕ
+said labels x = option (nameOf labels x) (decimal x) (λ name. name)
+
+unfoldable pub pickLine : List Label → Problem → ℕ → ℕ → List ℕ
+pickLine labels p r row = printLine (bytes "pick" ∷ relationAt p r .name ∷ map (said labels) (placesOf (p .size) (relationAt p r .arity) row))
 
 unfoldable pub stepLine : ℕ → List ℕ
 stepLine k = printLine (bytes "step" ∷ decimal k ∷ [])
@@ -80,7 +85,7 @@ unfoldable pub report : Plan → List ℕ
 report r =
     sizesLine (sizesOf (r .problem))
     ++ (flatMap (countLine (r .problem) (r .picks)) (chosenNumbers (r .problem))
-    ++ (flatMap (λ k. flatMap (pickLine (r .problem) k) (pickedRows (r .problem) (r .picks) k)) (chosenNumbers (r .problem))
+    ++ (flatMap (λ k. flatMap (pickLine (r .labels) (r .problem) k) (pickedRows (r .problem) (r .picks) k)) (chosenNumbers (r .problem))
     ++ (flatMap stepLine (r .steps) ++ printLine (bytes "ok" ∷ decimal (length (r .steps)) ∷ []))))
 
 -- a refusal is one line
@@ -94,7 +99,7 @@ unfoldable pub checkedPlan : List ℕ → List ℕ → List ℕ → Result Plan
 checkedPlan question site steps = do
   r ← readyToRun early question site (asText steps) (λ p. roomFor (stateLength p) deskWords)
   _ ← run (r .problem) (r .third) .answer
-  accepted (record { problem = r .problem; picks = picksOf (r .problem) (r .third); steps = r .third })
+  accepted (record { labels = r .labels; problem = r .problem; picks = picksOf (r .problem) (r .third); steps = r .third })
 
 unfoldable pub startsWithStep : List Line → Bool
 startsWithStep [] = false

@@ -9,7 +9,7 @@ use Rattle.definitions.specs.Outcome.{asked, nothing, Given, textPicks, 
 -- short, 10, 16, 17. No other buffer is lent. A yes is 0, place 0.
 unfoldable pub judge : CaseLimits → (question site : List ℕ) → Given → Result ℕ
 judge L question site picks = do
-  r ← asked L question site (λ c. textPicks c picks) nothing nothing (λ p. picksRoom p picks)
+  r ← asked L question site (λ c. textPicks (c .case) (c .labels) picks) nothing nothing (λ p. picksRoom p picks)
   _ ← satisfying (r .case) (r .problem) picks (r .third)
   accepted zero
 

@@ -12,6 +12,7 @@
 --   "The desk program"             Desk
 --   "Case drawer"                  Drawer; Cases has further ones, Whole looks at all that a call leaves
 -- Document 02, "What customers want changed later":
+--   job 1, door names              Sheets (labels, 18), Desk, Rewritten; LabelCases has cases
 --   job 3, sizes in one pass       Tally; TallyCases has cases
 --   job 6, yes or no               Judgement; JudgementCases has cases
 --   job 8, twenty tries            Tries; TriesDrawn has cases
@@ -34,6 +35,7 @@ pub mod Built
 pub mod Outcome
 pub mod Demand
 pub mod Desk
+pub mod Rewritten
 pub mod Tally
 pub mod Tries
 pub mod Judgement
@@ -42,6 +44,7 @@ pub mod Opened
 pub mod Drawer
 pub mod Cases
 pub mod Whole
+pub mod LabelCases
 pub mod TallyCases
 pub mod TriesDrawn
 pub mod JudgementCases

@@ -9,7 +9,7 @@ use Rattle.definitions.specs.Limits.{CaseLimits, stepLimit}
 use Rattle.definitions.specs.Lists.{if_then_else_, any, filter, option, position, below, from, sum, flatMap}
 use Rattle.definitions.specs.Refusal.{Result, refused, accepted, _>>=_, refuseIf, given}
 use Rattle.definitions.specs.Relations.{Tuple}
-use Rattle.definitions.specs.Sheets.{Question, readQuestion, readSite, readPicks, readSteps, firstChosen}
+use Rattle.definitions.specs.Sheets.{Question, Label, readQuestion, readSite, readPicks, readSteps, firstChosen}
 use Rattle.definitions.specs.Truth.{Case, ruleIsTrue, firstOfOtherKind}
 use Rattle.definitions.specs.Atoms.{Problem, problemOf, relationAt, tuplesOf, placesOf, atoms, wordsFor, bitsFrom, stateWords}
 use Rattle.definitions.specs.Actions.{Action, actions, actionAt}
@@ -35,13 +35,21 @@ unfoldable pub told : {A : Type 0} → (A → ℕ) → Result A → ℕ → ℕ
 told f (refused k place) old = old
 told f (accepted a) old = f a
 
--- ---- reading a case: the question, then the site; L are the limits of its size
+-- ---- reading a case: the question, then the site; L are the limits of its size. The labels of its elements stand beside the case: a
+-- text of picks is read by them, and the desk program prints them.
+pub record CaseRead : Type 0 where
+  pub case : Case
+  pub labels : List Label
 
-unfoldable pub readCase : CaseLimits → List ℕ → List ℕ → Result Case
-readCase L question site = do
+unfoldable pub readFiled : CaseLimits → List ℕ → List ℕ → Result CaseRead
+readFiled L question site = do
   q ← readQuestion question
   s ← readSite L (q .rels) site
-  accepted (record { question = q; site = s })
+  accepted (record { case = record { question = q; site = s .site }; labels = s .labels })
+
+-- the case alone
+unfoldable pub readCase : CaseLimits → List ℕ → List ℕ → Result Case
+readCase L question site = readFiled L question site >>= λ r. accepted (r .case)
 
 -- 11: too many atoms or actions
 unfoldable pub ground : CaseLimits → Case → Result Problem
@@ -56,18 +64,19 @@ readProblem L question site = readCase L question site >>= ground L
 -- there is one), what is tested of the case before 11, 11, what is tested of it after 11, the lent buffers.
 pub record Ready (A : Type 0) : Type 0 where
   pub case : Case
+  pub labels : List Label
   pub problem : Problem
   pub third : A
 
-unfoldable pub asked : {A : Type 0} → CaseLimits → List ℕ → List ℕ → (Case → Result A) → (early late : Case → Result (Unit {0})) → (Problem → Result (Unit {0})) → Result (Ready A)
+unfoldable pub asked : {A : Type 0} → CaseLimits → List ℕ → List ℕ → (CaseRead → Result A) → (early late : Case → Result (Unit {0})) → (Problem → Result (Unit {0})) → Result (Ready A)
 asked L question site third early late rooms = do
-  c ← readCase L question site
-  t ← third c
-  _ ← early c
-  p ← ground L c
-  _ ← late c
+  r ← readFiled L question site
+  t ← third r
+  _ ← early (r .case)
+  p ← ground L (r .case)
+  _ ← late (r .case)
   _ ← rooms p
-  accepted (record { case = c; problem = p; third = t })
+  accepted (record { case = r .case; labels = r .labels; problem = p; third = t })
 
 -- nothing is tested, or no third input is handed over
 unfoldable pub nothing : {B : Type 0} → B → Result (Unit {0})
@@ -159,9 +168,9 @@ unfoldable pub takeSteps : Given → Result (List ℕ)
 takeSteps (asText text) = readSteps text
 takeSteps (asNumbers steps) = refuseIf (ltb stepLimit (length steps)) 1 zero >>= λ _. accepted steps
 
-unfoldable pub textPicks : Case → Given → Result (List Tuple)
-textPicks c (asText text) = readPicks (c .question .chosen) (firstChosen (c .question)) (c .site .size) text
-textPicks c (asNumbers words) = accepted []
+unfoldable pub textPicks : Case → List Label → Given → Result (List Tuple)
+textPicks c labels (asText text) = readPicks (c .question .chosen) (firstChosen (c .question)) (c .site .size) labels text
+textPicks c labels (asNumbers words) = accepted []
 
 unfoldable pub picksRoom : Problem → Given → Result (Unit {0})
 picksRoom p (asText text) = accepted tt
@@ -181,7 +190,7 @@ takePicks p (asNumbers words) picks =
 
 -- everything before the steps go one by one; `rooms` tests the lent buffers
 unfoldable pub readyToRun : CaseLimits → List ℕ → List ℕ → Given → (Problem → Result (Unit {0})) → Result (Ready (List ℕ))
-readyToRun L question site steps rooms = asked L question site (λ c. takeSteps steps) nothing nothing rooms
+readyToRun L question site steps rooms = asked L question site (λ _. takeSteps steps) nothing nothing rooms
 
 pub record Checked : Type 0 where
   pub answer : Result ℕ
@@ -238,6 +247,7 @@ satisfying c p picks read = do
   accepted tuples
 
 pub record Plan : Type 0 where
+  pub labels : List Label
   pub problem : Problem
   pub picks : List Tuple
   pub steps : List ℕ
@@ -245,9 +255,9 @@ pub record Plan : Type 0 where
 -- The refusals of building in their order: the texts, 11, 12 (lent picks, state, steps; the steps need the bound), 10, 16, 17.
 unfoldable pub plan : CaseLimits → List ℕ → List ℕ → Given → ℕ → ℕ → Result Plan
 plan L question site picks stateRoom stepsRoom = do
-  r ← asked L question site (λ c. textPicks c picks) nothing nothing (λ p. picksRoom p picks >>= λ _. roomFor (stateLength p) stateRoom >>= λ _. roomFor (bound p) stepsRoom)
+  r ← asked L question site (λ c. textPicks (c .case) (c .labels) picks) nothing nothing (λ p. picksRoom p picks >>= λ _. roomFor (stateLength p) stateRoom >>= λ _. roomFor (bound p) stepsRoom)
   tuples ← satisfying (r .case) (r .problem) picks (r .third)
-  accepted (record { problem = r .problem; picks = tuples; steps = builtSteps (r .problem) tuples })
+  accepted (record { labels = r .labels; problem = r .problem; picks = tuples; steps = builtSteps (r .problem) tuples })
 
 pub record Built : Type 0 where
   pub answer : Result ℕ

@@ -1,5 +1,5 @@
--- Document 01, "The sheets" and the first ten rows of its "Refusal sheet": reading the question, the site, picks and steps.
--- A reader takes the relations that its lines may name, and nothing else of the question.
+-- Document 01, "The sheets" and the first ten rows of its "Refusal sheet": reading the question, the site, picks and steps; and
+-- document 02, job 1: labels of elements. A reader takes the relations that its lines may name, and nothing else of the question.
 use Prim.Native.Nat.{ℕ, _+_}
 use mathlib.Core.Bool.{Bool, true, false, not, _&&_, _||_}
 use mathlib.Core.Option.{Option, none, some}
@@ -7,7 +7,7 @@ use mathlib.Core.List.{List, [], _∷_, _++_}
 use lib.ListN.{length}
 use lib.Dec.{eqb, leb, ltb}
 use Rattle.definitions.specs.Limits.{arityLimit, relLimit, chooseLimit, formLimit, nestingLimit, CaseLimits}
-use Rattle.definitions.specs.Lists.{if_then_else_, all, same, isEmpty, option, position}
+use Rattle.definitions.specs.Lists.{if_then_else_, all, any, same, isEmpty, option, position}
 use Rattle.definitions.specs.Text.{bytes, Line, fields, number, isRelationName, isBetween}
 use Rattle.definitions.specs.Refusal.{Result, refused, accepted, _>>=_, refuseIf, given, readText}
 use Rattle.definitions.specs.Relations.{Kind, static, plain, Fun, PFun, Inj, PInj, Relation, Tuple, isAmong, builtIn, isDeclared}
@@ -16,13 +16,20 @@ use Rattle.definitions.specs.Parsing.{readFormula}
 
 -- ---- the records of all sheets, by their form
 
+-- an element field as it stands there: a number, or a name that has a relation name's form. Which element a name means is said by the
+-- site's labels, and no form depends on them.
+pub data Element : Type 0 where
+  numbered : ℕ → Element
+  named : (name : List ℕ) → Element
+
 -- one line of any sheet, by its record word
 pub data Entry : Type 0 where
   rel : (name : List ℕ) → (arity : ℕ) → Entry
   choose : (name : List ℕ) → (arity : ℕ) → Kind → Entry
   rule : (formula : List ℕ) → Entry
   size : (n : ℕ) → Entry
-  fact pick : (name : List ℕ) → (elements : List ℕ) → Entry
+  label : Element → (name : List ℕ) → Entry
+  fact pick : (name : List ℕ) → (elements : List Element) → Entry
   step : (action : ℕ) → Entry
 
 -- an arity
@@ -38,9 +45,17 @@ chooseOf name f =
     else if same f (bytes "PInj") then some (choose name 2 PInj)
     else option (arityOf f) none (λ a. some (choose name a plain))
 
-unfoldable pub numbers : List (List ℕ) → Option (List ℕ)
-numbers [] = some []
-numbers (f ∷ fs) = option (number f) none (λ x. option (numbers fs) none (λ xs. some (x ∷ xs)))
+-- an element field, and a list of them
+unfoldable pub element : List ℕ → Option Element
+element f = option (number f) (if isRelationName f then some (named f) else none) (λ x. some (numbered x))
+
+unfoldable pub elements : List (List ℕ) → Option (List Element)
+elements [] = some []
+elements (f ∷ fs) = option (element f) none (λ x. option (elements fs) none (λ xs. some (x ∷ xs)))
+
+-- what a `label` line has: an element, then a name in the form of a relation's
+unfoldable pub labelOf : List ℕ → List ℕ → Option Entry
+labelOf f name = if isRelationName name then option (element f) none (λ x. some (label x name)) else none
 
 -- records with one field after the record word, with two, and, for `fact` and `pick`, with a name and 1 to 3 elements
 unfoldable pub withOne : (List ℕ → Option Entry) → List (List ℕ) → Option Entry
@@ -54,9 +69,9 @@ withTwo make (f ∷ []) = none
 withTwo make (f ∷ g ∷ []) = make f g
 withTwo make (f ∷ g ∷ h ∷ fs) = none
 
-unfoldable pub withElements : (List ℕ → List ℕ → Entry) → List (List ℕ) → Option Entry
+unfoldable pub withElements : (List ℕ → List Element → Entry) → List (List ℕ) → Option Entry
 withElements make [] = none
-withElements make (f ∷ fs) = if isBetween 1 arityLimit (length fs) then option (numbers fs) none (λ xs. some (make f xs)) else none
+withElements make (f ∷ fs) = if isBetween 1 arityLimit (length fs) then option (elements fs) none (λ xs. some (make f xs)) else none
 
 -- what a line's fields say; none where the record word is unknown or the fields are not of its form
 unfoldable pub entry : List (List ℕ) → Option Entry
@@ -66,6 +81,7 @@ entry (w ∷ fs) =
     else if same w (bytes "choose") then withTwo chooseOf fs
     else if same w (bytes "rule") then withOne (λ f. some (rule f)) fs
     else if same w (bytes "size") then withOne (λ f. option (number f) none (λ n. some (size n))) fs
+    else if same w (bytes "label") then withTwo labelOf fs
     else if same w (bytes "fact") then withElements fact fs
     else if same w (bytes "pick") then withElements pick fs
     else if same w (bytes "step") then withOne (λ f. option (number f) none (λ k. some (step k))) fs
@@ -137,6 +153,7 @@ addToQuestion d at (rel name arity) = addRel d at name arity
 addToQuestion d at (choose name arity kind) = addChoose d at name arity kind
 addToQuestion d at (rule text) = addRule d at text
 addToQuestion d at (size n) = refused 3 at
+addToQuestion d at (label x name) = refused 3 at
 addToQuestion d at (fact name xs) = refused 3 at
 addToQuestion d at (pick name xs) = refused 3 at
 addToQuestion d at (step k) = refused 3 at
@@ -161,49 +178,101 @@ firstRel = length builtIn
 unfoldable pub firstChosen : Question → ℕ
 firstChosen q = firstRel + length (q .rels)
 
--- ---- a tuple in a line: 7, 9 and 10
+-- ---- labels: what an element field means
+
+pub record Label : Type 0 where
+  pub element : ℕ
+  pub name : List ℕ
+
+-- the element that has the name, and the name that an element has
+unfoldable pub elementNamed : List Label → List ℕ → Option ℕ
+elementNamed [] name = none
+elementNamed (l ∷ ls) name = if same (l .name) name then some (l .element) else elementNamed ls name
+
+unfoldable pub nameOf : List Label → ℕ → Option (List ℕ)
+nameOf [] x = none
+nameOf (l ∷ ls) x = if eqb (l .element) x then some (l .name) else nameOf ls x
+
+-- the element that a field means, and those of several fields; none where a name is nobody's
+unfoldable pub elementOf : List Label → Element → Option ℕ
+elementOf labels (numbered x) = some x
+elementOf labels (named name) = elementNamed labels name
+
+unfoldable pub elementsOf : List Label → List Element → Option (List ℕ)
+elementsOf labels [] = some []
+elementsOf labels (e ∷ es) = option (elementOf labels e) none (λ x. option (elementsOf labels es) none (λ xs. some (x ∷ xs)))
+
+-- 9 is asked of numbers alone: the element of a label is below n
+unfoldable pub isInRange : ℕ → Element → Bool
+isInRange n (numbered x) = ltb x n
+isInRange n (named name) = true
+
+-- ---- a tuple in a line: 7, 9, 18 and 10
 
 -- the number of the relation that has the name and as many places as there are elements, where `first` is the first one's number
 unfoldable pub used : List Relation → ℕ → List ℕ → ℕ → Option ℕ
 used rs first name arity =
     option (position (λ (r : Relation). same (r .name) name && eqb (r .arity) arity) rs) none (λ i. some (first + i))
 
--- 7: no relation of this sheet has that name and arity; 9: an element is not below n; 10: the tuple stood in an earlier line
-unfoldable pub addTuple : List Relation → ℕ → ℕ → List Tuple → ℕ → List ℕ → List ℕ → Result (List Tuple)
-addTuple rs first n tuples at name xs = do
-  r ← given (used rs first name (length xs)) 7 at
-  _ ← refuseIf (not (all (λ x. ltb x n) xs)) 9 at
+-- 7: no relation of this sheet has that name and arity; 9: a number is not below n; 18: a name is no label; 10: the tuple, however
+-- its elements were written, stood in an earlier line
+unfoldable pub addTuple : List Relation → ℕ → ℕ → List Label → List Tuple → ℕ → List ℕ → List Element → Result (List Tuple)
+addTuple rs first n labels tuples at name es = do
+  r ← given (used rs first name (length es)) 7 at
+  _ ← refuseIf (not (all (isInRange n) es)) 9 at
+  xs ← given (elementsOf labels es) 18 at
   _ ← refuseIf (isAmong (record { relation = r; places = xs }) tuples) 10 at
   accepted (tuples ++ (record { relation = r; places = xs } ∷ []))
 
--- ---- the site: one `size` line, then `fact` lines of the `rel` relations
+-- ---- the site: one `size` line, then `label` lines, then `fact` lines of the `rel` relations
 
--- a site's lines so far, and a whole site
+-- a site's lines so far; a whole site; and that with its labels, which are no part of the case
 pub record SiteDraft : Type 0 where
   pub sized : Option ℕ
+  pub labels : List Label
   pub facts : List Tuple
 
 pub record Site : Type 0 where
   pub size : ℕ
   pub facts : List Tuple
 
+pub record Labelled : Type 0 where
+  pub site : Site
+  pub labels : List Label
+
 -- a `size` line: 3 if it is the second, 9 if n is 0 or more than the limit
 unfoldable pub addSize : CaseLimits → SiteDraft → ℕ → ℕ → Option ℕ → Result SiteDraft
-addSize L d at n none = refuseIf (not (isBetween 1 (L .elements) n)) 9 at >>= λ _. accepted (record { sized = some n; facts = d .facts })
+addSize L d at n none = refuseIf (not (isBetween 1 (L .elements) n)) 9 at >>= λ _. accepted (record { sized = some n; labels = d .labels; facts = d .facts })
 addSize L d at n (some m) = refused 3 at
 
--- a `fact` line: 3 before `size`
-unfoldable pub addFact : List Relation → SiteDraft → ℕ → List ℕ → List ℕ → Result SiteDraft
-addFact rels d at name xs = do
+-- whether an earlier label is that of the element, or has the name
+unfoldable pub isTaken : List Label → ℕ → List ℕ → Bool
+isTaken labels x name = any (λ (l : Label). eqb (l .element) x || same (l .name) name) labels
+
+-- a `label` line: 3 before `size` and after a `fact`; 9 if its element is a number not below n; 18 if that is a name that is no label,
+-- or if the element or the name has a `label` line already. (So a name there always ends in 18: its element has one, or it means none.)
+unfoldable pub addLabel : SiteDraft → ℕ → Element → List ℕ → Result SiteDraft
+addLabel d at e name = do
   n ← given (d .sized) 3 at
-  facts ← addTuple rels firstRel n (d .facts) at name xs
-  accepted (record { sized = d .sized; facts = facts })
+  _ ← refuseIf (not (isEmpty (d .facts))) 3 at
+  _ ← refuseIf (not (isInRange n e)) 9 at
+  x ← given (elementOf (d .labels) e) 18 at
+  _ ← refuseIf (isTaken (d .labels) x name) 18 at
+  accepted (record { sized = d .sized; labels = d .labels ++ (record { element = x; name = name } ∷ []); facts = d .facts })
+
+-- a `fact` line: 3 before `size`
+unfoldable pub addFact : List Relation → SiteDraft → ℕ → List ℕ → List Element → Result SiteDraft
+addFact rels d at name es = do
+  n ← given (d .sized) 3 at
+  facts ← addTuple rels firstRel n (d .labels) (d .facts) at name es
+  accepted (record { sized = d .sized; labels = d .labels; facts = facts })
 
 unfoldable pub addToSite : CaseLimits → List Relation → SiteDraft → ℕ → Entry → Result SiteDraft
 addToSite L rels d at (rel name arity) = refused 3 at
 addToSite L rels d at (choose name arity kind) = refused 3 at
 addToSite L rels d at (rule text) = refused 3 at
 addToSite L rels d at (size n) = addSize L d at n (d .sized)
+addToSite L rels d at (label x name) = addLabel d at x name
 addToSite L rels d at (fact name xs) = addFact rels d at name xs
 addToSite L rels d at (pick name xs) = refused 3 at
 addToSite L rels d at (step k) = refused 3 at
@@ -211,28 +280,29 @@ addToSite L rels d at (step k) = refused 3 at
 unfoldable pub siteLine : CaseLimits → List Relation → SiteDraft → Line → Result SiteDraft
 siteLine L rels d l = entryOf l >>= addToSite L rels d (l .at)
 
-unfoldable pub readSite : CaseLimits → List Relation → List ℕ → Result Site
+unfoldable pub readSite : CaseLimits → List Relation → List ℕ → Result Labelled
 readSite L rels text = do
-  d ← readText (siteLine L rels) (record { sized = none; facts = [] }) text
+  d ← readText (siteLine L rels) (record { sized = none; labels = []; facts = [] }) text
   n ← given (d .sized) 3 (length text)
-  accepted (record { size = n; facts = d .facts })
+  accepted (record { site = record { size = n; facts = d .facts }; labels = d .labels })
 
--- ---- picks: `pick` lines of the `choose` relations, the first of which has the number `first`, over n elements
+-- ---- picks: `pick` lines of the `choose` relations, the first of which has the number `first`, over n elements with the site's labels
 
-unfoldable pub addToPicks : List Relation → ℕ → ℕ → List Tuple → ℕ → Entry → Result (List Tuple)
-addToPicks chosen first n picks at (rel name arity) = refused 3 at
-addToPicks chosen first n picks at (choose name arity kind) = refused 3 at
-addToPicks chosen first n picks at (rule text) = refused 3 at
-addToPicks chosen first n picks at (size m) = refused 3 at
-addToPicks chosen first n picks at (fact name xs) = refused 3 at
-addToPicks chosen first n picks at (pick name xs) = addTuple chosen first n picks at name xs
-addToPicks chosen first n picks at (step k) = refused 3 at
+unfoldable pub addToPicks : List Relation → ℕ → ℕ → List Label → List Tuple → ℕ → Entry → Result (List Tuple)
+addToPicks chosen first n labels picks at (rel name arity) = refused 3 at
+addToPicks chosen first n labels picks at (choose name arity kind) = refused 3 at
+addToPicks chosen first n labels picks at (rule text) = refused 3 at
+addToPicks chosen first n labels picks at (size m) = refused 3 at
+addToPicks chosen first n labels picks at (label x name) = refused 3 at
+addToPicks chosen first n labels picks at (fact name xs) = refused 3 at
+addToPicks chosen first n labels picks at (pick name xs) = addTuple chosen first n labels picks at name xs
+addToPicks chosen first n labels picks at (step k) = refused 3 at
 
-unfoldable pub picksLine : List Relation → ℕ → ℕ → List Tuple → Line → Result (List Tuple)
-picksLine chosen first n picks l = entryOf l >>= addToPicks chosen first n picks (l .at)
+unfoldable pub picksLine : List Relation → ℕ → ℕ → List Label → List Tuple → Line → Result (List Tuple)
+picksLine chosen first n labels picks l = entryOf l >>= addToPicks chosen first n labels picks (l .at)
 
-unfoldable pub readPicks : List Relation → ℕ → ℕ → List ℕ → Result (List Tuple)
-readPicks chosen first n text = readText (picksLine chosen first n) [] text
+unfoldable pub readPicks : List Relation → ℕ → ℕ → List Label → List ℕ → Result (List Tuple)
+readPicks chosen first n labels text = readText (picksLine chosen first n labels) [] text
 
 -- ---- steps: `step` lines, each an action's number
 
@@ -241,6 +311,7 @@ addToSteps steps at (rel name arity) = refused 3 at
 addToSteps steps at (choose name arity kind) = refused 3 at
 addToSteps steps at (rule text) = refused 3 at
 addToSteps steps at (size n) = refused 3 at
+addToSteps steps at (label x name) = refused 3 at
 addToSteps steps at (fact name xs) = refused 3 at
 addToSteps steps at (pick name xs) = refused 3 at
 addToSteps steps at (step k) = accepted (steps ++ (k ∷ []))

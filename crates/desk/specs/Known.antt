@@ -1,5 +1,5 @@
--- A case that was read: what its signature says of its problem, and its problem by the table. Assumes nothing.
-use Prim.Native.Nat.{ℕ, _+_, _*_, _^_, _≤_}
+-- A case that was read: what its signature says of its problem, its labels, and its problem by the table. Assumes nothing.
+use Prim.Native.Nat.{ℕ, _*_, _^_, _≤_}
 use mathlib.Core.Path.{_≡_, refl, sym, subst, _∙_}
 use mathlib.Core.Bool.{false}
 use mathlib.Core.List.{List, _++_}
@@ -11,17 +11,23 @@ use Rattle.definitions.specs.Refusal.{Result, accepted}
 use Rattle.definitions.specs.Relations.{Tuple}
 use Rattle.definitions.specs.Truth.{Case}
 use Rattle.definitions.specs.Atoms.{problemOf, wordsFor}
-use Rattle.definitions.specs.Outcome.{readCase, stateLength, pickWords, Plan}
+use Rattle.definitions.specs.Outcome.{CaseRead, readFiled, stateLength, pickWords, Plan}
 use Rattle.definitions.specs.Desk.{printed}
+use Rattle.laws.specs.Grounded.{good}
+use Rattle.laws.specs.Labels.{LabelsFit}
 use Rattle.bits.specs.Table.{bit}
+use Rattle.tuples.specs.Labels.{LabelsAre}
 use Rattle.sheets.specs.Reading.{PicksRoom}
 use Rattle.sheets.specs.Opening.{elements-are}
 use Rattle.sheets.proofs.Turns.{picks-room}
 use Rattle.asking.specs.declared.Front.{Front}
-use Rattle.asking.specs.Fronts.{Fronted, Held, front-held}
+use Rattle.asking.specs.Fronts.{Filed, Held, filed-held}
 use Rattle.asking.specs.Known.{tabled, words-are, atoms-few}
+use Rattle.names.specs.declared.Signature.{Signature}
+use Rattle.reporting.specs.Report.{headOf}
 use Rattle.reporting.specs.Agrees.{Agrees}
-use Rattle.reporting.specs.Answers.{report-is}
+use Rattle.reporting.specs.Said.{said-so, spans}
+use Rattle.reporting.specs.Answers.{report-is, picks-short}
 use Rattle.reporting.specs.Words.{words-agree}
 use Rattle.reporting.specs.Opened.{its-relations, its-names}
 use Rattle.picks.specs.Picked.{chosen-numbers}
@@ -31,21 +37,29 @@ use Rattle.desk.specs.Replied.{Reportable, reportOf}
 abbrev pub own : CaseLimits
 own = early
 
--- the case that was read from the question and the site
-pub record Known (question site : List ℕ) (f : Front) (facts table : List ℕ) : Type 0 where
-  pub case : Case
-  pub is-read : readCase own question site ≡ accepted case
-  pub held : Held own question case f facts table
+-- the case that was read from the question and the site, and its labels
+pub record Known (question site : List ℕ) (f : Front) (labels facts table : List ℕ) : Type 0 where
+  pub filed : CaseRead
+  pub is-read : readFiled own question site ≡ accepted filed
+  pub held : Held own question (filed .case) f facts table
+  pub labelled : LabelsAre site labels (f .o .n) (filed .labels)
 
--- it was read from some site
-pub record IsKnown (question : List ℕ) (f : Front) (facts table : List ℕ) : Type 0 where
-  pub site : List ℕ
-  pub known : Known question site f facts table
+pub case-known : (question site : List ℕ) (f : Front) (labels facts table : List ℕ) → Filed own question site f labels facts table → f .fault ≡ 0 → Known question site f labels facts table
+case-known question site f labels facts table x z =
+    let (c, e, h, l) = filed-held own question site f labels facts table x z in
+    record { filed = c; is-read = e; held = h; labelled = l }
 
-pub case-known : (question site : List ℕ) (f : Front) (facts table : List ℕ) → Fronted own question site f facts table → f .fault ≡ 0 → Known question site f facts table
-case-known question site f facts table x z = let (c, e, h) = front-held own question site f facts table x z in record { case = c; is-read = e; held = h }
+head-as : (say : ℕ → List ℕ) (q : List ℕ) (g : Signature) (n atoms atoms′ actions actions′ bound bound′ : ℕ) (words rest : List ℕ) → atoms′ ≡ atoms → actions′ ≡ actions → bound′ ≡ bound
+    → headOf say q g n atoms actions bound words ++ rest ≡ headOf say q g n atoms′ actions′ bound′ words ++ rest
+head-as say q g n atoms atoms′ actions actions′ bound bound′ words rest a b c = rw (a, b, c) refl
 
-module _ (q site : List ℕ) (f : Front) (facts table : List ℕ) (K : Known q site f facts table) where
+module _ (q site : List ℕ) (f : Front) (labels facts table : List ℕ) (K : Known q site f labels facts table) where
+  abbrev c : Case
+  c = K .filed .case
+
+  pub labels-fit : LabelsFit (c .site .size) (K .filed .labels)
+  labels-fit = subst (λ (n : ℕ). LabelsFit n (K .filed .labels)) (K .held .holds .size) (K .labelled .fit)
+
   -- 256 words are enough for the picks of four relations of three places over 16 elements
   pub picks-roomy : (room : ℕ) → 256 ≤ room → PicksRoom (f .o .sig) (f .o .n) room
   unfolding wordsFor
@@ -54,35 +68,43 @@ module _ (q site : List ℕ) (f : Front) (facts table : List ℕ) (K : Known q s
   -- ---- the report
 
   -- words that begin with those of picks are reported as those picks
-  pub front-agrees : (F : List Tuple) (words rest : List ℕ) → words ≡ pickWords (problemOf (K .case)) F ++ rest → Agrees (problemOf (K .case)) F q (f .o .sig) (f .o .n) words
+  pub front-agrees : (F : List Tuple) (words rest : List ℕ) → words ≡ pickWords (problemOf c) F ++ rest → Agrees (problemOf c) F q (f .o .sig) (f .o .n) words
   front-agrees F words rest e =
       let h = K .held .holds in
-      subst (Agrees (problemOf (K .case)) F q (f .o .sig) (f .o .n)) (sym e)
-      (words-agree (problemOf (K .case)) F q (f .o .sig) (f .o .n) (sym (elements-are q (K .case) (f .o) (bit facts) h)) (its-relations q (f .o .sig) (K .case) (h .rels) (h .chosen))
-      (chosen-numbers q (K .case) (K .held .accepts) (f .o) (bit facts) h) rest)
+      subst (Agrees (problemOf c) F q (f .o .sig) (f .o .n)) (sym e)
+      (words-agree (problemOf c) F q (f .o .sig) (f .o .n) (sym (elements-are q c (f .o) (bit facts) h)) (its-relations q (f .o .sig) c (h .rels) (h .chosen))
+      (chosen-numbers q c (K .held .accepts) (f .o) (bit facts) h) rest)
 
   -- the report of a plan, by the tables of its problem
-  pub report-as : (F : List Tuple) (ks words : List ℕ) → Agrees (problemOf (K .case)) F q (f .o .sig) (f .o .n) words → f .m .over ≡ false
-      → (x : Result Plan) → x ≡ accepted (record { problem = problemOf (K .case); picks = F; steps = ks }) → printed x ≡ reportOf q f words ks
+  pub report-as : (F : List Tuple) (ks words : List ℕ) → Agrees (problemOf c) F q (f .o .sig) (f .o .n) words → f .m .over ≡ false
+      → (x : Result Plan) → x ≡ accepted (record { labels = K .filed .labels; problem = problemOf c; picks = F; steps = ks }) → printed x ≡ reportOf q site f labels words ks
   unfolding reportOf
   report-as F ks words A v x e =
-      let t = tabled own (K .case) (f .m) table (K .held .grounded) v in
-      report-is (problemOf (K .case)) F ks q (f .o .sig) (f .o .n) words A x e ∙ rw (t .atoms-are, t .actions-are, t .bound-is) refl
+      let t = tabled own c (f .m) table (K .held .grounded) v in
+      let s = said-so site labels (f .o .n) (K .filed .labels) (K .labelled) in
+      report-is (K .filed .labels) (problemOf c) F ks _ q (f .o .sig) (f .o .n) words s A x e ∙ head-as _ q (f .o .sig) (f .o .n) _ _ _ _ _ _ words _ (t .atoms-are) (t .actions-are) (t .bound-is)
 
-  pub reportable : (room : ℕ) (steps : List ℕ) → 256 ≤ room → length steps ≤ 8192 → Reportable q f room steps
-  reportable room steps h l = record {
-    sound = K .held .holds .sound;
-    some-elements = K .held .holds .some-elements;
-    few-elements = K .held .within;
-    named = its-names q (f .o .sig) (K .case) (K .held .holds .rels) (K .held .holds .chosen) (K .held .accepts);
-    words-fit = omega (arith, K .held .holds .sound .chosen-le);
-    few-steps = l;
-  }
+  pub reportable : (F : List Tuple) (words steps : List ℕ) → Agrees (problemOf c) F q (f .o .sig) (f .o .n) words → 7 * length F ≤ 16384 → 256 ≤ length words → length steps ≤ 8192
+      → Reportable q site f labels words steps
+  reportable F words steps A few h l =
+      let g = K .held .holds in
+      let named = its-names q (f .o .sig) c (g .rels) (g .chosen) (K .held .accepts) in
+      let s = said-so site labels (f .o .n) (K .filed .labels) (K .labelled) in
+      record {
+        sound = g .sound;
+        spans = spans site labels (f .o .n) (K .filed .labels) (K .labelled) (g .few-elements);
+        some-elements = g .some-elements;
+        few-elements = K .held .within;
+        named = named;
+        words-fit = omega (arith, g .sound .chosen-le);
+        few-picks = omega (arith, picks-short (K .filed .labels) (problemOf c) F q (f .o .sig) (f .o .n) words A (K .labelled .fit) (g .sound) (g .some-elements) (K .held .within) named (good c (K .held .accepts)) _ s);
+        few-steps = l;
+      }
 
   -- ---- its problem: the program's state has room for the atoms
 
   pub few-atoms : f .m .over ≡ false → f .m .atoms ≤ 65536
-  few-atoms v = atoms-few own (K .case) (f .m) table (K .held .grounded) v
+  few-atoms v = atoms-few own c (f .m) table (K .held .grounded) v
 
-  pub state-fits : f .m .over ≡ false → stateLength (problemOf (K .case)) ≤ 1024
-  state-fits v = let e = words-are own (K .case) (f .m) table (K .held .grounded) v in let h = few-atoms v in omega arith
+  pub state-fits : f .m .over ≡ false → stateLength (problemOf c) ≤ 1024
+  state-fits v = let e = words-are own c (f .m) table (K .held .grounded) v in let h = few-atoms v in omega arith

@@ -14,7 +14,8 @@ use Rattle.definitions.specs.Desk.{printLine, stepLine, printed}
 use Rattle.names.specs.Signatures.{Sound}
 use Rattle.asking.specs.declared.Front.{Front}
 use Rattle.printing.specs.Printed.{Prints, print-is, Left, begin, recut, left-length, room-for, next, finish}
-use Rattle.reporting.specs.Report.{nameAt, headOf}
+use Rattle.printing.specs.Lines.{Spans, saidBy}
+use Rattle.reporting.specs.Report.{nameAt, picks, headOf}
 use Rattle.reporting.specs.Short.{no-short, ok-short, steps-short}
 use Rattle.reporting.specs.Answers.{head-short}
 
@@ -47,42 +48,45 @@ line-fits k place = no-short k place
 
 -- ---- a report
 
-unfoldable pub reportOf : List ℕ → Front → (words steps : List ℕ) → List ℕ
-reportOf q f words steps =
-    headOf q (f .o .sig) (f .o .n) (f .m .atoms) (f .m .actions) (f .m .bound) words ++ (flatMap stepLine steps ++ printLine (bytes "ok" ∷ decimal (length steps) ∷ []))
+unfoldable pub reportOf : (q site : List ℕ) → Front → (labels words steps : List ℕ) → List ℕ
+reportOf q site f labels words steps =
+    headOf (saidBy site labels) q (f .o .sig) (f .o .n) (f .m .atoms) (f .m .actions) (f .m .bound) words ++ (flatMap stepLine steps ++ printLine (bytes "ok" ∷ decimal (length steps) ∷ []))
 
--- what the report asks: sound relations with short names, few elements, words for every `choose`, and few steps
-pub record Reportable (q : List ℕ) (f : Front) (room : ℕ) (steps : List ℕ) : Type 0 where
+-- what the report asks: sound relations with short names, few elements, their labels in the site's text, words for every `choose`, few
+-- picks and few steps
+pub record Reportable (q site : List ℕ) (f : Front) (labels words steps : List ℕ) : Type 0 where
   pub sound : Sound q (f .o .sig)
+  pub spans : Spans site labels (f .o .n)
   pub some-elements : 1 ≤ f .o .n
   pub few-elements : f .o .n ≤ 16
   pub named : (j : ℕ) → j < f .o .sig .chosen → length (nameAt q (f .o .sig) (f .o .sig .rels + j)) ≤ 12
-  pub words-fit : 64 * f .o .sig .chosen ≤ room
+  pub words-fit : 64 * f .o .sig .chosen ≤ length words
+  pub few-picks : length (picks (saidBy site labels) q (f .o .sig) (f .o .n) words) ≤ 57 * 2340
   pub few-steps : length steps ≤ 8192
 
-module _ (q : List ℕ) (f : Front) (k : ℕ) (words steps : List ℕ) (R : Reportable q f k steps) where
+module _ (q site : List ℕ) (f : Front) (labels words steps : List ℕ) (R : Reportable q site f labels words steps) where
   abbrev head : List ℕ
-  head = headOf q (f .o .sig) (f .o .n) (f .m .atoms) (f .m .actions) (f .m .bound) words
+  head = headOf (saidBy site labels) q (f .o .sig) (f .o .n) (f .m .atoms) (f .m .actions) (f .m .bound) words
 
   abbrev okLine : List ℕ
   okLine = printLine (bytes "ok" ∷ decimal (length steps) ∷ [])
 
-  head-long : length head ≤ 442618
-  head-long = omega (arith, head-short q (f .o .sig) (f .o .n) (f .m .atoms) (f .m .actions) (f .m .bound) words (R .sound) (R .some-elements) (R .few-elements) (R .named))
+  head-long : length head ≤ 133630
+  head-long = omega (arith, head-short (saidBy site labels) q (f .o .sig) (f .o .n) (f .m .atoms) (f .m .actions) (f .m .bound) words (R .sound) (R .named), R .few-picks)
 
   pub head-fits : length head ≤ 573952
   head-fits = omega (arith, head-long)
 
   -- printed part by part: once the head is, the steps are left, and then their count
   module _ (u : (i : ℕ) → getD steps i 0 < 2 ^ 32) (old new : List ℕ) (place : ℕ) (room : 573952 ≤ length old) (headed : Prints head old 0 new place) where
-    report-fits : length (reportOf q f words steps) ≤ length old
+    report-fits : length (reportOf q site f labels words steps) ≤ length old
     unfolding reportOf
     report-fits =
         let c = length-append head (flatMap stepLine steps ++ okLine) in
         let d = length-append (flatMap stepLine steps) okLine in
         omega (arith, head-long, ok-short (length steps), R .few-steps, steps-short steps u)
 
-    steps-left : Left (reportOf q f words steps) old 0 (flatMap stepLine (take (length steps) steps) ++ okLine) new place
+    steps-left : Left (reportOf q site f labels words steps) old 0 (flatMap stepLine (take (length steps) steps) ++ okLine) new place
     unfolding reportOf
     steps-left =
         let e : flatMap stepLine steps ++ okLine ≡ flatMap stepLine (take (length steps) steps) ++ okLine = rw (take-length steps) refl in
@@ -92,7 +96,7 @@ module _ (q : List ℕ) (f : Front) (k : ℕ) (words steps : List ℕ) (R : Repo
     steps-room = room-for (flatMap stepLine (take (length steps) steps)) okLine steps-left
 
     module _ (more : List ℕ) (after : ℕ) (listed : Prints (flatMap stepLine (take (length steps) steps)) new place more after) where
-      count-left : Left (reportOf q f words steps) old 0 okLine more after
+      count-left : Left (reportOf q site f labels words steps) old 0 okLine more after
       count-left = next (flatMap stepLine (take (length steps) steps)) okLine steps-left listed
 
       -- for any number, so that only the text decides which one is printed
@@ -101,5 +105,5 @@ module _ (q : List ℕ) (f : Front) (k : ℕ) (words steps : List ℕ) (R : Repo
           let e = ap (λ (ks : List ℕ). length (flatMap stepLine ks)) (take-length steps) in
           omega (arith, ok-short k, head-long, headed .place, R .few-steps, steps-short steps u, listed .place, left-length count-left)
 
-      pub reported : (last : List ℕ) (r : ℕ) → Prints okLine more after last r → Replies (reportOf q f words steps) old last r
-      reported last r counted = replies (reportOf q f words steps) old last r report-fits (finish okLine count-left counted)
+      pub reported : (last : List ℕ) (r : ℕ) → Prints okLine more after last r → Replies (reportOf q site f labels words steps) old last r
+      reported last r counted = replies (reportOf q site f labels words steps) old last r report-fits (finish okLine count-left counted)

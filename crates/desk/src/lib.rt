@@ -9,13 +9,14 @@ ghost use Rattle.definitions.specs.Relations.{Tuple};
 ghost use Rattle.definitions.specs.Outcome.{written, asText, takeSteps, plan};
 ghost use Rattle.definitions.specs.Desk.{printed, checkedPlan, desk as «desk-of»};
 ghost use Rattle.desk.specs.Replied.{Replies, Reportable, reportOf};
-ghost use Rattle.desk.specs.Known.{Known, IsKnown};
+ghost use Rattle.desk.specs.Known.{Known};
 ghost use Rattle.desk.specs.Planned.{Picked, IsPicked};
 ghost use Rattle.desk.specs.Whole.{Front};
 use runs::End;
 use sheets::Answer;
 
-// The most bytes that a reply has: the picks of four relations, 8,192 steps, and the other lines.
+// Bytes for every reply: an input has at most 2,340 picks, whose lines have 57 bytes at the most, there are at most 8,192 steps, whose
+// lines have 16, and the other lines have less than 512 together.
 pub const ROOM: usize = 573952;
 
 // The most elements, atoms and actions of a case that the program takes.
@@ -41,15 +42,34 @@ fn refuse(out: &mut [u8], number: u32, place: usize) -> usize
 }
 
 // The report of a plan: the sizes, counts and picks, a line for each step, and how many steps there are.
-fn report(out: &mut [u8], question: &[u8], f: asking::Front, words: &[u64], steps: &[u32]) -> usize
-    requires { ⌜ Reportable (now question) f (length (now words)) (now steps) × (573952 ≤ length (now out)) ⌝ }
-    ensures { λ r. ⌜ Replies (reportOf (now (question .entry)) f (now (words .entry)) (now (steps .entry))) (now (out .entry)) (now (out .exit)) r ⌝ }
+fn report(
+    out: &mut [u8],
+    question: &[u8],
+    site: &[u8],
+    labels: &[usize],
+    f: asking::Front,
+    words: &[u64],
+    steps: &[u32],
+) -> usize
+    requires { ⌜ Reportable (now question) (now site) f (now labels) (now words) (now steps) × (573952 ≤ length (now out)) ⌝ }
+    ensures { λ r. ⌜ Replies (reportOf (now (question .entry)) (now (site .entry)) f (now (labels .entry)) (now (words .entry)) (now (steps .entry))) (now (out .entry)) (now (out .exit)) r ⌝ }
 {
     let o = f.o;
     let m = f.m;
     let sig = o.sig;
     let count = steps.len();
-    let headed = reporting::head(out, question, sig, o.n, m.atoms, m.actions, m.bound, words);
+    let headed = reporting::head(
+        out,
+        question,
+        site,
+        labels,
+        sig,
+        o.n,
+        m.atoms,
+        m.actions,
+        m.bound,
+        words,
+    );
     let listed = printing::step_lines(out, headed, steps, count);
     printing::ok_line(out, listed, count)
 }
@@ -58,14 +78,16 @@ fn report(out: &mut [u8], question: &[u8], f: asking::Front, words: &[u64], step
 fn check_case(
     out: &mut [u8],
     question: &[u8],
+    site: &[u8],
+    labels: &[usize],
     f: asking::Front,
     facts: &[u64],
     table: &[usize],
     steps: &[u32],
 ) -> usize
-    requires { ⌜ IsKnown (now question) f (now facts) (now table) × (length (now steps) ≤ 8192) × (573952 ≤ length (now out)) ⌝ }
-    ensures { λ r. ⌜ ((site text : List ℕ) → Known (now (question .entry)) site f (now (facts .entry)) (now (table .entry)) → takeSteps (asText text) ≡ accepted (now (steps .entry))
-        → Replies (printed (checkedPlan (now (question .entry)) site text)) (now (out .entry)) (now (out .exit)) r) ⌝ }
+    requires { ⌜ Known (now question) (now site) f (now labels) (now facts) (now table) × (length (now steps) ≤ 2340) × (573952 ≤ length (now out)) ⌝ }
+    ensures { λ r. ⌜ ((text : List ℕ) → takeSteps (asText text) ≡ accepted (now (steps .entry))
+        → Replies (printed (checkedPlan (now (question .entry)) (now (site .entry)) text)) (now (out .entry)) (now (out .exit)) r) ⌝ }
 {
     let m = f.m;
     if m.over {
@@ -78,7 +100,7 @@ fn check_case(
         End::Done(_) => {
             let mut picks = [0u64; PICKS];
             picks::copy_picks(table, &state[..words], &mut picks);
-            report(out, question, f, &picks, steps)
+            report(out, question, site, labels, f, &picks, steps)
         }
         End::NoAction(i) => refuse(out, 13, i),
         End::NotNow(i) => refuse(out, 14, i),
@@ -91,14 +113,16 @@ fn check(out: &mut [u8], question: &[u8], site: &[u8], text: &[u8]) -> usize
     requires { ⌜ (length (now text) ≤ 16384) × (573952 ≤ length (now out)) ⌝ }
     ensures { λ r. ⌜ Replies (printed (checkedPlan (now (question .entry)) (now (site .entry)) (now (text .entry)))) (now (out .entry)) (now (out .exit)) r ⌝ }
 {
+    let mut labels = [0usize; sheets::LABELS];
     let mut facts = [0u64; FACTS];
     let mut table = [0usize; ground::TABLE];
-    let f = asking::open_case(
+    let f = asking::open_filed(
         question,
         site,
         ELEMENTS,
         ATOMS,
         ACTIONS,
+        &mut labels,
         &mut facts,
         &mut table,
     );
@@ -109,7 +133,16 @@ fn check(out: &mut [u8], question: &[u8], site: &[u8], text: &[u8]) -> usize
     let a = sheets::steps(text, &mut steps);
     match a {
         Answer::Refused(k, place) => refuse(out, k, place),
-        Answer::Done(count) => check_case(out, question, f, &facts, &table, &steps[..count]),
+        Answer::Done(count) => check_case(
+            out,
+            question,
+            site,
+            &labels,
+            f,
+            &facts,
+            &table,
+            &steps[..count],
+        ),
     }
 }
 
@@ -117,14 +150,17 @@ fn check(out: &mut [u8], question: &[u8], site: &[u8], text: &[u8]) -> usize
 fn build_case(
     out: &mut [u8],
     question: &[u8],
+    site: &[u8],
+    labels: &[usize],
     f: asking::Front,
     facts: &[u64],
     table: &[usize],
     picks: &[u64],
 ) -> usize
-    requires { ⌜ IsPicked (now question) f (now facts) (now table) (now picks) × (256 ≤ length (now picks)) × (573952 ≤ length (now out)) ⌝ }
-    ensures { λ r. ⌜ ((site text : List ℕ) (F : List Tuple) (k : Known (now (question .entry)) site f (now (facts .entry)) (now (table .entry))) → Picked (now (question .entry)) (k .case) (f .o) text F (now (picks .entry))
-        → Replies (printed (plan early (now (question .entry)) site (asText text) 1024 8192)) (now (out .entry)) (now (out .exit)) r) ⌝ }
+    requires { ⌜ IsPicked (now question) (now site) f (now labels) (now facts) (now table) (now picks) × (256 ≤ length (now picks)) × (573952 ≤ length (now out)) ⌝ }
+    ensures { λ r. ⌜ ((text : List ℕ) (F : List Tuple) (k : Known (now (question .entry)) (now (site .entry)) f (now (labels .entry)) (now (facts .entry)) (now (table .entry)))
+        → Picked (now (question .entry)) (k .filed) (f .o) text F (now (picks .entry))
+        → Replies (printed (plan early (now (question .entry)) (now (site .entry)) (asText text) 1024 8192)) (now (out .entry)) (now (out .exit)) r) ⌝ }
 {
     let m = f.m;
     if m.over {
@@ -137,7 +173,9 @@ fn build_case(
     let mut steps = [0u32; 8192];
     let a = plans::start_and_build(&mut state, &mut steps, table, facts, m.atoms, picks);
     match a {
-        plans::Answer::Steps(count) => report(out, question, f, picks, &steps[..count]),
+        plans::Answer::Steps(count) => {
+            report(out, question, site, labels, f, picks, &steps[..count])
+        }
         plans::Answer::OtherKind(i) => refuse(out, 16, i),
         plans::Answer::RuleFalse => refuse(out, 17, 0),
     }
@@ -145,17 +183,19 @@ fn build_case(
 
 // From any other third sheet, which has picks, steps are built.
 fn build(out: &mut [u8], question: &[u8], site: &[u8], text: &[u8]) -> usize
-    requires { ⌜ 573952 ≤ length (now out) ⌝ }
+    requires { ⌜ (length (now text) ≤ 16384) × (573952 ≤ length (now out)) ⌝ }
     ensures { λ r. ⌜ Replies (printed (plan early (now (question .entry)) (now (site .entry)) (asText (now (text .entry))) 1024 8192)) (now (out .entry)) (now (out .exit)) r ⌝ }
 {
+    let mut labels = [0usize; sheets::LABELS];
     let mut facts = [0u64; FACTS];
     let mut table = [0usize; ground::TABLE];
-    let f = asking::open_case(
+    let f = asking::open_filed(
         question,
         site,
         ELEMENTS,
         ATOMS,
         ACTIONS,
+        &mut labels,
         &mut facts,
         &mut table,
     );
@@ -165,10 +205,10 @@ fn build(out: &mut [u8], question: &[u8], site: &[u8], text: &[u8]) -> usize
     let o = f.o;
     let sig = o.sig;
     let mut picks = [0u64; PICKS];
-    let a = sheets::picks(question, sig, text, o.n, &mut picks);
+    let a = sheets::picks(question, sig, text, o.n, site, &labels, &mut picks);
     match a {
         Answer::Refused(k, place) => refuse(out, k, place),
-        Answer::Done(_) => build_case(out, question, f, &facts, &table, &picks),
+        Answer::Done(_) => build_case(out, question, site, &labels, f, &facts, &table, &picks),
     }
 }
 

@@ -6,11 +6,15 @@ use mathlib.Core.List.{List}
 use native.Mathlib.Omega.{arith}
 use lib.ListN.{length}
 use Rattle.definitions.specs.Limits.{usual}
-use Rattle.definitions.specs.Sheets.{readPicks}
+use Rattle.definitions.specs.Refusal.{accepted}
+use Rattle.definitions.specs.Sheets.{Label, readPicks}
+use Rattle.definitions.specs.Truth.{Case}
 use Rattle.definitions.specs.Atoms.{wordsFor}
-use Rattle.definitions.specs.Outcome.{Given, asText, asNumbers, readCase}
+use Rattle.definitions.specs.Outcome.{CaseRead as Filed, Given, asText, asNumbers, readFiled, readCase}
 use Rattle.definitions.specs.Judgement.{judge}
 use Rattle.laws.specs.Asked as Order
+use Rattle.laws.specs.Labels.{LabelsFit}
+use Rattle.tuples.specs.Labels.{LabelsAre}
 use Rattle.laws.specs.Reader.{Accepted, gives-if, case-fits}
 use Rattle.bits.specs.Table.{bit}
 use Rattle.names.specs.Signatures.{chosenOf}
@@ -19,7 +23,7 @@ use Rattle.sheets.specs.declared.Answer.the-variants.{Done, Refused as Bad}
 use Rattle.sheets.specs.Reading.{answered, PicksIn, PicksRoom}
 use Rattle.sheets.proofs.Numbers.{sheet-refused, sheet-read}
 use Rattle.sheets.specs.declared.Opened.{Opened}
-use Rattle.sheets.specs.Opening.{CaseRead, case-refused, case-read}
+use Rattle.sheets.specs.Opening.{CaseRead, case-refused, case-read, FiledRead, filed-read}
 use Rattle.asking.specs.declared.Reply.{Reply}
 use Rattle.asking.specs.declared.Reply.the-variants.{Refused}
 use Rattle.asking.specs.Elements.{picks-enough}
@@ -37,7 +41,10 @@ module _ (question site : List ℕ) (o : Opened) (facts : ℕ → Bool) (read : 
     pub accepted-in : AcceptedIn question o facts
     accepted-in =
         let (c, e, h) = case-read usual question site o facts read z in
-        record { case = c; accepted-case = gives-if Accepted (readCase usual question site) c e (case-fits usual (omega arith) question site); holds = h }
+        record { case = c; accepted-case = accepts c e; holds = h }
+      where
+        accepts : (c : Case) → readCase usual question site ≡ accepted c → Accepted c
+        accepts c e = gives-if Accepted (readCase usual question site) c e (case-fits usual (omega arith) question site)
 
     -- words for the picks of every text
     pub picks-asked : (most room : ℕ) → o .n ≤ most → 4 * wordsFor (most ^ 3) ≤ room → PicksRoom (o .sig) (o .n) room
@@ -47,28 +54,36 @@ module _ (question site : List ℕ) (o : Opened) (facts : ℕ → Bool) (read : 
     pub few-elements : o .n ≤ 64
     few-elements = let (c, e, h) = case-read usual question site o facts read z in h .few-elements
 
-    -- picks as a text
-    module _ (text : List ℕ) (a : Answer) (q : a ≡ answered length (readPicks (chosenOf question (o .sig)) (5 + o .sig .rels) (o .n) text)) where
-      pub call-text-refused : (k place : ℕ) → a ≡ Bad k place → resultOf (Refused k place) ≡ judge usual question site (asText text)
-      unfolding resultOf
-      call-text-refused k place w =
-          let (c, e, h) = case-read usual question site o facts read z in
-          let A = gives-if Accepted (readCase usual question site) c e (case-fits usual (omega arith) question site) in
-          let t = sym (text-read question c A o facts h text) ∙ sheet-refused length _ a k place q w in
-          ends usual question site (asText text) k place (Order.third-refused usual question site _ _ _ _ c e k place t) (Refused k place) refl
-
-      pub call-text : (k : ℕ) → a ≡ Done k → (words : List ℕ) (room : ℕ) → length words ≡ room → PicksRoom (o .sig) (o .n) room → PicksIn (o .sig) (o .n) (readPicks (chosenOf question (o .sig)) (5 + o .sig .rels) (o .n) text) (bit words)
-          → (r : Reply) → FromWords question o facts words r → resultOf r ≡ judge usual question site (asText text)
-      call-text k w words room l enough held r b =
-          let (c, e, h) = case-read usual question site o facts read z in
-          let A = gives-if Accepted (readCase usual question site) c e (case-fits usual (omega arith) question site) in
-          let (F, f, _) = sheet-read length _ a k q w in
-          let t = sym (text-read question c A o facts h text) ∙ f in
-          b .judges site (asText text) c e h A F F (text-handed question c A o facts h text F t words (b .fit) (subst (λ (k : ℕ). PicksRoom (o .sig) (o .n) k) (sym l) enough) held)
-
     -- picks as words
     pub call-lent : (words : List ℕ) (r : Reply) → FromWords question o facts words r → resultOf r ≡ judge usual question site (asNumbers words)
     call-lent words r b =
         let (c, e, h) = case-read usual question site o facts read z in
         let A = gives-if Accepted (readCase usual question site) c e (case-fits usual (omega arith) question site) in
-        b .judges site (asNumbers words) c e h A _ _ (lent-handed c A words (b .fit))
+        let (labels, f) = Order.case-filed usual question site c e in
+        b .judges site (asNumbers words) (record { case = c; labels = labels }) f h A _ _ (lent-handed c A labels words (b .fit))
+
+-- picks as a text, by the labels
+module _ (question site : List ℕ) (o : Opened) (labels : List ℕ) (facts : ℕ → Bool) (filed : FiledRead question site (readFiled usual question site) o labels facts) (z : o .fault ≡ 0) where
+  pub labels-said : (ls : List Label) × LabelsAre site labels (o .n) ls
+  labels-said = let (x, e, h, l) = filed-read usual question site o labels facts filed z in (x .labels, l)
+
+  accepts : (x : Filed) → readFiled usual question site ≡ accepted x → Accepted (x .case)
+  accepts x e = gives-if Accepted (readCase usual question site) (x .case) (Order.filed-case usual question site x e) (case-fits usual (omega arith) question site)
+
+  module _ (text : List ℕ) (a : Answer) (words : List ℕ)
+      (read : (ls : List Label) → LabelsAre site labels (o .n) ls → (a ≡ answered length (readPicks (chosenOf question (o .sig)) (5 + o .sig .rels) (o .n) ls text)) × PicksIn (o .sig) (o .n) (readPicks (chosenOf question (o .sig)) (5 + o .sig .rels) (o .n) ls text) (bit words)) where
+    pub call-text-refused : (k place : ℕ) → a ≡ Bad k place → resultOf (Refused k place) ≡ judge usual question site (asText text)
+    unfolding resultOf
+    call-text-refused k place w =
+        let (x, e, h, l) = filed-read usual question site o labels facts filed z in
+        let t = sym (text-read question (x .case) (accepts x e) o facts h (x .labels) text) ∙ sheet-refused length _ a k place (read (x .labels) l .0) w in
+        ends usual question site (asText text) k place (Order.third-refused usual question site _ _ _ _ x e k place t) (Refused k place) refl
+
+    pub call-text : (k : ℕ) → a ≡ Done k → (room : ℕ) → length words ≡ room → PicksRoom (o .sig) (o .n) room → (r : Reply) → FromWords question o facts words r → resultOf r ≡ judge usual question site (asText text)
+    call-text k w room m enough r b =
+        let (x, e, h, l) = filed-read usual question site o labels facts filed z in
+        let (F, f, _) = sheet-read length _ a k (read (x .labels) l .0) w in
+        let t = sym (text-read question (x .case) (accepts x e) o facts h (x .labels) text) ∙ f in
+        let fit = subst (λ (n : ℕ). LabelsFit n (x .labels)) (h .size) (l .fit) in
+        b .judges site (asText text) x e h (accepts x e) F F
+        (text-handed question (x .case) (accepts x e) o facts h (x .labels) fit text F t words (b .fit) (subst (λ (n : ℕ). PicksRoom (o .sig) (o .n) n) (sym m) enough) (read (x .labels) l .1))

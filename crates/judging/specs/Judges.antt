@@ -16,7 +16,7 @@ use Rattle.definitions.specs.Truth.{Case, arePicks, ruleIsTrue, firstOfOtherKin
 use Rattle.definitions.specs.Atoms.{Problem, problemOf, problemWith, relationAt, atoms}
 use Rattle.definitions.specs.Actions.{actions}
 use Rattle.definitions.specs.Built.{chosenNumbers}
-use Rattle.definitions.specs.Outcome.{readCase, ground, Ready, asked, nothing, Given, asText, picksRoom, textPicks, takePicks, picksLength, spareWord, kindRefusal, satisfying}
+use Rattle.definitions.specs.Outcome.{CaseRead, readFiled, ground, Ready, asked, nothing, Given, asText, picksRoom, textPicks, takePicks, picksLength, spareWord, kindRefusal, satisfying}
 use Rattle.definitions.specs.Judgement.{judge}
 use Rattle.laws.specs.Asked as Order
 use Rattle.bits.specs.Table.{bit, Words}
@@ -38,7 +38,7 @@ use Rattle.picks.specs.KindLaws.{kinds-are}
 use Rattle.lines.specs.Lined.{Lined}
 use Rattle.lines.specs.Numbers.{LinesOf}
 use Rattle.sheets.specs.declared.Opened.{Opened}
-use Rattle.sheets.specs.Opening.{Holds, CaseRead}
+use Rattle.sheets.specs.Opening.{Holds, FiledRead}
 use Rattle.asking.specs.declared.Reply.{Reply}
 use Rattle.asking.specs.declared.Reply.the-variants.{Refused, Accepted as Yes}
 use Rattle.asking.specs.Replies.{resultOf}
@@ -77,12 +77,12 @@ pub record Asks (c : Case) (F : List Tuple) (n : ℕ) (g : Relations) (t : Nodes
 -- what is promised of judging words: they have 64 bits each, and whatever case and picks they are of, this is answered
 pub record FromWords (question : List ℕ) (o : Opened) (facts : ℕ → Bool) (words : List ℕ) (r : Reply) : Type 0 where
   pub fit : Words words
-  pub judges : (site : List ℕ) (picks : Given) (c : Case) → readCase usual question site ≡ accepted c → Holds question c o facts → Accepted c
-      → (given F : List Tuple) → Handed c picks words given F → resultOf r ≡ judge usual question site picks
+  pub judges : (site : List ℕ) (picks : Given) (x : CaseRead) → readFiled usual question site ≡ accepted x → Holds question (x .case) o facts → Accepted (x .case)
+      → (given F : List Tuple) → Handed (x .case) (x .labels) picks words given F → resultOf r ≡ judge usual question site picks
 
--- and of picks as a text, whatever site was read
-abbrev pub FromText : List ℕ → Opened → (ℕ → Bool) → List ℕ → Reply → Type 0
-FromText question o facts text r = (site : List ℕ) → CaseRead question (readCase usual question site) o facts → o .fault ≡ 0 → resultOf r ≡ judge usual question site (asText text)
+-- and of picks as a text, by the labels that were read
+abbrev pub FromText : (question site : List ℕ) → Opened → List ℕ → (ℕ → Bool) → List ℕ → Reply → Type 0
+FromText question site o labels facts text r = FiledRead question site (readFiled usual question site) o labels facts → o .fault ≡ 0 → resultOf r ≡ judge usual question site (asText text)
 
 -- ---- lines of a case
 pub lines-of : (c : Case) (n : ℕ) (g : Relations) (t : Nodes) (w : List ℕ) → 0 < n → n ≤ 64 → Fits t → Inputs (problemOf c) n g t → Lined n g t w → LinesOf c n w
@@ -118,7 +118,7 @@ some-relations c = omega arith
 -- ---- the places where judging can end
 module _ (L : CaseLimits) (question site : List ℕ) (picks : Given) where
   abbrev opening : Result (Ready (List Tuple))
-  opening = asked L question site (λ c. textPicks c picks) nothing nothing (λ p. picksRoom p picks)
+  opening = asked L question site (λ x. textPicks (x .case) (x .labels) picks) nothing nothing (λ p. picksRoom p picks)
 
   -- refused before the picks are taken
   pub ends : (k place : ℕ) → opening ≡ refused k place → (r : Reply) → resultOf r ≡ refused k place → resultOf r ≡ judge L question site picks
@@ -126,7 +126,10 @@ module _ (L : CaseLimits) (question site : List ℕ) (picks : Given) where
   ends k place e r q = q ∙ rw e refl
 
   -- from words, by how the case is laid out
-  module _ (c : Case) (read : readCase L question site ≡ accepted c) (words : List ℕ) (given F : List Tuple) (handed : Handed c picks words given F) (m : Made) (l : Laid (L .atoms) (L .actions) (problemOf c) m) where
+  module _ (x : CaseRead) (read : readFiled L question site ≡ accepted x) (words : List ℕ) (given F : List Tuple) (handed : Handed (x .case) (x .labels) picks words given F) (m : Made) (l : Laid (L .atoms) (L .actions) (problemOf (x .case)) m) where
+    abbrev c : Case
+    c = x .case
+
     abbrev p : Problem
     p = problemOf c
 
@@ -134,7 +137,7 @@ module _ (L : CaseLimits) (question site : List ℕ) (picks : Given) where
     unfolding resultOf ground refuseIf _>>=_
     ends-over o =
         let q : (ltb (L .atoms) (atoms p) || ltb (L .actions) (actions p)) ≡ true = sym (l .over-is) ∙ o in
-        ends 11 0 (Order.limits-refused L question site _ _ _ _ c read given (handed .is-read) (Order.untested c) 11 0 (rw q refl)) (Refused 11 0) refl
+        ends 11 0 (Order.limits-refused L question site _ _ _ _ x read given (handed .is-read) (Order.untested c) 11 0 (rw q refl)) (Refused 11 0) refl
 
     module _ (o : m .over ≡ false) where
       grounded : ground L c ≡ accepted p
@@ -146,19 +149,19 @@ module _ (L : CaseLimits) (question site : List ℕ) (picks : Given) where
         unfolding resultOf
         ends-short h =
             let b = handed .room-is ∙ room-short (picksLength p) (length words) (subst (λ (x : ℕ). length words < x) q h) in
-            ends 12 (picksLength p) (Order.room-refused L question site _ _ _ _ c read given (handed .is-read) (Order.untested c) p grounded (Order.untested c) 12 (picksLength p) b) (Refused 12 k) (ap (refused 12) q)
+            ends 12 (picksLength p) (Order.room-refused L question site _ _ _ _ x read given (handed .is-read) (Order.untested c) p grounded (Order.untested c) 12 (picksLength p) b) (Refused 12 k) (ap (refused 12) q)
 
         module _ (room : k ≤ length words) (s : Spare) (e : spareFound s ≡ spareWord p words zero (chosenNumbers p)) where
           judged-then : judge L question site picks ≡ (satisfying c p picks given >>= λ _. accepted zero)
           unfolding judge _>>=_
           judged-then =
               let b = handed .room-is ∙ room-there (picksLength p) (length words) (subst (λ (x : ℕ). x ≤ length words) q room) in
-              let d : opening ≡ accepted (record { case = c; problem = p; third = given }) = Order.ready L question site _ _ _ _ c read given (handed .is-read) (Order.untested c) p grounded (Order.untested c) b in
+              let d : opening ≡ accepted (record { case = c; labels = x .labels; problem = p; third = given }) = Order.ready L question site _ _ _ _ x read given (handed .is-read) (Order.untested c) p grounded (Order.untested c) b in
               rw d refl
 
           pub ends-spare : (j : ℕ) → s ≡ Word j → resultOf (Refused 10 j) ≡ judge L question site picks
           unfolding resultOf spareFound _>>=_
-          ends-spare j z = sym (judged-then ∙ rw (spare-refused c picks words given F handed j (sym e ∙ ap spareFound z)) refl)
+          ends-spare j z = sym (judged-then ∙ rw (spare-refused c (x .labels) picks words given F handed j (sym e ∙ ap spareFound z)) refl)
 
           module _ (z : s ≡ Clear) where
             clear : spareWord p words zero (chosenNumbers p) ≡ none
@@ -167,7 +170,7 @@ module _ (L : CaseLimits) (question site : List ℕ) (picks : Given) where
 
             pub ends-judged : (r : Reply) → resultOf r ≡ verdict c F → resultOf r ≡ judge L question site picks
             unfolding verdict
-            ends-judged r v = v ∙ sym (judged-then ∙ rw (spare-clear c picks words given F handed clear) refl)
+            ends-judged r v = v ∙ sym (judged-then ∙ rw (spare-clear c (x .labels) picks words given F handed clear) refl)
 
             -- what is handed on to decide
             pub asks-of : (o′ : Opened) (facts : List ℕ) → Holds question c o′ (bit facts) → Accepted c → (n : ℕ) (g : Relations) (t : Nodes) (table : List ℕ)

@@ -7,6 +7,7 @@ ghost use Prim.Native.Nat.{_<_, _≤_};
 ghost use lib.ListN.{length};
 ghost use Rattle.definitions.specs.Limits.{usual};
 ghost use Rattle.definitions.specs.Relations.{Tuple};
+ghost use Rattle.definitions.specs.Sheets.{Label};
 ghost use Rattle.definitions.specs.Truth.{Case, arePicks, ruleIsTrue};
 ghost use Rattle.definitions.specs.Atoms.{problemOf};
 ghost use Rattle.definitions.specs.Outcome.{asText, asNumbers};
@@ -17,6 +18,7 @@ ghost use Rattle.tree.specs.Tables.{Fits as «Tree-fits»};
 ghost use Rattle.ground.specs.Lines.{Fits};
 ghost use Rattle.layout.specs.Laid.{RelationsFit, Inputs};
 ghost use Rattle.initial.specs.Initial.{FactsIn};
+ghost use Rattle.tuples.specs.Labels.{LabelsAre};
 ghost use Rattle.sheets.specs.Reading.{FactsRoom, PicksRoom};
 ghost use Rattle.picks.specs.Words.{PicksAre};
 ghost use Rattle.asking.specs.Replies.{resultOf};
@@ -85,13 +87,21 @@ fn judge_case(question: &[u8], o: Opened, facts: &[u64], picks: &[u64]) -> Reply
 }
 
 // Of a case that was read, from picks as a text: they are read into the lent words, which are enough and come in cleared.
-fn judge_listed(question: &[u8], o: Opened, facts: &[u64], picks: &[u8], words: &mut [u64]) -> Reply
-    requires { ⌜ AcceptedIn (now question) o (bit (now facts)) ⌝ }
+fn judge_listed(
+    question: &[u8],
+    site: &[u8],
+    o: Opened,
+    labels: &[usize],
+    facts: &[u64],
+    picks: &[u8],
+    words: &mut [u64],
+) -> Reply
+    requires { ⌜ AcceptedIn (now question) o (bit (now facts)) × ((ls : List Label) × LabelsAre (now site) (now labels) (o .n) ls) ⌝ }
     requires { ⌜ PicksRoom (o .sig) (o .n) (length (now words)) × (bit (now words) ≡ λ i. false) ⌝ }
-    ensures { λ r. ⌜ FromText (now (question .entry)) o (bit (now (facts .entry))) (now (picks .entry)) r ⌝ }
+    ensures { λ r. ⌜ FromText (now (question .entry)) (now (site .entry)) o (now (labels .entry)) (bit (now (facts .entry))) (now (picks .entry)) r ⌝ }
 {
     let sig = o.sig;
-    let a = sheets::picks(question, sig, picks, o.n, words);
+    let a = sheets::picks(question, sig, picks, o.n, site, labels, words);
     match a {
         Answer::Refused(k, place) => Reply::Refused(k, place),
         Answer::Done(_) => judge_case(question, o, facts, words),
@@ -103,16 +113,17 @@ fn judge_text_in(question: &[u8], site: &[u8], picks: &[u8], facts: &mut [u64]) 
     requires { ⌜ FactsRoom (now site) 64 (length (now facts)) × (bit (now facts) ≡ λ i. false) ⌝ }
     ensures { λ r. ⌜ resultOf r ≡ judge usual (now (question .entry)) (now (site .entry)) (asText (now (picks .entry))) ⌝ }
 {
-    let o = sheets::read_case(question, site, asking::ELEMENTS, facts);
+    let mut labels = [0usize; sheets::LABELS];
+    let o = sheets::read_filed(question, site, asking::ELEMENTS, &mut labels, facts);
     if o.fault != 0 {
         return Reply::Refused(o.fault, o.place);
     }
     if o.n <= asking::SMALL_SIZE {
         let mut few = [0u64; asking::FEW_PICKS];
-        return judge_listed(question, o, facts, picks, &mut few);
+        return judge_listed(question, site, o, &labels, facts, picks, &mut few);
     }
     let mut words = [0u64; asking::PICKS];
-    judge_listed(question, o, facts, picks, &mut words)
+    judge_listed(question, site, o, &labels, facts, picks, &mut words)
 }
 
 // Whether the rule is true of picks that are handed over as a text.

@@ -11,11 +11,11 @@ use Rattle.definitions.specs.Limits.{CaseLimits}
 use Rattle.definitions.specs.Lists.{filter, below}
 use Rattle.definitions.specs.Refusal.{Result, refused, accepted, _>>=_, refuseIf}
 use Rattle.definitions.specs.Relations.{Tuple, isChosen}
-use Rattle.definitions.specs.Sheets.{readPicks, firstChosen}
+use Rattle.definitions.specs.Sheets.{Label, readPicks, firstChosen}
 use Rattle.definitions.specs.Truth.{Case, eachChosen, isOfKind, arePicks, areOfKinds, firstOfOtherKind, ruleIsTrue}
 use Rattle.definitions.specs.Atoms.{Problem, problemOf, relationAt, tuplesOf}
 use Rattle.definitions.specs.Built.{chosenNumbers, builtSteps, builtCount, bound}
-use Rattle.definitions.specs.Outcome.{readCase, ground, asked, nothing, satisfying, roomFor, stateLength, picksLength, Given, asText, asNumbers, textPicks, picksRoom, spareWord, spareRefusal, takePicks, lentPicks, kindRefusal, Plan, plan, written, builtFrom}
+use Rattle.definitions.specs.Outcome.{readFiled, readCase, ground, asked, nothing, satisfying, roomFor, stateLength, picksLength, Given, asText, asNumbers, textPicks, picksRoom, spareWord, spareRefusal, takePicks, lentPicks, kindRefusal, Plan, plan, written, builtFrom}
 use Rattle.definitions.specs.Demand.{isAccepted}
 use Rattle.laws.specs.Booleans.{T-of, T-true}
 use Rattle.laws.specs.Results.{accepted-eq, bind-parts, not-refused, refused-accepted}
@@ -24,6 +24,7 @@ use Rattle.laws.specs.Positions.{any-not, place, position-none, position
 use Rattle.laws.specs.Repeats.{once-distinct, distinct-once}
 use Rattle.laws.specs.Rows.{length-places, places-below}
 use Rattle.laws.specs.Asked
+use Rattle.laws.specs.Labels.{LabelsFit}
 use Rattle.laws.specs.Reader.{Accepted, gives-if, picks-fit}
 use Rattle.laws.specs.Sound.{Inside, tupleAt}
 use Rattle.laws.specs.Grounded.{good}
@@ -53,25 +54,25 @@ unfolding ground
 ground-is L c p e = let (u, a, g) = bind-parts (refuseIf _ 11 zero) (λ _. accepted (problemOf c)) p e in sym (accepted-eq (problemOf c) p g)
 
 -- ---- the picks that are handed over: read from a text, or the tuples of words that are long enough and have no spare bit set
-abbrev pub picksGiven : Case → Problem → Given → Result (List Tuple)
-picksGiven c p g = textPicks c g >>= λ read. picksRoom p g >>= λ _. takePicks p g read
+abbrev pub picksGiven : Case → List Label → Problem → Given → Result (List Tuple)
+picksGiven c labels p g = textPicks c labels g >>= λ read. picksRoom p g >>= λ _. takePicks p g read
 
-pub given-text : (c : Case) (p : Problem) (text : List ℕ) → picksGiven c p (asText text) ≡ readPicks (c .question .chosen) (firstChosen (c .question)) (c .site .size) text
+pub given-text : (c : Case) (labels : List Label) (p : Problem) (text : List ℕ) → picksGiven c labels p (asText text) ≡ readPicks (c .question .chosen) (firstChosen (c .question)) (c .site .size) labels text
 unfolding textPicks picksRoom takePicks _>>=_
-given-text c p text = go (readPicks (c .question .chosen) (firstChosen (c .question)) (c .site .size) text)
+given-text c labels p text = go (readPicks (c .question .chosen) (firstChosen (c .question)) (c .site .size) labels text)
   where
     go : (r : Result (List Tuple)) → (r >>= λ read. accepted read) ≡ r
     go (refused k place) = refl
     go (accepted read) = refl
 
-pub given-words : (c : Case) (p : Problem) (words : List ℕ) → picksLength p ≤ length words → spareWord p words zero (chosenNumbers p) ≡ none → picksGiven c p (asNumbers words) ≡ accepted (lentPicks p words (chosenNumbers p))
+pub given-words : (c : Case) (labels : List Label) (p : Problem) (words : List ℕ) → picksLength p ≤ length words → spareWord p words zero (chosenNumbers p) ≡ none → picksGiven c labels p (asNumbers words) ≡ accepted (lentPicks p words (chosenNumbers p))
 unfolding textPicks picksRoom takePicks roomFor refuseIf spareRefusal _>>=_
-given-words c p words h e = let a : ltb (length words) (picksLength p) ≡ false = le-ltb (length words) (picksLength p) h in rw (a, e) refl
+given-words c labels p words h e = let a : ltb (length words) (picksLength p) ≡ false = le-ltb (length words) (picksLength p) h in rw (a, e) refl
 
 -- whatever is handed over and taken is picks
-given-parts : (c : Case) (p : Problem) (g : Given) (F : List Tuple) → picksGiven c p g ≡ accepted F → (read : List Tuple) × (textPicks c g ≡ accepted read) × (picksRoom p g ≡ accepted tt) × (takePicks p g read ≡ accepted F)
-given-parts c p g F e =
-    let (read, a, b) = bind-parts (textPicks c g) _ F e in
+given-parts : (c : Case) (labels : List Label) (p : Problem) (g : Given) (F : List Tuple) → picksGiven c labels p g ≡ accepted F → (read : List Tuple) × (textPicks c labels g ≡ accepted read) × (picksRoom p g ≡ accepted tt) × (takePicks p g read ≡ accepted F)
+given-parts c labels p g F e =
+    let (read, a, b) = bind-parts (textPicks c labels g) _ F e in
     let (u, d, f) = bind-parts (picksRoom p g) _ F b in
     (read, a, d, f)
 
@@ -79,27 +80,28 @@ lent-taken : (p : Problem) (words : List ℕ) (read F : List Tuple) → takePick
 unfolding takePicks
 lent-taken p words read F e = let (u, a, d) = bind-parts (spareRefusal (spareWord p words zero (chosenNumbers p))) (λ _. accepted (lentPicks p words (chosenNumbers p))) F e in accepted-eq (lentPicks p words (chosenNumbers p)) F d
 
-pub given-picks : (c : Case) → Accepted c → (g : Given) (F : List Tuple) → picksGiven c (problemOf c) g ≡ accepted F → arePicks c F ≡ true
-given-picks c A (asText text) F e = T-true (arePicks c F) (fit-picks c F (gives-if _ (readPicks (c .question .chosen) (firstChosen (c .question)) (c .site .size) text) F (sym (given-text c (problemOf c) text) ∙ e) (picks-fit (c .question .chosen) (firstChosen (c .question)) (c .site .size) text)))
-given-picks c A (asNumbers words) F e =
-    let (read, a, b, d) = given-parts c (problemOf c) (asNumbers words) F e in
+pub given-picks : (c : Case) → Accepted c → (labels : List Label) → LabelsFit (c .site .size) labels → (g : Given) (F : List Tuple) → picksGiven c labels (problemOf c) g ≡ accepted F → arePicks c F ≡ true
+given-picks c A labels K (asText text) F e = T-true (arePicks c F) (fit-picks c F (gives-if _ (readPicks (c .question .chosen) (firstChosen (c .question)) (c .site .size) labels text) F (sym (given-text c labels (problemOf c) text) ∙ e)
+    (picks-fit (c .question .chosen) (firstChosen (c .question)) (c .site .size) labels K text)))
+given-picks c A labels K (asNumbers words) F e =
+    let (read, a, b, d) = given-parts c labels (problemOf c) (asNumbers words) F e in
     T-true (arePicks c F) (subst (λ (l : List Tuple). T (arePicks c l)) (lent-taken (problemOf c) words read F d) (lent-are c A words))
 
 -- ---- with buffers long enough only the kinds and the rule are left to test
-pub plan-is : (L : CaseLimits) (question site : List ℕ) (g : Given) (c : Case) (p : Problem) (F : List Tuple) (stateRoom stepsRoom : ℕ)
-    → readCase L question site ≡ accepted c → ground L c ≡ accepted p → picksGiven c p g ≡ accepted F → stateLength p ≤ stateRoom → bound p ≤ stepsRoom
-    → plan L question site g stateRoom stepsRoom ≡ (kindRefusal (firstOfOtherKind c F) >>= λ _. refuseIf (not (ruleIsTrue c F)) 17 zero >>= λ _. accepted (record { problem = p; picks = F; steps = builtSteps p F }))
+pub plan-is : (L : CaseLimits) (question site : List ℕ) (g : Given) (c : Case) (labels : List Label) (p : Problem) (F : List Tuple) (stateRoom stepsRoom : ℕ)
+    → readFiled L question site ≡ accepted (record { case = c; labels = labels }) → ground L c ≡ accepted p → picksGiven c labels p g ≡ accepted F → stateLength p ≤ stateRoom → bound p ≤ stepsRoom
+    → plan L question site g stateRoom stepsRoom ≡ (kindRefusal (firstOfOtherKind c F) >>= λ _. refuseIf (not (ruleIsTrue c F)) 17 zero >>= λ _. accepted (record { labels = labels; problem = p; picks = F; steps = builtSteps p F }))
 unfolding plan asked nothing satisfying roomFor refuseIf _>>=_ kindRefusal
-plan-is L question site g c p F stateRoom stepsRoom rc rg rf hs hb =
-    let (read, a, b, d) = given-parts c p g F rf in
+plan-is L question site g c labels p F stateRoom stepsRoom rc rg rf hs hb =
+    let (read, a, b, d) = given-parts c labels p g F rf in
     let e : ltb stateRoom (stateLength p) ≡ false = le-ltb stateRoom (stateLength p) hs in
     let f : ltb stepsRoom (bound p) ≡ false = le-ltb stepsRoom (bound p) hb in
     rw (rc, a, rg, b, e, f, d) (after (firstOfOtherKind c F) (ruleIsTrue c F))
   where
     made : Plan
-    made = record { problem = p; picks = F; steps = builtSteps p F }
+    made = record { labels = labels; problem = p; picks = F; steps = builtSteps p F }
 
-    after : (o : Option ℕ) (b : Bool) → ((kindRefusal o >>= λ _. refuseIf (not b) 17 zero >>= λ _. accepted F) >>= λ (G : List Tuple). accepted (record { problem = p; picks = G; steps = builtSteps p G }))
+    after : (o : Option ℕ) (b : Bool) → ((kindRefusal o >>= λ _. refuseIf (not b) 17 zero >>= λ _. accepted F) >>= λ (G : List Tuple). accepted (record { labels = labels; problem = p; picks = G; steps = builtSteps p G }))
         ≡ (kindRefusal o >>= λ _. refuseIf (not b) 17 zero >>= λ _. accepted made)
     after none true = refl
     after none false = refl
@@ -136,16 +138,17 @@ satisfying-parts c p g read F e =
     subst (λ (F : List Tuple). (takePicks p g read ≡ accepted F) × (areOfKinds c F ≡ true) × (ruleIsTrue c F ≡ true)) (accepted-eq G F e₃)
     (rf, kinds-told c G (kind-accepted (firstOfOtherKind c G) u₁ r₁), not-false (ruleIsTrue c G) (not-refused (not (ruleIsTrue c G)) 17 zero u₂ r₂))
 
-given-from : (c : Case) (p : Problem) (g : Given) (read F : List Tuple) (u : Unit {0}) → textPicks c g ≡ accepted read → picksRoom p g ≡ accepted u → takePicks p g read ≡ accepted F → picksGiven c p g ≡ accepted F
+given-from : (c : Case) (labels : List Label) (p : Problem) (g : Given) (read F : List Tuple) (u : Unit {0}) → textPicks c labels g ≡ accepted read → picksRoom p g ≡ accepted u → takePicks p g read ≡ accepted F → picksGiven c labels p g ≡ accepted F
 unfolding _>>=_
-given-from c p g read F u a b d = rw (a, b) d
+given-from c labels p g read F u a b d = rw (a, b) d
 
 -- what a plan tells: of its case and picks, and that it has room
 pub record Tells (L : CaseLimits) (question site : List ℕ) (g : Given) (stateRoom stepsRoom : ℕ) (b : Plan) : Type 0 where
   pub case : Case
+  pub is-filed : readFiled L question site ≡ accepted (record { case = case; labels = b .labels })
   pub is-case : readCase L question site ≡ accepted case
   pub is-problem : ground L case ≡ accepted (b .problem)
-  pub given : picksGiven case (b .problem) g ≡ accepted (b .picks)
+  pub given : picksGiven case (b .labels) (b .problem) g ≡ accepted (b .picks)
   pub kinds : areOfKinds case (b .picks) ≡ true
   pub rule : ruleIsTrue case (b .picks) ≡ true
   pub steps : b .steps ≡ builtSteps (b .problem) (b .picks)
@@ -155,17 +158,18 @@ pub record Tells (L : CaseLimits) (question site : List ℕ) (g : Given) (stateR
 pub plan-tells : (L : CaseLimits) (question site : List ℕ) (g : Given) (stateRoom stepsRoom : ℕ) (b : Plan) → plan L question site g stateRoom stepsRoom ≡ accepted b → Tells L question site g stateRoom stepsRoom b
 unfolding plan roomFor
 plan-tells L question site g stateRoom stepsRoom b e =
-    let (r, a, e₁) = bind-parts (asked L question site (λ c. textPicks c g) nothing nothing _) _ b e in
+    let (r, a, e₁) = bind-parts (asked L question site (λ c. textPicks (c .case) (c .labels) g) nothing nothing _) _ b e in
     let (F, f, e₂) = bind-parts (satisfying (r .case) (r .problem) g (r .third)) _ b e₁ in
-    let q = Asked.parts L question site (λ c. textPicks c g) nothing nothing _ r a in
+    let q = Asked.parts L question site (λ c. textPicks (c .case) (c .labels) g) nothing nothing _ r a in
     let (u₁, r₁, e₃) = bind-parts (picksRoom (r .problem) g) _ tt (q .has-room) in
     let (u₂, r₂, r₃) = bind-parts (refuseIf (ltb stateRoom (stateLength (r .problem))) 12 (stateLength (r .problem))) _ tt e₃ in
     let (rf, k, t) = satisfying-parts (r .case) (r .problem) g (r .third) F f in
     subst (Tells L question site g stateRoom stepsRoom) (accepted-eq _ b e₂) (record {
       case = r .case;
+      is-filed = q .is-filed;
       is-case = q .is-case;
       is-problem = q .is-problem;
-      given = given-from (r .case) (r .problem) g (r .third) F u₁ (q .is-third) r₁ rf;
+      given = given-from (r .case) (r .labels) (r .problem) g (r .third) F u₁ (q .is-third) r₁ rf;
       kinds = k;
       rule = t;
       steps = refl;

@@ -13,6 +13,8 @@
 --   Walks              one walk of a tree: its visits and its counts
 -- From a case that was read to its problem, each on those before it:
 --   Asked              what every call begins with: the order of refusals, and what is known then
+--   Alone              the same where the third input does not hang on labels
+--   Labels             labels are one to one; what element fields mean by them
 --   Reader             what an accepted question and site have
 --   Meaning            the tree means what the rule as written means
 --   Parts              trees: free levels, nodes by preorder number
@@ -29,7 +31,9 @@
 --   Lent               picks as words
 --   Building           what building answers
 --   Decimals           numbers written and read
---   Lines, Told        lines and fields of a text; what a sheet that was read tells of its text
+--   Lines, Spelling    lines and fields of a text; elements written by number or by label
+--   Told               what a sheet that was read tells of its text
+--   Few                how many picks and steps a sheet can hold
 --   Refusals           which numbers each call refuses with
 pub mod Booleans
 pub mod Lists
@@ -45,6 +49,8 @@ pub mod Words
 pub mod Copies
 pub mod Walks
 pub mod Asked
+pub mod Alone
+pub mod Labels
 pub mod Reader
 pub mod Meaning
 pub mod Parts
@@ -62,5 +68,7 @@ pub mod Lent
 pub mod Building
 pub mod Decimals
 pub mod Lines
+pub mod Spelling
 pub mod Told
+pub mod Few
 pub mod Refusals

@@ -1,14 +1,14 @@
 -- Lines and fields: a text of lines is cut into these lines, and a line of fields into these fields.
 use Prim.Native.Nat.{ℕ, _+_, _≤_, _<_}
-use mathlib.Core.Path.{_≡_, refl, sym, ap, _∙_}
+use mathlib.Core.Path.{_≡_, refl, sym, ap, ap₂, subst, _∙_}
 use mathlib.Core.Logic.{_⊎_, ⊎-elim}
 use mathlib.Core.Bool.{Bool, true, false, not, _&&_, _||_}
-use mathlib.Core.List.{List, [], _∷_, _++_, append-assoc}
+use mathlib.Core.List.{List, [], _∷_, _++_, append-assoc, List·Memᴰ, List·Memᴰ·head, List·Memᴰ·tail, List·Memᴰ·not-nil, List·Memᴰ·cases-cons}
 use native.Mathlib.Omega.{arith}
 use lib.Dec.{T, eqb, leb, leb→le, eqb→eq, T-not, not-T}
 use lib.ListN.{length}
 use borrow.Author.Tests.{eq-eqb}
-use Rattle.definitions.specs.Lists.{if_then_else_, all, isEmpty}
+use Rattle.definitions.specs.Lists.{if_then_else_, all, isEmpty, flatMap}
 use Rattle.definitions.specs.Text.{onFirst, split, Line, linesFrom, isBetween, isDigit, isCapital, isRelationName}
 use Rattle.definitions.specs.Refusal.{Result, accepted, _>>=_, readLines}
 use Rattle.definitions.specs.Desk.{printLine}
@@ -113,3 +113,28 @@ module _ {S : Type 0} (line : S → Line → Result S) where
   pub read-end : (s : S) (at : ℕ) → readLines line s (linesFrom at (split 10 [])) ≡ accepted s
   unfolding linesFrom readLines split isEmpty
   read-end s at = refl
+
+-- ---- a text whose lines say things one by one, each thing as R has it of the line's fields
+unfoldable pub LineByLine : {A : Type 0} → (A → List (List ℕ) → Type 0) → List A → List ℕ → Type 0
+LineByLine R [] text = text ≡ []
+LineByLine R (a ∷ s) text = (fs : List (List ℕ)) × R a fs × ((rest : List ℕ) × (text ≡ printLine fs ++ rest) × LineByLine R s rest)
+
+-- where each thing has only one line, it is what is written for them
+pub line-by-line : {A : Type 0} (write : A → List (List ℕ)) (P : A → Type 0) (s : List A) (text : List ℕ) → LineByLine (λ a fs. (fs ≡ write a) × P a) s text → (text ≡ flatMap (λ a. printLine (write a)) s) × ((a : A) → List·Memᴰ a s → P a)
+unfolding LineByLine flatMap
+line-by-line write P [] text h = (h, λ a m. absurd (List·Memᴰ·not-nil m))
+line-by-line write P (b ∷ s) text (fs, r, (rest, e, h)) =
+    let (f, g) = line-by-line write P s rest h in (
+      e ∙ ap₂ (λ (x : List (List ℕ)) (y : List ℕ). printLine x ++ y) (r .0) f,
+      λ a m. ⊎-elim (λ q. subst P (sym q) (r .1)) (λ q. g a q) (List·Memᴰ·cases-cons m),
+    )
+
+pub write-lines : {A : Type 0} (R : A → List (List ℕ) → Type 0) (write : A → List (List ℕ)) (s : List A) → ((a : A) → List·Memᴰ a s → R a (write a)) → LineByLine R s (flatMap (λ a. printLine (write a)) s)
+unfolding LineByLine flatMap
+write-lines R write [] h = refl
+write-lines R write (a ∷ s) h = (write a, h a (List·Memᴰ·head refl), (flatMap (λ a. printLine (write a)) s, refl, write-lines R write s (λ b m. h b (List·Memᴰ·tail m))))
+
+pub weaken-lines : {A : Type 0} (R Q : A → List (List ℕ) → Type 0) (s : List A) (text : List ℕ) → ((a : A) (fs : List (List ℕ)) → List·Memᴰ a s → R a fs → Q a fs) → LineByLine R s text → LineByLine Q s text
+unfolding LineByLine
+weaken-lines R Q [] text f h = h
+weaken-lines R Q (a ∷ s) text f (fs, r, (rest, e, h)) = (fs, f a fs (List·Memᴰ·head refl) r, (rest, e, weaken-lines R Q s rest (λ b gs m. f b gs (List·Memᴰ·tail m)) h))

@@ -6,7 +6,7 @@ use mathlib.Core.Bool.{Bool, true, false, not, _&&_, _||_}
 use mathlib.Core.Option.{Option, none, some}
 use mathlib.Core.List.{List, [], _∷_, _++_, List·Memᴰ, List·Memᴰ·not-nil, List·Memᴰ·append-cases, List·Memᴰ·eq-of-singleton, append-assoc, append-nil, nil≢cons}
 use native.Mathlib.Omega.{arith}
-use lib.Dec.{T, ltb, leb, eqb, nltb→le, eqb→eq, leb→le, T-not, not-T}
+use lib.Dec.{T, ltb, leb, eqb, ltb→lt, nltb→le, eqb→eq, leb→le, T-not, not-T}
 use lib.ListN.{length, getD}
 use Rattle.definitions.specs.Limits.{CaseLimits}
 use Rattle.definitions.specs.Lists.{if_then_else_, all, any, same, isEmpty, option, position}
@@ -17,14 +17,15 @@ use Rattle.definitions.specs.Relations.{Kind, static, plain, Fun, PFun, Inj, PI
 use Rattle.definitions.specs.Formula.{allForms, nesting, isKnown, isScoped}
 use Rattle.definitions.specs.Parsing.{readFormula}
 use Rattle.definitions.specs.Sheets
-use Sheets.{Entry, rel, choose, rule, size, fact, pick, step, arityOf, chooseOf, withOne, withTwo, withElements, entry, entryOf, Rule, Draft, Question, relations, isRuled, isNewName, addRel, addChoose, addRule, addToQuestion, questionLine, readQuestion, relationsOf, firstRel, used, addTuple, SiteDraft, Site, addSize, addFact, addToSite, siteLine, readSite, numbers, addToPicks, picksLine, readPicks}
+use Sheets.{Element, Entry, rel, choose, rule, size, label, fact, pick, step, arityOf, element, elements, labelOf, chooseOf, withOne, withTwo, withElements, entry, entryOf, Rule, Draft, Question, relations, isRuled, isNewName, addRel, addChoose, addRule, addToQuestion, questionLine, readQuestion, relationsOf, firstRel, used, Label, elementOf, elementsOf, isInRange, addTuple, SiteDraft, Site, Labelled, addSize, isTaken, addLabel, addFact, addToSite, siteLine, readSite, addToPicks, picksLine, readPicks}
 use Rattle.definitions.specs.Truth.{Case}
 use Rattle.definitions.specs.Atoms.{Problem, problemOf, atoms}
 use Rattle.definitions.specs.Actions.{actions}
-use Rattle.definitions.specs.Outcome.{readCase, ground, readProblem}
+use Rattle.definitions.specs.Outcome.{CaseRead, readFiled, readCase, ground, readProblem}
 use Rattle.laws.specs.Booleans.{T-and-l, T-and-r, T-of, T-or, not-not-T, not-or-l, not-or-r, or-l, or-r}
 use Rattle.laws.specs.Tuples.{distinct-snoc, same-eq, same-refl}
 use Rattle.laws.specs.Numbers.{noRelation}
+use Rattle.laws.specs.Labels.{LabelsFit, no-labels, mean-small, mean-length, means-small, one-snoc}
 
 -- ---- what holds of a result if it is accepted, of an option if there is something
 unfoldable pub Gives : {A : Type 0} → (A → Type 0) → Result A → Type 0
@@ -105,7 +106,7 @@ module _ {A : Type 0} where
   unfolding readText
   gives-text P line h s text p = gives-bind (λ _. T (not (ltb textLimit (length text)))) P (refuseIf (ltb textLimit (length text)) 1 zero) (λ _. readLines line s (lines text)) (gives-refuse (ltb textLimit (length text)) 1 zero) (λ a q. gives-lines P line h s (lines text) p)
 
--- ---- one record: its arity is 1 to 3, and 2 for the function kinds
+-- ---- one record: its arity is 1 to 3, and 2 for the function kinds; a label has a name's form
 abbrev pub Arity : ℕ → Type 0
 Arity a = (1 ≤ a) × (a ≤ 3)
 
@@ -119,6 +120,7 @@ EntryFits (rel name a) = Arity a
 EntryFits (choose name a k) = Fit a k
 EntryFits (rule f) = Unit {0}
 EntryFits (size n) = Unit {0}
+EntryFits (label x name) = T (isRelationName name)
 EntryFits (fact name xs) = Unit {0}
 EntryFits (pick name xs) = Unit {0}
 EntryFits (step k) = Unit {0}
@@ -161,10 +163,14 @@ one-fits make h [] = tt
 one-fits make h (f ∷ []) = h f
 one-fits make h (f ∷ g ∷ fs) = tt
 
-elements-fit : (make : List ℕ → List ℕ → Entry) → ((f g : List ℕ) → EntryFits (make f g)) → (fs : List (List ℕ)) → Holds EntryFits (withElements make fs)
+elements-fit : (make : List ℕ → List Element → Entry) → ((f : List ℕ) (es : List Element) → EntryFits (make f es)) → (fs : List (List ℕ)) → Holds EntryFits (withElements make fs)
 unfolding withElements
 elements-fit make h [] = holds-none EntryFits
-elements-fit make h (f ∷ fs) = holds-if EntryFits (isBetween 1 3 (length fs)) _ none (λ t. holds-option (λ _. Unit {0}) EntryFits (numbers fs) _ (all-there (numbers fs)) (λ xs _. holds-some EntryFits (make f xs) (h f xs))) (holds-none EntryFits)
+elements-fit make h (f ∷ fs) = holds-if EntryFits (isBetween 1 3 (length fs)) _ none (λ t. holds-option (λ _. Unit {0}) EntryFits (elements fs) _ (all-there (elements fs)) (λ xs _. holds-some EntryFits (make f xs) (h f xs))) (holds-none EntryFits)
+
+label-fits : (f name : List ℕ) → Holds EntryFits (labelOf f name)
+unfolding labelOf EntryFits
+label-fits f name = holds-if EntryFits (isRelationName name) _ none (λ t. holds-option (λ _. Unit {0}) EntryFits (element f) _ (all-there (element f)) (λ x _. holds-some EntryFits (label x name) t)) (holds-none EntryFits)
 
 entry-fits : (fs : List (List ℕ)) → Holds EntryFits (entry fs)
 unfolding entry EntryFits
@@ -174,10 +180,11 @@ entry-fits (w ∷ fs) =
     (holds-if EntryFits (same w (bytes "choose")) _ _ (λ t. two-fits chooseOf choose-fits fs)
     (holds-if EntryFits (same w (bytes "rule")) _ _ (λ t. one-fits (λ f. some (rule f)) (λ f. holds-some EntryFits (rule f) tt) fs)
     (holds-if EntryFits (same w (bytes "size")) _ _ (λ t. one-fits (λ f. option (number f) none (λ n. some (size n))) (λ f. holds-option (λ _. Unit {0}) EntryFits (number f) _ (all-there (number f)) (λ n _. holds-some EntryFits (size n) tt)) fs)
+    (holds-if EntryFits (same w (bytes "label")) _ _ (λ t. two-fits labelOf label-fits fs)
     (holds-if EntryFits (same w (bytes "fact")) _ _ (λ t. elements-fit fact (λ f g. tt) fs)
     (holds-if EntryFits (same w (bytes "pick")) _ _ (λ t. elements-fit pick (λ f g. tt) fs)
     (holds-if EntryFits (same w (bytes "step")) _ _ (λ t. one-fits (λ f. option (number f) none (λ n. some (step n))) (λ f. holds-option (λ _. Unit {0}) EntryFits (number f) _ (all-there (number f)) (λ n _. holds-some EntryFits (step n) tt)) fs)
-    (holds-none EntryFits)))))))
+    (holds-none EntryFits))))))))
 
 line-fits : (l : Line) → Gives EntryFits (entryOf l)
 unfolding entryOf
@@ -313,6 +320,7 @@ question-entry d at (rel name a) D h = rel-line d at name a D h
 question-entry d at (choose name a k) D h = choose-line d at name a k D h
 question-entry d at (rule f) D h = rule-line d at f D
 question-entry d at (size n) D h = gives-refused DraftFits 3 at
+question-entry d at (label x name) D h = gives-refused DraftFits 3 at
 question-entry d at (fact name xs) D h = gives-refused DraftFits 3 at
 question-entry d at (pick name xs) D h = gives-refused DraftFits 3 at
 question-entry d at (step k) D h = gives-refused DraftFits 3 at
@@ -365,120 +373,167 @@ position-holds {A} p (x ∷ xs) d = go (p x) refl (position p xs) (position-hold
     go false e none h = tt
     go false e (some i) h = (omega (arith, h .0), h .1)
 
-tuple-line : (rs : List Relation) (first n : ℕ) (ts : List Tuple) (at : ℕ) (name xs : List ℕ) → TuplesFit rs first n ts → Gives (TuplesFit rs first n) (addTuple rs first n ts at name xs)
+tuple-line : (rs : List Relation) (first n : ℕ) (labels : List Label) (ts : List Tuple) (at : ℕ) (name : List ℕ) (es : List Element) → LabelsFit n labels → TuplesFit rs first n ts → Gives (TuplesFit rs first n) (addTuple rs first n labels ts at name es)
 unfolding addTuple used
-tuple-line rs first n ts at name xs F =
+tuple-line rs first n labels ts at name es K F =
     gives-bind Used (TuplesFit rs first n) (given (option found none (λ i. some (first + i))) 7 at) _
-    (gives-given Used (option found none (λ i. some (first + i))) 7 at (holds-option (λ i. (i < length rs) × T (same (getD rs i noRelation .name) name && eqb (getD rs i noRelation .arity) (length xs))) Used found _ (position-holds (λ (r : Relation). same (r .name) name && eqb (r .arity) (length xs)) rs noRelation)
+    (gives-given Used (option found none (λ i. some (first + i))) 7 at
+    (holds-option (λ i. (i < length rs) × T (same (getD rs i noRelation .name) name && eqb (getD rs i noRelation .arity) (length es))) Used found _ (position-holds (λ (r : Relation). same (r .name) name && eqb (r .arity) (length es)) rs noRelation)
     (λ i h. holds-some Used (first + i) (i, refl, h .0, sym (eqb→eq _ _ (T-and-r (same (getD rs i noRelation .name) name) _ (h .1)))))))
-    (λ r u. gives-bind (λ _. T (not (not (all (λ x. ltb x n) xs)))) (TuplesFit rs first n) _ _ (gives-refuse (not (all (λ x. ltb x n) xs)) 9 at)
-    (λ _ v. gives-bind (λ _. T (not (isAmong (record { relation = r; places = xs }) ts))) (TuplesFit rs first n) _ _ (gives-refuse (isAmong (record { relation = r; places = xs }) ts) 10 at)
+    (λ r u. gives-bind (λ _. T (not (not (all (isInRange n) es)))) (TuplesFit rs first n) _ _ (gives-refuse (not (all (isInRange n) es)) 9 at)
+    (λ _ v. gives-bind (λ xs. elementsOf labels es ≡ some xs) (TuplesFit rs first n) _ _ (gives-given (λ xs. elementsOf labels es ≡ some xs) (elementsOf labels es) 18 at (holds-self (elementsOf labels es)))
+    (λ xs q. gives-bind (λ _. T (not (isAmong (record { relation = r; places = xs }) ts))) (TuplesFit rs first n) _ _ (gives-refuse (isAmong (record { relation = r; places = xs }) ts) 10 at)
     (λ _ w. gives-accepted (TuplesFit rs first n) _ (record {
-      each-fits = mem-snoc (TupleFits rs first n) ts (record { relation = r; places = xs }) (F .each-fits) (record { index = u .0; numbered = u .1; inside = u .2; length-arity = u .3; small = not-not-T (all (λ x. ltb x n) xs) v });
+      each-fits = mem-snoc (TupleFits rs first n) ts (record { relation = r; places = xs }) (F .each-fits) (record { index = u .0; numbered = u .1; inside = u .2; length-arity = mean-length labels es xs q ∙ u .3; small = mean-small n labels K es xs (not-not-T (all (isInRange n) es) v) q });
       distinct = distinct-snoc ts (record { relation = r; places = xs }) (F .distinct) w;
-    }))))
+    })))))
   where
     found : Option ℕ
-    found = position (λ (r : Relation). same (r .name) name && eqb (r .arity) (length xs)) rs
+    found = position (λ (r : Relation). same (r .name) name && eqb (r .arity) (length es)) rs
 
     Used : ℕ → Type 0
-    Used r = (i : ℕ) × (r ≡ first + i) × (i < length rs) × (length xs ≡ getD rs i noRelation .arity)
+    Used r = (i : ℕ) × (r ≡ first + i) × (i < length rs) × (length es ≡ getD rs i noRelation .arity)
 
 -- ---- the site's lines so far
-record SizedFits (rs : List Relation) (facts : List Tuple) (n : ℕ) : Type 0 where
-  some-element : 1 ≤ n
-  few-elements : n ≤ 64
-  facts-fit : TuplesFit rs firstRel n facts
+pub record SizedFits (rs : List Relation) (labels : List Label) (facts : List Tuple) (n : ℕ) : Type 0 where
+  pub some-element : 1 ≤ n
+  pub few-elements : n ≤ 64
+  pub labels-fit : LabelsFit n labels
+  pub facts-fit : TuplesFit rs firstRel n facts
 
-unfoldable DraftSite : List Relation → Option ℕ → List Tuple → Type 0
-DraftSite rs none facts = facts ≡ []
-DraftSite rs (some n) facts = SizedFits rs facts n
+unfoldable pub DraftSite : List Relation → Option ℕ → List Label → List Tuple → Type 0
+DraftSite rs none labels facts = (labels ≡ []) × (facts ≡ [])
+DraftSite rs (some n) labels facts = SizedFits rs labels facts n
 
-abbrev SiteSoFar : List Relation → SiteDraft → Type 0
-SiteSoFar rs d = DraftSite rs (d .sized) (d .facts)
+abbrev pub SiteSoFar : List Relation → SiteDraft → Type 0
+SiteSoFar rs d = DraftSite rs (d .sized) (d .labels) (d .facts)
 
-size-line : (L : CaseLimits) → L .elements ≤ 64 → (rs : List Relation) (d : SiteDraft) (at n : ℕ) (o : Option ℕ) → DraftSite rs o (d .facts) → Gives (SiteSoFar rs) (addSize L d at n o)
+size-line : (L : CaseLimits) → L .elements ≤ 64 → (rs : List Relation) (d : SiteDraft) (at n : ℕ) (o : Option ℕ) → DraftSite rs o (d .labels) (d .facts) → Gives (SiteSoFar rs) (addSize L d at n o)
 unfolding addSize DraftSite areDistinct
 size-line L few rs d at n none D = gives-bind (λ _. T (not (not (isBetween 1 (L .elements) n)))) (SiteSoFar rs) (refuseIf (not (isBetween 1 (L .elements) n)) 9 at) _ (gives-refuse (not (isBetween 1 (L .elements) n)) 9 at)
-    (λ _ t. let b = between 1 (L .elements) n (not-not-T (isBetween 1 (L .elements) n) t) in gives-accepted (SiteSoFar rs) _ (record { some-element = b .0; few-elements = omega (arith, b .1); facts-fit = subst (TuplesFit rs firstRel n) (sym D) (record { each-fits = λ t m. absurd (List·Memᴰ·not-nil m); distinct = tt }) }))
+    (λ _ t. let b = between 1 (L .elements) n (not-not-T (isBetween 1 (L .elements) n) t) in gives-accepted (SiteSoFar rs) _ (record {
+      some-element = b .0;
+      few-elements = omega (arith, b .1);
+      labels-fit = subst (LabelsFit n) (sym (D .0)) (no-labels n);
+      facts-fit = subst (TuplesFit rs firstRel n) (sym (D .1)) (record { each-fits = λ t m. absurd (List·Memᴰ·not-nil m); distinct = tt });
+    }))
 size-line L few rs d at n (some m) D = gives-refused (SiteSoFar rs) 3 at
 
-fact-line : (rs : List Relation) (facts : List Tuple) (o : Option ℕ) (at : ℕ) (name xs : List ℕ) → DraftSite rs o facts → Gives (SiteSoFar rs) (addFact rs (record { sized = o; facts = facts }) at name xs)
+label-line : (rs : List Relation) (labels : List Label) (facts : List Tuple) (o : Option ℕ) (at : ℕ) (e : Element) (name : List ℕ) → T (isRelationName name) → DraftSite rs o labels facts → Gives (SiteSoFar rs) (addLabel (record { sized = o; labels = labels; facts = facts }) at e name)
+unfolding addLabel DraftSite given _>>=_
+label-line rs labels facts none at e name h D = gives-refused (SiteSoFar rs) 3 at
+label-line rs labels facts (some n) at e name h D =
+    gives-bind (λ _. Unit {0}) (SiteSoFar rs) (refuseIf (not (isEmpty facts)) 3 at) _ (gives-any _)
+    (λ _ _. gives-bind (λ _. T (not (not (isInRange n e)))) (SiteSoFar rs) (refuseIf (not (isInRange n e)) 9 at) _ (gives-refuse (not (isInRange n e)) 9 at)
+    (λ _ v. gives-bind (λ x. elementOf labels e ≡ some x) (SiteSoFar rs) (given (elementOf labels e) 18 at) _ (gives-given (λ x. elementOf labels e ≡ some x) (elementOf labels e) 18 at (holds-self (elementOf labels e)))
+    (λ x q. gives-bind (λ _. T (not (isTaken labels x name))) (SiteSoFar rs) (refuseIf (isTaken labels x name) 18 at) _ (gives-refuse (isTaken labels x name) 18 at)
+    (λ _ w. gives-accepted (SiteSoFar rs) _ (record {
+      some-element = D .some-element;
+      few-elements = D .few-elements;
+      labels-fit = record {
+        small = mem-snoc (λ (l : Label). l .element < n) labels (record { element = x; name = name }) (D .labels-fit .small) (ltb→lt x n (means-small n labels (D .labels-fit) e x (not-not-T (isInRange n e) v) q));
+        formed = mem-snoc (λ (l : Label). T (isRelationName (l .name))) labels (record { element = x; name = name }) (D .labels-fit .formed) h;
+        one = one-snoc labels (record { element = x; name = name }) (D .labels-fit .one) w;
+      };
+      facts-fit = D .facts-fit;
+    })))))
+
+fact-line : (rs : List Relation) (labels : List Label) (facts : List Tuple) (o : Option ℕ) (at : ℕ) (name : List ℕ) (es : List Element) → DraftSite rs o labels facts → Gives (SiteSoFar rs) (addFact rs (record { sized = o; labels = labels; facts = facts }) at name es)
 unfolding addFact DraftSite given _>>=_
-fact-line rs facts none at name xs D = gives-refused (SiteSoFar rs) 3 at
-fact-line rs facts (some n) at name xs D =
-    gives-bind (TuplesFit rs firstRel n) (SiteSoFar rs) (addTuple rs firstRel n facts at name xs) _ (tuple-line rs firstRel n facts at name xs (D .facts-fit))
-    (λ ts F. gives-accepted (SiteSoFar rs) _ (record { some-element = D .some-element; few-elements = D .few-elements; facts-fit = F }))
+fact-line rs labels facts none at name es D = gives-refused (SiteSoFar rs) 3 at
+fact-line rs labels facts (some n) at name es D =
+    gives-bind (TuplesFit rs firstRel n) (SiteSoFar rs) (addTuple rs firstRel n labels facts at name es) _ (tuple-line rs firstRel n labels facts at name es (D .labels-fit) (D .facts-fit))
+    (λ ts F. gives-accepted (SiteSoFar rs) _ (record { some-element = D .some-element; few-elements = D .few-elements; labels-fit = D .labels-fit; facts-fit = F }))
 
-site-entry : (L : CaseLimits) → L .elements ≤ 64 → (rs : List Relation) (d : SiteDraft) (at : ℕ) (e : Entry) → SiteSoFar rs d → Gives (SiteSoFar rs) (addToSite L rs d at e)
-unfolding addToSite
-site-entry L few rs d at (rel name a) D = gives-refused (SiteSoFar rs) 3 at
-site-entry L few rs d at (choose name a k) D = gives-refused (SiteSoFar rs) 3 at
-site-entry L few rs d at (rule f) D = gives-refused (SiteSoFar rs) 3 at
-site-entry L few rs d at (size n) D = size-line L few rs d at n (d .sized) D
-site-entry L few rs d at (fact name xs) D = fact-line rs (d .facts) (d .sized) at name xs D
-site-entry L few rs d at (pick name xs) D = gives-refused (SiteSoFar rs) 3 at
-site-entry L few rs d at (step k) D = gives-refused (SiteSoFar rs) 3 at
+site-entry : (L : CaseLimits) → L .elements ≤ 64 → (rs : List Relation) (d : SiteDraft) (at : ℕ) (e : Entry) → SiteSoFar rs d → EntryFits e → Gives (SiteSoFar rs) (addToSite L rs d at e)
+unfolding addToSite EntryFits
+site-entry L few rs d at (rel name a) D h = gives-refused (SiteSoFar rs) 3 at
+site-entry L few rs d at (choose name a k) D h = gives-refused (SiteSoFar rs) 3 at
+site-entry L few rs d at (rule f) D h = gives-refused (SiteSoFar rs) 3 at
+site-entry L few rs d at (size n) D h = size-line L few rs d at n (d .sized) D
+site-entry L few rs d at (label x name) D h = label-line rs (d .labels) (d .facts) (d .sized) at x name h D
+site-entry L few rs d at (fact name xs) D h = fact-line rs (d .labels) (d .facts) (d .sized) at name xs D
+site-entry L few rs d at (pick name xs) D h = gives-refused (SiteSoFar rs) 3 at
+site-entry L few rs d at (step k) D h = gives-refused (SiteSoFar rs) 3 at
 
-site-step : (L : CaseLimits) → L .elements ≤ 64 → (rs : List Relation) (d : SiteDraft) (l : Line) → SiteSoFar rs d → Gives (SiteSoFar rs) (siteLine L rs d l)
+pub site-step : (L : CaseLimits) → L .elements ≤ 64 → (rs : List Relation) (d : SiteDraft) (l : Line) → SiteSoFar rs d → Gives (SiteSoFar rs) (siteLine L rs d l)
 unfolding siteLine
-site-step L few rs d l D = gives-bind EntryFits (SiteSoFar rs) (entryOf l) (addToSite L rs d (l .at)) (line-fits l) (λ e h. site-entry L few rs d (l .at) e D)
+site-step L few rs d l D = gives-bind EntryFits (SiteSoFar rs) (entryOf l) (addToSite L rs d (l .at)) (line-fits l) (λ e h. site-entry L few rs d (l .at) e D h)
 
 pub record SiteFits (rs : List Relation) (s : Site) : Type 0 where
   pub some-element : 1 ≤ s .size
   pub few-elements : s .size ≤ 64
   pub facts-fit : TuplesFit rs firstRel (s .size) (s .facts)
 
-site-end : (rs : List Relation) (facts : List Tuple) (o : Option ℕ) (k : ℕ) → DraftSite rs o facts → Gives (SiteFits rs) (given o 3 k >>= λ n. accepted (record { size = n; facts = facts }))
-unfolding DraftSite given _>>=_
-site-end rs facts none k D = gives-refused (SiteFits rs) 3 k
-site-end rs facts (some n) k D = gives-accepted (SiteFits rs) _ (record { some-element = D .some-element; few-elements = D .few-elements; facts-fit = D .facts-fit })
+pub record LabelledFits (rs : List Relation) (s : Labelled) : Type 0 where
+  pub site-fits : SiteFits rs (s .site)
+  pub labels-fit : LabelsFit (s .site .size) (s .labels)
 
-pub site-fits : (L : CaseLimits) → L .elements ≤ 64 → (rs : List Relation) (text : List ℕ) → Gives (SiteFits rs) (readSite L rs text)
+site-end : (rs : List Relation) (labels : List Label) (facts : List Tuple) (o : Option ℕ) (k : ℕ) → DraftSite rs o labels facts → Gives (LabelledFits rs) (given o 3 k >>= λ n. accepted (record { site = record { size = n; facts = facts }; labels = labels }))
+unfolding DraftSite given _>>=_
+site-end rs labels facts none k D = gives-refused (LabelledFits rs) 3 k
+site-end rs labels facts (some n) k D = gives-accepted (LabelledFits rs) _ (record { site-fits = record { some-element = D .some-element; few-elements = D .few-elements; facts-fit = D .facts-fit }; labels-fit = D .labels-fit })
+
+pub site-fits : (L : CaseLimits) → L .elements ≤ 64 → (rs : List Relation) (text : List ℕ) → Gives (LabelledFits rs) (readSite L rs text)
 unfolding readSite DraftSite
 site-fits L few rs text =
-    gives-bind (SiteSoFar rs) (SiteFits rs) (readText (siteLine L rs) (record { sized = none; facts = [] }) text) _
-    (gives-text (SiteSoFar rs) (siteLine L rs) (site-step L few rs) (record { sized = none; facts = [] }) text refl)
-    (λ d D. site-end rs (d .facts) (d .sized) (length text) D)
+    gives-bind (SiteSoFar rs) (LabelledFits rs) (readText (siteLine L rs) (record { sized = none; labels = []; facts = [] }) text) _
+    (gives-text (SiteSoFar rs) (siteLine L rs) (site-step L few rs) (record { sized = none; labels = []; facts = [] }) text (refl, refl))
+    (λ d D. site-end rs (d .labels) (d .facts) (d .sized) (length text) D)
 
 -- ---- picks from a text
-module _ (rs : List Relation) (first n : ℕ) where
-  picks-entry : (ts : List Tuple) (at : ℕ) (e : Entry) → TuplesFit rs first n ts → Gives (TuplesFit rs first n) (addToPicks rs first n ts at e)
+module _ (rs : List Relation) (first n : ℕ) (labels : List Label) (K : LabelsFit n labels) where
+  picks-entry : (ts : List Tuple) (at : ℕ) (e : Entry) → TuplesFit rs first n ts → Gives (TuplesFit rs first n) (addToPicks rs first n labels ts at e)
   unfolding addToPicks
   picks-entry ts at (rel name a) D = gives-refused _ 3 at
   picks-entry ts at (choose name a k) D = gives-refused _ 3 at
   picks-entry ts at (rule f) D = gives-refused _ 3 at
   picks-entry ts at (size m) D = gives-refused _ 3 at
+  picks-entry ts at (label x name) D = gives-refused _ 3 at
   picks-entry ts at (fact name xs) D = gives-refused _ 3 at
-  picks-entry ts at (pick name xs) D = tuple-line rs first n ts at name xs D
+  picks-entry ts at (pick name xs) D = tuple-line rs first n labels ts at name xs K D
   picks-entry ts at (step k) D = gives-refused _ 3 at
 
-  picks-step : (ts : List Tuple) (l : Line) → TuplesFit rs first n ts → Gives (TuplesFit rs first n) (picksLine rs first n ts l)
+  picks-step : (ts : List Tuple) (l : Line) → TuplesFit rs first n ts → Gives (TuplesFit rs first n) (picksLine rs first n labels ts l)
   unfolding picksLine
-  picks-step ts l D = gives-bind EntryFits (TuplesFit rs first n) (entryOf l) (addToPicks rs first n ts (l .at)) (line-fits l) (λ e h. picks-entry ts (l .at) e D)
+  picks-step ts l D = gives-bind EntryFits (TuplesFit rs first n) (entryOf l) (addToPicks rs first n labels ts (l .at)) (line-fits l) (λ e h. picks-entry ts (l .at) e D)
 
-  pub picks-fit : (text : List ℕ) → Gives (TuplesFit rs first n) (readPicks rs first n text)
+  pub picks-fit : (text : List ℕ) → Gives (TuplesFit rs first n) (readPicks rs first n labels text)
   unfolding readPicks areDistinct
-  picks-fit text = gives-text (TuplesFit rs first n) (picksLine rs first n) picks-step [] text (record { each-fits = λ t m. absurd (List·Memᴰ·not-nil m); distinct = tt })
+  picks-fit text = gives-text (TuplesFit rs first n) (picksLine rs first n labels) picks-step [] text (record { each-fits = λ t m. absurd (List·Memᴰ·not-nil m); distinct = tt })
 
 -- ---- the case
 pub record Accepted (c : Case) : Type 0 where
   pub question-fits : QuestionFits (c .question)
   pub site-fits : SiteFits (c .question .rels) (c .site)
 
+-- and its labels
+pub record FiledFits (r : CaseRead) : Type 0 where
+  pub case-fits : Accepted (r .case)
+  pub labels-fit : LabelsFit (r .case .site .size) (r .labels)
+
+pub filed-fits : (L : CaseLimits) → L .elements ≤ 64 → (question site : List ℕ) → Gives FiledFits (readFiled L question site)
+unfolding readFiled
+filed-fits L few question site =
+    gives-bind QuestionFits FiledFits (readQuestion question) _ (question-fits question)
+    (λ q Q. gives-bind (LabelledFits (q .rels)) FiledFits (readSite L (q .rels) site) _ (site-fits L few (q .rels) site)
+    (λ s S. gives-accepted FiledFits _ (record { case-fits = record { question-fits = Q; site-fits = S .site-fits }; labels-fit = S .labels-fit })))
+
 pub case-fits : (L : CaseLimits) → L .elements ≤ 64 → (question site : List ℕ) → Gives Accepted (readCase L question site)
 unfolding readCase
-case-fits L few question site =
-    gives-bind QuestionFits Accepted (readQuestion question) _ (question-fits question)
-    (λ q Q. gives-bind (SiteFits (q .rels)) Accepted (readSite L (q .rels) site) _ (site-fits L few (q .rels) site)
-    (λ s S. gives-accepted Accepted _ (record { question-fits = Q; site-fits = S })))
+case-fits L few question site = gives-bind FiledFits Accepted (readFiled L question site) _ (filed-fits L few question site) (λ r R. gives-accepted Accepted _ (R .case-fits))
 
 -- the case's question is the one read from the question's text
 pub case-question : (L : CaseLimits) (question site : List ℕ) (c : Case) → readCase L question site ≡ accepted c → readQuestion question ≡ accepted (c .question)
-unfolding readCase
-case-question L question site c e = gives-if (λ c. readQuestion question ≡ accepted (c .question)) (readCase L question site) c e
-    (gives-bind (λ q. readQuestion question ≡ accepted q) (λ c. readQuestion question ≡ accepted (c .question)) (readQuestion question) _ (gives-self (readQuestion question))
-    (λ q h. gives-bind (λ _. Unit {0}) (λ c. readQuestion question ≡ accepted (c .question)) (readSite L (q .rels) site) _ (gives-any (readSite L (q .rels) site)) (λ s _. gives-accepted (λ c. readQuestion question ≡ accepted (c .question)) _ h)))
+unfolding readCase readFiled
+case-question L question site c e = gives-if Asks (readCase L question site) c e
+    (gives-bind (λ r. Asks (r .case)) Asks (readFiled L question site) _
+    (gives-bind (λ q. readQuestion question ≡ accepted q) (λ r. Asks (r .case)) (readQuestion question) _ (gives-self (readQuestion question))
+    (λ q h. gives-bind (λ _. Unit {0}) (λ r. Asks (r .case)) (readSite L (q .rels) site) _ (gives-any (readSite L (q .rels) site)) (λ s _. gives-accepted (λ r. Asks (r .case)) _ h)))
+    (λ r h. gives-accepted Asks (r .case) h))
+  where
+    Asks : Case → Type 0
+    Asks c = readQuestion question ≡ accepted (c .question)
 
 -- a problem that is read is that of an accepted case, and within the limits
 pub record ProblemFits (L : CaseLimits) (p : Problem) : Type 0 where

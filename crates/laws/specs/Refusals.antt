@@ -12,14 +12,14 @@ use Rattle.definitions.specs.Lists.{if_then_else_, all, any, option, isIn}
 use Rattle.definitions.specs.Text.{Line, lines}
 use Rattle.definitions.specs.Refusal.{Result, refused, accepted, _>>=_, refuseIf, given, readLines, readText, caseNumbers, readyNumbers, runNumbers, picksNumbers}
 use Rattle.definitions.specs.Relations.{Relation, Tuple}
-use Rattle.definitions.specs.Sheets.{Entry, rel, choose, rule, size, fact, pick, step, entryOf, Draft, addRel, addChoose, addRule, addToQuestion, questionLine, readQuestion, firstRel, addTuple, SiteDraft, addSize, addFact, addToSite, siteLine, readSite, addToPicks, picksLine, readPicks, addToSteps, stepsLine, readSteps}
+use Rattle.definitions.specs.Sheets.{Element, Entry, rel, choose, rule, size, label, fact, pick, step, entryOf, Draft, addRel, addChoose, addRule, addToQuestion, questionLine, readQuestion, firstRel, Label, addTuple, SiteDraft, addSize, addLabel, addFact, addToSite, siteLine, readSite, addToPicks, picksLine, readPicks, addToSteps, stepsLine, readSteps}
 use Rattle.definitions.specs.Truth.{Case, firstOfOtherKind}
 use Rattle.definitions.specs.Atoms.{Problem, goal, atomNumber, State, initial}
 use Rattle.definitions.specs.Actions.{Action, actionAt}
 use Rattle.definitions.specs.Strips.{mayTake, after, runFrom, run}
 use Rattle.definitions.specs.Built.{chosenNumbers, bound}
 use Rattle.definitions.specs.Judgement.{judge}
-use Rattle.definitions.specs.Outcome.{readCase, ground, readProblem, Ready, asked, nothing, satisfying, roomFor, sizes, action, stateLength, picksLength, Given, asText, asNumbers, takeSteps, textPicks, picksRoom, spareWord, spareRefusal, takePicks, readyToRun, checkedFrom, checkSteps, picksReadFrom, picksFromSteps, kindRefusal, Plan, plan, builtFrom, buildSteps}
+use Rattle.definitions.specs.Outcome.{CaseRead, readFiled, readCase, ground, readProblem, Ready, asked, nothing, satisfying, roomFor, sizes, action, stateLength, picksLength, Given, asText, asNumbers, takeSteps, textPicks, picksRoom, spareWord, spareRefusal, takePicks, readyToRun, checkedFrom, checkSteps, picksReadFrom, picksFromSteps, kindRefusal, Plan, plan, builtFrom, buildSteps}
 use Rattle.laws.specs.Booleans.{T-of, T-true}
 use Rattle.laws.specs.Lists.{all-at}
 use Rattle.laws.specs.Members.{in-mem}
@@ -101,6 +101,7 @@ question-add d at (choose name arity kind) = bind-by Sheet _ _ (if-by Sheet _ 3 
 question-add d at (rule text) = bind-by Sheet _ _ (if-by Sheet _ 3 at refl) (λ _. bind-by Sheet _ _ (given-by Sheet _ 5 at refl) (λ f. bind-by Sheet _ _ (if-by Sheet _ 6 at refl)
     (λ _. bind-by Sheet _ _ (if-by Sheet _ 7 at refl) (λ _. bind-by Sheet _ _ (if-by Sheet _ 8 at refl) (λ _. accepted-by Sheet _)))))
 question-add d at (size n) = other Draft at
+question-add d at (label x name) = other Draft at
 question-add d at (fact name xs) = other Draft at
 question-add d at (pick name xs) = other Draft at
 question-add d at (step k) = other Draft at
@@ -110,14 +111,20 @@ unfolding readQuestion questionLine isIn any
 question-by text = bind-by Sheet _ _ (text-by Sheet questionLine refl (λ d l. bind-by Sheet (entryOf l) _ (entry-by l) (question-add d (l .at))) _ text) (λ d. bind-by Sheet _ _ (given-by Sheet (d .ruled) 3 (length text) refl) (λ r. accepted-by Sheet _))
 
 -- ---- tuples, the site, picks, steps
-tuple-by : (rs : List Relation) (first n : ℕ) (ts : List Tuple) (at : ℕ) (name xs : List ℕ) → Refuses Sheet (addTuple rs first n ts at name xs)
+tuple-by : (rs : List Relation) (first n : ℕ) (labels : List Label) (ts : List Tuple) (at : ℕ) (name : List ℕ) (es : List Element) → Refuses Sheet (addTuple rs first n labels ts at name es)
 unfolding addTuple isIn any
-tuple-by rs first n ts at name xs = bind-by Sheet _ _ (given-by Sheet _ 7 at refl) (λ r. bind-by Sheet _ _ (if-by Sheet _ 9 at refl) (λ _. bind-by Sheet _ _ (if-by Sheet _ 10 at refl) (λ _. accepted-by Sheet _)))
+tuple-by rs first n labels ts at name es =
+    bind-by Sheet _ _ (given-by Sheet _ 7 at refl) (λ r. bind-by Sheet _ _ (if-by Sheet _ 9 at refl) (λ _. bind-by Sheet _ _ (given-by Sheet _ 18 at refl) (λ xs. bind-by Sheet _ _ (if-by Sheet _ 10 at refl) (λ _. accepted-by Sheet _))))
 
 size-by : (L : CaseLimits) (d : SiteDraft) (at n : ℕ) (o : Option ℕ) → Refuses Sheet (addSize L d at n o)
 unfolding addSize isIn any
 size-by L d at n none = bind-by Sheet _ _ (if-by Sheet _ 9 at refl) (λ _. accepted-by Sheet _)
 size-by L d at n (some m) = other SiteDraft at
+
+label-by : (d : SiteDraft) (at : ℕ) (e : Element) (name : List ℕ) → Refuses Sheet (addLabel d at e name)
+unfolding addLabel isIn any
+label-by d at e name = bind-by Sheet _ _ (given-by Sheet (d .sized) 3 at refl) (λ n. bind-by Sheet _ _ (if-by Sheet _ 3 at refl) (λ _. bind-by Sheet _ _ (if-by Sheet _ 9 at refl)
+    (λ _. bind-by Sheet _ _ (given-by Sheet _ 18 at refl) (λ x. bind-by Sheet _ _ (if-by Sheet _ 18 at refl) (λ _. accepted-by Sheet _)))))
 
 site-add : (L : CaseLimits) (rels : List Relation) (d : SiteDraft) (at : ℕ) (e : Entry) → Refuses Sheet (addToSite L rels d at e)
 unfolding addToSite addFact isIn any
@@ -125,7 +132,8 @@ site-add L rels d at (rel name arity) = other SiteDraft at
 site-add L rels d at (choose name arity kind) = other SiteDraft at
 site-add L rels d at (rule text) = other SiteDraft at
 site-add L rels d at (size n) = size-by L d at n (d .sized)
-site-add L rels d at (fact name xs) = bind-by Sheet _ _ (given-by Sheet (d .sized) 3 at refl) (λ n. bind-by Sheet _ _ (tuple-by rels firstRel n (d .facts) at name xs) (λ ts. accepted-by Sheet _))
+site-add L rels d at (label x name) = label-by d at x name
+site-add L rels d at (fact name xs) = bind-by Sheet _ _ (given-by Sheet (d .sized) 3 at refl) (λ n. bind-by Sheet _ _ (tuple-by rels firstRel n (d .labels) (d .facts) at name xs) (λ ts. accepted-by Sheet _))
 site-add L rels d at (pick name xs) = other SiteDraft at
 site-add L rels d at (step k) = other SiteDraft at
 
@@ -133,15 +141,16 @@ pub site-by : (L : CaseLimits) (rels : List Relation) (text : List ℕ) → Refu
 unfolding readSite siteLine isIn any
 site-by L rels text = bind-by Sheet _ _ (text-by Sheet (siteLine L rels) refl (λ d l. bind-by Sheet (entryOf l) _ (entry-by l) (site-add L rels d (l .at))) _ text) (λ d. bind-by Sheet _ _ (given-by Sheet (d .sized) 3 (length text) refl) (λ n. accepted-by Sheet _))
 
-picks-add : (rs : List Relation) (first n : ℕ) (ts : List Tuple) (at : ℕ) (e : Entry) → Refuses Sheet (addToPicks rs first n ts at e)
+picks-add : (rs : List Relation) (first n : ℕ) (labels : List Label) (ts : List Tuple) (at : ℕ) (e : Entry) → Refuses Sheet (addToPicks rs first n labels ts at e)
 unfolding addToPicks
-picks-add rs first n ts at (rel name arity) = other (List Tuple) at
-picks-add rs first n ts at (choose name arity kind) = other (List Tuple) at
-picks-add rs first n ts at (rule text) = other (List Tuple) at
-picks-add rs first n ts at (size m) = other (List Tuple) at
-picks-add rs first n ts at (fact name xs) = other (List Tuple) at
-picks-add rs first n ts at (pick name xs) = tuple-by rs first n ts at name xs
-picks-add rs first n ts at (step k) = other (List Tuple) at
+picks-add rs first n labels ts at (rel name arity) = other (List Tuple) at
+picks-add rs first n labels ts at (choose name arity kind) = other (List Tuple) at
+picks-add rs first n labels ts at (rule text) = other (List Tuple) at
+picks-add rs first n labels ts at (size m) = other (List Tuple) at
+picks-add rs first n labels ts at (label x name) = other (List Tuple) at
+picks-add rs first n labels ts at (fact name xs) = other (List Tuple) at
+picks-add rs first n labels ts at (pick name xs) = tuple-by rs first n labels ts at name xs
+picks-add rs first n labels ts at (step k) = other (List Tuple) at
 
 steps-add : (ks : List ℕ) (at : ℕ) (e : Entry) → Refuses Sheet (addToSteps ks at e)
 unfolding addToSteps
@@ -149,6 +158,7 @@ steps-add ks at (rel name arity) = other (List ℕ) at
 steps-add ks at (choose name arity kind) = other (List ℕ) at
 steps-add ks at (rule text) = other (List ℕ) at
 steps-add ks at (size m) = other (List ℕ) at
+steps-add ks at (label x name) = other (List ℕ) at
 steps-add ks at (fact name xs) = other (List ℕ) at
 steps-add ks at (pick name xs) = other (List ℕ) at
 steps-add ks at (step k) = accepted-by Sheet _
@@ -158,15 +168,19 @@ unfolding takeSteps readSteps stepsLine isIn any
 steps-by (asText text) = text-by Sheet stepsLine refl (λ ks l. bind-by Sheet (entryOf l) _ (entry-by l) (steps-add ks (l .at))) [] text
 steps-by (asNumbers ks) = bind-by Sheet _ _ (if-by Sheet _ 1 zero refl) (λ _. accepted-by Sheet _)
 
-picks-by : (c : Case) (g : Given) → Refuses Sheet (textPicks c g)
+picks-by : (c : Case) (labels : List Label) (g : Given) → Refuses Sheet (textPicks c labels g)
 unfolding textPicks readPicks picksLine isIn any
-picks-by c (asText text) = text-by Sheet _ refl (λ ts l. bind-by Sheet (entryOf l) _ (entry-by l) (picks-add _ _ _ ts (l .at))) [] text
-picks-by c (asNumbers words) = accepted-by Sheet _
+picks-by c labels (asText text) = text-by Sheet _ refl (λ ts l. bind-by Sheet (entryOf l) _ (entry-by l) (picks-add _ _ _ labels ts (l .at))) [] text
+picks-by c labels (asNumbers words) = accepted-by Sheet _
 
 -- ---- whole calls
+filed-by : (L : CaseLimits) (question site : List ℕ) → Refuses Sheet (readFiled L question site)
+unfolding readFiled
+filed-by L question site = bind-by Sheet _ _ (question-by question) (λ q. bind-by Sheet _ _ (site-by L (q .rels) site) (λ s. accepted-by Sheet _))
+
 case-by : (L : CaseLimits) (question site : List ℕ) → Refuses Sheet (readCase L question site)
 unfolding readCase
-case-by L question site = bind-by Sheet _ _ (question-by question) (λ q. bind-by Sheet _ _ (site-by L (q .rels) site) (λ s. accepted-by Sheet _))
+case-by L question site = bind-by Sheet _ _ (filed-by L question site) (λ r. accepted-by Sheet _)
 
 ground-by : (L : CaseLimits) (c : Case) → Refuses Sheet (ground L c)
 unfolding ground isIn any
@@ -184,18 +198,18 @@ unfolding roomFor isIn any
 room-by needed room = if-by Early _ 12 needed refl
 
 -- what every call begins with
-pub asked-by : {A : Type 0} (L : CaseLimits) (question site : List ℕ) (third : Case → Result A) (rooms : Problem → Result (Unit {0})) → ((c : Case) → Refuses Sheet (third c)) → ((p : Problem) → Refuses Early (rooms p)) → Refuses Early (asked L question site third nothing nothing rooms)
+pub asked-by : {A : Type 0} (L : CaseLimits) (question site : List ℕ) (third : CaseRead → Result A) (rooms : Problem → Result (Unit {0})) → ((c : CaseRead) → Refuses Sheet (third c)) → ((p : Problem) → Refuses Early (rooms p)) → Refuses Early (asked L question site third nothing nothing rooms)
 unfolding asked nothing
 asked-by L question site third rooms h g =
-    bind-by Early _ _ (weaken sheet-early _ (case-by L question site)) (λ c. bind-by Early _ _ (weaken sheet-early _ (h c)) (λ t. bind-by Early _ _ (accepted-by Early tt) (λ _.
-    bind-by Early _ _ (weaken sheet-early _ (ground-by L c)) (λ p. bind-by Early _ _ (accepted-by Early tt) (λ _. bind-by Early _ _ (g p) (λ _. accepted-by Early _))))))
+    bind-by Early _ _ (weaken sheet-early _ (filed-by L question site)) (λ c. bind-by Early _ _ (weaken sheet-early _ (h c)) (λ t. bind-by Early _ _ (accepted-by Early tt) (λ _.
+    bind-by Early _ _ (weaken sheet-early _ (ground-by L (c .case))) (λ p. bind-by Early _ _ (accepted-by Early tt) (λ _. bind-by Early _ _ (g p) (λ _. accepted-by Early _))))))
 
 -- of a case alone, where no buffer is lent
-alone-by : {A : Type 0} (L : CaseLimits) (question site : List ℕ) (third : Case → Result A) → ((c : Case) → Refuses Sheet (third c)) → Refuses Sheet (asked L question site third nothing nothing nothing)
+alone-by : {A : Type 0} (L : CaseLimits) (question site : List ℕ) (third : CaseRead → Result A) → ((c : CaseRead) → Refuses Sheet (third c)) → Refuses Sheet (asked L question site third nothing nothing nothing)
 unfolding asked nothing
 alone-by L question site third h =
-    bind-by Sheet _ _ (case-by L question site) (λ c. bind-by Sheet _ _ (h c) (λ t. bind-by Sheet _ _ (accepted-by Sheet tt) (λ _.
-    bind-by Sheet _ _ (ground-by L c) (λ p. bind-by Sheet _ _ (accepted-by Sheet tt) (λ _. bind-by Sheet _ _ (accepted-by Sheet tt) (λ _. accepted-by Sheet _))))))
+    bind-by Sheet _ _ (filed-by L question site) (λ c. bind-by Sheet _ _ (h c) (λ t. bind-by Sheet _ _ (accepted-by Sheet tt) (λ _.
+    bind-by Sheet _ _ (ground-by L (c .case)) (λ p. bind-by Sheet _ _ (accepted-by Sheet tt) (λ _. bind-by Sheet _ _ (accepted-by Sheet tt) (λ _. accepted-by Sheet _))))))
 
 pub nothing-by : {A : Type 0} (a : A) → Refuses Sheet (nothing a)
 unfolding nothing
@@ -262,7 +276,7 @@ module _ (L : CaseLimits) (question site : List ℕ) where
 
   ready-by : (g : Given) (rooms : Problem → Result (Unit {0})) → ((p : Problem) → Refuses Early (rooms p)) → Refuses Early (readyToRun L question site g rooms)
   unfolding readyToRun
-  ready-by g rooms h = asked-by L question site (λ c. takeSteps g) rooms (λ c. steps-by g) h
+  ready-by g rooms h = asked-by L question site (λ _. takeSteps g) rooms (λ _. steps-by g) h
 
   pub check-refuse : (steps : Given) (state : List ℕ) (k place : ℕ) → checkSteps L question site steps state .answer ≡ refused k place → In (readyNumbers ++ runNumbers) k
   unfolding checkSteps checkedFrom
@@ -316,7 +330,7 @@ module _ (L : CaseLimits) (question site : List ℕ) where
   plan-by : (g : Given) (stateRoom stepsRoom : ℕ) → Refuses Builds (plan L question site g stateRoom stepsRoom)
   unfolding plan
   plan-by g stateRoom stepsRoom = bind-by Builds _ _
-      (early-by _ (asked-by L question site (λ c. textPicks c g) _ (λ c. picks-by c g) (λ p. bind-by Early _ _ (picks-room p g) (λ _. bind-by Early _ _ (room-by (stateLength p) stateRoom) (λ _. room-by (bound p) stepsRoom)))))
+      (early-by _ (asked-by L question site (λ c. textPicks (c .case) (c .labels) g) _ (λ c. picks-by (c .case) (c .labels) g) (λ p. bind-by Early _ _ (picks-room p g) (λ _. bind-by Early _ _ (room-by (stateLength p) stateRoom) (λ _. room-by (bound p) stepsRoom)))))
       (λ r. bind-by Builds _ _ (satisfying-by (r .case) (r .problem) g (r .third)) (λ F. accepted-by Builds _))
 
   pub build-refuse : (picks : Given) (state steps : List ℕ) (k place : ℕ) → buildSteps L question site picks state steps .answer ≡ refused k place → In (readyNumbers ++ picksNumbers) k
@@ -329,5 +343,5 @@ module _ (L : CaseLimits) (question site : List ℕ) where
 
   pub judge-refuse : (picks : Given) (k place : ℕ) → judge L question site picks ≡ refused k place → In (readyNumbers ++ picksNumbers) k
   unfolding judge
-  judge-refuse picks k place e = told Builds _ k place e (bind-by Builds _ _ (early-by _ (asked-by L question site (λ c. textPicks c picks) _ (λ c. picks-by c picks) (λ p. picks-room p picks)))
+  judge-refuse picks k place e = told Builds _ k place e (bind-by Builds _ _ (early-by _ (asked-by L question site (λ c. textPicks (c .case) (c .labels) picks) _ (λ c. picks-by (c .case) (c .labels) picks) (λ p. picks-room p picks)))
       (λ r. bind-by Builds _ _ (satisfying-by (r .case) (r .problem) picks (r .third)) (λ F. accepted-by Builds _)))

@@ -15,7 +15,8 @@ use Rattle.definitions.specs.Tree.{Tree, Trees, leaf, forallNode, existsNode, a
 use Rattle.definitions.specs.Atoms.{Problem, problemOf, problemWith, Block, countOf, rowsOf, nodeWidth, relationsBlocks, nodesBlocks, atomBlocks, atoms, nodeAtoms}
 use Rattle.definitions.specs.Actions.{Action, beginProof, proveGoal, choices, proofsOf, setBlocks, proofBlocks, actionBlocks, actions}
 use Rattle.definitions.specs.Built.{mostPicks, bound}
-use Rattle.definitions.specs.Outcome.{Sizes, sizesOf, readCase, ground, sizes, Ready, asked, nothing}
+use Rattle.definitions.specs.Sheets.{Label}
+use Rattle.definitions.specs.Outcome.{Sizes, sizesOf, CaseRead, readFiled, readCase, ground, sizes, Ready, asked, nothing}
 use Rattle.definitions.specs.Tally.{noWalk, thenWalk, visit, walk, walkAll, walked, Tally, tallyOf, tally}
 use Rattle.laws.specs.Lists.{from-append}
 use Rattle.laws.specs.Blocks.{count-append}
@@ -174,18 +175,17 @@ abbrev pub within : CaseLimits → Tally → Result Sizes
 within L t = refuseIf (ltb (L .atoms) (t .sizes .atomCount) || ltb (L .actions) (t .sizes .actionCount)) 11 zero >>= λ _. accepted (t .sizes)
 
 module _ (L : CaseLimits) where
-  abbrev sized : Case → Problem → Result Sizes
-  sized c p = accepted (record { case = c; problem = p; third = tt }) >>= λ (r : Ready (Unit {0})). accepted (sizesOf (r .problem))
-
-  limited : (c : Case) (b : Bool) → (refuseIf b 11 zero >>= (λ _. accepted (problemOf c)) >>= (λ p. accepted (record { case = c; problem = p; third = tt })) >>= λ (r : Ready (Unit {0})). accepted (sizesOf (r .problem))) ≡ (refuseIf b 11 zero >>= λ _. accepted (sizesOf (problemOf c)))
+  limited : (c : Case) (labels : List Label) (b : Bool)
+      → (refuseIf b 11 zero >>= (λ _. accepted (problemOf c)) >>= (λ p. accepted (record { case = c; labels = labels; problem = p; third = tt })) >>= λ (r : Ready (Unit {0})). accepted (sizesOf (r .problem))) ≡ (refuseIf b 11 zero >>= λ _. accepted (sizesOf (problemOf c)))
   unfolding refuseIf _>>=_
-  limited c true = refl
-  limited c false = refl
+  limited c labels true = refl
+  limited c labels false = refl
 
   pub sizes-tally : (question site : List ℕ) → sizes L question site ≡ (tally L question site >>= within L)
-  unfolding sizes asked nothing tally ground sizesOf _>>=_
-  sizes-tally question site = go (readCase L question site)
+  unfolding sizes asked nothing tally readCase ground sizesOf _>>=_
+  sizes-tally question site = go (readFiled L question site)
     where
-      go : (m : Result Case) → (m >>= (λ c. ground L c >>= λ p. accepted (record { case = c; problem = p; third = tt })) >>= λ (r : Ready (Unit {0})). accepted (sizesOf (r .problem))) ≡ (m >>= (λ c. accepted (tallyOf (problemOf c))) >>= within L)
+      go : (m : Result CaseRead)
+          → (m >>= (λ r. ground L (r .case) >>= λ p. accepted (record { case = r .case; labels = r .labels; problem = p; third = tt })) >>= λ (r : Ready (Unit {0})). accepted (sizesOf (r .problem))) ≡ (m >>= (λ r. accepted (r .case)) >>= (λ c. accepted (tallyOf (problemOf c))) >>= within L)
       go (refused k place) = refl
-      go (accepted c) = limited c (ltb (L .atoms) (atoms (problemOf c)) || ltb (L .actions) (actions (problemOf c))) ∙ ap (within L) (sym (tally-is c))
+      go (accepted r) = let c : Case = r .case in limited c (r .labels) (ltb (L .atoms) (atoms (problemOf c)) || ltb (L .actions) (actions (problemOf c))) ∙ ap (within L) (sym (tally-is c))

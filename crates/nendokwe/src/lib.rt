@@ -370,7 +370,7 @@ pub extern "C" fn nendokwe_tries(
     *place = r.place;
 }
 
-// What the desk program prints for an input, and how many bytes that is. As many are lent as it can print at the most: 573,952.
+// What the desk program prints for an input, and how many bytes that is. The 573,952 that are lent are always enough.
 #[no_mangle]
 pub extern "C" fn nendokwe_desk(input: &[u8], out: &mut [u8; desk::ROOM]) -> usize
     ensures { λ r. ⌜ r ≡ length (desk (now (input .entry))) ⌝ }

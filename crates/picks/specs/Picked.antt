@@ -15,7 +15,7 @@ use Rattle.bits.proofs.Laws.{bit-words, length-words, is-words}
 use Rattle.definitions.specs.Lists.{if_then_else_, filter, flatMap, from, below}
 use Rattle.definitions.specs.Refusal.{Result, accepted}
 use Rattle.definitions.specs.Relations.{Relation, Tuple, isChosen}
-use Rattle.definitions.specs.Sheets.{readPicks, firstChosen}
+use Rattle.definitions.specs.Sheets.{Label, readPicks, firstChosen}
 use Rattle.definitions.specs.Truth.{Case, arePicks}
 use Rattle.definitions.specs.Atoms.{Problem, problemOf, relationAt, tuplesOf}
 use Rattle.definitions.specs.Built.{chosenNumbers, isPicked}
@@ -29,6 +29,7 @@ use Rattle.tuples.specs.Marks.{firstWord, bitOf, marks, AllValid, Roomy}
 use Rattle.tuples.proofs.Words as W
 use Rattle.laws.specs.Reader.{Accepted}
 use Rattle.laws.specs.Grounded.{first-chosen, good, chosen-at}
+use Rattle.laws.specs.Labels.{LabelsFit, no-labels}
 use Rattle.laws.specs.Building.{given-text, given-words, given-picks}
 use Rattle.laws.specs.Lent.{words-take, words-of, words-again, pick-words}
 use Rattle.states.specs.Kinds.{numbers-are}
@@ -138,11 +139,11 @@ module _ (s : List ℕ) (c : Case) (A : Accepted c) (o : Opened) (facts : ℕ �
   some-elements = subst (λ (n : ℕ). 0 < n) size (h .some-elements)
 
   -- what the code reads is what the definitions read
-  pub text-read : (text : List ℕ) → readPicks (chosenOf s (o .sig)) (5 + o .sig .rels) (o .n) text ≡ textPicks c (asText text)
+  pub text-read : (labels : List Label) (text : List ℕ) → readPicks (chosenOf s (o .sig)) (5 + o .sig .rels) (o .n) labels text ≡ textPicks c labels (asText text)
   unfolding textPicks
-  text-read text =
-      ap (λ (ks : List Relation). readPicks ks (5 + o .sig .rels) (o .n) text) (sym (h .chosen))
-      ∙ ap₂ (λ (a n : ℕ). readPicks (c .question .chosen) a n text) (sym first-is) (h .size)
+  text-read labels text =
+      ap (λ (ks : List Relation). readPicks ks (5 + o .sig .rels) (o .n) labels text) (sym (h .chosen))
+      ∙ ap₂ (λ (a n : ℕ). readPicks (c .question .chosen) a n labels text) (sym first-is) (h .size)
 
   -- the words of the picks of a problem, and that a table with room for the `choose` relations holds them
   length-is : picksLength (problemOf c) ≡ firstWord (o .sig) (problemOf c .size) (o .sig .rels) (o .sig .chosen)
@@ -153,15 +154,15 @@ module _ (s : List ℕ) (c : Case) (A : Accepted c) (o : Opened) (facts : ℕ �
   unfolding Roomy
   text-fits room r = subst (λ (k : ℕ). k ≤ room) (sym (length-is ∙ ap (λ (n : ℕ). firstWord (o .sig) n (o .sig .rels) (o .sig .chosen)) (sym size))) (r (o .sig))
 
-  module _ (text : List ℕ) (F : List Tuple) (read : textPicks c (asText text) ≡ accepted F) where
+  module _ (labels : List Label) (fit : LabelsFit (c .site .size) labels) (text : List ℕ) (F : List Tuple) (read : textPicks c labels (asText text) ≡ accepted F) where
     pub text-are : arePicks c F ≡ true
     unfolding textPicks
-    text-are = given-picks c A (asText text) F (given-text c (problemOf c) text ∙ read)
+    text-are = given-picks c A labels fit (asText text) F (given-text c labels (problemOf c) text ∙ read)
 
-    module _ (w : List ℕ) (ok : Words w) (room : PicksRoom (o .sig) (o .n) (length w)) (held : PicksIn (o .sig) (o .n) (readPicks (chosenOf s (o .sig)) (5 + o .sig .rels) (o .n) text) (bit w)) where
+    module _ (w : List ℕ) (ok : Words w) (room : PicksRoom (o .sig) (o .n) (length w)) (held : PicksIn (o .sig) (o .n) (readPicks (chosenOf s (o .sig)) (5 + o .sig .rels) (o .n) labels text) (bit w)) where
       its-picks : Picks (o .sig) (problemOf c .size) F (bit w)
       unfolding PicksIn
-      its-picks = subst (λ (n : ℕ). Picks (o .sig) n F (bit w)) size (subst (λ (r : Result (List Tuple)). PicksIn (o .sig) (o .n) r (bit w)) (text-read text ∙ read) held)
+      its-picks = subst (λ (n : ℕ). Picks (o .sig) n F (bit w)) size (subst (λ (r : Result (List Tuple)). PicksIn (o .sig) (o .n) r (bit w)) (text-read labels text ∙ read) held)
 
       -- the words' front is written for the picks read
       pub text-front : take (picksLength (problemOf c)) w ≡ pickWords (problemOf c) F
@@ -188,7 +189,7 @@ module _ (c : Case) (A : Accepted c) (w : List ℕ) (room : picksLength (problem
   lent = lentPicks (problemOf c) w (chosenNumbers (problemOf c))
 
   pub lent-are : arePicks c lent ≡ true
-  lent-are = given-picks c A (asNumbers w) lent (given-words c (problemOf c) w room e)
+  lent-are = given-picks c A [] (no-labels _) (asNumbers w) lent (given-words c [] (problemOf c) w room e)
 
   pub lent-front : Words w → take (picksLength (problemOf c)) w ≡ pickWords (problemOf c) lent
   lent-front ok = sym (words-again (problemOf c) (good c A) w ok room e)

@@ -6,6 +6,7 @@ use mathlib.Core.Option.{none}
 use mathlib.Core.List.{List}
 use Rattle.definitions.specs.Refusal.{Result, refused, accepted, _>>=_}
 use Rattle.definitions.specs.Relations.{Tuple}
+use Rattle.definitions.specs.Sheets.{Label}
 use Rattle.definitions.specs.Truth.{Case, arePicks, firstOfOtherKind}
 use Rattle.definitions.specs.Atoms.{Problem, problemOf, State, initial, atoms}
 use Rattle.definitions.specs.Actions.{actions}
@@ -18,18 +19,18 @@ use Rattle.picks.specs.Handed.{decided}
 use Rattle.plans.specs.declared.Answer.{Answer}
 use Rattle.plans.specs.declared.Answer.the-variants.{Steps, OtherKind, RuleFalse}
 
--- 16, then 17, then the steps
-unfoldable pub planned : Case → Problem → List Tuple → Result Plan
-planned c p F = decided c p F >>= λ G. accepted (record { problem = p; picks = G; steps = builtSteps p G })
+-- 16, then 17, then the steps; the labels are only handed on
+unfoldable pub planned : List Label → Case → Problem → List Tuple → Result Plan
+planned labels c p F = decided c p F >>= λ G. accepted (record { labels = labels; problem = p; picks = G; steps = builtSteps p G })
 
 unfoldable pub answered : Answer → Result ℕ
 answered (Steps k) = accepted k
 answered (OtherKind i) = refused 16 i
 answered RuleFalse = refused 17 zero
 
--- the answer, and what the lent state and steps hold then, are those of building
+-- the answer, and what the lent state and steps hold then, are those of building, whatever the labels
 abbrev pub Gives : Case → Problem → List Tuple → (state steps : List ℕ) → Answer → (state′ steps′ : List ℕ) → Type 0
-Gives c p F state steps r state′ steps′ = builtFrom (planned c p F) state steps ≡ record { answer = answered r; state = state′; steps = steps′ }
+Gives c p F state steps r state′ steps′ = (labels : List Label) → builtFrom (planned labels c p F) state steps ≡ record { answer = answered r; state = state′; steps = steps′ }
 
 -- a table, picks of the declared kinds, the state to start from and room for the steps are those of a case
 pub record Asked (c : Case) (F : List Tuple) (table words : List ℕ) (start : State) (count room : ℕ) : Type 0 where

@@ -90,13 +90,13 @@ module _ (c : Case) (A : Accepted c) (F : List Tuple) (picks : arePicks c F ≡ 
 module _ (c : Case) (p : Problem) (F : List Tuple) (state steps : List ℕ) where
   pub gives-kind : (i : ℕ) → some i ≡ firstOfOtherKind c F → Gives c p F state steps (OtherKind i) state steps
   unfolding planned decided satisfying takePicks answered builtFrom kindRefusal _>>=_
-  gives-kind i e = rw (sym e)
+  gives-kind i e labels = rw (sym e)
 
   pub gives-false : none ≡ firstOfOtherKind c F → ruleIsTrue c F ≡ false → Gives c p F state steps RuleFalse state steps
   unfolding planned decided satisfying takePicks answered builtFrom kindRefusal _>>=_ refuseIf
-  gives-false e t = rw (sym e, t)
+  gives-false e t labels = rw (sym e, t)
 
   pub gives-steps : (k : ℕ) (state′ steps′ : List ℕ) → none ≡ firstOfOtherKind c F → ruleIsTrue c F ≡ true → k ≡ length (builtSteps p F)
       → state′ ≡ written (stateWords p (run p (builtSteps p F) .state)) state → steps′ ≡ written (builtSteps p F) steps → Gives c p F state steps (Steps k) state′ steps′
   unfolding planned decided satisfying takePicks answered builtFrom kindRefusal _>>=_ refuseIf
-  gives-steps k state′ steps′ e t n a b = rw (sym e, t, n, a, b)
+  gives-steps k state′ steps′ e t n a b labels = rw (sym e, t, n, a, b)

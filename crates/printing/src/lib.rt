@@ -2,14 +2,14 @@
 // byte before and after that as it was.
 ghost use mathlib.Core.Path.{_≡_};
 ghost use mathlib.Core.List.{[], _∷_, map};
-ghost use Prim.Native.Nat.{_+_, _≤_, _<_, _^_};
-ghost use lib.ListN.{length, take};
+ghost use Prim.Native.Nat.{_+_, _*_, _≤_, _<_, _^_};
+ghost use lib.ListN.{length, take, getD};
 ghost use Rattle.definitions.specs.Lists.{flatMap};
 ghost use Rattle.definitions.specs.Text.{bytes, decimal as «decimal-of»};
 ghost use Rattle.definitions.specs.Atoms.{placesOf};
 ghost use Rattle.definitions.specs.Desk.{printLine, sizesLine, stepLine};
 ghost use Rattle.printing.specs.Printed.{Prints};
-ghost use Rattle.printing.specs.Lines.{field as «field-of», elements as «elements-of»};
+ghost use Rattle.printing.specs.Lines.{field as «field-of», Spans, saidBy, element as «element-of», elements as «elements-of»};
 
 // One byte.
 pub fn byte(out: &mut [u8], at: usize, b: u8) -> usize
@@ -97,24 +97,59 @@ pub fn count_line(out: &mut [u8], at: usize, name: &[u8], k: usize) -> usize
     byte(out, counted, 10)
 }
 
+// Where a part of a text stands.
+struct Span {
+    from: usize,
+    to: usize,
+}
+
+// Where the label of element x stands in the site's text; it ends at 0 where there is none.
+fn label(labels: &[usize], x: usize) -> Span
+    requires { ⌜ 2 * x + 1 < length (now labels) ⌝ }
+    ensures { λ r. ⌜ (r .from ≡ getD (now (labels .entry)) (2 * x) 0) × (r .to ≡ getD (now (labels .entry)) (2 * x + 1) 0) ⌝ }
+{
+    let i = 2 * x;
+    Span {
+        from: labels[i],
+        to: labels[i + 1],
+    }
+}
+
+// An element, a field: its label, or its number where it has none.
+fn element(out: &mut [u8], at: usize, site: &[u8], labels: &[usize], x: usize) -> usize
+    requires { ⌜ Spans (now site) (now labels) (x + 1) × (at + length («element-of» (now site) (now labels) x) ≤ length (now out)) ⌝ }
+    ensures { λ r. ⌜ Prints («element-of» (now (site .entry)) (now (labels .entry)) x) (now (out .entry)) at (now (out .exit)) r ⌝ }
+{
+    let next = byte(out, at, 9);
+    let l = label(labels, x);
+    let from = l.from;
+    let to = l.to;
+    if to == 0 {
+        return decimal(out, next, x);
+    }
+    text(out, next, &site[from..to])
+}
+
 // The values of a row's places, a field each, the first place first. `tuples` is how many rows there are.
 pub fn elements(
     out: &mut [u8],
     at: usize,
+    site: &[u8],
+    labels: &[usize],
     n: usize,
     arity: usize,
     tuples: usize,
     row: usize,
 ) -> usize
-    requires { ⌜ (0 < n) × (tuples ≡ n ^ arity) × (at + length («elements-of» (placesOf n arity row)) ≤ length (now out)) ⌝ }
-    ensures { λ r. ⌜ Prints («elements-of» (placesOf n arity row)) (now (out .entry)) at (now (out .exit)) r ⌝ }
+    requires { ⌜ Spans (now site) (now labels) n × (0 < n) × (tuples ≡ n ^ arity) × (at + length («elements-of» (now site) (now labels) (placesOf n arity row)) ≤ length (now out)) ⌝ }
+    ensures { λ r. ⌜ Prints («elements-of» (now (site .entry)) (now (labels .entry)) (placesOf n arity row)) (now (out .entry)) at (now (out .exit)) r ⌝ }
 {
     let mut width = tuples;
     let mut left = arity;
     let mut next = at;
     while 0 < left {
         width = width / n;
-        next = field(out, next, row / width % n);
+        next = element(out, next, site, labels, row / width % n);
         left -= 1;
     }
     next
@@ -125,17 +160,19 @@ pub fn pick_line(
     out: &mut [u8],
     at: usize,
     name: &[u8],
+    site: &[u8],
+    labels: &[usize],
     n: usize,
     arity: usize,
     tuples: usize,
     row: usize,
 ) -> usize
-    requires { ⌜ (0 < n) × (tuples ≡ n ^ arity) × (at + length (printLine (bytes "pick" ∷ now name ∷ map «decimal-of» (placesOf n arity row))) ≤ length (now out)) ⌝ }
-    ensures { λ r. ⌜ Prints (printLine (bytes "pick" ∷ now (name .entry) ∷ map «decimal-of» (placesOf n arity row))) (now (out .entry)) at (now (out .exit)) r ⌝ }
+    requires { ⌜ Spans (now site) (now labels) n × (0 < n) × (tuples ≡ n ^ arity) × (at + length (printLine (bytes "pick" ∷ now name ∷ map (saidBy (now site) (now labels)) (placesOf n arity row))) ≤ length (now out)) ⌝ }
+    ensures { λ r. ⌜ Prints (printLine (bytes "pick" ∷ now (name .entry) ∷ map (saidBy (now (site .entry)) (now (labels .entry))) (placesOf n arity row))) (now (out .entry)) at (now (out .exit)) r ⌝ }
 {
     let word = text(out, at, b"pick\t");
     let named = text(out, word, name);
-    let listed = elements(out, named, n, arity, tuples, row);
+    let listed = elements(out, named, site, labels, n, arity, tuples, row);
     byte(out, listed, 10)
 }
 

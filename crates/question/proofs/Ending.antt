@@ -18,7 +18,7 @@ use Rattle.definitions.specs.Outcome.{spanOf, rulePart}
 use Rattle.records.specs.Lines.{readAt}
 use Rattle.records.specs.Entries.{entryIn, Reads}
 use Rattle.records.specs.declared.Entry.{Entry}
-use Rattle.records.specs.declared.Entry.the-variants.{Wrong, Rel, Choose, Rule, Size, Fact, Pick, Step}
+use Rattle.records.specs.declared.Entry.the-variants.{Wrong, Rel, Choose, Rule, Size, Label, Fact, Pick, Step}
 use Rattle.records.proofs.Runs.{read-stop, read-next}
 use Rattle.names.specs.declared.Signature.{Signature}
 use Rattle.names.specs.Signatures.{relationsFrom, relsOf, chosenOf, allOf, Sound}
@@ -103,8 +103,9 @@ later-by s at g text p f (Choose a e k d) h = refl
 later-by s at g text p f (Rule a e) h = refl
 later-by s at g text p f Wrong h = refl
 later-by s at g text p f (Size n) h = refl
-later-by s at g text p f (Fact a e y) h = refl
-later-by s at g text p f (Pick a e y) h = refl
+later-by s at g text p f (Label y a b e) h = refl
+later-by s at g text p f (Fact a b e y) h = refl
+later-by s at g text p f (Pick a b e y) h = refl
 later-by s at g text p f (Step k) h = refl
 
 later-line : (s : List ℕ) (at next : ℕ) (g : Signature) (text : List ℕ) (p : ℕ) (f : Formula) (x : Entry) → 1 ≤ g .chosen → Reads s at next x

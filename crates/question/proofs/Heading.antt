@@ -19,7 +19,7 @@ use Rattle.records.specs.Lines.{lineBy, readAt}
 use Rattle.text.specs.Spans.{kindOf}
 use Rattle.records.specs.Entries.{entryIn, InText, Reads}
 use Rattle.records.specs.declared.Entry.{Entry}
-use Rattle.records.specs.declared.Entry.the-variants.{Wrong, Rel, Choose, Rule, Size, Fact, Pick, Step}
+use Rattle.records.specs.declared.Entry.the-variants.{Wrong, Rel, Choose, Rule, Size, Label, Fact, Pick, Step}
 use Rattle.records.proofs.Runs.{read-long, read-start, read-stop, read-next}
 use Rattle.names.specs.declared.Signature.{Signature}
 use Rattle.names.specs.Signatures.{relationsFrom, Sound}
@@ -114,8 +114,9 @@ module _ (s : List ℕ) (g : Signature) (at : ℕ) (v : Sound s g) (w : Roomy g)
       rule-not false q = omega arith
   line-good Wrong t p = absurd (omega arith)
   line-good (Size n) t p = absurd (omega arith)
-  line-good (Fact a e y) t p = absurd (omega arith)
-  line-good (Pick a e y) t p = absurd (omega arith)
+  line-good (Label y a b e) t p = absurd (omega arith)
+  line-good (Fact a b e y) t p = absurd (omega arith)
+  line-good (Pick a b e y) t p = absurd (omega arith)
   line-good (Step k) t p = absurd (omega arith)
 
   pub line-bad : (x : Entry) (c : ℕ) → judgeOf s g x ≡ c → (c ≡ 0 → ⊥) → (c ≡ 1 → ⊥) → (given (entryIn s x) 2 at >>= D.addToQuestion (draftOf s g) at) ≡ refused c at
@@ -129,8 +130,9 @@ module _ (s : List ℕ) (g : Signature) (at : ℕ) (v : Sound s g) (w : Roomy g)
       go false q = absurd (m (sym p ∙ rw q))
   line-bad Wrong c p n m = rw (← p)
   line-bad (Size k) c p n m = rw (← p)
-  line-bad (Fact a e y) c p n m = rw (← p)
-  line-bad (Pick a e y) c p n m = rw (← p)
+  line-bad (Label y a b e) c p n m = rw (← p)
+  line-bad (Fact a b e y) c p n m = rw (← p)
+  line-bad (Pick a b e y) c p n m = rw (← p)
   line-bad (Step k) c p n m = rw (← p)
 
   unfoldable pub IsRule : Entry → Span → Type 0
@@ -157,8 +159,9 @@ module _ (s : List ℕ) (g : Signature) (at : ℕ) (v : Sound s g) (w : Roomy g)
       not-one false false q = omega arith
   line-rule Wrong t p = absurd (omega arith)
   line-rule (Size k) t p = absurd (omega arith)
-  line-rule (Fact a e y) t p = absurd (omega arith)
-  line-rule (Pick a e y) t p = absurd (omega arith)
+  line-rule (Label y a b e) t p = absurd (omega arith)
+  line-rule (Fact a b e y) t p = absurd (omega arith)
+  line-rule (Pick a b e y) t p = absurd (omega arith)
   line-rule (Step k) t p = absurd (omega arith)
 
 -- ---- the loop
@@ -242,6 +245,7 @@ head-room s g (Rule a e) c v j z = absurd (rule-not (eqb (g .chosen) 0) (sym j �
     rule-not false q = omega arith
 head-room s g Wrong c v j z = absurd (omega arith)
 head-room s g (Size n) c v j z = absurd (omega arith)
-head-room s g (Fact a e y) c v j z = absurd (omega arith)
-head-room s g (Pick a e y) c v j z = absurd (omega arith)
+head-room s g (Label y a b e) c v j z = absurd (omega arith)
+head-room s g (Fact a b e y) c v j z = absurd (omega arith)
+head-room s g (Pick a b e y) c v j z = absurd (omega arith)
 head-room s g (Step k) c v j z = absurd (omega arith)

@@ -13,7 +13,7 @@ use Rattle.names.specs.Signatures.{relsOf, chosenOf, allOf}
 use Rattle.records.specs.Entries.{InText}
 use Rattle.records.specs.declared.Places.{Places}
 use Rattle.records.specs.declared.Entry.{Entry}
-use Rattle.records.specs.declared.Entry.the-variants.{Wrong, Rel, Choose, Rule, Size, Fact, Pick, Step}
+use Rattle.records.specs.declared.Entry.the-variants.{Wrong, Rel, Choose, Rule, Size, Label, Fact, Pick, Step}
 use Rattle.names.specs.declared.Signature.{Signature}
 use Rattle.question.specs.Drafts.{draftOf, newIn, judgeOf}
 
@@ -72,13 +72,17 @@ module _ (s : List ℕ) (g : Signature) (x : Entry) where
   unfolding judgeOf
   judge-size n p = sym (ap (judgeOf s g) p)
 
-  pub judge-fact : (a e : ℕ) (y : Places) → x ≡ Fact a e y → 3 ≡ judgeOf s g x
+  pub judge-label : (k a t e : ℕ) → x ≡ Label k a t e → 3 ≡ judgeOf s g x
   unfolding judgeOf
-  judge-fact a e y p = sym (ap (judgeOf s g) p)
+  judge-label k a t e p = sym (ap (judgeOf s g) p)
 
-  pub judge-pick : (a e : ℕ) (y : Places) → x ≡ Pick a e y → 3 ≡ judgeOf s g x
+  pub judge-fact : (a t e : ℕ) (y : Places) → x ≡ Fact a t e y → 3 ≡ judgeOf s g x
   unfolding judgeOf
-  judge-pick a e y p = sym (ap (judgeOf s g) p)
+  judge-fact a t e y p = sym (ap (judgeOf s g) p)
+
+  pub judge-pick : (a t e : ℕ) (y : Places) → x ≡ Pick a t e y → 3 ≡ judgeOf s g x
+  unfolding judgeOf
+  judge-pick a t e y p = sym (ap (judgeOf s g) p)
 
   pub judge-step : (n : ℕ) → x ≡ Step n → 3 ≡ judgeOf s g x
   unfolding judgeOf

@@ -13,7 +13,7 @@ use Rattle.definitions.specs.Parsing.{readFormula}
 use Rattle.definitions.specs.Sheets as D
 use Rattle.records.specs.Lines.{readAt}
 use Rattle.records.specs.declared.Entry.{Entry}
-use Rattle.records.specs.declared.Entry.the-variants.{Wrong, Rel, Choose, Rule, Size, Fact, Pick, Step}
+use Rattle.records.specs.declared.Entry.the-variants.{Wrong, Rel, Choose, Rule, Size, Label, Fact, Pick, Step}
 use Rattle.names.specs.declared.Signature.{Signature}
 use Rattle.names.specs.Signatures.{relationsFrom, relsOf, chosenOf, allOf, Sound}
 use Rattle.formula.specs.Seen.{ruleNumber}
@@ -36,8 +36,9 @@ judgeOf s g (Rel a e k) = if not (eqb (g .chosen) 0) || leb 8 (g .rels) then 3 e
 judgeOf s g (Choose a e k d) = if leb 4 (g .chosen) then 3 else if newIn s g (slice a e s) then 0 else 4
 judgeOf s g (Rule a e) = if eqb (g .chosen) 0 then 3 else 1
 judgeOf s g (Size n) = 3
-judgeOf s g (Fact a e p) = 3
-judgeOf s g (Pick a e p) = 3
+judgeOf s g (Label k a t e) = 3
+judgeOf s g (Fact a t e p) = 3
+judgeOf s g (Pick a t e p) = 3
 judgeOf s g (Step k) = 3
 
 -- the signature with relation i
@@ -57,8 +58,9 @@ grownBy g (Rel a e k) = pushed g (g .rels) a e k 0 (g .rels + 1) (g .chosen)
 grownBy g (Choose a e k d) = pushed g (g .rels + g .chosen) a e k d (g .rels) (g .chosen + 1)
 grownBy g (Rule a e) = g
 grownBy g (Size n) = g
-grownBy g (Fact a e p) = g
-grownBy g (Pick a e p) = g
+grownBy g (Label k a t e) = g
+grownBy g (Fact a t e p) = g
+grownBy g (Pick a t e p) = g
 grownBy g (Step k) = g
 
 unfoldable pub spanIn : Entry → Span
@@ -67,8 +69,9 @@ spanIn (Rel a e k) = record { from = 0; to = 0 }
 spanIn (Choose a e k d) = record { from = 0; to = 0 }
 spanIn (Rule a e) = record { from = a; to = e }
 spanIn (Size n) = record { from = 0; to = 0 }
-spanIn (Fact a e p) = record { from = 0; to = 0 }
-spanIn (Pick a e p) = record { from = 0; to = 0 }
+spanIn (Label k a t e) = record { from = 0; to = 0 }
+spanIn (Fact a t e p) = record { from = 0; to = 0 }
+spanIn (Pick a t e p) = record { from = 0; to = 0 }
 spanIn (Step k) = record { from = 0; to = 0 }
 
 -- a question is whole once it has its rule
@@ -132,6 +135,7 @@ laterOf (Rel a e k) = 3
 laterOf (Choose a e k d) = 3
 laterOf (Rule a e) = 3
 laterOf (Size n) = 3
-laterOf (Fact a e p) = 3
-laterOf (Pick a e p) = 3
+laterOf (Label k a t e) = 3
+laterOf (Fact a t e p) = 3
+laterOf (Pick a t e p) = 3
 laterOf (Step k) = 3

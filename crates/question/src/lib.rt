@@ -96,8 +96,9 @@ fn judge(s: &[u8], g: Signature, at: usize, x: Entry) -> u32
             1
         }
         Entry::Size(_) => 3,
-        Entry::Fact(_, _, _) => 3,
-        Entry::Pick(_, _, _) => 3,
+        Entry::Label(_, _, _, _) => 3,
+        Entry::Fact(_, _, _, _) => 3,
+        Entry::Pick(_, _, _, _) => 3,
         Entry::Step(_) => 3,
     }
 }
@@ -146,8 +147,9 @@ fn grow(g: Signature, x: Entry) -> Signature
         ),
         Entry::Rule(_, _) => g,
         Entry::Size(_) => g,
-        Entry::Fact(_, _, _) => g,
-        Entry::Pick(_, _, _) => g,
+        Entry::Label(_, _, _, _) => g,
+        Entry::Fact(_, _, _, _) => g,
+        Entry::Pick(_, _, _, _) => g,
         Entry::Step(_) => g,
     }
 }
@@ -162,8 +164,9 @@ fn rule_span(x: Entry) -> Span
         Entry::Choose(_, _, _, _) => Span { from: 0, to: 0 },
         Entry::Rule(a, e) => Span { from: a, to: e },
         Entry::Size(_) => Span { from: 0, to: 0 },
-        Entry::Fact(_, _, _) => Span { from: 0, to: 0 },
-        Entry::Pick(_, _, _) => Span { from: 0, to: 0 },
+        Entry::Label(_, _, _, _) => Span { from: 0, to: 0 },
+        Entry::Fact(_, _, _, _) => Span { from: 0, to: 0 },
+        Entry::Pick(_, _, _, _) => Span { from: 0, to: 0 },
         Entry::Step(_) => Span { from: 0, to: 0 },
     }
 }
@@ -239,8 +242,9 @@ fn after_rule(x: Entry) -> u32
         Entry::Choose(_, _, _, _) => 3,
         Entry::Rule(_, _) => 3,
         Entry::Size(_) => 3,
-        Entry::Fact(_, _, _) => 3,
-        Entry::Pick(_, _, _) => 3,
+        Entry::Label(_, _, _, _) => 3,
+        Entry::Fact(_, _, _, _) => 3,
+        Entry::Pick(_, _, _, _) => 3,
         Entry::Step(_) => 3,
     }
 }

@@ -45,18 +45,26 @@ fn read_site(s: &[u8]) {
         b"rel\tD\t1\nrel\tE\t2\nchoose\tT\t1\nchoose\tF\tFun\nrule\t(forall (?y) (or (D ?y) (T ?y)))\n";
     let q = question::question(text);
     let g = q.sig;
+    let mut labels = [0usize; sheets::LABELS];
     let mut table = [0u64; 32768];
-    let a = sheets::site(text, g, s, 64, &mut table);
+    let a = sheets::site(text, g, s, 64, &mut labels, &mut table);
     answer(b"site", a);
 }
 
+// Picks of that question, over two elements, the second with the label B.
 fn read_picks(s: &[u8]) {
     let text =
         b"rel\tD\t1\nrel\tE\t2\nchoose\tT\t1\nchoose\tF\tFun\nrule\t(forall (?y) (or (D ?y) (T ?y)))\n";
-    let q = question::question(text);
-    let g = q.sig;
-    let mut table = [0u64; 256];
-    let a = sheets::picks(text, g, s, 2, &mut table);
+    let site = b"size\t2\nlabel\t1\tB\n";
+    let mut labels = [0usize; sheets::LABELS];
+    let mut facts = [0u64; 512];
+    let o = sheets::read_filed(text, site, 16, &mut labels, &mut facts);
+    if o.fault != 0 {
+        answer(b"site", Answer::Refused(o.fault, o.place));
+        return;
+    }
+    let mut table = [0u64; 16384];
+    let a = sheets::picks(text, o.sig, s, o.n, site, &labels, &mut table);
     answer(b"picks", a);
 }
 
@@ -127,6 +135,8 @@ fn questions5() {
 }
 
 fn questions6() {
+    ask(b"label\t0\tA\n");
+    ask(b"label\t0\ta\n");
     ask(b"rel\t\xc3\t1\n");
     ask(b"\xc3\n");
 }
@@ -174,6 +184,31 @@ fn sites4() {
     read_site(b"rel\tD\t1\n");
 }
 
+// Labels: a good site, 18 by its three causes, 3, 2 and 10 by meaning; 9 before 18.
+fn labels1() {
+    read_site(
+        b"size\t3\nlabel\t2\tLOBBY\nlabel\t0\tD\nfact\tD\tLOBBY\nfact\tE\tLOBBY\tD\nfact\tE\t1\tLOBBY\n",
+    );
+    read_site(b"size\t2\nlabel\t1\tA\nlabel\t1\tB\n");
+    read_site(b"size\t2\nlabel\t1\tA\nlabel\t0\tA\n");
+    read_site(b"size\t2\nfact\tD\tA\n");
+    read_site(b"size\t2\nlabel\t1\tA\nlabel\tA\tB\n");
+    read_site(b"size\t2\nlabel\tB\tA\n");
+    read_site(b"size\t2\nlabel\t2\tA\n");
+    read_site(b"size\t2\nfact\tE\tA\t2\n");
+}
+
+fn labels2() {
+    read_site(b"label\t0\tA\nsize\t2\n");
+    read_site(b"size\t2\nfact\tD\t0\nlabel\t0\tA\n");
+    read_site(b"size\t2\nlabel\t0\n");
+    read_site(b"size\t2\nlabel\t0\ta\n");
+    read_site(b"size\t2\nlabel\t01\tA\n");
+    read_site(b"size\t2\nlabel\t0\t1\n");
+    read_site(b"size\t2\nfact\tD\tlobby\n");
+    read_site(b"size\t2\nlabel\t1\tA\nfact\tD\t1\nfact\tD\tA\n");
+}
+
 // Picks over two elements.
 fn picks1() {
     read_picks(b"");
@@ -190,6 +225,14 @@ fn picks2() {
     read_picks(b"pick\tT\n");
     read_picks(b"pick\n");
     read_picks(b"pick\tT\t0\npick\tF\t1\n");
+}
+
+fn picks3() {
+    read_picks(b"pick\tT\tB\npick\tF\tB\tB\n");
+    read_picks(b"pick\tT\tB\npick\tT\t1\n");
+    read_picks(b"pick\tT\tA\n");
+    read_picks(b"pick\tF\tA\t2\n");
+    read_picks(b"label\t0\tA\n");
 }
 
 // Steps.
@@ -209,6 +252,7 @@ fn steps2() {
     read_steps(b"step\t1");
     read_steps(b"step\t1\nsize\t2\n");
     read_steps(b"step\t1\nsize\tx\n");
+    read_steps(b"step\t1\nlabel\t0\tA\n");
     read_steps(b"step\t1\nstop\t2\n");
     read_steps(b"step 1\n");
     read_steps(b"step\t1\n\nstep\t2\n");
@@ -243,6 +287,29 @@ fn long() {
     read_repeated(&mut cut);
 }
 
+// A byte over the limit, and the limit itself.
+fn read_over(s: &[u8; 1048577]) {
+    ask(s);
+    read_site(s);
+    read_picks(s);
+    read_steps(s);
+}
+
+fn over() {
+    let s = [10u8; 1048577];
+    read_over(&s);
+}
+
+fn read_longest(s: &[u8; text::LIMIT]) {
+    ask(s);
+    read_steps(s);
+}
+
+fn longest() {
+    let s = [10u8; text::LIMIT];
+    read_longest(&s);
+}
+
 fn main() {
     questions1();
     questions2();
@@ -254,9 +321,14 @@ fn main() {
     sites2();
     sites3();
     sites4();
+    labels1();
+    labels2();
     picks1();
     picks2();
+    picks3();
     steps1();
     steps2();
     long();
+    over();
+    longest();
 }

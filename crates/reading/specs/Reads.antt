@@ -6,10 +6,12 @@ use mathlib.Core.List.{List, _++_}
 use lib.ListN.{length, drop}
 use Rattle.definitions.specs.Limits.{CaseLimits}
 use Rattle.definitions.specs.Refusal.{Result, refused, accepted, _>>=_}
+use Rattle.definitions.specs.Truth.{Case}
 use Rattle.definitions.specs.Atoms.{Problem, problemOf, atoms, stateWords}
 use Rattle.definitions.specs.Strips.{run, picksOf}
 use Rattle.definitions.specs.Outcome
 use Rattle.laws.specs.Asked as Order
+use Rattle.laws.specs.Alone
 use Rattle.laws.specs.Words.{state-length}
 use Rattle.laws.specs.Means.{Good}
 use Rattle.laws.specs.Grounded.{good}
@@ -22,7 +24,7 @@ use Rattle.runs.specs.Checks.{Runs}
 use Rattle.asking.specs.declared.Front.{Front}
 use Rattle.asking.specs.declared.Reply.{Reply}
 use Rattle.asking.specs.declared.Reply.the-variants.{Accepted as Fine, Refused}
-use Rattle.asking.specs.Fronts.{Fronted, front-refused, front-held}
+use Rattle.asking.specs.Fronts.{Held, Fronted, front-refused, front-held}
 use Rattle.asking.specs.Known.{facts-held, case-over, grounds, tabled, words-are, room-short, room-there}
 use Rattle.asking.specs.Replies.{resultOf}
 use Rattle.picks.specs.Copies.{Copied}
@@ -82,7 +84,7 @@ Reads f facts table steps picks state r newPicks newState =
 
 module _ (given : Outcome.Given) (picks state : List ℕ) (f : Front) (facts table : List ℕ) (L : CaseLimits) (question site : List ℕ) (front : Fronted L question site f facts table) where
   abbrev call : Result (Outcome.Ready (List ℕ))
-  call = Outcome.asked L question site (λ c. Outcome.takeSteps given) Outcome.nothing Outcome.nothing (rooms (length picks) (length state))
+  call = Outcome.asked L question site (λ _. Outcome.takeSteps given) Outcome.nothing Outcome.nothing (rooms (length picks) (length state))
 
   abbrev Is-read : Reply → List ℕ → List ℕ → Type 0
   Is-read = PicksRead L question site given picks state
@@ -98,29 +100,32 @@ module _ (given : Outcome.Given) (picks state : List ℕ) (f : Front) (facts tab
   module _ (z : f .fault ≡ 0) where
     pub call-steps : (k place : ℕ) → Outcome.takeSteps given ≡ refused k place → Is-read (Refused k place) picks state
     unfolding resultOf
-    call-steps k place t = let (c, e, h) = front-held L question site f facts table front z in refused-with k place (Order.third-refused L question site _ _ _ _ c e k place t) (Refused k place) refl
+    call-steps k place t = let (c, e, h) = front-held L question site f facts table front z in refused-with k place (Alone.third-refused L question site _ _ _ _ c e k place (λ _. t)) (Refused k place) refl
 
     module _ (steps : List ℕ) (t : Outcome.takeSteps given ≡ accepted steps) where
       pub call-over : f .m .over ≡ true → Is-read (Refused 11 0) picks state
       unfolding resultOf
       call-over o =
           let (c, e, h) = front-held L question site f facts table front z in
-          refused-with 11 0 (Order.limits-refused L question site _ _ _ _ c e steps t (Order.untested c) 11 0 (case-over L c (f .m) table (h .grounded) o)) (Refused 11 0) refl
+          refused-with 11 0 (Alone.limits-refused L question site _ _ _ _ c e steps (λ _. t) (Order.untested c) 11 0 (case-over L c (f .m) table (h .grounded) o)) (Refused 11 0) refl
 
       module _ (o : f .m .over ≡ false) where
+        abbrev its : (c : Case) × (Outcome.readCase L question site ≡ accepted c) × Held L question c f facts table
+        its = front-held L question site f facts table front z
+
         abbrev p : Problem
-        p = problemOf (front-held L question site f facts table front z .0)
+        p = problemOf (its .0)
 
         -- once the rooms are tested
         no-room : (k place : ℕ) → rooms (length picks) (length state) p ≡ refused k place → call ≡ refused k place
         no-room k place j =
             let (c, e, h) = front-held L question site f facts table front z in
-            Order.room-refused L question site _ _ _ _ c e steps t (Order.untested c) p (grounds L c (f .m) table (h .grounded) o) (Order.untested c) k place j
+            Alone.room-refused L question site _ _ _ _ c e steps (λ _. t) (Order.untested c) p (grounds L c (f .m) table (h .grounded) o) (Order.untested c) k place j
 
-        readied : rooms (length picks) (length state) p ≡ accepted tt → call ≡ accepted (record { case = front-held L question site f facts table front z .0; problem = p; third = steps })
+        readied : rooms (length picks) (length state) p ≡ accepted tt → call ≡ accepted (record { case = its .0; labels = Order.case-filed L question site (its .0) (its .1) .0; problem = p; third = steps })
         readied j =
             let (c, e, h) = front-held L question site f facts table front z in
-            Order.ready L question site _ _ _ _ c e steps t (Order.untested c) p (grounds L c (f .m) table (h .grounded) o) (Order.untested c) j
+            Alone.ready L question site _ _ _ _ c e steps (λ _. t) (Order.untested c) p (grounds L c (f .m) table (h .grounded) o) (Order.untested c) j
 
         words : (f .m .atoms + 63) / 64 ≡ Outcome.stateLength p
         words = let (c, e, h) = front-held L question site f facts table front z in words-are L c (f .m) table (h .grounded) o

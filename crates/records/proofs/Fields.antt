@@ -1,23 +1,26 @@
 -- Laws of fields and entries.
 use Prim.Native.Nat.{ℕ, zero, suc, _+_, _-_, _≤_, _<_}
-use mathlib.Core.Path.{_≡_, refl, sym, ap, _∙_}
+use mathlib.Core.Path.{_≡_, refl, sym, ap, subst, _∙_}
 use mathlib.Core.Bool.{Bool, true, false}
 use mathlib.Core.List.{List, [], _∷_}
 use mathlib.Core.Option.{Option, none, some}
 use native.Mathlib.Omega.{arith}
 use native.Mathlib.Decide.{decLt}
-use lib.Dec.{leb·suc-suc}
+use lib.Dec.{eqb, leb·suc-suc}
 use lib.ListN.{length}
 use lib.Seq.{slice, length-slice}
-use borrow.Author.Tests.{le-leb, lt-leb}
+use borrow.Author.Tests.{le-leb, lt-leb, ne-eqb}
 use Rattle.definitions.specs.Lists.{if_then_else_, same, option, isEmpty}
-use Rattle.definitions.specs.Text.{bytes, split, fields, linesFrom, isBetween, number}
+use Rattle.definitions.specs.Text.{split, fields, linesFrom, isBetween, number, isRelationName}
 use Rattle.definitions.specs.Relations.{plain, Fun, PFun, Inj, PInj}
 use Rattle.definitions.specs.Refusal.{given}
 use Rattle.definitions.specs.Sheets as S
+use Rattle.laws.specs.Decimals.{decimal-number}
+use Rattle.laws.specs.Labels.{option-parts}
+use Rattle.laws.specs.Lists.{none-some, some-eq}
 use Rattle.text.specs.Spans.{indexOf, numOf, kindOf}
 use Rattle.records.specs.Lines.{linesAt}
-use Rattle.records.specs.Entries.{OneField, TwoFields, Named, elements, consed, upTo, kindWord, recordWord, relOf, ruleOf, sizeOf, stepOf, entryIn, Reads}
+use Rattle.records.specs.Entries.{OneField, TwoFields, Named, Fielded, codeOf, codesIn, codesOf, codes, elementBy, elementsBy, listOf, consed, upTo, kindWord, recordWord, relOf, ruleOf, sizeOf, stepOf, entryIn, Reads}
 use Rattle.text.specs.declared.Num.{Num}
 use Rattle.text.specs.declared.Num.the-variants.{Is, Bad}
 use Rattle.text.specs.declared.Found.{Found}
@@ -215,23 +218,28 @@ module _ (f : List ℕ) where
         word-4 p = rw (n1, n2, n3, p)
 
         module _ (n4 : same f (115 ∷ 105 ∷ 122 ∷ 101 ∷ []) ≡ false) where
-          pub word-5 : same f (102 ∷ 97 ∷ 99 ∷ 116 ∷ []) ≡ true → recordWord f ≡ 5
+          pub word-5 : same f (108 ∷ 97 ∷ 98 ∷ 101 ∷ 108 ∷ []) ≡ true → recordWord f ≡ 5
           unfolding recordWord
           word-5 p = rw (n1, n2, n3, n4, p)
 
-          module _ (n5 : same f (102 ∷ 97 ∷ 99 ∷ 116 ∷ []) ≡ false) where
-            pub word-6 : same f (112 ∷ 105 ∷ 99 ∷ 107 ∷ []) ≡ true → recordWord f ≡ 6
+          module _ (n5 : same f (108 ∷ 97 ∷ 98 ∷ 101 ∷ 108 ∷ []) ≡ false) where
+            pub word-6 : same f (102 ∷ 97 ∷ 99 ∷ 116 ∷ []) ≡ true → recordWord f ≡ 6
             unfolding recordWord
             word-6 p = rw (n1, n2, n3, n4, n5, p)
 
-            module _ (n6 : same f (112 ∷ 105 ∷ 99 ∷ 107 ∷ []) ≡ false) where
-              pub word-7 : same f (115 ∷ 116 ∷ 101 ∷ 112 ∷ []) ≡ true → recordWord f ≡ 7
+            module _ (n6 : same f (102 ∷ 97 ∷ 99 ∷ 116 ∷ []) ≡ false) where
+              pub word-7 : same f (112 ∷ 105 ∷ 99 ∷ 107 ∷ []) ≡ true → recordWord f ≡ 7
               unfolding recordWord
               word-7 p = rw (n1, n2, n3, n4, n5, n6, p)
 
-              pub word-0 : same f (115 ∷ 116 ∷ 101 ∷ 112 ∷ []) ≡ false → recordWord f ≡ 0
-              unfolding recordWord
-              word-0 p = rw (n1, n2, n3, n4, n5, n6, p)
+              module _ (n7 : same f (112 ∷ 105 ∷ 99 ∷ 107 ∷ []) ≡ false) where
+                pub word-8 : same f (115 ∷ 116 ∷ 101 ∷ 112 ∷ []) ≡ true → recordWord f ≡ 8
+                unfolding recordWord
+                word-8 p = rw (n1, n2, n3, n4, n5, n6, n7, p)
+
+                pub word-0 : same f (115 ∷ 116 ∷ 101 ∷ 112 ∷ []) ≡ false → recordWord f ≡ 0
+                unfolding recordWord
+                word-0 p = rw (n1, n2, n3, n4, n5, n6, n7, p)
 
 -- what the fields after a record word make, by its number
 unfoldable pub made : ℕ → List (List ℕ) → Option S.Entry
@@ -240,32 +248,34 @@ made (suc zero) fs = S.withTwo relOf fs
 made (suc (suc zero)) fs = S.withTwo S.chooseOf fs
 made (suc (suc (suc zero))) fs = S.withOne ruleOf fs
 made (suc (suc (suc (suc zero)))) fs = S.withOne sizeOf fs
-made (suc (suc (suc (suc (suc zero))))) fs = S.withElements S.fact fs
-made (suc (suc (suc (suc (suc (suc zero)))))) fs = S.withElements S.pick fs
-made (suc (suc (suc (suc (suc (suc (suc zero))))))) fs = S.withOne stepOf fs
-made (suc (suc (suc (suc (suc (suc (suc (suc k)))))))) fs = none
+made (suc (suc (suc (suc (suc zero))))) fs = S.withTwo S.labelOf fs
+made (suc (suc (suc (suc (suc (suc zero)))))) fs = S.withElements S.fact fs
+made (suc (suc (suc (suc (suc (suc (suc zero))))))) fs = S.withElements S.pick fs
+made (suc (suc (suc (suc (suc (suc (suc (suc zero)))))))) fs = S.withOne stepOf fs
+made (suc (suc (suc (suc (suc (suc (suc (suc (suc k))))))))) fs = none
 
-entry-tests : (w : List ℕ) (fs : List (List ℕ)) → S.entry (w ∷ fs) ≡ (if same w (114 ∷ 101 ∷ 108 ∷ []) then S.withTwo relOf fs else if same w (99 ∷ 104 ∷ 111 ∷ 111 ∷ 115 ∷ 101 ∷ []) then S.withTwo S.chooseOf fs else if same w (114 ∷ 117 ∷ 108 ∷ 101 ∷ []) then S.withOne ruleOf fs else if same w (115 ∷ 105 ∷ 122 ∷ 101 ∷ []) then S.withOne sizeOf fs else if same w (102 ∷ 97 ∷ 99 ∷ 116 ∷ []) then S.withElements S.fact fs else if same w (112 ∷ 105 ∷ 99 ∷ 107 ∷ []) then S.withElements S.pick fs else if same w (115 ∷ 116 ∷ 101 ∷ 112 ∷ []) then S.withOne stepOf fs else none)
+entry-tests : (w : List ℕ) (fs : List (List ℕ)) → S.entry (w ∷ fs) ≡ (if same w (114 ∷ 101 ∷ 108 ∷ []) then S.withTwo relOf fs else if same w (99 ∷ 104 ∷ 111 ∷ 111 ∷ 115 ∷ 101 ∷ []) then S.withTwo S.chooseOf fs else if same w (114 ∷ 117 ∷ 108 ∷ 101 ∷ []) then S.withOne ruleOf fs else if same w (115 ∷ 105 ∷ 122 ∷ 101 ∷ []) then S.withOne sizeOf fs else if same w (108 ∷ 97 ∷ 98 ∷ 101 ∷ 108 ∷ []) then S.withTwo S.labelOf fs else if same w (102 ∷ 97 ∷ 99 ∷ 116 ∷ []) then S.withElements S.fact fs else if same w (112 ∷ 105 ∷ 99 ∷ 107 ∷ []) then S.withElements S.pick fs else if same w (115 ∷ 116 ∷ 101 ∷ 112 ∷ []) then S.withOne stepOf fs else none)
 unfolding S.entry relOf ruleOf sizeOf stepOf
 entry-tests w fs = refl
 
-word-tests : (w : List ℕ) → recordWord w ≡ (if same w (114 ∷ 101 ∷ 108 ∷ []) then 1 else if same w (99 ∷ 104 ∷ 111 ∷ 111 ∷ 115 ∷ 101 ∷ []) then 2 else if same w (114 ∷ 117 ∷ 108 ∷ 101 ∷ []) then 3 else if same w (115 ∷ 105 ∷ 122 ∷ 101 ∷ []) then 4 else if same w (102 ∷ 97 ∷ 99 ∷ 116 ∷ []) then 5 else if same w (112 ∷ 105 ∷ 99 ∷ 107 ∷ []) then 6 else if same w (115 ∷ 116 ∷ 101 ∷ 112 ∷ []) then 7 else 0)
+word-tests : (w : List ℕ) → recordWord w ≡ (if same w (114 ∷ 101 ∷ 108 ∷ []) then 1 else if same w (99 ∷ 104 ∷ 111 ∷ 111 ∷ 115 ∷ 101 ∷ []) then 2 else if same w (114 ∷ 117 ∷ 108 ∷ 101 ∷ []) then 3 else if same w (115 ∷ 105 ∷ 122 ∷ 101 ∷ []) then 4 else if same w (108 ∷ 97 ∷ 98 ∷ 101 ∷ 108 ∷ []) then 5 else if same w (102 ∷ 97 ∷ 99 ∷ 116 ∷ []) then 6 else if same w (112 ∷ 105 ∷ 99 ∷ 107 ∷ []) then 7 else if same w (115 ∷ 116 ∷ 101 ∷ 112 ∷ []) then 8 else 0)
 unfolding recordWord
 word-tests w = refl
 
-made-tests : (fs : List (List ℕ)) (a b c d e f g : Bool) → (if a then S.withTwo relOf fs else if b then S.withTwo S.chooseOf fs else if c then S.withOne ruleOf fs else if d then S.withOne sizeOf fs else if e then S.withElements S.fact fs else if f then S.withElements S.pick fs else if g then S.withOne stepOf fs else none) ≡ made (if a then 1 else if b then 2 else if c then 3 else if d then 4 else if e then 5 else if f then 6 else if g then 7 else 0) fs
+made-tests : (fs : List (List ℕ)) (a b c d l e f g : Bool) → (if a then S.withTwo relOf fs else if b then S.withTwo S.chooseOf fs else if c then S.withOne ruleOf fs else if d then S.withOne sizeOf fs else if l then S.withTwo S.labelOf fs else if e then S.withElements S.fact fs else if f then S.withElements S.pick fs else if g then S.withOne stepOf fs else none) ≡ made (if a then 1 else if b then 2 else if c then 3 else if d then 4 else if l then 5 else if e then 6 else if f then 7 else if g then 8 else 0) fs
 unfolding made
-made-tests fs true b c d e f g = refl
-made-tests fs false true c d e f g = refl
-made-tests fs false false true d e f g = refl
-made-tests fs false false false true e f g = refl
-made-tests fs false false false false true f g = refl
-made-tests fs false false false false false true g = refl
-made-tests fs false false false false false false true = refl
-made-tests fs false false false false false false false = refl
+made-tests fs true b c d l e f g = refl
+made-tests fs false true c d l e f g = refl
+made-tests fs false false true d l e f g = refl
+made-tests fs false false false true l e f g = refl
+made-tests fs false false false false true e f g = refl
+made-tests fs false false false false false true f g = refl
+made-tests fs false false false false false false true g = refl
+made-tests fs false false false false false false false true = refl
+made-tests fs false false false false false false false false = refl
 
 pub entry-made : (w : List ℕ) (fs : List (List ℕ)) → S.entry (w ∷ fs) ≡ made (recordWord w) fs
-entry-made w fs = entry-tests w fs ∙ made-tests fs (same w (114 ∷ 101 ∷ 108 ∷ [])) (same w (99 ∷ 104 ∷ 111 ∷ 111 ∷ 115 ∷ 101 ∷ [])) (same w (114 ∷ 117 ∷ 108 ∷ 101 ∷ [])) (same w (115 ∷ 105 ∷ 122 ∷ 101 ∷ [])) (same w (102 ∷ 97 ∷ 99 ∷ 116 ∷ [])) (same w (112 ∷ 105 ∷ 99 ∷ 107 ∷ [])) (same w (115 ∷ 116 ∷ 101 ∷ 112 ∷ [])) ∙ ap (λ (k : ℕ). made k fs) (sym (word-tests w))
+entry-made w fs = entry-tests w fs ∙ made-tests fs (same w (114 ∷ 101 ∷ 108 ∷ [])) (same w (99 ∷ 104 ∷ 111 ∷ 111 ∷ 115 ∷ 101 ∷ [])) (same w (114 ∷ 117 ∷ 108 ∷ 101 ∷ [])) (same w (115 ∷ 105 ∷ 122 ∷ 101 ∷ [])) (same w (108 ∷ 97 ∷ 98 ∷ 101 ∷ 108 ∷ [])) (same w (102 ∷ 97 ∷ 99 ∷ 116 ∷ [])) (same w (112 ∷ 105 ∷ 99 ∷ 107 ∷ [])) (same w (115 ∷ 116 ∷ 101 ∷ 112 ∷ [])) ∙ ap (λ (k : ℕ). made k fs) (sym (word-tests w))
 
 made-alone : (k : ℕ) → made k [] ≡ none
 unfolding made S.withOne S.withTwo S.withElements
@@ -277,19 +287,21 @@ made-alone (suc (suc (suc (suc zero)))) = refl
 made-alone (suc (suc (suc (suc (suc zero))))) = refl
 made-alone (suc (suc (suc (suc (suc (suc zero)))))) = refl
 made-alone (suc (suc (suc (suc (suc (suc (suc zero))))))) = refl
-made-alone (suc (suc (suc (suc (suc (suc (suc (suc k)))))))) = refl
+made-alone (suc (suc (suc (suc (suc (suc (suc (suc zero)))))))) = refl
+made-alone (suc (suc (suc (suc (suc (suc (suc (suc (suc k))))))))) = refl
 
-made-none : (j : ℕ) (fs : List (List ℕ)) → (j ≡ 1 → ⊥) → (j ≡ 2 → ⊥) → (j ≡ 3 → ⊥) → (j ≡ 4 → ⊥) → (j ≡ 5 → ⊥) → (j ≡ 6 → ⊥) → (j ≡ 7 → ⊥) → made j fs ≡ none
+made-none : (j : ℕ) (fs : List (List ℕ)) → (j ≡ 1 → ⊥) → (j ≡ 2 → ⊥) → (j ≡ 3 → ⊥) → (j ≡ 4 → ⊥) → (j ≡ 5 → ⊥) → (j ≡ 6 → ⊥) → (j ≡ 7 → ⊥) → (j ≡ 8 → ⊥) → made j fs ≡ none
 unfolding made
-made-none zero fs a b c d e f g = refl
-made-none (suc zero) fs a b c d e f g = absurd (a refl)
-made-none (suc (suc zero)) fs a b c d e f g = absurd (b refl)
-made-none (suc (suc (suc zero))) fs a b c d e f g = absurd (c refl)
-made-none (suc (suc (suc (suc zero)))) fs a b c d e f g = absurd (d refl)
-made-none (suc (suc (suc (suc (suc zero))))) fs a b c d e f g = absurd (e refl)
-made-none (suc (suc (suc (suc (suc (suc zero)))))) fs a b c d e f g = absurd (f refl)
-made-none (suc (suc (suc (suc (suc (suc (suc zero))))))) fs a b c d e f g = absurd (g refl)
-made-none (suc (suc (suc (suc (suc (suc (suc (suc k)))))))) fs a b c d e f g = refl
+made-none zero fs a b c d e f g h = refl
+made-none (suc zero) fs a b c d e f g h = absurd (a refl)
+made-none (suc (suc zero)) fs a b c d e f g h = absurd (b refl)
+made-none (suc (suc (suc zero))) fs a b c d e f g h = absurd (c refl)
+made-none (suc (suc (suc (suc zero)))) fs a b c d e f g h = absurd (d refl)
+made-none (suc (suc (suc (suc (suc zero))))) fs a b c d e f g h = absurd (e refl)
+made-none (suc (suc (suc (suc (suc (suc zero)))))) fs a b c d e f g h = absurd (f refl)
+made-none (suc (suc (suc (suc (suc (suc (suc zero))))))) fs a b c d e f g h = absurd (g refl)
+made-none (suc (suc (suc (suc (suc (suc (suc (suc zero)))))))) fs a b c d e f g h = absurd (h refl)
+made-none (suc (suc (suc (suc (suc (suc (suc (suc (suc k))))))))) fs a b c d e f g h = refl
 
 module _ (s : List ℕ) (a e : ℕ) (h : a ≤ e) (k : e ≤ length s) (t : ℕ) (q : t ≡ a + indexOf 9 (slice a e s)) where
   pub record-alone : t ≡ e → entryIn s Wrong ≡ S.entry (split 9 (slice a e s))
@@ -299,7 +311,7 @@ module _ (s : List ℕ) (a e : ℕ) (h : a ≤ e) (k : e ≤ length s) (t : ℕ)
   pub record-by : t < e → (j : ℕ) → j ≡ recordWord (slice a t s) → made j (split 9 (slice (t + 1) e s)) ≡ S.entry (split 9 (slice a e s))
   record-by l j p = rw p (sym (ap S.entry (pieces-at 9 a e s h k t q l) ∙ entry-made (slice a t s) (split 9 (slice (t + 1) e s))))
 
-  -- a record of number 1 to 7
+  -- a record of number 1 to 8
   pub record-1 : t < e → (j : ℕ) → j ≡ recordWord (slice a t s) → j ≡ 1 → S.withTwo relOf (split 9 (slice (t + 1) e s)) ≡ S.entry (split 9 (slice a e s))
   unfolding made
   record-1 l j p r = record-by l 1 (sym r ∙ p)
@@ -316,36 +328,92 @@ module _ (s : List ℕ) (a e : ℕ) (h : a ≤ e) (k : e ≤ length s) (t : ℕ)
   unfolding made
   record-4 l j p r = record-by l 4 (sym r ∙ p)
 
-  pub record-5 : t < e → (j : ℕ) → j ≡ recordWord (slice a t s) → j ≡ 5 → S.withElements S.fact (split 9 (slice (t + 1) e s)) ≡ S.entry (split 9 (slice a e s))
+  pub record-5 : t < e → (j : ℕ) → j ≡ recordWord (slice a t s) → j ≡ 5 → S.withTwo S.labelOf (split 9 (slice (t + 1) e s)) ≡ S.entry (split 9 (slice a e s))
   unfolding made
   record-5 l j p r = record-by l 5 (sym r ∙ p)
 
-  pub record-6 : t < e → (j : ℕ) → j ≡ recordWord (slice a t s) → j ≡ 6 → S.withElements S.pick (split 9 (slice (t + 1) e s)) ≡ S.entry (split 9 (slice a e s))
+  pub record-6 : t < e → (j : ℕ) → j ≡ recordWord (slice a t s) → j ≡ 6 → S.withElements S.fact (split 9 (slice (t + 1) e s)) ≡ S.entry (split 9 (slice a e s))
   unfolding made
   record-6 l j p r = record-by l 6 (sym r ∙ p)
 
-  pub record-7 : t < e → (j : ℕ) → j ≡ recordWord (slice a t s) → j ≡ 7 → S.withOne stepOf (split 9 (slice (t + 1) e s)) ≡ S.entry (split 9 (slice a e s))
+  pub record-7 : t < e → (j : ℕ) → j ≡ recordWord (slice a t s) → j ≡ 7 → S.withElements S.pick (split 9 (slice (t + 1) e s)) ≡ S.entry (split 9 (slice a e s))
   unfolding made
   record-7 l j p r = record-by l 7 (sym r ∙ p)
 
-  pub record-0 : t < e → (j : ℕ) → j ≡ recordWord (slice a t s) → (j ≡ 1 → ⊥) → (j ≡ 2 → ⊥) → (j ≡ 3 → ⊥) → (j ≡ 4 → ⊥) → (j ≡ 5 → ⊥) → (j ≡ 6 → ⊥) → (j ≡ 7 → ⊥) → entryIn s Wrong ≡ S.entry (split 9 (slice a e s))
+  pub record-8 : t < e → (j : ℕ) → j ≡ recordWord (slice a t s) → j ≡ 8 → S.withOne stepOf (split 9 (slice (t + 1) e s)) ≡ S.entry (split 9 (slice a e s))
+  unfolding made
+  record-8 l j p r = record-by l 8 (sym r ∙ p)
+
+  pub record-0 : t < e → (j : ℕ) → j ≡ recordWord (slice a t s) → (j ≡ 1 → ⊥) → (j ≡ 2 → ⊥) → (j ≡ 3 → ⊥) → (j ≡ 4 → ⊥) → (j ≡ 5 → ⊥) → (j ≡ 6 → ⊥) → (j ≡ 7 → ⊥) → (j ≡ 8 → ⊥) → entryIn s Wrong ≡ S.entry (split 9 (slice a e s))
   unfolding entryIn
-  record-0 l j p n1 n2 n3 n4 n5 n6 n7 = sym (made-none j (split 9 (slice (t + 1) e s)) n1 n2 n3 n4 n5 n6 n7) ∙ record-by l j p
+  record-0 l j p n1 n2 n3 n4 n5 n6 n7 n8 = sym (made-none j (split 9 (slice (t + 1) e s)) n1 n2 n3 n4 n5 n6 n7 n8) ∙ record-by l j p
 
 -- a word that is not of 4 bytes is not `rule`
 pub not-rule : (w : List ℕ) → (length w ≡ 4 → ⊥) → recordWord w ≡ 3 → ⊥
 not-rule w h p =
-    go (same w (114 ∷ 101 ∷ 108 ∷ [])) (same w (99 ∷ 104 ∷ 111 ∷ 111 ∷ 115 ∷ 101 ∷ [])) (same w (115 ∷ 105 ∷ 122 ∷ 101 ∷ [])) (same w (102 ∷ 97 ∷ 99 ∷ 116 ∷ [])) (same w (112 ∷ 105 ∷ 99 ∷ 107 ∷ [])) (same w (115 ∷ 116 ∷ 101 ∷ 112 ∷ []))
-    (sym (ap (λ (b : Bool). if same w (114 ∷ 101 ∷ 108 ∷ []) then 1 else if same w (99 ∷ 104 ∷ 111 ∷ 111 ∷ 115 ∷ 101 ∷ []) then 2 else if b then 3 else if same w (115 ∷ 105 ∷ 122 ∷ 101 ∷ []) then 4 else if same w (102 ∷ 97 ∷ 99 ∷ 116 ∷ []) then 5 else if same w (112 ∷ 105 ∷ 99 ∷ 107 ∷ []) then 6 else if same w (115 ∷ 116 ∷ 101 ∷ 112 ∷ []) then 7 else 0) (same-length w (114 ∷ 117 ∷ 108 ∷ 101 ∷ []) h)) ∙ sym (word-tests w) ∙ p)
+    go (same w (114 ∷ 101 ∷ 108 ∷ [])) (same w (99 ∷ 104 ∷ 111 ∷ 111 ∷ 115 ∷ 101 ∷ [])) (same w (115 ∷ 105 ∷ 122 ∷ 101 ∷ [])) (same w (108 ∷ 97 ∷ 98 ∷ 101 ∷ 108 ∷ [])) (same w (102 ∷ 97 ∷ 99 ∷ 116 ∷ [])) (same w (112 ∷ 105 ∷ 99 ∷ 107 ∷ [])) (same w (115 ∷ 116 ∷ 101 ∷ 112 ∷ []))
+    (sym (ap (λ (b : Bool). if same w (114 ∷ 101 ∷ 108 ∷ []) then 1 else if same w (99 ∷ 104 ∷ 111 ∷ 111 ∷ 115 ∷ 101 ∷ []) then 2 else if b then 3 else if same w (115 ∷ 105 ∷ 122 ∷ 101 ∷ []) then 4 else if same w (108 ∷ 97 ∷ 98 ∷ 101 ∷ 108 ∷ []) then 5 else if same w (102 ∷ 97 ∷ 99 ∷ 116 ∷ []) then 6 else if same w (112 ∷ 105 ∷ 99 ∷ 107 ∷ []) then 7 else if same w (115 ∷ 116 ∷ 101 ∷ 112 ∷ []) then 8 else 0) (same-length w (114 ∷ 117 ∷ 108 ∷ 101 ∷ []) h)) ∙ sym (word-tests w) ∙ p)
   where
-    go : (a b d e f g : Bool) → _≡_ {A = ℕ} (if a then 1 else if b then 2 else if false then 3 else if d then 4 else if e then 5 else if f then 6 else if g then 7 else 0) 3 → ⊥
-    go true b d e f g q = omega arith
-    go false true d e f g q = omega arith
-    go false false true e f g q = omega arith
-    go false false false true f g q = omega arith
-    go false false false false true g q = omega arith
-    go false false false false false true q = omega arith
-    go false false false false false false q = omega arith
+    go : (a b d l e f g : Bool) → _≡_ {A = ℕ} (if a then 1 else if b then 2 else if false then 3 else if d then 4 else if l then 5 else if e then 6 else if f then 7 else if g then 8 else 0) 3 → ⊥
+    go true b d l e f g q = omega arith
+    go false true d l e f g q = omega arith
+    go false false true l e f g q = omega arith
+    go false false false true e f g q = omega arith
+    go false false false false true f g q = omega arith
+    go false false false false false true g q = omega arith
+    go false false false false false false true q = omega arith
+    go false false false false false false false q = omega arith
+
+-- ---- element fields
+
+module _ (f : List ℕ) where
+  pub code-number : (n : Num) (k : ℕ) → n ≡ Is k → n ≡ numOf (number f) → Is k ≡ numOf (codeOf f)
+  unfolding codeOf option
+  code-number n k p q = rw (num-is (number f) n k p q)
+
+  pub code-name : (n : Num) → n ≡ Bad → n ≡ numOf (number f) → isRelationName f ≡ true → Is 10000000 ≡ numOf (codeOf f)
+  unfolding codeOf option
+  code-name n p q r = rw (num-bad (number f) n p q, r)
+
+  pub code-none : (n : Num) → n ≡ Bad → n ≡ numOf (number f) → isRelationName f ≡ false → Bad ≡ numOf (codeOf f)
+  unfolding codeOf option
+  code-none n p q r = rw (num-bad (number f) n p q, r)
+
+  -- the number tells the element
+  pub element-by : S.element f ≡ option (codeOf f) none (λ k. some (elementBy f k))
+  unfolding S.element codeOf option elementBy
+  element-by = go (number f) refl (isRelationName f)
+    where
+      go : (o : Option ℕ) → number f ≡ o → (b : Bool) → option o (if b then some (S.named f) else none) (λ x. some (S.numbered x)) ≡ option (option o (if b then some 10000000 else none) some) none (λ k. some (if eqb k 10000000 then S.named f else S.numbered k))
+      go (some k) q b = rw (ne-eqb k 10000000 (λ z. omega (arith, decimal-number f k q .1)))
+      go none q true = refl
+      go none q false = refl
+
+pub elements-by : (fs : List (List ℕ)) → S.elements fs ≡ option (codesIn fs) none (λ ks. some (elementsBy fs ks))
+unfolding S.elements codesIn elementsBy option
+elements-by [] = refl
+elements-by (f ∷ fs) = rw (element-by f, elements-by fs) (go (codeOf f) (codesIn fs))
+  where
+    go : (o : Option ℕ) (p : Option (List ℕ)) → option (option o none (λ k. some (elementBy f k))) none (λ x. option (option p none (λ ks. some (elementsBy fs ks))) none (λ xs. some (x ∷ xs))) ≡ option (option o none (λ k. option p none (λ ks. some (k ∷ ks)))) none (λ ks. some (elementsBy (f ∷ fs) ks))
+    go none p = refl
+    go (some k) none = refl
+    go (some k) (some ks) = refl
+
+codes-count : (fs : List (List ℕ)) (ks : List ℕ) → codesIn fs ≡ some ks → length fs ≡ length ks
+unfolding codesIn
+codes-count [] ks q = ap length (some-eq q)
+codes-count (f ∷ fs) ks q =
+    let (k, a, q₁) = option-parts (codeOf f) _ ks q in
+    let (js, b, q₂) = option-parts (codesIn fs) _ ks q₁ in
+    ap suc (codes-count fs js b) ∙ ap length (some-eq q₂)
+
+upTo-count : (m : ℕ) (fs : List (List ℕ)) (ks : List ℕ) → upTo m fs ≡ some ks → length fs ≡ length ks
+unfolding upTo
+upTo-count m fs ks q = go (isBetween 1 m (length fs)) q
+  where
+    go : (b : Bool) → (if b then codesIn fs else none) ≡ some ks → length fs ≡ length ks
+    go true p = codes-count fs ks p
+    go false p = absurd (none-some p)
 
 -- ---- elements
 
@@ -366,12 +434,12 @@ either : (b : Bool) → _≡_ {A = Option (List ℕ)} (if b then none else none)
 either true = refl
 either false = refl
 
-upTo-bad : (k : ℕ) (f : List ℕ) (fs : List (List ℕ)) → number f ≡ none → upTo k (f ∷ fs) ≡ none
-unfolding upTo S.numbers option
+upTo-bad : (k : ℕ) (f : List ℕ) (fs : List (List ℕ)) → codeOf f ≡ none → upTo k (f ∷ fs) ≡ none
+unfolding upTo codesIn option
 upTo-bad k f fs p = rw p (either (isBetween 1 k (suc (length fs))))
 
-upTo-last : (k : ℕ) (f : List ℕ) (x : ℕ) → number f ≡ some x → upTo (suc k) (f ∷ []) ≡ some (x ∷ [])
-unfolding upTo S.numbers option isBetween
+upTo-last : (k : ℕ) (f : List ℕ) (x : ℕ) → codeOf f ≡ some x → upTo (suc k) (f ∷ []) ≡ some (x ∷ [])
+unfolding upTo codesIn option isBetween
 upTo-last k f x p = rw (p, le-leb 1 (suc k) (omega arith))
 
 upTo-none : (f : List ℕ) (fs : List (List ℕ)) → 0 < length fs → upTo 1 (f ∷ fs) ≡ none
@@ -383,29 +451,29 @@ unfolding consed option
 pull true x o = refl
 pull false x o = refl
 
-numbers-next : (f : List ℕ) (x : ℕ) (fs : List (List ℕ)) → number f ≡ some x → S.numbers (f ∷ fs) ≡ consed x (S.numbers fs)
-unfolding S.numbers option consed
-numbers-next f x fs p = rw p
+codes-next : (f : List ℕ) (x : ℕ) (fs : List (List ℕ)) → codeOf f ≡ some x → codesIn (f ∷ fs) ≡ consed x (codesIn fs)
+unfolding codesIn option consed
+codes-next f x fs p = rw p
 
-upTo-next : (k : ℕ) (f : List ℕ) (x : ℕ) (fs : List (List ℕ)) → number f ≡ some x → 0 < length fs → upTo (suc k) (f ∷ fs) ≡ consed x (upTo k fs)
+upTo-next : (k : ℕ) (f : List ℕ) (x : ℕ) (fs : List (List ℕ)) → codeOf f ≡ some x → 0 < length fs → upTo (suc k) (f ∷ fs) ≡ consed x (upTo k fs)
 unfolding upTo
-upTo-next k f x fs p h = rw (numbers-next f x fs p, between-next k (length fs) h) (pull (isBetween 1 k (length fs)) x (S.numbers fs))
+upTo-next k f x fs p h = rw (codes-next f x fs p, between-next k (length fs) h) (pull (isBetween 1 k (length fs)) x (codesIn fs))
 
 module _ (s : List ℕ) (a e : ℕ) (h : a ≤ e) (k : e ≤ length s) (t : ℕ) (q : t ≡ a + indexOf 9 (slice a e s)) where
   pub first-whole : e ≤ t → split 9 (slice a e s) ≡ slice a t s ∷ []
   first-whole l = let z : t ≡ e = omega (arith, end-within 9 a e s h k) in pieces-whole 9 a e s h k t q l ∙ rw z
 
-  pub places-bad : (m : ℕ) → number (slice a t s) ≡ none → upTo m (split 9 (slice a e s)) ≡ none
+  pub places-bad : (m : ℕ) → codeOf (slice a t s) ≡ none → upTo m (split 9 (slice a e s)) ≡ none
   places-bad m p = go (decLt t e)
     where
       go : Dec (t < e) → upTo m (split 9 (slice a e s)) ≡ none
       go (yes l) = ap (upTo m) (pieces-at 9 a e s h k t q l) ∙ upTo-bad m (slice a t s) (split 9 (slice (t + 1) e s)) p
       go (no l) = ap (upTo m) (first-whole (omega arith)) ∙ upTo-bad m (slice a t s) [] p
 
-  pub places-last : (m x : ℕ) → number (slice a t s) ≡ some x → e ≤ t → upTo (suc m) (split 9 (slice a e s)) ≡ some (x ∷ [])
+  pub places-last : (m x : ℕ) → codeOf (slice a t s) ≡ some x → e ≤ t → upTo (suc m) (split 9 (slice a e s)) ≡ some (x ∷ [])
   places-last m x p l = ap (upTo (suc m)) (first-whole l) ∙ upTo-last m (slice a t s) x p
 
-  pub places-next : (m x : ℕ) → number (slice a t s) ≡ some x → t < e → upTo (suc m) (split 9 (slice a e s)) ≡ consed x (upTo m (split 9 (slice (t + 1) e s)))
+  pub places-next : (m x : ℕ) → codeOf (slice a t s) ≡ some x → t < e → upTo (suc m) (split 9 (slice a e s)) ≡ consed x (upTo m (split 9 (slice (t + 1) e s)))
   places-next m x p l = ap (upTo (suc m)) (pieces-at 9 a e s h k t q l) ∙ upTo-next m (slice a t s) x (split 9 (slice (t + 1) e s)) p (split-some 9 (slice (t + 1) e s))
 
   pub places-over : t < e → upTo 1 (split 9 (slice a e s)) ≡ none
@@ -413,62 +481,85 @@ module _ (s : List ℕ) (a e : ℕ) (h : a ≤ e) (k : e ≤ length s) (t : ℕ)
 
   -- the three readers of elements
   module _ (x y : ℕ) where
-    pub last-bad : number (slice a t s) ≡ none → elements Unread ≡ consed x (consed y (upTo 1 (split 9 (slice a e s))))
-    unfolding elements
+    pub last-bad : codeOf (slice a t s) ≡ none → codes Unread ≡ consed x (consed y (upTo 1 (split 9 (slice a e s))))
+    unfolding codes
     last-bad p = rw (places-bad 1 p, consed-none y, consed-none x)
 
-    pub last-over : t < e → elements Unread ≡ consed x (consed y (upTo 1 (split 9 (slice a e s))))
-    unfolding elements
+    pub last-over : t < e → codes Unread ≡ consed x (consed y (upTo 1 (split 9 (slice a e s))))
+    unfolding codes
     last-over l = rw (places-over l, consed-none y, consed-none x)
 
-    pub last-good : (z : ℕ) → number (slice a t s) ≡ some z → e ≤ t → elements (Three x y z) ≡ consed x (consed y (upTo 1 (split 9 (slice a e s))))
-    unfolding elements
+    pub last-good : (z : ℕ) → codeOf (slice a t s) ≡ some z → e ≤ t → codes (Three x y z) ≡ consed x (consed y (upTo 1 (split 9 (slice a e s))))
+    unfolding codes
     last-good z p l = rw (places-last 0 z p l, consed-some y (z ∷ []), consed-some x (y ∷ z ∷ []))
 
-    pub more-good : number (slice a t s) ≡ some y → e ≤ t → elements (Two x y) ≡ consed x (upTo 2 (split 9 (slice a e s)))
-    unfolding elements
+    pub more-good : codeOf (slice a t s) ≡ some y → e ≤ t → codes (Two x y) ≡ consed x (upTo 2 (split 9 (slice a e s)))
+    unfolding codes
     more-good p l = rw (places-last 1 y p l, consed-some x (y ∷ []))
 
-  pub more-bad : (x : ℕ) → number (slice a t s) ≡ none → elements Unread ≡ consed x (upTo 2 (split 9 (slice a e s)))
-  unfolding elements
+  pub more-bad : (x : ℕ) → codeOf (slice a t s) ≡ none → codes Unread ≡ consed x (upTo 2 (split 9 (slice a e s)))
+  unfolding codes
   more-bad x p = rw (places-bad 2 p, consed-none x)
 
-  pub numbers-bad : number (slice a t s) ≡ none → elements Unread ≡ upTo 3 (split 9 (slice a e s))
-  unfolding elements
-  numbers-bad p = rw (places-bad 3 p)
+  pub first-bad : codeOf (slice a t s) ≡ none → codes Unread ≡ upTo 3 (split 9 (slice a e s))
+  unfolding codes
+  first-bad p = rw (places-bad 3 p)
 
-  pub numbers-good : (x : ℕ) → number (slice a t s) ≡ some x → e ≤ t → elements (One x) ≡ upTo 3 (split 9 (slice a e s))
-  unfolding elements
-  numbers-good x p l = rw (places-last 2 x p l)
+  pub first-good : (x : ℕ) → codeOf (slice a t s) ≡ some x → e ≤ t → codes (One x) ≡ upTo 3 (split 9 (slice a e s))
+  unfolding codes
+  first-good x p l = rw (places-last 2 x p l)
 
 -- ---- a name and elements
 
-module _ (make : List ℕ → List ℕ → S.Entry) where
+module _ (make : List ℕ → List S.Element → S.Entry) where
   with-none : (f : List ℕ) → S.withElements make (f ∷ []) ≡ none
   unfolding S.withElements isBetween
   with-none f = refl
 
-  pull-made : (b : Bool) (o : Option (List ℕ)) (g : List ℕ → Option S.Entry) → (if b then option o none g else none) ≡ option (if b then o else none) none g
-  unfolding option
-  pull-made true o g = refl
-  pull-made false o g = refl
+  with-some : (f : List ℕ) (fs : List (List ℕ)) → S.withElements make (f ∷ fs) ≡ option (upTo 3 fs) none (λ ks. some (make f (elementsBy fs ks)))
+  unfolding S.withElements upTo option
+  with-some f fs = rw (elements-by fs) (go (isBetween 1 3 (length fs)) (codesIn fs))
+    where
+      go : (b : Bool) (o : Option (List ℕ)) → (if b then option (option o none (λ ks. some (elementsBy fs ks))) none (λ xs. some (make f xs)) else none) ≡ option (if b then o else none) none (λ ks. some (make f (elementsBy fs ks)))
+      go true none = refl
+      go true (some ks) = refl
+      go false o = refl
 
-  with-some : (f : List ℕ) (fs : List (List ℕ)) → S.withElements make (f ∷ fs) ≡ option (upTo 3 fs) none (λ xs. some (make f xs))
-  unfolding S.withElements upTo
-  with-some f fs = pull-made (isBetween 1 3 (length fs)) (S.numbers fs) (λ xs. some (make f xs))
+codes-some : (p : Places) → (p ≡ Unread → ⊥) → codes p ≡ some (codesOf p)
+unfolding codes codesOf
+codes-some Unread h = absurd (h refl)
+codes-some (One x) h = refl
+codes-some (Two x y) h = refl
+codes-some (Three x y z) h = refl
+
+-- what the numbers make is what the answer's own make
+by-codes : (p : Places) (make : List ℕ → Option S.Entry) → option (codes p) none make ≡ option (codes p) none (λ ks. make (codesOf p))
+unfolding codes codesOf option
+by-codes Unread make = refl
+by-codes (One x) make = refl
+by-codes (Two x y) make = refl
+by-codes (Three x y z) make = refl
 
 module _ (s : List ℕ) (a e : ℕ) (h : a ≤ e) (k : e ≤ length s) (t : ℕ) (q : t ≡ a + indexOf 9 (slice a e s)) where
   pub named-none : e ≤ t → Named s a e e Unread
-  unfolding Named elements option
-  named-none l make = ap (S.withElements make) (pieces-whole 9 a e s h k t q l) ∙ with-none make (slice a e s)
+  unfolding Named codes option
+  named-none l = (λ make. ap (S.withElements make) (pieces-whole 9 a e s h k t q l) ∙ with-none make (slice a e s), λ n. absurd (n refl))
 
-  pub named-some : t < e → (p : Places) → elements p ≡ upTo 3 (split 9 (slice (t + 1) e s)) → Named s a e t p
+  pub named-some : t < e → (p : Places) → codes p ≡ upTo 3 (split 9 (slice (t + 1) e s)) → Named s a e t p
+  unfolding Named listOf
+  named-some l p r = (
+    λ make. ap (S.withElements make) (pieces-at 9 a e s h k t q l) ∙ with-some make (slice a t s) (split 9 (slice (t + 1) e s)) ∙ rw (← r) (by-codes p (λ ks. some (make (slice a t s) (elementsBy (split 9 (slice (t + 1) e s)) ks)))),
+    λ n. record { starts = omega arith; ends = k; count = upTo-count 3 (split 9 (slice (t + 1) e s)) (codesOf p) (sym r ∙ codes-some p n) },
+  )
+
+module _ (s : List ℕ) (a e t : ℕ) (p p′ : Places) (r : p ≡ p′) (w : Named s a e t p) where
+  pub named-made : (make : List ℕ → List S.Element → S.Entry) → option (codes p′) none (λ ks. some (make (slice a t s) (listOf s (t + 1) e p′))) ≡ S.withElements make (split 9 (slice a e s))
   unfolding Named
-  named-some l p r make = ap (S.withElements make) (pieces-at 9 a e s h k t q l) ∙ with-some make (slice a t s) (split 9 (slice (t + 1) e s)) ∙ rw (sym r)
+  named-made make = rw (sym r) (sym (w .0 make))
 
-pub named-made : (s : List ℕ) (a e t : ℕ) (p p′ : Places) (make : List ℕ → List ℕ → S.Entry) → p ≡ p′ → Named s a e t p → option (elements p′) none (λ xs. some (make (slice a t s) xs)) ≡ S.withElements make (split 9 (slice a e s))
-unfolding Named
-named-made s a e t p p′ make r w = rw (sym r) (sym (w make))
+  pub named-fields : (p′ ≡ Unread → ⊥) → Fielded s (t + 1) e p′
+  unfolding Named
+  named-fields n = subst (Fielded s (t + 1) e) r (w .1 (λ z. n (sym r ∙ z)))
 
 -- ---- lines
 

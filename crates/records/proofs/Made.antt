@@ -1,26 +1,26 @@
 -- Each record's entry by its fields.
-use Prim.Native.Nat.{ℕ, _+_, _-_, _≤_}
-use mathlib.Core.Path.{_≡_, sym, ap, _∙_}
+use Prim.Native.Nat.{ℕ, _+_, _-_, _≤_, _<_}
+use mathlib.Core.Path.{_≡_, refl, sym, ap, _∙_}
 use mathlib.Core.Bool.{Bool, true, false}
 use mathlib.Core.List.{List}
-use mathlib.Core.Option.{some}
+use mathlib.Core.Option.{Option, none, some}
 use native.Mathlib.Omega.{arith}
 use native.Mathlib.Decide.{ℕ-discrete}
 use lib.ListN.{length}
 use lib.Seq.{slice, length-slice}
 use Rattle.definitions.specs.Lists.{option}
-use Rattle.definitions.specs.Text.{split, number}
+use Rattle.definitions.specs.Text.{split, number, isRelationName}
 use Rattle.definitions.specs.Sheets as S
 use Rattle.text.specs.Spans.{numOf, kindOf}
-use Rattle.records.specs.Entries.{OneField, TwoFields, Named, listOf, elements, kindWord, relOf, ruleOf, sizeOf, stepOf, entryIn, InText, IsArity, recordWord}
+use Rattle.records.specs.Entries.{OneField, TwoFields, Named, codeOf, codes, kindWord, relOf, ruleOf, sizeOf, stepOf, entryIn, InText, IsArity, recordWord}
 use Rattle.text.specs.declared.Num.{Num}
 use Rattle.text.specs.declared.Num.the-variants.{Is, Bad}
 use Rattle.text.specs.declared.Found.{Found}
 use Rattle.text.specs.declared.Found.the-variants.{At, Nowhere}
 use Rattle.records.specs.declared.Places.{Places}
 use Rattle.records.specs.declared.Places.the-variants.{Unread, One, Two, Three}
-use Rattle.records.specs.declared.Entry.the-variants.{Wrong, Rel, Choose, Rule, Size, Fact, Pick, Step}
-use Rattle.records.proofs.Fields.{two-bounds, not-rule, two-bad, two-is, one-bad, one-is, num-is, num-bad, choose-by-arity, choose-by-kind, named-made}
+use Rattle.records.specs.declared.Entry.the-variants.{Wrong, Rel, Choose, Rule, Size, Label, Fact, Pick, Step}
+use Rattle.records.proofs.Fields.{two-bounds, not-rule, two-bad, two-is, one-bad, one-is, num-is, num-bad, element-by, choose-by-arity, choose-by-kind, named-made, named-fields}
 
 module _ (s : List ℕ) (a e : ℕ) where
   module _ (f : Found) (w : TwoFields s a e f) where
@@ -55,6 +55,24 @@ module _ (s : List ℕ) (a e : ℕ) where
     choose-kind t p kind q z =
         ap (λ (k : ℕ). some (S.choose (slice a t s) 2 (kindOf k))) q
         ∙ sym (two-is s a e t f S.chooseOf p w ∙ choose-by-kind (slice a t s) (slice (t + 1) e s) (λ y. z (q ∙ y)))
+
+    pub label-none : f ≡ Nowhere → entryIn s Wrong ≡ S.withTwo S.labelOf (split 9 (slice a e s))
+    unfolding entryIn
+    label-none p = sym (two-bad s a e f S.labelOf p w)
+
+    module _ (t : ℕ) (p : f ≡ At t) where
+      pub label-malformed : isRelationName (slice (t + 1) e s) ≡ false → entryIn s Wrong ≡ S.withTwo S.labelOf (split 9 (slice a e s))
+      unfolding entryIn S.labelOf
+      label-malformed q = sym (two-is s a e t f S.labelOf p w ∙ rw q)
+
+      module _ (q : isRelationName (slice (t + 1) e s) ≡ true) (n : Num) (v : n ≡ numOf (codeOf (slice a t s))) where
+        pub label-bad : n ≡ Bad → entryIn s Wrong ≡ S.withTwo S.labelOf (split 9 (slice a e s))
+        unfolding entryIn S.labelOf option
+        label-bad b = sym (two-is s a e t f S.labelOf p w ∙ rw (q, element-by (slice a t s), num-bad (codeOf (slice a t s)) n b v))
+
+        pub label-good : (k : ℕ) → n ≡ Is k → entryIn s (Label k a t e) ≡ S.withTwo S.labelOf (split 9 (slice a e s))
+        unfolding entryIn S.labelOf option
+        label-good k b = sym (two-is s a e t f S.labelOf p w ∙ rw (q, element-by (slice a t s), num-is (codeOf (slice a t s)) n k b v))
 
   module _ (b : Bool) (w : OneField s a e b) where
     pub rule-none : b ≡ false → entryIn s Wrong ≡ S.withOne ruleOf (split 9 (slice a e s))
@@ -92,36 +110,32 @@ module _ (s : List ℕ) (a e : ℕ) where
 
   module _ (t : ℕ) (p : Places) (w : Named s a e t p) where
     pub fact-bad : p ≡ Unread → entryIn s Wrong ≡ S.withElements S.fact (split 9 (slice a e s))
-    unfolding entryIn elements option
-    fact-bad r = named-made s a e t p Unread S.fact r w
+    unfolding entryIn codes option
+    fact-bad r = named-made s a e t p Unread r w S.fact
 
     pub pick-bad : p ≡ Unread → entryIn s Wrong ≡ S.withElements S.pick (split 9 (slice a e s))
-    unfolding entryIn elements option
-    pick-bad r = named-made s a e t p Unread S.pick r w
+    unfolding entryIn codes option
+    pick-bad r = named-made s a e t p Unread r w S.pick
 
-    pub fact-1 : (x : ℕ) → p ≡ One x → entryIn s (Fact a t (One x)) ≡ S.withElements S.fact (split 9 (slice a e s))
-    unfolding entryIn elements option listOf
-    fact-1 x r = named-made s a e t p (One x) S.fact r w
+    module _ (p′ : Places) (r : p ≡ p′) (some-read : option (codes p′) false (λ _. true) ≡ true) where
+      made-some : (q : Places) → option (codes q) false (λ _. true) ≡ true → (o : Option S.Entry) → option (codes q) none (λ _. o) ≡ o
+      unfolding codes option
+      made-some Unread y o = let z : _≡_ {A = ℕ} 0 1 = cc in absurd (omega arith)
+      made-some (One x) y o = refl
+      made-some (Two x u) y o = refl
+      made-some (Three x u v) y o = refl
 
-    pub pick-1 : (x : ℕ) → p ≡ One x → entryIn s (Pick a t (One x)) ≡ S.withElements S.pick (split 9 (slice a e s))
-    unfolding entryIn elements option listOf
-    pick-1 x r = named-made s a e t p (One x) S.pick r w
+      not-unread : (q : Places) → option (codes q) false (λ _. true) ≡ true → q ≡ Unread → ⊥
+      unfolding codes option
+      not-unread q y z = let b = ap (λ (q : Places). option (codes q) false (λ _. true)) (sym z) ∙ y in let z : _≡_ {A = ℕ} 0 1 = cc in omega arith
 
-    pub fact-2 : (x y : ℕ) → p ≡ Two x y → entryIn s (Fact a t (Two x y)) ≡ S.withElements S.fact (split 9 (slice a e s))
-    unfolding entryIn elements option listOf
-    fact-2 x y r = named-made s a e t p (Two x y) S.fact r w
+      pub fact-read : (entryIn s (Fact a t e p′) ≡ S.withElements S.fact (split 9 (slice a e s))) × ((at : ℕ) → InText s at (Fact a t e p′))
+      unfolding entryIn InText
+      fact-read = (sym (made-some p′ some-read _) ∙ named-made s a e t p p′ r w S.fact, λ at. named-fields s a e t p p′ r w (not-unread p′ some-read))
 
-    pub pick-2 : (x y : ℕ) → p ≡ Two x y → entryIn s (Pick a t (Two x y)) ≡ S.withElements S.pick (split 9 (slice a e s))
-    unfolding entryIn elements option listOf
-    pick-2 x y r = named-made s a e t p (Two x y) S.pick r w
-
-    pub fact-3 : (x y z : ℕ) → p ≡ Three x y z → entryIn s (Fact a t (Three x y z)) ≡ S.withElements S.fact (split 9 (slice a e s))
-    unfolding entryIn elements option listOf
-    fact-3 x y z r = named-made s a e t p (Three x y z) S.fact r w
-
-    pub pick-3 : (x y z : ℕ) → p ≡ Three x y z → entryIn s (Pick a t (Three x y z)) ≡ S.withElements S.pick (split 9 (slice a e s))
-    unfolding entryIn elements option listOf
-    pick-3 x y z r = named-made s a e t p (Three x y z) S.pick r w
+      pub pick-read : (entryIn s (Pick a t e p′) ≡ S.withElements S.pick (split 9 (slice a e s))) × ((at : ℕ) → InText s at (Pick a t e p′))
+      unfolding entryIn InText
+      pick-read = (sym (made-some p′ some-read _) ∙ named-made s a e t p p′ r w S.pick, λ at. named-fields s a e t p p′ r w (not-unread p′ some-read))
 
 -- ---- spans
 
@@ -158,13 +172,9 @@ module _ (s : List ℕ) where
   unfolding InText
   in-rule a e h k at p = (p, h, k)
 
-  pub in-fact : (a e : ℕ) (p : Places) → a ≤ e → e ≤ length s → (at : ℕ) → InText s at (Fact a e p)
+  pub in-label : (k a t e : ℕ) → t < e → e ≤ length s → isRelationName (slice (t + 1) e s) ≡ true → (at : ℕ) → InText s at (Label k a t e)
   unfolding InText
-  in-fact a e p h k at = (h, k)
-
-  pub in-pick : (a e : ℕ) (p : Places) → a ≤ e → e ≤ length s → (at : ℕ) → InText s at (Pick a e p)
-  unfolding InText
-  in-pick a e p h k at = (h, k)
+  in-label k a t e h l q at = (h, l, q)
 
   module _ (a e t : ℕ) (f : Found) (p : f ≡ At t) (w : TwoFields s a e f) (h : e ≤ length s) where
     pub in-rel : (n : Num) (k : ℕ) → n ≡ Is k → IsArity n → (at : ℕ) → InText s at (Rel a t k)

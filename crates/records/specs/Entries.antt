@@ -4,10 +4,11 @@ use mathlib.Core.Path.{_≡_}
 use mathlib.Core.Bool.{Bool, true, false}
 use mathlib.Core.List.{List, [], _∷_}
 use mathlib.Core.Option.{Option, none, some}
+use lib.Dec.{eqb}
 use lib.ListN.{length}
 use lib.Seq.{slice}
 use Rattle.definitions.specs.Lists.{if_then_else_, option, same}
-use Rattle.definitions.specs.Text.{Line, split, isBetween, number}
+use Rattle.definitions.specs.Text.{Line, split, isBetween, number, isRelationName}
 use Rattle.definitions.specs.Refusal.{given}
 use Rattle.definitions.specs.Sheets as S
 use Rattle.text.specs.Spans.{kindOf}
@@ -21,7 +22,7 @@ use Rattle.records.specs.declared.Places.the-variants.{Unread, One, Two,
 use Rattle.records.specs.declared.Quick.{Quick}
 use Rattle.records.specs.declared.Quick.the-variants.{Step as Told, Other}
 use Rattle.records.specs.declared.Entry.{Entry}
-use Rattle.records.specs.declared.Entry.the-variants.{Wrong, Rel, Choose, Rule, Size, Fact, Pick, Step}
+use Rattle.records.specs.declared.Entry.the-variants.{Wrong, Rel, Choose, Rule, Size, Label, Fact, Pick, Step}
 
 -- the span is one field; or it is not one
 unfoldable pub OneField : List ℕ → ℕ → ℕ → Bool → Type 0
@@ -38,29 +39,55 @@ unfoldable pub TwoFields : List ℕ → ℕ → ℕ → Found → Type 0
 TwoFields s a e (At t) = (a ≤ t) × (t < e) × (split 9 (slice a e s) ≡ slice a t s ∷ slice (t + 1) e s ∷ [])
 TwoFields s a e Nowhere = (make : List ℕ → List ℕ → Option S.Entry) → S.withTwo make (split 9 (slice a e s)) ≡ none
 
--- the elements that an answer holds
-unfoldable pub listOf : Places → List ℕ
-listOf Unread = []
-listOf (One x) = x ∷ []
-listOf (Two x y) = x ∷ y ∷ []
-listOf (Three x y z) = x ∷ y ∷ z ∷ []
+-- the number of an element field: its own, or, if it is a name, one that has eight digits
+unfoldable pub codeOf : List ℕ → Option ℕ
+codeOf f = option (number f) (if isRelationName f then some 10000000 else none) some
 
-unfoldable pub elements : Places → Option (List ℕ)
-elements Unread = none
-elements (One x) = some (x ∷ [])
-elements (Two x y) = some (x ∷ y ∷ [])
-elements (Three x y z) = some (x ∷ y ∷ z ∷ [])
+unfoldable pub codesIn : List (List ℕ) → Option (List ℕ)
+codesIn [] = some []
+codesIn (f ∷ fs) = option (codeOf f) none (λ k. option (codesIn fs) none (λ ks. some (k ∷ ks)))
+
+-- the element that a field of that number is, and those of several fields
+unfoldable pub elementBy : List ℕ → ℕ → S.Element
+elementBy f k = if eqb k 10000000 then S.named f else S.numbered k
+
+unfoldable pub elementsBy : List (List ℕ) → List ℕ → List S.Element
+elementsBy [] ks = []
+elementsBy (f ∷ fs) [] = []
+elementsBy (f ∷ fs) (k ∷ ks) = elementBy f k ∷ elementsBy fs ks
+
+-- the numbers that an answer holds, and the elements that these are in the fields from a up to e
+unfoldable pub codesOf : Places → List ℕ
+codesOf Unread = []
+codesOf (One x) = x ∷ []
+codesOf (Two x y) = x ∷ y ∷ []
+codesOf (Three x y z) = x ∷ y ∷ z ∷ []
+
+unfoldable pub listOf : List ℕ → ℕ → ℕ → Places → List S.Element
+listOf s a e p = elementsBy (split 9 (slice a e s)) (codesOf p)
+
+unfoldable pub codes : Places → Option (List ℕ)
+codes Unread = none
+codes (One x) = some (x ∷ [])
+codes (Two x y) = some (x ∷ y ∷ [])
+codes (Three x y z) = some (x ∷ y ∷ z ∷ [])
 
 unfoldable pub consed : ℕ → Option (List ℕ) → Option (List ℕ)
 consed x o = option o none (λ xs. some (x ∷ xs))
 
--- 1 to k numbers
+-- 1 to k elements
 unfoldable pub upTo : ℕ → List (List ℕ) → Option (List ℕ)
-upTo k fs = if isBetween 1 k (length fs) then S.numbers fs else none
+upTo k fs = if isBetween 1 k (length fs) then codesIn fs else none
+
+-- there are as many fields as numbers, and they lie in the text
+pub record Fielded (s : List ℕ) (a e : ℕ) (p : Places) : Type 0 where
+  pub starts : a ≤ e
+  pub ends : e ≤ length s
+  pub count : length (split 9 (slice a e s)) ≡ length (codesOf p)
 
 -- the name and the elements of the span
 unfoldable pub Named : List ℕ → ℕ → ℕ → ℕ → Places → Type 0
-Named s a e t p = (make : List ℕ → List ℕ → S.Entry) → S.withElements make (split 9 (slice a e s)) ≡ option (elements p) none (λ xs. some (make (slice a t s) xs))
+Named s a e t p = ((make : List ℕ → List S.Element → S.Entry) → S.withElements make (split 9 (slice a e s)) ≡ option (codes p) none (λ ks. some (make (slice a t s) (listOf s (t + 1) e p)))) × ((p ≡ Unread → ⊥) → Fielded s (t + 1) e p)
 
 -- the number of the kind that a word names, 0 where it names none
 unfoldable pub kindWord : List ℕ → ℕ
@@ -78,9 +105,10 @@ recordWord w =
     else if same w (99 ∷ 104 ∷ 111 ∷ 111 ∷ 115 ∷ 101 ∷ []) then 2
     else if same w (114 ∷ 117 ∷ 108 ∷ 101 ∷ []) then 3
     else if same w (115 ∷ 105 ∷ 122 ∷ 101 ∷ []) then 4
-    else if same w (102 ∷ 97 ∷ 99 ∷ 116 ∷ []) then 5
-    else if same w (112 ∷ 105 ∷ 99 ∷ 107 ∷ []) then 6
-    else if same w (115 ∷ 116 ∷ 101 ∷ 112 ∷ []) then 7
+    else if same w (108 ∷ 97 ∷ 98 ∷ 101 ∷ 108 ∷ []) then 5
+    else if same w (102 ∷ 97 ∷ 99 ∷ 116 ∷ []) then 6
+    else if same w (112 ∷ 105 ∷ 99 ∷ 107 ∷ []) then 7
+    else if same w (115 ∷ 116 ∷ 101 ∷ 112 ∷ []) then 8
     else 0
 
 -- what the fields after a record word make
@@ -103,19 +131,21 @@ entryIn s (Rel a e k) = some (S.rel (slice a e s) k)
 entryIn s (Choose a e k kind) = some (S.choose (slice a e s) k (kindOf kind))
 entryIn s (Rule a e) = some (S.rule (slice a e s))
 entryIn s (Size n) = some (S.size n)
-entryIn s (Fact a e xs) = some (S.fact (slice a e s) (listOf xs))
-entryIn s (Pick a e xs) = some (S.pick (slice a e s) (listOf xs))
+entryIn s (Label k a t e) = some (S.label (elementBy (slice a t s) k) (slice (t + 1) e s))
+entryIn s (Fact a t e p) = some (S.fact (slice a t s) (listOf s (t + 1) e p))
+entryIn s (Pick a t e p) = some (S.pick (slice a t s) (listOf s (t + 1) e p))
 entryIn s (Step k) = some (S.step k)
 
--- the spans of an entry of the line at `at` lie in the text, and an arity is 1 to 3
+-- the spans of an entry of the line at `at` lie in the text, an arity is 1 to 3, a label is of a name's form, and numbers go with fields
 unfoldable pub InText : List ℕ → ℕ → Entry → Type 0
 InText s at Wrong = Unit {0}
 InText s at (Rel a e k) = (a ≤ e) × (e ≤ length s) × (1 ≤ k) × (k ≤ 3)
 InText s at (Choose a e k kind) = (a ≤ e) × (e ≤ length s) × (1 ≤ k) × (k ≤ 3)
 InText s at (Rule a e) = (a ≡ at + 5) × (a ≤ e) × (e ≤ length s)
 InText s at (Size n) = Unit {0}
-InText s at (Fact a e xs) = (a ≤ e) × (e ≤ length s)
-InText s at (Pick a e xs) = (a ≤ e) × (e ≤ length s)
+InText s at (Label k a t e) = (t < e) × (e ≤ length s) × (isRelationName (slice (t + 1) e s) ≡ true)
+InText s at (Fact a t e p) = Fielded s (t + 1) e p
+InText s at (Pick a t e p) = Fielded s (t + 1) e p
 InText s at (Step k) = Unit {0}
 
 -- the first line from `at` on says x, and the others begin at `next`

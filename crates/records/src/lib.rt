@@ -3,14 +3,17 @@ ghost use mathlib.Core.Path.{_≡_};
 ghost use Prim.Native.Nat.{ℕ, _+_, _≤_, _<_};
 ghost use lib.ListN.{length};
 ghost use lib.Seq.{slice};
-ghost use Rattle.definitions.specs.Text.{split, number as numberOf};
-ghost use Rattle.definitions.specs.Sheets.{arityOf, chooseOf, withOne, withTwo, withElements, fact as factOf, pick as pickOf, entry as entryOf};
+ghost use Rattle.definitions.specs.Text.{split};
+ghost use Rattle.definitions.specs.Sheets.{arityOf, chooseOf, labelOf, withOne, withTwo, withElements, fact as factOf, pick as pickOf, entry as entryOf};
 ghost use Rattle.text.specs.Spans.{numOf};
-ghost use Rattle.records.specs.Entries.{OneField, TwoFields, Named, elements, consed, upTo, kindWord, recordWord, relOf, ruleOf, sizeOf, stepOf, entryIn, InText, IsArity, Reads, StepReads};
+ghost use Rattle.records.specs.Entries.{OneField, TwoFields, Named, codeOf, codes, consed, upTo, kindWord, recordWord, relOf, ruleOf, sizeOf, stepOf, entryIn, InText, IsArity, Reads, StepReads};
 use text::Found;
 use text::Num;
 
-// One to three elements.
+// An element field that is a name has this number: no number has eight digits.
+pub const NAMED: u32 = 10000000;
+
+// One to three elements, by their numbers.
 pub enum Places {
     Unread,
     One(u32),
@@ -18,15 +21,17 @@ pub enum Places {
     Three(u32, u32, u32),
 }
 
-// A record: names and the rule as spans of the text, a kind by its number.
+// A record: names and the rule as spans of the text, a kind by its number. A label's element field is a span too, and after the tab
+// that ends it the label goes up to the line's end; so do the element fields of a fact or a pick after its name.
 pub enum Entry {
     Wrong,
     Rel(usize, usize, u32),
     Choose(usize, usize, u32, u32),
     Rule(usize, usize),
     Size(u32),
-    Fact(usize, usize, Places),
-    Pick(usize, usize, Places),
+    Label(u32, usize, usize, usize),
+    Fact(usize, usize, usize, Places),
+    Pick(usize, usize, usize, Places),
     Step(u32),
 }
 
@@ -133,14 +138,17 @@ fn record_word(s: &[u8], a: usize, e: usize) -> u32
     if text::word(s, a, e, b"size") {
         return 4;
     }
-    if text::word(s, a, e, b"fact") {
+    if text::word(s, a, e, b"label") {
         return 5;
     }
-    if text::word(s, a, e, b"pick") {
+    if text::word(s, a, e, b"fact") {
         return 6;
     }
-    if text::word(s, a, e, b"step") {
+    if text::word(s, a, e, b"pick") {
         return 7;
+    }
+    if text::word(s, a, e, b"step") {
+        return 8;
     }
     0
 }
@@ -226,18 +234,48 @@ fn step_entry(s: &[u8], a: usize, e: usize) -> Entry
     Entry::Wrong
 }
 
-// An element, by its number.
+// The number of an element field: its own, or that of a name.
 fn element(s: &[u8], a: usize, e: usize) -> Num
     requires { ⌜ (a ≤ e) × (e ≤ length (now s)) ⌝ }
-    ensures { λ r. ⌜ r ≡ numOf (numberOf (slice a e (now (s .entry)))) ⌝ }
+    ensures { λ r. ⌜ r ≡ numOf (codeOf (slice a e (now (s .entry)))) ⌝ }
 {
-    text::number(s, a, e)
+    let n = text::number(s, a, e);
+    match n {
+        Num::Is(k) => Num::Is(k),
+        Num::Bad => {
+            if text::is_relation_name(s, a, e) {
+                return Num::Is(NAMED);
+            }
+            Num::Bad
+        }
+    }
+}
+
+// The fields after `label`.
+fn label_entry(s: &[u8], a: usize, e: usize) -> Entry
+    requires { ⌜ (a ≤ e) × (e ≤ length (now s)) ⌝ }
+    ensures { λ r. ⌜ (entryIn (now (s .entry)) r ≡ withTwo labelOf (split 9 (slice a e (now (s .entry))))) × ((at : ℕ) → InText (now (s .entry)) at r) ⌝ }
+{
+    let f = two(s, a, e);
+    match f {
+        Found::Nowhere => Entry::Wrong,
+        Found::At(t) => {
+            if text::is_relation_name(s, t + 1, e) {
+                let n = element(s, a, t);
+                return match n {
+                    Num::Bad => Entry::Wrong,
+                    Num::Is(k) => Entry::Label(k, a, t, e),
+                };
+            }
+            Entry::Wrong
+        }
+    }
 }
 
 // The third element.
 fn last(s: &[u8], a: usize, e: usize, x: u32, y: u32) -> Places
     requires { ⌜ (a ≤ e) × (e ≤ length (now s)) ⌝ }
-    ensures { λ r. ⌜ elements r ≡ consed x (consed y (upTo 1 (split 9 (slice a e (now (s .entry)))))) ⌝ }
+    ensures { λ r. ⌜ codes r ≡ consed x (consed y (upTo 1 (split 9 (slice a e (now (s .entry)))))) ⌝ }
 {
     let t = text::find(s, a, e, 9);
     let n = element(s, a, t);
@@ -255,7 +293,7 @@ fn last(s: &[u8], a: usize, e: usize, x: u32, y: u32) -> Places
 // The second element, and the third if there is one.
 fn more(s: &[u8], a: usize, e: usize, x: u32) -> Places
     requires { ⌜ (a ≤ e) × (e ≤ length (now s)) ⌝ }
-    ensures { λ r. ⌜ elements r ≡ consed x (upTo 2 (split 9 (slice a e (now (s .entry))))) ⌝ }
+    ensures { λ r. ⌜ codes r ≡ consed x (upTo 2 (split 9 (slice a e (now (s .entry))))) ⌝ }
 {
     let t = text::find(s, a, e, 9);
     let n = element(s, a, t);
@@ -271,9 +309,9 @@ fn more(s: &[u8], a: usize, e: usize, x: u32) -> Places
 }
 
 // One to three elements.
-fn numbers(s: &[u8], a: usize, e: usize) -> Places
+fn first(s: &[u8], a: usize, e: usize) -> Places
     requires { ⌜ (a ≤ e) × (e ≤ length (now s)) ⌝ }
-    ensures { λ r. ⌜ elements r ≡ upTo 3 (split 9 (slice a e (now (s .entry)))) ⌝ }
+    ensures { λ r. ⌜ codes r ≡ upTo 3 (split 9 (slice a e (now (s .entry)))) ⌝ }
 {
     let t = text::find(s, a, e, 9);
     let n = element(s, a, t);
@@ -289,7 +327,7 @@ fn numbers(s: &[u8], a: usize, e: usize) -> Places
 }
 
 // The name and the elements after `fact` or `pick`.
-fn named(s: &[u8], a: usize, e: usize) -> Tuple
+fn name_first(s: &[u8], a: usize, e: usize) -> Tuple
     requires { ⌜ (a ≤ e) × (e ≤ length (now s)) ⌝ }
     ensures { λ r. ⌜ Named (now (s .entry)) a e (r .end) (r .places) × (a ≤ r .end) × (r .end ≤ e) ⌝ }
 {
@@ -300,7 +338,7 @@ fn named(s: &[u8], a: usize, e: usize) -> Tuple
             places: Places::Unread,
         };
     }
-    let p = numbers(s, t + 1, e);
+    let p = first(s, t + 1, e);
     Tuple { end: t, places: p }
 }
 
@@ -309,14 +347,14 @@ fn fact_entry(s: &[u8], a: usize, e: usize) -> Entry
     requires { ⌜ (a ≤ e) × (e ≤ length (now s)) ⌝ }
     ensures { λ r. ⌜ (entryIn (now (s .entry)) r ≡ withElements factOf (split 9 (slice a e (now (s .entry))))) × ((at : ℕ) → InText (now (s .entry)) at r) ⌝ }
 {
-    let n = named(s, a, e);
+    let n = name_first(s, a, e);
     let t = n.end;
     let p = n.places;
     match p {
         Places::Unread => Entry::Wrong,
-        Places::One(x) => Entry::Fact(a, t, Places::One(x)),
-        Places::Two(x, y) => Entry::Fact(a, t, Places::Two(x, y)),
-        Places::Three(x, y, z) => Entry::Fact(a, t, Places::Three(x, y, z)),
+        Places::One(x) => Entry::Fact(a, t, e, Places::One(x)),
+        Places::Two(x, y) => Entry::Fact(a, t, e, Places::Two(x, y)),
+        Places::Three(x, y, z) => Entry::Fact(a, t, e, Places::Three(x, y, z)),
     }
 }
 
@@ -325,14 +363,14 @@ fn pick_entry(s: &[u8], a: usize, e: usize) -> Entry
     requires { ⌜ (a ≤ e) × (e ≤ length (now s)) ⌝ }
     ensures { λ r. ⌜ (entryIn (now (s .entry)) r ≡ withElements pickOf (split 9 (slice a e (now (s .entry))))) × ((at : ℕ) → InText (now (s .entry)) at r) ⌝ }
 {
-    let n = named(s, a, e);
+    let n = name_first(s, a, e);
     let t = n.end;
     let p = n.places;
     match p {
         Places::Unread => Entry::Wrong,
-        Places::One(x) => Entry::Pick(a, t, Places::One(x)),
-        Places::Two(x, y) => Entry::Pick(a, t, Places::Two(x, y)),
-        Places::Three(x, y, z) => Entry::Pick(a, t, Places::Three(x, y, z)),
+        Places::One(x) => Entry::Pick(a, t, e, Places::One(x)),
+        Places::Two(x, y) => Entry::Pick(a, t, e, Places::Two(x, y)),
+        Places::Three(x, y, z) => Entry::Pick(a, t, e, Places::Three(x, y, z)),
     }
 }
 
@@ -359,12 +397,15 @@ pub fn record(s: &[u8], a: usize, e: usize) -> Entry
         return size_entry(s, t + 1, e);
     }
     if k == 5 {
-        return fact_entry(s, t + 1, e);
+        return label_entry(s, t + 1, e);
     }
     if k == 6 {
-        return pick_entry(s, t + 1, e);
+        return fact_entry(s, t + 1, e);
     }
     if k == 7 {
+        return pick_entry(s, t + 1, e);
+    }
+    if k == 8 {
         return step_entry(s, t + 1, e);
     }
     Entry::Wrong

@@ -70,8 +70,8 @@ module _ (L : CaseLimits) (question site : List ℕ) where
   pub steps-accepted : (p : Problem) (steps : Given) (ks : List ℕ) → readProblem L question site ≡ accepted p → takeSteps steps ≡ accepted ks → stepsAreAccepted L question site steps ≡ reachesGoal p ks
   unfolding stepsAreAccepted readyToRun _>>=_
   steps-accepted p steps ks e t =
-      let (c, a, g) = Asked.problem-parts L question site p e in
-      let q = Asked.ready L question site (λ c. takeSteps steps) nothing nothing nothing c a ks t (Asked.untested c) p g (Asked.untested c) (Asked.untested p) in
+      let (r, a, g) = Asked.problem-filed L question site p e in
+      let q = Asked.ready L question site (λ _. takeSteps steps) nothing nothing nothing r a ks t (Asked.untested (r .case)) p g (Asked.untested (r .case)) (Asked.untested p) in
       rw q (run-accepts p ks)
 
   -- accepted steps were taken
@@ -80,7 +80,7 @@ module _ (L : CaseLimits) (question site : List ℕ) where
   steps-taken steps e =
       let (n, r) = accepted-is (readyToRun L question site steps nothing >>= λ r. run (r .problem) (r .third) .answer) e in
       let (x, f, g) = bind-parts (readyToRun L question site steps nothing) _ n r in
-      (x .third, Asked.parts L question site (λ c. takeSteps steps) nothing nothing nothing x f .is-third)
+      (x .third, Asked.parts L question site (λ _. takeSteps steps) nothing nothing nothing x f .is-third)
 
 pub lent-steps : (ks : List ℕ) → length ks ≤ stepLimit → takeSteps (asNumbers ks) ≡ accepted ks
 unfolding takeSteps refuseIf _>>=_

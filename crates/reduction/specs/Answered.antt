@@ -17,7 +17,7 @@ use Rattle.definitions.specs.Truth.{Case}
 use Rattle.definitions.specs.Atoms.{Problem, relationAt, tuplesOf, placesOf, bitsFrom}
 use Rattle.definitions.specs.Strips.{run, picksOf, reachesGoal}
 use Rattle.definitions.specs.Built.{isPicked, chosenNumbers}
-use Rattle.definitions.specs.Outcome.{Given, asNumbers, takeSteps, readCase, ground, readProblem, nothing, roomFor, picksLength, relationWords, pickWords, written, stateLength, Ready, readyToRun, checkedFrom, checkSteps, picksIfAccepted, picksReadFrom, picksFromSteps}
+use Rattle.definitions.specs.Outcome.{Given, asNumbers, takeSteps, CaseRead, readFiled, readCase, ground, readProblem, nothing, roomFor, picksLength, relationWords, pickWords, written, stateLength, Ready, readyToRun, checkedFrom, checkSteps, picksIfAccepted, picksReadFrom, picksFromSteps}
 use Rattle.definitions.specs.Demand.{isAccepted, caseIsAccepted, areSamePicks}
 use Rattle.laws.specs.Booleans.{T-of, T-true, T-ext, T-and-l, T-and-r}
 use Rattle.laws.specs.Lists.{all-at}
@@ -41,7 +41,7 @@ run-tells p steps k e =
     (g, accepted-eq k (length steps) (sym e ∙ run-count p steps (T-of g)))
 
 module _ (L : CaseLimits) (question site : List ℕ) (given : Given) where
-  abbrev steps-of : Case → Result (List ℕ)
+  abbrev steps-of : CaseRead → Result (List ℕ)
   steps-of c = takeSteps given
 
   -- what was read before the steps ran, that they reach the goal, and how many they are
@@ -104,14 +104,14 @@ module _ (L : CaseLimits) (question site : List ℕ) where
   abbrev Late : Type 0
   Late = (state : List ℕ) (k place : ℕ) → checkSteps L question site (asNumbers []) state .answer ≡ refused k place → isIn k caseNumbers ≡ false
 
-  abbrev no-steps : Case → Result (List ℕ)
+  abbrev no-steps : CaseRead → Result (List ℕ)
   no-steps c = takeSteps (asNumbers [])
 
   run-late : (k : ℕ) → In runNumbers k → isIn k caseNumbers ≡ false
   unfolding isIn any all
   run-late k h = not-true (isIn k caseNumbers) (T-true (not (isIn k caseNumbers)) (all-at (λ j. not (isIn j caseNumbers)) runNumbers tt k (in-mem k runNumbers (T-of h))))
 
-  late-if : (c : Case) (p : Problem) → readCase L question site ≡ accepted c → ground L c ≡ accepted p → Late
+  late-if : (c : CaseRead) (p : Problem) → readFiled L question site ≡ accepted c → ground L (c .case) ≡ accepted p → Late
   unfolding checkSteps readyToRun checkedFrom roomFor refuseIf isIn any _>>=_
   late-if c p rc g state k place e = by-room (ltb (length state) (stateLength p)) refl
     where
@@ -120,11 +120,11 @@ module _ (L : CaseLimits) (question site : List ℕ) where
 
       by-room : (b : Bool) → ltb (length state) (stateLength p) ≡ b → isIn k caseNumbers ≡ false
       by-room true q =
-          let r = Asked.room-refused L question site no-steps nothing nothing rooms c rc [] (lent-steps [] (omega arith)) (Asked.untested c) p g (Asked.untested c) 12 (stateLength p) (rw q refl) in
+          let r = Asked.room-refused L question site no-steps nothing nothing rooms c rc [] (lent-steps [] (omega arith)) (Asked.untested (c .case)) p g (Asked.untested (c .case)) 12 (stateLength p) (rw q refl) in
           let n : k ≡ 12 = sym (refused-number 12 (stateLength p) k place (rw r at e)) in
           rw n refl
       by-room false q =
-          let r = Asked.ready L question site no-steps nothing nothing rooms c rc [] (lent-steps [] (omega arith)) (Asked.untested c) p g (Asked.untested c) (rw q refl) in
+          let r = Asked.ready L question site no-steps nothing nothing rooms c rc [] (lent-steps [] (omega arith)) (Asked.untested (c .case)) p g (Asked.untested (c .case)) (rw q refl) in
           run-late k (run-refuses p [] k place (rw r at e))
 
   refused-if : (k place : ℕ) → readProblem L question site ≡ refused k place → checkSteps L question site (asNumbers []) [] .answer ≡ refused k place
@@ -139,7 +139,9 @@ module _ (L : CaseLimits) (question site : List ℕ) where
           let n : j ≡ k = refused-number j at k place r in
           let o : at ≡ place = refused-place j at k place r in
           rw (Asked.case-refused L question site no-steps nothing nothing rooms j at q, n, o) refl
-      by-case (accepted c) q r = rw (Asked.limits-refused L question site no-steps nothing nothing rooms c q [] (lent-steps [] (omega arith)) (Asked.untested c) k place r) refl
+      by-case (accepted c) q r =
+          let (labels, f) = Asked.case-filed L question site c q in
+          rw (Asked.limits-refused L question site no-steps nothing nothing rooms (record { case = c; labels = labels }) f [] (lent-steps [] (omega arith)) (Asked.untested c) k place r) refl
 
   sheets-only : (k place : ℕ) → readProblem L question site ≡ refused k place → In caseNumbers k
   sheets-only k place e = problem-refuse L question site k place e
@@ -147,7 +149,7 @@ module _ (L : CaseLimits) (question site : List ℕ) where
   pub accepted-checks : (caseIsAccepted L question site ≡ true) ↔ Late
   unfolding caseIsAccepted isAccepted
   accepted-checks = (
-    (λ e. let (p, r) = accepted-is (readProblem L question site) e in let (c, a, g) = Asked.problem-parts L question site p r in late-if c p a g),
+    (λ e. let (p, r) = accepted-is (readProblem L question site) e in let (c, a, g) = Asked.problem-filed L question site p r in late-if c p a g),
     (λ h. by-problem h (readProblem L question site) refl),
   )
     where

@@ -14,11 +14,11 @@ use Rattle.definitions.specs.Relations.{Tuple}
 use Rattle.definitions.specs.Atoms.{Problem, problemOf, stateWords}
 use Rattle.definitions.specs.Strips.{run, picksOf}
 use Rattle.definitions.specs.Built.{builtSteps, bound}
-use Rattle.definitions.specs.Outcome.{readCase, nothing, roomFor, stateLength, picksLength, written, pickWords, Given, takeSteps, Ready, readyToRun, checkedFrom, checkSteps, picksIfAccepted, picksReadFrom, picksFromSteps, Plan, plan, builtFrom, buildSteps}
-use Rattle.definitions.specs.Truth.{Case, areOfKinds}
+use Rattle.definitions.specs.Outcome.{CaseRead, readFiled, nothing, roomFor, stateLength, picksLength, written, pickWords, Given, takeSteps, Ready, readyToRun, checkedFrom, checkSteps, picksIfAccepted, picksReadFrom, picksFromSteps, Plan, plan, builtFrom, buildSteps}
+use Rattle.definitions.specs.Truth.{areOfKinds}
 use Rattle.laws.specs.Results.{bind-parts, not-refused, refused-accepted}
 use Rattle.laws.specs.Words.{state-length}
-use Rattle.laws.specs.Reader.{Accepted, case-fits, gives-if}
+use Rattle.laws.specs.Reader.{FiledFits, filed-fits, gives-if}
 use Rattle.laws.specs.Booleans.{T-of}
 use Rattle.laws.specs.Lists.{all-at}
 use Rattle.laws.specs.Members.{in-mem}
@@ -45,7 +45,7 @@ module _ (L : CaseLimits) (question site : List ℕ) where
   -- ---- checking
   ready-room : (given : Given) (rooms : Problem → Result (Unit {0})) (r : Ready (List ℕ)) → readyToRun L question site given rooms ≡ accepted r → rooms (r .problem) ≡ accepted tt
   unfolding readyToRun
-  ready-room given rooms r e = Asked.parts L question site (λ c. takeSteps given) nothing nothing rooms r e .has-room
+  ready-room given rooms r e = Asked.parts L question site (λ _. takeSteps given) nothing nothing rooms r e .has-room
 
   module _ (given : Given) (state : List ℕ) where
     abbrev ready : Result (Ready (List ℕ))
@@ -114,14 +114,15 @@ module _ (L : CaseLimits) (question site : List ℕ) where
     unfolding buildSteps builtFrom
     build-length small = go (plan L question site given (length state) (length steps)) (λ b e. room b e)
       where
-        few : (c : Case) (p : Problem) (F : List Tuple) → Accepted c → p ≡ problemOf c → picksGiven c p given ≡ accepted F → areOfKinds c F ≡ true → length (builtSteps p F) ≤ bound p
-        few c p F A e t k = subst (λ (q : Problem). length (builtSteps q F) ≤ bound q) (sym e) (let n = count-case c A F (given-picks c A given F (subst (λ (q : Problem). picksGiven c q given ≡ accepted F) e t)) k in omega (arith, n .0, n .1))
+        few : (r : CaseRead) (p : Problem) (F : List Tuple) → FiledFits r → p ≡ problemOf (r .case) → picksGiven (r .case) (r .labels) p given ≡ accepted F → areOfKinds (r .case) F ≡ true → length (builtSteps p F) ≤ bound p
+        few r p F A e t k = subst (λ (q : Problem). length (builtSteps q F) ≤ bound q) (sym e)
+            (let n = count-case (r .case) (A .case-fits) F (given-picks (r .case) (A .case-fits) (r .labels) (A .labels-fit) given F (subst (λ (q : Problem). picksGiven (r .case) (r .labels) q given ≡ accepted F) e t)) k in omega (arith, n .0, n .1))
 
         room : (b : Plan) → plan L question site given (length state) (length steps) ≡ accepted b → (stateLength (b .problem) ≤ length state) × (length (b .steps) ≤ length steps)
         room b e =
             let t = plan-tells L question site given (length state) (length steps) b e in
-            let c : Case = t .case in
-            let f = few c (b .problem) (b .picks) (gives-if Accepted (readCase L question site) c (t .is-case) (case-fits L small question site)) (ground-is L c (b .problem) (t .is-problem)) (t .given) (t .kinds) in
+            let r : CaseRead = record { case = t .case; labels = b .labels } in
+            let f = few r (b .problem) (b .picks) (gives-if FiledFits (readFiled L question site) r (t .is-filed) (filed-fits L small question site)) (ground-is L (t .case) (b .problem) (t .is-problem)) (t .given) (t .kinds) in
             let l : length (b .steps) ≡ length (builtSteps (b .problem) (b .picks)) = ap length (t .steps) in
             (t .state-room, omega (arith, t .steps-room))
 

@@ -9,15 +9,18 @@
 --    6  polynomial, degree
 --    7  strips-1, never-twice
 --    8  atom-number, atoms-numbered, atoms-used, action-number, actions-numbered; state-bit, state-spare, words-taken, words-written;
---       picks-texts, picks-printed, number-texts, steps-texts
+--       picks-texts, picks-said, picks-unlabelled, picks-printed, number-texts, steps-texts
 --    9  sizes-refuse, action-refuse, check-refuse, read-refuse, build-refuse; check-length, read-length, build-length
---   10  desk-records
+--   10  desk-records, desk-picks
 --   11  trying, tries-alone, tries-outside, tries-accepts, tries-place; tries-refuse, tries-length
 --   12  one-pick, one-pick-built, allowances-are, allowances-refuse, allowances-length
 --   13  visited-are, visited-once, tallied, sizes-tallied
 --   14  judging
 --   15  kept-problem, kept-sizes, kept-action, kept-check, kept-read, kept-build, kept-judgement, kept-tries, kept-allowances;
 --       grown, long-text, many-steps, desk-limits, desk-steps
+--   16  labels-one-to-one, labels-are; rewritten-case, rewritten-problem, rewritten-sizes, rewritten-action, rewritten-check,
+--       rewritten-read, rewritten-build, rewritten-judgement, rewritten-tries, rewritten-allowances; rewritten-picks,
+--       rewritten-build-text, rewritten-judgement-text
 use Prim.Native.Nat.{ℕ, zero, _+_, _*_, _^_, _<_, _≤_}
 use mathlib.Core.Path.{_≡_, refl, sym, ap, subst, subst₂, _∙_}
 use mathlib.Core.Logic.{_⊎_, ⊎-elim, _↔_}
@@ -29,18 +32,19 @@ use lib.Dec.{ltb}
 use lib.ListN.{length, getD, take, drop, length-append}
 use borrow.Author.Tests.{le-ltb}
 use Rattle.definitions.specs.Limits.{CaseLimits, usual, early, stepLimit, textLimit, deskBytes}
-use Rattle.definitions.specs.Lists.{if_then_else_, flatMap, below, isIn}
-use Rattle.definitions.specs.Text.{number, decimal, Line}
+use Rattle.definitions.specs.Lists.{if_then_else_, flatMap, below, isIn, sum}
+use Rattle.definitions.specs.Text.{bytes, number, decimal, isRelationName, Line}
+use Rattle.definitions.specs.Rewritten.{inNumbers}
 use Rattle.definitions.specs.Desk.{stepLine, pickLine, sheets, answer}
 use Rattle.definitions.specs.Refusal.{Result, refused, accepted, _>>=_, refuseIf, caseNumbers, readyNumbers, runNumbers, picksNumbers, given, readText}
 use Rattle.definitions.specs.Relations.{Tuple, isAmong}
-use Rattle.definitions.specs.Sheets.{Question, readQuestion, readPicks, firstChosen, readSteps}
+use Rattle.definitions.specs.Sheets.{Question, Label, elementNamed, nameOf, readQuestion, readPicks, firstChosen, readSteps}
 use Rattle.definitions.specs.Truth.{Case, arePicks, areOfKinds, firstOfOtherKind, ruleIsTrue}
 use Rattle.definitions.specs.Atoms.{Problem, problemOf, Atom, itemAt, atomBlocks, atoms, atomNumber, relationAt, placesOf, initial, stateWords, rowOf}
 use Rattle.definitions.specs.Actions.{Action, set, actionAt, actions, actionNumber, needs, adds, removes}
 use Rattle.definitions.specs.Strips.{reachesGoal, run, picksOf}
 use Rattle.definitions.specs.Built.{chosenNumbers, builtSteps, builtCount, bound, boundExponents, boundPolynomial, pickedRows}
-use Rattle.definitions.specs.Outcome.{replyNumber, replyPlace, sizes, action, readCase, ground, readProblem, asked, nothing, roomFor, stateLength, written, picksLength, pickWords, bitOf, lentPicks, spareWord, Given, asText, asNumbers, takeSteps, textPicks, picksRoom, takePicks, readyToRun, Checked, checkedFrom, checkSteps, picksIfAccepted, picksReadFrom, picksFromSteps, kindRefusal, Plan, plan, Built, builtFrom, buildSteps, Ready, PicksRead, sizesOf, satisfying}
+use Rattle.definitions.specs.Outcome.{replyNumber, replyPlace, sizes, action, CaseRead, readFiled, readCase, ground, readProblem, asked, nothing, roomFor, stateLength, written, picksLength, pickWords, bitOf, lentPicks, spareWord, Given, asText, asNumbers, takeSteps, textPicks, picksRoom, takePicks, readyToRun, Checked, checkedFrom, checkSteps, picksIfAccepted, picksReadFrom, picksFromSteps, kindRefusal, Plan, plan, Built, builtFrom, buildSteps, Ready, PicksRead, sizesOf, satisfying}
 use Rattle.definitions.specs.Tree.{Part, nodes, treeOf}
 use Rattle.definitions.specs.Tally.{walked, tally}
 use Rattle.definitions.specs.Allowance.{allowance, allowancesOf, allowedFrom, allowances}
@@ -51,7 +55,7 @@ use Rattle.laws.specs.Numbers
 use Rattle.laws.specs.Words
 use Rattle.laws.specs.Walks
 use Rattle.laws.specs.Members.{ascending-once}
-use Rattle.laws.specs.Booleans.{T-of}
+use Rattle.laws.specs.Booleans.{T-of, T-true}
 use Rattle.laws.specs.Results.{accepted-eq, accepted-is, is-accepted}
 use Rattle.laws.specs.Blocks.{item-lt}
 use Rattle.laws.specs.Numbers.{IsAction, IsAtom}
@@ -59,7 +63,7 @@ use Rattle.laws.specs.Words.{words-for}
 use Rattle.laws.specs.Asked
 use Rattle.laws.specs.Count
 use Rattle.laws.specs.Reader
-use Reader.{Accepted, case-fits, gives-if}
+use Reader.{Accepted, FiledFits, filed-fits, gives-if}
 use Rattle.laws.specs.Grounded.{good}
 use Rattle.laws.specs.Valid.{needs-valid, adds-valid, removes-valid}
 use Rattle.laws.specs.Pairs
@@ -77,18 +81,25 @@ use Rattle.reduction.specs.Filed
 use Rattle.reduction.specs.Short
 use Rattle.laws.specs.Decimals
 use Rattle.laws.specs.Told
+use Told.{TupleLine}
+use Rattle.laws.specs.Lines.{LineByLine}
+use Rattle.laws.specs.Labels
+use Labels.{LabelsFit}
 use Rattle.reduction.specs.Written
 use Rattle.reduction.specs.Trying
 use Rattle.reduction.specs.Judging
 use Rattle.reduction.specs.OnePick
 use Rattle.reduction.specs.Wider
+use Rattle.reduction.specs.InNumbers
+use Rattle.reduction.specs.SameReplies
 
--- A question and a site are accepted exactly if a case is read from them and its problem is within the limits.
-pub accepted-case : (L : CaseLimits) (question site : List ℕ) → (caseIsAccepted L question site ≡ true) ↔ ((c : Case) × (p : Problem) × (readCase L question site ≡ accepted c) × (readProblem L question site ≡ accepted p))
+-- A question and a site are accepted exactly if a case is read from them, with its labels, and its problem is within the limits.
+pub accepted-case : (L : CaseLimits) (question site : List ℕ)
+    → (caseIsAccepted L question site ≡ true) ↔ ((c : Case) × (labels : List Label) × (p : Problem) × (readFiled L question site ≡ accepted (record { case = c; labels = labels })) × (readProblem L question site ≡ accepted p))
 unfolding caseIsAccepted isAccepted
 accepted-case L question site = (
-  (λ e. let (p, r) = accepted-is (readProblem L question site) e in let (c, a, g) = Asked.problem-parts L question site p r in (c, p, a, r)),
-  (λ h. let (c, p, a, r) = h in is-accepted (readProblem L question site) p r),
+  (λ e. let (p, r) = accepted-is (readProblem L question site) e in let (c, a, g) = Asked.problem-filed L question site p r in (c .case, c .labels, p, a, r)),
+  (λ h. let (c, labels, p, a, r) = h in is-accepted (readProblem L question site) p r),
 )
 
 -- That is so exactly if nothing in the two texts makes checking refuse with a number of theirs or 11, whatever the lent length.
@@ -97,9 +108,13 @@ pub accepted-checks : (L : CaseLimits) (question site : List ℕ)
 accepted-checks L question site = Answered.accepted-checks L question site
 
 -- ---- For every limits of at most 64 elements and no more atoms than steps may be handed over, and every question and site that are
--- accepted under them: c is the case read from the two texts, p its numbered problem.
-module _ (L : CaseLimits) (few : L .elements ≤ 64) (lendable : L .atoms ≤ stepLimit) (question site : List ℕ) (c : Case) (p : Problem) (is-case : readCase L question site ≡ accepted c) (is-problem : readProblem L question site ≡ accepted p) where
+-- accepted under them: c is the case read from the two texts, with its labels, and p its numbered problem.
+module _ (L : CaseLimits) (few : L .elements ≤ 64) (lendable : L .atoms ≤ stepLimit) (question site : List ℕ) (c : Case) (labels : List Label) (p : Problem)
+    (is-filed : readFiled L question site ≡ accepted (record { case = c; labels = labels })) (is-problem : readProblem L question site ≡ accepted p) where
   -- (what the proofs in this module start from; the theorems begin at 1)
+  is-case : readCase L question site ≡ accepted c
+  is-case = Asked.filed-case L question site (record { case = c; labels = labels }) is-filed
+
   grounds : ground L c ≡ accepted p
   unfolding readProblem _>>=_
   grounds = rw is-case at is-problem
@@ -107,8 +122,14 @@ module _ (L : CaseLimits) (few : L .elements ≤ 64) (lendable : L .atoms ≤ st
   same-problem : p ≡ problemOf c
   same-problem = Building.ground-is L c p grounds
 
+  filed : FiledFits (record { case = c; labels = labels })
+  filed = gives-if FiledFits (readFiled L question site) (record { case = c; labels = labels }) is-filed (filed-fits L few question site)
+
   A : Accepted c
-  A = gives-if Accepted (readCase L question site) c is-case (case-fits L few question site)
+  A = filed .case-fits
+
+  K : LabelsFit (c .site .size) labels
+  K = filed .labels-fit
 
   sound : (steps : List ℕ) → reachesGoal p steps ≡ true → (arePicks c (picksOf p steps) ≡ true) × (areOfKinds c (picksOf p steps) ≡ true) × (ruleIsTrue c (picksOf p steps) ≡ true)
   sound = rw same-problem (Between.sound-case c A)
@@ -139,7 +160,7 @@ module _ (L : CaseLimits) (few : L .elements ≤ 64) (lendable : L .atoms ≤ st
   pub checking : (given : Given) (steps : List ℕ) → takeSteps given ≡ accepted steps → (state : List ℕ) → stateLength p ≤ length state
       → checkSteps L question site given state ≡ record { answer = run p steps .answer; state = written (stateWords p (run p steps .state)) state }
   unfolding checkSteps readyToRun asked nothing roomFor refuseIf checkedFrom _>>=_
-  checking given steps t state h = let e : ltb (length state) (stateLength p) ≡ false = le-ltb (length state) (stateLength p) h in rw (is-case, t, grounds, e) refl
+  checking given steps t state h = let e : ltb (length state) (stateLength p) ≡ false = le-ltb (length state) (stateLength p) h in rw (is-filed, t, grounds, e) refl
 
   -- It accepts, with the step count, exactly the steps that reach the goal.
   pub checking-accepts : (given : Given) (steps : List ℕ) → takeSteps given ≡ accepted steps → (state : List ℕ) → stateLength p ≤ length state
@@ -172,7 +193,7 @@ module _ (L : CaseLimits) (few : L .elements ≤ 64) (lendable : L .atoms ≤ st
   reading given steps t picks state h g =
       let e : ltb (length picks) (picksLength p) ≡ false = le-ltb (length picks) (picksLength p) h in
       let f : ltb (length state) (stateLength p) ≡ false = le-ltb (length state) (stateLength p) g in
-      rw (is-case, t, grounds, e, f) refl
+      rw (is-filed, t, grounds, e, f) refl
 
   -- Whatever the lent lengths: whenever checking answers with a count, the steps were taken, that is how many there are, they reach the
   -- goal, and the picks read from them are of the declared kinds and make the rule true.
@@ -204,22 +225,22 @@ module _ (L : CaseLimits) (few : L .elements ≤ 64) (lendable : L .atoms ≤ st
 
   -- ---- 4, completeness. Picks are handed over as a text or as words: these are the picks that are taken then.
   abbrev taken : Given → Result (List Tuple)
-  taken given = textPicks c given >>= λ read. picksRoom p given >>= λ _. takePicks p given read
+  taken given = textPicks c labels given >>= λ read. picksRoom p given >>= λ _. takePicks p given read
 
   -- Of a text they are those that are read; of words that are long enough and have no spare bit set, the tuples whose bits are set.
-  pub text-picks : (text : List ℕ) → taken (asText text) ≡ readPicks (c .question .chosen) (firstChosen (c .question)) (c .site .size) text
-  text-picks text = Building.given-text c p text
+  pub text-picks : (text : List ℕ) → taken (asText text) ≡ readPicks (c .question .chosen) (firstChosen (c .question)) (c .site .size) labels text
+  text-picks text = Building.given-text c labels p text
 
   pub lent-picks : (words : List ℕ) → picksLength p ≤ length words → spareWord p words zero (chosenNumbers p) ≡ none → taken (asNumbers words) ≡ accepted (lentPicks p words (chosenNumbers p))
-  lent-picks words h e = Building.given-words c p words h e
+  lent-picks words h e = Building.given-words c labels p words h e
 
   -- Whatever is taken is a set of tuples of the `choose` relations.
   pub taken-picks : (given : Given) (picks : List Tuple) → taken given ≡ accepted picks → arePicks c picks ≡ true
-  taken-picks = rw same-problem (Building.given-picks c A)
+  taken-picks = rw same-problem (Building.given-picks c A labels K)
 
   module _ (given : Given) (picks : List Tuple) (is-taken : taken given ≡ accepted picks) (state steps : List ℕ) (room : stateLength p ≤ length state) (space : bound p ≤ length steps) where
-    plans : plan L question site given (length state) (length steps) ≡ (kindRefusal (firstOfOtherKind c picks) >>= λ _. refuseIf (not (ruleIsTrue c picks)) 17 zero >>= λ _. accepted (record { problem = p; picks = picks; steps = builtSteps p picks }))
-    plans = Building.plan-is L question site given c p picks (length state) (length steps) is-case grounds is-taken room space
+    plans : plan L question site given (length state) (length steps) ≡ (kindRefusal (firstOfOtherKind c picks) >>= λ _. refuseIf (not (ruleIsTrue c picks)) 17 zero >>= λ _. accepted (record { labels = labels; problem = p; picks = picks; steps = builtSteps p picks }))
+    plans = Building.plan-is L question site given c labels p picks (length state) (length steps) is-filed grounds is-taken room space
 
     -- Picks of the declared kinds of which the rule is true always give the built steps.
     pub building : areOfKinds c picks ≡ true → ruleIsTrue c picks ≡ true
@@ -256,7 +277,8 @@ module _ (L : CaseLimits) (few : L .elements ≤ 64) (lendable : L .atoms ≤ st
       let t = Building.plan-tells L question site given (length state) (length steps) b r in
       let same-case : t .case ≡ c = accepted-eq (t .case) c (sym (t .is-case) ∙ is-case) in
       let same : b .problem ≡ p = accepted-eq (b .problem) p (sym (t .is-problem) ∙ ap (ground L) same-case ∙ grounds) in
-      let f : taken given ≡ accepted (b .picks) = subst₂ (λ (x : Case) (y : Problem). Building.picksGiven x y given ≡ accepted (b .picks)) same-case same (t .given) in
+      let same-read : _≡_ {A = CaseRead} (record { case = t .case; labels = b .labels }) (record { case = c; labels = labels }) = accepted-eq _ _ (sym (t .is-filed) ∙ is-filed) in
+      let f : taken given ≡ accepted (b .picks) = subst₂ (λ (x : CaseRead) (y : Problem). Building.picksGiven (x .case) (x .labels) y given ≡ accepted (b .picks)) same-read same (t .given) in
       let l : b .steps ≡ builtSteps p (b .picks) = t .steps ∙ ap (λ (y : Problem). builtSteps y (b .picks)) same in
       (b .picks, f, taken-picks given (b .picks) f, subst (λ (x : Case). areOfKinds x (b .picks) ≡ true) same-case (t .kinds), subst (λ (x : Case). ruleIsTrue x (b .picks) ≡ true) same-case (t .rule), n ∙ ap length l, w ∙ ap (λ (x : List ℕ). written x steps) l)
 
@@ -362,20 +384,38 @@ module _ (L : CaseLimits) (few : L .elements ≤ 64) (lendable : L .atoms ≤ st
   pub words-written : (words : List ℕ) → ((j : ℕ) → getD words j 0 < 2 ^ 64) → picksLength p ≤ length words → spareWord p words zero (chosenNumbers p) ≡ none → pickWords p (lentPicks p words (chosenNumbers p)) ≡ take (picksLength p) words
   words-written = rw same-problem (Lent.words-again (problemOf c) (good c A))
 
-  -- A text is read as picks exactly if it is what the desk program writes for them line by line; so every set of picks has a text,
-  -- and one text only in each order.
+  -- A pick's line has the word `pick`, the relation's name, and for each place a field that spells it, by its number or its label.
+  abbrev Spells : Tuple → List (List ℕ) → Type 0
+  Spells t fs = TupleLine labels (bytes "pick") (λ u. relationAt p (u .relation) .name) t fs
+
+  -- A text is read as picks exactly if line by line it spells them.
   pub picks-texts : (text : List ℕ) (picks : List Tuple)
-      → (readPicks (c .question .chosen) (firstChosen (c .question)) (c .site .size) text ≡ accepted picks)
-      ↔ ((text ≡ flatMap (λ (t : Tuple). pickLine p (t .relation) (rowOf (p .size) (t .places))) picks) × (length text ≤ textLimit) × (arePicks c picks ≡ true))
+      → (readPicks (c .question .chosen) (firstChosen (c .question)) (c .site .size) labels text ≡ accepted picks) ↔ (LineByLine Spells picks text × (length text ≤ textLimit) × (arePicks c picks ≡ true))
   picks-texts = rw same-problem (λ text picks. (
-    (λ e. let a = Building.given-picks c A (asText text) picks (Building.given-text c (problemOf c) text ∙ e) in let (f, l) = Written.picks-text c A picks (T-of a) text e in (f, l, a)),
-    (λ h. let (f, l, a) = h in ap (readPicks (c .question .chosen) (firstChosen (c .question)) (c .site .size)) f ∙ Written.picks-back c A picks (T-of a) (subst (λ (t : List ℕ). length t ≤ textLimit) f l)),
+    (λ e. let a = Building.given-picks c A labels K (asText text) picks (Building.given-text c labels (problemOf c) text ∙ e) in let (f, l) = Written.picks-text c A labels K picks (T-of a) text e in (f, l, a)),
+    (λ h. let (f, l, a) = h in Written.picks-back c A labels K picks (T-of a) text f l),
   ))
 
+  -- What the desk program prints for them line by line is such a text, so every set of picks has one;
+  pub picks-said : (picks : List Tuple) → arePicks c picks ≡ true → LineByLine Spells picks (flatMap (λ (t : Tuple). pickLine labels p (t .relation) (rowOf (p .size) (t .places))) picks)
+  picks-said = rw same-problem (λ picks a. Written.picks-said c A labels K picks (T-of a))
+
+  -- and without labels one only, in each order.
+  pub picks-unlabelled : labels ≡ [] → (text : List ℕ) (picks : List Tuple)
+      → (readPicks (c .question .chosen) (firstChosen (c .question)) (c .site .size) labels text ≡ accepted picks)
+      ↔ ((text ≡ flatMap (λ (t : Tuple). pickLine labels p (t .relation) (rowOf (p .size) (t .places))) picks) × (length text ≤ textLimit) × (arePicks c picks ≡ true))
+  picks-unlabelled e text picks = (
+    (λ h. let (f, l, a) = picks-texts text picks .0 h in (only text picks a f, l, a)),
+    (λ h. let (f, l, a) = h in picks-texts text picks .1 (subst (LineByLine Spells picks) (sym f) (picks-said picks a), l, a)),
+  )
+    where
+      only : (text : List ℕ) (picks : List Tuple) → arePicks c picks ≡ true → LineByLine Spells picks text → text ≡ flatMap (λ (t : Tuple). pickLine labels p (t .relation) (rowOf (p .size) (t .places))) picks
+      only = rw same-problem (λ text picks a. Written.picks-plain c A labels K picks (T-of a) e text)
+
   -- Printed in the order of the atoms, as the desk program prints them, they are read back as the same tuples.
-  pub picks-printed : (picks : List Tuple) → arePicks c picks ≡ true → length (flatMap (λ r. flatMap (pickLine p r) (pickedRows p picks r)) (chosenNumbers p)) ≤ textLimit
-      → (again : List Tuple) × (readPicks (c .question .chosen) (firstChosen (c .question)) (c .site .size) (flatMap (λ r. flatMap (pickLine p r) (pickedRows p picks r)) (chosenNumbers p)) ≡ accepted again) × (areSamePicks again picks ≡ true)
-  picks-printed = rw same-problem (λ picks a h. (map (Pairs.tupleOf (problemOf c)) (Pairs.pairs (problemOf c) picks), Written.printed-back c A picks (T-of a) h, Between.in-order c A picks a))
+  pub picks-printed : (picks : List Tuple) → arePicks c picks ≡ true → length (flatMap (λ r. flatMap (pickLine labels p r) (pickedRows p picks r)) (chosenNumbers p)) ≤ textLimit
+      → (again : List Tuple) × (readPicks (c .question .chosen) (firstChosen (c .question)) (c .site .size) labels (flatMap (λ r. flatMap (pickLine labels p r) (pickedRows p picks r)) (chosenNumbers p)) ≡ accepted again) × (areSamePicks again picks ≡ true)
+  picks-printed = rw same-problem (λ picks a h. (map (Pairs.tupleOf (problemOf c)) (Pairs.pairs (problemOf c) picks), Written.printed-back c A labels K picks (T-of a) h, Between.in-order c A picks a))
 
   -- ---- 11, many step lists of one case, in one call: it answers 0 and place 0, every record gets its list's reply, and the initial
   -- state is left;
@@ -435,7 +475,7 @@ module _ (L : CaseLimits) (few : L .elements ≤ 64) (lendable : L .atoms ≤ st
   -- The call that tells them writes the allowance of every `choose`, in order, at the front of its buffer.
   pub allowances-are : (old : List ℕ) → length (chosenNumbers p) ≤ length old → allowances L question site old ≡ record { answer = accepted 0; allowances = written (map (allowance p) (chosenNumbers p)) old }
   unfolding allowances allowedFrom allowancesOf asked nothing roomFor refuseIf _>>=_
-  allowances-are old h = let e : ltb (length old) (length (chosenNumbers p)) ≡ false = le-ltb (length old) (length (chosenNumbers p)) h in rw (is-case, grounds, e) refl
+  allowances-are old h = let e : ltb (length old) (length (chosenNumbers p)) ≡ false = le-ltb (length old) (length (chosenNumbers p)) h in rw (is-filed, grounds, e) refl
 
 -- ---- A text is read as a number exactly if it is what is written for it and has at most 7 digits; and as steps exactly if it is what
 -- the desk program writes for them. So every step list within the limits has a text, and one text only.
@@ -512,6 +552,10 @@ pub desk-records : (input : List ℕ) (b : Plan) → answer input ≡ accepted b
     → (c : Case) × (readCase early (sheets input .question) (sheets input .site) ≡ accepted c) × (ground early c ≡ accepted (b .problem)) × (arePicks c (b .picks) ≡ true) × (areOfKinds c (b .picks) ≡ true) × (ruleIsTrue c (b .picks) ≡ true) × (reachesGoal (b .problem) (b .steps) ≡ true) × (areSamePicks (picksOf (b .problem) (b .steps)) (b .picks) ≡ true)
 desk-records input b e = let (c, rc, rg, h) = Filed.desk-filed input b e in let (a, k, r, g, s) = h in (c, rc, rg, a, k, r, g, s)
 
+-- It never prints more than 2,340 `pick` lines: a line of picks or of steps has at least 7 bytes.
+pub desk-picks : (input : List ℕ) (b : Plan) → answer input ≡ accepted b → (length (b .picks) ≤ 2340) × (sum (map (λ r. length (pickedRows (b .problem) (b .picks) r)) (chosenNumbers (b .problem))) ≤ 2340)
+desk-picks input b e = Short.desk-picks input b e
+
 -- ---- 13, document 02, job 3: for every case that is read, be it over the limits of 11 or not, one walk of its tree visits its nodes,
 -- each once and in preorder, and what it counts are the numbers of nodes, atoms and actions, and the bound.
 module _ (L : CaseLimits) (question site : List ℕ) (c : Case) (is-case : readCase L question site ≡ accepted c) where
@@ -545,21 +589,21 @@ module _ (L M : CaseLimits) (larger : Wider.Wider L M) (question site : List ℕ
 
   pub kept-check : (steps : Given) (state : List ℕ) → checkSteps L question site steps state ≡ checkSteps M question site steps state
   unfolding checkSteps readyToRun
-  kept-check steps state = ap (λ (r : Result (Ready (List ℕ))). checkedFrom r state) (Wider.asked-wider L M larger question site p is-problem (λ c. takeSteps steps) nothing nothing _)
+  kept-check steps state = ap (λ (r : Result (Ready (List ℕ))). checkedFrom r state) (Wider.asked-wider L M larger question site p is-problem (λ _. takeSteps steps) nothing nothing _)
 
   pub kept-read : (steps : Given) (picks state : List ℕ) → picksFromSteps L question site steps picks state ≡ picksFromSteps M question site steps picks state
   unfolding picksFromSteps readyToRun
-  kept-read steps picks state = ap (λ (r : Result (Ready (List ℕ))). picksReadFrom r picks state) (Wider.asked-wider L M larger question site p is-problem (λ c. takeSteps steps) nothing nothing _)
+  kept-read steps picks state = ap (λ (r : Result (Ready (List ℕ))). picksReadFrom r picks state) (Wider.asked-wider L M larger question site p is-problem (λ _. takeSteps steps) nothing nothing _)
 
   pub kept-build : (picks : Given) (state steps : List ℕ) → buildSteps L question site picks state steps ≡ buildSteps M question site picks state steps
   unfolding buildSteps plan
   kept-build picks state steps = ap
-      (λ (r : Result (Ready (List Tuple))). builtFrom (r >>= λ x. satisfying (x .case) (x .problem) picks (x .third) >>= λ F. accepted (record { problem = x .problem; picks = F; steps = builtSteps (x .problem) F })) state steps)
-      (Wider.asked-wider L M larger question site p is-problem (λ c. textPicks c picks) nothing nothing _)
+      (λ (r : Result (Ready (List Tuple))). builtFrom (r >>= λ x. satisfying (x .case) (x .problem) picks (x .third) >>= λ F. accepted (record { labels = x .labels; problem = x .problem; picks = F; steps = builtSteps (x .problem) F })) state steps)
+      (Wider.asked-wider L M larger question site p is-problem (λ c. textPicks (c .case) (c .labels) picks) nothing nothing _)
 
   pub kept-judgement : (picks : Given) → judge L question site picks ≡ judge M question site picks
   unfolding judge
-  kept-judgement picks = ap (λ (r : Result (Ready (List Tuple))). r >>= λ x. satisfying (x .case) (x .problem) picks (x .third) >>= λ _. accepted zero) (Wider.asked-wider L M larger question site p is-problem (λ c. textPicks c picks) nothing nothing _)
+  kept-judgement picks = ap (λ (r : Result (Ready (List Tuple))). r >>= λ x. satisfying (x .case) (x .problem) picks (x .third) >>= λ _. accepted zero) (Wider.asked-wider L M larger question site p is-problem (λ c. textPicks (c .case) (c .labels) picks) nothing nothing _)
 
   pub kept-tries : (steps : List ℕ) (tries : List Try) (state : List ℕ) → tryLists L question site steps tries state ≡ tryLists M question site steps tries state
   unfolding tryLists readyToTry
@@ -586,3 +630,66 @@ desk-limits input h = Short.sheets-short input deskBytes h
 
 pub desk-steps : (input steps : List ℕ) → length input ≤ deskBytes → readSteps (sheets input .rest) ≡ accepted steps → length steps ≤ deskBytes
 desk-steps input steps h e = let (q, s, r) = Short.sheets-short input deskBytes h in omega (arith, r, Short.steps-fewer (sheets input .rest) steps e)
+
+-- ---- 16, document 02, job 1. For every limits of at most 64 elements, and every question and site that a case is read from: c is the
+-- case, with its labels. They are one to one: an element has a name exactly if the name means that element;
+module _ (L : CaseLimits) (few : L .elements ≤ 64) (question site : List ℕ) (c : Case) (labels : List Label) (is-filed : readFiled L question site ≡ accepted (record { case = c; labels = labels })) where
+  fits : FiledFits (record { case = c; labels = labels })
+  fits = gives-if FiledFits (readFiled L question site) (record { case = c; labels = labels }) is-filed (filed-fits L few question site)
+
+  pub labels-one-to-one : (x : ℕ) (name : List ℕ) → (nameOf labels x ≡ some name) ↔ (elementNamed labels name ≡ some x)
+  labels-one-to-one x name = Labels.one-to-one labels (fits .labels-fit .one) x name
+
+  -- each is the name of an element of the site, in the form of a relation's name, and is found from either side.
+  pub labels-are : (l : Label) → List·Memᴰ l labels
+      → (l .element < c .site .size) × (isRelationName (l .name) ≡ true) × (nameOf labels (l .element) ≡ some (l .name)) × (elementNamed labels (l .name) ≡ some (l .element))
+  labels-are l m = let K = fits .labels-fit in (K .small l m, T-true (isRelationName (l .name)) (K .formed l m), Labels.name-found labels l (K .one) m, Labels.element-found labels l (K .one) m)
+
+  -- Picks rewritten with numbers, where that stays within the text limit, are the same picks without labels.
+  pub rewritten-picks : (text : List ℕ) (picks : List Tuple) → readPicks (c .question .chosen) (firstChosen (c .question)) (c .site .size) labels text ≡ accepted picks → length (inNumbers labels text) ≤ textLimit
+      → readPicks (c .question .chosen) (firstChosen (c .question)) (c .site .size) [] (inNumbers labels text) ≡ accepted picks
+  rewritten-picks text picks e l = InNumbers.picks-in-numbers c (fits .case-fits) labels (fits .labels-fit) picks text e l
+
+  -- The site rewritten so is read as the same case, and has no labels;
+  module _ (within : length (inNumbers labels site) ≤ textLimit) where
+    pub rewritten-case : readFiled L question (inNumbers labels site) ≡ accepted (record { case = c; labels = [] })
+    rewritten-case = InNumbers.filed-in-numbers L few question site (record { case = c; labels = labels }) is-filed within
+
+    -- so the problem is the same, with the same numbers for its steps, and every call replies the same.
+    pub rewritten-problem : readProblem L question (inNumbers labels site) ≡ readProblem L question site
+    rewritten-problem = SameReplies.same-problem L question site (inNumbers labels site) (record { case = c; labels = labels }) [] is-filed rewritten-case
+
+    pub rewritten-sizes : sizes L question (inNumbers labels site) ≡ sizes L question site
+    rewritten-sizes = SameReplies.same-sizes L question site (inNumbers labels site) (record { case = c; labels = labels }) [] is-filed rewritten-case
+
+    pub rewritten-action : (k : ℕ) → action L question (inNumbers labels site) k ≡ action L question site k
+    rewritten-action = SameReplies.same-action L question site (inNumbers labels site) (record { case = c; labels = labels }) [] is-filed rewritten-case
+
+    pub rewritten-check : (steps : Given) (state : List ℕ) → checkSteps L question (inNumbers labels site) steps state ≡ checkSteps L question site steps state
+    rewritten-check = SameReplies.same-check L question site (inNumbers labels site) (record { case = c; labels = labels }) [] is-filed rewritten-case
+
+    pub rewritten-read : (steps : Given) (picks state : List ℕ) → picksFromSteps L question (inNumbers labels site) steps picks state ≡ picksFromSteps L question site steps picks state
+    rewritten-read = SameReplies.same-read L question site (inNumbers labels site) (record { case = c; labels = labels }) [] is-filed rewritten-case
+
+    pub rewritten-tries : (steps : List ℕ) (tries : List Try) (state : List ℕ) → tryLists L question (inNumbers labels site) steps tries state ≡ tryLists L question site steps tries state
+    rewritten-tries = SameReplies.same-tries L question site (inNumbers labels site) (record { case = c; labels = labels }) [] is-filed rewritten-case
+
+    pub rewritten-allowances : (old : List ℕ) → allowances L question (inNumbers labels site) old ≡ allowances L question site old
+    rewritten-allowances = SameReplies.same-allowances L question site (inNumbers labels site) (record { case = c; labels = labels }) [] is-filed rewritten-case
+
+    -- Building and judging: from lent picks,
+    pub rewritten-build : (words state steps : List ℕ) → buildSteps L question (inNumbers labels site) (asNumbers words) state steps ≡ buildSteps L question site (asNumbers words) state steps
+    rewritten-build = SameReplies.same-build-words L question site (inNumbers labels site) (record { case = c; labels = labels }) [] is-filed rewritten-case
+
+    pub rewritten-judgement : (words : List ℕ) → judge L question (inNumbers labels site) (asNumbers words) ≡ judge L question site (asNumbers words)
+    rewritten-judgement = SameReplies.same-judge-words L question site (inNumbers labels site) (record { case = c; labels = labels }) [] is-filed rewritten-case
+
+    -- and from a text of picks that is rewritten too.
+    module _ (text : List ℕ) (picks : List Tuple) (is-read : readPicks (c .question .chosen) (firstChosen (c .question)) (c .site .size) labels text ≡ accepted picks) (short : length (inNumbers labels text) ≤ textLimit) where
+      pub rewritten-build-text : (state steps : List ℕ) → buildSteps L question (inNumbers labels site) (asText (inNumbers labels text)) state steps ≡ buildSteps L question site (asText text) state steps
+      unfolding textPicks
+      rewritten-build-text = SameReplies.same-build-text L question site (inNumbers labels site) (record { case = c; labels = labels }) [] is-filed rewritten-case text (inNumbers labels text) picks is-read (rewritten-picks text picks is-read short)
+
+      pub rewritten-judgement-text : judge L question (inNumbers labels site) (asText (inNumbers labels text)) ≡ judge L question site (asText text)
+      unfolding textPicks
+      rewritten-judgement-text = SameReplies.same-judge-text L question site (inNumbers labels site) (record { case = c; labels = labels }) [] is-filed rewritten-case text (inNumbers labels text) picks is-read (rewritten-picks text picks is-read short)

@@ -15,12 +15,12 @@ use Rattle.definitions.specs.Truth.{Case, arePicks, areOfKinds, ruleIsTrue}
 use Rattle.definitions.specs.Atoms.{Problem, problemOf}
 use Rattle.definitions.specs.Strips.{reachesGoal, run, picksOf}
 use Rattle.definitions.specs.Built.{builtSteps}
-use Rattle.definitions.specs.Outcome.{readCase, ground, nothing, roomFor, stateLength, Given, asText, takeSteps, readyToRun, Plan, plan}
+use Rattle.definitions.specs.Outcome.{CaseRead, readFiled, readCase, ground, nothing, roomFor, stateLength, Given, asText, takeSteps, readyToRun, Plan, plan}
 use Rattle.definitions.specs.Demand.{areSamePicks}
 use Rattle.definitions.specs.Desk.{Sheets, sheets, checkedPlan, startsWithStep, answerOf, answer}
 use Rattle.laws.specs.Results.{accepted-eq, bind-parts, is-accepted}
 use Rattle.laws.specs.Asked
-use Rattle.laws.specs.Reader.{Accepted, case-fits, gives-if}
+use Rattle.laws.specs.Reader.{Accepted, FiledFits, filed-fits, gives-if}
 use Rattle.reduction.specs.Accepting.{run-accepts}
 use Rattle.reduction.specs.Between.{same-picks, sound-case, complete-case}
 use Rattle.laws.specs.Building.{ground-is, given-picks, picksGiven, plan-tells}
@@ -33,31 +33,33 @@ abbrev pub Filed : CaseLimits → List ℕ → List ℕ → Plan → Type 0
 Filed L question site b = (c : Case) × (readCase L question site ≡ accepted c) × (ground L c ≡ accepted (b .problem)) × Records c (b .problem) (b .picks) (b .steps)
 
 module _ (L : CaseLimits) (few : L .elements ≤ 64) (question site : List ℕ) where
-  accepted-case : (c : Case) → readCase L question site ≡ accepted c → Accepted c
-  accepted-case c e = gives-if Accepted (readCase L question site) c e (case-fits L few question site)
+  fits : (r : CaseRead) → readFiled L question site ≡ accepted r → FiledFits r
+  fits r e = gives-if FiledFits (readFiled L question site) r e (filed-fits L few question site)
 
   -- from picks
   plan-filed : (g : Given) (stateRoom stepsRoom : ℕ) (b : Plan) → plan L question site g stateRoom stepsRoom ≡ accepted b → Filed L question site b
   plan-filed g stateRoom stepsRoom b e =
       let t = plan-tells L question site g stateRoom stepsRoom b e in
       let c : Case = t .case in
-      (c, t .is-case, t .is-problem, records c (accepted-case c (t .is-case)) (b .problem) (b .picks) (b .steps) (ground-is L c (b .problem) (t .is-problem)) (t .steps) (t .given) (t .kinds) (t .rule))
+      (c, t .is-case, t .is-problem, records (record { case = c; labels = b .labels }) (fits (record { case = c; labels = b .labels }) (t .is-filed)) (b .problem) (b .picks) (b .steps) (ground-is L c (b .problem) (t .is-problem)) (t .steps) (t .given) (t .kinds) (t .rule))
     where
-      records : (c : Case) → Accepted c → (p : Problem) (F : List Tuple) (steps : List ℕ) → p ≡ problemOf c → steps ≡ builtSteps p F → picksGiven c p g ≡ accepted F → areOfKinds c F ≡ true → ruleIsTrue c F ≡ true → Records c p F steps
-      records c A p F steps e s t k r =
+      records : (x : CaseRead) → FiledFits x → (p : Problem) (F : List Tuple) (steps : List ℕ) → p ≡ problemOf (x .case) → steps ≡ builtSteps p F → picksGiven (x .case) (x .labels) p g ≡ accepted F → areOfKinds (x .case) F ≡ true → ruleIsTrue (x .case) F ≡ true → Records (x .case) p F steps
+      records x A p F steps e s t k r =
+          let c : Case = x .case in
           subst (λ (l : List ℕ). Records c p F l) (sym s) (subst (λ (q : Problem). Records c q F (builtSteps q F)) (sym e)
-          (let a = given-picks c A g F (subst (λ (q : Problem). picksGiven c q g ≡ accepted F) e t) in let (x, y) = complete-case c A F a k r in (a, k, r, x, y)))
+          (let a = given-picks c (A .case-fits) (x .labels) (A .labels-fit) g F (subst (λ (q : Problem). picksGiven c (x .labels) q g ≡ accepted F) e t) in let (y, z) = complete-case c (A .case-fits) F a k r in (a, k, r, y, z)))
 
   -- from steps
   checked-filed : (steps : List ℕ) (room : ℕ) (b : Plan)
-      → (readyToRun L question site (asText steps) (λ p. roomFor (stateLength p) room) >>= λ r. run (r .problem) (r .third) .answer >>= λ _. accepted (record { problem = r .problem; picks = picksOf (r .problem) (r .third); steps = r .third })) ≡ accepted b
+      → (readyToRun L question site (asText steps) (λ p. roomFor (stateLength p) room) >>= λ r. run (r .problem) (r .third) .answer >>= λ _. accepted (record { labels = r .labels; problem = r .problem; picks = picksOf (r .problem) (r .third); steps = r .third })) ≡ accepted b
       → Filed L question site b
   unfolding readyToRun
   checked-filed steps room b e =
       let (r, f, e₁) = bind-parts (readyToRun L question site (asText steps) (λ p. roomFor (stateLength p) room)) _ b e in
       let (n, h, e₂) = bind-parts (run (r .problem) (r .third) .answer) _ b e₁ in
-      let q = Asked.parts L question site (λ c. takeSteps (asText steps)) nothing nothing (λ p. roomFor (stateLength p) room) r f in
-      subst (Filed L question site) (accepted-eq _ b e₂) (r .case, q .is-case, q .is-problem, records (r .case) (accepted-case (r .case) (q .is-case)) (r .problem) (r .third) (ground-is L (r .case) (r .problem) (q .is-problem)) (sym (run-accepts (r .problem) (r .third)) ∙ is-accepted (run (r .problem) (r .third) .answer) n h))
+      let q = Asked.parts L question site (λ _. takeSteps (asText steps)) nothing nothing (λ p. roomFor (stateLength p) room) r f in
+      subst (Filed L question site) (accepted-eq _ b e₂)
+      (r .case, q .is-case, q .is-problem, records (r .case) (fits (record { case = r .case; labels = r .labels }) (q .is-filed) .case-fits) (r .problem) (r .third) (ground-is L (r .case) (r .problem) (q .is-problem)) (sym (run-accepts (r .problem) (r .third)) ∙ is-accepted (run (r .problem) (r .third) .answer) n h))
     where
       records : (c : Case) → Accepted c → (p : Problem) (ks : List ℕ) → p ≡ problemOf c → reachesGoal p ks ≡ true → Records c p (picksOf p ks) ks
       records c A p ks e g =

@@ -8,10 +8,11 @@ use Rattle.definitions.specs.Limits.{usual}
 use Rattle.definitions.specs.Opened.{everything}
 use Rattle.definitions.specs.Text.{bytes}
 use Rattle.definitions.specs.Refusal.{accepted}
+use Rattle.definitions.specs.Sheets.{Label}
 use Rattle.definitions.specs.Truth.{Case, arePicks, areOfKinds, ruleIsTrue}
 use Rattle.definitions.specs.Atoms.{Problem}
 use Rattle.definitions.specs.Strips.{picksOf}
-use Rattle.definitions.specs.Outcome.{readCase, readProblem, asNumbers, takeSteps}
+use Rattle.definitions.specs.Outcome.{readFiled, readProblem, asNumbers, takeSteps}
 use Rattle.definitions.specs.Demand.{caseIsAccepted, stepsAreAccepted}
 use Rattle.reduction.specs.Demands.{accepted-case, soundness}
 
@@ -29,6 +30,6 @@ runs : stepsAreAccepted usual question site (asNumbers (0 ∷ 1 ∷ 2 ∷ 3 ∷ 
 unfolding everything
 runs = refl
 
-pub one : (c : Case) × (p : Problem) × (readCase usual question site ≡ accepted c) × (readProblem usual question site ≡ accepted p)
+pub one : (c : Case) × (labels : List Label) × (p : Problem) × (readFiled usual question site ≡ accepted (record { case = c; labels = labels })) × (readProblem usual question site ≡ accepted p)
     × ((steps : List ℕ) × (takeSteps (asNumbers (0 ∷ 1 ∷ 2 ∷ 3 ∷ [])) ≡ accepted steps) × (arePicks c (picksOf p steps) ≡ true) × (areOfKinds c (picksOf p steps) ≡ true) × (ruleIsTrue c (picksOf p steps) ≡ true))
-one = let (c, p, a, b) = accepted-case usual question site .0 accepts in (c, p, a, b, soundness usual (omega arith) (omega arith) question site c p a b (asNumbers (0 ∷ 1 ∷ 2 ∷ 3 ∷ [])) runs)
+one = let (c, labels, p, a, b) = accepted-case usual question site .0 accepts in (c, labels, p, a, b, soundness usual (omega arith) (omega arith) question site c labels p a b (asNumbers (0 ∷ 1 ∷ 2 ∷ 3 ∷ [])) runs)

@@ -7,12 +7,11 @@ use borrow.Author.Tests.{le-ltb}
 use Rattle.definitions.specs.Limits.{CaseLimits}
 use Rattle.definitions.specs.Refusal.{Result, refused, accepted, _>>=_, refuseIf}
 use Rattle.definitions.specs.Relations.{Tuple}
-use Rattle.definitions.specs.Truth.{Case}
 use Rattle.definitions.specs.Atoms.{Problem}
 use Rattle.definitions.specs.Built.{bound}
-use Rattle.definitions.specs.Outcome.{readCase, ground, readProblem, asked, nothing, roomFor, stateLength, Given, textPicks, picksRoom, satisfying, plan, builtFrom, buildSteps}
+use Rattle.definitions.specs.Outcome.{CaseRead, readFiled, ground, readProblem, asked, nothing, roomFor, stateLength, Given, textPicks, picksRoom, satisfying, plan, builtFrom, buildSteps}
 use Rattle.definitions.specs.Judgement.{judge, forget}
-use Rattle.laws.specs.Asked.{problem-from}
+use Rattle.laws.specs.Asked.{filed-case, problem-from}
 
 -- the state and the steps have room for the problem, where one is read
 abbrev pub RoomEnough : CaseLimits → (question site state steps : List ℕ) → Type 0
@@ -27,35 +26,35 @@ module _ (L : CaseLimits) (question site : List ℕ) (picks : Given) (state step
   Alike = judge L question site picks ≡ forget (buildSteps L question site picks state steps .answer)
 
   -- each is asked for the same, one after another; before the picks no buffer but theirs is asked for
-  module _ (c : Case) (e : readCase L question site ≡ accepted c) (F : List Tuple) (t : textPicks c picks ≡ accepted F) where
-    taken : (p : Problem) → ground L c ≡ accepted p → (u : Unit {0}) → picksRoom p picks ≡ accepted u → (x : Result (List Tuple)) → satisfying c p picks F ≡ x → Alike
+  module _ (c : CaseRead) (e : readFiled L question site ≡ accepted c) (F : List Tuple) (t : textPicks (c .case) (c .labels) picks ≡ accepted F) where
+    taken : (p : Problem) → ground L (c .case) ≡ accepted p → (u : Unit {0}) → picksRoom p picks ≡ accepted u → (x : Result (List Tuple)) → satisfying (c .case) p picks F ≡ x → Alike
     unfolding judge buildSteps plan asked nothing builtFrom forget _>>=_
     taken p g u r (refused k place) q =
-        let (m, n) = rooms p (problem-from L question site c p e g) in
+        let (m, n) = rooms p (problem-from L question site (c .case) p (filed-case L question site c e) g) in
         rw (e, t, g, r, there (stateLength p) (length state) m, there (bound p) (length steps) n, q) refl
     taken p g u r (accepted G) q =
-        let (m, n) = rooms p (problem-from L question site c p e g) in
+        let (m, n) = rooms p (problem-from L question site (c .case) p (filed-case L question site c e) g) in
         rw (e, t, g, r, there (stateLength p) (length state) m, there (bound p) (length steps) n, q) refl
 
-    roomy : (p : Problem) → ground L c ≡ accepted p → (x : Result (Unit {0})) → picksRoom p picks ≡ x → Alike
+    roomy : (p : Problem) → ground L (c .case) ≡ accepted p → (x : Result (Unit {0})) → picksRoom p picks ≡ x → Alike
     unfolding judge buildSteps plan asked nothing builtFrom forget _>>=_
     roomy p g (refused k place) r = rw (e, t, g, r) refl
-    roomy p g (accepted u) r = taken p g u r (satisfying c p picks F) refl
+    roomy p g (accepted u) r = taken p g u r (satisfying (c .case) p picks F) refl
 
-    grounded : (x : Result Problem) → ground L c ≡ x → Alike
+    grounded : (x : Result Problem) → ground L (c .case) ≡ x → Alike
     unfolding judge buildSteps plan asked nothing builtFrom forget _>>=_
     grounded (refused k place) g = rw (e, t, g) refl
     grounded (accepted p) g = roomy p g (picksRoom p picks) refl
 
-  texts : (c : Case) → readCase L question site ≡ accepted c → (x : Result (List Tuple)) → textPicks c picks ≡ x → Alike
+  texts : (c : CaseRead) → readFiled L question site ≡ accepted c → (x : Result (List Tuple)) → textPicks (c .case) (c .labels) picks ≡ x → Alike
   unfolding judge buildSteps plan asked nothing builtFrom forget _>>=_
   texts c e (refused k place) t = rw (e, t) refl
-  texts c e (accepted F) t = grounded c e F t (ground L c) refl
+  texts c e (accepted F) t = grounded c e F t (ground L (c .case)) refl
 
-  cases : (x : Result Case) → readCase L question site ≡ x → Alike
+  cases : (x : Result CaseRead) → readFiled L question site ≡ x → Alike
   unfolding judge buildSteps plan asked builtFrom forget _>>=_
   cases (refused k place) e = rw e refl
-  cases (accepted c) e = texts c e (textPicks c picks) refl
+  cases (accepted c) e = texts c e (textPicks (c .case) (c .labels) picks) refl
 
   pub alike : Alike
-  alike = cases (readCase L question site) refl
+  alike = cases (readFiled L question site) refl

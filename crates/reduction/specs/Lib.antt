@@ -10,9 +10,11 @@
 --   States       beyond the last atom nothing holds
 --   Wider        larger limits: accepted cases answer the same
 --   Written      sheets of steps and picks, written and read back
+--   InNumbers    a case rewritten with numbers for labels is the same case
+--   SameReplies  two sites that are read as one case have the same replies
 --   Buffers      what is left in lent buffers
 --   Filed        what the desk program prints
---   Short        where the limits of texts and steps lie, and that the desk stays below them
+--   Short        where the limits of texts and steps lie, and that the desk stays below them; how many picks it prints
 --   Judging      judging answers as building does with room enough
 --   Trying       many step lists of one case, each as if checked alone
 --   OnePick      one pick more or less: how far the built steps move
@@ -27,6 +29,8 @@ pub mod Polynomial
 pub mod States
 pub mod Wider
 pub mod Written
+pub mod InNumbers
+pub mod SameReplies
 pub mod Buffers
 pub mod Filed
 pub mod Short

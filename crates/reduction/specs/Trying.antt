@@ -12,10 +12,9 @@ use borrow.Author.Tests.{lt-ltb, le-ltb, ltb-false}
 use Rattle.definitions.specs.Limits.{CaseLimits, stepLimit}
 use Rattle.definitions.specs.Lists.{if_then_else_, any, isIn}
 use Rattle.definitions.specs.Refusal.{Result, refused, accepted, _>>=_, refuseIf, readyNumbers, runNumbers}
-use Rattle.definitions.specs.Truth.{Case}
 use Rattle.definitions.specs.Atoms.{Problem, initial, stateWords}
 use Rattle.definitions.specs.Strips.{run, reachesGoal}
-use Rattle.definitions.specs.Outcome.{replyNumber, replyPlace, Ready, nothing, readProblem, roomFor, stateLength, written, asNumbers, takeSteps, readyToRun, checkedFrom, checkSteps}
+use Rattle.definitions.specs.Outcome.{replyNumber, replyPlace, CaseRead, Ready, nothing, readProblem, roomFor, stateLength, written, asNumbers, takeSteps, readyToRun, checkedFrom, checkSteps}
 use Rattle.definitions.specs.Tries.{Try, tryList, tried, readyToTry, triedFrom, tryLists}
 use Rattle.laws.specs.Booleans.{T-of}
 use Rattle.laws.specs.Results.{bind-parts, is-accepted, not-refused, refused-accepted}
@@ -110,12 +109,12 @@ module _ (L : CaseLimits) (question site : List ℕ) (p : Problem) (is-problem :
   unfolding checkSteps readyToRun takeSteps refuseIf checkedFrom _>>=_
   checked ks = go (ltb stepLimit (length ks)) refl
     where
-      third : Case → Result (List ℕ)
+      third : CaseRead → Result (List ℕ)
       third c = takeSteps (asNumbers ks)
 
       go : (b : Bool) → ltb stepLimit (length ks) ≡ b → checkSteps L question site (asNumbers ks) state .answer ≡ (_>>=_ {A = Unit {0}} (refuseIf b 1 zero) (λ _. run p ks .answer))
-      go true t = let (c, a, g) = Asked.problem-parts L question site p is-problem in rw (Asked.third-refused L question site third nothing nothing rooms c a 1 zero (rw t refl)) refl
-      go false t = let (c, a, g) = Asked.problem-parts L question site p is-problem in rw (Asked.ready L question site third nothing nothing rooms c a ks (rw t refl) (Asked.untested c) p g (Asked.untested c) has) refl
+      go true t = let (c, a, g) = Asked.problem-filed L question site p is-problem in rw (Asked.third-refused L question site third nothing nothing rooms c a 1 zero (rw t refl)) refl
+      go false t = let (c, a, g) = Asked.problem-filed L question site p is-problem in rw (Asked.ready L question site third nothing nothing rooms c a ks (rw t refl) (Asked.untested (c .case)) p g (Asked.untested (c .case)) has) refl
 
   pub alone : (steps : List ℕ) (first len : ℕ) → first + len ≤ length steps → tryList p steps first len ≡ checkSteps L question site (asNumbers (take len (drop first steps))) state .answer
   alone steps first len h =
@@ -125,8 +124,8 @@ module _ (L : CaseLimits) (question site : List ℕ) (p : Problem) (is-problem :
   -- ---- the call
   pub trying : (steps : List ℕ) (tries : List Try) → tryLists L question site steps tries state ≡ record { answer = accepted 0; tries = map (tried p steps) tries; state = written (stateWords p (initial p)) state }
   unfolding tryLists readyToTry triedFrom
-  trying steps tries = let (c, a, g) = Asked.problem-parts L question site p is-problem in
-      rw (Asked.ready L question site nothing nothing nothing rooms c a tt (Asked.untested c) (Asked.untested c) p g (Asked.untested c) has) refl
+  trying steps tries = let (c, a, g) = Asked.problem-filed L question site p is-problem in
+      rw (Asked.ready L question site nothing nothing nothing rooms c a tt (Asked.untested c) (Asked.untested (c .case)) p g (Asked.untested (c .case)) has) refl
 
 -- whatever is handed over: a refusal has a number from before the steps, and leaves both buffers; their lengths stay
 module _ (L : CaseLimits) (question site steps : List ℕ) (tries : List Try) (state : List ℕ) where

@@ -13,11 +13,11 @@ use Rattle.definitions.specs.Limits.{CaseLimits, textLimit}
 use Rattle.definitions.specs.Text.{Line, lines, isBetween}
 use Rattle.definitions.specs.Refusal.{Result, accepted, _>>=_, refuseIf, readLines, readText}
 use Rattle.definitions.specs.Relations.{Relation}
-use Rattle.definitions.specs.Sheets.{Entry, rel, choose, rule, size, fact, pick, step, entryOf, SiteDraft, Site, addSize, addToSite, siteLine, readSite, readQuestion}
+use Rattle.definitions.specs.Sheets.{Entry, rel, choose, rule, size, label, fact, pick, step, entryOf, SiteDraft, Labelled, addSize, addToSite, siteLine, readSite, readQuestion}
 use Rattle.definitions.specs.Truth.{Case}
 use Rattle.definitions.specs.Atoms.{Problem, problemOf, atoms}
 use Rattle.definitions.specs.Actions.{actions}
-use Rattle.definitions.specs.Outcome.{readCase, ground, readProblem, asked}
+use Rattle.definitions.specs.Outcome.{CaseRead, readFiled, ground, readProblem, asked}
 use Rattle.definitions.specs.Writing.{and-l, and-r}
 use Rattle.laws.specs.Booleans.{or-both}
 use Rattle.laws.specs.Results.{refused-accepted, bind-parts, not-refused}
@@ -31,7 +31,7 @@ pub record Wider (L M : CaseLimits) : Type 0 where
   pub actions : L .actions ≤ M .actions
 
 -- a size within the limits is taken
-size-within : (M : CaseLimits) (d : SiteDraft) (at n : ℕ) → leb 1 n ≡ true → leb n (M .elements) ≡ true → addSize M d at n none ≡ accepted (record { sized = some n; facts = d .facts })
+size-within : (M : CaseLimits) (d : SiteDraft) (at n : ℕ) → leb 1 n ≡ true → leb n (M .elements) ≡ true → addSize M d at n none ≡ accepted (record { sized = some n; labels = d .labels; facts = d .facts })
 unfolding addSize isBetween refuseIf _>>=_
 size-within M d at n a b = rw (a, b) refl
 
@@ -51,6 +51,7 @@ module _ (L M : CaseLimits) (w : Wider L M) where
   entry-wider rels d at (choose name arity kind) e q = q
   entry-wider rels d at (rule text) e q = q
   entry-wider rels d at (size n) e q = size-wider d at n (d .sized) e q
+  entry-wider rels d at (label x name) e q = q
   entry-wider rels d at (fact name xs) e q = q
   entry-wider rels d at (pick name xs) e q = q
   entry-wider rels d at (step k) e q = q
@@ -66,18 +67,18 @@ module _ (L M : CaseLimits) (w : Wider L M) where
       let (x, a, b) = bind-parts (siteLine L rels d l) (λ y. readLines (siteLine L rels) y ls) e q in
       rw (line-wider rels d l x a) (lines-wider rels x ls e b)
 
-  site-wider : (rels : List Relation) (text : List ℕ) (s : Site) → readSite L rels text ≡ accepted s → readSite M rels text ≡ accepted s
+  site-wider : (rels : List Relation) (text : List ℕ) (s : Labelled) → readSite L rels text ≡ accepted s → readSite M rels text ≡ accepted s
   unfolding readSite readText _>>=_
   site-wider rels text s q =
       let (d, a, b) = bind-parts (readText (siteLine L rels) _ text) _ s q in
       let (u, t, f) = bind-parts (refuseIf (ltb textLimit (length text)) 1 zero) _ d a in
       rw (t, lines-wider rels _ (lines text) d f) b
 
-  pub case-wider : (question site : List ℕ) (c : Case) → readCase L question site ≡ accepted c → readCase M question site ≡ accepted c
-  unfolding readCase _>>=_
-  case-wider question site c q =
-      let (x, a, b) = bind-parts (readQuestion question) _ c q in
-      let (y, e, f) = bind-parts (readSite L (x .rels) site) _ c b in
+  pub filed-wider : (question site : List ℕ) (r : CaseRead) → readFiled L question site ≡ accepted r → readFiled M question site ≡ accepted r
+  unfolding readFiled _>>=_
+  filed-wider question site r q =
+      let (x, a, b) = bind-parts (readQuestion question) _ r q in
+      let (y, e, f) = bind-parts (readSite L (x .rels) site) _ r b in
       rw (a, site-wider (x .rels) site y e) f
 
   pub ground-wider : (c : Case) (p : Problem) → ground L c ≡ accepted p → ground M c ≡ accepted p
@@ -91,13 +92,13 @@ module _ (L M : CaseLimits) (w : Wider L M) where
 
   pub problem-wider : (question site : List ℕ) (p : Problem) → readProblem L question site ≡ accepted p → readProblem M question site ≡ accepted p
   problem-wider question site p q =
-      let (c, a, g) = Asked.problem-parts L question site p q in
-      Asked.problem-from M question site c p (case-wider question site c a) (ground-wider c p g)
+      let (r, a, g) = Asked.problem-filed L question site p q in
+      Asked.problem-from M question site (r .case) p (Asked.filed-case M question site r (filed-wider question site r a)) (ground-wider (r .case) p g)
 
   -- so whatever is asked of an accepted case is answered alike
-  pub asked-wider : {A : Type 0} (question site : List ℕ) (p : Problem) → readProblem L question site ≡ accepted p → (third : Case → Result A) (early late : Case → Result (Unit {0})) (rooms : Problem → Result (Unit {0}))
+  pub asked-wider : {A : Type 0} (question site : List ℕ) (p : Problem) → readProblem L question site ≡ accepted p → (third : CaseRead → Result A) (early late : Case → Result (Unit {0})) (rooms : Problem → Result (Unit {0}))
       → asked L question site third early late rooms ≡ asked M question site third early late rooms
   unfolding asked _>>=_
   asked-wider question site p q third early late rooms =
-      let (c, a, g) = Asked.problem-parts L question site p q in
-      rw (a, g, case-wider question site c a, ground-wider c p g) refl
+      let (r, a, g) = Asked.problem-filed L question site p q in
+      rw (a, g, filed-wider question site r a, ground-wider (r .case) p g) refl

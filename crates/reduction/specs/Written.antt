@@ -1,38 +1,38 @@
--- Sheets of steps and of picks, written as the desk program prints them, are read back as they were.
+-- Sheets of steps and of picks, written as the desk program prints them or in any way that spells them, are read back as they were.
 use Prim.Native.Nat.{ℕ, zero, suc, _+_, _-_, _^_, _≤_, _<_}
-use mathlib.Core.Path.{_≡_, refl, sym, ap, ap₂, subst, _∙_, fun-ext}
+use mathlib.Core.Path.{_≡_, refl, sym, ap, subst, _∙_, fun-ext}
 use mathlib.Core.Bool.{Bool, true, false, _&&_}
 use mathlib.Core.Option.{some}
 use mathlib.Core.List.{List, [], _∷_, _++_, map, append-assoc, append-nil, List·Memᴰ, List·Memᴰ·head, List·Memᴰ·tail}
 use native.Mathlib.Omega.{arith}
 use lib.Dec.{T, ltb, eqb, eqb-refl, T-not, ltb→lt}
-use lib.ListN.{length, getD, length-map}
+use lib.ListN.{length, getD}
 use borrow.Author.Tests.{le-ltb, le-leb}
 use Rattle.definitions.specs.Limits.{textLimit}
 use Rattle.definitions.specs.Lists.{all, any, same, option, flatMap}
-use Rattle.definitions.specs.Text.{bytes, decimal, decimalIn, Line, lines, linesFrom, split, fields, isBetween}
+use Rattle.definitions.specs.Text.{bytes, decimal, decimalIn, isRelationName, Line, lines, linesFrom, split, fields, isBetween}
 use Rattle.definitions.specs.Refusal.{Result, accepted, _>>=_, refuseIf, given, readLines, readText}
 use Rattle.definitions.specs.Relations.{Relation, Tuple, isAmong, isDeclared, builtIn}
-use Rattle.definitions.specs.Sheets.{Entry, size, pick, step, numbers, withOne, withElements, entry, entryOf, used, addTuple, addToPicks, picksLine, readPicks, addToSteps, stepsLine, readSteps, firstChosen, relations, relationsOf}
+use Rattle.definitions.specs.Sheets.{Element, Entry, size, pick, step, elements, withOne, withElements, entry, entryOf, Label, elementsOf, isInRange, used, addTuple, addToPicks, picksLine, readPicks, addToSteps, stepsLine, readSteps, firstChosen, relations, relationsOf}
 use Rattle.definitions.specs.Truth.{Case, arePicks}
-use Rattle.definitions.specs.Atoms.{Problem, problemOf, problemWith, relationAt, rowOf}
+use Rattle.definitions.specs.Atoms.{Problem, problemOf, relationAt, rowOf}
 use Rattle.definitions.specs.Built.{chosenNumbers, pickedRows}
-use Rattle.definitions.specs.Desk.{printLine, stepLine, pickLine}
+use Rattle.definitions.specs.Desk.{printLine, stepLine, said, pickLine}
 use Rattle.laws.specs.Booleans.{T-false, T-of, T-true, and-T}
-use Rattle.laws.specs.Lists.{all-at, any-of, flat-flat, flat-map, flat-same, getD-mem, map-mem}
+use Rattle.laws.specs.Lists.{any-of, flat-flat, flat-map, flat-same, getD-mem}
 use Rattle.laws.specs.Positions.{position-at}
 use Rattle.laws.specs.Tuples.{among-mem, same-eq, same-refl}
 use Rattle.laws.specs.Repeats.{Once, distinct-once, once-middle}
-use Rattle.laws.specs.Rows.{length-places, places-below}
 use Rattle.laws.specs.Numbers.{noRelation}
-use Rattle.laws.specs.Reader.{Accepted, Apart}
-use Rattle.laws.specs.Sound.{Inside}
-use Rattle.laws.specs.Grounded.{good, chosen-at, chosen-index}
-use Rattle.laws.specs.Pairs.{Pair, tupleOf, pairs, pairs-ready, tuple-back, IsPair, tuple-pair, tuples-once}
-use Rattle.laws.specs.Picks.{picks-inside, picks-distinct}
+use Rattle.laws.specs.Reader.{Accepted, Apart, TupleFits}
+use Rattle.laws.specs.Labels.{LabelsFit}
+use Rattle.laws.specs.Spelling.{Spelled, said-spelled, spelled-plain, spelled-length, spelled-read, spelled-without}
+use Rattle.laws.specs.Grounded.{good, chosen-at}
+use Rattle.laws.specs.Pairs.{Pair, tupleOf, pairs, picked-in, tuple-back, tuples-once}
+use Rattle.laws.specs.Picks.{inside-fits, picks-inside, picks-distinct}
 use Rattle.laws.specs.Decimals.{number-decimal, digits-of}
-use Rattle.laws.specs.Told.{picks-told}
-use Rattle.laws.specs.Lines.{Without, digits-without, name-without, joined, AllWithout, print-joined, split-joined, joined-without, read-line, read-end}
+use Rattle.laws.specs.Told.{TupleLine, picks-told}
+use Rattle.laws.specs.Lines.{Without, digits-without, name-without, joined, AllWithout, print-joined, split-joined, joined-without, read-line, read-end, LineByLine, line-by-line, write-lines, weaken-lines}
 
 -- ---- a written line, and a line's entry
 pub print-then : {S : Type 0} (line : S → Line → Result S) (s : S) (at : ℕ) (fs : List (List ℕ)) (rest : List ℕ) → AllWithout 10 fs
@@ -43,7 +43,7 @@ pub entry-joined : (at : ℕ) (f : List ℕ) (fs : List (List ℕ)) (e : Entry) 
 unfolding entryOf fields given
 entry-joined at f fs e w q = rw (split-joined f fs w, q) refl
 
-decimal-without : (sep : ℕ) → sep < 48 → (n : ℕ) → Without sep (decimal n)
+pub decimal-without : (sep : ℕ) → sep < 48 → (n : ℕ) → Without sep (decimal n)
 unfolding decimal
 decimal-without sep h n = digits-without sep h (decimalIn 20 n) (T-of (digits-of 20 n))
 
@@ -74,7 +74,7 @@ steps-read (k ∷ ks) acc at h =
     ∙ steps-read ks (acc ++ (k ∷ [])) (at + length (joined (bytes "step" ∷ decimal k ∷ [])) + 1) (λ j m. h j (List·Memᴰ·tail m))
     ∙ ap accepted (append-assoc acc (k ∷ []) ks)
 
-within : {S : Type 0} (line : S → Line → Result S) (s : S) (text : List ℕ) → length text ≤ textLimit → readText line s text ≡ readLines line s (linesFrom zero (split 10 text))
+pub within : {S : Type 0} (line : S → Line → Result S) (s : S) (text : List ℕ) → length text ≤ textLimit → readText line s text ≡ readLines line s (linesFrom zero (split 10 text))
 unfolding readText refuseIf _>>=_ lines
 within line s text h = let e : ltb textLimit (length text) ≡ false = le-ltb textLimit (length text) h in rw e refl
 
@@ -84,25 +84,9 @@ unfolding readSteps
 steps-back ks h l = within stepsLine [] (flatMap stepLine ks) l ∙ steps-read ks [] zero h
 
 -- ---- picks
-elements-without : (sep : ℕ) → sep < 48 → (xs : List ℕ) → AllWithout sep (map decimal xs)
-unfolding AllWithout
-elements-without sep h [] = tt
-elements-without sep h (x ∷ xs) = (decimal-without sep h x, elements-without sep h xs)
-
-elements-read : (xs : List ℕ) → ((x : ℕ) → List·Memᴰ x xs → x < 10 ^ 7) → numbers (map decimal xs) ≡ some xs
-unfolding numbers option
-elements-read [] h = refl
-elements-read (x ∷ xs) h = rw (number-decimal x (h x (List·Memᴰ·head refl)), elements-read xs (λ y m. h y (List·Memᴰ·tail m))) refl
-
-pick-fields : (sep : ℕ) → sep < 48 → Without sep (bytes "pick") → (name xs : List ℕ) → Without sep name → AllWithout sep (bytes "pick" ∷ name ∷ map decimal xs)
-unfolding AllWithout
-pick-fields sep h w name xs v = (w, (v, elements-without sep h xs))
-
-pick-entry : (name xs : List ℕ) → 1 ≤ length xs → length xs ≤ 3 → ((x : ℕ) → List·Memᴰ x xs → x < 10 ^ 7) → entry (bytes "pick" ∷ name ∷ map decimal xs) ≡ some (pick name xs)
+pick-entry : (name : List ℕ) (gs : List (List ℕ)) (es : List Element) → elements gs ≡ some es → 1 ≤ length gs → length gs ≤ 3 → entry (bytes "pick" ∷ name ∷ gs) ≡ some (pick name es)
 unfolding entry same withElements option isBetween
-pick-entry name xs a b h =
-    let e = length-map xs decimal in
-    rw (le-leb 1 (length (map decimal xs)) (omega arith), le-leb (length (map decimal xs)) 3 (omega arith), elements-read xs h) refl
+pick-entry name gs es e a b = rw (le-leb 1 (length gs) a, le-leb (length gs) 3 b, e) refl
 
 -- names that are apart: a later name is not that of an earlier relation
 apart-right : (ks ls : List Relation) → Apart (ks ++ ls) → Apart ls
@@ -125,113 +109,132 @@ used-at ks first i a l = rw (position-at (λ (r : Relation). same (r .name) (get
     (T-true (same (getD ks i noRelation .name) (getD ks i noRelation .name) && eqb (getD ks i noRelation .arity) (getD ks i noRelation .arity)) (and-T (same (getD ks i noRelation .name) (getD ks i noRelation .name)) _ (same-refl (getD ks i noRelation .name)) (eqb-refl (getD ks i noRelation .arity))))
     (λ j h. ap (λ (b : Bool). b && eqb (getD ks j noRelation .arity) (getD ks i noRelation .arity)) (apart-at ks j i a h l))) refl
 
-tuple-added : (rs : List Relation) (first n : ℕ) (acc : List Tuple) (at r : ℕ) (name xs : List ℕ) → used rs first name (length xs) ≡ some r → T (all (λ x. ltb x n) xs) → isAmong (record { relation = r; places = xs }) acc ≡ false → addTuple rs first n acc at name xs ≡ accepted (acc ++ (record { relation = r; places = xs } ∷ []))
+pub tuple-added : (rs : List Relation) (first n : ℕ) (labels : List Label) (acc : List Tuple) (at : ℕ) (name : List ℕ) (es : List Element) (t : Tuple)
+    → used rs first name (length es) ≡ some (t .relation) → T (all (isInRange n) es) → elementsOf labels es ≡ some (t .places) → isAmong t acc ≡ false → addTuple rs first n labels acc at name es ≡ accepted (acc ++ (t ∷ []))
 unfolding addTuple given refuseIf _>>=_
-tuple-added rs first n acc at r name xs u b e = let q : all (λ x. ltb x n) xs ≡ true = T-true (all (λ x. ltb x n) xs) b in rw (u, q, e) refl
+tuple-added rs first n labels acc at name es t u b m e = let q : all (isInRange n) es ≡ true = T-true (all (isInRange n) es) b in rw (u, q, m, e) refl
 
-module _ (c : Case) (A : Accepted c) where
+pick-read : (rs : List Relation) (first n : ℕ) (labels : List Label) (acc m : List Tuple) (at : ℕ) (name : List ℕ) (gs : List (List ℕ)) (es : List Element) (fs : List (List ℕ))
+    → fs ≡ bytes "pick" ∷ name ∷ gs → AllWithout 9 fs → entry (bytes "pick" ∷ name ∷ gs) ≡ some (pick name es) → addTuple rs first n labels acc at name es ≡ accepted m
+    → picksLine rs first n labels acc (record { at = at; ended = true; content = joined fs }) ≡ accepted m
+unfolding picksLine addToPicks _>>=_
+pick-read rs first n labels acc m at name gs es fs e w q r =
+    subst (λ (x : List (List ℕ)). AllWithout 9 x → picksLine rs first n labels acc (record { at = at; ended = true; content = joined x }) ≡ accepted m) (sym e)
+    (λ v. rw (entry-joined at (bytes "pick") (name ∷ gs) (pick name es) v q) r) w
+
+module _ (c : Case) (A : Accepted c) (labels : List Label) (K : LabelsFit (c .site .size) labels) where
   abbrev p : Problem
   p = problemOf c
 
   abbrev chosen : List Relation
   chosen = c .question .chosen
 
+  abbrev first : ℕ
+  first = firstChosen (c .question)
+
   abbrev reads : List Tuple → Line → Result (List Tuple)
-  reads = picksLine (c .question .chosen) (firstChosen (c .question)) (c .site .size)
+  reads = picksLine (c .question .chosen) (firstChosen (c .question)) (c .site .size) labels
+
+  abbrev pub Fits : Tuple → Type 0
+  Fits t = TupleFits (c .question .chosen) (firstChosen (c .question)) (c .site .size) t
 
   chosen-apart : Apart chosen
   unfolding relationsOf relations
   chosen-apart = apart-right (c .question .rels) chosen (apart-right builtIn (c .question .rels ++ chosen) (A .question-fits .apart))
 
-  -- a line of a `choose`, by its index among them
-  line-fields : ℕ → List ℕ → List (List ℕ)
-  line-fields j xs = bytes "pick" ∷ getD chosen j noRelation .name ∷ map decimal xs
+  -- a tuple's line: `pick`, the name of its relation, and fields that spell its places
+  abbrev pub PickLine : Tuple → List (List ℕ) → Type 0
+  PickLine t fs = TupleLine labels (bytes "pick") (λ u. relationAt (problemOf c) (u .relation) .name) t fs
 
-  fields-without : (sep j : ℕ) (xs : List ℕ) → sep < 48 → Without sep (bytes "pick") → j < length chosen → AllWithout sep (line-fields j xs)
-  unfolding line-fields
-  fields-without sep j xs h w l = pick-fields sep h w (getD chosen j noRelation .name) xs (name-without sep h (getD chosen j noRelation .name) (A .question-fits .chosen-named (getD chosen j noRelation) (getD-mem chosen j noRelation l)))
+  its-relation : (t : Tuple) (f : Fits t) → relationAt p (t .relation) ≡ getD chosen (f .index) noRelation
+  its-relation t f = ap (relationAt p) (f .numbered) ∙ chosen-at c A (f .index)
 
-  line-read : (acc : List Tuple) (at r j : ℕ) (xs : List ℕ) → r ≡ firstChosen (c .question) + j → j < length chosen → length xs ≡ getD chosen j noRelation .arity → T (all (λ x. ltb x (c .site .size)) xs) → isAmong (record { relation = r; places = xs }) acc ≡ false
-      → reads acc (record { at = at; ended = true; content = joined (line-fields j xs) }) ≡ accepted (acc ++ (record { relation = r; places = xs } ∷ []))
-  unfolding picksLine addToPicks _>>=_ line-fields
-  line-read acc at r j xs e l k b n =
-      let f = A .question-fits .chosen-fit (getD chosen j noRelation) (getD-mem chosen j noRelation l) in
-      let h = A .site-fits .few-elements in
-      let u : used chosen (firstChosen (c .question)) (getD chosen j noRelation .name) (length xs) ≡ some r = ap (used chosen (firstChosen (c .question)) (getD chosen j noRelation .name)) k ∙ used-at chosen (firstChosen (c .question)) j chosen-apart l ∙ ap some (sym e) in
-      rw (entry-joined at (bytes "pick") (getD chosen j noRelation .name ∷ map decimal xs) (pick (getD chosen j noRelation .name) xs) (fields-without 9 j xs (omega arith) (words-without .1 .0) l)
-      (pick-entry (getD chosen j noRelation .name) xs (omega (arith, f .few .0)) (omega (arith, f .few .1)) (λ x m. let g = ltb→lt x (c .site .size) (all-at (λ x. ltb x (c .site .size)) xs b x m) in omega arith)))
-      (tuple-added chosen (firstChosen (c .question)) (c .site .size) acc at r (getD chosen j noRelation .name) xs u b n)
+  pub line-fields : (sep : ℕ) → sep < 48 → Without sep (bytes "pick") → (t : Tuple) (fs : List (List ℕ)) → Fits t → PickLine t fs → AllWithout sep fs
+  unfolding AllWithout
+  line-fields sep h w t fs f (gs, q, s) =
+      let named = A .question-fits .chosen-named (getD chosen (f .index) noRelation) (getD-mem chosen (f .index) noRelation (f .inside)) in
+      subst (AllWithout sep) (sym q) (w, (name-without sep h (relationAt p (t .relation) .name) (subst (λ (r : Relation). T (isRelationName (r .name))) (sym (its-relation t f)) named), spelled-without (c .site .size) labels K sep h (t .places) gs s))
 
-  -- the line of a pair's tuple
-  line-of : (q : Pair) → IsPair p q → (j : ℕ) × (q .0 ≡ firstChosen (c .question) + j) × (j < length chosen) × (pickLine p (q .0) (q .1) ≡ printLine (line-fields j (tupleOf p q .places)))
-  unfolding IsPair pickLine line-fields
-  line-of q v =
-      let (j, e, l) = chosen-index c A (q .0) (v .0) (v .1) in
-      (j, e, l, ap (λ (k : Relation). printLine (bytes "pick" ∷ k .name ∷ map decimal (tupleOf p q .places))) (ap (relationAt p) e ∙ chosen-at c A j))
+  line-read : (acc : List Tuple) (at : ℕ) (t : Tuple) (fs : List (List ℕ)) → Fits t → PickLine t fs → isAmong t acc ≡ false → reads acc (record { at = at; ended = true; content = joined fs }) ≡ accepted (acc ++ (t ∷ []))
+  line-read acc at t fs f (gs, q, s) n =
+      let r : Relation = getD chosen (f .index) noRelation in
+      let arity = A .question-fits .chosen-fit r (getD-mem chosen (f .index) noRelation (f .inside)) .few in
+      let (es, a, m, b, l) = spelled-read (c .site .size) labels K (t .places) gs (A .site-fits .few-elements) (f .small) s in
+      let long = spelled-length labels (t .places) gs s in
+      let u : used chosen first (r .name) (length es) ≡ some (t .relation) = ap (used chosen first (r .name)) (l ∙ f .length-arity) ∙ used-at chosen first (f .index) chosen-apart (f .inside) ∙ ap some (sym (f .numbered)) in
+      let e : fs ≡ bytes "pick" ∷ r .name ∷ gs = q ∙ ap (λ (x : Relation). bytes "pick" ∷ x .name ∷ gs) (its-relation t f) in
+      pick-read chosen first (c .site .size) labels acc (acc ++ (t ∷ [])) at (r .name) gs es fs e (line-fields 9 (omega arith) (words-without .1 .0) t fs f (gs, q, s)) (pick-entry (r .name) gs es a (omega (arith, arity .0, f .length-arity)) (omega (arith, arity .1, f .length-arity)))
+      (tuple-added chosen first (c .site .size) labels acc at (r .name) es t u b m n)
 
-  small : (q : Pair) → T (all (λ x. ltb x (c .site .size)) (tupleOf p q .places))
-  unfolding problemOf problemWith
-  small q = places-below (p .size) (relationAt p (q .0) .arity) (q .1) (good c A .element)
+  lines-read : (F acc : List Tuple) (at : ℕ) (text : List ℕ) → ((t : Tuple) → List·Memᴰ t F → Fits t) → Once (acc ++ F) → LineByLine PickLine F text → readLines reads acc (linesFrom at (split 10 text)) ≡ accepted (acc ++ F)
+  unfolding LineByLine _>>=_
+  lines-read [] acc at text v o h = ap (λ (t : List ℕ). readLines reads acc (linesFrom at (split 10 t))) h ∙ read-end reads acc at ∙ ap accepted (sym (append-nil acc))
+  lines-read (t ∷ F) acc at text v o (fs, r, (rest, e, h)) =
+      let f = v t (List·Memᴰ·head refl) in
+      let n : isAmong t acc ≡ false = T-false (isAmong t acc) (λ q. once-middle acc F t o (among-mem t acc q)) in
+      ap (λ (x : List ℕ). readLines reads acc (linesFrom at (split 10 x))) e
+      ∙ print-then reads acc at fs rest (line-fields 10 (omega arith) (words-without .1 .1) t fs f r)
+      ∙ ap (λ (x : Result (List Tuple)). x >>= λ s′. readLines reads s′ (linesFrom (at + length (joined fs) + 1) (split 10 rest))) (line-read acc at t fs f r n)
+      ∙ lines-read F (acc ++ (t ∷ [])) (at + length (joined fs) + 1) rest (λ u m. v u (List·Memᴰ·tail m)) (subst Once (sym (append-assoc acc (t ∷ []) F)) o) h
+      ∙ ap accepted (append-assoc acc (t ∷ []) F)
 
-  picks-read : (l : List Pair) (acc : List Tuple) (at : ℕ) → ((q : Pair) → List·Memᴰ q l → IsPair p q) → Once (acc ++ map (tupleOf p) l)
-      → readLines reads acc (linesFrom at (split 10 (flatMap (λ (q : Pair). pickLine p (q .0) (q .1)) l))) ≡ accepted (acc ++ map (tupleOf p) l)
-  unfolding flatMap _>>=_
-  picks-read [] acc at v o = read-end reads acc at ∙ ap accepted (sym (append-nil acc))
-  picks-read (q ∷ l) acc at v o =
-      let w = v q (List·Memᴰ·head refl) in
-      let (j, e, i, f) = line-of q w in
-      let n : isAmong (tupleOf p q) acc ≡ false = T-false (isAmong (tupleOf p q) acc) (λ t. once-middle acc (map (tupleOf p) l) (tupleOf p q) o (among-mem (tupleOf p q) acc t)) in
-      ap (λ (t : List ℕ). readLines reads acc (linesFrom at (split 10 (t ++ flatMap (λ (q : Pair). pickLine p (q .0) (q .1)) l)))) f
-      ∙ print-then reads acc at (line-fields j (tupleOf p q .places)) (flatMap (λ (q : Pair). pickLine p (q .0) (q .1)) l) (fields-without 10 j (tupleOf p q .places) (omega arith) (words-without .1 .1) i)
-      ∙ ap (λ (r : Result (List Tuple)). r >>= λ s′. readLines reads s′ (linesFrom (at + length (joined (line-fields j (tupleOf p q .places))) + 1) (split 10 (flatMap (λ (q : Pair). pickLine p (q .0) (q .1)) l))))
-      (line-read acc at (q .0) j (tupleOf p q .places) e i (long q j e) (small q) n)
-      ∙ picks-read l (acc ++ (tupleOf p q ∷ [])) (at + length (joined (line-fields j (tupleOf p q .places))) + 1) (λ u m. v u (List·Memᴰ·tail m)) (subst Once (sym (append-assoc acc (tupleOf p q ∷ []) (map (tupleOf p) l))) o)
-      ∙ ap accepted (append-assoc acc (tupleOf p q ∷ []) (map (tupleOf p) l))
-    where
-      long : (q : Pair) (j : ℕ) → q .0 ≡ firstChosen (c .question) + j → length (tupleOf p q .places) ≡ getD chosen j noRelation .arity
-      long q j e = length-places (p .size) (relationAt p (q .0) .arity) (q .1) ∙ ap (λ (k : Relation). k .arity) (ap (relationAt p) e ∙ chosen-at c A j)
-
-  -- a sheet of pairs' tuples, none twice
-  pairs-back : (l : List Pair) → ((q : Pair) → List·Memᴰ q l → IsPair p q) → Once (map (tupleOf p) l) → length (flatMap (λ (q : Pair). pickLine p (q .0) (q .1)) l) ≤ textLimit
-      → readPicks chosen (firstChosen (c .question)) (c .site .size) (flatMap (λ (q : Pair). pickLine p (q .0) (q .1)) l) ≡ accepted (map (tupleOf p) l)
+  -- a sheet of tuples, none twice
+  spelled-back : (F : List Tuple) (text : List ℕ) → ((t : Tuple) → List·Memᴰ t F → Fits t) → Once F → length text ≤ textLimit → LineByLine PickLine F text → readPicks chosen first (c .site .size) labels text ≡ accepted F
   unfolding readPicks
-  pairs-back l v o h = within reads [] (flatMap (λ (q : Pair). pickLine p (q .0) (q .1)) l) h ∙ picks-read l [] zero v o
+  spelled-back F text v o l h = within reads [] text l ∙ lines-read F [] zero text v o h
 
   module _ (F : List Tuple) (P : T (arePicks c F)) where
-    abbrev pairOf : Tuple → Pair
-    pairOf t = (t .relation, rowOf (p .size) (t .places))
+    fits-of : (t : Tuple) → List·Memᴰ t F → Fits t
+    fits-of t m = inside-fits c A t (picks-inside c A F P t m)
 
-    back : (l : List Tuple) → ((t : Tuple) → List·Memᴰ t l → Inside p (good c A) t) → map (tupleOf p) (map pairOf l) ≡ l
-    back [] i = refl
-    back (t ∷ l) i = ap₂ _∷_ (tuple-back p (good c A) t (i t (List·Memᴰ·head refl))) (back l (λ u m. i u (List·Memᴰ·tail m)))
+    -- a sheet of picks that spells them, in their own order
+    pub picks-back : (text : List ℕ) → LineByLine PickLine F text → length text ≤ textLimit → readPicks chosen first (c .site .size) labels text ≡ accepted F
+    picks-back text h l = spelled-back F text fits-of (distinct-once F (picks-distinct c F P)) l h
 
-    line : (t : Tuple) → Inside p (good c A) t → printLine (bytes "pick" ∷ getD chosen (t .relation - firstChosen (c .question)) noRelation .name ∷ map decimal (t .places)) ≡ pickLine p (t .relation) (rowOf (p .size) (t .places))
-    unfolding pickLine
-    line t i =
-        let (j, e, l) = chosen-index c A (t .relation) (i .known) (i .chosen) in
-        let k : t .relation - firstChosen (c .question) ≡ j = omega arith in
-        ap₂ (λ (x : List ℕ) (ys : List ℕ). printLine (bytes "pick" ∷ x ∷ map decimal ys)) (ap (λ (x : ℕ). getD chosen x noRelation .name) k ∙ ap (λ (r : Relation). r .name) (sym (chosen-at c A j) ∙ ap (relationAt p) (sym e))) (ap (λ (u : Tuple). u .places) (sym (tuple-back p (good c A) t i)))
+    -- and whatever text is read as these picks spells them
+    pub picks-text : (text : List ℕ) → readPicks chosen first (c .site .size) labels text ≡ accepted F → LineByLine PickLine F text × (length text ≤ textLimit)
+    picks-text text e =
+        let (h, l) = picks-told chosen first (c .site .size) labels K text F e in
+        (weaken-lines _ PickLine F text (λ t fs m r. let (gs, q, s) = r in (gs, q ∙ ap (λ (x : List ℕ). bytes "pick" ∷ x ∷ gs) (same-name t (fits-of t m)), s)) h, l)
+      where
+        same-name : (t : Tuple) → Fits t → getD chosen (t .relation - first) noRelation .name ≡ relationAt p (t .relation) .name
+        same-name t f = let k : t .relation - first ≡ f .index = omega (arith, f .numbered) in ap (λ (j : ℕ). getD chosen j noRelation .name) k ∙ ap (λ (r : Relation). r .name) (sym (its-relation t f))
 
-    -- a sheet of picks, in their own order
-    pub picks-back : length (flatMap (λ (t : Tuple). pickLine p (t .relation) (rowOf (p .size) (t .places))) F) ≤ textLimit
-        → readPicks chosen (firstChosen (c .question)) (c .site .size) (flatMap (λ (t : Tuple). pickLine p (t .relation) (rowOf (p .size) (t .places))) F) ≡ accepted F
-    picks-back h =
-        let e : flatMap (λ (q : Pair). pickLine p (q .0) (q .1)) (map pairOf F) ≡ flatMap (λ (t : Tuple). pickLine p (t .relation) (rowOf (p .size) (t .places))) F = flat-map (λ (q : Pair). pickLine p (q .0) (q .1)) pairOf F in
-        let m : map (tupleOf p) (map pairOf F) ≡ F = back F (λ t i. picks-inside c A F P t i) in
-        ap (readPicks chosen (firstChosen (c .question)) (c .site .size)) (sym e)
-        ∙ pairs-back (map pairOf F) (λ q i. let (t, mt, f) = map-mem pairOf F q i in subst (λ (u : Pair). IsPair p u) (sym f) (tuple-pair p (good c A) t (picks-inside c A F P t mt))) (subst Once (sym m) (distinct-once F (picks-distinct c F P))) (subst (λ (t : List ℕ). length t ≤ textLimit) (sym e) h)
-        ∙ ap accepted m
+    -- a line as the desk program prints it
+    saidLine : Tuple → List (List ℕ)
+    saidLine t = bytes "pick" ∷ relationAt p (t .relation) .name ∷ map (said labels) (t .places)
 
-    -- and whatever text is read as these picks is that sheet
-    pub picks-text : (text : List ℕ) → readPicks chosen (firstChosen (c .question)) (c .site .size) text ≡ accepted F → (text ≡ flatMap (λ (t : Tuple). pickLine p (t .relation) (rowOf (p .size) (t .places))) F) × (length text ≤ textLimit)
-    picks-text text e = let (a, b) = picks-told chosen (firstChosen (c .question)) (c .site .size) text F e in
-        (a ∙ flat-same (λ (t : Tuple). printLine (bytes "pick" ∷ getD chosen (t .relation - firstChosen (c .question)) noRelation .name ∷ map decimal (t .places))) (λ (t : Tuple). pickLine p (t .relation) (rowOf (p .size) (t .places))) F (λ t m. line t (picks-inside c A F P t m)), b)
+    said-line : (t : Tuple) → List·Memᴰ t F → printLine (saidLine t) ≡ pickLine labels p (t .relation) (rowOf (p .size) (t .places))
+    unfolding saidLine pickLine
+    said-line t m = ap (λ (u : Tuple). printLine (bytes "pick" ∷ relationAt p (t .relation) .name ∷ map (said labels) (u .places))) (sym (tuple-back p (good c A) t (picks-inside c A F P t m)))
+
+    said-lines : flatMap (λ t. printLine (saidLine t)) F ≡ flatMap (λ (t : Tuple). pickLine labels p (t .relation) (rowOf (p .size) (t .places))) F
+    said-lines = flat-same (λ t. printLine (saidLine t)) (λ (t : Tuple). pickLine labels p (t .relation) (rowOf (p .size) (t .places))) F said-line
+
+    -- so it prints a text that spells them
+    pub picks-said : LineByLine PickLine F (flatMap (λ (t : Tuple). pickLine labels p (t .relation) (rowOf (p .size) (t .places))) F)
+    unfolding saidLine
+    picks-said = subst (LineByLine PickLine F) said-lines (write-lines PickLine saidLine F (λ t m. (map (said labels) (t .places), refl, said-spelled labels (t .places))))
+
+    -- and where there are no labels, the only one
+    pub picks-plain : labels ≡ [] → (text : List ℕ) → LineByLine PickLine F text → text ≡ flatMap (λ (t : Tuple). pickLine labels p (t .relation) (rowOf (p .size) (t .places))) F
+    unfolding saidLine
+    picks-plain e text h = line-by-line saidLine (λ _. Unit {0}) F text (weaken-lines PickLine (λ t fs. (fs ≡ saidLine t) × Unit {0}) F text (λ t fs m r. (only t fs r, tt)) h) .0 ∙ said-lines
+      where
+        only : (t : Tuple) (fs : List (List ℕ)) → PickLine t fs → fs ≡ saidLine t
+        only t fs (gs, q, s) = q ∙ ap (λ (x : List (List ℕ)). bytes "pick" ∷ relationAt p (t .relation) .name ∷ x) (subst (λ (ls : List Label). Spelled ls (t .places) gs → gs ≡ map (said ls) (t .places)) (sym e) (spelled-plain (t .places) gs) s)
 
     -- as the desk program prints them, in the order of the atoms
-    pub printed-back : length (flatMap (λ r. flatMap (pickLine p r) (pickedRows p F r)) (chosenNumbers p)) ≤ textLimit
-        → readPicks chosen (firstChosen (c .question)) (c .site .size) (flatMap (λ r. flatMap (pickLine p r) (pickedRows p F r)) (chosenNumbers p)) ≡ accepted (map (tupleOf p) (pairs p F))
-    unfolding pairs
-    printed-back h =
-        let e : flatMap (λ (q : Pair). pickLine p (q .0) (q .1)) (pairs p F) ≡ flatMap (λ r. flatMap (pickLine p r) (pickedRows p F r)) (chosenNumbers p) =
-        flat-flat (λ (q : Pair). pickLine p (q .0) (q .1)) (λ r. map (λ row. (r, row)) (pickedRows p F r)) (chosenNumbers p) ∙ ap (λ (f : ℕ → List ℕ). flatMap f (chosenNumbers p)) (fun-ext (λ r. flat-map (λ (q : Pair). pickLine p (q .0) (q .1)) (λ row. (r, row)) (pickedRows p F r))) in
-        ap (readPicks chosen (firstChosen (c .question)) (c .site .size)) (sym e) ∙ pairs-back (pairs p F) (λ q i. pairs-ready p F q i .0) (tuples-once p (good c A) F) (subst (λ (t : List ℕ). length t ≤ textLimit) (sym e) h)
+    abbrev inOrder : List Tuple
+    inOrder = map (tupleOf p) (pairs p F)
+
+    pub printed-back : length (flatMap (λ r. flatMap (pickLine labels p r) (pickedRows p F r)) (chosenNumbers p)) ≤ textLimit
+        → readPicks chosen first (c .site .size) labels (flatMap (λ r. flatMap (pickLine labels p r) (pickedRows p F r)) (chosenNumbers p)) ≡ accepted (map (tupleOf p) (pairs p F))
+    unfolding pairs pickLine saidLine
+    printed-back h = spelled-back inOrder _ (λ t m. fits-of t (picked-in p F t m)) (tuples-once p (good c A) F) h (subst (LineByLine PickLine inOrder) e (write-lines PickLine saidLine inOrder (λ t m. (map (said labels) (t .places), refl, said-spelled labels (t .places)))))
+      where
+        e : flatMap (λ t. printLine (saidLine t)) inOrder ≡ flatMap (λ r. flatMap (pickLine labels p r) (pickedRows p F r)) (chosenNumbers p)
+        e =
+            flat-map (λ t. printLine (saidLine t)) (tupleOf p) (pairs p F)
+            ∙ flat-flat (λ (q : Pair). pickLine labels p (q .0) (q .1)) (λ r. map (λ row. (r, row)) (pickedRows p F r)) (chosenNumbers p)
+            ∙ ap (λ (f : ℕ → List ℕ). flatMap f (chosenNumbers p)) (fun-ext (λ r. flat-map (λ (q : Pair). pickLine labels p (q .0) (q .1)) (λ row. (r, row)) (pickedRows p F r)))

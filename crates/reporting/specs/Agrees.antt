@@ -7,20 +7,22 @@ use mathlib.Core.List.{List, [], _∷_, _++_}
 use native.Mathlib.Nat.{add-zero, zero-add, add-suc}
 use native.Mathlib.Omega.{arith}
 use lib.Dec.{ltb}
-use lib.ListN.{length, take, drop, getD}
-use lib.Seq.{slice, take-nil, getD-append-add}
+use lib.ListN.{length, getD}
+use lib.Seq.{getD-append-add}
 use borrow.Author.Tests.{lt-ltb, le-ltb}
 use Rattle.definitions.specs.Lists.{if_then_else_, filter, flatMap, from, below}
 use Rattle.definitions.specs.Text.{bytes, decimal}
 use Rattle.definitions.specs.Relations.{Relation, Tuple, static, builtIn}
 use Rattle.definitions.specs.Atoms.{Problem, relationAt, tuplesOf, wordsFor}
 use Rattle.definitions.specs.Built.{chosenNumbers, isPicked, pickedRows}
-use Rattle.definitions.specs.Desk.{printLine, countLine, pickLine}
+use Rattle.definitions.specs.Sheets.{Label}
+use Rattle.definitions.specs.Desk.{printLine, countLine, said, pickLine}
 use Rattle.laws.specs.Lists.{below-snoc}
 use Rattle.bits.specs.Table.{bit, num, count, words}
 use Rattle.names.specs.declared.Signature.{Signature}
 use Rattle.names.specs.Signatures.{relationIn, relationsFrom, allOf}
 use Rattle.names.proofs.Laws.{all-are, relation-at}
+use Rattle.printing.specs.Lines.{part-is}
 use Rattle.reporting.specs.Report.{nameAt, rowsAt, wordAt, countAt, counts, rowLine, rowLines, picksAt, picks}
 
 -- two lists of texts, of numbers that run side by side
@@ -97,14 +99,6 @@ pub relation-rows : (p : Problem) (q : List ℕ) (g : Signature) (n : ℕ) → p
 unfolding tuplesOf rowsAt
 relation-rows p q g n s e i h = ap₂ (λ (x y : ℕ). x ^ y) s (relation-arity p q g e i h)
 
--- a part of a text, as the code lends it
-pub part-is : (a e : ℕ) (q : List ℕ) → slice a e q ≡ take (e - a) (drop a q)
-part-is zero e q = let z : e - 0 ≡ e = omega arith in rw z
-part-is (suc a) zero [] = let z : 0 - suc a ≡ 0 = omega arith in rw z
-part-is (suc a) zero (x ∷ q) = let z : 0 - suc a ≡ 0 = omega arith in rw z
-part-is (suc a) (suc e) [] = sym (take-nil (suc e - suc a))
-part-is (suc a) (suc e) (x ∷ q) = let z : suc e - suc a ≡ e - a = omega arith in rw z (part-is a e q)
-
 -- ---- the tables of a problem and its picks
 pub record Agrees (p : Problem) (F : List Tuple) (q : List ℕ) (g : Signature) (n : ℕ) (words : List ℕ) : Type 0 where
   pub size : p .size ≡ n
@@ -120,11 +114,11 @@ module _ (p : Problem) (F : List Tuple) (q : List ℕ) (g : Signature) (n : ℕ)
     its-relation : relationAt p r ≡ relationIn q g (g .rels + j)
     its-relation = relation-is p q g (A .relations) (g .rels + j) (omega arith)
 
-    its-name : relationAt p r .name ≡ nameAt q g (g .rels + j)
+    pub its-name : relationAt p r .name ≡ nameAt q g (g .rels + j)
     unfolding relationIn nameAt
     its-name = ap (λ (k : Relation). k .name) its-relation ∙ part-is (getD (g .from) (g .rels + j) 0) (getD (g .to) (g .rels + j) 0) q
 
-    its-arity : relationAt p r .arity ≡ getD (g .arity) (g .rels + j) 0
+    pub its-arity : relationAt p r .arity ≡ getD (g .arity) (g .rels + j) 0
     its-arity = relation-arity p q g (A .relations) (g .rels + j) (omega arith)
 
     its-rows : tuplesOf (p .size) (relationAt p r) ≡ rowsAt g n (g .rels + j)
@@ -140,19 +134,20 @@ module _ (p : Problem) (F : List Tuple) (q : List ℕ) (g : Signature) (n : ℕ)
         (count-set (bit words) (isPicked p F r) (64 * wordAt g n j) (rowsAt g n (g .rels + j)) (64 * wordsFor (rowsAt g n (g .rels + j))) rows-fit (λ i l. A .bits j i h l)
         ∙ ap (λ (k : ℕ). length (filter (isPicked p F r) (below k))) (sym its-rows))
 
-    row-agrees : (row : ℕ) → row < rowsAt g n (g .rels + j) → rowLine words (64 * wordAt g n j) (nameAt q g (g .rels + j)) n (getD (g .arity) (g .rels + j) 0) row ≡ (if isPicked p F r row then pickLine p r row else [])
+    row-agrees : (labels : List Label) (row : ℕ) → row < rowsAt g n (g .rels + j)
+        → rowLine (said labels) words (64 * wordAt g n j) (nameAt q g (g .rels + j)) n (getD (g .arity) (g .rels + j) 0) row ≡ (if isPicked p F r row then pickLine labels p r row else [])
     unfolding rowLine pickLine
-    row-agrees row l =
+    row-agrees labels row l =
         let b : bit words (64 * wordAt g n j + row) ≡ isPicked p F r row = A .bits j row h (let w = rows-fit in omega arith) ∙ ap (λ (b : Bool). b && isPicked p F r row) (lt-ltb row (rowsAt g n (g .rels + j)) l) in
         rw (b, its-name, its-arity, A .size)
 
-    picks-agree : picksAt q g n words j ≡ flatMap (pickLine p r) (pickedRows p F r)
+    picks-agree : (labels : List Label) → picksAt (said labels) q g n words j ≡ flatMap (pickLine labels p r) (pickedRows p F r)
     unfolding picksAt rowLines pickedRows below rowsAt
-    picks-agree =
-        flat-same (rowLine words (64 * wordAt g n j) (nameAt q g (g .rels + j)) n (getD (g .arity) (g .rels + j) 0)) (λ row. if isPicked p F r row then pickLine p r row else []) 0 0 (rowsAt g n (g .rels + j))
-        (λ i l. let z : 0 + i ≡ i = omega arith in rw z (row-agrees i l))
-        ∙ flat-if (isPicked p F r) (pickLine p r) (from 0 (rowsAt g n (g .rels + j)))
-        ∙ ap (λ (k : ℕ). flatMap (pickLine p r) (filter (isPicked p F r) (from 0 k))) (sym its-rows)
+    picks-agree labels =
+        flat-same (rowLine (said labels) words (64 * wordAt g n j) (nameAt q g (g .rels + j)) n (getD (g .arity) (g .rels + j) 0)) (λ row. if isPicked p F r row then pickLine labels p r row else []) 0 0 (rowsAt g n (g .rels + j))
+        (λ i l. let z : 0 + i ≡ i = omega arith in rw z (row-agrees labels i l))
+        ∙ flat-if (isPicked p F r) (pickLine labels p r) (from 0 (rowsAt g n (g .rels + j)))
+        ∙ ap (λ (k : ℕ). flatMap (pickLine labels p r) (filter (isPicked p F r) (from 0 k))) (sym its-rows)
 
   pub counts-agree : counts q g n words ≡ flatMap (countLine p F) (chosenNumbers p)
   unfolding counts below
@@ -161,9 +156,9 @@ module _ (p : Problem) (F : List Tuple) (q : List ℕ) (g : Signature) (n : ℕ)
       (λ j l. let z : 0 + j ≡ j = omega arith in let y : 5 + g .rels + j ≡ 5 + (g .rels + j) = omega arith in rw (z, y) (count-agrees j l))
       ∙ ap (flatMap (countLine p F)) (sym (A .chosen))
 
-  pub picks-agree-all : picks q g n words ≡ flatMap (λ k. flatMap (pickLine p k) (pickedRows p F k)) (chosenNumbers p)
+  pub picks-agree-all : (labels : List Label) → picks (said labels) q g n words ≡ flatMap (λ k. flatMap (pickLine labels p k) (pickedRows p F k)) (chosenNumbers p)
   unfolding picks below
-  picks-agree-all =
-      flat-same (picksAt q g n words) (λ k. flatMap (pickLine p k) (pickedRows p F k)) 0 (5 + g .rels) (g .chosen)
-      (λ j l. let z : 0 + j ≡ j = omega arith in let y : 5 + g .rels + j ≡ 5 + (g .rels + j) = omega arith in rw (z, y) (picks-agree j l))
-      ∙ ap (flatMap (λ k. flatMap (pickLine p k) (pickedRows p F k))) (sym (A .chosen))
+  picks-agree-all labels =
+      flat-same (picksAt (said labels) q g n words) (λ k. flatMap (pickLine labels p k) (pickedRows p F k)) 0 (5 + g .rels) (g .chosen)
+      (λ j l. let z : 0 + j ≡ j = omega arith in let y : 5 + g .rels + j ≡ 5 + (g .rels + j) = omega arith in rw (z, y) (picks-agree j l labels))
+      ∙ ap (flatMap (λ k. flatMap (pickLine labels p k) (pickedRows p F k))) (sym (A .chosen))

@@ -3,26 +3,31 @@
 use Prim.Native.Nat.{ℕ, _+_, _-_, _*_, _≤_, _<_}
 use mathlib.Core.Path.{_≡_, sym, ap, _∙_}
 use mathlib.Core.Bool.{Bool, true, false}
-use mathlib.Core.List.{List, [], _∷_, _++_, append-assoc}
+use mathlib.Core.List.{List, [], _∷_, _++_, map, append-assoc}
 use native.Mathlib.Omega.{arith}
 use lib.ListN.{length, take, drop, length-append}
 use borrow.Author.Tests.{lt-ltb, le-ltb}
 use Rattle.definitions.specs.Limits.{early}
-use Rattle.definitions.specs.Lists.{if_then_else_, flatMap}
+use Rattle.definitions.specs.Lists.{if_then_else_, flatMap, sum}
 use Rattle.definitions.specs.Text.{bytes, decimal}
 use Rattle.definitions.specs.Refusal.{Result, refused, accepted, _>>=_, refuseIf}
 use Rattle.definitions.specs.Relations.{Tuple}
-use Rattle.definitions.specs.Atoms.{Problem, atoms}
+use Rattle.definitions.specs.Sheets.{Label}
+use Rattle.definitions.specs.Atoms.{Problem, relationAt, atoms}
 use Rattle.definitions.specs.Actions.{actions}
-use Rattle.definitions.specs.Built.{bound}
+use Rattle.definitions.specs.Built.{pickedRows, bound}
 use Rattle.definitions.specs.Outcome.{Plan, plan, asText, sizesOf}
-use Rattle.definitions.specs.Desk.{printLine, sizesLine, stepLine, report, printed, Sheets, sheets, checkedPlan, answerOf, answer, desk}
+use Rattle.definitions.specs.Desk.{printLine, sizesLine, said, pickLine, stepLine, report, printed, Sheets, sheets, checkedPlan, answerOf, answer, desk}
+use Rattle.laws.specs.Means.{Good}
+use Rattle.laws.specs.Labels.{LabelsFit}
+use Rattle.laws.specs.Few.{rows-few}
 use Rattle.names.specs.declared.Signature.{Signature}
 use Rattle.names.specs.Signatures.{Sound}
 use Rattle.reporting.specs.Cutting.{CutAt}
 use Rattle.reporting.specs.Report.{nameAt, counts, picks, headOf}
-use Rattle.reporting.specs.Agrees.{Agrees, counts-agree, picks-agree-all}
-use Rattle.reporting.specs.Short.{sizes-short, counts-short, picks-short}
+use Rattle.reporting.specs.Agrees.{Agrees, its-name, its-arity, counts-agree, picks-agree-all}
+use Rattle.reporting.specs.Short.{sizes-short, pick-short, flat-most, sum-most, counts-short}
+use Rattle.reporting.specs.Said.{said-short}
 
 -- ---- which answer
 
@@ -53,29 +58,46 @@ pub refused-is : (r : Result Plan) (k place : ℕ) → r ≡ refused k place →
 unfolding printed
 refused-is r k place e = rw e
 
-module _ (p : Problem) (F : List Tuple) (ks : List ℕ) (q : List ℕ) (g : Signature) (n : ℕ) (words : List ℕ) (A : Agrees p F q g n words) where
+module _ (ls : List Label) (p : Problem) (F : List Tuple) (ks : List ℕ) (say : ℕ → List ℕ) (q : List ℕ) (g : Signature) (n : ℕ) (words : List ℕ) (so : say ≡ said ls) (A : Agrees p F q g n words) where
   sizes-are : sizesOf p ≡ record { elements = n; atomCount = atoms p; actionCount = actions p; stepBound = bound p }
   unfolding sizesOf
   sizes-are = ap (λ (m : ℕ). record { elements = m; atomCount = atoms p; actionCount = actions p; stepBound = bound p }) (A .size)
 
-  pub report-is : (r : Result Plan) → r ≡ accepted (record { problem = p; picks = F; steps = ks })
-      → printed r ≡ headOf q g n (atoms p) (actions p) (bound p) words ++ (flatMap stepLine ks ++ printLine (bytes "ok" ∷ decimal (length ks) ∷ []))
+  pub report-is : (r : Result Plan) → r ≡ accepted (record { labels = ls; problem = p; picks = F; steps = ks })
+      → printed r ≡ headOf say q g n (atoms p) (actions p) (bound p) words ++ (flatMap stepLine ks ++ printLine (bytes "ok" ∷ decimal (length ks) ∷ []))
   unfolding printed report headOf
   report-is r e =
       let end : List ℕ = flatMap stepLine ks ++ printLine (bytes "ok" ∷ decimal (length ks) ∷ []) in
-      rw (e, sizes-are, ← counts-agree p F q g n words A, ← picks-agree-all p F q g n words A)
-      (sym (append-assoc (sizesLine (record { elements = n; atomCount = atoms p; actionCount = actions p; stepBound = bound p })) (counts q g n words ++ picks q g n words) end
-      ∙ ap (λ (t : List ℕ). sizesLine (record { elements = n; atomCount = atoms p; actionCount = actions p; stepBound = bound p }) ++ t) (append-assoc (counts q g n words) (picks q g n words) end)))
+      rw (e, sizes-are, so, ← counts-agree p F q g n words A, ← picks-agree-all p F q g n words A ls)
+      (sym (append-assoc (sizesLine (record { elements = n; atomCount = atoms p; actionCount = actions p; stepBound = bound p })) (counts q g n words ++ picks (said ls) q g n words) end
+      ∙ ap (λ (t : List ℕ). sizesLine (record { elements = n; atomCount = atoms p; actionCount = actions p; stepBound = bound p }) ++ t) (append-assoc (counts q g n words) (picks (said ls) q g n words) end)))
 
--- ---- the report up to its steps fits
+-- ---- the report up to its steps fits: a pick has a line of 57 bytes at the most
 
-pub head-short : (q : List ℕ) (g : Signature) (n atoms actions bound : ℕ) (words : List ℕ) → Sound q g → 1 ≤ n → n ≤ 16 → ((j : ℕ) → j < g .chosen → length (nameAt q g (g .rels + j)) ≤ 12)
-    → length (headOf q g n atoms actions bound words) ≤ 16384 * 27 + 250
+module _ (ls : List Label) (p : Problem) (F : List Tuple) (q : List ℕ) (g : Signature) (n : ℕ) (words : List ℕ) (A : Agrees p F q g n words) (L : LabelsFit n ls) (s : Sound q g) (some : 1 ≤ n) (few : n ≤ 16) (named : (j : ℕ) → j < g .chosen → length (nameAt q g (g .rels + j)) ≤ 12) where
+  line-short : (j row : ℕ) → j < g .chosen → length (pickLine ls p (5 + (g .rels + j)) row) ≤ 57
+  unfolding pickLine
+  line-short j row h =
+      let a = its-arity p F q g n words A j h in
+      pick-short (said ls) (said-short n ls L) _ (p .size) (relationAt p (5 + (g .rels + j)) .arity) row (rw (its-name p F q g n words A j h) (named j h))
+      (omega (arith, A .size)) (omega (arith, A .size)) (omega (arith, s .arities (g .rels + j) (omega arith)))
+
+  rows-short : (j : ℕ) → j < g .chosen → length (flatMap (pickLine ls p (5 + g .rels + j)) (pickedRows p F (5 + g .rels + j))) ≤ 57 * length (pickedRows p F (5 + g .rels + j))
+  rows-short j h = let y : 5 + g .rels + j ≡ 5 + (g .rels + j) = omega arith in rw y (flat-most (pickLine ls p (5 + (g .rels + j))) 57 (pickedRows p F (5 + (g .rels + j))) (λ row. line-short j row h))
+
+  pub picks-short : Good p → (say : ℕ → List ℕ) → say ≡ said ls → length (picks say q g n words) ≤ 57 * length F
+  picks-short G say so =
+      let a = sum-most (λ k. flatMap (pickLine ls p k) (pickedRows p F k)) (λ k. length (pickedRows p F k)) 57 (5 + g .rels) (g .chosen) rows-short in
+      let b = ap length (ap (λ (f : ℕ → List ℕ). picks f q g n words) so ∙ picks-agree-all p F q g n words A ls ∙ ap (flatMap (λ k. flatMap (pickLine ls p k) (pickedRows p F k))) (A .chosen)) in
+      let c = ap (λ (rs : List ℕ). sum (map (λ k. length (pickedRows p F k)) rs)) (A .chosen) in
+      omega (arith, rows-few p G F)
+
+pub head-short : (say : ℕ → List ℕ) (q : List ℕ) (g : Signature) (n atoms actions bound : ℕ) (words : List ℕ) → Sound q g → ((j : ℕ) → j < g .chosen → length (nameAt q g (g .rels + j)) ≤ 12)
+    → length (headOf say q g n atoms actions bound words) ≤ length (picks say q g n words) + 250
 unfolding headOf
-head-short q g n atoms actions bound words s p l named =
+head-short say q g n atoms actions bound words s named =
     let a = sizes-short (record { elements = n; atomCount = atoms; actionCount = actions; stepBound = bound }) in
-    let b = counts-short q g n words s p l named in
-    let c = picks-short q g n words s p l named in
-    let d = length-append (sizesLine (record { elements = n; atomCount = atoms; actionCount = actions; stepBound = bound })) (counts q g n words ++ picks q g n words) in
-    let e = length-append (counts q g n words) (picks q g n words) in
+    let b = counts-short q g n words s named in
+    let d = length-append (sizesLine (record { elements = n; atomCount = atoms; actionCount = actions; stepBound = bound })) (counts q g n words ++ picks say q g n words) in
+    let e = length-append (counts q g n words) (picks say q g n words) in
     omega arith

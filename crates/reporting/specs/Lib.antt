@@ -4,5 +4,6 @@ pub mod Report
 pub mod Agrees
 pub mod Words
 pub mod Short
+pub mod Said
 pub mod Opened
 pub mod Answers

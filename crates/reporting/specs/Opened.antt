@@ -15,7 +15,8 @@ use Rattle.names.specs.Signatures.{relationIn, relsOf, chosenOf, allOf}
 use Rattle.names.proofs.Laws.{length-relations, relation-at}
 use Rattle.laws.specs.Reader.{Accepted}
 use Rattle.reporting.specs.Report.{nameAt}
-use Rattle.reporting.specs.Agrees.{noRelation, part-is}
+use Rattle.printing.specs.Lines.{part-is}
+use Rattle.reporting.specs.Agrees.{noRelation}
 use Rattle.reporting.specs.Short.{name-short}
 
 all-relations : (c : Case) → problemOf c .relations ≡ relations (c .question .rels) (c .question .chosen)

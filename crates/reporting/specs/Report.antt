@@ -1,5 +1,5 @@
 -- The report's `count` and `pick` lines as the code has them: names as spans of the question, picks as bits of words, each `choose`
--- from a new word on. Assumes nothing.
+-- from a new word on; `say` is how an element is printed. Assumes nothing.
 use Prim.Native.Nat.{ℕ, suc, _+_, _-_, _*_, _/_, _^_, _≤_, _<_}
 use mathlib.Core.Path.{_≡_, refl, sym, ap, _∙_}
 use mathlib.Core.Bool.{true, false}
@@ -41,28 +41,28 @@ counts q g n words = flatMap (countAt q g n words) (below (g .chosen))
 -- ---- picks
 
 -- the line of a row, if its bit is set, where the relation's bits begin with bit `first`
-unfoldable pub rowLine : List ℕ → ℕ → List ℕ → ℕ → ℕ → ℕ → List ℕ
-rowLine words first name n arity row = if bit words (first + row) then printLine (bytes "pick" ∷ name ∷ map decimal (placesOf n arity row)) else []
+unfoldable pub rowLine : (ℕ → List ℕ) → List ℕ → ℕ → List ℕ → ℕ → ℕ → ℕ → List ℕ
+rowLine say words first name n arity row = if bit words (first + row) then printLine (bytes "pick" ∷ name ∷ map say (placesOf n arity row)) else []
 
-unfoldable pub rowLines : List ℕ → ℕ → List ℕ → ℕ → ℕ → List ℕ
-rowLines words first name n arity = flatMap (rowLine words first name n arity) (below (n ^ arity))
+unfoldable pub rowLines : (ℕ → List ℕ) → List ℕ → ℕ → List ℕ → ℕ → ℕ → List ℕ
+rowLines say words first name n arity = flatMap (rowLine say words first name n arity) (below (n ^ arity))
 
-unfoldable pub picksAt : List ℕ → Signature → ℕ → List ℕ → ℕ → List ℕ
-picksAt q g n words j = rowLines words (64 * wordAt g n j) (nameAt q g (g .rels + j)) n (getD (g .arity) (g .rels + j) 0)
+unfoldable pub picksAt : (ℕ → List ℕ) → List ℕ → Signature → ℕ → List ℕ → ℕ → List ℕ
+picksAt say q g n words j = rowLines say words (64 * wordAt g n j) (nameAt q g (g .rels + j)) n (getD (g .arity) (g .rels + j) 0)
 
-unfoldable pub picks : List ℕ → Signature → ℕ → List ℕ → List ℕ
-picks q g n words = flatMap (picksAt q g n words) (below (g .chosen))
+unfoldable pub picks : (ℕ → List ℕ) → List ℕ → Signature → ℕ → List ℕ → List ℕ
+picks say q g n words = flatMap (picksAt say q g n words) (below (g .chosen))
 
 -- ---- the report up to its steps
 
-unfoldable pub headOf : List ℕ → Signature → ℕ → ℕ → ℕ → ℕ → List ℕ → List ℕ
-headOf q g n atoms actions bound words =
-    sizesLine (record { elements = n; atomCount = atoms; actionCount = actions; stepBound = bound }) ++ (counts q g n words ++ picks q g n words)
+unfoldable pub headOf : (ℕ → List ℕ) → List ℕ → Signature → ℕ → ℕ → ℕ → ℕ → List ℕ → List ℕ
+headOf say q g n atoms actions bound words =
+    sizesLine (record { elements = n; atomCount = atoms; actionCount = actions; stepBound = bound }) ++ (counts q g n words ++ picks say q g n words)
 
-pub head-is : (q : List ℕ) (g : Signature) (n atoms actions bound : ℕ) (words : List ℕ) → headOf q g n atoms actions bound words
-    ≡ sizesLine (record { elements = n; atomCount = atoms; actionCount = actions; stepBound = bound }) ++ (counts q g n words ++ picks q g n words)
+pub head-is : (say : ℕ → List ℕ) (q : List ℕ) (g : Signature) (n atoms actions bound : ℕ) (words : List ℕ) → headOf say q g n atoms actions bound words
+    ≡ sizesLine (record { elements = n; atomCount = atoms; actionCount = actions; stepBound = bound }) ++ (counts q g n words ++ picks say q g n words)
 unfolding headOf
-head-is q g n atoms actions bound words = refl
+head-is say q g n atoms actions bound words = refl
 
 -- ---- a list of texts one after another, from text i on
 
@@ -77,13 +77,13 @@ pub counts-all : (q : List ℕ) (g : Signature) (n : ℕ) (words : List ℕ) →
 unfolding counts
 counts-all q g n words = first-text (countAt q g n words) (g .chosen)
 
-pub picks-all : (q : List ℕ) (g : Signature) (n : ℕ) (words : List ℕ) → picks q g n words ≡ textsFrom (picksAt q g n words) 0 (g .chosen)
+pub picks-all : (say : ℕ → List ℕ) (q : List ℕ) (g : Signature) (n : ℕ) (words : List ℕ) → picks say q g n words ≡ textsFrom (picksAt say q g n words) 0 (g .chosen)
 unfolding picks
-picks-all q g n words = first-text (picksAt q g n words) (g .chosen)
+picks-all say q g n words = first-text (picksAt say q g n words) (g .chosen)
 
-pub row-lines : (words : List ℕ) (first : ℕ) (name : List ℕ) (n k : ℕ) → rowLines words first name n k ≡ textsFrom (rowLine words first name n k) 0 (n ^ k)
+pub row-lines : (say : ℕ → List ℕ) (words : List ℕ) (first : ℕ) (name : List ℕ) (n k : ℕ) → rowLines say words first name n k ≡ textsFrom (rowLine say words first name n k) 0 (n ^ k)
 unfolding rowLines
-row-lines words first name n k = first-text (rowLine words first name n k) (n ^ k)
+row-lines say words first name n k = first-text (rowLine say words first name n k) (n ^ k)
 
 pub next-text : (f : ℕ → List ℕ) (i m : ℕ) → i < m → textsFrom f i m ≡ f i ++ textsFrom f (i + 1) m
 unfolding textsFrom from flatMap
@@ -110,16 +110,16 @@ module _ (q : List ℕ) (g : Signature) (n : ℕ) (words : List ℕ) (j first ro
   unfolding countAt nameAt rowsAt wordsFor
   count-is ones e = rw (first-is, e, r)
 
-  pub picks-is : picksAt q g n words j ≡ rowLines words (first * 64) (name q g j) n (arity g j)
+  pub picks-is : (say : ℕ → List ℕ) → picksAt say q g n words j ≡ rowLines say words (first * 64) (name q g j) n (arity g j)
   unfolding picksAt nameAt
-  picks-is = let e : 64 * first ≡ first * 64 = omega arith in rw (first-is, e)
+  picks-is say = let e : 64 * first ≡ first * 64 = omega arith in rw (first-is, e)
 
-module _ (words : List ℕ) (first : ℕ) (name : List ℕ) (n k row : ℕ) where
-  pub row-set : bit words (first + row) ≡ true → rowLine words first name n k row ≡ printLine (bytes "pick" ∷ name ∷ map decimal (placesOf n k row))
+module _ (say : ℕ → List ℕ) (words : List ℕ) (first : ℕ) (name : List ℕ) (n k row : ℕ) where
+  pub row-set : bit words (first + row) ≡ true → rowLine say words first name n k row ≡ printLine (bytes "pick" ∷ name ∷ map say (placesOf n k row))
   unfolding rowLine
   row-set e = rw e
 
-  pub row-clear : bit words (first + row) ≡ false → rowLine words first name n k row ≡ []
+  pub row-clear : bit words (first + row) ≡ false → rowLine say words first name n k row ≡ []
   unfolding rowLine
   row-clear e = rw e
 

@@ -1,25 +1,24 @@
--- How long what is printed can be: names have at most 12 bytes, elements at most 2 digits, steps of 32 bits at most 10, and any
--- number at most 20. Assumes nothing.
+-- How long what is printed can be: names and elements have at most 12 bytes, steps of 32 bits at most 10, and any number at most 20.
+-- Assumes nothing.
 use Prim.Native.Nat.{ℕ, zero, suc, _+_, _*_, _/_, _%_, _^_, _≤_, _<_}
 use mathlib.Core.Path.{_≡_, _∙_}
 use mathlib.Core.Bool.{Bool, true, false, _&&_, _||_}
 use mathlib.Core.List.{List, [], _∷_, _++_, map}
-use native.Mathlib.Nat.{add-zero, add-comm, suc-mul, mod-lt}
+use native.Mathlib.Nat.{add-zero, add-comm, suc-mul, mul-suc, mul-add, mod-lt}
 use native.Mathlib.Omega.{arith}
 use lib.Dec.{T, eqb, leb, leb→le}
 use lib.ListN.{length, getD, length-append}
-use Rattle.definitions.specs.Lists.{if_then_else_, all, flatMap, from, below}
+use Rattle.definitions.specs.Lists.{if_then_else_, all, flatMap, from, below, sum}
 use Rattle.definitions.specs.Text.{bytes, isCapital, isDigit, isRelationName, decimalIn, decimal}
 use Rattle.definitions.specs.Atoms.{placesOf}
 use Rattle.definitions.specs.Outcome.{Sizes}
 use Rattle.definitions.specs.Desk.{printLine, sizesLine, stepLine}
-use Rattle.bits.specs.Table.{bit, count}
 use Rattle.laws.specs.Booleans.{T-and-r}
 use Rattle.names.specs.declared.Signature.{Signature}
 use Rattle.names.specs.Signatures.{Sound}
 use Rattle.printing.specs.Decimals.{decimal-length}
-use Rattle.printing.specs.Lines.{field, elements, no-is, ok-is, step-is, sizes-is, count-is, pick-is}
-use Rattle.reporting.specs.Report.{nameAt, wordAt, countAt, counts, rowLine, rowLines, picksAt, picks, power-few}
+use Rattle.printing.specs.Lines.{field, no-is, ok-is, step-is, sizes-is, count-is}
+use Rattle.reporting.specs.Report.{nameAt, countAt, counts}
 
 -- ---- numbers and names
 
@@ -86,30 +85,23 @@ step-short k h =
     let c = length-append (field k) (10 ∷ []) in
     rw (step-is k) (omega arith)
 
-elements-short : (n k row : ℕ) → 0 < n → n ≤ 16 → length (elements (placesOf n k row)) ≤ 3 * k
-unfolding elements flatMap placesOf
-elements-short n zero row h l = omega arith
-elements-short n (suc k) row h l =
+places-short : (say : ℕ → List ℕ) → ((x : ℕ) → x < 16 → length (say x) ≤ 12) → (f : List ℕ) (n k row : ℕ) → 0 < n → n ≤ 16 → length (printLine (f ∷ map say (placesOf n k row))) ≤ length f + 13 * k + 1
+unfolding printLine placesOf
+places-short say s f n zero row h l = let a = length-append f (10 ∷ []) in omega arith
+places-short say s f n (suc k) row h l =
     let m : row / n ^ k % n < n = mod-lt (row / n ^ k) h in
-    let a = field-short 1 (row / n ^ k % n) (omega arith) in
-    let b = elements-short n k row h l in
-    let c = length-append (field (row / n ^ k % n)) (flatMap field (placesOf n k row)) in
+    let a = s (row / n ^ k % n) (omega arith) in
+    let b = places-short say s (say (row / n ^ k % n)) n k row h l in
+    let c = length-append f (9 ∷ printLine (say (row / n ^ k % n) ∷ map say (placesOf n k row))) in
     omega arith
 
-pick-short : (name : List ℕ) (n k row : ℕ) → length name ≤ 12 → 0 < n → n ≤ 16 → k ≤ 3 → length (printLine (bytes "pick" ∷ name ∷ map decimal (placesOf n k row))) ≤ 27
-pick-short name n k row l p h m =
-    let a = elements-short n k row p h in
-    let c = length-append name (elements (placesOf n k row) ++ (10 ∷ [])) in
-    let d = length-append (elements (placesOf n k row)) (10 ∷ []) in
-    rw (pick-is name (placesOf n k row)) (omega arith)
-
-line-short : (words : List ℕ) (first : ℕ) (name : List ℕ) (n k row : ℕ) → length name ≤ 12 → 0 < n → n ≤ 16 → k ≤ 3 → length (rowLine words first name n k row) ≤ 27
-unfolding rowLine
-line-short words first name n k row l p h m = go (bit words (first + row))
-  where
-    go : (b : Bool) → length (if b then printLine (bytes "pick" ∷ name ∷ map decimal (placesOf n k row)) else []) ≤ 27
-    go true = pick-short name n k row l p h m
-    go false = omega arith
+pub pick-short : (say : ℕ → List ℕ) → ((x : ℕ) → x < 16 → length (say x) ≤ 12) → (name : List ℕ) (n k row : ℕ) → length name ≤ 12 → 0 < n → n ≤ 16 → k ≤ 3
+    → length (printLine (bytes "pick" ∷ name ∷ map say (placesOf n k row))) ≤ 57
+unfolding printLine
+pick-short say s name n k row l p h m =
+    let a = places-short say s name n k row p h in
+    let c = length-append (bytes "pick") (9 ∷ printLine (name ∷ map say (placesOf n k row))) in
+    omega arith
 
 -- ---- lines one after another
 
@@ -123,6 +115,26 @@ flat-short f b a (suc m) h =
     let z : suc m * b ≡ b + m * b = suc-mul m b ∙ add-comm (m * b) b in
     omega arith
 
+-- lines of at most b bytes each; lists of them, by how many lines each has
+pub flat-most : (f : ℕ → List ℕ) (b : ℕ) (l : List ℕ) → ((x : ℕ) → length (f x) ≤ b) → length (flatMap f l) ≤ b * length l
+unfolding flatMap
+flat-most f b [] h = omega arith
+flat-most f b (x ∷ l) h =
+    let r = flat-most f b l h in
+    let c = length-append (f x) (flatMap f l) in
+    let z : b * suc (length l) ≡ b * length l + b = mul-suc b (length l) in
+    omega (arith, h x)
+
+pub sum-most : (f : ℕ → List ℕ) (c : ℕ → ℕ) (b a m : ℕ) → ((i : ℕ) → i < m → length (f (a + i)) ≤ b * c (a + i)) → length (flatMap f (from a m)) ≤ b * sum (map c (from a m))
+unfolding flatMap from sum
+sum-most f c b a zero h = omega arith
+sum-most f c b a (suc m) h =
+    let r = sum-most f c b (suc a) m (λ i l. let e : a + suc i ≡ suc a + i = omega arith in rw e at (h (suc i) (omega arith))) in
+    let s : length (f a) ≤ b * c a = rw (add-zero a) at (h 0 (omega arith)) in
+    let d = length-append (f a) (flatMap f (from (suc a) m)) in
+    let z = mul-add b (c a) (sum (map c (from (suc a) m))) in
+    omega arith
+
 pub steps-short : (ks : List ℕ) → ((i : ℕ) → getD ks i 0 < 2 ^ 32) → length (flatMap stepLine ks) ≤ 16 * length ks
 unfolding flatMap
 steps-short [] h = omega arith
@@ -132,23 +144,6 @@ steps-short (k ∷ ks) h =
     let c = length-append (stepLine k) (flatMap stepLine ks) in
     omega arith
 
-module _ (q : List ℕ) (g : Signature) (n : ℕ) (words : List ℕ) (s : Sound q g) (p : 1 ≤ n) (l : n ≤ 16) (named : (j : ℕ) → j < g .chosen → length (nameAt q g (g .rels + j)) ≤ 12) where
-  pub counts-short : length (counts q g n words) ≤ 160
-  unfolding counts countAt below
-  counts-short = let h = flat-short (countAt q g n words) 40 0 (g .chosen) (λ j h. let z : 0 + j ≡ j = omega arith in rw z (count-short (nameAt q g (g .rels + j)) _ (named j h))) in let c = s .chosen-le in omega arith
-
-  rows-short : (j : ℕ) → j < g .chosen → length (picksAt q g n words j) ≤ 4096 * 27
-  unfolding picksAt rowLines below
-  rows-short j h =
-      let k : ℕ = getD (g .arity) (g .rels + j) 0 in
-      let m : k ≤ 3 = s .arities (g .rels + j) (omega arith) .1 in
-      let r = flat-short (rowLine words (64 * wordAt g n j) (nameAt q g (g .rels + j)) n k) 27 0 (n ^ k) (λ i u. let z : 0 + i ≡ i = omega arith in rw z (row-short i (named j h) m)) in
-      let w = power-few n k l m in
-      omega arith
-    where
-      row-short : (i : ℕ) → length (nameAt q g (g .rels + j)) ≤ 12 → getD (g .arity) (g .rels + j) 0 ≤ 3 → length (rowLine words (64 * wordAt g n j) (nameAt q g (g .rels + j)) n (getD (g .arity) (g .rels + j) 0) i) ≤ 27
-      row-short i a m = line-short words (64 * wordAt g n j) (nameAt q g (g .rels + j)) n (getD (g .arity) (g .rels + j) 0) i a p l m
-
-  pub picks-short : length (picks q g n words) ≤ 16384 * 27
-  unfolding picks below
-  picks-short = let h = flat-short (picksAt q g n words) (4096 * 27) 0 (g .chosen) (λ j h. let z : 0 + j ≡ j = omega arith in rw z (rows-short j h)) in let c = s .chosen-le in omega arith
+pub counts-short : (q : List ℕ) (g : Signature) (n : ℕ) (words : List ℕ) → Sound q g → ((j : ℕ) → j < g .chosen → length (nameAt q g (g .rels + j)) ≤ 12) → length (counts q g n words) ≤ 160
+unfolding counts countAt below
+counts-short q g n words s named = let h = flat-short (countAt q g n words) 40 0 (g .chosen) (λ j h. let z : 0 + j ≡ j = omega arith in rw z (count-short (nameAt q g (g .rels + j)) _ (named j h))) in let c = s .chosen-le in omega arith

@@ -7,6 +7,7 @@ ghost use Rattle.definitions.specs.Text.{lines, split};
 ghost use Rattle.definitions.specs.Desk.{isRecord, afterRule, firstPickOrStep, startsWithStep};
 ghost use Rattle.names.specs.Signatures.{Sound};
 ghost use Rattle.printing.specs.Printed.{Prints};
+ghost use Rattle.printing.specs.Lines.{Spans, saidBy};
 ghost use Rattle.reporting.specs.Cutting.{LineAt, CutAt};
 ghost use Rattle.reporting.specs.Report.{countAt, counts as «counts-of», rowLine, rowLines, picksAt, picks as «picks-of», headOf};
 use names::Signature;
@@ -154,16 +155,18 @@ fn row_line(
     words: &[u64],
     first: usize,
     name: &[u8],
+    site: &[u8],
+    labels: &[usize],
     n: usize,
     arity: usize,
     rows: usize,
     row: usize,
 ) -> usize
-    requires { ⌜ (0 < n) × (rows ≡ n ^ arity) × (first + row < 64 * length (now words)) × (first + row < 2 ^ 64) × (at + length (rowLine (now words) first (now name) n arity row) ≤ length (now out)) ⌝ }
-    ensures { λ r. ⌜ Prints (rowLine (now (words .entry)) first (now (name .entry)) n arity row) (now (out .entry)) at (now (out .exit)) r ⌝ }
+    requires { ⌜ Spans (now site) (now labels) n × (0 < n) × (rows ≡ n ^ arity) × (first + row < 64 * length (now words)) × (first + row < 2 ^ 64) × (at + length (rowLine (saidBy (now site) (now labels)) (now words) first (now name) n arity row) ≤ length (now out)) ⌝ }
+    ensures { λ r. ⌜ Prints (rowLine (saidBy (now (site .entry)) (now (labels .entry))) (now (words .entry)) first (now (name .entry)) n arity row) (now (out .entry)) at (now (out .exit)) r ⌝ }
 {
     if bits::get(words, first + row) {
-        return printing::pick_line(out, at, name, n, arity, rows, row);
+        return printing::pick_line(out, at, name, site, labels, n, arity, rows, row);
     }
     at
 }
@@ -175,17 +178,31 @@ fn row_lines(
     words: &[u64],
     first: usize,
     name: &[u8],
+    site: &[u8],
+    labels: &[usize],
     n: usize,
     arity: usize,
     rows: usize,
 ) -> usize
-    requires { ⌜ (0 < n) × (rows ≡ n ^ arity) × (first + rows ≤ 64 * length (now words)) × (first + rows < 2 ^ 64) × (at + length (rowLines (now words) first (now name) n arity) ≤ length (now out)) ⌝ }
-    ensures { λ r. ⌜ Prints (rowLines (now (words .entry)) first (now (name .entry)) n arity) (now (out .entry)) at (now (out .exit)) r ⌝ }
+    requires { ⌜ Spans (now site) (now labels) n × (0 < n) × (rows ≡ n ^ arity) × (first + rows ≤ 64 * length (now words)) × (first + rows < 2 ^ 64) × (at + length (rowLines (saidBy (now site) (now labels)) (now words) first (now name) n arity) ≤ length (now out)) ⌝ }
+    ensures { λ r. ⌜ Prints (rowLines (saidBy (now (site .entry)) (now (labels .entry))) (now (words .entry)) first (now (name .entry)) n arity) (now (out .entry)) at (now (out .exit)) r ⌝ }
 {
     let mut row = 0;
     let mut next = at;
     while row < rows {
-        next = row_line(out, next, words, first, name, n, arity, rows, row);
+        next = row_line(
+            out,
+            next,
+            words,
+            first,
+            name,
+            site,
+            labels,
+            n,
+            arity,
+            rows,
+            row,
+        );
         row += 1;
     }
     next
@@ -196,13 +213,15 @@ fn picked(
     out: &mut [u8],
     at: usize,
     q: &[u8],
+    site: &[u8],
+    labels: &[usize],
     g: Signature,
     n: usize,
     words: &[u64],
     j: usize,
 ) -> usize
-    requires { ⌜ Sound (now q) g × (1 ≤ n) × (n ≤ 16) × (j < g .chosen) × (64 * g .chosen ≤ length (now words)) × (at + length (picksAt (now q) g n (now words) j) ≤ length (now out)) ⌝ }
-    ensures { λ r. ⌜ Prints (picksAt (now (q .entry)) g n (now (words .entry)) j) (now (out .entry)) at (now (out .exit)) r ⌝ }
+    requires { ⌜ Sound (now q) g × Spans (now site) (now labels) n × (1 ≤ n) × (n ≤ 16) × (j < g .chosen) × (64 * g .chosen ≤ length (now words)) × (at + length (picksAt (saidBy (now site) (now labels)) (now q) g n (now words) j) ≤ length (now out)) ⌝ }
+    ensures { λ r. ⌜ Prints (picksAt (saidBy (now (site .entry)) (now (labels .entry))) (now (q .entry)) g n (now (words .entry)) j) (now (out .entry)) at (now (out .exit)) r ⌝ }
 {
     let lo = g.rels;
     let i = lo + j;
@@ -211,19 +230,39 @@ fn picked(
     let rows = rows::power(n, k);
     let a = g.from[i];
     let e = g.to[i];
-    row_lines(out, at, words, first * 64, &q[a..e], n, k, rows)
+    row_lines(
+        out,
+        at,
+        words,
+        first * 64,
+        &q[a..e],
+        site,
+        labels,
+        n,
+        k,
+        rows,
+    )
 }
 
 // The `pick` lines of each `choose`.
-fn picks(out: &mut [u8], at: usize, q: &[u8], g: Signature, n: usize, words: &[u64]) -> usize
-    requires { ⌜ Sound (now q) g × (1 ≤ n) × (n ≤ 16) × (64 * g .chosen ≤ length (now words)) × (at + length («picks-of» (now q) g n (now words)) ≤ length (now out)) ⌝ }
-    ensures { λ r. ⌜ Prints («picks-of» (now (q .entry)) g n (now (words .entry))) (now (out .entry)) at (now (out .exit)) r ⌝ }
+fn picks(
+    out: &mut [u8],
+    at: usize,
+    q: &[u8],
+    site: &[u8],
+    labels: &[usize],
+    g: Signature,
+    n: usize,
+    words: &[u64],
+) -> usize
+    requires { ⌜ Sound (now q) g × Spans (now site) (now labels) n × (1 ≤ n) × (n ≤ 16) × (64 * g .chosen ≤ length (now words)) × (at + length («picks-of» (saidBy (now site) (now labels)) (now q) g n (now words)) ≤ length (now out)) ⌝ }
+    ensures { λ r. ⌜ Prints («picks-of» (saidBy (now (site .entry)) (now (labels .entry))) (now (q .entry)) g n (now (words .entry))) (now (out .entry)) at (now (out .exit)) r ⌝ }
 {
     let m = g.chosen;
     let mut j = 0;
     let mut next = at;
     while j < m {
-        next = picked(out, next, q, g, n, words, j);
+        next = picked(out, next, q, site, labels, g, n, words, j);
         j += 1;
     }
     next
@@ -233,6 +272,8 @@ fn picks(out: &mut [u8], at: usize, q: &[u8], g: Signature, n: usize, words: &[u
 pub fn head(
     out: &mut [u8],
     q: &[u8],
+    site: &[u8],
+    labels: &[usize],
     g: Signature,
     n: usize,
     atoms: usize,
@@ -240,10 +281,10 @@ pub fn head(
     bound: usize,
     words: &[u64],
 ) -> usize
-    requires { ⌜ Sound (now q) g × (1 ≤ n) × (n ≤ 16) × (64 * g .chosen ≤ length (now words)) × (length (headOf (now q) g n atoms actions bound (now words)) ≤ length (now out)) ⌝ }
-    ensures { λ r. ⌜ Prints (headOf (now (q .entry)) g n atoms actions bound (now (words .entry))) (now (out .entry)) 0 (now (out .exit)) r ⌝ }
+    requires { ⌜ Sound (now q) g × Spans (now site) (now labels) n × (1 ≤ n) × (n ≤ 16) × (64 * g .chosen ≤ length (now words)) × (length (headOf (saidBy (now site) (now labels)) (now q) g n atoms actions bound (now words)) ≤ length (now out)) ⌝ }
+    ensures { λ r. ⌜ Prints (headOf (saidBy (now (site .entry)) (now (labels .entry))) (now (q .entry)) g n atoms actions bound (now (words .entry))) (now (out .entry)) 0 (now (out .exit)) r ⌝ }
 {
     let sized = printing::sizes_line(out, 0, n, atoms, actions, bound);
     let counted = counts(out, sized, q, g, n, words);
-    picks(out, counted, q, g, n, words)
+    picks(out, counted, q, site, labels, g, n, words)
 }

@@ -10,7 +10,7 @@ use lib.Dec.{leb}
 use lib.ListN.{length, drop, set, length-append}
 use lib.Seq.{set-at, drop-cons}
 use Rattle.definitions.specs.Lists.{if_then_else_, flatMap}
-use Rattle.definitions.specs.Text.{Line, bytes, decimalIn, decimal}
+use Rattle.definitions.specs.Text.{Line, decimalIn, decimal}
 use Rattle.definitions.specs.Desk.{printLine, stepLine}
 use Rattle.definitions.specs.Limits.{textLimit}
 use Rattle.definitions.specs.Refusal.{Result, refused, accepted, _>>=_, given, readLines, readText}
@@ -19,7 +19,7 @@ use Rattle.definitions.specs.Outcome.{written}
 use Rattle.records.specs.Lines.{linesAt, lineBy, readAt}
 use Rattle.records.specs.Entries.{entryIn, Reads}
 use Rattle.records.specs.declared.Entry.{Entry}
-use Rattle.records.specs.declared.Entry.the-variants.{Wrong, Rel, Choose, Rule, Size, Fact, Pick, Step}
+use Rattle.records.specs.declared.Entry.the-variants.{Wrong, Rel, Choose, Rule, Size, Label, Fact, Pick, Step}
 use Rattle.records.proofs.Runs.{read-long, read-start, read-stop, read-went, read-halted}
 use Rattle.laws.specs.Told.{steps-told}
 use Rattle.sheets.specs.Reading.{answered, verdictOf, RoomFor, Writes, left}
@@ -51,8 +51,9 @@ module _ (s : List ℕ) (at next : ℕ) (ks : List ℕ) where
   number-line (Choose a e j d) k p = let z : _≡_ {A = ℕ} 0 1 = cc in absurd (omega arith)
   number-line (Rule a e) k p = let z : _≡_ {A = ℕ} 0 1 = cc in absurd (omega arith)
   number-line (Size n) k p = let z : _≡_ {A = ℕ} 0 1 = cc in absurd (omega arith)
-  number-line (Fact a e q) k p = let z : _≡_ {A = ℕ} 0 1 = cc in absurd (omega arith)
-  number-line (Pick a e q) k p = let z : _≡_ {A = ℕ} 0 1 = cc in absurd (omega arith)
+  number-line (Label j a t e) k p = let z : _≡_ {A = ℕ} 0 1 = cc in absurd (omega arith)
+  number-line (Fact a t e q) k p = let z : _≡_ {A = ℕ} 0 1 = cc in absurd (omega arith)
+  number-line (Pick a t e q) k p = let z : _≡_ {A = ℕ} 0 1 = cc in absurd (omega arith)
 
   fault-line : (x : Entry) (k : ℕ) → verdictOf x ≡ Fault k → (given (entryIn s x) 2 at >>= D.addToSteps ks at) ≡ refused k at
   unfolding verdictOf entryIn D.addToSteps given _>>=_
@@ -62,8 +63,9 @@ module _ (s : List ℕ) (at next : ℕ) (ks : List ℕ) where
   fault-line (Choose a e j d) k p = rw (← fault-is 3 k p)
   fault-line (Rule a e) k p = rw (← fault-is 3 k p)
   fault-line (Size n) k p = rw (← fault-is 3 k p)
-  fault-line (Fact a e q) k p = rw (← fault-is 3 k p)
-  fault-line (Pick a e q) k p = rw (← fault-is 3 k p)
+  fault-line (Label j a t e) k p = rw (← fault-is 3 k p)
+  fault-line (Fact a t e q) k p = rw (← fault-is 3 k p)
+  fault-line (Pick a t e q) k p = rw (← fault-is 3 k p)
 
   line-number : (x : Entry) (k : ℕ) → Reads s at next x → verdictOf x ≡ Number k → readAt D.addToSteps s at ks ≡ readAt D.addToSteps s next (ks ++ (k ∷ []))
   line-number x k w p = read-went D.addToSteps s at next ks x w (ks ++ (k ∷ [])) (number-line x k p)
@@ -114,6 +116,7 @@ added f ks all at (D.rel a b) ih q = absurd (clash 3 at all q)
 added f ks all at (D.choose a b c) ih q = absurd (clash 3 at all q)
 added f ks all at (D.rule a) ih q = absurd (clash 3 at all q)
 added f ks all at (D.size a) ih q = absurd (clash 3 at all q)
+added f ks all at (D.label a b) ih q = absurd (clash 3 at all q)
 added f ks all at (D.fact a b) ih q = absurd (clash 3 at all q)
 added f ks all at (D.pick a b) ih q = absurd (clash 3 at all q)
 

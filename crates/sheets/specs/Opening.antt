@@ -10,17 +10,18 @@ use lib.Seq.{slice}
 use Rattle.definitions.specs.Limits.{CaseLimits}
 use Rattle.definitions.specs.Refusal.{Result, refused, accepted, _>>=_}
 use Rattle.definitions.specs.Parsing.{readFormula}
-use Rattle.definitions.specs.Sheets.{Question, Site, readQuestion, readSite}
+use Rattle.definitions.specs.Sheets.{Question, Labelled, readQuestion, readSite}
 use Rattle.definitions.specs.Truth.{Case}
 use Rattle.definitions.specs.Atoms.{problemOf, problemWith}
-use Rattle.definitions.specs.Outcome.{readCase}
+use Rattle.definitions.specs.Outcome.{CaseRead as Filed, readFiled, readCase}
 use Rattle.names.specs.Signatures.{Sound, relsOf, chosenOf}
+use Rattle.tuples.specs.Labels.{LabelsAre}
 use Rattle.tuples.specs.Marks.{bitOf, marks, AllValid}
 use Rattle.question.specs.declared.Asked.{Asked}
 use Rattle.question.specs.Drafts.{QuestionRead, Accepts, refusedWith}
 use Rattle.sheets.specs.declared.Answer.{Answer}
 use Rattle.sheets.specs.declared.Answer.the-variants.{Done, Refused}
-use Rattle.sheets.specs.Reading.{answered, sizeIn, FactsIn}
+use Rattle.sheets.specs.Reading.{answered, sizeIn, FactsIn, LabelsIn}
 use Rattle.laws.specs.Refusals.{Refuses as RefusesBy, Sheet, not-zero, question-by, site-by}
 use Rattle.sheets.specs.declared.Opened.{Opened}
 
@@ -63,6 +64,20 @@ unfoldable pub CaseRead : List ℕ → Result Case → Opened → (ℕ → Bool)
 CaseRead s (refused k place) r facts = Refuses k place r
 CaseRead s (accepted c) r facts = Holds s c r facts
 
+-- the same of a case with its labels, which are spans of the site's text t
+unfoldable pub FiledRead : (s t : List ℕ) → Result Filed → Opened → List ℕ → (ℕ → Bool) → Type 0
+FiledRead s t (refused k place) r words facts = Refuses k place r
+FiledRead s t (accepted c) r words facts = Holds s (c .case) r facts × LabelsAre t words (r .n) (c .labels)
+
+-- the case alone
+pub case-alone : (L : CaseLimits) (s t : List ℕ) (r : Opened) (words : List ℕ) (facts : ℕ → Bool) → FiledRead s t (readFiled L s t) r words facts → CaseRead s (readCase L s t) r facts
+unfolding FiledRead CaseRead readCase _>>=_
+case-alone L s t r words facts h = go (readFiled L s t) h
+  where
+    go : (x : Result Filed) → FiledRead s t x r words facts → CaseRead s (x >>= λ c. accepted (c .case)) r facts
+    go (refused k place) h = h
+    go (accepted c) h = h .0
+
 -- ---- from what the two readers say
 
 abbrev Known : List ℕ → Asked → Type 0
@@ -80,53 +95,55 @@ known s a h z = go (readQuestion s) refl h (question-by s)
 pub known-sound : (s : List ℕ) (a : Asked) → QuestionRead s (readQuestion s) a → a .fault ≡ 0 → Sound s (a .sig)
 known-sound s a h z = known s a h z .2 .sound
 
-module _ (L : CaseLimits) (s t : List ℕ) (a : Asked) (facts : ℕ → Bool) (h : QuestionRead s (readQuestion s) a) where
-  pub question-refused : (a .fault ≡ 0 → ⊥) → (r : Opened) → r ≡ failed a (a .fault) (a .place) → CaseRead s (readCase L s t) r facts
-  unfolding QuestionRead refusedWith RefusesBy CaseRead readCase _>>=_ failed
-  question-refused z r is = subst (λ (x : Opened). CaseRead s (readCase L s t) x facts) (sym is) (go (readQuestion s) h (question-by s))
+module _ (L : CaseLimits) (s t : List ℕ) (a : Asked) (words : List ℕ) (facts : ℕ → Bool) (h : QuestionRead s (readQuestion s) a) where
+  pub question-refused : (a .fault ≡ 0 → ⊥) → (r : Opened) → r ≡ failed a (a .fault) (a .place) → FiledRead s t (readFiled L s t) r words facts
+  unfolding QuestionRead refusedWith RefusesBy FiledRead readFiled _>>=_ failed
+  question-refused z r is = subst (λ (x : Opened). FiledRead s t (readFiled L s t) x words facts) (sym is) (go (readQuestion s) h (question-by s))
     where
-      go : (r : Result Question) → QuestionRead s r a → RefusesBy Sheet r → CaseRead s (r >>= λ q. readSite L (q .rels) t >>= λ st. accepted (record { question = q; site = st })) (failed a (a .fault) (a .place)) facts
+      go : (r : Result Question) → QuestionRead s r a → RefusesBy Sheet r → FiledRead s t (r >>= λ q. readSite L (q .rels) t >>= λ st. accepted (record { case = record { question = q; site = st .site }; labels = st .labels })) (failed a (a .fault) (a .place)) words facts
       go (refused k place) x l = record { number = ap (λ (b : Asked). b .fault) x; where-it-is = ap (λ (b : Asked). b .place) x; some-fault = let w = ap (λ (b : Asked). b .fault) x in omega (arith, not-zero k l) }
       go (accepted q) x l = absurd (z (x .no-fault))
 
   module _ (z : a .fault ≡ 0) where
-    site-is : readCase L s t ≡ (readSite L (relsOf s (a .sig)) t >>= λ st. accepted (record { question = known s a h z .0; site = st }))
-    unfolding readCase _>>=_
+    site-is : readFiled L s t ≡ (readSite L (relsOf s (a .sig)) t >>= λ st. accepted (record { case = record { question = known s a h z .0; site = st .site }; labels = st .labels }))
+    unfolding readFiled _>>=_
     site-is = let (q, e, x) = known s a h z in rw (e, x .rels) refl
 
-    pub site-refused : (k place : ℕ) → answered sizeIn (readSite L (relsOf s (a .sig)) t) ≡ Refused k place → (r : Opened) → r ≡ failed a k place → CaseRead s (readCase L s t) r facts
-    unfolding CaseRead answered RefusesBy _>>=_ failed
-    site-refused k place e r is = subst₂ (λ (x : Result Case) (y : Opened). CaseRead s x y facts) (sym site-is) (sym is) (go (readSite L (relsOf s (a .sig)) t) e (site-by L (relsOf s (a .sig)) t))
+    pub site-refused : (k place : ℕ) → answered sizeIn (readSite L (relsOf s (a .sig)) t) ≡ Refused k place → (r : Opened) → r ≡ failed a k place → FiledRead s t (readFiled L s t) r words facts
+    unfolding FiledRead answered RefusesBy _>>=_ failed
+    site-refused k place e r is = subst₂ (λ (x : Result Filed) (y : Opened). FiledRead s t x y words facts) (sym site-is) (sym is) (go (readSite L (relsOf s (a .sig)) t) e (site-by L (relsOf s (a .sig)) t))
       where
-        go : (r : Result Site) → answered sizeIn r ≡ Refused k place → RefusesBy Sheet r → CaseRead s (r >>= λ st. accepted (record { question = known s a h z .0; site = st })) (failed a k place) facts
+        go : (r : Result Labelled) → answered sizeIn r ≡ Refused k place → RefusesBy Sheet r → FiledRead s t (r >>= λ st. accepted (record { case = record { question = known s a h z .0; site = st .site }; labels = st .labels })) (failed a k place) words facts
         go (refused j at) x l = record { number = cc; where-it-is = cc; some-fault = let w : j ≡ k = cc in omega (arith, not-zero j l) }
         go (accepted st) x l = let w : _≡_ {A = ℕ} 0 1 = cc in absurd (omega arith)
 
-    pub both-read : L .elements ≤ 64 → (n : ℕ) → answered sizeIn (readSite L (relsOf s (a .sig)) t) ≡ Done n → FactsIn L (a .sig) (readSite L (relsOf s (a .sig)) t) facts → CaseRead s (readCase L s t) (opened a n) facts
-    unfolding CaseRead answered FactsIn sizeIn _>>=_ opened
-    both-read small n e f = subst (λ (r : Result Case). CaseRead s r (opened a n) facts) (sym site-is) (go (readSite L (relsOf s (a .sig)) t) e f)
+    pub both-read : L .elements ≤ 64 → (n : ℕ) → answered sizeIn (readSite L (relsOf s (a .sig)) t) ≡ Done n → FactsIn L (a .sig) (readSite L (relsOf s (a .sig)) t) facts → LabelsIn t (readSite L (relsOf s (a .sig)) t) words → FiledRead s t (readFiled L s t) (opened a n) words facts
+    unfolding FiledRead answered FactsIn LabelsIn sizeIn _>>=_ opened
+    both-read small n e f l = subst (λ (r : Result Filed). FiledRead s t r (opened a n) words facts) (sym site-is) (go (readSite L (relsOf s (a .sig)) t) e f l)
       where
-        go : (r : Result Site) → answered sizeIn r ≡ Done n → FactsIn L (a .sig) r facts → CaseRead s (r >>= λ st. accepted (record { question = known s a h z .0; site = st })) (opened a n) facts
-        go (refused j at) x f = let w : _≡_ {A = ℕ} 0 1 = cc in absurd (omega arith)
-        go (accepted st) x f =
+        go : (r : Result Labelled) → answered sizeIn r ≡ Done n → FactsIn L (a .sig) r facts → LabelsIn t r words → FiledRead s t (r >>= λ st. accepted (record { case = record { question = known s a h z .0; site = st .site }; labels = st .labels })) (opened a n) words facts
+        go (refused j at) x f l = let w : _≡_ {A = ℕ} 0 1 = cc in absurd (omega arith)
+        go (accepted st) x f l =
             let (q, e′, y) = known s a h z in
-            let m : n ≡ st .size = cc in
-            record {
-              no-fault = refl;
-              asked = e′;
-              sound = y .sound;
-              some-chosen = y .some-chosen;
-              rels = y .rels;
-              chosen = y .chosen;
-              rule-from = y .rule-from;
-              rule-to = y .rule-to;
-              formula = y .formula;
-              size = m;
-              some-elements = subst (λ (x : ℕ). 1 ≤ x) (sym m) (f .2);
-              few-elements = omega (arith, f .3, small);
-              facts-are = f .0;
-              facts-valid = f .1;
-            }
+            let m : n ≡ st .site .size = cc in (
+              record {
+                no-fault = refl;
+                asked = e′;
+                sound = y .sound;
+                some-chosen = y .some-chosen;
+                rels = y .rels;
+                chosen = y .chosen;
+                rule-from = y .rule-from;
+                rule-to = y .rule-to;
+                formula = y .formula;
+                size = m;
+                some-elements = subst (λ (x : ℕ). 1 ≤ x) (sym m) (f .2);
+                few-elements = omega (arith, f .3, small);
+                facts-are = f .0;
+                facts-valid = f .1;
+              },
+              subst (λ (x : ℕ). LabelsAre t words x (st .labels)) (sym m) l,
+            )
 
 -- ---- what is known once a case was read: the refusal, or the case
 module _ (L : CaseLimits) (question site : List ℕ) (o : Opened) (facts : ℕ → Bool) (read : CaseRead question (readCase L question site) o facts) where
@@ -145,3 +162,21 @@ module _ (L : CaseLimits) (question site : List ℕ) (o : Opened) (facts : ℕ �
       go : (x : Result Case) → readCase L question site ≡ x → CaseRead question x o facts → (c : Case) × (readCase L question site ≡ accepted c) × Holds question c o facts
       go (refused k place) e h = absurd (omega (arith, h .some-fault))
       go (accepted c) e h = (c, e, h)
+
+-- the same with the labels
+module _ (L : CaseLimits) (question site : List ℕ) (o : Opened) (words : List ℕ) (facts : ℕ → Bool) (read : FiledRead question site (readFiled L question site) o words facts) where
+  pub filed-refused : (o .fault ≡ 0 → ⊥) → readFiled L question site ≡ refused (o .fault) (o .place)
+  unfolding FiledRead
+  filed-refused z = go (readFiled L question site) read
+    where
+      go : (x : Result Filed) → FiledRead question site x o words facts → x ≡ refused (o .fault) (o .place)
+      go (refused k place) h = ap₂ refused (sym (h .number)) (sym (h .where-it-is))
+      go (accepted c) h = absurd (z (h .0 .no-fault))
+
+  pub filed-read : o .fault ≡ 0 → (c : Filed) × (readFiled L question site ≡ accepted c) × Holds question (c .case) o facts × LabelsAre site words (o .n) (c .labels)
+  unfolding FiledRead
+  filed-read z = go (readFiled L question site) refl read
+    where
+      go : (x : Result Filed) → readFiled L question site ≡ x → FiledRead question site x o words facts → (c : Filed) × (readFiled L question site ≡ accepted c) × Holds question (c .case) o facts × LabelsAre site words (o .n) (c .labels)
+      go (refused k place) e h = absurd (omega (arith, h .some-fault))
+      go (accepted c) e h = (c, e, h .0, h .1)

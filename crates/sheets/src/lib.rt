@@ -1,18 +1,21 @@
-// The readers of the site, of picks and of steps: a value, or the refusal's number and place (1 to 3, 7, 9, 10); and of a case, which
-// is a question and a site.
+// The readers of the site, of picks and of steps: a value, or the refusal's number and place (1 to 3, 7, 9, 18, 10); and of a case,
+// which is a question and a site.
 ghost use mathlib.Core.Path.{_≡_};
 ghost use mathlib.Core.Bool.{false};
+ghost use mathlib.Core.List.{List};
 ghost use Prim.Native.Nat.{ℕ, _+_, _*_, _≤_};
 ghost use lib.ListN.{length, set as «set-at»};
 ghost use Rattle.bits.specs.Table.{bit};
 ghost use Rattle.definitions.specs.Limits.{CaseLimits};
-ghost use Rattle.definitions.specs.Sheets.{readSite, readPicks, readSteps};
+ghost use Rattle.definitions.specs.Sheets.{Label, readSite, readPicks, readSteps};
+ghost use Rattle.records.specs.Entries.{InText};
 ghost use Rattle.names.specs.Signatures.{Sound, withArrays, relsOf, chosenOf};
+ghost use Rattle.tuples.specs.Labels.{LabelsAre, NoLabels};
 ghost use Rattle.tuples.specs.Marks.{Arrays, Roomy};
-ghost use Rattle.sheets.specs.Reading.{answered, sizeIn, SizeRoom, FactsRoom, PicksRoom, SiteTurned, GotSite, FactsIn, PickTurned, GotPicks, PicksIn, verdictOf, RoomFor, left};
+ghost use Rattle.sheets.specs.Reading.{answered, sizeIn, SizeRoom, FactsRoom, PicksRoom, sizeTurn, SiteTurned, GotSite, FactsIn, LabelsIn, PickTurned, GotPicks, PicksIn, verdictOf, RoomFor, left};
 ghost use Rattle.sheets.specs.declared.Answer.the-variants.{Done};
-ghost use Rattle.definitions.specs.Outcome.{readCase};
-ghost use Rattle.sheets.specs.Opening.{CaseRead, failed};
+ghost use Rattle.definitions.specs.Outcome.{readFiled, readCase};
+ghost use Rattle.sheets.specs.Opening.{FiledRead, CaseRead, failed};
 use names::Signature;
 use question::Span;
 use records::Entry;
@@ -30,20 +33,40 @@ pub const MANY: usize = 9362;
 
 pub const LONG: usize = 7 * MANY;
 
+// How many numbers hold the labels of a site's elements: two for each of 64, the span of its label in the site's text, both 0 where
+// it has none.
+pub const LABELS: usize = 128;
+
 // A site's size, a count of picks or of steps; or a refusal's number and place.
 pub enum Answer {
     Done(usize),
     Refused(u32, usize),
 }
 
-// After a line of a site: the size so far, 0 for none; or the refusal's number.
+// After a line of a site: the size so far, 0 for none, and whether there was a fact; or the refusal's number.
 enum Turn {
-    Next(usize),
+    Next(usize, bool),
     Fault(u32),
 }
 
-// One line of a site, where n is the size so far and `most` the most that it may be; of a signature the arrays and the number m of
-// `rel` relations.
+// A line that says the size k.
+fn size_turn(k: usize, most: usize, n: usize, begun: bool) -> Turn
+    ensures { λ r. ⌜ r ≡ sizeTurn k most n begun ⌝ }
+{
+    if n != 0 {
+        return Turn::Fault(3);
+    }
+    if k < 1 {
+        return Turn::Fault(9);
+    }
+    if most < k {
+        return Turn::Fault(9);
+    }
+    Turn::Next(k, begun)
+}
+
+// One line of a site, where n is the size so far, `most` the most that it may be, and `begun` says whether there was a fact; of a
+// signature the arrays and the number m of `rel` relations.
 fn site_turn(
     q: &[u8],
     from: &[usize],
@@ -53,50 +76,61 @@ fn site_turn(
     s: &[u8],
     most: usize,
     n: usize,
+    begun: bool,
+    labels: &mut [usize],
     table: &mut [u64],
     x: Entry,
 ) -> Turn
     requires { ⌜ Arrays 0 m (now from) (now to) (now arity) × (most ≤ 64) × (n ≤ most) × ((n ≡ 0 → ⊥) → Roomy (now from) (now to) (now arity) 0 m n (length (now table))) ⌝ }
+    requires { ⌜ ((ls : List Label) × LabelsAre (now s) (now labels) n ls) × ((at : ℕ) × InText (now s) at x) ⌝ }
     ensures { λ r. ⌜ ((L : CaseLimits) → L .elements ≡ most → (g : Signature) → m ≡ g .rels
-        → SiteTurned L (now (q .entry)) (withArrays g (now (from .entry)) (now (to .entry)) (now (arity .entry))) (now (s .entry)) n x (now (table .entry)) (now (table .exit)) r) ⌝ }
+        → SiteTurned L (now (q .entry)) (withArrays g (now (from .entry)) (now (to .entry)) (now (arity .entry))) (now (s .entry)) n begun x (now (labels .entry)) (now (labels .exit)) (now (table .entry)) (now (table .exit)) r) ⌝ }
 {
     match x {
         Entry::Wrong => Turn::Fault(2),
         Entry::Rel(_, _, _) => Turn::Fault(3),
         Entry::Choose(_, _, _, _) => Turn::Fault(3),
         Entry::Rule(_, _) => Turn::Fault(3),
-        Entry::Size(k) => {
-            if n != 0 {
-                return Turn::Fault(3);
-            }
-            if k < 1 {
-                return Turn::Fault(9);
-            }
-            let size = k as usize;
-            if most < size {
-                return Turn::Fault(9);
-            }
-            Turn::Next(size)
-        }
-        Entry::Fact(a, e, p) => {
+        Entry::Size(k) => size_turn(k as usize, most, n, begun),
+        Entry::Label(k, a, t, e) => {
             if n == 0 {
                 return Turn::Fault(3);
             }
-            let c = tuples::add(q, from, to, arity, 0, m, n, s, a, e, p, table);
+            if begun {
+                return Turn::Fault(3);
+            }
+            let c = tuples::label(s, k, a, t, e, n, labels);
             if c == 0 {
-                return Turn::Next(n);
+                return Turn::Next(n, begun);
             }
             Turn::Fault(c)
         }
-        Entry::Pick(_, _, _) => Turn::Fault(3),
+        Entry::Fact(a, t, e, p) => {
+            if n == 0 {
+                return Turn::Fault(3);
+            }
+            let c = tuples::add(q, from, to, arity, 0, m, n, s, a, t, e, p, s, labels, table);
+            if c == 0 {
+                return Turn::Next(n, true);
+            }
+            Turn::Fault(c)
+        }
+        Entry::Pick(_, _, _, _) => Turn::Fault(3),
         Entry::Step(_) => Turn::Fault(3),
     }
 }
 
-// Reads a site into the table.
-fn site_lines(q: &[u8], g: Signature, s: &[u8], most: usize, table: &mut [u64]) -> Answer
-    requires { ⌜ Sound (now q) g × (most ≤ 64) × SizeRoom (now s) g most (length (now table)) × (bit (now table) ≡ λ i. false) ⌝ }
-    ensures { λ r. ⌜ ((L : CaseLimits) → L .elements ≡ most → GotSite L g (readSite L (relsOf (now (q .entry)) g) (now (s .entry))) r (bit (now (table .exit)))) ⌝ }
+// Reads a site into the labels and the table.
+fn site_lines(
+    q: &[u8],
+    g: Signature,
+    s: &[u8],
+    most: usize,
+    labels: &mut [usize],
+    table: &mut [u64],
+) -> Answer
+    requires { ⌜ Sound (now q) g × (most ≤ 64) × SizeRoom (now s) g most (length (now table)) × NoLabels (now labels) × (bit (now table) ≡ λ i. false) ⌝ }
+    ensures { λ r. ⌜ ((L : CaseLimits) → L .elements ≡ most → GotSite L g (now (s .entry)) (readSite L (relsOf (now (q .entry)) g) (now (s .entry))) r (now (labels .exit)) (bit (now (table .exit)))) ⌝ }
 {
     let end = s.len();
     if text::LIMIT < end {
@@ -107,13 +141,28 @@ fn site_lines(q: &[u8], g: Signature, s: &[u8], most: usize, table: &mut [u64]) 
     let arity = g.arity;
     let mut at = 0;
     let mut n: usize = 0;
+    let mut begun = false;
     while at < end {
         let l = records::line(s, at);
         let x = l.entry;
-        let t = site_turn(q, &from, &to, &arity, g.rels, s, most, n, table, x);
+        let t = site_turn(
+            q,
+            &from,
+            &to,
+            &arity,
+            g.rels,
+            s,
+            most,
+            n,
+            begun,
+            labels,
+            table,
+            x,
+        );
         match t {
-            Turn::Next(m) => {
+            Turn::Next(m, b) => {
                 n = m;
+                begun = b;
             }
             Turn::Fault(k) => {
                 return Answer::Refused(k, at);
@@ -127,13 +176,22 @@ fn site_lines(q: &[u8], g: Signature, s: &[u8], most: usize, table: &mut [u64]) 
     Answer::Done(n)
 }
 
-// Reads a site of at most `most` elements: its size, and its facts as bits of the table, which comes in cleared and stays so where the
-// site is refused.
-pub fn site(q: &[u8], g: Signature, s: &[u8], most: usize, table: &mut [u64]) -> Answer
-    requires { ⌜ Sound (now q) g × (most ≤ 64) × SizeRoom (now s) g most (length (now table)) × (bit (now table) ≡ λ i. false) ⌝ }
-    ensures { λ r. ⌜ ((L : CaseLimits) → L .elements ≡ most → (r ≡ answered sizeIn (readSite L (relsOf (now (q .entry)) g) (now (s .entry)))) × FactsIn L g (readSite L (relsOf (now (q .entry)) g) (now (s .entry))) (bit (now (table .exit)))) ⌝ }
+// Reads a site of at most `most` elements: its size, its labels as spans, which come in all 0, and its facts as bits of the table, which
+// comes in cleared and stays so where the site is refused.
+pub fn site(
+    q: &[u8],
+    g: Signature,
+    s: &[u8],
+    most: usize,
+    labels: &mut [usize],
+    table: &mut [u64],
+) -> Answer
+    requires { ⌜ Sound (now q) g × (most ≤ 64) × SizeRoom (now s) g most (length (now table)) × NoLabels (now labels) × (bit (now table) ≡ λ i. false) ⌝ }
+    ensures { λ r. ⌜ ((L : CaseLimits) → L .elements ≡ most → (r ≡ answered sizeIn (readSite L (relsOf (now (q .entry)) g) (now (s .entry))))
+        × FactsIn L g (readSite L (relsOf (now (q .entry)) g) (now (s .entry))) (bit (now (table .exit)))
+        × LabelsIn (now (s .entry)) (readSite L (relsOf (now (q .entry)) g) (now (s .entry))) (now (labels .exit))) ⌝ }
 {
-    let r = site_lines(q, g, s, most, table);
+    let r = site_lines(q, g, s, most, labels, table);
     match r {
         Answer::Done(n) => Answer::Done(n),
         Answer::Refused(k, place) => {
@@ -154,12 +212,15 @@ fn picks_turn(
     m: usize,
     s: &[u8],
     n: usize,
+    site: &[u8],
+    labels: &[usize],
     table: &mut [u64],
     x: Entry,
 ) -> u32
     requires { ⌜ Arrays lo m (now from) (now to) (now arity) × (n ≤ 64) × Roomy (now from) (now to) (now arity) lo m n (length (now table)) ⌝ }
-    ensures { λ r. ⌜ ((g : Signature) → lo ≡ g .rels → m ≡ g .chosen
-        → PickTurned (now (q .entry)) (withArrays g (now (from .entry)) (now (to .entry)) (now (arity .entry))) (now (s .entry)) n x (now (table .entry)) (now (table .exit)) r) ⌝ }
+    requires { ⌜ ((ls : List Label) × LabelsAre (now site) (now labels) n ls) × ((at : ℕ) × InText (now s) at x) ⌝ }
+    ensures { λ r. ⌜ ((ls : List Label) → LabelsAre (now (site .entry)) (now (labels .entry)) n ls → (g : Signature) → lo ≡ g .rels → m ≡ g .chosen
+        → PickTurned (now (q .entry)) (withArrays g (now (from .entry)) (now (to .entry)) (now (arity .entry))) (now (s .entry)) n ls x (now (table .entry)) (now (table .exit)) r) ⌝ }
 {
     match x {
         Entry::Wrong => 2,
@@ -167,16 +228,45 @@ fn picks_turn(
         Entry::Choose(_, _, _, _) => 3,
         Entry::Rule(_, _) => 3,
         Entry::Size(_) => 3,
-        Entry::Fact(_, _, _) => 3,
-        Entry::Pick(a, e, p) => { tuples::add(q, from, to, arity, lo, m, n, s, a, e, p, table) }
+        Entry::Label(_, _, _, _) => 3,
+        Entry::Fact(_, _, _, _) => 3,
+        Entry::Pick(a, t, e, p) => {
+            tuples::add(
+                q,
+                from,
+                to,
+                arity,
+                lo,
+                m,
+                n,
+                s,
+                a,
+                t,
+                e,
+                p,
+                site,
+                labels,
+                table,
+            )
+        }
         Entry::Step(_) => 3,
     }
 }
 
 // Reads picks over n elements into the table.
-fn picks_lines(q: &[u8], g: Signature, s: &[u8], n: usize, table: &mut [u64]) -> Answer
+fn picks_lines(
+    q: &[u8],
+    g: Signature,
+    s: &[u8],
+    n: usize,
+    site: &[u8],
+    labels: &[usize],
+    table: &mut [u64],
+) -> Answer
     requires { ⌜ Sound (now q) g × (n ≤ 64) × PicksRoom g n (length (now table)) × (bit (now table) ≡ λ i. false) ⌝ }
-    ensures { λ r. ⌜ GotPicks g n (readPicks (chosenOf (now (q .entry)) g) (5 + g .rels) n (now (s .entry))) r (bit (now (table .exit))) ⌝ }
+    requires { ⌜ ((ls : List Label) × LabelsAre (now site) (now labels) n ls) ⌝ }
+    ensures { λ r. ⌜ ((ls : List Label) → LabelsAre (now (site .entry)) (now (labels .entry)) n ls
+        → GotPicks g n (readPicks (chosenOf (now (q .entry)) g) (5 + g .rels) n ls (now (s .entry))) r (bit (now (table .exit)))) ⌝ }
 {
     let end = s.len();
     if text::LIMIT < end {
@@ -190,7 +280,20 @@ fn picks_lines(q: &[u8], g: Signature, s: &[u8], n: usize, table: &mut [u64]) ->
     while at < end {
         let l = records::line(s, at);
         let x = l.entry;
-        let c = picks_turn(q, &from, &to, &arity, g.rels, g.chosen, s, n, table, x);
+        let c = picks_turn(
+            q,
+            &from,
+            &to,
+            &arity,
+            g.rels,
+            g.chosen,
+            s,
+            n,
+            site,
+            labels,
+            table,
+            x,
+        );
         if c != 0 {
             return Answer::Refused(c, at);
         }
@@ -200,13 +303,23 @@ fn picks_lines(q: &[u8], g: Signature, s: &[u8], n: usize, table: &mut [u64]) ->
     Answer::Done(k)
 }
 
-// Reads picks over n elements: how many, and the picks as bits of the table, which comes in cleared and stays so where they are
-// refused.
-pub fn picks(q: &[u8], g: Signature, s: &[u8], n: usize, table: &mut [u64]) -> Answer
+// Reads picks over n elements, whose labels are spans of the site's text: how many, and the picks as bits of the table, which comes in
+// cleared and stays so where they are refused.
+pub fn picks(
+    q: &[u8],
+    g: Signature,
+    s: &[u8],
+    n: usize,
+    site: &[u8],
+    labels: &[usize],
+    table: &mut [u64],
+) -> Answer
     requires { ⌜ Sound (now q) g × (n ≤ 64) × PicksRoom g n (length (now table)) × (bit (now table) ≡ λ i. false) ⌝ }
-    ensures { λ r. ⌜ (r ≡ answered length (readPicks (chosenOf (now (q .entry)) g) (5 + g .rels) n (now (s .entry)))) × PicksIn g n (readPicks (chosenOf (now (q .entry)) g) (5 + g .rels) n (now (s .entry))) (bit (now (table .exit))) ⌝ }
+    requires { ⌜ ((ls : List Label) × LabelsAre (now site) (now labels) n ls) ⌝ }
+    ensures { λ r. ⌜ ((ls : List Label) → LabelsAre (now (site .entry)) (now (labels .entry)) n ls
+        → (r ≡ answered length (readPicks (chosenOf (now (q .entry)) g) (5 + g .rels) n ls (now (s .entry)))) × PicksIn g n (readPicks (chosenOf (now (q .entry)) g) (5 + g .rels) n ls (now (s .entry))) (bit (now (table .exit)))) ⌝ }
 {
-    let r = picks_lines(q, g, s, n, table);
+    let r = picks_lines(q, g, s, n, site, labels, table);
     match r {
         Answer::Done(k) => Answer::Done(k),
         Answer::Refused(k, place) => {
@@ -232,8 +345,9 @@ fn judge(x: Entry) -> Verdict
         Entry::Choose(_, _, _, _) => Verdict::Fault(3),
         Entry::Rule(_, _) => Verdict::Fault(3),
         Entry::Size(_) => Verdict::Fault(3),
-        Entry::Fact(_, _, _) => Verdict::Fault(3),
-        Entry::Pick(_, _, _) => Verdict::Fault(3),
+        Entry::Label(_, _, _, _) => Verdict::Fault(3),
+        Entry::Fact(_, _, _, _) => Verdict::Fault(3),
+        Entry::Pick(_, _, _, _) => Verdict::Fault(3),
         Entry::Step(k) => Verdict::Number(k),
     }
 }
@@ -300,11 +414,18 @@ fn refusal(q: question::Asked, fault: u32, place: usize) -> Opened
     }
 }
 
-// Reads the question, then the text of a site of at most `most` elements, whose facts go to the lent table, which comes in cleared and
-// has words enough for the size that the site's first line says.
-pub fn read_case(question: &[u8], text: &[u8], most: usize, facts: &mut [u64]) -> Opened
-    requires { ⌜ (most ≤ 64) × FactsRoom (now text) most (length (now facts)) × (bit (now facts) ≡ λ i. false) ⌝ }
-    ensures { λ r. ⌜ ((L : CaseLimits) → L .elements ≡ most → CaseRead (now (question .entry)) (readCase L (now (question .entry)) (now (text .entry))) r (bit (now (facts .exit)))) ⌝ }
+// Reads the question, then the text of a site of at most `most` elements, whose labels go to the lent numbers, which come in all 0, and
+// whose facts go to the lent table, which comes in cleared and has words enough for the size that the site's first line says.
+pub fn read_filed(
+    question: &[u8],
+    text: &[u8],
+    most: usize,
+    labels: &mut [usize],
+    facts: &mut [u64],
+) -> Opened
+    requires { ⌜ (most ≤ 64) × FactsRoom (now text) most (length (now facts)) × NoLabels (now labels) × (bit (now facts) ≡ λ i. false) ⌝ }
+    ensures { λ r. ⌜ ((L : CaseLimits) → L .elements ≡ most
+        → FiledRead (now (question .entry)) (now (text .entry)) (readFiled L (now (question .entry)) (now (text .entry))) r (now (labels .exit)) (bit (now (facts .exit)))) ⌝ }
 {
     let q = question::question(question);
     let fault = q.fault;
@@ -313,7 +434,7 @@ pub fn read_case(question: &[u8], text: &[u8], most: usize, facts: &mut [u64]) -
         return refusal(q, fault, place);
     }
     let sig = q.sig;
-    let s = site(question, sig, text, most, facts);
+    let s = site(question, sig, text, most, labels, facts);
     match s {
         Answer::Refused(k, place) => refusal(q, k, place),
         Answer::Done(n) => {
@@ -327,4 +448,13 @@ pub fn read_case(question: &[u8], text: &[u8], most: usize, facts: &mut [u64]) -
             }
         }
     }
+}
+
+// The same for a case whose labels nobody asks for.
+pub fn read_case(question: &[u8], text: &[u8], most: usize, facts: &mut [u64]) -> Opened
+    requires { ⌜ (most ≤ 64) × FactsRoom (now text) most (length (now facts)) × (bit (now facts) ≡ λ i. false) ⌝ }
+    ensures { λ r. ⌜ ((L : CaseLimits) → L .elements ≡ most → CaseRead (now (question .entry)) (readCase L (now (question .entry)) (now (text .entry))) r (bit (now (facts .exit)))) ⌝ }
+{
+    let mut labels = [0usize; LABELS];
+    read_filed(question, text, most, &mut labels, facts)
 }

@@ -14,6 +14,7 @@ use Rattle.definitions.specs.Atoms.{Problem, State, problemOf, initial, atoms, 
 use Rattle.definitions.specs.Strips.{run, runFrom}
 use Rattle.definitions.specs.Outcome.{readCase, asked, nothing, roomFor, stateLength, written, replyNumber, replyPlace}
 use Rattle.laws.specs.Asked
+use Rattle.laws.specs.Alone
 use Rattle.laws.specs.Words.{words-for, state-length}
 use Rattle.bits.specs.Table.{bit}
 use Rattle.ground.specs.Of.{Is}
@@ -57,7 +58,7 @@ module _ (L : CaseLimits) (question site old : List ℕ) (many : ℕ) (r : Front
     pub begun-over : r .m .over ≡ true → (b : Begun) → b ≡ record { number = 11; place = 0; words = 0; many = 0 } → Begins b old
     begun-over t =
         let (c, e, h) = its in
-        refused-with 11 0 (Asked.limits-refused L question site nothing nothing nothing rooms c e tt (Asked.untested c) (Asked.untested c) 11 0 (case-over L c _ _ (h .grounded) t))
+        refused-with 11 0 (Alone.limits-refused L question site nothing nothing nothing rooms c e tt (λ _. Asked.untested _) (Asked.untested c) 11 0 (case-over L c _ _ (h .grounded) t))
 
     module _ (f : r .m .over ≡ false) where
       abbrev k : ℕ
@@ -70,7 +71,7 @@ module _ (L : CaseLimits) (question site old : List ℕ) (many : ℕ) (r : Front
       begun-short l =
           let (c, e, h) = its in
           let short : rooms (problemOf c) ≡ refused 12 k = ap (λ (j : ℕ). roomFor j (length old)) (sym words-of) ∙ room-short k (length old) l in
-          refused-with 12 k (Asked.room-refused L question site nothing nothing nothing rooms c e tt (Asked.untested c) (Asked.untested c) (problemOf c) (grounds L c _ _ (h .grounded) f) (Asked.untested c) 12 k short)
+          refused-with 12 k (Alone.room-refused L question site nothing nothing nothing rooms c e tt (λ _. Asked.untested _) (Asked.untested c) (problemOf c) (grounds L c _ _ (h .grounded) f) (Asked.untested c) 12 k short)
 
       pub begun-atoms : r .m .atoms ≤ L .atoms
       begun-atoms = atoms-few L (its .0) _ _ (its .2 .grounded) f
@@ -94,7 +95,7 @@ module _ (L : CaseLimits) (question site old : List ℕ) (many : ℕ) (r : Front
           let lp : length part ≡ k = ap (λ (r : List ℕ). length r) its-words ∙ s ∙ sym q in
           let front : take k new ≡ part = ap₂ take (sym lp) n ∙ take-append-seam part (drop k old) in
           let there : k ≤ length new = let ln : length new ≡ length part + length (drop k old) = ap (λ (r : List ℕ). length r) n ∙ length-append part (drop k old) in omega (arith, ln, lp) in
-          rw (Asked.ready L question site nothing nothing nothing rooms c e tt (Asked.untested c) (Asked.untested c) p (grounds L c _ _ (h .grounded) f) (Asked.untested c) b) (record {
+          rw (Alone.ready L question site nothing nothing nothing rooms c e tt (λ _. Asked.untested _) (Asked.untested c) p (grounds L c _ _ (h .grounded) f) (Asked.untested c) b) (record {
             number = refl;
             no-place = refl;
             all = refl;

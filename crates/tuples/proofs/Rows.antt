@@ -13,7 +13,7 @@ use Rattle.definitions.specs.Lists.{all}
 use Rattle.definitions.specs.Atoms.{rowOf, placesOf}
 use Rattle.laws.specs.Booleans.{T-of}
 use Rattle.laws.specs.Rows as R
-use Rattle.records.specs.Entries.{listOf}
+use Rattle.records.specs.Entries.{codesOf}
 use Rattle.records.specs.declared.Places.{Places}
 use Rattle.records.specs.declared.Places.the-variants.{Unread, One, Two, Three}
 use Rattle.text.specs.declared.Found.{Found}
@@ -104,18 +104,18 @@ no-row = omega arith
 -- ---- the elements of a line
 
 module _ (n : ℕ) (p : Places) where
-  pub places-none : p ≡ Unread → InRow n (listOf p) (At 0)
-  unfolding listOf
+  pub places-none : p ≡ Unread → InRow n (codesOf p) (At 0)
+  unfolding codesOf
   places-none e = rw e (row-none n)
 
-  pub places-1 : (x : ℕ) (f : Found) → p ≡ One x → InRow n (x ∷ []) f → InRow n (listOf p) f
-  unfolding listOf
+  pub places-1 : (x : ℕ) (f : Found) → p ≡ One x → InRow n (x ∷ []) f → InRow n (codesOf p) f
+  unfolding codesOf
   places-1 x f e w = rw e w
 
-  pub places-2 : (x y : ℕ) (f : Found) → p ≡ Two x y → InRow n (x ∷ y ∷ []) f → InRow n (listOf p) f
-  unfolding listOf
+  pub places-2 : (x y : ℕ) (f : Found) → p ≡ Two x y → InRow n (x ∷ y ∷ []) f → InRow n (codesOf p) f
+  unfolding codesOf
   places-2 x y f e w = rw e w
 
-  pub places-3 : (x y z : ℕ) (f : Found) → p ≡ Three x y z → InRow n (x ∷ y ∷ z ∷ []) f → InRow n (listOf p) f
-  unfolding listOf
+  pub places-3 : (x y z : ℕ) (f : Found) → p ≡ Three x y z → InRow n (x ∷ y ∷ z ∷ []) f → InRow n (codesOf p) f
+  unfolding codesOf
   places-3 x y z f e w = rw e w

@@ -1,2 +1,3 @@
 -- Words of this crate's contracts.
+pub mod Labels
 pub mod Marks

@@ -9,7 +9,7 @@ use Rattle.definitions.specs.Lists.{all, any}
 use Rattle.definitions.specs.Refusal.{refused, accepted, _>>=_, refuseIf}
 use Rattle.definitions.specs.Relations.{Tuple, isAmong}
 use Rattle.definitions.specs.Atoms.{rowOf, wordsFor}
-use Rattle.definitions.specs.Sheets.{addTuple}
+use Rattle.definitions.specs.Sheets.{Element, Label, addTuple}
 use Rattle.bits.specs.Table.{bit}
 use Rattle.text.specs.declared.Found.{Found}
 use Rattle.text.specs.declared.Found.the-variants.{At, Nowhere}
@@ -66,24 +66,24 @@ AllValid g n lo m [] = Unit {0}
 AllValid g n lo m (t ∷ ts) = Valid g n lo m t × AllValid g n lo m ts
 
 -- a tuple of the text that stands at bit b: it is a valid one, and only a repeat refuses it
-pub record Stands (q : List ℕ) (g : Signature) (lo m n : ℕ) (name xs : List ℕ) (b : ℕ) : Type 0 where
+pub record Stands (q : List ℕ) (g : Signature) (lo m n : ℕ) (ls : List Label) (name : List ℕ) (es : List Element) (b : ℕ) : Type 0 where
   pub tuple : Tuple
   pub valid : Valid g n lo m tuple
   pub its-bit : bitOf g n lo tuple ≡ b
   pub small : b < 64 * firstWord g n lo m
-  pub adds : (ts : List Tuple) → (at : ℕ) → addTuple (relationsFrom q g lo m) (5 + lo) n ts at name xs ≡ (refuseIf (isAmong tuple ts) 10 at >>= λ _. accepted (ts ++ (tuple ∷ [])))
+  pub adds : (ts : List Tuple) → (at : ℕ) → addTuple (relationsFrom q g lo m) (5 + lo) n ls ts at name es ≡ (refuseIf (isAmong tuple ts) 10 at >>= λ _. accepted (ts ++ (tuple ∷ [])))
 
 -- where a tuple of the text stands, or that it is refused
-unfoldable pub Spotted : List ℕ → Signature → ℕ → ℕ → ℕ → List ℕ → List ℕ → Mark → Type 0
-Spotted q g lo m n name xs (Bit b) = Stands q g lo m n name xs b
-Spotted q g lo m n name xs (Fault k) = (1 ≤ k) × ((ts : List Tuple) → (at : ℕ) → addTuple (relationsFrom q g lo m) (5 + lo) n ts at name xs ≡ refused k at)
+unfoldable pub Spotted : List ℕ → Signature → ℕ → ℕ → ℕ → List Label → List ℕ → List Element → Mark → Type 0
+Spotted q g lo m n ls name es (Bit b) = Stands q g lo m n ls name es b
+Spotted q g lo m n ls name es (Fault k) = (1 ≤ k) × ((ts : List Tuple) → (at : ℕ) → addTuple (relationsFrom q g lo m) (5 + lo) n ls ts at name es ≡ refused k at)
 
 -- what adding a tuple gives, by the answer's number
-unfoldable pub Adds : List ℕ → Signature → ℕ → ℕ → ℕ → List ℕ → List ℕ → List Tuple → ℕ → List ℕ → ℕ → Type 0
-Adds q g lo m n name xs ts at new zero =
-    (t : Tuple) × (addTuple (relationsFrom q g lo m) (5 + lo) n ts at name xs ≡ accepted (ts ++ (t ∷ []))) × AllValid g n lo m (ts ++ (t ∷ [])) × (bit new ≡ marks (bitOf g n lo) (ts ++ (t ∷ [])))
-Adds q g lo m n name xs ts at new (suc k) = addTuple (relationsFrom q g lo m) (5 + lo) n ts at name xs ≡ refused (suc k) at
+unfoldable pub Adds : List ℕ → Signature → ℕ → ℕ → ℕ → List Label → List ℕ → List Element → List Tuple → ℕ → List ℕ → ℕ → Type 0
+Adds q g lo m n ls name es ts at new zero =
+    (t : Tuple) × (addTuple (relationsFrom q g lo m) (5 + lo) n ls ts at name es ≡ accepted (ts ++ (t ∷ []))) × AllValid g n lo m (ts ++ (t ∷ [])) × (bit new ≡ marks (bitOf g n lo) (ts ++ (t ∷ [])))
+Adds q g lo m n ls name es ts at new (suc k) = addTuple (relationsFrom q g lo m) (5 + lo) n ls ts at name es ≡ refused (suc k) at
 
 -- the same for any tuples so far that the table holds
-unfoldable pub Added : List ℕ → Signature → ℕ → ℕ → ℕ → List ℕ → List ℕ → List ℕ → List ℕ → ℕ → Type 0
-Added q g lo m n name xs old new r = (ts : List Tuple) → (at : ℕ) → AllValid g n lo m ts → bit old ≡ marks (bitOf g n lo) ts → Adds q g lo m n name xs ts at new r
+unfoldable pub Added : List ℕ → Signature → ℕ → ℕ → ℕ → List Label → List ℕ → List Element → List ℕ → List ℕ → ℕ → Type 0
+Added q g lo m n ls name es old new r = (ts : List Tuple) → (at : ℕ) → AllValid g n lo m ts → bit old ≡ marks (bitOf g n lo) ts → Adds q g lo m n ls name es ts at new r

@@ -3,7 +3,8 @@
 //!     bench [ROUNDS] [WORD]      all jobs, or those whose names have the word
 
 use peer::large::{
-    broken_deep, broken_path, deep, facts, last, long_text, padded, path, round, wide_facts, zones,
+    broken_deep, broken_path, deep, facts, last, long_text, named_facts, named_picks, padded, path,
+    round, wide_facts, zones,
 };
 use peer::limits::{STEPS, TEXT};
 use peer::sample::{needs, sound, Random, Sample};
@@ -144,6 +145,23 @@ fn jobs() -> Vec<Job> {
     ]
 }
 
+/// Texts full of labels, and the same texts with numbers.
+fn named_jobs() -> Vec<Job> {
+    let mut jobs = Vec::new();
+    for kilobytes in [16, 32, 64] {
+        let texts = [
+            ("facts", Work::Sizes, named_facts(kilobytes << 10)),
+            ("picks", Work::JudgeText, named_picks(kilobytes << 10, 64)),
+        ];
+        for (what, work, [named, numbered]) in texts {
+            let name = format!("{kilobytes} KB of {what} by label");
+            jobs.push(Job::new(&name, work, &named));
+            jobs.push(Job::new(&format!("{name}: the same by number"), work, &numbered));
+        }
+    }
+    jobs
+}
+
 /// What no case of 16 elements can be.
 fn wide_jobs() -> Vec<Job> {
     let cases = [
@@ -176,6 +194,10 @@ fn growing_jobs() -> Vec<(usize, Job)> {
             bytes,
             Job::new("bytes of facts, 64 elements", Work::Sizes, &wide_facts(bytes)),
         ));
+    }
+    for bytes in [16_384, 65_536, TEXT] {
+        let [named, _] = named_facts(bytes);
+        jobs.push((bytes, Job::new("bytes of facts by label", Work::Sizes, &named)));
     }
     for bytes in [16_384, 65_536, TEXT] {
         jobs.push((bytes, Job::new("bytes of step lines", Work::CheckText, &long_text(bytes))));
@@ -265,7 +287,8 @@ fn main() {
         "{:<56} {:>11} {:>11} {:>7}",
         "microseconds, least of all rounds", "peer", "ours", "ratio"
     );
-    for job in jobs().into_iter().chain(wide_jobs()).filter(|job| wanted(&job.name)) {
+    let all = jobs().into_iter().chain(named_jobs()).chain(wide_jobs());
+    for job in all.filter(|job| wanted(&job.name)) {
         let [peer, other] = job.time(rounds, &mut buffers);
         println!("{:<56} {peer:>11.1} {other:>11.1} {:>7.2}", job.name, other / peer);
     }

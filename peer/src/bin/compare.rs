@@ -2,13 +2,14 @@
 //!
 //!     compare [INPUTS] [SEED]
 
-use peer::sample::{damage, needs, sound, Random, Sample};
+use peer::naming::drawn;
+use peer::sample::{damage, needs, Random, Sample};
 use peer::trial::{argument, rooms, run, Call, Other, Outcome, Peer, Rooms, CALLS, LINKED};
 use peer::Reply;
 use std::process::ExitCode;
 
 /// How often each refusal number came up, success being 0.
-type Tally = [u64; 18];
+type Tally = [u64; 19];
 
 /// Differences that are shown in full.
 const SHOWN: u64 = 3;
@@ -50,7 +51,7 @@ fn main() -> ExitCode {
     for input in 0..inputs {
         // Each input has its own seed, so that one can be run again alone.
         let mut random = Random::new(seed << 32 | input);
-        let mut sample = sound(&mut random);
+        let mut sample = drawn(&mut random);
         for _ in 0..*random.choose(&[0, 0, 1, 1, 1, 2, 3]) {
             damage(&mut random, &mut sample);
         }

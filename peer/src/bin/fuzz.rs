@@ -3,7 +3,8 @@
 //!
 //!     fuzz [CALLS] [SEED]
 
-use peer::sample::{damage, needs, sound, Random, Sample};
+use peer::naming::drawn;
+use peer::sample::{damage, needs, Random, Sample};
 use peer::trial::{argument, rooms, run, Call, Other, Outcome, Peer, Rooms, CALLS, FILL, LINKED};
 use peer::Reply;
 use std::process::ExitCode;
@@ -13,7 +14,7 @@ const TURNS: u64 = 10;
 
 /// A sheet of bytes with no plan behind them.
 fn noise(random: &mut Random) -> Vec<u8> {
-    let alphabet = b"\t\t\n\n  (())??axyz019ABRT_relchoosrulsizefactpicksteporandnotforall";
+    let alphabet = b"\t\t\n\n  (())??axyz019ABRT_relchoosrulsizelabelfactpicksteporandnotforall";
     let plain = random.once_in(2);
     let length = random.below(200);
     let mut byte = || if plain { random.word() as u8 } else { *random.choose(alphabet) };
@@ -21,7 +22,7 @@ fn noise(random: &mut Random) -> Vec<u8> {
 }
 
 fn draw(random: &mut Random) -> Sample {
-    let mut sample = sound(random);
+    let mut sample = drawn(random);
     for _ in 0..random.below(4) {
         damage(random, &mut sample);
     }
@@ -80,12 +81,12 @@ fn kept(sample: &Sample, outcome: &Outcome, call: Call, needs: Option<Rooms>) ->
 fn known(outcome: &Outcome, call: Call) -> bool {
     let Reply::Refused(refusal) = outcome.reply else { return true };
     match call {
-        Call::Sizes => (1..=11).contains(&refusal.number),
-        Call::Action => matches!(refusal.number, 1..=11 | 13),
-        Call::Tries | Call::Allowances => (1..=12).contains(&refusal.number),
-        Call::BuildText | Call::Build => matches!(refusal.number, 1..=12 | 16 | 17),
-        Call::JudgeText | Call::Judge => matches!(refusal.number, 1..=12 | 16 | 17),
-        _ => (1..=15).contains(&refusal.number),
+        Call::Sizes => matches!(refusal.number, 1..=11 | 18),
+        Call::Action => matches!(refusal.number, 1..=11 | 13 | 18),
+        Call::Tries | Call::Allowances => matches!(refusal.number, 1..=12 | 18),
+        Call::BuildText | Call::Build => matches!(refusal.number, 1..=12 | 16..=18),
+        Call::JudgeText | Call::Judge => matches!(refusal.number, 1..=12 | 16..=18),
+        _ => matches!(refusal.number, 1..=15 | 18),
     }
 }
 

@@ -4,6 +4,7 @@
 //!                                    the built steps by no more
 //!     measures bench [ROUNDS]        the sizes and the allowances of 1,000 small cases
 
+use peer::naming::drawn;
 use peer::sample::{damage, needs, sound, Random, Sample};
 use peer::trial::{argument, Calls, Other, Peer, GUARD, LINKED};
 use peer::Reply;
@@ -47,7 +48,7 @@ fn compare(inputs: u64, seed: u64) -> ExitCode {
     let (mut differences, mut pairs) = (0, 0);
     for input in 0..inputs {
         let mut random = Random::new(seed << 32 | input);
-        let mut sample = sound(&mut random);
+        let mut sample = drawn(&mut random);
         for _ in 0..*random.choose(&[0, 0, 0, 1, 2]) {
             damage(&mut random, &mut sample);
         }

@@ -6,6 +6,7 @@
 
 use peer::large::facts;
 use peer::limits;
+use peer::naming::drawn;
 use peer::sample::{damage, needs, sound, Random, Sample};
 use peer::trial::{argument, numbers, Calls, Other, Peer, GUARD, LINKED};
 use peer::{Reply, Try};
@@ -67,7 +68,7 @@ fn compare(inputs: u64, seed: u64) -> ExitCode {
     let (mut differences, mut single) = (0, 0);
     for input in 0..inputs {
         let mut random = Random::new(seed << 32 | input);
-        let mut sample = sound(&mut random);
+        let mut sample = drawn(&mut random);
         for _ in 0..*random.choose(&[0, 0, 0, 1, 1, 2]) {
             damage(&mut random, &mut sample);
         }

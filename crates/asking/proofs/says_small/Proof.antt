@@ -37,10 +37,15 @@ returns-8 : tie.Need-returns-8
 unfolding saysSmall
 returns-8 c = sym (ap saysSmall (c .enum-told7 .given .1))
 
+returns-9 : tie.Need-returns-9
+unfolding saysSmall
+returns-9 c = sym (ap saysSmall (c .enum-told8 .given .1))
+
 pub says-small-spec : {M : Type 1} → statement M
 says-small-spec =
     tie.close
     (tie.spec
+    (λ c. search needs)
     (λ c. search needs)
     (λ c. search needs)
     (λ c. search needs)
@@ -56,4 +61,5 @@ says-small-spec =
     returns-5
     returns-6
     returns-7
-    returns-8)
+    returns-8
+    returns-9)

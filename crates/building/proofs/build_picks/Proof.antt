@@ -25,8 +25,8 @@ returns-2 : tie.Need-returns-2
 returns-2 c = record {
   fit = λ j. omega (arith, c .before .before .before .before .before .before .shared-slice-known3 .given j);
   builds = λ L few q site given x e h old F handed.
-      let is = tabled L x _ _ (h .grounded) (c .before .before .if1 .left) .is in
-      builds-picks L q site given _ _ x e _ _ _ h _ old F handed (c .before .before .if1 .left) _ (c .before .picks-length .ensures .1 (problemOf x) is) (c .if2 .taken);
+      let is = tabled L (x .case) _ _ (h .grounded) (c .before .before .if1 .left) .is in
+      builds-picks L q site given _ _ x e _ _ _ h _ old F handed (c .before .before .if1 .left) _ (c .before .picks-length .ensures .1 (problemOf (x .case)) is) (c .if2 .taken);
 }
 
 add-words : tie.Need-add-words
@@ -40,8 +40,8 @@ returns-3 c =
     record {
       fit = λ j. omega (arith, at-shared-slice-known3 .shared-slice-known3 .given j);
       builds = λ L few q site given x e h old F handed.
-          let is = tabled L x _ _ (h .grounded) (at-if1 .if1 .left) .is in
-          builds-state L q site given _ _ x e _ _ _ h _ old F handed (at-if1 .if1 .left) _ (at-picks-length .picks-length .ensures .1 (problemOf x) is) (omega arith) (c .if3 .taken);
+          let is = tabled L (x .case) _ _ (h .grounded) (at-if1 .if1 .left) .is in
+          builds-state L q site given _ _ x e _ _ _ h _ old F handed (at-if1 .if1 .left) _ (at-picks-length .picks-length .ensures .1 (problemOf (x .case)) is) (omega arith) (c .if3 .taken);
     }
 
 returns-4 : tie.Need-returns-4
@@ -52,8 +52,8 @@ returns-4 c =
     record {
       fit = λ j. omega (arith, at-shared-slice-known3 .shared-slice-known3 .given j);
       builds = λ L few q site given x e h old F handed.
-          let is = tabled L x _ _ (h .grounded) (at-if1 .if1 .left) .is in
-          builds-steps L q site given _ _ x e _ _ _ h _ old F handed (at-if1 .if1 .left) _ (at-picks-length .picks-length .ensures .1 (problemOf x) is) (omega arith) (omega arith) (c .if4 .taken);
+          let is = tabled L (x .case) _ _ (h .grounded) (at-if1 .if1 .left) .is in
+          builds-steps L q site given _ _ x e _ _ _ h _ old F handed (at-if1 .if1 .left) _ (at-picks-length .picks-length .ensures .1 (problemOf (x .case)) is) (omega arith) (omega arith) (c .if4 .taken);
     }
 
 spare-word-requires : tie.Need-spare-word-requires
@@ -81,8 +81,8 @@ returns-5 c =
     record {
       fit = λ j. omega (arith, at-shared-slice-known3 .shared-slice-known3 .given j);
       builds = λ L few q site given x e h old F handed.
-          let is = tabled L x _ _ (h .grounded) (at-if1 .if1 .left) .is in
-          builds-spare L q site given _ _ x e _ _ _ h _ old F handed (at-if1 .if1 .left) _ (at-picks-length .picks-length .ensures .1 (problemOf x) is) (omega arith) (omega arith) (omega arith) _ (at-spare-word .spare-word .ensures (problemOf x) is) _ (c .before .s .given .1);
+          let is = tabled L (x .case) _ _ (h .grounded) (at-if1 .if1 .left) .is in
+          builds-spare L q site given _ _ x e _ _ _ h _ old F handed (at-if1 .if1 .left) _ (at-picks-length .picks-length .ensures .1 (problemOf (x .case)) is) (omega arith) (omega arith) (omega arith) _ (at-spare-word .spare-word .ensures (problemOf (x .case)) is) _ (c .before .s .given .1);
     }
 
 returns-6 : tie.Need-returns-6
@@ -96,9 +96,9 @@ returns-6 c =
     record {
       fit = λ j. omega (arith, at-shared-slice-known3 .shared-slice-known3 .given j);
       builds = λ L few q site given x e h old F handed.
-          let is = tabled L x _ _ (h .grounded) (at-if1 .if1 .left) .is in
-          builds-built L q site given _ _ x e _ _ _ h _ old F handed (at-if1 .if1 .left) _ (at-picks-length .picks-length .ensures .1 (problemOf x) is) (omega arith) (omega arith) (omega arith) _
-          (at-spare-word .spare-word .ensures (problemOf x) is) (at-enum-told .enum-told .given .1) few _ _ _ (at-start-and-build .start-and-build .ensures x F) _ (c .reply-of .ensures);
+          let is = tabled L (x .case) _ _ (h .grounded) (at-if1 .if1 .left) .is in
+          builds-built L q site given _ _ x e _ _ _ h _ old F handed (at-if1 .if1 .left) _ (at-picks-length .picks-length .ensures .1 (problemOf (x .case)) is) (omega (arith, c .before .before .before .before .before .before .before .before .before .before .before .before .before .before .before .if2 .left)) (omega (arith, c .before .before .before .before .before .before .before .before .before .before .before .before .before .if3 .left)) (omega (arith, c .before .before .before .before .before .before .before .before .before .before .before .before .if4 .left)) _
+          (at-spare-word .spare-word .ensures (problemOf (x .case)) is) (at-enum-told .enum-told .given .1) few _ _ _ (at-start-and-build .start-and-build .ensures (x .case) F) _ (c .reply-of .ensures);
     }
 
 pub build-picks-spec : {M : Type 1} → statement M

@@ -7,28 +7,30 @@ use Rattle.desk.proofs.report.Tie as tie
 
 head-requires : tie.Need-head-requires
 head-requires c κs =
-    let s = c .before .before .before .before .before .before .before .before in
+    let s = c .before .before .before .before .before .before .before .before .before .before in
     let R = s .pre .0 in
-    (R .sound, R .some-elements, R .few-elements, R .words-fit, omega (arith, head-fits _ _ _ (s .args .words .now) _ R))
+    (R .sound, R .spans, R .some-elements, R .few-elements, R .words-fit, omega (arith, head-fits _ _ _ _ (s .args .words .now) _ R))
 
 step-lines-requires : tie.Need-step-lines-requires
 step-lines-requires c κs =
-    let s = c .before .before .before .before .before .before .before .before .before .before .before .before in
-    let x = c .before .before .before .before .before .before .before .before in
-    (omega arith, steps-room _ _ _ _ _ (s .pre .0) (λ j. omega (arith, x .shared-slice-known3 .given j)) _ _ _ (s .pre .1) (c .before .before .before .head .ensures))
+    let s = c .before .before .before .before .before .before .before .before .before .before .before .before .before .before in
+    let w = c .before .before .before .before .before .before .before .before .shared-slice-known5 in
+    (omega arith, steps-room _ _ _ _ _ _ (s .pre .0) (λ j. omega (arith, w .given j)) _ _ _ (s .pre .1) (c .before .before .before .head .ensures))
 
 ok-line-requires : tie.Need-ok-line-requires
 ok-line-requires c κs =
-    let s = c .before .before .before .before .before .before .before .before .before .before .before .before .before .before .before .before in
-    let x = c .before .before .before .before .before .before .before .before .before .before .before .before in
-    count-room _ _ _ _ _ (s .pre .0) (λ j. omega (arith, x .shared-slice-known3 .given j)) _ _ _ (s .pre .1) (c .before .before .before .before .before .before .before .head .ensures) _ _ (c .before .before .before .step-lines .ensures) _
+    let s = c .before .before .before .before .before .before .before .before .before .before .before .before .before .before .before .before .before .before in
+    let w = c .before .before .before .before .before .before .before .before .before .before .before .before .shared-slice-known5 in
+    let x = c .before .before .before .before .before .before .before .head .ensures in
+    count-room _ _ _ _ _ _ (s .pre .0) (λ j. omega (arith, w .given j)) _ _ _ (s .pre .1) x _ _ (c .before .before .before .step-lines .ensures) _
 
 returns : tie.Need-returns
 returns c =
-    let s = c .before .before .before .before .before .before .before .before .before .before .before .before .before .before .before .before .before .before .before in
-    let x = c .before .before .before .before .before .before .before .before .before .before .before .before .before .before .before in
-    let y = c .before .before .before .before .before .before in
-    reported _ _ _ _ _ (s .pre .0) (λ j. omega (arith, x .shared-slice-known3 .given j)) _ _ _ (s .pre .1) (y .before .before .before .before .head .ensures) _ _ (y .step-lines .ensures) _ _ (c .before .before .ok-line .ensures)
+    let s = c .before .before .before .before .before .before .before .before .before .before .before .before .before .before .before .before .before .before .before .before .before in
+    let w = c .before .before .before .before .before .before .before .before .before .before .before .before .before .before .before .shared-slice-known5 in
+    let x = c .before .before .before .before .before .before .before .before .before .before .head .ensures in
+    let y = c .before .before .before .before .before .before .step-lines .ensures in
+    reported _ _ _ _ _ _ (s .pre .0) (λ j. omega (arith, w .given j)) _ _ _ (s .pre .1) x _ _ y _ _ (c .before .before .ok-line .ensures)
 
 pub report-spec : {M : Type 1} → statement M
 report-spec =

@@ -22,8 +22,8 @@ returns : tie.Need-returns
 returns c = record {
   fit = λ j. omega (arith, c .before .before .before .before .before .before .shared-slice-known3 .given j);
   judges = λ site picks x read h A given F handed.
-      let i = inputs _ _ x _ h _ _ (c .before .before .before .relations-of .ensures .1) (c .before .before .nodes-of .ensures) in
-      ends-over usual _ site picks x read _ given F handed _ (c .before .lay-out .ensures (problemOf x) i) (c .if1 .taken);
+      let i = inputs _ _ (x .case) _ h _ _ (c .before .before .before .relations-of .ensures .1) (c .before .before .nodes-of .ensures) in
+      ends-over usual _ site picks x read _ given F handed _ (c .before .lay-out .ensures (problemOf (x .case)) i) (c .if1 .taken);
 }
 
 fill-requires : tie.Need-fill-requires
@@ -46,10 +46,10 @@ returns-2 c =
     record {
       fit = λ j. omega (arith, at-shared-slice-known3 .shared-slice-known3 .given j);
       judges = λ site picks x read h A given F handed.
-          let i = inputs _ _ x _ h _ _ (at-relations-of .relations-of .ensures .1) (at-nodes-of .nodes-of .ensures) in
-          let l = at-lay-out .lay-out .ensures (problemOf x) i in
-          let is = at-fill .fill .ensures .1 (problemOf x) _ (some-relations x) i (l .starts) in
-          let q = c .before .picks-length .ensures .1 (bare (problemOf x)) is ∙ length-same (problemOf x) in
+          let i = inputs _ _ (x .case) _ h _ _ (at-relations-of .relations-of .ensures .1) (at-nodes-of .nodes-of .ensures) in
+          let l = at-lay-out .lay-out .ensures (problemOf (x .case)) i in
+          let is = at-fill .fill .ensures .1 (problemOf (x .case)) _ (some-relations (x .case)) i (l .starts) in
+          let q = c .before .picks-length .ensures .1 (bare (problemOf (x .case))) is ∙ length-same (problemOf (x .case)) in
           ends-short usual _ site picks x read _ given F handed _ l (at-if1 .if1 .left) _ q (c .if2 .taken);
     }
 
@@ -77,11 +77,11 @@ returns-3 c =
     record {
       fit = λ j. omega (arith, at-shared-slice-known3 .shared-slice-known3 .given j);
       judges = λ site picks x read h A given F handed.
-          let i = inputs _ _ x _ h _ _ (at-relations-of .relations-of .ensures .1) (at-nodes-of .nodes-of .ensures) in
-          let l = at-lay-out .lay-out .ensures (problemOf x) i in
-          let is = at-fill .fill .ensures .1 (problemOf x) _ (some-relations x) i (l .starts) in
-          let q = at-picks-length .picks-length .ensures .1 (bare (problemOf x)) is ∙ length-same (problemOf x) in
-          let e = at-spare-word .spare-word .ensures (bare (problemOf x)) is ∙ spare-same (problemOf x) _ in
+          let i = inputs _ _ (x .case) _ h _ _ (at-relations-of .relations-of .ensures .1) (at-nodes-of .nodes-of .ensures) in
+          let l = at-lay-out .lay-out .ensures (problemOf (x .case)) i in
+          let is = at-fill .fill .ensures .1 (problemOf (x .case)) _ (some-relations (x .case)) i (l .starts) in
+          let q = at-picks-length .picks-length .ensures .1 (bare (problemOf (x .case))) is ∙ length-same (problemOf (x .case)) in
+          let e = at-spare-word .spare-word .ensures (bare (problemOf (x .case))) is ∙ spare-same (problemOf (x .case)) _ in
           ends-spare usual _ site picks x read _ given F handed _ l (at-if1 .if1 .left) _ q (omega (arith, at-if2 .if2 .left)) _ e _ (c .before .s .given .1);
     }
 
@@ -100,13 +100,13 @@ returns-4 c =
     record {
       fit = λ j. omega (arith, at-shared-slice-known3 .shared-slice-known3 .given j);
       judges = λ site picks x read h A given F handed.
-          let i = inputs _ _ x _ h _ _ (at-relations-of .relations-of .ensures .1) (at-nodes-of .nodes-of .ensures) in
-          let l = at-lay-out .lay-out .ensures (problemOf x) i in
-          let is = at-fill .fill .ensures .1 (problemOf x) _ (some-relations x) i (l .starts) in
-          let q = at-picks-length .picks-length .ensures .1 (bare (problemOf x)) is ∙ length-same (problemOf x) in
-          let e = at-spare-word .spare-word .ensures (bare (problemOf x)) is ∙ spare-same (problemOf x) _ in
+          let i = inputs _ _ (x .case) _ h _ _ (at-relations-of .relations-of .ensures .1) (at-nodes-of .nodes-of .ensures) in
+          let l = at-lay-out .lay-out .ensures (problemOf (x .case)) i in
+          let is = at-fill .fill .ensures .1 (problemOf (x .case)) _ (some-relations (x .case)) i (l .starts) in
+          let q = at-picks-length .picks-length .ensures .1 (bare (problemOf (x .case))) is ∙ length-same (problemOf (x .case)) in
+          let e = at-spare-word .spare-word .ensures (bare (problemOf (x .case))) is ∙ spare-same (problemOf (x .case)) _ in
           let asks = asks-of usual _ site picks x read _ given F handed _ l (at-if1 .if1 .left) _ q (omega (arith, at-if2 .if2 .left)) _ e (at-enum-told .enum-told .given .1) _ _ h A _ _ _ _ i is in
-          ends-judged usual _ site picks x read _ given F handed _ l (at-if1 .if1 .left) _ q (omega (arith, at-if2 .if2 .left)) _ e (at-enum-told .enum-told .given .1) _ (c .decide .ensures x F asks);
+          ends-judged usual _ site picks x read _ given F handed _ l (at-if1 .if1 .left) _ q (omega (arith, at-if2 .if2 .left)) _ e (at-enum-told .enum-told .given .1) _ (c .decide .ensures (x .case) F asks);
     }
 
 pub judge-case-spec : {M : Type 1} → statement M

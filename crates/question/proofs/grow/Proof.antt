@@ -38,6 +38,10 @@ returns-8 : tie.Need-returns-8
 unfolding grownBy
 returns-8 c = sym (ap (grownBy (c .before .before .args .g)) (c .enum-told6 .given .1))
 
+returns-9 : tie.Need-returns-9
+unfolding grownBy
+returns-9 c = sym (ap (grownBy (c .before .before .args .g)) (c .enum-told7 .given .1))
+
 pub grow-spec : {M : Type 1} → statement M
 grow-spec =
     tie.close
@@ -57,6 +61,7 @@ grow-spec =
     (λ c. search needs)
     (λ c. search needs)
     (λ c. search needs)
+    (λ c. search needs)
     returns
     returns-2
     returns-3
@@ -64,4 +69,5 @@ grow-spec =
     returns-5
     returns-6
     returns-7
-    returns-8)
+    returns-8
+    returns-9)

@@ -3,7 +3,7 @@ use Prim.Native.Nat.{_-_}
 use mathlib.Core.Path.{refl, sym, _∙_}
 use native.Mathlib.Omega.{arith}
 use borrow.Author.Needs.{needs}
-use Rattle.question.proofs.Judging.{in-rel, in-choose, judge-wrong, rel-late, rel-many, rel-new, rel-old, choose-many, choose-new, choose-old, rule-early, rule-now, judge-size, judge-fact, judge-pick, judge-step}
+use Rattle.question.proofs.Judging.{in-rel, in-choose, judge-wrong, rel-late, rel-many, rel-new, rel-old, choose-many, choose-new, choose-old, rule-early, rule-now, judge-size, judge-label, judge-fact, judge-pick, judge-step}
 use Rattle.question.proofs.judge.Statement.{statement}
 use Rattle.question.proofs.judge.Tie as tie
 
@@ -80,13 +80,16 @@ returns-11 : tie.Need-returns-11
 returns-11 c = judge-size (c .before .before .before .args .s .now) (c .before .before .before .args .g) (c .before .before .before .args .x) _ (c .enum-told3 .given .1)
 
 returns-12 : tie.Need-returns-12
-returns-12 c = judge-fact (c .before .before .before .args .s .now) (c .before .before .before .args .g) (c .before .before .before .args .x) _ _ _ (c .enum-told4 .given .1)
+returns-12 c = judge-label (c .before .before .before .args .s .now) (c .before .before .before .args .g) (c .before .before .before .args .x) _ _ _ _ (c .enum-told4 .given .1)
 
 returns-13 : tie.Need-returns-13
-returns-13 c = judge-pick (c .before .before .before .args .s .now) (c .before .before .before .args .g) (c .before .before .before .args .x) _ _ _ (c .enum-told5 .given .1)
+returns-13 c = judge-fact (c .before .before .before .args .s .now) (c .before .before .before .args .g) (c .before .before .before .args .x) _ _ _ _ (c .enum-told5 .given .1)
 
 returns-14 : tie.Need-returns-14
-returns-14 c = judge-step (c .before .before .before .args .s .now) (c .before .before .before .args .g) (c .before .before .before .args .x) _ (c .enum-told6 .given .1)
+returns-14 c = judge-pick (c .before .before .before .args .s .now) (c .before .before .before .args .g) (c .before .before .before .args .x) _ _ _ _ (c .enum-told6 .given .1)
+
+returns-15 : tie.Need-returns-15
+returns-15 c = judge-step (c .before .before .before .args .s .now) (c .before .before .before .args .g) (c .before .before .before .args .x) _ (c .enum-told7 .given .1)
 
 pub judge-spec : {M : Type 1} → statement M
 judge-spec =
@@ -110,6 +113,7 @@ judge-spec =
     (λ c. search needs)
     (λ c. search needs)
     (λ c. search needs)
+    (λ c. search needs)
     returns-7
     returns-8
     returns-9
@@ -117,4 +121,5 @@ judge-spec =
     returns-11
     returns-12
     returns-13
-    returns-14)
+    returns-14
+    returns-15)

@@ -37,10 +37,15 @@ returns-8 : tie.Need-returns-8
 unfolding spanIn
 returns-8 c = sym (ap spanIn (c .enum-told7 .given .1))
 
+returns-9 : tie.Need-returns-9
+unfolding spanIn
+returns-9 c = sym (ap spanIn (c .enum-told8 .given .1))
+
 pub rule-span-spec : {M : Type 1} → statement M
 rule-span-spec =
     tie.close
     (tie.spec
+    (λ c. search needs)
     (λ c. search needs)
     (λ c. search needs)
     (λ c. search needs)
@@ -56,4 +61,5 @@ rule-span-spec =
     returns-5
     returns-6
     returns-7
-    returns-8)
+    returns-8
+    returns-9)

@@ -1,10 +1,10 @@
 -- `readers_main::read_site` meets its contract. A question's signature is sound, and a table of zeros is cleared and large enough.
 use native.Mathlib.Omega.{arith}
-use borrow.Author.Needs.{needs}
-use Rattle.question.proofs.Ending.{question-sound}
 use native.Mathlib.Nat.{pow-le-pow-left}
+use borrow.Author.Needs.{needs}
 use Rattle.definitions.specs.Atoms.{wordsFor}
-use Rattle.sheets.proofs.Loops.{zeros-clear}
+use Rattle.question.proofs.Ending.{question-sound}
+use Rattle.sheets.proofs.Loops.{no-label-words, zeros-clear}
 use Rattle.sheets.proofs.Turns.{facts-room}
 use Rattle.readers_main.proofs.read_site.Statement.{statement}
 use Rattle.readers_main.proofs.read_site.Tie as tie
@@ -12,14 +12,15 @@ use Rattle.readers_main.proofs.read_site.Tie as tie
 site-requires : tie.Need-site-requires
 unfolding wordsFor
 site-requires c κs =
-    let sound = question-sound _ _ (c .before .before .before .question .ensures) in
-    (sound, omega arith, λ k next r l. let e = pow-le-pow-left l 3 in facts-room _ _ sound k 32768 (omega (arith, e)), zeros-clear 32768)
+    let sound = question-sound _ _ (c .before .before .before .before .question .ensures) in
+    (sound, omega arith, λ k next r l. let e = pow-le-pow-left l 3 in facts-room _ _ sound k 32768 (omega (arith, e)), no-label-words, zeros-clear 32768)
 
 pub read-site-spec : {M : Type 1} → statement M
 read-site-spec =
     tie.close
     (tie.spec
     (λ c κs. search needs)
+    (λ c. search needs)
     (λ c. search needs)
     site-requires
     (λ c. search needs)

@@ -2,40 +2,41 @@
 use Prim.Native.Nat.{_-_, _≤_}
 use native.Mathlib.Omega.{arith}
 use Rattle.printing.specs.Printed.{Left, begin, recut, room-for, next as then, finished, left-length}
+use Rattle.printing.specs.Lines.{saidBy}
 use Rattle.reporting.specs.Report.{picksAt, picks, textsFrom, picks-all, next-text, no-text}
 use Rattle.reporting.proofs.picks.Statement.{statement}
 use Rattle.reporting.proofs.picks.Tie as tie
 
 abbrev Inv-loop : tie.InvT-loop
-Inv-loop out₀ at q g n words m j₀ next₀ out j next = (j ≤ g .chosen) × Left (picks q g n words) out₀ at (textsFrom (picksAt q g n words) j (g .chosen)) out next
+Inv-loop out₀ at q site labels g n words m j₀ next₀ out j next = (j ≤ g .chosen) × Left (picks (saidBy site labels) q g n words) out₀ at (textsFrom (picksAt (saidBy site labels) q g n words) j (g .chosen)) out next
 
 abbrev μ-loop : tie.MeasureT-loop
-μ-loop out₀ at q g n words m j₀ next₀ out j next = g .chosen - j
+μ-loop out₀ at q site labels g n words m j₀ next₀ out j next = g .chosen - j
 
 loop-holds : tie.Need-loop-holds Inv-loop μ-loop
-loop-holds c = let a = c .before .before .before .args in (omega arith, begin _ (picks-all (a .q .now) (a .g) (a .n) (a .words .now)) (c .before .before .before .pre .4))
+loop-holds c = let a = c .before .before .before .before .before .args in (omega arith, begin _ (picks-all (saidBy (a .site .now) (a .labels .now)) (a .q .now) (a .g) (a .n) (a .words .now)) (c .before .before .before .before .before .pre .5))
 
 picked-requires : tie.Need-picked-requires Inv-loop μ-loop
 picked-requires c κs =
-    let a = c .before .before .before .before .before .before .args in
-    let p = c .before .before .before .before .before .before .pre in
-    (p .0, p .1, p .2, omega arith, p .3, room-for (picksAt (a .q .now) (a .g) (a .n) (a .words .now) (c .before .before .loop .j)) _ (recut (next-text (picksAt (a .q .now) (a .g) (a .n) (a .words .now)) (c .before .before .loop .j) (a .g .chosen) (omega arith)) (c .before .before .loop .inv .1)))
+    let a = c .before .before .before .before .before .before .before .before .args in
+    let p = c .before .before .before .before .before .before .before .before .pre in
+    (p .0, p .1, p .2, p .3, omega arith, p .4, room-for (picksAt (saidBy (a .site .now) (a .labels .now)) (a .q .now) (a .g) (a .n) (a .words .now) (c .before .before .loop .j)) _ (recut (next-text (picksAt (saidBy (a .site .now) (a .labels .now)) (a .q .now) (a .g) (a .n) (a .words .now)) (c .before .before .loop .j) (a .g .chosen) (omega arith)) (c .before .before .loop .inv .1)))
 
 add-j : tie.Need-add-j Inv-loop μ-loop
-add-j c = omega (arith, c .before .before .before .before .before .before .before .before .before .pre .0 .chosen-le)
+add-j c = omega (arith, c .before .before .before .before .before .before .before .before .before .before .before .pre .0 .chosen-le)
 
 loop-again : tie.Need-loop-again Inv-loop μ-loop
 loop-again c =
-    let a = c .before .before .before .before .before .before .before .before .before .args in
-    (omega arith, then (picksAt (a .q .now) (a .g) (a .n) (a .words .now) (c .before .before .before .before .before .loop .j)) _ (recut (next-text (picksAt (a .q .now) (a .g) (a .n) (a .words .now)) (c .before .before .before .before .before .loop .j) (a .g .chosen) (omega arith)) (c .before .before .before .before .before .loop .inv .1)) (c .before .before .picked .ensures))
+    let a = c .before .before .before .before .before .before .before .before .before .before .before .args in
+    (omega arith, then (picksAt (saidBy (a .site .now) (a .labels .now)) (a .q .now) (a .g) (a .n) (a .words .now) (c .before .before .before .before .before .loop .j)) _ (recut (next-text (picksAt (saidBy (a .site .now) (a .labels .now)) (a .q .now) (a .g) (a .n) (a .words .now)) (c .before .before .before .before .before .loop .j) (a .g .chosen) (omega arith)) (c .before .before .before .before .before .loop .inv .1)) (c .before .before .picked .ensures))
 
 same-length : tie.Need-same-length Inv-loop μ-loop
 same-length c = left-length (c .before .loop .inv .1)
 
 returns : tie.Need-returns Inv-loop μ-loop
 returns c =
-    let a = c .before .before .before .before .before .args in
-    finished (recut (no-text (picksAt (a .q .now) (a .g) (a .n) (a .words .now)) (c .before .loop .j) (a .g .chosen) (omega arith)) (c .before .loop .inv .1))
+    let a = c .before .before .before .before .before .before .before .args in
+    finished (recut (no-text (picksAt (saidBy (a .site .now) (a .labels .now)) (a .q .now) (a .g) (a .n) (a .words .now)) (c .before .loop .j) (a .g .chosen) (omega arith)) (c .before .loop .inv .1))
 
 pub picks-spec : {M : Type 1} → statement M
 picks-spec =

@@ -1,6 +1,7 @@
 -- `reporting::row_line` meets its contract.
 use mathlib.Core.Path.{sym, _∙_}
 use Rattle.printing.specs.Printed.{begin, finish, finished}
+use Rattle.printing.specs.Lines.{saidBy}
 use Rattle.reporting.specs.Report.{row-set, row-clear}
 use borrow.Author.Needs.{needs}
 use Rattle.reporting.proofs.row_line.Statement.{statement}
@@ -8,18 +9,18 @@ use Rattle.reporting.proofs.row_line.Tie as tie
 
 pick-line-requires : tie.Need-pick-line-requires
 pick-line-requires c κs =
-    let a = c .before .before .before .before .before .before .args in
-    (c .before .before .before .before .before .before .pre .0, c .before .before .before .before .before .before .pre .1, begin (a .out .now) (row-set (a .words .now) (a .first) (a .name .now) (a .n) (a .arity) (a .row) (sym (c .before .before .get .ensures) ∙ c .before .if1 .taken)) (c .before .before .before .before .before .before .pre .4) .room)
+    let a = c .before .before .before .before .before .before .before .before .args in
+    (c .before .before .before .before .before .before .before .before .pre .0, c .before .before .before .before .before .before .before .before .pre .1, c .before .before .before .before .before .before .before .before .pre .2, begin (a .out .now) (row-set (saidBy (a .site .now) (a .labels .now)) (a .words .now) (a .first) (a .name .now) (a .n) (a .arity) (a .row) (sym (c .before .before .get .ensures) ∙ c .before .if1 .taken)) (c .before .before .before .before .before .before .before .before .pre .5) .room)
 
 returns : tie.Need-returns
 returns c =
-    let a = c .before .before .before .before .before .before .before .before .before .args in
-    finish _ (begin (a .out .now) (row-set (a .words .now) (a .first) (a .name .now) (a .n) (a .arity) (a .row) (sym (c .before .before .before .before .before .get .ensures) ∙ c .before .before .before .before .if1 .taken)) (c .before .before .before .before .before .before .before .before .before .pre .4)) (c .before .before .pick-line .ensures)
+    let a = c .before .before .before .before .before .before .before .before .before .before .before .args in
+    finish _ (begin (a .out .now) (row-set (saidBy (a .site .now) (a .labels .now)) (a .words .now) (a .first) (a .name .now) (a .n) (a .arity) (a .row) (sym (c .before .before .before .before .before .get .ensures) ∙ c .before .before .before .before .if1 .taken)) (c .before .before .before .before .before .before .before .before .before .before .before .pre .5)) (c .before .before .pick-line .ensures)
 
 returns-2 : tie.Need-returns-2
 returns-2 c =
-    let a = c .before .before .before .before .before .args in
-    finished (begin (a .out .now) (row-clear (a .words .now) (a .first) (a .name .now) (a .n) (a .arity) (a .row) (sym (c .before .get .ensures) ∙ c .if1 .left)) (c .before .before .before .before .before .pre .4))
+    let a = c .before .before .before .before .before .before .before .args in
+    finished (begin (a .out .now) (row-clear (saidBy (a .site .now) (a .labels .now)) (a .words .now) (a .first) (a .name .now) (a .n) (a .arity) (a .row) (sym (c .before .get .ensures) ∙ c .if1 .left)) (c .before .before .before .before .before .before .before .pre .5))
 
 pub row-line-spec : {M : Type 1} → statement M
 row-line-spec =

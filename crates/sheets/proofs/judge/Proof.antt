@@ -35,12 +35,17 @@ returns-7 c = sym (ap verdictOf (c .enum-told7 .given .1))
 
 returns-8 : tie.Need-returns-8
 unfolding verdictOf
-returns-8 c = sym (ap verdictOf (c .before .x .given .1))
+returns-8 c = sym (ap verdictOf (c .enum-told8 .given .1))
+
+returns-9 : tie.Need-returns-9
+unfolding verdictOf
+returns-9 c = sym (ap verdictOf (c .before .x .given .1))
 
 pub judge-spec : {M : Type 1} → statement M
 judge-spec =
     tie.close
     (tie.spec
+    (λ c. search needs)
     (λ c. search needs)
     (λ c. search needs)
     (λ c. search needs)
@@ -56,4 +61,5 @@ judge-spec =
     returns-5
     returns-6
     returns-7
-    returns-8)
+    returns-8
+    returns-9)

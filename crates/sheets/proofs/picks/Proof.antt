@@ -5,10 +5,10 @@ use Rattle.sheets.proofs.picks.Statement.{statement}
 use Rattle.sheets.proofs.picks.Tie as tie
 
 returns : tie.Need-returns
-returns c = picks-kept _ _ _ _ _ _ (c .before .r .given .1) (c .before .before .before .before .before .picks-lines .ensures)
+returns c = λ ls K. picks-kept _ _ _ _ _ _ (c .before .r .given .1) (c .before .before .before .before .before .picks-lines .ensures ls K)
 
 returns-2 : tie.Need-returns-2
-returns-2 c = picks-cleared _ _ _ _ _ _ _ _ (c .before .before .before .before .before .r2 .given .1) (c .before .before .before .before .before .before .before .before .before .picks-lines .ensures) (all-cleared _ _ (c .before .before .fill .ensures .1))
+returns-2 c = λ ls K. picks-cleared _ _ _ _ _ _ _ _ (c .before .before .before .before .before .r2 .given .1) (c .before .before .before .before .before .before .before .before .before .picks-lines .ensures ls K) (all-cleared _ _ (c .before .before .fill .ensures .1))
 
 pub picks-spec : {M : Type 1} → statement M
 picks-spec =

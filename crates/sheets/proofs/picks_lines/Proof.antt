@@ -1,9 +1,12 @@
 -- `sheets::picks_lines` meets its contract. The lines up to `at` gave the k picks in the table, so reading the text is reading the rest from there.
 use Prim.Native.Nat.{ℕ, _-_, _≤_}
 use mathlib.Core.Path.{_≡_, refl, sym, subst}
+use mathlib.Core.List.{List}
 use native.Mathlib.Omega.{arith}
 use lib.ListN.{length}
 use borrow.Author.Needs.{needs}
+use Rattle.definitions.specs.Sheets.{Label}
+use Rattle.tuples.specs.Labels.{LabelsAre}
 use Rattle.tuples.specs.Marks.{Roomy}
 use Rattle.sheets.proofs.Loops.{PicksAt, picks-long, picks-start, picks-next, picks-fault, picks-done}
 use Rattle.sheets.proofs.Turns.{sound-arrays}
@@ -11,43 +14,46 @@ use Rattle.sheets.proofs.picks_lines.Statement.{statement}
 use Rattle.sheets.proofs.picks_lines.Tie as tie
 
 abbrev Inv-loop : tie.InvT-loop
-Inv-loop q g s n table₀ end from to arity at₀ k₀ table at k = (at ≤ length s) × (k ≤ at) × (length table ≡ length table₀) × PicksAt q g n s at k table
+Inv-loop q g s n site labels table₀ end from to arity at₀ k₀ table at k = (at ≤ length s) × (k ≤ at) × (length table ≡ length table₀) × ((ls : List Label) → LabelsAre site labels n ls → PicksAt q g n ls s at k table)
 
 abbrev μ-loop : tie.MeasureT-loop
-μ-loop q g s n table₀ end from to arity at₀ k₀ table at k = end - at
+μ-loop q g s n site labels table₀ end from to arity at₀ k₀ table at k = end - at
 
 returns : tie.Need-returns Inv-loop μ-loop
-returns c = picks-long _ _ _ _ _ (c .if1 .taken)
+returns c = λ ls K. picks-long _ _ _ ls _ _ (c .if1 .taken)
 
 loop-holds : tie.Need-loop-holds Inv-loop μ-loop
-loop-holds c = (omega arith, omega arith, refl, picks-start _ _ _ _ _ (omega arith) (c .before .before .before .before .before .before .before .pre .3))
+loop-holds c = (omega arith, omega arith, refl, λ ls K. picks-start _ _ _ ls _ _ (omega arith) (c .before .before .before .before .before .before .before .before .before .pre .0 .3))
 
 picks-turn-requires : tie.Need-picks-turn-requires Inv-loop μ-loop
 picks-turn-requires c κs =
-    let g = c .before .before .before .before .before .before .before .before .before .before .before .before .before .before .args .g in
-    let a : length (c .before .before .before .before .before .before .before .before .before .before .before .before .before .before .args .g .from) ≡ 12 = search needs in
-    let b : length (c .before .before .before .before .before .before .before .before .before .before .before .before .before .before .args .g .to) ≡ 12 = search needs in
-    let d : length (c .before .before .before .before .before .before .before .before .before .before .before .before .before .before .args .g .arity) ≡ 12 = search needs in
-    let known = c .before .before .before .before .before .before .before .before .before .before .before .before .before .before .pre in (
-      sound-arrays _ g (g .rels) (g .chosen) (known .0) (omega arith) a b d,
-      known .1,
-      subst (λ (k : ℕ). Roomy (g .from) (g .to) (g .arity) (g .rels) (g .chosen) (c .before .before .before .before .before .before .before .before .before .before .before .before .before .before .args .n) k) (sym (c .before .before .before .before .before .before .loop .inv .2)) (known .2),
+    let g = c .before .before .before .before .before .before .before .before .before .before .before .before .before .before .before .before .args .g in
+    let a : length (c .before .before .before .before .before .before .before .before .before .before .before .before .before .before .before .before .args .g .from) ≡ 12 = search needs in
+    let b : length (c .before .before .before .before .before .before .before .before .before .before .before .before .before .before .before .before .args .g .to) ≡ 12 = search needs in
+    let d : length (c .before .before .before .before .before .before .before .before .before .before .before .before .before .before .before .before .args .g .arity) ≡ 12 = search needs in
+    let known = c .before .before .before .before .before .before .before .before .before .before .before .before .before .before .before .before .pre .0 in (
+      (
+        sound-arrays _ g (g .rels) (g .chosen) (known .0) (omega arith) a b d,
+        known .1,
+        subst (λ (k : ℕ). Roomy (g .from) (g .to) (g .arity) (g .rels) (g .chosen) (c .before .before .before .before .before .before .before .before .before .before .before .before .before .before .before .before .args .n) k) (sym (c .before .before .before .before .before .before .loop .inv .2)) (known .2),
+      ),
+      (c .before .before .before .before .before .before .before .before .before .before .before .before .before .before .before .before .pre .1, (_, c .before .before .before .before .line .ensures .3)),
     )
 
 returns-2 : tie.Need-returns-2 Inv-loop μ-loop
-returns-2 c = picks-fault _ _ _ _ _ _ _ (c .before .before .before .before .before .before .before .before .before .before .loop .inv .3) _ _ (c .before .before .before .before .before .before .before .before .line .ensures .2) _ _ (c .before .before .before .picks-turn .ensures (c .before .before .before .before .before .before .before .before .before .before .before .before .before .before .before .before .before .before .args .g) refl refl) _ (c .if2 .taken)
+returns-2 c = λ ls K. picks-fault _ _ _ ls _ _ _ _ (c .before .before .before .before .before .before .before .before .before .before .loop .inv .3 ls K) _ _ (c .before .before .before .before .before .before .before .before .line .ensures .2) _ _ (c .before .before .before .picks-turn .ensures ls K (c .before .before .before .before .before .before .before .before .before .before .before .before .before .before .before .before .before .before .before .before .args .g) refl refl) _ (c .if2 .taken)
 
 loop-less : tie.Need-loop-less Inv-loop μ-loop
 loop-less c = omega (arith, c .before .before .before .before .before .before .before .before .line .ensures .0, c .before .before .before .before .before .before .before .before .line .ensures .1)
 
 loop-again : tie.Need-loop-again Inv-loop μ-loop
-loop-again c = (c .before .before .before .before .before .before .before .before .line .ensures .1, omega (arith, c .before .before .before .before .before .before .before .before .line .ensures .0), search needs, picks-next (c .before .before .before .before .before .before .before .before .before .before .before .before .before .before .before .before .before .before .args .q .now) (c .before .before .before .before .before .before .before .before .before .before .before .before .before .before .before .before .before .before .args .g) (c .before .before .before .before .before .before .before .before .before .before .before .before .before .before .before .before .before .before .args .n) (c .before .before .before .before .before .before .before .before .before .before .before .before .before .before .before .before .before .before .args .s .now) (c .before .before .before .before .before .before .before .before .before .before .loop .at) (c .before .before .before .before .before .before .before .before .before .before .loop .k) (c .before .before .before .before .before .before .before .before .before .before .loop .table) (c .before .before .before .before .before .before .before .before .before .before .loop .inv .3) (c .before .before .before .before .before .before .before .before .line .result .next) (c .before .before .before .before .before .before .before .before .line .result .entry) (c .before .before .before .before .before .before .before .before .line .ensures .2) _ _ (c .before .before .before .picks-turn .ensures (c .before .before .before .before .before .before .before .before .before .before .before .before .before .before .before .before .before .before .args .g) refl refl) (c .if2 .left))
+loop-again c = (c .before .before .before .before .before .before .before .before .line .ensures .1, omega (arith, c .before .before .before .before .before .before .before .before .line .ensures .0), search needs, λ ls K. picks-next (c .before .before .before .before .before .before .before .before .before .before .before .before .before .before .before .before .before .before .before .before .args .q .now) (c .before .before .before .before .before .before .before .before .before .before .before .before .before .before .before .before .before .before .before .before .args .g) (c .before .before .before .before .before .before .before .before .before .before .before .before .before .before .before .before .before .before .before .before .args .n) ls (c .before .before .before .before .before .before .before .before .before .before .before .before .before .before .before .before .before .before .before .before .args .s .now) (c .before .before .before .before .before .before .before .before .before .before .loop .at) (c .before .before .before .before .before .before .before .before .before .before .loop .k) (c .before .before .before .before .before .before .before .before .before .before .loop .table) (c .before .before .before .before .before .before .before .before .before .before .loop .inv .3 ls K) (c .before .before .before .before .before .before .before .before .line .result .next) (c .before .before .before .before .before .before .before .before .line .result .entry) (c .before .before .before .before .before .before .before .before .line .ensures .2) _ _ (c .before .before .before .picks-turn .ensures ls K (c .before .before .before .before .before .before .before .before .before .before .before .before .before .before .before .before .before .before .before .before .args .g) refl refl) (c .if2 .left))
 
 same-length-2 : tie.Need-same-length-2 Inv-loop μ-loop
 same-length-2 c = c .before .loop .inv .2
 
 returns-3 : tie.Need-returns-3 Inv-loop μ-loop
-returns-3 c = picks-done _ _ _ _ _ _ _ (c .before .loop .inv .3) (omega arith)
+returns-3 c = λ ls K. picks-done _ _ _ ls _ _ _ _ (c .before .loop .inv .3 ls K) (omega arith)
 
 pub picks-lines-spec : {M : Type 1} → statement M
 picks-lines-spec =

@@ -1,39 +1,16 @@
--- `sheets::read_case` meets its contract: each return is a law of `Opening`. Assumes nothing.
-use mathlib.Core.Path.{sym, _∙_}
-use native.Mathlib.Omega.{arith}
-use Rattle.sheets.proofs.Turns.{facts-room}
-use Rattle.sheets.specs.Opening.{opened, known-sound, question-refused, site-refused, both-read}
+-- `sheets::read_case` meets its contract.
 use borrow.Author.Needs.{needs}
+use Rattle.sheets.specs.Opening.{case-alone}
+use Rattle.sheets.proofs.Loops.{no-label-words}
 use Rattle.sheets.proofs.read_case.Statement.{statement}
 use Rattle.sheets.proofs.read_case.Tie as tie
 
+read-filed-requires : tie.Need-read-filed-requires
+read-filed-requires c κs = (search needs, search needs, no-label-words, search needs)
+
 returns : tie.Need-returns
-returns c = λ L e. question-refused _ _ _ _ _ (c .before .before .question .ensures) (c .before .if1 .taken) _ (c .refusal .ensures)
-
-site-requires : tie.Need-site-requires
-site-requires c κs =
-    let sound = known-sound _ _ (c .before .before .before .question .ensures) (c .before .before .if1 .left) in
-    (sound, search needs, λ k next r h. facts-room _ _ sound k _ (c .before .before .before .before .before .before .before .pre .1 k next r h), search needs)
-
-returns-2 : tie.Need-returns-2
-returns-2 c = λ L e. site-refused _ _ _ _ _ (c .before .before .before .before .before .before .before .before .before .before .question .ensures) (c .before .before .before .before .before .before .before .before .before .if1 .left) _ _ (sym (c .before .before .before .before .before .before .site .ensures L e .0) ∙ c .before .before .s .given .1) _ (c .refusal2 .ensures)
-
-returns-3 : tie.Need-returns-3
-unfolding opened
-returns-3 c = λ L e. both-read _ _ _ _ _ (c .before .before .before .before .before .before .before .before .before .before .question .ensures) (c .before .before .before .before .before .before .before .before .before .if1 .left) (omega arith) _ (sym (c .before .before .before .before .before .before .site .ensures L e .0) ∙ c .before .before .s2 .given .1) (c .before .before .before .before .before .before .site .ensures L e .1)
+returns c = λ L e. case-alone L _ _ _ _ _ (c .before .before .before .read-filed .ensures L e)
 
 pub read-case-spec : {M : Type 1} → statement M
 read-case-spec =
-    tie.close
-    (tie.spec
-    (λ c κs. search needs)
-    (λ c κs. search needs)
-    returns
-    site-requires
-    (λ c. search needs)
-    (λ c κs. search needs)
-    (λ c. search needs)
-    (λ c. search needs)
-    returns-2
-    (λ c. search needs)
-    returns-3)
+    tie.close (tie.spec (λ c. search needs) read-filed-requires (λ c. search needs) returns)
