@@ -5,7 +5,7 @@ use crate::large::{long_list, long_names, long_text, planned, some, wide_facts, 
 use crate::limits::{STEPS, TEXT};
 use crate::naming::{label_lines, renamed};
 use crate::sample::Sample;
-use crate::trial::{numbers, Call, Outcome, Rooms};
+use crate::trial::{numbers, Call, Outcome, Rooms, CALLS};
 
 /// A case, and calls on it with the lengths of their buffers and their answers.
 pub struct Edge {
@@ -37,9 +37,9 @@ fn edge(
 /// A case that every call refuses alike, and where lists to try keep the sevens they came with.
 fn refused(name: &'static str, sample: impl Fn() -> Sample + 'static, answer: &str) -> Edge {
     let kept = format!("{answer} 7 7 7 7 7 7");
-    let asked = ON_CASES
-        .map(|call| (call, NONE, if call == Call::Tries { kept.clone() } else { answer.into() }));
-    Edge { name, sample: Box::new(sample), asked: asked.into() }
+    let told = |call| if call == Call::Tries { kept.clone() } else { answer.into() };
+    let asked = CALLS.into_iter().filter(is_on_cases).map(|call| (call, NONE, told(call)));
+    Edge { name, sample: Box::new(sample), asked: asked.collect() }
 }
 
 /// An `and` so many times over each `forall`, outermost first; the last ones over the inner part.
@@ -144,21 +144,10 @@ fn desk_bytes(bytes: usize) -> Sample {
 
 const NONE: Rooms = [0; 3];
 
-/// The calls that read question and site first.
-const ON_CASES: [Call; 12] = [
-    Call::Sizes,
-    Call::Action,
-    Call::CheckText,
-    Call::Check,
-    Call::PicksText,
-    Call::Picks,
-    Call::BuildText,
-    Call::Build,
-    Call::JudgeText,
-    Call::Judge,
-    Call::Tries,
-    Call::Allowances,
-];
+/// Whether a call reads question and site first.
+fn is_on_cases(call: &Call) -> bool {
+    !matches!(call, Call::Rule | Call::DeskPicks | Call::DeskSteps)
+}
 
 fn elements() -> Vec<Edge> {
     use Call::*;

@@ -12,7 +12,7 @@ use lib.Seq.{drop-cons, take-at, drop-at}
 use lib.Dec.{eqb, leb, lit<}
 use borrow.Author.Tests.{eq-eqb, ne-eqb, eqb-true, le-leb, lt-leb, leb-true}
 use Rattle.definitions.specs.Lists.{all}
-use Rattle.definitions.specs.Text.{isBetween, isCapital, isDigit, isSmall, isRelationName, isVariable, bytes}
+use Rattle.definitions.specs.Text.{isBetween, isCapital, isDigit, isSmall, isRelationName, isVariable}
 use Rattle.definitions.specs.Formula.{Join, ands, ors, Quant, somes, everys, Formula, literal, negation, implication, join, quant, Formulas, nil, cons, joinWord, quantWord, notWord, impWord, writeVars, write, writeParts, Variables, no-words, a-word, WellFormed, g-lit, g-neg, g-imp, g-and, g-or, g-exists, g-forall, AllWellFormed, no-goods, a-good}
 use Rattle.definitions.specs.Parsing.{first, inside, longest, span, Res, bad, ok, andThen, begins, want, readWord, readVar, readVars, readParts, Head, isNot, isImplies, isAnd, isOr, isExists, isForall, isOther, kindOf, close, readJoin, readQuant, readLit, readNeg, readImp, readBody, read, finish, readFormula}
 

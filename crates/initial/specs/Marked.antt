@@ -13,7 +13,7 @@ use lib.Seq.{getD-append-add}
 use Rattle.definitions.specs.Lists.{any}
 use Rattle.definitions.specs.Relations.{Kind, static, isChosen, Relation, builtIn, Tuple, isAmong}
 use Rattle.definitions.specs.Sheets.{relations, relationsOf}
-use Rattle.definitions.specs.Truth.{Case, holds}
+use Rattle.definitions.specs.Truth.{Case}
 use Rattle.definitions.specs.Atoms.{problemOf, problemWith, placesOf, relationAt, tuplesOf, tupleHolds, wordsFor}
 use Rattle.laws.specs.Grounded.{first-chosen, rel-literal, choose-literal}
 use Rattle.laws.specs.Lists.{getD-mem}

@@ -8,7 +8,7 @@ use native.Mathlib.Omega.{arith}
 use lib.Dec.{leb}
 use lib.ListN.{length, length-append}
 use borrow.Author.Tests.{le-leb, lt-leb, leb-true, leb-false}
-use Rattle.definitions.specs.Text.{number, decimalIn, decimal}
+use Rattle.definitions.specs.Text.{decimalIn, decimal}
 
 one : (n k : ℕ) → k ≤ 9 → decimalIn (suc n) k ≡ (k + 48) ∷ []
 unfolding decimalIn

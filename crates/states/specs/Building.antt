@@ -10,7 +10,6 @@ use lib.Dec.{T, eqb, leb, leb→le, le→leb}
 use lib.ListN.{length, take}
 use lib.Seq.{take-length}
 use Rattle.definitions.specs.Lists.{all, any, option}
-use Rattle.definitions.specs.Refusal.{accepted}
 use Rattle.definitions.specs.Relations.{Tuple, isAmong, sameTuple}
 use Rattle.definitions.specs.Truth.{Case, holds, areOfKinds, ruleIsTrue, arePicks}
 use Rattle.definitions.specs.Atoms.{Problem, problemOf, relationAt, nodeAt, tuplesOf, placesOf, Atom, guess, proof, goal, tuple, notTuple, freeDomain, freeRange, holdsNode, atomNumber, isInitial, tupleHolds, State, initial}
