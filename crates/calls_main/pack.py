@@ -2,13 +2,15 @@
 """pack.py SCRIPT ..: writes the calls of scripts of vectors behind the own part of stdin, and the answers they require behind those of stdout.
 
 The own part of stdin ends before the line MARK. Taken are the calls that this program makes, in blocks that need nothing that has not
-landed, where each buffer is written out and not named by its digest. So the program is held to the vectors and not to itself.
+landed, where each buffer is written out and not named by its digest. Of a script given as SCRIPT:WORD only blocks that need WORD are
+taken, and of all calls under one comment with the same number in their answers the first. So the program is held to the vectors and not
+to itself.
 """
 import pathlib
 import sys
 
 MARK = "# What follows is written by pack.py, from scripts of vectors."
-LANDED = {"-", "big", "labels"}  # what the answers of a block may rest on
+LANDED = {"-", "big", "labels", "types"}  # what the answers of a block may rest on
 SHEETS = ("question", "site", "text")
 # The names of calls in scripts of vectors, here, and in the answers.
 NAMES = {"sizes": ("sizes", "sizes"), "check_text": ("check_text", "check"), "check": ("check_lent", "check"),
@@ -33,6 +35,7 @@ def own_calls(lines):
 
 def words(buffer, entries):
     """A buffer as the program writes it: all of its words, the sevens at its end counted; of the steps one more than is lent."""
+    assert len(entries) <= ROOMS.get(buffer, 64)
     if buffer == "steps":
         return [buffer, *entries, "7"]
     entries = entries + ["7"] * (ROOMS[buffer] - len(entries))
@@ -56,20 +59,26 @@ def answer(name, required):
     return " ".join(told + [word for buffer, entries in buffers for word in words(buffer, entries)])
 
 
-def packed(lines):
-    """The lines of a script that are taken, and the answers."""
-    taken, answers, needs = [], [], "-"
+def packed(lines, feature):
+    """The lines of a script that are taken, and the answers; what is set goes before the first call that is taken after it."""
+    taken, answers, needs, about, seen, settings = [], [], "-", "", set(), {}
     for line in lines:
         word = line.split(" ")[0]
         if line.startswith("# needs "):
             needs = line[8:]
+        elif word == "#":
+            about = line
         elif line in SHEETS or word == "lent":
-            taken += [line, *(sheet(lines) if line in SHEETS else [])]
+            settings[word] = [line, *(sheet(lines) if line in SHEETS else [])]
         elif word in NAMES and LANDED.issuperset(needs.split()):
             required = next(lines)
-            if "sha256" not in required:
-                taken.append(line.replace(word, NAMES[word][0], 1))
-                answers.append(answer(NAMES[word][1], required))
+            case = (about, word, required.split(" ")[1])
+            if "sha256" in required or feature and (feature not in needs.split() or case in seen):
+                continue
+            seen.add(case)
+            taken += [part for setting in settings.values() for part in setting] + [line.replace(word, NAMES[word][0], 1)]
+            answers.append(answer(NAMES[word][1], required))
+            settings = {}
     return taken, answers
 
 
@@ -80,7 +89,8 @@ own = (here / "stdin").read_text().split("\n" + MARK + "\n")[0].rstrip("\n").spl
 answers = (here / "stdout").read_text().split("\n")[: own_calls(own)]
 own += ["", MARK]
 for script in sys.argv[1:]:
-    more, required = packed(iter(pathlib.Path(script).read_text().split("\n")))
+    path, _, feature = script.partition(":")
+    more, required = packed(iter(pathlib.Path(path).read_text().split("\n")), feature)
     own, answers = own + more, answers + required
 text = "\n".join(own) + "\n"
 assert len(text) < 131072

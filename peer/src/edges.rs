@@ -91,6 +91,21 @@ fn named(n: usize, line: &str) -> Sample {
     Sample { question, site, picks, ..Sample::default() }
 }
 
+/// So many types with names of 12 bytes, each with as many members of 64 elements; a variable of this name has the first type.
+fn sorted(types: usize, members: usize, variable: &str) -> Sample {
+    let Sample { question, site, picks, .. } = each(64);
+    let [question, site] = [question, site].map(|text| String::from_utf8_lossy(&text).to_string());
+    let names: Vec<String> = long_names(types).into_iter().flatten().collect();
+    let declared: String = names.iter().map(|name| format!("type\t{name}\n")).collect();
+    let rule = question.replace("(?y)", &format!("({variable}:TERMINAL_000)"));
+    let question = format!("{declared}{}", rule.replace("?y", variable)).into();
+    let member = |name: &String| -> String {
+        (0..members).map(|element| format!("member\t{name}\t{element}\n")).collect()
+    };
+    let site = format!("{site}{}", names.iter().map(member).collect::<String>()).into();
+    Sample { question, site, picks, ..Sample::default() }
+}
+
 /// A literal with so many variables that the question has so many bytes.
 fn long_question(bytes: usize) -> Sample {
     let empty = case(1, &[], &[1], "(T)").question.len();
@@ -198,6 +213,40 @@ fn labels() -> Vec<Edge> {
             || named(16, "label\t15\tA\n"),
             &[(DeskPicks, NONE, "no 18 350"), (DeskSteps, NONE, "no 18 350")],
         ),
+    ]
+}
+
+/// A `type` line takes 18 bytes, so the ninth, or the `choose` line after eight, begins at 144 and the rule at 155. A `member` line takes 22
+/// bytes, or 23 for an element of two digits, so the 65th begins at 1,470.
+fn types() -> Vec<Edge> {
+    use Call::*;
+    let room = [1, 392, 130];
+    vec![
+        edge(
+            "8 types, 64 members each",
+            || sorted(8, 64, "?abcdefg"),
+            &[
+                (Sizes, NONE, "0 0 64 25027 130 130"),
+                (BuildText, room, "0 130"),
+                (JudgeText, NONE, "0 0"),
+            ],
+        ),
+        edge(
+            "8 types, one member each",
+            || sorted(8, 1, "?abcdefg"),
+            &[
+                (Sizes, NONE, "0 0 64 25027 67 130"),
+                (Action, [0, 0, 65], "0 0 5 0 0 0"),
+                (Action, [0, 0, 66], "0 0 6 0 0 0"),
+                (BuildText, room, "0 67"),
+                (BuildText, [1, 392, 129], "12 130"),
+                (JudgeText, NONE, "0 0"),
+            ],
+        ),
+        refused("9 types", || sorted(9, 1, "?abcdefg"), "3 144"),
+        refused("a typed variable of 9 bytes", || sorted(8, 1, "?abcdefgh"), "5 155"),
+        refused("types without members", || sorted(8, 0, "?abcdefg"), "19 0"),
+        refused("65 members", || sorted(8, 65, "?abcdefg"), "9 1470"),
     ]
 }
 
@@ -356,6 +405,6 @@ fn desk() -> Vec<Edge> {
 
 /// Every limit, at it and past it.
 pub fn edges() -> Vec<Edge> {
-    let edges = [elements(), labels(), bytes(), steps(), atoms(), actions(), desk()];
+    let edges = [elements(), labels(), types(), bytes(), steps(), atoms(), actions(), desk()];
     edges.into_iter().flatten().collect()
 }

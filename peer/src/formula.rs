@@ -6,6 +6,13 @@ use std::ops::Range;
 const OPEN_LIMIT: usize = 128;
 const LIST_LIMIT: usize = 4;
 
+/// A variable of a quantifier's list, and its type where one is written.
+#[derive(Clone, Copy, Debug)]
+pub struct Quantified<'t> {
+    pub variable: &'t [u8],
+    pub of: Option<&'t [u8]>,
+}
+
 #[derive(Clone, Debug)]
 pub enum Form<'t> {
     /// A relation's name and where its variables stand in the formula's list.
@@ -17,8 +24,8 @@ pub enum Form<'t> {
     And,
     Or,
     Implies,
-    Exists(&'t [u8]),
-    Forall(&'t [u8]),
+    Exists(Quantified<'t>),
+    Forall(Quantified<'t>),
 }
 
 #[derive(Clone, Debug)]
@@ -144,13 +151,13 @@ impl<'t> Parser<'t> {
     }
 
     /// A list of variables becomes nested single quantifiers, first outermost.
-    fn quantified(&mut self, form: fn(&'t [u8]) -> Form<'t>) -> Option<()> {
+    fn quantified(&mut self, form: fn(Quantified<'t>) -> Form<'t>) -> Option<()> {
         self.space()?;
         self.open()?;
         let first = self.formula.forms.len();
         loop {
-            let variable = self.variable()?;
-            self.begin(form(variable));
+            let quantified = self.typed()?;
+            self.begin(form(quantified));
             if self.peek() == Some(b')') {
                 break;
             }
@@ -201,6 +208,18 @@ impl<'t> Parser<'t> {
     fn variable(&mut self) -> Option<&'t [u8]> {
         let word = self.word();
         is_variable(word).then_some(word)
+    }
+
+    /// A variable, alone or with a colon and a type's name.
+    fn typed(&mut self) -> Option<Quantified<'t>> {
+        let word = self.word();
+        if is_variable(word) {
+            return Some(Quantified { variable: word, of: None });
+        }
+        let colon = word.iter().position(|&byte| byte == b':')?;
+        let (variable, name) = (&word[..colon], &word[colon + 1..]);
+        let formed = is_variable(variable) && is_relation_name(name);
+        formed.then_some(Quantified { variable, of: Some(name) })
     }
 
     /// The bytes up to the next space or bracket.

@@ -6,6 +6,7 @@ use crate::records::Kind;
 use crate::sheets::{Question, Structure};
 use crate::text::Refusal;
 use crate::tree::{Literal, Node, Part, Shape, Tree, Variables, NESTING_LIMIT};
+use crate::types::{Extent, Members};
 use std::ops::Range;
 
 pub const GUESS: u32 = 0;
@@ -87,11 +88,11 @@ impl PartAtom {
         self.first + a * values[0] + b * values[1] + c * values[2] + d * values[3]
     }
 
-    /// Its atoms for every element of one variable, whose value here is 0.
+    /// Its atom for each element of one variable, whose value here is 0.
     #[inline]
-    pub fn along(&self, values: &Values, depth: usize, n: u32) -> impl Iterator<Item = u32> {
+    pub fn along(&self, values: &Values, depth: usize) -> impl Fn(u32) -> u32 {
         let (first, stride) = (self.at(values), self.strides[depth]);
-        (0..n).map(move |element| first + element * stride)
+        move |element| first + element * stride
     }
 }
 
@@ -118,9 +119,11 @@ impl Divisor {
 
 /// Where a node's atoms and actions lie.
 #[derive(Clone, Debug)]
-pub struct NodeAtoms {
+pub struct NodeAtoms<'c> {
     pub shape: Shape,
     pub depth: usize,
+    /// What a quantifier goes through if its variable has a type.
+    members: Option<&'c Members>,
     pub free: Variables,
     pub rows: u32,
     /// Atoms per row: n for `forall`, one for the others.
@@ -133,12 +136,28 @@ pub struct NodeAtoms {
     pub parts: Range<usize>,
 }
 
+impl<'c> NodeAtoms<'c> {
+    /// What a quantifier goes through.
+    #[inline]
+    pub fn extent(&self) -> Extent<'c> {
+        Extent::of(self.members, self.fan)
+    }
+
+    /// The atom that stands for the node in its first row: of a `forall` the one at the greatest element.
+    fn whole(&self) -> u32 {
+        match self.shape {
+            Shape::Forall => self.first_atom + self.extent().greatest(),
+            _ => self.first_atom,
+        }
+    }
+}
+
 #[derive(Clone, Debug)]
 pub struct Problem<'c> {
     question: &'c Question<'c>,
     structure: &'c Structure,
     relations: Vec<RelationAtoms>,
-    pub nodes: Vec<NodeAtoms>,
+    pub nodes: Vec<NodeAtoms<'c>>,
     pub parts: Vec<PartAtom>,
     pub n: u32,
     by_n: Divisor,
@@ -203,17 +222,19 @@ impl<'c> Problem<'c> {
         let mut action = self.begin_proof + 1;
         for node in &tree.nodes {
             let rows = self.n.pow(node.free.count_ones());
+            let members = self.structure.members(node.sort);
             let width = if node.shape == Shape::Forall { self.n } else { 1 };
             let fan = match node.shape {
                 Shape::And => 1,
                 Shape::Or => node.parts.len() as u32,
-                Shape::Exists | Shape::Forall => self.n,
+                Shape::Exists | Shape::Forall => Extent::of(members, self.n).count(),
             };
-            let Node { shape, depth, free, parts } = node.clone();
+            let Node { shape, depth, free, parts, .. } = node.clone();
             let (first_atom, first_action) = (self.atoms, action);
             self.nodes.push(NodeAtoms {
                 shape,
                 depth,
+                members,
                 free,
                 rows,
                 width,
@@ -252,7 +273,7 @@ impl<'c> Problem<'c> {
         PartAtom { first, strides }
     }
 
-    /// A node as a part of another; a `forall` stands by its atom at n-1.
+    /// A node as a part of another.
     fn node_atom(&self, node: usize) -> PartAtom {
         let node = &self.nodes[node];
         let mut strides = Values::default();
@@ -261,12 +282,12 @@ impl<'c> Problem<'c> {
             strides[depth] = stride;
             stride *= self.n;
         }
-        PartAtom { first: node.first_atom + node.width - 1, strides }
+        PartAtom { first: node.whole(), strides }
     }
 
     /// The root's atom, which prove-goal needs.
     pub fn root(&self) -> u32 {
-        self.nodes[0].first_atom + self.nodes[0].width - 1
+        self.nodes[0].whole()
     }
 
     /// What an action number stands for.
@@ -282,8 +303,9 @@ impl<'c> Problem<'c> {
         }
         if number < self.prove_goal {
             let node = self.nodes.partition_point(|node| node.first_action <= number) - 1;
-            let NodeAtoms { first_action, by_fan, .. } = self.nodes[node];
-            let (row, choice) = by_fan.split(number - first_action);
+            let NodeAtoms { first_action, by_fan, members, .. } = self.nodes[node];
+            let (row, place) = by_fan.split(number - first_action);
+            let choice = members.map_or(place, |members| members.nth(place));
             return Some(Action::Prove(Prove { node: node as u32, row, choice }));
         }
         (number == self.prove_goal).then_some(Action::ProveGoal)
@@ -300,8 +322,12 @@ impl<'c> Problem<'c> {
             Action::BeginProof => Some(self.begin_proof),
             Action::Prove(Prove { node, row, choice }) => {
                 let node = self.nodes.get(*node as usize)?;
-                let there = *row < node.rows && *choice < node.fan;
-                there.then(|| node.first_action + row * node.fan + choice)
+                let place = match node.shape {
+                    Shape::Exists | Shape::Forall => node.extent().place(*choice)?,
+                    Shape::And | Shape::Or => *choice,
+                };
+                let there = *row < node.rows && place < node.fan;
+                there.then(|| node.first_action + row * node.fan + place)
             }
             Action::ProveGoal => Some(self.prove_goal),
         }
@@ -399,7 +425,8 @@ impl<'c> Problem<'c> {
             }
             Shape::Forall => {
                 values[node.depth] = choice;
-                let before = choice == 0 || holds(state, own + choice - 1);
+                let before = node.extent().before(choice);
+                let before = before.is_none_or(|before| holds(state, own + before));
                 (before && holds(state, parts[0].at(&values)), own + choice)
             }
         };

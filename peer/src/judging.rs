@@ -69,10 +69,26 @@ impl Search<'_> {
             self.part(&parts[0], values)
         };
         match node.shape {
-            Shape::Exists => (0..self.tries(node, &parts[0])).any(&mut at),
-            Shape::Forall => (0..self.tries(node, &parts[0])).all(&mut at),
             Shape::And => parts.iter().all(|part| self.part(part, values)),
             Shape::Or => parts.iter().any(|part| self.part(part, values)),
+            _ if node.sort.is_some() => self.typed(node, &parts[0], values),
+            Shape::Exists => (0..self.tries(node, &parts[0])).any(&mut at),
+            Shape::Forall => (0..self.tries(node, &parts[0])).all(&mut at),
+        }
+    }
+
+    /// A quantifier that goes through members; apart, so that the others' loops stay small.
+    #[inline(never)]
+    fn typed(&self, node: &Node, part: &Part, values: &mut Values) -> bool {
+        let extent = self.structure.extent(node.sort);
+        let tries = extent.count().min(self.tries(node, part) as u32);
+        let mut at = |place| {
+            values[node.depth] = extent.nth(place) as usize;
+            self.part(part, values)
+        };
+        match node.shape {
+            Shape::Exists => (0..tries).any(&mut at),
+            _ => (0..tries).all(&mut at),
         }
     }
 
@@ -83,8 +99,8 @@ impl Search<'_> {
         }
     }
 
-    /// How many elements a quantifier has to try: one stands for all where its
-    /// variable is not used.
+    /// How many elements a quantifier has to try at the most: one stands for all
+    /// where its variable is not used.
     fn tries(&self, node: &Node, part: &Part) -> usize {
         let used = match part {
             Part::Literal(literal) => literal.variables(),

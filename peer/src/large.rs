@@ -16,6 +16,10 @@ const ZONES_RULE: &str = "(and (forall (?x ?g) (implies (F ?x ?g) (GROUP ?g))) (
 const ROUND_RULE: &str = "(forall (?x ?u) (implies (SUC ?x ?u) (forall (?y) (implies (F ?x ?y) \
 (exists (?z) (and (DOOR ?y ?z) (F ?u ?z)))))))";
 
+const SORTED_RULE: &str =
+    "(and (forall (?x:ZONE) (exists (?g:GROUP) (F ?x ?g))) (forall (?x:ZONE ?y:ZONE) \
+(implies (DOOR ?x ?y) (not (exists (?g:GROUP) (and (F ?x ?g) (F ?y ?g)))))))";
+
 /// A directed Hamiltonian path through so many vertices, a number that 7 does not divide, with half of all edges.
 pub fn path(n: usize) -> Sample {
     let order: Vec<usize> = (0..n).map(|place| place * 7 % n).collect();
@@ -52,6 +56,26 @@ pub fn zones() -> Sample {
     let group = |zone: usize| zone / 8 % 2 * 2 + zone % 2;
     let picks = (0..64).map(|zone| format!("pick\tF\t{zone}\t{}\n", group(zone)));
     filed(question, doors() + &groups, picks.collect())
+}
+
+/// The same for 60 zones, six to a row, where zones and groups are types and the last four elements are the groups.
+pub fn sorted_zones() -> Sample {
+    let types = "type\tZONE\ntype\tGROUP\n";
+    let question = format!("rel\tDOOR\t2\n{types}choose\tF\tPFun\nrule\t{SORTED_RULE}\n");
+    let near = |one: usize, other: usize| one.abs_diff(other) <= 1;
+    let mut site = String::from("size\t64\n");
+    for element in 0..64 {
+        let name = if element < 60 { "ZONE" } else { "GROUP" };
+        site += &format!("member\t{name}\t{element}\n");
+    }
+    for (from, to) in (0..60 * 60).map(|row| (row / 60, row % 60)) {
+        if from != to && near(from / 6, to / 6) && near(from % 6, to % 6) {
+            site += &format!("fact\tDOOR\t{from}\t{to}\n");
+        }
+    }
+    let group = |zone: usize| 60 + zone / 6 % 2 * 2 + zone % 2;
+    let picks = (0..60).map(|zone| format!("pick\tF\t{zone}\t{}\n", group(zone)));
+    filed(question, site, picks.collect())
 }
 
 /// A round through all zones of an airport, by doors: row after row, every other row backwards.

@@ -33,6 +33,8 @@ pub mod texts;
 pub mod tree;
 pub mod trial;
 pub mod tries;
+pub mod types;
+pub mod typing;
 
 pub use cases::{
     action, action_number, build, build_text, check, check_text, picks, picks_text, rule_part,

@@ -39,17 +39,19 @@ fn tally_of(question: &Question, structure: &Structure) -> Tally {
         tally.actions += if question.signature.chosen().contains(&number) { tuples } else { 0 };
     }
     if !question.tree.nodes.is_empty() {
-        visit(&question.tree, 0, n, &mut tally);
+        visit(&question.tree, 0, structure, &mut tally);
     }
     tally
 }
 
-fn visit(tree: &Tree, number: usize, n: u64, tally: &mut Tally) {
+fn visit(tree: &Tree, number: usize, structure: &Structure, tally: &mut Tally) {
     let node = &tree.nodes[number];
+    let n = structure.n as u64;
     let rows = n.pow(node.free.count_ones());
+    let tried = u64::from(structure.extent(node.sort).count());
     let (atoms, actions) = match node.shape {
-        Shape::Forall => (n, n),
-        Shape::Exists => (1, n),
+        Shape::Forall => (n, tried),
+        Shape::Exists => (1, tried),
         Shape::And => (1, 1),
         Shape::Or => (1, node.parts.len() as u64),
     };
@@ -58,7 +60,7 @@ fn visit(tree: &Tree, number: usize, n: u64, tally: &mut Tally) {
     tally.actions += rows * actions;
     for part in &tree.parts[node.parts.clone()] {
         if let Part::Node(below) = part {
-            visit(tree, *below, n, tally);
+            visit(tree, *below, structure, tally);
         }
     }
 }

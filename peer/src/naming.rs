@@ -1,13 +1,17 @@
 //! Cases with labels: the elements of a case get names, which stand in the place of their numbers.
 
 use crate::sample::{sound, Random, Sample};
+use crate::typing::typed;
 
 /// The name of each element that has one.
 pub type Names = Vec<Option<String>>;
 
-/// A case of the sheets' form, half of the time with labels.
+/// A case of the sheets' form, half of the time with types, and half of the time with labels.
 pub fn drawn(random: &mut Random) -> Sample {
-    let sample = sound(random);
+    let mut sample = sound(random);
+    if random.once_in(2) {
+        sample = typed(random, &sample);
+    }
     if random.once_in(2) {
         return sample;
     }
@@ -65,7 +69,7 @@ pub fn label_lines(names: &Names) -> Vec<String> {
     names.iter().enumerate().filter_map(line).collect()
 }
 
-/// The same text with names in the elements' fields of facts and picks, wherever `named` says so.
+/// The same text with names in the elements' fields of members, facts and picks, wherever `named` says so.
 pub fn renamed(text: &str, names: &Names, mut named: impl FnMut() -> bool) -> String {
     let mut field = |place: usize, field: &str| {
         let element = if place < 2 { None } else { field.parse::<usize>().ok() };
@@ -73,7 +77,7 @@ pub fn renamed(text: &str, names: &Names, mut named: impl FnMut() -> bool) -> St
         name.filter(|_| named()).unwrap_or(field.to_string())
     };
     let mut line = |line: &str| {
-        if !(line.starts_with("fact\t") || line.starts_with("pick\t")) {
+        if !["member\t", "fact\t", "pick\t"].iter().any(|word| line.starts_with(word)) {
             return format!("{line}\n");
         }
         let fields = line.split('\t').enumerate().map(|(place, own)| field(place, own));

@@ -1,6 +1,8 @@
 //! Following a plan step by step, and building one from picks.
 
-use crate::ground::{add, holds, read_bits, Action, NodeAtoms, Problem, Set, Values, GOAL, PROOF};
+use crate::ground::{
+    add, holds, read_bits, Action, NodeAtoms, PartAtom, Problem, Set, Values, GOAL, PROOF,
+};
 use crate::sheets::{Signature, Tables};
 use crate::text::{cause, Refusal};
 use crate::tree::{Shape, Variables, NESTING_LIMIT};
@@ -87,42 +89,47 @@ impl Plan<'_> {
     /// Proves every true atom of a node once, in row order; the parts' atoms
     /// are settled by then, so one look at them decides.
     fn prove(&mut self, node: &NodeAtoms) {
+        let (parts, extent) = (&self.problem.parts[node.parts.clone()], node.extent());
+        match node.shape {
+            Shape::And => self.prove_rows(node, |state, values| {
+                parts.iter().all(|part| holds(state, part.at(values))).then_some(0)
+            }),
+            Shape::Or => self.prove_rows(node, |state, values| {
+                let place = parts.iter().position(|part| holds(state, part.at(values)));
+                place.map(|place| place as u32)
+            }),
+            Shape::Exists => self.prove_rows(node, |state, values| {
+                let atom = parts[0].along(values, node.depth);
+                extent.position(|element| holds(state, atom(element)))
+            }),
+            Shape::Forall => self.prove_chains(node, &parts[0]),
+        }
+    }
+
+    /// Each row by the first part or least element that makes it true, of which the place is found.
+    fn prove_rows(&mut self, node: &NodeAtoms, witness: impl Fn(&[u64], &Values) -> Option<u32>) {
         let mut values = Values::default();
         for row in 0..node.rows {
-            if node.shape == Shape::Forall {
-                self.prove_chain(node, row, &values);
-            } else if let Some(choice) = self.witness(node, &values) {
+            if let Some(place) = witness(&self.state, &values) {
                 add(&mut self.state, node.first_atom + row);
-                self.steps.push(node.first_action + row * node.fan + choice);
+                self.steps.push(node.first_action + row * node.fan + place);
             }
             advance(&mut values, node.free, self.problem.n);
         }
     }
 
-    /// The first part or least element that makes the atom true.
-    fn witness(&self, node: &NodeAtoms, values: &Values) -> Option<u32> {
-        let parts = &self.problem.parts[node.parts.clone()];
-        let place = match node.shape {
-            Shape::And => parts.iter().all(|part| holds(&self.state, part.at(values))).then_some(0),
-            Shape::Or => parts.iter().position(|part| holds(&self.state, part.at(values))),
-            Shape::Exists | Shape::Forall => {
-                let mut atoms = parts[0].along(values, node.depth, self.problem.n);
-                atoms.position(|atom| holds(&self.state, atom))
-            }
-        };
-        place.map(|place| place as u32)
-    }
-
     /// A `forall` is true up to z for every z before the first failure.
-    fn prove_chain(&mut self, node: &NodeAtoms, row: u32, values: &Values) {
-        let n = self.problem.n;
-        let atoms = self.problem.parts[node.parts.start].along(values, node.depth, n);
-        for (place, atom) in (row * n..).zip(atoms) {
-            if !holds(&self.state, atom) {
-                break;
-            }
-            add(&mut self.state, node.first_atom + place);
-            self.steps.push(node.first_action + place);
+    fn prove_chains(&mut self, node: &NodeAtoms, part: &PartAtom) {
+        let (mut values, extent) = (Values::default(), node.extent());
+        for row in 0..node.rows {
+            let (state, atom) = (&mut self.state[..], part.along(&values, node.depth));
+            let failure = extent.position(|element| !holds(state, atom(element)));
+            let proved = failure.unwrap_or(node.fan);
+            let own = node.first_atom + row * node.width;
+            (0..proved).for_each(|place| add(state, own + extent.nth(place)));
+            let step = node.first_action + row * node.fan;
+            self.steps.extend(step..step + proved);
+            advance(&mut values, node.free, self.problem.n);
         }
     }
 }

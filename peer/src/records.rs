@@ -1,4 +1,4 @@
-//! The eight kinds of line. A line's own form is judged here, in whatever
+//! The ten kinds of line. A line's own form is judged here, in whatever
 //! sheet it stands; the sheets then judge what the form lets through.
 
 use crate::labels::{Element, Name};
@@ -52,10 +52,12 @@ impl Tuple {
 #[derive(Clone, Copy, Debug)]
 pub enum Record<'t> {
     Rel { name: &'t [u8], arity: usize },
+    Type { name: &'t [u8] },
     Choose { name: &'t [u8], kind: Kind },
     Rule { formula: &'t [u8] },
     Size { n: u32 },
     Label { element: Element, name: Name },
+    Member { of: &'t [u8], element: Element },
     Fact { name: &'t [u8], tuple: Tuple },
     Pick { name: &'t [u8], tuple: Tuple },
     Step { action: u32 },
@@ -80,6 +82,8 @@ fn well_formed(bytes: &[u8]) -> Option<Record<'_>> {
         b"label" => {
             Record::Label { element: element(fields.next()?)?, name: Name::read(fields.next()?)? }
         }
+        b"type" => Record::Type { name: fields.next()? },
+        b"member" => Record::Member { of: fields.next()?, element: element(fields.next()?)? },
         _ => return None,
     };
     fields.next().is_none().then_some(record)
@@ -100,6 +104,7 @@ fn kind(field: &[u8]) -> Option<Kind> {
 }
 
 /// A number or a name; whether any element has it is for the sheets to say.
+#[inline]
 fn element(field: &[u8]) -> Option<Element> {
     if field.first()?.is_ascii_digit() {
         number(field).map(Element::Number)

@@ -7,6 +7,7 @@ use crate::limits::{self, USUAL};
 use crate::records::Kind;
 use crate::sheets;
 use crate::text::Reply;
+use crate::typing::damage_types;
 
 /// A small generator (SplitMix64) whose whole state is one word.
 #[derive(Clone, Debug)]
@@ -278,7 +279,7 @@ fn picks_of(random: &mut Random, of: &Declared, n: usize, density: usize, to: &m
 }
 
 /// Lends the picks as bits, and finds steps that come near a plan.
-fn fill_records(random: &mut Random, sample: &mut Sample) {
+pub(crate) fn fill_records(random: &mut Random, sample: &mut Sample) {
     let Ok(question) = sheets::question(&sample.question) else { return };
     let Ok(structure) = sheets::site(&sample.site, &question.signature, &USUAL) else { return };
     let Ok(tables) = sheets::picks(&sample.picks, &question.signature, &structure) else { return };
@@ -350,9 +351,9 @@ fn vary(random: &mut Random, steps: &mut Vec<u32>, actions: usize) {
 
 /// What a damaged word may become.
 #[rustfmt::skip]
-const WORDS: [&str; 43] = [
+const WORDS: [&str; 46] = [
     "(", ")", ") ", " (", "and", "or", "not", "implies", "exists", "forall", "?x", "?y", "?z",
-    "?abcdefgh", "?X", "EQ", "LT", "ZERO", "R", "T", "CT", "0", "1", "2", "3", "4", "16", "17",
+    "?abcdefgh", "?X", "?x:DOOR", "?x:NOPE", "?x:", "EQ", "LT", "ZERO", "R", "T", "CT", "0", "1", "2", "3", "4", "16", "17",
     "64", "65", "01", "", "LOBBY", "lobby", "CORRIDOR_001", "CORRIDOR_0001", "Fun", "PInj", "(and (ZERO ?x))", "(not (not (EQ ?x ?x)))", "rel", "pick", "\t",
 ];
 
@@ -385,12 +386,13 @@ pub fn damage(random: &mut Random, sample: &mut Sample) {
         3 => &mut sample.picks,
         _ => &mut sample.steps,
     };
-    match random.below(4) {
+    match random.below(5) {
         _ if random.once_in(200) => stretch(random, sheet),
         0 => damage_bytes(random, sheet),
         1 => damage_lines(random, sheet, &foreign),
         2 => damage_words(random, sheet, &foreign),
-        _ => damage_elements(random, &mut sample.site, &mut sample.picks),
+        3 => damage_elements(random, &mut sample.site, &mut sample.picks),
+        _ => damage_types(random, sample),
     }
     damage_lent(random, sample);
 }
@@ -425,7 +427,7 @@ fn damage_lent(random: &mut Random, sample: &mut Sample) {
 }
 
 fn damage_bytes(random: &mut Random, sheet: &mut Vec<u8>) {
-    let byte = *random.choose(b"\t\n ()?_0179aAxZ\r\x80-+");
+    let byte = *random.choose(b"\t\n ()?:_0179aAxZ\r\x80-+");
     if sheet.is_empty() {
         return sheet.push(byte);
     }

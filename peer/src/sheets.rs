@@ -6,9 +6,11 @@ use crate::limits::Limits;
 use crate::records::{record, Kind, Record, Tuple};
 use crate::text::{cause, limit, lines, Line, Refusal};
 use crate::tree::{grow, Tree};
+use crate::types::{Extent, Members, Sort};
 use std::ops::Range;
 
 const REL_LIMIT: usize = 8;
+const TYPE_LIMIT: usize = 8;
 const CHOOSE_LIMIT: usize = 4;
 
 #[derive(Clone, Copy, Debug)]
@@ -32,20 +34,26 @@ pub const BUILT_IN: [Relation<'static>; 5] = [
     Relation { name: b"MAX", kind: Kind::Plain(1) },
 ];
 
-/// All relations by number: built in, then `rel`, then `choose`.
+/// All relations by number: built in, then `rel`, then `choose`; and the types by theirs.
 #[derive(Clone, Debug)]
 pub struct Signature<'t> {
     pub relations: Vec<Relation<'t>>,
+    pub types: Vec<&'t [u8]>,
     first_chosen: usize,
 }
 
 impl<'t> Signature<'t> {
     fn new() -> Self {
-        Signature { relations: BUILT_IN.to_vec(), first_chosen: BUILT_IN.len() }
+        let (relations, types) = (BUILT_IN.to_vec(), Vec::new());
+        Signature { relations, types, first_chosen: BUILT_IN.len() }
     }
 
     pub fn find(&self, name: &[u8]) -> Option<usize> {
         self.relations.iter().position(|relation| relation.name == name)
+    }
+
+    pub fn find_type(&self, name: &[u8]) -> Sort {
+        self.types.iter().position(|&declared| declared == name).map(|number| number as u8)
     }
 
     /// Relation numbers of the `rel` lines.
@@ -68,7 +76,11 @@ impl<'t> Signature<'t> {
     }
 
     fn takes_rel(&self) -> bool {
-        self.chosen().is_empty() && self.given().len() < REL_LIMIT
+        self.chosen().is_empty() && self.types.is_empty() && self.given().len() < REL_LIMIT
+    }
+
+    fn takes_type(&self) -> bool {
+        self.chosen().is_empty() && self.types.len() < TYPE_LIMIT
     }
 
     fn takes_choose(&self) -> bool {
@@ -80,6 +92,18 @@ impl<'t> Signature<'t> {
             return Err(line.refuse(cause::DECLARED_NAME));
         }
         self.relations.push(Relation { name, kind });
+        Ok(())
+    }
+
+    /// Only another type can have taken the name.
+    fn declare_type(&mut self, line: &Line, name: &'t [u8]) -> Result<(), Refusal> {
+        if !is_relation_name(name) {
+            return Err(line.refuse(cause::DECLARED_NAME));
+        }
+        if self.find_type(name).is_some() {
+            return Err(line.refuse(cause::TYPE));
+        }
+        self.types.push(name);
         Ok(())
     }
 }
@@ -101,6 +125,9 @@ pub fn question(text: &[u8]) -> Result<Question<'_>, Refusal> {
             (Record::Rel { name, arity }, None) if signature.takes_rel() => {
                 signature.declare(&line, name, Kind::Plain(arity))?;
                 signature.first_chosen += 1;
+            }
+            (Record::Type { name }, None) if signature.takes_type() => {
+                signature.declare_type(&line, name)?;
             }
             (Record::Choose { name, kind }, None) if signature.takes_choose() => {
                 signature.declare(&line, name, kind)?;
@@ -152,11 +179,12 @@ impl Tables {
     }
 }
 
-/// A site: how many elements, what they are called, and the tuples of every static relation.
+/// A site: how many elements, what they are called, the members of each type, and the tuples of every static relation.
 #[derive(Clone, Debug)]
 pub struct Structure {
     pub n: usize,
     pub labels: Labels,
+    pub members: Vec<Members>,
     pub tables: Tables,
 }
 
@@ -174,25 +202,72 @@ impl Structure {
         }
         Ok(())
     }
+
+    fn member(&mut self, line: &Line, sort: Sort, element: Element) -> Result<(), Refusal> {
+        let sort = sort.ok_or(line.refuse(cause::TYPE))?;
+        if self.is_outside(element) {
+            return Err(line.refuse(cause::ELEMENT_RANGE));
+        }
+        let element = self.find(line, element)?;
+        if !self.members[usize::from(sort)].insert(element) {
+            return Err(line.refuse(cause::REPEATED));
+        }
+        Ok(())
+    }
+
+    fn is_outside(&self, element: Element) -> bool {
+        matches!(element, Element::Number(number) if number as usize >= self.n)
+    }
+
+    /// The number of an element, which its name may stand for.
+    fn find(&self, line: &Line, element: Element) -> Result<u32, Refusal> {
+        match element {
+            Element::Number(number) => Ok(number),
+            Element::Name(name) => self.labels.find(name).ok_or(line.refuse(cause::LABEL)),
+        }
+    }
+
+    /// What a variable of this sort goes through.
+    pub fn extent(&self, sort: Sort) -> Extent<'_> {
+        Extent::of(self.members(sort), self.n as u32)
+    }
+
+    /// The members of a sort that is not all elements.
+    pub fn members(&self, sort: Sort) -> Option<&Members> {
+        sort.map(|sort| &self.members[usize::from(sort)])
+    }
+}
+
+/// The lines of a site after its size come in this order.
+#[derive(Clone, Copy, Debug, PartialEq, Eq, PartialOrd, Ord)]
+enum Stage {
+    Labels,
+    Members,
+    Facts,
 }
 
 pub fn site(text: &[u8], signature: &Signature, limits: &Limits) -> Result<Structure, Refusal> {
     limit(text)?;
     let fixed = &signature.relations[..signature.first_chosen];
-    let (mut structure, mut labels_over) = (None, false);
+    let (mut structure, mut stage) = (None, Stage::Labels);
     for line in lines(text) {
         match (record(&line)?, &mut structure) {
             (Record::Size { n }, None) => {
                 if !(1..=limits.elements).contains(&n) {
                     return Err(line.refuse(cause::ELEMENT_RANGE));
                 }
-                structure = Some(bare_structure(fixed, n as usize));
+                let members = vec![Members::default(); signature.types.len()];
+                structure = Some(bare_structure(fixed, n as usize, members));
             }
-            (Record::Label { element, name }, Some(structure)) if !labels_over => {
+            (Record::Label { element, name }, Some(structure)) if stage == Stage::Labels => {
                 structure.label(&line, element, name)?;
             }
+            (Record::Member { of, element }, Some(structure)) if stage <= Stage::Members => {
+                stage = Stage::Members;
+                structure.member(&line, signature.find_type(of), element)?;
+            }
             (Record::Fact { name, tuple }, Some(structure)) => {
-                labels_over = true;
+                stage = Stage::Facts;
                 let given = &fixed[BUILT_IN.len()..];
                 let (index, row) = place(&line, given, name, &tuple, structure)?;
                 if !structure.tables.insert(BUILT_IN.len() + index, row) {
@@ -202,11 +277,15 @@ pub fn site(text: &[u8], signature: &Signature, limits: &Limits) -> Result<Struc
             _ => return Err(line.refuse(cause::RECORD_ORDER)),
         }
     }
+    let memberless = |site: &Structure| site.members.iter().any(Members::is_empty);
+    if structure.as_ref().is_some_and(memberless) {
+        return Err(Refusal::new(cause::TYPE, 0));
+    }
     structure.ok_or(Refusal::new(cause::RECORD_ORDER, text.len()))
 }
 
 /// The built-in tuples over n elements, and no facts yet.
-fn bare_structure(fixed: &[Relation], n: usize) -> Structure {
+fn bare_structure(fixed: &[Relation], n: usize, members: Vec<Members>) -> Structure {
     let mut tables = Tables::new(fixed, n);
     for first in 0..n {
         tables.insert(0, first * n + first);
@@ -219,7 +298,7 @@ fn bare_structure(fixed: &[Relation], n: usize) -> Structure {
     }
     tables.insert(3, 0);
     tables.insert(4, n - 1);
-    Structure { n, labels: Labels::default(), tables }
+    Structure { n, labels: Labels::default(), members, tables }
 }
 
 /// Finds a tuple's relation among those its record may name, and its row.
@@ -236,18 +315,12 @@ fn place(
         .position(|relation| relation.name == name)
         .filter(|&index| relations[index].arity() == elements.len())
         .ok_or(line.refuse(cause::RELATION_USE))?;
-    let Structure { n, labels, .. } = structure;
-    let outside = |&element: &Element| matches!(element, Element::Number(k) if k as usize >= *n);
-    if elements.iter().any(outside) {
+    if elements.iter().any(|&element| structure.is_outside(element)) {
         return Err(line.refuse(cause::ELEMENT_RANGE));
     }
     let mut row = 0;
     for &element in elements {
-        let element = match element {
-            Element::Number(number) => number,
-            Element::Name(name) => labels.find(name).ok_or(line.refuse(cause::LABEL))?,
-        };
-        row = row * n + element as usize;
+        row = row * structure.n + structure.find(line, element)? as usize;
     }
     Ok((index, row))
 }

@@ -22,6 +22,7 @@ pub mod cause {
     pub const KIND_BROKEN: u32 = 16;
     pub const RULE_FALSE: u32 = 17;
     pub const LABEL: u32 = 18;
+    pub const TYPE: u32 = 19;
 }
 
 /// Why a call did nothing: the cause's number and where it was found.
@@ -110,6 +111,7 @@ pub fn limit(text: &[u8]) -> Result<(), Refusal> {
 }
 
 /// A decimal number: 1 to 7 digits, no zero in front of another digit.
+#[inline]
 pub fn number(field: &[u8]) -> Option<u32> {
     if field.is_empty() || field.len() > 7 || (field[0] == b'0' && field.len() > 1) {
         return None;

@@ -1,7 +1,8 @@
 //! Texts that are as long or as deep as they may be, and cases with the largest tables and plans.
 
 use crate::large::{
-    deep, facts, long_text, named_facts, named_picks, padded, round, wide_facts, wide_picks, zones,
+    deep, facts, long_text, named_facts, named_picks, padded, round, sorted_zones, wide_facts,
+    wide_picks, zones,
 };
 use crate::limits;
 use crate::sample::Sample;
@@ -12,15 +13,18 @@ const OPEN: usize = 128;
 /// A name, and the case that it stands for, made when it is wanted.
 pub type Text = (String, Box<dyn Fn() -> Sample>);
 
-/// A case of a rule alone, over one element.
+/// A case of a rule alone, over one element, which is of the type that the rule may use.
 fn ruled(rule: &str) -> Sample {
-    let question = format!("choose\tT\t2\nrule\t{rule}\n");
-    Sample { question: question.into(), site: b"size\t1\n".to_vec(), ..Sample::default() }
+    let types = if rule.contains(':') { ["type\tT\n", "member\tT\t0\n"] } else { [""; 2] };
+    let question = format!("{}choose\tT\t2\nrule\t{rule}\n", types[0]);
+    let site = format!("size\t1\n{}", types[1]);
+    Sample { question: question.into(), site: site.into(), ..Sample::default() }
 }
 
 /// As many copies of a part as fit a rule of so many bytes, between a head and a tail.
 fn filled(bytes: usize, head: &str, part: &str, tail: &str) -> Sample {
-    let rest = ruled("");
+    // Lines for a type, if the part has one, stand there too.
+    let rest = ruled(if part.contains(':') { ":" } else { "" });
     let room = bytes - rest.question.len() - rest.site.len() - head.len() - tail.len();
     ruled(&format!("{head}{}{tail}", part.repeat(room / part.len())))
 }
@@ -46,7 +50,7 @@ fn lined(bytes: usize, line: impl Fn(usize) -> String) -> Vec<u8> {
 const LEAF: &str = "(T ?a ?b)";
 
 /// Forms that hold another one, with one bracket or two.
-const FORMS: [(&str, &str, &str); 7] = [
+const FORMS: [(&str, &str, &str); 8] = [
     ("not", "(not ", ")"),
     ("and", "(and ", ")"),
     ("or, in a later part", "(or (T ?a ?b) ", ")"),
@@ -54,6 +58,7 @@ const FORMS: [(&str, &str, &str); 7] = [
     ("implies, in its end", "(implies (T ?a ?b) ", ")"),
     ("forall of one", "(forall (?a) ", ")"),
     ("exists of four", "(exists (?a ?b ?c ?d) ", ")"),
+    ("forall of four with types", "(forall (?a:T ?b:T ?c:T ?d:T) ", ")"),
 ];
 
 /// A rule of so many bytes, as a text.
@@ -69,11 +74,13 @@ fn rule(name: &str, rule: String) -> Text {
 /// Rules that are long or deep, most of them refused for it.
 fn rules(bytes: usize) -> Vec<Text> {
     let listed = ["(or (T ?a ?b)", " (forall (?a ?b) (T ?a ?b))", ")"];
+    let sorted = ["(or (T ?a ?b)", " (forall (?a:T ?b:T) (T ?a ?b))", ")"];
     let parts = ["(forall (?a ?b) (and (T ?a ?b)", " (T ?a ?b)", "))"];
     let mut texts = vec![
         long("one long literal", bytes, ["(T ?a", " ?a", ")"]),
         long("one long and", bytes, parts),
         long("lists of two variables", bytes, listed),
+        long("lists of two variables with types", bytes, sorted),
         long("brackets alone", bytes, ["", "(", ""]),
     ];
     for (name, head, tail) in FORMS {
@@ -91,7 +98,9 @@ fn rules(bytes: usize) -> Vec<Text> {
 fn full_rules() -> Vec<Text> {
     let four = |inner: String| format!("(forall (?a ?b ?c ?d) {inner})");
     let quantified = "(exists (?a) (forall (?b) (exists (?c) (forall (?d) ";
+    let sorted = format!("(exists (?a:T ?b ?c:T ?d:T) {})", nested(59, "(and ", LEAF, ")"));
     let rules = [
+        ("59 ands under four with types", sorted),
         ("59 nots under four", four(nested(59, "(not ", LEAF, ")"))),
         ("59 ands under four", four(nested(59, "(and ", LEAF, ")"))),
         ("59 ands over four", nested(59, "(and ", &four(LEAF.into()), ")")),
@@ -166,6 +175,7 @@ fn wide_cases(bytes: usize) -> Vec<Text> {
         ("the largest plan".into(), Box::new(|| deep(26))),
         ("the longest plan".into(), Box::new(|| padded(&deep(26), limits::STEPS))),
         ("zones of an airport".into(), Box::new(zones)),
+        ("zones of an airport as a type".into(), Box::new(sorted_zones)),
         ("a round of an airport".into(), Box::new(round)),
     ]
 }
@@ -197,11 +207,11 @@ fn largest_tables() -> Sample {
 
 /// The same question with a site of 64 elements, and with full texts of picks and steps.
 fn widened((name, text): Text, bytes: usize) -> Text {
-    let wide = move || Sample {
-        site: b"size\t64\n".to_vec(),
-        picks: wide_picks(bytes).picks,
-        steps: long_text(bytes).steps,
-        ..text()
+    let wide = move || {
+        let own = text();
+        let site = String::from_utf8_lossy(&own.site).replace("size\t1\n", "size\t64\n");
+        let (picks, steps) = (wide_picks(bytes).picks, long_text(bytes).steps);
+        Sample { site: site.into(), picks, steps, ..own }
     };
     (format!("{name}, all else full"), Box::new(wide))
 }

@@ -4,6 +4,7 @@
 use crate::formula::{Form, Formula};
 use crate::sheets::Signature;
 use crate::text::cause;
+use crate::types::Sort;
 use std::ops::Range;
 
 pub const FORM_LIMIT: usize = 64;
@@ -41,8 +42,9 @@ pub type Variables = u8;
 #[derive(Clone, Debug)]
 pub struct Node {
     pub shape: Shape,
-    /// The depth of the variable a quantifier binds.
+    /// The depth of the variable a quantifier binds, and what that ranges over.
     pub depth: usize,
+    pub sort: Sort,
     /// The variables that occur free in it.
     pub free: Variables,
     pub parts: Range<usize>,
@@ -66,8 +68,12 @@ pub fn grow(formula: &Formula, signature: &Signature) -> Result<Tree, u32> {
     if !formula.forms().all(|form| relation_fits(form, signature)) {
         return Err(cause::RELATION_USE);
     }
-    let mut grower = Grower { formula, signature, scope: Vec::new(), tree: Tree::default() };
+    let (scope, tree) = (Vec::new(), Tree::default());
+    let mut grower = Grower { formula, signature, scope, tree, undeclared: false };
     grower.root(totals).ok_or(cause::VARIABLE_SCOPE)?;
+    if grower.undeclared {
+        return Err(cause::TYPE);
+    }
     Ok(grower.tree)
 }
 
@@ -84,6 +90,8 @@ struct Grower<'a, 't> {
     /// Variables in range, outermost first.
     scope: Vec<&'t [u8]>,
     tree: Tree,
+    /// Whether a type was met that no line declares.
+    undeclared: bool,
 }
 
 impl Grower<'_, '_> {
@@ -152,15 +160,19 @@ impl Grower<'_, '_> {
     }
 
     fn quantifier(&mut self, index: usize, shapes: [Shape; 2], positive: bool) -> Option<Part> {
-        let (Form::Exists(variable) | Form::Forall(variable)) = self.formula.form(index) else {
+        let (Form::Exists(bound) | Form::Forall(bound)) = self.formula.form(index) else {
             return None;
         };
-        if self.scope.contains(variable) {
+        if self.scope.contains(&bound.variable) {
             return None;
         }
         let node = self.begin(shapes[usize::from(positive)], 1);
         self.tree.nodes[node].depth = self.scope.len();
-        self.scope.push(variable);
+        if let Some(name) = bound.of {
+            self.tree.nodes[node].sort = self.signature.find_type(name);
+            self.undeclared |= self.tree.nodes[node].sort.is_none();
+        }
+        self.scope.push(bound.variable);
         let part = self.part(index + 1, positive)?;
         self.scope.pop();
         self.place(node, 0, part);
@@ -181,7 +193,8 @@ impl Grower<'_, '_> {
     fn begin(&mut self, shape: Shape, parts: usize) -> usize {
         let first = self.tree.parts.len();
         self.tree.parts.resize(first + parts, Part::Node(0));
-        self.tree.nodes.push(Node { shape, depth: 0, free: 0, parts: first..first + parts });
+        let parts = first..first + parts;
+        self.tree.nodes.push(Node { shape, depth: 0, sort: None, free: 0, parts });
         self.tree.nodes.len() - 1
     }
 
@@ -192,9 +205,9 @@ impl Grower<'_, '_> {
 
     /// A node's free variables are known once its parts are there.
     fn finish(&mut self, node: usize) {
-        let Node { shape, depth, parts, .. } = self.tree.nodes[node].clone();
+        let Node { shape, depth, parts, .. } = &self.tree.nodes[node];
         let mut free = 0;
-        for part in &self.tree.parts[parts] {
+        for part in &self.tree.parts[parts.clone()] {
             free |= match part {
                 Part::Literal(literal) => literal.variables(),
                 Part::Node(below) => self.tree.nodes[*below].free,

@@ -1,6 +1,7 @@
 //! Yes or no: the order of refusals, and that building with room enough answers alike.
 
-use peer::sample::{needs, sound, Random};
+use peer::naming::drawn;
+use peer::sample::{needs, Random};
 use peer::{build_text, judge, judge_text, Refusal, Reply};
 
 const SITE: &[u8] = b"size\t2\n";
@@ -52,7 +53,7 @@ fn too_large_a_case_is_no_yes() {
 #[test]
 fn building_with_room_enough_answers_alike() {
     for seed in 0..2_000 {
-        let sample = sound(&mut Random::new(seed));
+        let sample = drawn(&mut Random::new(seed));
         let [_, state, steps] = needs(&sample).unwrap_or_default();
         let (mut state, mut steps) = (vec![0; state], vec![0; steps]);
         let (question, site, picks) = (&sample.question, &sample.site, &sample.picks);

@@ -4,6 +4,7 @@ use peer::desk::INPUT_LIMIT;
 use peer::naming::{labelled, renamed};
 use peer::sample::{desk_input, needs, sound, Random};
 use peer::trial::{run, Call, Peer, CALLS};
+use peer::typing::typed;
 use peer::{build_text, check_text, desk, judge_text, sizes, Refusal, Reply};
 
 const QUESTION: &[u8] = b"rel\tD\t1\nrel\tE\t2\nchoose\tT\t2\nrule\t(exists (?x ?y) (T ?x ?y))\n";
@@ -162,7 +163,10 @@ fn names_give_the_same_problem() {
     let mut named = 0;
     for seed in 0..4_000 {
         let mut random = Random::new(seed << 24);
-        let plain = sound(&mut random);
+        let mut plain = sound(&mut random);
+        if seed % 2 == 1 {
+            plain = typed(&mut random, &plain);
+        }
         let (sample, names) = labelled(&mut random, &plain);
         named += u32::from(sample.site != plain.site);
         let rooms = needs(&plain).unwrap_or_default();

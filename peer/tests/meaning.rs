@@ -1,8 +1,9 @@
 //! Building agrees with the plain meaning of the rule as it is written, worked
 //! out here without tree, atoms or numbers.
 
-use peer::formula::{parse, Form, Formula};
+use peer::formula::{parse, Form, Formula, Quantified};
 use peer::sample::{needs, sound, Random, Sample};
+use peer::typing::typed;
 use peer::{build_text, picks_text, Refusal, Reply};
 use std::collections::HashSet;
 
@@ -11,6 +12,8 @@ type Tuples = HashSet<Vec<String>>;
 /// A model read straight off the sheets: facts and picks by name and element.
 struct Model<'a> {
     n: usize,
+    /// By type and element.
+    members: Tuples,
     tuples: Tuples,
     formula: &'a Formula<'a>,
 }
@@ -44,8 +47,12 @@ impl Model<'_> {
             Form::And => parts.iter().all(|&part| self.truth(part, bound)),
             Form::Or => parts.iter().any(|&part| self.truth(part, bound)),
             Form::Implies => !self.truth(parts[0], bound) || self.truth(parts[1], bound),
-            Form::Exists(name) => (0..self.n).any(|value| self.with(name, value, parts[0], bound)),
-            Form::Forall(name) => (0..self.n).all(|value| self.with(name, value, parts[0], bound)),
+            Form::Exists(variable) => {
+                self.range(variable).any(|value| self.with(variable, value, parts[0], bound))
+            }
+            Form::Forall(variable) => {
+                self.range(variable).all(|value| self.with(variable, value, parts[0], bound))
+            }
             Form::Literal { name, variables } => {
                 let value = |variable: &&[u8]| {
                     bound.iter().find(|(name, _)| name == variable).expect("a bound variable").1
@@ -57,14 +64,23 @@ impl Model<'_> {
         }
     }
 
+    /// All elements, or those of the variable's type.
+    fn range(&self, of: &Quantified) -> impl Iterator<Item = usize> + '_ {
+        let own = of.of.map(|name| String::from_utf8(name.to_vec()).unwrap());
+        (0..self.n).filter(move |value| {
+            let member = |name: &String| vec![name.clone(), value.to_string()];
+            own.as_ref().is_none_or(|name| self.members.contains(&member(name)))
+        })
+    }
+
     fn with<'v>(
         &'v self,
-        name: &'v [u8],
+        of: &Quantified<'v>,
         value: usize,
         part: usize,
         bound: &mut Vec<(&'v [u8], usize)>,
     ) -> bool {
-        bound.push((name, value));
+        bound.push((of.variable, value));
         let truth = self.truth(part, bound);
         bound.pop();
         truth
@@ -92,7 +108,9 @@ fn expected(sample: &Sample) -> Option<Refusal> {
     let rule = fields(&sample.question, "rule")[0][0].clone();
     let formula = parse(rule.as_bytes()).expect("a formula");
     let facts = fields(&sample.site, "fact");
-    let model = Model { n, tuples: facts.into_iter().chain(picks).collect(), formula: &formula };
+    let members = fields(&sample.site, "member").into_iter().collect();
+    let tuples = facts.into_iter().chain(picks).collect();
+    let model = Model { n, members, tuples, formula: &formula };
     let met = total && model.truth(0, &mut Vec::new());
     (!met).then_some(Refusal { number: 17, place: 0 })
 }
@@ -101,7 +119,11 @@ fn expected(sample: &Sample) -> Option<Refusal> {
 fn building_is_truth() {
     let (mut built, mut refused) = (0, 0);
     for seed in 0..6_000 {
-        let sample = sound(&mut Random::new(seed << 20));
+        let random = &mut Random::new(seed << 20);
+        let mut sample = sound(random);
+        if seed % 2 == 1 {
+            sample = typed(random, &sample);
+        }
         let Some([picks, state, steps]) = needs(&sample) else { continue };
         let (mut state, mut steps) = (vec![0; state], vec![0; steps]);
         let case = (&sample.question[..], &sample.site[..]);

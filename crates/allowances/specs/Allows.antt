@@ -116,7 +116,7 @@ module _ (L : CaseLimits) (question site old : List ℕ) (o : Opened) (facts : �
 
 -- ---- the words written one by one: the first k are the allowances of the relations from `first` on
 abbrev pub Shown : ℕ → Nodes → ℕ → ℕ → List ℕ → Type 0
-Shown n t first k out = (p : Problem) (g : Relations) → Good p → Inputs p n g t → (j : ℕ) → j < k → getD out j 0 ≡ Allowance.allowance p (first + j)
+Shown n t first k out = (p : Problem) (w : List ℕ) (types : ℕ) (g : Relations) → Good p → Inputs p n w types g t → (j : ℕ) → j < k → getD out j 0 ≡ Allowance.allowance p (first + j)
 
 from-at : (a n j : ℕ) → j < n → getD (from a n) j 0 ≡ a + j
 unfolding from
@@ -125,15 +125,15 @@ from-at a (suc n) zero h = sym (add-zero a)
 from-at a (suc n) (suc j) h = let e = from-at (suc a) n j (omega arith) in omega arith
 
 module _ (n : ℕ) (t : Nodes) (first : ℕ) where
-  pub shown-next : (k x : ℕ) (out : List ℕ) → k < length out → ((p : Problem) (g : Relations) → Good p → Inputs p n g t → x ≡ Allowance.allowance p (first + k)) → Shown n t first k out → Shown n t first (k + 1) (set out k x)
-  shown-next k x out l e s p g G is j h = go (ℕ-discrete j k)
+  pub shown-next : (k x : ℕ) (out : List ℕ) → k < length out → ((p : Problem) (w : List ℕ) (types : ℕ) (g : Relations) → Good p → Inputs p n w types g t → x ≡ Allowance.allowance p (first + k)) → Shown n t first k out → Shown n t first (k + 1) (set out k x)
+  shown-next k x out l e s p w types g G is j h = go (ℕ-discrete j k)
     where
       go : Dec (j ≡ k) → getD (set out k x) j 0 ≡ Allowance.allowance p (first + j)
-      go (yes q) = rw (q, getD-set-same out k x 0 l) (e p g G is)
-      go (no q) = getD-set-other out k j x 0 q ∙ s p g G is j (omega arith)
+      go (yes q) = rw (q, getD-set-same out k x 0 l) (e p w types g G is)
+      go (no q) = getD-set-other out k j x 0 q ∙ s p w types g G is j (omega arith)
 
-  pub shown-all : (out : List ℕ) → Shown n t first (length out) out → (p : Problem) (g : Relations) → Good p → Inputs p n g t → out ≡ map (Allowance.allowance p) (from first (length out))
-  shown-all out s p g G is =
+  pub shown-all : (out : List ℕ) → Shown n t first (length out) out → (p : Problem) (w : List ℕ) (types : ℕ) (g : Relations) → Good p → Inputs p n w types g t → out ≡ map (Allowance.allowance p) (from first (length out))
+  shown-all out s p w types g G is =
       let k = length-map (from first (length out)) (Allowance.allowance p) ∙ length-from first (length out) in
       ext-getD 0 out (map (Allowance.allowance p) (from first (length out))) (sym k) (λ j h.
-      s p g G is j h ∙ sym (getD-map (Allowance.allowance p) (from first (length out)) j (let q = length-from first (length out) in omega arith) ∙ ap (Allowance.allowance p) (from-at first (length out) j h)))
+      s p w types g G is j h ∙ sym (getD-map (Allowance.allowance p) (from first (length out)) j (let q = length-from first (length out) in omega arith) ∙ ap (Allowance.allowance p) (from-at first (length out) j h)))

@@ -25,7 +25,7 @@ use sheets::Opened;
 // The allowances of the relations from number `first` on, one into each word.
 fn write(n: usize, t: tree::Nodes, first: usize, out: &mut [u64])
     requires { ⌜ (0 < n) × (n ≤ 64) × Fits t × (first + length (now out) < 2 ^ 32) ⌝ }
-    ensures { λ r. ⌜ ((p : Problem) (g : Relations) → Good p → Inputs p n g t → now (out .exit) ≡ map (allowance p) (from first (length (now (out .entry))))) ⌝ }
+    ensures { λ r. ⌜ ((p : Problem) (w : List ℕ) (types : ℕ) (g : Relations) → Good p → Inputs p n w types g t → now (out .exit) ≡ map (allowance p) (from first (length (now (out .entry))))) ⌝ }
 {
     let mut k: usize = 0;
     while k < out.len() {
@@ -44,9 +44,11 @@ fn of_case(question: &[u8], o: Opened, out: &mut [u64]) -> Reply
     let sig = o.sig;
     let rule = o.rule;
     let n = o.n;
+    let members = o.members;
+    let ranges = layout::ranges_of(n, sig.types, &members);
     let g = grounding::relations_of(sig);
     let t = rewriting::nodes_of(question, rule.from, rule.to, sig);
-    let m = tally::of_tables(n, g, t);
+    let m = tally::of_tables(n, ranges, g, t);
     if layout::too_many(m.atoms, m.actions, asking::ATOMS, asking::ACTIONS) {
         return Reply::Refused(11, 0);
     }

@@ -18,7 +18,7 @@ use Rattle.laws.specs.Results.{given-some}
 use Rattle.records.proofs.Fields.{lines-stop}
 use Rattle.records.specs.Entries.{entryIn, Reads}
 use Rattle.records.specs.declared.Entry.{Entry}
-use Rattle.records.specs.declared.Entry.the-variants.{Wrong, Rel, Choose, Rule, Size, Label, Fact, Pick, Step}
+use Rattle.records.specs.declared.Entry.the-variants.{Wrong, Rel, Typed, Choose, Rule, Size, Label, Member, Fact, Pick, Step}
 use Rattle.sheets.specs.Reading.{FactsRoom}
 
 -- what holds 8 relations of three places over the most elements holds any
@@ -39,10 +39,12 @@ many-room site = facts-room site 64 32768 (omega arith)
 unfoldable pub saysSmall : Entry → Bool
 saysSmall Wrong = true
 saysSmall (Rel a e k) = true
+saysSmall (Typed a e) = true
 saysSmall (Choose a e k kind) = true
 saysSmall (Rule a e) = true
 saysSmall (Size k) = leb k 16
 saysSmall (Label x a t e) = true
+saysSmall (Member a t k e) = true
 saysSmall (Fact a t e xs) = true
 saysSmall (Pick a t e xs) = true
 saysSmall (Step k) = true
@@ -51,10 +53,12 @@ saysSmall (Step k) = true
 unfoldable sizeSaid : Option S.Entry → Option ℕ
 sizeSaid none = none
 sizeSaid (some (S.rel name arity)) = none
+sizeSaid (some (S.type name)) = none
 sizeSaid (some (S.choose name arity kind)) = none
 sizeSaid (some (S.rule text)) = none
 sizeSaid (some (S.size n)) = some n
 sizeSaid (some (S.label x name)) = none
+sizeSaid (some (S.member t x)) = none
 sizeSaid (some (S.fact name xs)) = none
 sizeSaid (some (S.pick name xs)) = none
 sizeSaid (some (S.step k)) = none
@@ -78,10 +82,12 @@ small-said : (s : List ℕ) (x : Entry) (k : ℕ) → saysSmall x ≡ true → s
 unfolding saysSmall entryIn sizeSaid
 small-said s Wrong k h e = absurd (none-some e)
 small-said s (Rel a t n) k h e = absurd (none-some e)
+small-said s (Typed a t) k h e = absurd (none-some e)
 small-said s (Choose a t n kind) k h e = absurd (none-some e)
 small-said s (Rule a t) k h e = absurd (none-some e)
 small-said s (Size n) k h e = subst (λ (m : ℕ). m ≤ 16) (some-eq e) (leb-true n 16 h)
 small-said s (Label x a t u) k h e = absurd (none-some e)
+small-said s (Member a t n u) k h e = absurd (none-some e)
 small-said s (Fact a t u xs) k h e = absurd (none-some e)
 small-said s (Pick a t u xs) k h e = absurd (none-some e)
 small-said s (Step n) k h e = absurd (none-some e)

@@ -10,7 +10,7 @@ use Rattle.definitions.specs.Limits.{CaseLimits}
 use Rattle.definitions.specs.Text.{Line, isBetween, lines}
 use Rattle.definitions.specs.Refusal.{accepted, _>>=_, readLines, readText}
 use Rattle.definitions.specs.Relations.{Relation}
-use Rattle.definitions.specs.Sheets.{Entry, rel, choose, rule, size, label, fact, pick, step, Element, entryOf, SiteDraft, addSize, addLabel, addFact, addToSite, siteLine, Labelled, readSite, readQuestion}
+use Rattle.definitions.specs.Sheets.{Entry, rel, type, choose, rule, size, label, member, fact, pick, step, Element, entryOf, SiteDraft, addSize, addLabel, addMember, addFact, addToSite, siteLine, Labelled, readSite, readQuestion}
 use Rattle.definitions.specs.Truth.{Case}
 use Rattle.definitions.specs.Outcome.{CaseRead, readFiled, readCase}
 use Rattle.laws.specs.Booleans.{T-of, T-and-r}
@@ -44,7 +44,7 @@ module _ (L : CaseLimits) where
       let (_, _, e₅) = bind-parts _ _ next e₄ in
       h k (ap (λ (x : SiteDraft). x .sized) (accepted-eq _ next e₅) ∙ s)
 
-  module _ (rels : List Relation) where
+  module _ (rels : List Relation) (types : List (List ℕ)) where
     fact-few : (d next : SiteDraft) (at : ℕ) (name : List ℕ) (xs : List Element) → Few d → addFact rels d at name xs ≡ accepted next → Few next
     unfolding addFact
     fact-few d next at name xs h e k s =
@@ -52,32 +52,46 @@ module _ (L : CaseLimits) where
         let (ts, _, g) = bind-parts _ _ next f in
         h k (ap (λ (x : SiteDraft). x .sized) (accepted-eq _ next g) ∙ s)
 
-    entry-few : (d next : SiteDraft) (at : ℕ) (x : Entry) → Few d → addToSite L rels d at x ≡ accepted next → Few next
+    member-few : (d next : SiteDraft) (at : ℕ) (name : List ℕ) (x : Element) → Few d → addMember types d at name x ≡ accepted next → Few next
+    unfolding addMember
+    member-few d next at name x h e k s =
+        let (n, _, e₁) = bind-parts _ _ next e in
+        let (_, _, e₂) = bind-parts _ _ next e₁ in
+        let (j, _, e₃) = bind-parts _ _ next e₂ in
+        let (_, _, e₄) = bind-parts _ _ next e₃ in
+        let (y, _, e₅) = bind-parts _ _ next e₄ in
+        let (_, _, e₆) = bind-parts _ _ next e₅ in
+        h k (ap (λ (x : SiteDraft). x .sized) (accepted-eq _ next e₆) ∙ s)
+
+    entry-few : (d next : SiteDraft) (at : ℕ) (x : Entry) → Few d → addToSite L rels types d at x ≡ accepted next → Few next
     unfolding addToSite
     entry-few d next at (rel name arity) h e = absurd (refused-accepted e)
+    entry-few d next at (type name) h e = absurd (refused-accepted e)
     entry-few d next at (choose name arity kind) h e = absurd (refused-accepted e)
     entry-few d next at (rule text) h e = absurd (refused-accepted e)
     entry-few d next at (size n) h e = size-few d next at n (d .sized) e
     entry-few d next at (label x name) h e = label-few d next at x name h e
+    entry-few d next at (member t x) h e = member-few d next at t x h e
     entry-few d next at (fact name xs) h e = fact-few d next at name xs h e
     entry-few d next at (pick name xs) h e = absurd (refused-accepted e)
     entry-few d next at (step k) h e = absurd (refused-accepted e)
 
-    lines-few : (ls : List Line) (d last : SiteDraft) → Few d → readLines (siteLine L rels) d ls ≡ accepted last → Few last
+    lines-few : (ls : List Line) (d last : SiteDraft) → Few d → readLines (siteLine L rels types) d ls ≡ accepted last → Few last
     unfolding readLines siteLine
     lines-few [] d last h e = subst Few (accepted-eq d last e) h
     lines-few (l ∷ ls) d last h e =
-        let (next, s, f) = bind-parts (siteLine L rels d l) _ last e in
-        let (x, _, g) = bind-parts (entryOf l) (addToSite L rels d (l .at)) next s in
+        let (next, s, f) = bind-parts (siteLine L rels types d l) _ last e in
+        let (x, _, g) = bind-parts (entryOf l) (addToSite L rels types d (l .at)) next s in
         lines-few ls next last (entry-few d next (l .at) x h g) f
 
-    site-few : (text : List ℕ) (s : Labelled) → readSite L rels text ≡ accepted s → s .site .size ≤ L .elements
+    site-few : (text : List ℕ) (s : Labelled) → readSite L rels types text ≡ accepted s → s .site .size ≤ L .elements
     unfolding readSite readText
     site-few text s e =
-        let (d, r, f) = bind-parts (readText (siteLine L rels) (record { sized = none; labels = []; facts = [] }) text) _ s e in
+        let (d, r, f) = bind-parts (readText (siteLine L rels types) (record { sized = none; labels = []; members = []; facts = [] }) text) _ s e in
         let (_, _, ls) = bind-parts _ _ d r in
-        let (n, g, q) = bind-parts _ _ s f in
-        let k = lines-few (lines text) (record { sized = none; labels = []; facts = [] }) d (λ m z. absurd (none-some z)) ls n (given-some (d .sized) 3 _ n g) in
+        let (n, g, f₁) = bind-parts _ _ s f in
+        let (_, _, q) = bind-parts _ _ s f₁ in
+        let k = lines-few (lines text) (record { sized = none; labels = []; members = []; facts = [] }) d (λ m z. absurd (none-some z)) ls n (given-some (d .sized) 3 _ n g) in
         subst (λ (x : Labelled). x .site .size ≤ L .elements) (accepted-eq _ s q) k
 
   pub case-within : (question site : List ℕ) (c : Case) → readCase L question site ≡ accepted c → c .site .size ≤ L .elements
@@ -85,5 +99,5 @@ module _ (L : CaseLimits) where
   case-within question site c e =
       let (x, a, b) = bind-parts (readFiled L question site) _ c e in
       let (q, _, f) = bind-parts (readQuestion question) _ x a in
-      let (s, r, g) = bind-parts (readSite L (q .rels) site) _ x f in
-      subst (λ (y : Case). y .site .size ≤ L .elements) (ap (λ (y : CaseRead). y .case) (accepted-eq _ x g) ∙ accepted-eq _ c b) (site-few (q .rels) site s r)
+      let (s, r, g) = bind-parts (readSite L (q .rels) (q .types) site) _ x f in
+      subst (λ (y : Case). y .site .size ≤ L .elements) (ap (λ (y : CaseRead). y .case) (accepted-eq _ x g) ∙ accepted-eq _ c b) (site-few (q .rels) (q .types) site s r)

@@ -49,10 +49,12 @@ fn says_small(x: Entry) -> bool
     match x {
         Entry::Wrong => true,
         Entry::Rel(_, _, _) => true,
+        Entry::Typed(_, _) => true,
         Entry::Choose(_, _, _, _) => true,
         Entry::Rule(_, _) => true,
         Entry::Size(k) => k <= SMALL,
         Entry::Label(_, _, _, _) => true,
+        Entry::Member(_, _, _, _) => true,
         Entry::Fact(_, _, _, _) => true,
         Entry::Pick(_, _, _, _) => true,
         Entry::Step(_) => true,

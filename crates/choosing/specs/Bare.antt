@@ -14,6 +14,7 @@ use Rattle.definitions.specs.Atoms.{Problem, relationAt, tuplesOf, relationStar
 use Rattle.definitions.specs.Actions.{setStart, proofStart}
 use Rattle.definitions.specs.Built.{chosenNumbers}
 use Rattle.definitions.specs.Outcome.{relationWords, picksLength, hasSpare, spareWord}
+use Rattle.laws.specs.Sorts.{Sorted}
 use Rattle.states.specs.Kinds.{breaks}
 use Rattle.tree.specs.Tables.{noPart, noNode, headFrom, Levels, PartIn, IsTable, PartFits, NodeFits, Fits}
 use Rattle.tree.specs.declared.PartRow.{PartRow}
@@ -21,7 +22,7 @@ use Rattle.tree.specs.declared.NodeRow.{NodeRow}
 use Rattle.tree.specs.declared.Nodes.{Nodes}
 use Rattle.layout.specs.declared.Relations.{Relations}
 use Rattle.layout.specs.declared.Layout.{Layout}
-use Rattle.layout.specs.Laid.{Inputs, Starts}
+use Rattle.layout.specs.Laid.{rangeBy, Inputs, Starts}
 use Rattle.picks.specs.Words.{wordStart, rowsIn}
 
 unfoldable pub bare : Problem → Problem
@@ -29,10 +30,10 @@ bare p = record { source = p .source; size = p .size; range = p .range; relation
 
 -- a table of nodes that has none
 abbrev pub blankPart : PartRow
-blankPart = record { tag = 0; which = 0; levels = 0 ∷ 0 ∷ 0 ∷ 0 ∷ []; width = 0 }
+blankPart = record { tag = 0; which = 0; sort = 0; levels = 0 ∷ 0 ∷ 0 ∷ 0 ∷ []; width = 0 }
 
 abbrev pub blankRow : NodeRow
-blankRow = record { kind = 0; level = 0; levels = 0 ∷ 0 ∷ 0 ∷ 0 ∷ []; width = 0; first = 0; many = 0 }
+blankRow = record { kind = 0; level = 0; sort = 0; levels = 0 ∷ 0 ∷ 0 ∷ 0 ∷ []; width = 0; first = 0; many = 0 }
 
 abbrev pub noNodes : Nodes
 noNodes = record { count = 0; placed = 0; rows = replicate 64 blankRow; parts = replicate 64 blankPart; root = blankPart }
@@ -53,11 +54,11 @@ levels-zero (suc (suc zero)) = omega arith
 levels-zero (suc (suc (suc zero))) = omega arith
 levels-zero (suc (suc (suc (suc i)))) = omega arith
 
-part-fits : (ls : List ℕ) → Levels ls → PartFits (record { tag = 0; which = 0; levels = ls; width = 0 })
-part-fits ls h = record { width = omega arith; levels = h; relation = λ _. omega arith; node = λ _. omega arith }
+part-fits : (ls : List ℕ) → Levels ls → PartFits (record { tag = 0; which = 0; sort = 0; levels = ls; width = 0 })
+part-fits ls h = record { width = omega arith; sort = omega arith; levels = h; relation = λ _. omega arith; node = λ _. omega arith }
 
-row-fits : (ls : List ℕ) → Levels ls → NodeFits 0 (record { kind = 0; level = 0; levels = ls; width = 0; first = 0; many = 0 })
-row-fits ls h = record { width = omega arith; levels = h; level = omega arith; parts = omega arith }
+row-fits : (ls : List ℕ) → Levels ls → NodeFits 0 (record { kind = 0; level = 0; sort = 0; levels = ls; width = 0; first = 0; many = 0 })
+row-fits ls h = record { width = omega arith; levels = h; level = omega arith; sort = omega arith; parts = omega arith }
 
 pub none-fits : Fits noNodes
 none-fits = record {
@@ -68,7 +69,7 @@ none-fits = record {
   root = part-fits (0 ∷ 0 ∷ 0 ∷ 0 ∷ []) levels-zero;
 }
 
-part-in : (rels : ℕ) (ls : List ℕ) → 0 < rels → PartIn rels 0 (record { tag = 0; which = 0; levels = ls; width = 0 })
+part-in : (rels : ℕ) (ls : List ℕ) → 0 < rels → PartIn rels 0 (record { tag = 0; which = 0; sort = 0; levels = ls; width = 0 })
 part-in rels ls h = record { relation = λ _. h; node = λ l. absurd (omega arith) }
 
 none-table : (rels : ℕ) → 0 < rels → IsTable rels (leaf true zero []) noNodes
@@ -82,17 +83,23 @@ none-table rels h = record {
 }
 
 module _ (p : Problem) where
-  pub bare-inputs : (n : ℕ) (g : Relations) (t : Nodes) → 0 < length (p .relations) → Inputs p n g t → Inputs (bare p) n g noNodes
-  unfolding bare nodes relationAt
-  bare-inputs n g t h i = record {
+  pub bare-inputs : (n : ℕ) (w : List ℕ) (k : ℕ) (none : List ℕ) (g : Relations) (t : Nodes) → 0 < length (p .relations) → Inputs p n w k g t → Inputs (bare p) n none 0 g noNodes
+  unfolding bare nodes relationAt rangeBy Sorted
+  bare-inputs n w k none g t h i = record {
     size = i .size;
     list = refl;
-    ranges = i .ranges;
+    ranges = λ s l. first s l;
+    ranged = i .ranged;
+    sorted = tt;
     count = i .count;
     arity = i .arity;
     kind = i .kind;
     tree = none-table (g .count) (omega (arith, i .count));
   }
+    where
+      first : (s : ℕ) → s ≤ 0 → p .range s ≡ rangeBy n none s
+      first zero l = i .ranges 0 (omega arith)
+      first (suc s) l = absurd (omega arith)
 
   pub bare-starts : (l : Layout) → Starts p l → Starts (bare p) l
   unfolding bare relationStart nodeStart setStart proofStart relationAt tuplesOf

@@ -24,9 +24,11 @@ pub fn of_case(question: &[u8], o: Opened) -> Tally
     let sig = o.sig;
     let rule = o.rule;
     let n = o.n;
+    let members = o.members;
+    let ranges = layout::ranges_of(n, sig.types, &members);
     let g = grounding::relations_of(sig);
     let t = rewriting::nodes_of(question, rule.from, rule.to, sig);
-    tally::of_tables(n, g, t)
+    tally::of_tables(n, ranges, g, t)
 }
 
 pub enum Tallied {

@@ -14,6 +14,8 @@
 -- Document 02, "What customers want changed later":
 --   job 1, door names              Sheets (labels, 18), Desk, Rewritten; LabelCases has cases
 --   job 3, sizes in one pass       Tally; TallyCases has cases
+--   job 4, types                   Formula (19 in the rule), Sheets (`type` and `member` lines), Truth (ranges), Untyped; TypeCases
+--                                  has cases
 --   job 6, yes or no               Judgement; JudgementCases has cases
 --   job 8, twenty tries            Tries; TriesDrawn has cases
 --   job 14, one card               Allowance; AllowanceCases has cases
@@ -36,6 +38,7 @@ pub mod Outcome
 pub mod Demand
 pub mod Desk
 pub mod Rewritten
+pub mod Untyped
 pub mod Tally
 pub mod Tries
 pub mod Judgement
@@ -45,6 +48,7 @@ pub mod Drawer
 pub mod Cases
 pub mod Whole
 pub mod LabelCases
+pub mod TypeCases
 pub mod TallyCases
 pub mod TriesDrawn
 pub mod JudgementCases

@@ -1,8 +1,8 @@
 -- Every limit of document 01 under one name. A limit is the largest number that still passes.
 use Prim.Native.Nat.{ℕ}
 
--- "The sheets": bytes of a text, digits of a number, bytes of a relation's name and of a variable, arity, lines of each kind,
--- variables in one list, brackets open at one time
+-- "The sheets": bytes of a text, digits of a number, bytes of a relation's name and of a variable, arity, lines of each kind
+-- (`type` lines are document 02's, job 4), variables in one list, brackets open at one time
 abbrev pub textLimit : ℕ
 textLimit = 1048576
 
@@ -20,6 +20,9 @@ arityLimit = 3
 
 abbrev pub relLimit : ℕ
 relLimit = 8
+
+abbrev pub typeLimit : ℕ
+typeLimit = 8
 
 abbrev pub chooseLimit : ℕ
 chooseLimit = 4

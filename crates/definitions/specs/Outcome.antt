@@ -44,7 +44,7 @@ pub record CaseRead : Type 0 where
 unfoldable pub readFiled : CaseLimits → List ℕ → List ℕ → Result CaseRead
 readFiled L question site = do
   q ← readQuestion question
-  s ← readSite L (q .rels) site
+  s ← readSite L (q .rels) (q .types) site
   accepted (record { case = record { question = q; site = s .site }; labels = s .labels })
 
 -- the case alone

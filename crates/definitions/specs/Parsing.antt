@@ -8,7 +8,7 @@ use lib.ListN.{length, take, drop}
 use lib.Dec.{eqb, leb}
 use Rattle.definitions.specs.Limits.{nameLimit, variableLimit, listLimit, bracketLimit}
 use Rattle.definitions.specs.Text.{isCapital, isSmall, isDigit}
-use Rattle.definitions.specs.Formula.{Formula, Formulas, literal, negation, implication, nil, cons, Join, ands, ors, Quant, somes, everys, join, quant, joinWord, quantWord, notWord, impWord}
+use Rattle.definitions.specs.Formula.{Quantified, Formula, Formulas, literal, negation, implication, nil, cons, Join, ands, ors, Quant, somes, everys, join, quant, joinWord, quantWord, notWord, impWord}
 
 -- what is read, and the bytes after it
 pub data Res (A : Type 0) : Type 0 where
@@ -53,13 +53,30 @@ readWord b (c ∷ l) = elim (first b c && leb (suc (span b l)) (longest b)) [ tr
 unfoldable pub readVar : List ℕ → Res (List ℕ)
 readVar l = elim (begins (63 ∷ []) l) [ true ↦ andThen (readWord true (drop 1 l)) (λ v r. ok (63 ∷ v) r) | false ↦ bad ]
 
--- up to n more variables
-unfoldable pub readVars : ℕ → List ℕ → Res (List (List ℕ))
-readVars zero l = elim (begins (32 ∷ []) l) [ true ↦ bad | false ↦ ok [] l ]
-readVars (suc n) l = elim (begins (32 ∷ []) l) [
-  | true ↦ andThen (readVar (drop 1 l)) (λ v m. andThen (readVars n m) (λ vs r. ok (v ∷ vs) r))
+-- up to n more things, each after a space
+unfoldable pub readEach : {A : Type 0} → (List ℕ → Res A) → ℕ → List ℕ → Res (List A)
+readEach one zero l = elim (begins (32 ∷ []) l) [ true ↦ bad | false ↦ ok [] l ]
+readEach one (suc n) l = elim (begins (32 ∷ []) l) [
+  | true ↦ andThen (one (drop 1 l)) (λ v m. andThen (readEach one n m) (λ vs r. ok (v ∷ vs) r))
   | false ↦ ok [] l
 ]
+
+-- the variables of a literal
+abbrev pub readVars : ℕ → List ℕ → Res (List (List ℕ))
+readVars n l = readEach readVar n l
+
+-- a variable's type, if a colon follows; a quantified variable; up to n more of them
+unfoldable pub readType : List ℕ → List ℕ → Res Quantified
+readType v l = elim (begins (58 ∷ []) l) [
+  | true ↦ andThen (readWord false (drop 1 l)) (λ t r. ok (record { variable = v; type = some t }) r)
+  | false ↦ ok (record { variable = v; type = none }) l
+]
+
+unfoldable pub readTyped : List ℕ → Res Quantified
+readTyped l = andThen (readVar l) (λ v m. readType v m)
+
+abbrev pub readMore : ℕ → List ℕ → Res (List Quantified)
+readMore n l = readEach readTyped n l
 
 -- up to n more parts
 unfoldable pub readParts : (List ℕ → Res Formula) → ℕ → List ℕ → Res Formulas
@@ -103,7 +120,7 @@ unfoldable pub readJoin : (List ℕ → Res Formula) → Join → List ℕ → R
 readJoin g j l = andThen (g l) (λ f m. andThen (readParts g (length m) m) (λ fs r. want close (join j (cons f fs)) r))
 
 unfoldable pub readQuant : (List ℕ → Res Formula) → Quant → List ℕ → Res Formula
-readQuant g q l = andThen (readVar l) (λ v l1. andThen (readVars (listLimit - 1) l1) (λ vs l2. andThen (want (41 ∷ 32 ∷ []) vs l2) (λ us l3. andThen (g l3) (λ f r. want close (quant q (v ∷ us) f) r))))
+readQuant g q l = andThen (readTyped l) (λ v l1. andThen (readMore (listLimit - 1) l1) (λ vs l2. andThen (want (41 ∷ 32 ∷ []) vs l2) (λ us l3. andThen (g l3) (λ f r. want close (quant q (v ∷ us) f) r))))
 
 unfoldable pub readLit : List ℕ → Res Formula
 readLit l = elim (begins (40 ∷ []) l) [

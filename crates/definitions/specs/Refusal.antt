@@ -1,22 +1,24 @@
 -- Document 01, "Refusal sheet": an answer is a value, or a refusal with its number and place. Where each number is tested:
 --    1  `readText` here; too many lent steps: Outcome.takeSteps; the desk program's bytes: Desk.answer
 --    2  Sheets.entryOf
---    3  Sheets.addRel, addChoose, addRule, addSize, addLabel, addFact; another sheet's record: addToQuestion, addToSite, addToPicks,
---       addToSteps; missing: readQuestion, readSite
---    4  Sheets.isNewName
+--    3  Sheets.addRel, addType, addChoose, addRule, addSize, addLabel, addMember, addFact; another sheet's record: addToQuestion,
+--       addToSite, addToPicks, addToSteps; missing: readQuestion, readSite
+--    4  Sheets.isNewName, and a type's: Sheets.addType
 --    5  Parsing.readFormula
 --    6  Formula.allForms, Formula.nesting
 --    7  Formula.isKnown in the rule, Sheets.used in `fact` and `pick`
 --    8  Formula.isScoped
---    9  Sheets.addSize, Sheets.addLabel, Sheets.addTuple
---   10  Sheets.addTuple in a text, Outcome.spareWord in lent picks
+--    9  Sheets.addSize, Sheets.addLabel, Sheets.addMember, Sheets.addTuple
+--   10  Sheets.addMember, Sheets.addTuple in a text, Outcome.spareWord in lent picks
 --   11  Outcome.ground
 --   12  Outcome.roomFor
 --   13, 14, 15  Strips.runFrom; an action asked for by number: Outcome.action
 --   16  Truth.firstOfOtherKind, by Outcome.satisfying
 --   17  Truth.ruleIsTrue, by Outcome.satisfying
 -- and of document 02:
---   18  just after 9: Sheets.addLabel, Sheets.addTuple
+--   18  just after 9: Sheets.addLabel, Sheets.addMember, Sheets.addTuple
+--   19  a type, just after 8: Sheets.addType, Formula.isTyped in the rule, Sheets.addMember; one without members, at the end of the
+--       site: Sheets.readSite
 use Prim.Native.Nat.{ℕ, zero}
 use mathlib.Core.Bool.{Bool, true, false}
 use mathlib.Core.Option.{Option, none, some}
@@ -58,7 +60,7 @@ readText line s text = refuseIf (ltb textLimit (length text)) 1 zero >>= λ _. r
 -- ---- the numbers that a call may refuse with: where no problem is made of the texts; or a lent buffer is too short; steps that are
 -- taken one by one; picks that are handed over
 abbrev pub caseNumbers : List ℕ
-caseNumbers = 1 ∷ 2 ∷ 3 ∷ 4 ∷ 5 ∷ 6 ∷ 7 ∷ 8 ∷ 9 ∷ 10 ∷ 11 ∷ 18 ∷ []
+caseNumbers = 1 ∷ 2 ∷ 3 ∷ 4 ∷ 5 ∷ 6 ∷ 7 ∷ 8 ∷ 9 ∷ 10 ∷ 11 ∷ 18 ∷ 19 ∷ []
 
 abbrev pub readyNumbers : List ℕ
 readyNumbers = 12 ∷ caseNumbers

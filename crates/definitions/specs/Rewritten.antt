@@ -12,11 +12,11 @@ use Rattle.definitions.specs.Desk.{isRecord, printLine}
 unfoldable pub fieldInNumbers : List Label → List ℕ → List ℕ
 fieldInNumbers labels f = option (option (element f) none (elementOf labels)) f decimal
 
--- a line's fields: in `fact` and `pick` lines those after the name are elements
+-- a line's fields: in `member`, `fact` and `pick` lines those after the name are elements
 unfoldable pub fieldsInNumbers : List Label → List (List ℕ) → List (List ℕ)
 fieldsInNumbers labels [] = []
 fieldsInNumbers labels (w ∷ []) = w ∷ []
-fieldsInNumbers labels (w ∷ name ∷ fs) = w ∷ name ∷ (if same w (bytes "fact") || same w (bytes "pick") then map (fieldInNumbers labels) fs else fs)
+fieldsInNumbers labels (w ∷ name ∷ fs) = w ∷ name ∷ (if same w (bytes "member") || same w (bytes "fact") || same w (bytes "pick") then map (fieldInNumbers labels) fs else fs)
 
 -- a line, and a text of ended lines; `label` lines are left out
 unfoldable pub lineInNumbers : List Label → Line → List ℕ

@@ -1,17 +1,18 @@
 -- Document 01, "The sheets" and the first ten rows of its "Refusal sheet": reading the question, the site, picks and steps; and
--- document 02, job 1: labels of elements. A reader takes the relations that its lines may name, and nothing else of the question.
-use Prim.Native.Nat.{ℕ, _+_}
+-- document 02, job 1: labels of elements, job 4: types and their members. A reader takes the relations and the types that its lines
+-- may name, and nothing else of the question.
+use Prim.Native.Nat.{ℕ, zero, _+_}
 use mathlib.Core.Bool.{Bool, true, false, not, _&&_, _||_}
 use mathlib.Core.Option.{Option, none, some}
 use mathlib.Core.List.{List, [], _∷_, _++_}
 use lib.ListN.{length}
 use lib.Dec.{eqb, leb, ltb}
-use Rattle.definitions.specs.Limits.{arityLimit, relLimit, chooseLimit, formLimit, nestingLimit, CaseLimits}
-use Rattle.definitions.specs.Lists.{if_then_else_, all, any, same, isEmpty, option, position}
+use Rattle.definitions.specs.Limits.{arityLimit, relLimit, typeLimit, chooseLimit, formLimit, nestingLimit, CaseLimits}
+use Rattle.definitions.specs.Lists.{if_then_else_, all, any, same, isEmpty, option, position, below}
 use Rattle.definitions.specs.Text.{bytes, Line, fields, number, isRelationName, isBetween}
 use Rattle.definitions.specs.Refusal.{Result, refused, accepted, _>>=_, refuseIf, given, readText}
 use Rattle.definitions.specs.Relations.{Kind, static, plain, Fun, PFun, Inj, PInj, Relation, Tuple, isAmong, builtIn, isDeclared}
-use Rattle.definitions.specs.Formula.{Formula, allForms, nesting, isKnown, isScoped}
+use Rattle.definitions.specs.Formula.{Formula, allForms, nesting, isKnown, isScoped, typeNumber, isTyped}
 use Rattle.definitions.specs.Parsing.{readFormula}
 
 -- ---- the records of all sheets, by their form
@@ -25,10 +26,12 @@ pub data Element : Type 0 where
 -- one line of any sheet, by its record word
 pub data Entry : Type 0 where
   rel : (name : List ℕ) → (arity : ℕ) → Entry
+  type : (name : List ℕ) → Entry
   choose : (name : List ℕ) → (arity : ℕ) → Kind → Entry
   rule : (formula : List ℕ) → Entry
   size : (n : ℕ) → Entry
   label : Element → (name : List ℕ) → Entry
+  member : (type : List ℕ) → Element → Entry
   fact pick : (name : List ℕ) → (elements : List Element) → Entry
   step : (action : ℕ) → Entry
 
@@ -57,6 +60,10 @@ elements (f ∷ fs) = option (element f) none (λ x. option (elements fs) none (
 unfoldable pub labelOf : List ℕ → List ℕ → Option Entry
 labelOf f name = if isRelationName name then option (element f) none (λ x. some (label x name)) else none
 
+-- what a `member` line has: a type, then an element. (Whether the type is one is not its form: it is 19 where it is none.)
+unfoldable pub memberOf : List ℕ → List ℕ → Option Entry
+memberOf name f = option (element f) none (λ x. some (member name x))
+
 -- records with one field after the record word, with two, and, for `fact` and `pick`, with a name and 1 to 3 elements
 unfoldable pub withOne : (List ℕ → Option Entry) → List (List ℕ) → Option Entry
 withOne make [] = none
@@ -78,10 +85,12 @@ unfoldable pub entry : List (List ℕ) → Option Entry
 entry [] = none
 entry (w ∷ fs) =
     if same w (bytes "rel") then withTwo (λ name a. option (arityOf a) none (λ k. some (rel name k))) fs
+    else if same w (bytes "type") then withOne (λ f. some (type f)) fs
     else if same w (bytes "choose") then withTwo chooseOf fs
     else if same w (bytes "rule") then withOne (λ f. some (rule f)) fs
     else if same w (bytes "size") then withOne (λ f. option (number f) none (λ n. some (size n))) fs
     else if same w (bytes "label") then withTwo labelOf fs
+    else if same w (bytes "member") then withTwo memberOf fs
     else if same w (bytes "fact") then withElements fact fs
     else if same w (bytes "pick") then withElements pick fs
     else if same w (bytes "step") then withOne (λ f. option (number f) none (λ k. some (step k))) fs
@@ -91,7 +100,7 @@ entry (w ∷ fs) =
 unfoldable pub entryOf : Line → Result Entry
 entryOf l = given (if l .ended then entry (fields l) else none) 2 (l .at)
 
--- ---- the question: `rel` lines, then `choose` lines, then one `rule` line
+-- ---- the question: `rel` lines, then `type` lines, then `choose` lines, then one `rule` line
 
 -- the formula, with the place and the bytes of its field
 pub record Rule : Type 0 where
@@ -102,11 +111,13 @@ pub record Rule : Type 0 where
 -- a question's lines so far, and a whole question
 pub record Draft : Type 0 where
   pub rels : List Relation
+  pub types : List (List ℕ)
   pub chosen : List Relation
   pub ruled : Option Rule
 
 pub record Question : Type 0 where
   pub rels : List Relation
+  pub types : List (List ℕ)
   pub chosen : List Relation
   pub rule : Rule
 
@@ -122,21 +133,30 @@ isRuled (some r) = true
 unfoldable pub isNewName : Draft → List ℕ → Bool
 isNewName d name = isRelationName name && not (isDeclared (relations (d .rels) (d .chosen)) name)
 
--- a `rel` line: 3 after a `choose` line, and where there are 8 already
+-- a `rel` line: 3 after a `type` or `choose` line, and where there are 8 already
 unfoldable pub addRel : Draft → ℕ → List ℕ → ℕ → Result Draft
 addRel d at name arity = do
-  _ ← refuseIf (not (isEmpty (d .chosen)) || leb relLimit (length (d .rels))) 3 at
+  _ ← refuseIf (not (isEmpty (d .types)) || not (isEmpty (d .chosen)) || leb relLimit (length (d .rels))) 3 at
   _ ← refuseIf (not (isNewName d name)) 4 at
-  accepted (record { rels = d .rels ++ (record { name = name; arity = arity; kind = static } ∷ []); chosen = d .chosen; ruled = d .ruled })
+  accepted (record { rels = d .rels ++ (record { name = name; arity = arity; kind = static } ∷ []); types = d .types; chosen = d .chosen; ruled = d .ruled })
+
+-- a `type` line: 3 after a `choose` line, and where there are 8 already; 4 if its name has not a relation name's form, which is all that
+-- is asked of it; 19 if it is declared already
+unfoldable pub addType : Draft → ℕ → List ℕ → Result Draft
+addType d at name = do
+  _ ← refuseIf (not (isEmpty (d .chosen)) || leb typeLimit (length (d .types))) 3 at
+  _ ← refuseIf (not (isRelationName name)) 4 at
+  _ ← refuseIf (any (λ t. same t name) (d .types)) 19 at
+  accepted (record { rels = d .rels; types = d .types ++ (name ∷ []); chosen = d .chosen; ruled = d .ruled })
 
 -- a `choose` line: 3 after the rule, and where there are 4 already
 unfoldable pub addChoose : Draft → ℕ → List ℕ → ℕ → Kind → Result Draft
 addChoose d at name arity kind = do
   _ ← refuseIf (isRuled (d .ruled) || leb chooseLimit (length (d .chosen))) 3 at
   _ ← refuseIf (not (isNewName d name)) 4 at
-  accepted (record { rels = d .rels; chosen = d .chosen ++ (record { name = name; arity = arity; kind = kind } ∷ []); ruled = d .ruled })
+  accepted (record { rels = d .rels; types = d .types; chosen = d .chosen ++ (record { name = name; arity = arity; kind = kind } ∷ []); ruled = d .ruled })
 
--- the `rule` line: 3 if it is the second, or comes before any `choose`; then 5 to 8, each of the whole formula. The formula
+-- the `rule` line: 3 if it is the second, or comes before any `choose`; then 5 to 8 and 19, each of the whole formula. The formula
 -- begins 5 bytes into the line, after `rule` and the tab.
 unfoldable pub addRule : Draft → ℕ → List ℕ → Result Draft
 addRule d at text = do
@@ -145,15 +165,18 @@ addRule d at text = do
   _ ← refuseIf (ltb formLimit (allForms (d .chosen) f) || ltb nestingLimit (nesting f)) 6 at
   _ ← refuseIf (not (isKnown (relations (d .rels) (d .chosen)) f)) 7 at
   _ ← refuseIf (not (isScoped [] f)) 8 at
-  accepted (record { rels = d .rels; chosen = d .chosen; ruled = some (record { at = at + 5; text = text; formula = f }) })
+  _ ← refuseIf (not (isTyped (d .types) f)) 19 at
+  accepted (record { rels = d .rels; types = d .types; chosen = d .chosen; ruled = some (record { at = at + 5; text = text; formula = f }) })
 
 -- a line of the question; what belongs to another sheet is 3
 unfoldable pub addToQuestion : Draft → ℕ → Entry → Result Draft
 addToQuestion d at (rel name arity) = addRel d at name arity
+addToQuestion d at (type name) = addType d at name
 addToQuestion d at (choose name arity kind) = addChoose d at name arity kind
 addToQuestion d at (rule text) = addRule d at text
 addToQuestion d at (size n) = refused 3 at
 addToQuestion d at (label x name) = refused 3 at
+addToQuestion d at (member t x) = refused 3 at
 addToQuestion d at (fact name xs) = refused 3 at
 addToQuestion d at (pick name xs) = refused 3 at
 addToQuestion d at (step k) = refused 3 at
@@ -164,9 +187,9 @@ questionLine d l = entryOf l >>= addToQuestion d (l .at)
 -- the whole question; without a rule it is 3 at the text's length
 unfoldable pub readQuestion : List ℕ → Result Question
 readQuestion text = do
-  d ← readText questionLine (record { rels = []; chosen = []; ruled = none }) text
+  d ← readText questionLine (record { rels = []; types = []; chosen = []; ruled = none }) text
   r ← given (d .ruled) 3 (length text)
-  accepted (record { rels = d .rels; chosen = d .chosen; rule = r })
+  accepted (record { rels = d .rels; types = d .types; chosen = d .chosen; rule = r })
 
 unfoldable pub relationsOf : Question → List Relation
 relationsOf q = relations (q .rels) (q .chosen)
@@ -224,16 +247,30 @@ addTuple rs first n labels tuples at name es = do
   _ ← refuseIf (isAmong (record { relation = r; places = xs }) tuples) 10 at
   accepted (tuples ++ (record { relation = r; places = xs } ∷ []))
 
--- ---- the site: one `size` line, then `label` lines, then `fact` lines of the `rel` relations
+-- ---- the site: one `size` line, then `label` lines, then `member` lines, then `fact` lines of the `rel` relations
+
+-- a `member` line says that an element is of a type, which it gives by its number; whether some line says so, and whether a type has
+-- any member
+pub record Member : Type 0 where
+  pub type : ℕ
+  pub element : ℕ
+
+unfoldable pub isMember : List Member → ℕ → ℕ → Bool
+isMember members k x = any (λ (m : Member). eqb (m .type) k && eqb (m .element) x) members
+
+unfoldable pub hasMember : List Member → ℕ → Bool
+hasMember members k = any (λ (m : Member). eqb (m .type) k) members
 
 -- a site's lines so far; a whole site; and that with its labels, which are no part of the case
 pub record SiteDraft : Type 0 where
   pub sized : Option ℕ
   pub labels : List Label
+  pub members : List Member
   pub facts : List Tuple
 
 pub record Site : Type 0 where
   pub size : ℕ
+  pub members : List Member
   pub facts : List Tuple
 
 pub record Labelled : Type 0 where
@@ -242,58 +279,76 @@ pub record Labelled : Type 0 where
 
 -- a `size` line: 3 if it is the second, 9 if n is 0 or more than the limit
 unfoldable pub addSize : CaseLimits → SiteDraft → ℕ → ℕ → Option ℕ → Result SiteDraft
-addSize L d at n none = refuseIf (not (isBetween 1 (L .elements) n)) 9 at >>= λ _. accepted (record { sized = some n; labels = d .labels; facts = d .facts })
+addSize L d at n none = refuseIf (not (isBetween 1 (L .elements) n)) 9 at >>= λ _. accepted (record { sized = some n; labels = d .labels; members = d .members; facts = d .facts })
 addSize L d at n (some m) = refused 3 at
 
 -- whether an earlier label is that of the element, or has the name
 unfoldable pub isTaken : List Label → ℕ → List ℕ → Bool
 isTaken labels x name = any (λ (l : Label). eqb (l .element) x || same (l .name) name) labels
 
--- a `label` line: 3 before `size` and after a `fact`; 9 if its element is a number not below n; 18 if that is a name that is no label,
+-- a `label` line: 3 before `size` and after a `member` or `fact`; 9 if its element is a number not below n; 18 if that is a name that is no label,
 -- or if the element or the name has a `label` line already. (So a name there always ends in 18: its element has one, or it means none.)
 unfoldable pub addLabel : SiteDraft → ℕ → Element → List ℕ → Result SiteDraft
 addLabel d at e name = do
   n ← given (d .sized) 3 at
-  _ ← refuseIf (not (isEmpty (d .facts))) 3 at
+  _ ← refuseIf (not (isEmpty (d .members)) || not (isEmpty (d .facts))) 3 at
   _ ← refuseIf (not (isInRange n e)) 9 at
   x ← given (elementOf (d .labels) e) 18 at
   _ ← refuseIf (isTaken (d .labels) x name) 18 at
-  accepted (record { sized = d .sized; labels = d .labels ++ (record { element = x; name = name } ∷ []); facts = d .facts })
+  accepted (record { sized = d .sized; labels = d .labels ++ (record { element = x; name = name } ∷ []); members = d .members; facts = d .facts })
+
+-- a `member` line: 3 before `size` and after a `fact`; 19 if no such type is declared; 9 if its element is a number not below n; 18 if
+-- that is a name that is no label; 10 if the element, however written, is a member of that type by an earlier line
+unfoldable pub addMember : List (List ℕ) → SiteDraft → ℕ → List ℕ → Element → Result SiteDraft
+addMember types d at name e = do
+  n ← given (d .sized) 3 at
+  _ ← refuseIf (not (isEmpty (d .facts))) 3 at
+  k ← given (typeNumber types name) 19 at
+  _ ← refuseIf (not (isInRange n e)) 9 at
+  x ← given (elementOf (d .labels) e) 18 at
+  _ ← refuseIf (isMember (d .members) k x) 10 at
+  accepted (record { sized = d .sized; labels = d .labels; members = d .members ++ (record { type = k; element = x } ∷ []); facts = d .facts })
 
 -- a `fact` line: 3 before `size`
 unfoldable pub addFact : List Relation → SiteDraft → ℕ → List ℕ → List Element → Result SiteDraft
 addFact rels d at name es = do
   n ← given (d .sized) 3 at
   facts ← addTuple rels firstRel n (d .labels) (d .facts) at name es
-  accepted (record { sized = d .sized; labels = d .labels; facts = facts })
+  accepted (record { sized = d .sized; labels = d .labels; members = d .members; facts = facts })
 
-unfoldable pub addToSite : CaseLimits → List Relation → SiteDraft → ℕ → Entry → Result SiteDraft
-addToSite L rels d at (rel name arity) = refused 3 at
-addToSite L rels d at (choose name arity kind) = refused 3 at
-addToSite L rels d at (rule text) = refused 3 at
-addToSite L rels d at (size n) = addSize L d at n (d .sized)
-addToSite L rels d at (label x name) = addLabel d at x name
-addToSite L rels d at (fact name xs) = addFact rels d at name xs
-addToSite L rels d at (pick name xs) = refused 3 at
-addToSite L rels d at (step k) = refused 3 at
+unfoldable pub addToSite : CaseLimits → List Relation → List (List ℕ) → SiteDraft → ℕ → Entry → Result SiteDraft
+addToSite L rels types d at (rel name arity) = refused 3 at
+addToSite L rels types d at (type name) = refused 3 at
+addToSite L rels types d at (choose name arity kind) = refused 3 at
+addToSite L rels types d at (rule text) = refused 3 at
+addToSite L rels types d at (size n) = addSize L d at n (d .sized)
+addToSite L rels types d at (label x name) = addLabel d at x name
+addToSite L rels types d at (member t x) = addMember types d at t x
+addToSite L rels types d at (fact name xs) = addFact rels d at name xs
+addToSite L rels types d at (pick name xs) = refused 3 at
+addToSite L rels types d at (step k) = refused 3 at
 
-unfoldable pub siteLine : CaseLimits → List Relation → SiteDraft → Line → Result SiteDraft
-siteLine L rels d l = entryOf l >>= addToSite L rels d (l .at)
+unfoldable pub siteLine : CaseLimits → List Relation → List (List ℕ) → SiteDraft → Line → Result SiteDraft
+siteLine L rels types d l = entryOf l >>= addToSite L rels types d (l .at)
 
-unfoldable pub readSite : CaseLimits → List Relation → List ℕ → Result Labelled
-readSite L rels text = do
-  d ← readText (siteLine L rels) (record { sized = none; labels = []; facts = [] }) text
+-- the whole site; without a size it is 3 at the text's length, and then 19, place 0, where a type has no member
+unfoldable pub readSite : CaseLimits → List Relation → List (List ℕ) → List ℕ → Result Labelled
+readSite L rels types text = do
+  d ← readText (siteLine L rels types) (record { sized = none; labels = []; members = []; facts = [] }) text
   n ← given (d .sized) 3 (length text)
-  accepted (record { site = record { size = n; facts = d .facts }; labels = d .labels })
+  _ ← refuseIf (not (all (hasMember (d .members)) (below (length types)))) 19 zero
+  accepted (record { site = record { size = n; members = d .members; facts = d .facts }; labels = d .labels })
 
 -- ---- picks: `pick` lines of the `choose` relations, the first of which has the number `first`, over n elements with the site's labels
 
 unfoldable pub addToPicks : List Relation → ℕ → ℕ → List Label → List Tuple → ℕ → Entry → Result (List Tuple)
 addToPicks chosen first n labels picks at (rel name arity) = refused 3 at
+addToPicks chosen first n labels picks at (type name) = refused 3 at
 addToPicks chosen first n labels picks at (choose name arity kind) = refused 3 at
 addToPicks chosen first n labels picks at (rule text) = refused 3 at
 addToPicks chosen first n labels picks at (size m) = refused 3 at
 addToPicks chosen first n labels picks at (label x name) = refused 3 at
+addToPicks chosen first n labels picks at (member t x) = refused 3 at
 addToPicks chosen first n labels picks at (fact name xs) = refused 3 at
 addToPicks chosen first n labels picks at (pick name xs) = addTuple chosen first n labels picks at name xs
 addToPicks chosen first n labels picks at (step k) = refused 3 at
@@ -308,10 +363,12 @@ readPicks chosen first n labels text = readText (picksLine chosen first n labels
 
 unfoldable pub addToSteps : List ℕ → ℕ → Entry → Result (List ℕ)
 addToSteps steps at (rel name arity) = refused 3 at
+addToSteps steps at (type name) = refused 3 at
 addToSteps steps at (choose name arity kind) = refused 3 at
 addToSteps steps at (rule text) = refused 3 at
 addToSteps steps at (size n) = refused 3 at
 addToSteps steps at (label x name) = refused 3 at
+addToSteps steps at (member t x) = refused 3 at
 addToSteps steps at (fact name xs) = refused 3 at
 addToSteps steps at (pick name xs) = refused 3 at
 addToSteps steps at (step k) = accepted (steps ++ (k ∷ []))

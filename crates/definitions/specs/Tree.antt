@@ -7,7 +7,7 @@ use lib.Dec.{eqb}
 use Rattle.definitions.specs.Limits.{nestingLimit}
 use Rattle.definitions.specs.Lists.{if_then_else_, any, filter, same, option, position, below}
 use Rattle.definitions.specs.Relations.{Relation, isTotal, numberOf}
-use Rattle.definitions.specs.Formula.{Formula, Formulas, literal, negation, implication, conjunction, disjunction, exists, forall, nil, cons, sortOf}
+use Rattle.definitions.specs.Formula.{Formula, Formulas, literal, negation, implication, conjunction, disjunction, exists, forall, nil, cons, variablesOf, sortOf}
 use Rattle.definitions.specs.Sheets.{Question, relationsOf, firstChosen}
 
 -- A literal has a relation's number, and is its tuple or, where `positive` is false, its not-tuple. A variable is its level:
@@ -33,33 +33,34 @@ unfoldable pub leafOf : Bool → List Relation → List (List ℕ) → List ℕ 
 leafOf positive rs scope r vs = leaf positive (option (numberOf rs r) zero (λ k. k)) (map (λ v. option (position (same v) scope) zero (λ k. k)) vs)
 
 -- Negation is pushed inward until only literals are negated, and `implies` is an `or` whose first part is negated. `asIs` is the
--- tree of a formula, `negated` that of its negation, where `and` and `or`, `exists` and `forall` change places.
+-- tree of a formula, `negated` that of its negation, where `and` and `or`, `exists` and `forall` change places; a variable keeps its
+-- sort. Both take the relations, the types, and the variables bound around.
 unfoldable mutual
-  pub asIs : List Relation → List (List ℕ) → Formula → Tree
-  asIs rs scope (literal r vs) = leafOf true rs scope r vs
-  asIs rs scope (negation f) = negated rs scope f
-  asIs rs scope (implication f g) = orNode (negated rs scope f then asIs rs scope g then end)
-  asIs rs scope (conjunction fs) = andNode (allAsIs rs scope fs)
-  asIs rs scope (disjunction fs) = orNode (allAsIs rs scope fs)
-  asIs rs scope (exists vs f) = nest existsNode (length scope) (map sortOf vs) (asIs rs (scope ++ vs) f)
-  asIs rs scope (forall vs f) = nest forallNode (length scope) (map sortOf vs) (asIs rs (scope ++ vs) f)
+  pub asIs : List Relation → (types scope : List (List ℕ)) → Formula → Tree
+  asIs rs types scope (literal r vs) = leafOf true rs scope r vs
+  asIs rs types scope (negation f) = negated rs types scope f
+  asIs rs types scope (implication f g) = orNode (negated rs types scope f then asIs rs types scope g then end)
+  asIs rs types scope (conjunction fs) = andNode (allAsIs rs types scope fs)
+  asIs rs types scope (disjunction fs) = orNode (allAsIs rs types scope fs)
+  asIs rs types scope (exists qs f) = nest existsNode (length scope) (map (sortOf types) qs) (asIs rs types (scope ++ variablesOf qs) f)
+  asIs rs types scope (forall qs f) = nest forallNode (length scope) (map (sortOf types) qs) (asIs rs types (scope ++ variablesOf qs) f)
 
-  pub negated : List Relation → List (List ℕ) → Formula → Tree
-  negated rs scope (literal r vs) = leafOf false rs scope r vs
-  negated rs scope (negation f) = asIs rs scope f
-  negated rs scope (implication f g) = andNode (asIs rs scope f then negated rs scope g then end)
-  negated rs scope (conjunction fs) = orNode (allNegated rs scope fs)
-  negated rs scope (disjunction fs) = andNode (allNegated rs scope fs)
-  negated rs scope (exists vs f) = nest forallNode (length scope) (map sortOf vs) (negated rs (scope ++ vs) f)
-  negated rs scope (forall vs f) = nest existsNode (length scope) (map sortOf vs) (negated rs (scope ++ vs) f)
+  pub negated : List Relation → (types scope : List (List ℕ)) → Formula → Tree
+  negated rs types scope (literal r vs) = leafOf false rs scope r vs
+  negated rs types scope (negation f) = asIs rs types scope f
+  negated rs types scope (implication f g) = andNode (asIs rs types scope f then negated rs types scope g then end)
+  negated rs types scope (conjunction fs) = orNode (allNegated rs types scope fs)
+  negated rs types scope (disjunction fs) = andNode (allNegated rs types scope fs)
+  negated rs types scope (exists qs f) = nest forallNode (length scope) (map (sortOf types) qs) (negated rs types (scope ++ variablesOf qs) f)
+  negated rs types scope (forall qs f) = nest existsNode (length scope) (map (sortOf types) qs) (negated rs types (scope ++ variablesOf qs) f)
 
-  pub allAsIs : List Relation → List (List ℕ) → Formulas → Trees
-  allAsIs rs scope nil = end
-  allAsIs rs scope (cons f fs) = asIs rs scope f then allAsIs rs scope fs
+  pub allAsIs : List Relation → (types scope : List (List ℕ)) → Formulas → Trees
+  allAsIs rs types scope nil = end
+  allAsIs rs types scope (cons f fs) = asIs rs types scope f then allAsIs rs types scope fs
 
-  pub allNegated : List Relation → List (List ℕ) → Formulas → Trees
-  allNegated rs scope nil = end
-  allNegated rs scope (cons f fs) = negated rs scope f then allNegated rs scope fs
+  pub allNegated : List Relation → (types scope : List (List ℕ)) → Formulas → Trees
+  allNegated rs types scope nil = end
+  allNegated rs types scope (cons f fs) = negated rs types scope f then allNegated rs types scope fs
 
 -- For each total kind, in order, "for all a some b"; where there is one, the root is an `and` of the rule and all of these.
 unfoldable pub totalities : ℕ → List Relation → Trees
@@ -72,7 +73,7 @@ joined t end = t
 joined t (u then us) = andNode (t then u then us)
 
 unfoldable pub treeOf : Question → Tree
-treeOf q = joined (asIs (relationsOf q) [] (q .rule .formula)) (totalities (firstChosen q) (q .chosen))
+treeOf q = joined (asIs (relationsOf q) (q .types) [] (q .rule .formula)) (totalities (firstChosen q) (q .chosen))
 
 -- ---- the nodes of a tree are its non-literal subtrees, each before its parts and these from the left; their preorder numbers
 -- are their indexes in this list

@@ -1,14 +1,15 @@
--- Document 01, "The words of demand 3": truth of the rule and the declared kinds, read off the sheets.
-use Prim.Native.Nat.{ℕ, zero, _+_, _-_}
+-- Document 01, "The words of demand 3": truth of the rule and the declared kinds, read off the sheets; and document 02, job 4: what a
+-- variable ranges over.
+use Prim.Native.Nat.{ℕ, zero, suc, _+_, _-_}
 use mathlib.Core.Bool.{Bool, true, false, not, _&&_, _||_}
 use mathlib.Core.Option.{Option}
 use mathlib.Core.List.{List, [], _∷_, map}
 use lib.ListN.{getD, length}
 use lib.Dec.{eqb, leb, ltb}
-use Rattle.definitions.specs.Lists.{if_then_else_, all, any, same, option, position, mapFrom, below}
+use Rattle.definitions.specs.Lists.{if_then_else_, all, any, filter, same, option, position, mapFrom, below}
 use Rattle.definitions.specs.Relations.{static, Relation, Tuple, isAmong, areDistinct, builtInHolds, numberOf, isFunction, isInjective, isTotal}
-use Rattle.definitions.specs.Formula.{Formula, Formulas, literal, negation, implication, conjunction, disjunction, exists, forall, nil, cons, sortOf}
-use Rattle.definitions.specs.Sheets.{Question, Site, relationsOf, firstRel, firstChosen}
+use Rattle.definitions.specs.Formula.{Quantified, Formula, Formulas, literal, negation, implication, conjunction, disjunction, exists, forall, nil, cons, sortOf}
+use Rattle.definitions.specs.Sheets.{Question, Site, isMember, relationsOf, firstRel, firstChosen}
 
 -- A case: its question and its site.
 pub record Case : Type 0 where
@@ -32,21 +33,27 @@ unfoldable pub valueOf : List Binding → List ℕ → ℕ
 valueOf [] v = zero
 valueOf (b ∷ bs) v = if same (b .variable) v then b .value else valueOf bs v
 
--- what a variable of a sort ranges over, in ascending order: all elements, 0 to n−1
+-- What a variable of a sort ranges over, in ascending order: sort 0 stands for all elements, 0 to n−1, sort k + 1 for the members of
+-- type k. (A sort beyond the last type is no variable's, and is as good as 0.)
 unfoldable pub membersOf : Case → ℕ → List ℕ
-membersOf c s = below (c .site .size)
+membersOf c zero = below (c .site .size)
+membersOf c (suc k) =
+    if ltb k (length (c .question .types)) then filter (isMember (c .site .members) k) (below (c .site .size)) else below (c .site .size)
 
--- for every, and for some, values of the variables, each in the range of its sort
-unfoldable pub forEvery : (ℕ → List ℕ) → List (List ℕ) → List Binding → (List Binding → Bool) → Bool
+unfoldable pub rangeOf : Case → Quantified → List ℕ
+rangeOf c q = membersOf c (sortOf (c .question .types) q)
+
+-- for every, and for some, values of the variables, each in its range
+unfoldable pub forEvery : (Quantified → List ℕ) → List Quantified → List Binding → (List Binding → Bool) → Bool
 forEvery range [] bs p = p bs
-forEvery range (v ∷ vs) bs p = all (λ x. forEvery range vs (record { variable = v; value = x } ∷ bs) p) (range (sortOf v))
+forEvery range (q ∷ qs) bs p = all (λ x. forEvery range qs (record { variable = q .variable; value = x } ∷ bs) p) (range q)
 
-unfoldable pub forSome : (ℕ → List ℕ) → List (List ℕ) → List Binding → (List Binding → Bool) → Bool
+unfoldable pub forSome : (Quantified → List ℕ) → List Quantified → List Binding → (List Binding → Bool) → Bool
 forSome range [] bs p = p bs
-forSome range (v ∷ vs) bs p = any (λ x. forSome range vs (record { variable = v; value = x } ∷ bs) p) (range (sortOf v))
+forSome range (q ∷ qs) bs p = any (λ x. forSome range qs (record { variable = q .variable; value = x } ∷ bs) p) (range q)
 
--- Truth "of the formula as written", by the usual meaning of each form; variables range over all elements. (7 refuses a literal of no
--- relation, which would be false.)
+-- Truth "of the formula as written", by the usual meaning of each form; a variable ranges over the members of its type, and over all
+-- elements where it has none. (7 refuses a literal of no relation, which would be false.)
 unfoldable mutual
   pub isTrue : Case → List Tuple → List Binding → Formula → Bool
   isTrue c picks bs (literal r vs) = option (numberOf (relationsOf (c .question)) r) false (λ k. holds c picks k (map (valueOf bs) vs))
@@ -54,8 +61,8 @@ unfoldable mutual
   isTrue c picks bs (implication f g) = not (isTrue c picks bs f) || isTrue c picks bs g
   isTrue c picks bs (conjunction fs) = allTrue c picks bs fs
   isTrue c picks bs (disjunction fs) = someTrue c picks bs fs
-  isTrue c picks bs (exists vs f) = forSome (membersOf c) vs bs (λ b. isTrue c picks b f)
-  isTrue c picks bs (forall vs f) = forEvery (membersOf c) vs bs (λ b. isTrue c picks b f)
+  isTrue c picks bs (exists qs f) = forSome (rangeOf c) qs bs (λ b. isTrue c picks b f)
+  isTrue c picks bs (forall qs f) = forEvery (rangeOf c) qs bs (λ b. isTrue c picks b f)
 
   pub allTrue : Case → List Tuple → List Binding → Formulas → Bool
   allTrue c picks bs nil = true

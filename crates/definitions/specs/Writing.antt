@@ -3,7 +3,7 @@ use Prim.Native.Nat.{ℕ, zero, suc, _+_, _-_, _≤_, _<_, suc-le-suc, zero-le}
 use native.Mathlib.Nat.{le-of-suc-le-suc, not-suc-le-zero}
 use native.Mathlib.Omega.{arith}
 use mathlib.Core.Path.{_≡_, refl, sym, ap, subst, _∙_}
-use mathlib.Core.Option.{some}
+use mathlib.Core.Option.{Option, none, some}
 use mathlib.Core.Bool.{Bool, true, false, _&&_, or-true, or-false}
 use mathlib.Core.List.{List, [], _∷_, _++_, append-assoc}
 use mathlib.Core.Logic.{_⊎_, inl, inr, _↔_}
@@ -11,10 +11,10 @@ use lib.ListN.{length, take, drop, getD, length-append, drop-of-length-le, take-
 use lib.Seq.{drop-cons, take-at, drop-at}
 use lib.Dec.{eqb, leb, lit<}
 use borrow.Author.Tests.{eq-eqb, ne-eqb, eqb-true, le-leb, lt-leb, leb-true}
-use Rattle.definitions.specs.Lists.{all}
+use Rattle.definitions.specs.Lists.{all, option}
 use Rattle.definitions.specs.Text.{isBetween, isCapital, isDigit, isSmall, isRelationName, isVariable}
-use Rattle.definitions.specs.Formula.{Join, ands, ors, Quant, somes, everys, Formula, literal, negation, implication, join, quant, Formulas, nil, cons, joinWord, quantWord, notWord, impWord, writeVars, write, writeParts, Variables, no-words, a-word, WellFormed, g-lit, g-neg, g-imp, g-and, g-or, g-exists, g-forall, AllWellFormed, no-goods, a-good}
-use Rattle.definitions.specs.Parsing.{first, inside, longest, span, Res, bad, ok, andThen, begins, want, readWord, readVar, readVars, readParts, Head, isNot, isImplies, isAnd, isOr, isExists, isForall, isOther, kindOf, close, readJoin, readQuant, readLit, readNeg, readImp, readBody, read, finish, readFormula}
+use Rattle.definitions.specs.Formula.{Quantified, Join, ands, ors, Quant, somes, everys, Formula, literal, negation, implication, join, quant, Formulas, nil, cons, joinWord, quantWord, notWord, impWord, writeEach, writeVars, writeTyped, writeMore, write, writeParts, isQuantified, Words, no-words, a-word, Variables, AllQuantified, WellFormed, g-lit, g-neg, g-imp, g-and, g-or, g-exists, g-forall, AllWellFormed, no-goods, a-good}
+use Rattle.definitions.specs.Parsing.{first, inside, longest, span, Res, bad, ok, andThen, begins, want, readWord, readVar, readEach, readVars, readType, readTyped, readMore, readParts, Head, isNot, isImplies, isAnd, isOr, isExists, isForall, isOther, kindOf, close, readJoin, readQuant, readLit, readNeg, readImp, readBody, read, finish, readFormula}
 
 -- ---- `begins`
 pub begins-step : (p s : List ℕ) (i j : ℕ) → i < length p → j < length s → getD p i 0 ≡ getD s j 0 → begins (drop i p) (drop j s) ≡ begins (drop (suc i) p) (drop (suc j) s)
@@ -299,58 +299,169 @@ complete-letters v r h e = rw (complete-word true v r h e)
 pub complete-var : (v r : List ℕ) → isVariable v ≡ true → span true r ≡ 0 → readVar (v ++ r) ≡ ok v r
 complete-var v r h e = subst (λ (x : List ℕ). readVar (x ++ r) ≡ ok x r) (sym (var-is v h .is)) (complete-letters (var-is v h .letters) r (var-is v h .word) e)
 
-pub record VarsRead (n : ℕ) (l : List ℕ) (vs : List (List ℕ)) (r : List ℕ) : Type 0 where
-  pub written : l ≡ writeVars vs ++ r
-  pub words : Variables vs
+-- ---- several things, each after a space: what is read was written, and what is written is read
+pub record EachRead {A : Type 0} (word : A → List ℕ) (isWord : A → Bool) (n : ℕ) (l : List ℕ) (vs : List A) (r : List ℕ) : Type 0 where
+  pub written : l ≡ writeEach word vs ++ r
+  pub words : Words isWord vs
   pub few : length vs ≤ n
 
--- what is read of the further variables: nil, or one and then others
-pub sound-vars : (n : ℕ) (l : List ℕ) (vs : List (List ℕ)) (r : List ℕ) → readVars n l ≡ ok vs r → VarsRead n l vs r
-unfolding readVars writeVars
-sound-vars zero l vs r e = go (if-either (begins (32 ∷ []) l) bad (ok [] l) (ok vs r) e)
-  where
-    go : ((begins (32 ∷ []) l ≡ true) × (bad ≡ ok vs r)) ⊎ ((begins (32 ∷ []) l ≡ false) × (ok [] l ≡ ok vs r)) → VarsRead zero l vs r
-    go (inl (q, h)) = let z : _≡_ {A = ℕ} 0 1 = cc in absurd (omega arith)
-    go (inr (q, h)) =
-        let hv : [] ≡ vs = cc in
-        let hr : l ≡ r = cc in
-        rw (← hv) (record { written = hr; words = no-words; few = zero-le })
-sound-vars (suc n) l vs r e = go (λ m us p. sound-vars n m us r p) (if-either (begins (32 ∷ []) l) (andThen (readVar (drop 1 l)) (λ v m. andThen (readVars n m) (λ us r. ok (v ∷ us) r))) (ok [] l) (ok vs r) e)
-  where
-    go : ((m : List ℕ) (us : List (List ℕ)) → readVars n m ≡ ok us r → VarsRead n m us r) → ((begins (32 ∷ []) l ≡ true) × (andThen (readVar (drop 1 l)) (λ v m. andThen (readVars n m) (λ us r. ok (v ∷ us) r)) ≡ ok vs r)) ⊎ ((begins (32 ∷ []) l ≡ false) × (ok [] l ≡ ok vs r)) → VarsRead (suc n) l vs r
-    go ih (inl (q, h)) =
-        let one = then-ok (readVar (drop 1 l)) (λ v m. andThen (readVars n m) (λ us r. ok (v ∷ us) r)) vs r h in
-        let two = then-ok (readVars n (one .rest)) (λ us r. ok (one .got ∷ us) r) vs r (one .two) in
-        let hr : two .rest ≡ r = cc in
-        let hv : one .got ∷ two .got ≡ vs = cc in
-        let v = sound-var (drop 1 l) (one .got) (one .rest) (one .one) in
-        let us = ih (one .rest) (two .got) (two .one ∙ ap (λ (x : List ℕ). ok (two .got) x) hr) in
-        rw (← hv) (record {
-          written = begins-is (32 ∷ []) l q ∙ ap (λ (m : List ℕ). 32 ∷ m) (v .written ∙ ap (λ (m : List ℕ). one .got ++ m) (us .written) ∙ sym (append-assoc (one .got) (writeVars (two .got)) r));
-          words = a-word (v .word) (us .words);
-          few = suc-le-suc (us .few);
-        })
-    go ih (inr (q, h)) =
-        let hv : [] ≡ vs = cc in
-        let hr : l ≡ r = cc in
-        rw (← hv) (record { written = hr; words = no-words; few = zero-le })
+module _ {A : Type 0} (one : List ℕ → Res A) (word : A → List ℕ) (isWord : A → Bool) where
+  pub sound-each : ((l : List ℕ) (v : A) (r : List ℕ) → one l ≡ ok v r → (l ≡ word v ++ r) × (isWord v ≡ true))
+      → (n : ℕ) (l : List ℕ) (vs : List A) (r : List ℕ) → readEach one n l ≡ ok vs r → EachRead word isWord n l vs r
+  unfolding readEach writeEach
+  sound-each snd zero l vs r e = go (if-either (begins (32 ∷ []) l) bad (ok [] l) (ok vs r) e)
+    where
+      go : ((begins (32 ∷ []) l ≡ true) × (bad ≡ ok vs r)) ⊎ ((begins (32 ∷ []) l ≡ false) × (ok [] l ≡ ok vs r)) → EachRead word isWord zero l vs r
+      go (inl (q, h)) = let z : _≡_ {A = ℕ} 0 1 = cc in absurd (omega arith)
+      go (inr (q, h)) =
+          let hv : [] ≡ vs = cc in
+          let hr : l ≡ r = cc in
+          rw (← hv) (record { written = hr; words = no-words; few = zero-le })
+  sound-each snd (suc n) l vs r e = go (λ m us p. sound-each snd n m us r p) (if-either (begins (32 ∷ []) l) (andThen (one (drop 1 l)) (λ v m. andThen (readEach one n m) (λ us r. ok (v ∷ us) r))) (ok [] l) (ok vs r) e)
+    where
+      go : ((m : List ℕ) (us : List A) → readEach one n m ≡ ok us r → EachRead word isWord n m us r) → ((begins (32 ∷ []) l ≡ true) × (andThen (one (drop 1 l)) (λ v m. andThen (readEach one n m) (λ us r. ok (v ∷ us) r)) ≡ ok vs r)) ⊎ ((begins (32 ∷ []) l ≡ false) × (ok [] l ≡ ok vs r)) → EachRead word isWord (suc n) l vs r
+      go ih (inl (q, h)) =
+          let a = then-ok (one (drop 1 l)) (λ v m. andThen (readEach one n m) (λ us r. ok (v ∷ us) r)) vs r h in
+          let b = then-ok (readEach one n (a .rest)) (λ us r. ok (a .got ∷ us) r) vs r (a .two) in
+          let hr : b .rest ≡ r = cc in
+          let hv : a .got ∷ b .got ≡ vs = cc in
+          let v = snd (drop 1 l) (a .got) (a .rest) (a .one) in
+          let us = ih (a .rest) (b .got) (b .one ∙ ap (λ (x : List ℕ). ok (b .got) x) hr) in
+          rw (← hv) (record {
+            written = begins-is (32 ∷ []) l q ∙ ap (λ (m : List ℕ). 32 ∷ m) (v .0 ∙ ap (λ (m : List ℕ). word (a .got) ++ m) (us .written) ∙ sym (append-assoc (word (a .got)) (writeEach word (b .got)) r));
+            words = a-word (v .1) (us .words);
+            few = suc-le-suc (us .few);
+          })
+      go ih (inr (q, h)) =
+          let hv : [] ≡ vs = cc in
+          let hr : l ≡ r = cc in
+          rw (← hv) (record { written = hr; words = no-words; few = zero-le })
 
-pub vars-stop : (vs : List (List ℕ)) (r : List ℕ) → span true r ≡ 0 → span true (writeVars vs ++ r) ≡ 0
-unfolding writeVars span isSmall isBetween isDigit
-vars-stop [] r e = e
-vars-stop (v ∷ vs) r e = refl
+  pub each-none : (n : ℕ) (r : List ℕ) → begins (32 ∷ []) r ≡ false → readEach one n r ≡ ok [] r
+  unfolding readEach
+  each-none zero r e = rw (e, readEach)
+  each-none (suc n) r e = rw (e, readEach)
+
+  -- Stops says of the bytes after a thing that they are no part of it; a space never is
+  pub each-stop : (Stops : List ℕ → Type 0) → ((l : List ℕ) → Stops (32 ∷ l)) → (vs : List A) (r : List ℕ) → Stops r → Stops (writeEach word vs ++ r)
+  unfolding writeEach
+  each-stop Stops space [] r h = h
+  each-stop Stops space (v ∷ vs) r h = space ((word v ++ writeEach word vs) ++ r)
+
+  pub complete-each : (Stops : List ℕ → Type 0) → ((l : List ℕ) → Stops (32 ∷ l)) → ((v : A) (r : List ℕ) → isWord v ≡ true → Stops r → one (word v ++ r) ≡ ok v r)
+      → {vs : List A} → Words isWord vs → (n : ℕ) (r : List ℕ) → length vs ≤ n → begins (32 ∷ []) r ≡ false → Stops r → readEach one n (writeEach word vs ++ r) ≡ ok vs r
+  unfolding readEach writeEach begins
+  complete-each Stops space whole no-words n r le e s = each-none n r e
+  complete-each Stops space whole (a-word {v = v} {vs = vs} w ws) zero r le e s = absurd (not-suc-le-zero le)
+  complete-each Stops space whole (a-word {v = v} {vs = vs} w ws) (suc n) r le e s =
+      rw (append-assoc (word v) (writeEach word vs) r, whole v (writeEach word vs ++ r) w (each-stop Stops space vs r s), complete-each Stops space whole ws n r (le-of-suc-le-suc le) e s)
+
+  each-le : (vs : List A) (r : List ℕ) → length vs ≤ length (writeEach word vs ++ r)
+  unfolding writeEach
+  each-le [] r = zero-le
+  each-le (v ∷ vs) r = suc-le-suc (go (each-le vs r) (ap length (append-assoc (word v) (writeEach word vs) r) ∙ length-append (word v) (writeEach word vs ++ r)))
+    where
+      go : length vs ≤ length (writeEach word vs ++ r) → length ((word v ++ writeEach word vs) ++ r) ≡ length (word v) + length (writeEach word vs ++ r) → length vs ≤ length ((word v ++ writeEach word vs) ++ r)
+      go h e = omega arith
+
+-- ... the variables of a literal
+abbrev pub VarStops : List ℕ → Type 0
+VarStops r = span true r ≡ 0
+
+var-space : (l : List ℕ) → VarStops (32 ∷ l)
+unfolding span isSmall isBetween isDigit
+var-space l = refl
+
+pub sound-vars : (n : ℕ) (l : List ℕ) (vs : List (List ℕ)) (r : List ℕ) → readVars n l ≡ ok vs r → EachRead (λ v. v) isVariable n l vs r
+sound-vars = sound-each readVar (λ v. v) isVariable (λ l v r e. (sound-var l v r e .written, sound-var l v r e .word))
+
+pub vars-stop : (vs : List (List ℕ)) (r : List ℕ) → VarStops r → VarStops (writeVars vs ++ r)
+vars-stop = each-stop readVar (λ v. v) isVariable VarStops var-space
 
 pub vars-none : (n : ℕ) (r : List ℕ) → begins (32 ∷ []) r ≡ false → readVars n r ≡ ok [] r
-unfolding readVars
-vars-none zero r e = rw (e, readVars)
-vars-none (suc n) r e = rw (e, readVars)
+vars-none = each-none readVar (λ v. v) isVariable
 
-pub complete-vars : {vs : List (List ℕ)} → Variables vs → (n : ℕ) (r : List ℕ) → length vs ≤ n → begins (32 ∷ []) r ≡ false → span true r ≡ 0 → readVars n (writeVars vs ++ r) ≡ ok vs r
-unfolding readVars writeVars begins
-complete-vars no-words n r le e s = vars-none n r e
-complete-vars (a-word {v = v} {vs = vs} w ws) zero r le e s = absurd (not-suc-le-zero le)
-complete-vars (a-word {v = v} {vs = vs} w ws) (suc n) r le e s =
-    rw (append-assoc v (writeVars vs) r, complete-var v (writeVars vs ++ r) w (vars-stop vs r s), complete-vars ws n r (le-of-suc-le-suc le) e s)
+pub complete-vars : {vs : List (List ℕ)} → Variables vs → (n : ℕ) (r : List ℕ) → length vs ≤ n → begins (32 ∷ []) r ≡ false → VarStops r → readVars n (writeVars vs ++ r) ≡ ok vs r
+complete-vars = complete-each readVar (λ v. v) isVariable VarStops var-space (λ v r w s. complete-var v r w s)
+
+-- ... and those of a quantifier, each with its type
+type-some : (v m t s : List ℕ) (q : Quantified) (r : List ℕ) → record { variable = v; type = some t } ≡ q → s ≡ r → begins (58 ∷ []) m ≡ true → isVariable v ≡ true → WordRead false (drop 1 m) t s
+    → (v ++ m ≡ writeTyped q ++ r) × (isQuantified q ≡ true)
+unfolding writeTyped isQuantified option
+type-some v m t s q r hq hr b w h =
+    rw (← hq, ← hr) (ap (λ (x : List ℕ). v ++ x) (begins-is (58 ∷ []) m b ∙ ap (λ (x : List ℕ). 58 ∷ x) (h .written)) ∙ sym (append-assoc v (58 ∷ t) s), both (isVariable v) (isRelationName t) w (name-yes t (h .word)))
+
+type-none : (v m : List ℕ) (q : Quantified) (r : List ℕ) → record { variable = v; type = none } ≡ q → m ≡ r → isVariable v ≡ true → (v ++ m ≡ writeTyped q ++ r) × (isQuantified q ≡ true)
+unfolding writeTyped isQuantified option
+type-none v m q r hq hr w = rw (← hq, ← hr) (sym (append-assoc v [] m), both (isVariable v) true w refl)
+
+sound-type : (v m : List ℕ) (q : Quantified) (r : List ℕ) → isVariable v ≡ true → readType v m ≡ ok q r → (v ++ m ≡ writeTyped q ++ r) × (isQuantified q ≡ true)
+unfolding readType
+sound-type v m q r w e = go (if-either (begins (58 ∷ []) m) (andThen (readWord false (drop 1 m)) (λ t s. ok (record { variable = v; type = some t }) s)) (ok (record { variable = v; type = none }) m) (ok q r) e)
+  where
+    go : ((begins (58 ∷ []) m ≡ true) × (andThen (readWord false (drop 1 m)) (λ t s. ok (record { variable = v; type = some t }) s) ≡ ok q r)) ⊎ ((begins (58 ∷ []) m ≡ false) × (ok (record { variable = v; type = none }) m ≡ ok q r)) → (v ++ m ≡ writeTyped q ++ r) × (isQuantified q ≡ true)
+    go (inl (b, h)) =
+        let one = then-ok (readWord false (drop 1 m)) (λ t s. ok (record { variable = v; type = some t }) s) q r h in
+        let hq : record { variable = v; type = some (one .got) } ≡ q = cc in
+        let hr : one .rest ≡ r = cc in
+        type-some v m (one .got) (one .rest) q r hq hr b w (sound-word false (drop 1 m) (one .got) (one .rest) (one .one))
+    go (inr (b, h)) =
+        let hq : record { variable = v; type = none } ≡ q = cc in
+        let hr : m ≡ r = cc in
+        type-none v m q r hq hr w
+
+pub sound-typed : (l : List ℕ) (q : Quantified) (r : List ℕ) → readTyped l ≡ ok q r → (l ≡ writeTyped q ++ r) × (isQuantified q ≡ true)
+unfolding readTyped
+sound-typed l q r e =
+    let one = then-ok (readVar l) (λ v m. readType v m) q r e in
+    let v = sound-var l (one .got) (one .rest) (one .one) in
+    let t = sound-type (one .got) (one .rest) q r (v .word) (one .two) in
+    (v .written ∙ t .0, t .1)
+
+-- what follows is neither a letter of the variable or its type, nor a colon
+pub record TypedStops (r : List ℕ) : Type 0 where
+  pub variable : span true r ≡ 0
+  pub type : span false r ≡ 0
+  pub colon : begins (58 ∷ []) r ≡ false
+
+pub stops-at : (c : ℕ) (l : List ℕ) → inside true c ≡ false → inside false c ≡ false → eqb 58 c ≡ false → TypedStops (c ∷ l)
+unfolding begins
+stops-at c l a b d = record { variable = span-out true c l a; type = span-out false c l b; colon = rw d }
+
+typed-space : (l : List ℕ) → TypedStops (32 ∷ l)
+unfolding isSmall isCapital isBetween isDigit
+typed-space l = stops-at 32 l refl refl refl
+
+pub typed-close : (l : List ℕ) → TypedStops (41 ∷ l)
+unfolding isSmall isCapital isBetween isDigit
+typed-close l = stops-at 41 l refl refl refl
+
+read-none : (v r : List ℕ) → begins (58 ∷ []) r ≡ false → readType v r ≡ ok (record { variable = v; type = none }) r
+unfolding readType
+read-none v r e = rw (e, readType)
+
+read-some : (v t r l : List ℕ) → readWord false l ≡ ok t r → readType v (58 ∷ l) ≡ ok (record { variable = v; type = some t }) r
+unfolding readType begins
+read-some v t r l e = rw (e, readType)
+
+written-typed : (v : List ℕ) (o : Option (List ℕ)) (r : List ℕ) → (isVariable v && option o true isRelationName) ≡ true → TypedStops r
+    → readTyped ((v ++ option o [] (λ t. 58 ∷ t)) ++ r) ≡ ok (record { variable = v; type = o }) r
+unfolding readTyped option span isSmall isBetween isDigit
+written-typed v none r w s = rw (append-assoc v [] r, complete-var v r (and-l (isVariable v) true w) (s .variable)) (read-none v r (s .colon))
+written-typed v (some t) r w s = rw (append-assoc v (58 ∷ t) r, complete-var v (58 ∷ (t ++ r)) (and-l (isVariable v) (isRelationName t) w) refl) (read-some v t r (t ++ r) (complete-word false t r (name-is t (and-r (isVariable v) (isRelationName t) w)) (s .type)))
+
+pub complete-typed : (q : Quantified) (r : List ℕ) → isQuantified q ≡ true → TypedStops r → readTyped (writeTyped q ++ r) ≡ ok q r
+unfolding writeTyped isQuantified
+complete-typed q r w s = written-typed (q .variable) (q .type) r w s
+
+pub sound-more : (n : ℕ) (l : List ℕ) (qs : List Quantified) (r : List ℕ) → readMore n l ≡ ok qs r → EachRead writeTyped isQuantified n l qs r
+sound-more = sound-each readTyped writeTyped isQuantified sound-typed
+
+pub more-stop : (qs : List Quantified) (r : List ℕ) → TypedStops r → TypedStops (writeMore qs ++ r)
+more-stop = each-stop readTyped writeTyped isQuantified TypedStops typed-space
+
+pub complete-more : {qs : List Quantified} → AllQuantified qs → (n : ℕ) (r : List ℕ) → length qs ≤ n → begins (32 ∷ []) r ≡ false → TypedStops r → readMore n (writeMore qs ++ r) ≡ ok qs r
+complete-more = complete-each readTyped writeTyped isQuantified TypedStops typed-space complete-typed
 
 -- ---- formulas
 pub record FRead (k : ℕ) (l : List ℕ) (f : Formula) (r : List ℕ) : Type 0 where
@@ -382,20 +493,20 @@ unfolding write
 write-join ands a fs = refl
 write-join ors a fs = refl
 
-write-quant : (q : Quant) (v : List ℕ) (vs : List (List ℕ)) (a : Formula) → write (quant q (v ∷ vs) a) ≡ ((quantWord q ++ (v ++ writeVars vs)) ++ (41 ∷ 32 ∷ write a)) ++ (41 ∷ [])
+write-quant : (q : Quant) (v : Quantified) (vs : List Quantified) (a : Formula) → write (quant q (v ∷ vs) a) ≡ ((quantWord q ++ (writeTyped v ++ writeMore vs)) ++ (41 ∷ 32 ∷ write a)) ++ (41 ∷ [])
 unfolding write
 write-quant somes v vs a = refl
 write-quant everys v vs a = refl
 
 write-lit : (n v : List ℕ) (vs : List (List ℕ)) → write (literal n (v ∷ vs)) ≡ ((40 ∷ n) ++ ((32 ∷ v) ++ writeVars vs)) ++ (41 ∷ [])
-unfolding write writeVars
+unfolding write writeEach
 write-lit n v vs = refl
 
 pub good-join : {k : ℕ} (j : Join) (a : Formula) (fs : Formulas) → WellFormed k a → AllWellFormed k fs → WellFormed (suc k) (join j (cons a fs))
 good-join ands a fs h e = g-and h e
 good-join ors a fs h e = g-or h e
 
-pub good-quant : {k : ℕ} (q : Quant) (v : List ℕ) (vs : List (List ℕ)) (a : Formula) → isVariable v ≡ true → Variables vs → length vs ≤ 3 → WellFormed k a → WellFormed (suc k) (quant q (v ∷ vs) a)
+pub good-quant : {k : ℕ} (q : Quant) (v : Quantified) (vs : List Quantified) (a : Formula) → isQuantified v ≡ true → AllQuantified vs → length vs ≤ 3 → WellFormed k a → WellFormed (suc k) (quant q (v ∷ vs) a)
 good-quant somes v vs a w ws le h = g-exists (a-word w ws) (suc-le-suc le) h
 good-quant everys v vs a w ws le h = g-forall (a-word w ws) (suc-le-suc le) h
 
@@ -411,9 +522,9 @@ fin-join : (k : ℕ) (j : Join) (l : List ℕ) (a : Formula) (fs : Formulas) (f 
 unfolding write
 fin-join k j l a fs f r h q d e = rw (← q, h) (record { written = sym (ap (λ (m : List ℕ). m ++ r) (write-join j a fs) ∙ lay-join (joinWord j) (write a) (writeParts fs) (41 ∷ []) r); good = good-join j a fs d e })
 
-fin-quant : (k : ℕ) (q : Quant) (l v : List ℕ) (vs us : List (List ℕ)) (a f : Formula) (r : List ℕ) → l ≡ v ++ (writeVars vs ++ 41 ∷ 32 ∷ (write a ++ 41 ∷ r)) → vs ≡ us → quant q (v ∷ us) a ≡ f → isVariable v ≡ true → Variables vs → length vs ≤ 3 → WellFormed k a → FRead (suc k) (quantWord q ++ l) f r
+fin-quant : (k : ℕ) (q : Quant) (l : List ℕ) (v : Quantified) (vs us : List Quantified) (a f : Formula) (r : List ℕ) → l ≡ writeTyped v ++ (writeMore vs ++ 41 ∷ 32 ∷ (write a ++ 41 ∷ r)) → vs ≡ us → quant q (v ∷ us) a ≡ f → isQuantified v ≡ true → AllQuantified vs → length vs ≤ 3 → WellFormed k a → FRead (suc k) (quantWord q ++ l) f r
 unfolding write
-fin-quant k q l v vs us a f r h s e w ws le d = rw (← e, ← s, h) (record { written = sym (ap (λ (m : List ℕ). m ++ r) (write-quant q v vs a) ∙ lay-quant (quantWord q) v (writeVars vs) (41 ∷ 32 ∷ write a) (41 ∷ []) r); good = good-quant q v vs a w ws le d })
+fin-quant k q l v vs us a f r h s e w ws le d = rw (← e, ← s, h) (record { written = sym (ap (λ (m : List ℕ). m ++ r) (write-quant q v vs a) ∙ lay-quant (quantWord q) (writeTyped v) (writeMore vs) (41 ∷ 32 ∷ write a) (41 ∷ []) r); good = good-quant q v vs a w ws le d })
 
 fin-lit : (k : ℕ) (l n m v : List ℕ) (vs : List (List ℕ)) (f : Formula) (r : List ℕ) → l ≡ 40 ∷ (n ++ 32 ∷ (v ++ (writeVars vs ++ 41 ∷ r))) → n ≡ m → literal m (v ∷ vs) ≡ f → IsWord false n → isVariable v ≡ true → Variables vs → FRead (suc k) l f r
 unfolding write
@@ -488,20 +599,20 @@ module _ (k : ℕ) (g : List ℕ → Res Formula) (snd : Sound k g) where
   sound-quant : (q : Quant) (l : List ℕ) (f : Formula) (r : List ℕ) → readQuant g q l ≡ ok f r → FRead (suc k) (quantWord q ++ l) f r
   unfolding readQuant
   sound-quant q l f r e =
-      let one = then-ok (readVar l) (λ v l1. andThen (readVars 3 l1) (λ vs l2. andThen (want (41 ∷ 32 ∷ []) vs l2) (λ us l3. andThen (g l3) (λ f r. want close (quant q (v ∷ us) f) r)))) f r e in
-      let two = then-ok (readVars 3 (one .rest)) (λ vs l2. andThen (want (41 ∷ 32 ∷ []) vs l2) (λ us l3. andThen (g l3) (λ f r. want close (quant q (one .got ∷ us) f) r))) f r (one .two) in
+      let one = then-ok (readTyped l) (λ v l1. andThen (readMore 3 l1) (λ vs l2. andThen (want (41 ∷ 32 ∷ []) vs l2) (λ us l3. andThen (g l3) (λ f r. want close (quant q (v ∷ us) f) r)))) f r e in
+      let two = then-ok (readMore 3 (one .rest)) (λ vs l2. andThen (want (41 ∷ 32 ∷ []) vs l2) (λ us l3. andThen (g l3) (λ f r. want close (quant q (one .got ∷ us) f) r))) f r (one .two) in
       let mid = then-ok (want (41 ∷ 32 ∷ []) (two .got) (two .rest)) (λ us l3. andThen (g l3) (λ f r. want close (quant q (one .got ∷ us) f) r)) f r (two .two) in
       let spc = want-ok (41 ∷ 32 ∷ []) (two .got) (two .rest) (mid .got) (mid .rest) (mid .one) in
       let three = then-ok (g (mid .rest)) (λ f r. want close (quant q (one .got ∷ mid .got) f) r) f r (mid .two) in
       let end = want-ok close (quant q (one .got ∷ mid .got) (three .got)) (three .rest) f r (three .two) in
-      let v = sound-var l (one .got) (one .rest) (one .one) in
-      let us = sound-vars 3 (one .rest) (two .got) (two .rest) (two .one) in
+      let v = sound-typed l (one .got) (one .rest) (one .one) in
+      let us = sound-more 3 (one .rest) (two .got) (two .rest) (two .one) in
       let u = snd (mid .rest) (three .got) (three .rest) (three .one) in
       let h3 : mid .rest ≡ write (three .got) ++ 41 ∷ r = u .written ∙ ap (λ (m : List ℕ). write (three .got) ++ m) (end .went) in
       let h2 : two .rest ≡ 41 ∷ 32 ∷ (write (three .got) ++ 41 ∷ r) = spc .went ∙ ap (λ (m : List ℕ). 41 ∷ 32 ∷ m) h3 in
-      let h1 : one .rest ≡ writeVars (two .got) ++ 41 ∷ 32 ∷ (write (three .got) ++ 41 ∷ r) = us .written ∙ ap (λ (m : List ℕ). writeVars (two .got) ++ m) h2 in
-      let h : l ≡ one .got ++ (writeVars (two .got) ++ 41 ∷ 32 ∷ (write (three .got) ++ 41 ∷ r)) = v .written ∙ ap (λ (m : List ℕ). one .got ++ m) h1 in
-      fin-quant k q l (one .got) (two .got) (mid .got) (three .got) f r h (spc .same) (end .same) (v .word) (us .words) (us .few) (u .good)
+      let h1 : one .rest ≡ writeMore (two .got) ++ 41 ∷ 32 ∷ (write (three .got) ++ 41 ∷ r) = us .written ∙ ap (λ (m : List ℕ). writeMore (two .got) ++ m) h2 in
+      let h : l ≡ writeTyped (one .got) ++ (writeMore (two .got) ++ 41 ∷ 32 ∷ (write (three .got) ++ 41 ∷ r)) = v .0 ∙ ap (λ (m : List ℕ). writeTyped (one .got) ++ m) h1 in
+      fin-quant k q l (one .got) (two .got) (mid .got) (three .got) f r h (spc .same) (end .same) (v .1) (us .words) (us .few) (u .good)
 
   sound-lit : (l : List ℕ) (f : Formula) (r : List ℕ) → readLit l ≡ ok f r → FRead (suc k) l f r
   unfolding readLit
@@ -580,14 +691,6 @@ count-le (cons f fs) r = suc-le-suc (go (count-le fs r) (ap length (append-assoc
     go : count fs ≤ length (writeParts fs ++ r) → length ((write f ++ writeParts fs) ++ r) ≡ length (write f) + length (writeParts fs ++ r) → count fs ≤ length ((write f ++ writeParts fs) ++ r)
     go h e = omega arith
 
-vars-le : (vs : List (List ℕ)) (r : List ℕ) → length vs ≤ length (writeVars vs ++ r)
-unfolding writeVars
-vars-le [] r = zero-le
-vars-le (v ∷ vs) r = suc-le-suc (go (vars-le vs r) (ap length (append-assoc v (writeVars vs) r) ∙ length-append v (writeVars vs ++ r)))
-  where
-    go : length vs ≤ length (writeVars vs ++ r) → length ((v ++ writeVars vs) ++ r) ≡ length v + length (writeVars vs ++ r) → length vs ≤ length ((v ++ writeVars vs) ++ r)
-    go h e = omega arith
-
 module _ (g : List ℕ → Res Formula) where
   done-neg : (a : Formula) (r : List ℕ) → g (write a ++ 41 ∷ r) ≡ ok a (41 ∷ r) → readNeg g (write a ++ 41 ∷ r) ≡ ok (negation a) r
   unfolding readNeg want begins
@@ -605,15 +708,16 @@ module _ (g : List ℕ → Res Formula) where
   unfolding readJoin want begins
   done-join j a fs r h e = rw (h, e)
 
-  done-quant : (q : Quant) (v : List ℕ) (vs : List (List ℕ)) (a : Formula) (r : List ℕ) → isVariable v ≡ true → Variables vs → length vs ≤ 3 → g (write a ++ 41 ∷ r) ≡ ok a (41 ∷ r) → readQuant g q (v ++ (writeVars vs ++ 41 ∷ 32 ∷ (write a ++ 41 ∷ r))) ≡ ok (quant q (v ∷ vs) a) r
-  unfolding readQuant want begins span isSmall isBetween isDigit
+  done-quant : (q : Quant) (v : Quantified) (vs : List Quantified) (a : Formula) (r : List ℕ) → isQuantified v ≡ true → AllQuantified vs → length vs ≤ 3 → g (write a ++ 41 ∷ r) ≡ ok a (41 ∷ r) → readQuant g q (writeTyped v ++ (writeMore vs ++ 41 ∷ 32 ∷ (write a ++ 41 ∷ r))) ≡ ok (quant q (v ∷ vs) a) r
+  unfolding readQuant want begins
   done-quant q v vs a r w ws le h =
-      rw (complete-var v (writeVars vs ++ 41 ∷ 32 ∷ (write a ++ 41 ∷ r)) w (vars-stop vs (41 ∷ 32 ∷ (write a ++ 41 ∷ r)) refl), complete-vars ws 3 (41 ∷ 32 ∷ (write a ++ 41 ∷ r)) le refl refl, h)
+      let end = typed-close (32 ∷ (write a ++ 41 ∷ r)) in
+      rw (complete-typed v (writeMore vs ++ 41 ∷ 32 ∷ (write a ++ 41 ∷ r)) w (more-stop vs (41 ∷ 32 ∷ (write a ++ 41 ∷ r)) end), complete-more ws 3 (41 ∷ 32 ∷ (write a ++ 41 ∷ r)) le refl end, h)
 
 done-lit : (n v : List ℕ) (vs : List (List ℕ)) (r : List ℕ) → IsWord false n → isVariable v ≡ true → Variables vs → readLit (40 ∷ (n ++ 32 ∷ (v ++ (writeVars vs ++ 41 ∷ r)))) ≡ ok (literal n (v ∷ vs)) r
 unfolding readLit want begins span isCapital isSmall isBetween isDigit
 done-lit n v vs r wn w ws =
-    rw (complete-word false n (32 ∷ (v ++ (writeVars vs ++ 41 ∷ r))) wn refl, complete-var v (writeVars vs ++ 41 ∷ r) w (vars-stop vs (41 ∷ r) refl), complete-vars ws (length (writeVars vs ++ 41 ∷ r)) (41 ∷ r) (vars-le vs (41 ∷ r)) refl refl)
+    rw (complete-word false n (32 ∷ (v ++ (writeVars vs ++ 41 ∷ r))) wn refl, complete-var v (writeVars vs ++ 41 ∷ r) w (vars-stop vs (41 ∷ r) refl), complete-vars ws (length (writeVars vs ++ 41 ∷ r)) (41 ∷ r) (each-le readVar (λ v. v) isVariable vs (41 ∷ r)) refl refl)
 
 -- a capital is no keyword's second byte
 not-cap : (c k : ℕ) → first false c ≡ true → 90 < k → eqb k c ≡ false
@@ -658,8 +762,8 @@ read-lit k n l w = ap (λ (d : Head). readBody (λ m. read k m) d (40 ∷ (n ++ 
 comp-join : (k : ℕ) (j : Join) (f : Formula) (fs : Formulas) (r : List ℕ) → ((t : List ℕ) → read k (write f ++ t) ≡ ok f t) → ((n : ℕ) → count fs ≤ n → readParts (λ m. read k m) n (writeParts fs ++ 41 ∷ r) ≡ ok fs (41 ∷ r)) → read (suc k) (write (join j (cons f fs)) ++ r) ≡ ok (join j (cons f fs)) r
 comp-join k j f fs r h e = ap (λ (l : List ℕ). read (suc k) l) (ap (λ (m : List ℕ). m ++ r) (write-join j f fs) ∙ lay-join (joinWord j) (write f) (writeParts fs) (41 ∷ []) r) ∙ read-join k j (write f ++ (writeParts fs ++ 41 ∷ r)) ∙ done-join (λ m. read k m) j f fs r (h (writeParts fs ++ 41 ∷ r)) (e (length (writeParts fs ++ 41 ∷ r)) (count-le fs (41 ∷ r)))
 
-comp-quant : (k : ℕ) (q : Quant) (v : List ℕ) (vs : List (List ℕ)) (f : Formula) (r : List ℕ) → Variables (v ∷ vs) → length (v ∷ vs) ≤ 4 → ((t : List ℕ) → read k (write f ++ t) ≡ ok f t) → read (suc k) (write (quant q (v ∷ vs) f) ++ r) ≡ ok (quant q (v ∷ vs) f) r
-comp-quant k q v vs f r (a-word w ws) le h = ap (λ (l : List ℕ). read (suc k) l) (ap (λ (m : List ℕ). m ++ r) (write-quant q v vs f) ∙ lay-quant (quantWord q) v (writeVars vs) (41 ∷ 32 ∷ write f) (41 ∷ []) r) ∙ read-quant k q (v ++ (writeVars vs ++ 41 ∷ 32 ∷ (write f ++ 41 ∷ r))) ∙ done-quant (λ m. read k m) q v vs f r w ws (le-of-suc-le-suc le) (h (41 ∷ r))
+comp-quant : (k : ℕ) (q : Quant) (v : Quantified) (vs : List Quantified) (f : Formula) (r : List ℕ) → AllQuantified (v ∷ vs) → length (v ∷ vs) ≤ 4 → ((t : List ℕ) → read k (write f ++ t) ≡ ok f t) → read (suc k) (write (quant q (v ∷ vs) f) ++ r) ≡ ok (quant q (v ∷ vs) f) r
+comp-quant k q v vs f r (a-word w ws) le h = ap (λ (l : List ℕ). read (suc k) l) (ap (λ (m : List ℕ). m ++ r) (write-quant q v vs f) ∙ lay-quant (quantWord q) (writeTyped v) (writeMore vs) (41 ∷ 32 ∷ write f) (41 ∷ []) r) ∙ read-quant k q (writeTyped v ++ (writeMore vs ++ 41 ∷ 32 ∷ (write f ++ 41 ∷ r))) ∙ done-quant (λ m. read k m) q v vs f r w ws (le-of-suc-le-suc le) (h (41 ∷ r))
 
 comp-lit : (k : ℕ) (n v : List ℕ) (vs : List (List ℕ)) (r : List ℕ) → isRelationName n ≡ true → Variables (v ∷ vs) → read (suc k) (write (literal n (v ∷ vs)) ++ r) ≡ ok (literal n (v ∷ vs)) r
 comp-lit k n v vs r e (a-word w ws) = ap (λ (l : List ℕ). read (suc k) l) (ap (λ (m : List ℕ). m ++ r) (write-lit n v vs) ∙ lay-join (40 ∷ n) (32 ∷ v) (writeVars vs) (41 ∷ []) r) ∙ read-lit k n (32 ∷ (v ++ (writeVars vs ++ 41 ∷ r))) (name-is n e) ∙ done-lit n v vs r (name-is n e) w ws
@@ -673,8 +777,8 @@ mutual
   complete (g-imp {k = k} {f = f} {g = g} h e) r = ap (λ (l : List ℕ). read (suc k) l) (lay4 impWord (write f) (32 ∷ write g) (41 ∷ []) r) ∙ read-imp k (write f ++ 32 ∷ (write g ++ 41 ∷ r)) ∙ done-imp (λ m. read k m) f g r (complete h (32 ∷ (write g ++ 41 ∷ r))) (complete e (41 ∷ r))
   complete (g-and {k = k} {f = f} {fs = fs} h e) r = comp-join k ands f fs r (λ t. complete h t) (λ n le. complete-parts e n (41 ∷ r) le refl)
   complete (g-or {k = k} {f = f} {fs = fs} h e) r = comp-join k ors f fs r (λ t. complete h t) (λ n le. complete-parts e n (41 ∷ r) le refl)
-  complete (g-exists {k = k} {v = v} {vs = vs} {f = f} ws le h) r = comp-quant k somes v vs f r ws le (λ t. complete h t)
-  complete (g-forall {k = k} {v = v} {vs = vs} {f = f} ws le h) r = comp-quant k everys v vs f r ws le (λ t. complete h t)
+  complete (g-exists {k = k} {q = v} {qs = vs} {f = f} ws le h) r = comp-quant k somes v vs f r ws le (λ t. complete h t)
+  complete (g-forall {k = k} {q = v} {qs = vs} {f = f} ws le h) r = comp-quant k everys v vs f r ws le (λ t. complete h t)
 
   pub complete-parts : {k : ℕ} {fs : Formulas} → AllWellFormed k fs → (n : ℕ) (r : List ℕ) → count fs ≤ n → begins (32 ∷ []) r ≡ false → readParts (λ m. read k m) n (writeParts fs ++ r) ≡ ok fs r
   complete-parts (no-goods {k = k}) n r le e = parts-none (λ m. read k m) n r e

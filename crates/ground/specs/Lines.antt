@@ -11,7 +11,7 @@ use Rattle.ground.specs.declared.RelationLine.{RelationLine}
 use Rattle.ground.specs.declared.NodeLine.{NodeLine}
 use Rattle.ground.specs.declared.PartLine.{PartLine}
 
--- where lines stand: after three numbers 18 lines of relations, 65 of nodes, 64 of parts and the root's, then the ranges
+-- where lines stand: after three numbers 18 lines of relations, 65 of nodes, 64 of parts and the root's, then the ranges of 9 sorts
 abbrev pub relationPlace : ℕ → ℕ
 relationPlace r = 3 + 5 * r
 
@@ -24,12 +24,15 @@ partPlace i = 938 + 5 * i
 abbrev pub rootPlace : ℕ
 rootPlace = 1258
 
--- the first range is that of all elements
+-- the first range is that of all elements, sort 0
 abbrev pub rangesPlace : ℕ
 rangesPlace = 1263
 
+abbrev pub rangePlace : ℕ → ℕ
+rangePlace s = rangesPlace + 64 * s
+
 abbrev pub tableLength : ℕ
-tableLength = 1327
+tableLength = 1839
 
 -- n, how many relations, how many nodes
 abbrev pub sizeIn : List ℕ → ℕ

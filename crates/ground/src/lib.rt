@@ -13,7 +13,8 @@ ghost use Rattle.ground.specs.Lines.{tableLength, rangesPlace, sizeIn, m
 ghost use Rattle.ground.specs.Numbers.{freeNumbers, setNeeds, andNeeds, orNeeds, existsNeeds, forallNeeds, goalNeeds, underAt, setRemoves, ActFits, needNumbers, addNumbers, removeNumbers, changed, Held};
 
 // The numbers of a table: n, how many relations and how many nodes there are; a line for each relation and one past the last; a
-// line for each node and one past the last; a line for each part, and the root's last; the ranges, that of all elements first.
+// line for each node and one past the last; a line for each part, and the root's last; the range of each sort, that of all elements
+// first.
 pub const RELATION_AT: usize = 3;
 
 pub const RELATION_LINE: usize = 5;
@@ -30,7 +31,9 @@ pub const ROOT_AT: usize = 1258;
 
 pub const RANGE_AT: usize = 1263;
 
-pub const TABLE: usize = 1327;
+pub const RANGE_LINE: usize = 64;
+
+pub const TABLE: usize = 1839;
 
 // A relation: where its set actions, its tuples, its not-tuples and its free atoms start; its kind (0 static, 1 plain, 2 Fun,
 // 3 PFun, 4 Inj, 5 PInj).

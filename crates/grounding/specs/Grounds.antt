@@ -1,5 +1,5 @@
 -- A case that was read, and the table of its numbered problem.
-use Prim.Native.Nat.{ℕ, _+_, _≤_, _<_}
+use Prim.Native.Nat.{ℕ, zero, suc, _+_, _*_, _≤_, _<_}
 use mathlib.Core.Path.{_≡_, refl, sym, ap, ap₂, subst, _∙_}
 use mathlib.Core.Bool.{Bool, true, false, _||_}
 use mathlib.Core.List.{List, []}
@@ -7,13 +7,17 @@ use lib.Dec.{ltb}
 use lib.ListN.{length, getD}
 use borrow.Author.Tests.{le-ltb}
 use Rattle.definitions.specs.Limits.{CaseLimits, formLimit, nestingLimit}
-use Rattle.definitions.specs.Lists.{option}
-use Rattle.definitions.specs.Formula.{Formula, allForms, nesting, isKnown, isScoped}
+use Rattle.definitions.specs.Lists.{option, filter, below}
+use Rattle.definitions.specs.Formula.{Formula, allForms, nesting, isKnown, isScoped, isTyped}
 use Rattle.definitions.specs.Refusal.{Result, refused, accepted, _>>=_, refuseIf}
 use Rattle.definitions.specs.Relations.{Relation}
-use Rattle.definitions.specs.Sheets.{readQuestion, relations, relationsOf}
+use Rattle.definitions.specs.Sheets.{readQuestion, relations, relationsOf, isMember}
 use Rattle.laws.specs.Booleans.{T-true}
 use Rattle.laws.specs.Reader.{gives-if, QuestionFits, RuleFits, question-fits}
+use Rattle.laws.specs.Lists.{below-lt, filter-same}
+use Rattle.laws.specs.Members.{members-range, members-are}
+use Rattle.laws.specs.Sorts.{Sorted, tree-sorted}
+use Rattle.bits.specs.Table.{bit}
 use Rattle.formula.specs.Seen.{ruleNumber}
 use Rattle.rewriting.specs.Rule.{Accepted, IsQuestion, TableOf}
 use Rattle.definitions.specs.Truth.{Case, membersOf}
@@ -22,7 +26,8 @@ use Rattle.definitions.specs.Atoms.{Problem, problemOf, problemWith, relationAt
 use Rattle.definitions.specs.Actions.{actions}
 use Rattle.definitions.specs.Built.{bound}
 use Rattle.definitions.specs.Outcome.{ground}
-use Rattle.names.specs.Signatures.{chosenOf, allOf}
+use Rattle.names.specs.Signatures.{typesOf, chosenOf, allOf}
+use Rattle.names.proofs.Laws.{length-names}
 use Rattle.tree.specs.Tables.{IsTable}
 use Rattle.tree.specs.declared.Nodes.{Nodes}
 use Rattle.ground.specs.Lines.{Fits, nodesIn, nodeLine}
@@ -30,7 +35,7 @@ use Rattle.ground.specs.Of.{Is, kindNumber}
 use native.Mathlib.Omega.{arith}
 use Rattle.layout.specs.declared.Relations.{Relations}
 use Rattle.layout.specs.declared.Made.{Made}
-use Rattle.layout.specs.Laid.{Inputs, Laid}
+use Rattle.layout.specs.Laid.{rangeBy, Inputs, Laid}
 use Rattle.grounding.specs.Numbered.{Numbered, Declared, noRelation}
 use Rattle.sheets.specs.declared.Opened.{Opened}
 use Rattle.sheets.specs.Opening.{Holds}
@@ -85,13 +90,13 @@ module _ (s : List ℕ) (o : Opened) (c : Case) (facts : ℕ → Bool) (h : Hold
     low = h .rule-from;
     high = h .rule-to;
     sound = h .sound;
-    fine = rw (h .formula, few, shallow, known, scoped) refl;
+    fine = rw (h .formula, few, shallow, known, scoped, typed) refl;
   }
     where
       f : Formula
       f = c .question .rule .formula
 
-      fits : RuleFits (c .question .rels) (c .question .chosen) (c .question .rule)
+      fits : RuleFits (c .question .rels) (c .question .types) (c .question .chosen) (c .question .rule)
       fits = gives-if QuestionFits (readQuestion s) (c .question) (h .asked) (question-fits s) .rule-fits
 
       few : ltb formLimit (allForms (chosenOf s (o .sig)) f) ≡ false
@@ -106,16 +111,34 @@ module _ (s : List ℕ) (o : Opened) (c : Case) (facts : ℕ → Bool) (h : Hold
       scoped : isScoped [] f ≡ true
       scoped = T-true (isScoped [] f) (fits .scoped)
 
+      typed : isTyped (typesOf s (o .sig)) f ≡ true
+      typed = ap (λ (ts : List (List ℕ)). isTyped ts f) (sym (h .types)) ∙ T-true (isTyped (c .question .types) f) (fits .typed)
+
+  types-count : length (c .question .types) ≡ o .sig .types
+  unfolding typesOf
+  types-count = ap length (h .types) ∙ length-names s (o .sig .from) (o .sig .to) 12 (o .sig .types)
+
+  -- the ranges of the sorts, by the words of members
+  ranges-are : (σ : ℕ) → σ ≤ o .sig .types → membersOf c σ ≡ rangeBy (o .n) (o .members) σ
+  unfolding membersOf rangeBy
+  ranges-are zero l = ap below (sym (h .size))
+  ranges-are (suc k) l =
+      members-are c k (omega (arith, types-count))
+      ∙ ap (λ (n : ℕ). filter (isMember (c .site .members) k) (below n)) (sym (h .size))
+      ∙ filter-same (isMember (c .site .members) k) (λ x. bit (o .members) (64 * k + x)) (below (o .n)) (λ x m. sym (h .members-are .says k x (omega (arith, below-lt (o .n) x m, h .few-elements))))
+
   pub is-question : IsQuestion s (o .rule .from) (o .rule .to) (o .sig) (c .question)
-  is-question = record { rels = h .rels; chosen = h .chosen; rule = h .formula }
+  is-question = record { rels = h .rels; types = h .types; chosen = h .chosen; rule = h .formula }
 
   module _ (g : Relations) (t : Nodes) (m : Numbered (o .sig) g) (table : TableOf s (o .rule .from) (o .rule .to) (o .sig) t) where
-    pub inputs : Inputs (problemOf c) (o .n) g t
-    unfolding problemOf problemWith relationAt membersOf
+    pub inputs : Inputs (problemOf c) (o .n) (o .members) (o .sig .types) g t
+    unfolding problemOf problemWith relationAt
     inputs = record {
       size = h .size;
       list = refl;
-      ranges = λ s. refl;
+      ranges = ranges-are;
+      ranged = λ σ. members-range c σ (h .site-fits .some-element) (h .site-fits .members-fit) (h .site-fits .each-type);
+      sorted = subst (λ (k : ℕ). Sorted k (treeOf (c .question))) types-count (tree-sorted (c .question));
       count = m .count s ∙ ap length (sym relations-are);
       arity = λ r l. m .arity s r l ∙ ap (λ (ks : List Relation). getD ks r noRelation .arity) (sym relations-are);
       kind = λ r l. m .kind s r l ∙ ap (λ (ks : List Relation). kindNumber (getD ks r noRelation .kind)) (sym relations-are);

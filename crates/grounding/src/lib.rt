@@ -72,9 +72,11 @@ pub fn ground_case(
     let sig = o.sig;
     let rule = o.rule;
     let n = o.n;
+    let members = o.members;
+    let ranges = layout::ranges_of(n, sig.types, &members);
     let g = relations_of(sig);
     let t = rewriting::nodes_of(question, rule.from, rule.to, sig);
-    let m = layout::lay_out(n, g, t, most_atoms, most_actions);
+    let m = layout::lay_out(n, ranges, g, t, most_atoms, most_actions);
     if m.over {
         return Sized {
             over: true,
@@ -84,7 +86,7 @@ pub fn ground_case(
         };
     }
     let l = m.layout;
-    layout::fill(table, n, g, t, l);
+    layout::fill(table, n, sig.types, &members, ranges, g, t, l);
     Sized {
         over: false,
         atoms: m.atoms,

@@ -27,7 +27,8 @@ use Rattle.tree.specs.declared.Nodes.{Nodes}
 use Rattle.ground.specs.Of.{Is}
 use Rattle.layout.specs.declared.Relations.{Relations}
 use Rattle.layout.specs.declared.Made.{Made}
-use Rattle.layout.specs.Laid.{Inputs, Laid}
+use Rattle.layout.specs.declared.Ranges.{Ranges}
+use Rattle.layout.specs.Laid.{RangesFit, RangesAre, Inputs, Laid}
 use Rattle.initial.specs.Initial.{FactsIn}
 use Rattle.picks.specs.declared.Kinds.{Kinds}
 use Rattle.picks.specs.declared.Kinds.the-variants.{Kept, Broken}
@@ -59,17 +60,26 @@ pub record AcceptedIn (s : List ℕ) (o : Opened) (facts : ℕ → Bool) : Type 
   pub accepted-case : Accepted case
   pub holds : Holds s case o facts
 
+-- the ranges of n elements and of so many types, by their words of members
+pub record Ranged (n types : ℕ) (w : List ℕ) (ranges : Ranges) : Type 0 where
+  pub some : 0 < n
+  pub few : n ≤ 64
+  pub types-le : types ≤ 8
+  pub there : types ≤ length w
+  pub fit : RangesFit n ranges
+  pub are : RangesAre n w types ranges
+
 -- relations and nodes are those of an accepted case
-pub record SomeCase (n : ℕ) (g : Relations) (t : Nodes) : Type 0 where
+pub record SomeCase (n : ℕ) (w : List ℕ) (types : ℕ) (g : Relations) (t : Nodes) : Type 0 where
   pub case : Case
   pub accepted-case : Accepted case
-  pub inputs : Inputs (problemOf case) n g t
+  pub inputs : Inputs (problemOf case) n w types g t
 
 -- relations, nodes, table, facts and words are those of a case and its picks
-pub record Asks (c : Case) (F : List Tuple) (n : ℕ) (g : Relations) (t : Nodes) (table facts words : List ℕ) : Type 0 where
+pub record Asks (c : Case) (F : List Tuple) (n : ℕ) (w : List ℕ) (types : ℕ) (g : Relations) (t : Nodes) (table facts words : List ℕ) : Type 0 where
   pub accepted-case : Accepted c
   pub picks : arePicks c F ≡ true
-  pub inputs : Inputs (problemOf c) n g t
+  pub inputs : Inputs (problemOf c) n w types g t
   pub is : Is (bare (problemOf c)) table
   pub facts-in : FactsIn (problemOf c) facts
   pub picked : PicksAre (problemOf c) words F
@@ -85,11 +95,11 @@ abbrev pub FromText : (question site : List ℕ) → Opened → List ℕ → (�
 FromText question site o labels facts text r = FiledRead question site (readFiled usual question site) o labels facts → o .fault ≡ 0 → resultOf r ≡ judge usual question site (asText text)
 
 -- ---- lines of a case
-pub lines-of : (c : Case) (n : ℕ) (g : Relations) (t : Nodes) (w : List ℕ) → 0 < n → n ≤ 64 → Fits t → Inputs (problemOf c) n g t → Lined n g t w → LinesOf c n w
-lines-of c n g t w a b f i l = record { relations = g; nodes = t; some = a; size = b; inputs = i; fits = f; lined = l }
+pub lines-of : (c : Case) (n : ℕ) (ms : List ℕ) (types : ℕ) (ranges : Ranges) (g : Relations) (t : Nodes) (w : List ℕ) → Ranged n types ms ranges → Fits t → Inputs (problemOf c) n ms types g t → Lined n ms types (ranges .count) g t w → LinesOf c n w
+lines-of c n ms types ranges g t w R f i l = record { relations = g; nodes = t; some = R .some; size = R .few; members = ms; types = types; ranges = ranges; counted = R .are; inputs = i; fits = f; lined = l }
 
 -- ---- 16, 17, yes
-module _ (c : Case) (F : List Tuple) (n : ℕ) (g : Relations) (t : Nodes) (table facts words : List ℕ) (asks : Asks c F n g t table facts words) (k : Kinds)
+module _ (c : Case) (F : List Tuple) (n : ℕ) (ms : List ℕ) (types : ℕ) (g : Relations) (t : Nodes) (table facts words : List ℕ) (asks : Asks c F n ms types g t table facts words) (k : Kinds)
     (e : toldKinds k ≡ position (λ r. breaks (relationAt (bare (problemOf c)) r .kind) (bare (problemOf c) .size) (rowsIn (bare (problemOf c)) words r)) (chosenNumbers (bare (problemOf c)))) where
   kinds-told : toldKinds k ≡ firstOfOtherKind c F
   kinds-told = e ∙ kinds-same (problemOf c) words ∙ kinds-are c (asks .accepted-case) F (asks .picks) words (asks .picked)
@@ -173,8 +183,8 @@ module _ (L : CaseLimits) (question site : List ℕ) (picks : Given) where
             ends-judged r v = v ∙ sym (judged-then ∙ rw (spare-clear c (x .labels) picks words given F handed clear) refl)
 
             -- what is handed on to decide
-            pub asks-of : (o′ : Opened) (facts : List ℕ) → Holds question c o′ (bit facts) → Accepted c → (n : ℕ) (g : Relations) (t : Nodes) (table : List ℕ)
-                → Inputs p n g t → Is (bare p) table → Asks c F n g t table facts words
-            asks-of o′ facts h A n g t table i is =
+            pub asks-of : (o′ : Opened) (facts : List ℕ) → Holds question c o′ (bit facts) → Accepted c → (n : ℕ) (ms : List ℕ) (types : ℕ) (g : Relations) (t : Nodes) (table : List ℕ)
+                → Inputs p n ms types g t → Is (bare p) table → Asks c F n ms types g t table facts words
+            asks-of o′ facts h A n ms types g t table i is =
                 let (a, front) = handed .held (subst (λ (x : ℕ). x ≤ length words) q room) clear in
                 record { accepted-case = A; picks = a; inputs = i; is = is; facts-in = facts-held question c o′ facts h; picked = front-picks p F words front }

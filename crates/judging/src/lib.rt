@@ -22,34 +22,54 @@ ghost use Rattle.tuples.specs.Labels.{LabelsAre};
 ghost use Rattle.sheets.specs.Reading.{FactsRoom, PicksRoom};
 ghost use Rattle.picks.specs.Words.{PicksAre};
 ghost use Rattle.asking.specs.Replies.{resultOf};
-ghost use Rattle.judging.specs.Judges.{verdict, AcceptedIn, SomeCase, Asks, FromWords, FromText};
+ghost use Rattle.judging.specs.Judges.{verdict, AcceptedIn, Ranged, SomeCase, Asks, FromWords, FromText};
 use asking::Reply;
+use layout::Ranges;
 use layout::Relations;
 use sheets::Answer;
 use sheets::Opened;
 use tree::Nodes;
 
 // Whether the rule is true of picks: its lines are filled, then evaluated.
-fn is_true(n: usize, g: Relations, t: Nodes, facts: &[u64], picks: &[u64]) -> bool
-    requires { ⌜ (0 < n) × (n ≤ 64) × RelationsFit g × «Tree-fits» t × SomeCase n g t ⌝ }
-    ensures { λ r. ⌜ ((c : Case) (F : List Tuple) → «Accepted-case» c → arePicks c F ≡ true → Inputs (problemOf c) n g t → FactsIn (problemOf c) (now (facts .entry)) → PicksAre (problemOf c) (now (picks .entry)) F
+fn is_true(
+    n: usize,
+    types: usize,
+    members: &[u64],
+    ranges: Ranges,
+    g: Relations,
+    t: Nodes,
+    facts: &[u64],
+    picks: &[u64],
+) -> bool
+    requires { ⌜ Ranged n types (now members) ranges × RelationsFit g × «Tree-fits» t × SomeCase n (now members) types g t ⌝ }
+    ensures { λ r. ⌜ ((c : Case) (F : List Tuple) → «Accepted-case» c → arePicks c F ≡ true → Inputs (problemOf c) n (now (members .entry)) types g t → FactsIn (problemOf c) (now (facts .entry)) → PicksAre (problemOf c) (now (picks .entry)) F
         → r ≡ ruleIsTrue c F) ⌝ }
 {
     let mut lines = [0usize; truth::LINES];
-    lines::fill(&mut lines, n, g, t);
+    lines::fill(&mut lines, n, types, members, ranges, g, t);
     lines::rule_is_true(&lines, facts, picks, n)
 }
 
 // 16, then 17, then yes.
-fn decide(table: &[usize], n: usize, g: Relations, t: Nodes, facts: &[u64], picks: &[u64]) -> Reply
-    requires { ⌜ Fits (now table) × (0 < n) × (n ≤ 64) × RelationsFit g × «Tree-fits» t × SomeCase n g t ⌝ }
-    ensures { λ r. ⌜ ((c : Case) (F : List Tuple) → Asks c F n g t (now (table .entry)) (now (facts .entry)) (now (picks .entry)) → resultOf r ≡ verdict c F) ⌝ }
+fn decide(
+    table: &[usize],
+    n: usize,
+    types: usize,
+    members: &[u64],
+    ranges: Ranges,
+    g: Relations,
+    t: Nodes,
+    facts: &[u64],
+    picks: &[u64],
+) -> Reply
+    requires { ⌜ Fits (now table) × Ranged n types (now members) ranges × RelationsFit g × «Tree-fits» t × SomeCase n (now members) types g t ⌝ }
+    ensures { λ r. ⌜ ((c : Case) (F : List Tuple) → Asks c F n (now (members .entry)) types g t (now (table .entry)) (now (facts .entry)) (now (picks .entry)) → resultOf r ≡ verdict c F) ⌝ }
 {
     let kinds = picks::test_kinds(table, picks);
     match kinds {
         picks::Kinds::Broken(i) => Reply::Refused(16, i),
         picks::Kinds::Kept => {
-            if is_true(n, g, t, facts, picks) {
+            if is_true(n, types, members, ranges, g, t, facts, picks) {
                 return Reply::Accepted(0);
             }
             Reply::Refused(17, 0)
@@ -66,9 +86,12 @@ fn judge_case(question: &[u8], o: Opened, facts: &[u64], picks: &[u64]) -> Reply
     let sig = o.sig;
     let rule = o.rule;
     let n = o.n;
+    let types = sig.types;
+    let members = o.members;
+    let ranges = layout::ranges_of(n, types, &members);
     let g = grounding::relations_of(sig);
     let t = rewriting::nodes_of(question, rule.from, rule.to, sig);
-    let m = layout::lay_out(n, g, t, asking::ATOMS, asking::ACTIONS);
+    let m = layout::lay_out(n, ranges, g, t, asking::ATOMS, asking::ACTIONS);
     if m.over {
         return Reply::Refused(11, 0);
     }
@@ -82,7 +105,7 @@ fn judge_case(question: &[u8], o: Opened, facts: &[u64], picks: &[u64]) -> Reply
     let s = picks::spare_word(&table, picks);
     match s {
         picks::Spare::Word(j) => Reply::Refused(10, j),
-        picks::Spare::Clear => decide(&table, n, g, t, facts, picks),
+        picks::Spare::Clear => { decide(&table, n, types, &members, ranges, g, t, facts, picks) }
     }
 }
 

@@ -13,7 +13,7 @@ use Rattle.definitions.specs.Lists.{if_then_else_, option, flatMap, sum}
 use Rattle.definitions.specs.Text.{bytes, decimalIn, decimal, split, isBetween}
 use Rattle.definitions.specs.Refusal.{accepted, _>>=_}
 use Rattle.definitions.specs.Relations.{Relation, Tuple}
-use Rattle.definitions.specs.Sheets.{Entry, rel, choose, rule, size, label, fact, pick, step, entryOf, Label, addToPicks, picksLine, readPicks, readSteps}
+use Rattle.definitions.specs.Sheets.{Entry, rel, type, choose, rule, size, label, member, fact, pick, step, entryOf, Label, addToPicks, picksLine, readPicks, readSteps}
 use Rattle.definitions.specs.Atoms.{Problem}
 use Rattle.definitions.specs.Actions.{Action, set, beginProof, proveAnd, proveOr, proveExists, proveForall, proveGoal, actionAt}
 use Rattle.definitions.specs.Strips.{run, pickOf, picksOf}
@@ -91,10 +91,12 @@ module _ (rs : List Relation) (first n : ℕ) (labels : List Label) where
   add-long : (acc : List Tuple) (at : ℕ) (fs : List (List ℕ)) (e : Entry) (m : List Tuple) → Says fs e → addToPicks rs first n labels acc at e ≡ accepted m → (t : Tuple) × (m ≡ acc ++ (t ∷ [])) × (7 ≤ length (printLine fs))
   unfolding addToPicks Says isBetween
   add-long acc at fs (rel name a) m s e = absurd (refused-accepted e)
+  add-long acc at fs (type name) m s e = absurd (refused-accepted e)
   add-long acc at fs (choose name a k) m s e = absurd (refused-accepted e)
   add-long acc at fs (rule f) m s e = absurd (refused-accepted e)
   add-long acc at fs (size k) m s e = absurd (refused-accepted e)
   add-long acc at fs (label x name) m s e = absurd (refused-accepted e)
+  add-long acc at fs (member t x) m s e = absurd (refused-accepted e)
   add-long acc at fs (fact name es) m s e = absurd (refused-accepted e)
   add-long acc at fs (pick name es) m (gs, q, r, b) e =
       let A = tuple-told rs first n labels acc at name es m e in

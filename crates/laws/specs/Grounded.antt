@@ -13,7 +13,7 @@ use lib.Seq.{getD-append-add}
 use borrow.Author.Tests.{ltb-true, ltb-false, le-ltb, lt-ltb}
 use Rattle.definitions.specs.Lists.{if_then_else_, all, any, same, option, position}
 use Rattle.definitions.specs.Relations.{Kind, static, plain, Fun, PFun, Inj, PInj, isChosen, isFunction, isTotal, Relation, Tuple, builtIn, numberOf, isDeclared, builtInHolds, isAmong}
-use Rattle.definitions.specs.Formula.{Formula, Formulas, literal, negation, implication, conjunction, disjunction, exists, forall, nil, cons, nesting, nestingAll, isKnown, areKnown, isBound, areNew, isScoped, areScoped, sortOf}
+use Rattle.definitions.specs.Formula.{Quantified, variablesOf, Formula, Formulas, literal, negation, implication, conjunction, disjunction, exists, forall, nil, cons, nesting, nestingAll, isKnown, areKnown, isBound, areNew, isScoped, areScoped, sortOf}
 use Rattle.definitions.specs.Sheets.{Question, relationsOf, relations, firstChosen, firstRel}
 use Rattle.definitions.specs.Truth.{Case, holds}
 use Rattle.definitions.specs.Tree.{Tree, Trees, leaf, forallNode, existsNode, end, _then_, nest, leafOf, asIs, negated, allAsIs, allNegated, totalities, joined, treeOf, nodes}
@@ -22,9 +22,8 @@ use Rattle.laws.specs.Booleans.{T-and-l, T-and-r, T-of, T-or, and-T}
 use Rattle.laws.specs.Lists.{all-at, getD-mem}
 use Rattle.laws.specs.Positions.{place, place-lt, position-place}
 use Rattle.laws.specs.Tuples.{same-eq}
-use Rattle.laws.specs.Members.{members-range}
 use Rattle.laws.specs.Numbers.{noRelation}
-use Rattle.laws.specs.Reader.{Apart, Fit, Accepted}
+use Rattle.laws.specs.Reader.{Apart, Fit, Accepted, accepted-range}
 use Rattle.laws.specs.Meaning.{known-name}
 use Rattle.laws.specs.Parts.{Within, WithinAll, Fits, FitsAll, Here, IsNode}
 use Rattle.laws.specs.Means.{Good}
@@ -199,15 +198,19 @@ module _ (c : Case) (A : Accepted c) where
       let l : place (same v) scope < length scope = place-lt (same v) scope b in
       and-T (ltb (option (position (same v) scope) zero (λ k. k)) 4) _ (rw (position-place (same v) scope b) (lt→ltb (place (same v) scope) 4 (omega arith))) (leaf-levels scope vs h (T-and-r (any (same v) scope) _ t))
 
-  nest-within : (quantifier : ℕ → ℕ → Tree → Tree) → ((d σ : ℕ) (t : Tree) → d < 4 → Within t → Within (quantifier d σ t)) → (vs : List (List ℕ)) (level : ℕ) (t : Tree) → level + length vs ≤ 4 → Within t → Within (nest quantifier level (map sortOf vs) t)
+  length-variables : (qs : List Quantified) → length (variablesOf qs) ≡ length qs
+  unfolding variablesOf
+  length-variables qs = length-map qs _
+
+  nest-within : (quantifier : ℕ → ℕ → Tree → Tree) → ((d σ : ℕ) (t : Tree) → d < 4 → Within t → Within (quantifier d σ t)) → (qs : List Quantified) (level : ℕ) (t : Tree) → level + length qs ≤ 4 → Within t → Within (nest quantifier level (map (sortOf (c .question .types)) qs) t)
   unfolding nest
   nest-within quantifier h [] level t l w = w
-  nest-within quantifier h (v ∷ vs) level t l w = h level _ _ (omega arith) (nest-within quantifier h vs (suc level) t (omega arith) w)
+  nest-within quantifier h (q ∷ qs) level t l w = h level _ _ (omega arith) (nest-within quantifier h qs (suc level) t (omega arith) w)
 
-  nest-fits : (quantifier : ℕ → ℕ → Tree → Tree) → ((d σ : ℕ) (t : Tree) → Fits p t → Fits p (quantifier d σ t)) → (vs : List (List ℕ)) (level : ℕ) (t : Tree) → Fits p t → Fits p (nest quantifier level (map sortOf vs) t)
+  nest-fits : (quantifier : ℕ → ℕ → Tree → Tree) → ((d σ : ℕ) (t : Tree) → Fits p t → Fits p (quantifier d σ t)) → (qs : List Quantified) (level : ℕ) (t : Tree) → Fits p t → Fits p (nest quantifier level (map (sortOf (c .question .types)) qs) t)
   unfolding nest
   nest-fits quantifier h [] level t w = w
-  nest-fits quantifier h (v ∷ vs) level t w = h level _ _ (nest-fits quantifier h vs (suc level) t w)
+  nest-fits quantifier h (q ∷ qs) level t w = h level _ _ (nest-fits quantifier h qs (suc level) t w)
 
   abbrev rs : List Relation
   rs = relationsOf (c .question)
@@ -215,29 +218,29 @@ module _ (c : Case) (A : Accepted c) where
   mutual
     unfolding asIs negated allAsIs allNegated isScoped areScoped nesting nestingAll Within WithinAll leafOf
 
-    as-within : (f : Formula) (scope : List (List ℕ)) → T (isScoped scope f) → length scope + nesting f ≤ 4 → Within (asIs (relationsOf (c .question)) scope f)
+    as-within : (f : Formula) (scope : List (List ℕ)) → T (isScoped scope f) → length scope + nesting f ≤ 4 → Within (asIs (relationsOf (c .question)) (c .question .types) scope f)
     as-within (literal r vs) scope s h = leaf-levels scope vs (omega arith) s
     as-within (negation f) scope s h = neg-within f scope s h
     as-within (implication f g) scope s h = (neg-within f scope (T-and-l (isScoped scope f) _ s) (omega arith), (as-within g scope (T-and-r (isScoped scope f) _ s) (omega arith), tt))
     as-within (conjunction fs) scope s h = all-within fs scope s h
     as-within (disjunction fs) scope s h = all-within fs scope s h
-    as-within (exists vs f) scope s h = nest-within existsNode (λ d σ t l w. (l, w)) vs (length scope) _ (omega arith) (as-within f (scope ++ vs) (T-and-r (areNew scope vs) _ s) (let e = length-append scope vs in omega arith))
-    as-within (forall vs f) scope s h = nest-within forallNode (λ d σ t l w. (l, w)) vs (length scope) _ (omega arith) (as-within f (scope ++ vs) (T-and-r (areNew scope vs) _ s) (let e = length-append scope vs in omega arith))
+    as-within (exists qs f) scope s h = nest-within existsNode (λ d σ t l w. (l, w)) qs (length scope) _ (omega arith) (as-within f (scope ++ variablesOf qs) (T-and-r (areNew scope (variablesOf qs)) _ s) (let e = length-append scope (variablesOf qs) in let i = length-variables qs in omega arith))
+    as-within (forall qs f) scope s h = nest-within forallNode (λ d σ t l w. (l, w)) qs (length scope) _ (omega arith) (as-within f (scope ++ variablesOf qs) (T-and-r (areNew scope (variablesOf qs)) _ s) (let e = length-append scope (variablesOf qs) in let i = length-variables qs in omega arith))
 
-    neg-within : (f : Formula) (scope : List (List ℕ)) → T (isScoped scope f) → length scope + nesting f ≤ 4 → Within (negated (relationsOf (c .question)) scope f)
+    neg-within : (f : Formula) (scope : List (List ℕ)) → T (isScoped scope f) → length scope + nesting f ≤ 4 → Within (negated (relationsOf (c .question)) (c .question .types) scope f)
     neg-within (literal r vs) scope s h = leaf-levels scope vs (omega arith) s
     neg-within (negation f) scope s h = as-within f scope s h
     neg-within (implication f g) scope s h = (as-within f scope (T-and-l (isScoped scope f) _ s) (omega arith), (neg-within g scope (T-and-r (isScoped scope f) _ s) (omega arith), tt))
     neg-within (conjunction fs) scope s h = allneg-within fs scope s h
     neg-within (disjunction fs) scope s h = allneg-within fs scope s h
-    neg-within (exists vs f) scope s h = nest-within forallNode (λ d σ t l w. (l, w)) vs (length scope) _ (omega arith) (neg-within f (scope ++ vs) (T-and-r (areNew scope vs) _ s) (let e = length-append scope vs in omega arith))
-    neg-within (forall vs f) scope s h = nest-within existsNode (λ d σ t l w. (l, w)) vs (length scope) _ (omega arith) (neg-within f (scope ++ vs) (T-and-r (areNew scope vs) _ s) (let e = length-append scope vs in omega arith))
+    neg-within (exists qs f) scope s h = nest-within forallNode (λ d σ t l w. (l, w)) qs (length scope) _ (omega arith) (neg-within f (scope ++ variablesOf qs) (T-and-r (areNew scope (variablesOf qs)) _ s) (let e = length-append scope (variablesOf qs) in let i = length-variables qs in omega arith))
+    neg-within (forall qs f) scope s h = nest-within existsNode (λ d σ t l w. (l, w)) qs (length scope) _ (omega arith) (neg-within f (scope ++ variablesOf qs) (T-and-r (areNew scope (variablesOf qs)) _ s) (let e = length-append scope (variablesOf qs) in let i = length-variables qs in omega arith))
 
-    all-within : (fs : Formulas) (scope : List (List ℕ)) → T (areScoped scope fs) → length scope + nestingAll fs ≤ 4 → WithinAll (allAsIs (relationsOf (c .question)) scope fs)
+    all-within : (fs : Formulas) (scope : List (List ℕ)) → T (areScoped scope fs) → length scope + nestingAll fs ≤ 4 → WithinAll (allAsIs (relationsOf (c .question)) (c .question .types) scope fs)
     all-within nil scope s h = tt
     all-within (cons f fs) scope s h = (as-within f scope (T-and-l (isScoped scope f) _ s) (omega arith), all-within fs scope (T-and-r (isScoped scope f) _ s) (omega arith))
 
-    allneg-within : (fs : Formulas) (scope : List (List ℕ)) → T (areScoped scope fs) → length scope + nestingAll fs ≤ 4 → WithinAll (allNegated (relationsOf (c .question)) scope fs)
+    allneg-within : (fs : Formulas) (scope : List (List ℕ)) → T (areScoped scope fs) → length scope + nestingAll fs ≤ 4 → WithinAll (allNegated (relationsOf (c .question)) (c .question .types) scope fs)
     allneg-within nil scope s h = tt
     allneg-within (cons f fs) scope s h = (neg-within f scope (T-and-l (isScoped scope f) _ s) (omega arith), allneg-within fs scope (T-and-r (isScoped scope f) _ s) (omega arith))
 
@@ -252,29 +255,29 @@ module _ (c : Case) (A : Accepted c) where
   mutual
     unfolding asIs negated allAsIs allNegated isKnown areKnown Fits FitsAll
 
-    as-fits : (f : Formula) (scope : List (List ℕ)) → T (isKnown (relationsOf (c .question)) f) → Fits p (asIs (relationsOf (c .question)) scope f)
+    as-fits : (f : Formula) (scope : List (List ℕ)) → T (isKnown (relationsOf (c .question)) f) → Fits p (asIs (relationsOf (c .question)) (c .question .types) scope f)
     as-fits (literal r vs) scope k = leaf-fits true scope r vs k
     as-fits (negation f) scope k = neg-fits f scope k
     as-fits (implication f g) scope k = (neg-fits f scope (T-and-l (isKnown (relationsOf (c .question)) f) _ k), (as-fits g scope (T-and-r (isKnown (relationsOf (c .question)) f) _ k), tt))
     as-fits (conjunction fs) scope k = all-fits fs scope k
     as-fits (disjunction fs) scope k = all-fits fs scope k
-    as-fits (exists vs f) scope k = nest-fits existsNode (λ d σ t w. w) vs (length scope) _ (as-fits f (scope ++ vs) k)
-    as-fits (forall vs f) scope k = nest-fits forallNode (λ d σ t w. w) vs (length scope) _ (as-fits f (scope ++ vs) k)
+    as-fits (exists qs f) scope k = nest-fits existsNode (λ d σ t w. w) qs (length scope) _ (as-fits f (scope ++ variablesOf qs) k)
+    as-fits (forall qs f) scope k = nest-fits forallNode (λ d σ t w. w) qs (length scope) _ (as-fits f (scope ++ variablesOf qs) k)
 
-    neg-fits : (f : Formula) (scope : List (List ℕ)) → T (isKnown (relationsOf (c .question)) f) → Fits p (negated (relationsOf (c .question)) scope f)
+    neg-fits : (f : Formula) (scope : List (List ℕ)) → T (isKnown (relationsOf (c .question)) f) → Fits p (negated (relationsOf (c .question)) (c .question .types) scope f)
     neg-fits (literal r vs) scope k = leaf-fits false scope r vs k
     neg-fits (negation f) scope k = as-fits f scope k
     neg-fits (implication f g) scope k = (as-fits f scope (T-and-l (isKnown (relationsOf (c .question)) f) _ k), (neg-fits g scope (T-and-r (isKnown (relationsOf (c .question)) f) _ k), tt))
     neg-fits (conjunction fs) scope k = allneg-fits fs scope k
     neg-fits (disjunction fs) scope k = allneg-fits fs scope k
-    neg-fits (exists vs f) scope k = nest-fits forallNode (λ d σ t w. w) vs (length scope) _ (neg-fits f (scope ++ vs) k)
-    neg-fits (forall vs f) scope k = nest-fits existsNode (λ d σ t w. w) vs (length scope) _ (neg-fits f (scope ++ vs) k)
+    neg-fits (exists qs f) scope k = nest-fits forallNode (λ d σ t w. w) qs (length scope) _ (neg-fits f (scope ++ variablesOf qs) k)
+    neg-fits (forall qs f) scope k = nest-fits existsNode (λ d σ t w. w) qs (length scope) _ (neg-fits f (scope ++ variablesOf qs) k)
 
-    all-fits : (fs : Formulas) (scope : List (List ℕ)) → T (areKnown (relationsOf (c .question)) fs) → FitsAll p (allAsIs (relationsOf (c .question)) scope fs)
+    all-fits : (fs : Formulas) (scope : List (List ℕ)) → T (areKnown (relationsOf (c .question)) fs) → FitsAll p (allAsIs (relationsOf (c .question)) (c .question .types) scope fs)
     all-fits nil scope k = tt
     all-fits (cons f fs) scope k = (as-fits f scope (T-and-l (isKnown (relationsOf (c .question)) f) _ k), all-fits fs scope (T-and-r (isKnown (relationsOf (c .question)) f) _ k))
 
-    allneg-fits : (fs : Formulas) (scope : List (List ℕ)) → T (areKnown (relationsOf (c .question)) fs) → FitsAll p (allNegated (relationsOf (c .question)) scope fs)
+    allneg-fits : (fs : Formulas) (scope : List (List ℕ)) → T (areKnown (relationsOf (c .question)) fs) → FitsAll p (allNegated (relationsOf (c .question)) (c .question .types) scope fs)
     allneg-fits nil scope k = tt
     allneg-fits (cons f fs) scope k = (neg-fits f scope (T-and-l (isKnown (relationsOf (c .question)) f) _ k), allneg-fits fs scope (T-and-r (isKnown (relationsOf (c .question)) f) _ k))
 
@@ -327,36 +330,36 @@ module _ (c : Case) (A : Accepted c) where
   no-leaf r (v ∷ vs) s k = s
 
   mutual
-    unfolding asIs negated isScoped isKnown nest IsNode
+    unfolding asIs negated isScoped isKnown nest IsNode variablesOf
 
-    as-node : (f : Formula) → T (isScoped [] f) → T (isKnown (relationsOf (c .question)) f) → IsNode p (asIs (relationsOf (c .question)) [] f)
+    as-node : (f : Formula) → T (isScoped [] f) → T (isKnown (relationsOf (c .question)) f) → IsNode p (asIs (relationsOf (c .question)) (c .question .types) [] f)
     as-node (literal r vs) s k = absurd (no-leaf r vs s k)
     as-node (negation f) s k = neg-node f s k
     as-node (implication f g) s k = tt
     as-node (conjunction fs) s k = tt
     as-node (disjunction fs) s k = tt
     as-node (exists [] f) s k = as-node f (T-and-r (areNew [] []) _ s) k
-    as-node (exists (v ∷ vs) f) s k = tt
+    as-node (exists (q ∷ qs) f) s k = tt
     as-node (forall [] f) s k = as-node f (T-and-r (areNew [] []) _ s) k
-    as-node (forall (v ∷ vs) f) s k = tt
+    as-node (forall (q ∷ qs) f) s k = tt
 
-    neg-node : (f : Formula) → T (isScoped [] f) → T (isKnown (relationsOf (c .question)) f) → IsNode p (negated (relationsOf (c .question)) [] f)
+    neg-node : (f : Formula) → T (isScoped [] f) → T (isKnown (relationsOf (c .question)) f) → IsNode p (negated (relationsOf (c .question)) (c .question .types) [] f)
     neg-node (literal r vs) s k = absurd (no-leaf r vs s k)
     neg-node (negation f) s k = as-node f s k
     neg-node (implication f g) s k = tt
     neg-node (conjunction fs) s k = tt
     neg-node (disjunction fs) s k = tt
     neg-node (exists [] f) s k = neg-node f (T-and-r (areNew [] []) _ s) k
-    neg-node (exists (v ∷ vs) f) s k = tt
+    neg-node (exists (q ∷ qs) f) s k = tt
     neg-node (forall [] f) s k = neg-node f (T-and-r (areNew [] []) _ s) k
-    neg-node (forall (v ∷ vs) f) s k = tt
+    neg-node (forall (q ∷ qs) f) s k = tt
 
   root-is : p .root ≡ treeOf (c .question)
   unfolding problemOf problemWith
   root-is = refl
 
   abbrev t₀ : Tree
-  t₀ = asIs (relationsOf (c .question)) [] (c .question .rule .formula)
+  t₀ = asIs (relationsOf (c .question)) (c .question .types) [] (c .question .rule .formula)
 
   abbrev us₀ : Trees
   us₀ = totalities (firstChosen (c .question)) (c .question .chosen)
@@ -379,7 +382,7 @@ module _ (c : Case) (A : Accepted c) where
   good = record {
     element = A .site-fits .some-element;
     ranges = refl;
-    ranged = λ s. members-range c s (A .site-fits .some-element);
+    ranged = accepted-range c A;
     noded = refl;
     root-here = root-here;
     root-node = joined-node t₀ us₀ (as-node (c .question .rule .formula) (A .question-fits .rule-fits .scoped) known);

@@ -117,12 +117,12 @@ unfolding OneToOne
 no-labels n = record { small = λ l m. absurd (List·Memᴰ·not-nil m); formed = λ l m. absurd (List·Memᴰ·not-nil m); one = tt }
 
 -- a `label` line with a name for its element is 18: the element that it means has a label, or it means none
-pub label-named : (d : SiteDraft) (at n : ℕ) (f name : List ℕ) → d .sized ≡ some n → d .facts ≡ [] → addLabel d at (named f) name ≡ refused 18 at
+pub label-named : (d : SiteDraft) (at n : ℕ) (f name : List ℕ) → d .sized ≡ some n → d .members ≡ [] → d .facts ≡ [] → addLabel d at (named f) name ≡ refused 18 at
 unfolding addLabel elementOf isInRange isEmpty given refuseIf _>>=_
-label-named d at n f name z e = rw (z, e) (go (elementNamed (d .labels) f) refl)
+label-named d at n f name z u e = rw (z, u, e) (go (elementNamed (d .labels) f) refl)
   where
     added : ℕ → SiteDraft
-    added x = record { sized = some n; labels = d .labels ++ (record { element = x; name = name } ∷ []); facts = [] }
+    added x = record { sized = some n; labels = d .labels ++ (record { element = x; name = name } ∷ []); members = []; facts = [] }
 
     go : (o : Option ℕ) → elementNamed (d .labels) f ≡ o → (given o 18 at >>= λ x. refuseIf (isTaken (d .labels) x name) 18 at >>= λ _. accepted (added x)) ≡ refused 18 at
     go none q = refl

@@ -16,6 +16,7 @@
 --   Alone              the same where the third input does not hang on labels
 --   Labels             labels are one to one; what element fields mean by them
 --   Reader             what an accepted question and site have
+--   Sorts              a node's sort is 0 or that of a declared type
 --   Meaning            the tree means what the rule as written means
 --   Parts              trees: free levels, nodes by preorder number
 --   Means              what each atom means in the proof phase; the nodes' actions keep to it
@@ -52,6 +53,7 @@ pub mod Asked
 pub mod Alone
 pub mod Labels
 pub mod Reader
+pub mod Sorts
 pub mod Meaning
 pub mod Parts
 pub mod Means

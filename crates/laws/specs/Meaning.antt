@@ -10,10 +10,10 @@ use lib.ListN.{length, length-append}
 use borrow.Author.Tests.{eq-eqb, ne-eqb}
 use Rattle.definitions.specs.Lists.{if_then_else_, all, any, same, option, position, mapFrom}
 use Rattle.definitions.specs.Relations.{Relation, Tuple, numberOf, isTotal}
-use Rattle.definitions.specs.Formula.{Formula, Formulas, literal, negation, implication, conjunction, disjunction, exists, forall, nil, cons, isKnown, areKnown, isBound, areNew, isScoped, areScoped, sortOf}
+use Rattle.definitions.specs.Formula.{Quantified, variablesOf, Formula, Formulas, literal, negation, implication, conjunction, disjunction, exists, forall, nil, cons, isKnown, areKnown, isBound, areNew, isScoped, areScoped, sortOf}
 use Rattle.definitions.specs.Sheets.{relationsOf, firstChosen}
 use Rattle.definitions.specs.Truth
-use Truth.{Case, holds, Binding, valueOf, membersOf, forEvery, forSome, isTrue, allTrue, someTrue, eachChosen, isTotalIn, areTotal, ruleIsTrue}
+use Truth.{Case, holds, Binding, valueOf, rangeOf, forEvery, forSome, isTrue, allTrue, someTrue, eachChosen, isTotalIn, areTotal, ruleIsTrue}
 use Rattle.definitions.specs.Tree.{Tree, Trees, leaf, forallNode, existsNode, end, _then_, nest, leafOf, asIs, negated, allAsIs, allNegated, totalities, joined, treeOf}
 use Rattle.definitions.specs.Actions.{Values, withValue}
 use Rattle.definitions.specs.Built.{treeHolds, treesHold, someHolds}
@@ -63,16 +63,16 @@ unfolding all any
 not-all p [] = refl
 not-all p (x ∷ l) = ap (λ (b : Bool). not (p x) || b) (not-all p l) ∙ sym (not-and (p x) (all p l))
 
-module _ (R : ℕ → List ℕ) (G : List Binding → Bool) where
-  not-some : (vs : List (List ℕ)) (bs : List Binding) → forEvery R vs bs (λ b. not (G b)) ≡ not (forSome R vs bs G)
+module _ (R : Quantified → List ℕ) (G : List Binding → Bool) where
+  not-some : (qs : List Quantified) (bs : List Binding) → forEvery R qs bs (λ b. not (G b)) ≡ not (forSome R qs bs G)
   unfolding forEvery forSome
   not-some [] bs = refl
-  not-some (v ∷ vs) bs = ap (λ (f : ℕ → Bool). all f (R (sortOf v))) (fun-ext (λ x. not-some vs (record { variable = v; value = x } ∷ bs))) ∙ not-any (λ x. forSome R vs (record { variable = v; value = x } ∷ bs) G) (R (sortOf v))
+  not-some (q ∷ qs) bs = ap (λ (f : ℕ → Bool). all f (R q)) (fun-ext (λ x. not-some qs (record { variable = q .variable; value = x } ∷ bs))) ∙ not-any (λ x. forSome R qs (record { variable = q .variable; value = x } ∷ bs) G) (R q)
 
-  not-every : (vs : List (List ℕ)) (bs : List Binding) → forSome R vs bs (λ b. not (G b)) ≡ not (forEvery R vs bs G)
+  not-every : (qs : List Quantified) (bs : List Binding) → forSome R qs bs (λ b. not (G b)) ≡ not (forEvery R qs bs G)
   unfolding forEvery forSome
   not-every [] bs = refl
-  not-every (v ∷ vs) bs = ap (λ (f : ℕ → Bool). any f (R (sortOf v))) (fun-ext (λ x. not-every vs (record { variable = v; value = x } ∷ bs))) ∙ not-all (λ x. forEvery R vs (record { variable = v; value = x } ∷ bs) G) (R (sortOf v))
+  not-every (q ∷ qs) bs = ap (λ (f : ℕ → Bool). any f (R q)) (fun-ext (λ x. not-every qs (record { variable = q .variable; value = x } ∷ bs))) ∙ not-all (λ x. forEvery R qs (record { variable = q .variable; value = x } ∷ bs) G) (R q)
 
 length-snoc : {A : Type 0} (l : List A) (x : A) → length (l ++ (x ∷ [])) ≡ suc (length l)
 length-snoc l x = let e = length-append l (x ∷ []) in omega arith
@@ -84,21 +84,21 @@ known-name [] r k t = t
 known-name (q ∷ rs) r k t = ⊎-elim (λ u. or-l (same (q .name) r) _ (T-and-l (same (q .name) r) _ u)) (λ u. or-r (same (q .name) r) _ (known-name rs r k u)) (T-or (same (q .name) r && eqb (q .arity) k) _ t)
 
 module _ (c : Case) (picks : List Tuple) where
-  nest-some : (vs scope : List (List ℕ)) (t : Tree) (G : List Binding → Bool) → T (areNew scope vs) → ((bs : List Binding) (e : Values) → Agree (scope ++ vs) bs e → treeHolds c picks e t ≡ G bs)
-      → (bs : List Binding) (e : Values) → Agree scope bs e → treeHolds c picks e (nest existsNode (length scope) (map sortOf vs) t) ≡ forSome (membersOf c) vs bs G
-  unfolding nest treeHolds forSome areNew
+  nest-some : (qs : List Quantified) (scope : List (List ℕ)) (t : Tree) (G : List Binding → Bool) → T (areNew scope (variablesOf qs)) → ((bs : List Binding) (e : Values) → Agree (scope ++ variablesOf qs) bs e → treeHolds c picks e t ≡ G bs)
+      → (bs : List Binding) (e : Values) → Agree scope bs e → treeHolds c picks e (nest existsNode (length scope) (map (sortOf (c .question .types)) qs) t) ≡ forSome (rangeOf c) qs bs G
+  unfolding nest treeHolds forSome areNew variablesOf rangeOf
   nest-some [] scope t G n h bs e a = h bs e (subst (λ (s : List (List ℕ)). Agree s bs e) (sym (append-nil scope)) a)
-  nest-some (v ∷ vs) scope t G n h bs e a = ap (λ (f : ℕ → Bool). any f (membersOf c (sortOf v))) (fun-ext (λ x.
-      ap (λ (k : ℕ). treeHolds c picks (withValue e (length scope) x) (nest existsNode k (map sortOf vs) t)) (sym (length-snoc scope v))
-      ∙ nest-some vs (scope ++ (v ∷ [])) t G (T-and-r (not (isBound scope v)) _ n) (λ bs e b. h bs e (subst (λ (s : List (List ℕ)). Agree s bs e) (append-assoc scope (v ∷ []) vs) b)) (record { variable = v; value = x } ∷ bs) (withValue e (length scope) x) (agree-put scope bs e v x (T-and-l (not (isBound scope v)) _ n) a)))
+  nest-some (q ∷ qs) scope t G n h bs e a = ap (λ (f : ℕ → Bool). any f (rangeOf c q)) (fun-ext (λ x.
+      ap (λ (k : ℕ). treeHolds c picks (withValue e (length scope) x) (nest existsNode k (map (sortOf (c .question .types)) qs) t)) (sym (length-snoc scope (q .variable)))
+      ∙ nest-some qs (scope ++ (q .variable ∷ [])) t G (T-and-r (not (isBound scope (q .variable))) _ n) (λ bs e b. h bs e (subst (λ (s : List (List ℕ)). Agree s bs e) (append-assoc scope (q .variable ∷ []) (variablesOf qs)) b)) (record { variable = q .variable; value = x } ∷ bs) (withValue e (length scope) x) (agree-put scope bs e (q .variable) x (T-and-l (not (isBound scope (q .variable))) _ n) a)))
 
-  nest-every : (vs scope : List (List ℕ)) (t : Tree) (G : List Binding → Bool) → T (areNew scope vs) → ((bs : List Binding) (e : Values) → Agree (scope ++ vs) bs e → treeHolds c picks e t ≡ G bs)
-      → (bs : List Binding) (e : Values) → Agree scope bs e → treeHolds c picks e (nest forallNode (length scope) (map sortOf vs) t) ≡ forEvery (membersOf c) vs bs G
-  unfolding nest treeHolds forEvery areNew
+  nest-every : (qs : List Quantified) (scope : List (List ℕ)) (t : Tree) (G : List Binding → Bool) → T (areNew scope (variablesOf qs)) → ((bs : List Binding) (e : Values) → Agree (scope ++ variablesOf qs) bs e → treeHolds c picks e t ≡ G bs)
+      → (bs : List Binding) (e : Values) → Agree scope bs e → treeHolds c picks e (nest forallNode (length scope) (map (sortOf (c .question .types)) qs) t) ≡ forEvery (rangeOf c) qs bs G
+  unfolding nest treeHolds forEvery areNew variablesOf rangeOf
   nest-every [] scope t G n h bs e a = h bs e (subst (λ (s : List (List ℕ)). Agree s bs e) (sym (append-nil scope)) a)
-  nest-every (v ∷ vs) scope t G n h bs e a = ap (λ (f : ℕ → Bool). all f (membersOf c (sortOf v))) (fun-ext (λ x.
-      ap (λ (k : ℕ). treeHolds c picks (withValue e (length scope) x) (nest forallNode k (map sortOf vs) t)) (sym (length-snoc scope v))
-      ∙ nest-every vs (scope ++ (v ∷ [])) t G (T-and-r (not (isBound scope v)) _ n) (λ bs e b. h bs e (subst (λ (s : List (List ℕ)). Agree s bs e) (append-assoc scope (v ∷ []) vs) b)) (record { variable = v; value = x } ∷ bs) (withValue e (length scope) x) (agree-put scope bs e v x (T-and-l (not (isBound scope v)) _ n) a)))
+  nest-every (q ∷ qs) scope t G n h bs e a = ap (λ (f : ℕ → Bool). all f (rangeOf c q)) (fun-ext (λ x.
+      ap (λ (k : ℕ). treeHolds c picks (withValue e (length scope) x) (nest forallNode k (map (sortOf (c .question .types)) qs) t)) (sym (length-snoc scope (q .variable)))
+      ∙ nest-every qs (scope ++ (q .variable ∷ [])) t G (T-and-r (not (isBound scope (q .variable))) _ n) (λ bs e b. h bs e (subst (λ (s : List (List ℕ)). Agree s bs e) (append-assoc scope (q .variable ∷ []) (variablesOf qs)) b)) (record { variable = q .variable; value = x } ∷ bs) (withValue e (length scope) x) (agree-put scope bs e (q .variable) x (T-and-l (not (isBound scope (q .variable))) _ n) a)))
 
   map-agree : (scope : List (List ℕ)) (bs : List Binding) (e : Values) → Agree scope bs e → (vs : List (List ℕ)) → T (all (isBound scope) vs) → map e (map (λ v. option (position (same v) scope) zero (λ k. k)) vs) ≡ map (valueOf bs) vs
   unfolding Agree all
@@ -123,9 +123,9 @@ module _ (c : Case) (picks : List Tuple) where
   imp-and false b = refl
 
   mutual
-    unfolding asIs negated allAsIs allNegated treeHolds treesHold someHolds isTrue allTrue someTrue isScoped areScoped isKnown areKnown leafOf
+    unfolding asIs negated allAsIs allNegated treeHolds treesHold someHolds isTrue allTrue someTrue isScoped areScoped isKnown areKnown leafOf rangeOf
 
-    pub as-means : (f : Formula) (scope : List (List ℕ)) (bs : List Binding) (e : Values) → Agree scope bs e → T (isScoped scope f) → T (isKnown (relationsOf (c .question)) f) → treeHolds c picks e (asIs (relationsOf (c .question)) scope f) ≡ isTrue c picks bs f
+    pub as-means : (f : Formula) (scope : List (List ℕ)) (bs : List Binding) (e : Values) → Agree scope bs e → T (isScoped scope f) → T (isKnown (relationsOf (c .question)) f) → treeHolds c picks e (asIs (relationsOf (c .question)) (c .question .types) scope f) ≡ isTrue c picks bs f
     as-means (literal r vs) scope bs e a s k = ap (holds c picks _) (map-agree scope bs e a vs s) ∙ leaf-holds (relationsOf (c .question)) r (map (valueOf bs) vs) (known-name (relationsOf (c .question)) r (length vs) k)
     as-means (negation f) scope bs e a s k = neg-means f scope bs e a s k
     as-means (implication f g) scope bs e a s k =
@@ -133,10 +133,10 @@ module _ (c : Case) (picks : List Tuple) where
         ∙ imp-or (isTrue c picks bs f) (isTrue c picks bs g)
     as-means (conjunction fs) scope bs e a s k = all-as fs scope bs e a s k
     as-means (disjunction fs) scope bs e a s k = some-as fs scope bs e a s k
-    as-means (exists vs f) scope bs e a s k = nest-some vs scope (asIs (relationsOf (c .question)) (scope ++ vs) f) (λ b. isTrue c picks b f) (T-and-l (areNew scope vs) _ s) (λ b e′ a′. as-means f (scope ++ vs) b e′ a′ (T-and-r (areNew scope vs) _ s) k) bs e a
-    as-means (forall vs f) scope bs e a s k = nest-every vs scope (asIs (relationsOf (c .question)) (scope ++ vs) f) (λ b. isTrue c picks b f) (T-and-l (areNew scope vs) _ s) (λ b e′ a′. as-means f (scope ++ vs) b e′ a′ (T-and-r (areNew scope vs) _ s) k) bs e a
+    as-means (exists qs f) scope bs e a s k = nest-some qs scope (asIs (relationsOf (c .question)) (c .question .types) (scope ++ variablesOf qs) f) (λ b. isTrue c picks b f) (T-and-l (areNew scope (variablesOf qs)) _ s) (λ b e′ a′. as-means f (scope ++ variablesOf qs) b e′ a′ (T-and-r (areNew scope (variablesOf qs)) _ s) k) bs e a
+    as-means (forall qs f) scope bs e a s k = nest-every qs scope (asIs (relationsOf (c .question)) (c .question .types) (scope ++ variablesOf qs) f) (λ b. isTrue c picks b f) (T-and-l (areNew scope (variablesOf qs)) _ s) (λ b e′ a′. as-means f (scope ++ variablesOf qs) b e′ a′ (T-and-r (areNew scope (variablesOf qs)) _ s) k) bs e a
 
-    neg-means : (f : Formula) (scope : List (List ℕ)) (bs : List Binding) (e : Values) → Agree scope bs e → T (isScoped scope f) → T (isKnown (relationsOf (c .question)) f) → treeHolds c picks e (negated (relationsOf (c .question)) scope f) ≡ not (isTrue c picks bs f)
+    neg-means : (f : Formula) (scope : List (List ℕ)) (bs : List Binding) (e : Values) → Agree scope bs e → T (isScoped scope f) → T (isKnown (relationsOf (c .question)) f) → treeHolds c picks e (negated (relationsOf (c .question)) (c .question .types) scope f) ≡ not (isTrue c picks bs f)
     neg-means (literal r vs) scope bs e a s k = ap not (ap (holds c picks _) (map-agree scope bs e a vs s) ∙ leaf-holds (relationsOf (c .question)) r (map (valueOf bs) vs) (known-name (relationsOf (c .question)) r (length vs) k))
     neg-means (negation f) scope bs e a s k = as-means f scope bs e a s k ∙ sym (Bool·not-not (isTrue c picks bs f))
     neg-means (implication f g) scope bs e a s k =
@@ -144,22 +144,22 @@ module _ (c : Case) (picks : List Tuple) where
         ∙ imp-and (isTrue c picks bs f) (isTrue c picks bs g)
     neg-means (conjunction fs) scope bs e a s k = some-neg fs scope bs e a s k
     neg-means (disjunction fs) scope bs e a s k = all-neg fs scope bs e a s k
-    neg-means (exists vs f) scope bs e a s k = nest-every vs scope (negated (relationsOf (c .question)) (scope ++ vs) f) (λ b. not (isTrue c picks b f)) (T-and-l (areNew scope vs) _ s) (λ b e′ a′. neg-means f (scope ++ vs) b e′ a′ (T-and-r (areNew scope vs) _ s) k) bs e a ∙ not-some (membersOf c) (λ b. isTrue c picks b f) vs bs
-    neg-means (forall vs f) scope bs e a s k = nest-some vs scope (negated (relationsOf (c .question)) (scope ++ vs) f) (λ b. not (isTrue c picks b f)) (T-and-l (areNew scope vs) _ s) (λ b e′ a′. neg-means f (scope ++ vs) b e′ a′ (T-and-r (areNew scope vs) _ s) k) bs e a ∙ not-every (membersOf c) (λ b. isTrue c picks b f) vs bs
+    neg-means (exists qs f) scope bs e a s k = nest-every qs scope (negated (relationsOf (c .question)) (c .question .types) (scope ++ variablesOf qs) f) (λ b. not (isTrue c picks b f)) (T-and-l (areNew scope (variablesOf qs)) _ s) (λ b e′ a′. neg-means f (scope ++ variablesOf qs) b e′ a′ (T-and-r (areNew scope (variablesOf qs)) _ s) k) bs e a ∙ not-some (rangeOf c) (λ b. isTrue c picks b f) qs bs
+    neg-means (forall qs f) scope bs e a s k = nest-some qs scope (negated (relationsOf (c .question)) (c .question .types) (scope ++ variablesOf qs) f) (λ b. not (isTrue c picks b f)) (T-and-l (areNew scope (variablesOf qs)) _ s) (λ b e′ a′. neg-means f (scope ++ variablesOf qs) b e′ a′ (T-and-r (areNew scope (variablesOf qs)) _ s) k) bs e a ∙ not-every (rangeOf c) (λ b. isTrue c picks b f) qs bs
 
-    all-as : (fs : Formulas) (scope : List (List ℕ)) (bs : List Binding) (e : Values) → Agree scope bs e → T (areScoped scope fs) → T (areKnown (relationsOf (c .question)) fs) → treesHold c picks e (allAsIs (relationsOf (c .question)) scope fs) ≡ allTrue c picks bs fs
+    all-as : (fs : Formulas) (scope : List (List ℕ)) (bs : List Binding) (e : Values) → Agree scope bs e → T (areScoped scope fs) → T (areKnown (relationsOf (c .question)) fs) → treesHold c picks e (allAsIs (relationsOf (c .question)) (c .question .types) scope fs) ≡ allTrue c picks bs fs
     all-as nil scope bs e a s k = refl
     all-as (cons f fs) scope bs e a s k = ap₂ _&&_ (as-means f scope bs e a (T-and-l (isScoped scope f) _ s) (T-and-l (isKnown (relationsOf (c .question)) f) _ k)) (all-as fs scope bs e a (T-and-r (isScoped scope f) _ s) (T-and-r (isKnown (relationsOf (c .question)) f) _ k))
 
-    some-as : (fs : Formulas) (scope : List (List ℕ)) (bs : List Binding) (e : Values) → Agree scope bs e → T (areScoped scope fs) → T (areKnown (relationsOf (c .question)) fs) → someHolds c picks e (allAsIs (relationsOf (c .question)) scope fs) ≡ someTrue c picks bs fs
+    some-as : (fs : Formulas) (scope : List (List ℕ)) (bs : List Binding) (e : Values) → Agree scope bs e → T (areScoped scope fs) → T (areKnown (relationsOf (c .question)) fs) → someHolds c picks e (allAsIs (relationsOf (c .question)) (c .question .types) scope fs) ≡ someTrue c picks bs fs
     some-as nil scope bs e a s k = refl
     some-as (cons f fs) scope bs e a s k = ap₂ _||_ (as-means f scope bs e a (T-and-l (isScoped scope f) _ s) (T-and-l (isKnown (relationsOf (c .question)) f) _ k)) (some-as fs scope bs e a (T-and-r (isScoped scope f) _ s) (T-and-r (isKnown (relationsOf (c .question)) f) _ k))
 
-    all-neg : (fs : Formulas) (scope : List (List ℕ)) (bs : List Binding) (e : Values) → Agree scope bs e → T (areScoped scope fs) → T (areKnown (relationsOf (c .question)) fs) → treesHold c picks e (allNegated (relationsOf (c .question)) scope fs) ≡ not (someTrue c picks bs fs)
+    all-neg : (fs : Formulas) (scope : List (List ℕ)) (bs : List Binding) (e : Values) → Agree scope bs e → T (areScoped scope fs) → T (areKnown (relationsOf (c .question)) fs) → treesHold c picks e (allNegated (relationsOf (c .question)) (c .question .types) scope fs) ≡ not (someTrue c picks bs fs)
     all-neg nil scope bs e a s k = refl
     all-neg (cons f fs) scope bs e a s k = ap₂ _&&_ (neg-means f scope bs e a (T-and-l (isScoped scope f) _ s) (T-and-l (isKnown (relationsOf (c .question)) f) _ k)) (all-neg fs scope bs e a (T-and-r (isScoped scope f) _ s) (T-and-r (isKnown (relationsOf (c .question)) f) _ k)) ∙ sym (not-or (isTrue c picks bs f) (someTrue c picks bs fs))
 
-    some-neg : (fs : Formulas) (scope : List (List ℕ)) (bs : List Binding) (e : Values) → Agree scope bs e → T (areScoped scope fs) → T (areKnown (relationsOf (c .question)) fs) → someHolds c picks e (allNegated (relationsOf (c .question)) scope fs) ≡ not (allTrue c picks bs fs)
+    some-neg : (fs : Formulas) (scope : List (List ℕ)) (bs : List Binding) (e : Values) → Agree scope bs e → T (areScoped scope fs) → T (areKnown (relationsOf (c .question)) fs) → someHolds c picks e (allNegated (relationsOf (c .question)) (c .question .types) scope fs) ≡ not (allTrue c picks bs fs)
     some-neg nil scope bs e a s k = refl
     some-neg (cons f fs) scope bs e a s k = ap₂ _||_ (neg-means f scope bs e a (T-and-l (isScoped scope f) _ s) (T-and-l (isKnown (relationsOf (c .question)) f) _ k)) (some-neg fs scope bs e a (T-and-r (isScoped scope f) _ s) (T-and-r (isKnown (relationsOf (c .question)) f) _ k)) ∙ sym (not-and (isTrue c picks bs f) (allTrue c picks bs fs))
 
@@ -184,6 +184,6 @@ module _ (c : Case) (picks : List Tuple) where
   pub tree-means : Accepted c → treeHolds c picks (λ _. zero) (treeOf (c .question)) ≡ ruleIsTrue c picks
   unfolding treeOf ruleIsTrue areTotal eachChosen Agree isBound any relationsOf
   tree-means A =
-      joined-holds (asIs (relationsOf (c .question)) [] (c .question .rule .formula)) (totalities (firstChosen (c .question)) (c .question .chosen)) (λ _. zero)
+      joined-holds (asIs (relationsOf (c .question)) (c .question .types) [] (c .question .rule .formula)) (totalities (firstChosen (c .question)) (c .question .chosen)) (λ _. zero)
       ∙ ap₂ _&&_ (as-means (c .question .rule .formula) [] [] (λ _. zero) (λ v t. absurd t) (A .question-fits .rule-fits .scoped) (A .question-fits .rule-fits .known))
       (totalities-mean (firstChosen (c .question)) (c .question .chosen) (λ _. zero))

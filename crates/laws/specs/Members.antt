@@ -2,16 +2,17 @@
 -- the numbers below n are a range.
 use Prim.Native.Nat.{ℕ, zero, suc, _+_, _-_, _<_, _≤_}
 use mathlib.Core.Path.{_≡_, refl, sym, ap, subst, _∙_}
-use mathlib.Core.Logic.{_⊎_, inl, inr, ⊎-elim}
+use mathlib.Core.Logic.{_⊎_, inl, inr, ⊎-elim, _↔_}
 use mathlib.Core.Bool.{Bool, true, false, _&&_}
 use mathlib.Core.Option.{Option, none, some}
 use mathlib.Core.List.{List, [], _∷_, List·Memᴰ, List·Memᴰ·head, List·Memᴰ·tail, List·Memᴰ·not-nil, List·Memᴰ·cases-cons, Memᴰ·cast}
 use native.Mathlib.Omega.{arith}
 use native.Mathlib.Numerals.{add-one}
-use lib.Dec.{T, eqb, leb, ltb, eqb→eq, ltb→lt, lt→ltb, leb→le, le→leb}
+use lib.Dec.{T, eqb, leb, ltb, eqb→eq, eqb-refl, ltb→lt, lt→ltb, leb→le, le→leb}
 use lib.ListN.{length, getD}
-use borrow.Author.Tests.{eq-eqb, ltb-true, ltb-false}
+use borrow.Author.Tests.{eq-eqb, lt-ltb, ltb-true, ltb-false}
 use Rattle.definitions.specs.Lists.{if_then_else_, all, any, filter, option, from, below, last, isIn, rank, upTo, before, greatest}
+use Rattle.definitions.specs.Sheets.{Member, isMember, hasMember}
 use Rattle.definitions.specs.Truth.{Case, membersOf}
 use Rattle.definitions.specs.Built.{least}
 use Rattle.laws.specs.Booleans.{T-and-l, T-and-r, and-T, T-of, T-true, T-ext}
@@ -57,10 +58,57 @@ ascending-once (x ∷ l) a = (λ m. let h = a .0 x m in omega arith, ascending-o
 pub below-range : (n : ℕ) → 0 < n → IsRange n (below n)
 below-range n h = record { ascends = ascending-below n; small = below-lt n; some-member = let e = length-below n in omega arith }
 
--- what a variable of any sort ranges over is a range
-pub members-range : (c : Case) (s : ℕ) → 0 < c .site .size → IsRange (c .site .size) (membersOf c s)
+-- ---- a site's `member` lines: each is of one of the types and of an element
+pub record MembersFit (types n : ℕ) (members : List Member) : Type 0 where
+  pub typed : (m : Member) → List·Memᴰ m members → m .type < types
+  pub small : (m : Member) → List·Memᴰ m members → m .element < n
+
+pub no-members : (types n : ℕ) → MembersFit types n []
+no-members types n = record { typed = λ m i. absurd (List·Memᴰ·not-nil i); small = λ m i. absurd (List·Memᴰ·not-nil i) }
+
+-- a type that has a member is that of some element
+pub has-member : (types n : ℕ) (members : List Member) (k : ℕ) → MembersFit types n members → T (hasMember members k) → (x : ℕ) × (x < n) × T (isMember members k x)
+unfolding hasMember isMember
+has-member types n members k F t =
+    let (m, i, e) = any-at (λ (m : Member). eqb (m .type) k) members t in
+    (m .element, F .small m i, any-of (λ (u : Member). eqb (u .type) k && eqb (u .element) (m .element)) members m i (and-T (eqb (m .type) k) _ e (eqb-refl (m .element))))
+
+-- what a variable ranges over: elements, and with a type those that are members of it
+pub all-range : (c : Case) (x : ℕ) → List·Memᴰ x (membersOf c zero) ↔ (x < c .site .size)
 unfolding membersOf
-members-range c s h = below-range (c .site .size) h
+all-range c x = (below-lt (c .site .size) x, mem-below (c .site .size) x)
+
+-- the range of a type that is declared
+pub members-are : (c : Case) (k : ℕ) → k < length (c .question .types) → membersOf c (suc k) ≡ filter (isMember (c .site .members) k) (below (c .site .size))
+unfolding membersOf
+members-are c k h = rw (lt-ltb k (length (c .question .types)) h)
+
+pub range-means : (c : Case) (k x : ℕ) → k < length (c .question .types) → List·Memᴰ x (membersOf c (suc k)) ↔ ((x < c .site .size) × T (isMember (c .site .members) k x))
+range-means c k x h = rw (members-are c k h) (
+  (λ m. let (i, t) = filter-mem (isMember (c .site .members) k) (below (c .site .size)) x m in (below-lt (c .site .size) x i, t)),
+  (λ q. mem-filter (isMember (c .site .members) k) (below (c .site .size)) x (mem-below (c .site .size) x (q .0)) (q .1)),
+)
+
+-- what a variable of any sort ranges over is a range
+some-in : (l : List ℕ) (x : ℕ) → List·Memᴰ x l → 0 < length l
+some-in [] x m = absurd (List·Memᴰ·not-nil m)
+some-in (y ∷ l) x m = omega arith
+
+filter-range : (n : ℕ) (f : ℕ → Bool) (x : ℕ) → x < n → T (f x) → IsRange n (filter f (below n))
+filter-range n f x h t = record {
+  ascends = ascending-filter f (below n) (ascending-below n);
+  small = λ m i. below-lt n m (filter-mem f (below n) m i .0);
+  some-member = some-in (filter f (below n)) x (mem-filter f (below n) x (mem-below n x h) t);
+}
+
+pub members-range : (c : Case) (s : ℕ) → 0 < c .site .size → MembersFit (length (c .question .types)) (c .site .size) (c .site .members) → ((k : ℕ) → k < length (c .question .types) → T (hasMember (c .site .members) k)) → IsRange (c .site .size) (membersOf c s)
+unfolding membersOf
+members-range c zero h F each = below-range (c .site .size) h
+members-range c (suc k) h F each = go (ltb k (length (c .question .types))) refl
+  where
+    go : (b : Bool) → ltb k (length (c .question .types)) ≡ b → IsRange (c .site .size) (if b then filter (isMember (c .site .members) k) (below (c .site .size)) else below (c .site .size))
+    go true e = let (x, l, t) = has-member (length (c .question .types)) (c .site .size) (c .site .members) k F (each k (ltb-true k (length (c .question .types)) e)) in filter-range (c .site .size) (isMember (c .site .members) k) x l t
+    go false e = below-range (c .site .size) h
 
 -- ---- the test of membership
 pub in-mem : (z : ℕ) (ms : List ℕ) → T (isIn z ms) → List·Memᴰ z ms

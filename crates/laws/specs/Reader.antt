@@ -6,24 +6,27 @@ use mathlib.Core.Bool.{Bool, true, false, not, _&&_, _||_}
 use mathlib.Core.Option.{Option, none, some}
 use mathlib.Core.List.{List, [], _∷_, _++_, List·Memᴰ, List·Memᴰ·not-nil, List·Memᴰ·append-cases, List·Memᴰ·eq-of-singleton, append-assoc, append-nil, nil≢cons}
 use native.Mathlib.Omega.{arith}
-use lib.Dec.{T, ltb, leb, eqb, ltb→lt, nltb→le, eqb→eq, leb→le, T-not, not-T}
-use lib.ListN.{length, getD}
+use lib.Dec.{T, ltb, leb, eqb, ltb→lt, nltb→le, eqb→eq, leb→le, nleb→lt, T-not, not-T}
+use lib.ListN.{length, getD, length-append}
 use Rattle.definitions.specs.Limits.{CaseLimits}
-use Rattle.definitions.specs.Lists.{if_then_else_, all, any, same, isEmpty, option, position}
+use Rattle.definitions.specs.Lists.{if_then_else_, all, any, same, isEmpty, option, position, below}
 use Rattle.definitions.specs.Text.{Line, fields, isBetween, isRelationName, number, lines, bytes}
 use Rattle.definitions.specs.Refusal.{Result, refused, accepted, _>>=_, refuseIf, given, readLines, readText}
 use Rattle.definitions.specs.Limits.{textLimit}
 use Rattle.definitions.specs.Relations.{Kind, static, plain, Fun, PFun, Inj, PInj, isChosen, isFunction, Relation, Tuple, isAmong, areDistinct, builtIn, isDeclared}
-use Rattle.definitions.specs.Formula.{allForms, nesting, isKnown, isScoped}
+use Rattle.definitions.specs.Formula.{allForms, nesting, isKnown, isScoped, isTyped, typeNumber}
 use Rattle.definitions.specs.Parsing.{readFormula}
 use Rattle.definitions.specs.Sheets
-use Sheets.{Element, Entry, rel, choose, rule, size, label, fact, pick, step, arityOf, element, elements, labelOf, chooseOf, withOne, withTwo, withElements, entry, entryOf, Rule, Draft, Question, relations, isRuled, isNewName, addRel, addChoose, addRule, addToQuestion, questionLine, readQuestion, relationsOf, firstRel, used, Label, elementOf, elementsOf, isInRange, addTuple, SiteDraft, Site, Labelled, addSize, isTaken, addLabel, addFact, addToSite, siteLine, readSite, addToPicks, picksLine, readPicks}
-use Rattle.definitions.specs.Truth.{Case}
+use Sheets.{Element, Entry, rel, type, choose, rule, size, label, member, fact, pick, step, arityOf, element, elements, labelOf, memberOf, chooseOf, withOne, withTwo, withElements, entry, entryOf, Rule, Draft, Question, relations, isRuled, isNewName, addRel, addType, addChoose, addRule, addToQuestion, questionLine, readQuestion, relationsOf, firstRel, used, Label, elementOf, elementsOf, isInRange, addTuple, Member, isMember, hasMember, SiteDraft, Site, Labelled, addSize, isTaken, addLabel, addMember, addFact, addToSite, siteLine, readSite, addToPicks, picksLine, readPicks}
+use Rattle.definitions.specs.Truth.{Case, membersOf}
 use Rattle.definitions.specs.Atoms.{Problem, problemOf, atoms}
 use Rattle.definitions.specs.Actions.{actions}
 use Rattle.definitions.specs.Outcome.{CaseRead, readFiled, readCase, ground, readProblem}
 use Rattle.laws.specs.Booleans.{T-and-l, T-and-r, T-of, T-or, not-not-T, not-or-l, not-or-r, or-l, or-r}
 use Rattle.laws.specs.Tuples.{distinct-snoc, same-eq, same-refl}
+use Rattle.laws.specs.Lists.{all-at, any-of, mem-below}
+use Rattle.laws.specs.Repeats.{Once, once-append}
+use Rattle.laws.specs.Members.{IsRange, MembersFit, no-members, members-range}
 use Rattle.laws.specs.Numbers.{noRelation}
 use Rattle.laws.specs.Labels.{LabelsFit, no-labels, mean-small, mean-length, means-small, one-snoc}
 
@@ -117,10 +120,12 @@ pub record Fit (arity : ℕ) (kind : Kind) : Type 0 where
 
 unfoldable EntryFits : Entry → Type 0
 EntryFits (rel name a) = Arity a
+EntryFits (type name) = Unit {0}
 EntryFits (choose name a k) = Fit a k
 EntryFits (rule f) = Unit {0}
 EntryFits (size n) = Unit {0}
 EntryFits (label x name) = T (isRelationName name)
+EntryFits (member t x) = Unit {0}
 EntryFits (fact name xs) = Unit {0}
 EntryFits (pick name xs) = Unit {0}
 EntryFits (step k) = Unit {0}
@@ -172,19 +177,25 @@ label-fits : (f name : List ℕ) → Holds EntryFits (labelOf f name)
 unfolding labelOf EntryFits
 label-fits f name = holds-if EntryFits (isRelationName name) _ none (λ t. holds-option (λ _. Unit {0}) EntryFits (element f) _ (all-there (element f)) (λ x _. holds-some EntryFits (label x name) t)) (holds-none EntryFits)
 
+member-fits : (name f : List ℕ) → Holds EntryFits (memberOf name f)
+unfolding memberOf EntryFits
+member-fits name f = holds-option (λ _. Unit {0}) EntryFits (element f) _ (all-there (element f)) (λ x _. holds-some EntryFits (member name x) tt)
+
 entry-fits : (fs : List (List ℕ)) → Holds EntryFits (entry fs)
 unfolding entry EntryFits
 entry-fits [] = holds-none EntryFits
 entry-fits (w ∷ fs) =
     holds-if EntryFits (same w (bytes "rel")) _ _ (λ t. two-fits (λ name a. option (arityOf a) none (λ k. some (rel name k))) (λ name a. holds-option Arity EntryFits (arityOf a) _ (arity-fits a) (λ k h. holds-some EntryFits (rel name k) h)) fs)
+    (holds-if EntryFits (same w (bytes "type")) _ _ (λ t. one-fits (λ f. some (type f)) (λ f. holds-some EntryFits (type f) tt) fs)
     (holds-if EntryFits (same w (bytes "choose")) _ _ (λ t. two-fits chooseOf choose-fits fs)
     (holds-if EntryFits (same w (bytes "rule")) _ _ (λ t. one-fits (λ f. some (rule f)) (λ f. holds-some EntryFits (rule f) tt) fs)
     (holds-if EntryFits (same w (bytes "size")) _ _ (λ t. one-fits (λ f. option (number f) none (λ n. some (size n))) (λ f. holds-option (λ _. Unit {0}) EntryFits (number f) _ (all-there (number f)) (λ n _. holds-some EntryFits (size n) tt)) fs)
     (holds-if EntryFits (same w (bytes "label")) _ _ (λ t. two-fits labelOf label-fits fs)
+    (holds-if EntryFits (same w (bytes "member")) _ _ (λ t. two-fits memberOf member-fits fs)
     (holds-if EntryFits (same w (bytes "fact")) _ _ (λ t. elements-fit fact (λ f g. tt) fs)
     (holds-if EntryFits (same w (bytes "pick")) _ _ (λ t. elements-fit pick (λ f g. tt) fs)
     (holds-if EntryFits (same w (bytes "step")) _ _ (λ t. one-fits (λ f. option (number f) none (λ n. some (step n))) (λ f. holds-option (λ _. Unit {0}) EntryFits (number f) _ (all-there (number f)) (λ n _. holds-some EntryFits (step n) tt)) fs)
-    (holds-none EntryFits))))))))
+    (holds-none EntryFits))))))))))
 
 line-fits : (l : Line) → Gives EntryFits (entryOf l)
 unfolding entryOf
@@ -213,21 +224,29 @@ pub record RelFits (k : Relation) : Type 0 where
   pub few : Arity (k .arity)
   pub is-static : k .kind ≡ static
 
-pub record RuleFits (rels chosen : List Relation) (r : Rule) : Type 0 where
+pub record RuleFits (rels : List Relation) (types : List (List ℕ)) (chosen : List Relation) (r : Rule) : Type 0 where
   pub scoped : T (isScoped [] (r .formula))
   pub known : T (isKnown (relations rels chosen) (r .formula))
+  pub typed : T (isTyped types (r .formula))
   pub nested : nesting (r .formula) ≤ 4
   pub few-forms : allForms chosen (r .formula) ≤ 64
   pub some-chosen : T (not (isEmpty chosen))
 
+-- types: few, each of a name's form, and none declared twice
+pub record TypesFit (types : List (List ℕ)) : Type 0 where
+  pub few : length types ≤ 8
+  pub named : (t : List ℕ) → List·Memᴰ t types → T (isRelationName t)
+  pub once : Once types
+
 record DraftFits (d : Draft) : Type 0 where
   rels-fit : (k : Relation) → List·Memᴰ k (d .rels) → RelFits k
+  types-fit : TypesFit (d .types)
   chosen-fit : (k : Relation) → List·Memᴰ k (d .chosen) → Fit (k .arity) (k .kind)
   chosen-named : (k : Relation) → List·Memᴰ k (d .chosen) → T (isRelationName (k .name))
   apart : Apart (relations (d .rels) (d .chosen))
-  ruled-fits : Holds (RuleFits (d .rels) (d .chosen)) (d .ruled)
+  ruled-fits : Holds (RuleFits (d .rels) (d .types) (d .chosen)) (d .ruled)
 
-mem-snoc : {A : Type 0} (P : A → Type 0) (l : List A) (x : A) → ((y : A) → List·Memᴰ y l → P y) → P x → (y : A) → List·Memᴰ y (l ++ (x ∷ [])) → P y
+pub mem-snoc : {A : Type 0} (P : A → Type 0) (l : List A) (x : A) → ((y : A) → List·Memᴰ y l → P y) → P x → (y : A) → List·Memᴰ y (l ++ (x ∷ [])) → P y
 mem-snoc P l x h p y m = ⊎-elim (λ q. h y q) (λ q. subst P (sym (List·Memᴰ·eq-of-singleton q)) p) (List·Memᴰ·append-cases l m)
 
 empty-nil : {A : Type 0} (l : List A) → T (not (not (isEmpty l))) → l ≡ []
@@ -243,11 +262,22 @@ relations-snoc-rel : (rels : List Relation) (x : Relation) → relations (rels +
 unfolding relations builtIn
 relations-snoc-rel rels x = ap (λ (l : List Relation). builtIn ++ l) (append-nil (rels ++ (x ∷ [])) ∙ ap (λ (l : List Relation). l ++ (x ∷ [])) (sym (append-nil rels))) ∙ sym (append-assoc builtIn (rels ++ []) (x ∷ []))
 
+no-types : TypesFit []
+unfolding Once
+no-types = record { few = omega arith; named = λ t m. absurd (List·Memᴰ·not-nil m); once = tt }
+
+once-one : (name : List ℕ) → Once (name ∷ [])
+unfolding Once
+once-one name = (λ m. List·Memᴰ·not-nil m, tt)
+
+types-more : (types : List (List ℕ)) (name : List ℕ) → T (not (leb 8 (length types))) → length (types ++ (name ∷ [])) ≤ 8
+types-more types name t = let h = nleb→lt 8 (length types) t in let e = length-append types (name ∷ []) in omega arith
+
 -- where nothing was chosen there is no rule yet
-no-rule : (rels chosen : List Relation) (o : Option Rule) → Holds (RuleFits rels chosen) o → T (not (not (isEmpty chosen))) → (P : Rule → Type 0) → Holds P o
+no-rule : (rels : List Relation) (types : List (List ℕ)) (chosen : List Relation) (o : Option Rule) → Holds (RuleFits rels types chosen) o → T (not (not (isEmpty chosen))) → (P : Rule → Type 0) → Holds P o
 unfolding Holds
-no-rule rels chosen none h t P = tt
-no-rule rels chosen (some r) h t P = absurd (T-not (not (isEmpty chosen)) t (h .some-chosen))
+no-rule rels types chosen none h t P = tt
+no-rule rels types chosen (some r) h t P = absurd (T-not (not (isEmpty chosen)) t (h .some-chosen))
 
 not-ruled : (o : Option Rule) → T (not (isRuled o)) → (P : Rule → Type 0) → Holds P o
 unfolding Holds isRuled
@@ -265,19 +295,40 @@ formed-name d name t = T-and-l (isRelationName name) _ (not-not-T (isNewName d n
 rel-line : (d : Draft) (at : ℕ) (name : List ℕ) (arity : ℕ) → DraftFits d → Arity arity → Gives DraftFits (addRel d at name arity)
 unfolding addRel
 rel-line d at name arity D h =
-    gives-bind (λ _. T (not (not (isEmpty (d .chosen)) || leb 8 (length (d .rels))))) DraftFits _ _ (gives-refuse (not (isEmpty (d .chosen)) || leb 8 (length (d .rels))) 3 at)
-    (λ _ t. gives-bind (λ _. T (not (not (isNewName d name)))) DraftFits _ _ (gives-refuse (not (isNewName d name)) 4 at)
+    gives-bind (λ _. T (not (not (isEmpty (d .types)) || not (isEmpty (d .chosen)) || leb 8 (length (d .rels))))) DraftFits _ _ (gives-refuse (not (isEmpty (d .types)) || not (isEmpty (d .chosen)) || leb 8 (length (d .rels))) 3 at)
+    (λ _ t. let z = not-or-r (not (isEmpty (d .types))) (not (isEmpty (d .chosen))) (not-or-l (not (isEmpty (d .types)) || not (isEmpty (d .chosen))) (leb 8 (length (d .rels))) t) in
+    gives-bind (λ _. T (not (not (isNewName d name)))) DraftFits _ _ (gives-refuse (not (isNewName d name)) 4 at)
     (λ _ u. gives-accepted DraftFits _ (record {
       rels-fit = mem-snoc RelFits (d .rels) (record { name = name; arity = arity; kind = static }) (D .rels-fit) (record { few = h; is-static = refl });
+      types-fit = D .types-fit;
       chosen-fit = D .chosen-fit;
       chosen-named = D .chosen-named;
-      apart = go (d .chosen) (empty-nil (d .chosen) (not-or-l (not (isEmpty (d .chosen))) (leb 8 (length (d .rels))) t)) (D .apart) (new-name d name u);
-      ruled-fits = no-rule (d .rels) (d .chosen) (d .ruled) (D .ruled-fits) (not-or-l (not (isEmpty (d .chosen))) (leb 8 (length (d .rels))) t) (RuleFits (d .rels ++ (record { name = name; arity = arity; kind = static } ∷ [])) (d .chosen));
+      apart = go (d .chosen) (empty-nil (d .chosen) z) (D .apart) (new-name d name u);
+      ruled-fits = no-rule (d .rels) (d .types) (d .chosen) (d .ruled) (D .ruled-fits) z (RuleFits (d .rels ++ (record { name = name; arity = arity; kind = static } ∷ [])) (d .types) (d .chosen));
     })))
   where
     go : (ch : List Relation) → ch ≡ [] → Apart (relations (d .rels) ch) → T (not (isDeclared (relations (d .rels) ch) name)) → Apart (relations (d .rels ++ (record { name = name; arity = arity; kind = static } ∷ [])) ch)
     go [] e a n = subst Apart (sym (relations-snoc-rel (d .rels) (record { name = name; arity = arity; kind = static }))) (apart-snoc (relations (d .rels) []) (record { name = name; arity = arity; kind = static }) a n)
     go (x ∷ ch) e a n = absurd (nil≢cons (sym e))
+
+type-line : (d : Draft) (at : ℕ) (name : List ℕ) → DraftFits d → Gives DraftFits (addType d at name)
+unfolding addType
+type-line d at name D =
+    gives-bind (λ _. T (not (not (isEmpty (d .chosen)) || leb 8 (length (d .types))))) DraftFits _ _ (gives-refuse (not (isEmpty (d .chosen)) || leb 8 (length (d .types))) 3 at)
+    (λ _ t. gives-bind (λ _. T (not (not (isRelationName name)))) DraftFits _ _ (gives-refuse (not (isRelationName name)) 4 at)
+    (λ _ u. gives-bind (λ _. T (not (any (λ t. same t name) (d .types)))) DraftFits _ _ (gives-refuse (any (λ t. same t name) (d .types)) 19 at)
+    (λ _ v. gives-accepted DraftFits _ (record {
+      rels-fit = D .rels-fit;
+      types-fit = record {
+        few = types-more (d .types) name (not-or-r (not (isEmpty (d .chosen))) (leb 8 (length (d .types))) t);
+        named = mem-snoc (λ t. T (isRelationName t)) (d .types) name (D .types-fit .named) (not-not-T (isRelationName name) u);
+        once = once-append (d .types) (name ∷ []) (D .types-fit .once) (once-one name) (λ x m i. T-not (any (λ t. same t name) (d .types)) v (any-of (λ t. same t name) (d .types) x m (subst (λ (y : List ℕ). T (same x y)) (List·Memᴰ·eq-of-singleton i) (same-refl x))));
+      };
+      chosen-fit = D .chosen-fit;
+      chosen-named = D .chosen-named;
+      apart = D .apart;
+      ruled-fits = no-rule (d .rels) (d .types) (d .chosen) (d .ruled) (D .ruled-fits) (not-or-l (not (isEmpty (d .chosen))) (leb 8 (length (d .types))) t) (RuleFits (d .rels) (d .types ++ (name ∷ [])) (d .chosen));
+    }))))
 
 choose-line : (d : Draft) (at : ℕ) (name : List ℕ) (arity : ℕ) (kind : Kind) → DraftFits d → Fit arity kind → Gives DraftFits (addChoose d at name arity kind)
 unfolding addChoose
@@ -286,10 +337,11 @@ choose-line d at name arity kind D h =
     (λ _ t. gives-bind (λ _. T (not (not (isNewName d name)))) DraftFits _ _ (gives-refuse (not (isNewName d name)) 4 at)
     (λ _ u. gives-accepted DraftFits _ (record {
       rels-fit = D .rels-fit;
+      types-fit = D .types-fit;
       chosen-fit = mem-snoc (λ (k : Relation). Fit (k .arity) (k .kind)) (d .chosen) (record { name = name; arity = arity; kind = kind }) (D .chosen-fit) h;
       chosen-named = mem-snoc (λ (k : Relation). T (isRelationName (k .name))) (d .chosen) (record { name = name; arity = arity; kind = kind }) (D .chosen-named) (formed-name d name u);
       apart = subst Apart (sym (relations-snoc (d .rels) (d .chosen) (record { name = name; arity = arity; kind = kind }))) (apart-snoc (relations (d .rels) (d .chosen)) (record { name = name; arity = arity; kind = kind }) (D .apart) (new-name d name u));
-      ruled-fits = not-ruled (d .ruled) (not-or-l (isRuled (d .ruled)) (leb 4 (length (d .chosen))) t) (RuleFits (d .rels) (d .chosen ++ (record { name = name; arity = arity; kind = kind } ∷ [])));
+      ruled-fits = not-ruled (d .ruled) (not-or-l (isRuled (d .ruled)) (leb 4 (length (d .chosen))) t) (RuleFits (d .rels) (d .types) (d .chosen ++ (record { name = name; arity = arity; kind = kind } ∷ [])));
     })))
 
 rule-line : (d : Draft) (at : ℕ) (text : List ℕ) → DraftFits d → Gives DraftFits (addRule d at text)
@@ -300,27 +352,32 @@ rule-line d at text D =
     (λ f _. gives-bind (λ _. T (not (ltb 64 (allForms (d .chosen) f) || ltb 4 (nesting f)))) DraftFits _ _ (gives-refuse (ltb 64 (allForms (d .chosen) f) || ltb 4 (nesting f)) 6 at)
     (λ _ u. gives-bind (λ _. T (not (not (isKnown (relations (d .rels) (d .chosen)) f)))) DraftFits _ _ (gives-refuse (not (isKnown (relations (d .rels) (d .chosen)) f)) 7 at)
     (λ _ v. gives-bind (λ _. T (not (not (isScoped [] f)))) DraftFits _ _ (gives-refuse (not (isScoped [] f)) 8 at)
-    (λ _ w. gives-accepted DraftFits _ (record {
+    (λ _ w. gives-bind (λ _. T (not (not (isTyped (d .types) f)))) DraftFits _ _ (gives-refuse (not (isTyped (d .types) f)) 19 at)
+    (λ _ x. gives-accepted DraftFits _ (record {
       rels-fit = D .rels-fit;
+      types-fit = D .types-fit;
       chosen-fit = D .chosen-fit;
       chosen-named = D .chosen-named;
       apart = D .apart;
-      ruled-fits = holds-some (RuleFits (d .rels) (d .chosen)) _ (record {
+      ruled-fits = holds-some (RuleFits (d .rels) (d .types) (d .chosen)) _ (record {
         scoped = not-not-T (isScoped [] f) w;
         known = not-not-T (isKnown (relations (d .rels) (d .chosen)) f) v;
+        typed = not-not-T (isTyped (d .types) f) x;
         nested = nltb→le 4 (nesting f) (not-or-r (ltb 64 (allForms (d .chosen) f)) (ltb 4 (nesting f)) u);
         few-forms = nltb→le 64 (allForms (d .chosen) f) (not-or-l (ltb 64 (allForms (d .chosen) f)) (ltb 4 (nesting f)) u);
         some-chosen = not-or-r (isRuled (d .ruled)) (isEmpty (d .chosen)) t;
       });
-    }))))))
+    })))))))
 
 question-entry : (d : Draft) (at : ℕ) (e : Entry) → DraftFits d → EntryFits e → Gives DraftFits (addToQuestion d at e)
 unfolding addToQuestion EntryFits
 question-entry d at (rel name a) D h = rel-line d at name a D h
+question-entry d at (type name) D h = type-line d at name D
 question-entry d at (choose name a k) D h = choose-line d at name a k D h
 question-entry d at (rule f) D h = rule-line d at f D
 question-entry d at (size n) D h = gives-refused DraftFits 3 at
 question-entry d at (label x name) D h = gives-refused DraftFits 3 at
+question-entry d at (member t x) D h = gives-refused DraftFits 3 at
 question-entry d at (fact name xs) D h = gives-refused DraftFits 3 at
 question-entry d at (pick name xs) D h = gives-refused DraftFits 3 at
 question-entry d at (step k) D h = gives-refused DraftFits 3 at
@@ -332,10 +389,11 @@ line-step d l D = gives-bind EntryFits DraftFits (entryOf l) (addToQuestion d (l
 -- what of a question the readers assure
 pub record QuestionFits (q : Question) : Type 0 where
   pub rels-fit : (k : Relation) → List·Memᴰ k (q .rels) → RelFits k
+  pub types-fit : TypesFit (q .types)
   pub chosen-fit : (k : Relation) → List·Memᴰ k (q .chosen) → Fit (k .arity) (k .kind)
   pub chosen-named : (k : Relation) → List·Memᴰ k (q .chosen) → T (isRelationName (k .name))
   pub apart : Apart (relationsOf q)
-  pub rule-fits : RuleFits (q .rels) (q .chosen) (q .rule)
+  pub rule-fits : RuleFits (q .rels) (q .types) (q .chosen) (q .rule)
 
 builtIn-apart : Apart (relations [] [])
 unfolding relations builtIn Apart isDeclared any same
@@ -344,11 +402,11 @@ builtIn-apart = (tt, (tt, (tt, (tt, (tt, tt)))))
 pub question-fits : (text : List ℕ) → Gives QuestionFits (readQuestion text)
 unfolding readQuestion relationsOf
 question-fits text =
-    gives-bind DraftFits QuestionFits (readText questionLine (record { rels = []; chosen = []; ruled = none }) text) _
-    (gives-text DraftFits questionLine line-step (record { rels = []; chosen = []; ruled = none }) text
-    (record { rels-fit = λ k m. absurd (List·Memᴰ·not-nil m); chosen-fit = λ k m. absurd (List·Memᴰ·not-nil m); chosen-named = λ k m. absurd (List·Memᴰ·not-nil m); apart = builtIn-apart; ruled-fits = holds-none (RuleFits [] []) }))
-    (λ d D. gives-bind (RuleFits (d .rels) (d .chosen)) QuestionFits (given (d .ruled) 3 (length text)) _ (gives-given (RuleFits (d .rels) (d .chosen)) (d .ruled) 3 (length text) (D .ruled-fits))
-    (λ r R. gives-accepted QuestionFits _ (record { rels-fit = D .rels-fit; chosen-fit = D .chosen-fit; chosen-named = D .chosen-named; apart = D .apart; rule-fits = R })))
+    gives-bind DraftFits QuestionFits (readText questionLine (record { rels = []; types = []; chosen = []; ruled = none }) text) _
+    (gives-text DraftFits questionLine line-step (record { rels = []; types = []; chosen = []; ruled = none }) text
+    (record { rels-fit = λ k m. absurd (List·Memᴰ·not-nil m); types-fit = no-types; chosen-fit = λ k m. absurd (List·Memᴰ·not-nil m); chosen-named = λ k m. absurd (List·Memᴰ·not-nil m); apart = builtIn-apart; ruled-fits = holds-none (RuleFits [] [] []) }))
+    (λ d D. gives-bind (RuleFits (d .rels) (d .types) (d .chosen)) QuestionFits (given (d .ruled) 3 (length text)) _ (gives-given (RuleFits (d .rels) (d .types) (d .chosen)) (d .ruled) 3 (length text) (D .ruled-fits))
+    (λ r R. gives-accepted QuestionFits _ (record { rels-fit = D .rels-fit; types-fit = D .types-fit; chosen-fit = D .chosen-fit; chosen-named = D .chosen-named; apart = D .apart; rule-fits = R })))
 
 -- ---- tuples of a sheet
 -- a tuple of one of the relations, whose numbers begin at `first`, over n elements
@@ -362,6 +420,11 @@ pub record TupleFits (rs : List Relation) (first n : ℕ) (t : Tuple) : Type 0 w
 pub record TuplesFit (rs : List Relation) (first n : ℕ) (ts : List Tuple) : Type 0 where
   pub each-fits : (t : Tuple) → List·Memᴰ t ts → TupleFits rs first n t
   pub distinct : T (areDistinct ts)
+
+holds-more : {A : Type 0} {P Q : A → Type 0} (o : Option A) → ((a : A) → P a → Q a) → Holds P o → Holds Q o
+unfolding Holds
+holds-more none f h = tt
+holds-more (some a) f h = f a h
 
 pub position-holds : {A : Type 0} (p : A → Bool) (xs : List A) (d : A) → Holds (λ i. (i < length xs) × T (p (getD xs i d))) (position p xs)
 unfolding position Holds option
@@ -395,101 +458,148 @@ tuple-line rs first n labels ts at name es K F =
     Used r = (i : ℕ) × (r ≡ first + i) × (i < length rs) × (length es ≡ getD rs i noRelation .arity)
 
 -- ---- the site's lines so far
-pub record SizedFits (rs : List Relation) (labels : List Label) (facts : List Tuple) (n : ℕ) : Type 0 where
+pub record SizedFits (rs : List Relation) (types : List (List ℕ)) (labels : List Label) (members : List Member) (facts : List Tuple) (n : ℕ) : Type 0 where
   pub some-element : 1 ≤ n
   pub few-elements : n ≤ 64
   pub labels-fit : LabelsFit n labels
+  pub members-fit : MembersFit (length types) n members
   pub facts-fit : TuplesFit rs firstRel n facts
 
-unfoldable pub DraftSite : List Relation → Option ℕ → List Label → List Tuple → Type 0
-DraftSite rs none labels facts = (labels ≡ []) × (facts ≡ [])
-DraftSite rs (some n) labels facts = SizedFits rs labels facts n
+unfoldable pub DraftSite : List Relation → List (List ℕ) → Option ℕ → List Label → List Member → List Tuple → Type 0
+DraftSite rs types none labels members facts = (labels ≡ []) × (members ≡ []) × (facts ≡ [])
+DraftSite rs types (some n) labels members facts = SizedFits rs types labels members facts n
 
-abbrev pub SiteSoFar : List Relation → SiteDraft → Type 0
-SiteSoFar rs d = DraftSite rs (d .sized) (d .labels) (d .facts)
+abbrev pub SiteSoFar : List Relation → List (List ℕ) → SiteDraft → Type 0
+SiteSoFar rs types d = DraftSite rs types (d .sized) (d .labels) (d .members) (d .facts)
 
-size-line : (L : CaseLimits) → L .elements ≤ 64 → (rs : List Relation) (d : SiteDraft) (at n : ℕ) (o : Option ℕ) → DraftSite rs o (d .labels) (d .facts) → Gives (SiteSoFar rs) (addSize L d at n o)
-unfolding addSize DraftSite areDistinct
-size-line L few rs d at n none D = gives-bind (λ _. T (not (not (isBetween 1 (L .elements) n)))) (SiteSoFar rs) (refuseIf (not (isBetween 1 (L .elements) n)) 9 at) _ (gives-refuse (not (isBetween 1 (L .elements) n)) 9 at)
-    (λ _ t. let b = between 1 (L .elements) n (not-not-T (isBetween 1 (L .elements) n) t) in gives-accepted (SiteSoFar rs) _ (record {
-      some-element = b .0;
-      few-elements = omega (arith, b .1);
-      labels-fit = subst (LabelsFit n) (sym (D .0)) (no-labels n);
-      facts-fit = subst (TuplesFit rs firstRel n) (sym (D .1)) (record { each-fits = λ t m. absurd (List·Memᴰ·not-nil m); distinct = tt });
-    }))
-size-line L few rs d at n (some m) D = gives-refused (SiteSoFar rs) 3 at
+module _ (rs : List Relation) (types : List (List ℕ)) where
+  size-line : (L : CaseLimits) → L .elements ≤ 64 → (d : SiteDraft) (at n : ℕ) (o : Option ℕ) → DraftSite rs types o (d .labels) (d .members) (d .facts) → Gives (SiteSoFar rs types) (addSize L d at n o)
+  unfolding addSize DraftSite areDistinct
+  size-line L few d at n none D = gives-bind (λ _. T (not (not (isBetween 1 (L .elements) n)))) (SiteSoFar rs types) (refuseIf (not (isBetween 1 (L .elements) n)) 9 at) _ (gives-refuse (not (isBetween 1 (L .elements) n)) 9 at)
+      (λ _ t. let b = between 1 (L .elements) n (not-not-T (isBetween 1 (L .elements) n) t) in gives-accepted (SiteSoFar rs types) _ (record {
+        some-element = b .0;
+        few-elements = omega (arith, b .1);
+        labels-fit = subst (LabelsFit n) (sym (D .0)) (no-labels n);
+        members-fit = subst (MembersFit (length types) n) (sym (D .1)) (no-members (length types) n);
+        facts-fit = subst (TuplesFit rs firstRel n) (sym (D .2)) (record { each-fits = λ t m. absurd (List·Memᴰ·not-nil m); distinct = tt });
+      }))
+  size-line L few d at n (some m) D = gives-refused (SiteSoFar rs types) 3 at
 
-label-line : (rs : List Relation) (labels : List Label) (facts : List Tuple) (o : Option ℕ) (at : ℕ) (e : Element) (name : List ℕ) → T (isRelationName name) → DraftSite rs o labels facts → Gives (SiteSoFar rs) (addLabel (record { sized = o; labels = labels; facts = facts }) at e name)
-unfolding addLabel DraftSite given _>>=_
-label-line rs labels facts none at e name h D = gives-refused (SiteSoFar rs) 3 at
-label-line rs labels facts (some n) at e name h D =
-    gives-bind (λ _. Unit {0}) (SiteSoFar rs) (refuseIf (not (isEmpty facts)) 3 at) _ (gives-any _)
-    (λ _ _. gives-bind (λ _. T (not (not (isInRange n e)))) (SiteSoFar rs) (refuseIf (not (isInRange n e)) 9 at) _ (gives-refuse (not (isInRange n e)) 9 at)
-    (λ _ v. gives-bind (λ x. elementOf labels e ≡ some x) (SiteSoFar rs) (given (elementOf labels e) 18 at) _ (gives-given (λ x. elementOf labels e ≡ some x) (elementOf labels e) 18 at (holds-self (elementOf labels e)))
-    (λ x q. gives-bind (λ _. T (not (isTaken labels x name))) (SiteSoFar rs) (refuseIf (isTaken labels x name) 18 at) _ (gives-refuse (isTaken labels x name) 18 at)
-    (λ _ w. gives-accepted (SiteSoFar rs) _ (record {
-      some-element = D .some-element;
-      few-elements = D .few-elements;
-      labels-fit = record {
-        small = mem-snoc (λ (l : Label). l .element < n) labels (record { element = x; name = name }) (D .labels-fit .small) (ltb→lt x n (means-small n labels (D .labels-fit) e x (not-not-T (isInRange n e) v) q));
-        formed = mem-snoc (λ (l : Label). T (isRelationName (l .name))) labels (record { element = x; name = name }) (D .labels-fit .formed) h;
-        one = one-snoc labels (record { element = x; name = name }) (D .labels-fit .one) w;
-      };
-      facts-fit = D .facts-fit;
-    })))))
+  label-line : (labels : List Label) (members : List Member) (facts : List Tuple) (o : Option ℕ) (at : ℕ) (e : Element) (name : List ℕ) → T (isRelationName name) → DraftSite rs types o labels members facts → Gives (SiteSoFar rs types) (addLabel (record { sized = o; labels = labels; members = members; facts = facts }) at e name)
+  unfolding addLabel DraftSite given _>>=_
+  label-line labels members facts none at e name h D = gives-refused (SiteSoFar rs types) 3 at
+  label-line labels members facts (some n) at e name h D =
+      gives-bind (λ _. Unit {0}) (SiteSoFar rs types) (refuseIf (not (isEmpty members) || not (isEmpty facts)) 3 at) _ (gives-any _)
+      (λ _ _. gives-bind (λ _. T (not (not (isInRange n e)))) (SiteSoFar rs types) (refuseIf (not (isInRange n e)) 9 at) _ (gives-refuse (not (isInRange n e)) 9 at)
+      (λ _ v. gives-bind (λ x. elementOf labels e ≡ some x) (SiteSoFar rs types) (given (elementOf labels e) 18 at) _ (gives-given (λ x. elementOf labels e ≡ some x) (elementOf labels e) 18 at (holds-self (elementOf labels e)))
+      (λ x q. gives-bind (λ _. T (not (isTaken labels x name))) (SiteSoFar rs types) (refuseIf (isTaken labels x name) 18 at) _ (gives-refuse (isTaken labels x name) 18 at)
+      (λ _ w. gives-accepted (SiteSoFar rs types) _ (record {
+        some-element = D .some-element;
+        few-elements = D .few-elements;
+        labels-fit = record {
+          small = mem-snoc (λ (l : Label). l .element < n) labels (record { element = x; name = name }) (D .labels-fit .small) (ltb→lt x n (means-small n labels (D .labels-fit) e x (not-not-T (isInRange n e) v) q));
+          formed = mem-snoc (λ (l : Label). T (isRelationName (l .name))) labels (record { element = x; name = name }) (D .labels-fit .formed) h;
+          one = one-snoc labels (record { element = x; name = name }) (D .labels-fit .one) w;
+        };
+        members-fit = D .members-fit;
+        facts-fit = D .facts-fit;
+      })))))
 
-fact-line : (rs : List Relation) (labels : List Label) (facts : List Tuple) (o : Option ℕ) (at : ℕ) (name : List ℕ) (es : List Element) → DraftSite rs o labels facts → Gives (SiteSoFar rs) (addFact rs (record { sized = o; labels = labels; facts = facts }) at name es)
-unfolding addFact DraftSite given _>>=_
-fact-line rs labels facts none at name es D = gives-refused (SiteSoFar rs) 3 at
-fact-line rs labels facts (some n) at name es D =
-    gives-bind (TuplesFit rs firstRel n) (SiteSoFar rs) (addTuple rs firstRel n labels facts at name es) _ (tuple-line rs firstRel n labels facts at name es (D .labels-fit) (D .facts-fit))
-    (λ ts F. gives-accepted (SiteSoFar rs) _ (record { some-element = D .some-element; few-elements = D .few-elements; labels-fit = D .labels-fit; facts-fit = F }))
+  -- a type's number is below the number of types
+  type-small : (name : List ℕ) → Holds (λ k. k < length types) (typeNumber types name)
+  unfolding typeNumber
+  type-small name = holds-more (position (λ t. same t name) types) (λ i h. h .0) (position-holds (λ t. same t name) types [])
 
-site-entry : (L : CaseLimits) → L .elements ≤ 64 → (rs : List Relation) (d : SiteDraft) (at : ℕ) (e : Entry) → SiteSoFar rs d → EntryFits e → Gives (SiteSoFar rs) (addToSite L rs d at e)
+  member-line : (labels : List Label) (members : List Member) (facts : List Tuple) (o : Option ℕ) (at : ℕ) (name : List ℕ) (e : Element) → DraftSite rs types o labels members facts → Gives (SiteSoFar rs types) (addMember types (record { sized = o; labels = labels; members = members; facts = facts }) at name e)
+  unfolding addMember DraftSite given _>>=_
+  member-line labels members facts none at name e D = gives-refused (SiteSoFar rs types) 3 at
+  member-line labels members facts (some n) at name e D =
+      gives-bind (λ _. Unit {0}) (SiteSoFar rs types) (refuseIf (not (isEmpty facts)) 3 at) _ (gives-any _)
+      (λ _ _. gives-bind (λ k. k < length types) (SiteSoFar rs types) (given (typeNumber types name) 19 at) _ (gives-given (λ k. k < length types) (typeNumber types name) 19 at (type-small name))
+      (λ k h. gives-bind (λ _. T (not (not (isInRange n e)))) (SiteSoFar rs types) (refuseIf (not (isInRange n e)) 9 at) _ (gives-refuse (not (isInRange n e)) 9 at)
+      (λ _ v. gives-bind (λ x. elementOf labels e ≡ some x) (SiteSoFar rs types) (given (elementOf labels e) 18 at) _ (gives-given (λ x. elementOf labels e ≡ some x) (elementOf labels e) 18 at (holds-self (elementOf labels e)))
+      (λ x q. gives-bind (λ _. Unit {0}) (SiteSoFar rs types) (refuseIf (isMember members k x) 10 at) _ (gives-any _)
+      (λ _ _. gives-accepted (SiteSoFar rs types) _ (record {
+        some-element = D .some-element;
+        few-elements = D .few-elements;
+        labels-fit = D .labels-fit;
+        members-fit = record {
+          typed = mem-snoc (λ (m : Member). m .type < length types) members (record { type = k; element = x }) (D .members-fit .typed) h;
+          small = mem-snoc (λ (m : Member). m .element < n) members (record { type = k; element = x }) (D .members-fit .small) (ltb→lt x n (means-small n labels (D .labels-fit) e x (not-not-T (isInRange n e) v) q));
+        };
+        facts-fit = D .facts-fit;
+      }))))))
+
+  fact-line : (labels : List Label) (members : List Member) (facts : List Tuple) (o : Option ℕ) (at : ℕ) (name : List ℕ) (es : List Element) → DraftSite rs types o labels members facts → Gives (SiteSoFar rs types) (addFact rs (record { sized = o; labels = labels; members = members; facts = facts }) at name es)
+  unfolding addFact DraftSite given _>>=_
+  fact-line labels members facts none at name es D = gives-refused (SiteSoFar rs types) 3 at
+  fact-line labels members facts (some n) at name es D =
+      gives-bind (TuplesFit rs firstRel n) (SiteSoFar rs types) (addTuple rs firstRel n labels facts at name es) _ (tuple-line rs firstRel n labels facts at name es (D .labels-fit) (D .facts-fit))
+      (λ ts F. gives-accepted (SiteSoFar rs types) _ (record { some-element = D .some-element; few-elements = D .few-elements; labels-fit = D .labels-fit; members-fit = D .members-fit; facts-fit = F }))
+
+site-entry : (L : CaseLimits) → L .elements ≤ 64 → (rs : List Relation) (types : List (List ℕ)) (d : SiteDraft) (at : ℕ) (e : Entry) → SiteSoFar rs types d → EntryFits e → Gives (SiteSoFar rs types) (addToSite L rs types d at e)
 unfolding addToSite EntryFits
-site-entry L few rs d at (rel name a) D h = gives-refused (SiteSoFar rs) 3 at
-site-entry L few rs d at (choose name a k) D h = gives-refused (SiteSoFar rs) 3 at
-site-entry L few rs d at (rule f) D h = gives-refused (SiteSoFar rs) 3 at
-site-entry L few rs d at (size n) D h = size-line L few rs d at n (d .sized) D
-site-entry L few rs d at (label x name) D h = label-line rs (d .labels) (d .facts) (d .sized) at x name h D
-site-entry L few rs d at (fact name xs) D h = fact-line rs (d .labels) (d .facts) (d .sized) at name xs D
-site-entry L few rs d at (pick name xs) D h = gives-refused (SiteSoFar rs) 3 at
-site-entry L few rs d at (step k) D h = gives-refused (SiteSoFar rs) 3 at
+site-entry L few rs types d at (rel name a) D h = gives-refused (SiteSoFar rs types) 3 at
+site-entry L few rs types d at (type name) D h = gives-refused (SiteSoFar rs types) 3 at
+site-entry L few rs types d at (choose name a k) D h = gives-refused (SiteSoFar rs types) 3 at
+site-entry L few rs types d at (rule f) D h = gives-refused (SiteSoFar rs types) 3 at
+site-entry L few rs types d at (size n) D h = size-line rs types L few d at n (d .sized) D
+site-entry L few rs types d at (label x name) D h = label-line rs types (d .labels) (d .members) (d .facts) (d .sized) at x name h D
+site-entry L few rs types d at (member t x) D h = member-line rs types (d .labels) (d .members) (d .facts) (d .sized) at t x D
+site-entry L few rs types d at (fact name xs) D h = fact-line rs types (d .labels) (d .members) (d .facts) (d .sized) at name xs D
+site-entry L few rs types d at (pick name xs) D h = gives-refused (SiteSoFar rs types) 3 at
+site-entry L few rs types d at (step k) D h = gives-refused (SiteSoFar rs types) 3 at
 
-pub site-step : (L : CaseLimits) → L .elements ≤ 64 → (rs : List Relation) (d : SiteDraft) (l : Line) → SiteSoFar rs d → Gives (SiteSoFar rs) (siteLine L rs d l)
+pub site-step : (L : CaseLimits) → L .elements ≤ 64 → (rs : List Relation) (types : List (List ℕ)) (d : SiteDraft) (l : Line) → SiteSoFar rs types d → Gives (SiteSoFar rs types) (siteLine L rs types d l)
 unfolding siteLine
-site-step L few rs d l D = gives-bind EntryFits (SiteSoFar rs) (entryOf l) (addToSite L rs d (l .at)) (line-fits l) (λ e h. site-entry L few rs d (l .at) e D h)
+site-step L few rs types d l D = gives-bind EntryFits (SiteSoFar rs types) (entryOf l) (addToSite L rs types d (l .at)) (line-fits l) (λ e h. site-entry L few rs types d (l .at) e D h)
 
-pub record SiteFits (rs : List Relation) (s : Site) : Type 0 where
+pub record SiteFits (rs : List Relation) (types : List (List ℕ)) (s : Site) : Type 0 where
   pub some-element : 1 ≤ s .size
   pub few-elements : s .size ≤ 64
+  pub members-fit : MembersFit (length types) (s .size) (s .members)
+  pub each-type : (k : ℕ) → k < length types → T (hasMember (s .members) k)
   pub facts-fit : TuplesFit rs firstRel (s .size) (s .facts)
 
-pub record LabelledFits (rs : List Relation) (s : Labelled) : Type 0 where
-  pub site-fits : SiteFits rs (s .site)
+pub record LabelledFits (rs : List Relation) (types : List (List ℕ)) (s : Labelled) : Type 0 where
+  pub site-fits : SiteFits rs types (s .site)
   pub labels-fit : LabelsFit (s .site .size) (s .labels)
 
-site-end : (rs : List Relation) (labels : List Label) (facts : List Tuple) (o : Option ℕ) (k : ℕ) → DraftSite rs o labels facts → Gives (LabelledFits rs) (given o 3 k >>= λ n. accepted (record { site = record { size = n; facts = facts }; labels = labels }))
+site-end : (rs : List Relation) (types : List (List ℕ)) (labels : List Label) (members : List Member) (facts : List Tuple) (o : Option ℕ) (k : ℕ) → DraftSite rs types o labels members facts
+    → Gives (LabelledFits rs types) (given o 3 k >>= λ n. refuseIf (not (all (hasMember members) (below (length types)))) 19 zero >>= λ _. accepted (record { site = record { size = n; members = members; facts = facts }; labels = labels }))
 unfolding DraftSite given _>>=_
-site-end rs labels facts none k D = gives-refused (LabelledFits rs) 3 k
-site-end rs labels facts (some n) k D = gives-accepted (LabelledFits rs) _ (record { site-fits = record { some-element = D .some-element; few-elements = D .few-elements; facts-fit = D .facts-fit }; labels-fit = D .labels-fit })
+site-end rs types labels members facts none k D = gives-refused (LabelledFits rs types) 3 k
+site-end rs types labels members facts (some n) k D =
+    gives-bind (λ _. T (not (not (all (hasMember members) (below (length types)))))) (LabelledFits rs types) (refuseIf (not (all (hasMember members) (below (length types)))) 19 zero) _ (gives-refuse (not (all (hasMember members) (below (length types)))) 19 zero)
+    (λ _ t. gives-accepted (LabelledFits rs types) _ (record {
+      site-fits = record {
+        some-element = D .some-element;
+        few-elements = D .few-elements;
+        members-fit = D .members-fit;
+        each-type = λ j h. all-at (hasMember members) (below (length types)) (not-not-T (all (hasMember members) (below (length types))) t) j (mem-below (length types) j h);
+        facts-fit = D .facts-fit;
+      };
+      labels-fit = D .labels-fit;
+    }))
 
-pub site-fits : (L : CaseLimits) → L .elements ≤ 64 → (rs : List Relation) (text : List ℕ) → Gives (LabelledFits rs) (readSite L rs text)
+pub site-fits : (L : CaseLimits) → L .elements ≤ 64 → (rs : List Relation) (types : List (List ℕ)) (text : List ℕ) → Gives (LabelledFits rs types) (readSite L rs types text)
 unfolding readSite DraftSite
-site-fits L few rs text =
-    gives-bind (SiteSoFar rs) (LabelledFits rs) (readText (siteLine L rs) (record { sized = none; labels = []; facts = [] }) text) _
-    (gives-text (SiteSoFar rs) (siteLine L rs) (site-step L few rs) (record { sized = none; labels = []; facts = [] }) text (refl, refl))
-    (λ d D. site-end rs (d .labels) (d .facts) (d .sized) (length text) D)
+site-fits L few rs types text =
+    gives-bind (SiteSoFar rs types) (LabelledFits rs types) (readText (siteLine L rs types) (record { sized = none; labels = []; members = []; facts = [] }) text) _
+    (gives-text (SiteSoFar rs types) (siteLine L rs types) (site-step L few rs types) (record { sized = none; labels = []; members = []; facts = [] }) text (refl, refl, refl))
+    (λ d D. site-end rs types (d .labels) (d .members) (d .facts) (d .sized) (length text) D)
 
 -- ---- picks from a text
 module _ (rs : List Relation) (first n : ℕ) (labels : List Label) (K : LabelsFit n labels) where
   picks-entry : (ts : List Tuple) (at : ℕ) (e : Entry) → TuplesFit rs first n ts → Gives (TuplesFit rs first n) (addToPicks rs first n labels ts at e)
   unfolding addToPicks
   picks-entry ts at (rel name a) D = gives-refused _ 3 at
+  picks-entry ts at (type name) D = gives-refused _ 3 at
   picks-entry ts at (choose name a k) D = gives-refused _ 3 at
   picks-entry ts at (rule f) D = gives-refused _ 3 at
   picks-entry ts at (size m) D = gives-refused _ 3 at
   picks-entry ts at (label x name) D = gives-refused _ 3 at
+  picks-entry ts at (member t x) D = gives-refused _ 3 at
   picks-entry ts at (fact name xs) D = gives-refused _ 3 at
   picks-entry ts at (pick name xs) D = tuple-line rs first n labels ts at name xs K D
   picks-entry ts at (step k) D = gives-refused _ 3 at
@@ -505,7 +615,11 @@ module _ (rs : List Relation) (first n : ℕ) (labels : List Label) (K : LabelsF
 -- ---- the case
 pub record Accepted (c : Case) : Type 0 where
   pub question-fits : QuestionFits (c .question)
-  pub site-fits : SiteFits (c .question .rels) (c .site)
+  pub site-fits : SiteFits (c .question .rels) (c .question .types) (c .site)
+
+-- so what a variable of any sort ranges over is a range
+pub accepted-range : (c : Case) → Accepted c → (s : ℕ) → IsRange (c .site .size) (membersOf c s)
+accepted-range c A s = members-range c s (A .site-fits .some-element) (A .site-fits .members-fit) (A .site-fits .each-type)
 
 -- and its labels
 pub record FiledFits (r : CaseRead) : Type 0 where
@@ -516,7 +630,7 @@ pub filed-fits : (L : CaseLimits) → L .elements ≤ 64 → (question site : Li
 unfolding readFiled
 filed-fits L few question site =
     gives-bind QuestionFits FiledFits (readQuestion question) _ (question-fits question)
-    (λ q Q. gives-bind (LabelledFits (q .rels)) FiledFits (readSite L (q .rels) site) _ (site-fits L few (q .rels) site)
+    (λ q Q. gives-bind (LabelledFits (q .rels) (q .types)) FiledFits (readSite L (q .rels) (q .types) site) _ (site-fits L few (q .rels) (q .types) site)
     (λ s S. gives-accepted FiledFits _ (record { case-fits = record { question-fits = Q; site-fits = S .site-fits }; labels-fit = S .labels-fit })))
 
 pub case-fits : (L : CaseLimits) → L .elements ≤ 64 → (question site : List ℕ) → Gives Accepted (readCase L question site)
@@ -529,7 +643,7 @@ unfolding readCase readFiled
 case-question L question site c e = gives-if Asks (readCase L question site) c e
     (gives-bind (λ r. Asks (r .case)) Asks (readFiled L question site) _
     (gives-bind (λ q. readQuestion question ≡ accepted q) (λ r. Asks (r .case)) (readQuestion question) _ (gives-self (readQuestion question))
-    (λ q h. gives-bind (λ _. Unit {0}) (λ r. Asks (r .case)) (readSite L (q .rels) site) _ (gives-any (readSite L (q .rels) site)) (λ s _. gives-accepted (λ r. Asks (r .case)) _ h)))
+    (λ q h. gives-bind (λ _. Unit {0}) (λ r. Asks (r .case)) (readSite L (q .rels) (q .types) site) _ (gives-any (readSite L (q .rels) (q .types) site)) (λ s _. gives-accepted (λ r. Asks (r .case)) _ h)))
     (λ r h. gives-accepted Asks (r .case) h))
   where
     Asks : Case → Type 0

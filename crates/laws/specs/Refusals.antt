@@ -12,7 +12,7 @@ use Rattle.definitions.specs.Lists.{if_then_else_, all, any, option, isIn}
 use Rattle.definitions.specs.Text.{Line, lines}
 use Rattle.definitions.specs.Refusal.{Result, refused, accepted, _>>=_, refuseIf, given, readLines, readText, caseNumbers, readyNumbers, runNumbers, picksNumbers}
 use Rattle.definitions.specs.Relations.{Relation, Tuple}
-use Rattle.definitions.specs.Sheets.{Element, Entry, rel, choose, rule, size, label, fact, pick, step, entryOf, Draft, addRel, addChoose, addRule, addToQuestion, questionLine, readQuestion, firstRel, Label, addTuple, SiteDraft, addSize, addLabel, addFact, addToSite, siteLine, readSite, addToPicks, picksLine, readPicks, addToSteps, stepsLine, readSteps}
+use Rattle.definitions.specs.Sheets.{Element, Entry, rel, type, choose, rule, size, label, member, fact, pick, step, entryOf, Draft, addRel, addType, addChoose, addRule, addToQuestion, questionLine, readQuestion, firstRel, Label, addTuple, SiteDraft, addSize, addLabel, addMember, addFact, addToSite, siteLine, readSite, addToPicks, picksLine, readPicks, addToSteps, stepsLine, readSteps}
 use Rattle.definitions.specs.Truth.{Case, firstOfOtherKind}
 use Rattle.definitions.specs.Atoms.{Problem, goal, atomNumber, State, initial}
 use Rattle.definitions.specs.Actions.{Action, actionAt}
@@ -95,13 +95,15 @@ other A at = refused-by Sheet A 3 at refl
 
 -- ---- the question
 question-add : (d : Draft) (at : ℕ) (e : Entry) → Refuses Sheet (addToQuestion d at e)
-unfolding addToQuestion addRel addChoose addRule isIn any
+unfolding addToQuestion addRel addType addChoose addRule isIn any
 question-add d at (rel name arity) = bind-by Sheet _ _ (if-by Sheet _ 3 at refl) (λ _. bind-by Sheet _ _ (if-by Sheet _ 4 at refl) (λ _. accepted-by Sheet _))
+question-add d at (type name) = bind-by Sheet _ _ (if-by Sheet _ 3 at refl) (λ _. bind-by Sheet _ _ (if-by Sheet _ 4 at refl) (λ _. bind-by Sheet _ _ (if-by Sheet _ 19 at refl) (λ _. accepted-by Sheet _)))
 question-add d at (choose name arity kind) = bind-by Sheet _ _ (if-by Sheet _ 3 at refl) (λ _. bind-by Sheet _ _ (if-by Sheet _ 4 at refl) (λ _. accepted-by Sheet _))
 question-add d at (rule text) = bind-by Sheet _ _ (if-by Sheet _ 3 at refl) (λ _. bind-by Sheet _ _ (given-by Sheet _ 5 at refl) (λ f. bind-by Sheet _ _ (if-by Sheet _ 6 at refl)
-    (λ _. bind-by Sheet _ _ (if-by Sheet _ 7 at refl) (λ _. bind-by Sheet _ _ (if-by Sheet _ 8 at refl) (λ _. accepted-by Sheet _)))))
+    (λ _. bind-by Sheet _ _ (if-by Sheet _ 7 at refl) (λ _. bind-by Sheet _ _ (if-by Sheet _ 8 at refl) (λ _. bind-by Sheet _ _ (if-by Sheet _ 19 at refl) (λ _. accepted-by Sheet _))))))
 question-add d at (size n) = other Draft at
 question-add d at (label x name) = other Draft at
+question-add d at (member t x) = other Draft at
 question-add d at (fact name xs) = other Draft at
 question-add d at (pick name xs) = other Draft at
 question-add d at (step k) = other Draft at
@@ -126,28 +128,37 @@ unfolding addLabel isIn any
 label-by d at e name = bind-by Sheet _ _ (given-by Sheet (d .sized) 3 at refl) (λ n. bind-by Sheet _ _ (if-by Sheet _ 3 at refl) (λ _. bind-by Sheet _ _ (if-by Sheet _ 9 at refl)
     (λ _. bind-by Sheet _ _ (given-by Sheet _ 18 at refl) (λ x. bind-by Sheet _ _ (if-by Sheet _ 18 at refl) (λ _. accepted-by Sheet _)))))
 
-site-add : (L : CaseLimits) (rels : List Relation) (d : SiteDraft) (at : ℕ) (e : Entry) → Refuses Sheet (addToSite L rels d at e)
-unfolding addToSite addFact isIn any
-site-add L rels d at (rel name arity) = other SiteDraft at
-site-add L rels d at (choose name arity kind) = other SiteDraft at
-site-add L rels d at (rule text) = other SiteDraft at
-site-add L rels d at (size n) = size-by L d at n (d .sized)
-site-add L rels d at (label x name) = label-by d at x name
-site-add L rels d at (fact name xs) = bind-by Sheet _ _ (given-by Sheet (d .sized) 3 at refl) (λ n. bind-by Sheet _ _ (tuple-by rels firstRel n (d .labels) (d .facts) at name xs) (λ ts. accepted-by Sheet _))
-site-add L rels d at (pick name xs) = other SiteDraft at
-site-add L rels d at (step k) = other SiteDraft at
+member-by : (types : List (List ℕ)) (d : SiteDraft) (at : ℕ) (name : List ℕ) (e : Element) → Refuses Sheet (addMember types d at name e)
+unfolding addMember isIn any
+member-by types d at name e = bind-by Sheet _ _ (given-by Sheet (d .sized) 3 at refl) (λ n. bind-by Sheet _ _ (if-by Sheet _ 3 at refl) (λ _. bind-by Sheet _ _ (given-by Sheet _ 19 at refl)
+    (λ k. bind-by Sheet _ _ (if-by Sheet _ 9 at refl) (λ _. bind-by Sheet _ _ (given-by Sheet _ 18 at refl) (λ x. bind-by Sheet _ _ (if-by Sheet _ 10 at refl) (λ _. accepted-by Sheet _))))))
 
-pub site-by : (L : CaseLimits) (rels : List Relation) (text : List ℕ) → Refuses Sheet (readSite L rels text)
+site-add : (L : CaseLimits) (rels : List Relation) (types : List (List ℕ)) (d : SiteDraft) (at : ℕ) (e : Entry) → Refuses Sheet (addToSite L rels types d at e)
+unfolding addToSite addFact isIn any
+site-add L rels types d at (rel name arity) = other SiteDraft at
+site-add L rels types d at (type name) = other SiteDraft at
+site-add L rels types d at (choose name arity kind) = other SiteDraft at
+site-add L rels types d at (rule text) = other SiteDraft at
+site-add L rels types d at (size n) = size-by L d at n (d .sized)
+site-add L rels types d at (label x name) = label-by d at x name
+site-add L rels types d at (member t x) = member-by types d at t x
+site-add L rels types d at (fact name xs) = bind-by Sheet _ _ (given-by Sheet (d .sized) 3 at refl) (λ n. bind-by Sheet _ _ (tuple-by rels firstRel n (d .labels) (d .facts) at name xs) (λ ts. accepted-by Sheet _))
+site-add L rels types d at (pick name xs) = other SiteDraft at
+site-add L rels types d at (step k) = other SiteDraft at
+
+pub site-by : (L : CaseLimits) (rels : List Relation) (types : List (List ℕ)) (text : List ℕ) → Refuses Sheet (readSite L rels types text)
 unfolding readSite siteLine isIn any
-site-by L rels text = bind-by Sheet _ _ (text-by Sheet (siteLine L rels) refl (λ d l. bind-by Sheet (entryOf l) _ (entry-by l) (site-add L rels d (l .at))) _ text) (λ d. bind-by Sheet _ _ (given-by Sheet (d .sized) 3 (length text) refl) (λ n. accepted-by Sheet _))
+site-by L rels types text = bind-by Sheet _ _ (text-by Sheet (siteLine L rels types) refl (λ d l. bind-by Sheet (entryOf l) _ (entry-by l) (site-add L rels types d (l .at))) _ text) (λ d. bind-by Sheet _ _ (given-by Sheet (d .sized) 3 (length text) refl) (λ n. bind-by Sheet _ _ (if-by Sheet _ 19 zero refl) (λ _. accepted-by Sheet _)))
 
 picks-add : (rs : List Relation) (first n : ℕ) (labels : List Label) (ts : List Tuple) (at : ℕ) (e : Entry) → Refuses Sheet (addToPicks rs first n labels ts at e)
 unfolding addToPicks
 picks-add rs first n labels ts at (rel name arity) = other (List Tuple) at
+picks-add rs first n labels ts at (type name) = other (List Tuple) at
 picks-add rs first n labels ts at (choose name arity kind) = other (List Tuple) at
 picks-add rs first n labels ts at (rule text) = other (List Tuple) at
 picks-add rs first n labels ts at (size m) = other (List Tuple) at
 picks-add rs first n labels ts at (label x name) = other (List Tuple) at
+picks-add rs first n labels ts at (member t x) = other (List Tuple) at
 picks-add rs first n labels ts at (fact name xs) = other (List Tuple) at
 picks-add rs first n labels ts at (pick name xs) = tuple-by rs first n labels ts at name xs
 picks-add rs first n labels ts at (step k) = other (List Tuple) at
@@ -155,10 +166,12 @@ picks-add rs first n labels ts at (step k) = other (List Tuple) at
 steps-add : (ks : List ℕ) (at : ℕ) (e : Entry) → Refuses Sheet (addToSteps ks at e)
 unfolding addToSteps
 steps-add ks at (rel name arity) = other (List ℕ) at
+steps-add ks at (type name) = other (List ℕ) at
 steps-add ks at (choose name arity kind) = other (List ℕ) at
 steps-add ks at (rule text) = other (List ℕ) at
 steps-add ks at (size m) = other (List ℕ) at
 steps-add ks at (label x name) = other (List ℕ) at
+steps-add ks at (member t x) = other (List ℕ) at
 steps-add ks at (fact name xs) = other (List ℕ) at
 steps-add ks at (pick name xs) = other (List ℕ) at
 steps-add ks at (step k) = accepted-by Sheet _
@@ -176,7 +189,7 @@ picks-by c labels (asNumbers words) = accepted-by Sheet _
 -- ---- whole calls
 filed-by : (L : CaseLimits) (question site : List ℕ) → Refuses Sheet (readFiled L question site)
 unfolding readFiled
-filed-by L question site = bind-by Sheet _ _ (question-by question) (λ q. bind-by Sheet _ _ (site-by L (q .rels) site) (λ s. accepted-by Sheet _))
+filed-by L question site = bind-by Sheet _ _ (question-by question) (λ q. bind-by Sheet _ _ (site-by L (q .rels) (q .types) site) (λ s. accepted-by Sheet _))
 
 case-by : (L : CaseLimits) (question site : List ℕ) → Refuses Sheet (readCase L question site)
 unfolding readCase

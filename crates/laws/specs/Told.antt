@@ -13,7 +13,7 @@ use Rattle.definitions.specs.Lists.{if_then_else_, all, same, option, flatMap, 
 use Rattle.definitions.specs.Text.{bytes, decimal, number, onFirst, split, Line, lines, linesFrom, fields, isBetween, isRelationName}
 use Rattle.definitions.specs.Refusal.{Result, accepted, refuseIf, given, readLines, readText}
 use Rattle.definitions.specs.Relations.{plain, Relation, Tuple, isAmong}
-use Rattle.definitions.specs.Sheets.{Element, Entry, rel, choose, rule, size, label, fact, pick, step, arityOf, chooseOf, element, elements, labelOf, withOne, withTwo, withElements, entry, entryOf, Label, elementsOf, isInRange, used, addTuple, addToPicks, picksLine, readPicks, addToSteps, stepsLine, readSteps}
+use Rattle.definitions.specs.Sheets.{Element, Entry, rel, type, choose, rule, size, label, member, fact, pick, step, arityOf, chooseOf, element, elements, labelOf, memberOf, withOne, withTwo, withElements, entry, entryOf, Label, elementsOf, isInRange, used, addTuple, addToPicks, picksLine, readPicks, addToSteps, stepsLine, readSteps}
 use Rattle.definitions.specs.Desk.{printLine, stepLine}
 use Rattle.definitions.specs.Demand.{isAccepted}
 use Rattle.laws.specs.Booleans.{T-and-l, T-of}
@@ -59,10 +59,12 @@ Tells fs word name es = (gs : List (List ℕ)) × (fs ≡ word ∷ name ∷ gs) 
 
 unfoldable pub Says : List (List ℕ) → Entry → Type 0
 Says fs (rel name a) = Unit {0}
+Says fs (type name) = Unit {0}
 Says fs (choose name a k) = Unit {0}
 Says fs (rule f) = Unit {0}
 Says fs (size n) = (fs ≡ bytes "size" ∷ decimal n ∷ []) × (n < 10 ^ 7)
 Says fs (label x name) = (f : List ℕ) × (fs ≡ bytes "label" ∷ f ∷ name ∷ [])
+Says fs (member t x) = (f : List ℕ) × (fs ≡ bytes "member" ∷ t ∷ f ∷ []) × (element f ≡ some x)
 Says fs (fact name es) = Tells fs (bytes "fact") name es
 Says fs (pick name es) = Tells fs (bytes "pick") name es
 Says fs (step k) = (fs ≡ bytes "step" ∷ decimal k ∷ []) × (k < 10 ^ 7)
@@ -92,6 +94,14 @@ label-told w (f ∷ name ∷ []) t = holds-if (Says (w ∷ f ∷ name ∷ [])) (
     (holds-none (Says (w ∷ f ∷ name ∷ [])))
 label-told w (f ∷ name ∷ g ∷ fs) t = holds-none (Says (w ∷ f ∷ name ∷ g ∷ fs))
 
+member-told : (w : List ℕ) (fs : List (List ℕ)) → T (same w (bytes "member")) → Holds (Says (w ∷ fs)) (withTwo memberOf fs)
+unfolding withTwo memberOf Says
+member-told w [] t = holds-none (Says (w ∷ []))
+member-told w (name ∷ []) t = holds-none (Says (w ∷ name ∷ []))
+member-told w (name ∷ f ∷ []) t = holds-option (λ x. element f ≡ some x) (Says (w ∷ name ∷ f ∷ [])) (element f) _ (holds-self (element f))
+    (λ x e. holds-some (Says (w ∷ name ∷ f ∷ [])) (member name x) (f, ap (λ (y : List ℕ). y ∷ name ∷ f ∷ []) (same-eq w (bytes "member") t), e))
+member-told w (name ∷ f ∷ g ∷ fs) t = holds-none (Says (w ∷ name ∷ f ∷ g ∷ fs))
+
 -- the other records say nothing here
 two-told : (fs : List (List ℕ)) (make : List ℕ → List ℕ → Option Entry) (gs : List (List ℕ)) → ((f g : List ℕ) → Holds (Says fs) (make f g)) → Holds (Says fs) (withTwo make gs)
 unfolding withTwo
@@ -120,14 +130,16 @@ unfolding entry Says
 entry-told [] = holds-none (Says [])
 entry-told (w ∷ fs) =
     holds-if (Says (w ∷ fs)) (same w (bytes "rel")) _ _ (λ t. two-told (w ∷ fs) _ fs (λ f g. holds-option (λ a. arityOf g ≡ some a) (Says (w ∷ fs)) (arityOf g) _ (holds-self (arityOf g)) (λ a e. holds-some (Says (w ∷ fs)) (rel f a) tt)))
+    (holds-if (Says (w ∷ fs)) (same w (bytes "type")) _ _ (λ t. one-told (w ∷ fs) _ fs (λ f. holds-some (Says (w ∷ fs)) (type f) tt))
     (holds-if (Says (w ∷ fs)) (same w (bytes "choose")) _ _ (λ t. two-told (w ∷ fs) _ fs (choose-told (w ∷ fs)))
     (holds-if (Says (w ∷ fs)) (same w (bytes "rule")) _ _ (λ t. one-told (w ∷ fs) _ fs (λ f. holds-some (Says (w ∷ fs)) (rule f) tt))
     (holds-if (Says (w ∷ fs)) (same w (bytes "size")) _ _ (λ t. number-told size (bytes "size") w fs t (λ k h. h))
     (holds-if (Says (w ∷ fs)) (same w (bytes "label")) _ _ (λ t. label-told w fs t)
+    (holds-if (Says (w ∷ fs)) (same w (bytes "member")) _ _ (λ t. member-told w fs t)
     (holds-if (Says (w ∷ fs)) (same w (bytes "fact")) _ _ (λ t. elements-told fact (bytes "fact") w fs t (λ name es h. h))
     (holds-if (Says (w ∷ fs)) (same w (bytes "pick")) _ _ (λ t. elements-told pick (bytes "pick") w fs t (λ name es h. h))
     (holds-if (Says (w ∷ fs)) (same w (bytes "step")) _ _ (λ t. number-told step (bytes "step") w fs t (λ k h. h))
-    (holds-none (Says (w ∷ fs))))))))))
+    (holds-none (Says (w ∷ fs))))))))))))
 
 holds-told : {A : Type 0} (P : A → Type 0) (o : Option A) (a : A) → o ≡ some a → Holds P o → P a
 unfolding Holds
@@ -188,10 +200,12 @@ module _ {A : Type 0} (line : List A → Line → Result (List A)) (R : A → Li
 steps-add : (acc : List ℕ) (at : ℕ) (fs : List (List ℕ)) (e : Entry) (m : List ℕ) → Says fs e → addToSteps acc at e ≡ accepted m → (k : ℕ) × (m ≡ acc ++ (k ∷ [])) × ((fs ≡ bytes "step" ∷ decimal k ∷ []) × (k < 10 ^ 7))
 unfolding addToSteps Says isAccepted
 steps-add acc at fs (rel name a) m s e = absurd (refused-accepted e)
+steps-add acc at fs (type name) m s e = absurd (refused-accepted e)
 steps-add acc at fs (choose name a k) m s e = absurd (refused-accepted e)
 steps-add acc at fs (rule f) m s e = absurd (refused-accepted e)
 steps-add acc at fs (size n) m s e = absurd (refused-accepted e)
 steps-add acc at fs (label x name) m s e = absurd (refused-accepted e)
+steps-add acc at fs (member t x) m s e = absurd (refused-accepted e)
 steps-add acc at fs (fact name xs) m s e = absurd (refused-accepted e)
 steps-add acc at fs (pick name xs) m s e = absurd (refused-accepted e)
 steps-add acc at fs (step k) m s e = (k, sym (accepted-eq (acc ++ (k ∷ [])) m e), s)
@@ -258,10 +272,12 @@ module _ (rs : List Relation) (first n : ℕ) (labels : List Label) (K : LabelsF
   picks-add : (acc : List Tuple) (at : ℕ) (fs : List (List ℕ)) (e : Entry) (m : List Tuple) → Says fs e → addToPicks rs first n labels acc at e ≡ accepted m → (t : Tuple) × (m ≡ acc ++ (t ∷ [])) × TupleLine labels (bytes "pick") nameIn t fs
   unfolding addToPicks Says isAccepted
   picks-add acc at fs (rel name a) m s e = absurd (refused-accepted e)
+  picks-add acc at fs (type name) m s e = absurd (refused-accepted e)
   picks-add acc at fs (choose name a k) m s e = absurd (refused-accepted e)
   picks-add acc at fs (rule f) m s e = absurd (refused-accepted e)
   picks-add acc at fs (size k) m s e = absurd (refused-accepted e)
   picks-add acc at fs (label x name) m s e = absurd (refused-accepted e)
+  picks-add acc at fs (member t x) m s e = absurd (refused-accepted e)
   picks-add acc at fs (fact name es) m s e = absurd (refused-accepted e)
   picks-add acc at fs (pick name es) m s e =
       let A = tuple-told rs first n labels acc at name es m e in

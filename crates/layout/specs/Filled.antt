@@ -4,17 +4,18 @@ use mathlib.Core.List.{List, [], _∷_, _++_}
 use Prim.Native.Nat.{ℕ, zero, suc, _+_, _*_}
 use lib.Dec.{eqb, ltb}
 use lib.ListN.{length, getD, take, drop, set}
-use Rattle.definitions.specs.Lists.{if_then_else_, below, greatest}
+use Rattle.definitions.specs.Lists.{if_then_else_}
 use Rattle.definitions.specs.Atoms.{Problem, atoms}
 use Rattle.tree.specs.Tables.{noPart, noNode}
 use Rattle.tree.specs.declared.PartRow.{PartRow}
 use Rattle.tree.specs.declared.NodeRow.{NodeRow}
 use Rattle.tree.specs.declared.Nodes.{Nodes}
 use Rattle.rows.specs.Values.{weightOf}
-use Rattle.ground.specs.Lines.{rootPlace, rangesPlace, nodesIn, nodeLine, Fits}
+use Rattle.ground.specs.Lines.{rootPlace, rangesPlace, rangePlace, nodesIn, nodeLine, Fits}
 use Rattle.ground.specs.Of.{Is}
-use Rattle.layout.specs.Laid.{Inputs, Starts}
+use Rattle.layout.specs.Laid.{countAt, rangeBy, Inputs, Starts}
 use Rattle.layout.specs.declared.Relations.{Relations}
+use Rattle.layout.specs.declared.Ranges.{Ranges}
 use Rattle.layout.specs.declared.Layout.{Layout}
 
 -- where the lines of relations, of nodes and of parts start, and how long a node's line is
@@ -46,16 +47,16 @@ relationNumbers g l r = getD (l .set) r 0 ∷ getD (l .rel) r 0 ∷ getD (l .neg
 unfoldable pub relationEnd : Layout → ℕ → List ℕ
 relationEnd l r = getD (l .set) r 0 ∷ getD (l .rel) r 0 ∷ 0 ∷ 0 ∷ 0 ∷ []
 
--- where the range of a node of that kind starts, and how many elements it has: a quantifier's is that of all elements
-unfoldable pub rangeStart : ℕ → ℕ
-rangeStart kind = if ltb kind 2 then rangesPlace else 0
+-- where the range of a node of that kind starts, and how many of the elements of its sort it has: only a quantifier goes over any
+unfoldable pub rangeStart : (kind sort : ℕ) → ℕ
+rangeStart kind sort = if ltb kind 2 then rangePlace sort else 0
 
-unfoldable pub rangeCount : (n kind : ℕ) → ℕ
-rangeCount n kind = if ltb kind 2 then n else 0
+unfoldable pub rangeCount : (count kind : ℕ) → ℕ
+rangeCount count kind = if ltb kind 2 then count else 0
 
--- the line of a node whose actions and atoms start there
-unfoldable pub nodeFrom : (n act node : ℕ) → NodeRow → List ℕ
-nodeFrom n act node x =
+-- the line of a node whose actions and atoms start there and whose sort has `count` elements
+unfoldable pub nodeFrom : (count act node : ℕ) → NodeRow → List ℕ
+nodeFrom count act node x =
     act
     ∷ node
     ∷ x .kind
@@ -67,12 +68,12 @@ nodeFrom n act node x =
     ∷ getD (x .levels) 1 0
     ∷ getD (x .levels) 2 0
     ∷ getD (x .levels) 3 0
-    ∷ rangeStart (x .kind)
-    ∷ rangeCount n (x .kind)
+    ∷ rangeStart (x .kind) (x .sort)
+    ∷ rangeCount count (x .kind)
     ∷ []
 
-abbrev pub nodeNumbers : ℕ → Nodes → Layout → ℕ → List ℕ
-nodeNumbers n t l v = nodeFrom n (getD (l .act) v 0) (getD (l .node) v 0) (getD (t .rows) v noNode)
+abbrev pub nodeNumbers : List ℕ → Nodes → Layout → ℕ → List ℕ
+nodeNumbers counts t l v = nodeFrom (countAt counts t v) (getD (l .act) v 0) (getD (l .node) v 0) (getD (t .rows) v noNode)
 
 -- past the last of v nodes
 unfoldable pub nodeEnd : Layout → ℕ → List ℕ
@@ -84,39 +85,45 @@ startIn rel neg node zero which = getD rel which 0
 startIn rel neg node (suc zero) which = getD neg which 0
 startIn rel neg node (suc (suc k)) which = getD node which 0
 
--- a part's atom at the values 0, and the weights of the levels; a `forall` stands for its atom at the greatest element, n to a row
-unfoldable pub numbersFrom : (n start : ℕ) → PartRow → List ℕ
-numbersFrom n start q =
+-- a part's atom at the values 0, and the weights of the levels; a `forall` stands for its atom at the greatest element of its range,
+-- n to a row
+unfoldable pub numbersFrom : (n top start : ℕ) → PartRow → List ℕ
+numbersFrom n top start q =
     let w = weightOf n (take (q .width) (q .levels)) in
-    if eqb (q .tag) 2 then (start + greatest (below n)) ∷ (w 0 * n) ∷ (w 1 * n) ∷ (w 2 * n) ∷ (w 3 * n) ∷ []
+    if eqb (q .tag) 2 then (start + top) ∷ (w 0 * n) ∷ (w 1 * n) ∷ (w 2 * n) ∷ (w 3 * n) ∷ []
     else start ∷ w 0 ∷ w 1 ∷ w 2 ∷ w 3 ∷ []
 
--- the line of a part, by the starts or by the layout that holds them
-unfoldable pub numbersIn : (n : ℕ) (rel neg node : List ℕ) → PartRow → List ℕ
-numbersIn n rel neg node q = numbersFrom n (startIn rel neg node (q .tag) (q .which)) q
+-- the line of a part, by the greatest elements of all sorts and the starts, or by the layout that holds these
+unfoldable pub numbersIn : (n : ℕ) (tops rel neg node : List ℕ) → PartRow → List ℕ
+numbersIn n tops rel neg node q = numbersFrom n (getD tops (q .sort) 0) (startIn rel neg node (q .tag) (q .which)) q
 
-abbrev pub partNumbers : ℕ → Layout → PartRow → List ℕ
-partNumbers n l q = numbersIn n (l .rel) (l .neg) (l .node) q
+abbrev pub partNumbers : ℕ → List ℕ → Layout → PartRow → List ℕ
+partNumbers n tops l q = numbersIn n tops (l .rel) (l .neg) (l .node) q
 
 -- the lines of all relations, of all nodes, and of all parts
 unfoldable pub relationLines : Relations → Layout → List ℕ
 relationLines g l = tab (relationNumbers g l) (g .count) ++ relationEnd l (g .count)
 
-unfoldable pub nodeLines : ℕ → Nodes → Layout → List ℕ
-nodeLines n t l = tab (nodeNumbers n t l) (t .count) ++ nodeEnd l (t .count)
+unfoldable pub nodeLines : List ℕ → Nodes → Layout → List ℕ
+nodeLines counts t l = tab (nodeNumbers counts t l) (t .count) ++ nodeEnd l (t .count)
 
-unfoldable pub partLines : ℕ → Nodes → Layout → List ℕ
-partLines n t l = tab (λ (i : ℕ). partNumbers n l (getD (t .parts) i noPart)) (t .placed)
+unfoldable pub partLines : ℕ → List ℕ → Nodes → Layout → List ℕ
+partLines n tops t l = tab (λ (i : ℕ). partNumbers n tops l (getD (t .parts) i noPart)) (t .placed)
 
--- all of it, the root's line and the range of all elements last, in place of w
-unfoldable pub tableOf : ℕ → Relations → Nodes → Layout → List ℕ → List ℕ
-tableOf n g t l w =
-    splice rangesPlace (below n)
-    (splice rootPlace (partNumbers n l (t .root))
-    (splice partsPlace (partLines n t l) (splice nodesPlace (nodeLines n t l) (splice relationsPlace (relationLines g l) (set (set (set w 0 n) 1 (g .count)) 2 (t .count))))))
+-- the ranges of sorts 0 to k, 64 numbers for each from a place on
+unfoldable pub withRanges : ℕ → (n : ℕ) → List ℕ → ℕ → List ℕ → List ℕ
+withRanges at n w zero d = splice at (rangeBy n w zero) d
+withRanges at n w (suc k) d = splice (at + 64 * suc k) (rangeBy n w (suc k)) (withRanges at n w k d)
 
--- the table is that of every problem whose elements, relations, nodes and starts these are, and all its numbers are in range
-pub record Filled (n : ℕ) (g : Relations) (t : Nodes) (l : Layout) (w : List ℕ) : Type 0 where
+-- all of it, the root's line and the ranges last, in place of d
+unfoldable pub tableOf : (n : ℕ) → List ℕ → ℕ → Ranges → Relations → Nodes → Layout → List ℕ → List ℕ
+tableOf n w k r g t l d =
+    withRanges rangesPlace n w k
+    (splice rootPlace (partNumbers n (r .top) l (t .root))
+    (splice partsPlace (partLines n (r .top) t l) (splice nodesPlace (nodeLines (r .count) t l) (splice relationsPlace (relationLines g l) (set (set (set d 0 n) 1 (g .count)) 2 (t .count))))))
+
+-- the table is that of every problem whose elements, members, relations, nodes and starts these are, and all its numbers are in range
+pub record Filled (n : ℕ) (members : List ℕ) (k : ℕ) (g : Relations) (t : Nodes) (l : Layout) (w : List ℕ) : Type 0 where
   pub fits : Fits w
-  pub is : (p : Problem) → Inputs p n g t → Starts p l → Is p w
-  pub ends : (p : Problem) → Inputs p n g t → Starts p l → nodeLine w (nodesIn w) .atoms ≡ atoms p
+  pub is : (p : Problem) → Inputs p n members k g t → Starts p l → Is p w
+  pub ends : (p : Problem) → Inputs p n members k g t → Starts p l → nodeLine w (nodesIn w) .atoms ≡ atoms p

@@ -9,30 +9,32 @@ use lib.Seq.{getD-set-same, getD-set-other, getD-drop}
 use mathlib.Core.Bool.{Bool, true, false}
 use lib.Dec.{ltb}
 use borrow.Author.Tests.{lt-ltb}
-use Rattle.definitions.specs.Lists.{if_then_else_, from, below}
+use Rattle.definitions.specs.Lists.{if_then_else_, below, greatest}
 use Rattle.definitions.specs.Tree.{Tree, Part, parts, free, nodeSort}
 use Rattle.definitions.specs.Atoms.{Problem, placesOf, nodeAt, atoms}
 use Rattle.definitions.specs.Actions.{valuesIn, valuesAt}
-use Rattle.laws.specs.Lists.{length-below, getD-below}
-use Rattle.laws.specs.Members.{IsRange, below-range}
+use Rattle.laws.specs.Lists.{length-below}
 use Rattle.laws.specs.Numbers.{atoms-end}
 use Rattle.tree.specs.Tables.{Levels, headIn, headOf, IsNode as IsRow, noPart, noNode, NodeFits as RowFits, Fits as TreeFits}
 use Rattle.tree.specs.declared.PartRow.{PartRow}
 use Rattle.tree.specs.declared.NodeRow.{NodeRow}
 use Rattle.tree.specs.declared.Nodes.{Nodes}
 use Rattle.rows.specs.Values.{Most}
-use Rattle.ground.specs.Lines.{tableLength, rootPlace, rangesPlace, relationPlace, nodePlace, partPlace, nodesIn, relationLine, nodeLine, partLine, membersIn, rangeIn, NodeFits, RangeFits, Fits}
+use Rattle.ground.specs.Lines.{tableLength, rootPlace, rangesPlace, rangePlace, relationPlace, nodePlace, partPlace, nodesIn, relationLine, nodeLine, partLine, membersIn, rangeIn, NodeFits, RangeFits, Fits}
 use Rattle.ground.specs.Numbers.{rowValues}
 use Rattle.ground.specs.Of.{IsPart, noPart as noTreePart, IsRelation, IsNode, Is}
 use Rattle.ground.specs.declared.NodeLine.{NodeLine}
 use Rattle.ground.specs.declared.PartLine.{PartLine}
-use Rattle.layout.specs.Laid.{RelationsFit, Inputs, Starts, Small, numberLimit}
-use Rattle.layout.specs.StartsAre.{count-is, node-is, many-are, in-parts}
+use Rattle.layout.specs.Laid.{rangeBy, RangesFit, RangesAre, countAt, RelationsFit, Inputs, Starts, Small, numberLimit}
+use Rattle.layout.specs.SortLaws.{sort-within, part-sorted}
+use Rattle.layout.specs.StartsAre.{count-is, node-is, many-are, node-sort, count-of, in-parts}
 use Rattle.layout.specs.declared.Relations.{Relations}
+use Rattle.layout.specs.declared.Ranges.{Ranges}
 use Rattle.layout.specs.declared.Layout.{Layout}
-use Rattle.layout.specs.Filled.{relationsPlace, nodesPlace, partsPlace, nodeLength, splice, tab, relationNumbers, relationEnd, rangeStart, rangeCount, nodeFrom, nodeEnd, nodeNumbers, partNumbers, relationLines, nodeLines, partLines, tableOf, Filled}
-use Rattle.layout.specs.SpliceLaws.{ZeroFrom, length-splice, read-in, read-before, read-after, read-from, zeros-after, length-tab, tab-at, lines-at, end-at, tab-most, append-most, each-most}
+use Rattle.layout.specs.Filled.{relationsPlace, nodesPlace, partsPlace, nodeLength, splice, tab, relationNumbers, relationEnd, rangeStart, rangeCount, nodeFrom, nodeEnd, nodeNumbers, partNumbers, relationLines, nodeLines, partLines, withRanges, tableOf, Filled}
+use Rattle.layout.specs.SpliceLaws.{ZeroFrom, length-splice, read-in, read-before, read-from, zeros-after, length-tab, tab-at, lines-at, end-at, tab-most, append-most, each-most}
 use Rattle.layout.specs.PartLaws.{length-part, lineOf, part-is}
+use Rattle.layout.specs.RangeLaws.{length-ranges, before-ranges, in-ranges, ranges-low, map-places}
 
 -- ---- lengths of lines
 pub length-relation : (g : Relations) (l : Layout) (r : ℕ) → length (relationNumbers g l r) ≡ 5
@@ -43,9 +45,9 @@ pub length-relation-end : (l : Layout) (r : ℕ) → length (relationEnd l r) �
 unfolding relationEnd
 length-relation-end l r = refl
 
-pub length-node : (n : ℕ) (t : Nodes) (l : Layout) (v : ℕ) → length (nodeNumbers n t l v) ≡ nodeLength
+pub length-node : (counts : List ℕ) (t : Nodes) (l : Layout) (v : ℕ) → length (nodeNumbers counts t l v) ≡ nodeLength
 unfolding nodeFrom
-length-node n t l v = refl
+length-node counts t l v = refl
 
 pub length-node-end : (l : Layout) (v : ℕ) → length (nodeEnd l v) ≡ nodeLength
 unfolding nodeEnd
@@ -91,16 +93,6 @@ taken zero ls e = omega arith
 taken (suc k) [] e = absurd (omega arith)
 taken (suc k) (x ∷ ls) e = let q = taken k ls (omega arith) in omega arith
 
-map-below : (f : ℕ → ℕ) (n : ℕ) → ((i : ℕ) → i < n → f i ≡ i) → map f (below n) ≡ below n
-unfolding below from
-map-below f n h = each-same n 0 (λ i l. h (0 + i) (omega arith))
-  where
-    each-same : (k a : ℕ) → ((i : ℕ) → i < k → f (a + i) ≡ a + i) → map f (from a k) ≡ from a k
-    each-same zero a h = refl
-    each-same (suc k) a h =
-        let z : a + 0 ≡ a = omega arith in
-        ap₂ {C = List ℕ} _∷_ (rw z at (h 0 (omega arith))) (each-same k (suc a) (λ i l. let e : suc a + i ≡ a + suc i = omega arith in rw e (h (suc i) (omega arith))))
-
 -- ---- the head of one part among those of a node
 heads-at : (ps : List PartRow) (m : ℕ) (qs : List Part) → map headIn (take m ps) ≡ map headOf qs → (i : ℕ) → i < length qs → headIn (getD ps i noPart) ≡ headOf (getD qs i noTreePart)
 heads-at ps m [] e i h = absurd (omega arith)
@@ -136,7 +128,7 @@ line-fits act node range count placed x h f = record { width = f .width; levels 
     four-levels ls h (suc (suc (suc (suc i)))) = omega arith
 
 none-fits : (placed : ℕ) → RowFits placed noNode
-none-fits placed = record { width = omega arith; levels = λ i. omega arith; level = omega arith; parts = omega arith }
+none-fits placed = record { width = omega arith; levels = λ i. omega arith; level = omega arith; sort = omega arith; parts = omega arith }
 
 zeros-at : (k j : ℕ) → getD (replicate {A = ℕ} k 0) j 0 ≡ 0
 zeros-at zero j = refl
@@ -150,15 +142,15 @@ end-zero l v zero h = absurd (omega arith)
 end-zero l v (suc zero) h = absurd (omega arith)
 end-zero l v (suc (suc j)) h = zeros-at 11 j
 
-module _ (n : ℕ) (g : Relations) (t : Nodes) (l : Layout) (d : List ℕ) (len : length d ≡ tableLength) (zeros : Most d 0) (fg : RelationsFit g) (ft : TreeFits t) (some : 0 < n) (small : n ≤ 64) where
+module _ (n : ℕ) (ws : List ℕ) (types : ℕ) (ranges : Ranges) (g : Relations) (t : Nodes) (l : Layout) (d : List ℕ) (len : length d ≡ tableLength) (zeros : Most d 0) (ty : types ≤ 8) (fr : RangesFit n ranges) (fg : RelationsFit g) (ft : TreeFits t) (some : 0 < n) (small : n ≤ 64) where
   abbrev R : List ℕ
   R = relationLines g l
 
   abbrev N : List ℕ
-  N = nodeLines n t l
+  N = nodeLines (ranges .count) t l
 
   abbrev P : List ℕ
-  P = partLines n t l
+  P = partLines n (ranges .top) t l
 
   abbrev T₀ : List ℕ
   T₀ = set (set (set d 0 n) 1 (g .count)) 2 (t .count)
@@ -173,13 +165,13 @@ module _ (n : ℕ) (g : Relations) (t : Nodes) (l : Layout) (d : List ℕ) (len 
   T₃ = splice partsPlace P T₂
 
   abbrev Q : List ℕ
-  Q = partNumbers n l (t .root)
+  Q = partNumbers n (ranges .top) l (t .root)
 
   abbrev T₄ : List ℕ
   T₄ = splice rootPlace Q T₃
 
   abbrev T : List ℕ
-  T = splice rangesPlace (below n) T₄
+  T = withRanges rangesPlace n ws types T₄
 
   -- ---- lengths
   length-R : length R ≡ 5 * g .count + 5
@@ -191,15 +183,15 @@ module _ (n : ℕ) (g : Relations) (t : Nodes) (l : Layout) (d : List ℕ) (len 
   length-N : length N ≡ nodeLength * t .count + nodeLength
   unfolding nodeLines
   length-N =
-      length-append (tab (nodeNumbers n t l) (t .count)) (nodeEnd l (t .count))
-      ∙ ap₂ (λ (x y : ℕ). x + y) (length-tab (nodeNumbers n t l) nodeLength (length-node n t l) (t .count)) (length-node-end l (t .count))
+      length-append (tab (nodeNumbers (ranges .count) t l) (t .count)) (nodeEnd l (t .count))
+      ∙ ap₂ (λ (x y : ℕ). x + y) (length-tab (nodeNumbers (ranges .count) t l) nodeLength (length-node (ranges .count) t l) (t .count)) (length-node-end l (t .count))
 
   length-P : length P ≡ 5 * t .placed
   unfolding partLines
-  length-P = length-tab (λ (i : ℕ). partNumbers n l (getD (t .parts) i noPart)) 5 (λ i. length-part n (l .rel) (l .neg) (l .node) (getD (t .parts) i noPart)) (t .placed)
+  length-P = length-tab (λ (i : ℕ). partNumbers n (ranges .top) l (getD (t .parts) i noPart)) 5 (λ i. length-part n (ranges .top) (l .rel) (l .neg) (l .node) (getD (t .parts) i noPart)) (t .placed)
 
   length-Q : length Q ≡ 5
-  length-Q = length-part n (l .rel) (l .neg) (l .node) (t .root)
+  length-Q = length-part n (ranges .top) (l .rel) (l .neg) (l .node) (t .root)
 
   length-T₀ : length T₀ ≡ tableLength
   length-T₀ = length-set (set (set d 0 n) 1 (g .count)) 2 (t .count) ∙ length-set (set d 0 n) 1 (g .count) ∙ length-set d 0 n ∙ len
@@ -228,11 +220,11 @@ module _ (n : ℕ) (g : Relations) (t : Nodes) (l : Layout) (d : List ℕ) (len 
   length-T₄ : length T₄ ≡ tableLength
   length-T₄ = length-splice rootPlace Q T₃ room₄ ∙ length-T₃
 
-  room₅ : rangesPlace + length (below n) ≤ length T₄
-  room₅ = omega (arith, length-below n, length-T₄, small)
+  room₅ : rangesPlace + 64 * types + 64 ≤ length T₄
+  room₅ = omega (arith, length-T₄, ty)
 
   length-T : length T ≡ tableLength
-  length-T = length-splice rangesPlace (below n) T₄ room₅ ∙ length-T₄
+  length-T = length-ranges rangesPlace n ws small types T₄ room₅ ∙ length-T₄
 
   -- ---- zeros where nothing was written yet
   zero-T₀ : ZeroFrom relationsPlace T₀
@@ -255,24 +247,27 @@ module _ (n : ℕ) (g : Relations) (t : Nodes) (l : Layout) (d : List ℕ) (len 
   -- ---- what stands where
   in-R : (j : ℕ) → j < 90 → getD T (relationsPlace + j) 0 ≡ getD R j 0
   in-R j h =
-      read-before rangesPlace (below n) T₄ room₅ (relationsPlace + j) (omega arith) ∙ read-before rootPlace Q T₃ room₄ (relationsPlace + j) (omega arith) ∙ read-before partsPlace P T₂ room₃ (relationsPlace + j) (omega arith) ∙ read-before nodesPlace N T₁ room₂ (relationsPlace + j) (omega arith)
+      before-ranges rangesPlace n ws small types T₄ room₅ (relationsPlace + j) (omega arith) ∙ read-before rootPlace Q T₃ room₄ (relationsPlace + j) (omega arith) ∙ read-before partsPlace P T₂ room₃ (relationsPlace + j) (omega arith) ∙ read-before nodesPlace N T₁ room₂ (relationsPlace + j) (omega arith)
       ∙ read-from relationsPlace R T₀ room₁ zero-T₀ j
 
   in-N : (j : ℕ) → j < 845 → getD T (nodesPlace + j) 0 ≡ getD N j 0
-  in-N j h = read-before rangesPlace (below n) T₄ room₅ (nodesPlace + j) (omega arith) ∙ read-before rootPlace Q T₃ room₄ (nodesPlace + j) (omega arith) ∙ read-before partsPlace P T₂ room₃ (nodesPlace + j) (omega arith) ∙ read-from nodesPlace N T₁ room₂ zero-T₁ j
+  in-N j h = before-ranges rangesPlace n ws small types T₄ room₅ (nodesPlace + j) (omega arith) ∙ read-before rootPlace Q T₃ room₄ (nodesPlace + j) (omega arith) ∙ read-before partsPlace P T₂ room₃ (nodesPlace + j) (omega arith) ∙ read-from nodesPlace N T₁ room₂ zero-T₁ j
 
   in-P : (j : ℕ) → j < 320 → getD T (partsPlace + j) 0 ≡ getD P j 0
-  in-P j h = read-before rangesPlace (below n) T₄ room₅ (partsPlace + j) (omega arith) ∙ read-before rootPlace Q T₃ room₄ (partsPlace + j) (omega arith) ∙ read-from partsPlace P T₂ room₃ zero-T₂ j
+  in-P j h = before-ranges rangesPlace n ws small types T₄ room₅ (partsPlace + j) (omega arith) ∙ read-before rootPlace Q T₃ room₄ (partsPlace + j) (omega arith) ∙ read-from partsPlace P T₂ room₃ zero-T₂ j
 
   in-Q : (j : ℕ) → j < 5 → getD T (rootPlace + j) 0 ≡ getD Q j 0
-  in-Q j h = read-before rangesPlace (below n) T₄ room₅ (rootPlace + j) (omega arith) ∙ read-in rootPlace Q T₃ room₄ j (omega (arith, length-Q))
+  in-Q j h = before-ranges rangesPlace n ws small types T₄ room₅ (rootPlace + j) (omega arith) ∙ read-in rootPlace Q T₃ room₄ j (omega (arith, length-Q))
 
-  in-M : (j : ℕ) → j < n → getD T (rangesPlace + j) 0 ≡ j
-  in-M j h = read-in rangesPlace (below n) T₄ room₅ j (omega (arith, length-below n)) ∙ getD-below n j h
+  in-M : (s i : ℕ) → s ≤ types → i < length (rangeBy n ws s) → getD T (rangePlace s + i) 0 ≡ getD (rangeBy n ws s) i 0
+  in-M = in-ranges rangesPlace n ws small types T₄ room₅
+
+  low-M : (i : ℕ) → rangesPlace ≤ i → getD T i 0 < n
+  low-M = ranges-low rangesPlace n ws small types T₄ room₅ some zero-T₄
 
   at-head : (i : ℕ) → i < 3 → getD T i 0 ≡ getD T₀ i 0
   at-head i h =
-      read-before rangesPlace (below n) T₄ room₅ i (omega arith) ∙ read-before rootPlace Q T₃ room₄ i (omega arith) ∙ read-before partsPlace P T₂ room₃ i (omega arith) ∙ read-before nodesPlace N T₁ room₂ i (omega arith) ∙ read-before relationsPlace R T₀ room₁ i h
+      before-ranges rangesPlace n ws small types T₄ room₅ i (omega arith) ∙ read-before rootPlace Q T₃ room₄ i (omega arith) ∙ read-before partsPlace P T₂ room₃ i (omega arith) ∙ read-before nodesPlace N T₁ room₂ i (omega arith) ∙ read-before relationsPlace R T₀ room₁ i h
 
   size-at : getD T 0 0 ≡ n
   size-at =
@@ -301,23 +296,23 @@ module _ (n : ℕ) (g : Relations) (t : Nodes) (l : Layout) (d : List ℕ) (len 
   relation-past j i k e =
       ap (λ (x : ℕ). getD T x 0) e ∙ in-R (5 * g .count + j) k ∙ end-at (relationNumbers g l) 5 (length-relation g l) (g .count) (relationEnd l (g .count)) j
 
-  node-at : (v j i : ℕ) → v < t .count → j < nodeLength → i ≡ nodesPlace + (nodeLength * v + j) → getD T i 0 ≡ getD (nodeNumbers n t l v) j 0
+  node-at : (v j i : ℕ) → v < t .count → j < nodeLength → i ≡ nodesPlace + (nodeLength * v + j) → getD T i 0 ≡ getD (nodeNumbers (ranges .count) t l v) j 0
   unfolding nodeLines
   node-at v j i h k e =
       ap (λ (x : ℕ). getD T x 0) e ∙ in-N (nodeLength * v + j) (omega (arith, ft .few))
-      ∙ lines-at (nodeNumbers n t l) nodeLength (length-node n t l) (t .count) (nodeEnd l (t .count)) v j h k
+      ∙ lines-at (nodeNumbers (ranges .count) t l) nodeLength (length-node (ranges .count) t l) (t .count) (nodeEnd l (t .count)) v j h k
 
   -- from the line past the last node on
   node-past : (j i : ℕ) → nodeLength * t .count + j < 845 → i ≡ nodesPlace + (nodeLength * t .count + j) → getD T i 0 ≡ getD (nodeEnd l (t .count)) j 0
   unfolding nodeLines
   node-past j i k e =
-      ap (λ (x : ℕ). getD T x 0) e ∙ in-N (nodeLength * t .count + j) k ∙ end-at (nodeNumbers n t l) nodeLength (length-node n t l) (t .count) (nodeEnd l (t .count)) j
+      ap (λ (x : ℕ). getD T x 0) e ∙ in-N (nodeLength * t .count + j) k ∙ end-at (nodeNumbers (ranges .count) t l) nodeLength (length-node (ranges .count) t l) (t .count) (nodeEnd l (t .count)) j
 
-  part-at : (k j i : ℕ) → k < t .placed → j < 5 → i ≡ partsPlace + (5 * k + j) → getD T i 0 ≡ getD (partNumbers n l (getD (t .parts) k noPart)) j 0
+  part-at : (k j i : ℕ) → k < t .placed → j < 5 → i ≡ partsPlace + (5 * k + j) → getD T i 0 ≡ getD (partNumbers n (ranges .top) l (getD (t .parts) k noPart)) j 0
   unfolding partLines
   part-at k j i h q e =
       ap (λ (x : ℕ). getD T x 0) e ∙ in-P (5 * k + j) (omega (arith, ft .few-parts))
-      ∙ tab-at (λ (i : ℕ). partNumbers n l (getD (t .parts) i noPart)) 5 (λ i. length-part n (l .rel) (l .neg) (l .node) (getD (t .parts) i noPart)) (t .placed) k j h q
+      ∙ tab-at (λ (i : ℕ). partNumbers n (ranges .top) l (getD (t .parts) i noPart)) 5 (λ i. length-part n (ranges .top) (l .rel) (l .neg) (l .node) (getD (t .parts) i noPart)) (t .placed) k j h q
 
   root-at : (j i : ℕ) → j < 5 → i ≡ rootPlace + j → getD T i 0 ≡ getD Q j 0
   root-at j i h e = ap (λ (x : ℕ). getD T x 0) e ∙ in-Q j h
@@ -385,20 +380,26 @@ module _ (n : ℕ) (g : Relations) (t : Nodes) (l : Layout) (d : List ℕ) (len 
         at 12 (nodePlace v + 12) (omega arith) (omega arith) (omega arith),
       ) refl
 
-  line-is : (v : ℕ) → v < t .count
-      → nodeLine T v ≡ lineFrom (getD (l .act) v 0) (getD (l .node) v 0) (rangeStart (getD (t .rows) v noNode .kind)) (rangeCount n (getD (t .rows) v noNode .kind)) (getD (t .rows) v noNode)
+  -- where the range of node v starts, and how many elements it has
+  abbrev startAt : ℕ → ℕ
+  startAt v = rangeStart (getD (t .rows) v noNode .kind) (getD (t .rows) v noNode .sort)
+
+  abbrev lengthAt : ℕ → ℕ
+  lengthAt v = rangeCount (countAt (ranges .count) t v) (getD (t .rows) v noNode .kind)
+
+  line-is : (v : ℕ) → v < t .count → nodeLine T v ≡ lineFrom (getD (l .act) v 0) (getD (l .node) v 0) (startAt v) (lengthAt v) (getD (t .rows) v noNode)
   unfolding nodeFrom
   line-is v h =
       let x = getD (t .rows) v noNode in
-      line-by v (rangeStart (x .kind)) (rangeCount n (x .kind)) x (nodeNumbers n t l v) (λ j i q. node-at v j i h) (getD (l .act) v 0) (getD (l .node) v 0) refl
-      ∙ ap₂ (λ (a b : ℕ). lineFrom a b (rangeStart (x .kind)) (rangeCount n (x .kind)) x) (acts-at v (omega arith)) (atoms-at v (omega arith))
+      line-by v (startAt v) (lengthAt v) x (nodeNumbers (ranges .count) t l v) (λ j i q. node-at v j i h) (getD (l .act) v 0) (getD (l .node) v 0) refl
+      ∙ ap₂ (λ (a b : ℕ). lineFrom a b (startAt v) (lengthAt v) x) (acts-at v (omega arith)) (atoms-at v (omega arith))
 
   line-past : (v : ℕ) → t .count ≤ v → v < 64 → nodeLine T v ≡ lineFrom (nodeLine T v .acts) (nodeLine T v .atoms) 0 0 noNode
   line-past v h k =
       line-by v 0 0 noNode (replicate 13 0)
       (λ j i a b e. node-past (nodeLength * (v - t .count) + j) i (omega arith) (omega arith) ∙ end-zero l (t .count) (nodeLength * (v - t .count) + j) (omega arith) ∙ sym (zeros-at 13 j)) 0 0 refl
 
-  part-line : (k : ℕ) → k < t .placed → partLine T k ≡ lineOf (partNumbers n l (getD (t .parts) k noPart))
+  part-line : (k : ℕ) → k < t .placed → partLine T k ≡ lineOf (partNumbers n (ranges .top) l (getD (t .parts) k noPart))
   unfolding partLine
   part-line k h =
       rw (
@@ -421,8 +422,8 @@ module _ (n : ℕ) (g : Relations) (t : Nodes) (l : Layout) (d : List ℕ) (len 
       ) refl
 
   -- ---- ranges
-  module _ (sl : Small l numberLimit) (nm : (v : ℕ) → v < t .count → Most (nodeNumbers n t l v) (2 ^ 32))
-      (pm : (i : ℕ) → i < t .placed → Most (partNumbers n l (getD (t .parts) i noPart)) (2 ^ 32)) (rm : Most (partNumbers n l (t .root)) (2 ^ 32)) where
+  module _ (sl : Small l numberLimit) (nm : (v : ℕ) → v < t .count → Most (nodeNumbers (ranges .count) t l v) (2 ^ 32))
+      (pm : (i : ℕ) → i < t .placed → Most (partNumbers n (ranges .top) l (getD (t .parts) i noPart)) (2 ^ 32)) (rm : Most (partNumbers n (ranges .top) l (t .root)) (2 ^ 32)) where
     most-R : Most R (2 ^ 32)
     unfolding relationLines
     most-R =
@@ -430,11 +431,11 @@ module _ (n : ℕ) (g : Relations) (t : Nodes) (l : Layout) (d : List ℕ) (len 
 
     most-N : Most N (2 ^ 32)
     unfolding nodeLines
-    most-N = append-most (tab (nodeNumbers n t l) (t .count)) (nodeEnd l (t .count)) (2 ^ 32) (tab-most (nodeNumbers n t l) (t .count) (2 ^ 32) nm) (node-end-most l (t .count) sl)
+    most-N = append-most (tab (nodeNumbers (ranges .count) t l) (t .count)) (nodeEnd l (t .count)) (2 ^ 32) (tab-most (nodeNumbers (ranges .count) t l) (t .count) (2 ^ 32) nm) (node-end-most l (t .count) sl)
 
     most-P : Most P (2 ^ 32)
     unfolding partLines
-    most-P = tab-most (λ (i : ℕ). partNumbers n l (getD (t .parts) i noPart)) (t .placed) (2 ^ 32) pm
+    most-P = tab-most (λ (i : ℕ). partNumbers n (ranges .top) l (getD (t .parts) i noPart)) (t .placed) (2 ^ 32) pm
 
     head-most : (i : ℕ) → i < 3 → getD T i 0 ≤ 2 ^ 32
     head-most zero h = let e = size-at in omega arith
@@ -443,14 +444,7 @@ module _ (n : ℕ) (g : Relations) (t : Nodes) (l : Layout) (d : List ℕ) (len 
     head-most (suc (suc (suc i))) h = absurd (omega arith)
 
     range-most : (j : ℕ) → getD T (rangesPlace + j) 0 ≤ 2 ^ 32
-    range-most j = in-range (decLt j n)
-      where
-        in-range : Dec (j < n) → getD T (rangesPlace + j) 0 ≤ 2 ^ 32
-        in-range (yes h) = let e = in-M j h in omega arith
-        in-range (no h) =
-            let e = read-after rangesPlace (below n) T₄ room₅ (rangesPlace + j) (omega (arith, length-below n)) in
-            let z = zero-T₄ (rangesPlace + j) (omega arith) in
-            omega arith
+    range-most j = omega (arith, low-M (rangesPlace + j) (omega arith))
 
     entry : (i : ℕ) → getD T i 0 ≤ 2 ^ 32
     entry i = go (decLt i relationsPlace) (decLt i nodesPlace) (decLt i partsPlace) (decLt i rootPlace) (decLt i rangesPlace) (decLt i tableLength)
@@ -481,27 +475,34 @@ module _ (n : ℕ) (g : Relations) (t : Nodes) (l : Layout) (d : List ℕ) (len 
         go (yes q) = subst NodeFits (sym (line-is v q)) (line-fits _ _ _ _ (t .placed) (getD (t .rows) v noNode) (ft .few-parts) (ft .nodes .node v))
         go (no q) = subst NodeFits (sym (line-past v (omega arith) h)) (line-fits _ _ _ _ (t .placed) noNode (ft .few-parts) (none-fits (t .placed)))
 
-    -- the range of a node is in the table, and that of all elements
+    -- the range of a node is in the table, its members are elements, and the first range has all of them
     whole-range : membersIn T rangesPlace n ≡ below n
-    unfolding membersIn
-    whole-range = map-below (λ i. getD T (rangesPlace + i) 0) n in-M
+    unfolding membersIn rangeBy
+    whole-range =
+        let e = length-below n in
+        rw e at (map-places (λ i. getD T (rangesPlace + i) 0) (below n) (λ i h. let z : rangePlace 0 + i ≡ rangesPlace + i = omega arith in rw z at (in-M 0 i (omega arith) h)))
 
     abbrev FitsAt : NodeLine → Type 0
     FitsAt x = RangeFits T x
 
-    kind-range : (act node kind : ℕ) (x : NodeRow) → FitsAt (lineFrom act node (rangeStart kind) (rangeCount n kind) x)
+    kind-range : (act node kind sort count : ℕ) (x : NodeRow) → sort ≤ 8 → count ≤ 64 → (sort ≡ 0 → count ≡ n) → FitsAt (lineFrom act node (rangeStart kind sort) (rangeCount count kind) x)
     unfolding rangeStart rangeCount
-    kind-range act node kind x = by-test (ltb kind 2)
+    kind-range act node kind sort count x a b e = by-test (ltb kind 2)
       where
-        by-test : (b : Bool) → FitsAt (lineFrom act node (if b then rangesPlace else 0) (if b then n else 0) x)
-        by-test true = record { inside = omega arith; member = λ i h. rw (in-M i h, size-at) h; whole = λ e. rw size-at whole-range }
-        by-test false = record { inside = omega arith; member = λ i h. absurd (omega arith); whole = λ e. absurd (omega arith) }
+        by-test : (q : Bool) → FitsAt (lineFrom act node (if q then rangePlace sort else 0) (if q then count else 0) x)
+        by-test true = record {
+          inside = omega arith;
+          member = λ i h. rw size-at (low-M (rangePlace sort + i) (omega arith));
+          whole = λ z. let o : sort ≡ 0 = omega arith in rw (z, e o, size-at) whole-range;
+        }
+        by-test false = record { inside = omega arith; member = λ i h. absurd (omega arith); whole = λ z. absurd (omega arith) }
 
     range-fits : (v : ℕ) → v < 64 → RangeFits T (nodeLine T v)
     range-fits v h = by-place (decLt v (t .count))
       where
         by-place : Dec (v < t .count) → RangeFits T (nodeLine T v)
-        by-place (yes q) = subst (RangeFits T) (sym (line-is v q)) (kind-range _ _ (getD (t .rows) v noNode .kind) (getD (t .rows) v noNode))
+        by-place (yes q) = subst (RangeFits T) (sym (line-is v q)) (kind-range _ _ (getD (t .rows) v noNode .kind) (getD (t .rows) v noNode .sort) (countAt (ranges .count) t v) (getD (t .rows) v noNode)
+            (ft .nodes .node v .sort) (fr .count (getD (t .rows) v noNode .sort)) (λ e. ap (λ (s : ℕ). getD (ranges .count) s 0) e ∙ fr .whole))
         by-place (no q) = subst (RangeFits T) (sym (line-past v (omega arith) h)) (record { inside = omega arith; member = λ i h. absurd (omega arith); whole = λ e. absurd (omega arith) })
 
     fits : Fits T
@@ -518,21 +519,22 @@ module _ (n : ℕ) (g : Relations) (t : Nodes) (l : Layout) (d : List ℕ) (len 
         }
 
 -- ---- of the problem
-module _ (p : Problem) (g : Relations) (t : Nodes) (l : Layout) (d : List ℕ) (len : length d ≡ tableLength) (zeros : Most d 0) (fg : RelationsFit g) (ft : TreeFits t) (some : 0 < p .size) (small : p .size ≤ 64) (inputs : Inputs p (p .size) g t) (starts : Starts p l) where
+module _ (p : Problem) (ws : List ℕ) (types : ℕ) (ranges : Ranges) (g : Relations) (t : Nodes) (l : Layout) (d : List ℕ) (len : length d ≡ tableLength) (zeros : Most d 0) (ty : types ≤ 8) (fr : RangesFit (p .size) ranges) (fg : RelationsFit g) (ft : TreeFits t) (some : 0 < p .size) (small : p .size ≤ 64)
+    (ra : RangesAre (p .size) ws types ranges) (inputs : Inputs p (p .size) ws types g t) (starts : Starts p l) where
   abbrev W : List ℕ
-  W = T (p .size) g t l d len zeros fg ft some small
+  W = T (p .size) ws types ranges g t l d len zeros ty fr fg ft some small
 
   counted : t .count ≡ length (p .nodeList)
-  counted = count-is p g t inputs
+  counted = count-is p ws types g t inputs
 
   relation-of : (r : ℕ) → r < length (p .relations) → IsRelation p r (relationLine W r)
   relation-of r h =
       let b : r < g .count = omega (arith, inputs .count) in
       record {
-        tuples = tuples-at (p .size) g t l d len zeros fg ft some small r b ∙ starts .rel r (omega arith);
-        nots = nots-at (p .size) g t l d len zeros fg ft some small r b ∙ starts .neg r h;
-        free = free-at (p .size) g t l d len zeros fg ft some small r b ∙ starts .dom r h;
-        kind = kind-at (p .size) g t l d len zeros fg ft some small r b ∙ inputs .kind r b;
+        tuples = tuples-at (p .size) ws types ranges g t l d len zeros ty fr fg ft some small r b ∙ starts .rel r (omega arith);
+        nots = nots-at (p .size) ws types ranges g t l d len zeros ty fr fg ft some small r b ∙ starts .neg r h;
+        free = free-at (p .size) ws types ranges g t l d len zeros ty fr fg ft some small r b ∙ starts .dom r h;
+        kind = kind-at (p .size) ws types ranges g t l d len zeros ty fr fg ft some small r b ∙ inputs .kind r b;
       }
 
   values-of : (v row act node range count : ℕ) (u : Tree) (x : NodeRow) (ps : List PartRow) → IsRow v u x ps → x .width ≤ 4 → rowValues (p .size) (lineFrom act node range count x) row ≡ valuesAt (p .size) u row
@@ -541,71 +543,97 @@ module _ (p : Problem) (g : Relations) (t : Nodes) (l : Layout) (d : List ℕ) (
       let a : length (take (x .width) (x .levels)) ≡ x .width = ap length (i .levels) ∙ sym (i .width) in
       ap₂ (λ (ls : List ℕ) (k : ℕ). valuesIn ls (placesOf (p .size) k row)) (four-take (x .width) (x .levels) h (taken (x .width) (x .levels) a) ∙ i .levels) (i .width)
 
-  range-of : (kind act node : ℕ) (x : NodeRow) (σ : ℕ) → kind < 2 → rangeIn W (lineFrom act node (rangeStart kind) (rangeCount (p .size) kind) x) ≡ p .range σ
-  unfolding rangeStart rangeCount membersIn
-  range-of kind act node x σ h =
-      rw (lt-ltb kind 2 h) (map-below (λ i. getD W (rangesPlace + i) 0) (p .size) (in-M (p .size) g t l d len zeros fg ft some small) ∙ sym (inputs .ranges σ))
+  -- what stands in the table as a range is the problem's
+  range-is : (σ : ℕ) → σ ≤ types → membersIn W (rangePlace σ) (length (p .range σ)) ≡ p .range σ
+  unfolding membersIn
+  range-is σ h = rw (inputs .ranges σ h) (map-places (λ i. getD W (rangePlace σ + i) 0) (rangeBy (p .size) ws σ) (λ i q. in-M (p .size) ws types ranges g t l d len zeros ty fr fg ft some small σ i h q))
+
+  range-of : (kind act node sort count : ℕ) (x : NodeRow) (σ : ℕ) → kind < 2 → σ ≤ types → sort ≡ σ → count ≡ length (p .range σ) → rangeIn W (lineFrom act node (rangeStart kind sort) (rangeCount count kind) x) ≡ p .range σ
+  unfolding rangeStart rangeCount
+  range-of kind act node sort count x σ h b e q = rw (lt-ltb kind 2 h, e, q) (range-is σ b)
+
+  top-is : (s : ℕ) → s ≤ types → getD (ranges .top) s 0 ≡ greatest (p .range s)
+  top-is s h = ra .top s h ∙ ap greatest (sym (inputs .ranges s h))
 
   node-of : (v : ℕ) → v < length (p .nodeList) → IsNode p W v (nodeAt p v) (nodeLine W v)
   node-of v h =
       let b : v < t .count = omega (arith, counted) in
       let x = getD (t .rows) v noNode in
-      let i = node-is p g t inputs v b in
-      let m : x .many ≡ length (parts v (nodeAt p v)) = many-are v (nodeAt p v) x (t .parts) i (in-parts p g t inputs ft v) in
-      subst (IsNode p W v (nodeAt p v)) (sym (line-is (p .size) g t l d len zeros fg ft some small v b))
+      let i = node-is p ws types g t inputs v b in
+      let o = node-sort p ws types g t inputs v b in
+      let m : x .many ≡ length (parts v (nodeAt p v)) = many-are v (nodeAt p v) x (t .parts) i (in-parts p ws types g t inputs ft v) in
+      subst (IsNode p W v (nodeAt p v)) (sym (line-is (p .size) ws types ranges g t l d len zeros ty fr fg ft some small v b))
       (record {
         atoms = starts .node v (omega arith);
         kind = i .kind;
         level = i .level;
         values = λ row. values-of v row _ _ _ _ (nodeAt p v) x (t .parts) i (ft .nodes .node v .width);
         many = m;
-        range = λ q. range-of (x .kind) (getD (l .act) v 0) (getD (l .node) v 0) x (nodeSort (nodeAt p v)) (subst (λ (k : ℕ). k < 2) (sym (i .kind)) q);
+        range = λ q. range-of (x .kind) (getD (l .act) v 0) (getD (l .node) v 0) (x .sort) (countAt (ranges .count) t v) x (nodeSort (nodeAt p v)) (subst (λ (k : ℕ). k < 2) (sym (i .kind)) q)
+            (sort-within types (nodeAt p v) o) (i .sort) (count-of p ws types g t inputs ranges ra v b);
         part = λ k q.
             let c : x .first + k < t .placed = omega (arith, ft .nodes .node v .parts, m) in
-            subst (λ (y : PartLine). IsPart p y (getD (parts v (nodeAt p v)) k noTreePart .node) (getD (parts v (nodeAt p v)) k noTreePart .tree)) (sym (part-line (p .size) g t l d len zeros fg ft some small (x .first + k) c))
-            (part-is p l starts (inputs .ranges) (g .count) (t .count) (inputs .count) counted (getD (t .parts) (x .first + k) noPart) (getD (parts v (nodeAt p v)) k noTreePart .node) (getD (parts v (nodeAt p v)) k noTreePart .tree)
-            (ft .parts .part (x .first + k)) (inputs .tree .within (x .first + k))
+            subst (λ (y : PartLine). IsPart p y (getD (parts v (nodeAt p v)) k noTreePart .node) (getD (parts v (nodeAt p v)) k noTreePart .tree)) (sym (part-line (p .size) ws types ranges g t l d len zeros ty fr fg ft some small (x .first + k) c))
+            (part-is p l starts (ranges .top) types top-is (g .count) (t .count) (inputs .count) counted (getD (t .parts) (x .first + k) noPart) (getD (parts v (nodeAt p v)) k noTreePart .node) (getD (parts v (nodeAt p v)) k noTreePart .tree)
+            (part-sorted types v (nodeAt p v) o k q) (ft .parts .part (x .first + k)) (inputs .tree .within (x .first + k))
             (ap headIn (sym (getD-drop (x .first) (t .parts) k noPart)) ∙ heads-at (drop (x .first) (t .parts)) (x .many) (parts v (nodeAt p v)) (i .parts) k q));
       })
 
   is-of : Is p W
   is-of =
       record {
-        size = size-at (p .size) g t l d len zeros fg ft some small;
+        size = size-at (p .size) ws types ranges g t l d len zeros ty fr fg ft some small;
         element = some;
-        ranges = λ s. subst (IsRange (p .size)) (sym (inputs .ranges s)) (below-range (p .size) some);
-        relations = relations-at (p .size) g t l d len zeros fg ft some small ∙ inputs .count;
-        nodes = nodes-at (p .size) g t l d len zeros fg ft some small ∙ counted;
-        sets = λ r h. sets-at (p .size) g t l d len zeros fg ft some small r (omega (arith, inputs .count)) ∙ starts .set r h;
+        ranges = inputs .ranged;
+        relations = relations-at (p .size) ws types ranges g t l d len zeros ty fr fg ft some small ∙ inputs .count;
+        nodes = nodes-at (p .size) ws types ranges g t l d len zeros ty fr fg ft some small ∙ counted;
+        sets = λ r h. sets-at (p .size) ws types ranges g t l d len zeros ty fr fg ft some small r (omega (arith, inputs .count)) ∙ starts .set r h;
         relation = relation-of;
-        acts = λ v h. acts-at (p .size) g t l d len zeros fg ft some small v (omega (arith, counted)) ∙ starts .act v h;
+        acts = λ v h. acts-at (p .size) ws types ranges g t l d len zeros ty fr fg ft some small v (omega (arith, counted)) ∙ starts .act v h;
         node = node-of;
-        root = subst (λ (y : PartLine). IsPart p y 0 (p .root)) (sym (root-line (p .size) g t l d len zeros fg ft some small))
-            (part-is p l starts (inputs .ranges) (g .count) (t .count) (inputs .count) counted (t .root) 0 (p .root) (ft .root) (inputs .tree .top-within) (inputs .tree .top));
+        root = subst (λ (y : PartLine). IsPart p y 0 (p .root)) (sym (root-line (p .size) ws types ranges g t l d len zeros ty fr fg ft some small))
+            (part-is p l starts (ranges .top) types top-is (g .count) (t .count) (inputs .count) counted (t .root) 0 (p .root) (inputs .sorted) (ft .root) (inputs .tree .top-within) (inputs .tree .top));
       }
 
   ends-of : nodeLine W (nodesIn W) .atoms ≡ atoms p
   ends-of =
-      let e : nodesIn W ≡ length (p .nodeList) = nodes-at (p .size) g t l d len zeros fg ft some small ∙ counted in
-      ap (λ (v : ℕ). nodeLine W v .atoms) e ∙ atoms-at (p .size) g t l d len zeros fg ft some small (length (p .nodeList)) (omega (arith, counted)) ∙ starts .node (length (p .nodeList)) (omega arith) ∙ atoms-end p
+      let e : nodesIn W ≡ length (p .nodeList) = nodes-at (p .size) ws types ranges g t l d len zeros ty fr fg ft some small ∙ counted in
+      ap (λ (v : ℕ). nodeLine W v .atoms) e ∙ atoms-at (p .size) ws types ranges g t l d len zeros ty fr fg ft some small (length (p .nodeList)) (omega (arith, counted)) ∙ starts .node (length (p .nodeList)) (omega arith) ∙ atoms-end p
 
-pub filled : (n : ℕ) (g : Relations) (t : Nodes) (l : Layout) (d w : List ℕ) → length d ≡ tableLength → Most d 0 → 0 < n → n ≤ 64 → RelationsFit g → TreeFits t → Small l numberLimit → w ≡ tableOf n g t l d
-    → ((v : ℕ) → v < t .count → Most (nodeNumbers n t l v) (2 ^ 32)) → ((i : ℕ) → i < t .placed → Most (partNumbers n l (getD (t .parts) i noPart)) (2 ^ 32)) → Most (partNumbers n l (t .root)) (2 ^ 32) → Filled n g t l w
+pub filled : (n : ℕ) (ws : List ℕ) (types : ℕ) (ranges : Ranges) (g : Relations) (t : Nodes) (l : Layout) (d w : List ℕ) → length d ≡ tableLength → Most d 0 → 0 < n → n ≤ 64 → RelationsFit g → TreeFits t → Small l numberLimit → types ≤ 8 → RangesFit n ranges → RangesAre n ws types ranges
+    → w ≡ tableOf n ws types ranges g t l d → ((v : ℕ) → v < t .count → Most (nodeNumbers (ranges .count) t l v) (2 ^ 32))
+    → ((i : ℕ) → i < t .placed → Most (partNumbers n (ranges .top) l (getD (t .parts) i noPart)) (2 ^ 32)) → Most (partNumbers n (ranges .top) l (t .root)) (2 ^ 32) → Filled n ws types g t l w
 unfolding tableOf
-filled n g t l d w len zeros some small fg ft sl e nm pm rm =
-    subst (Filled n g t l) (sym e)
+filled n ws types ranges g t l d w len zeros some small fg ft sl ty fr ra e nm pm rm =
+    subst (Filled n ws types g t l) (sym e)
     (record {
-      fits = fits n g t l d len zeros fg ft some small sl nm pm rm;
-      is = λ p i s. subst (λ (m : ℕ). Is p (tableOf m g t l d)) (sym (i .size)) (is-of p g t l d len zeros fg ft (subst (λ (m : ℕ). 0 < m) (i .size) some) (subst (λ (m : ℕ). m ≤ 64) (i .size) small) (subst (λ (m : ℕ). Inputs p m g t) (i .size) i) s);
-      ends = λ p i s. subst (λ (m : ℕ). nodeLine (tableOf m g t l d) (nodesIn (tableOf m g t l d)) .atoms ≡ atoms p) (sym (i .size)) (ends-of p g t l d len zeros fg ft (subst (λ (m : ℕ). 0 < m) (i .size) some) (subst (λ (m : ℕ). m ≤ 64) (i .size) small) (subst (λ (m : ℕ). Inputs p m g t) (i .size) i) s);
+      fits = fits n ws types ranges g t l d len zeros ty fr fg ft some small sl nm pm rm;
+      is = λ p i s. subst (λ (m : ℕ). Is p (tableOf m ws types ranges g t l d)) (sym (i .size)) (is-of p ws types ranges g t l d len zeros ty (fit p i) fg ft (some-of p i) (small-of p i) (are p i) (of p i) s);
+      ends = λ p i s. subst (λ (m : ℕ). nodeLine (tableOf m ws types ranges g t l d) (nodesIn (tableOf m ws types ranges g t l d)) .atoms ≡ atoms p) (sym (i .size))
+          (ends-of p ws types ranges g t l d len zeros ty (fit p i) fg ft (some-of p i) (small-of p i) (are p i) (of p i) s);
     })
+  where
+    fit : (p : Problem) → Inputs p n ws types g t → RangesFit (p .size) ranges
+    fit p i = subst (λ (m : ℕ). RangesFit m ranges) (i .size) fr
+
+    are : (p : Problem) → Inputs p n ws types g t → RangesAre (p .size) ws types ranges
+    are p i = subst (λ (m : ℕ). RangesAre m ws types ranges) (i .size) ra
+
+    of : (p : Problem) → Inputs p n ws types g t → Inputs p (p .size) ws types g t
+    of p i = subst (λ (m : ℕ). Inputs p m ws types g t) (i .size) i
+
+    some-of : (p : Problem) → Inputs p n ws types g t → 0 < p .size
+    some-of p i = subst (λ (m : ℕ). 0 < m) (i .size) some
+
+    small-of : (p : Problem) → Inputs p n ws types g t → p .size ≤ 64
+    small-of p i = subst (λ (m : ℕ). m ≤ 64) (i .size) small
 
 -- the table after each part is filled
 pub three-set : (d : List ℕ) (a b c : ℕ) → length (set (set (set d 0 a) 1 b) 2 c) ≡ length d
 three-set d a b c = length-set (set (set d 0 a) 1 b) 2 c ∙ length-set (set d 0 a) 1 b ∙ length-set d 0 a
 
-pub all-filled : (n : ℕ) (g : Relations) (t : Nodes) (l : Layout) (d x y z w : List ℕ) → x ≡ splice relationsPlace (relationLines g l) (set (set (set d 0 n) 1 (g .count)) 2 (t .count)) → y ≡ splice nodesPlace (nodeLines n t l) x
-    → z ≡ splice rootPlace (partNumbers n l (t .root)) (splice partsPlace (partLines n t l) y) → w ≡ splice rangesPlace (below n) z → w ≡ tableOf n g t l d
+pub all-filled : (n : ℕ) (ws : List ℕ) (types : ℕ) (ranges : Ranges) (g : Relations) (t : Nodes) (l : Layout) (d x y z w : List ℕ) → x ≡ splice relationsPlace (relationLines g l) (set (set (set d 0 n) 1 (g .count)) 2 (t .count)) → y ≡ splice nodesPlace (nodeLines (ranges .count) t l) x
+    → z ≡ splice rootPlace (partNumbers n (ranges .top) l (t .root)) (splice partsPlace (partLines n (ranges .top) t l) y) → w ≡ withRanges rangesPlace n ws types z → w ≡ tableOf n ws types ranges g t l d
 unfolding tableOf
-all-filled n g t l d x y z w a b c e =
-    e ∙ ap (splice rangesPlace (below n)) (c ∙ ap (λ (u : List ℕ). splice rootPlace (partNumbers n l (t .root)) (splice partsPlace (partLines n t l) u)) (b ∙ ap (splice nodesPlace (nodeLines n t l)) a))
+all-filled n ws types ranges g t l d x y z w a b c e =
+    e ∙ ap (withRanges rangesPlace n ws types) (c ∙ ap (λ (u : List ℕ). splice rootPlace (partNumbers n (ranges .top) l (t .root)) (splice partsPlace (partLines n (ranges .top) t l) u)) (b ∙ ap (splice nodesPlace (nodeLines (ranges .count) t l)) a))

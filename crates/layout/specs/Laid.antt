@@ -5,16 +5,20 @@ use mathlib.Core.List.{List}
 use Prim.Native.Nat.{ℕ, zero, suc, _+_, _*_, _^_, _≤_, _<_}
 use lib.Dec.{ltb}
 use lib.ListN.{length, getD}
-use Rattle.definitions.specs.Lists.{if_then_else_, below}
+use Rattle.bits.specs.Table.{bit}
+use Rattle.definitions.specs.Lists.{if_then_else_, filter, below, greatest}
 use Rattle.definitions.specs.Tree.{nodes}
 use Rattle.definitions.specs.Atoms.{Problem, relationAt, tuplesOf, relationStart, nodeStart, atoms}
 use Rattle.definitions.specs.Actions.{actions, setStart, proofStart}
 use Rattle.definitions.specs.Built.{bound}
+use Rattle.laws.specs.Members.{IsRange}
+use Rattle.laws.specs.Sorts.{Sorted}
 use Rattle.tree.specs.Tables.{IsTable, noNode}
 use Rattle.tree.specs.declared.Nodes.{Nodes}
 use Rattle.rows.specs.Values.{Most}
 use Rattle.ground.specs.Of.{kindNumber}
 use Rattle.layout.specs.declared.Relations.{Relations}
+use Rattle.layout.specs.declared.Ranges.{Ranges}
 use Rattle.layout.specs.declared.Layout.{Layout}
 use Rattle.layout.specs.declared.Made.{Made}
 
@@ -35,11 +39,27 @@ unfoldable pub nodeWidth : (n rows kind : ℕ) → ℕ
 nodeWidth n rows zero = rows * n
 nodeWidth n rows (suc k) = rows
 
-unfoldable pub choicesOf : (n kind many : ℕ) → ℕ
-choicesOf n zero many = n
-choicesOf n (suc zero) many = n
-choicesOf n (suc (suc zero)) many = 1
-choicesOf n (suc (suc (suc k))) many = many
+unfoldable pub choicesOf : (count kind many : ℕ) → ℕ
+choicesOf count zero many = count
+choicesOf count (suc zero) many = count
+choicesOf count (suc (suc zero)) many = 1
+choicesOf count (suc (suc (suc k))) many = many
+
+-- ---- what a variable of a sort goes over, by the words of members: bit x of word k says that element x is of type k
+unfoldable pub rangeBy : ℕ → List ℕ → ℕ → List ℕ
+rangeBy n w zero = below n
+rangeBy n w (suc k) = filter (λ x. bit w (64 * k + x)) (below n)
+
+-- the counts and the greatest elements of sorts 0 to k
+pub record RangesAre (n : ℕ) (w : List ℕ) (k : ℕ) (r : Ranges) : Type 0 where
+  pub count : (s : ℕ) → s ≤ k → getD (r .count) s 0 ≡ length (rangeBy n w s)
+  pub top : (s : ℕ) → s ≤ k → getD (r .top) s 0 ≡ greatest (rangeBy n w s)
+
+-- ... and of every sort, so that they are in range
+pub record RangesFit (n : ℕ) (r : Ranges) : Type 0 where
+  pub whole : getD (r .count) 0 0 ≡ n
+  pub count : Most (r .count) 64
+  pub top : (s : ℕ) → getD (r .top) s 0 < n
 
 -- the relations fit their arrays, and no arity or kind is out of range
 pub record RelationsFit (g : Relations) : Type 0 where
@@ -64,9 +84,16 @@ unfoldable pub nodeSum : ℕ → Nodes → ℕ → ℕ → ℕ
 nodeSum n t from zero = from
 nodeSum n t from (suc v) = nodeSum n t from v + nodeWidth n (n ^ getD (t .rows) v noNode .width) (getD (t .rows) v noNode .kind)
 
-unfoldable pub actSum : ℕ → Nodes → ℕ → ℕ → ℕ
-actSum n t from zero = from
-actSum n t from (suc v) = actSum n t from v + (n ^ getD (t .rows) v noNode .width) * choicesOf n (getD (t .rows) v noNode .kind) (getD (t .rows) v noNode .many)
+-- how many elements the sort of node v has, and how many actions the node has at each value of its free variables
+abbrev pub countAt : List ℕ → Nodes → ℕ → ℕ
+countAt counts t v = getD counts (getD (t .rows) v noNode .sort) 0
+
+abbrev pub choicesAt : List ℕ → Nodes → ℕ → ℕ
+choicesAt counts t v = choicesOf (countAt counts t v) (getD (t .rows) v noNode .kind) (getD (t .rows) v noNode .many)
+
+unfoldable pub actSum : ℕ → List ℕ → Nodes → ℕ → ℕ → ℕ
+actSum n counts t from zero = from
+actSum n counts t from (suc v) = actSum n counts t from v + (n ^ getD (t .rows) v noNode .width) * choicesAt counts t v
 
 pub record RelationsLaid (n : ℕ) (g : Relations) (i : ℕ) (rel neg dom sets : List ℕ) (at set picks : ℕ) : Type 0 where
   pub at-is : at ≡ relationSum n g i
@@ -81,19 +108,21 @@ pub record RelationsLaid (n : ℕ) (g : Relations) (i : ℕ) (rel neg dom sets :
   pub dom-most : Most dom at
   pub set-most : Most sets set
 
-pub record NodesLaid (n : ℕ) (t : Nodes) (from first : ℕ) (v : ℕ) (node act : List ℕ) (at acts : ℕ) : Type 0 where
+pub record NodesLaid (n : ℕ) (counts : List ℕ) (t : Nodes) (from first : ℕ) (v : ℕ) (node act : List ℕ) (at acts : ℕ) : Type 0 where
   pub at-is : at ≡ nodeSum n t from v
-  pub act-is : acts ≡ actSum n t first v
+  pub act-is : acts ≡ actSum n counts t first v
   pub node-at : (r : ℕ) → r ≤ v → getD node r 0 ≡ nodeSum n t from r
-  pub act-at : (r : ℕ) → r ≤ v → getD act r 0 ≡ actSum n t first r
+  pub act-at : (r : ℕ) → r ≤ v → getD act r 0 ≡ actSum n counts t first r
   pub node-most : Most node at
   pub act-most : Most act acts
 
--- ---- of which problem the elements, the relations and the node table are
-pub record Inputs (p : Problem) (n : ℕ) (g : Relations) (t : Nodes) : Type 0 where
+-- ---- of which problem the elements, the words of members of k types, the relations and the node table are
+pub record Inputs (p : Problem) (n : ℕ) (w : List ℕ) (k : ℕ) (g : Relations) (t : Nodes) : Type 0 where
   pub size : n ≡ p .size
   pub list : p .nodeList ≡ nodes (p .root)
-  pub ranges : (s : ℕ) → p .range s ≡ below (p .size)
+  pub ranges : (s : ℕ) → s ≤ k → p .range s ≡ rangeBy n w s
+  pub ranged : (s : ℕ) → IsRange (p .size) (p .range s)
+  pub sorted : Sorted k (p .root)
   pub count : g .count ≡ length (p .relations)
   pub arity : (r : ℕ) → r < g .count → getD (g .arity) r 0 ≡ relationAt p r .arity
   pub kind : (r : ℕ) → r < g .count → getD (g .kind) r 0 ≡ kindNumber (relationAt p r .kind)

@@ -16,7 +16,7 @@ use Rattle.tree.specs.Tables.{noNode, Fits}
 use Rattle.tree.specs.declared.Nodes.{Nodes}
 use Rattle.rows.specs.Values.{Most}
 use Rattle.layout.specs.declared.Relations.{Relations}
-use Rattle.layout.specs.Laid.{relationWidth, setWidth, mostWidth, nodeWidth, choicesOf, RelationsFit, relationSum, setSum, pickSum, nodeSum, actSum, RelationsLaid, NodesLaid}
+use Rattle.layout.specs.Laid.{relationWidth, setWidth, mostWidth, nodeWidth, choicesOf, choicesAt, RelationsFit, relationSum, setSum, pickSum, nodeSum, actSum, RelationsLaid, NodesLaid}
 
 -- ---- powers
 pub pow-most : (n k : ℕ) → n ≤ 64 → k ≤ 4 → n ^ k ≤ 64 ^ 4
@@ -128,6 +128,10 @@ module _ (n many : ℕ) where
   choices-le (suc (suc zero)) a b = omega arith
   choices-le (suc (suc (suc k))) a b = b
 
+-- ... by the count of its sort
+pub choices-at : (counts : List ℕ) {s s' kind kind' many many' : ℕ} → s ≡ s' → kind ≡ kind' → many ≡ many' → choicesOf (getD counts s 0) kind many ≡ choicesOf (getD counts s' 0) kind' many'
+choices-at counts e q m = rw (e, q, m) refl
+
 -- ---- entries
 pub entry-lt : (a : List ℕ) (f : ℕ → ℕ) (i x : ℕ) → i < length a → x ≡ f i → ((r : ℕ) → r < i → getD a r 0 ≡ f r) → (r : ℕ) → r < i + 1 → getD (set a i x) r 0 ≡ f r
 entry-lt a f i x h e q r l = go (ℕ-discrete r i)
@@ -230,15 +234,15 @@ rels-first n g =
     }
 
 -- ---- nodes
-module _ (n : ℕ) (t : Nodes) (from first : ℕ) where
-  pub nodes-first : NodesLaid n t from first 0 (set (replicate 65 0) 0 from) (set (replicate 65 0) 0 first) from first
+module _ (n : ℕ) (counts : List ℕ) (t : Nodes) (from first : ℕ) where
+  pub nodes-first : NodesLaid n counts t from first 0 (set (replicate 65 0) 0 from) (set (replicate 65 0) 0 first) from first
   unfolding nodeSum actSum
   nodes-first =
       record {
         at-is = refl;
         act-is = refl;
         node-at = zero-le (set (replicate 65 0) 0 from) (nodeSum n t from) from refl refl;
-        act-at = zero-le (set (replicate 65 0) 0 first) (actSum n t first) first refl refl;
+        act-at = zero-le (set (replicate 65 0) 0 first) (actSum n counts t first) first refl refl;
         node-most = most-set (replicate 65 0) 0 from from from (omega arith) (omega arith) (most-zeros 65 from);
         act-most = most-set (replicate 65 0) 0 first first first (omega arith) (omega arith) (most-zeros 65 first);
       }
@@ -247,40 +251,40 @@ module _ (n : ℕ) (t : Nodes) (from first : ℕ) where
   unfolding nodeSum
   node-suc v = refl
 
-  act-suc : (v : ℕ) → actSum n t first (suc v) ≡ actSum n t first v + (n ^ getD (t .rows) v noNode .width) * choicesOf n (getD (t .rows) v noNode .kind) (getD (t .rows) v noNode .many)
+  act-suc : (v : ℕ) → actSum n counts t first (suc v) ≡ actSum n counts t first v + (n ^ getD (t .rows) v noNode .width) * choicesAt counts t v
   unfolding actSum
   act-suc v = refl
 
-  module _ (small : n ≤ 64) (fits : Fits t) where
+  module _ (small : n ≤ 64) (few : Most counts 64) (fits : Fits t) where
     pub node-bound : (v : ℕ) → nodeSum n t from v ≤ from + v * (64 ^ 4 * 64)
     unfolding nodeSum
     node-bound zero = omega arith
     node-bound (suc v) =
         omega (arith, node-bound v, node-width-le n (n ^ getD (t .rows) v noNode .width) (getD (t .rows) v noNode .kind) small (pow-most n (getD (t .rows) v noNode .width) small (fits .nodes .node v .width)))
 
-    pub acts-le : (v r m : ℕ) → r ≡ n ^ getD (t .rows) v noNode .width → m ≡ choicesOf n (getD (t .rows) v noNode .kind) (getD (t .rows) v noNode .many) → r * m ≤ 64 ^ 4 * 64
+    pub acts-le : (v r m : ℕ) → r ≡ n ^ getD (t .rows) v noNode .width → m ≡ choicesAt counts t v → r * m ≤ 64 ^ 4 * 64
     acts-le v r m e q =
         let a : r ≤ 64 ^ 4 = rw e (pow-most n (getD (t .rows) v noNode .width) small (fits .nodes .node v .width)) in
-        let b : m ≤ 64 = rw q (choices-le n (getD (t .rows) v noNode .many) (getD (t .rows) v noNode .kind) small (let b = fits .nodes .node v .parts in omega arith)) in
+        let b : m ≤ 64 = rw q (choices-le (getD counts (getD (t .rows) v noNode .sort) 0) (getD (t .rows) v noNode .many) (getD (t .rows) v noNode .kind) (few (getD (t .rows) v noNode .sort)) (let b = fits .nodes .node v .parts in omega arith)) in
         mul-le-mul a b
 
-    pub act-bound : (v : ℕ) → actSum n t first v ≤ first + v * (64 ^ 4 * 64)
+    pub act-bound : (v : ℕ) → actSum n counts t first v ≤ first + v * (64 ^ 4 * 64)
     unfolding actSum
     act-bound zero = omega arith
     act-bound (suc v) = omega (arith, act-bound v, acts-le v _ _ refl refl)
 
     pub nodes-next : (v : ℕ) (node act : List ℕ) (at acts r w m : ℕ) → v < 64 → length node ≡ 65 → length act ≡ 65
-        → r ≡ n ^ getD (t .rows) v noNode .width → w ≡ nodeWidth n r (getD (t .rows) v noNode .kind) → m ≡ choicesOf n (getD (t .rows) v noNode .kind) (getD (t .rows) v noNode .many)
-        → NodesLaid n t from first v node act at acts
-        → NodesLaid n t from first (v + 1) (set node (v + 1) (at + w)) (set act (v + 1) (acts + r * m)) (at + w) (acts + r * m)
+        → r ≡ n ^ getD (t .rows) v noNode .width → w ≡ nodeWidth n r (getD (t .rows) v noNode .kind) → m ≡ choicesAt counts t v
+        → NodesLaid n counts t from first v node act at acts
+        → NodesLaid n counts t from first (v + 1) (set node (v + 1) (at + w)) (set act (v + 1) (acts + r * m)) (at + w) (acts + r * m)
     nodes-next v node act at acts r w m h l₁ l₂ e ew em L =
         let a : at + w ≡ nodeSum n t from (suc v) = ap₂ (λ (x y : ℕ). x + y) (L .at-is) (ew ∙ ap (λ (x : ℕ). nodeWidth n x (getD (t .rows) v noNode .kind)) e) ∙ sym (node-suc v) in
-        let b : acts + r * m ≡ actSum n t first (suc v) = ap₂ (λ (x y : ℕ). x + y) (L .act-is) (ap₂ (λ (x y : ℕ). x * y) e em) ∙ sym (act-suc v) in
+        let b : acts + r * m ≡ actSum n counts t first (suc v) = ap₂ (λ (x y : ℕ). x + y) (L .act-is) (ap₂ (λ (x y : ℕ). x * y) e em) ∙ sym (act-suc v) in
         record {
           at-is = a ∙ ap (nodeSum n t from) (sym (add-one v));
-          act-is = b ∙ ap (actSum n t first) (sym (add-one v));
+          act-is = b ∙ ap (actSum n counts t first) (sym (add-one v));
           node-at = entry-le node (nodeSum n t from) v (at + w) (omega arith) a (L .node-at);
-          act-at = entry-le act (actSum n t first) v (acts + r * m) (omega arith) b (L .act-at);
+          act-at = entry-le act (actSum n counts t first) v (acts + r * m) (omega arith) b (L .act-at);
           node-most = most-set node (v + 1) (at + w) at (at + w) (omega arith) (omega arith) (L .node-most);
           act-most = most-set act (v + 1) (acts + r * m) acts (acts + r * m) (omega arith) (omega arith) (L .act-most);
         }

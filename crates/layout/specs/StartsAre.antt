@@ -11,11 +11,11 @@ use lib.ListN.{length, getD, take, drop, length-map, length-drop}
 use lib.Seq.{take-all, length-take-le}
 use Rattle.definitions.specs.Lists.{if_then_else_, sum}
 use Rattle.definitions.specs.Relations.{Kind, static, plain, Fun, PFun, Inj, PInj, Relation, isChosen, isFunction, isInjective}
-use Rattle.definitions.specs.Tree.{Tree, leaf, forallNode, existsNode, andNode, orNode, parts, nodes, isForall}
+use Rattle.definitions.specs.Tree.{Tree, leaf, forallNode, existsNode, andNode, orNode, parts, nodes, isForall, nodeSort}
 use Rattle.definitions.specs.Atoms.{Problem, relationAt, nodeAt, relationStart, nodeStart, tuplesOf, rowsOf, nodeWidth as widthOf, atoms}
 use Rattle.definitions.specs.Actions.{choices, setsOf, proofsOf, setStart, proofStart, actions}
 use Rattle.definitions.specs.Built.{mostPicks, bound}
-use Rattle.laws.specs.Lists.{length-below}
+use Rattle.laws.specs.Sorts.{Sorted}
 use Rattle.laws.specs.Numbers.{noRelation, sets-all, relationWidth as widthIn, relation-first, relation-next, set-first, set-next, node-first, node-next, proof-first, proof-next, atoms-end, node-atoms, actions-end}
 use Rattle.tree.specs.Tables.{nodeKind, headIn, headOf, IsNode, noNode, Fits}
 use Rattle.tree.specs.declared.PartRow.{PartRow}
@@ -24,7 +24,9 @@ use Rattle.tree.specs.declared.Nodes.{Nodes}
 use Rattle.ground.specs.Of.{kindNumber}
 use Rattle.ground.specs.OfLaws.{parts-length}
 use Rattle.layout.specs.declared.Relations.{Relations}
-use Rattle.layout.specs.Laid.{relationWidth, setWidth, mostWidth, nodeWidth, choicesOf, relationSum, setSum, pickSum, nodeSum, actSum, RelationsLaid, NodesLaid, Inputs, Laid, numberLimit}
+use Rattle.layout.specs.declared.Ranges.{Ranges}
+use Rattle.layout.specs.Laid.{relationWidth, setWidth, mostWidth, nodeWidth, choicesOf, RangesAre, countAt, choicesAt, relationSum, setSum, pickSum, nodeSum, actSum, RelationsLaid, NodesLaid, Inputs, Laid, numberLimit}
+use Rattle.layout.specs.SortLaws.{sort-within, node-sorted}
 
 -- ---- by the kind
 width-is : (n T : ℕ) (k : Kind) → relationWidth n T (kindNumber k) ≡ T + (T + ((if isFunction k then n else 0) + (if isInjective k then n else 0)))
@@ -67,13 +69,13 @@ many-are v u w ps i h =
     let a : length (take (w .many) (drop (w .first) ps)) ≡ w .many = length-take-le (w .many) (drop (w .first) ps) (omega (arith, length-drop (w .first) ps)) in
     sym a ∙ sym (length-map (take (w .many) (drop (w .first) ps)) headIn) ∙ ap length (i .parts) ∙ length-map (parts v u) headOf
 
-choices-are : (n : ℕ) (R : ℕ → List ℕ) → ((s : ℕ) → length (R s) ≡ n) → (v : ℕ) (u : Tree) (w : NodeRow) (ps : List PartRow) → IsNode v u w ps → w .first + w .many ≤ length ps → choicesOf n (nodeKind u) (w .many) ≡ choices R u
-unfolding choicesOf nodeKind choices parts
-choices-are n R a v (leaf q r ls) w ps i b = many-are v (leaf q r ls) w ps i b
-choices-are n R a v (forallNode d σ u) w ps i b = sym (a σ)
-choices-are n R a v (existsNode d σ u) w ps i b = sym (a σ)
-choices-are n R a v (andNode us) w ps i b = refl
-choices-are n R a v (orNode us) w ps i b = many-are v (orNode us) w ps i b ∙ parts-length (suc v) us
+choices-are : (c : ℕ) (R : ℕ → List ℕ) (v : ℕ) (u : Tree) (w : NodeRow) (ps : List PartRow) → c ≡ length (R (nodeSort u)) → IsNode v u w ps → w .first + w .many ≤ length ps → choicesOf c (nodeKind u) (w .many) ≡ choices R u
+unfolding choicesOf nodeKind choices parts nodeSort
+choices-are c R v (leaf q r ls) w ps a i b = many-are v (leaf q r ls) w ps i b
+choices-are c R v (forallNode d σ u) w ps a i b = a
+choices-are c R v (existsNode d σ u) w ps a i b = a
+choices-are c R v (andNode us) w ps a i b = refl
+choices-are c R v (orNode us) w ps a i b = many-are v (orNode us) w ps i b ∙ parts-length (suc v) us
 
 sum-next : (f : Relation → ℕ) (r : ℕ) (ks : List Relation) → r < length ks → sum (map f (take (suc r) ks)) ≡ sum (map f (take r ks)) + f (getD ks r noRelation)
 unfolding sum
@@ -85,7 +87,7 @@ sum-none : (f : Relation → ℕ) → sum (map f []) ≡ 0
 unfolding sum
 sum-none f = refl
 
-module _ (p : Problem) (g : Relations) (t : Nodes) (is : Inputs p (p .size) g t) where
+module _ (p : Problem) (ws : List ℕ) (k : ℕ) (g : Relations) (t : Nodes) (is : Inputs p (p .size) ws k g t) where
   relation-width : (r : ℕ) → r < g .count → relationWidth (p .size) (p .size ^ getD (g .arity) r 0) (getD (g .kind) r 0) ≡ widthIn (p .size) (relationAt p r)
   unfolding widthIn tuplesOf
   relation-width r h = ap₂ (λ (a k : ℕ). relationWidth (p .size) (p .size ^ a) k) (is .arity r h) (is .kind r h) ∙ width-is (p .size) (p .size ^ relationAt p r .arity) (relationAt p r .kind)
@@ -132,21 +134,32 @@ module _ (p : Problem) (g : Relations) (t : Nodes) (is : Inputs p (p .size) g t)
   unfolding widthOf
   node-width v h = ap₂ (λ (T k : ℕ). nodeWidth (p .size) T k) (rows-are v h) (node-is v h .kind) ∙ node-width-is (p .size) (rowsOf (p .size) (nodeAt p v)) (nodeAt p v)
 
+  pub node-sort : (v : ℕ) → v < t .count → Sorted k (nodeAt p v)
+  unfolding nodeAt
+  node-sort v h = subst (λ (us : List Tree). Sorted k (getD us v (leaf true 0 []))) (sym (is .list)) (node-sorted k (p .root) (is .sorted) v (omega (arith, is .tree .count)))
+
+  -- the sort of a node has as many elements as its range
+  pub count-of : (ranges : Ranges) → RangesAre (p .size) ws k ranges → (v : ℕ) → v < t .count → countAt (ranges .count) t v ≡ length (p .range (nodeSort (nodeAt p v)))
+  count-of ranges r v h =
+      let b = sort-within k (nodeAt p v) (node-sort v h) in
+      ap (λ (s : ℕ). getD (ranges .count) s 0) (node-is v h .sort) ∙ r .count (nodeSort (nodeAt p v)) b ∙ ap length (sym (is .ranges (nodeSort (nodeAt p v)) b))
+
   module _ (fits : Fits t) where
     pub in-parts : (v : ℕ) → getD (t .rows) v noNode .first + getD (t .rows) v noNode .many ≤ length (t .parts)
     in-parts v = omega (arith, fits .nodes .node v .parts, fits .parts .parts-length)
 
-    pub act-width : (v : ℕ) → v < t .count
-        → (p .size ^ getD (t .rows) v noNode .width) * choicesOf (p .size) (getD (t .rows) v noNode .kind) (getD (t .rows) v noNode .many) ≡ proofsOf (p .size) (p .range) (nodeAt p v)
-    unfolding proofsOf
-    act-width v h =
-        ap₂ (λ (x y : ℕ). x * y) (rows-are v h)
-        (ap (λ (k : ℕ). choicesOf (p .size) k (getD (t .rows) v noNode .many)) (node-is v h .kind) ∙ choices-are (p .size) (p .range) (λ s. ap length (is .ranges s) ∙ length-below (p .size)) v (nodeAt p v) (getD (t .rows) v noNode) (t .parts) (node-is v h) (in-parts v))
+    module _ (ranges : Ranges) (r : RangesAre (p .size) ws k ranges) where
+      pub act-width : (v : ℕ) → v < t .count → (p .size ^ getD (t .rows) v noNode .width) * choicesAt (ranges .count) t v ≡ proofsOf (p .size) (p .range) (nodeAt p v)
+      unfolding proofsOf
+      act-width v h =
+          ap₂ (λ (x y : ℕ). x * y) (rows-are v h)
+          (ap (λ (kind : ℕ). choicesOf (countAt (ranges .count) t v) kind (getD (t .rows) v noNode .many)) (node-is v h .kind)
+          ∙ choices-are (countAt (ranges .count) t v) (p .range) v (nodeAt p v) (getD (t .rows) v noNode) (t .parts) (count-of ranges r v h) (node-is v h) (in-parts v))
 
-    act-are : (v : ℕ) → v ≤ t .count → actSum (p .size) t (setStart p (length (p .relations)) + 1) v ≡ proofStart p v
-    unfolding actSum
-    act-are zero h = sym (proof-first p)
-    act-are (suc v) h = ap₂ (λ (x y : ℕ). x + y) (act-are v (omega arith)) (act-width v h) ∙ sym (proof-next p v (omega (arith, count-is)))
+      act-are : (v : ℕ) → v ≤ t .count → actSum (p .size) (ranges .count) t (setStart p (length (p .relations)) + 1) v ≡ proofStart p v
+      unfolding actSum
+      act-are zero h = sym (proof-first p)
+      act-are (suc v) h = ap₂ (λ (x y : ℕ). x + y) (act-are v (omega arith)) (act-width v h) ∙ sym (proof-next p v (omega (arith, count-is)))
 
   node-are : (v : ℕ) → v ≤ t .count → nodeSum (p .size) t (relationStart p (length (p .relations))) v ≡ nodeStart p v
   unfolding nodeSum
@@ -169,25 +182,25 @@ neither a b x y e = go (decLt a x) (decLt b y)
     go (no h) (no k) = (omega arith, omega arith)
 
 -- ---- a layout is the problem's
-module _ (p : Problem) (g : Relations) (t : Nodes) (is : Inputs p (p .size) g t) (fits : Fits t) (rel neg dom sets node act : List ℕ) (at st picks end acts : ℕ)
-    (L : RelationsLaid (p .size) g (g .count) rel neg dom sets at st picks) (N : NodesLaid (p .size) t at (st + 1) (t .count) node act end acts) where
+module _ (p : Problem) (ws : List ℕ) (k : ℕ) (ranges : Ranges) (g : Relations) (t : Nodes) (ra : RangesAre (p .size) ws k ranges) (is : Inputs p (p .size) ws k g t) (fits : Fits t) (rel neg dom sets node act : List ℕ) (at st picks end acts : ℕ)
+    (L : RelationsLaid (p .size) g (g .count) rel neg dom sets at st picks) (N : NodesLaid (p .size) (ranges .count) t at (st + 1) (t .count) node act end acts) where
   at-is : at ≡ relationStart p (length (p .relations))
-  at-is = L .at-is ∙ rel-are p g t is (g .count) (omega arith) ∙ ap (relationStart p) (is .count)
+  at-is = L .at-is ∙ rel-are p ws k g t is (g .count) (omega arith) ∙ ap (relationStart p) (is .count)
 
   st-is : st + 1 ≡ setStart p (length (p .relations)) + 1
-  st-is = ap (λ (x : ℕ). x + 1) (L .set-is ∙ set-are p g t is (g .count) (omega arith) ∙ ap (setStart p) (is .count))
+  st-is = ap (λ (x : ℕ). x + 1) (L .set-is ∙ set-are p ws k g t is (g .count) (omega arith) ∙ ap (setStart p) (is .count))
 
   node-at : (v : ℕ) → v ≤ t .count → getD node v 0 ≡ nodeStart p v
-  node-at v h = N .node-at v h ∙ ap (λ (x : ℕ). nodeSum (p .size) t x v) at-is ∙ node-are p g t is v h
+  node-at v h = N .node-at v h ∙ ap (λ (x : ℕ). nodeSum (p .size) t x v) at-is ∙ node-are p ws k g t is v h
 
   act-at : (v : ℕ) → v ≤ t .count → getD act v 0 ≡ proofStart p v
-  act-at v h = N .act-at v h ∙ ap (λ (x : ℕ). actSum (p .size) t x v) st-is ∙ act-are p g t is fits v h
+  act-at v h = N .act-at v h ∙ ap (λ (x : ℕ). actSum (p .size) (ranges .count) t x v) st-is ∙ act-are p ws k g t is fits ranges ra v h
 
   end-is : end ≡ atoms p
-  end-is = N .at-is ∙ sym (N .node-at (t .count) (omega arith)) ∙ node-at (t .count) (omega arith) ∙ ap (nodeStart p) (count-is p g t is) ∙ atoms-end p
+  end-is = N .at-is ∙ sym (N .node-at (t .count) (omega arith)) ∙ node-at (t .count) (omega arith) ∙ ap (nodeStart p) (count-is p ws k g t is) ∙ atoms-end p
 
   acts-is : acts + 1 ≡ actions p
-  acts-is = ap (λ (x : ℕ). x + 1) (N .act-is ∙ sym (N .act-at (t .count) (omega arith)) ∙ act-at (t .count) (omega arith) ∙ ap (proofStart p) (count-is p g t is)) ∙ sym (actions-end p)
+  acts-is = ap (λ (x : ℕ). x + 1) (N .act-is ∙ sym (N .act-at (t .count) (omega arith)) ∙ act-at (t .count) (omega arith) ∙ ap (proofStart p) (count-is p ws k g t is)) ∙ sym (actions-end p)
 
   pub low : at ≤ end
   low = let e : getD node 0 0 ≡ at = node-at 0 (omega arith) ∙ node-first p ∙ sym at-is in let q = N .node-most 0 in omega arith
@@ -199,7 +212,7 @@ module _ (p : Problem) (g : Relations) (t : Nodes) (is : Inputs p (p .size) g t)
   unfolding bound
   bound-is =
       let a : picks ≡ sum (map (mostPicks (p .size)) (p .relations)) =
-      L .picks-are ∙ pick-are p g t is (g .count) (omega arith) ∙ ap (λ (ks : List Relation). sum (map (mostPicks (p .size)) ks)) (take-all (g .count) (p .relations) (omega (arith, is .count))) in
+      L .picks-are ∙ pick-are p ws k g t is (g .count) (omega arith) ∙ ap (λ (ks : List Relation). sum (map (mostPicks (p .size)) ks)) (take-all (g .count) (p .relations) (omega (arith, is .count))) in
       let b = node-atoms p in
       let d : at ≡ nodeStart p 0 = at-is ∙ sym (node-first p) in
       omega (arith, a, b, d, end-is)
@@ -213,16 +226,16 @@ module _ (p : Problem) (g : Relations) (t : Nodes) (is : Inputs p (p .size) g t)
         actions-are = acts-is;
         bound-is = bound-is;
         starts = record {
-          rel = λ r h. L .rel-at r (omega (arith, is .count)) ∙ rel-are p g t is r (omega (arith, is .count));
-          neg = λ r h. L .neg-at r (omega (arith, is .count)) ∙ ap₂ (λ (x y : ℕ). x + y) (rel-are p g t is r (omega (arith, is .count))) (tuples-are p g t is r (omega (arith, is .count)));
+          rel = λ r h. L .rel-at r (omega (arith, is .count)) ∙ rel-are p ws k g t is r (omega (arith, is .count));
+          neg = λ r h. L .neg-at r (omega (arith, is .count)) ∙ ap₂ (λ (x y : ℕ). x + y) (rel-are p ws k g t is r (omega (arith, is .count))) (tuples-are p ws k g t is r (omega (arith, is .count)));
           dom = λ r h.
-              let e = rel-are p g t is r (omega (arith, is .count)) in
-              let q = tuples-are p g t is r (omega (arith, is .count)) in
+              let e = rel-are p ws k g t is r (omega (arith, is .count)) in
+              let q = tuples-are p ws k g t is r (omega (arith, is .count)) in
               let w = L .dom-at r (omega (arith, is .count)) in
               omega arith;
-          set = λ r h. L .set-at r (omega (arith, is .count)) ∙ set-are p g t is r (omega (arith, is .count));
-          node = λ v h. node-at v (omega (arith, count-is p g t is));
-          act = λ v h. act-at v (omega (arith, count-is p g t is));
+          set = λ r h. L .set-at r (omega (arith, is .count)) ∙ set-are p ws k g t is r (omega (arith, is .count));
+          node = λ v h. node-at v (omega (arith, count-is p ws k g t is));
+          act = λ v h. act-at v (omega (arith, count-is p ws k g t is));
         };
         small = λ y.
             let q = neither a b end (acts + 1) (sym f ∙ y) in
@@ -240,14 +253,14 @@ module _ (p : Problem) (g : Relations) (t : Nodes) (is : Inputs p (p .size) g t)
             };
       }
 
-pub laid : (n : ℕ) (p : Problem) (g : Relations) (t : Nodes) → Inputs p n g t → Fits t → (rel neg dom sets node act : List ℕ) (at st picks end acts : ℕ) (over : Bool)
-    → RelationsLaid n g (g .count) rel neg dom sets at st picks → NodesLaid n t at (st + 1) (t .count) node act end acts → (a b : ℕ) → a ≤ numberLimit → b ≤ numberLimit → over ≡ (ltb a end || ltb b (acts + 1))
+pub laid : (n : ℕ) (p : Problem) (ws : List ℕ) (k : ℕ) (ranges : Ranges) (g : Relations) (t : Nodes) → RangesAre n ws k ranges → Inputs p n ws k g t → Fits t → (rel neg dom sets node act : List ℕ) (at st picks end acts : ℕ) (over : Bool)
+    → RelationsLaid n g (g .count) rel neg dom sets at st picks → NodesLaid n (ranges .count) t at (st + 1) (t .count) node act end acts → (a b : ℕ) → a ≤ numberLimit → b ≤ numberLimit → over ≡ (ltb a end || ltb b (acts + 1))
     → Laid a b p (record { over = over; atoms = end; actions = acts + 1; bound = picks + (end - at) + 2; layout = record { rel = rel; neg = neg; dom = dom; set = sets; node = node; act = act } })
-laid n p g t is f rel neg dom sets node act at st picks end acts over L N a b fa fb o =
-    laid-at p g t (subst (λ (m : ℕ). Inputs p m g t) (is .size) is) f rel neg dom sets node act at st picks end acts
-    (subst (λ (m : ℕ). RelationsLaid m g (g .count) rel neg dom sets at st picks) (is .size) L) (subst (λ (m : ℕ). NodesLaid m t at (st + 1) (t .count) node act end acts) (is .size) N) a b fa fb over o
+laid n p ws k ranges g t r is f rel neg dom sets node act at st picks end acts over L N a b fa fb o =
+    laid-at p ws k ranges g t (subst (λ (m : ℕ). RangesAre m ws k ranges) (is .size) r) (subst (λ (m : ℕ). Inputs p m ws k g t) (is .size) is) f rel neg dom sets node act at st picks end acts
+    (subst (λ (m : ℕ). RelationsLaid m g (g .count) rel neg dom sets at st picks) (is .size) L) (subst (λ (m : ℕ). NodesLaid m (ranges .count) t at (st + 1) (t .count) node act end acts) (is .size) N) a b fa fb over o
 
 -- the nodes' starts begin with the first
-pub nodes-low : (n from first v : ℕ) (t : Nodes) (node act : List ℕ) (at acts : ℕ) → NodesLaid n t from first v node act at acts → from ≤ at
+pub nodes-low : (n : ℕ) (counts : List ℕ) (from first v : ℕ) (t : Nodes) (node act : List ℕ) (at acts : ℕ) → NodesLaid n counts t from first v node act at acts → from ≤ at
 unfolding nodeSum
-nodes-low n from first v t node act at acts N = let e = N .node-at 0 (omega arith) in let q = N .node-most 0 in omega arith
+nodes-low n counts from first v t node act at acts N = let e = N .node-at 0 (omega arith) in let q = N .node-most 0 in omega arith

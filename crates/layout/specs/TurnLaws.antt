@@ -34,37 +34,37 @@ module _ (g : Relations) (l : Layout) (w d z : List ℕ) (len : length d ≡ tab
       q ∙ tab-end (relationNumbers g l) 5 (length-relation g l) relationsPlace r (relationEnd l r) w d (omega (arith, length-relation-end l r)) e
       ∙ ap (λ (k : ℕ). splice relationsPlace (tab (relationNumbers g l) k ++ relationEnd l k) d) h
 
-module _ (n : ℕ) (t : Nodes) (l : Layout) (w d z : List ℕ) (len : length d ≡ tableLength) where
-  pub node-turn : (v : ℕ) (line : List ℕ) → v < 64 → line ≡ nodeNumbers n t l v → w ≡ splice nodesPlace (tab (nodeNumbers n t l) v) d → z ≡ splice (nodePlace v) line w → z ≡ splice nodesPlace (tab (nodeNumbers n t l) (v + 1)) d
-  node-turn v line h = tab-next (nodeNumbers n t l) nodeLength (length-node n t l) nodesPlace v line w d z (omega arith)
+module _ (counts : List ℕ) (t : Nodes) (l : Layout) (w d z : List ℕ) (len : length d ≡ tableLength) where
+  pub node-turn : (v : ℕ) (line : List ℕ) → v < 64 → line ≡ nodeNumbers counts t l v → w ≡ splice nodesPlace (tab (nodeNumbers counts t l) v) d → z ≡ splice (nodePlace v) line w → z ≡ splice nodesPlace (tab (nodeNumbers counts t l) (v + 1)) d
+  node-turn v line h = tab-next (nodeNumbers counts t l) nodeLength (length-node counts t l) nodesPlace v line w d z (omega arith)
 
-  pub node-last : (v : ℕ) → v ≤ 64 → v ≡ t .count → w ≡ splice nodesPlace (tab (nodeNumbers n t l) v) d → z ≡ splice (nodePlace v) (getD (l .act) v 0 ∷ getD (l .node) v 0 ∷ 0 ∷ 0 ∷ 0 ∷ 0 ∷ 0 ∷ 0 ∷ 0 ∷ 0 ∷ 0 ∷ 0 ∷ 0 ∷ []) w → z ≡ splice nodesPlace (nodeLines n t l) d
+  pub node-last : (v : ℕ) → v ≤ 64 → v ≡ t .count → w ≡ splice nodesPlace (tab (nodeNumbers counts t l) v) d → z ≡ splice (nodePlace v) (getD (l .act) v 0 ∷ getD (l .node) v 0 ∷ 0 ∷ 0 ∷ 0 ∷ 0 ∷ 0 ∷ 0 ∷ 0 ∷ 0 ∷ 0 ∷ 0 ∷ 0 ∷ []) w → z ≡ splice nodesPlace (nodeLines counts t l) d
   unfolding nodeLines nodeEnd
   node-last v b h e q =
-      q ∙ tab-end (nodeNumbers n t l) nodeLength (length-node n t l) nodesPlace v (nodeEnd l v) w d (omega (arith, length-node-end l v)) e
-      ∙ ap (λ (k : ℕ). splice nodesPlace (tab (nodeNumbers n t l) k ++ nodeEnd l k) d) h
+      q ∙ tab-end (nodeNumbers counts t l) nodeLength (length-node counts t l) nodesPlace v (nodeEnd l v) w d (omega (arith, length-node-end l v)) e
+      ∙ ap (λ (k : ℕ). splice nodesPlace (tab (nodeNumbers counts t l) k ++ nodeEnd l k) d) h
 
 -- a node's line from its bytes
-pub node-line : (n act node : ℕ) (x : NodeRow) (a b c d e f g h i r k : ℕ) → (a ≡ x .kind) × (a < 256) → (b ≡ x .level) × (b < 256) → (c ≡ x .first) × (c < 256) → (d ≡ x .many) × (d < 256) → (e ≡ x .width) × (e < 256)
+pub node-line : (n act node : ℕ) (x : NodeRow) (a b c d e f g h i r k s : ℕ) → (a ≡ x .kind) × (a < 256) → (b ≡ x .level) × (b < 256) → (c ≡ x .first) × (c < 256) → (d ≡ x .many) × (d < 256) → (e ≡ x .width) × (e < 256)
     → (f ≡ getD (x .levels) 0 0) × (f < 256) → (g ≡ getD (x .levels) 1 0) × (g < 256) → (h ≡ getD (x .levels) 2 0) × (h < 256) → (i ≡ getD (x .levels) 3 0) × (i < 256)
-    → (r ≡ rangeStart a) × (r ≤ tableLength) → (k ≡ rangeCount n a) × (k ≤ 64) → act ≤ numberLimit → node ≤ numberLimit
+    → (s ≡ x .sort) × (s < 256) → (r ≡ rangeStart a s) × (r ≤ 2 ^ 32) → (k ≡ rangeCount n a) × (k ≤ 64) → act ≤ numberLimit → node ≤ numberLimit
     → (act ∷ node ∷ a ∷ b ∷ c ∷ d ∷ e ∷ f ∷ g ∷ h ∷ i ∷ r ∷ k ∷ [] ≡ nodeFrom n act node x) × Most (act ∷ node ∷ a ∷ b ∷ c ∷ d ∷ e ∷ f ∷ g ∷ h ∷ i ∷ r ∷ k ∷ []) (2 ^ 32)
 unfolding nodeFrom
-node-line n act node x a b c d e f g h i r k p₁ p₂ p₃ p₄ p₅ p₆ p₇ p₈ p₉ p₁₀ p₁₁ u v = (
-  rw (p₁₀ .0, p₁₁ .0, p₁ .0, p₂ .0, p₃ .0, p₄ .0, p₅ .0, p₆ .0, p₇ .0, p₈ .0, p₉ .0) refl,
+node-line n act node x a b c d e f g h i r k s p₁ p₂ p₃ p₄ p₅ p₆ p₇ p₈ p₉ p₀ p₁₀ p₁₁ u v = (
+  rw (p₁₀ .0, p₀ .0, p₁₁ .0, p₁ .0, p₂ .0, p₃ .0, p₄ .0, p₅ .0, p₆ .0, p₇ .0, p₈ .0, p₉ .0) refl,
   each-most (2 ^ 32) (act ∷ node ∷ a ∷ b ∷ c ∷ d ∷ e ∷ f ∷ g ∷ h ∷ i ∷ r ∷ k ∷ [])
       (omega arith, (omega arith, (omega arith, (omega arith, (omega arith, (omega arith, (omega arith, (omega arith, (omega arith, (omega arith, (omega arith, (omega arith, (omega arith, tt))))))))))))),
 )
 
-module _ (n : ℕ) (t : Nodes) (rel neg node w d z : List ℕ) (len : length d ≡ tableLength) where
-  pub part-turn : (i : ℕ) (line : List ℕ) → i < 64 → line ≡ numbersIn n rel neg node (getD (t .parts) i noPart) → w ≡ splice partsPlace (tab (λ (i : ℕ). numbersIn n rel neg node (getD (t .parts) i noPart)) i) d
-      → z ≡ splice (partPlace i) line w → z ≡ splice partsPlace (tab (λ (i : ℕ). numbersIn n rel neg node (getD (t .parts) i noPart)) (i + 1)) d
-  part-turn i line h = tab-next (λ (i : ℕ). numbersIn n rel neg node (getD (t .parts) i noPart)) 5 (λ i. length-part n rel neg node (getD (t .parts) i noPart)) partsPlace i line w d z (omega arith)
+module _ (n : ℕ) (t : Nodes) (tops rel neg node w d z : List ℕ) (len : length d ≡ tableLength) where
+  pub part-turn : (i : ℕ) (line : List ℕ) → i < 64 → line ≡ numbersIn n tops rel neg node (getD (t .parts) i noPart) → w ≡ splice partsPlace (tab (λ (i : ℕ). numbersIn n tops rel neg node (getD (t .parts) i noPart)) i) d
+      → z ≡ splice (partPlace i) line w → z ≡ splice partsPlace (tab (λ (i : ℕ). numbersIn n tops rel neg node (getD (t .parts) i noPart)) (i + 1)) d
+  part-turn i line h = tab-next (λ (i : ℕ). numbersIn n tops rel neg node (getD (t .parts) i noPart)) 5 (λ i. length-part n tops rel neg node (getD (t .parts) i noPart)) partsPlace i line w d z (omega arith)
 
-pub part-last : (n : ℕ) (t : Nodes) (l : Layout) (w d z : List ℕ) (i : ℕ) (line : List ℕ) → i ≡ t .placed → line ≡ partNumbers n l (t .root)
-    → w ≡ splice partsPlace (tab (λ (i : ℕ). partNumbers n l (getD (t .parts) i noPart)) i) d → z ≡ splice rootPlace line w → z ≡ splice rootPlace (partNumbers n l (t .root)) (splice partsPlace (partLines n t l) d)
+pub part-last : (n : ℕ) (tops : List ℕ) (t : Nodes) (l : Layout) (w d z : List ℕ) (i : ℕ) (line : List ℕ) → i ≡ t .placed → line ≡ partNumbers n tops l (t .root)
+    → w ≡ splice partsPlace (tab (λ (i : ℕ). partNumbers n tops l (getD (t .parts) i noPart)) i) d → z ≡ splice rootPlace line w → z ≡ splice rootPlace (partNumbers n tops l (t .root)) (splice partsPlace (partLines n tops t l) d)
 unfolding partLines
-part-last n t l w d z i line h c e q = q ∙ ap₂ (splice rootPlace) c (rw h at e)
+part-last n tops t l w d z i line h c e q = q ∙ ap₂ (splice rootPlace) c (rw h at e)
 
 -- the range of all elements, element after element, from a place on
 module _ (place : ℕ) (d w : List ℕ) (n i : ℕ) where

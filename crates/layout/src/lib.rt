@@ -1,16 +1,17 @@
 // Where the numbers of atoms and actions start, and how many there are; and the flat table that steps read, filled from that.
 ghost use mathlib.Core.Path.{_≡_};
 ghost use mathlib.Core.Bool.{_||_};
-ghost use Prim.Native.Nat.{_+_, _^_, _<_, _≤_, ℕ};
+ghost use mathlib.Core.List.{List};
+ghost use Prim.Native.Nat.{ℕ, suc, _+_, _*_, _^_, _<_, _≤_};
 ghost use lib.Dec.{ltb};
 ghost use Rattle.definitions.specs.Atoms.{Problem};
 ghost use Rattle.tree.specs.Tables.{Fits, noPart, PartFits};
-ghost use Rattle.layout.specs.Laid.{relationWidth, setWidth, mostWidth, nodeWidth, choicesOf, RelationsFit, Inputs, RelationsLaid, NodesLaid, Laid, Small, numberLimit};
+ghost use Rattle.layout.specs.Laid.{relationWidth, setWidth, mostWidth, nodeWidth, choicesOf, rangeBy, RangesFit, RangesAre, RelationsFit, Inputs, RelationsLaid, NodesLaid, Laid, Small, numberLimit};
 ghost use lib.ListN.{getD, length};
 ghost use Rattle.rows.specs.Values.{Most};
 ghost use Rattle.ground.specs.Lines.{tableLength, rootPlace};
 ghost use Rattle.definitions.specs.Lists.{below, greatest};
-ghost use Rattle.layout.specs.Filled.{relationsPlace, nodesPlace, partsPlace, rangeStart, rangeCount, splice, nodeFrom, nodeNumbers, startIn, numbersFrom, partNumbers, relationLines, nodeLines, partLines, tableOf, Filled};
+ghost use Rattle.layout.specs.Filled.{relationsPlace, nodesPlace, partsPlace, rangeStart, rangeCount, splice, nodeFrom, nodeNumbers, startIn, numbersFrom, partNumbers, relationLines, nodeLines, partLines, withRanges, tableOf, Filled};
 use tree::NodeRow;
 use tree::Nodes;
 use tree::PartRow;
@@ -25,6 +26,21 @@ pub struct Relations {
     pub count: usize,
     pub arity: [usize; RELATIONS],
     pub kind: [usize; RELATIONS],
+}
+
+// The most sorts of a variable: all elements, and the members of 8 types.
+pub const SORTS: usize = 9;
+
+// What a variable of each sort goes over: how many elements, and the greatest of them.
+pub struct Ranges {
+    pub count: [usize; SORTS],
+    pub top: [usize; SORTS],
+}
+
+// The same of one sort.
+struct Range {
+    count: usize,
+    top: usize,
 }
 
 // Where a relation's tuples, not-tuples, free atoms and set actions start, and a node's atoms and actions; in `rel`, `set`, `node`
@@ -114,17 +130,55 @@ pub fn node_width(n: usize, rows: usize, kind: usize) -> usize
     rows
 }
 
-// How many actions it has at each of these.
-pub fn choices(n: usize, kind: usize, many: usize) -> usize
-    ensures { λ r. ⌜ r ≡ choicesOf n kind many ⌝ }
+// How many actions it has at each of these, where a quantifier's range has `count` elements.
+pub fn choices(count: usize, kind: usize, many: usize) -> usize
+    ensures { λ r. ⌜ r ≡ choicesOf count kind many ⌝ }
 {
     if kind < 2 {
-        return n;
+        return count;
     }
     if kind == 2 {
         return 1;
     }
     many
+}
+
+// The range of a type, by the words of members.
+fn range_of(n: usize, members: &[u64], k: usize) -> Range
+    requires { ⌜ (0 < n) × (n ≤ 64) × (k < length (now members)) × (k < 8) ⌝ }
+    ensures { λ r. ⌜ (r .count ≡ length (rangeBy n (now (members .entry)) (suc k))) × (r .top ≡ greatest (rangeBy n (now (members .entry)) (suc k))) × (r .count ≤ n) × (r .top < n) ⌝ }
+{
+    let mut count: usize = 0;
+    let mut top: usize = 0;
+    let mut x: usize = 0;
+    while x < n {
+        if bits::get(members, 64 * k + x) {
+            count += 1;
+            top = x;
+        }
+        x += 1;
+    }
+    Range { count, top }
+}
+
+// The ranges of all elements and of the first `types` types, by a word of members for each type: bit x says that element x is one.
+pub fn ranges_of(n: usize, types: usize, members: &[u64]) -> Ranges
+    requires { ⌜ (0 < n) × (n ≤ 64) × (types ≤ 8) × (types ≤ length (now members)) ⌝ }
+    ensures { λ r. ⌜ RangesFit n r × RangesAre n (now (members .entry)) types r ⌝ }
+{
+    let mut count = [0usize; SORTS];
+    let mut top = [0usize; SORTS];
+    let last = n - 1;
+    count[0] = n;
+    top[0] = last;
+    let mut k: usize = 0;
+    while k < types {
+        let m = range_of(n, members, k);
+        k += 1;
+        count[k] = m.count;
+        top[k] = m.top;
+    }
+    Ranges { count, top }
 }
 
 fn relation_starts(n: usize, g: Relations) -> RelationStarts
@@ -163,9 +217,9 @@ fn relation_starts(n: usize, g: Relations) -> RelationStarts
     }
 }
 
-fn node_starts(n: usize, t: tree::Nodes, from: usize, first: usize) -> NodeStarts
-    requires { ⌜ (0 < n) × (n ≤ 64) × Fits t × (from ≤ 2 ^ 32) × (first ≤ 2 ^ 32) ⌝ }
-    ensures { λ r. ⌜ NodesLaid n t from first (t .count) (r .node) (r .act) (r .at) (r .acts) ⌝ }
+fn node_starts(n: usize, ranges: Ranges, t: tree::Nodes, from: usize, first: usize) -> NodeStarts
+    requires { ⌜ (0 < n) × (n ≤ 64) × Fits t × (from ≤ 2 ^ 32) × (first ≤ 2 ^ 32) × RangesFit n ranges ⌝ }
+    ensures { λ r. ⌜ NodesLaid n (ranges .count) t from first (t .count) (r .node) (r .act) (r .at) (r .acts) ⌝ }
 {
     let mut node = [0usize; NODES + 1];
     let mut act = [0usize; NODES + 1];
@@ -179,7 +233,8 @@ fn node_starts(n: usize, t: tree::Nodes, from: usize, first: usize) -> NodeStart
         let kind = tree::wide(row.kind);
         let rows = rows::power(n, tree::wide(row.width));
         at = at + node_width(n, rows, kind);
-        acts = acts + rows * choices(n, kind, tree::wide(row.many));
+        let count = ranges.count[tree::wide(row.sort)];
+        acts = acts + rows * choices(count, kind, tree::wide(row.many));
         v += 1;
         node[v] = at;
         act[v] = acts;
@@ -202,20 +257,21 @@ pub fn too_many(atoms: usize, actions: usize, most_atoms: usize, most_actions: u
     most_actions < actions
 }
 
-// The layout of n elements, the relations and the nodes of a tree, and whether these are more atoms or actions than there may be.
+// The layout of n elements, their ranges, the relations and the nodes of a tree, and whether these are more atoms or actions than there may be.
 pub fn lay_out(
     n: usize,
+    ranges: Ranges,
     g: Relations,
     t: tree::Nodes,
     most_atoms: usize,
     most_actions: usize,
 ) -> Made
-    requires { ⌜ (0 < n) × (n ≤ 64) × RelationsFit g × Fits t × («most_atoms» ≤ numberLimit) × («most_actions» ≤ numberLimit) ⌝ }
-    ensures { λ r. ⌜ ((p : Problem) → Inputs p n g t → Laid «most_atoms» «most_actions» p r) ⌝ }
+    requires { ⌜ (0 < n) × (n ≤ 64) × RelationsFit g × Fits t × («most_atoms» ≤ numberLimit) × («most_actions» ≤ numberLimit) × RangesFit n ranges ⌝ }
+    ensures { λ r. ⌜ ((p : Problem) (w : List ℕ) (k : ℕ) → RangesAre n w k ranges → Inputs p n w k g t → Laid «most_atoms» «most_actions» p r) ⌝ }
 {
     let r = relation_starts(n, g);
     let first = r.sets + 1;
-    let s = node_starts(n, t, r.at, first);
+    let s = node_starts(n, ranges, t, r.at, first);
     let atoms = s.at;
     let actions = s.acts + 1;
     let bound = r.picks + (atoms - r.at) + 2;
@@ -278,35 +334,36 @@ fn fill_relations(table: &mut [usize], g: Relations, l: Layout)
     );
 }
 
-// Where the range of a node of that kind starts, and how many elements it has: a quantifier's is that of all elements.
-fn range_start(kind: usize) -> usize
-    ensures { λ r. ⌜ (r ≡ rangeStart kind) × (r ≤ tableLength) ⌝ }
+// Where the range of a node of that kind starts, and how many of the elements of its sort it has: only a quantifier goes over any.
+fn range_start(kind: usize, sort: usize) -> usize
+    requires { ⌜ sort < 256 ⌝ }
+    ensures { λ r. ⌜ (r ≡ rangeStart kind sort) × (r ≤ 2 ^ 32) ⌝ }
 {
     if kind < 2 {
-        return ground::RANGE_AT;
+        return ground::RANGE_AT + ground::RANGE_LINE * sort;
     }
     0
 }
 
-fn range_count(n: usize, kind: usize) -> usize
-    requires { ⌜ n ≤ 64 ⌝ }
-    ensures { λ r. ⌜ (r ≡ rangeCount n kind) × (r ≤ 64) ⌝ }
+fn range_count(count: usize, kind: usize) -> usize
+    requires { ⌜ count ≤ 64 ⌝ }
+    ensures { λ r. ⌜ (r ≡ rangeCount count kind) × (r ≤ 64) ⌝ }
 {
     if kind < 2 {
-        return n;
+        return count;
     }
     0
 }
 
-// The line of a node whose actions and atoms start there.
-fn node_numbers(n: usize, act: usize, node: usize, x: NodeRow) -> [usize; 13]
-    requires { ⌜ (n ≤ 64) × (act ≤ numberLimit) × (node ≤ numberLimit) ⌝ }
-    ensures { λ r. ⌜ (r ≡ nodeFrom n act node x) × Most r (2 ^ 32) ⌝ }
+// The line of a node whose actions and atoms start there and whose sort has `many` elements.
+fn node_numbers(many: usize, act: usize, node: usize, x: NodeRow) -> [usize; 13]
+    requires { ⌜ (many ≤ 64) × (act ≤ numberLimit) × (node ≤ numberLimit) ⌝ }
+    ensures { λ r. ⌜ (r ≡ nodeFrom many act node x) × Most r (2 ^ 32) ⌝ }
 {
     let ls = x.levels;
     let kind = tree::wide(x.kind);
-    let range = range_start(kind);
-    let count = range_count(n, kind);
+    let range = range_start(kind, tree::wide(x.sort));
+    let count = range_count(many, kind);
     [
         act,
         node,
@@ -325,14 +382,15 @@ fn node_numbers(n: usize, act: usize, node: usize, x: NodeRow) -> [usize; 13]
 }
 
 // The lines of the nodes, and the line past the last.
-fn fill_nodes(table: &mut [usize], n: usize, t: Nodes, l: Layout)
-    requires { ⌜ (length (now table) ≡ tableLength) × (n ≤ 64) × Fits t × Small l numberLimit ⌝ }
-    ensures { λ r. ⌜ (now (table .exit) ≡ splice nodesPlace (nodeLines n t l) (now (table .entry))) × ((v : ℕ) → v < t .count → Most (nodeNumbers n t l v) (2 ^ 32)) ⌝ }
+fn fill_nodes(table: &mut [usize], n: usize, t: Nodes, l: Layout, ranges: Ranges)
+    requires { ⌜ (length (now table) ≡ tableLength) × RangesFit n ranges × Fits t × Small l numberLimit ⌝ }
+    ensures { λ r. ⌜ (now (table .exit) ≡ splice nodesPlace (nodeLines (ranges .count) t l) (now (table .entry))) × ((v : ℕ) → v < t .count → Most (nodeNumbers (ranges .count) t l v) (2 ^ 32)) ⌝ }
 {
     let mut v: usize = 0;
     while v < t.count {
         let x = t.rows[v];
-        let line = node_numbers(n, l.act[v], l.node[v], x);
+        let many = ranges.count[tree::wide(x.sort)];
+        let line = node_numbers(many, l.act[v], l.node[v], x);
         store(table, ground::NODE_AT + ground::NODE_LINE * v, &line);
         v += 1;
     }
@@ -354,33 +412,24 @@ fn start_of(rel: &[usize], neg: &[usize], node: &[usize], tag: u8, which: usize)
     node[which]
 }
 
-// The greatest of all elements.
-fn greatest_of(n: usize) -> usize
-    requires { ⌜ 0 < n ⌝ }
-    ensures { λ r. ⌜ (r ≡ greatest (below n)) × (r < n) ⌝ }
-{
-    n - 1
-}
-
-// The line of a part whose atoms start there; a `forall` stands for its atom at the greatest element of its range.
-fn part_numbers(n: usize, start: usize, q: PartRow) -> [usize; 5]
-    requires { ⌜ (0 < n) × (n ≤ 64) × PartFits q × (start ≤ numberLimit) ⌝ }
-    ensures { λ r. ⌜ (r ≡ numbersFrom n start q) × Most r (2 ^ 32) ⌝ }
+// The line of a part whose atoms start there; a `forall` stands for its atom at the greatest element of its range, `top`.
+fn part_numbers(n: usize, top: usize, start: usize, q: PartRow) -> [usize; 5]
+    requires { ⌜ (0 < n) × (n ≤ 64) × PartFits q × (start ≤ numberLimit) × (top < n) ⌝ }
+    ensures { λ r. ⌜ (r ≡ numbersFrom n top start q) × Most r (2 ^ 32) ⌝ }
 {
     let levels = q.levels;
     let w = rows::weights(n, levels, tree::wide(q.width));
     if q.tag == 2 {
-        let top = greatest_of(n);
         return [start + top, w[0] * n, w[1] * n, w[2] * n, w[3] * n];
     }
     [start, w[0], w[1], w[2], w[3]]
 }
 
 // The lines of the parts, and the root's.
-fn fill_parts(table: &mut [usize], n: usize, t: Nodes, l: Layout)
-    requires { ⌜ (length (now table) ≡ tableLength) × (0 < n) × (n ≤ 64) × Fits t × Small l numberLimit ⌝ }
-    ensures { λ r. ⌜ (now (table .exit) ≡ splice rootPlace (partNumbers n l (t .root)) (splice partsPlace (partLines n t l) (now (table .entry))))
-        × ((i : ℕ) → i < t .placed → Most (partNumbers n l (getD (t .parts) i noPart)) (2 ^ 32)) × Most (partNumbers n l (t .root)) (2 ^ 32) ⌝ }
+fn fill_parts(table: &mut [usize], n: usize, t: Nodes, l: Layout, ranges: Ranges)
+    requires { ⌜ (length (now table) ≡ tableLength) × (0 < n) × (n ≤ 64) × Fits t × Small l numberLimit × RangesFit n ranges ⌝ }
+    ensures { λ r. ⌜ (now (table .exit) ≡ splice rootPlace (partNumbers n (ranges .top) l (t .root)) (splice partsPlace (partLines n (ranges .top) t l) (now (table .entry))))
+        × ((i : ℕ) → i < t .placed → Most (partNumbers n (ranges .top) l (getD (t .parts) i noPart)) (2 ^ 32)) × Most (partNumbers n (ranges .top) l (t .root)) (2 ^ 32) ⌝ }
 {
     let rel = l.rel;
     let neg = l.neg;
@@ -389,13 +438,15 @@ fn fill_parts(table: &mut [usize], n: usize, t: Nodes, l: Layout)
     while i < t.placed {
         let q = t.parts[i];
         let start = start_of(&rel, &neg, &node, q.tag, tree::wide(q.which));
-        let line = part_numbers(n, start, q);
+        let top = ranges.top[tree::wide(q.sort)];
+        let line = part_numbers(n, top, start, q);
         store(table, ground::PART_AT + ground::PART_LINE * i, &line);
         i += 1;
     }
     let q = t.root;
     let start = start_of(&rel, &neg, &node, q.tag, tree::wide(q.which));
-    let last = part_numbers(n, start, q);
+    let top = ranges.top[tree::wide(q.sort)];
+    let last = part_numbers(n, top, start, q);
     store(table, ground::ROOT_AT, &last);
 }
 
@@ -411,16 +462,55 @@ pub fn fill_range(table: &mut [usize], at: usize, n: usize)
     }
 }
 
-// The whole table, in place of zeros: the lines past the last relation, node and part stay as they were.
-pub fn fill(table: &mut [usize], n: usize, g: Relations, t: Nodes, l: Layout)
-    requires { ⌜ (length (now table) ≡ tableLength) × Most (now table) 0 × (0 < n) × (n ≤ 64) × RelationsFit g × Fits t × Small l numberLimit ⌝ }
-    ensures { λ r. ⌜ (now (table .exit) ≡ tableOf n g t l (now (table .entry))) × Filled n g t l (now (table .exit)) ⌝ }
+// The range of a type, by the words of members, from place `at` on.
+fn fill_members(table: &mut [usize], at: usize, n: usize, members: &[u64], k: usize)
+    requires { ⌜ (at + n ≤ length (now table)) × (n ≤ 64) × (k < length (now members)) × (k < 8) ⌝ }
+    ensures { λ r. ⌜ now (table .exit) ≡ splice at (rangeBy n (now (members .entry)) (suc k)) (now (table .entry)) ⌝ }
+{
+    let mut i: usize = 0;
+    let mut x: usize = 0;
+    while x < n {
+        if bits::get(members, 64 * k + x) {
+            table[at + i] = x;
+            i += 1;
+        }
+        x += 1;
+    }
+}
+
+// The ranges of all elements and of the first `types` types, 64 numbers for each, from place `at` on.
+pub fn fill_ranges(table: &mut [usize], at: usize, n: usize, types: usize, members: &[u64])
+    requires { ⌜ (at + 64 * types + 64 ≤ length (now table)) × (n ≤ 64) × (types ≤ 8) × (types ≤ length (now members)) ⌝ }
+    ensures { λ r. ⌜ now (table .exit) ≡ withRanges at n (now (members .entry)) types (now (table .entry)) ⌝ }
+{
+    fill_range(table, at, n);
+    let mut k: usize = 0;
+    while k < types {
+        fill_members(table, at + ground::RANGE_LINE * (k + 1), n, members, k);
+        k += 1;
+    }
+}
+
+// The whole table, in place of zeros: the lines past the last relation, node, part and sort stay as they were.
+pub fn fill(
+    table: &mut [usize],
+    n: usize,
+    types: usize,
+    members: &[u64],
+    ranges: Ranges,
+    g: Relations,
+    t: Nodes,
+    l: Layout,
+)
+    requires { ⌜ (length (now table) ≡ tableLength) × Most (now table) 0 × (0 < n) × (n ≤ 64) × RelationsFit g × Fits t × Small l numberLimit × (types ≤ 8) × (types ≤ length (now members))
+        × RangesFit n ranges × RangesAre n (now members) types ranges ⌝ }
+    ensures { λ r. ⌜ (now (table .exit) ≡ tableOf n (now (members .entry)) types ranges g t l (now (table .entry))) × Filled n (now (members .entry)) types g t l (now (table .exit)) ⌝ }
 {
     table[0] = n;
     table[1] = g.count;
     table[2] = t.count;
     fill_relations(table, g, l);
-    fill_nodes(table, n, t, l);
-    fill_parts(table, n, t, l);
-    fill_range(table, ground::RANGE_AT, n);
+    fill_nodes(table, n, t, l, ranges);
+    fill_parts(table, n, t, l, ranges);
+    fill_ranges(table, ground::RANGE_AT, n, types, members);
 }

@@ -13,7 +13,8 @@ use Rattle.tree.specs.declared.Nodes.{Nodes}
 use Rattle.rows.specs.Values.{weightOf}
 use Rattle.ground.specs.declared.PartLine.{PartLine}
 use Rattle.layout.specs.declared.Relations.{Relations}
-use Rattle.truth.specs.Lines.{rangesPlace, linesLength, nodeIn, partIn, lineIn}
+use Rattle.layout.specs.Laid.{rangeBy, countAt}
+use Rattle.truth.specs.Lines.{rangesPlace, rangePlace, linesLength, nodeIn, partIn, lineIn}
 use Rattle.truth.specs.declared.NodeAt.{NodeAt}
 use Rattle.truth.specs.declared.PartAt.{PartAt}
 
@@ -51,32 +52,34 @@ lineOf n g q =
     let w = weightOf n (take (q .width) (q .levels)) in
     record { start = if ltb (q .tag) 2 then bitOf n g (q .which) else 0; weights = w 0 ∷ w 1 ∷ w 2 ∷ w 3 ∷ [] }
 
--- how many turns a quantifier of a level makes over its part: one serves for all n elements where the level is not free there
-unfoldable pub turnsOf : (n level : ℕ) → PartRow → ℕ
-turnsOf n level q = if any (eqb level) (take (q .width) (q .levels)) then n else 1
+-- how many turns a quantifier of a level makes over its part: one serves for all `count` elements of its range where the level is not
+-- free there
+unfoldable pub turnsOf : (count level : ℕ) → PartRow → ℕ
+turnsOf count level q = if any (eqb level) (take (q .width) (q .levels)) then count else 1
 
 -- the line of a node: a join by its own parts, a quantifier by its part, or by the parts of the join that its part is; a quantifier goes
--- over the first `turns` elements
+-- over the first `turns` elements of its sort
 unfoldable pub ownLine : ℕ → NodeRow → NodeAt
 ownLine turns x =
-    if ltb (x .kind) 2 then record { kind = x .kind; level = x .level; join = 1; first = x .first; many = x .many; range = rangesPlace; count = turns }
-    else record { kind = 2; level = 0; join = x .kind - 2; first = x .first; many = x .many; range = rangesPlace; count = 1 }
+    if ltb (x .kind) 2 then record { kind = x .kind; level = x .level; join = 1; first = x .first; many = x .many; range = rangePlace (x .sort); count = turns }
+    else record { kind = 2; level = 0; join = x .kind - 2; first = x .first; many = x .many; range = rangePlace (x .sort); count = 1 }
 
 unfoldable pub blockLine : ℕ → NodeRow → PartRow → NodeRow → NodeAt
 blockLine turns x q y =
     if ltb (x .kind) 2 then (if ltb (q .tag) 2 then ownLine turns x else if ltb (y .kind) 2 then ownLine turns x
-    else record { kind = x .kind; level = x .level; join = y .kind - 2; first = y .first; many = y .many; range = rangesPlace; count = turns })
+    else record { kind = x .kind; level = x .level; join = y .kind - 2; first = y .first; many = y .many; range = rangePlace (x .sort); count = turns })
     else ownLine turns x
 
 unfoldable pub nodeOf : ℕ → Nodes → NodeRow → NodeAt
-nodeOf n t x = let q = getD (t .parts) (x .first) noPart in blockLine (turnsOf n (x .level) q) x q (getD (t .rows) (q .which) noNode)
+nodeOf count t x = let q = getD (t .parts) (x .first) noPart in blockLine (turnsOf count (x .level) q) x q (getD (t .rows) (q .which) noNode)
 
--- the lines are those of the table; past the last node stand zeros
-pub record Lined (n : ℕ) (g : Relations) (t : Nodes) (w : List ℕ) : Type 0 where
+-- the lines are those of the table, with the ranges of k types and the counts of all sorts; past the last node stand zeros
+pub record Lined (n : ℕ) (members : List ℕ) (k : ℕ) (counts : List ℕ) (g : Relations) (t : Nodes) (w : List ℕ) : Type 0 where
   pub whole : length w ≡ linesLength
   pub entry : (i : ℕ) → getD w i 0 ≤ 2 ^ 32
-  pub node : (v : ℕ) → v < t .count → nodeIn w v ≡ nodeOf n t (getD (t .rows) v noNode)
+  pub node : (v : ℕ) → v < t .count → nodeIn w v ≡ nodeOf (countAt counts t v) t (getD (t .rows) v noNode)
   pub rest : (v : ℕ) → t .count ≤ v → v < 64 → nodeIn w v ≡ record { kind = 0; level = 0; join = 0; first = 0; many = 0; range = 0; count = 0 }
   pub part : (i : ℕ) → i < t .placed → (partIn w i ≡ partOf g (getD (t .parts) i noPart)) × (lineIn w i ≡ lineOf n g (getD (t .parts) i noPart))
   pub top : (partIn w 64 ≡ partOf g (t .root)) × (lineIn w 64 ≡ lineOf n g (t .root))
-  pub range : (i : ℕ) → i < n → getD w (rangesPlace + i) 0 ≡ i
+  pub range : (s i : ℕ) → s ≤ k → i < length (rangeBy n members s) → getD w (rangePlace s + i) 0 ≡ getD (rangeBy n members s) i 0
+  pub low : (i : ℕ) → rangesPlace ≤ i → getD w i 0 < n

@@ -10,8 +10,7 @@ use borrow.Author.Tests.{lt-ltb, le-ltb, eq-eqb, ne-eqb, ltb-true, ltb-false}
 use lib.Dec.{eqb, ltb}
 use lib.ListN.{length, getD, take, set}
 use lib.Seq.{getD-set-same, getD-set-other}
-use Rattle.definitions.specs.Lists.{if_then_else_, any, below}
-use Rattle.laws.specs.Lists.{length-below, getD-below}
+use Rattle.definitions.specs.Lists.{if_then_else_, any}
 use Rattle.definitions.specs.Atoms.{wordsFor, problemOf}
 use Rattle.definitions.specs.Truth.{Case}
 use Rattle.laws.specs.Reader.{Accepted}
@@ -21,14 +20,16 @@ use Rattle.tree.specs.declared.NodeRow.{NodeRow}
 use Rattle.tree.specs.declared.Nodes.{Nodes}
 use Rattle.rows.specs.Values.{Most, valueIn, weightOf}
 use Rattle.layout.specs.declared.Relations.{Relations}
-use Rattle.layout.specs.Laid.{Inputs}
+use Rattle.layout.specs.declared.Ranges.{Ranges}
+use Rattle.layout.specs.Laid.{rangeBy, RangesAre, countAt, Inputs}
 use Rattle.layout.specs.LaidLaws.{pow-most}
 use Rattle.definitions.specs.Actions.{Values}
 use native.Mathlib.Nat.{zero-add}
 use Rattle.ground.specs.declared.PartLine.{PartLine}
-use Rattle.layout.specs.Filled.{splice, tab}
-use Rattle.layout.specs.SpliceLaws.{each-most, ZeroFrom, length-splice, read-in, read-before, read-after, read-from, zeros-after, length-tab, tab-at, tab-next, tab-most}
-use Rattle.truth.specs.Lines.{rangesPlace, linesLength, nodeIn, partIn, lineIn}
+use Rattle.layout.specs.Filled.{splice, tab, withRanges}
+use Rattle.layout.specs.RangeLaws.{length-ranges, before-ranges, in-ranges, ranges-low}
+use Rattle.layout.specs.SpliceLaws.{each-most, ZeroFrom, length-splice, read-in, read-before, read-from, zeros-after, length-tab, tab-at, tab-next, tab-most}
+use Rattle.truth.specs.Lines.{rangesPlace, rangePlace, linesLength, nodeIn, partIn, lineIn}
 use Rattle.truth.specs.declared.NodeAt.{NodeAt}
 use Rattle.lines.specs.Lined.{factWords, chooseWords, factSum, chooseSum, sourceOf, firstBit, bitOf, partOf, lineOf, turnsOf, ownLine, blockLine, nodeOf, Lined}
 
@@ -38,9 +39,13 @@ pub record LinesOf (c : Case) (n : ℕ) (w : List ℕ) : Type 0 where
   pub nodes : Nodes
   pub some : 0 < n
   pub size : n ≤ 64
-  pub inputs : Inputs (problemOf c) n relations nodes
+  pub members : List ℕ
+  pub types : ℕ
+  pub ranges : Ranges
+  pub counted : RangesAre n members types ranges
+  pub inputs : Inputs (problemOf c) n members types relations nodes
   pub fits : Fits nodes
-  pub lined : Lined n relations nodes w
+  pub lined : Lined n members types (ranges .count) relations nodes w
 
 -- ... of some accepted one
 pub record OfCase (n : ℕ) (w : List ℕ) : Type 0 where
@@ -62,8 +67,8 @@ abbrev pub partList : ℕ → Relations → PartRow → List ℕ
 partList n g q =
     partOf g q .tag ∷ partOf g q .which ∷ lineOf n g q .start ∷ getD (lineOf n g q .weights) 0 0 ∷ getD (lineOf n g q .weights) 1 0 ∷ getD (lineOf n g q .weights) 2 0 ∷ getD (lineOf n g q .weights) 3 0 ∷ []
 
-abbrev pub nodeLines : ℕ → Nodes → ℕ → List ℕ
-nodeLines n t v = nodeNumbers (nodeOf n t (getD (t .rows) v noNode))
+abbrev pub nodeLines : List ℕ → Nodes → ℕ → List ℕ
+nodeLines counts t v = nodeNumbers (nodeOf (countAt counts t v) t (getD (t .rows) v noNode))
 
 abbrev pub partLines : ℕ → Relations → Nodes → ℕ → List ℕ
 partLines n g t i = partList n g (getD (t .parts) i noPart)
@@ -121,25 +126,29 @@ seven-most a b c d e f g h i j k l m o = each-most (2 ^ 32) (a ∷ b ∷ c ∷ d
 abbrev pub Wide : ℕ → ℕ → Type 0
 Wide k byte = (k ≡ byte) × (k < 256)
 
+-- where the range of a sort starts
+abbrev pub Starts : ℕ → ℕ → Type 0
+Starts r sort = (r ≡ rangePlace sort) × (r ≤ 2 ^ 32)
+
 -- a list is the line, and its numbers are small
 abbrev pub IsLine : List ℕ → NodeAt → Type 0
 IsLine r x = (r ≡ nodeNumbers x) × Most r (2 ^ 32)
 
 module _ (turns : ℕ) (few : turns ≤ 64) where
-  pub own-quantifier : (x : NodeRow) (k l f m : ℕ) → Wide k (x .kind) → Wide l (x .level) → Wide f (x .first) → Wide m (x .many) → k < 2
-      → IsLine (k ∷ l ∷ 1 ∷ f ∷ m ∷ rangesPlace ∷ turns ∷ []) (ownLine turns x)
+  pub own-quantifier : (x : NodeRow) (k l f m r : ℕ) → Wide k (x .kind) → Wide l (x .level) → Wide f (x .first) → Wide m (x .many) → Starts r (x .sort) → k < 2
+      → IsLine (k ∷ l ∷ 1 ∷ f ∷ m ∷ r ∷ turns ∷ []) (ownLine turns x)
   unfolding ownLine
-  own-quantifier x k l f m a b c d h = (
-    let z : x .kind < 2 = omega arith in rw (lt-ltb (x .kind) 2 z, a .0, b .0, c .0, d .0) refl,
-    seven-most k l 1 f m rangesPlace turns (omega arith) (omega arith) (omega arith) (omega arith) (omega arith) (omega arith) (omega arith),
+  own-quantifier x k l f m r a b c d s h = (
+    let z : x .kind < 2 = omega arith in rw (lt-ltb (x .kind) 2 z, a .0, b .0, c .0, d .0, s .0) refl,
+    seven-most k l 1 f m r turns (omega arith) (omega arith) (omega arith) (omega arith) (omega arith) (omega arith) (omega arith),
   )
 
-  pub own-join : (x : NodeRow) (k f m : ℕ) → Wide k (x .kind) → Wide f (x .first) → Wide m (x .many) → 2 ≤ k
-      → IsLine (2 ∷ 0 ∷ (k - 2) ∷ f ∷ m ∷ rangesPlace ∷ 1 ∷ []) (ownLine turns x)
+  pub own-join : (x : NodeRow) (k f m r : ℕ) → Wide k (x .kind) → Wide f (x .first) → Wide m (x .many) → Starts r (x .sort) → 2 ≤ k
+      → IsLine (2 ∷ 0 ∷ (k - 2) ∷ f ∷ m ∷ r ∷ 1 ∷ []) (ownLine turns x)
   unfolding ownLine
-  own-join x k f m a c d h = (
-    let z : 2 ≤ x .kind = omega arith in rw (le-ltb (x .kind) 2 z, a .0, c .0, d .0) refl,
-    seven-most 2 0 (k - 2) f m rangesPlace 1 (omega arith) (omega arith) (omega arith) (omega arith) (omega arith) (omega arith) (omega arith),
+  own-join x k f m r a c d s h = (
+    let z : 2 ≤ x .kind = omega arith in rw (le-ltb (x .kind) 2 z, a .0, c .0, d .0, s .0) refl,
+    seven-most 2 0 (k - 2) f m r 1 (omega arith) (omega arith) (omega arith) (omega arith) (omega arith) (omega arith) (omega arith),
   )
 
   module _ (x : NodeRow) (q : PartRow) (y : NodeRow) where
@@ -155,14 +164,14 @@ module _ (turns : ℕ) (few : turns ≤ 64) where
     unfolding blockLine
     block-quantifier r h k m e = (rw (lt-ltb (x .kind) 2 h, le-ltb (q .tag) 2 k, lt-ltb (y .kind) 2 m) (e .0), e .1)
 
-    pub block-fused : (k l j f m : ℕ) → Wide k (x .kind) → Wide l (x .level) → Wide j (y .kind) → Wide f (y .first) → Wide m (y .many) → k < 2 → 2 ≤ q .tag → 2 ≤ j
-        → IsLine (k ∷ l ∷ (j - 2) ∷ f ∷ m ∷ rangesPlace ∷ turns ∷ []) (blockLine turns x q y)
+    pub block-fused : (k l j f m r : ℕ) → Wide k (x .kind) → Wide l (x .level) → Wide j (y .kind) → Wide f (y .first) → Wide m (y .many) → Starts r (x .sort) → k < 2 → 2 ≤ q .tag → 2 ≤ j
+        → IsLine (k ∷ l ∷ (j - 2) ∷ f ∷ m ∷ r ∷ turns ∷ []) (blockLine turns x q y)
     unfolding blockLine
-    block-fused k l j f m a b c d e h t z = (
+    block-fused k l j f m r a b c d e s h t z = (
       let u : x .kind < 2 = omega arith in
           let o : 2 ≤ y .kind = omega arith in
-          rw (lt-ltb (x .kind) 2 u, le-ltb (q .tag) 2 t, le-ltb (y .kind) 2 o, a .0, b .0, c .0, d .0, e .0) refl,
-      seven-most k l (j - 2) f m rangesPlace turns (omega arith) (omega arith) (omega arith) (omega arith) (omega arith) (omega arith) (omega arith),
+          rw (lt-ltb (x .kind) 2 u, le-ltb (q .tag) 2 t, le-ltb (y .kind) 2 o, a .0, b .0, c .0, d .0, e .0, s .0) refl,
+      seven-most k l (j - 2) f m r turns (omega arith) (omega arith) (omega arith) (omega arith) (omega arith) (omega arith) (omega arith),
     )
 
 beyond : (l : List ℕ) (i : ℕ) → length l ≤ i → getD l i 0 ≡ 0
@@ -284,19 +293,19 @@ part-list n g bits line q b f e = (e .0 ∙ go (ltb (q .tag) 2) refl, e .1)
     go false k = rw k refl
 
 -- ---- the turns of filling
-pub node-turn : (n : ℕ) (t : Nodes) (w d z : List ℕ) (v : ℕ) (line : List ℕ) → length d ≡ linesLength → v < 64 → line ≡ nodeLines n t v
-    → w ≡ splice 0 (tab (nodeLines n t) v) d → z ≡ splice (7 * v) line w → z ≡ splice 0 (tab (nodeLines n t) (v + 1)) d
-node-turn n t w d z v line len h a b e =
-    tab-next (nodeLines n t) 7 (λ i. refl) 0 v line w d z (omega arith) a b (e ∙ ap (λ (k : ℕ). splice k line w) (sym (zero-add (7 * v))))
+pub node-turn : (counts : List ℕ) (t : Nodes) (w d z : List ℕ) (v : ℕ) (line : List ℕ) → length d ≡ linesLength → v < 64 → line ≡ nodeLines counts t v
+    → w ≡ splice 0 (tab (nodeLines counts t) v) d → z ≡ splice (7 * v) line w → z ≡ splice 0 (tab (nodeLines counts t) (v + 1)) d
+node-turn counts t w d z v line len h a b e =
+    tab-next (nodeLines counts t) 7 (λ i. refl) 0 v line w d z (omega arith) a b (e ∙ ap (λ (k : ℕ). splice k line w) (sym (zero-add (7 * v))))
 
 pub part-turn : (n : ℕ) (g : Relations) (t : Nodes) (w d z : List ℕ) (i : ℕ) (line : List ℕ) → length d ≡ linesLength → i < 64 → line ≡ partLines n g t i → w ≡ splice 448 (tab (partLines n g t) i) d → z ≡ splice (448 + 7 * i) line w → z ≡ splice 448 (tab (partLines n g t) (i + 1)) d
 part-turn n g t w d z i line len h a b e = tab-next (partLines n g t) 7 (λ i. refl) 448 i line w d z (omega arith) a b e
 
 -- ---- what stands where
-module _ (n : ℕ) (g : Relations) (t : Nodes) (d : List ℕ) (len : length d ≡ linesLength) (zeros : Most d 0) (few : t .count ≤ 64) (parts : t .placed ≤ 64) (size : n ≤ 64)
-    (nm : (v : ℕ) → v < t .count → Most (nodeLines n t v) (2 ^ 32)) (pm : (i : ℕ) → i < t .placed → Most (partLines n g t i) (2 ^ 32)) (rm : Most (partList n g (t .root)) (2 ^ 32)) where
+module _ (n : ℕ) (members : List ℕ) (k : ℕ) (counts : List ℕ) (g : Relations) (t : Nodes) (d : List ℕ) (len : length d ≡ linesLength) (zeros : Most d 0) (few : t .count ≤ 64) (parts : t .placed ≤ 64) (some : 0 < n) (size : n ≤ 64) (types : k ≤ 8)
+    (nm : (v : ℕ) → v < t .count → Most (nodeLines counts t v) (2 ^ 32)) (pm : (i : ℕ) → i < t .placed → Most (partLines n g t i) (2 ^ 32)) (rm : Most (partList n g (t .root)) (2 ^ 32)) where
   abbrev N : List ℕ
-  N = tab (nodeLines n t) (t .count)
+  N = tab (nodeLines counts t) (t .count)
 
   abbrev P : List ℕ
   P = tab (partLines n g t) (t .placed)
@@ -314,10 +323,10 @@ module _ (n : ℕ) (g : Relations) (t : Nodes) (d : List ℕ) (len : length d �
   T₃ = splice 896 Q T₂
 
   abbrev T : List ℕ
-  T = splice rangesPlace (below n) T₃
+  T = withRanges rangesPlace n members k T₃
 
   length-N : length N ≡ 7 * t .count
-  length-N = length-tab (nodeLines n t) 7 (λ i. refl) (t .count)
+  length-N = length-tab (nodeLines counts t) 7 (λ i. refl) (t .count)
 
   length-P : length P ≡ 7 * t .placed
   length-P = length-tab (partLines n g t) 7 (λ i. refl) (t .placed)
@@ -343,32 +352,32 @@ module _ (n : ℕ) (g : Relations) (t : Nodes) (d : List ℕ) (len : length d �
   length-T₃ : length T₃ ≡ linesLength
   length-T₃ = length-splice 896 Q T₂ room₃ ∙ length-T₂ ∙ length-T₁ ∙ len
 
-  room₄ : rangesPlace + length (below n) ≤ length T₃
-  room₄ = omega (arith, length-below n, length-T₃)
+  room₄ : rangesPlace + 64 * k + 64 ≤ length T₃
+  room₄ = omega (arith, length-T₃)
 
   zero-T₁ : ZeroFrom 448 T₁
   zero-T₁ = zeros-after 0 N d room₁ 448 (omega (arith, length-N)) zero-d
 
   in-N : (j : ℕ) → j < 448 → getD T j 0 ≡ getD N j 0
-  in-N j h = read-before rangesPlace (below n) T₃ room₄ j (omega arith) ∙ read-before 896 Q T₂ room₃ j (omega arith) ∙ read-before 448 P T₁ room₂ j h ∙ ap (λ (k : ℕ). getD T₁ k 0) (sym (zero-add j)) ∙ read-from 0 N d room₁ zero-d j
+  in-N j h = before-ranges rangesPlace n members size k T₃ room₄ j (omega arith) ∙ read-before 896 Q T₂ room₃ j (omega arith) ∙ read-before 448 P T₁ room₂ j h ∙ ap (λ (k : ℕ). getD T₁ k 0) (sym (zero-add j)) ∙ read-from 0 N d room₁ zero-d j
 
   in-P : (j : ℕ) → j < 448 → getD T (448 + j) 0 ≡ getD P j 0
-  in-P j h = read-before rangesPlace (below n) T₃ room₄ (448 + j) (omega arith) ∙ read-before 896 Q T₂ room₃ (448 + j) (omega arith) ∙ read-from 448 P T₁ room₂ zero-T₁ j
+  in-P j h = before-ranges rangesPlace n members size k T₃ room₄ (448 + j) (omega arith) ∙ read-before 896 Q T₂ room₃ (448 + j) (omega arith) ∙ read-from 448 P T₁ room₂ zero-T₁ j
 
   in-Q : (j : ℕ) → j < 7 → getD T (896 + j) 0 ≡ getD Q j 0
-  in-Q j h = read-before rangesPlace (below n) T₃ room₄ (896 + j) (omega arith) ∙ read-in 896 Q T₂ room₃ j h
+  in-Q j h = before-ranges rangesPlace n members size k T₃ room₄ (896 + j) (omega arith) ∙ read-in 896 Q T₂ room₃ j h
 
   zero-T₃ : ZeroFrom rangesPlace T₃
   zero-T₃ = zeros-after 896 Q T₂ room₃ rangesPlace (omega arith) (zeros-after 448 P T₁ room₂ 896 (omega (arith, length-P)) zero-T₁)
 
-  in-M : (j : ℕ) → j < n → getD T (rangesPlace + j) 0 ≡ j
-  in-M j h = read-in rangesPlace (below n) T₃ room₄ j (omega (arith, length-below n)) ∙ getD-below n j h
+  in-M : (s i : ℕ) → s ≤ k → i < length (rangeBy n members s) → getD T (rangePlace s + i) 0 ≡ getD (rangeBy n members s) i 0
+  in-M = in-ranges rangesPlace n members size k T₃ room₄
 
-  past-M : (i : ℕ) → rangesPlace + n ≤ i → getD T i 0 ≡ 0
-  past-M i h = read-after rangesPlace (below n) T₃ room₄ i (omega (arith, length-below n)) ∙ zero-T₃ i (omega arith)
+  low-M : (i : ℕ) → rangesPlace ≤ i → getD T i 0 < n
+  low-M = ranges-low rangesPlace n members size k T₃ room₄ some zero-T₃
 
-  node-at : (v j i : ℕ) → v < t .count → j < 7 → i ≡ 7 * v + j → getD T i 0 ≡ getD (nodeLines n t v) j 0
-  node-at v j i h k e = ap (λ (x : ℕ). getD T x 0) e ∙ in-N (7 * v + j) (omega arith) ∙ tab-at (nodeLines n t) 7 (λ i. refl) (t .count) v j h k
+  node-at : (v j i : ℕ) → v < t .count → j < 7 → i ≡ 7 * v + j → getD T i 0 ≡ getD (nodeLines counts t v) j 0
+  node-at v j i h k e = ap (λ (x : ℕ). getD T x 0) e ∙ in-N (7 * v + j) (omega arith) ∙ tab-at (nodeLines counts t) 7 (λ i. refl) (t .count) v j h k
 
   past-N : (i : ℕ) → 7 * t .count ≤ i → i < 448 → getD T i 0 ≡ 0
   past-N i h k = in-N i k ∙ beyond N i (omega (arith, length-N))
@@ -380,14 +389,13 @@ module _ (n : ℕ) (g : Relations) (t : Nodes) (d : List ℕ) (len : length d �
   root-at j i h e = ap (λ (x : ℕ). getD T x 0) e ∙ in-Q j h
 
   entry : (i : ℕ) → getD T i 0 ≤ 2 ^ 32
-  entry i = go (decLt i 448) (decLt i 896) (decLt i 903) (decLt i (903 + n))
+  entry i = go (decLt i 448) (decLt i 896) (decLt i 903)
     where
-      go : Dec (i < 448) → Dec (i < 896) → Dec (i < 903) → Dec (i < 903 + n) → getD T i 0 ≤ 2 ^ 32
-      go (yes h) q r m = rw (in-N i h) (tab-most (nodeLines n t) (t .count) (2 ^ 32) nm i)
-      go (no h) (yes q) r m = let e : i ≡ 448 + (i - 448) = omega arith in rw e (rw (in-P (i - 448) (omega arith)) (tab-most (partLines n g t) (t .placed) (2 ^ 32) pm (i - 448)))
-      go (no h) (no q) (yes r) m = let e : i ≡ 896 + (i - 896) = omega arith in rw e (rw (in-Q (i - 896) (omega arith)) (rm (i - 896)))
-      go (no h) (no q) (no r) (yes m) = let e : i ≡ rangesPlace + (i - 903) = omega arith in rw e (let z = in-M (i - 903) (omega arith) in omega arith)
-      go (no h) (no q) (no r) (no m) = let z = past-M i (omega arith) in omega arith
+      go : Dec (i < 448) → Dec (i < 896) → Dec (i < 903) → getD T i 0 ≤ 2 ^ 32
+      go (yes h) q r = rw (in-N i h) (tab-most (nodeLines counts t) (t .count) (2 ^ 32) nm i)
+      go (no h) (yes q) r = let e : i ≡ 448 + (i - 448) = omega arith in rw e (rw (in-P (i - 448) (omega arith)) (tab-most (partLines n g t) (t .placed) (2 ^ 32) pm (i - 448)))
+      go (no h) (no q) (yes r) = let e : i ≡ 896 + (i - 896) = omega arith in rw e (rw (in-Q (i - 896) (omega arith)) (rm (i - 896)))
+      go (no h) (no q) (no r) = omega (arith, low-M i (omega arith))
 
   four : (ws : List ℕ) → length ws ≡ 4 → getD ws 0 0 ∷ getD ws 1 0 ∷ getD ws 2 0 ∷ getD ws 3 0 ∷ [] ≡ ws
   four (a ∷ b ∷ c ∷ e ∷ []) h = refl
@@ -404,11 +412,12 @@ module _ (n : ℕ) (g : Relations) (t : Nodes) (d : List ℕ) (len : length d �
   same-line : (q : PartRow) (l : PartLine) → l ≡ record { start = lineOf n g q .start; weights = getD (lineOf n g q .weights) 0 0 ∷ getD (lineOf n g q .weights) 1 0 ∷ getD (lineOf n g q .weights) 2 0 ∷ getD (lineOf n g q .weights) 3 0 ∷ [] } → l ≡ lineOf n g q
   same-line q l e = e ∙ ap (λ (ws : List ℕ). record { start = lineOf n g q .start; weights = ws }) (four (lineOf n g q .weights) (four-weights q))
 
-  pub lined : Lined n g t T
+  pub lined : Lined n members k counts g t T
   unfolding nodeIn partIn lineIn
   lined = record {
-    whole = length-splice rangesPlace (below n) T₃ room₄ ∙ length-T₃;
+    whole = length-ranges rangesPlace n members size k T₃ room₄ ∙ length-T₃;
     range = in-M;
+    low = low-M;
     entry = entry;
     node = λ v h. rw (node-at v 0 (7 * v) h (omega arith) (omega arith), node-at v 1 (7 * v + 1) h (omega arith) (omega arith), node-at v 2 (7 * v + 2) h (omega arith) (omega arith), node-at v 3 (7 * v + 3) h (omega arith) (omega arith), node-at v 4 (7 * v + 4) h (omega arith) (omega arith), node-at v 5 (7 * v + 5) h (omega arith) (omega arith), node-at v 6 (7 * v + 6) h (omega arith) (omega arith)) refl;
     rest = λ v h l. rw (past-N (7 * v) (omega arith) (omega arith), past-N (7 * v + 1) (omega arith) (omega arith), past-N (7 * v + 2) (omega arith) (omega arith), past-N (7 * v + 3) (omega arith) (omega arith), past-N (7 * v + 4) (omega arith) (omega arith), past-N (7 * v + 5) (omega arith) (omega arith), past-N (7 * v + 6) (omega arith) (omega arith)) refl;
@@ -422,11 +431,11 @@ module _ (n : ℕ) (g : Relations) (t : Nodes) (d : List ℕ) (len : length d �
     );
   }
 
-pub all-lined : (n : ℕ) (g : Relations) (t : Nodes) (d x y z : List ℕ) → length d ≡ linesLength → Most d 0 → t .count ≤ 64 → t .placed ≤ 64 → n ≤ 64
-    → x ≡ splice 0 (tab (nodeLines n t) (t .count)) d → ((v : ℕ) → v < t .count → Most (nodeLines n t v) (2 ^ 32))
+pub all-lined : (n : ℕ) (members : List ℕ) (k : ℕ) (counts : List ℕ) (g : Relations) (t : Nodes) (d x y z : List ℕ) → length d ≡ linesLength → Most d 0 → t .count ≤ 64 → t .placed ≤ 64 → 0 < n → n ≤ 64 → k ≤ 8
+    → x ≡ splice 0 (tab (nodeLines counts t) (t .count)) d → ((v : ℕ) → v < t .count → Most (nodeLines counts t v) (2 ^ 32))
     → y ≡ splice 896 (partList n g (t .root)) (splice 448 (tab (partLines n g t) (t .placed)) x)
-    → ((i : ℕ) → i < t .placed → Most (partLines n g t i) (2 ^ 32)) → Most (partList n g (t .root)) (2 ^ 32) → z ≡ splice rangesPlace (below n) y → Lined n g t z
-all-lined n g t d x y z len zeros few parts size e nm f pm rm h =
-    subst (Lined n g t)
-    (sym (h ∙ ap (splice rangesPlace (below n)) (f ∙ ap (λ (z : List ℕ). splice 896 (partList n g (t .root)) (splice 448 (tab (partLines n g t) (t .placed)) z)) e)))
-    (lined n g t d len zeros few parts size nm pm rm)
+    → ((i : ℕ) → i < t .placed → Most (partLines n g t i) (2 ^ 32)) → Most (partList n g (t .root)) (2 ^ 32) → z ≡ withRanges rangesPlace n members k y → Lined n members k counts g t z
+all-lined n members k counts g t d x y z len zeros few parts some size types e nm f pm rm h =
+    subst (Lined n members k counts g t)
+    (sym (h ∙ ap (withRanges rangesPlace n members k) (f ∙ ap (λ (z : List ℕ). splice 896 (partList n g (t .root)) (splice 448 (tab (partLines n g t) (t .placed)) z)) e)))
+    (lined n members k counts g t d len zeros few parts some size types nm pm rm)

@@ -10,13 +10,14 @@ use borrow.Author.Tests.{lt-ltb, le-ltb, eqb-true, ltb-true, ltb-false}
 use lib.Dec.{T, eqb, ltb, ltb→lt}
 use lib.ListN.{length, getD, take, drop, length-map}
 use lib.Seq.{getD-drop}
-use Rattle.definitions.specs.Lists.{if_then_else_, all, any, isIn, from, below}
+use Rattle.definitions.specs.Lists.{if_then_else_, all, any, isIn, below}
 use Rattle.laws.specs.Booleans.{and-T, T-and-l, T-and-r, T-ext}
 use Rattle.laws.specs.Lists.{all-at, getD-mem, mem-below, mem-filter, filter-mem}
-use Rattle.laws.specs.Members.{in-mem, mem-in, members-range}
+use Rattle.laws.specs.Members.{in-mem, mem-in, range-few}
+use Rattle.laws.specs.Sorts.{Sorted}
 use Rattle.definitions.specs.Relations.{Tuple}
-use Rattle.definitions.specs.Truth.{Case, membersOf, holds, arePicks, ruleIsTrue}
-use Rattle.definitions.specs.Tree.{Tree, Trees, leaf, forallNode, existsNode, andNode, orNode, end, _then_, Part, parts, partsFrom, nodes, nodesAll, occurs, free}
+use Rattle.definitions.specs.Truth.{Case, holds, arePicks, ruleIsTrue}
+use Rattle.definitions.specs.Tree.{Tree, Trees, leaf, forallNode, existsNode, andNode, orNode, end, _then_, Part, parts, partsFrom, nodes, nodesAll, nodeSort, occurs, free}
 use Rattle.definitions.specs.Atoms.{Problem, problemOf, problemWith, relationAt, nodeAt, rowOf}
 use Rattle.definitions.specs.Actions.{Values}
 use Rattle.definitions.specs.Built.{treeHolds}
@@ -37,11 +38,13 @@ use Rattle.ground.specs.Lines.{partNumber, membersIn}
 use Rattle.ground.specs.NeedLaws.{members-length}
 use Rattle.ground.specs.declared.PartLine.{PartLine}
 use Rattle.layout.specs.declared.Relations.{Relations}
-use Rattle.layout.specs.Laid.{Inputs}
-use Rattle.layout.specs.StartsAre.{many-are}
+use Rattle.layout.specs.declared.Ranges.{Ranges}
+use Rattle.layout.specs.Laid.{rangeBy, RangesAre, countAt, Inputs}
+use Rattle.layout.specs.StartsAre.{many-are, node-sort, count-of}
+use Rattle.layout.specs.RangeLaws.{map-places}
 use Rattle.initial.specs.Initial.{FactsIn}
 use Rattle.picks.specs.Words.{PicksAre}
-use Rattle.truth.specs.Lines.{rangesPlace, elementIn, nodeIn, partIn, lineIn, literalAt, leafAt, agree, fixedIn, NodeSound, Sound}
+use Rattle.truth.specs.Lines.{rangePlace, nodeIn, partIn, lineIn, literalAt, leafAt, agree, fixedIn, NodeSound, Sound}
 use Rattle.truth.specs.Says.{nodeOf as nodeOfTree, noValues, truthBy, PartSays, NodeSays, Says}
 use Rattle.truth.specs.declared.NodeAt.{NodeAt}
 use Rattle.truth.specs.declared.PartAt.{PartAt}
@@ -101,10 +104,10 @@ head-has k (andNode ts) d h = free-has (andNode ts) d h
 head-has k (orNode ts) d h = free-has (orNode ts) d h
 
 -- ... so the turns of a quantifier of level d over it are known by the tree
-turns-are : (n level d k : ℕ) (q : PartRow) (t : Tree) → headIn q ≡ headFrom k t → level ≡ d → level < 4 → turnsOf n level q ≡ (if occurs d t then n else 1)
+turns-are : (count level d k : ℕ) (q : PartRow) (t : Tree) → headIn q ≡ headFrom k t → level ≡ d → level < 4 → turnsOf count level q ≡ (if occurs d t then count else 1)
 unfolding turnsOf
-turns-are n level d k q t e a h =
-    ap (λ (b : Bool). if b then n else 1)
+turns-are count level d k q t e a h =
+    ap (λ (b : Bool). if b then count else 1)
     (ap (λ (x : Head). any (eqb level) (x .levels)) e ∙ head-has k t level h ∙ ap (λ (l : ℕ). occurs l t) a)
 
 -- ... and a part whose numbers do not grow with a level does not have it
@@ -140,15 +143,15 @@ fixed-free n g w i k level q t p h e d f = go (occurs level t) refl
 
 -- ---- a block's line
 
--- how often the parts of a block are gone through
-unfoldable pub blockTurns : ℕ → Tree → ℕ
-blockTurns n (leaf q r ls) = 1
-blockTurns n (forallNode d σ t) = if occurs d t then n else 1
-blockTurns n (existsNode d σ t) = if occurs d t then n else 1
-blockTurns n (andNode ts) = 1
-blockTurns n (orNode ts) = 1
+-- how often the parts of a block are gone through, where the ranges are R
+unfoldable pub blockTurns : (ℕ → List ℕ) → Tree → ℕ
+blockTurns R (leaf q r ls) = 1
+blockTurns R (forallNode d σ t) = if occurs d t then length (R σ) else 1
+blockTurns R (existsNode d σ t) = if occurs d t then length (R σ) else 1
+blockTurns R (andNode ts) = 1
+blockTurns R (orNode ts) = 1
 
-pub record IsBlock (n : ℕ) (t : Nodes) (v : ℕ) (u : Tree) (x : NodeAt) : Type 0 where
+pub record IsBlock (R : ℕ → List ℕ) (t : Nodes) (v : ℕ) (u : Tree) (x : NodeAt) : Type 0 where
   pub kind : x .kind ≡ blockKind u
   pub level : x .level ≡ blockLevel u
   pub join : x .join ≡ blockJoin u
@@ -156,21 +159,21 @@ pub record IsBlock (n : ℕ) (t : Nodes) (v : ℕ) (u : Tree) (x : NodeAt) : Typ
   pub head : (i : ℕ) → i < length (blockParts v u) → headIn (getD (t .parts) (x .first + i) noRow) ≡ headOf (getD (blockParts v u) i noPart)
   pub fits : x .first + x .many ≤ t .placed
   pub low : x .level < 4
-  pub range : x .range ≡ rangesPlace
-  pub count : x .count ≡ blockTurns n u
+  pub range : x .range ≡ rangePlace (nodeSort u)
+  pub count : x .count ≡ blockTurns R u
 
 -- ... of what stands right under a quantifier of row x
-pub record IsUnder (n : ℕ) (t : Nodes) (k : ℕ) (s : Tree) (x : NodeRow) (z : NodeAt) : Type 0 where
+pub record IsUnder (c : ℕ) (t : Nodes) (k : ℕ) (s : Tree) (x : NodeRow) (z : NodeAt) : Type 0 where
   pub kind : z .kind ≡ x .kind
   pub level : z .level ≡ x .level
   pub join : z .join ≡ joinOf s
   pub many : z .many ≡ length (under k s)
   pub head : (i : ℕ) → i < length (under k s) → headIn (getD (t .parts) (z .first + i) noRow) ≡ headOf (getD (under k s) i noPart)
   pub fits : z .first + z .many ≤ t .placed
-  pub range : z .range ≡ rangesPlace
-  pub count : z .count ≡ turnsOf n (x .level) (getD (t .parts) (x .first) noRow)
+  pub range : z .range ≡ rangePlace (x .sort)
+  pub count : z .count ≡ turnsOf c (x .level) (getD (t .parts) (x .first) noRow)
 
-module _ (n : ℕ) (t : Nodes) (x : NodeRow) where
+module _ (c : ℕ) (t : Nodes) (x : NodeRow) where
   abbrev part₀ : PartRow
   part₀ = getD (t .parts) (x .first) noRow
 
@@ -178,28 +181,28 @@ module _ (n : ℕ) (t : Nodes) (x : NodeRow) where
   row₀ = getD (t .rows) (part₀ .which) noNode
 
   abbrev turns₀ : ℕ
-  turns₀ = turnsOf n (x .level) part₀
+  turns₀ = turnsOf c (x .level) part₀
 
   abbrev plainLine : NodeAt
-  plainLine = record { kind = x .kind; level = x .level; join = 1; first = x .first; many = x .many; range = rangesPlace; count = turns₀ }
+  plainLine = record { kind = x .kind; level = x .level; join = 1; first = x .first; many = x .many; range = rangePlace (x .sort); count = turns₀ }
 
-  own-join : 2 ≤ x .kind → nodeOf n t x ≡ record { kind = 2; level = 0; join = x .kind - 2; first = x .first; many = x .many; range = rangesPlace; count = 1 }
+  own-join : 2 ≤ x .kind → nodeOf c t x ≡ record { kind = 2; level = 0; join = x .kind - 2; first = x .first; many = x .many; range = rangePlace (x .sort); count = 1 }
   unfolding nodeOf blockLine ownLine
   own-join h = rw (le-ltb (x .kind) 2 h) refl
 
-  own-literal : x .kind < 2 → part₀ .tag < 2 → nodeOf n t x ≡ plainLine
+  own-literal : x .kind < 2 → part₀ .tag < 2 → nodeOf c t x ≡ plainLine
   unfolding nodeOf blockLine ownLine
   own-literal h q = rw (lt-ltb (x .kind) 2 h, lt-ltb (part₀ .tag) 2 q) refl
 
-  own-quantifier : x .kind < 2 → 2 ≤ part₀ .tag → row₀ .kind < 2 → nodeOf n t x ≡ plainLine
+  own-quantifier : x .kind < 2 → 2 ≤ part₀ .tag → row₀ .kind < 2 → nodeOf c t x ≡ plainLine
   unfolding nodeOf blockLine ownLine
   own-quantifier h q k = rw (lt-ltb (x .kind) 2 h, le-ltb (part₀ .tag) 2 q, lt-ltb (row₀ .kind) 2 k) refl
 
-  fused : x .kind < 2 → 2 ≤ part₀ .tag → 2 ≤ row₀ .kind → nodeOf n t x ≡ record { kind = x .kind; level = x .level; join = row₀ .kind - 2; first = row₀ .first; many = row₀ .many; range = rangesPlace; count = turns₀ }
+  fused : x .kind < 2 → 2 ≤ part₀ .tag → 2 ≤ row₀ .kind → nodeOf c t x ≡ record { kind = x .kind; level = x .level; join = row₀ .kind - 2; first = row₀ .first; many = row₀ .many; range = rangePlace (x .sort); count = turns₀ }
   unfolding nodeOf blockLine
   fused h q k = rw (lt-ltb (x .kind) 2 h, le-ltb (part₀ .tag) 2 q, le-ltb (row₀ .kind) 2 k) refl
 
-  under-plain : (k : ℕ) (s : Tree) → under k s ≡ record { node = k; tree = s } ∷ [] → joinOf s ≡ 1 → x .many ≡ 1 → headIn part₀ ≡ headFrom k s → x .first + x .many ≤ t .placed → nodeOf n t x ≡ plainLine → IsUnder n t k s x (nodeOf n t x)
+  under-plain : (k : ℕ) (s : Tree) → under k s ≡ record { node = k; tree = s } ∷ [] → joinOf s ≡ 1 → x .many ≡ 1 → headIn part₀ ≡ headFrom k s → x .first + x .many ≤ t .placed → nodeOf c t x ≡ plainLine → IsUnder c t k s x (nodeOf c t x)
   under-plain k s u j m h f e = rw e (record {
     kind = refl;
     level = refl;
@@ -215,7 +218,7 @@ module _ (n : ℕ) (t : Nodes) (x : NodeRow) where
       go zero l = rw u (ap (λ (z : ℕ). headIn (getD (t .parts) z noRow)) (add-zero (x .first)) ∙ h)
       go (suc i) l = absurd (omega arith)
 
-module _ (p : Problem) (n : ℕ) (g : Relations) (t : Nodes) (inputs : Inputs p n g t) (ft : TreeFits t) where
+module _ (p : Problem) (n : ℕ) (ws : List ℕ) (types : ℕ) (g : Relations) (t : Nodes) (inputs : Inputs p n ws types g t) (ft : TreeFits t) where
   count-is : t .count ≡ length (p .nodeList)
   count-is = inputs .tree .count ∙ ap length (sym (inputs .list))
 
@@ -233,11 +236,11 @@ module _ (p : Problem) (n : ℕ) (g : Relations) (t : Nodes) (inputs : Inputs p 
   heads-of v u x is i l = ap headIn (sym (getD-drop (x .first) (t .parts) i noRow)) ∙ heads-at (drop (x .first) (t .parts)) (x .many) (parts v u) (is .parts) i l
 
   -- the join right under a quantifier
-  under-join : (k : ℕ) (s : Tree) (x : NodeRow) → x .kind < 2 → 2 ≤ part₀ n t x .tag → part₀ n t x .which ≡ k → 2 ≤ nodeKind s → nodeKind s - 2 ≡ joinOf s → under k s ≡ parts k s → IsNode k s (getD (t .rows) k noNode) (t .parts) → IsUnder n t k s x (nodeOf n t x)
-  under-join k s x h q w m j u is =
-      let e : row₀ n t x ≡ getD (t .rows) k noNode = ap (λ (z : ℕ). getD (t .rows) z noNode) w in
-      let r : 2 ≤ row₀ n t x .kind = rw (e, is .kind) m in
-      rw (fused n t x h q r, e) (record {
+  under-join : (c k : ℕ) (s : Tree) (x : NodeRow) → x .kind < 2 → 2 ≤ part₀ c t x .tag → part₀ c t x .which ≡ k → 2 ≤ nodeKind s → nodeKind s - 2 ≡ joinOf s → under k s ≡ parts k s → IsNode k s (getD (t .rows) k noNode) (t .parts) → IsUnder c t k s x (nodeOf c t x)
+  under-join c k s x h q w m j u is =
+      let e : row₀ c t x ≡ getD (t .rows) k noNode = ap (λ (z : ℕ). getD (t .rows) z noNode) w in
+      let r : 2 ≤ row₀ c t x .kind = rw (e, is .kind) m in
+      rw (fused c t x h q r, e) (record {
         kind = refl;
         level = refl;
         join = ap (λ (z : ℕ). z - 2) (is .kind) ∙ j;
@@ -248,71 +251,61 @@ module _ (p : Problem) (n : ℕ) (g : Relations) (t : Nodes) (inputs : Inputs p 
         count = refl;
       })
 
-  under-is : (v : ℕ) (s : Tree) (x : NodeRow) → x .kind < 2 → x .many ≡ 1 → x .first + x .many ≤ t .placed → headIn (part₀ n t x) ≡ headFrom (suc v) s → Here p (suc v) s → IsUnder n t (suc v) s x (nodeOf n t x)
+  under-is : (c v : ℕ) (s : Tree) (x : NodeRow) → x .kind < 2 → x .many ≡ 1 → x .first + x .many ≤ t .placed → headIn (part₀ c t x) ≡ headFrom (suc v) s → Here p (suc v) s → IsUnder c t (suc v) s x (nodeOf c t x)
   unfolding headFrom under joinOf parts nodeKind NotLeaf
-  under-is v (leaf true r ls) x h m f e here =
-      let q : part₀ n t x .tag ≡ 0 = ap (λ (z : Head). z .tag) e in
-      under-plain n t x (suc v) (leaf true r ls) refl refl m e f (own-literal n t x h (omega arith))
-  under-is v (leaf false r ls) x h m f e here =
-      let q : part₀ n t x .tag ≡ 1 = ap (λ (z : Head). z .tag) e in
-      under-plain n t x (suc v) (leaf false r ls) refl refl m e f (own-literal n t x h (omega arith))
-  under-is v (forallNode d σ s) x h m f e here =
-      let q : part₀ n t x .tag ≡ 2 = ap (λ (z : Head). z .tag) e in
-      let w : part₀ n t x .which ≡ suc v = ap (λ (z : Head). z .which) e in
+  under-is c v (leaf true r ls) x h m f e here =
+      let q : part₀ c t x .tag ≡ 0 = ap (λ (z : Head). z .tag) e in
+      under-plain c t x (suc v) (leaf true r ls) refl refl m e f (own-literal c t x h (omega arith))
+  under-is c v (leaf false r ls) x h m f e here =
+      let q : part₀ c t x .tag ≡ 1 = ap (λ (z : Head). z .tag) e in
+      under-plain c t x (suc v) (leaf false r ls) refl refl m e f (own-literal c t x h (omega arith))
+  under-is c v (forallNode d σ s) x h m f e here =
+      let q : part₀ c t x .tag ≡ 2 = ap (λ (z : Head). z .tag) e in
+      let w : part₀ c t x .which ≡ suc v = ap (λ (z : Head). z .which) e in
       let a = node-at p (suc v) (forallNode d σ s) here tt in
       let is = row-is (suc v) (a .1) in
-      let k : row₀ n t x .kind ≡ 0 = ap (λ (z : ℕ). getD (t .rows) z noNode .kind) w ∙ is .kind ∙ ap nodeKind (a .0) in
-      under-plain n t x (suc v) (forallNode d σ s) refl refl m e f (own-quantifier n t x h (omega arith) (omega arith))
-  under-is v (existsNode d σ s) x h m f e here =
-      let q : part₀ n t x .tag ≡ 3 = ap (λ (z : Head). z .tag) e in
-      let w : part₀ n t x .which ≡ suc v = ap (λ (z : Head). z .which) e in
+      let k : row₀ c t x .kind ≡ 0 = ap (λ (z : ℕ). getD (t .rows) z noNode .kind) w ∙ is .kind ∙ ap nodeKind (a .0) in
+      under-plain c t x (suc v) (forallNode d σ s) refl refl m e f (own-quantifier c t x h (omega arith) (omega arith))
+  under-is c v (existsNode d σ s) x h m f e here =
+      let q : part₀ c t x .tag ≡ 3 = ap (λ (z : Head). z .tag) e in
+      let w : part₀ c t x .which ≡ suc v = ap (λ (z : Head). z .which) e in
       let a = node-at p (suc v) (existsNode d σ s) here tt in
       let is = row-is (suc v) (a .1) in
-      let k : row₀ n t x .kind ≡ 1 = ap (λ (z : ℕ). getD (t .rows) z noNode .kind) w ∙ is .kind ∙ ap nodeKind (a .0) in
-      under-plain n t x (suc v) (existsNode d σ s) refl refl m e f (own-quantifier n t x h (omega arith) (omega arith))
-  under-is v (andNode ts) x h m f e here =
-      let q : part₀ n t x .tag ≡ 3 = ap (λ (z : Head). z .tag) e in
-      let w : part₀ n t x .which ≡ suc v = ap (λ (z : Head). z .which) e in
+      let k : row₀ c t x .kind ≡ 1 = ap (λ (z : ℕ). getD (t .rows) z noNode .kind) w ∙ is .kind ∙ ap nodeKind (a .0) in
+      under-plain c t x (suc v) (existsNode d σ s) refl refl m e f (own-quantifier c t x h (omega arith) (omega arith))
+  under-is c v (andNode ts) x h m f e here =
+      let q : part₀ c t x .tag ≡ 3 = ap (λ (z : Head). z .tag) e in
+      let w : part₀ c t x .which ≡ suc v = ap (λ (z : Head). z .which) e in
       let a = node-at p (suc v) (andNode ts) here tt in
-      under-join (suc v) (andNode ts) x h (omega arith) w (omega arith) refl refl (subst (λ (z : Tree). IsNode (suc v) z (getD (t .rows) (suc v) noNode) (t .parts)) (a .0) (row-is (suc v) (a .1)))
-  under-is v (orNode ts) x h m f e here =
-      let q : part₀ n t x .tag ≡ 3 = ap (λ (z : Head). z .tag) e in
-      let w : part₀ n t x .which ≡ suc v = ap (λ (z : Head). z .which) e in
+      under-join c (suc v) (andNode ts) x h (omega arith) w (omega arith) refl refl (subst (λ (z : Tree). IsNode (suc v) z (getD (t .rows) (suc v) noNode) (t .parts)) (a .0) (row-is (suc v) (a .1)))
+  under-is c v (orNode ts) x h m f e here =
+      let q : part₀ c t x .tag ≡ 3 = ap (λ (z : Head). z .tag) e in
+      let w : part₀ c t x .which ≡ suc v = ap (λ (z : Head). z .which) e in
       let a = node-at p (suc v) (orNode ts) here tt in
-      under-join (suc v) (orNode ts) x h (omega arith) w (omega arith) refl refl (subst (λ (z : Tree). IsNode (suc v) z (getD (t .rows) (suc v) noNode) (t .parts)) (a .0) (row-is (suc v) (a .1)))
+      under-join c (suc v) (orNode ts) x h (omega arith) w (omega arith) refl refl (subst (λ (z : Tree). IsNode (suc v) z (getD (t .rows) (suc v) noNode) (t .parts)) (a .0) (row-is (suc v) (a .1)))
 
   -- the line of a node is that of its block
-  block-of : (v : ℕ) (u : Tree) (x : NodeRow) → IsNode v u x (t .parts) → x .first + x .many ≤ t .placed → x .first + x .many ≤ length (t .parts) → x .level < 4 → nodeKind u < 4 → Here p v u → IsBlock n t v u (nodeOf n t x)
-  unfolding blockKind blockLevel blockJoin blockParts blockTurns nodeKind nodeLevel parts
-  block-of v (leaf q r ls) x is f l d h here = absurd (omega arith)
-  block-of v (forallNode d σ s) x is f l low h here =
+  block-of : (c v : ℕ) (u : Tree) (x : NodeRow) → c ≡ length (p .range (nodeSort u)) → IsNode v u x (t .parts) → x .first + x .many ≤ t .placed → x .first + x .many ≤ length (t .parts) → x .level < 4 → nodeKind u < 4 → Here p v u → IsBlock (p .range) t v u (nodeOf c t x)
+  unfolding blockKind blockLevel blockJoin blockParts blockTurns nodeKind nodeLevel nodeSort parts
+  block-of c v (leaf q r ls) x o is f l d h here = absurd (omega arith)
+  block-of c v (forallNode d σ s) x r is f l low h here =
       let k : x .kind ≡ 0 = is .kind in
       let m : x .many ≡ 1 = many-are v (forallNode d σ s) x (t .parts) is l in
-      let e : headIn (part₀ n t x) ≡ headFrom (suc v) s = ap (λ (z : ℕ). headIn (getD (t .parts) z noRow)) (sym (add-zero (x .first))) ∙ heads-of v (forallNode d σ s) x is 0 (omega arith) in
-      let z = under-is v s x (omega arith) m f e (under-forall p v d σ s here) in
-      record { kind = z .kind ∙ k; level = z .level ∙ is .level; join = z .join; many = z .many; head = z .head; fits = z .fits; low = rw (z .level) low; range = z .range; count = z .count ∙ turns-are n (x .level) d (suc v) (part₀ n t x) s e (is .level) low }
-  block-of v (existsNode d σ s) x is f l low h here =
+      let e : headIn (part₀ c t x) ≡ headFrom (suc v) s = ap (λ (z : ℕ). headIn (getD (t .parts) z noRow)) (sym (add-zero (x .first))) ∙ heads-of v (forallNode d σ s) x is 0 (omega arith) in
+      let z = under-is c v s x (omega arith) m f e (under-forall p v d σ s here) in
+      record { kind = z .kind ∙ k; level = z .level ∙ is .level; join = z .join; many = z .many; head = z .head; fits = z .fits; low = rw (z .level) low; range = z .range ∙ ap (λ (σ : ℕ). rangePlace σ) (is .sort); count = z .count ∙ turns-are c (x .level) d (suc v) (part₀ c t x) s e (is .level) low ∙ ap (λ (m : ℕ). if occurs d s then m else 1) r }
+  block-of c v (existsNode d σ s) x r is f l low h here =
       let k : x .kind ≡ 1 = is .kind in
       let m : x .many ≡ 1 = many-are v (existsNode d σ s) x (t .parts) is l in
-      let e : headIn (part₀ n t x) ≡ headFrom (suc v) s = ap (λ (z : ℕ). headIn (getD (t .parts) z noRow)) (sym (add-zero (x .first))) ∙ heads-of v (existsNode d σ s) x is 0 (omega arith) in
-      let z = under-is v s x (omega arith) m f e (under-exists p v d σ s here) in
-      record { kind = z .kind ∙ k; level = z .level ∙ is .level; join = z .join; many = z .many; head = z .head; fits = z .fits; low = rw (z .level) low; range = z .range; count = z .count ∙ turns-are n (x .level) d (suc v) (part₀ n t x) s e (is .level) low }
-  block-of v (andNode ts) x is f l low h here =
+      let e : headIn (part₀ c t x) ≡ headFrom (suc v) s = ap (λ (z : ℕ). headIn (getD (t .parts) z noRow)) (sym (add-zero (x .first))) ∙ heads-of v (existsNode d σ s) x is 0 (omega arith) in
+      let z = under-is c v s x (omega arith) m f e (under-exists p v d σ s here) in
+      record { kind = z .kind ∙ k; level = z .level ∙ is .level; join = z .join; many = z .many; head = z .head; fits = z .fits; low = rw (z .level) low; range = z .range ∙ ap (λ (σ : ℕ). rangePlace σ) (is .sort); count = z .count ∙ turns-are c (x .level) d (suc v) (part₀ c t x) s e (is .level) low ∙ ap (λ (m : ℕ). if occurs d s then m else 1) r }
+  block-of c v (andNode ts) x r is f l low h here =
       let k : x .kind ≡ 2 = is .kind in
-      rw (own-join n t x (omega arith)) (record { kind = refl; level = refl; join = ap (λ (z : ℕ). z - 2) k; many = many-are v (andNode ts) x (t .parts) is l; head = heads-of v (andNode ts) x is; fits = f; low = omega arith; range = refl; count = refl })
-  block-of v (orNode ts) x is f l low h here =
+      rw (own-join c t x (omega arith)) (record { kind = refl; level = refl; join = ap (λ (z : ℕ). z - 2) k; many = many-are v (andNode ts) x (t .parts) is l; head = heads-of v (andNode ts) x is; fits = f; low = omega arith; range = ap (λ (σ : ℕ). rangePlace σ) (is .sort); count = refl })
+  block-of c v (orNode ts) x r is f l low h here =
       let k : x .kind ≡ 3 = is .kind in
-      rw (own-join n t x (omega arith)) (record { kind = refl; level = refl; join = ap (λ (z : ℕ). z - 2) k; many = many-are v (orNode ts) x (t .parts) is l; head = heads-of v (orNode ts) x is; fits = f; low = omega arith; range = refl; count = refl })
-
--- ---- a function that leaves each number leaves a run of numbers
-each-same : (f : ℕ → ℕ) (k a : ℕ) → ((i : ℕ) → i < a + k → f i ≡ i) → map f (from a k) ≡ from a k
-unfolding from
-each-same f zero a h = refl
-each-same f (suc k) a h = ap₂ (λ (x : ℕ) (xs : List ℕ). x ∷ xs) (h a (omega arith)) (each-same f k (suc a) (λ i l. h i (omega arith)))
-
-map-below : (f : ℕ → ℕ) (k : ℕ) → ((i : ℕ) → i < k → f i ≡ i) → map f (below k) ≡ below k
-unfolding below
-map-below f k h = each-same f k 0 (λ i l. h i (omega arith))
+      rw (own-join c t x (omega arith)) (record { kind = refl; level = refl; join = ap (λ (z : ℕ). z - 2) k; many = many-are v (orNode ts) x (t .parts) is l; head = heads-of v (orNode ts) x is; fits = f; low = omega arith; range = ap (λ (σ : ℕ). rangePlace σ) (is .sort); count = refl })
 
 -- ---- no node of a tree is a literal
 all-both : (q : Tree → Bool) (a b : List Tree) → T (all q a) → T (all q b) → T (all q (a ++ b))
@@ -360,7 +353,7 @@ module _ (g : Relations) (q : PartRow) where
   its-number n e f h = ap (partNumber e) (its-line n h) ∙ ap (λ (x : ℕ). bitOf n g (q .which) + x) (sym (row-weighed n e (q .width) (q .levels) (f .levels)))
 
 -- ---- the lines of a case
-module _ (c : Case) (A : Accepted c) (n : ℕ) (g : Relations) (t : Nodes) (inputs : Inputs (problemOf c) n g t) (ft : TreeFits t) where
+module _ (c : Case) (A : Accepted c) (n : ℕ) (ws : List ℕ) (types : ℕ) (ranges : Ranges) (g : Relations) (t : Nodes) (ra : RangesAre n ws types ranges) (inputs : Inputs (problemOf c) n ws types g t) (ft : TreeFits t) where
   abbrev p : Problem
   p = problemOf c
 
@@ -368,9 +361,19 @@ module _ (c : Case) (A : Accepted c) (n : ℕ) (g : Relations) (t : Nodes) (inpu
   unfolding problemOf problemWith nodeAt
   kind-is v l = ltb→lt (nodeKind (nodeAt p v)) 4 (all-at (λ u. ltb (nodeKind u) 4) (nodes (p .root)) (no-literal (p .root)) (nodeAt p v) (getD-mem (nodes (p .root)) v (leaf true zero []) l))
 
-  block-is : (v : ℕ) → v < length (p .nodeList) → IsBlock n t v (nodeAt p v) (nodeOf n t (getD (t .rows) v noNode))
+  -- the line of node v
+  abbrev lineAt : ℕ → NodeAt
+  lineAt v = nodeOf (countAt (ranges .count) t v) t (getD (t .rows) v noNode)
+
+  sized : Inputs p (p .size) ws types g t
+  sized = subst (λ (m : ℕ). Inputs p m ws types g t) (inputs .size) inputs
+
+  count-at : (v : ℕ) → v < t .count → countAt (ranges .count) t v ≡ length (p .range (nodeSort (nodeAt p v)))
+  count-at v l = count-of p ws types g t sized ranges (subst (λ (m : ℕ). RangesAre m ws types ranges) (inputs .size) ra) v l
+
+  block-is : (v : ℕ) → v < length (p .nodeList) → IsBlock (p .range) t v (nodeAt p v) (lineAt v)
   block-is v l =
-      block-of p n g t inputs ft v (nodeAt p v) (getD (t .rows) v noNode) (row-is p n g t inputs ft v l) (placed-is p n g t inputs ft v) (in-parts p n g t inputs ft v)
+      block-of p n ws types g t inputs ft (countAt (ranges .count) t v) v (nodeAt p v) (getD (t .rows) v noNode) (count-at v (omega (arith, count-is p n ws types g t inputs ft))) (row-is p n ws types g t inputs ft v l) (placed-is p n ws types g t inputs ft v) (in-parts p n ws types g t inputs ft v)
       (ft .nodes .node v .level) (kind-is v l) (here-at p (good c A) v l)
 
   here-of : (v : ℕ) → v < length (p .nodeList) → (i : ℕ) → i < length (blockParts v (nodeAt p v)) → Here p (getD (blockParts v (nodeAt p v)) i noPart .node) (getD (blockParts v (nodeAt p v)) i noPart .tree) × (v < getD (blockParts v (nodeAt p v)) i noPart .node)
@@ -387,45 +390,39 @@ module _ (c : Case) (A : Accepted c) (n : ℕ) (g : Relations) (t : Nodes) (inpu
   tag-node q k (orNode ts) e h z = let a : q .tag ≡ 3 = ap (λ (x : Head). x .tag) e in let y = node-at p k (orNode ts) h tt in (which-is g q (omega arith) ∙ ap (λ (x : Head). x .which) e, y .1, y .0)
 
   above : (k : ℕ) → k < length (p .nodeList) → k < 64
-  above k l = omega (arith, count-is p n g t inputs ft, ft .few)
+  above k l = omega (arith, count-is p n ws types g t inputs ft, ft .few)
 
   -- ---- sound lines
-  module _ (some : 0 < n) (small : n ≤ 64) (w : List ℕ) (lined : Lined n g t w) where
-    few : (b : Bool) → (if b then n else 1) ≤ n
-    few true = omega arith
-    few false = omega arith
+  module _ (some : 0 < n) (small : n ≤ 64) (w : List ℕ) (lined : Lined n ws types (ranges .count) g t w) where
+    few : (b : Bool) (k : ℕ) → k ≤ n → (if b then k else 1) ≤ n
+    few true k h = h
+    few false k h = some
 
-    turns-few : (u : Tree) → blockTurns n u ≤ n
+    turns-few : (u : Tree) → blockTurns (p .range) u ≤ n
     unfolding blockTurns
-    turns-few (leaf q r ls) = omega arith
-    turns-few (forallNode d σ s) = few (occurs d s)
-    turns-few (existsNode d σ s) = few (occurs d s)
-    turns-few (andNode ts) = omega arith
-    turns-few (orNode ts) = omega arith
-
-    element-of : (x : NodeAt) (u : Tree) → x .range ≡ rangesPlace → x .count ≡ blockTurns n u → (i : ℕ) → i < x .count → elementIn w (x .range) i < n
-    element-of x u a b i h =
-        let l : i < n = omega (arith, turns-few u) in
-        let e : elementIn w (x .range) i ≡ i = ap (λ (k : ℕ). getD w (k + i) 0) a ∙ lined .range i l in
-        omega arith
+    turns-few (leaf q r ls) = some
+    turns-few (forallNode d σ s) = few (occurs d s) (length (p .range σ)) (omega (arith, inputs .size, range-few (p .size) (p .range σ) (inputs .ranged σ)))
+    turns-few (existsNode d σ s) = few (occurs d s) (length (p .range σ)) (omega (arith, inputs .size, range-few (p .size) (p .range σ) (inputs .ranged σ)))
+    turns-few (andNode ts) = some
+    turns-few (orNode ts) = some
 
     node-sound : (v : ℕ) → v < t .count → NodeSound n w v (nodeIn w v)
     node-sound v l =
-        let m : v < length (p .nodeList) = omega (arith, count-is p n g t inputs ft) in
+        let m : v < length (p .nodeList) = omega (arith, count-is p n ws types g t inputs ft) in
         let b = block-is v m in
         rw (lined .node v l) (record {
           level = b .low;
           parts = omega (arith, b .fits, ft .few-parts);
-          inside = omega (arith, b .range, b .count, turns-few (nodeAt p v));
-          element = λ i h. element-of (nodeOf n t (getD (t .rows) v noNode)) (nodeAt p v) (b .range) (b .count) i h;
+          inside = omega (arith, b .range, b .count, turns-few (nodeAt p v), row-is p n ws types g t inputs ft v m .sort, ft .nodes .node v .sort);
+          element = λ i h. lined .low (lineAt v .range + i) (omega (arith, b .range));
           rises = λ i h z.
-              let j : nodeOf n t (getD (t .rows) v noNode) .first + i < t .placed = omega (arith, b .fits) in
+              let j : lineAt v .first + i < t .placed = omega (arith, b .fits) in
               let k : i < length (blockParts v (nodeAt p v)) = rw (b .many) at h in
-              let q = getD (t .parts) (nodeOf n t (getD (t .rows) v noNode) .first + i) noRow in
+              let q = getD (t .parts) (lineAt v .first + i) noRow in
               let here = here-of v m i k in
-              let e = lined .part (nodeOf n t (getD (t .rows) v noNode) .first + i) j .0 in
+              let e = lined .part (lineAt v .first + i) j .0 in
               let s = tag-node q (getD (blockParts v (nodeAt p v)) i noPart .node) (getD (blockParts v (nodeAt p v)) i noPart .tree) (b .head i k) (here .0) (rw e at z) in
-              let a : partIn w (nodeOf n t (getD (t .rows) v noNode) .first + i) .which ≡ getD (blockParts v (nodeAt p v)) i noPart .node = ap (λ (x : PartAt). x .which) e ∙ s .0 in
+              let a : partIn w (lineAt v .first + i) .which ≡ getD (blockParts v (nodeAt p v)) i noPart .node = ap (λ (x : PartAt). x .which) e ∙ s .0 in
               (omega (arith, a, here .1), omega (arith, a, above (getD (blockParts v (nodeAt p v)) i noPart .node) (s .1)));
         })
 
@@ -457,7 +454,7 @@ module _ (c : Case) (A : Accepted c) (n : ℕ) (g : Relations) (t : Nodes) (inpu
     literal-of q r ls e f h a b m bnd =
         ap₂ (literalAt facts picks n) (ap (λ (x : PartAt). x .which) (is-literal g q h) ∙ ap (λ (x : ℕ). sourceOf x (getD (g .kind) x 0)) a)
         (its-number g q n e f h ∙ ap₂ (λ (x : ℕ) (ys : List ℕ). bitOf n g x + rowOf n (map e ys)) a b)
-        ∙ literal-is c A F pk n g t inputs facts fi picks pa r (map e ls) (omega (arith, m .0, inputs .count)) (length-map ls e ∙ m .1) (bnd-map n e ls bnd)
+        ∙ literal-is c A F pk n ws types g t inputs facts fi picks pa r (map e ls) (omega (arith, m .0, inputs .count)) (length-map ls e ∙ m .1) (bnd-map n e ls bnd)
 
     leaf-of : (q : PartRow) (e : Values) (b : Bool) → q .tag ≡ 0 → literalAt facts picks n (partOf g q .which) (partNumber e (lineOf n g q)) ≡ b → leafAt facts picks n e (partOf g q) (lineOf n g q) ≡ b
     unfolding leafAt agree
@@ -488,52 +485,53 @@ module _ (c : Case) (A : Accepted c) (n : ℕ) (g : Relations) (t : Nodes) (inpu
     literal-says q k (andNode ts) f h here z e b = let a : q .tag ≡ 3 = ap (λ (x : Head). x .tag) h in absurd (z (ap (λ (x : PartAt). x .tag) (is-node g q (omega arith))))
     literal-says q k (orNode ts) f h here z e b = let a : q .tag ≡ 3 = ap (λ (x : Head). x .tag) h in absurd (z (ap (λ (x : PartAt). x .tag) (is-node g q (omega arith))))
 
-    module _ (w : List ℕ) (lined : Lined n g t w) where
+    module _ (w : List ℕ) (lined : Lined n ws types (ranges .count) g t w) where
       part-says : (q : PartRow) (k : ℕ) (s : Tree) → PartFits q → headIn q ≡ headFrom k s → Here p k s → PartSays c F (p .root) n w facts picks (partOf g q) (lineOf n g q) k s
       unfolding problemOf problemWith nodeAt nodeOfTree
       part-says q k s f h here = record { node = λ z. tag-node q k s h here z; literal = λ z e b. literal-says q k s f h here z e b }
 
-      members-are : (k : ℕ) → k ≤ n → membersIn w rangesPlace k ≡ below k
+      -- what stands in the lines as a range is the problem's
+      range-is : (σ : ℕ) → σ ≤ types → membersIn w (rangePlace σ) (length (p .range σ)) ≡ p .range σ
       unfolding membersIn
-      members-are k h = map-below (λ i. getD w (rangesPlace + i) 0) k (λ i l. lined .range i (omega arith))
+      range-is σ h = rw (inputs .ranges σ h) (map-places (λ i. getD w (rangePlace σ + i) 0) (rangeBy n ws σ) (λ i q. lined .range σ i h q))
 
-      serves : (d σ : ℕ) (s : Tree) → Serves c F d σ s (membersIn w rangesPlace (if occurs d s then n else 1))
-      unfolding membersOf problemOf problemWith
-      serves d σ s = go (occurs d s) refl
+      serves : (d σ : ℕ) (s : Tree) → σ ≤ types → Serves c F d σ s (membersIn w (rangePlace σ) (if occurs d s then length (p .range σ) else 1))
+      unfolding problemOf problemWith
+      serves d σ s h = go (occurs d s) refl
         where
-          go : (b : Bool) → occurs d s ≡ b → Serves c F d σ s (membersIn w rangesPlace (if b then n else 1))
-          go true k = inl (members-are n (omega arith) ∙ ap below (inputs .size))
-          go false k = inr (k, omega (arith, members-length w rangesPlace 1), members-range c σ (good c A .element) .some-member)
+          go : (b : Bool) → occurs d s ≡ b → Serves c F d σ s (membersIn w (rangePlace σ) (if b then length (p .range σ) else 1))
+          go true k = inl (range-is σ h)
+          go false k = inr (k, omega (arith, members-length w (rangePlace σ) 1), inputs .ranged σ .some-member)
 
-      goes-over : (u : Tree) → nodeKind u < 4 → GoesOver c F u (membersIn w rangesPlace (blockTurns n u))
-      unfolding GoesOver blockTurns nodeKind
-      goes-over (leaf q r ls) h = absurd (omega arith)
-      goes-over (forallNode d σ s) h = serves d σ s
-      goes-over (existsNode d σ s) h = serves d σ s
-      goes-over (andNode ts) h = members-length w rangesPlace 1
-      goes-over (orNode ts) h = members-length w rangesPlace 1
+      goes-over : (u : Tree) → Sorted types u → nodeKind u < 4 → GoesOver c F u (membersIn w (rangePlace (nodeSort u)) (blockTurns (p .range) u))
+      unfolding GoesOver blockTurns nodeKind nodeSort Sorted
+      goes-over (leaf q r ls) o h = absurd (omega arith)
+      goes-over (forallNode d σ s) o h = serves d σ s (o .0)
+      goes-over (existsNode d σ s) o h = serves d σ s (o .0)
+      goes-over (andNode ts) o h = members-length w (rangePlace 0) 1
+      goes-over (orNode ts) o h = members-length w (rangePlace 0) 1
 
-      truth-by : (v : ℕ) (u : Tree) (x : NodeAt) (e : Values) → nodeKind u < 4 → IsBlock n t v u x → treeHolds c F e u ≡ truthBy c F (p .root) n w facts picks x e (blockParts v u)
+      truth-by : (v : ℕ) (u : Tree) (x : NodeAt) (e : Values) → Sorted types u → nodeKind u < 4 → IsBlock (p .range) t v u x → treeHolds c F e u ≡ truthBy c F (p .root) n w facts picks x e (blockParts v u)
       unfolding truthBy
-      truth-by v u x e h b = rw (b .kind, b .level, b .join, b .many, b .range, b .count) (block-truth c F v e u (membersIn w rangesPlace (blockTurns n u)) (goes-over u h))
+      truth-by v u x e o h b = rw (b .kind, b .level, b .join, b .many, b .range, b .count) (block-truth c F v e u (membersIn w (rangePlace (nodeSort u)) (blockTurns (p .range) u)) (goes-over u o h))
 
       node-says : (v : ℕ) → v < length (p .nodeList) → NodeSays c F (p .root) n w facts picks (nodeAt p v) (nodeIn w v)
       node-says v l =
           let b = block-is v l in
-          rw (lined .node v (omega (arith, count-is p n g t inputs ft))) (record {
+          rw (lined .node v (omega (arith, count-is p n ws types g t inputs ft))) (record {
             parts = blockParts v (nodeAt p v);
             part = λ i h.
-                let j : nodeOf n t (getD (t .rows) v noNode) .first + i < t .placed = omega (arith, b .fits) in
+                let j : lineAt v .first + i < t .placed = omega (arith, b .fits) in
                 let k : i < length (blockParts v (nodeAt p v)) = rw (b .many) at h in
-                let e = lined .part (nodeOf n t (getD (t .rows) v noNode) .first + i) j in
-                rw (e .0, e .1) (part-says (getD (t .parts) (nodeOf n t (getD (t .rows) v noNode) .first + i) noRow) _ _ (ft .parts .part (nodeOf n t (getD (t .rows) v noNode) .first + i)) (b .head i k) (here-of v l i k .0));
+                let e = lined .part (lineAt v .first + i) j in
+                rw (e .0, e .1) (part-says (getD (t .parts) (lineAt v .first + i) noRow) _ _ (ft .parts .part (lineAt v .first + i)) (b .head i k) (here-of v l i k .0));
             still = λ i h f e y z.
-                let j : nodeOf n t (getD (t .rows) v noNode) .first + i < t .placed = omega (arith, b .fits) in
+                let j : lineAt v .first + i < t .placed = omega (arith, b .fits) in
                 let k : i < length (blockParts v (nodeAt p v)) = rw (b .many) at h in
-                let q = getD (t .parts) (nodeOf n t (getD (t .rows) v noNode) .first + i) noRow in
-                alike c F (getD (blockParts v (nodeAt p v)) i noPart .tree) e (nodeOf n t (getD (t .rows) v noNode) .level) y z
-                (fixed-free n g w (nodeOf n t (getD (t .rows) v noNode) .first + i) _ (nodeOf n t (getD (t .rows) v noNode) .level) q _ (omega (arith, inputs .size, good c A .element)) (b .low) (lined .part _ j .1) (b .head i k) f);
-            truth = λ e. truth-by v (nodeAt p v) (nodeOf n t (getD (t .rows) v noNode)) e (kind-is v l) b;
+                let q = getD (t .parts) (lineAt v .first + i) noRow in
+                alike c F (getD (blockParts v (nodeAt p v)) i noPart .tree) e (lineAt v .level) y z
+                (fixed-free n g w (lineAt v .first + i) _ (lineAt v .level) q _ (omega (arith, inputs .size, good c A .element)) (b .low) (lined .part _ j .1) (b .head i k) f);
+            truth = λ e. truth-by v (nodeAt p v) (lineAt v) e (node-sort p ws types g t sized v (omega (arith, count-is p n ws types g t inputs ft))) (kind-is v l) b;
           })
 
       pub says : Says c F (p .root) n w facts picks

@@ -10,13 +10,14 @@ ghost use Rattle.definitions.specs.Atoms.{problemOf};
 ghost use Rattle.laws.specs.Reader.{Accepted};
 ghost use Rattle.tree.specs.Tables.{PartFits, Fits};
 ghost use Rattle.rows.specs.Values.{Most};
-ghost use Rattle.layout.specs.Laid.{RelationsFit};
+ghost use Rattle.layout.specs.Laid.{RangesFit, RelationsFit};
 ghost use Rattle.layout.specs.Filled.{splice, tab};
 ghost use Rattle.initial.specs.Initial.{FactsIn};
 ghost use Rattle.picks.specs.Words.{PicksAre};
-ghost use Rattle.truth.specs.Lines.{linesLength};
+ghost use Rattle.truth.specs.Lines.{rangePlace, linesLength};
 ghost use Rattle.lines.specs.Lined.{sourceOf, firstBit, factWords, chooseWords, turnsOf, ownLine, blockLine, nodeOf, Lined};
 ghost use Rattle.lines.specs.Numbers.{nodeNumbers, partNumbers, partList, nodeLines, partLines, Bits, LinesOf, OfCase};
+use layout::Ranges;
 use layout::Relations;
 use tree::NodeRow;
 use tree::Nodes;
@@ -110,21 +111,29 @@ fn part_numbers(n: usize, kinds: &[usize], bits: &[usize], q: PartRow) -> [usize
     [0, which, 0, w[0], w[1], w[2], w[3]]
 }
 
-// How many turns a quantifier of a level makes over its part: where the level is not free there, one serves for all elements.
-fn turns_of(n: usize, level: u8, q: PartRow) -> usize
-    requires { ⌜ (n ≤ 64) × PartFits q ⌝ }
-    ensures { λ r. ⌜ (r ≡ turnsOf n level q) × (r ≤ 64) ⌝ }
+// How many turns a quantifier of a level makes over its part: where the level is not free there, one serves for all `count` elements
+// of its range.
+fn turns_of(count: usize, level: u8, q: PartRow) -> usize
+    requires { ⌜ (count ≤ 64) × PartFits q ⌝ }
+    ensures { λ r. ⌜ (r ≡ turnsOf count level q) × (r ≤ 64) ⌝ }
 {
     let levels = q.levels;
     let width = tree::wide(q.width);
     let mut i: usize = 0;
     while i < width {
         if levels[i] == level {
-            return n;
+            return count;
         }
         i += 1;
     }
     1
+}
+
+// Where the elements of a sort stand.
+fn range_of(sort: u8) -> usize
+    ensures { λ r. ⌜ (r ≡ rangePlace sort) × (r ≤ 2 ^ 32) ⌝ }
+{
+    truth::RANGE_AT + truth::RANGE_LINE * tree::wide(sort)
 }
 
 // The line of a node by its own parts.
@@ -136,10 +145,11 @@ fn own_line(turns: usize, x: NodeRow) -> [usize; 7]
     let level = tree::wide(x.level);
     let first = tree::wide(x.first);
     let many = tree::wide(x.many);
+    let range = range_of(x.sort);
     if kind < 2 {
-        return [kind, level, 1, first, many, truth::RANGE_AT, turns];
+        return [kind, level, 1, first, many, range, turns];
     }
-    [2, 0, kind - 2, first, many, truth::RANGE_AT, 1]
+    [2, 0, kind - 2, first, many, range, 1]
 }
 
 // The line of a node whose first part is q, and node y where that part is a node.
@@ -159,35 +169,37 @@ fn block_line(turns: usize, x: NodeRow, q: PartRow, y: NodeRow) -> [usize; 7]
         let level = tree::wide(x.level);
         let first = tree::wide(y.first);
         let many = tree::wide(y.many);
-        return [kind, level, join - 2, first, many, truth::RANGE_AT, turns];
+        let range = range_of(x.sort);
+        return [kind, level, join - 2, first, many, range, turns];
     }
     own_line(turns, x)
 }
 
-// The line of a node of the table.
-fn node_line(n: usize, t: Nodes, x: NodeRow) -> [usize; 7]
-    requires { ⌜ (n ≤ 64) × Fits t ⌝ }
-    ensures { λ r. ⌜ (r ≡ nodeNumbers (nodeOf n t x)) × Most r (2 ^ 32) ⌝ }
+// The line of a node of the table, whose sort has `count` elements.
+fn node_line(count: usize, t: Nodes, x: NodeRow) -> [usize; 7]
+    requires { ⌜ (count ≤ 64) × Fits t ⌝ }
+    ensures { λ r. ⌜ (r ≡ nodeNumbers (nodeOf count t x)) × Most r (2 ^ 32) ⌝ }
 {
     let at = tree::wide(x.first);
     if at < tree::NODES {
         let q = t.parts[at];
         let which = tree::wide(q.which);
         let y = t.rows[which];
-        return block_line(turns_of(n, x.level, q), x, q, y);
+        return block_line(turns_of(count, x.level, q), x, q, y);
     }
     own_line(1, x)
 }
 
 // The lines of the nodes.
-fn fill_nodes(lines: &mut [usize], n: usize, t: Nodes)
-    requires { ⌜ (length (now lines) ≡ linesLength) × (n ≤ 64) × Fits t ⌝ }
-    ensures { λ r. ⌜ (now (lines .exit) ≡ splice 0 (tab (nodeLines n t) (t .count)) (now (lines .entry))) × ((v : ℕ) → v < t .count → Most (nodeLines n t v) (2 ^ 32)) ⌝ }
+fn fill_nodes(lines: &mut [usize], n: usize, t: Nodes, ranges: Ranges)
+    requires { ⌜ (length (now lines) ≡ linesLength) × RangesFit n ranges × Fits t ⌝ }
+    ensures { λ r. ⌜ (now (lines .exit) ≡ splice 0 (tab (nodeLines (ranges .count) t) (t .count)) (now (lines .entry))) × ((v : ℕ) → v < t .count → Most (nodeLines (ranges .count) t v) (2 ^ 32)) ⌝ }
 {
     let mut v: usize = 0;
     while v < t.count {
         let x = t.rows[v];
-        let line = node_line(n, t, x);
+        let count = ranges.count[tree::wide(x.sort)];
+        let line = node_line(count, t, x);
         layout::store(lines, truth::NODE_LINE * v, &line);
         v += 1;
     }
@@ -222,13 +234,21 @@ fn fill_parts(lines: &mut [usize], n: usize, g: Relations, t: Nodes)
 }
 
 // All lines, in place of zeros.
-pub fn fill(lines: &mut [usize], n: usize, g: Relations, t: Nodes)
-    requires { ⌜ (length (now lines) ≡ linesLength) × Most (now lines) 0 × (0 < n) × (n ≤ 64) × RelationsFit g × Fits t ⌝ }
-    ensures { λ r. ⌜ Lined n g t (now (lines .exit)) ⌝ }
+pub fn fill(
+    lines: &mut [usize],
+    n: usize,
+    types: usize,
+    members: &[u64],
+    ranges: Ranges,
+    g: Relations,
+    t: Nodes,
+)
+    requires { ⌜ (length (now lines) ≡ linesLength) × Most (now lines) 0 × (0 < n) × (n ≤ 64) × RelationsFit g × Fits t × (types ≤ 8) × (types ≤ length (now members)) × RangesFit n ranges ⌝ }
+    ensures { λ r. ⌜ Lined n (now (members .entry)) types (ranges .count) g t (now (lines .exit)) ⌝ }
 {
-    fill_nodes(lines, n, t);
+    fill_nodes(lines, n, t, ranges);
     fill_parts(lines, n, g, t);
-    layout::fill_range(lines, truth::RANGE_AT, n);
+    layout::fill_ranges(lines, truth::RANGE_AT, n, types, members);
 }
 
 // Whether the rule is true of picks, by the lines of its case: `facts` and `picks` are the bits of the case's facts and of the picks.

@@ -145,13 +145,13 @@ heads-hit marks r [] = refl
 heads-hit marks r (q ∷ l) = ap (λ (b : Bool). partHits marks r q || b) (heads-hit marks r l)
 
 -- ---- the marks are right
-module _ (p : Problem) (G : Good p) (g : Relations) (t : Nodes) (is : Inputs p (p .size) g t) (fits : Fits t) (r : ℕ) where
+module _ (p : Problem) (G : Good p) (ws : List ℕ) (types : ℕ) (g : Relations) (t : Nodes) (is : Inputs p (p .size) ws types g t) (fits : Fits t) (r : ℕ) where
   -- every node from v on has its mark
   abbrev Marked : ℕ → List Bool → Type 0
   Marked v marks = (u : ℕ) → v ≤ u → u < t .count → getD marks u false ≡ mentions r (nodeAt p u)
 
   at-number : (v u : ℕ) (s : Tree) (marks : List Bool) → Marked v marks → v ≤ u → Here p u s → IsNode p s → getD marks u false ≡ mentions r s
-  at-number v u s marks m h here is-node = let (e, l) = node-at p u s here is-node in m u h (omega (arith, count-is p g t is)) ∙ ap (mentions r) e
+  at-number v u s marks m h here is-node = let (e, l) = node-at p u s here is-node in m u h (omega (arith, count-is p ws types g t is)) ∙ ap (mentions r) e
 
   head-right : (v u : ℕ) (s : Tree) (marks : List Bool) → Marked v marks → v ≤ u → Here p u s → headHits marks r (headFrom u s) ≡ mentions r s
   unfolding headHits headFrom mentions IsNode
@@ -195,12 +195,12 @@ module _ (p : Problem) (G : Good p) (g : Relations) (t : Nodes) (is : Inputs p (
 
   row-right : (v : ℕ) → v < t .count → (marks : List Bool) → Marked (suc v) marks → rowHits t marks r v ≡ mentions r (nodeAt p v)
   row-right v h marks m =
-      let l : v < length (p .nodeList) = omega (arith, count-is p g t is) in
+      let l : v < length (p .nodeList) = omega (arith, count-is p ws types g t is) in
       let first = getD (t .rows) v noNode .first in
       let many = getD (t .rows) v noNode .many in
-      hits-any (t .parts) marks r first many (in-parts p g t is fits v)
+      hits-any (t .parts) marks r first many (in-parts p ws types g t is fits v)
       ∙ heads-hit marks r (take many (drop first (t .parts)))
-      ∙ ap (any (headHits marks r)) (node-is p g t is v h .parts)
+      ∙ ap (any (headHits marks r)) (node-is p ws types g t is v h .parts)
       ∙ any-map (headHits marks r) headOf (parts v (nodeAt p v))
       ∙ parts-right v (nodeAt p v) marks m (here-at p G v l) (is-node v l)
 
@@ -237,15 +237,15 @@ module _ (p : Problem) (G : Good p) (g : Relations) (t : Nodes) (is : Inputs p (
   atoms-are : (d : ℕ) → d ≤ t .count → atomsAfter (p .size) t r d ≡ 1 + weight (drop (t .count - d) (p .nodeList))
   unfolding nodeAt
   atoms-are zero h =
-      let e : drop (t .count - 0) (p .nodeList) ≡ [] = drop-past (t .count - 0) (p .nodeList) (omega (arith, count-is p g t is)) in
+      let e : drop (t .count - 0) (p .nodeList) ≡ [] = drop-past (t .count - 0) (p .nodeList) (omega (arith, count-is p ws types g t is)) in
       sym (atoms-first (p .size) t r) ∙ sym (ap (λ (ts : List Tree). 1 + weight ts) e ∙ ap (λ (x : ℕ). 1 + x) weight-none)
   atoms-are (suc d) h =
       let v = t .count - suc d in
       let x = getD (p .nodeList) v (leaf true 0 []) in
       let s : suc v ≡ t .count - d = omega arith in
-      let a : drop v (p .nodeList) ≡ x ∷ drop (t .count - d) (p .nodeList) = drop-cons (p .nodeList) v (leaf true 0 []) (omega (arith, count-is p g t is)) ∙ ap (λ (k : ℕ). x ∷ drop k (p .nodeList)) s in
+      let a : drop v (p .nodeList) ≡ x ∷ drop (t .count - d) (p .nodeList) = drop-cons (p .nodeList) v (leaf true 0 []) (omega (arith, count-is p ws types g t is)) ∙ ap (λ (k : ℕ). x ∷ drop k (p .nodeList)) s in
       let b : rowHits t (marksAfter t r d) r v ≡ mentions r x = mark-next d h (marked d (omega arith)) in
-      let w : rowWidth (p .size) t v ≡ widthOf (p .size) x = node-width p g t is v (omega arith) in
+      let w : rowWidth (p .size) t v ≡ widthOf (p .size) x = node-width p ws types g t is v (omega arith) in
       let i : (if rowHits t (marksAfter t r d) r v then rowWidth (p .size) t v else 0) ≡ (if mentions r x then widthOf (p .size) x else 0) = ap₂ (λ (y : Bool) (z : ℕ). if y then z else 0) b w in
       let j = atoms-are d (omega arith) in
       let k = weight-cons x (drop (t .count - d) (p .nodeList)) in
@@ -257,5 +257,5 @@ module _ (p : Problem) (G : Good p) (g : Relations) (t : Nodes) (is : Inputs p (
   unfolding allowance
   allowed-here = let e : t .count - t .count ≡ 0 = omega arith in atoms-are (t .count) (omega arith) ∙ ap (λ (k : ℕ). 1 + weight (drop k (p .nodeList))) e
 
-pub allowed : (n : ℕ) (t : Nodes) (r : ℕ) → Fits t → (p : Problem) (g : Relations) → Good p → Inputs p n g t → atomsAfter n t r (t .count) ≡ allowance p r
-allowed n t r f p g G is = ap (λ (m : ℕ). atomsAfter m t r (t .count)) (is .size) ∙ allowed-here p G g t (subst (λ (m : ℕ). Inputs p m g t) (is .size) is) f r
+pub allowed : (n : ℕ) (t : Nodes) (r : ℕ) → Fits t → (p : Problem) (ws : List ℕ) (types : ℕ) (g : Relations) → Good p → Inputs p n ws types g t → atomsAfter n t r (t .count) ≡ allowance p r
+allowed n t r f p ws types g G is = ap (λ (m : ℕ). atomsAfter m t r (t .count)) (is .size) ∙ allowed-here p G ws types g t (subst (λ (m : ℕ). Inputs p m ws types g t) (is .size) is) f r

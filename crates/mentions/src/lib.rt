@@ -1,7 +1,8 @@
 // Which nodes of a table have a literal of a relation somewhere below them, and how many atoms these have.
 ghost use mathlib.Core.Path.{_≡_};
 ghost use mathlib.Core.Bool.{_||_};
-ghost use Prim.Native.Nat.{_≤_, _<_};
+ghost use mathlib.Core.List.{List};
+ghost use Prim.Native.Nat.{ℕ, _≤_, _<_};
 ghost use lib.Dec.{eqb, ltb};
 ghost use Rattle.definitions.specs.Lists.{if_then_else_};
 ghost use Rattle.definitions.specs.Allowance.{allowance as «allowance-of»};
@@ -38,7 +39,7 @@ fn counted(marked: bool, width: usize) -> usize
 // the nodes among a node's parts are marked before it.
 pub fn allowance(n: usize, t: tree::Nodes, r: usize) -> usize
     requires { ⌜ (0 < n) × (n ≤ 64) × Fits t ⌝ }
-    ensures { λ x. ⌜ ((p : Problem) (g : Relations) → Good p → Inputs p n g t → x ≡ «allowance-of» p r) ⌝ }
+    ensures { λ x. ⌜ ((p : Problem) (w : List ℕ) (k : ℕ) (g : Relations) → Good p → Inputs p n w k g t → x ≡ «allowance-of» p r) ⌝ }
 {
     let mut marks = [false; tree::NODES];
     let mut total: usize = 1;

@@ -1,17 +1,18 @@
-// The question's reader: its relations as a signature, the place of its rule's formula, or its refusal (1 to 8).
+// The question's reader: its relations and types as a signature, the place of its rule's formula, or its refusal (1 to 8, 19).
 ghost use mathlib.Core.Path.{_≡_};
-ghost use Prim.Native.Nat.{_+_, _≤_, _<_};
+ghost use Prim.Native.Nat.{ℕ, _+_, _≤_, _<_};
 ghost use lib.ListN.{length, take, drop};
 ghost use lib.Seq.{slice};
 ghost use Rattle.definitions.specs.Sheets.{readQuestion};
 ghost use Rattle.definitions.specs.Outcome.{rulePart};
 ghost use Rattle.records.specs.Entries.{InText};
-ghost use Rattle.names.specs.Signatures.{Sound, Lent};
+ghost use Rattle.names.specs.Signatures.{typesIn, Sound, Lent};
 ghost use Rattle.formula.specs.Seen.{verdictNumber};
-ghost use Rattle.question.specs.Drafts.{newIn, judgeOf, grownBy, pushed, spanIn, Headed, laterOf, noSignature, refusedWith, QuestionRead};
+ghost use Rattle.question.specs.Drafts.{isLate, nameFault, typeFault, judgeOf, pushed, typed, grownBy, spanIn, Headed, laterOf, noSignature, refusedWith, QuestionRead};
 use formula::Verdict;
 use names::Signature;
 use records::Entry;
+use text::Found;
 
 pub struct Span {
     pub from: usize,
@@ -28,7 +29,8 @@ struct Head {
     next: usize,
 }
 
-// A question: its refusal's number and place, with no relations and an empty rule; or fault 0, its relations and its rule's span.
+// A question: its refusal's number and place, with no relations, no types and an empty rule; or fault 0, its relations and types, and
+// its rule's span.
 pub struct Asked {
     pub fault: u32,
     pub place: usize,
@@ -36,28 +38,66 @@ pub struct Asked {
     pub rule: Span,
 }
 
-// The span is a relation's name that is neither built in nor declared, in a signature whose names and count are lent.
-fn new_name(
+// A line comes too late: lines of a later kind stand before it, or 8 of its own. A type does not come after types, so it hands in 0.
+fn late(types: usize, chosen: usize, own: usize) -> bool
+    ensures { λ r. ⌜ r ≡ isLate types chosen own ⌝ }
+{
+    if types != 0 {
+        return true;
+    }
+    if chosen != 0 {
+        return true;
+    }
+    8 <= own
+}
+
+// What a relation gets in its place: 4 unless the span is a name that is neither built in nor declared, in a signature whose names and
+// count are lent.
+fn name_fault(
     s: &[u8],
-    from: &[usize; names::DECLARED],
-    to: &[usize; names::DECLARED],
+    from: &[usize; names::NAMES],
+    to: &[usize; names::NAMES],
     m: usize,
     a: usize,
     e: usize,
-) -> bool
+) -> u32
     requires { ⌜ (m ≤ 12) × (a ≤ e) × (e ≤ length (now s)) ⌝ }
-    ensures { λ r. ⌜ ((g : Signature) → Lent g (now (from .entry)) (now (to .entry)) m → r ≡ newIn (now (s .entry)) g (slice a e (now (s .entry)))) ⌝ }
+    ensures { λ r. ⌜ ((g : Signature) → Lent g (now (from .entry)) (now (to .entry)) m → r ≡ nameFault (now (s .entry)) g (slice a e (now (s .entry)))) ⌝ }
 {
     if text::is_relation_name(s, a, e) {
         if names::is_declared(s, from, to, m, a, e) {
-            return false;
+            return 4;
         }
-        return true;
+        return 0;
     }
-    false
+    4
 }
 
-// What a line before the rule gets: 0 for a good relation, 1 for the rule in its place, else the refusal's number.
+// What a type gets in its place: 4 unless the span has a name's form, 19 if it is one of the first k types of a signature whose names
+// are lent.
+fn type_fault(
+    s: &[u8],
+    from: &[usize; names::NAMES],
+    to: &[usize; names::NAMES],
+    k: usize,
+    a: usize,
+    e: usize,
+) -> u32
+    requires { ⌜ (k ≤ 8) × (a ≤ e) × (e ≤ length (now s)) ⌝ }
+    ensures { λ r. ⌜ r ≡ typeFault (typesIn (now (s .entry)) (now (from .entry)) (now (to .entry)) k) (slice a e (now (s .entry))) ⌝ }
+{
+    if text::is_relation_name(s, a, e) {
+        let f = names::type_named(s, from, to, k, s, a, e);
+        match f {
+            Found::At(_) => 19,
+            Found::Nowhere => 0,
+        }
+    } else {
+        4
+    }
+}
+
+// What a line before the rule gets: 0 for a good relation or type, 1 for the rule in its place, else the refusal's number.
 fn judge(s: &[u8], g: Signature, at: usize, x: Entry) -> u32
     requires { ⌜ Sound (now s) g × InText (now s) at x ⌝ }
     ensures { λ r. ⌜ r ≡ judgeOf (now (s .entry)) g x ⌝ }
@@ -65,18 +105,20 @@ fn judge(s: &[u8], g: Signature, at: usize, x: Entry) -> u32
     match x {
         Entry::Wrong => 2,
         Entry::Rel(a, e, _) => {
-            if g.chosen != 0 {
-                return 3;
-            }
-            if 8 <= g.rels {
+            if late(g.types, g.chosen, g.rels) {
                 return 3;
             }
             let from = g.from;
             let to = g.to;
-            if new_name(s, &from, &to, g.rels + g.chosen, a, e) {
-                return 0;
+            name_fault(s, &from, &to, g.rels + g.chosen, a, e)
+        }
+        Entry::Typed(a, e) => {
+            if late(0, g.chosen, g.types) {
+                return 3;
             }
-            4
+            let from = g.from;
+            let to = g.to;
+            type_fault(s, &from, &to, g.types, a, e)
         }
         Entry::Choose(a, e, _, _) => {
             if 4 <= g.chosen {
@@ -84,10 +126,7 @@ fn judge(s: &[u8], g: Signature, at: usize, x: Entry) -> u32
             }
             let from = g.from;
             let to = g.to;
-            if new_name(s, &from, &to, g.rels + g.chosen, a, e) {
-                return 0;
-            }
-            4
+            name_fault(s, &from, &to, g.rels + g.chosen, a, e)
         }
         Entry::Rule(_, _) => {
             if g.chosen == 0 {
@@ -95,11 +134,7 @@ fn judge(s: &[u8], g: Signature, at: usize, x: Entry) -> u32
             }
             1
         }
-        Entry::Size(_) => 3,
-        Entry::Label(_, _, _, _) => 3,
-        Entry::Fact(_, _, _, _) => 3,
-        Entry::Pick(_, _, _, _) => 3,
-        Entry::Step(_) => 3,
+        _ => 3,
     }
 }
 
@@ -127,14 +162,27 @@ fn push(
     h
 }
 
+// The signature with one type more.
+fn push_type(g: Signature, a: usize, e: usize) -> Signature
+    requires { ⌜ g .types < 8 ⌝ }
+    ensures { λ r. ⌜ r ≡ typed g a e ⌝ }
+{
+    let mut h = g;
+    let i = names::DECLARED + g.types;
+    h.from[i] = a;
+    h.to[i] = e;
+    h.types = g.types + 1;
+    h
+}
+
 // The signature after a line that is good.
 fn grow(g: Signature, x: Entry) -> Signature
-    requires { ⌜ g .rels + g .chosen < 12 ⌝ }
+    requires { ⌜ (g .rels + g .chosen < 12) × ((a e : ℕ) → x ≡ Entry.Typed a e → g .types < 8) ⌝ }
     ensures { λ r. ⌜ r ≡ grownBy g x ⌝ }
 {
     match x {
-        Entry::Wrong => g,
         Entry::Rel(a, e, k) => push(g, g.rels, a, e, k as usize, 0, g.rels + 1, g.chosen),
+        Entry::Typed(a, e) => push_type(g, a, e),
         Entry::Choose(a, e, k, d) => push(
             g,
             g.rels + g.chosen,
@@ -145,12 +193,7 @@ fn grow(g: Signature, x: Entry) -> Signature
             g.rels,
             g.chosen + 1,
         ),
-        Entry::Rule(_, _) => g,
-        Entry::Size(_) => g,
-        Entry::Label(_, _, _, _) => g,
-        Entry::Fact(_, _, _, _) => g,
-        Entry::Pick(_, _, _, _) => g,
-        Entry::Step(_) => g,
+        _ => g,
     }
 }
 
@@ -158,28 +201,22 @@ fn grow(g: Signature, x: Entry) -> Signature
 fn rule_span(x: Entry) -> Span
     ensures { λ r. ⌜ r ≡ spanIn x ⌝ }
 {
-    match x {
-        Entry::Wrong => Span { from: 0, to: 0 },
-        Entry::Rel(_, _, _) => Span { from: 0, to: 0 },
-        Entry::Choose(_, _, _, _) => Span { from: 0, to: 0 },
-        Entry::Rule(a, e) => Span { from: a, to: e },
-        Entry::Size(_) => Span { from: 0, to: 0 },
-        Entry::Label(_, _, _, _) => Span { from: 0, to: 0 },
-        Entry::Fact(_, _, _, _) => Span { from: 0, to: 0 },
-        Entry::Pick(_, _, _, _) => Span { from: 0, to: 0 },
-        Entry::Step(_) => Span { from: 0, to: 0 },
+    if let Entry::Rule(a, e) = x {
+        return Span { from: a, to: e };
     }
+    Span { from: 0, to: 0 }
 }
 
-// No relations.
+// No relations and no types.
 fn no_relations() -> Signature
     ensures { λ r. ⌜ r ≡ noSignature ⌝ }
 {
     Signature {
         rels: 0,
         chosen: 0,
-        from: [0; names::DECLARED],
-        to: [0; names::DECLARED],
+        types: 0,
+        from: [0; names::NAMES],
+        to: [0; names::NAMES],
         arity: [0; names::DECLARED],
         kind: [0; names::DECLARED],
     }
@@ -236,17 +273,10 @@ fn question_head(s: &[u8]) -> Head
 fn after_rule(x: Entry) -> u32
     ensures { λ r. ⌜ r ≡ laterOf x ⌝ }
 {
-    match x {
-        Entry::Wrong => 2,
-        Entry::Rel(_, _, _) => 3,
-        Entry::Choose(_, _, _, _) => 3,
-        Entry::Rule(_, _) => 3,
-        Entry::Size(_) => 3,
-        Entry::Label(_, _, _, _) => 3,
-        Entry::Fact(_, _, _, _) => 3,
-        Entry::Pick(_, _, _, _) => 3,
-        Entry::Step(_) => 3,
+    if let Entry::Wrong = x {
+        return 2;
     }
+    3
 }
 
 // The number of the verdict on a rule, 0 where it is fine.
@@ -259,6 +289,7 @@ fn number_of(v: Verdict) -> u32
         Verdict::TooLarge => 6,
         Verdict::Unknown => 7,
         Verdict::Unbound => 8,
+        Verdict::Undeclared => 19,
     }
 }
 

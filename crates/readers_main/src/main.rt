@@ -39,16 +39,29 @@ fn ask(s: &[u8]) {
     io::write_all(1, b"\n");
 }
 
-// A site of a question with D, E, T and F.
-fn read_site(s: &[u8]) {
-    let text =
-        b"rel\tD\t1\nrel\tE\t2\nchoose\tT\t1\nchoose\tF\tFun\nrule\t(forall (?y) (or (D ?y) (T ?y)))\n";
+// A site of a question.
+fn read_site_of(text: &[u8], s: &[u8]) {
     let q = question::question(text);
     let g = q.sig;
     let mut labels = [0usize; sheets::LABELS];
+    let mut members = [0u64; names::TYPES];
     let mut table = [0u64; 32768];
-    let a = sheets::site(text, g, s, 64, &mut labels, &mut table);
+    let a = sheets::site(text, g, s, 64, &mut labels, &mut members, &mut table);
     answer(b"site", a);
+}
+
+// ... with D, E, T and F.
+fn read_site(s: &[u8]) {
+    let text =
+        b"rel\tD\t1\nrel\tE\t2\nchoose\tT\t1\nchoose\tF\tFun\nrule\t(forall (?y) (or (D ?y) (T ?y)))\n";
+    read_site_of(text, s);
+}
+
+// ... with D, T and the types DOOR and CARD.
+fn read_typed(s: &[u8]) {
+    let text =
+        b"rel\tD\t1\ntype\tDOOR\ntype\tCARD\nchoose\tT\t1\nrule\t(forall (?y:DOOR) (or (D ?y) (T ?y)))\n";
+    read_site_of(text, s);
 }
 
 // Picks of that question, over two elements, the second with the label B.
@@ -210,6 +223,50 @@ fn labels2() {
 }
 
 // Picks over two elements.
+// Types: their lines, in the rule, and their members.
+fn types1() {
+    ask(b"type\tDOOR\nchoose\tT\t1\nrule\t(exists (?x:DOOR ?y) (T ?x))\n");
+    ask(b"type\tDOOR\nrel\tD\t1\n");
+    ask(b"type\tdoor\n");
+    ask(b"type\tDOOR\ntype\tDOOR\n");
+    ask(b"type\tDOOR\t1\n");
+    ask(b"choose\tT\t1\ntype\tDOOR\n");
+    ask(b"type\tA\ntype\tB\ntype\tC\ntype\tD\ntype\tE\ntype\tF\ntype\tG\ntype\tH\ntype\tI\n");
+    ask(b"member\tDOOR\t1\n");
+}
+
+fn types2() {
+    ask(b"choose\tT\t1\nrule\t(exists (?x:DOOR) (T ?x))\n");
+    ask(b"choose\tT\t1\nrule\t(exists (?x:DOOR) (T ?y))\n");
+    ask(b"type\tT\nchoose\tT\t1\nrule\t(exists (?x:T) (T ?x:T))\n");
+    ask(b"type\tDOOR\nchoose\tT\t1\nrule\t(exists (?x:) (T ?x))\n");
+    ask(b"type\tDOOR\nchoose\tT\t1\nrule\t(exists (?x:DOOR:DOOR) (T ?x))\n");
+    ask(b"type\tEQ\nchoose\tT\t1\nrule\t(forall (?x:EQ ?y:EQ) (implies (T ?x) (T ?y)))\n");
+}
+
+fn members1() {
+    read_typed(b"size\t3\nmember\tDOOR\t2\nmember\tCARD\t0\nfact\tD\t1\n");
+    read_typed(b"size\t3\nmember\tDOOR\t2\n");
+    read_typed(b"");
+    read_typed(b"member\tDOOR\t2\n");
+    read_typed(b"size\t3\nmember\tDOOR\n");
+    read_typed(b"size\t3\nmember\tDOOR\tlobby\n");
+    read_typed(b"size\t3\nfact\tD\t1\nmember\tDOOR\t2\n");
+    read_typed(b"size\t3\nmember\tZONE\t9\n");
+}
+
+fn members2() {
+    read_typed(b"size\t3\nmember\tDOOR\t3\n");
+    read_typed(b"size\t3\nmember\t\t1\n");
+    read_typed(b"size\t3\nmember\tDOOR\tLOBBY\n");
+    read_typed(b"size\t3\nlabel\t2\tLOBBY\nmember\tDOOR\tLOBBY\nmember\tDOOR\t2\n");
+    read_typed(b"size\t3\nmember\tDOOR\t2\nlabel\t2\tLOBBY\n");
+    read_typed(b"size\t3\nmember\tDOOR\t2\nmember\tCARD\t2\nsize\t3\n");
+    read_site(b"size\t3\nmember\tDOOR\t2\n");
+    read_picks(b"member\tDOOR\t1\n");
+    read_steps(b"type\tDOOR\n");
+}
+
 fn picks1() {
     read_picks(b"");
     read_picks(b"pick\tT\t0\npick\tT\t1\n");
@@ -323,6 +380,10 @@ fn main() {
     sites4();
     labels1();
     labels2();
+    types1();
+    types2();
+    members1();
+    members2();
     picks1();
     picks2();
     picks3();

@@ -18,11 +18,11 @@ use Rattle.text.specs.Spans.{indexOf, numOf}
 use Rattle.text.specs.declared.Num.{Num}
 use Rattle.text.specs.declared.Num.the-variants.{Is}
 use Rattle.text.proofs.Laws.{span-append, split-last, end-within, indexOf-miss}
-use Rattle.records.specs.Entries.{recordWord, stepOf, entryIn, InText, Reads, StepReads}
+use Rattle.records.specs.Entries.{made, Says, stepOf, entryIn, InText, Reads, StepReads}
 use Rattle.records.specs.declared.Quick.{Quick}
 use Rattle.records.specs.declared.Quick.the-variants.{Step as Told, Other}
 use Rattle.records.specs.declared.Entry.the-variants.{Step}
-use Rattle.records.proofs.Fields.{made, entry-made, num-is, reads-line}
+use Rattle.records.proofs.Fields.{says-step, num-is, reads-line}
 
 -- ---- digits hold no tab
 
@@ -53,8 +53,8 @@ one-number t k p = rw (split-last 9 t (no-tab t (digits-only t k p))) (rw p)
 -- ---- the line
 
 word-fields : (t : List ℕ) → S.entry (split 9 ((115 ∷ 116 ∷ 101 ∷ 112 ∷ 9 ∷ []) ++ t)) ≡ S.withOne stepOf (split 9 t)
-unfolding split onFirst made recordWord same
-word-fields t = entry-made (115 ∷ 116 ∷ 101 ∷ 112 ∷ []) (split 9 t)
+unfolding split onFirst made Says same
+word-fields t = says-step (115 ∷ 116 ∷ 101 ∷ 112 ∷ []) refl .0 (split 9 t)
 
 word-end : (t : List ℕ) → indexOf 10 ((115 ∷ 116 ∷ 101 ∷ 112 ∷ 9 ∷ []) ++ t) ≡ 5 + indexOf 10 t
 unfolding indexOf

@@ -17,10 +17,12 @@ use Rattle.definitions.specs.Refusal.{given}
 use Rattle.definitions.specs.Sheets as S
 use Rattle.laws.specs.Decimals.{decimal-number}
 use Rattle.laws.specs.Labels.{option-parts}
+use Rattle.laws.specs.Booleans.{T-of}
 use Rattle.laws.specs.Lists.{none-some, some-eq}
+use Rattle.laws.specs.Tuples.{same-eq}
 use Rattle.text.specs.Spans.{indexOf, numOf, kindOf}
 use Rattle.records.specs.Lines.{linesAt}
-use Rattle.records.specs.Entries.{OneField, TwoFields, Named, Fielded, codeOf, codesIn, codesOf, codes, elementBy, elementsBy, listOf, consed, upTo, kindWord, recordWord, relOf, ruleOf, sizeOf, stepOf, entryIn, Reads}
+use Rattle.records.specs.Entries.{OneField, TwoFields, Named, Fielded, codeOf, codesIn, codesOf, codes, elementBy, elementsBy, listOf, consed, upTo, kindWord, relOf, typeOf, ruleOf, sizeOf, stepOf, made, Says, entryIn, Reads}
 use Rattle.text.specs.declared.Num.{Num}
 use Rattle.text.specs.declared.Num.the-variants.{Is, Bad}
 use Rattle.text.specs.declared.Found.{Found}
@@ -197,172 +199,95 @@ choose-by-kind name f p = choose-tests name f ∙ choose-kind name _ (same f (70
 
 -- ---- record words
 
-module _ (f : List ℕ) where
-  pub word-1 : same f (114 ∷ 101 ∷ 108 ∷ []) ≡ true → recordWord f ≡ 1
-  unfolding recordWord
-  word-1 p = rw (p)
+says-as : (w v : List ℕ) (k : ℕ) → same w v ≡ true → Says v k → Says w k
+says-as w v k e h = subst (λ (u : List ℕ). Says u k) (sym (same-eq w v (T-of e))) h
 
-  module _ (n1 : same f (114 ∷ 101 ∷ 108 ∷ []) ≡ false) where
-    pub word-2 : same f (99 ∷ 104 ∷ 111 ∷ 111 ∷ 115 ∷ 101 ∷ []) ≡ true → recordWord f ≡ 2
-    unfolding recordWord
-    word-2 p = rw (n1, p)
+module _ (w : List ℕ) where
+  pub says-rel : same w (114 ∷ 101 ∷ 108 ∷ []) ≡ true → Says w 1
+  unfolding Says made S.entry same relOf typeOf ruleOf sizeOf stepOf
+  says-rel e = says-as w (114 ∷ 101 ∷ 108 ∷ []) 1 e (λ fs. refl, λ p. absurd (omega arith))
 
-    module _ (n2 : same f (99 ∷ 104 ∷ 111 ∷ 111 ∷ 115 ∷ 101 ∷ []) ≡ false) where
-      pub word-3 : same f (114 ∷ 117 ∷ 108 ∷ 101 ∷ []) ≡ true → recordWord f ≡ 3
-      unfolding recordWord
-      word-3 p = rw (n1, n2, p)
+  pub says-type : same w (116 ∷ 121 ∷ 112 ∷ 101 ∷ []) ≡ true → Says w 2
+  unfolding Says made S.entry same relOf typeOf ruleOf sizeOf stepOf
+  says-type e = says-as w (116 ∷ 121 ∷ 112 ∷ 101 ∷ []) 2 e (λ fs. refl, λ p. absurd (omega arith))
 
-      module _ (n3 : same f (114 ∷ 117 ∷ 108 ∷ 101 ∷ []) ≡ false) where
-        pub word-4 : same f (115 ∷ 105 ∷ 122 ∷ 101 ∷ []) ≡ true → recordWord f ≡ 4
-        unfolding recordWord
-        word-4 p = rw (n1, n2, n3, p)
+  pub says-choose : same w (99 ∷ 104 ∷ 111 ∷ 111 ∷ 115 ∷ 101 ∷ []) ≡ true → Says w 3
+  unfolding Says made S.entry same relOf typeOf ruleOf sizeOf stepOf
+  says-choose e = says-as w (99 ∷ 104 ∷ 111 ∷ 111 ∷ 115 ∷ 101 ∷ []) 3 e (λ fs. refl, λ p. absurd (omega arith))
 
-        module _ (n4 : same f (115 ∷ 105 ∷ 122 ∷ 101 ∷ []) ≡ false) where
-          pub word-5 : same f (108 ∷ 97 ∷ 98 ∷ 101 ∷ 108 ∷ []) ≡ true → recordWord f ≡ 5
-          unfolding recordWord
-          word-5 p = rw (n1, n2, n3, n4, p)
+  pub says-rule : same w (114 ∷ 117 ∷ 108 ∷ 101 ∷ []) ≡ true → Says w 4
+  unfolding Says made S.entry same relOf typeOf ruleOf sizeOf stepOf
+  says-rule e = says-as w (114 ∷ 117 ∷ 108 ∷ 101 ∷ []) 4 e (λ fs. refl, λ p. refl)
 
-          module _ (n5 : same f (108 ∷ 97 ∷ 98 ∷ 101 ∷ 108 ∷ []) ≡ false) where
-            pub word-6 : same f (102 ∷ 97 ∷ 99 ∷ 116 ∷ []) ≡ true → recordWord f ≡ 6
-            unfolding recordWord
-            word-6 p = rw (n1, n2, n3, n4, n5, p)
+  pub says-size : same w (115 ∷ 105 ∷ 122 ∷ 101 ∷ []) ≡ true → Says w 5
+  unfolding Says made S.entry same relOf typeOf ruleOf sizeOf stepOf
+  says-size e = says-as w (115 ∷ 105 ∷ 122 ∷ 101 ∷ []) 5 e (λ fs. refl, λ p. absurd (omega arith))
 
-            module _ (n6 : same f (102 ∷ 97 ∷ 99 ∷ 116 ∷ []) ≡ false) where
-              pub word-7 : same f (112 ∷ 105 ∷ 99 ∷ 107 ∷ []) ≡ true → recordWord f ≡ 7
-              unfolding recordWord
-              word-7 p = rw (n1, n2, n3, n4, n5, n6, p)
+  pub says-label : same w (108 ∷ 97 ∷ 98 ∷ 101 ∷ 108 ∷ []) ≡ true → Says w 6
+  unfolding Says made S.entry same relOf typeOf ruleOf sizeOf stepOf
+  says-label e = says-as w (108 ∷ 97 ∷ 98 ∷ 101 ∷ 108 ∷ []) 6 e (λ fs. refl, λ p. absurd (omega arith))
 
-              module _ (n7 : same f (112 ∷ 105 ∷ 99 ∷ 107 ∷ []) ≡ false) where
-                pub word-8 : same f (115 ∷ 116 ∷ 101 ∷ 112 ∷ []) ≡ true → recordWord f ≡ 8
-                unfolding recordWord
-                word-8 p = rw (n1, n2, n3, n4, n5, n6, n7, p)
+  pub says-member : same w (109 ∷ 101 ∷ 109 ∷ 98 ∷ 101 ∷ 114 ∷ []) ≡ true → Says w 7
+  unfolding Says made S.entry same relOf typeOf ruleOf sizeOf stepOf
+  says-member e = says-as w (109 ∷ 101 ∷ 109 ∷ 98 ∷ 101 ∷ 114 ∷ []) 7 e (λ fs. refl, λ p. absurd (omega arith))
 
-                pub word-0 : same f (115 ∷ 116 ∷ 101 ∷ 112 ∷ []) ≡ false → recordWord f ≡ 0
-                unfolding recordWord
-                word-0 p = rw (n1, n2, n3, n4, n5, n6, n7, p)
+  pub says-fact : same w (102 ∷ 97 ∷ 99 ∷ 116 ∷ []) ≡ true → Says w 8
+  unfolding Says made S.entry same relOf typeOf ruleOf sizeOf stepOf
+  says-fact e = says-as w (102 ∷ 97 ∷ 99 ∷ 116 ∷ []) 8 e (λ fs. refl, λ p. absurd (omega arith))
 
--- what the fields after a record word make, by its number
-unfoldable pub made : ℕ → List (List ℕ) → Option S.Entry
-made zero fs = none
-made (suc zero) fs = S.withTwo relOf fs
-made (suc (suc zero)) fs = S.withTwo S.chooseOf fs
-made (suc (suc (suc zero))) fs = S.withOne ruleOf fs
-made (suc (suc (suc (suc zero)))) fs = S.withOne sizeOf fs
-made (suc (suc (suc (suc (suc zero))))) fs = S.withTwo S.labelOf fs
-made (suc (suc (suc (suc (suc (suc zero)))))) fs = S.withElements S.fact fs
-made (suc (suc (suc (suc (suc (suc (suc zero))))))) fs = S.withElements S.pick fs
-made (suc (suc (suc (suc (suc (suc (suc (suc zero)))))))) fs = S.withOne stepOf fs
-made (suc (suc (suc (suc (suc (suc (suc (suc (suc k))))))))) fs = none
+  pub says-pick : same w (112 ∷ 105 ∷ 99 ∷ 107 ∷ []) ≡ true → Says w 9
+  unfolding Says made S.entry same relOf typeOf ruleOf sizeOf stepOf
+  says-pick e = says-as w (112 ∷ 105 ∷ 99 ∷ 107 ∷ []) 9 e (λ fs. refl, λ p. absurd (omega arith))
 
-entry-tests : (w : List ℕ) (fs : List (List ℕ)) → S.entry (w ∷ fs) ≡ (if same w (114 ∷ 101 ∷ 108 ∷ []) then S.withTwo relOf fs else if same w (99 ∷ 104 ∷ 111 ∷ 111 ∷ 115 ∷ 101 ∷ []) then S.withTwo S.chooseOf fs else if same w (114 ∷ 117 ∷ 108 ∷ 101 ∷ []) then S.withOne ruleOf fs else if same w (115 ∷ 105 ∷ 122 ∷ 101 ∷ []) then S.withOne sizeOf fs else if same w (108 ∷ 97 ∷ 98 ∷ 101 ∷ 108 ∷ []) then S.withTwo S.labelOf fs else if same w (102 ∷ 97 ∷ 99 ∷ 116 ∷ []) then S.withElements S.fact fs else if same w (112 ∷ 105 ∷ 99 ∷ 107 ∷ []) then S.withElements S.pick fs else if same w (115 ∷ 116 ∷ 101 ∷ 112 ∷ []) then S.withOne stepOf fs else none)
-unfolding S.entry relOf ruleOf sizeOf stepOf
-entry-tests w fs = refl
+  pub says-step : same w (115 ∷ 116 ∷ 101 ∷ 112 ∷ []) ≡ true → Says w 10
+  unfolding Says made S.entry same relOf typeOf ruleOf sizeOf stepOf
+  says-step e = says-as w (115 ∷ 116 ∷ 101 ∷ 112 ∷ []) 10 e (λ fs. refl, λ p. absurd (omega arith))
 
-word-tests : (w : List ℕ) → recordWord w ≡ (if same w (114 ∷ 101 ∷ 108 ∷ []) then 1 else if same w (99 ∷ 104 ∷ 111 ∷ 111 ∷ 115 ∷ 101 ∷ []) then 2 else if same w (114 ∷ 117 ∷ 108 ∷ 101 ∷ []) then 3 else if same w (115 ∷ 105 ∷ 122 ∷ 101 ∷ []) then 4 else if same w (108 ∷ 97 ∷ 98 ∷ 101 ∷ 108 ∷ []) then 5 else if same w (102 ∷ 97 ∷ 99 ∷ 116 ∷ []) then 6 else if same w (112 ∷ 105 ∷ 99 ∷ 107 ∷ []) then 7 else if same w (115 ∷ 116 ∷ 101 ∷ 112 ∷ []) then 8 else 0)
-unfolding recordWord
-word-tests w = refl
+  pub says-none : same w (102 ∷ 97 ∷ 99 ∷ 116 ∷ []) ≡ false → same w (112 ∷ 105 ∷ 99 ∷ 107 ∷ []) ≡ false → same w (114 ∷ 101 ∷ 108 ∷ []) ≡ false → same w (116 ∷ 121 ∷ 112 ∷ 101 ∷ []) ≡ false → same w (99 ∷ 104 ∷ 111 ∷ 111 ∷ 115 ∷ 101 ∷ []) ≡ false → same w (114 ∷ 117 ∷ 108 ∷ 101 ∷ []) ≡ false → same w (115 ∷ 105 ∷ 122 ∷ 101 ∷ []) ≡ false → same w (108 ∷ 97 ∷ 98 ∷ 101 ∷ 108 ∷ []) ≡ false → same w (109 ∷ 101 ∷ 109 ∷ 98 ∷ 101 ∷ 114 ∷ []) ≡ false → same w (115 ∷ 116 ∷ 101 ∷ 112 ∷ []) ≡ false → Says w 0
+  unfolding Says made S.entry
+  says-none n-fact n-pick n-rel n-type n-choose n-rule n-size n-label n-member n-step = (λ fs. rw (n-rel, n-type, n-choose, n-rule, n-size, n-label, n-member, n-fact, n-pick, n-step), λ p. absurd (omega arith))
 
-made-tests : (fs : List (List ℕ)) (a b c d l e f g : Bool) → (if a then S.withTwo relOf fs else if b then S.withTwo S.chooseOf fs else if c then S.withOne ruleOf fs else if d then S.withOne sizeOf fs else if l then S.withTwo S.labelOf fs else if e then S.withElements S.fact fs else if f then S.withElements S.pick fs else if g then S.withOne stepOf fs else none) ≡ made (if a then 1 else if b then 2 else if c then 3 else if d then 4 else if l then 5 else if e then 6 else if f then 7 else if g then 8 else 0) fs
-unfolding made
-made-tests fs true b c d l e f g = refl
-made-tests fs false true c d l e f g = refl
-made-tests fs false false true d l e f g = refl
-made-tests fs false false false true l e f g = refl
-made-tests fs false false false false true e f g = refl
-made-tests fs false false false false false true f g = refl
-made-tests fs false false false false false false true g = refl
-made-tests fs false false false false false false false true = refl
-made-tests fs false false false false false false false false = refl
+-- a record word alone says nothing
+none-either : (b : Bool) (x y : Option S.Entry) → x ≡ none → y ≡ none → (if b then x else y) ≡ none
+none-either true x y p q = p
+none-either false x y p q = q
 
-pub entry-made : (w : List ℕ) (fs : List (List ℕ)) → S.entry (w ∷ fs) ≡ made (recordWord w) fs
-entry-made w fs = entry-tests w fs ∙ made-tests fs (same w (114 ∷ 101 ∷ 108 ∷ [])) (same w (99 ∷ 104 ∷ 111 ∷ 111 ∷ 115 ∷ 101 ∷ [])) (same w (114 ∷ 117 ∷ 108 ∷ 101 ∷ [])) (same w (115 ∷ 105 ∷ 122 ∷ 101 ∷ [])) (same w (108 ∷ 97 ∷ 98 ∷ 101 ∷ 108 ∷ [])) (same w (102 ∷ 97 ∷ 99 ∷ 116 ∷ [])) (same w (112 ∷ 105 ∷ 99 ∷ 107 ∷ [])) (same w (115 ∷ 116 ∷ 101 ∷ 112 ∷ [])) ∙ ap (λ (k : ℕ). made k fs) (sym (word-tests w))
-
-made-alone : (k : ℕ) → made k [] ≡ none
-unfolding made S.withOne S.withTwo S.withElements
-made-alone zero = refl
-made-alone (suc zero) = refl
-made-alone (suc (suc zero)) = refl
-made-alone (suc (suc (suc zero))) = refl
-made-alone (suc (suc (suc (suc zero)))) = refl
-made-alone (suc (suc (suc (suc (suc zero))))) = refl
-made-alone (suc (suc (suc (suc (suc (suc zero)))))) = refl
-made-alone (suc (suc (suc (suc (suc (suc (suc zero))))))) = refl
-made-alone (suc (suc (suc (suc (suc (suc (suc (suc zero)))))))) = refl
-made-alone (suc (suc (suc (suc (suc (suc (suc (suc (suc k))))))))) = refl
-
-made-none : (j : ℕ) (fs : List (List ℕ)) → (j ≡ 1 → ⊥) → (j ≡ 2 → ⊥) → (j ≡ 3 → ⊥) → (j ≡ 4 → ⊥) → (j ≡ 5 → ⊥) → (j ≡ 6 → ⊥) → (j ≡ 7 → ⊥) → (j ≡ 8 → ⊥) → made j fs ≡ none
-unfolding made
-made-none zero fs a b c d e f g h = refl
-made-none (suc zero) fs a b c d e f g h = absurd (a refl)
-made-none (suc (suc zero)) fs a b c d e f g h = absurd (b refl)
-made-none (suc (suc (suc zero))) fs a b c d e f g h = absurd (c refl)
-made-none (suc (suc (suc (suc zero)))) fs a b c d e f g h = absurd (d refl)
-made-none (suc (suc (suc (suc (suc zero))))) fs a b c d e f g h = absurd (e refl)
-made-none (suc (suc (suc (suc (suc (suc zero)))))) fs a b c d e f g h = absurd (f refl)
-made-none (suc (suc (suc (suc (suc (suc (suc zero))))))) fs a b c d e f g h = absurd (g refl)
-made-none (suc (suc (suc (suc (suc (suc (suc (suc zero)))))))) fs a b c d e f g h = absurd (h refl)
-made-none (suc (suc (suc (suc (suc (suc (suc (suc (suc k))))))))) fs a b c d e f g h = refl
+alone : (w : List ℕ) → S.entry (w ∷ []) ≡ none
+unfolding S.entry S.withOne S.withTwo S.withElements
+alone w = none-either (same w (114 ∷ 101 ∷ 108 ∷ [])) none _ refl (none-either (same w (116 ∷ 121 ∷ 112 ∷ 101 ∷ [])) none _ refl (none-either (same w (99 ∷ 104 ∷ 111 ∷ 111 ∷ 115 ∷ 101 ∷ [])) none _ refl (none-either (same w (114 ∷ 117 ∷ 108 ∷ 101 ∷ [])) none _ refl (none-either (same w (115 ∷ 105 ∷ 122 ∷ 101 ∷ [])) none _ refl (none-either (same w (108 ∷ 97 ∷ 98 ∷ 101 ∷ 108 ∷ [])) none _ refl (none-either (same w (109 ∷ 101 ∷ 109 ∷ 98 ∷ 101 ∷ 114 ∷ [])) none _ refl (none-either (same w (102 ∷ 97 ∷ 99 ∷ 116 ∷ [])) none _ refl (none-either (same w (112 ∷ 105 ∷ 99 ∷ 107 ∷ [])) none _ refl (none-either (same w (115 ∷ 116 ∷ 101 ∷ 112 ∷ [])) none _ refl refl)))))))))
 
 module _ (s : List ℕ) (a e : ℕ) (h : a ≤ e) (k : e ≤ length s) (t : ℕ) (q : t ≡ a + indexOf 9 (slice a e s)) where
   pub record-alone : t ≡ e → entryIn s Wrong ≡ S.entry (split 9 (slice a e s))
   unfolding entryIn
-  record-alone l = sym (ap S.entry (pieces-whole 9 a e s h k t q (omega arith)) ∙ entry-made (slice a e s) [] ∙ made-alone (recordWord (slice a e s)))
+  record-alone l = sym (ap S.entry (pieces-whole 9 a e s h k t q (omega arith)) ∙ alone (slice a e s))
 
-  pub record-by : t < e → (j : ℕ) → j ≡ recordWord (slice a t s) → made j (split 9 (slice (t + 1) e s)) ≡ S.entry (split 9 (slice a e s))
-  record-by l j p = rw p (sym (ap S.entry (pieces-at 9 a e s h k t q l) ∙ entry-made (slice a t s) (split 9 (slice (t + 1) e s))))
+  pub record-by : t < e → (j : ℕ) → Says (slice a t s) j → made j (split 9 (slice (t + 1) e s)) ≡ S.entry (split 9 (slice a e s))
+  unfolding Says
+  record-by l j w = sym (ap S.entry (pieces-at 9 a e s h k t q l) ∙ w .0 (split 9 (slice (t + 1) e s)))
 
-  -- a record of number 1 to 8
-  pub record-1 : t < e → (j : ℕ) → j ≡ recordWord (slice a t s) → j ≡ 1 → S.withTwo relOf (split 9 (slice (t + 1) e s)) ≡ S.entry (split 9 (slice a e s))
-  unfolding made
-  record-1 l j p r = record-by l 1 (sym r ∙ p)
+  -- the field after `rule` begins 5 bytes after the line
+  pub rule-place : t < e → (j : ℕ) → Says (slice a t s) j → j ≡ 4 → t + 1 ≡ a + 5
+  unfolding Says
+  rule-place l j w p = omega (arith, w .1 p, length-slice a t s (omega arith))
 
-  pub record-2 : t < e → (j : ℕ) → j ≡ recordWord (slice a t s) → j ≡ 2 → S.withTwo S.chooseOf (split 9 (slice (t + 1) e s)) ≡ S.entry (split 9 (slice a e s))
-  unfolding made
-  record-2 l j p r = record-by l 2 (sym r ∙ p)
+pub made-at : (j k : ℕ) (fs : List (List ℕ)) → j ≡ k → made k fs ≡ made j fs
+made-at j k fs e = ap (λ (i : ℕ). made i fs) (sym e)
 
-  pub record-3 : t < e → (j : ℕ) → j ≡ recordWord (slice a t s) → j ≡ 3 → S.withOne ruleOf (split 9 (slice (t + 1) e s)) ≡ S.entry (split 9 (slice a e s))
-  unfolding made
-  record-3 l j p r = record-by l 3 (sym r ∙ p)
-
-  pub record-4 : t < e → (j : ℕ) → j ≡ recordWord (slice a t s) → j ≡ 4 → S.withOne sizeOf (split 9 (slice (t + 1) e s)) ≡ S.entry (split 9 (slice a e s))
-  unfolding made
-  record-4 l j p r = record-by l 4 (sym r ∙ p)
-
-  pub record-5 : t < e → (j : ℕ) → j ≡ recordWord (slice a t s) → j ≡ 5 → S.withTwo S.labelOf (split 9 (slice (t + 1) e s)) ≡ S.entry (split 9 (slice a e s))
-  unfolding made
-  record-5 l j p r = record-by l 5 (sym r ∙ p)
-
-  pub record-6 : t < e → (j : ℕ) → j ≡ recordWord (slice a t s) → j ≡ 6 → S.withElements S.fact (split 9 (slice (t + 1) e s)) ≡ S.entry (split 9 (slice a e s))
-  unfolding made
-  record-6 l j p r = record-by l 6 (sym r ∙ p)
-
-  pub record-7 : t < e → (j : ℕ) → j ≡ recordWord (slice a t s) → j ≡ 7 → S.withElements S.pick (split 9 (slice (t + 1) e s)) ≡ S.entry (split 9 (slice a e s))
-  unfolding made
-  record-7 l j p r = record-by l 7 (sym r ∙ p)
-
-  pub record-8 : t < e → (j : ℕ) → j ≡ recordWord (slice a t s) → j ≡ 8 → S.withOne stepOf (split 9 (slice (t + 1) e s)) ≡ S.entry (split 9 (slice a e s))
-  unfolding made
-  record-8 l j p r = record-by l 8 (sym r ∙ p)
-
-  pub record-0 : t < e → (j : ℕ) → j ≡ recordWord (slice a t s) → (j ≡ 1 → ⊥) → (j ≡ 2 → ⊥) → (j ≡ 3 → ⊥) → (j ≡ 4 → ⊥) → (j ≡ 5 → ⊥) → (j ≡ 6 → ⊥) → (j ≡ 7 → ⊥) → (j ≡ 8 → ⊥) → entryIn s Wrong ≡ S.entry (split 9 (slice a e s))
-  unfolding entryIn
-  record-0 l j p n1 n2 n3 n4 n5 n6 n7 n8 = sym (made-none j (split 9 (slice (t + 1) e s)) n1 n2 n3 n4 n5 n6 n7 n8) ∙ record-by l j p
-
--- a word that is not of 4 bytes is not `rule`
-pub not-rule : (w : List ℕ) → (length w ≡ 4 → ⊥) → recordWord w ≡ 3 → ⊥
-not-rule w h p =
-    go (same w (114 ∷ 101 ∷ 108 ∷ [])) (same w (99 ∷ 104 ∷ 111 ∷ 111 ∷ 115 ∷ 101 ∷ [])) (same w (115 ∷ 105 ∷ 122 ∷ 101 ∷ [])) (same w (108 ∷ 97 ∷ 98 ∷ 101 ∷ 108 ∷ [])) (same w (102 ∷ 97 ∷ 99 ∷ 116 ∷ [])) (same w (112 ∷ 105 ∷ 99 ∷ 107 ∷ [])) (same w (115 ∷ 116 ∷ 101 ∷ 112 ∷ []))
-    (sym (ap (λ (b : Bool). if same w (114 ∷ 101 ∷ 108 ∷ []) then 1 else if same w (99 ∷ 104 ∷ 111 ∷ 111 ∷ 115 ∷ 101 ∷ []) then 2 else if b then 3 else if same w (115 ∷ 105 ∷ 122 ∷ 101 ∷ []) then 4 else if same w (108 ∷ 97 ∷ 98 ∷ 101 ∷ 108 ∷ []) then 5 else if same w (102 ∷ 97 ∷ 99 ∷ 116 ∷ []) then 6 else if same w (112 ∷ 105 ∷ 99 ∷ 107 ∷ []) then 7 else if same w (115 ∷ 116 ∷ 101 ∷ 112 ∷ []) then 8 else 0) (same-length w (114 ∷ 117 ∷ 108 ∷ 101 ∷ []) h)) ∙ sym (word-tests w) ∙ p)
-  where
-    go : (a b d l e f g : Bool) → _≡_ {A = ℕ} (if a then 1 else if b then 2 else if false then 3 else if d then 4 else if l then 5 else if e then 6 else if f then 7 else if g then 8 else 0) 3 → ⊥
-    go true b d l e f g q = omega arith
-    go false true d l e f g q = omega arith
-    go false false true l e f g q = omega arith
-    go false false false true e f g q = omega arith
-    go false false false false true f g q = omega arith
-    go false false false false false true g q = omega arith
-    go false false false false false false true q = omega arith
-    go false false false false false false false q = omega arith
+-- what no number stands for
+pub made-past : (j : ℕ) (fs : List (List ℕ)) → 10 < j → made j fs ≡ none
+unfolding made
+made-past zero fs h = absurd (omega arith)
+made-past (suc zero) fs h = absurd (omega arith)
+made-past (suc (suc zero)) fs h = absurd (omega arith)
+made-past (suc (suc (suc zero))) fs h = absurd (omega arith)
+made-past (suc (suc (suc (suc zero)))) fs h = absurd (omega arith)
+made-past (suc (suc (suc (suc (suc zero))))) fs h = absurd (omega arith)
+made-past (suc (suc (suc (suc (suc (suc zero)))))) fs h = absurd (omega arith)
+made-past (suc (suc (suc (suc (suc (suc (suc zero))))))) fs h = absurd (omega arith)
+made-past (suc (suc (suc (suc (suc (suc (suc (suc zero)))))))) fs h = absurd (omega arith)
+made-past (suc (suc (suc (suc (suc (suc (suc (suc (suc zero))))))))) fs h = absurd (omega arith)
+made-past (suc (suc (suc (suc (suc (suc (suc (suc (suc (suc zero)))))))))) fs h = absurd (omega arith)
+made-past (suc (suc (suc (suc (suc (suc (suc (suc (suc (suc (suc j))))))))))) fs h = refl
 
 -- ---- element fields
 

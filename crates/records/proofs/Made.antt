@@ -5,22 +5,21 @@ use mathlib.Core.Bool.{Bool, true, false}
 use mathlib.Core.List.{List}
 use mathlib.Core.Option.{Option, none, some}
 use native.Mathlib.Omega.{arith}
-use native.Mathlib.Decide.{ℕ-discrete}
 use lib.ListN.{length}
 use lib.Seq.{slice, length-slice}
 use Rattle.definitions.specs.Lists.{option}
 use Rattle.definitions.specs.Text.{split, number, isRelationName}
 use Rattle.definitions.specs.Sheets as S
 use Rattle.text.specs.Spans.{numOf, kindOf}
-use Rattle.records.specs.Entries.{OneField, TwoFields, Named, codeOf, codes, kindWord, relOf, ruleOf, sizeOf, stepOf, entryIn, InText, IsArity, recordWord}
+use Rattle.records.specs.Entries.{OneField, TwoFields, Named, codeOf, codes, kindWord, relOf, typeOf, ruleOf, sizeOf, stepOf, entryIn, InText, IsArity}
 use Rattle.text.specs.declared.Num.{Num}
 use Rattle.text.specs.declared.Num.the-variants.{Is, Bad}
 use Rattle.text.specs.declared.Found.{Found}
 use Rattle.text.specs.declared.Found.the-variants.{At, Nowhere}
 use Rattle.records.specs.declared.Places.{Places}
 use Rattle.records.specs.declared.Places.the-variants.{Unread, One, Two, Three}
-use Rattle.records.specs.declared.Entry.the-variants.{Wrong, Rel, Choose, Rule, Size, Label, Fact, Pick, Step}
-use Rattle.records.proofs.Fields.{two-bounds, not-rule, two-bad, two-is, one-bad, one-is, num-is, num-bad, element-by, choose-by-arity, choose-by-kind, named-made, named-fields}
+use Rattle.records.specs.declared.Entry.the-variants.{Wrong, Rel, Typed, Choose, Rule, Size, Label, Member, Fact, Pick, Step}
+use Rattle.records.proofs.Fields.{two-bounds, two-bad, two-is, one-bad, one-is, num-is, num-bad, element-by, choose-by-arity, choose-by-kind, named-made, named-fields}
 
 module _ (s : List ℕ) (a e : ℕ) where
   module _ (f : Found) (w : TwoFields s a e f) where
@@ -74,7 +73,28 @@ module _ (s : List ℕ) (a e : ℕ) where
         unfolding entryIn S.labelOf option
         label-good k b = sym (two-is s a e t f S.labelOf p w ∙ rw (q, element-by (slice a t s), num-is (codeOf (slice a t s)) n k b v))
 
+    pub member-none : f ≡ Nowhere → entryIn s Wrong ≡ S.withTwo S.memberOf (split 9 (slice a e s))
+    unfolding entryIn
+    member-none p = sym (two-bad s a e f S.memberOf p w)
+
+    module _ (t : ℕ) (p : f ≡ At t) (n : Num) (v : n ≡ numOf (codeOf (slice (t + 1) e s))) where
+      pub member-bad : n ≡ Bad → entryIn s Wrong ≡ S.withTwo S.memberOf (split 9 (slice a e s))
+      unfolding entryIn S.memberOf option
+      member-bad b = sym (two-is s a e t f S.memberOf p w ∙ rw (element-by (slice (t + 1) e s), num-bad (codeOf (slice (t + 1) e s)) n b v))
+
+      pub member-good : (k : ℕ) → n ≡ Is k → entryIn s (Member a t k e) ≡ S.withTwo S.memberOf (split 9 (slice a e s))
+      unfolding entryIn S.memberOf option
+      member-good k b = sym (two-is s a e t f S.memberOf p w ∙ rw (element-by (slice (t + 1) e s), num-is (codeOf (slice (t + 1) e s)) n k b v))
+
   module _ (b : Bool) (w : OneField s a e b) where
+    pub type-none : b ≡ false → entryIn s Wrong ≡ S.withOne typeOf (split 9 (slice a e s))
+    unfolding entryIn
+    type-none p = sym (one-bad s a e b typeOf p w)
+
+    pub type-good : b ≡ true → entryIn s (Typed a e) ≡ S.withOne typeOf (split 9 (slice a e s))
+    unfolding entryIn typeOf
+    type-good p = sym (one-is s a e b typeOf p w)
+
     pub rule-none : b ≡ false → entryIn s Wrong ≡ S.withOne ruleOf (split 9 (slice a e s))
     unfolding entryIn
     rule-none p = sym (one-bad s a e b ruleOf p w)
@@ -172,6 +192,10 @@ module _ (s : List ℕ) where
   unfolding InText
   in-rule a e h k at p = (p, h, k)
 
+  pub in-type : (a e : ℕ) → a ≤ e → e ≤ length s → (at : ℕ) → InText s at (Typed a e)
+  unfolding InText
+  in-type a e h k at = (h, k)
+
   pub in-label : (k a t e : ℕ) → t < e → e ≤ length s → isRelationName (slice (t + 1) e s) ≡ true → (at : ℕ) → InText s at (Label k a t e)
   unfolding InText
   in-label k a t e h l q at = (h, l, q)
@@ -181,6 +205,10 @@ module _ (s : List ℕ) where
     unfolding InText
     in-rel n k q v at = let b = two-bounds s a e t f p w in let c = arity-told n k q v in (b .0, omega arith, c .0, c .1)
 
+    pub in-member : (k at : ℕ) → InText s at (Member a t k e)
+    unfolding InText
+    in-member k at = let b = two-bounds s a e t f p w in (b .0, b .1, h)
+
     pub in-choose : (n : Num) (k : ℕ) → n ≡ Is k → IsArity n → (at : ℕ) → InText s at (Choose a t k 1)
     unfolding InText
     in-choose n k q v at = let b = two-bounds s a e t f p w in let c = arity-told n k q v in (b .0, omega arith, c .0, c .1)
@@ -188,11 +216,3 @@ module _ (s : List ℕ) where
     pub in-kind : (kind at : ℕ) → InText s at (Choose a t 2 kind)
     unfolding InText
     in-kind kind at = let b = two-bounds s a e t f p w in (b .0, omega arith, omega arith, omega arith)
-
--- the field after `rule` begins 5 bytes after the line
-pub rule-place : (s : List ℕ) (a t j : ℕ) → a ≤ t → t ≤ length s → j ≡ recordWord (slice a t s) → j ≡ 3 → t + 1 ≡ a + 5
-rule-place s a t j h k p q = go (ℕ-discrete (length (slice a t s)) 4)
-  where
-    go : Dec (length (slice a t s) ≡ 4) → t + 1 ≡ a + 5
-    go (yes e) = omega (arith, length-slice a t s k)
-    go (no n) = absurd (not-rule (slice a t s) n (sym p ∙ q))

@@ -1,5 +1,5 @@
 -- What the code's answers say, in the words of the definitions: numbers, fields, elements, entries.
-use Prim.Native.Nat.{ℕ, _+_, _≤_, _<_}
+use Prim.Native.Nat.{ℕ, zero, suc, _+_, _≤_, _<_}
 use mathlib.Core.Path.{_≡_}
 use mathlib.Core.Bool.{Bool, true, false}
 use mathlib.Core.List.{List, [], _∷_}
@@ -22,7 +22,7 @@ use Rattle.records.specs.declared.Places.the-variants.{Unread, One, Two,
 use Rattle.records.specs.declared.Quick.{Quick}
 use Rattle.records.specs.declared.Quick.the-variants.{Step as Told, Other}
 use Rattle.records.specs.declared.Entry.{Entry}
-use Rattle.records.specs.declared.Entry.the-variants.{Wrong, Rel, Choose, Rule, Size, Label, Fact, Pick, Step}
+use Rattle.records.specs.declared.Entry.the-variants.{Wrong, Rel, Typed, Choose, Rule, Size, Label, Member, Fact, Pick, Step}
 
 -- the span is one field; or it is not one
 unfoldable pub OneField : List ℕ → ℕ → ℕ → Bool → Type 0
@@ -98,22 +98,12 @@ kindWord f =
     else if same f (80 ∷ 73 ∷ 110 ∷ 106 ∷ []) then 5
     else 0
 
--- the number of a record word, 0 where it is none
-unfoldable pub recordWord : List ℕ → ℕ
-recordWord w =
-    if same w (114 ∷ 101 ∷ 108 ∷ []) then 1
-    else if same w (99 ∷ 104 ∷ 111 ∷ 111 ∷ 115 ∷ 101 ∷ []) then 2
-    else if same w (114 ∷ 117 ∷ 108 ∷ 101 ∷ []) then 3
-    else if same w (115 ∷ 105 ∷ 122 ∷ 101 ∷ []) then 4
-    else if same w (108 ∷ 97 ∷ 98 ∷ 101 ∷ 108 ∷ []) then 5
-    else if same w (102 ∷ 97 ∷ 99 ∷ 116 ∷ []) then 6
-    else if same w (112 ∷ 105 ∷ 99 ∷ 107 ∷ []) then 7
-    else if same w (115 ∷ 116 ∷ 101 ∷ 112 ∷ []) then 8
-    else 0
-
 -- what the fields after a record word make
 unfoldable pub relOf : List ℕ → List ℕ → Option S.Entry
 relOf name a = option (S.arityOf a) none (λ k. some (S.rel name k))
+
+unfoldable pub typeOf : List ℕ → Option S.Entry
+typeOf f = some (S.type f)
 
 unfoldable pub ruleOf : List ℕ → Option S.Entry
 ruleOf f = some (S.rule f)
@@ -124,14 +114,34 @@ sizeOf f = option (number f) none (λ n. some (S.size n))
 unfoldable pub stepOf : List ℕ → Option S.Entry
 stepOf f = option (number f) none (λ k. some (S.step k))
 
+-- ... by the word's number; the word w has that number, and that of `rule` has 4 bytes
+unfoldable pub made : ℕ → List (List ℕ) → Option S.Entry
+made zero fs = none
+made (suc zero) fs = S.withTwo relOf fs
+made (suc (suc zero)) fs = S.withOne typeOf fs
+made (suc (suc (suc zero))) fs = S.withTwo S.chooseOf fs
+made (suc (suc (suc (suc zero)))) fs = S.withOne ruleOf fs
+made (suc (suc (suc (suc (suc zero))))) fs = S.withOne sizeOf fs
+made (suc (suc (suc (suc (suc (suc zero)))))) fs = S.withTwo S.labelOf fs
+made (suc (suc (suc (suc (suc (suc (suc zero))))))) fs = S.withTwo S.memberOf fs
+made (suc (suc (suc (suc (suc (suc (suc (suc zero)))))))) fs = S.withElements S.fact fs
+made (suc (suc (suc (suc (suc (suc (suc (suc (suc zero))))))))) fs = S.withElements S.pick fs
+made (suc (suc (suc (suc (suc (suc (suc (suc (suc (suc zero)))))))))) fs = S.withOne stepOf fs
+made (suc (suc (suc (suc (suc (suc (suc (suc (suc (suc (suc k))))))))))) fs = none
+
+unfoldable pub Says : List ℕ → ℕ → Type 0
+Says w k = ((fs : List (List ℕ)) → S.entry (w ∷ fs) ≡ made k fs) × (k ≡ 4 → length w ≡ 4)
+
 -- the entry of the text s that an answer stands for
 unfoldable pub entryIn : List ℕ → Entry → Option S.Entry
 entryIn s Wrong = none
 entryIn s (Rel a e k) = some (S.rel (slice a e s) k)
+entryIn s (Typed a e) = some (S.type (slice a e s))
 entryIn s (Choose a e k kind) = some (S.choose (slice a e s) k (kindOf kind))
 entryIn s (Rule a e) = some (S.rule (slice a e s))
 entryIn s (Size n) = some (S.size n)
 entryIn s (Label k a t e) = some (S.label (elementBy (slice a t s) k) (slice (t + 1) e s))
+entryIn s (Member a t k e) = some (S.member (slice a t s) (elementBy (slice (t + 1) e s) k))
 entryIn s (Fact a t e p) = some (S.fact (slice a t s) (listOf s (t + 1) e p))
 entryIn s (Pick a t e p) = some (S.pick (slice a t s) (listOf s (t + 1) e p))
 entryIn s (Step k) = some (S.step k)
@@ -140,10 +150,12 @@ entryIn s (Step k) = some (S.step k)
 unfoldable pub InText : List ℕ → ℕ → Entry → Type 0
 InText s at Wrong = Unit {0}
 InText s at (Rel a e k) = (a ≤ e) × (e ≤ length s) × (1 ≤ k) × (k ≤ 3)
+InText s at (Typed a e) = (a ≤ e) × (e ≤ length s)
 InText s at (Choose a e k kind) = (a ≤ e) × (e ≤ length s) × (1 ≤ k) × (k ≤ 3)
 InText s at (Rule a e) = (a ≡ at + 5) × (a ≤ e) × (e ≤ length s)
 InText s at (Size n) = Unit {0}
 InText s at (Label k a t e) = (t < e) × (e ≤ length s) × (isRelationName (slice (t + 1) e s) ≡ true)
+InText s at (Member a t k e) = (a ≤ t) × (t < e) × (e ≤ length s)
 InText s at (Fact a t e p) = Fielded s (t + 1) e p
 InText s at (Pick a t e p) = Fielded s (t + 1) e p
 InText s at (Step k) = Unit {0}

@@ -4,9 +4,9 @@ ghost use Prim.Native.Nat.{ℕ, _+_, _≤_, _<_};
 ghost use lib.ListN.{length};
 ghost use lib.Seq.{slice};
 ghost use Rattle.definitions.specs.Text.{split};
-ghost use Rattle.definitions.specs.Sheets.{arityOf, chooseOf, labelOf, withOne, withTwo, withElements, fact as factOf, pick as pickOf, entry as entryOf};
+ghost use Rattle.definitions.specs.Sheets.{arityOf, chooseOf, labelOf, memberOf, withOne, withTwo, withElements, fact as factOf, pick as pickOf, entry as entryOf};
 ghost use Rattle.text.specs.Spans.{numOf};
-ghost use Rattle.records.specs.Entries.{OneField, TwoFields, Named, codeOf, codes, consed, upTo, kindWord, recordWord, relOf, ruleOf, sizeOf, stepOf, entryIn, InText, IsArity, Reads, StepReads};
+ghost use Rattle.records.specs.Entries.{OneField, TwoFields, Named, codeOf, codes, consed, upTo, kindWord, relOf, typeOf, ruleOf, sizeOf, stepOf, made, Says, entryIn, InText, IsArity, Reads, StepReads};
 use text::Found;
 use text::Num;
 
@@ -22,14 +22,17 @@ pub enum Places {
 }
 
 // A record: names and the rule as spans of the text, a kind by its number. A label's element field is a span too, and after the tab
-// that ends it the label goes up to the line's end; so do the element fields of a fact or a pick after its name.
+// that ends it the label goes up to the line's end; so do the element fields of a fact or a pick after its name, and that of a member
+// after its type.
 pub enum Entry {
     Wrong,
     Rel(usize, usize, u32),
+    Typed(usize, usize),
     Choose(usize, usize, u32, u32),
     Rule(usize, usize),
     Size(u32),
     Label(u32, usize, usize, usize),
+    Member(usize, usize, u32, usize),
     Fact(usize, usize, usize, Places),
     Pick(usize, usize, usize, Places),
     Step(u32),
@@ -121,34 +124,40 @@ fn kind_word(s: &[u8], a: usize, e: usize) -> u32
     0
 }
 
-// The number of the record word that the span is, 0 where it is none.
+// The number of the record word that the span is, 0 where it is none. Most lines are facts or picks.
 fn record_word(s: &[u8], a: usize, e: usize) -> u32
     requires { ⌜ (a ≤ e) × (e ≤ length (now s)) ⌝ }
-    ensures { λ r. ⌜ r ≡ recordWord (slice a e (now (s .entry))) ⌝ }
+    ensures { λ r. ⌜ Says (slice a e (now (s .entry))) r ⌝ }
 {
+    if text::word(s, a, e, b"fact") {
+        return 8;
+    }
+    if text::word(s, a, e, b"pick") {
+        return 9;
+    }
     if text::word(s, a, e, b"rel") {
         return 1;
     }
-    if text::word(s, a, e, b"choose") {
+    if text::word(s, a, e, b"type") {
         return 2;
     }
-    if text::word(s, a, e, b"rule") {
+    if text::word(s, a, e, b"choose") {
         return 3;
     }
-    if text::word(s, a, e, b"size") {
+    if text::word(s, a, e, b"rule") {
         return 4;
     }
-    if text::word(s, a, e, b"label") {
+    if text::word(s, a, e, b"size") {
         return 5;
     }
-    if text::word(s, a, e, b"fact") {
+    if text::word(s, a, e, b"label") {
         return 6;
     }
-    if text::word(s, a, e, b"pick") {
+    if text::word(s, a, e, b"member") {
         return 7;
     }
     if text::word(s, a, e, b"step") {
-        return 8;
+        return 10;
     }
     0
 }
@@ -191,6 +200,17 @@ fn choose_entry(s: &[u8], a: usize, e: usize) -> Entry
             Entry::Choose(a, t, 2, kind)
         }
     }
+}
+
+// The field after `type`.
+fn type_entry(s: &[u8], a: usize, e: usize) -> Entry
+    requires { ⌜ (a ≤ e) × (e ≤ length (now s)) ⌝ }
+    ensures { λ r. ⌜ (entryIn (now (s .entry)) r ≡ withOne typeOf (split 9 (slice a e (now (s .entry))))) × ((at : ℕ) → InText (now (s .entry)) at r) ⌝ }
+{
+    if one(s, a, e) {
+        return Entry::Typed(a, e);
+    }
+    Entry::Wrong
 }
 
 // The field after `rule`.
@@ -268,6 +288,24 @@ fn label_entry(s: &[u8], a: usize, e: usize) -> Entry
                 };
             }
             Entry::Wrong
+        }
+    }
+}
+
+// The fields after `member`.
+fn member_entry(s: &[u8], a: usize, e: usize) -> Entry
+    requires { ⌜ (a ≤ e) × (e ≤ length (now s)) ⌝ }
+    ensures { λ r. ⌜ (entryIn (now (s .entry)) r ≡ withTwo memberOf (split 9 (slice a e (now (s .entry))))) × ((at : ℕ) → InText (now (s .entry)) at r) ⌝ }
+{
+    let f = two(s, a, e);
+    match f {
+        Found::Nowhere => Entry::Wrong,
+        Found::At(t) => {
+            let n = element(s, t + 1, e);
+            match n {
+                Num::Bad => Entry::Wrong,
+                Num::Is(k) => Entry::Member(a, t, k, e),
+            }
         }
     }
 }
@@ -374,6 +412,51 @@ fn pick_entry(s: &[u8], a: usize, e: usize) -> Entry
     }
 }
 
+// What the fields from a up to e make after the record word of number k: a question's record, or another sheet's.
+fn question_entry(s: &[u8], a: usize, e: usize, k: u32) -> Entry
+    requires { ⌜ (a ≤ e) × (e ≤ length (now s)) × (k < 5) ⌝ }
+    ensures { λ r. ⌜ (entryIn (now (s .entry)) r ≡ made k (split 9 (slice a e (now (s .entry))))) × ((at : ℕ) → (k ≡ 4 → a ≡ at + 5) → InText (now (s .entry)) at r) ⌝ }
+{
+    if k == 1 {
+        return rel_entry(s, a, e);
+    }
+    if k == 2 {
+        return type_entry(s, a, e);
+    }
+    if k == 3 {
+        return choose_entry(s, a, e);
+    }
+    if k == 4 {
+        return rule_entry(s, a, e);
+    }
+    Entry::Wrong
+}
+
+fn other_entry(s: &[u8], a: usize, e: usize, k: u32) -> Entry
+    requires { ⌜ (a ≤ e) × (e ≤ length (now s)) × (5 ≤ k) ⌝ }
+    ensures { λ r. ⌜ (entryIn (now (s .entry)) r ≡ made k (split 9 (slice a e (now (s .entry))))) × ((at : ℕ) → InText (now (s .entry)) at r) ⌝ }
+{
+    if k == 5 {
+        return size_entry(s, a, e);
+    }
+    if k == 6 {
+        return label_entry(s, a, e);
+    }
+    if k == 7 {
+        return member_entry(s, a, e);
+    }
+    if k == 8 {
+        return fact_entry(s, a, e);
+    }
+    if k == 9 {
+        return pick_entry(s, a, e);
+    }
+    if k == 10 {
+        return step_entry(s, a, e);
+    }
+    Entry::Wrong
+}
+
 // What the ended line from a up to e says.
 pub fn record(s: &[u8], a: usize, e: usize) -> Entry
     requires { ⌜ (a ≤ e) × (e ≤ length (now s)) ⌝ }
@@ -384,31 +467,10 @@ pub fn record(s: &[u8], a: usize, e: usize) -> Entry
         return Entry::Wrong;
     }
     let k = record_word(s, a, t);
-    if k == 1 {
-        return rel_entry(s, t + 1, e);
+    if k < 5 {
+        return question_entry(s, t + 1, e, k);
     }
-    if k == 2 {
-        return choose_entry(s, t + 1, e);
-    }
-    if k == 3 {
-        return rule_entry(s, t + 1, e);
-    }
-    if k == 4 {
-        return size_entry(s, t + 1, e);
-    }
-    if k == 5 {
-        return label_entry(s, t + 1, e);
-    }
-    if k == 6 {
-        return fact_entry(s, t + 1, e);
-    }
-    if k == 7 {
-        return pick_entry(s, t + 1, e);
-    }
-    if k == 8 {
-        return step_entry(s, t + 1, e);
-    }
-    Entry::Wrong
+    other_entry(s, t + 1, e, k)
 }
 
 // What the first line from `at` on says, whatever its record, and where the next one begins.

@@ -21,6 +21,9 @@
 --   16  labels-one-to-one, labels-are; rewritten-case, rewritten-problem, rewritten-sizes, rewritten-action, rewritten-check,
 --       rewritten-read, rewritten-build, rewritten-judgement, rewritten-tries, rewritten-allowances; rewritten-picks,
 --       rewritten-build-text, rewritten-judgement-text
+--   17  rule-texts, rule-once; rule-typed, types-are, members-are, each-member, range-is, range-ascends; untyped-atom, untyped-atoms,
+--       untyped-action, untyped-actions, untyped-needs, untyped-adds, untyped-removes, untyped-initial, untyped-bound, untyped-run;
+--       plain-rule, plain-case, plain-range
 use Prim.Native.Nat.{ℕ, zero, _+_, _*_, _^_, _<_, _≤_}
 use mathlib.Core.Path.{_≡_, refl, sym, ap, subst, subst₂, _∙_}
 use mathlib.Core.Logic.{_⊎_, ⊎-elim, _↔_}
@@ -31,17 +34,21 @@ use native.Mathlib.Omega.{arith}
 use lib.Dec.{ltb}
 use lib.ListN.{length, getD, take, drop, length-append}
 use borrow.Author.Tests.{le-ltb}
-use Rattle.definitions.specs.Limits.{CaseLimits, usual, early, stepLimit, textLimit, deskBytes}
+use Rattle.definitions.specs.Limits.{CaseLimits, usual, early, stepLimit, textLimit, typeLimit, bracketLimit, deskBytes}
 use Rattle.definitions.specs.Lists.{if_then_else_, flatMap, below, isIn, sum}
 use Rattle.definitions.specs.Text.{bytes, number, decimal, isRelationName, Line}
 use Rattle.definitions.specs.Rewritten.{inNumbers}
 use Rattle.definitions.specs.Desk.{stepLine, pickLine, sheets, answer}
 use Rattle.definitions.specs.Refusal.{Result, refused, accepted, _>>=_, refuseIf, caseNumbers, readyNumbers, runNumbers, picksNumbers, given, readText}
 use Rattle.definitions.specs.Relations.{Tuple, isAmong}
-use Rattle.definitions.specs.Sheets.{Question, Label, elementNamed, nameOf, readQuestion, readPicks, firstChosen, readSteps}
-use Rattle.definitions.specs.Truth.{Case, arePicks, areOfKinds, firstOfOtherKind, ruleIsTrue}
-use Rattle.definitions.specs.Atoms.{Problem, problemOf, Atom, itemAt, atomBlocks, atoms, atomNumber, relationAt, placesOf, initial, stateWords, rowOf}
-use Rattle.definitions.specs.Actions.{Action, set, actionAt, actions, actionNumber, needs, adds, removes}
+use Rattle.definitions.specs.Formula.{Quantified, Formula, write, WellFormed, typeNumber, hasType, isTyped}
+use Rattle.definitions.specs.Parsing.{readFormula}
+use Rattle.definitions.specs.Writing
+use Rattle.definitions.specs.Untyped.{isUntyped, untyped}
+use Rattle.definitions.specs.Sheets.{Question, Member, hasMember, Label, elementNamed, nameOf, readQuestion, readPicks, firstChosen, readSteps}
+use Rattle.definitions.specs.Truth.{Case, membersOf, rangeOf, arePicks, areOfKinds, firstOfOtherKind, ruleIsTrue}
+use Rattle.definitions.specs.Atoms.{Problem, problemOf, Block, countOf, Atom, itemAt, atomBlocks, atoms, atomNumber, relationAt, placesOf, initial, stateWords, rowOf}
+use Rattle.definitions.specs.Actions.{Action, set, actionAt, actionBlocks, actions, actionNumber, needs, adds, removes}
 use Rattle.definitions.specs.Strips.{reachesGoal, run, picksOf}
 use Rattle.definitions.specs.Built.{chosenNumbers, builtSteps, builtCount, bound, boundExponents, boundPolynomial, pickedRows}
 use Rattle.definitions.specs.Outcome.{replyNumber, replyPlace, sizes, action, CaseRead, readFiled, readCase, ground, readProblem, asked, nothing, roomFor, stateLength, written, picksLength, pickWords, bitOf, lentPicks, spareWord, Given, asText, asNumbers, takeSteps, textPicks, picksRoom, takePicks, readyToRun, Checked, checkedFrom, checkSteps, picksIfAccepted, picksReadFrom, picksFromSteps, kindRefusal, Plan, plan, Built, builtFrom, buildSteps, Ready, PicksRead, sizesOf, satisfying}
@@ -54,7 +61,8 @@ use Rattle.definitions.specs.Judgement.{judge, forget}
 use Rattle.laws.specs.Numbers
 use Rattle.laws.specs.Words
 use Rattle.laws.specs.Walks
-use Rattle.laws.specs.Members.{ascending-once}
+use Rattle.laws.specs.Members.{Ascending, ascending-once}
+use Rattle.laws.specs.Repeats.{Once}
 use Rattle.laws.specs.Booleans.{T-of, T-true}
 use Rattle.laws.specs.Results.{accepted-eq, accepted-is, is-accepted}
 use Rattle.laws.specs.Blocks.{item-lt}
@@ -63,7 +71,7 @@ use Rattle.laws.specs.Words.{words-for}
 use Rattle.laws.specs.Asked
 use Rattle.laws.specs.Count
 use Rattle.laws.specs.Reader
-use Reader.{Accepted, FiledFits, filed-fits, gives-if}
+use Reader.{Accepted, FiledFits, filed-fits, case-fits, gives-if}
 use Rattle.laws.specs.Grounded.{good}
 use Rattle.laws.specs.Valid.{needs-valid, adds-valid, removes-valid}
 use Rattle.laws.specs.Pairs
@@ -92,6 +100,8 @@ use Rattle.reduction.specs.OnePick
 use Rattle.reduction.specs.Wider
 use Rattle.reduction.specs.InNumbers
 use Rattle.reduction.specs.SameReplies
+use Rattle.reduction.specs.Ranges
+use Rattle.reduction.specs.NoTypes
 
 -- A question and a site are accepted exactly if a case is read from them, with its labels, and its problem is within the limits.
 pub accepted-case : (L : CaseLimits) (question site : List ℕ)
@@ -693,3 +703,92 @@ module _ (L : CaseLimits) (few : L .elements ≤ 64) (question site : List ℕ) 
       pub rewritten-judgement-text : judge L question (inNumbers labels site) (asText (inNumbers labels text)) ≡ judge L question site (asText text)
       unfolding textPicks
       rewritten-judgement-text = SameReplies.same-judge-text L question site (inNumbers labels site) (record { case = c; labels = labels }) [] is-filed rewritten-case text (inNumbers labels text) picks is-read (rewritten-picks text picks is-read short)
+
+-- ---- 17, document 02, job 4. A rule's text is read as a formula exactly if it is the writing of it, which has the types of its
+-- variables; and no text is the writing of two.
+pub rule-texts : (text : List ℕ) (f : Formula) → (readFormula text ≡ some f) ↔ (WellFormed bracketLimit f × (text ≡ write f))
+rule-texts text f = Writing.accepted-texts text f
+
+pub rule-once : (f g : Formula) → WellFormed bracketLimit f → WellFormed bracketLimit g → write f ≡ write g → f ≡ g
+rule-once f g hf hg e = Writing.one-formula bracketLimit f g hf hg e
+
+-- For every limits of at most 64 elements, and every question and site that a case c is read from:
+module _ (L : CaseLimits) (few : L .elements ≤ 64) (question site : List ℕ) (c : Case) (is-case : readCase L question site ≡ accepted c) where
+  fits-case : Accepted c
+  fits-case = gives-if Accepted (readCase L question site) c is-case (case-fits L few question site)
+
+  -- every type in the rule is declared;
+  pub rule-typed : isTyped (c .question .types) (c .question .rule .formula) ≡ true
+  rule-typed = T-true _ (fits-case .question-fits .rule-fits .typed)
+
+  -- there are few types, each in the form of a relation's name, and none is declared twice;
+  pub types-are : (length (c .question .types) ≤ typeLimit) × ((t : List ℕ) → List·Memᴰ t (c .question .types) → isRelationName t ≡ true) × Once (c .question .types)
+  types-are = let F = fits-case .question-fits .types-fit in (F .few, λ t m. T-true _ (F .named t m), F .once)
+
+  -- each `member` line is of one of them and of an element, and no type is without one.
+  pub members-are : (m : Member) → List·Memᴰ m (c .site .members) → (m .type < length (c .question .types)) × (m .element < c .site .size)
+  members-are m i = let F = fits-case .site-fits .members-fit in (F .typed m i, F .small m i)
+
+  pub each-member : (k : ℕ) → k < length (c .question .types) → hasMember (c .site .members) k ≡ true
+  each-member k h = T-true _ (fits-case .site-fits .each-type k h)
+
+  -- What a variable ranges over: an element is in its range exactly if it is below n, and the variable has no type or a `member` line
+  -- of its type has the element.
+  pub range-is : (q : Quantified) → hasType (c .question .types) q ≡ true → (x : ℕ)
+      → List·Memᴰ x (rangeOf c q)
+      ↔ ((x < c .site .size) × ((q .type ≡ none) ⊎ ((name : List ℕ) × (q .type ≡ some name) × ((m : Member) × List·Memᴰ m (c .site .members) × (typeNumber (c .question .types) name ≡ some (m .type)) × (m .element ≡ x)))))
+  range-is q h x = Ranges.range-is c x q (T-of h)
+
+  -- It ascends, and is not empty.
+  pub range-ascends : (q : Quantified) → Ascending (rangeOf c q) × (0 < length (rangeOf c q))
+  unfolding rangeOf
+  range-ascends q = let R = Reader.accepted-range c fits-case _ in (R .ascends, R .some-member)
+
+  -- Without `type` lines no variable of the rule has a type, nothing is left out by leaving out types, and there is one range, all
+  -- elements.
+  pub plain-rule : c .question .types ≡ [] → isUntyped (c .question .rule .formula) ≡ true
+  plain-rule e = T-true _ (NoTypes.no-types-rule c fits-case e)
+
+  pub plain-case : c .question .types ≡ [] → untyped c ≡ c
+  plain-case e = NoTypes.no-types-case c fits-case e
+
+  pub plain-range : c .question .types ≡ [] → (s : ℕ) → membersOf c s ≡ below (c .site .size)
+  plain-range e s = NoTypes.no-types-range c e s
+
+-- A rule without types gives the problem of document 01, number for number, whatever types and members there are: the same as the case
+-- without its `type` and `member` lines. For every number the same atom, and the same action,
+module _ (c : Case) (no-types : isUntyped (c .question .rule .formula) ≡ true) where
+  pub untyped-atom : (i : ℕ) → itemAt (atomBlocks (problemOf c)) i ≡ itemAt (atomBlocks (problemOf (untyped c))) i
+  untyped-atom i = ap (λ (bs : List (Block Atom)). itemAt bs i) (NoTypes.for-untyped c (T-of no-types) (λ p q. atomBlocks p ≡ atomBlocks q) (NoTypes.atoms-same c))
+
+  pub untyped-atoms : atoms (problemOf c) ≡ atoms (problemOf (untyped c))
+  unfolding atoms
+  untyped-atoms = ap countOf (NoTypes.for-untyped c (T-of no-types) (λ p q. atomBlocks p ≡ atomBlocks q) (NoTypes.atoms-same c))
+
+  pub untyped-action : (k : ℕ) → actionAt (problemOf c) k ≡ actionAt (problemOf (untyped c)) k
+  untyped-action k = NoTypes.for-untyped c (T-of no-types) (λ p q. actionAt p k ≡ actionAt q k) (λ t h. NoTypes.action-same c t h k)
+
+  pub untyped-actions : actions (problemOf c) ≡ actions (problemOf (untyped c))
+  unfolding actions
+  untyped-actions = ap countOf (NoTypes.for-untyped c (T-of no-types) (λ p q. actionBlocks p ≡ actionBlocks q) (NoTypes.actions-same c))
+
+  -- which needs, adds and removes the same;
+  pub untyped-needs : (a : Action) → needs (problemOf c) a ≡ needs (problemOf (untyped c)) a
+  untyped-needs a = NoTypes.for-untyped c (T-of no-types) (λ p q. needs p a ≡ needs q a) (λ t h. NoTypes.needs-same c t h a)
+
+  pub untyped-adds : (a : Action) → adds (problemOf c) a ≡ adds (problemOf (untyped c)) a
+  untyped-adds a = NoTypes.for-untyped c (T-of no-types) (λ p q. adds p a ≡ adds q a) (λ t h. NoTypes.adds-same c t h a)
+
+  pub untyped-removes : (a : Action) → removes (problemOf c) a ≡ removes (problemOf (untyped c)) a
+  untyped-removes a = NoTypes.for-untyped c (T-of no-types) (λ p q. removes p a ≡ removes q a) (λ t h. NoTypes.removes-same c t h a)
+
+  -- the same atoms initially, and the same bound.
+  pub untyped-initial : initial (problemOf c) ≡ initial (problemOf (untyped c))
+  untyped-initial = NoTypes.for-untyped c (T-of no-types) (λ p q. initial p ≡ initial q) (NoTypes.initial-same c)
+
+  pub untyped-bound : bound (problemOf c) ≡ bound (problemOf (untyped c))
+  untyped-bound = NoTypes.for-untyped c (T-of no-types) (λ p q. bound p ≡ bound q) (NoTypes.bound-same c)
+
+  -- So every list of steps gets the same answer and leaves the same state.
+  pub untyped-run : (steps : List ℕ) → run (problemOf c) steps ≡ run (problemOf (untyped c)) steps
+  untyped-run steps = NoTypes.for-untyped c (T-of no-types) (λ p q. run p steps ≡ run q steps) (λ t h. NoTypes.run-same c t h steps)

@@ -12,6 +12,8 @@
 --   Written      sheets of steps and picks, written and read back
 --   InNumbers    a case rewritten with numbers for labels is the same case
 --   SameReplies  two sites that are read as one case have the same replies
+--   Ranges       what a variable ranges over, from the lines of the sheets
+--   NoTypes      a rule without types: the problem does not depend on types and members
 --   Buffers      what is left in lent buffers
 --   Filed        what the desk program prints
 --   Short        where the limits of texts and steps lie, and that the desk stays below them; how many picks it prints
@@ -31,6 +33,8 @@ pub mod Wider
 pub mod Written
 pub mod InNumbers
 pub mod SameReplies
+pub mod Ranges
+pub mod NoTypes
 pub mod Buffers
 pub mod Filed
 pub mod Short

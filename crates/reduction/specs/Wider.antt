@@ -13,7 +13,7 @@ use Rattle.definitions.specs.Limits.{CaseLimits, textLimit}
 use Rattle.definitions.specs.Text.{Line, lines, isBetween}
 use Rattle.definitions.specs.Refusal.{Result, accepted, _>>=_, refuseIf, readLines, readText}
 use Rattle.definitions.specs.Relations.{Relation}
-use Rattle.definitions.specs.Sheets.{Entry, rel, choose, rule, size, label, fact, pick, step, entryOf, SiteDraft, Labelled, addSize, addToSite, siteLine, readSite, readQuestion}
+use Rattle.definitions.specs.Sheets.{Entry, rel, type, choose, rule, size, label, member, fact, pick, step, entryOf, SiteDraft, Labelled, addSize, addToSite, siteLine, readSite, readQuestion}
 use Rattle.definitions.specs.Truth.{Case}
 use Rattle.definitions.specs.Atoms.{Problem, problemOf, atoms}
 use Rattle.definitions.specs.Actions.{actions}
@@ -22,7 +22,6 @@ use Rattle.definitions.specs.Writing.{and-l, and-r}
 use Rattle.laws.specs.Booleans.{or-both}
 use Rattle.laws.specs.Results.{refused-accepted, bind-parts, not-refused}
 use Rattle.laws.specs.Asked
-use Rattle.laws.specs.Told
 
 -- each of the limits is at least the other's
 pub record Wider (L M : CaseLimits) : Type 0 where
@@ -31,7 +30,7 @@ pub record Wider (L M : CaseLimits) : Type 0 where
   pub actions : L .actions ≤ M .actions
 
 -- a size within the limits is taken
-size-within : (M : CaseLimits) (d : SiteDraft) (at n : ℕ) → leb 1 n ≡ true → leb n (M .elements) ≡ true → addSize M d at n none ≡ accepted (record { sized = some n; labels = d .labels; facts = d .facts })
+size-within : (M : CaseLimits) (d : SiteDraft) (at n : ℕ) → leb 1 n ≡ true → leb n (M .elements) ≡ true → addSize M d at n none ≡ accepted (record { sized = some n; labels = d .labels; members = d .members; facts = d .facts })
 unfolding addSize isBetween refuseIf _>>=_
 size-within M d at n a b = rw (a, b) refl
 
@@ -45,41 +44,43 @@ module _ (L M : CaseLimits) (w : Wider L M) where
       size-within M d at n (and-l (leb 1 n) _ b) (le-leb n (M .elements) (omega (arith, w .elements))) ∙ f
   size-wider d at n (some m) e q = absurd (refused-accepted q)
 
-  entry-wider : (rels : List Relation) (d : SiteDraft) (at : ℕ) (x : Entry) (e : SiteDraft) → addToSite L rels d at x ≡ accepted e → addToSite M rels d at x ≡ accepted e
+  entry-wider : (rels : List Relation) (types : List (List ℕ)) (d : SiteDraft) (at : ℕ) (x : Entry) (e : SiteDraft) → addToSite L rels types d at x ≡ accepted e → addToSite M rels types d at x ≡ accepted e
   unfolding addToSite
-  entry-wider rels d at (rel name arity) e q = q
-  entry-wider rels d at (choose name arity kind) e q = q
-  entry-wider rels d at (rule text) e q = q
-  entry-wider rels d at (size n) e q = size-wider d at n (d .sized) e q
-  entry-wider rels d at (label x name) e q = q
-  entry-wider rels d at (fact name xs) e q = q
-  entry-wider rels d at (pick name xs) e q = q
-  entry-wider rels d at (step k) e q = q
+  entry-wider rels types d at (rel name arity) e q = q
+  entry-wider rels types d at (type name) e q = q
+  entry-wider rels types d at (choose name arity kind) e q = q
+  entry-wider rels types d at (rule text) e q = q
+  entry-wider rels types d at (size n) e q = size-wider d at n (d .sized) e q
+  entry-wider rels types d at (label x name) e q = q
+  entry-wider rels types d at (member t x) e q = q
+  entry-wider rels types d at (fact name xs) e q = q
+  entry-wider rels types d at (pick name xs) e q = q
+  entry-wider rels types d at (step k) e q = q
 
-  line-wider : (rels : List Relation) (d : SiteDraft) (l : Line) (e : SiteDraft) → siteLine L rels d l ≡ accepted e → siteLine M rels d l ≡ accepted e
+  line-wider : (rels : List Relation) (types : List (List ℕ)) (d : SiteDraft) (l : Line) (e : SiteDraft) → siteLine L rels types d l ≡ accepted e → siteLine M rels types d l ≡ accepted e
   unfolding siteLine _>>=_
-  line-wider rels d l e q = let (x, a, b) = bind-parts (entryOf l) (addToSite L rels d (l .at)) e q in rw a (entry-wider rels d (l .at) x e b)
+  line-wider rels types d l e q = let (x, a, b) = bind-parts (entryOf l) (addToSite L rels types d (l .at)) e q in rw a (entry-wider rels types d (l .at) x e b)
 
-  lines-wider : (rels : List Relation) (d : SiteDraft) (ls : List Line) (e : SiteDraft) → readLines (siteLine L rels) d ls ≡ accepted e → readLines (siteLine M rels) d ls ≡ accepted e
+  lines-wider : (rels : List Relation) (types : List (List ℕ)) (d : SiteDraft) (ls : List Line) (e : SiteDraft) → readLines (siteLine L rels types) d ls ≡ accepted e → readLines (siteLine M rels types) d ls ≡ accepted e
   unfolding readLines _>>=_
-  lines-wider rels d [] e q = q
-  lines-wider rels d (l ∷ ls) e q =
-      let (x, a, b) = bind-parts (siteLine L rels d l) (λ y. readLines (siteLine L rels) y ls) e q in
-      rw (line-wider rels d l x a) (lines-wider rels x ls e b)
+  lines-wider rels types d [] e q = q
+  lines-wider rels types d (l ∷ ls) e q =
+      let (x, a, b) = bind-parts (siteLine L rels types d l) (λ y. readLines (siteLine L rels types) y ls) e q in
+      rw (line-wider rels types d l x a) (lines-wider rels types x ls e b)
 
-  site-wider : (rels : List Relation) (text : List ℕ) (s : Labelled) → readSite L rels text ≡ accepted s → readSite M rels text ≡ accepted s
+  site-wider : (rels : List Relation) (types : List (List ℕ)) (text : List ℕ) (s : Labelled) → readSite L rels types text ≡ accepted s → readSite M rels types text ≡ accepted s
   unfolding readSite readText _>>=_
-  site-wider rels text s q =
-      let (d, a, b) = bind-parts (readText (siteLine L rels) _ text) _ s q in
+  site-wider rels types text s q =
+      let (d, a, b) = bind-parts (readText (siteLine L rels types) _ text) _ s q in
       let (u, t, f) = bind-parts (refuseIf (ltb textLimit (length text)) 1 zero) _ d a in
-      rw (t, lines-wider rels _ (lines text) d f) b
+      rw (t, lines-wider rels types _ (lines text) d f) b
 
   pub filed-wider : (question site : List ℕ) (r : CaseRead) → readFiled L question site ≡ accepted r → readFiled M question site ≡ accepted r
   unfolding readFiled _>>=_
   filed-wider question site r q =
       let (x, a, b) = bind-parts (readQuestion question) _ r q in
-      let (y, e, f) = bind-parts (readSite L (x .rels) site) _ r b in
-      rw (a, site-wider (x .rels) site y e) f
+      let (y, e, f) = bind-parts (readSite L (x .rels) (x .types) site) _ r b in
+      rw (a, site-wider (x .rels) (x .types) site y e) f
 
   pub ground-wider : (c : Case) (p : Problem) → ground L c ≡ accepted p → ground M c ≡ accepted p
   unfolding ground refuseIf _>>=_

@@ -13,13 +13,13 @@ use borrow.Author.Tests.{ltb-false, ne-eqb}
 use Rattle.definitions.specs.Limits.{formLimit, nestingLimit}
 use Rattle.definitions.specs.Lists.{if_then_else_, filter, option}
 use Rattle.definitions.specs.Relations.{Relation, builtIn, isTotal}
-use Rattle.definitions.specs.Formula.{Formula, ands, forms, nesting, isKnown, isScoped, allForms, totals}
+use Rattle.definitions.specs.Formula.{Formula, ands, forms, nesting, isKnown, isScoped, isTyped, allForms, totals}
 use Rattle.definitions.specs.Parsing.{readFormula}
 use Rattle.definitions.specs.Writing.{accepted-texts}
 use Rattle.definitions.specs.Sheets.{Question, relationsOf, firstChosen, firstRel}
 use Rattle.definitions.specs.Tree.{Tree, Trees, andNode, end, _then_, asIs, totalities, joined, treeOf, nodes, nodesAll, howMany}
 use Rattle.text.specs.Spans.{kindOf}
-use Rattle.names.specs.Signatures.{Sound, allOf, relsOf, chosenOf, relationIn, relationsFrom}
+use Rattle.names.specs.Signatures.{Sound, allOf, relsOf, chosenOf, typesOf, relationIn, relationsFrom}
 use Rattle.names.specs.declared.Signature.{Signature}
 use Rattle.names.proofs.Laws.{all-are, length-relations}
 use Rattle.formula.specs.Seen.{ruleNumber, totalOf, names}
@@ -37,11 +37,11 @@ use Rattle.rewriting.specs.Sizes.{FewPlaces, tree-small}
 use Rattle.rewriting.specs.Ready.{Adds, pushed, numbered, Ready, ReadyIn, Walked}
 use Rattle.rewriting.specs.Rule.{totalityOf, oneTotality, Accepted, rootOf, IsQuestion, RowsOf, TableOf}
 use Rattle.rewriting.proofs.Tables.{adds-none, adds-push, adds-at, adds-number, adds-both, adds-as}
-use Rattle.rewriting.proofs.Words.{length-all}
+use Rattle.rewriting.proofs.Words.{length-all, types-many}
 use Rattle.rewriting.proofs.Turns.{over, first-rows, joined as joined-adds}
 
 -- ---- one totality
-pub totality-adds : (t u x y : Rows) (r : ℕ) (a b c : Row) → length (t .at) ≡ 64 → t .len + 3 ≤ 64 → a ≡ leafRow true r (0 ∷ 1 ∷ []) → u ≡ pushed (numbered t 2) a → b ≡ quantRow 1 (t .nodes + 1) 1 → x ≡ record { at = set (u .at) (t .len + 1) b; len = t .len + 2; nodes = u .nodes } → c ≡ quantRow 0 (t .nodes) 0 → y ≡ record { at = set (x .at) (t .len + 2) c; len = t .len + 3; nodes = x .nodes } → Adds t (post (t .nodes) (totalityOf r)) 2 y
+pub totality-adds : (t u x y : Rows) (r : ℕ) (a b c : Row) → length (t .at) ≡ 64 → t .len + 3 ≤ 64 → a ≡ leafRow true r (0 ∷ 1 ∷ []) → u ≡ pushed (numbered t 2) a → b ≡ quantRow 1 (t .nodes + 1) 1 0 → x ≡ record { at = set (u .at) (t .len + 1) b; len = t .len + 2; nodes = u .nodes } → c ≡ quantRow 0 (t .nodes) 0 0 → y ≡ record { at = set (x .at) (t .len + 2) c; len = t .len + 3; nodes = x .nodes } → Adds t (post (t .nodes) (totalityOf r)) 2 y
 unfolding post
 totality-adds t u x y r a b c h l ea eu eb ex ec ey =
     let P = adds-number t 2 h in
@@ -50,7 +50,7 @@ totality-adds t u x y r a b c h l ea eu eb ex ec ey =
     let Y = adds-at x y c (t .len + 2) (t .len + 3) (X .long) (omega (arith, U .len, X .len)) (omega (arith, U .len, X .len)) (omega (arith, U .len, X .len)) ey in
     adds-as (rows a b c ea eb ec) (omega arith) (adds-both P (adds-both U (adds-both X Y)))
   where
-    rows : (a b c : Row) → a ≡ leafRow true r (0 ∷ 1 ∷ []) → b ≡ quantRow 1 (t .nodes + 1) 1 → c ≡ quantRow 0 (t .nodes) 0 → _≡_ {A = List Row} (a ∷ b ∷ c ∷ []) (leafRow true r (0 ∷ 1 ∷ []) ∷ quantRow 1 (suc (t .nodes)) 1 ∷ quantRow 0 (t .nodes) 0 ∷ [])
+    rows : (a b c : Row) → a ≡ leafRow true r (0 ∷ 1 ∷ []) → b ≡ quantRow 1 (t .nodes + 1) 1 0 → c ≡ quantRow 0 (t .nodes) 0 0 → _≡_ {A = List Row} (a ∷ b ∷ c ∷ []) (leafRow true r (0 ∷ 1 ∷ []) ∷ quantRow 1 (suc (t .nodes)) 1 0 ∷ quantRow 0 (t .nodes) 0 0 ∷ [])
     rows a b c e f g = rw (e, f, g, add-one (t .nodes))
 
 -- what the kind adds
@@ -170,15 +170,15 @@ pub formed : (s : List ℕ) (at stop : ℕ) (g : Signature) → Accepted s at st
 unfolding ruleNumber option
 formed s at stop g a = go (readFormula (slice at stop s)) refl (a .fine)
   where
-    tests : (f : Formula) → readFormula (slice at stop s) ≡ some f → (x y z w : Bool) → ltb formLimit (allForms (chosenOf s g) f) ≡ x → ltb nestingLimit (nesting f) ≡ y → isKnown (allOf s g) f ≡ z → _≡_ {A = ℕ} (if x || y then 6 else if not z then 7 else if not w then 8 else 0) 0 → Formed s at stop g
-    tests f e true y z w p q r k = absurd (omega arith)
-    tests f e false true z w p q r k = absurd (omega arith)
-    tests f e false false false w p q r k = absurd (omega arith)
-    tests f e false false true w p q r k = record { f = f; read = e; forms-le = ltb-false formLimit (allForms (chosenOf s g) f) p; deep = ltb-false nestingLimit (nesting f) q; known = r }
+    tests : (f : Formula) → readFormula (slice at stop s) ≡ some f → (x y z w v : Bool) → ltb formLimit (allForms (chosenOf s g) f) ≡ x → ltb nestingLimit (nesting f) ≡ y → isKnown (allOf s g) f ≡ z → _≡_ {A = ℕ} (if x || y then 6 else if not z then 7 else if not w then 8 else if not v then 19 else 0) 0 → Formed s at stop g
+    tests f e true y z w v p q r k = absurd (omega arith)
+    tests f e false true z w v p q r k = absurd (omega arith)
+    tests f e false false false w v p q r k = absurd (omega arith)
+    tests f e false false true w v p q r k = record { f = f; read = e; forms-le = ltb-false formLimit (allForms (chosenOf s g) f) p; deep = ltb-false nestingLimit (nesting f) q; known = r }
 
-    go : (o : Option Formula) → readFormula (slice at stop s) ≡ o → _≡_ {A = ℕ} (option o 5 (λ f. if ltb formLimit (allForms (chosenOf s g) f) || ltb nestingLimit (nesting f) then 6 else if not (isKnown (allOf s g) f) then 7 else if not (isScoped [] f) then 8 else 0)) 0 → Formed s at stop g
+    go : (o : Option Formula) → readFormula (slice at stop s) ≡ o → _≡_ {A = ℕ} (option o 5 (λ f. if ltb formLimit (allForms (chosenOf s g) f) || ltb nestingLimit (nesting f) then 6 else if not (isKnown (allOf s g) f) then 7 else if not (isScoped [] f) then 8 else if not (isTyped (typesOf s g) f) then 19 else 0)) 0 → Formed s at stop g
     go none e k = absurd (omega arith)
-    go (some f) e k = tests f e (ltb formLimit (allForms (chosenOf s g) f)) (ltb nestingLimit (nesting f)) (isKnown (allOf s g) f) (isScoped [] f) refl refl refl k
+    go (some f) e k = tests f e (ltb formLimit (allForms (chosenOf s g) f)) (ltb nestingLimit (nesting f)) (isKnown (allOf s g) f) (isScoped [] f) (isTyped (typesOf s g) f) refl refl refl k
 
 pub same-formed : (s : List ℕ) (at stop : ℕ) (g : Signature) (a : Formed s at stop g) (f : Formula) → readFormula (slice at stop s) ≡ some f → f ≡ a .f
 same-formed s at stop g a f e = let q : some f ≡ some (a .f) = sym e ∙ a .read in cc
@@ -215,7 +215,7 @@ top-ready s at stop g F T t c a h n m = record {
     deep = subst (λ (l : List (List ℕ)). length l + nesting (a .f) ≤ 4) (sym (names-none s F T)) (omega (arith, a .deep));
     known = a .known;
   };
-  fixed = record { few = omega (arith, c .sound .rels-le, c .sound .chosen-le); places = few-places s g (c .sound); long = h };
+  fixed = record { few = omega (arith, c .sound .rels-le, c .sound .chosen-le); places = few-places s g (c .sound); types = c .sound .types-le; no-further = c .sound .no-further; long = h };
 }
 
 -- ... over the names and the count of the signature itself
@@ -247,7 +247,7 @@ one-inner r TS n m e h = omega arith
 
 one-small : (r rels : ℕ) (TS : Trees) → r < rels → ((i : ℕ) → getD (0 ∷ 1 ∷ []) i 0 < 4) → AllSmall rels TS → AllSmall rels (totalityOf r then TS)
 unfolding Small
-one-small r rels TS h f s = ((omega arith, (omega arith, (h, omega arith, f))), s)
+one-small r rels TS h f s = ((omega arith, omega arith, (omega arith, omega arith, (h, omega arith, f))), s)
 
 totals-nil : (r rels : ℕ) → Totals r rels [] end
 unfolding howMany inner totals filter Small
@@ -314,9 +314,9 @@ unfolding relsOf
 rels-long s g = length-relations s g 0 (g .rels)
 
 module _ (s : List ℕ) (at stop : ℕ) (g : Signature) (c : Accepted s at stop g) (a : Formed s at stop g) (F T : List ℕ) where
-  tops : treeIn true (allOf s g) (names s (record { from = F; to = T; n = 0 })) (a .f) ≡ asIs (allOf s g) [] (a .f)
+  tops : treeIn true (allOf s g) (typesOf s g) (names s (record { from = F; to = T; n = 0 })) (a .f) ≡ asIs (allOf s g) (typesOf s g) [] (a .f)
   unfolding treeIn
-  tops = ap (λ (l : List (List ℕ)). asIs (allOf s g) l (a .f)) (names-none s F T)
+  tops = ap (λ (l : List (List ℕ)). asIs (allOf s g) (typesOf s g) l (a .f)) (names-none s F T)
 
   rels-some : 0 < length (allOf s g)
   rels-some = omega (arith, length-all s g)
@@ -324,13 +324,17 @@ module _ (s : List ℕ) (at stop : ℕ) (g : Signature) (c : Accepted s at stop 
   rels-few : length (allOf s g) ≤ 17
   rels-few = omega (arith, length-all s g, c .sound .rels-le, c .sound .chosen-le)
 
-  tops-small : Small (length (allOf s g)) (asIs (allOf s g) [] (a .f))
-  unfolding treeIn
-  tops-small = tree-small (allOf s g) (few-places s g (c .sound)) rels-some true [] (a .f) (a .known) (omega (arith, a .deep))
+  types-few : length (typesOf s g) ≤ 8
+  unfolding typesOf
+  types-few = omega (arith, types-many s (g .from) (g .to) 12 (g .types), c .sound .types-le)
 
-  tops-rows : suc (inner (asIs (allOf s g) [] (a .f))) ≤ forms (a .f)
+  tops-small : Small (length (allOf s g)) (asIs (allOf s g) (typesOf s g) [] (a .f))
   unfolding treeIn
-  tops-rows = rows-le true (allOf s g) [] (a .f)
+  tops-small = tree-small (allOf s g) (few-places s g (c .sound)) rels-some (typesOf s g) types-few true [] (a .f) (a .known) (omega (arith, a .deep))
+
+  tops-rows : suc (inner (asIs (allOf s g) (typesOf s g) [] (a .f))) ≤ forms (a .f)
+  unfolding treeIn
+  tops-rows = rows-le true (allOf s g) (typesOf s g) [] (a .f)
 
   few-forms : forms (a .f) + 3 * totals (chosenOf s g) + (if eqb (totals (chosenOf s g)) zero then zero else 1) ≤ 64
   unfolding allForms
@@ -356,46 +360,46 @@ module _ (s : List ℕ) (at stop : ℕ) (g : Signature) (c : Accepted s at stop 
   pub of-plain : (t : Rows) (after : ℕ) (r : Rows) → t .len ≡ 0 → t .nodes ≡ 0 → totals (chosenOf s g) ≡ 0 → Walked true s at g (record { from = F; to = T; n = 0 }) t (a .f) after r → RowsOf s at stop g r
   of-plain t after r e h z w = record {
     long = w .adds .long;
-    few = omega (arith, w .adds .len, length-post (t .nodes) (treeIn true (allOf s g) (names s (record { from = F; to = T; n = 0 })) (a .f)), rows-le true (allOf s g) (names s (record { from = F; to = T; n = 0 })) (a .f), plain-forms);
+    few = omega (arith, w .adds .len, length-post (t .nodes) (treeIn true (allOf s g) (typesOf s g) (names s (record { from = F; to = T; n = 0 })) (a .f)), rows-le true (allOf s g) (typesOf s g) (names s (record { from = F; to = T; n = 0 })) (a .f), plain-forms);
     of = λ f q. subst (λ (x : Formula). Of (length (allOf s g)) (rootOf s g x) r) (sym (same-formed s at stop g a f q))
         (subst (λ (x : Tree). Of (length (allOf s g)) x r) (sym root)
-        (of-adds t r (length (allOf s g)) (asIs (allOf s g) [] (a .f)) e h (subst (λ (x : Tree). Adds t (post (t .nodes) x) (length (nodes x)) r) tops (w .adds)) tops-small (omega (arith, tops-rows, plain-forms)) rels-some rels-few));
+        (of-adds t r (length (allOf s g)) (asIs (allOf s g) (typesOf s g) [] (a .f)) e h (subst (λ (x : Tree). Adds t (post (t .nodes) x) (length (nodes x)) r) tops (w .adds)) tops-small (omega (arith, tops-rows, plain-forms)) rels-some rels-few));
   }
     where
-      root : rootOf s g (a .f) ≡ asIs (allOf s g) [] (a .f)
-      root = joined-none (asIs (allOf s g) [] (a .f)) (totalities (5 + g .rels) (chosenOf s g)) (totals (chosenOf s g)) (all-totals .many) z
+      root : rootOf s g (a .f) ≡ asIs (allOf s g) (typesOf s g) [] (a .f)
+      root = joined-none (asIs (allOf s g) (typesOf s g) [] (a .f)) (totalities (5 + g .rels) (chosenOf s g)) (totals (chosenOf s g)) (all-totals .many) z
 
   -- ---- some
   module _ (h : totals (chosenOf s g) ≡ 0 → ⊥) (t z : Rows) (after : ℕ) (r : Rows) (el : t .len ≡ 0) (en : t .nodes ≡ 0) (long : length (t .at) ≡ 64) (w : Walked true s at g (record { from = F; to = T; n = 0 }) (numbered t 1) (a .f) after r) (A : Adds r (postAll (r .nodes) (totalities (5 + g .rels) (chosenOf s g))) (length (nodesAll (totalities (5 + g .rels) (chosenOf s g)))) z) where
-    walk-adds : Adds (numbered t 1) (post (t .nodes + 1) (asIs (allOf s g) [] (a .f))) (length (nodes (asIs (allOf s g) [] (a .f)))) r
+    walk-adds : Adds (numbered t 1) (post (t .nodes + 1) (asIs (allOf s g) (typesOf s g) [] (a .f))) (length (nodes (asIs (allOf s g) (typesOf s g) [] (a .f)))) r
     walk-adds = subst (λ (x : Tree). Adds (numbered t 1) (post (t .nodes + 1) x) (length (nodes x)) r) tops (w .adds)
 
     parts-rows : length (postAll (r .nodes) (totalities (5 + g .rels) (chosenOf s g))) ≡ 3 * totals (chosenOf s g)
     parts-rows = omega (arith, length-postAll (r .nodes) (totalities (5 + g .rels) (chosenOf s g)), all-totals .many, all-totals .rows)
 
     pub joined-space : z .len + 1 ≤ 64
-    joined-space = omega (arith, joined-forms h, tops-rows, walk-adds .len, length-post (t .nodes + 1) (asIs (allOf s g) [] (a .f)), A .len, parts-rows)
+    joined-space = omega (arith, joined-forms h, tops-rows, walk-adds .len, length-post (t .nodes + 1) (asIs (allOf s g) (typesOf s g) [] (a .f)), A .len, parts-rows)
 
     pub of-joined : (u : Rows) (row : Row) → row ≡ joinRow 2 0 (totals (chosenOf s g) + 1) → u ≡ pushed z row → RowsOf s at stop g u
     of-joined u row er eu = record {
       long = all .long;
-      few = omega (arith, all .len, length-post (t .nodes) (andNode (asIs (allOf s g) [] (a .f) then totalities (5 + g .rels) (chosenOf s g))), root-rows);
+      few = omega (arith, all .len, length-post (t .nodes) (andNode (asIs (allOf s g) (typesOf s g) [] (a .f) then totalities (5 + g .rels) (chosenOf s g))), root-rows);
       of = λ f q. subst (λ (x : Formula). Of (length (allOf s g)) (rootOf s g x) u) (sym (same-formed s at stop g a f q))
           (subst (λ (x : Tree). Of (length (allOf s g)) x u) (sym root)
-          (of-adds t u (length (allOf s g)) (andNode (asIs (allOf s g) [] (a .f) then totalities (5 + g .rels) (chosenOf s g))) el en all root-small root-rows rels-some rels-few));
+          (of-adds t u (length (allOf s g)) (andNode (asIs (allOf s g) (typesOf s g) [] (a .f) then totalities (5 + g .rels) (chosenOf s g))) el en all root-small root-rows rels-some rels-few));
     }
       where
-        root : rootOf s g (a .f) ≡ andNode (asIs (allOf s g) [] (a .f) then totalities (5 + g .rels) (chosenOf s g))
-        root = joined-some (asIs (allOf s g) [] (a .f)) (totalities (5 + g .rels) (chosenOf s g)) (totals (chosenOf s g)) (all-totals .many) h
+        root : rootOf s g (a .f) ≡ andNode (asIs (allOf s g) (typesOf s g) [] (a .f) then totalities (5 + g .rels) (chosenOf s g))
+        root = joined-some (asIs (allOf s g) (typesOf s g) [] (a .f)) (totalities (5 + g .rels) (chosenOf s g)) (totals (chosenOf s g)) (all-totals .many) h
 
-        all : Adds t (post (t .nodes) (andNode (asIs (allOf s g) [] (a .f) then totalities (5 + g .rels) (chosenOf s g)))) (length (nodes (andNode (asIs (allOf s g) [] (a .f) then totalities (5 + g .rels) (chosenOf s g))))) u
-        all = joined-adds {t = t} {z = z} true ands (asIs (allOf s g) [] (a .f) then totalities (5 + g .rels) (chosenOf s g)) row u (er ∙ rw (en) (ap (λ (n : ℕ). joinRow 2 0 n) (joined-many (asIs (allOf s g) [] (a .f)) (totalities (5 + g .rels) (chosenOf s g)) (totals (chosenOf s g)) (all-totals .many)))) eu (omega (arith, joined-space)) (first-rows (asIs (allOf s g) [] (a .f)) (totalities (5 + g .rels) (chosenOf s g)) (adds-number t 1 long) walk-adds A)
+        all : Adds t (post (t .nodes) (andNode (asIs (allOf s g) (typesOf s g) [] (a .f) then totalities (5 + g .rels) (chosenOf s g)))) (length (nodes (andNode (asIs (allOf s g) (typesOf s g) [] (a .f) then totalities (5 + g .rels) (chosenOf s g))))) u
+        all = joined-adds {t = t} {z = z} true ands (asIs (allOf s g) (typesOf s g) [] (a .f) then totalities (5 + g .rels) (chosenOf s g)) row u (er ∙ rw (en) (ap (λ (n : ℕ). joinRow 2 0 n) (joined-many (asIs (allOf s g) (typesOf s g) [] (a .f)) (totalities (5 + g .rels) (chosenOf s g)) (totals (chosenOf s g)) (all-totals .many)))) eu (omega (arith, joined-space)) (first-rows (asIs (allOf s g) (typesOf s g) [] (a .f)) (totalities (5 + g .rels) (chosenOf s g)) (adds-number t 1 long) walk-adds A)
 
-        root-small : Small (length (allOf s g)) (andNode (asIs (allOf s g) [] (a .f) then totalities (5 + g .rels) (chosenOf s g)))
-        root-small = small-and (length (allOf s g)) (asIs (allOf s g) [] (a .f)) (totalities (5 + g .rels) (chosenOf s g)) tops-small (all-totals .small (omega (arith, chosen-long, length-all s g)))
+        root-small : Small (length (allOf s g)) (andNode (asIs (allOf s g) (typesOf s g) [] (a .f) then totalities (5 + g .rels) (chosenOf s g)))
+        root-small = small-and (length (allOf s g)) (asIs (allOf s g) (typesOf s g) [] (a .f)) (totalities (5 + g .rels) (chosenOf s g)) tops-small (all-totals .small (omega (arith, chosen-long, length-all s g)))
 
-        root-rows : suc (inner (andNode (asIs (allOf s g) [] (a .f) then totalities (5 + g .rels) (chosenOf s g)))) ≤ 64
-        root-rows = and-rows (asIs (allOf s g) [] (a .f)) (totalities (5 + g .rels) (chosenOf s g)) (totals (chosenOf s g)) (forms (a .f)) (all-totals .many) (all-totals .rows) tops-rows (joined-forms h)
+        root-rows : suc (inner (andNode (asIs (allOf s g) (typesOf s g) [] (a .f) then totalities (5 + g .rels) (chosenOf s g)))) ≤ 64
+        root-rows = and-rows (asIs (allOf s g) (typesOf s g) [] (a .f)) (totalities (5 + g .rels) (chosenOf s g)) (totals (chosenOf s g)) (forms (a .f)) (all-totals .many) (all-totals .rows) tops-rows (joined-forms h)
 
 -- ---- the question's table
 relations-are : (s : List ℕ) (at stop : ℕ) (g : Signature) (q : Question) → IsQuestion s at stop g q → allOf s g ≡ relationsOf q
@@ -405,9 +409,10 @@ relations-are s at stop g q i = rw (i .rels, i .chosen)
 tree-is : (s : List ℕ) (at stop : ℕ) (g : Signature) (q : Question) → IsQuestion s at stop g q → rootOf s g (q .rule .formula) ≡ treeOf q
 unfolding treeOf firstChosen firstRel builtIn
 tree-is s at stop g q i =
-    ap (λ (l : List Relation). joined (asIs l [] (q .rule .formula)) (totalities (5 + g .rels) (chosenOf s g))) (relations-are s at stop g q i)
-    ∙ ap (λ (n : ℕ). joined (asIs (relationsOf q) [] (q .rule .formula)) (totalities (5 + n) (chosenOf s g))) (sym (rels-long s g) ∙ ap length (sym (i .rels)))
-    ∙ ap (λ (l : List Relation). joined (asIs (relationsOf q) [] (q .rule .formula)) (totalities (5 + length (q .rels)) l)) (sym (i .chosen))
+    ap (λ (l : List Relation). joined (asIs l (typesOf s g) [] (q .rule .formula)) (totalities (5 + g .rels) (chosenOf s g))) (relations-are s at stop g q i)
+    ∙ ap (λ (ts : List (List ℕ)). joined (asIs (relationsOf q) ts [] (q .rule .formula)) (totalities (5 + g .rels) (chosenOf s g))) (sym (i .types))
+    ∙ ap (λ (n : ℕ). joined (asIs (relationsOf q) (q .types) [] (q .rule .formula)) (totalities (5 + n) (chosenOf s g))) (sym (rels-long s g) ∙ ap length (sym (i .rels)))
+    ∙ ap (λ (l : List Relation). joined (asIs (relationsOf q) (q .types) [] (q .rule .formula)) (totalities (5 + length (q .rels)) l)) (sym (i .chosen))
 
 pub table-of : (s : List ℕ) (at stop : ℕ) (g : Signature) (a : Accepted s at stop g) (u : Rows) (r : Nodes) → RowsOf s at stop g u → ((rels : ℕ) (root : Tree) → Of rels root u → IsTable rels root r × Fits r) → TableOf s at stop g r
 table-of s at stop g a u r w f = record {

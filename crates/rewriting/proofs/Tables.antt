@@ -4,7 +4,7 @@ use native.Mathlib.Numerals.{add-one, sub-one}
 use native.Mathlib.Omega.{arith}
 use mathlib.Core.Path.{_≡_, refl, sym, ap, subst, _∙_}
 use mathlib.Core.List.{List, [], _∷_, _++_, append-assoc, append-nil}
-use lib.ListN.{length, set, take, length-set, length-append}
+use lib.ListN.{length, getD, set, take, length-set, length-append}
 use lib.Seq.{take-suc-set}
 use Rattle.tree.specs.Postorder.{Rows, rowsIn, quantRow}
 use Rattle.tree.specs.declared.Row.{Row}
@@ -49,17 +49,19 @@ pub adds-as : {t u : Rows} {R Q : List Row} {n m : ℕ} → R ≡ Q → n ≡ m 
 adds-as {t} {u} {R} {Q} {n} {m} e h a = subst (λ (x : List Row). Adds t x m u) e (subst (λ (x : ℕ). Adds t R x u) h a)
 
 -- ---- `chain`
-chain-zero : (kind v d k : ℕ) → k ≡ 0 → [] ≡ chain kind v d k
-unfolding chain
-chain-zero kind v d k e = rw e
+module _ (kind v d : ℕ) (sorts : List ℕ) where
+  chain-zero : (k : ℕ) → k ≡ 0 → [] ≡ chain kind v d sorts k
+  unfolding chain
+  chain-zero k e = rw e
 
-chain-suc : (kind v d k : ℕ) → (k ≡ 0 → ⊥) → quantRow kind (v + (k - 1)) (d + (k - 1)) ∷ chain kind v d (k - 1) ≡ chain kind v d k
-unfolding chain
-chain-suc kind v d zero n = absurd (n refl)
-chain-suc kind v d (suc k) n = rw (sub-one (suc k))
+  chain-suc : (k : ℕ) → (k ≡ 0 → ⊥) → quantRow kind (v + (k - 1)) (d + (k - 1)) (getD sorts (d + (k - 1)) 0) ∷ chain kind v d sorts (k - 1) ≡ chain kind v d sorts k
+  unfolding chain
+  chain-suc zero n = absurd (n refl)
+  chain-suc (suc k) n = rw (sub-one (suc k))
 
-pub chain-none : (kind v d k : ℕ) (t : Rows) → k ≡ 0 → length (t .at) ≡ 64 → Adds t (chain kind v d k) 0 t
-chain-none kind v d k t e h = adds-as (chain-zero kind v d k e) refl (adds-none t h)
+  pub chain-none : (k : ℕ) (t : Rows) → k ≡ 0 → length (t .at) ≡ 64 → Adds t (chain kind v d sorts k) 0 t
+  chain-none k t e h = adds-as (chain-zero k e) refl (adds-none t h)
 
-pub chain-more : (kind v d k : ℕ) (t u r : Rows) (row : Row) → (k ≡ 0 → ⊥) → length (t .at) ≡ 64 → t .len < 64 → row ≡ quantRow kind (v + (k - 1)) (d + (k - 1)) → u ≡ pushed t row → Adds u (chain kind v d (k - 1)) 0 r → Adds t (chain kind v d k) 0 r
-chain-more kind v d k t u r row n h l e p a = adds-as (ap (λ (x : Row). x ∷ chain kind v d (k - 1)) e ∙ chain-suc kind v d k n) (omega arith) (adds-both (adds-push t u row h l p) a)
+  pub chain-more : (k : ℕ) (t u r : Rows) (row : Row) → (k ≡ 0 → ⊥) → length (t .at) ≡ 64 → t .len < 64 → row ≡ quantRow kind (v + (k - 1)) (d + (k - 1)) (getD sorts (d + (k - 1)) 0) → u ≡ pushed t row → Adds u (chain kind v d sorts (k - 1)) 0 r
+      → Adds t (chain kind v d sorts k) 0 r
+  chain-more k t u r row n h l e p a = adds-as (ap (λ (x : Row). x ∷ chain kind v d sorts (k - 1)) e ∙ chain-suc k n) (omega arith) (adds-both (adds-push t u row h l p) a)

@@ -7,10 +7,10 @@ use mathlib.Core.Bool.{Bool, true, false, not}
 use mathlib.Core.List.{List, [], _∷_, _++_, append-assoc, append-nil}
 use lib.ListN.{length, getD, drop, length-append, length-drop}
 use lib.Seq.{drop-drop}
-use Rattle.definitions.specs.Formula.{Formula, Formulas, literal, negation, implication, conjunction, disjunction, exists, forall, nil, cons, Join, ands, ors, Quant, somes, everys, join, quant, joinWord, quantWord, notWord, impWord, writeVars, writeList, write, writeParts, forms, formsAll}
+use Rattle.definitions.specs.Formula.{Formula, Formulas, literal, negation, implication, conjunction, disjunction, exists, forall, nil, cons, Join, ands, ors, Quant, somes, everys, join, quant, joinWord, quantWord, notWord, impWord, Quantified, writeTyped, writeMore, writeList, write, writeParts, forms, formsAll}
 use Rattle.definitions.specs.Parsing.{isNot, isImplies, isOther, kindOf}
 use Rattle.definitions.specs.Tree.{Tree, Trees, end, _then_, nodes, nodesAll, howMany}
-use Rattle.names.specs.Signatures.{Lent, allOf}
+use Rattle.names.specs.Signatures.{Lent, allOf, typesOf}
 use Rattle.names.specs.declared.Signature.{Signature}
 use Rattle.formula.specs.Seen.{names}
 use Rattle.formula.specs.Spans.{length-names}
@@ -39,10 +39,10 @@ unfolding write
 lay-join ands f fs m = simp append-assoc
 lay-join ors f fs m = simp append-assoc
 
-pub lay-quant : (q : Quant) (v : List ℕ) (vs : List (List ℕ)) (f : Formula) (m : List ℕ) → write (quant q (v ∷ vs) f) ++ m ≡ quantWord q ++ (v ++ (writeVars vs ++ (41 ∷ 32 ∷ (write f ++ (41 ∷ m)))))
+pub lay-quant : (k : Quant) (q : Quantified) (qs : List Quantified) (f : Formula) (m : List ℕ) → write (quant k (q ∷ qs) f) ++ m ≡ quantWord k ++ (writeTyped q ++ (writeMore qs ++ (41 ∷ 32 ∷ (write f ++ (41 ∷ m)))))
 unfolding write
-lay-quant somes v vs f m = simp append-assoc
-lay-quant everys v vs f m = simp append-assoc
+lay-quant somes q qs f m = simp append-assoc
+lay-quant everys q qs f m = simp append-assoc
 
 pub lay-parts : (f : Formula) (fs : Formulas) (m : List ℕ) → writeParts (cons f fs) ++ m ≡ 32 ∷ (write f ++ (writeParts fs ++ m))
 unfolding write
@@ -69,8 +69,9 @@ pub quant-nine : (q : Quant) → length (quantWord q) ≡ 9
 quant-nine somes = refl
 quant-nine everys = refl
 
-pub len-quant : (q : Quant) (v : List ℕ) (vs : List (List ℕ)) (f : Formula) → length (write (quant q (v ∷ vs) f)) ≡ 9 + (length (writeList (v ∷ vs)) + 2) + (length (write f) + 1)
-len-quant q v vs f = omega (arith, whole (write (quant q (v ∷ vs) f)), ap length (lay-quant q v vs f []), length-append (quantWord q) (v ++ (writeVars vs ++ (41 ∷ 32 ∷ (write f ++ (41 ∷ []))))), quant-nine q, length-append v (writeVars vs ++ (41 ∷ 32 ∷ (write f ++ (41 ∷ [])))), length-append (writeVars vs) (41 ∷ 32 ∷ (write f ++ (41 ∷ []))), length-append (write f) (41 ∷ []), length-append v (writeVars vs))
+pub len-quant : (k : Quant) (q : Quantified) (qs : List Quantified) (f : Formula) → length (write (quant k (q ∷ qs) f)) ≡ 9 + (length (writeList (q ∷ qs)) + 2) + (length (write f) + 1)
+len-quant k q qs f =
+    omega (arith, whole (write (quant k (q ∷ qs) f)), ap length (lay-quant k q qs f []), length-append (quantWord k) (writeTyped q ++ (writeMore qs ++ (41 ∷ 32 ∷ (write f ++ (41 ∷ []))))), quant-nine k, length-append (writeTyped q) (writeMore qs ++ (41 ∷ 32 ∷ (write f ++ (41 ∷ [])))), length-append (writeMore qs) (41 ∷ 32 ∷ (write f ++ (41 ∷ []))), length-append (write f) (41 ∷ []), length-append (writeTyped q) (writeMore qs))
 
 len-parts : (f : Formula) (fs : Formulas) → length (writeParts (cons f fs)) ≡ 1 + (length (write f) + length (writeParts fs))
 len-parts f fs = omega (arith, whole (writeParts (cons f fs)), ap length (lay-parts f fs []), length-append (write f) (writeParts fs ++ []), whole (writeParts fs))
@@ -106,10 +107,10 @@ module _ {s : List ℕ} {at : ℕ} {g : Signature} {sc : Scope} {t : Rows} where
   ready-few w = omega (arith, w .fine .deep, length-names s sc)
 
   pub ready-rows : Ready s at g sc t → t .len < 64
-  ready-rows w = omega (arith, w .fine .rows, rows-le true (allOf s g) (names s sc) (w .f))
+  ready-rows w = omega (arith, w .fine .rows, rows-le true (allOf s g) (typesOf s g) (names s sc) (w .f))
 
   pub ready-nodes : Ready s at g sc t → t .nodes < 64
-  ready-nodes w = omega (arith, w .fine .nodes, rows-le true (allOf s g) (names s sc) (w .f))
+  ready-nodes w = omega (arith, w .fine .nodes, rows-le true (allOf s g) (typesOf s g) (names s sc) (w .f))
 
   pub neg-view : (w : Ready s at g sc t) → kindOf (drop at s) ≡ isNot → IsNeg (w .f)
   neg-view w e = as-neg (w .fine .good) (sym (ready-head w) ∙ e)
@@ -128,13 +129,13 @@ module _ {s : List ℕ} {at : ℕ} {g : Signature} {sc : Scope} {t : Rows} where
 
   -- rows and nodes that a part adds are no more than its forms, and one at least
   pub walked-len : (b : Bool) (f : Formula) (after : ℕ) (u : Rows) → Walked b s at g sc t f after u → u .len ≤ t .len + forms f
-  walked-len b f after u w = omega (arith, w .adds .len, length-post (t .nodes) (treeIn b (allOf s g) (names s sc) f), rows-le b (allOf s g) (names s sc) f)
+  walked-len b f after u w = omega (arith, w .adds .len, length-post (t .nodes) (treeIn b (allOf s g) (typesOf s g) (names s sc) f), rows-le b (allOf s g) (typesOf s g) (names s sc) f)
 
   pub walked-more : (b : Bool) (f : Formula) (after : ℕ) (u : Rows) → Walked b s at g sc t f after u → t .len < u .len
-  walked-more b f after u w = omega (arith, w .adds .len, length-post (t .nodes) (treeIn b (allOf s g) (names s sc) f))
+  walked-more b f after u w = omega (arith, w .adds .len, length-post (t .nodes) (treeIn b (allOf s g) (typesOf s g) (names s sc) f))
 
   pub walked-nodes : (b : Bool) (f : Formula) (after : ℕ) (u : Rows) → Walked b s at g sc t f after u → u .nodes ≤ t .nodes + forms f
-  walked-nodes b f after u w = omega (arith, w .adds .nodes, nodes-le (treeIn b (allOf s g) (names s sc) f), rows-le b (allOf s g) (names s sc) f)
+  walked-nodes b f after u w = omega (arith, w .adds .nodes, nodes-le (treeIn b (allOf s g) (typesOf s g) (names s sc) f), rows-le b (allOf s g) (typesOf s g) (names s sc) f)
 
 -- over the signature whose names are lent
 abbrev pub over : {s : List ℕ} {at : ℕ} {g : Signature} {F T : List ℕ} {m : ℕ} {sc : Scope} {t : Rows} → Lent g F T m → Ready s at g sc t → ReadyIn s at F T m sc t
@@ -145,7 +146,7 @@ over-parts {g = g} l w = record { g = g; lent = l; ready = w }
 
 -- another table in its place
 pub moved : {s : List ℕ} {g : Signature} {t : Rows} (u : Rows) → Fixed s g t → length (u .at) ≡ 64 → Fixed s g u
-moved u f h = record { few = f .few; places = f .places; long = h }
+moved u f h = record { few = f .few; places = f .places; types = f .types; no-further = f .no-further; long = h }
 
 pub as-tree : {t u : Rows} {T U : Tree} → U ≡ T → Adds t (post (t .nodes) T) (length (nodes T)) u → Adds t (post (t .nodes) U) (length (nodes U)) u
 as-tree {t} {u} {T} {U} e a = subst (λ (x : Tree). Adds t (post (t .nodes) x) (length (nodes x)) u) (sym e) a
@@ -198,10 +199,10 @@ no-trees t m TS e h = rw e (adds-none t h, omega arith)
 
 module _ {s : List ℕ} {at : ℕ} {g : Signature} {sc : Scope} {t : Rows} where
   pub parts-len : (b : Bool) (m : ℕ) (fs : Formulas) (after n : ℕ) (u : Rows) → WalkedParts b s at g sc t m fs after n u → u .len ≤ t .len + formsAll fs
-  parts-len b m fs after n u w = omega (arith, w .adds .len, length-postAll (t .nodes) (treesIn b (allOf s g) (names s sc) fs), rows-le-all b (allOf s g) (names s sc) fs)
+  parts-len b m fs after n u w = omega (arith, w .adds .len, length-postAll (t .nodes) (treesIn b (allOf s g) (typesOf s g) (names s sc) fs), rows-le-all b (allOf s g) (typesOf s g) (names s sc) fs)
 
   pub parts-many : (b : Bool) (m : ℕ) (fs : Formulas) (after n : ℕ) (u : Rows) → WalkedParts b s at g sc t m fs after n u → m ≤ t .len → n ≤ u .len
-  parts-many b m fs after n u w h = omega (arith, w .adds .len, length-postAll (t .nodes) (treesIn b (allOf s g) (names s sc) fs), w .counted)
+  parts-many b m fs after n u w h = omega (arith, w .adds .len, length-postAll (t .nodes) (treesIn b (allOf s g) (typesOf s g) (names s sc) fs), w .counted)
 
 module _ {s : List ℕ} {at : ℕ} {g : Signature} {sc : Scope} {t : Rows} where
   -- ---- a negation
@@ -220,7 +221,7 @@ module _ {s : List ℕ} {at : ℕ} {g : Signature} {sc : Scope} {t : Rows} where
   pub neg-done : (b : Bool) (w : Ready s at g sc t) (v : IsNeg (w .f)) (after : ℕ) (u : Rows) → Walked (not b) s (at + 5) g sc t (v .g) after u → Walked b s at g sc t (w .f) (after + 1) u
   neg-done b w v after u x = record {
     place = neg-place w v after (x .place);
-    adds = as-tree (ap (λ (f : Formula). treeIn b (allOf s g) (names s sc) f) (v .is) ∙ tree-neg (allOf s g) (names s sc) b (v .g)) (x .adds);
+    adds = as-tree (ap (λ (f : Formula). treeIn b (allOf s g) (typesOf s g) (names s sc) f) (v .is) ∙ tree-neg (allOf s g) (typesOf s g) (names s sc) b (v .g)) (x .adds);
   }
 
   -- ---- an implication
@@ -267,9 +268,9 @@ module _ {s : List ℕ} {at : ℕ} {g : Signature} {sc : Scope} {t : Rows} where
         unfolding howMany
         imp-done u row er eu = record {
           place = imp-place;
-          adds = as-tree (ap (λ (f : Formula). treeIn b (allOf s g) (names s sc) f) (v .is) ∙ tree-imp (allOf s g) (names s sc) b (v .g) (v .h))
-              (joined b ors (treeIn (not b) (allOf s g) (names s sc) (v .g) then treeIn b (allOf s g) (names s sc) (v .h) then end) row u er eu imp-space
-              (two-rows (treeIn (not b) (allOf s g) (names s sc) (v .g)) (treeIn b (allOf s g) (names s sc) (v .h)) (adds-number t 1 (w .fixed .long)) (X .adds) (Y .adds)));
+          adds = as-tree (ap (λ (f : Formula). treeIn b (allOf s g) (typesOf s g) (names s sc) f) (v .is) ∙ tree-imp (allOf s g) (typesOf s g) (names s sc) b (v .g) (v .h))
+              (joined b ors (treeIn (not b) (allOf s g) (typesOf s g) (names s sc) (v .g) then treeIn b (allOf s g) (typesOf s g) (names s sc) (v .h) then end) row u er eu imp-space
+              (two-rows (treeIn (not b) (allOf s g) (typesOf s g) (names s sc) (v .g)) (treeIn b (allOf s g) (typesOf s g) (names s sc) (v .h)) (adds-number t 1 (w .fixed .long)) (X .adds) (Y .adds)));
         }
 
   -- ---- `and`, `or`
@@ -315,9 +316,9 @@ module _ {s : List ℕ} {at : ℕ} {g : Signature} {sc : Scope} {t : Rows} where
         pub join-done : (u : Rows) (row : Row) → row ≡ joinRow (joinKind b j) (t .nodes) many → u ≡ pushed y row → Walked b s at g sc t (w .f) (y-end + 1) u
         join-done u row er eu = record {
           place = join-place;
-          adds = as-tree (ap (λ (f : Formula). treeIn b (allOf s g) (names s sc) f) (v .is) ∙ tree-join (allOf s g) (names s sc) b j (cons (v .g) (v .gs)) ∙ ap (λ (ts : Trees). joinNode b j ts) (trees-cons (allOf s g) (names s sc) b (v .g) (v .gs)))
-              (joined b j (treeIn b (allOf s g) (names s sc) (v .g) then treesIn b (allOf s g) (names s sc) (v .gs)) row u (er ∙ ap (λ (n : ℕ). joinRow (joinKind b j) (t .nodes) n) (count-trees (treeIn b (allOf s g) (names s sc) (v .g)) (treesIn b (allOf s g) (names s sc) (v .gs)) many (Y .counted))) eu join-space
-              (first-rows (treeIn b (allOf s g) (names s sc) (v .g)) (treesIn b (allOf s g) (names s sc) (v .gs)) (adds-number t 1 (w .fixed .long)) (X .adds) (Y .adds)));
+          adds = as-tree (ap (λ (f : Formula). treeIn b (allOf s g) (typesOf s g) (names s sc) f) (v .is) ∙ tree-join (allOf s g) (typesOf s g) (names s sc) b j (cons (v .g) (v .gs)) ∙ ap (λ (ts : Trees). joinNode b j ts) (trees-cons (allOf s g) (typesOf s g) (names s sc) b (v .g) (v .gs)))
+              (joined b j (treeIn b (allOf s g) (typesOf s g) (names s sc) (v .g) then treesIn b (allOf s g) (typesOf s g) (names s sc) (v .gs)) row u (er ∙ ap (λ (n : ℕ). joinRow (joinKind b j) (t .nodes) n) (count-trees (treeIn b (allOf s g) (typesOf s g) (names s sc) (v .g)) (treesIn b (allOf s g) (typesOf s g) (names s sc) (v .gs)) many (Y .counted))) eu join-space
+              (first-rows (treeIn b (allOf s g) (typesOf s g) (names s sc) (v .g)) (treesIn b (allOf s g) (typesOf s g) (names s sc) (v .gs)) (adds-number t 1 (w .fixed .long)) (X .adds) (Y .adds)));
         }
 
 -- ---- further parts
@@ -355,7 +356,7 @@ module _ {s : List ℕ} {at : ℕ} {g : Signature} {sc : Scope} {t : Rows} (w : 
   unfolding write
   parts-end b many h =
       let e : w .fs ≡ nil = parts-none h in
-      let z = no-trees t many (treesIn b (allOf s g) (names s sc) (w .fs)) (ap (λ (fs : Formulas). treesIn b (allOf s g) (names s sc) fs) e ∙ trees-nil (allOf s g) (names s sc) b) (w .fixed .long) in
+      let z = no-trees t many (treesIn b (allOf s g) (typesOf s g) (names s sc) (w .fs)) (ap (λ (fs : Formulas). treesIn b (allOf s g) (typesOf s g) (names s sc) fs) e ∙ trees-nil (allOf s g) (typesOf s g) (names s sc) b) (w .fixed .long) in
       record {
         place = place (ap (λ (fs : Formulas). length (writeParts fs)) e);
         adds = z .0;
@@ -393,9 +394,9 @@ module _ {s : List ℕ} {at : ℕ} {g : Signature} {sc : Scope} {t : Rows} (w : 
 
       pub parts-done : (many after n : ℕ) (u : Rows) → WalkedParts b s x-end g sc x (many + 1) (v .gs) after n u → WalkedParts b s at g sc t many (w .fs) after n u
       parts-done many after n u R =
-          let e : treesIn b (allOf s g) (names s sc) (w .fs) ≡ (treeIn b (allOf s g) (names s sc) (v .f) then treesIn b (allOf s g) (names s sc) (v .gs)) = ap (λ (fs : Formulas). treesIn b (allOf s g) (names s sc) fs) (v .is) ∙ trees-cons (allOf s g) (names s sc) b (v .f) (v .gs) in
+          let e : treesIn b (allOf s g) (typesOf s g) (names s sc) (w .fs) ≡ (treeIn b (allOf s g) (typesOf s g) (names s sc) (v .f) then treesIn b (allOf s g) (typesOf s g) (names s sc) (v .gs)) = ap (λ (fs : Formulas). treesIn b (allOf s g) (typesOf s g) (names s sc) fs) (v .is) ∙ trees-cons (allOf s g) (typesOf s g) (names s sc) b (v .f) (v .gs) in
           record {
             place = omega (arith, R .place, X .place, ap (λ (fs : Formulas). length (writeParts fs)) (v .is), len-parts (v .f) (v .gs));
-            adds = as-trees e (next-rows (treeIn b (allOf s g) (names s sc) (v .f)) (treesIn b (allOf s g) (names s sc) (v .gs)) (X .adds) (R .adds));
-            counted = more-trees (treeIn b (allOf s g) (names s sc) (v .f)) (treesIn b (allOf s g) (names s sc) (v .gs)) n many (R .counted) ∙ ap (λ (ts : Trees). many + howMany ts) (sym e);
+            adds = as-trees e (next-rows (treeIn b (allOf s g) (typesOf s g) (names s sc) (v .f)) (treesIn b (allOf s g) (typesOf s g) (names s sc) (v .gs)) (X .adds) (R .adds));
+            counted = more-trees (treeIn b (allOf s g) (typesOf s g) (names s sc) (v .f)) (treesIn b (allOf s g) (typesOf s g) (names s sc) (v .gs)) n many (R .counted) ∙ ap (λ (ts : Trees). many + howMany ts) (sym e);
           }

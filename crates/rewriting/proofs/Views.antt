@@ -7,9 +7,10 @@ use mathlib.Core.List.{List, _∷_, _++_, append-assoc}
 use lib.ListN.{length, length-append}
 use Rattle.definitions.specs.Text.{isRelationName}
 use Rattle.definitions.specs.Relations.{Relation}
-use Rattle.definitions.specs.Formula.{Formula, Formulas, literal, negation, implication, conjunction, disjunction, exists, forall, cons, Join, ands, ors, Quant, somes, everys, join, quant, writeVars, write, Variables, WellFormed, g-lit, g-neg, g-imp, g-and, g-or, g-exists, g-forall, AllWellFormed, a-good, forms, formsAll, nesting, nestingAll, isKnown, areKnown}
+use Rattle.definitions.specs.Formula.{Quantified, variablesOf, AllQuantified, Formula, Formulas, literal, negation, implication, conjunction, disjunction, exists, forall, cons, Join, ands, ors, Quant, somes, everys, join, quant, writeVars, write, Variables, WellFormed, g-lit, g-neg, g-imp, g-and, g-or, g-exists, g-forall, AllWellFormed, a-good, forms, formsAll, nesting, nestingAll, isKnown, areKnown}
 use Rattle.definitions.specs.Parsing.{begins, Head, isNot, isImplies, isAnd, isOr, isExists, isForall, isOther, kindOf}
 use Rattle.definitions.specs.Writing.{and-l, and-r, name-is, kind-lit}
+use Rattle.formula.specs.Said.{length-variables}
 use Rattle.rewriting.specs.Ready.{asJoin, asQuant, joinHead, quantHead, Fine, AllFine}
 
 -- ---- the kind
@@ -65,12 +66,12 @@ pub record IsJoin (j : Join) (f : Formula) : Type 0 where
   pub gs : Formulas
   pub is : f ≡ join j (cons g gs)
 
-pub record IsQuant (q : Quant) (f : Formula) : Type 0 where
-  pub v : List ℕ
-  pub vs : List (List ℕ)
+pub record IsQuant (k : Quant) (f : Formula) : Type 0 where
+  pub q : Quantified
+  pub qs : List Quantified
   pub g : Formula
-  pub is : f ≡ quant q (v ∷ vs) g
-  pub words : Variables (v ∷ vs)
+  pub is : f ≡ quant k (q ∷ qs) g
+  pub words : AllQuantified (q ∷ qs)
 
 clash : {A : Type 0} → _≡_ {A = ℕ} 0 1 → A
 clash z = absurd (omega arith)
@@ -129,7 +130,7 @@ as-quant true (g-neg h) e = clash cc
 as-quant true (g-imp h i) e = clash cc
 as-quant true (g-and h hs) e = clash cc
 as-quant true (g-or h hs) e = clash cc
-as-quant true (g-exists {v = v} {vs = vs} {f = f} ws le h) e = record { v = v; vs = vs; g = f; is = refl; words = ws }
+as-quant true (g-exists {q = q} {qs = qs} {f = f} ws le h) e = record { q = q; qs = qs; g = f; is = refl; words = ws }
 as-quant true (g-forall ws le h) e = clash cc
 as-quant false (g-lit h ws) e = clash cc
 as-quant false (g-neg h) e = clash cc
@@ -137,7 +138,7 @@ as-quant false (g-imp h i) e = clash cc
 as-quant false (g-and h hs) e = clash cc
 as-quant false (g-or h hs) e = clash cc
 as-quant false (g-exists ws le h) e = clash cc
-as-quant false (g-forall {v = v} {vs = vs} {f = f} ws le h) e = record { v = v; vs = vs; g = f; is = refl; words = ws }
+as-quant false (g-forall {q = q} {qs = qs} {f = f} ws le h) e = record { q = q; qs = qs; g = f; is = refl; words = ws }
 
 -- ---- the parts of a formula that was accepted were accepted
 pub record Deep (f : Formula) : Type 0 where
@@ -158,9 +159,9 @@ deep-join : (j : Join) {k : ℕ} (f : Formula) (fs : Formulas) → WellFormed k 
 deep-join ands f fs (g-and {k = k} h hs) = (record { depth = k; good = h }, record { depth = k; good = hs })
 deep-join ors f fs (g-or {k = k} h hs) = (record { depth = k; good = h }, record { depth = k; good = hs })
 
-deep-quant : (q : Quant) {k : ℕ} (vs : List (List ℕ)) (f : Formula) → WellFormed k (quant q vs f) → Deep f
-deep-quant somes vs f (g-exists {k = k} ws le h) = record { depth = k; good = h }
-deep-quant everys vs f (g-forall {k = k} ws le h) = record { depth = k; good = h }
+deep-quant : (q : Quant) {k : ℕ} (qs : List Quantified) (f : Formula) → WellFormed k (quant q qs f) → Deep f
+deep-quant somes qs f (g-exists {k = k} ws le h) = record { depth = k; good = h }
+deep-quant everys qs f (g-forall {k = k} ws le h) = record { depth = k; good = h }
 
 deep-parts : {k : ℕ} {f : Formula} {fs : Formulas} → AllWellFormed k (cons f fs) → Deep f × AllDeep fs
 deep-parts (a-good {k = k} h hs) = (record { depth = k; good = h }, record { depth = k; good = hs })
@@ -180,20 +181,20 @@ unfolding isKnown
 join-known rs ands f fs = refl
 join-known rs ors f fs = refl
 
-pub quant-forms : (q : Quant) (vs : List (List ℕ)) (f : Formula) → forms (quant q vs f) ≡ length vs + forms f
+pub quant-forms : (q : Quant) (qs : List Quantified) (f : Formula) → forms (quant q qs f) ≡ length qs + forms f
 unfolding forms
-quant-forms somes vs f = refl
-quant-forms everys vs f = refl
+quant-forms somes qs f = refl
+quant-forms everys qs f = refl
 
-pub quant-nesting : (q : Quant) (vs : List (List ℕ)) (f : Formula) → nesting (quant q vs f) ≡ length vs + nesting f
+pub quant-nesting : (q : Quant) (qs : List Quantified) (f : Formula) → nesting (quant q qs f) ≡ length qs + nesting f
 unfolding nesting
-quant-nesting somes vs f = refl
-quant-nesting everys vs f = refl
+quant-nesting somes qs f = refl
+quant-nesting everys qs f = refl
 
-quant-known : (rs : List Relation) (q : Quant) (vs : List (List ℕ)) (f : Formula) → isKnown rs (quant q vs f) ≡ isKnown rs f
+quant-known : (rs : List Relation) (q : Quant) (qs : List Quantified) (f : Formula) → isKnown rs (quant q qs f) ≡ isKnown rs f
 unfolding isKnown
-quant-known rs somes vs f = refl
-quant-known rs everys vs f = refl
+quant-known rs somes qs f = refl
+quant-known rs everys qs f = refl
 
 module _ (rs : List Relation) (sc : List (List ℕ)) (n m : ℕ) where
   pub fine-neg : (f : Formula) → Fine rs sc n m (negation f) → Fine rs sc n m f
@@ -214,8 +215,8 @@ module _ (rs : List Relation) (sc : List (List ℕ)) (n m : ℕ) where
   pub fine-join-2 : (j : Join) (f : Formula) (fs : Formulas) (n′ m′ : ℕ) → n′ ≤ n + forms f → m′ ≤ (m + 1) + forms f → Fine rs sc n m (join j (cons f fs)) → AllFine rs sc n′ m′ fs
   fine-join-2 j f fs n′ m′ a b w = let d = deep-join j f fs (w .good) .1 in record { depth = d .depth; good = d .good; rows = omega (arith, w .rows, join-forms j f fs); nodes = omega (arith, w .nodes, join-forms j f fs); deep = omega (arith, w .deep, join-nesting j f fs); known = and-r (isKnown rs f) (areKnown rs fs) (sym (join-known rs j f fs) ∙ w .known) }
 
-  pub fine-quant : (q : Quant) (vs : List (List ℕ)) (f : Formula) (sc′ : List (List ℕ)) → sc′ ≡ sc ++ vs → Fine rs sc n m (quant q vs f) → Fine rs sc′ n (m + length vs) f
-  fine-quant q vs f sc′ e w = let d = deep-quant q vs f (w .good) in record { depth = d .depth; good = d .good; rows = omega (arith, w .rows, quant-forms q vs f); nodes = omega (arith, w .nodes, quant-forms q vs f); deep = omega (arith, w .deep, quant-nesting q vs f, ap length e, length-append sc vs); known = sym (quant-known rs q vs f) ∙ w .known }
+  pub fine-quant : (q : Quant) (qs : List Quantified) (f : Formula) (sc′ : List (List ℕ)) → sc′ ≡ sc ++ variablesOf qs → Fine rs sc n m (quant q qs f) → Fine rs sc′ n (m + length qs) f
+  fine-quant q qs f sc′ e w = let d = deep-quant q qs f (w .good) in record { depth = d .depth; good = d .good; rows = omega (arith, w .rows, quant-forms q qs f); nodes = omega (arith, w .nodes, quant-forms q qs f); deep = omega (arith, w .deep, quant-nesting q qs f, ap length e, length-append sc (variablesOf qs), length-variables qs); known = sym (quant-known rs q qs f) ∙ w .known }
 
   pub fine-part : (f : Formula) (fs : Formulas) → AllFine rs sc n m (cons f fs) → Fine rs sc n m f
   unfolding forms nesting isKnown

@@ -1,32 +1,34 @@
 -- Variables in the text: their levels, a literal's list, a quantifier's list; a relation's number. Assumes nothing.
 use Prim.Native.Nat.{ℕ, zero, suc, _+_, _-_, _≤_, _<_}
+use native.Mathlib.Numerals.{add-one}
 use native.Mathlib.Omega.{arith}
 use mathlib.Core.Path.{_≡_, refl, sym, ap, subst, _∙_}
 use mathlib.Core.Option.{Option, none, some}
 use mathlib.Core.Bool.{Bool, true, false}
 use mathlib.Core.List.{List, [], _∷_, _++_, map, append-assoc, append-nil}
-use lib.ListN.{length, getD, set, drop, length-append, length-drop}
-use lib.Seq.{slice, drop-drop}
+use lib.ListN.{length, getD, set, take, drop, length-append, length-drop}
+use lib.Seq.{slice, drop-drop, take-suc-set}
+use borrow.Author.Tests.{eq-eqb, ne-eqb}
 use Rattle.definitions.specs.Lists.{same, option, position}
 use Rattle.definitions.specs.Text.{isSmall, isBetween, isDigit}
 use Rattle.definitions.specs.Relations.{Relation, static, numberOf, builtIn}
-use Rattle.definitions.specs.Formula.{writeVars, Variables, a-word}
+use Rattle.definitions.specs.Formula.{Quantified, variablesOf, writeEach, writeVars, writeTyped, writeMore, Variables, AllQuantified, a-word, typeNumber, sortOf}
 use Rattle.definitions.specs.Parsing.{span}
-use Rattle.definitions.specs.Writing.{vars-stop}
+use Rattle.definitions.specs.Writing.{vars-stop, more-stop, typed-close}
 use Rattle.text.specs.Spans.{placeOf}
 use Rattle.text.specs.declared.Found.the-variants.{At, Nowhere}
-use Rattle.names.specs.Signatures.{Lent, allOf, relationsFrom}
+use Rattle.names.specs.Signatures.{Lent, allOf, relationsFrom, namesFrom, typesIn}
 use Rattle.names.specs.declared.Signature.{Signature}
 use Rattle.names.proofs.Laws.{position-some, all-are, length-relations}
-use Rattle.formula.specs.Seen.{names, spans}
+use Rattle.formula.specs.Seen.{names, spans, pastType}
 use Rattle.formula.specs.Spans.{spans-next, spans-push}
 use Rattle.formula.specs.Steps.{front-rest, slice-front}
-use Rattle.formula.specs.Bound.{var-ends}
+use Rattle.formula.specs.Bound.{var-ends, Ends, ends-at}
 use Rattle.formula.specs.declared.Scope.{Scope}
 use Rattle.tree.specs.Postorder.{leafRow}
 use Rattle.tree.specs.Free.{pad-more}
 use Rattle.tree.specs.declared.Row.{Row}
-use Rattle.rewriting.specs.Ready.{levelOf, VarsReady, ListReady, Filled, Opened}
+use Rattle.rewriting.specs.Ready.{levelOf, sortIn, VarsReady, ListReady, Filled, Opened}
 use Rattle.rewriting.specs.declared.Leaf.{Leaf}
 use Rattle.rewriting.specs.declared.Bound.{Bound}
 
@@ -83,7 +85,12 @@ number-low q g w k h e = omega (arith, length-all q g, position-some (λ (r : Re
 
 -- ... of any signature whose names and count are lent
 pub lent-low : (q F T w : List ℕ) (m k : ℕ) → m ≤ 12 → ((g : Signature) → Lent g F T m → At k ≡ placeOf (numberOf (allOf q g) w)) → k < 17
-lent-low q F T w m k h e = let g : Signature = record { rels = m; chosen = 0; from = F; to = T; arity = []; kind = [] } in number-low q g w k (omega arith) (e g (record { from-is = refl; to-is = refl; count = omega arith }))
+lent-low q F T w m k h e = let g : Signature = record { rels = m; chosen = 0; types = 0; from = F; to = T; arity = []; kind = [] } in number-low q g w k (omega arith) (e g (record { from-is = refl; to-is = refl; count = omega arith }))
+
+pub types-many : (q from to : List ℕ) (i k : ℕ) → length (namesFrom q from to i k) ≡ k
+unfolding namesFrom
+types-many q from to i zero = refl
+types-many q from to i (suc k) = ap suc (types-many q from to (suc i) k)
 
 pub number-at : (x : Option ℕ) (k : ℕ) → At k ≡ placeOf x → k ≡ option x zero (λ j. j)
 unfolding option
@@ -107,7 +114,7 @@ no-span l = refl
 -- ---- `fill`
 module _ (s : List ℕ) (at : ℕ) (sc : Scope) (n : ℕ) where
   pub vars-in : VarsReady s at sc n → at < length s
-  unfolding writeVars
+  unfolding writeEach
   vars-in w = go (w .vs) (w .is)
     where
       go : (vs : List (List ℕ)) → drop at s ≡ writeVars vs ++ (41 ∷ w .rest) → at < length s
@@ -116,7 +123,7 @@ module _ (s : List ℕ) (at : ℕ) (sc : Scope) (n : ℕ) where
 
   -- no space: no variable
   pub vars-none : (w : VarsReady s at sc n) → (getD s at 0 ≡ 32 → ⊥) → w .vs ≡ []
-  unfolding writeVars
+  unfolding writeEach
   vars-none w h = go (w .vs) (w .is)
     where
       go : (vs : List (List ℕ)) → drop at s ≡ writeVars vs ++ (41 ∷ w .rest) → vs ≡ []
@@ -135,7 +142,7 @@ module _ (s : List ℕ) (at : ℕ) (sc : Scope) (n : ℕ) where
     pub rest : next .vs ≡ us
 
   pub vars-more : (w : VarsReady s at sc n) (e : ℕ) → getD s at 0 ≡ 32 → e ≡ (at + 2) + span true (drop (at + 2) s) → More (w .vs) e
-  unfolding writeVars
+  unfolding writeEach
   vars-more w e c q = go (w .vs) (w .words) (w .is) (w .fits)
     where
       go : (vs : List (List ℕ)) → Variables vs → drop at s ≡ writeVars vs ++ (41 ∷ w .rest) → n + length vs ≤ 3 → More vs e
@@ -159,18 +166,18 @@ module _ (s : List ℕ) (at : ℕ) (sc : Scope) (n : ℕ) where
 
   -- the row has the levels of the variables so far, and gets those of the others
   pub fill-none : (row : Row) (w : VarsReady s at sc n) → (getD s at 0 ≡ 32 → ⊥) → (p : Bool) (k : ℕ) (ls : List ℕ) → row ≡ leafRow p k ls → Filled s at sc p k ls (w .vs) (record { row = row; at = at })
-  unfolding writeVars
+  unfolding writeEach
   fill-none row w h p k ls e = subst (λ (vs : List (List ℕ)). Filled s at sc p k ls vs (record { row = row; at = at })) (sym (vars-none w h)) (record { place = omega arith; row = e ∙ ap (λ (l : List ℕ). leafRow p k l) (sym (append-nil ls)) })
 
-  pub fill-more : (row : Row) (i l e : ℕ) (r : Leaf) (w : VarsReady s at sc n) (m : More (w .vs) e) → row .width ≡ n → i ≡ row .width → l ≡ levelOf (names s sc) (slice (at + 1) e s) → (p : Bool) (k : ℕ) (ls : List ℕ) → row ≡ leafRow p k ls → (record { kind = row .kind; which = row .which; many = row .many; width = row .width + 1; levels = set (row .levels) i l } ≡ leafRow p k (ls ++ (l ∷ [])) → Filled s e sc p k (ls ++ (l ∷ [])) (m .next .vs) r) → Filled s at sc p k ls (w .vs) r
-  unfolding writeVars
+  pub fill-more : (row : Row) (i l e : ℕ) (r : Leaf) (w : VarsReady s at sc n) (m : More (w .vs) e) → row .width ≡ n → i ≡ row .width → l ≡ levelOf (names s sc) (slice (at + 1) e s) → (p : Bool) (k : ℕ) (ls : List ℕ) → row ≡ leafRow p k ls → (record { kind = row .kind; which = row .which; many = row .many; sort = row .sort; width = row .width + 1; levels = set (row .levels) i l } ≡ leafRow p k (ls ++ (l ∷ [])) → Filled s e sc p k (ls ++ (l ∷ [])) (m .next .vs) r) → Filled s at sc p k ls (w .vs) r
+  unfolding writeEach
   fill-more row i l e r w m en ei el p k ls q f = done (f more)
     where
       few : length ls < 3
       few = omega (arith, ap (λ (x : Row). x .width) q, w .fits, ap length (m .is))
 
-      more : record { kind = row .kind; which = row .which; many = row .many; width = row .width + 1; levels = set (row .levels) i l } ≡ leafRow p k (ls ++ (l ∷ []))
-      more = ap (λ (j : ℕ). record { kind = row .kind; which = row .which; many = row .many; width = row .width + 1; levels = set (row .levels) j l }) ei ∙ ap (λ (x : Row). record { kind = x .kind; which = x .which; many = x .many; width = x .width + 1; levels = set (x .levels) (x .width) l }) q ∙ rw (pad-more 3 ls l few, length-append ls (l ∷ []))
+      more : record { kind = row .kind; which = row .which; many = row .many; sort = row .sort; width = row .width + 1; levels = set (row .levels) i l } ≡ leafRow p k (ls ++ (l ∷ []))
+      more = ap (λ (j : ℕ). record { kind = row .kind; which = row .which; many = row .many; sort = row .sort; width = row .width + 1; levels = set (row .levels) j l }) ei ∙ ap (λ (x : Row). record { kind = x .kind; which = x .which; many = x .many; sort = x .sort; width = x .width + 1; levels = set (x .levels) (x .width) l }) q ∙ rw (pad-more 3 ls l few, length-append ls (l ∷ []))
 
       levels : ls ++ (l ∷ map (λ v. levelOf (names s sc) v) (m .next .vs)) ≡ ls ++ map (λ v. levelOf (names s sc) v) (w .vs)
       levels = ap (λ (x : ℕ). ls ++ (x ∷ map (λ v. levelOf (names s sc) v) (m .next .vs))) (el ∙ ap (λ (x : List ℕ). levelOf (names s sc) x) (m .name)) ∙ ap (λ (x : List (List ℕ)). ls ++ (levelOf (names s sc) (m .v) ∷ map (λ v. levelOf (names s sc) v) x)) (m .rest) ∙ ap (λ (x : List (List ℕ)). ls ++ map (λ v. levelOf (names s sc) v) x) (sym (m .is))
@@ -187,87 +194,131 @@ module _ (s : List ℕ) (at : ℕ) (sc : Scope) (n : ℕ) where
         row = d .row ∙ ap (λ (x : List ℕ). leafRow p k x) (append-assoc ls (l ∷ []) (map (λ v. levelOf (names s sc) v) (m .next .vs)) ∙ levels);
       }
 
+-- ---- `sort_at`
+pub sort-none : (types : List (List ℕ)) (s : List ℕ) (e p : ℕ) → e ≡ p → 0 ≡ sortIn types s e p
+unfolding sortIn
+sort-none types s e p h = rw (eq-eqb e p h)
+
+module _ (types : List (List ℕ)) (s : List ℕ) (e p : ℕ) (h : e ≡ p → ⊥) where
+  pub sort-some : (k : ℕ) → At k ≡ placeOf (typeNumber types (slice (e + 1) p s)) → k + 1 ≡ sortIn types s e p
+  unfolding sortIn option
+  sort-some k w = rw (ne-eqb e p h, number-found (typeNumber types (slice (e + 1) p s)) k w) (add-one k)
+
+  pub sort-lost : Nowhere ≡ placeOf (typeNumber types (slice (e + 1) p s)) → 0 ≡ sortIn types s e p
+  unfolding sortIn option
+  sort-lost w = rw (ne-eqb e p h, number-lost (typeNumber types (slice (e + 1) p s)) w)
+
+pub type-low : (q from to name : List ℕ) (k : ℕ) → At k ≡ placeOf (typeNumber (typesIn q from to 8) name) → k < 8
+unfolding typeNumber
+type-low q from to name k w = omega (arith, types-many q from to 12 8, position-some (λ t. same t name) (typesIn q from to 8) k [] (number-found (typeNumber (typesIn q from to 8) name) k w) .0)
+
 -- ---- `bind`
+-- the sort that stands in the text
+sort-read : (types : List (List ℕ)) (s r : List ℕ) (at : ℕ) (q : Quantified) → drop at s ≡ writeTyped q ++ r → at + length (writeTyped q) ≤ length s → sortIn types s (at + length (q .variable)) (at + length (writeTyped q)) ≡ sortOf types q
+unfolding sortIn sortOf writeTyped option
+sort-read types s r at q w l = go (q .variable) (q .type) w l
+  where
+    go : (v : List ℕ) (o : Option (List ℕ)) → drop at s ≡ (v ++ option o [] (λ t. 58 ∷ t)) ++ r → at + length (v ++ option o [] (λ t. 58 ∷ t)) ≤ length s
+        → sortIn types s (at + length v) (at + length (v ++ option o [] (λ t. 58 ∷ t))) ≡ sortOf types (record { variable = v; type = o })
+    go v none a b = rw (append-nil v, eq-eqb (at + length v) (at + length v) refl)
+    go v (some t) a b =
+        let n : length (v ++ (58 ∷ t)) ≡ length v + suc (length t) = length-append v (58 ∷ t) in
+        let d : drop ((at + length v) + 1) s ≡ t ++ r = sym (drop-drop 1 (at + length v) s) ∙ ap (λ (x : List ℕ). drop 1 x) (front-rest s v (58 ∷ (t ++ r)) at (a ∙ append-assoc v (58 ∷ t) r)) in
+        let c : slice ((at + length v) + 1) (at + length (v ++ (58 ∷ t))) s ≡ t = slice-front s t ((at + length v) + 1) (at + length (v ++ (58 ∷ t))) b (d ∙ ap (λ (x : List ℕ). t ++ x) (sym (front-rest s (v ++ (58 ∷ t)) r at a))) in
+        rw (ne-eqb (at + length v) (at + length (v ++ (58 ∷ t))) (λ h. omega arith), c)
+
 module _ (s : List ℕ) (at : ℕ) (sc : Scope) where
-  -- the first variable of a list, and what follows
-  pub record Front (w : ListReady s at sc) (e : ℕ) : Type 0 where
-    pub name : slice at e s ≡ w .v
-    pub place : e ≡ at + length (w .v)
-    pub rest : drop e s ≡ writeVars (w .vs) ++ (41 ∷ 32 ∷ w .rest)
-    pub within : e + 2 ≤ length s
+  -- the first variable of a list, where it and its type end, and what follows
+  pub record Front (w : ListReady s at sc) (e p : ℕ) : Type 0 where
+    pub name : slice at e s ≡ w .q .variable
+    pub sort : (types : List (List ℕ)) → sortIn types s e p ≡ sortOf types (w .q)
+    pub place : p ≡ at + length (writeTyped (w .q))
+    pub rest : drop p s ≡ writeMore (w .qs) ++ (41 ∷ 32 ∷ w .rest)
+    pub within : p + 2 ≤ length s
+
+  list-ends : (w : ListReady s at sc) → Ends s at (w .q)
+  list-ends w = go (w .words)
+    where
+      go : AllQuantified (w .q ∷ w .qs) → Ends s at (w .q)
+      go (a-word h hs) = ends-at s (writeMore (w .qs) ++ (41 ∷ 32 ∷ w .rest)) at (w .q) h (w .is) (more-stop (w .qs) (41 ∷ 32 ∷ w .rest) (typed-close (32 ∷ w .rest)))
 
   pub list-in : ListReady s at sc → at < length s
-  list-in w = go (w .words)
-    where
-      go : Variables (w .v ∷ w .vs) → at < length s
-      go (a-word h hs) = var-ends s (w .v) (writeVars (w .vs) ++ (41 ∷ 32 ∷ w .rest)) at h (w .is) (vars-stop (w .vs) (41 ∷ 32 ∷ w .rest) (no-span (32 ∷ w .rest))) .1
+  list-in w = list-ends w .low
 
-  pub list-front : (w : ListReady s at sc) (e : ℕ) → e ≡ (at + 1) + span true (drop (at + 1) s) → Front w e
-  list-front w e q = go (w .words)
+  pub list-front : (w : ListReady s at sc) (e p : ℕ) → e ≡ (at + 1) + span true (drop (at + 1) s) → p ≡ pastType s e → Front w e p
+  list-front w e p q z =
+      let d = list-ends w in
+      let en : e ≡ at + length (w .q .variable) = q ∙ d .variable in
+      let pn : p ≡ at + length (writeTyped (w .q)) = z ∙ ap (λ (x : ℕ). pastType s x) en ∙ d .past in
+      let fr : drop (at + length (writeTyped (w .q))) s ≡ writeMore (w .qs) ++ (41 ∷ 32 ∷ w .rest) = front-rest s (writeTyped (w .q)) (writeMore (w .qs) ++ (41 ∷ 32 ∷ w .rest)) at (w .is) in
+      record {
+        name = ap (λ (x : ℕ). slice at x s) en ∙ d .name;
+        sort = λ types. rw (en, pn) (sort-read types s (writeMore (w .qs) ++ (41 ∷ 32 ∷ w .rest)) at (w .q) (w .is) (d .high));
+        place = pn;
+        rest = ap (λ (x : ℕ). drop x s) pn ∙ fr;
+        within = two (sym (length-drop (at + length (writeTyped (w .q))) s) ∙ ap length fr ∙ length-append (writeMore (w .qs)) (41 ∷ 32 ∷ w .rest)) pn;
+      }
     where
-      go : Variables (w .v ∷ w .vs) → Front w e
-      go (a-word h hs) =
-          let z = var-ends s (w .v) (writeVars (w .vs) ++ (41 ∷ 32 ∷ w .rest)) at h (w .is) (vars-stop (w .vs) (41 ∷ 32 ∷ w .rest) (no-span (32 ∷ w .rest))) in
-          let en : e ≡ at + length (w .v) = q ∙ z .0 in
-          let fr : drop (at + length (w .v)) s ≡ writeVars (w .vs) ++ (41 ∷ 32 ∷ w .rest) = front-rest s (w .v) (writeVars (w .vs) ++ (41 ∷ 32 ∷ w .rest)) at (w .is) in
-          record {
-            name = ap (λ (x : ℕ). slice at x s) en ∙ slice-front s (w .v) at (at + length (w .v)) (z .2) (w .is ∙ ap (λ (x : List ℕ). w .v ++ x) (sym fr));
-            place = en;
-            rest = ap (λ (x : ℕ). drop x s) en ∙ fr;
-            within = two (sym (length-drop (at + length (w .v)) s) ∙ ap length fr ∙ length-append (writeVars (w .vs)) (41 ∷ 32 ∷ w .rest)) en;
-          }
-        where
-          two : length s - (at + length (w .v)) ≡ length (writeVars (w .vs)) + suc (suc (length (w .rest))) → e ≡ at + length (w .v) → e + 2 ≤ length s
-          two a b = omega arith
+      two : length s - (at + length (writeTyped (w .q))) ≡ length (writeMore (w .qs)) + suc (suc (length (w .rest))) → p ≡ at + length (writeTyped (w .q)) → p + 2 ≤ length s
+      two a b = omega arith
 
-  module _ (w : ListReady s at sc) (e : ℕ) (f : Front w e) where
-    pub list-last : (getD s e 0 ≡ 32 → ⊥) → w .vs ≡ []
-    unfolding writeVars
-    list-last h = go (w .vs) (f .rest)
+  module _ (w : ListReady s at sc) (e p : ℕ) (f : Front w e p) where
+    pub list-last : (getD s p 0 ≡ 32 → ⊥) → w .qs ≡ []
+    unfolding writeEach
+    list-last h = go (w .qs) (f .rest)
       where
-        go : (vs : List (List ℕ)) → drop e s ≡ writeVars vs ++ (41 ∷ 32 ∷ w .rest) → vs ≡ []
+        go : (qs : List Quantified) → drop p s ≡ writeMore qs ++ (41 ∷ 32 ∷ w .rest) → qs ≡ []
         go [] q = refl
-        go (v ∷ vs) q = absurd (h (first-byte s e 32 _ q .0))
+        go (u ∷ us) q = absurd (h (first-byte s p 32 _ q .0))
 
     -- a space after it: another list, with one variable bound
     pub record Next (inner : Scope) : Type 0 where
-      pub ready : ListReady s (e + 1) inner
-      pub is : w .vs ≡ ready .v ∷ ready .vs
+      pub ready : ListReady s (p + 1) inner
+      pub is : w .qs ≡ ready .q ∷ ready .qs
 
-    pub list-next : (inner : Scope) → inner .n ≡ sc .n + 1 → getD s e 0 ≡ 32 → Next inner
-    unfolding writeVars
-    list-next inner n c = go (w .vs) refl (w .words) (f .rest)
+    pub list-next : (inner : Scope) → inner .n ≡ sc .n + 1 → getD s p 0 ≡ 32 → Next inner
+    unfolding writeEach
+    list-next inner n c = go (w .qs) refl (w .words) (f .rest)
       where
-        go : (vs : List (List ℕ)) → w .vs ≡ vs → Variables (w .v ∷ vs) → drop e s ≡ writeVars vs ++ (41 ∷ 32 ∷ w .rest) → Next inner
-        go [] i h q = absurd (omega (arith, first-byte s e 41 _ q .0))
+        go : (qs : List Quantified) → w .qs ≡ qs → AllQuantified (w .q ∷ qs) → drop p s ≡ writeMore qs ++ (41 ∷ 32 ∷ w .rest) → Next inner
+        go [] i h q = absurd (omega (arith, first-byte s p 41 _ q .0))
         go (u ∷ us) i (a-word h hs) q = record {
           ready = record {
-            v = u;
-            vs = us;
+            q = u;
+            qs = us;
             rest = w .rest;
-            is = sym (drop-drop 1 e s) ∙ ap (λ (x : List ℕ). drop 1 x) q ∙ append-assoc u (writeVars us) (41 ∷ 32 ∷ w .rest);
+            is = sym (drop-drop 1 p s) ∙ ap (λ (x : List ℕ). drop 1 x) q ∙ append-assoc (writeTyped u) (writeMore us) (41 ∷ 32 ∷ w .rest);
             words = hs;
             fits = omega (arith, w .fits, ap length i);
           };
           is = i;
         }
 
-    bound-one : length (sc .from) ≡ 4 → length (sc .to) ≡ 4 → names s (record { from = set (sc .from) (sc .n) at; to = set (sc .to) (sc .n) e; n = sc .n + 1 }) ≡ names s sc ++ (w .v ∷ [])
-    unfolding names
-    bound-one x y = spans-push s (sc .from) (sc .to) (sc .n) at e (omega (arith, w .fits)) (omega (arith, w .fits)) ∙ ap (λ (v : List ℕ). spans s (sc .from) (sc .to) (sc .n) 0 ++ (v ∷ [])) (f .name)
+    module _ (types : List (List ℕ)) (sorts : List ℕ) (σ : ℕ) (eσ : σ ≡ sortIn types s e p) (x : length (sc .from) ≡ 4) (y : length (sc .to) ≡ 4) (z : length sorts ≡ 4) where
+      abbrev pub with-one : Scope
+      with-one = record { from = set (sc .from) (sc .n) at; to = set (sc .to) (sc .n) e; n = sc .n + 1 }
 
-    pub bind-last : length (sc .from) ≡ 4 → length (sc .to) ≡ 4 → (getD s e 0 ≡ 32 → ⊥) → Opened s at sc (w .v) (w .vs) (record { scope = record { from = set (sc .from) (sc .n) at; to = set (sc .to) (sc .n) e; n = sc .n + 1 }; at = e + 2 })
-    unfolding writeVars
-    bind-last x y h = subst (λ (vs : List (List ℕ)). Opened s at sc (w .v) vs (record { scope = record { from = set (sc .from) (sc .n) at; to = set (sc .to) (sc .n) e; n = sc .n + 1 }; at = e + 2 })) (sym (list-last h)) (record {
-      place = omega (arith, f .place, ap length (append-nil (w .v)));
-      scope = bound-one x y;
-      count = refl;
-    })
+      bound-one : names s with-one ≡ names s sc ++ (w .q .variable ∷ [])
+      unfolding names
+      bound-one = spans-push s (sc .from) (sc .to) (sc .n) at e (omega (arith, w .fits)) (omega (arith, w .fits)) ∙ ap (λ (v : List ℕ). spans s (sc .from) (sc .to) (sc .n) 0 ++ (v ∷ [])) (f .name)
 
-    pub bind-more : length (sc .from) ≡ 4 → length (sc .to) ≡ 4 → (n : Next (record { from = set (sc .from) (sc .n) at; to = set (sc .to) (sc .n) e; n = sc .n + 1 })) (r : Bound) → Opened s (e + 1) (record { from = set (sc .from) (sc .n) at; to = set (sc .to) (sc .n) e; n = sc .n + 1 }) (n .ready .v) (n .ready .vs) r → Opened s at sc (w .v) (w .vs) r
-    unfolding writeVars
-    bind-more x y n r o = subst (λ (vs : List (List ℕ)). Opened s at sc (w .v) vs r) (sym (n .is)) (record {
-      place = omega (arith, o .place, f .place, length-append (w .v) (32 ∷ (n .ready .v ++ writeVars (n .ready .vs))), length-append (n .ready .v) (writeVars (n .ready .vs)));
-      scope = o .scope ∙ ap (λ (l : List (List ℕ)). l ++ (n .ready .v ∷ n .ready .vs)) (bound-one x y) ∙ append-assoc (names s sc) (w .v ∷ []) (n .ready .v ∷ n .ready .vs);
-      count = omega (arith, o .count);
-    })
+      sorted-one : take (sc .n + 1) (set sorts (sc .n) σ) ≡ take (sc .n) sorts ++ (sortOf types (w .q) ∷ [])
+      sorted-one = ap (λ (n : ℕ). take n (set sorts (sc .n) σ)) (add-one (sc .n)) ∙ take-suc-set sorts (sc .n) σ (omega (arith, w .fits)) ∙ ap (λ (n : ℕ). take (sc .n) sorts ++ (n ∷ [])) (eσ ∙ f .sort types)
+
+      pub bind-last : (getD s p 0 ≡ 32 → ⊥) → Opened s at types sc sorts (w .q ∷ w .qs) (record { scope = with-one; sorts = set sorts (sc .n) σ; at = p + 2 })
+      unfolding writeEach variablesOf
+      bind-last h = subst (λ (qs : List Quantified). Opened s at types sc sorts (w .q ∷ qs) (record { scope = with-one; sorts = set sorts (sc .n) σ; at = p + 2 })) (sym (list-last h)) (record {
+        place = omega (arith, f .place, ap length (append-nil (writeTyped (w .q))));
+        scope = bound-one;
+        count = refl;
+        sorts = sorted-one;
+      })
+
+      pub bind-more : (n : Next with-one) (r : Bound) → Opened s (p + 1) types with-one (set sorts (sc .n) σ) (n .ready .q ∷ n .ready .qs) r → Opened s at types sc sorts (w .q ∷ w .qs) r
+      unfolding writeEach variablesOf
+      bind-more n r o = subst (λ (qs : List Quantified). Opened s at types sc sorts (w .q ∷ qs) r) (sym (n .is)) (record {
+        place = omega (arith, o .place, f .place, length-append (writeTyped (w .q)) (32 ∷ (writeTyped (n .ready .q) ++ writeMore (n .ready .qs))), length-append (writeTyped (n .ready .q)) (writeMore (n .ready .qs)));
+        scope = o .scope ∙ ap (λ (l : List (List ℕ)). l ++ variablesOf (n .ready .q ∷ n .ready .qs)) bound-one ∙ append-assoc (names s sc) (w .q .variable ∷ []) (variablesOf (n .ready .q ∷ n .ready .qs));
+        count = omega (arith, o .count);
+        sorts = o .sorts ∙ ap (λ (l : List ℕ). l ++ map (sortOf types) (n .ready .q ∷ n .ready .qs)) sorted-one ∙ append-assoc (take (sc .n) sorts) (sortOf types (w .q) ∷ []) (map (sortOf types) (n .ready .q ∷ n .ready .qs));
+      })

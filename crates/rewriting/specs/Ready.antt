@@ -1,15 +1,17 @@
 -- What the walk asks of a place of the text, and what it gives. Definitions only.
-use Prim.Native.Nat.{ℕ, zero, _+_, _≤_}
+use Prim.Native.Nat.{ℕ, zero, suc, _+_, _≤_}
 use mathlib.Core.Path.{_≡_}
 use mathlib.Core.Bool.{Bool, true, false}
 use mathlib.Core.List.{List, _∷_, _++_, map}
-use lib.ListN.{length, drop, set}
-use Rattle.definitions.specs.Lists.{same, option, position}
+use lib.ListN.{length, drop, take, set}
+use lib.Seq.{slice}
+use lib.Dec.{eqb}
+use Rattle.definitions.specs.Lists.{if_then_else_, same, option, position}
 use Rattle.definitions.specs.Relations.{Relation}
-use Rattle.definitions.specs.Formula.{Formula, Formulas, write, writeVars, writeList, writeParts, WellFormed, AllWellFormed, Variables, Join, ands, ors, Quant, somes, everys, forms, formsAll, nesting, nestingAll, isKnown, areKnown}
+use Rattle.definitions.specs.Formula.{Quantified, variablesOf, Formula, Formulas, write, writeVars, writeTyped, writeMore, writeList, writeParts, WellFormed, AllWellFormed, Variables, AllQuantified, typeNumber, sortOf, Join, ands, ors, Quant, somes, everys, forms, formsAll, nesting, nestingAll, isKnown, areKnown}
 use Rattle.definitions.specs.Parsing.{Head, isAnd, isOr, isExists, isForall}
 use Rattle.definitions.specs.Tree.{nodes, nodesAll, howMany}
-use Rattle.names.specs.Signatures.{Lent, allOf}
+use Rattle.names.specs.Signatures.{Lent, allOf, typesOf, NoFurther}
 use Rattle.names.specs.declared.Signature.{Signature}
 use Rattle.formula.specs.Seen.{names}
 use Rattle.formula.specs.declared.Scope.{Scope}
@@ -39,6 +41,10 @@ quantHead false = isForall
 -- the level of a variable in a scope
 abbrev pub levelOf : List (List ℕ) → List ℕ → ℕ
 levelOf scope v = option (position (same v) scope) zero (λ k. k)
+
+-- the sort of a variable that ends at e, its type standing after a colon up to `end`
+unfoldable pub sortIn : (types : List (List ℕ)) → List ℕ → ℕ → ℕ → ℕ
+sortIn types s e end = if eqb e end then zero else option (typeNumber types (slice (e + 1) end s)) zero suc
 
 -- ---- tables of rows
 abbrev pub pushed : Rows → Row → Rows
@@ -71,10 +77,12 @@ pub record AllFine (rs : List Relation) (scope : List (List ℕ)) (n m : ℕ) (f
   pub deep : length scope + nestingAll fs ≤ 4
   pub known : areKnown rs fs ≡ true
 
--- the relations are few, and so are their places; there is space for all rows
+-- the relations are few, and so are their places; types too, and no other entry names one; there is space for all rows
 pub record Fixed (s : List ℕ) (g : Signature) (t : Rows) : Type 0 where
   pub few : g .rels + g .chosen ≤ 12
   pub places : FewPlaces (allOf s g)
+  pub types : g .types ≤ 8
+  pub no-further : NoFurther (g .to) (g .types)
   pub long : length (t .at) ≡ 64
 
 -- such a formula is written at `at`
@@ -106,12 +114,12 @@ pub record PartsReadyIn (s : List ℕ) (at : ℕ) (from to : List ℕ) (m : ℕ)
 
 -- ... a quantifier's variables, and its bracket and space
 pub record ListReady (s : List ℕ) (at : ℕ) (sc : Scope) : Type 0 where
-  pub v : List ℕ
-  pub vs : List (List ℕ)
+  pub q : Quantified
+  pub qs : List Quantified
   pub rest : List ℕ
-  pub is : drop at s ≡ v ++ (writeVars vs ++ (41 ∷ 32 ∷ rest))
-  pub words : Variables (v ∷ vs)
-  pub fits : sc .n + length (v ∷ vs) ≤ 4
+  pub is : drop at s ≡ writeTyped q ++ (writeMore qs ++ (41 ∷ 32 ∷ rest))
+  pub words : AllQuantified (q ∷ qs)
+  pub fits : sc .n + length (q ∷ qs) ≤ 4
 
 -- ... a literal's variables, and its bracket, `n` levels being there already
 pub record VarsReady (s : List ℕ) (at : ℕ) (sc : Scope) (n : ℕ) : Type 0 where
@@ -125,12 +133,12 @@ pub record VarsReady (s : List ℕ) (at : ℕ) (sc : Scope) (n : ℕ) : Type 0 w
 -- ---- what is given: the place after, and the rows of the tree
 pub record Walked (b : Bool) (s : List ℕ) (at : ℕ) (g : Signature) (sc : Scope) (t : Rows) (f : Formula) (after : ℕ) (u : Rows) : Type 0 where
   pub place : after ≡ at + length (write f)
-  pub adds : Adds t (post (t .nodes) (treeIn b (allOf s g) (names s sc) f)) (length (nodes (treeIn b (allOf s g) (names s sc) f))) u
+  pub adds : Adds t (post (t .nodes) (treeIn b (allOf s g) (typesOf s g) (names s sc) f)) (length (nodes (treeIn b (allOf s g) (typesOf s g) (names s sc) f))) u
 
 pub record WalkedParts (b : Bool) (s : List ℕ) (at : ℕ) (g : Signature) (sc : Scope) (t : Rows) (many : ℕ) (fs : Formulas) (after count : ℕ) (u : Rows) : Type 0 where
   pub place : after ≡ at + length (writeParts fs)
-  pub adds : Adds t (postAll (t .nodes) (treesIn b (allOf s g) (names s sc) fs)) (length (nodesAll (treesIn b (allOf s g) (names s sc) fs))) u
-  pub counted : count ≡ many + howMany (treesIn b (allOf s g) (names s sc) fs)
+  pub adds : Adds t (postAll (t .nodes) (treesIn b (allOf s g) (typesOf s g) (names s sc) fs)) (length (nodesAll (treesIn b (allOf s g) (typesOf s g) (names s sc) fs))) u
+  pub counted : count ≡ many + howMany (treesIn b (allOf s g) (typesOf s g) (names s sc) fs)
 
 -- ... whatever was written there, over whatever signature
 abbrev pub Walks : Bool → List ℕ → ℕ → (from to : List ℕ) → ℕ → Scope → Rows → ℕ → Rows → Type 0
@@ -139,10 +147,11 @@ Walks b s at from to m sc t after u = (w : ReadyIn s at from to m sc t) → Walk
 abbrev pub WalksParts : Bool → List ℕ → ℕ → (from to : List ℕ) → ℕ → Scope → Rows → ℕ → ℕ → ℕ → Rows → Type 0
 WalksParts b s at from to m sc t many after count u = (w : PartsReadyIn s at from to m sc t) → WalkedParts b s at (w .g) sc t many (w .ready .fs) after count u
 
-pub record Opened (s : List ℕ) (at : ℕ) (sc : Scope) (v : List ℕ) (vs : List (List ℕ)) (r : Bound) : Type 0 where
-  pub place : r .at ≡ at + (length (writeList (v ∷ vs)) + 2)
-  pub scope : names s (r .scope) ≡ names s sc ++ (v ∷ vs)
-  pub count : r .scope .n ≡ sc .n + length (v ∷ vs)
+pub record Opened (s : List ℕ) (at : ℕ) (types : List (List ℕ)) (sc : Scope) (before : List ℕ) (qs : List Quantified) (r : Bound) : Type 0 where
+  pub place : r .at ≡ at + (length (writeList qs) + 2)
+  pub scope : names s (r .scope) ≡ names s sc ++ variablesOf qs
+  pub count : r .scope .n ≡ sc .n + length qs
+  pub sorts : take (r .scope .n) (r .sorts) ≡ take (sc .n) before ++ map (sortOf types) qs
 
 pub record Filled (s : List ℕ) (at : ℕ) (sc : Scope) (p : Bool) (k : ℕ) (ls : List ℕ) (vs : List (List ℕ)) (r : Leaf) : Type 0 where
   pub place : r .at ≡ at + length (writeVars vs)

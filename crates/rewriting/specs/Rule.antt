@@ -13,7 +13,7 @@ use Rattle.definitions.specs.Parsing.{readFormula}
 use Rattle.definitions.specs.Sheets.{Question, relationsOf}
 use Rattle.definitions.specs.Tree.{Tree, Trees, leaf, forallNode, existsNode, end, _then_, asIs, totalities, joined, treeOf}
 use Rattle.text.specs.Spans.{kindOf}
-use Rattle.names.specs.Signatures.{Sound, allOf, relsOf, chosenOf}
+use Rattle.names.specs.Signatures.{Sound, allOf, relsOf, chosenOf, typesOf}
 use Rattle.names.specs.declared.Signature.{Signature}
 use Rattle.formula.specs.Seen.{ruleNumber}
 use Rattle.tree.specs.Tables.{IsTable, Fits}
@@ -33,15 +33,16 @@ pub record Accepted (s : List ℕ) (at stop : ℕ) (g : Signature) : Type 0 wher
   pub low : at ≤ stop
   pub high : stop ≤ length s
   pub sound : Sound s g
-  pub fine : ruleNumber (allOf s g) (chosenOf s g) (slice at stop s) ≡ 0
+  pub fine : ruleNumber (allOf s g) (typesOf s g) (chosenOf s g) (slice at stop s) ≡ 0
 
 -- the tree of the rule that is the formula f, with its totalities
 abbrev pub rootOf : List ℕ → Signature → Formula → Tree
-rootOf s g f = joined (asIs (allOf s g) [] f) (totalities (5 + g .rels) (chosenOf s g))
+rootOf s g f = joined (asIs (allOf s g) (typesOf s g) [] f) (totalities (5 + g .rels) (chosenOf s g))
 
--- the question that has these relations and this rule
+-- the question that has these relations, these types and this rule
 pub record IsQuestion (s : List ℕ) (at stop : ℕ) (g : Signature) (q : Question) : Type 0 where
   pub rels : q .rels ≡ relsOf s g
+  pub types : q .types ≡ typesOf s g
   pub chosen : q .chosen ≡ chosenOf s g
   pub rule : readFormula (slice at stop s) ≡ some (q .rule .formula)
 

@@ -3,18 +3,18 @@ ghost use mathlib.Core.Path.{_≡_};
 ghost use mathlib.Core.Bool.{Bool, true, false};
 ghost use mathlib.Core.List.{List, [], _∷_};
 ghost use Prim.Native.Nat.{ℕ, zero, _+_, _*_, _≤_, _<_};
-ghost use lib.ListN.{length, drop};
+ghost use lib.ListN.{length, drop, replicate};
 ghost use lib.Seq.{slice};
 ghost use Rattle.definitions.specs.Lists.{option};
 ghost use Rattle.definitions.specs.Relations.{numberOf};
 ghost use Rattle.definitions.specs.Formula.{joinWord, totals};
 ghost use Rattle.definitions.specs.Parsing.{kindOf, isImplies, isOther};
 ghost use Rattle.definitions.specs.Tree.{nodesAll, totalities as totalitiesOf};
-ghost use Rattle.names.specs.Signatures.{Lent, allOf, chosenOf};
+ghost use Rattle.names.specs.Signatures.{Lent, allOf, chosenOf, typesIn};
 ghost use Rattle.formula.specs.Seen.{names, totalOf};
 ghost use Rattle.tree.specs.Postorder.{post, postAll, leafKind, leafRow, quantRow, joinRow, rowsFrom};
 ghost use Rattle.rewriting.specs.Trees.{joinKind, quantKind, chain as chainOf};
-ghost use Rattle.rewriting.specs.Ready.{asJoin, asQuant, joinHead, quantHead, levelOf, Adds, ReadyIn, PartsReadyIn, ListReady, VarsReady, Walks, WalksParts, Opened, Filled};
+ghost use Rattle.rewriting.specs.Ready.{asJoin, asQuant, joinHead, quantHead, levelOf, sortIn, Adds, ReadyIn, PartsReadyIn, ListReady, VarsReady, Walks, WalksParts, Opened, Filled};
 ghost use Rattle.rewriting.specs.Rule.{totalityOf, oneTotality, Accepted, RowsOf, TableOf};
 use formula::Kind;
 use formula::Scope;
@@ -44,9 +44,10 @@ struct Pieces {
     many: usize,
 }
 
-// A scope with the variables of a list, and the place after the list.
+// A scope with the variables of a list, their sorts by level, and the place after the list.
 struct Bound {
     scope: Scope,
+    sorts: [u8; 4],
     at: usize,
 }
 
@@ -93,35 +94,47 @@ fn join_row(kind: u8, which: usize, many: usize) -> Row
         kind,
         which: which as u8,
         many: many as u8,
+        sort: 0,
         width: 0,
         levels: [0u8; 3],
     }
 }
 
-fn quant_row(kind: u8, which: usize, level: usize) -> Row
+fn quant_row(kind: u8, which: usize, level: usize, sort: u8) -> Row
     requires { ⌜ (which ≤ 64) × (level ≤ 64) ⌝ }
-    ensures { λ r. ⌜ r ≡ quantRow kind which level ⌝ }
+    ensures { λ r. ⌜ r ≡ quantRow kind which level sort ⌝ }
 {
     Row {
         kind,
         which: which as u8,
         many: 1,
+        sort,
         width: 1,
         levels: [level as u8, 0, 0],
     }
 }
 
-// The rows of k quantifiers one inside the other, the innermost first; the outermost has number `which` and `level`.
-fn chain(rows: &mut [u8], len: usize, kind: u8, which: usize, level: usize, k: usize)
-    requires { ⌜ (len + k ≤ 64) × (which + k ≤ 64) × (level + k ≤ 64) × (length (now rows) ≡ 448) ⌝ }
-    ensures { λ r. ⌜ ((nodes : ℕ) → Adds (rowsFrom (now (rows .entry)) len nodes) (chainOf kind which level k) 0 (rowsFrom (now (rows .exit)) (len + k) nodes)) ⌝ }
+// The rows of k quantifiers one inside the other, the innermost first; the outermost has number `which` and `level`. Their sorts
+// stand by level.
+fn chain(
+    rows: &mut [u8],
+    len: usize,
+    kind: u8,
+    which: usize,
+    level: usize,
+    k: usize,
+    sorts: [u8; 4],
+)
+    requires { ⌜ (len + k ≤ 64) × (which + k ≤ 64) × (level + k ≤ 4) × (length (now rows) ≡ 512) ⌝ }
+    ensures { λ r. ⌜ ((nodes : ℕ) → Adds (rowsFrom (now (rows .entry)) len nodes) (chainOf kind which level sorts k) 0 (rowsFrom (now (rows .exit)) (len + k) nodes)) ⌝ }
 {
     if k == 0 {
         return;
     }
-    let row = quant_row(kind, which + (k - 1), level + (k - 1));
+    let l = level + (k - 1);
+    let row = quant_row(kind, which + (k - 1), l, sorts[l]);
     tree::put_row(rows, len, row);
-    chain(rows, len + 1, kind, which, level, k - 1);
+    chain(rows, len + 1, kind, which, level, k - 1, sorts);
 }
 
 // How many quantifiers stand around the one that binds the variable from `a` to `e`; 0 if none does.
@@ -169,26 +182,47 @@ fn fill(s: &[u8], at: usize, row: Row, sc: Scope) -> Leaf
     Leaf { row: full, at: i }
 }
 
-// The variables at `at`, one byte between them, are bound.
-fn bind(s: &[u8], at: usize, sc: Scope) -> Bound
+// The sort of a variable that ends at `at`, its type being what follows a colon there, up to `end`; 0 if nothing does.
+fn sort_at(s: &[u8], at: usize, end: usize, from: &[usize], to: &[usize]) -> u8
+    requires { ⌜ (at ≤ length (now s)) × (20 ≤ length (now from)) × (20 ≤ length (now to)) ⌝ }
+    ensures { λ r. ⌜ r ≡ sortIn (typesIn (now (s .entry)) (now (from .entry)) (now (to .entry)) 8) (now (s .entry)) at end ⌝ }
+{
+    if at == end {
+        return 0;
+    }
+    let f = names::type_named(s, from, to, names::TYPES, s, at + 1, end);
+    match f {
+        Found::At(k) => (k + 1) as u8,
+        Found::Nowhere => 0,
+    }
+}
+
+// The variables at `at`, one byte between them and their types, are bound, and their sorts noted.
+fn bind(s: &[u8], at: usize, from: &[usize], to: &[usize], sc: Scope) -> Bound
+    requires { ⌜ (20 ≤ length (now from)) × (20 ≤ length (now to)) ⌝ }
     requires { ⌜ ListReady (now s) at sc ⌝ }
-    ensures { λ r. ⌜ ((w : ListReady (now (s .entry)) at sc) → Opened (now (s .entry)) at sc (w .v) (w .vs) r) ⌝ }
+    ensures { λ r. ⌜ ((w : ListReady (now (s .entry)) at sc) → Opened (now (s .entry)) at (typesIn (now (s .entry)) (now (from .entry)) (now (to .entry)) 8) sc (replicate 4 0) (w .q ∷ w .qs) r) ⌝ }
 {
     let mut inner = sc;
+    let mut sorts = [0u8; 4];
     let mut i = at;
     loop {
         let e = formula::run(s, i + 1, true);
+        let end = formula::past_type(s, e);
+        let sort = sort_at(s, e, end, from, to);
         let n = inner.n;
         inner.from[n] = i;
         inner.to[n] = e;
         inner.n = n + 1;
-        if s[e] != 32 {
+        sorts[n] = sort;
+        if s[end] != 32 {
             return Bound {
                 scope: inner,
-                at: e + 2,
+                sorts,
+                at: end + 2,
             };
         }
-        i = e + 1;
+        i = end + 1;
     }
 }
 
@@ -205,7 +239,7 @@ fn literal(
     len: usize,
     nodes: usize,
 ) -> Walk
-    requires { ⌜ (12 ≤ length (now from)) × (12 ≤ length (now to)) × (length (now rows) ≡ 448) ⌝ }
+    requires { ⌜ (20 ≤ length (now from)) × (20 ≤ length (now to)) × (length (now rows) ≡ 512) ⌝ }
     requires { ⌜ ReadyIn (now s) at (now from) (now to) m sc (rowsFrom (now rows) len nodes) ⌝ }
     requires { ⌜ kindOf (drop at (now s)) ≡ isOther ⌝ }
     ensures { λ r. ⌜ Walks pos (now (s .entry)) at (now (from .entry)) (now (to .entry)) m sc (rowsFrom (now (rows .entry)) len nodes) (r .at) (rowsFrom (now (rows .exit)) (r .len) (r .nodes)) ⌝ }
@@ -217,6 +251,7 @@ fn literal(
         kind,
         which,
         many: 0,
+        sort: 0,
         width: 0,
         levels: [0u8; 3],
     };
@@ -243,7 +278,7 @@ fn positive(
     len: usize,
     nodes: usize,
 ) -> Walk
-    requires { ⌜ (12 ≤ length (now from)) × (12 ≤ length (now to)) × (length (now rows) ≡ 448) ⌝ }
+    requires { ⌜ (20 ≤ length (now from)) × (20 ≤ length (now to)) × (length (now rows) ≡ 512) ⌝ }
     requires { ⌜ ReadyIn (now s) at (now from) (now to) m sc (rowsFrom (now rows) len nodes) ⌝ }
     ensures { λ r. ⌜ Walks true (now (s .entry)) at (now (from .entry)) (now (to .entry)) m sc (rowsFrom (now (rows .entry)) len nodes) (r .at) (rowsFrom (now (rows .exit)) (r .len) (r .nodes)) ⌝ }
 {
@@ -278,7 +313,7 @@ fn negative(
     len: usize,
     nodes: usize,
 ) -> Walk
-    requires { ⌜ (12 ≤ length (now from)) × (12 ≤ length (now to)) × (length (now rows) ≡ 448) ⌝ }
+    requires { ⌜ (20 ≤ length (now from)) × (20 ≤ length (now to)) × (length (now rows) ≡ 512) ⌝ }
     requires { ⌜ ReadyIn (now s) at (now from) (now to) m sc (rowsFrom (now rows) len nodes) ⌝ }
     ensures { λ r. ⌜ Walks false (now (s .entry)) at (now (from .entry)) (now (to .entry)) m sc (rowsFrom (now (rows .entry)) len nodes) (r .at) (rowsFrom (now (rows .exit)) (r .len) (r .nodes)) ⌝ }
 {
@@ -314,7 +349,7 @@ fn part(
     len: usize,
     nodes: usize,
 ) -> Walk
-    requires { ⌜ (12 ≤ length (now from)) × (12 ≤ length (now to)) × (length (now rows) ≡ 448) ⌝ }
+    requires { ⌜ (20 ≤ length (now from)) × (20 ≤ length (now to)) × (length (now rows) ≡ 512) ⌝ }
     requires { ⌜ ReadyIn (now s) at (now from) (now to) m sc (rowsFrom (now rows) len nodes) ⌝ }
     ensures { λ r. ⌜ Walks pos (now (s .entry)) at (now (from .entry)) (now (to .entry)) m sc (rowsFrom (now (rows .entry)) len nodes) (r .at) (rowsFrom (now (rows .exit)) (r .len) (r .nodes)) ⌝ }
 {
@@ -338,7 +373,7 @@ fn arrow(
     len: usize,
     nodes: usize,
 ) -> Walk
-    requires { ⌜ (12 ≤ length (now from)) × (12 ≤ length (now to)) × (length (now rows) ≡ 448) ⌝ }
+    requires { ⌜ (20 ≤ length (now from)) × (20 ≤ length (now to)) × (length (now rows) ≡ 512) ⌝ }
     requires { ⌜ ReadyIn (now s) at (now from) (now to) m sc (rowsFrom (now rows) len nodes) ⌝ }
     requires { ⌜ kindOf (drop at (now s)) ≡ isImplies ⌝ }
     ensures { λ r. ⌜ Walks pos (now (s .entry)) at (now (from .entry)) (now (to .entry)) m sc (rowsFrom (now (rows .entry)) len nodes) (r .at) (rowsFrom (now (rows .exit)) (r .len) (r .nodes)) ⌝ }
@@ -376,7 +411,7 @@ fn gather(
     len: usize,
     nodes: usize,
 ) -> Walk
-    requires { ⌜ (12 ≤ length (now from)) × (12 ≤ length (now to)) × (length (now rows) ≡ 448) ⌝ }
+    requires { ⌜ (20 ≤ length (now from)) × (20 ≤ length (now to)) × (length (now rows) ≡ 512) ⌝ }
     requires { ⌜ ReadyIn (now s) at (now from) (now to) m sc (rowsFrom (now rows) len nodes) ⌝ }
     requires { ⌜ kindOf (drop at (now s)) ≡ joinHead conj ⌝ }
     ensures { λ r. ⌜ Walks pos (now (s .entry)) at (now (from .entry)) (now (to .entry)) m sc (rowsFrom (now (rows .entry)) len nodes) (r .at) (rowsFrom (now (rows .exit)) (r .len) (r .nodes)) ⌝ }
@@ -408,7 +443,7 @@ fn further(
     len: usize,
     nodes: usize,
 ) -> Pieces
-    requires { ⌜ (12 ≤ length (now from)) × (12 ≤ length (now to)) × (length (now rows) ≡ 448) ⌝ }
+    requires { ⌜ (20 ≤ length (now from)) × (20 ≤ length (now to)) × (length (now rows) ≡ 512) ⌝ }
     requires { ⌜ PartsReadyIn (now s) at (now from) (now to) m sc (rowsFrom (now rows) len nodes) ⌝ }
     requires { ⌜ many ≤ len ⌝ }
     ensures { λ r. ⌜ WalksParts pos (now (s .entry)) at (now (from .entry)) (now (to .entry)) m sc (rowsFrom (now (rows .entry)) len nodes) many (r .at) (r .many) (rowsFrom (now (rows .exit)) (r .len) (r .nodes)) ⌝ }
@@ -452,19 +487,20 @@ fn under(
     len: usize,
     nodes: usize,
 ) -> Walk
-    requires { ⌜ (12 ≤ length (now from)) × (12 ≤ length (now to)) × (length (now rows) ≡ 448) ⌝ }
+    requires { ⌜ (20 ≤ length (now from)) × (20 ≤ length (now to)) × (length (now rows) ≡ 512) ⌝ }
     requires { ⌜ ReadyIn (now s) at (now from) (now to) m sc (rowsFrom (now rows) len nodes) ⌝ }
     requires { ⌜ kindOf (drop at (now s)) ≡ quantHead some ⌝ }
     ensures { λ r. ⌜ Walks pos (now (s .entry)) at (now (from .entry)) (now (to .entry)) m sc (rowsFrom (now (rows .entry)) len nodes) (r .at) (rowsFrom (now (rows .exit)) (r .len) (r .nodes)) ⌝ }
 {
     let level = sc.n;
-    let d = bind(s, at + 9, sc);
+    let d = bind(s, at + 9, from, to, sc);
     let inner = d.scope;
+    let sorts = d.sorts;
     let a = d.at;
     let k = inner.n - level;
     let x = part(s, a, pos, from, to, m, inner, rows, len, nodes + k);
     let kind = quant_kind(pos, some);
-    chain(rows, x.len, kind, nodes, level, k);
+    chain(rows, x.len, kind, nodes, level, k, sorts);
     Walk {
         len: x.len + k,
         nodes: x.nodes,
@@ -481,6 +517,7 @@ fn pair_row(relation: usize) -> Row
         kind: 4,
         which: relation as u8,
         many: 0,
+        sort: 0,
         width: 2,
         levels: [0, 1, 0],
     }
@@ -488,20 +525,20 @@ fn pair_row(relation: usize) -> Row
 
 // "For all a some b" of a relation.
 fn totality(rows: &mut [u8], len: usize, nodes: usize, relation: usize)
-    requires { ⌜ (len + 3 ≤ 64) × (nodes + 3 ≤ 64) × (relation ≤ 64) × (length (now rows) ≡ 448) ⌝ }
+    requires { ⌜ (len + 3 ≤ 64) × (nodes + 3 ≤ 64) × (relation ≤ 64) × (length (now rows) ≡ 512) ⌝ }
     ensures { λ r. ⌜ Adds (rowsFrom (now (rows .entry)) len nodes) (post nodes (totalityOf relation)) 2 (rowsFrom (now (rows .exit)) (len + 3) (nodes + 2)) ⌝ }
 {
     let a = pair_row(relation);
     tree::put_row(rows, len, a);
-    let b = quant_row(1, nodes + 1, 1);
+    let b = quant_row(1, nodes + 1, 1, 0);
     tree::put_row(rows, len + 1, b);
-    let c = quant_row(0, nodes, 0);
+    let c = quant_row(0, nodes, 0, 0);
     tree::put_row(rows, len + 2, c);
 }
 
 // ... if it is of a total kind.
 fn totality_by_kind(rows: &mut [u8], len: usize, nodes: usize, kind: u32, relation: usize) -> Used
-    requires { ⌜ (len + 3 * totalOf kind ≤ 64) × (nodes + 3 * totalOf kind ≤ 64) × (relation ≤ 64) × (length (now rows) ≡ 448) ⌝ }
+    requires { ⌜ (len + 3 * totalOf kind ≤ 64) × (nodes + 3 * totalOf kind ≤ 64) × (relation ≤ 64) × (length (now rows) ≡ 512) ⌝ }
     ensures { λ r. ⌜ Adds (rowsFrom (now (rows .entry)) len nodes) (postAll nodes (oneTotality kind relation)) (length (nodesAll (oneTotality kind relation))) (rowsFrom (now (rows .exit)) (r .len) (r .nodes)) ⌝ }
 {
     if formula::total(kind) == 0 {
@@ -516,7 +553,7 @@ fn totality_by_kind(rows: &mut [u8], len: usize, nodes: usize, kind: u32, relati
 
 // The totalities of all chosen relations.
 fn totalities(rows: &mut [u8], len: usize, nodes: usize, sig: Signature) -> Used
-    requires { ⌜ (sig .rels + sig .chosen ≤ 12) × (length (now rows) ≡ 448) ⌝ }
+    requires { ⌜ (sig .rels + sig .chosen ≤ 12) × (length (now rows) ≡ 512) ⌝ }
     requires { ⌜ ((q : List ℕ) → (len + 3 * totals (chosenOf q sig) ≤ 64) × (nodes + 3 * totals (chosenOf q sig) ≤ 64)) ⌝ }
     ensures { λ r. ⌜ ((q : List ℕ) → Adds (rowsFrom (now (rows .entry)) len nodes) (postAll nodes (totalitiesOf (5 + sig .rels) (chosenOf q sig))) (length (nodesAll (totalitiesOf (5 + sig .rels) (chosenOf q sig)))) (rowsFrom (now (rows .exit)) (r .len) (r .nodes))) ⌝ }
 {
@@ -534,7 +571,7 @@ fn totalities(rows: &mut [u8], len: usize, nodes: usize, sig: Signature) -> Used
 // The rows of the tree of an accepted rule, totalities and the joining `and` included.
 fn rows_of(text: &[u8], at: usize, end: usize, sig: Signature, rows: &mut [u8]) -> Used
     requires { ⌜ Accepted (now text) at end sig ⌝ }
-    requires { ⌜ length (now rows) ≡ 448 ⌝ }
+    requires { ⌜ length (now rows) ≡ 512 ⌝ }
     ensures { λ r. ⌜ RowsOf (now (text .entry)) at end sig (rowsFrom (now (rows .exit)) (r .len) (r .nodes)) ⌝ }
 {
     let sc = Scope {

@@ -19,7 +19,7 @@ use Rattle.definitions.specs.Outcome.{written}
 use Rattle.records.specs.Lines.{linesAt, lineBy, readAt}
 use Rattle.records.specs.Entries.{entryIn, Reads}
 use Rattle.records.specs.declared.Entry.{Entry}
-use Rattle.records.specs.declared.Entry.the-variants.{Wrong, Rel, Choose, Rule, Size, Label, Fact, Pick, Step}
+use Rattle.records.specs.declared.Entry.the-variants.{Wrong, Rel, Typed, Choose, Rule, Size, Label, Member, Fact, Pick, Step}
 use Rattle.records.proofs.Runs.{read-long, read-start, read-stop, read-went, read-halted}
 use Rattle.laws.specs.Told.{steps-told}
 use Rattle.sheets.specs.Reading.{answered, verdictOf, RoomFor, Writes, left}
@@ -48,10 +48,12 @@ module _ (s : List ℕ) (at next : ℕ) (ks : List ℕ) where
   number-line (Step j) k p = rw (number-is j k p)
   number-line Wrong k p = let z : _≡_ {A = ℕ} 0 1 = cc in absurd (omega arith)
   number-line (Rel a e j) k p = let z : _≡_ {A = ℕ} 0 1 = cc in absurd (omega arith)
+  number-line (Typed a e) k p = let z : _≡_ {A = ℕ} 0 1 = cc in absurd (omega arith)
   number-line (Choose a e j d) k p = let z : _≡_ {A = ℕ} 0 1 = cc in absurd (omega arith)
   number-line (Rule a e) k p = let z : _≡_ {A = ℕ} 0 1 = cc in absurd (omega arith)
   number-line (Size n) k p = let z : _≡_ {A = ℕ} 0 1 = cc in absurd (omega arith)
   number-line (Label j a t e) k p = let z : _≡_ {A = ℕ} 0 1 = cc in absurd (omega arith)
+  number-line (Member a t j e) k p = let z : _≡_ {A = ℕ} 0 1 = cc in absurd (omega arith)
   number-line (Fact a t e q) k p = let z : _≡_ {A = ℕ} 0 1 = cc in absurd (omega arith)
   number-line (Pick a t e q) k p = let z : _≡_ {A = ℕ} 0 1 = cc in absurd (omega arith)
 
@@ -60,10 +62,12 @@ module _ (s : List ℕ) (at next : ℕ) (ks : List ℕ) where
   fault-line (Step j) k p = let z : _≡_ {A = ℕ} 0 1 = cc in absurd (omega arith)
   fault-line Wrong k p = rw (← fault-is 2 k p)
   fault-line (Rel a e j) k p = rw (← fault-is 3 k p)
+  fault-line (Typed a e) k p = rw (← fault-is 3 k p)
   fault-line (Choose a e j d) k p = rw (← fault-is 3 k p)
   fault-line (Rule a e) k p = rw (← fault-is 3 k p)
   fault-line (Size n) k p = rw (← fault-is 3 k p)
   fault-line (Label j a t e) k p = rw (← fault-is 3 k p)
+  fault-line (Member a t j e) k p = rw (← fault-is 3 k p)
   fault-line (Fact a t e q) k p = rw (← fault-is 3 k p)
   fault-line (Pick a t e q) k p = rw (← fault-is 3 k p)
 
@@ -113,10 +117,12 @@ added : (f : List ℕ → Result (List ℕ)) (ks all : List ℕ) (at : ℕ) (e :
 unfolding D.addToSteps _>>=_
 added f ks all at (D.step k) ih q = omega (arith, ih (ks ++ (k ∷ [])) q, length-snoc ks k)
 added f ks all at (D.rel a b) ih q = absurd (clash 3 at all q)
+added f ks all at (D.type a) ih q = absurd (clash 3 at all q)
 added f ks all at (D.choose a b c) ih q = absurd (clash 3 at all q)
 added f ks all at (D.rule a) ih q = absurd (clash 3 at all q)
 added f ks all at (D.size a) ih q = absurd (clash 3 at all q)
 added f ks all at (D.label a b) ih q = absurd (clash 3 at all q)
+added f ks all at (D.member a b) ih q = absurd (clash 3 at all q)
 added f ks all at (D.fact a b) ih q = absurd (clash 3 at all q)
 added f ks all at (D.pick a b) ih q = absurd (clash 3 at all q)
 

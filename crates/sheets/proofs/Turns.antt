@@ -1,7 +1,7 @@
 -- One line of a site and of picks.
 use Prim.Native.Nat.{ℕ, zero, suc, _+_, _*_, _^_, _≤_, _<_}
-use mathlib.Core.Path.{_≡_, refl, sym, ap, subst, _∙_}
-use mathlib.Core.Bool.{Bool, true, false, not}
+use mathlib.Core.Path.{_≡_, refl, sym, ap, ap₂, subst, _∙_}
+use mathlib.Core.Bool.{Bool, true, false, not, _||_}
 use mathlib.Core.Option.{some}
 use mathlib.Core.List.{List, [], _∷_, _++_}
 use native.Mathlib.Omega.{arith}
@@ -16,6 +16,7 @@ use Rattle.definitions.specs.Text.{isBetween, isRelationName}
 use Rattle.definitions.specs.Lists.{if_then_else_, any, isEmpty}
 use Rattle.definitions.specs.Refusal.{Result, refused, accepted, _>>=_, refuseIf, given}
 use Rattle.definitions.specs.Relations.{Tuple, builtIn}
+use Rattle.definitions.specs.Formula.{typeNumber}
 use Rattle.definitions.specs.Sheets as D
 use Rattle.laws.specs.Results.{refused-accepted, accepted-eq, bind-parts, not-refused}
 use Rattle.laws.specs.Lists.{none-some, some-eq}
@@ -23,14 +24,16 @@ use Rattle.bits.specs.Table.{bit}
 use Rattle.records.specs.Entries.{Fielded, entryIn, elementBy, listOf, InText}
 use Rattle.records.specs.declared.Places.{Places}
 use Rattle.records.specs.declared.Entry.{Entry}
-use Rattle.records.specs.declared.Entry.the-variants.{Wrong, Rel, Choose, Rule, Size, Label, Fact, Pick, Step}
+use Rattle.records.specs.declared.Entry.the-variants.{Wrong, Rel, Typed, Choose, Rule, Size, Label, Member, Fact, Pick, Step}
 use Rattle.names.specs.declared.Signature.{Signature}
-use Rattle.names.specs.Signatures.{relationsFrom, relsOf, chosenOf, Sound, withArrays}
+use Rattle.names.specs.Signatures.{relationsFrom, relsOf, typesIn, typesOf, chosenOf, Sound, withArrays}
 use Rattle.definitions.specs.Atoms.{wordsFor}
 use Rattle.tuples.proofs.Words.{words-most}
 use Rattle.tuples.specs.Labels.{LabelsAre, LabelAdds, LabelAdded}
+use Rattle.tuples.specs.Members.{MembersAre, memberDraft, MemberAdds, MemberAdded}
 use Rattle.tuples.specs.Marks.{Arrays, Roomy, bitOf, marks, AllValid, Adds, Added}
-use Rattle.sheets.specs.Reading.{sizedOf, draft, Facts, SoFar, sizeTurn, SiteTurns, SiteTurned, Picks, PickTurns, PickTurned}
+use Rattle.sheets.specs.Reading.{FewArities, sizedOf, draft, Facts, SoFar, sizeTurn, labelOut, memberOut, afterOf, SiteTurns, SiteTurned, Picks, PickTurns, PickTurned}
+use Rattle.sheets.specs.declared.Stage.{Stage}
 use Rattle.sheets.specs.declared.Turn.{Turn}
 use Rattle.sheets.specs.declared.Turn.the-variants.{Next, Fault}
 
@@ -41,15 +44,12 @@ unfolding Adds
 adds-fault q g lo m n ls name es ts at new zero h v = absurd (h refl)
 adds-fault q g lo m n ls name es ts at new (suc k) h v = v
 
--- the arrays of a question's signature
-pub sound-arrays : (q : List ℕ) (g : Signature) (lo m : ℕ) → Sound q g → lo + m ≤ g .rels + g .chosen → length (g .from) ≡ 12 → length (g .to) ≡ 12 → length (g .arity) ≡ 12 → Arrays lo m (g .from) (g .to) (g .arity)
-sound-arrays q g lo m s h f t a = record {
-  few = omega (arith, s .rels-le, s .chosen-le);
-  length-from = omega arith;
-  length-to = omega arith;
-  length-arity = omega arith;
-  arities = λ j l. s .arities j (omega arith) .1;
-}
+-- the arities of a question's signature, and its arrays
+pub sound-few : (q : List ℕ) (g : Signature) (lo m : ℕ) → Sound q g → lo + m ≤ g .rels + g .chosen → FewArities lo m (g .arity)
+sound-few q g lo m s h = (omega (arith, s .rels-le, s .chosen-le), λ j l. s .arities j (omega arith) .1)
+
+pub arrays-of : (lo m : ℕ) (from to arity : List ℕ) → FewArities lo m arity → length from ≡ 20 → length to ≡ 20 → length arity ≡ 12 → Arrays lo m from to arity
+arrays-of lo m from to arity h f t a = record { few = h .0; length-from = omega arith; length-to = omega arith; length-arity = omega arith; arities = h .1 }
 
 -- a table that has room for 8 relations of three places has room for a question's `rel` relations, and for 4 such for its `choose`
 room-of : (q : List ℕ) (g : Signature) → Sound q g → (lo m most k room : ℕ) → lo + m ≤ g .rels + g .chosen → m ≤ most → most * wordsFor (k ^ 3) ≤ room → Roomy (g .from) (g .to) (g .arity) lo m k room
@@ -66,23 +66,51 @@ picks-room q g s k room h = room-of q g s (g .rels) (g .chosen) 4 k room (omega 
 -- ---- a line of a site
 
 -- its size, by the tests
-module _ (k most n : ℕ) (begun : Bool) where
-  pub turn-again : (n ≡ 0 → ⊥) → Fault 3 ≡ sizeTurn k most n begun
+module _ (k most : ℕ) (st : Stage) where
+  pub turn-again : (st .n ≡ 0 → ⊥) → Fault 3 ≡ sizeTurn k most st
   unfolding sizeTurn
-  turn-again h = rw (ne-eqb n 0 h)
+  turn-again h = rw (ne-eqb (st .n) 0 h)
 
-  module _ (h : n ≡ 0) where
-    pub turn-low : k < 1 → Fault 9 ≡ sizeTurn k most n begun
+  module _ (h : st .n ≡ 0) where
+    pub turn-low : k < 1 → Fault 9 ≡ sizeTurn k most st
     unfolding sizeTurn isBetween
-    turn-low l = rw (eq-eqb n 0 h, lt-leb 1 k l)
+    turn-low l = rw (eq-eqb (st .n) 0 h, lt-leb 1 k l)
 
-    pub turn-high : 1 ≤ k → most < k → Fault 9 ≡ sizeTurn k most n begun
+    pub turn-high : 1 ≤ k → most < k → Fault 9 ≡ sizeTurn k most st
     unfolding sizeTurn isBetween
-    turn-high l m = rw (eq-eqb n 0 h, le-leb 1 k l, lt-leb k most m)
+    turn-high l m = rw (eq-eqb (st .n) 0 h, le-leb 1 k l, lt-leb k most m)
 
-    pub turn-sized : 1 ≤ k → k ≤ most → Next k begun ≡ sizeTurn k most n begun
+    pub turn-sized : 1 ≤ k → k ≤ most → Next (record { n = k; joined = st .joined; begun = st .begun }) ≡ sizeTurn k most st
     unfolding sizeTurn isBetween
-    turn-sized l m = rw (eq-eqb n 0 h, le-leb 1 k l, le-leb k most m)
+    turn-sized l m = rw (eq-eqb (st .n) 0 h, le-leb 1 k l, le-leb k most m)
+
+-- whether a line may stand there, by the tests
+module _ (st : Stage) where
+  pub member-begun : st .begun ≡ true → true ≡ memberOut st
+  unfolding memberOut
+  member-begun e = rw e
+
+  pub member-sized : (b : Bool) → st .begun ≡ false → b ≡ eqb (st .n) 0 → b ≡ memberOut st
+  unfolding memberOut
+  member-sized b e z = rw e z
+
+  pub label-joined : st .joined ≡ true → true ≡ labelOut st
+  unfolding labelOut
+  label-joined e = rw e
+
+  pub label-unjoined : (b : Bool) → st .joined ≡ false → b ≡ memberOut st → b ≡ labelOut st
+  unfolding labelOut memberOut
+  label-unjoined b e z = rw e z
+
+pub after-none : (c : ℕ) (st : Stage) → c ≡ 0 → Next st ≡ afterOf c st
+unfolding afterOf
+after-none zero st e = refl
+after-none (suc c) st e = absurd (omega arith)
+
+pub after-some : (c : ℕ) (st : Stage) → (c ≡ 0 → ⊥) → Fault c ≡ afterOf c st
+unfolding afterOf
+after-some zero st h = absurd (h refl)
+after-some (suc c) st h = refl
 
 -- labels of n elements are labels of more
 labels-more : (s words : List ℕ) (n m : ℕ) (ls : List D.Label) → LabelsAre s words n ls → n ≤ m → LabelsAre s words m ls
@@ -93,26 +121,53 @@ labels-more s words n m ls K h = record {
   fit = record { small = λ l i. omega (arith, K .fit .small l i, h); formed = K .fit .formed; one = K .fit .one };
 }
 
+-- so are members
+members-more : (joins : List ℕ) (types n m : ℕ) (ms : List D.Member) → MembersAre joins types n ms → n ≤ m → MembersAre joins types m ms
+members-more joins types n m ms K h = record { room = K .room; says = K .says; fit = record { typed = K .fit .typed; small = λ x i. omega (arith, K .fit .small x i, h) } }
+
 sized-is : (m : ℕ) → 1 ≤ m → sizedOf m ≡ some m
 unfolding sizedOf
 sized-is zero l = absurd (omega arith)
 sized-is (suc m) l = refl
 
-begun-snoc : (facts : List Tuple) (t : Tuple) → true ≡ not (isEmpty (facts ++ (t ∷ [])))
+some-snoc : {A : Type 0} (xs : List A) (x : A) → true ≡ not (isEmpty (xs ++ (x ∷ [])))
 unfolding isEmpty
-begun-snoc [] t = refl
-begun-snoc (f ∷ facts) t = refl
+some-snoc [] x = refl
+some-snoc (y ∷ xs) x = refl
 
-not-begun : (facts : List Tuple) (b : Bool) → b ≡ false → b ≡ not (isEmpty facts) → facts ≡ []
+none-yet : {A : Type 0} (xs : List A) (b : Bool) → b ≡ false → b ≡ not (isEmpty xs) → xs ≡ []
 unfolding isEmpty
-not-begun [] b h e = refl
-not-begun (f ∷ facts) b h e = let z : _≡_ {A = ℕ} 0 1 = cc in absurd (omega arith)
+none-yet [] b h e = refl
+none-yet (x ∷ xs) b h e = let z : _≡_ {A = ℕ} 0 1 = cc in absurd (omega arith)
+
+-- the types of lent arrays
+pub types-are : (q F T A : List ℕ) (g : Signature) (k : ℕ) → k ≡ g .types → typesIn q F T k ≡ typesOf q (withArrays g F T A)
+unfolding typesOf
+types-are q F T A g k e = ap (typesIn q F T) e
+
+-- an answer by its number
+by-number : (c : ℕ) (st : Stage) (P : Turn → Type 0) → (c ≡ 0 → P (Next st)) → ((c ≡ 0 → ⊥) → P (Fault c)) → P (afterOf c st)
+unfolding afterOf
+by-number zero st P f g = f refl
+by-number (suc c) st P f g = g (λ e. absurd (omega arith))
+
+or-both : (a b : Bool) → (a || b) ≡ false → (a ≡ false) × (b ≡ false)
+or-both true b e = let z : _≡_ {A = ℕ} 0 1 = cc in absurd (omega arith)
+or-both false b e = (refl, e)
+
+or-assoc : (a b c : Bool) → ((a || b) || c) ≡ (a || (b || c))
+or-assoc true b c = refl
+or-assoc false b c = refl
 
 -- what is known of a line's entry
 module _ (s : List ℕ) (at : ℕ) (x : Entry) (w : InText s at x) where
   pub in-label : (k a t e : ℕ) → x ≡ Label k a t e → (t < e) × (e ≤ length s) × (isRelationName (slice (t + 1) e s) ≡ true)
   unfolding InText
   in-label k a t e p = subst (InText s at) p w
+
+  pub in-member : (a t k e : ℕ) → x ≡ Member a t k e → (a ≤ t) × (t < e) × (e ≤ length s)
+  unfolding InText
+  in-member a t k e p = subst (InText s at) p w
 
   pub in-fact : (a t e : ℕ) (y : Places) → x ≡ Fact a t e y → Fielded s (t + 1) e y
   unfolding InText
@@ -122,57 +177,68 @@ module _ (s : List ℕ) (at : ℕ) (x : Entry) (w : InText s at x) where
   unfolding InText
   in-pick a t e y p = subst (InText s at) p w
 
-module _ (L : CaseLimits) (q : List ℕ) (g : Signature) (s : List ℕ) (n : ℕ) (begun : Bool) (x : Entry) (words words′ old new : List ℕ) where
-  pub site-wrong : x ≡ Wrong → SiteTurned L q g s n begun x words words′ old new (Fault 2)
+module _ (L : CaseLimits) (q : List ℕ) (g : Signature) (s : List ℕ) (st : Stage) (x : Entry) (words words′ joins joins′ old new : List ℕ) where
+  abbrev Turned : Turn → Type 0
+  Turned r = SiteTurned L q g s st x words words′ joins joins′ old new r
+
+  abbrev added : ℕ → List D.Label → List D.Member → List Tuple → Result D.SiteDraft
+  added at labels members facts = given (entryIn s x) 2 at >>= D.addToSite L (relsOf q g) (typesOf q g) (draft (st .n) labels members facts) at
+
+  pub site-wrong : x ≡ Wrong → Turned (Fault 2)
   unfolding SiteTurned SiteTurns given entryIn _>>=_
-  site-wrong p at labels facts w = rw p
+  site-wrong p at labels members facts w = rw p
 
-  pub site-rel : (a e k : ℕ) → x ≡ Rel a e k → SiteTurned L q g s n begun x words words′ old new (Fault 3)
+  pub site-rel : (a e k : ℕ) → x ≡ Rel a e k → Turned (Fault 3)
   unfolding SiteTurned SiteTurns given entryIn _>>=_ D.addToSite
-  site-rel a e k p at labels facts w = rw p
+  site-rel a e k p at labels members facts w = rw p
 
-  pub site-choose : (a e k d : ℕ) → x ≡ Choose a e k d → SiteTurned L q g s n begun x words words′ old new (Fault 3)
+  pub site-type : (a e : ℕ) → x ≡ Typed a e → Turned (Fault 3)
   unfolding SiteTurned SiteTurns given entryIn _>>=_ D.addToSite
-  site-choose a e k d p at labels facts w = rw p
+  site-type a e p at labels members facts w = rw p
 
-  pub site-rule : (a e : ℕ) → x ≡ Rule a e → SiteTurned L q g s n begun x words words′ old new (Fault 3)
+  pub site-choose : (a e k d : ℕ) → x ≡ Choose a e k d → Turned (Fault 3)
   unfolding SiteTurned SiteTurns given entryIn _>>=_ D.addToSite
-  site-rule a e p at labels facts w = rw p
+  site-choose a e k d p at labels members facts w = rw p
 
-  pub site-pick : (a t e : ℕ) (y : Places) → x ≡ Pick a t e y → SiteTurned L q g s n begun x words words′ old new (Fault 3)
+  pub site-rule : (a e : ℕ) → x ≡ Rule a e → Turned (Fault 3)
   unfolding SiteTurned SiteTurns given entryIn _>>=_ D.addToSite
-  site-pick a t e y p at labels facts w = rw p
+  site-rule a e p at labels members facts w = rw p
 
-  pub site-step : (k : ℕ) → x ≡ Step k → SiteTurned L q g s n begun x words words′ old new (Fault 3)
+  pub site-pick : (a t e : ℕ) (y : Places) → x ≡ Pick a t e y → Turned (Fault 3)
   unfolding SiteTurned SiteTurns given entryIn _>>=_ D.addToSite
-  site-step k p at labels facts w = rw p
+  site-pick a t e y p at labels members facts w = rw p
+
+  pub site-step : (k : ℕ) → x ≡ Step k → Turned (Fault 3)
+  unfolding SiteTurned SiteTurns given entryIn _>>=_ D.addToSite
+  site-step k p at labels members facts w = rw p
 
   -- its size
   module _ (k : ℕ) (p : x ≡ Size k) where
-    size-is : (at : ℕ) (labels : List D.Label) (facts : List Tuple) → (given (entryIn s x) 2 at >>= D.addToSite L (relsOf q g) (draft n labels facts) at) ≡ D.addSize L (draft n labels facts) at k (sizedOf n)
+    size-is : (at : ℕ) (labels : List D.Label) (members : List D.Member) (facts : List Tuple) → added at labels members facts ≡ D.addSize L (draft (st .n) labels members facts) at k (sizedOf (st .n))
     unfolding given entryIn _>>=_ D.addToSite draft
-    size-is at labels facts = rw p
+    size-is at labels members facts = rw p
 
     again : (m : ℕ) (d : D.SiteDraft) (at : ℕ) → (m ≡ 0 → ⊥) → D.addSize L d at k (sizedOf m) ≡ refused 3 at
     unfolding D.addSize sizedOf
     again zero d at h = absurd (h refl)
     again (suc m) d at h = refl
 
-    first : (m : ℕ) (d : D.SiteDraft) (at : ℕ) → m ≡ 0 → D.addSize L d at k (sizedOf m) ≡ (refuseIf (not (isBetween 1 (L .elements) k)) 9 at >>= λ _. accepted (record { sized = some k; labels = d .labels; facts = d .facts }))
+    first : (m : ℕ) (d : D.SiteDraft) (at : ℕ) → m ≡ 0
+        → D.addSize L d at k (sizedOf m) ≡ (refuseIf (not (isBetween 1 (L .elements) k)) 9 at >>= λ _. accepted (record { sized = some k; labels = d .labels; members = d .members; facts = d .facts }))
     unfolding D.addSize sizedOf
     first zero d at h = refl
     first (suc m) d at h = absurd (omega arith)
 
-    size-again : (n ≡ 0 → ⊥) → SiteTurned L q g s n begun x words words′ old new (Fault 3)
+    size-again : (st .n ≡ 0 → ⊥) → Turned (Fault 3)
     unfolding SiteTurned SiteTurns
-    size-again h at labels facts w = size-is at labels facts ∙ again n (draft n labels facts) at h
+    size-again h at labels members facts w = size-is at labels members facts ∙ again (st .n) (draft (st .n) labels members facts) at h
 
-    module _ (h : n ≡ 0) where
-      size-out : isBetween 1 (L .elements) k ≡ false → SiteTurned L q g s n begun x words words′ old new (Fault 9)
+    module _ (h : st .n ≡ 0) where
+      size-out : isBetween 1 (L .elements) k ≡ false → Turned (Fault 9)
       unfolding SiteTurned SiteTurns refuseIf _>>=_
-      size-out l at labels facts w = size-is at labels facts ∙ first n (draft n labels facts) at h ∙ rw l
+      size-out l at labels members facts w = size-is at labels members facts ∙ first (st .n) (draft (st .n) labels members facts) at h ∙ rw l
 
-      marks-none : (facts : List Tuple) → facts ≡ [] → marks (bitOf g n 0) facts ≡ marks (bitOf g k 0) facts
+      marks-none : (facts : List Tuple) → facts ≡ [] → marks (bitOf g (st .n) 0) facts ≡ marks (bitOf g k 0) facts
       unfolding marks any
       marks-none facts z = rw z
 
@@ -184,119 +250,227 @@ module _ (L : CaseLimits) (q : List ℕ) (g : Signature) (s : List ℕ) (n : ℕ
       unfolding AllValid
       none-valid facts z = rw z tt
 
-      size-good : isBetween 1 (L .elements) k ≡ true → words′ ≡ words → new ≡ old → SiteTurned L q g s n begun x words words′ old new (Next k begun)
+      size-good : isBetween 1 (L .elements) k ≡ true → words′ ≡ words → joins′ ≡ joins → new ≡ old → Turned (Next (record { n = k; joined = st .joined; begun = st .begun }))
       unfolding SiteTurned SiteTurns refuseIf _>>=_ draft SoFar Facts
-      size-good b i o at labels facts w =
+      size-good b i j o at labels members facts w =
           let (l, m) = in-limit b in (
             labels,
+            members,
             facts,
-            size-is at labels facts ∙ first n (draft n labels facts) at h ∙ rw (b, sized-is k l),
+            size-is at labels members facts ∙ first (st .n) (draft (st .n) labels members facts) at h ∙ rw (b, sized-is k l),
             (
               (m, ap bit o ∙ w .0 .1 ∙ marks-none facts (w .0 .3 h), none-valid facts (w .0 .3 h), λ z. absurd (omega arith)),
-              labels-more s words′ n k labels (subst (λ (v : List ℕ). LabelsAre s v n labels) (sym i) (w .1)) (omega arith),
+              labels-more s words′ (st .n) k labels (subst (λ (v : List ℕ). LabelsAre s v (st .n) labels) (sym i) (w .1)) (omega arith),
               w .2,
+              members-more joins′ (g .types) (st .n) k members (subst (λ (v : List ℕ). MembersAre v (g .types) (st .n) members) (sym j) (w .3)) (omega arith),
+              w .4,
             ),
           )
 
-    pub size-turned : (most : ℕ) → L .elements ≡ most → (t : Turn) → t ≡ sizeTurn k most n begun → words′ ≡ words → new ≡ old → SiteTurned L q g s n begun x words words′ old new t
+    pub size-turned : (most : ℕ) → L .elements ≡ most → (t : Turn) → t ≡ sizeTurn k most st → words′ ≡ words → joins′ ≡ joins → new ≡ old → Turned t
     unfolding sizeTurn
-    size-turned most e t r i o = subst (λ (t : Turn). SiteTurned L q g s n begun x words words′ old new t) (sym r) (go (eqb n 0) refl (isBetween 1 most k) (ap (λ (y : ℕ). isBetween 1 y k) e))
+    size-turned most e t r i j o = subst Turned (sym r) (go (eqb (st .n) 0) refl (isBetween 1 most k) (ap (λ (y : ℕ). isBetween 1 y k) e))
       where
-        go : (a : Bool) → eqb n 0 ≡ a → (b : Bool) → isBetween 1 (L .elements) k ≡ b → SiteTurned L q g s n begun x words words′ old new (if not a then Fault 3 else if b then Next k begun else Fault 9)
-        go false z b y = size-again (eqb-false n 0 z)
-        go true z true y = size-good (eqb-true n 0 z) y i o
-        go true z false y = size-out (eqb-true n 0 z) y
+        go : (a : Bool) → eqb (st .n) 0 ≡ a → (b : Bool) → isBetween 1 (L .elements) k ≡ b → Turned (if not a then Fault 3 else if b then Next (record { n = k; joined = st .joined; begun = st .begun }) else Fault 9)
+        go false z b y = size-again (eqb-false (st .n) 0 z)
+        go true z true y = size-good (eqb-true (st .n) 0 z) y i j o
+        go true z false y = size-out (eqb-true (st .n) 0 z) y
+
+  -- a draft with a size
+  drafted : (m : ℕ) (labels : List D.Label) (members : List D.Member) (facts : List Tuple) → (m ≡ 0 → ⊥) → draft m labels members facts ≡ record { sized = some m; labels = labels; members = members; facts = facts }
+  unfolding draft sizedOf
+  drafted zero labels members facts h = absurd (h refl)
+  drafted (suc m) labels members facts h = refl
+
+  -- what a line in its place is told by
+  module _ (o : memberOut st ≡ false) where
+    some-size-yet : st .n ≡ 0 → ⊥
+    unfolding memberOut
+    some-size-yet = eqb-false (st .n) 0 (or-both (st .begun) (eqb (st .n) 0) o .1)
+
+    no-fact-yet : (facts : List Tuple) → st .begun ≡ not (isEmpty facts) → facts ≡ []
+    unfolding memberOut
+    no-fact-yet facts e = none-yet facts (st .begun) (or-both (st .begun) (eqb (st .n) 0) o .0) e
 
   -- a label
   module _ (k a t e : ℕ) (p : x ≡ Label k a t e) where
-    label-is : (at : ℕ) (labels : List D.Label) (facts : List Tuple) → (given (entryIn s x) 2 at >>= D.addToSite L (relsOf q g) (draft n labels facts) at) ≡ D.addLabel (draft n labels facts) at (elementBy (slice a t s) k) (slice (t + 1) e s)
+    label-is : (at : ℕ) (labels : List D.Label) (members : List D.Member) (facts : List Tuple) → added at labels members facts ≡ D.addLabel (draft (st .n) labels members facts) at (elementBy (slice a t s) k) (slice (t + 1) e s)
     unfolding given entryIn _>>=_ D.addToSite
-    label-is at labels facts = rw p
+    label-is at labels members facts = rw p
 
-    unsized : (m at : ℕ) (labels : List D.Label) (facts : List Tuple) → m ≡ 0 → D.addLabel (draft m labels facts) at (elementBy (slice a t s) k) (slice (t + 1) e s) ≡ refused 3 at
-    unfolding D.addLabel draft sizedOf given _>>=_
-    unsized zero at labels facts h = refl
-    unsized (suc m) at labels facts h = absurd (omega arith)
+    label-3 : (m : ℕ) (b : Bool) (at : ℕ) (labels : List D.Label) (members : List D.Member) (facts : List Tuple) → (not (isEmpty members) || not (isEmpty facts)) ≡ b → (b || eqb m 0) ≡ true
+        → D.addLabel (draft m labels members facts) at (elementBy (slice a t s) k) (slice (t + 1) e s) ≡ refused 3 at
+    unfolding D.addLabel draft sizedOf given refuseIf _>>=_
+    label-3 zero b at labels members facts e h = refl
+    label-3 (suc m) true at labels members facts e h = rw e
+    label-3 (suc m) false at labels members facts e h = absurd (omega (arith, eqb-true (suc m) 0 h))
 
-    pub label-early : n ≡ 0 → SiteTurned L q g s n begun x words words′ old new (Fault 3)
-    unfolding SiteTurned SiteTurns
-    label-early h at labels facts w = label-is at labels facts ∙ unsized n at labels facts h
+    pub label-out : labelOut st ≡ true → Turned (Fault 3)
+    unfolding SiteTurned SiteTurns SoFar labelOut memberOut
+    label-out h at labels members facts w = label-is at labels members facts ∙ label-3 (st .n) (st .joined || st .begun) at labels members facts (ap₂ _||_ (sym (w .4)) (sym (w .2))) (or-assoc (st .joined) (st .begun) (eqb (st .n) 0) ∙ h)
 
-    module _ (h : n ≡ 0 → ⊥) where
-      after : (m at : ℕ) (labels : List D.Label) (facts : List Tuple) → (m ≡ 0 → ⊥) → true ≡ not (isEmpty facts) → D.addLabel (draft m labels facts) at (elementBy (slice a t s) k) (slice (t + 1) e s) ≡ refused 3 at
-      unfolding D.addLabel draft sizedOf given refuseIf _>>=_
-      after zero at labels facts h b = absurd (h refl)
-      after (suc m) at labels facts h b = rw (sym b)
+    module _ (o : labelOut st ≡ false) (c : ℕ) (v : LabelAdded s (st .n) (elementBy (slice a t s) k) (slice (t + 1) e s) words words′ c) where
+      in-place : memberOut st ≡ false
+      unfolding labelOut
+      in-place = or-both (st .joined) (memberOut st) o .1
 
-      pub label-late : begun ≡ true → SiteTurned L q g s n begun x words words′ old new (Fault 3)
-      unfolding SiteTurned SiteTurns SoFar
-      label-late b at labels facts w = label-is at labels facts ∙ after n at labels facts h (sym b ∙ w .2)
+      no-member-yet : (members : List D.Member) → st .joined ≡ not (isEmpty members) → members ≡ []
+      unfolding labelOut
+      no-member-yet members e = none-yet members (st .joined) (or-both (st .joined) (memberOut st) o .0) e
 
-      module _ (b : begun ≡ false) (c : ℕ) (v : LabelAdded s n (elementBy (slice a t s) k) (slice (t + 1) e s) words words′ c) where
-        -- a draft with a size and without facts
-        drafted : (m : ℕ) (labels : List D.Label) (facts : List Tuple) → (m ≡ 0 → ⊥) → facts ≡ [] → draft m labels facts ≡ record { sized = some m; labels = labels; facts = [] }
-        unfolding draft sizedOf
-        drafted zero labels facts h z = absurd (h refl)
-        drafted (suc m) labels facts h z = rw z
+      bare : (labels : List D.Label) (members : List D.Member) (facts : List Tuple) → members ≡ [] → facts ≡ [] → draft (st .n) labels members facts ≡ record { sized = some (st .n); labels = labels; members = []; facts = [] }
+      bare labels members facts y z = drafted (st .n) labels members facts (some-size-yet in-place) ∙ rw (y, z)
 
-        said : (at : ℕ) (labels : List D.Label) (facts : List Tuple) → facts ≡ [] → (given (entryIn s x) 2 at >>= D.addToSite L (relsOf q g) (draft n labels facts) at) ≡ D.addLabel (record { sized = some n; labels = labels; facts = [] }) at (elementBy (slice a t s) k) (slice (t + 1) e s)
-        said at labels facts z = label-is at labels facts ∙ ap (λ (d : D.SiteDraft). D.addLabel d at (elementBy (slice a t s) k) (slice (t + 1) e s)) (drafted n labels facts h z)
+      said : (at : ℕ) (labels : List D.Label) (members : List D.Member) (facts : List Tuple) → members ≡ [] → facts ≡ []
+          → added at labels members facts ≡ D.addLabel (record { sized = some (st .n); labels = labels; members = []; facts = [] }) at (elementBy (slice a t s) k) (slice (t + 1) e s)
+      said at labels members facts y z = label-is at labels members facts ∙ ap (λ (d : D.SiteDraft). D.addLabel d at (elementBy (slice a t s) k) (slice (t + 1) e s)) (bare labels members facts y z)
 
-        pub label-added : c ≡ 0 → new ≡ old → SiteTurned L q g s n begun x words words′ old new (Next n begun)
-        unfolding SiteTurned SiteTurns SoFar LabelAdded LabelAdds
-        label-added z o at labels facts w =
-            let none = not-begun facts begun b (w .2) in
-            let u = subst (λ (j : ℕ). LabelAdds s n (elementBy (slice a t s) k) (slice (t + 1) e s) labels at words′ j) z (v labels at (w .1)) in (
-              labels ++ (u .0 ∷ []),
-              facts,
-              said at labels facts none ∙ u .1 ∙ ap accepted (sym (drafted n (labels ++ (u .0 ∷ [])) facts h none)),
-              (subst (λ (u : List ℕ). Facts L g n facts (bit u)) (sym o) (w .0), u .2, w .2),
-            )
+      label-added : c ≡ 0 → joins′ ≡ joins → new ≡ old → Turned (Next st)
+      unfolding SiteTurned SiteTurns SoFar LabelAdded LabelAdds
+      label-added z j i at labels members facts w =
+          let y = no-member-yet members (w .4) in
+          let none = no-fact-yet in-place facts (w .2) in
+          let u = subst (λ (j : ℕ). LabelAdds s (st .n) (elementBy (slice a t s) k) (slice (t + 1) e s) labels at words′ j) z (v labels at (w .1)) in (
+            labels ++ (u .0 ∷ []),
+            members,
+            facts,
+            said at labels members facts y none ∙ u .1 ∙ ap accepted (sym (bare (labels ++ (u .0 ∷ [])) members facts y none)),
+            (subst (λ (u : List ℕ). Facts L g (st .n) facts (bit u)) (sym i) (w .0), u .2, w .2, subst (λ (u : List ℕ). MembersAre u (g .types) (st .n) members) (sym j) (w .3), w .4),
+          )
 
-        fault-by : (j at : ℕ) (labels : List D.Label) → (j ≡ 0 → ⊥) → LabelAdds s n (elementBy (slice a t s) k) (slice (t + 1) e s) labels at words′ j → D.addLabel (record { sized = some n; labels = labels; facts = [] }) at (elementBy (slice a t s) k) (slice (t + 1) e s) ≡ refused j at
-        unfolding LabelAdds
-        fault-by zero at labels h u = absurd (h refl)
-        fault-by (suc j) at labels h u = u
+      fault-by : (j at : ℕ) (labels : List D.Label) → (j ≡ 0 → ⊥) → LabelAdds s (st .n) (elementBy (slice a t s) k) (slice (t + 1) e s) labels at words′ j
+          → D.addLabel (record { sized = some (st .n); labels = labels; members = []; facts = [] }) at (elementBy (slice a t s) k) (slice (t + 1) e s) ≡ refused j at
+      unfolding LabelAdds
+      fault-by zero at labels h u = absurd (h refl)
+      fault-by (suc j) at labels h u = u
 
-        pub label-fault : (c ≡ 0 → ⊥) → SiteTurned L q g s n begun x words words′ old new (Fault c)
-        unfolding SiteTurned SiteTurns SoFar LabelAdded
-        label-fault z at labels facts w = said at labels facts (not-begun facts begun b (w .2)) ∙ fault-by c at labels z (v labels at (w .1))
+      label-fault : (c ≡ 0 → ⊥) → Turned (Fault c)
+      unfolding SiteTurned SiteTurns SoFar LabelAdded
+      label-fault z at labels members facts w = said at labels members facts (no-member-yet members (w .4)) (no-fact-yet in-place facts (w .2)) ∙ fault-by c at labels z (v labels at (w .1))
+
+      pub label-turned : joins′ ≡ joins → new ≡ old → (r : Turn) → r ≡ afterOf c st → Turned r
+      label-turned j i r e = subst Turned (sym e) (by-number c st Turned (λ z. label-added z j i) label-fault)
+
+  -- a member
+  module _ (a t k e : ℕ) (p : x ≡ Member a t k e) where
+    member-is : (at : ℕ) (labels : List D.Label) (members : List D.Member) (facts : List Tuple) → added at labels members facts ≡ D.addMember (typesOf q g) (draft (st .n) labels members facts) at (slice a t s) (elementBy (slice (t + 1) e s) k)
+    unfolding given entryIn _>>=_ D.addToSite
+    member-is at labels members facts = rw p
+
+    member-3 : (m : ℕ) (b : Bool) (at : ℕ) (labels : List D.Label) (members : List D.Member) (facts : List Tuple) → not (isEmpty facts) ≡ b → (b || eqb m 0) ≡ true
+        → D.addMember (typesOf q g) (draft m labels members facts) at (slice a t s) (elementBy (slice (t + 1) e s) k) ≡ refused 3 at
+    unfolding D.addMember draft sizedOf given refuseIf _>>=_
+    member-3 zero b at labels members facts e h = refl
+    member-3 (suc m) true at labels members facts e h = rw e
+    member-3 (suc m) false at labels members facts e h = absurd (omega (arith, eqb-true (suc m) 0 h))
+
+    pub member-out : memberOut st ≡ true → Turned (Fault 3)
+    unfolding SiteTurned SiteTurns SoFar memberOut
+    member-out h at labels members facts w = member-is at labels members facts ∙ member-3 (st .n) (st .begun) at labels members facts (sym (w .2)) h
+
+    module _ (o : memberOut st ≡ false) (c : ℕ) (types : List (List ℕ)) (r : types ≡ typesOf q g) (few : length types ≡ g .types)
+        (v : (ls : List D.Label) → LabelsAre s words (st .n) ls → MemberAdded types (st .n) ls (slice a t s) (elementBy (slice (t + 1) e s) k) joins joins′ c) where
+      ready : (labels : List D.Label) (members : List D.Member) (facts : List Tuple) → facts ≡ [] → draft (st .n) labels members facts ≡ memberDraft (st .n) labels members
+      ready labels members facts z = drafted (st .n) labels members facts (some-size-yet o) ∙ rw z
+
+      told : (at : ℕ) (labels : List D.Label) (members : List D.Member) (facts : List Tuple) → facts ≡ [] → added at labels members facts ≡ D.addMember types (memberDraft (st .n) labels members) at (slice a t s) (elementBy (slice (t + 1) e s) k)
+      told at labels members facts z =
+          member-is at labels members facts
+          ∙ ap (λ (d : D.SiteDraft). D.addMember (typesOf q g) d at (slice a t s) (elementBy (slice (t + 1) e s) k)) (ready labels members facts z)
+          ∙ ap (λ (ts : List (List ℕ)). D.addMember ts (memberDraft (st .n) labels members) at (slice a t s) (elementBy (slice (t + 1) e s) k)) (sym r)
+
+      so-many : (w : List ℕ) (ms : List D.Member) → MembersAre w (g .types) (st .n) ms → MembersAre w (length types) (st .n) ms
+      so-many w ms M = subst (λ (k : ℕ). MembersAre w k (st .n) ms) (sym few) M
+
+      joined-on : Stage
+      joined-on = record { n = st .n; joined = true; begun = st .begun }
+
+      member-added : c ≡ 0 → words′ ≡ words → new ≡ old → Turned (Next joined-on)
+      unfolding SiteTurned SiteTurns SoFar MemberAdded MemberAdds joined-on
+      member-added z i j at labels members facts w =
+          let none = no-fact-yet o facts (w .2) in
+          let u = subst (λ (j : ℕ). MemberAdds types (st .n) labels (slice a t s) (elementBy (slice (t + 1) e s) k) members at joins′ j) z (v labels (w .1) members at (so-many joins members (w .3))) in (
+            labels,
+            members ++ (u .0 ∷ []),
+            facts,
+            told at labels members facts none ∙ u .1 ∙ ap accepted (sym (ready labels (members ++ (u .0 ∷ [])) facts none)),
+            (
+              subst (λ (u : List ℕ). Facts L g (st .n) facts (bit u)) (sym j) (w .0),
+              subst (λ (u : List ℕ). LabelsAre s u (st .n) labels) (sym i) (w .1),
+              w .2,
+              subst (λ (k : ℕ). MembersAre joins′ k (st .n) (members ++ (u .0 ∷ []))) few (u .2),
+              some-snoc members (u .0),
+            ),
+          )
+
+      unjoined-by : (j at : ℕ) (labels : List D.Label) (members : List D.Member) → (j ≡ 0 → ⊥) → MemberAdds types (st .n) labels (slice a t s) (elementBy (slice (t + 1) e s) k) members at joins′ j
+          → D.addMember types (memberDraft (st .n) labels members) at (slice a t s) (elementBy (slice (t + 1) e s) k) ≡ refused j at
+      unfolding MemberAdds
+      unjoined-by zero at labels members h u = absurd (h refl)
+      unjoined-by (suc j) at labels members h u = u
+
+      member-fault : (c ≡ 0 → ⊥) → Turned (Fault c)
+      unfolding SiteTurned SiteTurns SoFar MemberAdded
+      member-fault z at labels members facts w = told at labels members facts (no-fact-yet o facts (w .2)) ∙ unjoined-by c at labels members z (v labels (w .1) members at (so-many joins members (w .3)))
+
+      pub member-turned : words′ ≡ words → new ≡ old → (r : Turn) → r ≡ afterOf c (record { n = st .n; joined = true; begun = st .begun }) → Turned r
+      unfolding joined-on
+      member-turned i j r e = subst Turned (sym e) (by-number c joined-on Turned (λ z. member-added z i j) member-fault)
 
   -- a fact
   module _ (a t e : ℕ) (y : Places) (p : x ≡ Fact a t e y) where
-    fact-is : (at : ℕ) (labels : List D.Label) (facts : List Tuple) → (given (entryIn s x) 2 at >>= D.addToSite L (relsOf q g) (draft n labels facts) at) ≡ D.addFact (relsOf q g) (draft n labels facts) at (slice a t s) (listOf s (t + 1) e y)
+    fact-is : (at : ℕ) (labels : List D.Label) (members : List D.Member) (facts : List Tuple) → added at labels members facts ≡ D.addFact (relsOf q g) (draft (st .n) labels members facts) at (slice a t s) (listOf s (t + 1) e y)
     unfolding given entryIn _>>=_ D.addToSite
-    fact-is at labels facts = rw p
+    fact-is at labels members facts = rw p
 
-    early : (m at : ℕ) (labels : List D.Label) (facts : List Tuple) → m ≡ 0 → D.addFact (relsOf q g) (draft m labels facts) at (slice a t s) (listOf s (t + 1) e y) ≡ refused 3 at
+    early : (m at : ℕ) (labels : List D.Label) (members : List D.Member) (facts : List Tuple) → m ≡ 0 → D.addFact (relsOf q g) (draft m labels members facts) at (slice a t s) (listOf s (t + 1) e y) ≡ refused 3 at
     unfolding D.addFact draft sizedOf given _>>=_
-    early zero at labels facts h = refl
-    early (suc m) at labels facts h = absurd (omega arith)
+    early zero at labels members facts h = refl
+    early (suc m) at labels members facts h = absurd (omega arith)
 
-    later : (m at : ℕ) (labels : List D.Label) (facts : List Tuple) → (m ≡ 0 → ⊥) → D.addFact (relsOf q g) (draft m labels facts) at (slice a t s) (listOf s (t + 1) e y)
-        ≡ (D.addTuple (relationsFrom q g 0 (g .rels)) 5 m labels facts at (slice a t s) (listOf s (t + 1) e y) >>= λ fs. accepted (draft m labels fs))
+    later : (m at : ℕ) (labels : List D.Label) (members : List D.Member) (facts : List Tuple) → (m ≡ 0 → ⊥) → D.addFact (relsOf q g) (draft m labels members facts) at (slice a t s) (listOf s (t + 1) e y)
+        ≡ (D.addTuple (relationsFrom q g 0 (g .rels)) 5 m labels facts at (slice a t s) (listOf s (t + 1) e y) >>= λ fs. accepted (draft m labels members fs))
     unfolding D.addFact draft sizedOf given _>>=_ relsOf D.firstRel builtIn
-    later zero at labels facts h = absurd (h refl)
-    later (suc m) at labels facts h = refl
+    later zero at labels members facts h = absurd (h refl)
+    later (suc m) at labels members facts h = refl
 
-    pub fact-early : n ≡ 0 → SiteTurned L q g s n begun x words words′ old new (Fault 3)
+    pub fact-early : st .n ≡ 0 → Turned (Fault 3)
     unfolding SiteTurned SiteTurns
-    fact-early h at labels facts w = fact-is at labels facts ∙ early n at labels facts h
+    fact-early h at labels members facts w = fact-is at labels members facts ∙ early (st .n) at labels members facts h
 
-    module _ (h : n ≡ 0 → ⊥) (c m : ℕ) (r : m ≡ g .rels) (v : (ls : List D.Label) → LabelsAre s words n ls → Added q g 0 m n ls (slice a t s) (listOf s (t + 1) e y) old new c) where
-      u : (ls : List D.Label) → LabelsAre s words n ls → Added q g 0 (g .rels) n ls (slice a t s) (listOf s (t + 1) e y) old new c
-      u ls K = subst (λ (m : ℕ). Added q g 0 m n ls (slice a t s) (listOf s (t + 1) e y) old new c) r (v ls K)
+    module _ (h : st .n ≡ 0 → ⊥) (c m : ℕ) (r : m ≡ g .rels) (v : (ls : List D.Label) → LabelsAre s words (st .n) ls → Added q g 0 m (st .n) ls (slice a t s) (listOf s (t + 1) e y) old new c) where
+      u : (ls : List D.Label) → LabelsAre s words (st .n) ls → Added q g 0 (g .rels) (st .n) ls (slice a t s) (listOf s (t + 1) e y) old new c
+      u ls K = subst (λ (m : ℕ). Added q g 0 m (st .n) ls (slice a t s) (listOf s (t + 1) e y) old new c) r (v ls K)
 
-      pub fact-added : c ≡ 0 → words′ ≡ words → SiteTurned L q g s n begun x words words′ old new (Next n true)
-      unfolding SiteTurned SiteTurns SoFar Facts Added Adds _>>=_
-      fact-added z i at labels facts w =
-          let v = subst (λ (c : ℕ). Adds q g 0 (g .rels) n labels (slice a t s) (listOf s (t + 1) e y) facts at new c) z (u labels (w .1) facts at (w .0 .2) (w .0 .1)) in
-          (labels, facts ++ (v .0 ∷ []), fact-is at labels facts ∙ later n at labels facts h ∙ rw (v .1), ((w .0 .0, v .3, v .2, λ b. absurd (h b)), subst (λ (k : List ℕ). LabelsAre s k n labels) (sym i) (w .1), begun-snoc facts (v .0)))
+      begun-on : Stage
+      begun-on = record { n = st .n; joined = st .joined; begun = true }
 
-      pub fact-fault : (c ≡ 0 → ⊥) → SiteTurned L q g s n begun x words words′ old new (Fault c)
+      fact-added : c ≡ 0 → words′ ≡ words → joins′ ≡ joins → Turned (Next begun-on)
+      unfolding SiteTurned SiteTurns SoFar Facts Added Adds _>>=_ begun-on
+      fact-added z i j at labels members facts w =
+          let v = subst (λ (c : ℕ). Adds q g 0 (g .rels) (st .n) labels (slice a t s) (listOf s (t + 1) e y) facts at new c) z (u labels (w .1) facts at (w .0 .2) (w .0 .1)) in (
+            labels,
+            members,
+            facts ++ (v .0 ∷ []),
+            fact-is at labels members facts ∙ later (st .n) at labels members facts h ∙ rw (v .1),
+            (
+              (w .0 .0, v .3, v .2, λ b. absurd (h b)),
+              subst (λ (k : List ℕ). LabelsAre s k (st .n) labels) (sym i) (w .1),
+              some-snoc facts (v .0),
+              subst (λ (k : List ℕ). MembersAre k (g .types) (st .n) members) (sym j) (w .3),
+              w .4,
+            ),
+          )
+
+      fact-fault : (c ≡ 0 → ⊥) → Turned (Fault c)
       unfolding SiteTurned SiteTurns SoFar Facts Added _>>=_
-      fact-fault z at labels facts w =
-          fact-is at labels facts ∙ later n at labels facts h ∙ rw (adds-fault q g 0 (g .rels) n labels (slice a t s) (listOf s (t + 1) e y) facts at new c z (u labels (w .1) facts at (w .0 .2) (w .0 .1)))
+      fact-fault z at labels members facts w =
+          fact-is at labels members facts ∙ later (st .n) at labels members facts h
+          ∙ rw (adds-fault q g 0 (g .rels) (st .n) labels (slice a t s) (listOf s (t + 1) e y) facts at new c z (u labels (w .1) facts at (w .0 .2) (w .0 .1)))
+
+      pub fact-turned : words′ ≡ words → joins′ ≡ joins → (r : Turn) → r ≡ afterOf c (record { n = st .n; joined = st .joined; begun = true }) → Turned r
+      unfolding begun-on
+      fact-turned i j r e = subst Turned (sym e) (by-number c begun-on Turned (λ z. fact-added z i j) fact-fault)
 
 -- limits of so many elements, whatever the others are
 abbrev pub upTo : ℕ → CaseLimits
@@ -309,64 +483,74 @@ module _ (L : CaseLimits) (q : List ℕ) (g : Signature) (s : List ℕ) where
   some-size zero k e = absurd (none-some e)
   some-size (suc m) k e = some-eq e
 
-  sized-by : (k at m : ℕ) (b : Bool) (labels ls : List D.Label) (facts fs : List Tuple) → (refuseIf b 9 at >>= λ _. accepted (record { sized = some k; labels = labels; facts = facts })) ≡ accepted (draft m ls fs) → m ≡ k
+  sized-by : (k at m : ℕ) (b : Bool) (labels ls : List D.Label) (members ms : List D.Member) (facts fs : List Tuple) → (refuseIf b 9 at >>= λ _. accepted (record { sized = some k; labels = labels; members = members; facts = facts })) ≡ accepted (draft m ls ms fs) → m ≡ k
   unfolding refuseIf draft _>>=_
-  sized-by k at m true labels ls facts fs e = absurd (refused-accepted e)
-  sized-by k at m false labels ls facts fs e = some-size m k (ap (λ (d : D.SiteDraft). d .sized) (sym (accepted-eq _ _ e)))
+  sized-by k at m true labels ls members ms facts fs e = absurd (refused-accepted e)
+  sized-by k at m false labels ls members ms facts fs e = some-size m k (ap (λ (d : D.SiteDraft). d .sized) (sym (accepted-eq _ _ e)))
 
-  size-says : (x : Entry) (m at : ℕ) (labels : List D.Label) (facts : List Tuple) → x ≡ Size m → (given (entryIn s x) 2 at >>= D.addToSite L (relsOf q g) (draft 0 labels facts) at) ≡ (refuseIf (not (isBetween 1 (L .elements) m)) 9 at >>= λ _. accepted (record { sized = some m; labels = labels; facts = facts }))
+  size-says : (x : Entry) (m at : ℕ) (labels : List D.Label) (members : List D.Member) (facts : List Tuple) → x ≡ Size m → (given (entryIn s x) 2 at >>= D.addToSite L (relsOf q g) (typesOf q g) (draft 0 labels members facts) at) ≡ (refuseIf (not (isBetween 1 (L .elements) m)) 9 at >>= λ _. accepted (record { sized = some m; labels = labels; members = members; facts = facts }))
   unfolding given entryIn D.addToSite D.addSize draft sizedOf _>>=_
-  size-says x m at labels facts p = rw p refl
+  size-says x m at labels members facts p = rw p refl
 
-  pub first-size : (x : Entry) (at m : ℕ) (labels ls : List D.Label) (facts fs : List Tuple) → (given (entryIn s x) 2 at >>= D.addToSite L (relsOf q g) (draft 0 labels facts) at) ≡ accepted (draft m ls fs) → x ≡ Size m
-  unfolding given entryIn D.addToSite D.addSize D.addLabel D.addFact draft sizedOf _>>=_
-  first-size Wrong at m labels ls facts fs e = absurd (refused-accepted e)
-  first-size (Rel a b k) at m labels ls facts fs e = absurd (refused-accepted e)
-  first-size (Choose a b k d) at m labels ls facts fs e = absurd (refused-accepted e)
-  first-size (Rule a b) at m labels ls facts fs e = absurd (refused-accepted e)
-  first-size (Size k) at m labels ls facts fs e = ap Size (sym (sized-by k at m (not (isBetween 1 (L .elements) k)) labels ls facts fs e))
-  first-size (Label k a b d) at m labels ls facts fs e = absurd (refused-accepted e)
-  first-size (Fact a b d y) at m labels ls facts fs e = absurd (refused-accepted e)
-  first-size (Pick a b d y) at m labels ls facts fs e = absurd (refused-accepted e)
-  first-size (Step k) at m labels ls facts fs e = absurd (refused-accepted e)
+  pub first-size : (x : Entry) (at m : ℕ) (labels ls : List D.Label) (members ms : List D.Member) (facts fs : List Tuple) → (given (entryIn s x) 2 at >>= D.addToSite L (relsOf q g) (typesOf q g) (draft 0 labels members facts) at) ≡ accepted (draft m ls ms fs) → x ≡ Size m
+  unfolding given entryIn D.addToSite D.addSize D.addLabel D.addMember D.addFact draft sizedOf _>>=_
+  first-size Wrong at m labels ls members ms facts fs e = absurd (refused-accepted e)
+  first-size (Rel a b k) at m labels ls members ms facts fs e = absurd (refused-accepted e)
+  first-size (Typed a b) at m labels ls members ms facts fs e = absurd (refused-accepted e)
+  first-size (Choose a b k d) at m labels ls members ms facts fs e = absurd (refused-accepted e)
+  first-size (Rule a b) at m labels ls members ms facts fs e = absurd (refused-accepted e)
+  first-size (Size k) at m labels ls members ms facts fs e = ap Size (sym (sized-by k at m (not (isBetween 1 (L .elements) k)) labels ls members ms facts fs e))
+  first-size (Label k a b d) at m labels ls members ms facts fs e = absurd (refused-accepted e)
+  first-size (Member a b k d) at m labels ls members ms facts fs e = absurd (refused-accepted e)
+  first-size (Fact a b d y) at m labels ls members ms facts fs e = absurd (refused-accepted e)
+  first-size (Pick a b d y) at m labels ls members ms facts fs e = absurd (refused-accepted e)
+  first-size (Step k) at m labels ls members ms facts fs e = absurd (refused-accepted e)
 
   -- and where one was read it stays
-  stays : (j m : ℕ) (ls : List D.Label) (fs : List Tuple) (d : D.SiteDraft) → d .sized ≡ some j → d ≡ draft m ls fs → m ≡ j
+  stays : (j m : ℕ) (ls : List D.Label) (ms : List D.Member) (fs : List Tuple) (d : D.SiteDraft) → d .sized ≡ some j → d ≡ draft m ls ms fs → m ≡ j
   unfolding draft
-  stays j m ls fs d h e = some-size m j (ap (λ (d : D.SiteDraft). d .sized) (sym e) ∙ h)
+  stays j m ls ms fs d h e = some-size m j (ap (λ (d : D.SiteDraft). d .sized) (sym e) ∙ h)
 
-  pub sized-stays : (x : Entry) (at n m : ℕ) (labels ls : List D.Label) (facts fs : List Tuple) → (n ≡ 0 → ⊥) → (given (entryIn s x) 2 at >>= D.addToSite L (relsOf q g) (draft n labels facts) at) ≡ accepted (draft m ls fs) → n ≡ m
-  unfolding given entryIn D.addToSite D.addSize D.addLabel D.addFact draft sizedOf _>>=_
-  sized-stays x at zero m labels ls facts fs h e = absurd (h refl)
-  sized-stays Wrong at (suc j) m labels ls facts fs h e = absurd (refused-accepted e)
-  sized-stays (Rel a b k) at (suc j) m labels ls facts fs h e = absurd (refused-accepted e)
-  sized-stays (Choose a b k d) at (suc j) m labels ls facts fs h e = absurd (refused-accepted e)
-  sized-stays (Rule a b) at (suc j) m labels ls facts fs h e = absurd (refused-accepted e)
-  sized-stays (Size k) at (suc j) m labels ls facts fs h e = absurd (refused-accepted e)
-  sized-stays (Label k a b d) at (suc j) m labels ls facts fs h e =
-      let (u, _, e₁) = bind-parts (refuseIf (not (isEmpty facts)) 3 at) _ _ e in
+  pub sized-stays : (x : Entry) (at n m : ℕ) (labels ls : List D.Label) (members ms : List D.Member) (facts fs : List Tuple) → (n ≡ 0 → ⊥) → (given (entryIn s x) 2 at >>= D.addToSite L (relsOf q g) (typesOf q g) (draft n labels members facts) at) ≡ accepted (draft m ls ms fs) → n ≡ m
+  unfolding given entryIn D.addToSite D.addSize D.addLabel D.addMember D.addFact draft sizedOf _>>=_
+  sized-stays x at zero m labels ls members ms facts fs h e = absurd (h refl)
+  sized-stays Wrong at (suc j) m labels ls members ms facts fs h e = absurd (refused-accepted e)
+  sized-stays (Rel a b k) at (suc j) m labels ls members ms facts fs h e = absurd (refused-accepted e)
+  sized-stays (Typed a b) at (suc j) m labels ls members ms facts fs h e = absurd (refused-accepted e)
+  sized-stays (Choose a b k d) at (suc j) m labels ls members ms facts fs h e = absurd (refused-accepted e)
+  sized-stays (Rule a b) at (suc j) m labels ls members ms facts fs h e = absurd (refused-accepted e)
+  sized-stays (Size k) at (suc j) m labels ls members ms facts fs h e = absurd (refused-accepted e)
+  sized-stays (Label k a b d) at (suc j) m labels ls members ms facts fs h e =
+      let (u, _, e₁) = bind-parts (refuseIf (not (isEmpty members) || not (isEmpty facts)) 3 at) _ _ e in
       let (u, _, e₂) = bind-parts (refuseIf (not (D.isInRange (suc j) (elementBy (slice a b s) k))) 9 at) _ _ e₁ in
       let (y, _, e₃) = bind-parts (given (D.elementOf labels (elementBy (slice a b s) k)) 18 at) _ _ e₂ in
       let (u, _, e₄) = bind-parts (refuseIf (D.isTaken labels y (slice (b + 1) d s)) 18 at) _ _ e₃ in
-      sym (stays (suc j) m ls fs _ refl (accepted-eq _ _ e₄))
-  sized-stays (Fact a b d y) at (suc j) m labels ls facts fs h e =
+      sym (stays (suc j) m ls ms fs _ refl (accepted-eq _ _ e₄))
+  sized-stays (Member a b k d) at (suc j) m labels ls members ms facts fs h e =
+      let (u, _, e₁) = bind-parts (refuseIf (not (isEmpty facts)) 3 at) _ _ e in
+      let (i, _, e₂) = bind-parts (given (typeNumber (typesOf q g) (slice a b s)) 19 at) _ _ e₁ in
+      let (u, _, e₃) = bind-parts (refuseIf (not (D.isInRange (suc j) (elementBy (slice (b + 1) d s) k))) 9 at) _ _ e₂ in
+      let (y, _, e₄) = bind-parts (given (D.elementOf labels (elementBy (slice (b + 1) d s) k)) 18 at) _ _ e₃ in
+      let (u, _, e₅) = bind-parts (refuseIf (D.isMember members i y) 10 at) _ _ e₄ in
+      sym (stays (suc j) m ls ms fs _ refl (accepted-eq _ _ e₅))
+  sized-stays (Fact a b d y) at (suc j) m labels ls members ms facts fs h e =
       let (ts, _, e₁) = bind-parts (D.addTuple (relsOf q g) D.firstRel (suc j) labels facts at (slice a b s) (listOf s (b + 1) d y)) _ _ e in
-      sym (stays (suc j) m ls fs _ refl (accepted-eq _ _ e₁))
-  sized-stays (Pick a b d y) at (suc j) m labels ls facts fs h e = absurd (refused-accepted e)
-  sized-stays (Step k) at (suc j) m labels ls facts fs h e = absurd (refused-accepted e)
+      sym (stays (suc j) m ls ms fs _ refl (accepted-eq _ _ e₁))
+  sized-stays (Pick a b d y) at (suc j) m labels ls members ms facts fs h e = absurd (refused-accepted e)
+  sized-stays (Step k) at (suc j) m labels ls members ms facts fs h e = absurd (refused-accepted e)
 
   -- so there is one after any line that goes on
-  sized-some : (k at m : ℕ) (labels ls : List D.Label) (facts fs : List Tuple) → (refuseIf (not (isBetween 1 (L .elements) k)) 9 at >>= λ _. accepted (record { sized = some k; labels = labels; facts = facts })) ≡ accepted (draft m ls fs) → m ≡ 0 → ⊥
+  sized-some : (k at m : ℕ) (labels ls : List D.Label) (members ms : List D.Member) (facts fs : List Tuple) → (refuseIf (not (isBetween 1 (L .elements) k)) 9 at >>= λ _. accepted (record { sized = some k; labels = labels; members = members; facts = facts })) ≡ accepted (draft m ls ms fs) → m ≡ 0 → ⊥
   unfolding isBetween
-  sized-some k at m labels ls facts fs e z =
-      let n = sized-by k at m _ labels ls facts fs e in
+  sized-some k at m labels ls members ms facts fs e z =
+      let n = sized-by k at m _ labels ls members ms facts fs e in
       let (u, r, f) = bind-parts (refuseIf (not (isBetween 1 (L .elements) k)) 9 at) _ _ e in
       let l = leb-true 1 k (and-l (leb 1 k) _ (not-false (isBetween 1 (L .elements) k) (not-refused (not (isBetween 1 (L .elements) k)) 9 at u r))) in
       absurd (omega arith)
 
-  pub sized-after : (x : Entry) (at n m : ℕ) (labels ls : List D.Label) (facts fs : List Tuple) → (given (entryIn s x) 2 at >>= D.addToSite L (relsOf q g) (draft n labels facts) at) ≡ accepted (draft m ls fs) → m ≡ 0 → ⊥
-  sized-after x at zero m labels ls facts fs e z = sized-some m at m labels ls facts fs (sym (size-says x m at labels facts (first-size x at m labels ls facts fs e)) ∙ e) z
-  sized-after x at (suc j) m labels ls facts fs e z = absurd (omega (arith, sized-stays x at (suc j) m labels ls facts fs (λ b. absurd (omega arith)) e))
+  pub sized-after : (x : Entry) (at n m : ℕ) (labels ls : List D.Label) (members ms : List D.Member) (facts fs : List Tuple) → (given (entryIn s x) 2 at >>= D.addToSite L (relsOf q g) (typesOf q g) (draft n labels members facts) at) ≡ accepted (draft m ls ms fs) → m ≡ 0 → ⊥
+  sized-after x at zero m labels ls members ms facts fs e z = sized-some m at m labels ls members ms facts fs (sym (size-says x m at labels members facts (first-size x at m labels ls members ms facts fs e)) ∙ e) z
+  sized-after x at (suc j) m labels ls members ms facts fs e z = absurd (omega (arith, sized-stays x at (suc j) m labels ls members ms facts fs (λ b. absurd (omega arith)) e))
 
 -- ---- a line of picks
 
@@ -378,6 +562,10 @@ module _ (q : List ℕ) (g : Signature) (s : List ℕ) (n : ℕ) (ls : List D.La
   pub picks-rel : (a e k : ℕ) → x ≡ Rel a e k → PickTurned q g s n ls x old new 3
   unfolding PickTurned PickTurns given entryIn _>>=_ D.addToPicks
   picks-rel a e k p at picks w = rw p
+
+  pub picks-type : (a e : ℕ) → x ≡ Typed a e → PickTurned q g s n ls x old new 3
+  unfolding PickTurned PickTurns given entryIn _>>=_ D.addToPicks
+  picks-type a e p at picks w = rw p
 
   pub picks-choose : (a e k d : ℕ) → x ≡ Choose a e k d → PickTurned q g s n ls x old new 3
   unfolding PickTurned PickTurns given entryIn _>>=_ D.addToPicks
@@ -394,6 +582,10 @@ module _ (q : List ℕ) (g : Signature) (s : List ℕ) (n : ℕ) (ls : List D.La
   pub picks-label : (k a t e : ℕ) → x ≡ Label k a t e → PickTurned q g s n ls x old new 3
   unfolding PickTurned PickTurns given entryIn _>>=_ D.addToPicks
   picks-label k a t e p at picks w = rw p
+
+  pub picks-member : (a t k e : ℕ) → x ≡ Member a t k e → PickTurned q g s n ls x old new 3
+  unfolding PickTurned PickTurns given entryIn _>>=_ D.addToPicks
+  picks-member a t k e p at picks w = rw p
 
   pub picks-fact : (a t e : ℕ) (y : Places) → x ≡ Fact a t e y → PickTurned q g s n ls x old new 3
   unfolding PickTurned PickTurns given entryIn _>>=_ D.addToPicks

@@ -5,32 +5,35 @@ use mathlib.Core.Bool.{Bool}
 use mathlib.Core.Option.{some}
 use mathlib.Core.List.{List}
 use native.Mathlib.Omega.{arith}
-use lib.ListN.{length}
+use lib.ListN.{length, replicate}
 use lib.Seq.{slice}
 use Rattle.definitions.specs.Limits.{CaseLimits}
 use Rattle.definitions.specs.Refusal.{Result, refused, accepted, _>>=_}
 use Rattle.definitions.specs.Parsing.{readFormula}
 use Rattle.definitions.specs.Sheets.{Question, Labelled, readQuestion, readSite}
+use Rattle.definitions.specs.Relations.{Relation}
 use Rattle.definitions.specs.Truth.{Case}
 use Rattle.definitions.specs.Atoms.{problemOf, problemWith}
 use Rattle.definitions.specs.Outcome.{CaseRead as Filed, readFiled, readCase}
-use Rattle.names.specs.Signatures.{Sound, relsOf, chosenOf}
+use Rattle.names.specs.Signatures.{Sound, relsOf, typesOf, chosenOf}
 use Rattle.tuples.specs.Labels.{LabelsAre}
+use Rattle.tuples.specs.Members.{MembersAre}
 use Rattle.tuples.specs.Marks.{bitOf, marks, AllValid}
 use Rattle.question.specs.declared.Asked.{Asked}
 use Rattle.question.specs.Drafts.{QuestionRead, Accepts, refusedWith}
 use Rattle.sheets.specs.declared.Answer.{Answer}
 use Rattle.sheets.specs.declared.Answer.the-variants.{Done, Refused}
-use Rattle.sheets.specs.Reading.{answered, sizeIn, FactsIn, LabelsIn}
+use Rattle.sheets.specs.Reading.{answered, sizeIn, FactsIn, LabelsIn, MembersIn}
+use Rattle.laws.specs.Reader.{Gives, SiteFits, LabelledFits, site-fits}
 use Rattle.laws.specs.Refusals.{Refuses as RefusesBy, Sheet, not-zero, question-by, site-by}
 use Rattle.sheets.specs.declared.Opened.{Opened}
 
 -- a refused case keeps what the question gave
 unfoldable pub failed : Asked → ℕ → ℕ → Opened
-failed q k place = record { fault = k; place = place; sig = q .sig; rule = q .rule; n = 0 }
+failed q k place = record { fault = k; place = place; sig = q .sig; rule = q .rule; n = 0; members = replicate 8 0 }
 
-unfoldable pub opened : Asked → ℕ → Opened
-opened q n = record { fault = 0; place = 0; sig = q .sig; rule = q .rule; n = n }
+unfoldable pub opened : Asked → ℕ → List ℕ → Opened
+opened q n members = record { fault = 0; place = 0; sig = q .sig; rule = q .rule; n = n; members = members }
 
 -- the case c was read from the question's text s: relations and rule are spans of it, the facts are bits
 pub record Holds (s : List ℕ) (c : Case) (r : Opened) (facts : ℕ → Bool) : Type 0 where
@@ -39,6 +42,7 @@ pub record Holds (s : List ℕ) (c : Case) (r : Opened) (facts : ℕ → Bool) :
   pub sound : Sound s (r .sig)
   pub some-chosen : 1 ≤ r .sig .chosen
   pub rels : c .question .rels ≡ relsOf s (r .sig)
+  pub types : c .question .types ≡ typesOf s (r .sig)
   pub chosen : c .question .chosen ≡ chosenOf s (r .sig)
   pub rule-from : r .rule .from ≤ r .rule .to
   pub rule-to : r .rule .to ≤ length s
@@ -48,6 +52,8 @@ pub record Holds (s : List ℕ) (c : Case) (r : Opened) (facts : ℕ → Bool) :
   pub few-elements : r .n ≤ 64
   pub facts-are : facts ≡ marks (bitOf (r .sig) (c .site .size) 0) (c .site .facts)
   pub facts-valid : AllValid (r .sig) (c .site .size) 0 (r .sig .rels) (c .site .facts)
+  pub members-are : MembersAre (r .members) (r .sig .types) (r .n) (c .site .members)
+  pub site-fits : SiteFits (c .question .rels) (c .question .types) (c .site)
 
 -- the problem has the elements that were read
 pub elements-are : (s : List ℕ) (c : Case) (o : Opened) (facts : ℕ → Bool) → Holds s c o facts → o .n ≡ problemOf c .size
@@ -100,30 +106,31 @@ module _ (L : CaseLimits) (s t : List ℕ) (a : Asked) (words : List ℕ) (facts
   unfolding QuestionRead refusedWith RefusesBy FiledRead readFiled _>>=_ failed
   question-refused z r is = subst (λ (x : Opened). FiledRead s t (readFiled L s t) x words facts) (sym is) (go (readQuestion s) h (question-by s))
     where
-      go : (r : Result Question) → QuestionRead s r a → RefusesBy Sheet r → FiledRead s t (r >>= λ q. readSite L (q .rels) t >>= λ st. accepted (record { case = record { question = q; site = st .site }; labels = st .labels })) (failed a (a .fault) (a .place)) words facts
+      go : (r : Result Question) → QuestionRead s r a → RefusesBy Sheet r → FiledRead s t (r >>= λ q. readSite L (q .rels) (q .types) t >>= λ st. accepted (record { case = record { question = q; site = st .site }; labels = st .labels })) (failed a (a .fault) (a .place)) words facts
       go (refused k place) x l = record { number = ap (λ (b : Asked). b .fault) x; where-it-is = ap (λ (b : Asked). b .place) x; some-fault = let w = ap (λ (b : Asked). b .fault) x in omega (arith, not-zero k l) }
       go (accepted q) x l = absurd (z (x .no-fault))
 
   module _ (z : a .fault ≡ 0) where
-    site-is : readFiled L s t ≡ (readSite L (relsOf s (a .sig)) t >>= λ st. accepted (record { case = record { question = known s a h z .0; site = st .site }; labels = st .labels }))
+    site-is : readFiled L s t ≡ (readSite L (relsOf s (a .sig)) (typesOf s (a .sig)) t >>= λ st. accepted (record { case = record { question = known s a h z .0; site = st .site }; labels = st .labels }))
     unfolding readFiled _>>=_
-    site-is = let (q, e, x) = known s a h z in rw (e, x .rels) refl
+    site-is = let (q, e, x) = known s a h z in rw (e, x .rels, x .types) refl
 
-    pub site-refused : (k place : ℕ) → answered sizeIn (readSite L (relsOf s (a .sig)) t) ≡ Refused k place → (r : Opened) → r ≡ failed a k place → FiledRead s t (readFiled L s t) r words facts
+    pub site-refused : (k place : ℕ) → answered sizeIn (readSite L (relsOf s (a .sig)) (typesOf s (a .sig)) t) ≡ Refused k place → (r : Opened) → r ≡ failed a k place → FiledRead s t (readFiled L s t) r words facts
     unfolding FiledRead answered RefusesBy _>>=_ failed
-    site-refused k place e r is = subst₂ (λ (x : Result Filed) (y : Opened). FiledRead s t x y words facts) (sym site-is) (sym is) (go (readSite L (relsOf s (a .sig)) t) e (site-by L (relsOf s (a .sig)) t))
+    site-refused k place e r is = subst₂ (λ (x : Result Filed) (y : Opened). FiledRead s t x y words facts) (sym site-is) (sym is) (go (readSite L (relsOf s (a .sig)) (typesOf s (a .sig)) t) e (site-by L (relsOf s (a .sig)) (typesOf s (a .sig)) t))
       where
         go : (r : Result Labelled) → answered sizeIn r ≡ Refused k place → RefusesBy Sheet r → FiledRead s t (r >>= λ st. accepted (record { case = record { question = known s a h z .0; site = st .site }; labels = st .labels })) (failed a k place) words facts
         go (refused j at) x l = record { number = cc; where-it-is = cc; some-fault = let w : j ≡ k = cc in omega (arith, not-zero j l) }
         go (accepted st) x l = let w : _≡_ {A = ℕ} 0 1 = cc in absurd (omega arith)
 
-    pub both-read : L .elements ≤ 64 → (n : ℕ) → answered sizeIn (readSite L (relsOf s (a .sig)) t) ≡ Done n → FactsIn L (a .sig) (readSite L (relsOf s (a .sig)) t) facts → LabelsIn t (readSite L (relsOf s (a .sig)) t) words → FiledRead s t (readFiled L s t) (opened a n) words facts
-    unfolding FiledRead answered FactsIn LabelsIn sizeIn _>>=_ opened
-    both-read small n e f l = subst (λ (r : Result Filed). FiledRead s t r (opened a n) words facts) (sym site-is) (go (readSite L (relsOf s (a .sig)) t) e f l)
+    pub both-read : L .elements ≤ 64 → (n : ℕ) → answered sizeIn (readSite L (relsOf s (a .sig)) (typesOf s (a .sig)) t) ≡ Done n → FactsIn L (a .sig) (readSite L (relsOf s (a .sig)) (typesOf s (a .sig)) t) facts → LabelsIn t (readSite L (relsOf s (a .sig)) (typesOf s (a .sig)) t) words
+        → (joins : List ℕ) → MembersIn (a .sig) (readSite L (relsOf s (a .sig)) (typesOf s (a .sig)) t) joins → FiledRead s t (readFiled L s t) (opened a n joins) words facts
+    unfolding FiledRead answered FactsIn LabelsIn MembersIn sizeIn _>>=_ opened Gives
+    both-read small n e f l joins i = subst (λ (r : Result Filed). FiledRead s t r (opened a n joins) words facts) (sym site-is) (go (readSite L (relsOf s (a .sig)) (typesOf s (a .sig)) t) e f l i (site-fits L small (relsOf s (a .sig)) (typesOf s (a .sig)) t))
       where
-        go : (r : Result Labelled) → answered sizeIn r ≡ Done n → FactsIn L (a .sig) r facts → LabelsIn t r words → FiledRead s t (r >>= λ st. accepted (record { case = record { question = known s a h z .0; site = st .site }; labels = st .labels })) (opened a n) words facts
-        go (refused j at) x f l = let w : _≡_ {A = ℕ} 0 1 = cc in absurd (omega arith)
-        go (accepted st) x f l =
+        go : (r : Result Labelled) → answered sizeIn r ≡ Done n → FactsIn L (a .sig) r facts → LabelsIn t r words → MembersIn (a .sig) r joins → Gives (LabelledFits (relsOf s (a .sig)) (typesOf s (a .sig))) r → FiledRead s t (r >>= λ st. accepted (record { case = record { question = known s a h z .0; site = st .site }; labels = st .labels })) (opened a n joins) words facts
+        go (refused j at) x f l i G = let w : _≡_ {A = ℕ} 0 1 = cc in absurd (omega arith)
+        go (accepted st) x f l i G =
             let (q, e′, y) = known s a h z in
             let m : n ≡ st .site .size = cc in (
               record {
@@ -132,6 +139,7 @@ module _ (L : CaseLimits) (s t : List ℕ) (a : Asked) (words : List ℕ) (facts
                 sound = y .sound;
                 some-chosen = y .some-chosen;
                 rels = y .rels;
+                types = y .types;
                 chosen = y .chosen;
                 rule-from = y .rule-from;
                 rule-to = y .rule-to;
@@ -141,6 +149,8 @@ module _ (L : CaseLimits) (s t : List ℕ) (a : Asked) (words : List ℕ) (facts
                 few-elements = omega (arith, f .3, small);
                 facts-are = f .0;
                 facts-valid = f .1;
+                members-are = subst (λ (x : ℕ). MembersAre joins (a .sig .types) x (st .site .members)) (sym m) i;
+                site-fits = subst₂ (λ (rs : List Relation) (ts : List (List ℕ)). SiteFits rs ts (st .site)) (sym (y .rels)) (sym (y .types)) (G .site-fits);
               },
               subst (λ (x : ℕ). LabelsAre t words x (st .labels)) (sym m) l,
             )

@@ -1,4 +1,4 @@
-// The readers of the site, of picks and of steps: a value, or the refusal's number and place (1 to 3, 7, 9, 18, 10); and of a case,
+// The readers of the site, of picks and of steps: a value, or the refusal's number and place (1 to 3, 7, 19, 9, 18, 10); and of a case,
 // which is a question and a site.
 ghost use mathlib.Core.Path.{_≡_};
 ghost use mathlib.Core.Bool.{false};
@@ -7,12 +7,14 @@ ghost use Prim.Native.Nat.{ℕ, _+_, _*_, _≤_};
 ghost use lib.ListN.{length, set as «set-at»};
 ghost use Rattle.bits.specs.Table.{bit};
 ghost use Rattle.definitions.specs.Limits.{CaseLimits};
-ghost use Rattle.definitions.specs.Sheets.{Label, readSite, readPicks, readSteps};
+ghost use Rattle.definitions.specs.Lists.{all, below};
+ghost use Rattle.definitions.specs.Sheets.{Label, Member, hasMember, readSite, readPicks, readSteps};
 ghost use Rattle.records.specs.Entries.{InText};
-ghost use Rattle.names.specs.Signatures.{Sound, withArrays, relsOf, chosenOf};
+ghost use Rattle.names.specs.Signatures.{Sound, withArrays, relsOf, typesOf, chosenOf};
 ghost use Rattle.tuples.specs.Labels.{LabelsAre, NoLabels};
-ghost use Rattle.tuples.specs.Marks.{Arrays, Roomy};
-ghost use Rattle.sheets.specs.Reading.{answered, sizeIn, SizeRoom, FactsRoom, PicksRoom, sizeTurn, SiteTurned, GotSite, FactsIn, LabelsIn, PickTurned, GotPicks, PicksIn, verdictOf, RoomFor, left};
+ghost use Rattle.tuples.specs.Members.{MembersAre, NoMembers};
+ghost use Rattle.tuples.specs.Marks.{Roomy};
+ghost use Rattle.sheets.specs.Reading.{answered, sizeIn, SizeRoom, FactsRoom, PicksRoom, FewArities, sizeTurn, labelOut, memberOut, afterOf, endOf, SiteTurned, GotSite, FactsIn, LabelsIn, MembersIn, PickTurned, GotPicks, PicksIn, verdictOf, RoomFor, left};
 ghost use Rattle.sheets.specs.declared.Answer.the-variants.{Done};
 ghost use Rattle.definitions.specs.Outcome.{readFiled, readCase};
 ghost use Rattle.sheets.specs.Opening.{FiledRead, CaseRead, failed};
@@ -43,17 +45,24 @@ pub enum Answer {
     Refused(u32, usize),
 }
 
-// After a line of a site: the size so far, 0 for none, and whether there was a fact; or the refusal's number.
+// What was read of a site so far: its size, 0 for none, whether there was a member, and whether there was a fact.
+struct Stage {
+    n: usize,
+    joined: bool,
+    begun: bool,
+}
+
+// After a line of a site: what was read so far, or the refusal's number.
 enum Turn {
-    Next(usize, bool),
+    Next(Stage),
     Fault(u32),
 }
 
 // A line that says the size k.
-fn size_turn(k: usize, most: usize, n: usize, begun: bool) -> Turn
-    ensures { λ r. ⌜ r ≡ sizeTurn k most n begun ⌝ }
+fn size_turn(k: usize, most: usize, st: Stage) -> Turn
+    ensures { λ r. ⌜ r ≡ sizeTurn k most st ⌝ }
 {
-    if n != 0 {
+    if st.n != 0 {
         return Turn::Fault(3);
     }
     if k < 1 {
@@ -62,75 +71,156 @@ fn size_turn(k: usize, most: usize, n: usize, begun: bool) -> Turn
     if most < k {
         return Turn::Fault(9);
     }
-    Turn::Next(k, begun)
+    Turn::Next(Stage {
+        n: k,
+        joined: st.joined,
+        begun: st.begun,
+    })
 }
 
-// One line of a site, where n is the size so far, `most` the most that it may be, and `begun` says whether there was a fact; of a
-// signature the arrays and the number m of `rel` relations.
+// Whether a `label` line, and a `member` line, comes too early or too late.
+fn is_no_place_for_label(st: Stage) -> bool
+    ensures { λ r. ⌜ r ≡ labelOut st ⌝ }
+{
+    if st.joined {
+        return true;
+    }
+    is_no_place_for_member(st)
+}
+
+fn is_no_place_for_member(st: Stage) -> bool
+    ensures { λ r. ⌜ r ≡ memberOut st ⌝ }
+{
+    if st.begun {
+        return true;
+    }
+    st.n == 0
+}
+
+// What was read after a line that has the refusal's number c, or 0.
+fn after(c: u32, st: Stage) -> Turn
+    ensures { λ r. ⌜ r ≡ afterOf c st ⌝ }
+{
+    if c == 0 {
+        return Turn::Next(st);
+    }
+    Turn::Fault(c)
+}
+
+// One line of a site, where `most` is the most elements that it may have; of a signature the arrays, the number m of `rel` relations and
+// that of types.
 fn site_turn(
     q: &[u8],
-    from: &[usize],
-    to: &[usize],
-    arity: &[usize],
+    from: &[usize; names::NAMES],
+    to: &[usize; names::NAMES],
+    arity: &[usize; names::DECLARED],
     m: usize,
+    types: usize,
     s: &[u8],
     most: usize,
-    n: usize,
-    begun: bool,
+    st: Stage,
     labels: &mut [usize],
+    members: &mut [u64],
     table: &mut [u64],
     x: Entry,
 ) -> Turn
-    requires { ⌜ Arrays 0 m (now from) (now to) (now arity) × (most ≤ 64) × (n ≤ most) × ((n ≡ 0 → ⊥) → Roomy (now from) (now to) (now arity) 0 m n (length (now table))) ⌝ }
-    requires { ⌜ ((ls : List Label) × LabelsAre (now s) (now labels) n ls) × ((at : ℕ) × InText (now s) at x) ⌝ }
-    ensures { λ r. ⌜ ((L : CaseLimits) → L .elements ≡ most → (g : Signature) → m ≡ g .rels
-        → SiteTurned L (now (q .entry)) (withArrays g (now (from .entry)) (now (to .entry)) (now (arity .entry))) (now (s .entry)) n begun x (now (labels .entry)) (now (labels .exit)) (now (table .entry)) (now (table .exit)) r) ⌝ }
+    requires { ⌜ FewArities 0 m (now arity) × (most ≤ 64) × (st .n ≤ most) × ((st .n ≡ 0 → ⊥) → Roomy (now from) (now to) (now arity) 0 m (st .n) (length (now table))) ⌝ }
+    requires { ⌜ (types ≤ 8) × (length (now members) ≡ 8) ⌝ }
+    requires { ⌜ ((ls : List Label) × LabelsAre (now s) (now labels) (st .n) ls) × ((at : ℕ) × InText (now s) at x) ⌝ }
+    ensures { λ r. ⌜ ((L : CaseLimits) → L .elements ≡ most → (g : Signature) → m ≡ g .rels → types ≡ g .types
+        → SiteTurned L (now (q .entry)) (withArrays g (now (from .entry)) (now (to .entry)) (now (arity .entry))) (now (s .entry)) st x (now (labels .entry)) (now (labels .exit)) (now (members .entry)) (now (members .exit)) (now (table .entry)) (now (table .exit)) r) ⌝ }
 {
+    let n = st.n;
     match x {
         Entry::Wrong => Turn::Fault(2),
         Entry::Rel(_, _, _) => Turn::Fault(3),
+        Entry::Typed(_, _) => Turn::Fault(3),
         Entry::Choose(_, _, _, _) => Turn::Fault(3),
         Entry::Rule(_, _) => Turn::Fault(3),
-        Entry::Size(k) => size_turn(k as usize, most, n, begun),
+        Entry::Size(k) => size_turn(k as usize, most, st),
         Entry::Label(k, a, t, e) => {
-            if n == 0 {
-                return Turn::Fault(3);
-            }
-            if begun {
+            if is_no_place_for_label(st) {
                 return Turn::Fault(3);
             }
             let c = tuples::label(s, k, a, t, e, n, labels);
-            if c == 0 {
-                return Turn::Next(n, begun);
+            after(c, st)
+        }
+        Entry::Member(a, t, k, e) => {
+            if is_no_place_for_member(st) {
+                return Turn::Fault(3);
             }
-            Turn::Fault(c)
+            let c = tuples::member(q, from, to, types, s, a, t, k, e, n, labels, members);
+            let begun = st.begun;
+            after(
+                c,
+                Stage {
+                    n,
+                    joined: true,
+                    begun,
+                },
+            )
         }
         Entry::Fact(a, t, e, p) => {
             if n == 0 {
                 return Turn::Fault(3);
             }
             let c = tuples::add(q, from, to, arity, 0, m, n, s, a, t, e, p, s, labels, table);
-            if c == 0 {
-                return Turn::Next(n, true);
-            }
-            Turn::Fault(c)
+            let joined = st.joined;
+            after(
+                c,
+                Stage {
+                    n,
+                    joined,
+                    begun: true,
+                },
+            )
         }
         Entry::Pick(_, _, _, _) => Turn::Fault(3),
         Entry::Step(_) => Turn::Fault(3),
     }
 }
 
-// Reads a site into the labels and the table.
+// Whether each of the first types has a member.
+fn all_have_members(members: &[u64], types: usize) -> bool
+    requires { ⌜ (types ≤ 8) × (length (now members) ≡ 8) ⌝ }
+    ensures { λ r. ⌜ ((n : ℕ) (ms : List Member) → n ≤ 64 → MembersAre (now (members .entry)) types n ms → r ≡ all (hasMember ms) (below types)) ⌝ }
+{
+    let mut k: usize = 0;
+    while k < types {
+        if bits::ones(members, k, 1) == 0 {
+            return false;
+        }
+        k += 1;
+    }
+    true
+}
+
+// A site whose lines are all read, in a text that ends at `end`.
+fn site_end(n: usize, types: usize, members: &[u64], end: usize) -> Answer
+    requires { ⌜ (types ≤ 8) × (length (now members) ≡ 8) × (n ≤ 64) ⌝ }
+    ensures { λ r. ⌜ ((ms : List Member) → MembersAre (now (members .entry)) types n ms → r ≡ endOf n (all (hasMember ms) (below types)) end) ⌝ }
+{
+    if n == 0 {
+        return Answer::Refused(3, end);
+    }
+    if all_have_members(members, types) {
+        return Answer::Done(n);
+    }
+    Answer::Refused(19, 0)
+}
+
+// Reads a site into the labels, the members and the table.
 fn site_lines(
     q: &[u8],
     g: Signature,
     s: &[u8],
     most: usize,
     labels: &mut [usize],
+    members: &mut [u64],
     table: &mut [u64],
 ) -> Answer
-    requires { ⌜ Sound (now q) g × (most ≤ 64) × SizeRoom (now s) g most (length (now table)) × NoLabels (now labels) × (bit (now table) ≡ λ i. false) ⌝ }
-    ensures { λ r. ⌜ ((L : CaseLimits) → L .elements ≡ most → GotSite L g (now (s .entry)) (readSite L (relsOf (now (q .entry)) g) (now (s .entry))) r (now (labels .exit)) (bit (now (table .exit)))) ⌝ }
+    requires { ⌜ Sound (now q) g × (most ≤ 64) × SizeRoom (now s) g most (length (now table)) × NoLabels (now labels) × NoMembers (now members) × (bit (now table) ≡ λ i. false) ⌝ }
+    ensures { λ r. ⌜ ((L : CaseLimits) → L .elements ≡ most → GotSite L g (now (s .entry)) (readSite L (relsOf (now (q .entry)) g) (typesOf (now (q .entry)) g) (now (s .entry))) r (now (labels .exit)) (now (members .exit)) (bit (now (table .exit)))) ⌝ }
 {
     let end = s.len();
     if text::LIMIT < end {
@@ -140,8 +230,11 @@ fn site_lines(
     let to = g.to;
     let arity = g.arity;
     let mut at = 0;
-    let mut n: usize = 0;
-    let mut begun = false;
+    let mut st = Stage {
+        n: 0,
+        joined: false,
+        begun: false,
+    };
     while at < end {
         let l = records::line(s, at);
         let x = l.entry;
@@ -151,18 +244,18 @@ fn site_lines(
             &to,
             &arity,
             g.rels,
+            g.types,
             s,
             most,
-            n,
-            begun,
+            st,
             labels,
+            members,
             table,
             x,
         );
         match t {
-            Turn::Next(m, b) => {
-                n = m;
-                begun = b;
+            Turn::Next(u) => {
+                st = u;
             }
             Turn::Fault(k) => {
                 return Answer::Refused(k, at);
@@ -170,28 +263,27 @@ fn site_lines(
         }
         at = l.next;
     }
-    if n == 0 {
-        return Answer::Refused(3, end);
-    }
-    Answer::Done(n)
+    site_end(st.n, g.types, members, end)
 }
 
-// Reads a site of at most `most` elements: its size, its labels as spans, which come in all 0, and its facts as bits of the table, which
-// comes in cleared and stays so where the site is refused.
+// Reads a site of at most `most` elements: its size, its labels as spans, which come in all 0, the members of its types as bits, a word a
+// type, and its facts as bits of the table, which both come in cleared; the table stays so where the site is refused.
 pub fn site(
     q: &[u8],
     g: Signature,
     s: &[u8],
     most: usize,
     labels: &mut [usize],
+    members: &mut [u64],
     table: &mut [u64],
 ) -> Answer
-    requires { ⌜ Sound (now q) g × (most ≤ 64) × SizeRoom (now s) g most (length (now table)) × NoLabels (now labels) × (bit (now table) ≡ λ i. false) ⌝ }
-    ensures { λ r. ⌜ ((L : CaseLimits) → L .elements ≡ most → (r ≡ answered sizeIn (readSite L (relsOf (now (q .entry)) g) (now (s .entry))))
-        × FactsIn L g (readSite L (relsOf (now (q .entry)) g) (now (s .entry))) (bit (now (table .exit)))
-        × LabelsIn (now (s .entry)) (readSite L (relsOf (now (q .entry)) g) (now (s .entry))) (now (labels .exit))) ⌝ }
+    requires { ⌜ Sound (now q) g × (most ≤ 64) × SizeRoom (now s) g most (length (now table)) × NoLabels (now labels) × NoMembers (now members) × (bit (now table) ≡ λ i. false) ⌝ }
+    ensures { λ r. ⌜ ((L : CaseLimits) → L .elements ≡ most → (r ≡ answered sizeIn (readSite L (relsOf (now (q .entry)) g) (typesOf (now (q .entry)) g) (now (s .entry))))
+        × FactsIn L g (readSite L (relsOf (now (q .entry)) g) (typesOf (now (q .entry)) g) (now (s .entry))) (bit (now (table .exit)))
+        × LabelsIn (now (s .entry)) (readSite L (relsOf (now (q .entry)) g) (typesOf (now (q .entry)) g) (now (s .entry))) (now (labels .exit))
+        × MembersIn g (readSite L (relsOf (now (q .entry)) g) (typesOf (now (q .entry)) g) (now (s .entry))) (now (members .exit))) ⌝ }
 {
-    let r = site_lines(q, g, s, most, labels, table);
+    let r = site_lines(q, g, s, most, labels, members, table);
     match r {
         Answer::Done(n) => Answer::Done(n),
         Answer::Refused(k, place) => {
@@ -205,9 +297,9 @@ pub fn site(
 // One line of picks: 0, or the refusal's number; of a signature the arrays, and the m `choose` relations from lo on.
 fn picks_turn(
     q: &[u8],
-    from: &[usize],
-    to: &[usize],
-    arity: &[usize],
+    from: &[usize; names::NAMES],
+    to: &[usize; names::NAMES],
+    arity: &[usize; names::DECLARED],
     lo: usize,
     m: usize,
     s: &[u8],
@@ -217,7 +309,7 @@ fn picks_turn(
     table: &mut [u64],
     x: Entry,
 ) -> u32
-    requires { ⌜ Arrays lo m (now from) (now to) (now arity) × (n ≤ 64) × Roomy (now from) (now to) (now arity) lo m n (length (now table)) ⌝ }
+    requires { ⌜ FewArities lo m (now arity) × (n ≤ 64) × Roomy (now from) (now to) (now arity) lo m n (length (now table)) ⌝ }
     requires { ⌜ ((ls : List Label) × LabelsAre (now site) (now labels) n ls) × ((at : ℕ) × InText (now s) at x) ⌝ }
     ensures { λ r. ⌜ ((ls : List Label) → LabelsAre (now (site .entry)) (now (labels .entry)) n ls → (g : Signature) → lo ≡ g .rels → m ≡ g .chosen
         → PickTurned (now (q .entry)) (withArrays g (now (from .entry)) (now (to .entry)) (now (arity .entry))) (now (s .entry)) n ls x (now (table .entry)) (now (table .exit)) r) ⌝ }
@@ -225,10 +317,12 @@ fn picks_turn(
     match x {
         Entry::Wrong => 2,
         Entry::Rel(_, _, _) => 3,
+        Entry::Typed(_, _) => 3,
         Entry::Choose(_, _, _, _) => 3,
         Entry::Rule(_, _) => 3,
         Entry::Size(_) => 3,
         Entry::Label(_, _, _, _) => 3,
+        Entry::Member(_, _, _, _) => 3,
         Entry::Fact(_, _, _, _) => 3,
         Entry::Pick(a, t, e, p) => {
             tuples::add(
@@ -342,10 +436,12 @@ fn judge(x: Entry) -> Verdict
     match x {
         Entry::Wrong => Verdict::Fault(2),
         Entry::Rel(_, _, _) => Verdict::Fault(3),
+        Entry::Typed(_, _) => Verdict::Fault(3),
         Entry::Choose(_, _, _, _) => Verdict::Fault(3),
         Entry::Rule(_, _) => Verdict::Fault(3),
         Entry::Size(_) => Verdict::Fault(3),
         Entry::Label(_, _, _, _) => Verdict::Fault(3),
+        Entry::Member(_, _, _, _) => Verdict::Fault(3),
         Entry::Fact(_, _, _, _) => Verdict::Fault(3),
         Entry::Pick(_, _, _, _) => Verdict::Fault(3),
         Entry::Step(k) => Verdict::Number(k),
@@ -390,13 +486,15 @@ pub fn steps(s: &[u8], out: &mut [u32]) -> Answer
     Answer::Done(n)
 }
 
-// What was read: a refusal's number and place; or fault 0, the relations, the rule's span and the number of elements.
+// What was read: a refusal's number and place; or fault 0, the relations and types, the rule's span, the number of elements, and the
+// members of the types, a word a type.
 pub struct Opened {
     pub fault: u32,
     pub place: usize,
     pub sig: Signature,
     pub rule: Span,
     pub n: usize,
+    pub members: [u64; names::TYPES],
 }
 
 // A case that is refused.
@@ -411,6 +509,7 @@ fn refusal(q: question::Asked, fault: u32, place: usize) -> Opened
         sig,
         rule,
         n: 0,
+        members: [0; names::TYPES],
     }
 }
 
@@ -434,7 +533,8 @@ pub fn read_filed(
         return refusal(q, fault, place);
     }
     let sig = q.sig;
-    let s = site(question, sig, text, most, labels, facts);
+    let mut members = [0u64; names::TYPES];
+    let s = site(question, sig, text, most, labels, &mut members, facts);
     match s {
         Answer::Refused(k, place) => refusal(q, k, place),
         Answer::Done(n) => {
@@ -445,6 +545,7 @@ pub fn read_filed(
                 sig,
                 rule,
                 n,
+                members,
             }
         }
     }

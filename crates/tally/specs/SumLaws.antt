@@ -17,8 +17,10 @@ use Rattle.definitions.specs.Tally.{walked, tallyOf}
 use Rattle.laws.specs.Walks.{walk-length, walk-atoms, walk-actions}
 use Rattle.tree.specs.Tables.{noNode, Fits}
 use Rattle.tree.specs.declared.Nodes.{Nodes}
+use Rattle.rows.specs.Values.{Most}
 use Rattle.layout.specs.declared.Relations.{Relations}
-use Rattle.layout.specs.Laid.{relationWidth, setWidth, mostWidth, nodeWidth, choicesOf, RelationsFit, relationSum, setSum, pickSum, nodeSum, actSum, Inputs}
+use Rattle.layout.specs.declared.Ranges.{Ranges}
+use Rattle.layout.specs.Laid.{relationWidth, setWidth, mostWidth, nodeWidth, RangesAre, choicesAt, RelationsFit, relationSum, setSum, pickSum, nodeSum, actSum, Inputs}
 use Rattle.layout.specs.LaidLaws.{rel-bound, set-bound, pick-bound, node-bound, act-bound}
 use Rattle.layout.specs.StartsAre.{rel-are, set-are, pick-are, count-is, node-width, act-width}
 use Rattle.tally.specs.declared.Tally.{Tally}
@@ -47,14 +49,14 @@ module _ (n : ℕ) (g : Relations) where
   relations-next i atoms sets picks size w u m e ew eu em s =
       subst (λ (j : ℕ). RelationsSummed n g j (atoms + w) (sets + u) (picks + m)) (sym (add-one i)) (relations-suc i atoms sets picks size w u m e ew eu em s)
 
-module _ (n : ℕ) (t : Nodes) where
-  pub nodes-first : NodesSummed n t 0 0 0 0
+module _ (n : ℕ) (counts : List ℕ) (t : Nodes) where
+  pub nodes-first : NodesSummed n counts t 0 0 0 0
   unfolding nodeSum actSum
   nodes-first = record { visited = refl; atoms-are = refl; actions-are = refl }
 
   nodes-suc : (v atoms actions r w m : ℕ) → r ≡ n ^ getD (t .rows) v noNode .width
-      → w ≡ nodeWidth n r (getD (t .rows) v noNode .kind) → m ≡ choicesOf n (getD (t .rows) v noNode .kind) (getD (t .rows) v noNode .many)
-      → NodesSummed n t v v atoms actions → NodesSummed n t (suc v) (suc v) (atoms + w) (actions + r * m)
+      → w ≡ nodeWidth n r (getD (t .rows) v noNode .kind) → m ≡ choicesAt counts t v
+      → NodesSummed n counts t v v atoms actions → NodesSummed n counts t (suc v) (suc v) (atoms + w) (actions + r * m)
   unfolding nodeSum actSum
   nodes-suc v atoms actions r w m e ew em s = record {
     visited = refl;
@@ -63,10 +65,10 @@ module _ (n : ℕ) (t : Nodes) where
   }
 
   pub nodes-next : (v atoms actions r w m : ℕ) → r ≡ n ^ getD (t .rows) v noNode .width
-      → w ≡ nodeWidth n r (getD (t .rows) v noNode .kind) → m ≡ choicesOf n (getD (t .rows) v noNode .kind) (getD (t .rows) v noNode .many)
-      → NodesSummed n t v v atoms actions → NodesSummed n t (v + 1) (v + 1) (atoms + w) (actions + r * m)
+      → w ≡ nodeWidth n r (getD (t .rows) v noNode .kind) → m ≡ choicesAt counts t v
+      → NodesSummed n counts t v v atoms actions → NodesSummed n counts t (v + 1) (v + 1) (atoms + w) (actions + r * m)
   nodes-next v atoms actions r w m e ew em s =
-      subst (λ (j : ℕ). NodesSummed n t j j (atoms + w) (actions + r * m)) (sym (add-one v)) (nodes-suc v atoms actions r w m e ew em s)
+      subst (λ (j : ℕ). NodesSummed n counts t j j (atoms + w) (actions + r * m)) (sym (add-one v)) (nodes-suc v atoms actions r w m e ew em s)
 
 -- ---- the sums are those of the walk
 sum-next : {A : Type 0} (f : A → ℕ) (d : A) (r : ℕ) (ks : List A) → r < length ks → sum (map f (take (suc r) ks)) ≡ sum (map f (take r ks)) + f (getD ks r d)
@@ -79,7 +81,7 @@ sum-none : {A : Type 0} (f : A → ℕ) → sum (map f []) ≡ 0
 unfolding sum
 sum-none f = refl
 
-module _ (p : Problem) (g : Relations) (t : Nodes) (is : Inputs p (p .size) g t) (fits : Fits t) where
+module _ (p : Problem) (ws : List ℕ) (types : ℕ) (ranges : Ranges) (g : Relations) (t : Nodes) (ra : RangesAre (p .size) ws types ranges) (is : Inputs p (p .size) ws types g t) (fits : Fits t) where
   abbrev n : ℕ
   n = p .size
 
@@ -87,23 +89,23 @@ module _ (p : Problem) (g : Relations) (t : Nodes) (is : Inputs p (p .size) g t)
   all-relations = take-all (g .count) (p .relations) (omega (arith, is .count))
 
   all-nodes : take (t .count) (p .nodeList) ≡ nodes (p .root)
-  all-nodes = take-all (t .count) (p .nodeList) (omega (arith, count-is p g t is)) ∙ is .list
+  all-nodes = take-all (t .count) (p .nodeList) (omega (arith, count-is p ws types g t is)) ∙ is .list
 
   nodes-are : (v : ℕ) → v ≤ t .count → nodeSum n t 0 v ≡ sum (map (widthOf n) (take v (p .nodeList)))
   unfolding nodeSum nodeAt
   nodes-are zero h = sym (sum-none (widthOf n))
-  nodes-are (suc v) h = ap₂ _+_ (nodes-are v (omega arith)) (node-width p g t is v h) ∙ sym (sum-next (widthOf n) (leaf true 0 []) v (p .nodeList) (omega (arith, count-is p g t is)))
+  nodes-are (suc v) h = ap₂ _+_ (nodes-are v (omega arith)) (node-width p ws types g t is v h) ∙ sym (sum-next (widthOf n) (leaf true 0 []) v (p .nodeList) (omega (arith, count-is p ws types g t is)))
 
-  acts-are : (v : ℕ) → v ≤ t .count → actSum n t 0 v ≡ sum (map (proofsOf n (p .range)) (take v (p .nodeList)))
+  acts-are : (v : ℕ) → v ≤ t .count → actSum n (ranges .count) t 0 v ≡ sum (map (proofsOf n (p .range)) (take v (p .nodeList)))
   unfolding actSum nodeAt
   acts-are zero h = sym (sum-none (proofsOf n (p .range)))
-  acts-are (suc v) h = ap₂ _+_ (acts-are v (omega arith)) (act-width p g t is fits v h) ∙ sym (sum-next (proofsOf n (p .range)) (leaf true 0 []) v (p .nodeList) (omega (arith, count-is p g t is)))
+  acts-are (suc v) h = ap₂ _+_ (acts-are v (omega arith)) (act-width p ws types g t is fits ranges ra v h) ∙ sym (sum-next (proofsOf n (p .range)) (leaf true 0 []) v (p .nodeList) (omega (arith, count-is p ws types g t is)))
 
   atoms-walked : nodeSum n t 0 (t .count) ≡ walked p .atomCount
   unfolding walked
   atoms-walked = nodes-are (t .count) (omega arith) ∙ ap (λ (ts : List Tree). sum (map (widthOf n) ts)) all-nodes ∙ sym (walk-atoms n (p .range) 0 (p .root))
 
-  acts-walked : actSum n t 0 (t .count) ≡ walked p .actionCount
+  acts-walked : actSum n (ranges .count) t 0 (t .count) ≡ walked p .actionCount
   unfolding walked
   acts-walked = acts-are (t .count) (omega arith) ∙ ap (λ (ts : List Tree). sum (map (proofsOf n (p .range)) ts)) all-nodes ∙ sym (walk-actions n (p .range) 0 (p .root))
 
@@ -113,16 +115,16 @@ module _ (p : Problem) (g : Relations) (t : Nodes) (is : Inputs p (p .size) g t)
 
   relation-atoms : relationSum n g (g .count) ≡ 3 + countOf (relationsBlocks n (p .relations))
   unfolding relationStart
-  relation-atoms = rel-are p g t is (g .count) (omega arith) ∙ ap (λ (ks : List Relation). 3 + countOf (relationsBlocks n ks)) all-relations
+  relation-atoms = rel-are p ws types g t is (g .count) (omega arith) ∙ ap (λ (ks : List Relation). 3 + countOf (relationsBlocks n ks)) all-relations
 
   relation-sets : setSum n g (g .count) ≡ countOf (setBlocks n (p .range) (p .relations))
   unfolding setStart
-  relation-sets = set-are p g t is (g .count) (omega arith) ∙ ap (λ (ks : List Relation). countOf (setBlocks n (p .range) ks)) all-relations
+  relation-sets = set-are p ws types g t is (g .count) (omega arith) ∙ ap (λ (ks : List Relation). countOf (setBlocks n (p .range) ks)) all-relations
 
   relation-picks : pickSum n g (g .count) ≡ sum (map (mostPicks n) (p .relations))
-  relation-picks = pick-are p g t is (g .count) (omega arith) ∙ ap (λ (ks : List Relation). sum (map (mostPicks n) ks)) all-relations
+  relation-picks = pick-are p ws types g t is (g .count) (omega arith) ∙ ap (λ (ks : List Relation). sum (map (mostPicks n) ks)) all-relations
 
-  tallied-here : (atoms sets picks nodes a k : ℕ) → RelationsSummed n g (g .count) atoms sets picks → NodesSummed n t (t .count) nodes a k
+  tallied-here : (atoms sets picks nodes a k : ℕ) → RelationsSummed n g (g .count) atoms sets picks → NodesSummed n (ranges .count) t (t .count) nodes a k
       → Tallied p (record { elements = n; nodes = nodes; atoms = atoms + a; actions = sets + 1 + (k + 1); bound = picks + a + 2 })
   unfolding tallyOf
   tallied-here atoms sets picks nodes a k R N =
@@ -133,13 +135,13 @@ module _ (p : Problem) (g : Relations) (t : Nodes) (is : Inputs p (p .size) g t)
       let l : picks ≡ sum (map (mostPicks n) (p .relations)) = R .picks-are ∙ relation-picks in
       record { elements-are = refl; nodes-are = N .visited ∙ visited-walked; atoms-are = omega arith; actions-are = omega arith; bound-is = omega arith }
 
-pub tallied : (n : ℕ) (p : Problem) (g : Relations) (t : Nodes) → Inputs p n g t → Fits t → (atoms sets picks nodes a k : ℕ)
-    → RelationsSummed n g (g .count) atoms sets picks → NodesSummed n t (t .count) nodes a k
+pub tallied : (n : ℕ) (p : Problem) (ws : List ℕ) (types : ℕ) (ranges : Ranges) (g : Relations) (t : Nodes) → RangesAre n ws types ranges → Inputs p n ws types g t → Fits t → (atoms sets picks nodes a k : ℕ)
+    → RelationsSummed n g (g .count) atoms sets picks → NodesSummed n (ranges .count) t (t .count) nodes a k
     → Tallied p (record { elements = n; nodes = nodes; atoms = atoms + a; actions = sets + 1 + (k + 1); bound = picks + a + 2 })
-tallied n p g t is f atoms sets picks nodes a k R N =
+tallied n p ws types ranges g t ra is f atoms sets picks nodes a k R N =
     subst (λ (m : ℕ). Tallied p (record { elements = m; nodes = nodes; atoms = atoms + a; actions = sets + 1 + (k + 1); bound = picks + a + 2 })) (sym (is .size))
-    (tallied-here p g t (subst (λ (m : ℕ). Inputs p m g t) (is .size) is) f atoms sets picks nodes a k
-    (subst (λ (m : ℕ). RelationsSummed m g (g .count) atoms sets picks) (is .size) R) (subst (λ (m : ℕ). NodesSummed m t (t .count) nodes a k) (is .size) N))
+    (tallied-here p ws types ranges g t (subst (λ (m : ℕ). RangesAre m ws types ranges) (is .size) ra) (subst (λ (m : ℕ). Inputs p m ws types g t) (is .size) is) f atoms sets picks nodes a k
+    (subst (λ (m : ℕ). RelationsSummed m g (g .count) atoms sets picks) (is .size) R) (subst (λ (m : ℕ). NodesSummed m (ranges .count) t (t .count) nodes a k) (is .size) N))
 
 -- ---- no count overflows
 module _ (n : ℕ) (small : n ≤ 64) where
@@ -150,8 +152,8 @@ module _ (n : ℕ) (small : n ≤ 64) where
       let d = pick-bound n g small f i in
       (omega (arith, s .atoms-are, f .count), omega (arith, s .sets-are, f .count), omega (arith, s .picks-are, f .count))
 
-  pub node-counts : (t : Nodes) → Fits t → (v nodes atoms actions : ℕ) → v ≤ t .count → NodesSummed n t v nodes atoms actions → (atoms ≤ 2 ^ 36) × (actions ≤ 2 ^ 36)
-  node-counts t f v nodes atoms actions h s =
-      let a = node-bound n t 0 0 small f v in
-      let b = act-bound n t 0 0 small f v in
+  pub node-counts : (counts : List ℕ) (t : Nodes) → Most counts 64 → Fits t → (v nodes atoms actions : ℕ) → v ≤ t .count → NodesSummed n counts t v nodes atoms actions → (atoms ≤ 2 ^ 36) × (actions ≤ 2 ^ 36)
+  node-counts counts t c f v nodes atoms actions h s =
+      let a = node-bound n counts t 0 0 small c f v in
+      let b = act-bound n counts t 0 0 small c f v in
       (omega (arith, s .atoms-are, f .few), omega (arith, s .actions-are, f .few))

@@ -1,5 +1,6 @@
 -- What is promised of a tally.
 use mathlib.Core.Path.{_≡_}
+use mathlib.Core.List.{List}
 use Prim.Native.Nat.{ℕ}
 use Rattle.definitions.specs.Atoms.{Problem}
 use Rattle.definitions.specs.Tally.{tallyOf}
@@ -14,10 +15,10 @@ pub record RelationsSummed (n : ℕ) (g : Relations) (i atoms sets picks : ℕ) 
   pub sets-are : sets ≡ setSum n g i
   pub picks-are : picks ≡ pickSum n g i
 
-pub record NodesSummed (n : ℕ) (t : Nodes) (v nodes atoms actions : ℕ) : Type 0 where
+pub record NodesSummed (n : ℕ) (counts : List ℕ) (t : Nodes) (v nodes atoms actions : ℕ) : Type 0 where
   pub visited : nodes ≡ v
   pub atoms-are : atoms ≡ nodeSum n t 0 v
-  pub actions-are : actions ≡ actSum n t 0 v
+  pub actions-are : actions ≡ actSum n counts t 0 v
 
 -- the tally is that of the walk of the problem's tree
 pub record Tallied (p : Problem) (r : Tally) : Type 0 where

@@ -1,11 +1,13 @@
 // The sizes of a problem in one pass over its node table; no layout is made and no table is filled. No limit is asked, and no count
 // passes 2^38: with at most 64 elements, 17 relations have fewer than 2^30 atoms, 64 nodes at most 2^30 each.
 ghost use mathlib.Core.Path.{_≡_};
-ghost use Prim.Native.Nat.{_≤_, _<_};
+ghost use mathlib.Core.List.{List};
+ghost use Prim.Native.Nat.{ℕ, _≤_, _<_};
 ghost use Rattle.definitions.specs.Atoms.{Problem};
 ghost use Rattle.tree.specs.Tables.{Fits};
-ghost use Rattle.layout.specs.Laid.{RelationsFit, Inputs};
+ghost use Rattle.layout.specs.Laid.{RangesFit, RangesAre, RelationsFit, Inputs};
 ghost use Rattle.tally.specs.Sums.{RelationsSummed, NodesSummed, Tallied};
+use layout::Ranges;
 use layout::Relations;
 
 // How many elements, nodes, atoms and actions there are, and the bound.
@@ -51,9 +53,9 @@ struct Walked {
 }
 
 // The one walk: every node once, in preorder.
-fn of_nodes(n: usize, t: tree::Nodes) -> Walked
-    requires { ⌜ (0 < n) × (n ≤ 64) × Fits t ⌝ }
-    ensures { λ r. ⌜ NodesSummed n t (t .count) (r .nodes) (r .atoms) (r .actions) ⌝ }
+fn of_nodes(n: usize, ranges: Ranges, t: tree::Nodes) -> Walked
+    requires { ⌜ (0 < n) × (n ≤ 64) × Fits t × RangesFit n ranges ⌝ }
+    ensures { λ r. ⌜ NodesSummed n (ranges .count) t (t .count) (r .nodes) (r .atoms) (r .actions) ⌝ }
 {
     let mut atoms: usize = 0;
     let mut actions: usize = 0;
@@ -63,7 +65,8 @@ fn of_nodes(n: usize, t: tree::Nodes) -> Walked
         let kind = tree::wide(row.kind);
         let rows = rows::power(n, tree::wide(row.width));
         atoms = atoms + layout::node_width(n, rows, kind);
-        actions = actions + rows * layout::choices(n, kind, tree::wide(row.many));
+        let count = ranges.count[tree::wide(row.sort)];
+        actions = actions + rows * layout::choices(count, kind, tree::wide(row.many));
         nodes += 1;
     }
     Walked {
@@ -73,13 +76,13 @@ fn of_nodes(n: usize, t: tree::Nodes) -> Walked
     }
 }
 
-// The tally of n elements, the relations and the nodes of a tree.
-pub fn of_tables(n: usize, g: Relations, t: tree::Nodes) -> Tally
-    requires { ⌜ (0 < n) × (n ≤ 64) × RelationsFit g × Fits t ⌝ }
-    ensures { λ r. ⌜ ((p : Problem) → Inputs p n g t → Tallied p r) ⌝ }
+// The tally of n elements, their ranges, the relations and the nodes of a tree.
+pub fn of_tables(n: usize, ranges: Ranges, g: Relations, t: tree::Nodes) -> Tally
+    requires { ⌜ (0 < n) × (n ≤ 64) × RelationsFit g × Fits t × RangesFit n ranges ⌝ }
+    ensures { λ r. ⌜ ((p : Problem) (w : List ℕ) (k : ℕ) → RangesAre n w k ranges → Inputs p n w k g t → Tallied p r) ⌝ }
 {
     let b = of_relations(n, g);
-    let w = of_nodes(n, t);
+    let w = of_nodes(n, ranges, t);
     let nodes = w.nodes;
     let atoms = b.atoms + w.atoms;
     let actions = b.sets + 1 + (w.actions + 1);

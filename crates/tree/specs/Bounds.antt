@@ -7,7 +7,7 @@ use mathlib.Core.Bool.{true, false}
 use mathlib.Core.List.{List, [], _∷_, _++_}
 use lib.ListN.{length, getD, set, replicate, length-append, length-replicate}
 use lib.Seq.{sets}
-use Rattle.definitions.specs.Tree.{Tree, Trees, leaf, forallNode, existsNode, andNode, orNode, end, _then_, nodes, nodesAll, parts, partsFrom, free}
+use Rattle.definitions.specs.Tree.{Tree, Trees, leaf, forallNode, existsNode, andNode, orNode, end, _then_, nodes, nodesAll, parts, partsFrom, nodeSort, free}
 use Rattle.tree.specs.Tables.{noPart, noNode, nodeLevel, PartIn, PartFits, NodeFits}
 use Rattle.tree.specs.declared.PartRow.{PartRow}
 use Rattle.tree.specs.declared.NodeRow.{NodeRow}
@@ -59,21 +59,21 @@ pub record Good (rels count : ℕ) (q : PartRow) : Type 0 where
   pub fits : PartFits q
   pub within : PartIn rels count q
 
-leaf-good : (rels count tag r : ℕ) (ls : List ℕ) → rels ≤ 17 → tag < 2 → r < rels → length ls ≤ 3 → ((i : ℕ) → getD ls i 0 < 4) → Good rels count (record { tag = tag; which = r; levels = pad 4 ls; width = length ls })
+leaf-good : (rels count tag r : ℕ) (ls : List ℕ) → rels ≤ 17 → tag < 2 → r < rels → length ls ≤ 3 → ((i : ℕ) → getD ls i 0 < 4) → Good rels count (record { tag = tag; which = r; sort = 0; levels = pad 4 ls; width = length ls })
 leaf-good rels count tag r ls b h q k f = record {
-  fits = record { width = omega arith; levels = pad-below 4 4 ls (omega arith) f; relation = λ _. omega arith; node = λ n. absurd (omega arith) };
+  fits = record { width = omega arith; sort = omega arith; levels = pad-below 4 4 ls (omega arith) f; relation = λ _. omega arith; node = λ n. absurd (omega arith) };
   within = record { relation = λ _. q; node = λ n. absurd (omega arith) };
 }
 
-node-good : (rels count tag v : ℕ) (t : Tree) → count ≤ 64 → 2 ≤ tag → v < count → Good rels count (record { tag = tag; which = v; levels = pad 4 (free t); width = length (free t) })
-node-good rels count tag v t b h q = record {
-  fits = record { width = free-few t; levels = pad-below 4 4 (free t) (omega arith) (free-below t); relation = λ n. absurd (omega arith); node = λ _. omega arith };
+node-good : (rels count tag v σ : ℕ) (t : Tree) → count ≤ 64 → 2 ≤ tag → v < count → σ ≤ 8 → Good rels count (record { tag = tag; which = v; sort = σ; levels = pad 4 (free t); width = length (free t) })
+node-good rels count tag v σ t b h q k = record {
+  fits = record { width = free-few t; sort = k; levels = pad-below 4 4 (free t) (omega arith) (free-below t); relation = λ n. absurd (omega arith); node = λ _. omega arith };
   within = record { relation = λ n. absurd (omega arith); node = λ _. q };
 }
 
 pub none-good : (rels count : ℕ) → 0 < rels → Good rels count noPart
 none-good rels count h = record {
-  fits = record { width = omega arith; levels = λ i. zero-at i; relation = λ _. omega arith; node = λ n. absurd (omega arith) };
+  fits = record { width = omega arith; sort = omega arith; levels = λ i. zero-at i; relation = λ _. omega arith; node = λ n. absurd (omega arith) };
   within = record { relation = λ _. h; node = λ n. absurd (omega arith) };
 }
   where
@@ -89,36 +89,36 @@ blank-levels (suc n) (suc i) = blank-levels n i
 
 blank-good : (rels count : ℕ) → 0 < rels → Good rels count blankPart
 blank-good rels count h = record {
-  fits = record { width = omega arith; levels = blank-levels 4; relation = λ _. omega arith; node = λ n. absurd (omega arith) };
+  fits = record { width = omega arith; sort = omega arith; levels = blank-levels 4; relation = λ _. omega arith; node = λ n. absurd (omega arith) };
   within = record { relation = λ _. h; node = λ n. absurd (omega arith) };
 }
 
-row-fits : (placed : ℕ) (t : Tree) (first many : ℕ) → nodeLevel t < 4 → first + many ≤ placed → NodeFits placed (rowOf t first many)
-row-fits placed t first many h b = record { width = free-few t; levels = pad-below 4 4 (free t) (omega arith) (free-below t); level = h; parts = b }
+row-fits : (placed : ℕ) (t : Tree) (first many : ℕ) → nodeLevel t < 4 → nodeSort t ≤ 8 → first + many ≤ placed → NodeFits placed (rowOf t first many)
+row-fits placed t first many h k b = record { width = free-few t; levels = pad-below 4 4 (free t) (omega arith) (free-below t); level = h; sort = k; parts = b }
 
 -- parts that are placed stay so
 fits-more : (p q : ℕ) (v : NodeRow) → p ≤ q → NodeFits p v → NodeFits q v
-fits-more p q v h f = record { width = f .width; levels = f .levels; level = f .level; parts = omega (arith, f .parts) }
+fits-more p q v h f = record { width = f .width; levels = f .levels; level = f .level; sort = f .sort; parts = omega (arith, f .parts) }
 
 none-fits : (placed : ℕ) → NodeFits placed noNode
-none-fits placed = record { width = omega arith; levels = λ i. zero-at i; level = omega arith; parts = omega arith }
+none-fits placed = record { width = omega arith; levels = λ i. zero-at i; level = omega arith; sort = omega arith; parts = omega arith }
   where
     zero-at : (i : ℕ) → getD [] i 0 < 4
     zero-at zero = omega arith
     zero-at (suc i) = omega arith
 
 blank-fits : (placed : ℕ) → NodeFits placed blankRow
-blank-fits placed = record { width = omega arith; levels = blank-levels 4; level = omega arith; parts = omega arith }
+blank-fits placed = record { width = omega arith; levels = blank-levels 4; level = omega arith; sort = omega arith; parts = omega arith }
 
 module _ (rels count : ℕ) (b : rels ≤ 17) (c : count ≤ 64) where
   pub part-good : (v : ℕ) (t : Tree) → Small rels t → v + length (nodes t) ≤ count → Good rels count (partOf v t)
   unfolding partOf Small nodes
   part-good v (leaf true r ls) s h = leaf-good rels count 0 r ls b (omega arith) (s .0) (s .1) (s .2)
   part-good v (leaf false r ls) s h = leaf-good rels count 1 r ls b (omega arith) (s .0) (s .1) (s .2)
-  part-good v (forallNode d σ t) s h = node-good rels count 2 v (forallNode d σ t) c (omega arith) (omega arith)
-  part-good v (existsNode d σ t) s h = node-good rels count 3 v (existsNode d σ t) c (omega arith) (omega arith)
-  part-good v (andNode ts) s h = node-good rels count 3 v (andNode ts) c (omega arith) (omega arith)
-  part-good v (orNode ts) s h = node-good rels count 3 v (orNode ts) c (omega arith) (omega arith)
+  part-good v (forallNode d σ t) s h = node-good rels count 2 v σ (forallNode d σ t) c (omega arith) (omega arith) (s .1)
+  part-good v (existsNode d σ t) s h = node-good rels count 3 v σ (existsNode d σ t) c (omega arith) (omega arith) (s .1)
+  part-good v (andNode ts) s h = node-good rels count 3 v 0 (andNode ts) c (omega arith) (omega arith) (omega arith)
+  part-good v (orNode ts) s h = node-good rels count 3 v 0 (orNode ts) c (omega arith) (omega arith) (omega arith)
 
   heads-good : (v : ℕ) (ts : Trees) → AllSmall rels ts → v + length (nodesAll ts) ≤ count → Each (Good rels count) noPart (heads v ts)
   unfolding partsFrom Small nodes Each
@@ -132,30 +132,30 @@ module _ (rels count : ℕ) (b : rels ≤ 17) (c : count ≤ 64) where
     pub parts-length : length (l .parts) ≡ 64
     pub rows-length : length (l .rows) ≡ 64
 
-  sound-node : (v : ℕ) (t : Tree) (N : List Tree) (l m : Laid) (k : ℕ) → Grows v N l (lay v t m) k → length (l .parts) ≡ 64 → length (l .rows) ≡ 64 → l .placed + k ≤ 64 → nodeLevel t < 4 → Each (Good rels count) noPart (kidsOf v t) → Sound m → Sound (lay v t m)
-  sound-node v t N l m k g x y h d e s = record {
+  sound-node : (v : ℕ) (t : Tree) (N : List Tree) (l m : Laid) (k : ℕ) → Grows v N l (lay v t m) k → length (l .parts) ≡ 64 → length (l .rows) ≡ 64 → l .placed + k ≤ 64 → nodeLevel t < 4 → nodeSort t ≤ 8 → Each (Good rels count) noPart (kidsOf v t) → Sound m → Sound (lay v t m)
+  sound-node v t N l m k g x y h d σ e s = record {
     parts = all-sets (Good rels count) noPart (kidsOf v t) (m .parts) (m .placed) e (s .parts);
-    rows = all-set (NodeFits (m .placed + length (kidsOf v t))) noNode (m .rows) v (rowOf t (m .placed) (length (kidsOf v t))) (row-fits (m .placed + length (kidsOf v t)) t (m .placed) (length (kidsOf v t)) d (omega arith)) (λ i. fits-more (m .placed) (m .placed + length (kidsOf v t)) (getD (m .rows) i noNode) (omega arith) (s .rows i));
+    rows = all-set (NodeFits (m .placed + length (kidsOf v t))) noNode (m .rows) v (rowOf t (m .placed) (length (kidsOf v t))) (row-fits (m .placed + length (kidsOf v t)) t (m .placed) (length (kidsOf v t)) d σ (omega arith)) (λ i. fits-more (m .placed) (m .placed + length (kidsOf v t)) (getD (m .rows) i noNode) (omega arith) (s .rows i));
     parts-length = g .parts-length ∙ x;
     rows-length = g .rows-length ∙ y;
   }
 
   mutual
-    unfolding laid Small nodes inner parts Each nodeLevel
+    unfolding laid Small nodes inner parts Each nodeLevel nodeSort
 
     pub laid-sound : (v : ℕ) (t : Tree) (l : Laid) → Small rels t → v + length (nodes t) ≤ count → l .placed + inner t ≤ 64 → Sound l → Sound (laid v t l)
     laid-sound v (leaf p r ls) l s h q o = o
     laid-sound v (forallNode d σ t) l s h q o =
-        sound-node v (forallNode d σ t) (nodes (forallNode d σ t)) l (laid (suc v) t l) (inner (forallNode d σ t)) (laid-grows v (forallNode d σ t) l (omega (arith, o .rows-length)) (omega (arith, o .parts-length))) (o .parts-length) (o .rows-length) q (s .0) (part-good (suc v) t (s .1) (omega arith), tt)
-        (laid-sound (suc v) t l (s .1) (omega arith) (omega arith) o)
+        sound-node v (forallNode d σ t) (nodes (forallNode d σ t)) l (laid (suc v) t l) (inner (forallNode d σ t)) (laid-grows v (forallNode d σ t) l (omega (arith, o .rows-length)) (omega (arith, o .parts-length))) (o .parts-length) (o .rows-length) q (s .0) (s .1) (part-good (suc v) t (s .2) (omega arith), tt)
+        (laid-sound (suc v) t l (s .2) (omega arith) (omega arith) o)
     laid-sound v (existsNode d σ t) l s h q o =
-        sound-node v (existsNode d σ t) (nodes (existsNode d σ t)) l (laid (suc v) t l) (inner (existsNode d σ t)) (laid-grows v (existsNode d σ t) l (omega (arith, o .rows-length)) (omega (arith, o .parts-length))) (o .parts-length) (o .rows-length) q (s .0) (part-good (suc v) t (s .1) (omega arith), tt)
-        (laid-sound (suc v) t l (s .1) (omega arith) (omega arith) o)
+        sound-node v (existsNode d σ t) (nodes (existsNode d σ t)) l (laid (suc v) t l) (inner (existsNode d σ t)) (laid-grows v (existsNode d σ t) l (omega (arith, o .rows-length)) (omega (arith, o .parts-length))) (o .parts-length) (o .rows-length) q (s .0) (s .1) (part-good (suc v) t (s .2) (omega arith), tt)
+        (laid-sound (suc v) t l (s .2) (omega arith) (omega arith) o)
     laid-sound v (andNode ts) l s h q o =
-        sound-node v (andNode ts) (nodes (andNode ts)) l (laidAll (suc v) ts l) (inner (andNode ts)) (laid-grows v (andNode ts) l (omega (arith, o .rows-length)) (omega (arith, o .parts-length))) (o .parts-length) (o .rows-length) q (omega arith) (heads-good (suc v) ts s (omega arith))
+        sound-node v (andNode ts) (nodes (andNode ts)) l (laidAll (suc v) ts l) (inner (andNode ts)) (laid-grows v (andNode ts) l (omega (arith, o .rows-length)) (omega (arith, o .parts-length))) (o .parts-length) (o .rows-length) q (omega arith) (omega arith) (heads-good (suc v) ts s (omega arith))
         (all-sound (suc v) ts l s (omega arith) (omega arith) o)
     laid-sound v (orNode ts) l s h q o =
-        sound-node v (orNode ts) (nodes (orNode ts)) l (laidAll (suc v) ts l) (inner (orNode ts)) (laid-grows v (orNode ts) l (omega (arith, o .rows-length)) (omega (arith, o .parts-length))) (o .parts-length) (o .rows-length) q (omega arith) (heads-good (suc v) ts s (omega arith))
+        sound-node v (orNode ts) (nodes (orNode ts)) l (laidAll (suc v) ts l) (inner (orNode ts)) (laid-grows v (orNode ts) l (omega (arith, o .rows-length)) (omega (arith, o .parts-length))) (o .parts-length) (o .rows-length) q (omega arith) (omega arith) (heads-good (suc v) ts s (omega arith))
         (all-sound (suc v) ts l s (omega arith) (omega arith) o)
 
     pub all-sound : (v : ℕ) (ts : Trees) (l : Laid) → AllSmall rels ts → v + length (nodesAll ts) ≤ count → l .placed + innerAll ts ≤ 64 → Sound l → Sound (laidAll v ts l)

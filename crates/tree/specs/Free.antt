@@ -128,17 +128,17 @@ module _ (rels l : ℕ) (h : l < 4) where
 
 -- a quantifier's, and those of a node with several parts
 module _ (rels v : ℕ) where
-  one-part : (k : ℕ) (d : ℕ) (t : Tree) → ltb k 2 ≡ true → Small rels t → (l : ℕ) → l < 4 → (not (isOwn (quantRow k v d) l) && any (hasLevel l) (partOf (suc v) t ∷ [])) ≡ (not (eqb l d) && occurs l t)
+  one-part : (k d σ : ℕ) (t : Tree) → ltb k 2 ≡ true → Small rels t → (l : ℕ) → l < 4 → (not (isOwn (quantRow k v d σ) l) && any (hasLevel l) (partOf (suc v) t ∷ [])) ≡ (not (eqb l d) && occurs l t)
   unfolding pad any
-  one-part k d t e s l h = rw e (ap (λ (b : Bool). not (eqb l d) && b) (or-false (hasLevel l (partOf (suc v) t)) ∙ has-part rels l h (suc v) t s))
+  one-part k d σ t e s l h = rw e (ap (λ (b : Bool). not (eqb l d) && b) (or-false (hasLevel l (partOf (suc v) t)) ∙ has-part rels l h (suc v) t s))
 
-  pub free-forall : (d σ : ℕ) (t : Tree) → Small rels t → freeWith (quantRow 0 v d) (partOf (suc v) t ∷ []) ≡ free (forallNode d σ t)
+  pub free-forall : (d σ : ℕ) (t : Tree) → Small rels t → freeWith (quantRow 0 v d σ) (partOf (suc v) t ∷ []) ≡ free (forallNode d σ t)
   unfolding freeWith free below occurs
-  free-forall d σ t s = filter-ext (λ l. not (isOwn (quantRow 0 v d) l) && any (hasLevel l) (partOf (suc v) t ∷ [])) (λ l. not (eqb l d) && occurs l t) 4 0 (λ l h. one-part 0 d t refl s l (omega arith))
+  free-forall d σ t s = filter-ext (λ l. not (isOwn (quantRow 0 v d σ) l) && any (hasLevel l) (partOf (suc v) t ∷ [])) (λ l. not (eqb l d) && occurs l t) 4 0 (λ l h. one-part 0 d σ t refl s l (omega arith))
 
-  pub free-exists : (d σ : ℕ) (t : Tree) → Small rels t → freeWith (quantRow 1 v d) (partOf (suc v) t ∷ []) ≡ free (existsNode d σ t)
+  pub free-exists : (d σ : ℕ) (t : Tree) → Small rels t → freeWith (quantRow 1 v d σ) (partOf (suc v) t ∷ []) ≡ free (existsNode d σ t)
   unfolding freeWith free below occurs
-  free-exists d σ t s = filter-ext (λ l. not (isOwn (quantRow 1 v d) l) && any (hasLevel l) (partOf (suc v) t ∷ [])) (λ l. not (eqb l d) && occurs l t) 4 0 (λ l h. one-part 1 d t refl s l (omega arith))
+  free-exists d σ t s = filter-ext (λ l. not (isOwn (quantRow 1 v d σ) l) && any (hasLevel l) (partOf (suc v) t ∷ [])) (λ l. not (eqb l d) && occurs l t) 4 0 (λ l h. one-part 1 d σ t refl s l (omega arith))
 
   pub free-and : (ts : Trees) (m : ℕ) → AllSmall rels ts → freeWith (joinRow 2 v m) (heads (suc v) ts) ≡ free (andNode ts)
   unfolding freeWith free below occurs

@@ -7,7 +7,7 @@ use mathlib.Core.List.{List, [], _∷_, _++_, append-assoc, append-nil}
 use lib.ListN.{length, set, take, drop, length-append}
 use lib.Seq.{sets, take-append-seam, drop-append-seam}
 use lib.Dec.{ltb}
-use Rattle.definitions.specs.Tree.{Tree, Trees, leaf, forallNode, existsNode, andNode, orNode, end, _then_, nodes, parts, partsFrom, howMany, free}
+use Rattle.definitions.specs.Tree.{Tree, Trees, leaf, forallNode, existsNode, andNode, orNode, end, _then_, nodes, parts, partsFrom, howMany, nodeSort, free}
 use Rattle.tree.specs.Tables.{nodeKind, nodeLevel}
 use Rattle.tree.specs.declared.PartRow.{PartRow}
 use Rattle.tree.specs.Postorder.{pad, post, postAll, partOf, kidsOf, heads, rowOf, Small, AllSmall, leafRow, quantRow, joinRow}
@@ -82,23 +82,23 @@ as-row : (row : Row) (kids : List PartRow) (G : List ℕ) (l : Laid) → freeWit
 unfolding layRow
 as-row row kids G l e = ap (λ (F : List ℕ). record { parts = sets (l .parts) (l .placed) kids; placed = l .placed + length kids; rows = set (l .rows) (row .which) (nodeRow row (levelsOf F) (l .placed)) }) e
 
-as-many : (k v m : ℕ) (t : Tree) (kids : List PartRow) (l : Laid) → m ≡ length kids → _≡_ {A = Laid} (record { parts = sets (l .parts) (l .placed) kids; placed = l .placed + length kids; rows = set (l .rows) v (record { kind = k; level = 0; levels = pad 4 (free t); width = length (free t); first = l .placed; many = m }) }) (record { parts = sets (l .parts) (l .placed) kids; placed = l .placed + length kids; rows = set (l .rows) v (record { kind = k; level = 0; levels = pad 4 (free t); width = length (free t); first = l .placed; many = length kids }) })
-as-many k v m t kids l e = ap (λ (n : ℕ). record { parts = sets (l .parts) (l .placed) kids; placed = l .placed + length kids; rows = set (l .rows) v (record { kind = k; level = 0; levels = pad 4 (free t); width = length (free t); first = l .placed; many = n }) }) e
+as-many : (k v m : ℕ) (t : Tree) (kids : List PartRow) (l : Laid) → m ≡ length kids → _≡_ {A = Laid} (record { parts = sets (l .parts) (l .placed) kids; placed = l .placed + length kids; rows = set (l .rows) v (record { kind = k; level = 0; sort = 0; levels = pad 4 (free t); width = length (free t); first = l .placed; many = m }) }) (record { parts = sets (l .parts) (l .placed) kids; placed = l .placed + length kids; rows = set (l .rows) v (record { kind = k; level = 0; sort = 0; levels = pad 4 (free t); width = length (free t); first = l .placed; many = length kids }) })
+as-many k v m t kids l e = ap (λ (n : ℕ). record { parts = sets (l .parts) (l .placed) kids; placed = l .placed + length kids; rows = set (l .rows) v (record { kind = k; level = 0; sort = 0; levels = pad 4 (free t); width = length (free t); first = l .placed; many = n }) }) e
 
 -- ---- all rows of a tree
 mutual
-  unfolding run post laid Small partOf parts pad nodeKind nodeLevel partsFrom
+  unfolding run post laid Small partOf parts pad nodeKind nodeLevel nodeSort partsFrom
 
   pub run-post : (rels v : ℕ) (t : Tree) → Small rels t → (st : State) → run (post v t) st ≡ record { stack = st .stack ++ (partOf v t ∷ []); laid = laid v t (st .laid) }
   run-post rels v (leaf p r ls) s st = leaf-lays v p r ls st (s .1)
   run-post rels v (forallNode d σ t) s st =
-      last-row (post (suc v) t) (quantRow 0 v d) st (partOf (suc v) t ∷ []) (laid (suc v) t (st .laid)) (partOf v (forallNode d σ t)) (laid v (forallNode d σ t) (st .laid)) (run-post rels (suc v) t (s .1) st) refl refl
-      (as-part (quantRow 0 v d) (freeWith (quantRow 0 v d) (partOf (suc v) t ∷ [])) (free (forallNode d σ t)) (free-forall rels v d σ t (s .1)))
-      (as-row (quantRow 0 v d) (partOf (suc v) t ∷ []) (free (forallNode d σ t)) (laid (suc v) t (st .laid)) (free-forall rels v d σ t (s .1)))
+      last-row (post (suc v) t) (quantRow 0 v d σ) st (partOf (suc v) t ∷ []) (laid (suc v) t (st .laid)) (partOf v (forallNode d σ t)) (laid v (forallNode d σ t) (st .laid)) (run-post rels (suc v) t (s .2) st) refl refl
+      (as-part (quantRow 0 v d σ) (freeWith (quantRow 0 v d σ) (partOf (suc v) t ∷ [])) (free (forallNode d σ t)) (free-forall rels v d σ t (s .2)))
+      (as-row (quantRow 0 v d σ) (partOf (suc v) t ∷ []) (free (forallNode d σ t)) (laid (suc v) t (st .laid)) (free-forall rels v d σ t (s .2)))
   run-post rels v (existsNode d σ t) s st =
-      last-row (post (suc v) t) (quantRow 1 v d) st (partOf (suc v) t ∷ []) (laid (suc v) t (st .laid)) (partOf v (existsNode d σ t)) (laid v (existsNode d σ t) (st .laid)) (run-post rels (suc v) t (s .1) st) refl refl
-      (as-part (quantRow 1 v d) (freeWith (quantRow 1 v d) (partOf (suc v) t ∷ [])) (free (existsNode d σ t)) (free-exists rels v d σ t (s .1)))
-      (as-row (quantRow 1 v d) (partOf (suc v) t ∷ []) (free (existsNode d σ t)) (laid (suc v) t (st .laid)) (free-exists rels v d σ t (s .1)))
+      last-row (post (suc v) t) (quantRow 1 v d σ) st (partOf (suc v) t ∷ []) (laid (suc v) t (st .laid)) (partOf v (existsNode d σ t)) (laid v (existsNode d σ t) (st .laid)) (run-post rels (suc v) t (s .2) st) refl refl
+      (as-part (quantRow 1 v d σ) (freeWith (quantRow 1 v d σ) (partOf (suc v) t ∷ [])) (free (existsNode d σ t)) (free-exists rels v d σ t (s .2)))
+      (as-row (quantRow 1 v d σ) (partOf (suc v) t ∷ []) (free (existsNode d σ t)) (laid (suc v) t (st .laid)) (free-exists rels v d σ t (s .2)))
   run-post rels v (andNode ts) s st =
       last-row (postAll (suc v) ts) (joinRow 2 v (howMany ts)) st (heads (suc v) ts) (laidAll (suc v) ts (st .laid)) (partOf v (andNode ts)) (laid v (andNode ts) (st .laid)) (run-all rels (suc v) ts s st) refl (heads-many (suc v) ts)
       (as-part (joinRow 2 v (howMany ts)) (freeWith (joinRow 2 v (howMany ts)) (heads (suc v) ts)) (free (andNode ts)) (free-and rels v ts (howMany ts) s))

@@ -15,7 +15,7 @@ use Rattle.tree.specs.declared.Row.{Row}
 
 -- what stands past the end of the rows
 abbrev pub noRow : Row
-noRow = record { kind = 0; which = 0; many = 0; width = 0; levels = [] }
+noRow = record { kind = 0; which = 0; many = 0; sort = 0; width = 0; levels = [] }
 
 -- ---- the values of a function at the numbers from a on
 module _ {A : Type 0} where
@@ -61,7 +61,7 @@ put-in (x ∷ vs) l p (suc k) h b = let e : p + suc k ≡ suc p + k = omega arit
 
 -- ---- a row that is written
 abbrev pub bytesOf : Row → List ℕ
-bytesOf row = row .kind ∷ row .which ∷ row .many ∷ row .width ∷ getD (row .levels) 0 0 ∷ getD (row .levels) 1 0 ∷ getD (row .levels) 2 0 ∷ []
+bytesOf row = row .kind ∷ row .which ∷ row .many ∷ row .width ∷ getD (row .levels) 0 0 ∷ getD (row .levels) 1 0 ∷ getD (row .levels) 2 0 ∷ row .sort ∷ []
 
 three : (ls : List ℕ) → length ls ≡ 3 → getD ls 0 0 ∷ getD ls 1 0 ∷ getD ls 2 0 ∷ [] ≡ ls
 three [] e = absurd (omega arith)
@@ -70,30 +70,30 @@ three (x ∷ y ∷ []) e = absurd (omega arith)
 three (x ∷ y ∷ z ∷ []) e = refl
 three (x ∷ y ∷ z ∷ w ∷ ls) e = absurd (omega arith)
 
--- bytes that agree from 7 * j on hold the same row j
-same-row : (a b : List ℕ) (i j : ℕ) → ((k : ℕ) → k < 7 → getD a (7 * i + k) 0 ≡ getD b (7 * j + k) 0) → rowAt a i ≡ rowAt b j
+-- bytes that agree from 8 * j on hold the same row j
+same-row : (a b : List ℕ) (i j : ℕ) → ((k : ℕ) → k < 8 → getD a (8 * i + k) 0 ≡ getD b (8 * j + k) 0) → rowAt a i ≡ rowAt b j
 unfolding rowAt
-same-row a b i j e = rw (first, e 1 (omega arith), e 2 (omega arith), e 3 (omega arith), e 4 (omega arith), e 5 (omega arith), e 6 (omega arith))
+same-row a b i j e = rw (first, e 1 (omega arith), e 2 (omega arith), e 3 (omega arith), e 4 (omega arith), e 5 (omega arith), e 6 (omega arith), e 7 (omega arith))
   where
-    first : getD a (7 * i) 0 ≡ getD b (7 * j) 0
-    first = rw (add-zero (7 * i), add-zero (7 * j)) at (e 0 (omega arith))
+    first : getD a (8 * i) 0 ≡ getD b (8 * j) 0
+    first = rw (add-zero (8 * i), add-zero (8 * j)) at (e 0 (omega arith))
 
 -- the stores of `put_row`
-pub stored-row : (b : List ℕ) (p : ℕ) (r : Row) → set (set (set (set (set (set (set b p (r .kind)) (p + 1) (r .which)) (p + 2) (r .many)) (p + 3) (r .width)) (p + 4) (getD (r .levels) 0 0)) (p + 5) (getD (r .levels) 1 0)) (p + 6) (getD (r .levels) 2 0) ≡ sets b p (bytesOf r)
+pub stored-row : (b : List ℕ) (p : ℕ) (r : Row) → set (set (set (set (set (set (set (set b p (r .kind)) (p + 1) (r .which)) (p + 2) (r .many)) (p + 3) (r .width)) (p + 4) (getD (r .levels) 0 0)) (p + 5) (getD (r .levels) 1 0)) (p + 6) (getD (r .levels) 2 0)) (p + 7) (r .sort) ≡ sets b p (bytesOf r)
 stored-row b p r = simp unary-clauses refl
 
 module _ (b : List ℕ) (i : ℕ) (row : Row) where
-  row-same : 7 * i + 7 ≤ length b → length (row .levels) ≡ 3 → rowAt (sets b (7 * i) (bytesOf row)) i ≡ row
+  row-same : 8 * i + 8 ≤ length b → length (row .levels) ≡ 3 → rowAt (sets b (8 * i) (bytesOf row)) i ≡ row
   unfolding rowAt
-  row-same h e = same-row (sets b (7 * i) (bytesOf row)) (bytesOf row) i 0 (λ k q. put-in (bytesOf row) b (7 * i) k q h ∙ ap (λ (n : ℕ). getD (bytesOf row) n 0) (sym (zero-add k))) ∙ ap (λ (ls : List ℕ). record { kind = row .kind; which = row .which; many = row .many; width = row .width; levels = ls }) (three (row .levels) e)
+  row-same h e = same-row (sets b (8 * i) (bytesOf row)) (bytesOf row) i 0 (λ k q. put-in (bytesOf row) b (8 * i) k q h ∙ ap (λ (n : ℕ). getD (bytesOf row) n 0) (sym (zero-add k))) ∙ ap (λ (ls : List ℕ). record { kind = row .kind; which = row .which; many = row .many; sort = row .sort; width = row .width; levels = ls }) (three (row .levels) e)
 
-  row-other : (j : ℕ) → (j ≡ i → ⊥) → rowAt (sets b (7 * i) (bytesOf row)) j ≡ rowAt b j
-  row-other j n = same-row (sets b (7 * i) (bytesOf row)) b j j (λ k q. put-out (bytesOf row) b (7 * i) (7 * j + k) (side k q (decLt j i)))
+  row-other : (j : ℕ) → (j ≡ i → ⊥) → rowAt (sets b (8 * i) (bytesOf row)) j ≡ rowAt b j
+  row-other j n = same-row (sets b (8 * i) (bytesOf row)) b j j (λ k q. put-out (bytesOf row) b (8 * i) (8 * j + k) (side k q (decLt j i)))
     where
-      side : (k : ℕ) → k < 7 → Dec (j < i) → (7 * j + k < 7 * i) ⊎ (7 * i + 7 ≤ 7 * j + k)
+      side : (k : ℕ) → k < 8 → Dec (j < i) → (8 * j + k < 8 * i) ⊎ (8 * i + 8 ≤ 8 * j + k)
       side k q (yes c) = inl (omega arith)
       side k q (no c) = inr (omega arith)
 
-  pub rows-put : length b ≡ 448 → i < 64 → length (row .levels) ≡ 3 → (len nodes : ℕ) → rowsFrom (sets b (7 * i) (bytesOf row)) len nodes ≡ withRow (rowsFrom b len nodes) i row
+  pub rows-put : length b ≡ 512 → i < 64 → length (row .levels) ≡ 3 → (len nodes : ℕ) → rowsFrom (sets b (8 * i) (bytesOf row)) len nodes ≡ withRow (rowsFrom b len nodes) i row
   unfolding below
-  rows-put l h e len nodes = ap (λ (x : List Row). record { at = x; len = len; nodes = nodes }) (set-from (rowAt b) (rowAt (sets b (7 * i) (bytesOf row))) 64 0 i h (λ j n. row-other j (λ q. n (omega arith))) ∙ ap (λ (r : Row). set (map (rowAt b) (from 0 64)) i r) (rw (zero-add i) (row-same (omega arith) e)))
+  rows-put l h e len nodes = ap (λ (x : List Row). record { at = x; len = len; nodes = nodes }) (set-from (rowAt b) (rowAt (sets b (8 * i) (bytesOf row))) 64 0 i h (λ j n. row-other j (λ q. n (omega arith))) ∙ ap (λ (r : Row). set (map (rowAt b) (from 0 64)) i r) (rw (zero-add i) (row-same (omega arith) e)))

@@ -31,13 +31,13 @@ unfoldable pub listedOf : Levels → ℕ → Bool → Levels
 listedOf r l b = if b then record { at = set (r .at) (r .width) l; width = r .width + 1 } else r
 
 abbrev pub leafPart : Row → PartRow
-leafPart row = record { tag = row .kind - 4; which = row .which; levels = getD (row .levels) 0 0 ∷ getD (row .levels) 1 0 ∷ getD (row .levels) 2 0 ∷ 0 ∷ []; width = row .width }
+leafPart row = record { tag = row .kind - 4; which = row .which; sort = row .sort; levels = getD (row .levels) 0 0 ∷ getD (row .levels) 1 0 ∷ getD (row .levels) 2 0 ∷ 0 ∷ []; width = row .width }
 
 abbrev pub nodePart : Row → Levels → PartRow
-nodePart row free = record { tag = if eqb (row .kind) 0 then 2 else 3; which = row .which; levels = free .at; width = free .width }
+nodePart row free = record { tag = if eqb (row .kind) 0 then 2 else 3; which = row .which; sort = row .sort; levels = free .at; width = free .width }
 
 abbrev pub nodeRow : Row → Levels → ℕ → NodeRow
-nodeRow row free first = record { kind = row .kind; level = getD (row .levels) 0 0; levels = free .at; width = free .width; first = first; many = row .many }
+nodeRow row free first = record { kind = row .kind; level = getD (row .levels) 0 0; sort = row .sort; levels = free .at; width = free .width; first = first; many = row .many }
 
 -- ---- the table so far, `placed` parts of it, and the parts without a parent
 pub record Laid : Type 0 where
@@ -70,10 +70,10 @@ run [] st = st
 run (row ∷ rows) st = run rows (step row st)
 
 abbrev pub blankPart : PartRow
-blankPart = record { tag = 0; which = 0; levels = replicate 4 0; width = 0 }
+blankPart = record { tag = 0; which = 0; sort = 0; levels = replicate 4 0; width = 0 }
 
 abbrev pub blankRow : NodeRow
-blankRow = record { kind = 0; level = 0; levels = replicate 4 0; width = 0; first = 0; many = 0 }
+blankRow = record { kind = 0; level = 0; sort = 0; levels = replicate 4 0; width = 0; first = 0; many = 0 }
 
 abbrev pub blank : Laid
 blank = record { parts = replicate 64 blankPart; placed = 0; rows = replicate 64 blankRow }

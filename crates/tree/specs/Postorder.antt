@@ -4,7 +4,7 @@ use mathlib.Core.Bool.{Bool, true, false}
 use mathlib.Core.List.{List, [], _∷_, _++_, map}
 use lib.ListN.{length, getD, take, set}
 use Rattle.definitions.specs.Lists.{below}
-use Rattle.definitions.specs.Tree.{Tree, Trees, leaf, forallNode, existsNode, andNode, orNode, end, _then_, Part, parts, partsFrom, nodes, howMany, free}
+use Rattle.definitions.specs.Tree.{Tree, Trees, leaf, forallNode, existsNode, andNode, orNode, end, _then_, Part, parts, partsFrom, nodes, howMany, nodeSort, free}
 use Rattle.tree.specs.Tables.{nodeKind, nodeLevel}
 use Rattle.tree.specs.declared.PartRow.{PartRow}
 use Rattle.tree.specs.declared.NodeRow.{NodeRow}
@@ -21,20 +21,20 @@ leafKind true = 4
 leafKind false = 5
 
 abbrev pub leafRow : Bool → ℕ → List ℕ → Row
-leafRow p r ls = record { kind = leafKind p; which = r; many = 0; width = length ls; levels = pad 3 ls }
+leafRow p r ls = record { kind = leafKind p; which = r; many = 0; sort = 0; width = length ls; levels = pad 3 ls }
 
-abbrev pub quantRow : ℕ → ℕ → ℕ → Row
-quantRow k v d = record { kind = k; which = v; many = 1; width = 1; levels = pad 3 (d ∷ []) }
+abbrev pub quantRow : (kind node level sort : ℕ) → Row
+quantRow k v d s = record { kind = k; which = v; many = 1; sort = s; width = 1; levels = pad 3 (d ∷ []) }
 
 abbrev pub joinRow : ℕ → ℕ → ℕ → Row
-joinRow k v m = record { kind = k; which = v; many = m; width = 0; levels = pad 3 [] }
+joinRow k v m = record { kind = k; which = v; many = m; sort = 0; width = 0; levels = pad 3 [] }
 
 -- the rows of a tree whose preorder number is v, its parts' rows first
 unfoldable mutual
   pub post : ℕ → Tree → List Row
   post v (leaf p r ls) = leafRow p r ls ∷ []
-  post v (forallNode d σ t) = post (suc v) t ++ (quantRow 0 v d ∷ [])
-  post v (existsNode d σ t) = post (suc v) t ++ (quantRow 1 v d ∷ [])
+  post v (forallNode d σ t) = post (suc v) t ++ (quantRow 0 v d σ ∷ [])
+  post v (existsNode d σ t) = post (suc v) t ++ (quantRow 1 v d σ ∷ [])
   post v (andNode ts) = postAll (suc v) ts ++ (joinRow 2 v (howMany ts) ∷ [])
   post v (orNode ts) = postAll (suc v) ts ++ (joinRow 3 v (howMany ts) ∷ [])
 
@@ -69,20 +69,20 @@ rowsIn r = take (r .len) (r .at)
 abbrev pub withRow : Rows → ℕ → Row → Rows
 withRow t i row = record { at = set (t .at) i row; len = t .len; nodes = t .nodes }
 
--- row i of a table that is lent as bytes, seven to a row
+-- row i of a table that is lent as bytes, eight to a row
 unfoldable pub rowAt : List ℕ → ℕ → Row
-rowAt b i = record { kind = getD b (7 * i) 0; which = getD b (7 * i + 1) 0; many = getD b (7 * i + 2) 0; width = getD b (7 * i + 3) 0; levels = getD b (7 * i + 4) 0 ∷ getD b (7 * i + 5) 0 ∷ getD b (7 * i + 6) 0 ∷ [] }
+rowAt b i = record { kind = getD b (8 * i) 0; which = getD b (8 * i + 1) 0; many = getD b (8 * i + 2) 0; sort = getD b (8 * i + 7) 0; width = getD b (8 * i + 3) 0; levels = getD b (8 * i + 4) 0 ∷ getD b (8 * i + 5) 0 ∷ getD b (8 * i + 6) 0 ∷ [] }
 
 -- that table
 abbrev pub rowsFrom : List ℕ → ℕ → ℕ → Rows
 rowsFrom b len nodes = record { at = map (rowAt b) (below 64); len = len; nodes = nodes }
 
--- what the table's parts need: literals of the first `rels` relations, with 3 levels at the most, all levels below 4
+-- what the table's parts need: literals of the first `rels` relations, with 3 levels at the most, all levels below 4, sorts 8 at the most
 unfoldable mutual
   pub Small : ℕ → Tree → Type 0
   Small rels (leaf p r ls) = (r < rels) × (length ls ≤ 3) × ((i : ℕ) → getD ls i 0 < 4)
-  Small rels (forallNode d σ t) = (d < 4) × Small rels t
-  Small rels (existsNode d σ t) = (d < 4) × Small rels t
+  Small rels (forallNode d σ t) = (d < 4) × (σ ≤ 8) × Small rels t
+  Small rels (existsNode d σ t) = (d < 4) × (σ ≤ 8) × Small rels t
   Small rels (andNode ts) = AllSmall rels ts
   Small rels (orNode ts) = AllSmall rels ts
 
@@ -94,12 +94,12 @@ unfoldable mutual
 
 -- a tree as a part, where its preorder number is v
 unfoldable pub partOf : ℕ → Tree → PartRow
-partOf v (leaf true r ls) = record { tag = 0; which = r; levels = pad 4 ls; width = length ls }
-partOf v (leaf false r ls) = record { tag = 1; which = r; levels = pad 4 ls; width = length ls }
-partOf v (forallNode d σ t) = record { tag = 2; which = v; levels = pad 4 (free (forallNode d σ t)); width = length (free (forallNode d σ t)) }
-partOf v (existsNode d σ t) = record { tag = 3; which = v; levels = pad 4 (free (existsNode d σ t)); width = length (free (existsNode d σ t)) }
-partOf v (andNode ts) = record { tag = 3; which = v; levels = pad 4 (free (andNode ts)); width = length (free (andNode ts)) }
-partOf v (orNode ts) = record { tag = 3; which = v; levels = pad 4 (free (orNode ts)); width = length (free (orNode ts)) }
+partOf v (leaf true r ls) = record { tag = 0; which = r; sort = 0; levels = pad 4 ls; width = length ls }
+partOf v (leaf false r ls) = record { tag = 1; which = r; sort = 0; levels = pad 4 ls; width = length ls }
+partOf v (forallNode d σ t) = record { tag = 2; which = v; sort = σ; levels = pad 4 (free (forallNode d σ t)); width = length (free (forallNode d σ t)) }
+partOf v (existsNode d σ t) = record { tag = 3; which = v; sort = σ; levels = pad 4 (free (existsNode d σ t)); width = length (free (existsNode d σ t)) }
+partOf v (andNode ts) = record { tag = 3; which = v; sort = 0; levels = pad 4 (free (andNode ts)); width = length (free (andNode ts)) }
+partOf v (orNode ts) = record { tag = 3; which = v; sort = 0; levels = pad 4 (free (orNode ts)); width = length (free (orNode ts)) }
 
 abbrev pub partAt : Part → PartRow
 partAt q = partOf (q .node) (q .tree)
@@ -113,4 +113,4 @@ heads v ts = map partAt (partsFrom v ts)
 
 -- a node's row, its `many` parts from `first` on
 abbrev pub rowOf : Tree → ℕ → ℕ → NodeRow
-rowOf t first many = record { kind = nodeKind t; level = nodeLevel t; levels = pad 4 (free t); width = length (free t); first = first; many = many }
+rowOf t first many = record { kind = nodeKind t; level = nodeLevel t; sort = nodeSort t; levels = pad 4 (free t); width = length (free t); first = first; many = many }

@@ -4,17 +4,17 @@ use mathlib.Core.Bool.{true, false}
 use mathlib.Core.List.{List, [], _∷_, map}
 use Prim.Native.Nat.{ℕ, _+_, _≤_, _<_}
 use lib.ListN.{length, getD, take, drop}
-use Rattle.definitions.specs.Tree.{Tree, leaf, forallNode, existsNode, andNode, orNode, Part, parts, nodes, free}
+use Rattle.definitions.specs.Tree.{Tree, leaf, forallNode, existsNode, andNode, orNode, Part, parts, nodes, nodeSort, free}
 use Rattle.tree.specs.declared.PartRow.{PartRow}
 use Rattle.tree.specs.declared.NodeRow.{NodeRow}
 use Rattle.tree.specs.declared.Nodes.{Nodes}
 
 -- what stands past the end of a table
 abbrev pub noPart : PartRow
-noPart = record { tag = 0; which = 0; levels = []; width = 0 }
+noPart = record { tag = 0; which = 0; sort = 0; levels = []; width = 0 }
 
 abbrev pub noNode : NodeRow
-noNode = record { kind = 0; level = 0; levels = []; width = 0; first = 0; many = 0 }
+noNode = record { kind = 0; level = 0; sort = 0; levels = []; width = 0; first = 0; many = 0 }
 
 -- ---- a node's kind and level as numbers
 
@@ -32,27 +32,28 @@ nodeLevel (andNode ts) = 0
 nodeLevel (orNode ts) = 0
 nodeLevel (leaf p r ls) = 0
 
--- ---- a part: what it is, its relation or node, and its levels
+-- ---- a part: what it is, its relation or node, its sort, and its levels
 pub record Head : Type 0 where
   pub tag : ℕ
   pub which : ℕ
+  pub sort : ℕ
   pub levels : List ℕ
 
 -- of a tree whose preorder number is v
 unfoldable pub headFrom : ℕ → Tree → Head
-headFrom v (leaf true r ls) = record { tag = 0; which = r; levels = ls }
-headFrom v (leaf false r ls) = record { tag = 1; which = r; levels = ls }
-headFrom v (forallNode d σ t) = record { tag = 2; which = v; levels = free (forallNode d σ t) }
-headFrom v (existsNode d σ t) = record { tag = 3; which = v; levels = free (existsNode d σ t) }
-headFrom v (andNode ts) = record { tag = 3; which = v; levels = free (andNode ts) }
-headFrom v (orNode ts) = record { tag = 3; which = v; levels = free (orNode ts) }
+headFrom v (leaf true r ls) = record { tag = 0; which = r; sort = 0; levels = ls }
+headFrom v (leaf false r ls) = record { tag = 1; which = r; sort = 0; levels = ls }
+headFrom v (forallNode d σ t) = record { tag = 2; which = v; sort = σ; levels = free (forallNode d σ t) }
+headFrom v (existsNode d σ t) = record { tag = 3; which = v; sort = σ; levels = free (existsNode d σ t) }
+headFrom v (andNode ts) = record { tag = 3; which = v; sort = 0; levels = free (andNode ts) }
+headFrom v (orNode ts) = record { tag = 3; which = v; sort = 0; levels = free (orNode ts) }
 
 abbrev pub headOf : Part → Head
 headOf q = headFrom (q .node) (q .tree)
 
 -- of a row of the table
 abbrev pub headIn : PartRow → Head
-headIn q = record { tag = q .tag; which = q .which; levels = take (q .width) (q .levels) }
+headIn q = record { tag = q .tag; which = q .which; sort = q .sort; levels = take (q .width) (q .levels) }
 
 -- ---- the table of a tree
 
@@ -65,6 +66,7 @@ pub record PartIn (rels nodes : ℕ) (q : PartRow) : Type 0 where
 pub record IsNode (v : ℕ) (t : Tree) (row : NodeRow) (ps : List PartRow) : Type 0 where
   pub kind : row .kind ≡ nodeKind t
   pub level : row .level ≡ nodeLevel t
+  pub sort : row .sort ≡ nodeSort t
   pub width : row .width ≡ length (free t)
   pub levels : take (row .width) (row .levels) ≡ free t
   pub parts : map headIn (take (row .many) (drop (row .first) ps)) ≡ map headOf (parts v t)
@@ -84,6 +86,7 @@ Levels ls = (i : ℕ) → getD ls i 0 < 4
 
 pub record PartFits (q : PartRow) : Type 0 where
   pub width : q .width ≤ 4
+  pub sort : q .sort ≤ 8
   pub levels : Levels (q .levels)
   pub relation : q .tag < 2 → q .which < 17
   pub node : 2 ≤ q .tag → q .which < 64
@@ -93,6 +96,7 @@ pub record NodeFits (placed : ℕ) (v : NodeRow) : Type 0 where
   pub width : v .width ≤ 4
   pub levels : Levels (v .levels)
   pub level : v .level < 4
+  pub sort : v .sort ≤ 8
   pub parts : v .first + v .many ≤ placed
 
 pub record PartsFit (t : Nodes) : Type 0 where

@@ -95,8 +95,8 @@ head-parts rels v (t then ts) s = rw (head-part rels v t (s .0), head-parts rels
 head-kids : (rels v : ℕ) (t : Tree) → Small rels t → map headIn (kidsOf v t) ≡ map headOf (parts v t)
 unfolding parts Small
 head-kids rels v (leaf p r ls) s = refl
-head-kids rels v (forallNode d σ t) s = rw (head-part rels (suc v) t (s .1))
-head-kids rels v (existsNode d σ t) s = rw (head-part rels (suc v) t (s .1))
+head-kids rels v (forallNode d σ t) s = rw (head-part rels (suc v) t (s .2))
+head-kids rels v (existsNode d σ t) s = rw (head-part rels (suc v) t (s .2))
 head-kids rels v (andNode ts) s = head-parts rels (suc v) ts s
 head-kids rels v (orNode ts) s = head-parts rels (suc v) ts s
 
@@ -105,8 +105,8 @@ mutual
 
   nodes-small : (rels : ℕ) (t : Tree) → Small rels t → Each (Small rels) (leaf true 0 []) (nodes t)
   nodes-small rels (leaf p r ls) s = tt
-  nodes-small rels (forallNode d σ t) s = (s, nodes-small rels t (s .1))
-  nodes-small rels (existsNode d σ t) s = (s, nodes-small rels t (s .1))
+  nodes-small rels (forallNode d σ t) s = (s, nodes-small rels t (s .2))
+  nodes-small rels (existsNode d σ t) s = (s, nodes-small rels t (s .2))
   nodes-small rels (andNode ts) s = (s, all-small rels ts s)
   nodes-small rels (orNode ts) s = (s, all-small rels ts s)
 
@@ -119,6 +119,7 @@ shown-is : (rels v : ℕ) (t : Tree) (row : NodeRow) (l : Laid) → Small rels t
 shown-is rels v t row l s h = subst (λ (r : NodeRow). IsNode v t r (l .parts)) (sym (h .is)) (record {
   kind = refl;
   level = refl;
+  sort = refl;
   width = refl;
   levels = take-pad 4 (free t) (free-few t);
   parts = ap (λ (x : List PartRow). map headIn x) (h .parts) ∙ head-kids rels v t s;

@@ -16,19 +16,22 @@ ghost use Rattle.tree.specs.Whole.{Of};
 pub const NODES: usize = 64;
 
 // A part of a node: a tuple (tag 0) or not-tuple (1) of relation `which` at its argument levels, or node `which` with its free
-// levels, outermost first, a `forall` (2) or another (3). The first `width` of the levels count.
+// levels, outermost first, a `forall` (2) or another (3). A quantifier has a sort, what is none has 0. The first `width` of the levels
+// count.
 pub struct PartRow {
     pub tag: u8,
     pub which: u8,
+    pub sort: u8,
     pub levels: [u8; 4],
     pub width: u8,
 }
 
-// A node: its kind (0 forall, 1 exists, 2 and, 3 or), a quantifier's level, its free levels, outermost first, and where its parts
+// A node: its kind (0 forall, 1 exists, 2 and, 3 or), a quantifier's level and sort, its free levels, outermost first, and where its parts
 // stand: `many` of them from part `first` on.
 pub struct NodeRow {
     pub kind: u8,
     pub level: u8,
+    pub sort: u8,
     pub levels: [u8; 4],
     pub width: u8,
     pub first: u8,
@@ -48,18 +51,19 @@ pub struct Nodes {
 pub const ROWS: usize = 64;
 
 // A tree's row; the rows of its parts come before it. A node has its kind (0 forall, 1 exists, 2 and, 3 or), its preorder number
-// `which`, `many` parts, and for a quantifier its level, alone in `levels`. A literal (kind 4, a not-tuple 5) has its relation
-// `which`, no parts, and its levels. The first `width` of the levels count, the others are 0.
+// `which`, `many` parts, and for a quantifier its sort and its level, alone in `levels`. A literal (kind 4, a not-tuple 5) has its relation
+// `which`, no parts, and its levels. The first `width` of the levels count, the others are 0, as is the sort of what is no quantifier.
 pub struct Row {
     pub kind: u8,
     pub which: u8,
     pub many: u8,
+    pub sort: u8,
     pub width: u8,
     pub levels: [u8; 3],
 }
 
 // How many bytes a row has in a lent table of rows, and how many such a table has.
-const WIDTH: usize = 7;
+const WIDTH: usize = 8;
 
 pub const BYTES: usize = WIDTH * ROWS;
 
@@ -156,6 +160,7 @@ fn leaf_part(row: Row) -> PartRow
     PartRow {
         tag: row.kind - 4,
         which: row.which,
+        sort: row.sort,
         levels: [row.levels[0], row.levels[1], row.levels[2], 0],
         width: row.width,
     }
@@ -177,6 +182,7 @@ fn node_part(row: Row, free: Levels) -> PartRow
     PartRow {
         tag,
         which: row.which,
+        sort: row.sort,
         levels,
         width: free.width as u8,
     }
@@ -191,6 +197,7 @@ fn node_row(row: Row, free: Levels, first: usize) -> NodeRow
     NodeRow {
         kind: row.kind,
         level: row.levels[0],
+        sort: row.sort,
         levels,
         width: free.width as u8,
         first: first as u8,
@@ -204,6 +211,7 @@ fn no_part() -> PartRow
     PartRow {
         tag: 0,
         which: 0,
+        sort: 0,
         levels: [0u8; 4],
         width: 0,
     }
@@ -215,6 +223,7 @@ fn no_row() -> NodeRow
     NodeRow {
         kind: 0,
         level: 0,
+        sort: 0,
         levels: [0u8; 4],
         width: 0,
         first: 0,
@@ -224,7 +233,7 @@ fn no_row() -> NodeRow
 
 // Row i of a lent table.
 fn row_at(rows: &[u8], i: usize) -> Row
-    requires { ⌜ (length (now rows) ≡ 448) × (i < 64) ⌝ }
+    requires { ⌜ (length (now rows) ≡ 512) × (i < 64) ⌝ }
     ensures { λ r. ⌜ r ≡ rowAt (now (rows .entry)) i ⌝ }
 {
     let at = WIDTH * i;
@@ -232,6 +241,7 @@ fn row_at(rows: &[u8], i: usize) -> Row
         kind: rows[at],
         which: rows[at + 1],
         many: rows[at + 2],
+        sort: rows[at + 7],
         width: rows[at + 3],
         levels: [rows[at + 4], rows[at + 5], rows[at + 6]],
     }
@@ -239,8 +249,8 @@ fn row_at(rows: &[u8], i: usize) -> Row
 
 // Row i of a lent table becomes `row`.
 pub fn put_row(rows: &mut [u8], i: usize, row: Row)
-    requires { ⌜ (length (now rows) ≡ 448) × (i < 64) ⌝ }
-    ensures { λ r. ⌜ (length (now (rows .exit)) ≡ 448) × ((len nodes : ℕ) → rowsFrom (now (rows .exit)) len nodes ≡ withRow (rowsFrom (now (rows .entry)) len nodes) i row) ⌝ }
+    requires { ⌜ (length (now rows) ≡ 512) × (i < 64) ⌝ }
+    ensures { λ r. ⌜ (length (now (rows .exit)) ≡ 512) × ((len nodes : ℕ) → rowsFrom (now (rows .exit)) len nodes ≡ withRow (rowsFrom (now (rows .entry)) len nodes) i row) ⌝ }
 {
     let at = WIDTH * i;
     let levels = row.levels;
@@ -251,11 +261,12 @@ pub fn put_row(rows: &mut [u8], i: usize, row: Row)
     rows[at + 4] = levels[0];
     rows[at + 5] = levels[1];
     rows[at + 6] = levels[2];
+    rows[at + 7] = row.sort;
 }
 
 // The table of the tree of which these are the first `len` rows, `count` of them nodes.
 pub fn tabulate(from: &[u8], len: usize, count: usize) -> Nodes
-    requires { ⌜ (length (now from) ≡ 448) × (len ≤ 64) × Ranged 0 0 (rowsIn (rowsFrom (now from) len count)) ⌝ }
+    requires { ⌜ (length (now from) ≡ 512) × (len ≤ 64) × Ranged 0 0 (rowsIn (rowsFrom (now from) len count)) ⌝ }
     ensures { λ r. ⌜ ((rels : ℕ) (root : Tree) → Of rels root (rowsFrom (now (from .entry)) len count) → IsTable rels root r × Fits r) ⌝ }
 {
     let blank = no_part();

@@ -23,7 +23,7 @@ use Rattle.ground.specs.Lines.{partNumber, membersIn}
 use Rattle.ground.specs.NeedLaws.{value-times, within-most}
 use Rattle.ground.specs.Of.{noPart}
 use Rattle.ground.specs.declared.PartLine.{PartLine}
-use Rattle.truth.specs.Lines.{nodeIn, partIn, lineIn, partPlace, literalAt, leafAt, agree, elementIn, valueOf, valuesOf, fixedIn, known, laterOf, decided, joined, bound, Sound}
+use Rattle.truth.specs.Lines.{linesLength, nodeIn, partIn, lineIn, partPlace, literalAt, leafAt, agree, elementIn, valueOf, valuesOf, fixedIn, known, laterOf, decided, joined, bound, Sound}
 use Rattle.truth.specs.Says.{nodeOf, noValues, PartSays, Says, Asked, truthBy, cellOf, underOf, partsIn, AllTurns, AllParts, IsCell, IsNode, Under, Still, Passed}
 use Rattle.truth.specs.declared.NodeAt.{NodeAt}
 use Rattle.truth.specs.declared.PartAt.{PartAt}
@@ -83,7 +83,7 @@ module _ (n : ℕ) (w : List ℕ) (sound : Sound n w) (v : ℕ) (l : v < 64) (x 
   pub parts-small : x .first + x .many ≤ 64
   parts-small = rw line (sound .node v l .parts)
 
-  pub range-inside : x .range + x .count ≤ 967
+  pub range-inside : x .range + x .count ≤ linesLength
   range-inside = rw line (sound .node v l .inside)
 
   pub element-small : (i : ℕ) → i < x .count → elementIn w (x .range) i < n

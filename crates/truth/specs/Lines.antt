@@ -14,19 +14,22 @@ use Rattle.ground.specs.declared.PartLine.{PartLine}
 use Rattle.truth.specs.declared.NodeAt.{NodeAt}
 use Rattle.truth.specs.declared.PartAt.{PartAt}
 
--- where lines stand: 64 of nodes, 64 of parts and the root's, then the ranges
+-- where lines stand: 64 of nodes, 64 of parts and the root's, then the ranges of 9 sorts
 abbrev pub nodePlace : ℕ → ℕ
 nodePlace v = 7 * v
 
 abbrev pub partPlace : ℕ → ℕ
 partPlace i = 448 + 7 * i
 
--- the first range is that of all elements
+-- the first range is that of all elements, sort 0
 abbrev pub rangesPlace : ℕ
 rangesPlace = 903
 
+abbrev pub rangePlace : ℕ → ℕ
+rangePlace s = rangesPlace + 64 * s
+
 abbrev pub linesLength : ℕ
-linesLength = 967
+linesLength = 1479
 
 unfoldable pub nodeIn : List ℕ → ℕ → NodeAt
 nodeIn w v =

@@ -17,14 +17,16 @@ pub const NODE_LINE: usize = 7;
 
 pub const PART_LINE: usize = 7;
 
-// Where the lines of parts begin, the root's line, and the ranges of quantifiers; how many numbers there are in all.
+// Where the lines of parts begin, the root's line, and the ranges of the sorts, 64 numbers for each; how many numbers there are in all.
 pub const PART_AT: usize = 448;
 
 pub const ROOT_AT: usize = 896;
 
 pub const RANGE_AT: usize = 903;
 
-pub const LINES: usize = 967;
+pub const RANGE_LINE: usize = 64;
+
+pub const LINES: usize = 1479;
 
 // A node: its quantifier (0 forall, 1 exists, 2 none) and that one's level; what joins the parts under it (0 and, 1 or); the first of
 // these parts and how many there are; where the elements stand that the quantifier goes over, and how many these are. An `and` or `or`

@@ -33,7 +33,7 @@ use Rattle.tuples.proofs.Words.{its-words}
 
 -- a signature of no relation: bounds hold for every signature with the arrays, so for this one
 pub noSignature : Signature
-noSignature = record { rels = 0; chosen = 0; from = []; to = []; arity = []; kind = [] }
+noSignature = record { rels = 0; chosen = 0; types = 0; from = []; to = []; arity = []; kind = [] }
 
 -- ---- the tests 7, 9 and 18
 

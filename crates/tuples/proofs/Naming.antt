@@ -17,6 +17,7 @@ use Rattle.definitions.specs.Refusal.{refused, accepted, _>>=_, refuseIf, given
 use Rattle.definitions.specs.Sheets as D
 use Rattle.laws.specs.Booleans.{T-of, T-true, T-false}
 use Rattle.laws.specs.Labels.{LabelsFit, name-at, element-at, name-found, element-found, one-snoc, one-to-one, taken-at, taken-by, mean-small, option-parts}
+use Rattle.laws.specs.Reader.{mem-snoc}
 use Rattle.laws.specs.Lists.{none-some, snoc-cases, some-eq}
 use Rattle.laws.specs.Tuples.{same-eq, same-refl}
 use Rattle.records.specs.Entries.{Fielded, codesOf, elementBy, elementsBy, listOf}
@@ -379,7 +380,7 @@ module _ (n : ℕ) (ls : List D.Label) where
 module _ (n : ℕ) (ls : List D.Label) (at : ℕ) (e : D.Element) (name : List ℕ) where
   -- what is added to: a site that has its size and no fact yet
   abbrev site-draft : D.SiteDraft
-  site-draft = record { sized = some n; labels = ls; facts = [] }
+  site-draft = record { sized = some n; labels = ls; members = []; facts = [] }
 
   label-9 : D.isInRange n e ≡ false → D.addLabel site-draft at e name ≡ refused 9 at
   unfolding D.addLabel given _>>=_ refuseIf isEmpty
@@ -395,12 +396,9 @@ module _ (n : ℕ) (ls : List D.Label) (at : ℕ) (e : D.Element) (name : List �
       unfolding D.addLabel given _>>=_ refuseIf isEmpty
       label-taken k = rw (h, q, k)
 
-      label-added : D.isTaken ls x name ≡ false → D.addLabel site-draft at e name ≡ accepted (record { sized = some n; labels = ls ++ (record { element = x; name = name } ∷ []); facts = [] })
+      label-added : D.isTaken ls x name ≡ false → D.addLabel site-draft at e name ≡ accepted (record { sized = some n; labels = ls ++ (record { element = x; name = name } ∷ []); members = []; facts = [] })
       unfolding D.addLabel given _>>=_ refuseIf isEmpty
       label-added k = rw (h, q, k)
-
-mem-snoc : (P : D.Label → Type 0) (ls : List D.Label) (k : D.Label) → ((l : D.Label) → List·Memᴰ l ls → P l) → P k → (l : D.Label) → List·Memᴰ l (ls ++ (k ∷ [])) → P l
-mem-snoc P ls k h p l m = ⊎-elim (λ q. h l q) (λ q. subst P (sym q) p) (snoc-cases ls k l m)
 
 -- the names after it: its own element's, and the others' as they were
 other-name : (ls : List D.Label) (k : D.Label) (y : ℕ) → (y ≡ k .element → ⊥) → D.nameOf (ls ++ (k ∷ [])) y ≡ D.nameOf ls y
@@ -523,7 +521,7 @@ unfolding LabelAdded LabelAdds D.elementOf D.isInRange meant option spanned
 label-new site n w x a e old d h few in-site formed k u ls at L =
     let free = go (D.elementNamed ls (slice a e site)) refl (u ls L) in (
       record { element = x; name = slice a e site },
-      number-is site n w x (slice a e site) old old d (λ y. D.addLabel (site-draft n ls at y (slice a e site)) at y (slice a e site) ≡ accepted (record { sized = some n; labels = ls ++ (record { element = x; name = slice a e site } ∷ []); facts = [] }))
+      number-is site n w x (slice a e site) old old d (λ y. D.addLabel (site-draft n ls at y (slice a e site)) at y (slice a e site) ≡ accepted (record { sized = some n; labels = ls ++ (record { element = x; name = slice a e site } ∷ []); members = []; facts = [] }))
           (label-added n ls at (D.numbered x) (slice a e site) (lt-ltb x n h) x refl (is-free n ls (L .fit) x (slice a e site) (L .says x ∙ ap (spanned site (getD old (2 * x) 0)) k) free)),
       label-words site old n ls L x a e h few in-site (T-of formed) k free,
     )

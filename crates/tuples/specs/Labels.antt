@@ -43,8 +43,8 @@ isNumber k = not (eqb k 10000000)
 -- what adding a label gives, by the answer's number
 unfoldable pub LabelAdds : List ℕ → ℕ → Element → List ℕ → List Label → ℕ → List ℕ → ℕ → Type 0
 LabelAdds site n e name ls at new zero =
-    (l : Label) × (addLabel (record { sized = some n; labels = ls; facts = [] }) at e name ≡ accepted (record { sized = some n; labels = ls ++ (l ∷ []); facts = [] })) × LabelsAre site new n (ls ++ (l ∷ []))
-LabelAdds site n e name ls at new (suc k) = addLabel (record { sized = some n; labels = ls; facts = [] }) at e name ≡ refused (suc k) at
+    (l : Label) × (addLabel (record { sized = some n; labels = ls; members = []; facts = [] }) at e name ≡ accepted (record { sized = some n; labels = ls ++ (l ∷ []); members = []; facts = [] })) × LabelsAre site new n (ls ++ (l ∷ []))
+LabelAdds site n e name ls at new (suc k) = addLabel (record { sized = some n; labels = ls; members = []; facts = [] }) at e name ≡ refused (suc k) at
 
 -- the same for any labels so far that the words say
 unfoldable pub LabelAdded : List ℕ → ℕ → Element → List ℕ → List ℕ → List ℕ → ℕ → Type 0

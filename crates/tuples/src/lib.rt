@@ -1,5 +1,5 @@
 // Tuples of a `fact` or `pick` line as bits: each relation from a new word on, a tuple's bit at its row; the labels of elements as
-// spans of the site's text; refusals 7, 9, 18 and 10.
+// spans of the site's text; the members of types as bits, a word a type; refusals 7, 19, 9, 18 and 10.
 ghost use mathlib.Core.Path.{_≡_};
 ghost use mathlib.Core.List.{List, _∷_, [], _++_};
 ghost use mathlib.Core.Bool.{true};
@@ -10,8 +10,9 @@ ghost use Rattle.definitions.specs.Lists.{all};
 ghost use Rattle.definitions.specs.Text.{isRelationName};
 ghost use Rattle.definitions.specs.Sheets.{Label, elementNamed, elementOf, isInRange};
 ghost use Rattle.records.specs.Entries.{Fielded, codesOf, elementBy, elementsBy, listOf};
-ghost use Rattle.names.specs.Signatures.{withArrays};
+ghost use Rattle.names.specs.Signatures.{withArrays, typesIn};
 ghost use Rattle.tuples.specs.Labels.{LabelsAre, meant, values, isNumber, LabelAdded};
+ghost use Rattle.tuples.specs.Members.{MemberAdded};
 ghost use Rattle.tuples.specs.Marks.{InRow, RowBelow, firstWord, Arrays, Roomy, Spotted, Added};
 use names::Signature;
 use records::Places;
@@ -361,4 +362,45 @@ pub fn label(s: &[u8], k: u32, a: usize, t: usize, e: usize, n: usize, labels: &
     labels[2 * x] = t + 1;
     labels[2 * x + 1] = e;
     0
+}
+
+// Adds a member from the site's text, where its type is named from a to t, one of the first `types` of a signature whose names are lent,
+// and its element field, of number k, goes from t + 1 up to e: 0, or the number of its refusal.
+pub fn member(
+    q: &[u8],
+    from: &[usize],
+    to: &[usize],
+    types: usize,
+    s: &[u8],
+    a: usize,
+    t: usize,
+    k: u32,
+    e: usize,
+    n: usize,
+    labels: &[usize],
+    members: &mut [u64],
+) -> u32
+    requires { ⌜ (types ≤ 8) × (20 ≤ length (now from)) × (20 ≤ length (now to)) × (n ≤ 64) × (length (now members) ≡ 8) × (t < e) × (e ≤ length (now s)) ⌝ }
+    requires { ⌜ ((ls : List Label) × LabelsAre (now s) (now labels) n ls) ⌝ }
+    ensures { λ r. ⌜ ((ls : List Label) → LabelsAre (now (s .entry)) (now (labels .entry)) n ls
+        → MemberAdded (typesIn (now (q .entry)) (now (from .entry)) (now (to .entry)) types) n ls (slice a t (now (s .entry))) (elementBy (slice (t + 1) e (now (s .entry))) k) (now (members .entry)) (now (members .exit)) r) ⌝ }
+{
+    let f = names::type_named(q, from, to, types, s, a, t);
+    match f {
+        Found::Nowhere => 19,
+        Found::At(j) => {
+            if fits(k, n) {
+                let x = value(s, t + 1, e, k, n, s, labels) as usize;
+                if n <= x {
+                    return 18;
+                }
+                if bits::get(members, 64 * j + x) {
+                    return 10;
+                }
+                bits::set(members, 64 * j + x);
+                return 0;
+            }
+            9
+        }
+    }
 }

@@ -4,11 +4,12 @@
 
 use peer::large::{
     broken_deep, broken_path, deep, facts, last, long_text, named_facts, named_picks, padded, path,
-    round, wide_facts, zones,
+    round, sorted_zones, wide_facts, zones,
 };
 use peer::limits::{STEPS, TEXT};
 use peer::sample::{needs, sound, Random, Sample};
 use peer::trial::{Calls, Other, Peer, LINKED};
+use peer::typing::typed;
 use peer::Reply;
 use std::hint::black_box;
 use std::time::Instant;
@@ -105,11 +106,15 @@ fn step_lines(sample: &Sample) -> Sample {
     Sample { steps, ..sample.clone() }
 }
 
-fn small_cases() -> Vec<Sample> {
+/// Random cases whose plans are short, without types or each with some.
+fn small_cases(types: bool) -> Vec<Sample> {
     let mut random = Random::new(7);
     let mut cases = Vec::new();
     while cases.len() < 1_000 {
-        let sample = sound(&mut random);
+        let mut sample = sound(&mut random);
+        if types {
+            sample = typed(&mut random, &sample);
+        }
         if needs(&sample).is_some_and(|[_, _, bound]| bound < 400) {
             cases.push(sample);
         }
@@ -137,12 +142,13 @@ fn jobs() -> Vec<Job> {
         job("four deep: read picks", Work::Picks, &deep),
         job("four deep: check lent", Work::CheckLent, &padded(&deep, 65_536)),
         Job::new("four deep: 64 KB of step lines", Work::CheckText, &step_lines(&deep)),
-        Job {
-            name: "1,000 small cases: all three".into(),
-            work: Work::Small,
-            samples: small_cases(),
-        },
+        small_job("1,000 small cases: all three", false),
+        small_job("1,000 small cases with types: all three", true),
     ]
+}
+
+fn small_job(name: &str, types: bool) -> Job {
+    Job { name: name.into(), work: Work::Small, samples: small_cases(types) }
 }
 
 /// Texts full of labels, and the same texts with numbers.
@@ -166,6 +172,7 @@ fn named_jobs() -> Vec<Job> {
 fn wide_jobs() -> Vec<Job> {
     let cases = [
         ("airport of 64, zones", zones()),
+        ("airport of 64, zones as a type", sorted_zones()),
         ("airport of 64, a round", round()),
         ("path of 31", path(31)),
         ("four deep of 26", deep(26)),
@@ -215,7 +222,7 @@ fn judged(yes: bool) -> Vec<Sample> {
         Reply::Accepted(_) => yes,
         Reply::Refused(refusal) => !yes && refusal.number == 17,
     };
-    small_cases().into_iter().filter(wanted).collect()
+    small_cases(false).into_iter().filter(wanted).collect()
 }
 
 /// What is judged beside being built.
@@ -230,6 +237,7 @@ fn judgements() -> Vec<(String, Vec<Sample>)> {
         ("four deep, false in the first row".into(), vec![broken_deep(13)]),
         ("four deep, true at the last witness".into(), vec![last(13)]),
         ("airport of 64, zones".into(), vec![zones()]),
+        ("airport of 64, zones as a type".into(), vec![sorted_zones()]),
         ("airport of 64, a round".into(), vec![round()]),
     ]
 }

@@ -14,7 +14,8 @@ const TURNS: u64 = 10;
 
 /// A sheet of bytes with no plan behind them.
 fn noise(random: &mut Random) -> Vec<u8> {
-    let alphabet = b"\t\t\n\n  (())??axyz019ABRT_relchoosrulsizelabelfactpicksteporandnotforall";
+    let alphabet =
+        b"\t\t\n\n  (())??axyz019ABRT_relchoosrulsizelabeltype:memberfactpicksteporandnotforall";
     let plain = random.once_in(2);
     let length = random.below(200);
     let mut byte = || if plain { random.word() as u8 } else { *random.choose(alphabet) };
@@ -81,12 +82,12 @@ fn kept(sample: &Sample, outcome: &Outcome, call: Call, needs: Option<Rooms>) ->
 fn known(outcome: &Outcome, call: Call) -> bool {
     let Reply::Refused(refusal) = outcome.reply else { return true };
     match call {
-        Call::Sizes => matches!(refusal.number, 1..=11 | 18),
-        Call::Action => matches!(refusal.number, 1..=11 | 13 | 18),
-        Call::Tries | Call::Allowances => matches!(refusal.number, 1..=12 | 18),
-        Call::BuildText | Call::Build => matches!(refusal.number, 1..=12 | 16..=18),
-        Call::JudgeText | Call::Judge => matches!(refusal.number, 1..=12 | 16..=18),
-        _ => matches!(refusal.number, 1..=15 | 18),
+        Call::Sizes => matches!(refusal.number, 1..=11 | 18..=19),
+        Call::Action => matches!(refusal.number, 1..=11 | 13 | 18..=19),
+        Call::Tries | Call::Allowances => matches!(refusal.number, 1..=12 | 18..=19),
+        Call::BuildText | Call::Build => matches!(refusal.number, 1..=12 | 16..=19),
+        Call::JudgeText | Call::Judge => matches!(refusal.number, 1..=12 | 16..=19),
+        _ => matches!(refusal.number, 1..=15 | 18..=19),
     }
 }
 

@@ -17,7 +17,7 @@ abbrev μ-loop : tie.MeasureT-loop
 μ-loop n t first out₀ k₀ out k = length out₀ - k
 
 loop-holds : tie.Need-loop-holds Inv-loop μ-loop
-loop-holds c = (omega arith, refl, λ p g G is j h. absurd (omega arith))
+loop-holds c = (omega arith, refl, λ p w types g G is j h. absurd (omega arith))
 
 add-allowance : tie.Need-add-allowance Inv-loop μ-loop
 add-allowance c = omega (arith, c .before .before .before .pre .3, c .before .loop .inv .1)
@@ -45,10 +45,10 @@ same-length : tie.Need-same-length Inv-loop μ-loop
 same-length c = c .before .loop .inv .1
 
 returns : tie.Need-returns Inv-loop μ-loop
-returns c = λ p g G is.
+returns c = λ p w types g G is.
     let e : c .before .loop .k ≡ length (c .before .loop .out) = omega (arith, c .before .loop .inv .0) in
     let s = subst (λ (k : ℕ). Shown (c .before .before .before .args .n) (c .before .before .before .args .t) (c .before .before .before .args .first) k (c .before .loop .out)) e (c .before .loop .inv .2) in
-    shown-all (c .before .before .before .args .n) (c .before .before .before .args .t) (c .before .before .before .args .first) (c .before .loop .out) s p g G is ∙ ap (λ (k : ℕ). map (allowance p) (from (c .before .before .before .args .first) k)) (c .before .loop .inv .1)
+    shown-all (c .before .before .before .args .n) (c .before .before .before .args .t) (c .before .before .before .args .first) (c .before .loop .out) s p w types g G is ∙ ap (λ (k : ℕ). map (allowance p) (from (c .before .before .before .args .first) k)) (c .before .loop .inv .1)
 
 pub write-spec : {M : Type 1} → statement M
 write-spec =

@@ -23,11 +23,11 @@ returns-4 c = sym (ap saysSmall (c .enum-told4 .given .1))
 
 returns-5 : tie.Need-returns-5
 unfolding saysSmall
-returns-5 c = sym (ap saysSmall (c .before .x .given .1))
+returns-5 c = sym (ap saysSmall (c .enum-told5 .given .1))
 
 returns-6 : tie.Need-returns-6
 unfolding saysSmall
-returns-6 c = sym (ap saysSmall (c .enum-told5 .given .1))
+returns-6 c = sym (ap saysSmall (c .before .x .given .1))
 
 returns-7 : tie.Need-returns-7
 unfolding saysSmall
@@ -41,10 +41,20 @@ returns-9 : tie.Need-returns-9
 unfolding saysSmall
 returns-9 c = sym (ap saysSmall (c .enum-told8 .given .1))
 
+returns-10 : tie.Need-returns-10
+unfolding saysSmall
+returns-10 c = sym (ap saysSmall (c .enum-told9 .given .1))
+
+returns-11 : tie.Need-returns-11
+unfolding saysSmall
+returns-11 c = sym (ap saysSmall (c .enum-told10 .given .1))
+
 pub says-small-spec : {M : Type 1} → statement M
 says-small-spec =
     tie.close
     (tie.spec
+    (λ c. search needs)
+    (λ c. search needs)
     (λ c. search needs)
     (λ c. search needs)
     (λ c. search needs)
@@ -62,4 +72,6 @@ says-small-spec =
     returns-6
     returns-7
     returns-8
-    returns-9)
+    returns-9
+    returns-10
+    returns-11)

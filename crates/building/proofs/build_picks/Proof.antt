@@ -70,7 +70,7 @@ start-and-build-requires c κs =
     let s = at-if1 .before .before .before .before .before .before .before in
     let r = s .pre .0 .1 in
     let t = tabled (r .limits-are) (r .case) _ _ (r .held .grounded) (at-if1 .if1 .left) in
-    (t .fits, t .ends ∙ sym (t .atoms-are), s .pre .1 (at-if1 .if1 .left), omega arith)
+    (t .fits, t .ends ∙ sym (t .atoms-are), s .pre .1 (at-if1 .if1 .left), omega (arith, c .before .before .before .before .before .before .before .if3 .left))
 
 returns-5 : tie.Need-returns-5
 returns-5 c =

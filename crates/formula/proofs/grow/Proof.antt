@@ -5,7 +5,7 @@ use native.Mathlib.Omega.{arith}
 use Rattle.formula.specs.declared.Grown.{Grown}
 use Rattle.formula.specs.Seen.{Grows, listed}
 use Rattle.formula.specs.Spans.{grow-none, listed-none, listed-end}
-use Rattle.formula.specs.Bound.{ends-in, grow-step}
+use Rattle.formula.specs.Bound.{ends-in, past-in, grow-step}
 use Rattle.formula.proofs.grow.Statement.{statement}
 use Rattle.formula.proofs.grow.Tie as tie
 
@@ -35,10 +35,16 @@ run-requires c κs = omega arith
 push-requires : tie.Need-push-requires Inv-loop μ-loop
 push-requires c κs = c .before .before .before .loop .inv .0
 
-add-i : tie.Need-add-i Inv-loop μ-loop
-add-i c =
+past-type-requires : tie.Need-past-type-requires Inv-loop μ-loop
+past-type-requires c κs =
     let l = c .before .before .before .before in
     omega (arith, c .before .run .ensures, ends-in (l .before .before .args .s .now) (l .loop .i) (omega arith))
+
+add-i : tie.Need-add-i Inv-loop μ-loop
+add-i c =
+    let l = c .before .before .before .before .before in
+    let s = l .before .before .args .s .now in
+    omega (arith, c .past-type .ensures, past-in s (c .before .before .run .result) (omega (arith, c .before .before .run .ensures, ends-in s (l .loop .i) (omega arith))))
 
 sub-more : tie.Need-sub-more Inv-loop μ-loop
 sub-more c = omega arith
@@ -48,8 +54,8 @@ loop-less c = omega arith
 
 loop-again : tie.Need-loop-again Inv-loop μ-loop
 loop-again c =
-    let l = c .before .before .before .before in
-    (c .push .ensures .small, λ r h. l .loop .inv .1 r (grow-step (l .before .before .args .s .now) (l .loop .i) (l .loop .more) (c .before .run .result) (l .loop .grown) (c .push .result) r (λ e. omega arith) (omega arith) (c .before .run .ensures) (c .push .ensures) h))
+    let l = c .before .before .before .before .before in
+    (c .before .push .ensures .small, λ r h. l .loop .inv .1 r (grow-step (l .before .before .args .s .now) (l .loop .i) (l .loop .more) (c .before .before .run .result) (c .past-type .result) (l .loop .grown) (c .before .push .result) r (λ e. omega arith) (omega arith) (c .before .before .run .ensures) (c .past-type .ensures) (c .before .push .ensures) h))
 
 returns-2 : tie.Need-returns-2 Inv-loop μ-loop
 returns-2 c =
@@ -68,6 +74,7 @@ grow-spec =
     add-run
     run-requires
     push-requires
+    past-type-requires
     add-i
     sub-more
     loop-less

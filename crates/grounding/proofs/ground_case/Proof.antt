@@ -1,39 +1,58 @@
--- `grounding::ground_case` meets its contract: the relations, the node table and the layout are the problem's, and the table is filled from them. Assumes nothing.
-use mathlib.Core.Path.{refl}
+-- `grounding::ground_case` meets its contract: the ranges, the relations, the node table and the layout are the problem's, and the table is
+-- filled from them. Assumes nothing.
+use mathlib.Core.Path.{refl, sym}
+use native.Mathlib.Omega.{arith}
 use Rattle.definitions.specs.Atoms.{problemOf}
 use Rattle.grounding.specs.Grounds.{laid-by, declared, rule-fine, inputs, grounds-over, grounds-within}
 use borrow.Author.Needs.{needs}
 use Rattle.grounding.proofs.ground_case.Statement.{statement}
 use Rattle.grounding.proofs.ground_case.Tie as tie
 
+ranges-of-requires : tie.Need-ranges-of-requires
+ranges-of-requires c κs = let h = c .before .before .before .before .before .before .pre .1 .holds in (h .some-elements, h .few-elements, h .sound .types-le, omega (arith, h .sound .types-le, h .members-are .room))
+
 relations-of-requires : tie.Need-relations-of-requires
-relations-of-requires c κs = declared _ _ _ _ (c .before .before .before .before .pre .1 .holds)
+relations-of-requires c κs = declared _ _ _ _ (c .before .before .before .before .before .before .before .pre .1 .holds)
 
 nodes-of-requires : tie.Need-nodes-of-requires
-nodes-of-requires c κs = rule-fine _ _ _ _ (c .before .before .before .before .before .pre .1 .holds)
+nodes-of-requires c κs = rule-fine _ _ _ _ (c .before .before .before .before .before .before .before .before .pre .1 .holds)
+
+lay-out-requires : tie.Need-lay-out-requires
+lay-out-requires c κs = let h = c .before .before .before .before .before .before .before .before .before .pre .1 .holds in (h .some-elements, h .few-elements, c .before .relations-of .ensures .0, c .nodes-of .ensures .fits, search needs, search needs, c .before .before .ranges-of .ensures .0)
 
 returns : tie.Need-returns
 returns c = λ L x facts a b h.
-    let l = laid-by L _ _ _ _ a b (c .before .lay-out .ensures (problemOf x) (inputs _ _ x facts h _ _ (c .before .before .before .relations-of .ensures .1) (c .before .before .nodes-of .ensures))) in
+    let l = laid-by L _ _ _ _ a b (c .before .lay-out .ensures (problemOf x) _ _ (c .before .before .before .before .ranges-of .ensures .1) (inputs _ _ x facts h _ _ (c .before .before .before .relations-of .ensures .1) (c .before .before .nodes-of .ensures))) in
     grounds-over L x _ _ _ l (c .if1 .taken) refl
 
+slice-aggregate-fill : tie.Need-slice-aggregate-fill
+slice-aggregate-fill c = sym (c .before .before .before .before .before .before .before .before .before .before .before .before .before .before .pre .1 .holds .members-are .room)
+
 fill-requires : tie.Need-fill-requires
-fill-requires c κs = (search needs, c .before .before .before .before .before .before .before .before .before .before .pre .0 .1, search needs, search needs, c .before .before .before .before .before .relations-of .ensures .0, c .before .before .before .before .nodes-of .ensures .fits, c .before .before .before .lay-out .ensures (problemOf (c .before .before .before .before .before .before .before .before .before .before .pre .1 .case)) (inputs _ _ _ _ (c .before .before .before .before .before .before .before .before .before .before .pre .1 .holds) _ _ (c .before .before .before .before .before .relations-of .ensures .1) (c .before .before .before .before .nodes-of .ensures)) .small (c .before .before .if1 .left))
+fill-requires c κs =
+    let h = c .before .before .before .before .before .before .before .before .before .before .before .before .before .before .pre .1 .holds in
+    let i = inputs _ _ _ _ h _ _ (c .before .before .before .before .before .before .relations-of .ensures .1) (c .before .before .before .before .before .nodes-of .ensures) in
+    let l = c .before .before .before .before .lay-out .ensures (problemOf (c .before .before .before .before .before .before .before .before .before .before .before .before .before .before .pre .1 .case)) _ _ (c .before .before .before .before .before .before .before .ranges-of .ensures .1) i in
+    (c .before .before .before .before .before .before .before .before .before .before .before .before .before .before .pre .0 .0, c .before .before .before .before .before .before .before .before .before .before .before .before .before .before .pre .0 .1, h .some-elements, h .few-elements, c .before .before .before .before .before .before .relations-of .ensures .0, c .before .before .before .before .before .nodes-of .ensures .fits, l .small (c .before .before .before .if1 .left), h .sound .types-le, omega (arith, h .sound .types-le, h .members-are .room), c .before .before .before .before .before .before .before .ranges-of .ensures .0, c .before .before .before .before .before .before .before .ranges-of .ensures .1)
 
 returns-2 : tie.Need-returns-2
 returns-2 c = λ L x facts a b h.
-    let i = inputs _ _ x facts h _ _ (c .before .before .before .before .before .before .before .before .relations-of .ensures .1) (c .before .before .before .before .before .before .before .nodes-of .ensures) in
-    let l = laid-by L _ _ _ _ a b (c .before .before .before .before .before .before .lay-out .ensures (problemOf x) i) in
-    grounds-within L x _ _ _ l (c .before .before .before .before .before .if1 .left) (record { within = refl; atoms-are = l .atoms-are; actions-are = l .actions-are; bound-is = l .bound-is; fits = c .before .before .fill .ensures .1 .fits; is = c .before .before .fill .ensures .1 .is (problemOf x) i (l .starts); ends = c .before .before .fill .ensures .1 .ends (problemOf x) i (l .starts) })
+    let i = inputs _ _ x facts h _ _ (c .before .before .before .before .before .before .before .before .before .relations-of .ensures .1) (c .before .before .before .before .before .before .before .before .nodes-of .ensures) in
+    let l = laid-by L _ _ _ _ a b (c .before .before .before .before .before .before .before .lay-out .ensures (problemOf x) _ _ (c .before .before .before .before .before .before .before .before .before .before .ranges-of .ensures .1) i) in
+    let f = c .before .before .fill .ensures .1 in
+    grounds-within L x _ _ _ l (c .before .before .before .before .before .before .if1 .left) (record { within = refl; atoms-are = l .atoms-are; actions-are = l .actions-are; bound-is = l .bound-is; fits = f .fits; is = f .is (problemOf x) i (l .starts); ends = f .ends (problemOf x) i (l .starts) })
 
 pub ground-case-spec : {M : Type 1} → statement M
 ground-case-spec =
     tie.close
     (tie.spec
+    (λ c. search needs)
+    ranges-of-requires
     relations-of-requires
     nodes-of-requires
-    (λ c κs. search needs)
+    lay-out-requires
     returns
+    slice-aggregate-fill
     fill-requires
     (λ c. search needs)
     returns-2)

@@ -8,18 +8,15 @@ use Rattle.judging.proofs.decide.Tie as tie
 
 returns : tie.Need-returns
 returns c =
-    let at-test-kinds = c .before .before .before .before in
-    λ d F asks. decides-yes d F _ _ _ _ _ _ asks _ (at-test-kinds .test-kinds .ensures (bare (problemOf d)) (asks .is)) (c .before .before .enum-told .given .1) _
+    λ d F asks. decides-yes d F _ _ _ _ _ _ _ _ asks _ (c .before .before .before .before .test-kinds .ensures (bare (problemOf d)) (asks .is)) (c .before .before .enum-told .given .1) _
     (c .before .is-true .ensures d F (asks .accepted-case) (asks .picks) (asks .inputs) (asks .facts-in) (asks .picked)) (c .if1 .taken)
 
 returns-2 : tie.Need-returns-2
-returns-2 c =
-    λ d F asks. decides-kind d F _ _ _ _ _ _ asks _ (c .before .before .before .test-kinds .ensures (bare (problemOf d)) (asks .is)) _ (c .before .kinds .given .1)
+returns-2 c = λ d F asks. decides-kind d F _ _ _ _ _ _ _ _ asks _ (c .before .before .before .test-kinds .ensures (bare (problemOf d)) (asks .is)) _ (c .before .kinds .given .1)
 
 returns-3 : tie.Need-returns-3
 returns-3 c =
-    let at-test-kinds = c .before .before .before .before in
-    λ d F asks. decides-no d F _ _ _ _ _ _ asks _ (at-test-kinds .test-kinds .ensures (bare (problemOf d)) (asks .is)) (c .before .before .enum-told .given .1) _
+    λ d F asks. decides-no d F _ _ _ _ _ _ _ _ asks _ (c .before .before .before .before .test-kinds .ensures (bare (problemOf d)) (asks .is)) (c .before .before .enum-told .given .1) _
     (c .before .is-true .ensures d F (asks .accepted-case) (asks .picks) (asks .inputs) (asks .facts-in) (asks .picked)) (c .if1 .left)
 
 pub decide-spec : {M : Type 1} → statement M

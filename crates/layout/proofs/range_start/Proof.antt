@@ -10,11 +10,11 @@ use Rattle.layout.proofs.range_start.Lts as lts
 
 returns : tie.Need-returns
 unfolding rangeStart
-returns c = (rw (lt-ltb (c .before .args .kind) 2 (omega arith)) refl, omega arith)
+returns c = (rw (lt-ltb (c .before .args .kind) 2 (omega arith)) refl, omega (arith, c .before .pre))
 
 returns-2 : tie.Need-returns-2
 unfolding rangeStart
 returns-2 c = (rw (le-ltb (c .before .args .kind) 2 (omega arith)) refl, omega arith)
 
 pub range-start-spec : {M : Type 1} → statement M
-range-start-spec = tie.close (tie.spec returns returns-2)
+range-start-spec = tie.close (tie.spec (λ c. omega (arith, c .before .pre)) (λ c. omega (arith, c .before .pre)) returns returns-2)

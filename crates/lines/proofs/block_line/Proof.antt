@@ -44,9 +44,11 @@ wide-requires-4 c κs = search needs
 wide-requires-5 : tie.Need-wide-requires-5
 wide-requires-5 c κs = search needs
 
--- src/lib.rt:162:9
 returns-3 : tie.Need-returns-3
-returns-3 c = block-fused (c .before .before .before .before .before .before .before .before .before .args .turns) (c .before .before .before .before .before .before .before .before .before .pre) (c .before .before .before .before .before .before .before .before .before .args .x) (c .before .before .before .before .before .before .before .before .before .args .q) (c .before .before .before .before .before .before .before .before .before .args .y) (c .before .before .before .before .before .before .before .before .wide .result) (c .before .before .wide3 .result) (c .before .before .before .before .wide2 .result) (c .before .wide4 .result) (c .wide5 .result) (c .before .before .before .before .before .before .before .before .wide .ensures) (c .before .before .wide3 .ensures) (c .before .before .before .before .wide2 .ensures) (c .before .wide4 .ensures) (c .wide5 .ensures) (omega arith) (omega arith) (omega arith)
+returns-3 c =
+    let s = c .before .before .before .before .before .before .before .before .before .before in
+    block-fused (s .args .turns) (s .pre) (s .args .x) (s .args .q) (s .args .y) (c .before .before .before .before .before .before .before .before .before .wide .result) (c .before .before .before .wide3 .result) (c .before .before .before .before .before .wide2 .result) (c .before .before .wide4 .result) (c .before .wide5 .result) (c .range-of .result)
+    (c .before .before .before .before .before .before .before .before .before .wide .ensures) (c .before .before .before .wide3 .ensures) (c .before .before .before .before .before .wide2 .ensures) (c .before .before .wide4 .ensures) (c .before .wide5 .ensures) (c .range-of .ensures) (omega arith) (omega arith) (omega arith)
 
 -- src/lib.rt:164:5
 own-line-requires-3 : tie.Need-own-line-requires-3
@@ -69,6 +71,7 @@ block-line-spec =
     wide-requires-3
     wide-requires-4
     wide-requires-5
+    (λ c κs. search needs)
     returns-3
     own-line-requires-3
     returns-4)

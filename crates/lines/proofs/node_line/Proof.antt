@@ -11,10 +11,10 @@ use Rattle.tree.proofs.wide.Reads as wide-reads
 use Rattle.lines.proofs.turns_of.Reads as turns-of-reads
 
 mul-y : tie.Need-mul-y
-mul-y c = let s = c .before .before .before .before in omega (arith, c .wide2 .ensures .0, which-small (s .args .n) (s .args .t2) (s .pre .1) (s .args .x) (c .before .before .before .wide .result))
+mul-y c = let s = c .before .before .before .before in omega (arith, c .wide2 .ensures .0, which-small (s .args .count) (s .args .t2) (s .pre .1) (s .args .x) (c .before .before .before .wide .result))
 
 element-copy-out-y : tie.Need-element-copy-out-y
-element-copy-out-y c = let s = c .before .before .before .before in omega (arith, c .wide2 .ensures .0, which-small (s .args .n) (s .args .t2) (s .pre .1) (s .args .x) (c .before .before .before .wide .result))
+element-copy-out-y c = let s = c .before .before .before .before in omega (arith, c .wide2 .ensures .0, which-small (s .args .count) (s .args .t2) (s .pre .1) (s .args .x) (c .before .before .before .wide .result))
 
 turns-of-requires : tie.Need-turns-of-requires
 turns-of-requires c κs = let s = c .before .before .before .before .before in (s .pre .0, s .pre .1 .parts .part (c .before .before .before .before .wide .result))
@@ -25,12 +25,12 @@ returns c =
     let at = c .before .before .before .before .before .before .wide in
     let which = c .before .before .before .wide2 in
     let turns = c .before .turns-of in
-    node-within (s .args .n) (s .args .t2) (s .pre .1) (s .args .x) (c .block-line .result) (at .result) (which .result) (turns .result) (at .ensures .0) (which .ensures .0) (turns .ensures .0) (c .block-line .ensures)
+    node-within (s .args .count) (s .args .t2) (s .pre .1) (s .args .x) (c .block-line .result) (at .result) (which .result) (turns .result) (at .ensures .0) (which .ensures .0) (turns .ensures .0) (c .block-line .ensures)
 
 returns-2 : tie.Need-returns-2
 returns-2 c =
     let s = c .before .before .before in
-    node-past (s .args .n) (s .args .t2) (s .pre .1) (s .args .x) (c .own-line .result) (omega (arith, c .before .before .wide .ensures .0)) (c .own-line .ensures)
+    node-past (s .args .count) (s .args .t2) (s .pre .1) (s .args .x) (c .own-line .result) (omega (arith, c .before .before .wide .ensures .0)) (c .own-line .ensures)
 
 pub node-line-spec : {M : Type 1} → statement M
 node-line-spec =

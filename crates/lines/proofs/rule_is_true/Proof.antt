@@ -12,14 +12,14 @@ rule-holds-requires c κs =
     let a = c .before .before .before .args in
     let h = c .before .before .before .pre in
     let o = h .lines in
-    sound (h .case) (h .accepted) (a .n) (o .relations) (o .nodes) (o .inputs) (o .fits) (o .some) (o .size) (a .lines .now) (o .lined)
+    sound (h .case) (h .accepted) (a .n) (o .members) (o .types) (o .ranges) (o .relations) (o .nodes) (o .counted) (o .inputs) (o .fits) (o .some) (o .size) (a .lines .now) (o .lined)
 
 -- src/lib.rt:250:1
 returns : tie.Need-returns
 returns c =
     let a = c .before .before .before .before .args in
     λ d F A pk o fi pa. rule-is d F (c .rule-holds .result) A (c .rule-holds .ensures d F (problemOf d .root)
-    (says d A (a .n) (o .relations) (o .nodes) (o .inputs) (o .fits) F pk (a .facts .now) fi (a .picks .now) pa (a .lines .now) (o .lined)))
+    (says d A (a .n) (o .members) (o .types) (o .ranges) (o .relations) (o .nodes) (o .counted) (o .inputs) (o .fits) F pk (a .facts .now) fi (a .picks .now) pa (a .lines .now) (o .lined)))
 
 pub rule-is-true-spec : {M : Type 1} → statement M
 rule-is-true-spec = tie.close (tie.spec rule-holds-requires returns)

@@ -12,10 +12,10 @@ use Rattle.lines.proofs.turns_of.Lts as lts
 use Rattle.tree.proofs.wide.Reads as wide-reads
 
 abbrev Inv-loop : tie.InvT-loop
-Inv-loop n level levels width i₀ i = (i ≤ width) × ((k : ℕ) → k < i → getD levels k 0 ≡ level → ⊥)
+Inv-loop count level levels width i₀ i = (i ≤ width) × ((k : ℕ) → k < i → getD levels k 0 ≡ level → ⊥)
 
 abbrev μ-loop : tie.MeasureT-loop
-μ-loop n level levels width i₀ i = width - i
+μ-loop count level levels width i₀ i = width - i
 
 array-read-if1 : tie.Need-array-read-if1 Inv-loop μ-loop
 array-read-if1 c = omega (arith, c .before .before .wide .ensures .0, c .before .before .before .before .pre .1 .width)
@@ -24,7 +24,7 @@ returns : tie.Need-returns Inv-loop μ-loop
 returns c =
     let s = c .before .before .before .before .before in
     let len : length (s .args .q .levels) ≡ 4 = search needs in
-    (turns-all (s .args .n) (s .args .level) (s .args .q) (c .before .before .before .wide .result) (c .before .before .before .wide .ensures) (c .before .before .loop .i) (omega arith) (omega (arith, c .before .before .before .wide .ensures .0, s .pre .1 .width)) (c .if1 .taken), s .pre .0)
+    (turns-all (s .args .count) (s .args .level) (s .args .q) (c .before .before .before .wide .result) (c .before .before .before .wide .ensures) (c .before .before .loop .i) (omega arith) (omega (arith, c .before .before .before .wide .ensures .0, s .pre .1 .width)) (c .if1 .taken), s .pre .0)
 
 loop-again : tie.Need-loop-again Inv-loop μ-loop
 loop-again c = (omega arith, below-more _ _ (c .before .before .loop .inv .1) (c .if1 .left))
@@ -32,7 +32,7 @@ loop-again c = (omega arith, below-more _ _ (c .before .before .loop .inv .1) (c
 returns-2 : tie.Need-returns-2 Inv-loop μ-loop
 returns-2 c =
     let s = c .before .before .before .before in
-    (turns-one (s .args .n) (s .args .level) (s .args .q) (c .before .before .wide .result) (c .before .before .wide .ensures) (λ k l. c .before .loop .inv .1 k (omega arith)), omega arith)
+    (turns-one (s .args .count) (s .args .level) (s .args .q) (c .before .before .wide .result) (c .before .before .wide .ensures) (λ k l. c .before .loop .inv .1 k (omega arith)), omega arith)
 
 pub turns-of-spec : {M : Type 1} → statement M
 turns-of-spec =

@@ -135,9 +135,9 @@ nodes-again c =
     )
 
 returns : tie.Need-returns Inv-parts μ-parts Inv-nodes μ-nodes
-returns c = λ p g G is.
+returns c = λ p w k g G is.
     let e : c .before .nodes .done ≡ c .before .before .args .t2 .count = omega (arith, c .before .nodes .inv .0) in
-    c .before .nodes .inv .2 ∙ ap (atomsAfter (c .before .before .args .n) (c .before .before .args .t2) (c .before .before .args .r)) e ∙ allowed (c .before .before .args .n) (c .before .before .args .t2) (c .before .before .args .r) (c .before .before .pre .2) p g G is
+    c .before .nodes .inv .2 ∙ ap (atomsAfter (c .before .before .args .n) (c .before .before .args .t2) (c .before .before .args .r)) e ∙ allowed (c .before .before .args .n) (c .before .before .args .t2) (c .before .before .args .r) (c .before .before .pre .2) p w k g G is
 
 pub allowance-spec : {M : Type 1} → statement M
 allowance-spec =

@@ -6,7 +6,7 @@ use Rattle.question.proofs.rule_part.Statement.{statement}
 use Rattle.question.proofs.rule_part.Tie as tie
 
 sub-result : tie.Need-sub-result
-sub-result c = part-in _ _ (c .before .question .ensures) .0
+sub-result c = omega (arith, part-in _ _ (c .before .question .ensures) .0)
 
 part-result-start : tie.Need-part-result-start
 part-result-start c = let r = part-in _ _ (c .before .question .ensures) in omega arith

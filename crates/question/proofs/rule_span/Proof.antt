@@ -2,64 +2,16 @@
 use mathlib.Core.Path.{sym, ap}
 use borrow.Author.Needs.{needs}
 use Rattle.question.specs.Drafts.{spanIn}
+use Rattle.question.proofs.Judging.{span-other}
 use Rattle.question.proofs.rule_span.Statement.{statement}
 use Rattle.question.proofs.rule_span.Tie as tie
 
 returns : tie.Need-returns
 unfolding spanIn
-returns c = sym (ap spanIn (c .enum-told .given .1))
+returns c = sym (ap spanIn (c .before .x .given .1))
 
 returns-2 : tie.Need-returns-2
-unfolding spanIn
-returns-2 c = sym (ap spanIn (c .enum-told2 .given .1))
-
-returns-3 : tie.Need-returns-3
-unfolding spanIn
-returns-3 c = sym (ap spanIn (c .enum-told3 .given .1))
-
-returns-4 : tie.Need-returns-4
-unfolding spanIn
-returns-4 c = sym (ap spanIn (c .before .x .given .1))
-
-returns-5 : tie.Need-returns-5
-unfolding spanIn
-returns-5 c = sym (ap spanIn (c .enum-told4 .given .1))
-
-returns-6 : tie.Need-returns-6
-unfolding spanIn
-returns-6 c = sym (ap spanIn (c .enum-told5 .given .1))
-
-returns-7 : tie.Need-returns-7
-unfolding spanIn
-returns-7 c = sym (ap spanIn (c .enum-told6 .given .1))
-
-returns-8 : tie.Need-returns-8
-unfolding spanIn
-returns-8 c = sym (ap spanIn (c .enum-told7 .given .1))
-
-returns-9 : tie.Need-returns-9
-unfolding spanIn
-returns-9 c = sym (ap spanIn (c .enum-told8 .given .1))
+returns-2 c = span-other (c .before .args .x) (c .match .keys2)
 
 pub rule-span-spec : {M : Type 1} → statement M
-rule-span-spec =
-    tie.close
-    (tie.spec
-    (λ c. search needs)
-    (λ c. search needs)
-    (λ c. search needs)
-    (λ c. search needs)
-    (λ c. search needs)
-    (λ c. search needs)
-    (λ c. search needs)
-    (λ c. search needs)
-    (λ c. search needs)
-    returns
-    returns-2
-    returns-3
-    returns-4
-    returns-5
-    returns-6
-    returns-7
-    returns-8
-    returns-9)
+rule-span-spec = tie.close (tie.spec (λ c. search needs) returns returns-2)

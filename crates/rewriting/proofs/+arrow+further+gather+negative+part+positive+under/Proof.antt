@@ -1563,7 +1563,11 @@ under-add-bind : (t : ℕ) → under-lts.Need-add-bind (
   chain-reads.Asked,
   chain-reads.Learnt,
 ) (under-at t) under.Post
-under-add-bind t c = let W = c .before .before .before .before .pre .1 .1 .0 in let w = W .ready in let v = quant-view (c .before .before .before .before .args .some) w (c .before .before .before .before .pre .1 .1 .1) in omega (arith, list-in (c .before .before .before .before .args .s .now) (c .before .before .before .before .args .at + 9) (c .before .before .before .before .args .sc) (quant-list (asQuant (c .before .before .before .before .args .some)) w v), c .before .before .before .before .good .0 .0)
+under-add-bind t c =
+    let W = c .before .before .before .before .pre .1 .1 .0 in
+    let w = W .ready in
+    let v = quant-view (c .before .before .before .before .args .some) w (c .before .before .before .before .pre .1 .1 .1) in
+    omega (arith, list-in (c .before .before .before .before .args .s .now) (c .before .before .before .before .args .at + 9) (c .before .before .before .before .args .sc) (quant-list (asQuant (c .before .before .before .before .args .some)) w v), c .before .before .before .before .good .0 .0)
 
 under-bind-requires : (t : ℕ) → under-lts.Need-bind-requires (
   bind-reads.Asked,
@@ -1575,7 +1579,11 @@ under-bind-requires : (t : ℕ) → under-lts.Need-bind-requires (
   chain-reads.Asked,
   chain-reads.Learnt,
 ) (under-at t) under.Post
-under-bind-requires t c κs = let W = c .before .before .before .before .pre .1 .1 .0 in let w = W .ready in let v = quant-view (c .before .before .before .before .args .some) w (c .before .before .before .before .pre .1 .1 .1) in quant-list (asQuant (c .before .before .before .before .args .some)) w v
+under-bind-requires t c κs =
+    let W = c .before .before .before .before .pre .1 .1 .0 in
+    let w = W .ready in
+    let v = quant-view (c .before .before .before .before .args .some) w (c .before .before .before .before .pre .1 .1 .1) in
+    ((c .before .before .before .before .pre .1 .0 .0, c .before .before .before .before .pre .1 .0 .1), quant-list (asQuant (c .before .before .before .before .args .some)) w v)
 
 under-sub-k : (t : ℕ) → under-lts.Need-sub-k (
   bind-reads.Asked,
@@ -1587,7 +1595,12 @@ under-sub-k : (t : ℕ) → under-lts.Need-sub-k (
   chain-reads.Asked,
   chain-reads.Learnt,
 ) (under-at t) under.Post
-under-sub-k t c = let W = c .before .before .before .before .before .before .before .pre .1 .1 .0 in let w = W .ready in let v = quant-view (c .before .before .before .before .before .before .before .args .some) w (c .before .before .before .before .before .before .before .pre .1 .1 .1) in let D = c .before .before .bind .ensures (quant-list (asQuant (c .before .before .before .before .before .before .before .args .some)) w v) in omega (arith, D .count)
+under-sub-k t c =
+    let W = c .before .before .before .before .before .before .before .before .pre .1 .1 .0 in
+    let w = W .ready in
+    let v = quant-view (c .before .before .before .before .before .before .before .before .args .some) w (c .before .before .before .before .before .before .before .before .pre .1 .1 .1) in
+    let D = c .before .before .before .bind .ensures (quant-list (asQuant (c .before .before .before .before .before .before .before .before .args .some)) w v) in
+    omega (arith, D .count)
 
 under-add-part : (t : ℕ) → under-lts.Need-add-part (
   bind-reads.Asked,
@@ -1599,7 +1612,12 @@ under-add-part : (t : ℕ) → under-lts.Need-add-part (
   chain-reads.Asked,
   chain-reads.Learnt,
 ) (under-at t) under.Post
-under-add-part t c = let W = c .before .before .before .before .before .before .before .before .pre .1 .1 .0 in let w = W .ready in let v = quant-view (c .before .before .before .before .before .before .before .before .args .some) w (c .before .before .before .before .before .before .before .before .pre .1 .1 .1) in let D = c .before .before .before .bind .ensures (quant-list (asQuant (c .before .before .before .before .before .before .before .before .args .some)) w v) in omega (arith, quant-nodes (asQuant (c .before .before .before .before .before .before .before .before .args .some)) w v _ D (c .before .before .before .bind .result .scope .n - c .before .before .before .before .before .before .before .before .args .sc .n) refl)
+under-add-part t c =
+    let W = c .before .before .before .before .before .before .before .before .before .pre .1 .1 .0 in
+    let w = W .ready in
+    let v = quant-view (c .before .before .before .before .before .before .before .before .before .args .some) w (c .before .before .before .before .before .before .before .before .before .pre .1 .1 .1) in
+    let D = c .before .before .before .before .bind .ensures (quant-list (asQuant (c .before .before .before .before .before .before .before .before .before .args .some)) w v) in
+    omega (arith, quant-nodes (asQuant (c .before .before .before .before .before .before .before .before .before .args .some)) w v _ _ _ (W .lent) _ D (c .before .before .before .before .bind .result .scope .n - c .before .before .before .before .before .before .before .before .before .args .sc .n) refl)
 
 under-part-requires : (t : ℕ) → under-lts.Need-part-requires (
   bind-reads.Asked,
@@ -1611,7 +1629,12 @@ under-part-requires : (t : ℕ) → under-lts.Need-part-requires (
   chain-reads.Asked,
   chain-reads.Learnt,
 ) (under-at t) under.Post
-under-part-requires t c κs = let W = c .before .before .before .before .before .before .before .before .pre .1 .1 .0 in let w = W .ready in let v = quant-view (c .before .before .before .before .before .before .before .before .args .some) w (c .before .before .before .before .before .before .before .before .pre .1 .1 .1) in let D = c .before .before .before .bind .ensures (quant-list (asQuant (c .before .before .before .before .before .before .before .before .args .some)) w v) in (omega (arith, c .before .before .before .before .before .before .before .before .pre .0, ready-in (quant-ready (asQuant (c .before .before .before .before .before .before .before .before .args .some)) w v _ D (c .before .before .before .bind .result .scope .n - c .before .before .before .before .before .before .before .before .args .sc .n) refl), D .place), (c .before .before .before .before .before .before .before .before .pre .1 .0, over (W .lent) (quant-ready (asQuant (c .before .before .before .before .before .before .before .before .args .some)) w v _ D (c .before .before .before .bind .result .scope .n - c .before .before .before .before .before .before .before .before .args .sc .n) refl)))
+under-part-requires t c κs =
+    let W = c .before .before .before .before .before .before .before .before .before .pre .1 .1 .0 in
+    let w = W .ready in
+    let v = quant-view (c .before .before .before .before .before .before .before .before .before .args .some) w (c .before .before .before .before .before .before .before .before .before .pre .1 .1 .1) in
+    let D = c .before .before .before .before .bind .ensures (quant-list (asQuant (c .before .before .before .before .before .before .before .before .before .args .some)) w v) in
+    (omega (arith, c .before .before .before .before .before .before .before .before .before .pre .0, ready-in (quant-ready (asQuant (c .before .before .before .before .before .before .before .before .before .args .some)) w v _ _ _ (W .lent) _ D (c .before .before .before .before .bind .result .scope .n - c .before .before .before .before .before .before .before .before .before .args .sc .n) refl), D .place), (c .before .before .before .before .before .before .before .before .before .pre .1 .0, over (W .lent) (quant-ready (asQuant (c .before .before .before .before .before .before .before .before .before .args .some)) w v _ _ _ (W .lent) _ D (c .before .before .before .before .bind .result .scope .n - c .before .before .before .before .before .before .before .before .before .args .sc .n) refl)))
 
 under-quant-kind-requires : (t : ℕ) → under-lts.Need-quant-kind-requires (
   bind-reads.Asked,
@@ -1635,9 +1658,15 @@ under-chain-requires : (t : ℕ) → under-lts.Need-chain-requires (
   chain-reads.Asked,
   chain-reads.Learnt,
 ) (under-at t) under.Post
-under-chain-requires t c κs = let W = c .before .before .before .before .before .before .before .before .before .before .before .before .before .pre .1 .1 .0 in let w = W .ready in let v = quant-view (c .before .before .before .before .before .before .before .before .before .before .before .before .before .args .some) w (c .before .before .before .before .before .before .before .before .before .before .before .before .before .pre .1 .1 .1) in let D = c .before .before .before .before .before .before .before .before .bind .ensures (quant-list (asQuant (c .before .before .before .before .before .before .before .before .before .before .before .before .before .args .some)) w v) in let X = c .before .before .before .before .part .ensures (over (W .lent) (quant-ready (asQuant (c .before .before .before .before .before .before .before .before .before .before .before .before .before .args .some)) w v _ D (c .before .before .before .before .before .before .before .before .bind .result .scope .n - c .before .before .before .before .before .before .before .before .before .before .before .before .before .args .sc .n) refl)) in (quant-space (asQuant (c .before .before .before .before .before .before .before .before .before .before .before .before .before .args .some)) w v _ D (c .before .before .before .before .before .before .before .before .bind .result .scope .n - c .before .before .before .before .before .before .before .before .before .before .before .before .before .args .sc .n) refl (c .before .before .before .before .before .before .before .before .before .before .before .before .before .args .pos) _ _ X, quant-nodes (asQuant (c .before .before .before .before .before .before .before .before .before .before .before .before .before .args .some)) w v _ D (c .before .before .before .before .before .before .before .before .bind .result .scope .n - c .before .before .before .before .before .before .before .before .before .before .before .before .before .args .sc .n) refl, omega (arith, quant-levels (asQuant (c .before .before .before .before .before .before .before .before .before .before .before .before .before .args .some)) w v _ D (c .before .before .before .before .before .before .before .before .bind .result .scope .n - c .before .before .before .before .before .before .before .before .before .before .before .before .before .args .sc .n) refl), c .before .before .before .before .part .kept .1 .1 .1 .1 .1 .1 .1 .0 ∙ c .before .before .before .before .before .before .before .before .before .before .before .before .before .pre .1 .0 .2)
+under-chain-requires t c κs =
+    let W = c .before .before .before .before .before .before .before .before .before .before .before .before .before .before .pre .1 .1 .0 in
+    let w = W .ready in
+    let v = quant-view (c .before .before .before .before .before .before .before .before .before .before .before .before .before .before .args .some) w (c .before .before .before .before .before .before .before .before .before .before .before .before .before .before .pre .1 .1 .1) in
+    let D = c .before .before .before .before .before .before .before .before .before .bind .ensures (quant-list (asQuant (c .before .before .before .before .before .before .before .before .before .before .before .before .before .before .args .some)) w v) in
+    let X = c .before .before .before .before .part .ensures (over (W .lent) (quant-ready (asQuant (c .before .before .before .before .before .before .before .before .before .before .before .before .before .before .args .some)) w v _ _ _ (W .lent) _ D (c .before .before .before .before .before .before .before .before .before .bind .result .scope .n - c .before .before .before .before .before .before .before .before .before .before .before .before .before .before .args .sc .n) refl)) in
+    (quant-space (asQuant (c .before .before .before .before .before .before .before .before .before .before .before .before .before .before .args .some)) w v _ _ _ (W .lent) _ D (c .before .before .before .before .before .before .before .before .before .bind .result .scope .n - c .before .before .before .before .before .before .before .before .before .before .before .before .before .before .args .sc .n) refl (c .before .before .before .before .before .before .before .before .before .before .before .before .before .before .args .pos) _ _ X, quant-nodes (asQuant (c .before .before .before .before .before .before .before .before .before .before .before .before .before .before .args .some)) w v _ _ _ (W .lent) _ D (c .before .before .before .before .before .before .before .before .before .bind .result .scope .n - c .before .before .before .before .before .before .before .before .before .before .before .before .before .before .args .sc .n) refl, quant-levels (asQuant (c .before .before .before .before .before .before .before .before .before .before .before .before .before .before .args .some)) w v _ _ _ (W .lent) _ D (c .before .before .before .before .before .before .before .before .before .bind .result .scope .n - c .before .before .before .before .before .before .before .before .before .before .before .before .before .before .args .sc .n) refl, c .before .before .before .before .part .kept .1 .1 .1 .1 .1 .1 .1 .0 ∙ c .before .before .before .before .before .before .before .before .before .before .before .before .before .before .pre .1 .0 .2)
 
-under-add-t19 : (t : ℕ) → under-lts.Need-add-t19 (
+under-add-t20 : (t : ℕ) → under-lts.Need-add-t20 (
   bind-reads.Asked,
   bind-reads.Learnt,
   part-below t,
@@ -1647,9 +1676,15 @@ under-add-t19 : (t : ℕ) → under-lts.Need-add-t19 (
   chain-reads.Asked,
   chain-reads.Learnt,
 ) (under-at t) under.Post
-under-add-t19 t c = let W = c .before .before .before .before .before .before .before .before .before .before .before .before .before .before .before .before .before .pre .1 .1 .0 in let w = W .ready in let v = quant-view (c .before .before .before .before .before .before .before .before .before .before .before .before .before .before .before .before .before .args .some) w (c .before .before .before .before .before .before .before .before .before .before .before .before .before .before .before .before .before .pre .1 .1 .1) in let D = c .before .before .before .before .before .before .before .before .before .before .before .before .bind .ensures (quant-list (asQuant (c .before .before .before .before .before .before .before .before .before .before .before .before .before .before .before .before .before .args .some)) w v) in let X = c .before .before .before .before .before .before .before .before .part .ensures (over (W .lent) (quant-ready (asQuant (c .before .before .before .before .before .before .before .before .before .before .before .before .before .before .before .before .before .args .some)) w v _ D (c .before .before .before .before .before .before .before .before .before .before .before .before .bind .result .scope .n - c .before .before .before .before .before .before .before .before .before .before .before .before .before .before .before .before .before .args .sc .n) refl)) in omega (arith, quant-space (asQuant (c .before .before .before .before .before .before .before .before .before .before .before .before .before .before .before .before .before .args .some)) w v _ D (c .before .before .before .before .before .before .before .before .before .before .before .before .bind .result .scope .n - c .before .before .before .before .before .before .before .before .before .before .before .before .before .before .before .before .before .args .sc .n) refl (c .before .before .before .before .before .before .before .before .before .before .before .before .before .before .before .before .before .args .pos) _ _ X)
+under-add-t20 t c =
+    let W = c .before .before .before .before .before .before .before .before .before .before .before .before .before .before .before .before .before .before .pre .1 .1 .0 in
+    let w = W .ready in
+    let v = quant-view (c .before .before .before .before .before .before .before .before .before .before .before .before .before .before .before .before .before .before .args .some) w (c .before .before .before .before .before .before .before .before .before .before .before .before .before .before .before .before .before .before .pre .1 .1 .1) in
+    let D = c .before .before .before .before .before .before .before .before .before .before .before .before .before .bind .ensures (quant-list (asQuant (c .before .before .before .before .before .before .before .before .before .before .before .before .before .before .before .before .before .before .args .some)) w v) in
+    let X = c .before .before .before .before .before .before .before .before .part .ensures (over (W .lent) (quant-ready (asQuant (c .before .before .before .before .before .before .before .before .before .before .before .before .before .before .before .before .before .before .args .some)) w v _ _ _ (W .lent) _ D (c .before .before .before .before .before .before .before .before .before .before .before .before .before .bind .result .scope .n - c .before .before .before .before .before .before .before .before .before .before .before .before .before .before .before .before .before .before .args .sc .n) refl)) in
+    omega (arith, quant-space (asQuant (c .before .before .before .before .before .before .before .before .before .before .before .before .before .before .before .before .before .before .args .some)) w v _ _ _ (W .lent) _ D (c .before .before .before .before .before .before .before .before .before .before .before .before .before .bind .result .scope .n - c .before .before .before .before .before .before .before .before .before .before .before .before .before .before .before .before .before .before .args .sc .n) refl (c .before .before .before .before .before .before .before .before .before .before .before .before .before .before .before .before .before .before .args .pos) _ _ X)
 
-under-add-t25 : (t : ℕ) → under-lts.Need-add-t25 (
+under-add-t26 : (t : ℕ) → under-lts.Need-add-t26 (
   bind-reads.Asked,
   bind-reads.Learnt,
   part-below t,
@@ -1659,7 +1694,13 @@ under-add-t25 : (t : ℕ) → under-lts.Need-add-t25 (
   chain-reads.Asked,
   chain-reads.Learnt,
 ) (under-at t) under.Post
-under-add-t25 t c = let W = c .before .before .before .before .before .before .before .before .before .before .before .before .before .before .before .before .before .before .pre .1 .1 .0 in let w = W .ready in let v = quant-view (c .before .before .before .before .before .before .before .before .before .before .before .before .before .before .before .before .before .before .args .some) w (c .before .before .before .before .before .before .before .before .before .before .before .before .before .before .before .before .before .before .pre .1 .1 .1) in let D = c .before .before .before .before .before .before .before .before .before .before .before .before .before .bind .ensures (quant-list (asQuant (c .before .before .before .before .before .before .before .before .before .before .before .before .before .before .before .before .before .before .args .some)) w v) in let X = c .before .before .before .before .before .before .before .before .before .part .ensures (over (W .lent) (quant-ready (asQuant (c .before .before .before .before .before .before .before .before .before .before .before .before .before .before .before .before .before .before .args .some)) w v _ D (c .before .before .before .before .before .before .before .before .before .before .before .before .before .bind .result .scope .n - c .before .before .before .before .before .before .before .before .before .before .before .before .before .before .before .before .before .before .args .sc .n) refl)) in omega (arith, quant-place (asQuant (c .before .before .before .before .before .before .before .before .before .before .before .before .before .before .before .before .before .before .args .some)) w v _ D (c .before .before .before .before .before .before .before .before .before .before .before .before .before .bind .result .scope .n - c .before .before .before .before .before .before .before .before .before .before .before .before .before .before .before .before .before .before .args .sc .n) refl (c .before .before .before .before .before .before .before .before .before .before .before .before .before .before .before .before .before .before .args .pos) _ _ X, ready-end w, c .before .before .before .before .before .before .before .before .before .before .before .before .before .before .before .before .before .before .good .0 .0)
+under-add-t26 t c =
+    let W = c .before .before .before .before .before .before .before .before .before .before .before .before .before .before .before .before .before .before .before .pre .1 .1 .0 in
+    let w = W .ready in
+    let v = quant-view (c .before .before .before .before .before .before .before .before .before .before .before .before .before .before .before .before .before .before .before .args .some) w (c .before .before .before .before .before .before .before .before .before .before .before .before .before .before .before .before .before .before .before .pre .1 .1 .1) in
+    let D = c .before .before .before .before .before .before .before .before .before .before .before .before .before .before .bind .ensures (quant-list (asQuant (c .before .before .before .before .before .before .before .before .before .before .before .before .before .before .before .before .before .before .before .args .some)) w v) in
+    let X = c .before .before .before .before .before .before .before .before .before .part .ensures (over (W .lent) (quant-ready (asQuant (c .before .before .before .before .before .before .before .before .before .before .before .before .before .before .before .before .before .before .before .args .some)) w v _ _ _ (W .lent) _ D (c .before .before .before .before .before .before .before .before .before .before .before .before .before .before .bind .result .scope .n - c .before .before .before .before .before .before .before .before .before .before .before .before .before .before .before .before .before .before .before .args .sc .n) refl)) in
+    omega (arith, quant-place (asQuant (c .before .before .before .before .before .before .before .before .before .before .before .before .before .before .before .before .before .before .before .args .some)) w v _ _ _ (W .lent) _ D (c .before .before .before .before .before .before .before .before .before .before .before .before .before .before .bind .result .scope .n - c .before .before .before .before .before .before .before .before .before .before .before .before .before .before .before .before .before .before .before .args .sc .n) refl (c .before .before .before .before .before .before .before .before .before .before .before .before .before .before .before .before .before .before .before .args .pos) _ _ X, ready-end w, c .before .before .before .before .before .before .before .before .before .before .before .before .before .before .before .before .before .before .before .good .0 .0)
 
 under-same-length : (t : ℕ) → under-lts.Need-same-length (
   bind-reads.Asked,
@@ -1683,7 +1724,12 @@ under-returns : (t : ℕ) → under-lts.Need-returns (
   chain-reads.Asked,
   chain-reads.Learnt,
 ) (under-at t) under.Post
-under-returns t c = λ W. let w = W .ready in let v = quant-view (c .before .before .before .before .before .before .before .before .before .before .before .before .before .before .before .before .before .before .args .some) w (c .before .before .before .before .before .before .before .before .before .before .before .before .before .before .before .before .before .before .pre .1 .1 .1) in let D = c .before .before .before .before .before .before .before .before .before .before .before .before .before .bind .ensures (quant-list (asQuant (c .before .before .before .before .before .before .before .before .before .before .before .before .before .before .before .before .before .before .args .some)) w v) in let X = c .before .before .before .before .before .before .before .before .before .part .ensures (over (W .lent) (quant-ready (asQuant (c .before .before .before .before .before .before .before .before .before .before .before .before .before .before .before .before .before .before .args .some)) w v _ D (c .before .before .before .before .before .before .before .before .before .before .before .before .before .bind .result .scope .n - c .before .before .before .before .before .before .before .before .before .before .before .before .before .before .before .before .before .before .args .sc .n) refl)) in quant-done (asQuant (c .before .before .before .before .before .before .before .before .before .before .before .before .before .before .before .before .before .before .args .some)) w v _ D (c .before .before .before .before .before .before .before .before .before .before .before .before .before .bind .result .scope .n - c .before .before .before .before .before .before .before .before .before .before .before .before .before .before .before .before .before .before .args .sc .n) refl (c .before .before .before .before .before .before .before .before .before .before .before .before .before .before .before .before .before .before .args .pos) _ _ X _ (subst (λ n. Adds (rowsFrom (c .before .before .before .before .before .before .before .before .before .part .last .1 .1 .1 .1 .1 .1 .1 .0) (c .before .before .before .before .before .before .before .before .before .part .result .len) (c .before .before .before .before .before .before .before .before .before .part .result .nodes)) (chainOf n (c .before .before .before .before .before .before .before .before .before .before .before .before .before .before .before .before .before .before .args .nodes) (c .before .before .before .before .before .before .before .before .before .before .before .before .before .before .before .before .before .before .args .sc .n) (c .before .before .before .before .before .before .before .before .before .before .before .before .before .bind .result .scope .n - c .before .before .before .before .before .before .before .before .before .before .before .before .before .before .before .before .before .before .args .sc .n)) 0 (rowsFrom (c .before .before .before .before .chain .last .0) (c .before .before .before .before .before .before .before .before .before .part .result .len + (c .before .before .before .before .before .before .before .before .before .before .before .before .before .bind .result .scope .n - c .before .before .before .before .before .before .before .before .before .before .before .before .before .before .before .before .before .before .args .sc .n)) (c .before .before .before .before .before .before .before .before .before .part .result .nodes))) (c .before .before .before .before .before .before .quant-kind .ensures) (c .before .before .before .before .chain .ensures (c .before .before .before .before .before .before .before .before .before .part .result .nodes)))
+under-returns t c =
+    λ W. let w = W .ready in
+    let v = quant-view (c .before .before .before .before .before .before .before .before .before .before .before .before .before .before .before .before .before .before .before .args .some) w (c .before .before .before .before .before .before .before .before .before .before .before .before .before .before .before .before .before .before .before .pre .1 .1 .1) in
+    let D = c .before .before .before .before .before .before .before .before .before .before .before .before .before .before .bind .ensures (quant-list (asQuant (c .before .before .before .before .before .before .before .before .before .before .before .before .before .before .before .before .before .before .before .args .some)) w v) in
+    let X = c .before .before .before .before .before .before .before .before .before .part .ensures (over (W .lent) (quant-ready (asQuant (c .before .before .before .before .before .before .before .before .before .before .before .before .before .before .before .before .before .before .before .args .some)) w v _ _ _ (W .lent) _ D (c .before .before .before .before .before .before .before .before .before .before .before .before .before .before .bind .result .scope .n - c .before .before .before .before .before .before .before .before .before .before .before .before .before .before .before .before .before .before .before .args .sc .n) refl)) in
+    quant-done (asQuant (c .before .before .before .before .before .before .before .before .before .before .before .before .before .before .before .before .before .before .before .args .some)) w v _ _ _ (W .lent) _ D (c .before .before .before .before .before .before .before .before .before .before .before .before .before .before .bind .result .scope .n - c .before .before .before .before .before .before .before .before .before .before .before .before .before .before .before .before .before .before .before .args .sc .n) refl (c .before .before .before .before .before .before .before .before .before .before .before .before .before .before .before .before .before .before .before .args .pos) _ _ X _ (subst (λ n. Adds (rowsFrom (c .before .before .before .before .before .before .before .before .before .part .last .1 .1 .1 .1 .1 .1 .1 .0) (c .before .before .before .before .before .before .before .before .before .part .result .len) (c .before .before .before .before .before .before .before .before .before .part .result .nodes)) (chainOf n (c .before .before .before .before .before .before .before .before .before .before .before .before .before .before .before .before .before .before .before .args .nodes) (c .before .before .before .before .before .before .before .before .before .before .before .before .before .before .before .before .before .before .before .args .sc .n) (c .before .before .before .before .before .before .before .before .before .before .before .before .before .before .bind .result .sorts) (c .before .before .before .before .before .before .before .before .before .before .before .before .before .before .bind .result .scope .n - c .before .before .before .before .before .before .before .before .before .before .before .before .before .before .before .before .before .before .before .args .sc .n)) 0 (rowsFrom (c .before .before .before .before .chain .last .0) (c .before .before .before .before .before .before .before .before .before .part .result .len + (c .before .before .before .before .before .before .before .before .before .before .before .before .before .before .bind .result .scope .n - c .before .before .before .before .before .before .before .before .before .before .before .before .before .before .before .before .before .before .before .args .sc .n)) (c .before .before .before .before .before .before .before .before .before .part .result .nodes))) (c .before .before .before .before .before .before .quant-kind .ensures) (c .before .before .before .before .chain .ensures (c .before .before .before .before .before .before .before .before .before .part .result .nodes)))
 
 pub +arrow+further+gather+negative+part+positive+under-spec : {M : Type 1} → statement M
 +arrow+further+gather+negative+part+positive+under-spec =
@@ -1874,7 +1920,7 @@ pub +arrow+further+gather+negative+part+positive+under-spec : {M : Type 1} → s
     (under-part-requires t)
     (under-quant-kind-requires t)
     (under-chain-requires t)
-    (under-add-t19 t)
-    (under-add-t25 t)
+    (under-add-t20 t)
+    (under-add-t26 t)
     (under-same-length t)
     (under-returns t)

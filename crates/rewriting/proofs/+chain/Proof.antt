@@ -34,7 +34,30 @@ chain-returns : (t : ℕ) → chain-lts.Need-returns (
   chain-below t,
   chain.Post,
 ) (chain-at t) chain.Post
-chain-returns t c = λ nodes. let z = c .before .before in let e : z .args .len ≡ z .args .len + z .args .k = omega arith in subst (λ (l : ℕ). Adds (rowsFrom (z .args .rows .now) (z .args .len) nodes) (chainOf (z .args .kind) (z .args .which) (z .args .level) (z .args .k)) 0 (rowsFrom (z .args .rows .now) l nodes)) e (chain-none (z .args .kind) (z .args .which) (z .args .level) (z .args .k) (rowsFrom (z .args .rows .now) (z .args .len) nodes) (c .if1 .taken) (rows-many (z .args .rows .now) (z .args .len) nodes))
+chain-returns t c =
+    λ nodes. let z = c .before .before in
+    let e : z .args .len ≡ z .args .len + z .args .k = omega arith in
+    subst (λ (l : ℕ). Adds (rowsFrom (z .args .rows .now) (z .args .len) nodes) (chainOf (z .args .kind) (z .args .which) (z .args .level) (z .args .t7) (z .args .k)) 0 (rowsFrom (z .args .rows .now) l nodes)) e (chain-none (z .args .kind) (z .args .which) (z .args .level) (z .args .t7) (z .args .k) (rowsFrom (z .args .rows .now) (z .args .len) nodes) (c .if1 .taken) (rows-many (z .args .rows .now) (z .args .len) nodes))
+
+chain-sub-l : (t : ℕ) → chain-lts.Need-sub-l (
+  quant-row-reads.Asked,
+  quant-row-reads.Learnt,
+  put-row-reads.Asked,
+  put-row-reads.Learnt,
+  chain-below t,
+  chain.Post,
+) (chain-at t) chain.Post
+chain-sub-l t c = omega arith
+
+chain-add-l : (t : ℕ) → chain-lts.Need-add-l (
+  quant-row-reads.Asked,
+  quant-row-reads.Learnt,
+  put-row-reads.Asked,
+  put-row-reads.Learnt,
+  chain-below t,
+  chain.Post,
+) (chain-at t) chain.Post
+chain-add-l t c = omega (arith, c .before .before .pre .1 .2)
 
 chain-sub-quant-row : (t : ℕ) → chain-lts.Need-sub-quant-row (
   quant-row-reads.Asked,
@@ -56,7 +79,7 @@ chain-add-quant-row : (t : ℕ) → chain-lts.Need-add-quant-row (
 ) (chain-at t) chain.Post
 chain-add-quant-row t c = omega (arith, c .before .before .pre .1 .1)
 
-chain-sub-quant-row-2 : (t : ℕ) → chain-lts.Need-sub-quant-row-2 (
+chain-array-read-quant-row : (t : ℕ) → chain-lts.Need-array-read-quant-row (
   quant-row-reads.Asked,
   quant-row-reads.Learnt,
   put-row-reads.Asked,
@@ -64,17 +87,7 @@ chain-sub-quant-row-2 : (t : ℕ) → chain-lts.Need-sub-quant-row-2 (
   chain-below t,
   chain.Post,
 ) (chain-at t) chain.Post
-chain-sub-quant-row-2 t c = omega arith
-
-chain-add-quant-row-2 : (t : ℕ) → chain-lts.Need-add-quant-row-2 (
-  quant-row-reads.Asked,
-  quant-row-reads.Learnt,
-  put-row-reads.Asked,
-  put-row-reads.Learnt,
-  chain-below t,
-  chain.Post,
-) (chain-at t) chain.Post
-chain-add-quant-row-2 t c = omega (arith, c .before .before .pre .1 .2)
+chain-array-read-quant-row t c = omega (arith, c .before .before .pre .1 .2, c .if1 .left)
 
 chain-quant-row-requires : (t : ℕ) → chain-lts.Need-quant-row-requires (
   quant-row-reads.Asked,
@@ -144,7 +157,11 @@ chain-returns-2 : (t : ℕ) → chain-lts.Need-returns-2 (
   chain-below t,
   chain.Post,
 ) (chain-at t) chain.Post
-chain-returns-2 t c = λ nodes. let z = c .before .before .before .before .before .before .before .before .before .before .before in let e : (z .args .len + 1) + (z .args .k - 1) ≡ z .args .len + z .args .k = omega (arith, c .before .before .before .before .before .before .before .before .before .if1 .left) in chain-more (z .args .kind) (z .args .which) (z .args .level) (z .args .k) (rowsFrom (z .args .rows .now) (z .args .len) nodes) (rowsFrom (c .before .before .before .before .before .before .put-row .last .0) (z .args .len + 1) nodes) (rowsFrom (c .before .before .chain .last .0) (z .args .len + z .args .k) nodes) (c .before .before .before .before .before .before .before .before .quant-row .result) (c .before .before .before .before .before .before .before .before .before .if1 .left) (rows-many (z .args .rows .now) (z .args .len) nodes) (omega (arith, z .pre .1 .0, c .before .before .before .before .before .before .before .before .before .if1 .left)) (c .before .before .before .before .before .before .before .before .quant-row .ensures) (c .before .before .before .before .before .before .put-row .ensures .1 (z .args .len + 1) nodes) (subst (λ (l : ℕ). Adds (rowsFrom (c .before .before .before .before .before .before .put-row .last .0) (z .args .len + 1) nodes) (chainOf (z .args .kind) (z .args .which) (z .args .level) (z .args .k - 1)) 0 (rowsFrom (c .before .before .chain .last .0) l nodes)) e (c .before .before .chain .ensures nodes))
+chain-returns-2 t c =
+    λ nodes. let z = c .before .before .before .before .before .before .before .before .before .before .before in
+    let e : (z .args .len + 1) + (z .args .k - 1) ≡ z .args .len + z .args .k = omega (arith, c .before .before .before .before .before .before .before .before .before .if1 .left) in
+    chain-more (z .args .kind) (z .args .which) (z .args .level) (z .args .t7) (z .args .k) (rowsFrom (z .args .rows .now) (z .args .len) nodes) (rowsFrom (c .before .before .before .before .before .before .put-row .last .0) (z .args .len + 1) nodes) (rowsFrom (c .before .before .chain .last .0) (z .args .len + z .args .k) nodes) (c .before .before .before .before .before .before .before .before .quant-row .result) (c .before .before .before .before .before .before .before .before .before .if1 .left) (rows-many (z .args .rows .now) (z .args .len) nodes)
+    (omega (arith, z .pre .1 .0, c .before .before .before .before .before .before .before .before .before .if1 .left)) (c .before .before .before .before .before .before .before .before .quant-row .ensures) (c .before .before .before .before .before .before .put-row .ensures .1 (z .args .len + 1) nodes) (subst (λ (l : ℕ). Adds (rowsFrom (c .before .before .before .before .before .before .put-row .last .0) (z .args .len + 1) nodes) (chainOf (z .args .kind) (z .args .which) (z .args .level) (z .args .t7) (z .args .k - 1)) 0 (rowsFrom (c .before .before .chain .last .0) l nodes)) e (c .before .before .chain .ensures nodes))
 
 pub +chain-spec : {M : Type 1} → statement M
 +chain-spec = close μ-chain λ t. chain-lts.spec (
@@ -158,10 +175,11 @@ pub +chain-spec : {M : Type 1} → statement M
     (chain-at t)
     chain.Post
     (chain-returns t)
+    (chain-sub-l t)
+    (chain-add-l t)
     (chain-sub-quant-row t)
     (chain-add-quant-row t)
-    (chain-sub-quant-row-2 t)
-    (chain-add-quant-row-2 t)
+    (chain-array-read-quant-row t)
     (chain-quant-row-requires t)
     (chain-put-row-requires t)
     (chain-add-chain t)

@@ -18,7 +18,7 @@ add-number : tie.Need-add-number
 add-number c = omega (arith, ready-in ((c .before .before .before .before .before .pre .1 .0) .ready), c .before .before .before .before .before .good .0 .0)
 
 number-requires : tie.Need-number-requires
-number-requires c κs = (omega (arith, (c .before .before .before .before .before .pre .1 .0) .lent .count, (c .before .before .before .before .before .pre .1 .0) .ready .fixed .few), c .before .before .before .before .before .pre .0 .0, c .before .before .before .before .before .pre .0 .1)
+number-requires c κs = (omega (arith, (c .before .before .before .before .before .pre .1 .0) .lent .count, (c .before .before .before .before .before .pre .1 .0) .ready .fixed .few), omega (arith, c .before .before .before .before .before .pre .0 .0), omega (arith, c .before .before .before .before .before .pre .0 .1))
 
 fill-requires : tie.Need-fill-requires
 fill-requires c κs = let W = c .before .before .before .before .before .before .before .pre .1 .0 in let w = W .ready in let v = lit-view w (c .before .before .before .before .before .before .before .pre .1 .1) in lit-vars w v (c .before .before .run .result) (c .before .before .run .ensures)

@@ -16,7 +16,7 @@ use Rattle.rewriting.proofs.rows_of.Statement.{statement}
 use Rattle.rewriting.proofs.rows_of.Tie as tie
 
 positive-requires : tie.Need-positive-requires
-positive-requires c κs = let z = c .before .before .before .before .before .before .before .before .before .before in let a = formed (z .args .text .now) (z .args .at) (z .args .end) (z .args .sig) (z .pre .0) in let w = own (top-ready (z .args .text .now) (z .args .at) (z .args .end) (z .args .sig) (0 ∷ 0 ∷ 0 ∷ 0 ∷ []) (0 ∷ 0 ∷ 0 ∷ 0 ∷ []) (rowsFrom (z .args .rows .now) 0 0) (z .pre .0) a (rows-many (z .args .rows .now) 0 0) (omega (arith, plain-forms (z .args .text .now) (z .args .at) (z .args .end) (z .args .sig) (z .pre .0) a [] [])) (omega (arith, plain-forms (z .args .text .now) (z .args .at) (z .args .end) (z .args .sig) (z .pre .0) a [] []))) in let p : length (z .args .sig .from) ≡ 12 = search needs in let q : length (z .args .sig .to) ≡ 12 = search needs in ((omega arith, omega arith, z .pre .1), w)
+positive-requires c κs = let z = c .before .before .before .before .before .before .before .before .before .before in let a = formed (z .args .text .now) (z .args .at) (z .args .end) (z .args .sig) (z .pre .0) in let w = own (top-ready (z .args .text .now) (z .args .at) (z .args .end) (z .args .sig) (0 ∷ 0 ∷ 0 ∷ 0 ∷ []) (0 ∷ 0 ∷ 0 ∷ 0 ∷ []) (rowsFrom (z .args .rows .now) 0 0) (z .pre .0) a (rows-many (z .args .rows .now) 0 0) (omega (arith, plain-forms (z .args .text .now) (z .args .at) (z .args .end) (z .args .sig) (z .pre .0) a [] [])) (omega (arith, plain-forms (z .args .text .now) (z .args .at) (z .args .end) (z .args .sig) (z .pre .0) a [] []))) in let p : length (z .args .sig .from) ≡ 20 = search needs in let q : length (z .args .sig .to) ≡ 20 = search needs in ((omega arith, omega arith, z .pre .1), w)
 
 same-length : tie.Need-same-length
 same-length c = c .before .before .positive .kept .1 .1 .1 .1 .1 .1 .0
@@ -25,7 +25,7 @@ returns : tie.Need-returns
 returns c = let z = c .before .before .before .before .before .before .before .before .before .before .before .before .before in let a = formed (z .args .text .now) (z .args .at) (z .args .end) (z .args .sig) (z .pre .0) in let w = own (top-ready (z .args .text .now) (z .args .at) (z .args .end) (z .args .sig) (0 ∷ 0 ∷ 0 ∷ 0 ∷ []) (0 ∷ 0 ∷ 0 ∷ 0 ∷ []) (rowsFrom (z .args .rows .now) 0 0) (z .pre .0) a (rows-many (z .args .rows .now) 0 0) (omega (arith, plain-forms (z .args .text .now) (z .args .at) (z .args .end) (z .args .sig) (z .pre .0) a [] [])) (omega (arith, plain-forms (z .args .text .now) (z .args .at) (z .args .end) (z .args .sig) (z .pre .0) a [] []))) in of-plain (z .args .text .now) (z .args .at) (z .args .end) (z .args .sig) (z .pre .0) a _ _ _ _ _ refl refl (sym (c .before .before .before .before .before .before .before .totalities .ensures .0 (z .args .text .now)) ∙ c .before .before .before .before .before .before .if1 .taken) (c .before .before .positive .ensures w)
 
 positive-requires-2 : tie.Need-positive-requires-2
-positive-requires-2 c κs = let z = c .before .before .before .before .before .before .before .before .before .before in let a = formed (z .args .text .now) (z .args .at) (z .args .end) (z .args .sig) (z .pre .0) in let h : totals (chosenOf (z .args .text .now) (z .args .sig)) ≡ 0 → ⊥ = λ e. c .before .before .before .if1 .left (c .before .before .before .before .totalities .ensures .0 (z .args .text .now) ∙ e) in let w = own (top-ready (z .args .text .now) (z .args .at) (z .args .end) (z .args .sig) (0 ∷ 0 ∷ 0 ∷ 0 ∷ []) (0 ∷ 0 ∷ 0 ∷ 0 ∷ []) (rowsFrom (z .args .rows .now) 0 1) (z .pre .0) a (rows-many (z .args .rows .now) 0 1) (omega (arith, plain-forms (z .args .text .now) (z .args .at) (z .args .end) (z .args .sig) (z .pre .0) a [] [])) (omega (arith, joined-forms (z .args .text .now) (z .args .at) (z .args .end) (z .args .sig) (z .pre .0) a [] [] h))) in let p : length (z .args .sig .from) ≡ 12 = search needs in let q : length (z .args .sig .to) ≡ 12 = search needs in ((omega arith, omega arith, z .pre .1), w)
+positive-requires-2 c κs = let z = c .before .before .before .before .before .before .before .before .before .before in let a = formed (z .args .text .now) (z .args .at) (z .args .end) (z .args .sig) (z .pre .0) in let h : totals (chosenOf (z .args .text .now) (z .args .sig)) ≡ 0 → ⊥ = λ e. c .before .before .before .if1 .left (c .before .before .before .before .totalities .ensures .0 (z .args .text .now) ∙ e) in let w = own (top-ready (z .args .text .now) (z .args .at) (z .args .end) (z .args .sig) (0 ∷ 0 ∷ 0 ∷ 0 ∷ []) (0 ∷ 0 ∷ 0 ∷ 0 ∷ []) (rowsFrom (z .args .rows .now) 0 1) (z .pre .0) a (rows-many (z .args .rows .now) 0 1) (omega (arith, plain-forms (z .args .text .now) (z .args .at) (z .args .end) (z .args .sig) (z .pre .0) a [] [])) (omega (arith, joined-forms (z .args .text .now) (z .args .at) (z .args .end) (z .args .sig) (z .pre .0) a [] [] h))) in let p : length (z .args .sig .from) ≡ 20 = search needs in let q : length (z .args .sig .to) ≡ 20 = search needs in ((omega arith, omega arith, z .pre .1), w)
 
 totalities-requires-2 : tie.Need-totalities-requires-2
 totalities-requires-2 c κs = let z = c .before .before .before .before .before .before .before .before .before .before .before .before .before .before in let a = formed (z .args .text .now) (z .args .at) (z .args .end) (z .args .sig) (z .pre .0) in let h : totals (chosenOf (z .args .text .now) (z .args .sig)) ≡ 0 → ⊥ = λ e. c .before .before .before .before .before .before .before .if1 .left (c .before .before .before .before .before .before .before .before .totalities .ensures .0 (z .args .text .now) ∙ e) in let w = own (top-ready (z .args .text .now) (z .args .at) (z .args .end) (z .args .sig) (0 ∷ 0 ∷ 0 ∷ 0 ∷ []) (0 ∷ 0 ∷ 0 ∷ 0 ∷ []) (rowsFrom (z .args .rows .now) 0 1) (z .pre .0) a (rows-many (z .args .rows .now) 0 1) (omega (arith, plain-forms (z .args .text .now) (z .args .at) (z .args .end) (z .args .sig) (z .pre .0) a [] [])) (omega (arith, joined-forms (z .args .text .now) (z .args .at) (z .args .end) (z .args .sig) (z .pre .0) a [] [] h))) in let W = c .before .before .before .positive2 .ensures w in ((omega (arith, (z .pre .0) .sound .rels-le, (z .pre .0) .sound .chosen-le), c .before .before .before .positive2 .kept .1 .1 .1 .1 .1 .1 .0 ∙ z .pre .1), λ q. (omega (arith, walked-len true (a .f) _ _ W, joined-forms (z .args .text .now) (z .args .at) (z .args .end) (z .args .sig) (z .pre .0) a [] [] h, c .before .before .before .before .before .before .before .before .totalities .ensures .0 q, c .before .before .before .before .before .before .before .before .totalities .ensures .0 (z .args .text .now)), omega (arith, walked-nodes true (a .f) _ _ W, joined-forms (z .args .text .now) (z .args .at) (z .args .end) (z .args .sig) (z .pre .0) a [] [] h, c .before .before .before .before .before .before .before .before .totalities .ensures .0 q, c .before .before .before .before .before .before .before .before .totalities .ensures .0 (z .args .text .now))))

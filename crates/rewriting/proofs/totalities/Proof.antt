@@ -10,7 +10,7 @@ use Rattle.rewriting.proofs.totalities.Statement.{statement}
 use Rattle.rewriting.proofs.totalities.Tie as tie
 
 abbrev Inv-loop : tie.InvT-loop
-Inv-loop rows₀ len nodes sig u₀ i₀ end rows u i = (i ≤ end) × (end ≡ sig .rels + sig .chosen) × Left (rowsFrom rows₀ len nodes) (rowsFrom rows (u .len) (u .nodes)) sig i × (length rows ≡ 448)
+Inv-loop rows₀ len nodes sig u₀ i₀ end rows u i = (i ≤ end) × (end ≡ sig .rels + sig .chosen) × Left (rowsFrom rows₀ len nodes) (rowsFrom rows (u .len) (u .nodes)) sig i × (length rows ≡ 512)
 
 abbrev μ-loop : tie.MeasureT-loop
 μ-loop rows₀ len nodes sig u₀ i₀ end rows u i = end - i

@@ -39,12 +39,22 @@ returns-8 c = sym (ap verdictOf (c .enum-told8 .given .1))
 
 returns-9 : tie.Need-returns-9
 unfolding verdictOf
-returns-9 c = sym (ap verdictOf (c .before .x .given .1))
+returns-9 c = sym (ap verdictOf (c .enum-told9 .given .1))
+
+returns-10 : tie.Need-returns-10
+unfolding verdictOf
+returns-10 c = sym (ap verdictOf (c .enum-told10 .given .1))
+
+returns-11 : tie.Need-returns-11
+unfolding verdictOf
+returns-11 c = sym (ap verdictOf (c .before .x .given .1))
 
 pub judge-spec : {M : Type 1} → statement M
 judge-spec =
     tie.close
     (tie.spec
+    (λ c. search needs)
+    (λ c. search needs)
     (λ c. search needs)
     (λ c. search needs)
     (λ c. search needs)
@@ -62,4 +72,6 @@ judge-spec =
     returns-6
     returns-7
     returns-8
-    returns-9)
+    returns-9
+    returns-10
+    returns-11)

@@ -4,12 +4,12 @@ use mathlib.Core.Path.{_≡_, refl, sym, subst}
 use mathlib.Core.List.{List}
 use native.Mathlib.Omega.{arith}
 use lib.ListN.{length}
-use borrow.Author.Needs.{needs}
 use Rattle.definitions.specs.Sheets.{Label}
 use Rattle.tuples.specs.Labels.{LabelsAre}
 use Rattle.tuples.specs.Marks.{Roomy}
 use Rattle.sheets.proofs.Loops.{PicksAt, picks-long, picks-start, picks-next, picks-fault, picks-done}
-use Rattle.sheets.proofs.Turns.{sound-arrays}
+use Rattle.sheets.proofs.Turns.{sound-few}
+use borrow.Author.Needs.{needs}
 use Rattle.sheets.proofs.picks_lines.Statement.{statement}
 use Rattle.sheets.proofs.picks_lines.Tie as tie
 
@@ -27,15 +27,13 @@ loop-holds c = (omega arith, omega arith, refl, λ ls K. picks-start _ _ _ ls _ 
 
 picks-turn-requires : tie.Need-picks-turn-requires Inv-loop μ-loop
 picks-turn-requires c κs =
-    let g = c .before .before .before .before .before .before .before .before .before .before .before .before .before .before .before .before .args .g in
-    let a : length (c .before .before .before .before .before .before .before .before .before .before .before .before .before .before .before .before .args .g .from) ≡ 12 = search needs in
-    let b : length (c .before .before .before .before .before .before .before .before .before .before .before .before .before .before .before .before .args .g .to) ≡ 12 = search needs in
-    let d : length (c .before .before .before .before .before .before .before .before .before .before .before .before .before .before .before .before .args .g .arity) ≡ 12 = search needs in
+    let a = c .before .before .before .before .before .before .before .before .before .before .before .before .before .before .before .before .args in
+    let g = a .g in
     let known = c .before .before .before .before .before .before .before .before .before .before .before .before .before .before .before .before .pre .0 in (
       (
-        sound-arrays _ g (g .rels) (g .chosen) (known .0) (omega arith) a b d,
+        sound-few _ g (g .rels) (g .chosen) (known .0) (omega arith),
         known .1,
-        subst (λ (k : ℕ). Roomy (g .from) (g .to) (g .arity) (g .rels) (g .chosen) (c .before .before .before .before .before .before .before .before .before .before .before .before .before .before .before .before .args .n) k) (sym (c .before .before .before .before .before .before .loop .inv .2)) (known .2),
+        subst (λ (k : ℕ). Roomy (g .from) (g .to) (g .arity) (g .rels) (g .chosen) (a .n) k) (sym (c .before .before .before .before .before .before .loop .inv .2)) (known .2),
       ),
       (c .before .before .before .before .before .before .before .before .before .before .before .before .before .before .before .before .pre .1, (_, c .before .before .before .before .line .ensures .3)),
     )
@@ -43,11 +41,22 @@ picks-turn-requires c κs =
 returns-2 : tie.Need-returns-2 Inv-loop μ-loop
 returns-2 c = λ ls K. picks-fault _ _ _ ls _ _ _ _ (c .before .before .before .before .before .before .before .before .before .before .loop .inv .3 ls K) _ _ (c .before .before .before .before .before .before .before .before .line .ensures .2) _ _ (c .before .before .before .picks-turn .ensures ls K (c .before .before .before .before .before .before .before .before .before .before .before .before .before .before .before .before .before .before .before .before .args .g) refl refl) _ (c .if2 .taken)
 
+add-k : tie.Need-add-k Inv-loop μ-loop
+add-k c = omega arith
+
 loop-less : tie.Need-loop-less Inv-loop μ-loop
 loop-less c = omega (arith, c .before .before .before .before .before .before .before .before .line .ensures .0, c .before .before .before .before .before .before .before .before .line .ensures .1)
 
 loop-again : tie.Need-loop-again Inv-loop μ-loop
-loop-again c = (c .before .before .before .before .before .before .before .before .line .ensures .1, omega (arith, c .before .before .before .before .before .before .before .before .line .ensures .0), search needs, λ ls K. picks-next (c .before .before .before .before .before .before .before .before .before .before .before .before .before .before .before .before .before .before .before .before .args .q .now) (c .before .before .before .before .before .before .before .before .before .before .before .before .before .before .before .before .before .before .before .before .args .g) (c .before .before .before .before .before .before .before .before .before .before .before .before .before .before .before .before .before .before .before .before .args .n) ls (c .before .before .before .before .before .before .before .before .before .before .before .before .before .before .before .before .before .before .before .before .args .s .now) (c .before .before .before .before .before .before .before .before .before .before .loop .at) (c .before .before .before .before .before .before .before .before .before .before .loop .k) (c .before .before .before .before .before .before .before .before .before .before .loop .table) (c .before .before .before .before .before .before .before .before .before .before .loop .inv .3 ls K) (c .before .before .before .before .before .before .before .before .line .result .next) (c .before .before .before .before .before .before .before .before .line .result .entry) (c .before .before .before .before .before .before .before .before .line .ensures .2) _ _ (c .before .before .before .picks-turn .ensures ls K (c .before .before .before .before .before .before .before .before .before .before .before .before .before .before .before .before .before .before .before .before .args .g) refl refl) (c .if2 .left))
+loop-again c =
+    let a = c .before .before .before .before .before .before .before .before .before .before .before .before .before .before .before .before .before .before .before .before .args in
+    let l = c .before .before .before .before .before .before .before .before .line in
+    let so-far = c .before .before .before .before .before .before .before .before .before .before .loop in (
+      l .ensures .1,
+      omega (arith, l .ensures .0),
+      search needs,
+      λ ls K. picks-next (a .q .now) (a .g) (a .n) ls (a .s .now) (so-far .at) (so-far .k) (so-far .table) (so-far .inv .3 ls K) (l .result .next) (l .result .entry) (l .ensures .2) _ _ (c .before .before .before .picks-turn .ensures ls K (a .g) refl refl) (c .if2 .left),
+    )
 
 same-length-2 : tie.Need-same-length-2 Inv-loop μ-loop
 same-length-2 c = c .before .loop .inv .2
@@ -64,13 +73,10 @@ picks-lines-spec =
     returns
     loop-holds
     (λ c κs. search needs)
-    (λ c. search needs)
-    (λ c. search needs)
-    (λ c. search needs)
     picks-turn-requires
     (λ c. search needs)
     returns-2
-    (λ c. omega arith)
+    add-k
     loop-less
     loop-again
     same-length-2

@@ -3,6 +3,7 @@ use mathlib.Core.Path.{sym, _∙_}
 use native.Mathlib.Omega.{arith}
 use borrow.Author.Needs.{needs}
 use Rattle.sheets.proofs.Turns.{facts-room}
+use Rattle.sheets.proofs.Loops.{no-member-words}
 use Rattle.sheets.specs.Opening.{opened, known-sound, question-refused, site-refused, both-read}
 use Rattle.sheets.proofs.read_filed.Statement.{statement}
 use Rattle.sheets.proofs.read_filed.Tie as tie
@@ -12,15 +13,15 @@ returns c = λ L e. question-refused _ _ _ _ _ _ (c .before .before .question .e
 
 site-requires : tie.Need-site-requires
 site-requires c κs =
-    let sound = known-sound _ _ (c .before .before .before .before .question .ensures) (c .before .before .before .if1 .left) in
-    (sound, search needs, λ k next r h. facts-room _ _ sound k _ (c .before .before .before .before .before .before .before .before .before .pre .1 k next r h), search needs, search needs)
+    let sound = known-sound _ _ (c .before .before .before .before .before .question .ensures) (c .before .before .before .before .if1 .left) in
+    (sound, search needs, λ k next r h. facts-room _ _ sound k _ (c .before .before .before .before .before .before .before .before .before .before .pre .1 k next r h), search needs, no-member-words, search needs)
 
 returns-2 : tie.Need-returns-2
-returns-2 c = λ L e. site-refused _ _ _ _ _ _ (c .before .before .before .before .before .before .before .before .before .before .before .before .before .question .ensures) (c .before .before .before .before .before .before .before .before .before .before .before .before .if1 .left) _ _ (sym (c .before .before .before .before .before .before .before .before .site .ensures L e .0) ∙ c .before .before .s .given .1) _ (c .refusal2 .ensures)
+returns-2 c = λ L e. site-refused _ _ _ _ _ _ (c .before .before .before .before .before .before .before .before .before .before .before .before .before .before .before .question .ensures) (c .before .before .before .before .before .before .before .before .before .before .before .before .before .before .if1 .left) _ _ (sym (c .before .before .before .before .before .before .before .before .before .site .ensures L e .0) ∙ c .before .before .s .given .1) _ (c .refusal2 .ensures)
 
 returns-3 : tie.Need-returns-3
 unfolding opened
-returns-3 c = λ L e. both-read _ _ _ _ _ _ (c .before .before .before .before .before .before .before .before .before .before .before .before .before .question .ensures) (c .before .before .before .before .before .before .before .before .before .before .before .before .if1 .left) (omega arith) _ (sym (c .before .before .before .before .before .before .before .before .site .ensures L e .0) ∙ c .before .before .s2 .given .1) (c .before .before .before .before .before .before .before .before .site .ensures L e .1) (c .before .before .before .before .before .before .before .before .site .ensures L e .2)
+returns-3 c = λ L e. both-read _ _ _ _ _ _ (c .before .before .before .before .before .before .before .before .before .before .before .before .before .before .before .question .ensures) (c .before .before .before .before .before .before .before .before .before .before .before .before .before .before .if1 .left) (omega arith) _ (sym (c .before .before .before .before .before .before .before .before .before .site .ensures L e .0) ∙ c .before .before .s2 .given .1) (c .before .before .before .before .before .before .before .before .before .site .ensures L e .1) (c .before .before .before .before .before .before .before .before .before .site .ensures L e .2) _ (c .before .before .before .before .before .before .before .before .before .site .ensures L e .3)
 
 pub read-filed-spec : {M : Type 1} → statement M
 read-filed-spec =
@@ -29,6 +30,7 @@ read-filed-spec =
     (λ c κs. search needs)
     (λ c κs. search needs)
     returns
+    (λ c. search needs)
     site-requires
     (λ c. search needs)
     (λ c κs. search needs)

@@ -1,14 +1,14 @@
 -- `sheets::site` meets its contract. Where the site is refused the table is cleared again.
-use borrow.Author.Needs.{needs}
 use Rattle.sheets.proofs.Loops.{site-kept, site-cleared, all-cleared}
+use borrow.Author.Needs.{needs}
 use Rattle.sheets.proofs.site.Statement.{statement}
 use Rattle.sheets.proofs.site.Tie as tie
 
 returns : tie.Need-returns
-returns c = λ L e. site-kept _ _ _ _ _ _ _ _ (c .before .r .given .1) (c .before .before .before .before .before .before .before .site-lines .ensures L e)
+returns c = λ L e. site-kept _ _ _ _ _ _ _ _ _ (c .before .r .given .1) (c .before .before .before .before .before .before .before .before .before .site-lines .ensures L e)
 
 returns-2 : tie.Need-returns-2
-returns-2 c = λ L e. site-cleared _ _ _ _ _ _ _ _ _ _ (c .before .before .before .before .before .r2 .given .1) (c .before .before .before .before .before .before .before .before .before .before .before .site-lines .ensures L e) (all-cleared _ _ (c .before .before .fill .ensures .1))
+returns-2 c = λ L e. site-cleared _ _ _ _ _ _ _ _ _ _ _ (c .before .before .before .before .before .r2 .given .1) (c .before .before .before .before .before .before .before .before .before .before .before .before .before .site-lines .ensures L e) (all-cleared _ _ (c .before .before .fill .ensures .1))
 
 pub site-spec : {M : Type 1} → statement M
 site-spec =
@@ -20,7 +20,9 @@ site-spec =
     (λ c κs. search needs)
     (λ c. search needs)
     (λ c. search needs)
+    (λ c. search needs)
     returns
+    (λ c. search needs)
     (λ c. search needs)
     (λ c. search needs)
     returns-2)

@@ -1,31 +1,31 @@
 -- `tally::of_nodes` meets its contract: each turn visits one node and adds its atoms and actions. Assumes nothing.
-use Prim.Native.Nat.{ℕ, _-_, _*_, _≤_, _^_}
-use mathlib.Core.Path.{_≡_, ap, ap₂, _∙_, subst}
+use Prim.Native.Nat.{ℕ, _-_, _*_, _≤_, _<_, _^_}
+use mathlib.Core.Path.{_≡_, ap, _∙_, subst}
 use native.Mathlib.Omega.{arith}
 use borrow.Author.Needs.{needs}
 use lib.ListN.{getD}
 use Rattle.tree.specs.Tables.{noNode}
 use Rattle.tree.specs.declared.NodeRow.{NodeRow}
-use Rattle.layout.specs.Laid.{nodeWidth, choicesOf}
-use Rattle.layout.specs.LaidLaws.{acts-le, node-width-le, pow-fits, size-most}
+use Rattle.layout.specs.Laid.{nodeWidth, choicesAt}
+use Rattle.layout.specs.LaidLaws.{choices-at, acts-le, node-width-le, pow-fits, size-most}
 use Rattle.tally.specs.Sums.{NodesSummed}
 use Rattle.tally.specs.SumLaws.{nodes-first, nodes-next, node-counts}
 use Rattle.tally.proofs.of_nodes.Statement.{statement}
 use Rattle.tally.proofs.of_nodes.Tie as tie
 
 abbrev Inv-loop : tie.InvT-loop
-Inv-loop n t atoms₀ actions₀ nodes₀ atoms actions nodes = (nodes ≤ t .count) × NodesSummed n t nodes nodes atoms actions
+Inv-loop n ranges t atoms₀ actions₀ nodes₀ atoms actions nodes = (nodes ≤ t .count) × NodesSummed n (ranges .count) t nodes nodes atoms actions
 
 abbrev μ-loop : tie.MeasureT-loop
-μ-loop n t atoms₀ actions₀ nodes₀ atoms actions nodes = t .count - nodes
+μ-loop n ranges t atoms₀ actions₀ nodes₀ atoms actions nodes = t .count - nodes
 
 -- the row of the node where the loop stands
 abbrev row : tie.In-loop Inv-loop μ-loop → NodeRow
-row c = getD (c .before .before .args .t2 .rows) (c .before .loop .nodes) noNode
+row c = getD (c .before .before .args .t3 .rows) (c .before .loop .nodes) noNode
 
 -- the counts so far
 counts-small : (c : tie.At-loop Inv-loop μ-loop) → (c .loop .atoms ≤ 2 ^ 36) × (c .loop .actions ≤ 2 ^ 36)
-counts-small c = node-counts (c .before .args .n) (c .before .pre .1) (c .before .args .t2) (c .before .pre .2) (c .loop .nodes) (c .loop .nodes) (c .loop .atoms) (c .loop .actions) (c .loop .inv .0) (c .loop .inv .1)
+counts-small c = node-counts (c .before .args .n) (c .before .pre .1) (c .before .args .t2 .count) (c .before .args .t3) (c .before .pre .3 .count) (c .before .pre .2) (c .loop .nodes) (c .loop .nodes) (c .loop .atoms) (c .loop .actions) (c .loop .inv .0) (c .loop .inv .1)
 
 -- how many values its free variables have
 rows-are : (c : tie.After-power Inv-loop μ-loop) → c .power .result ≡ c .before .before .before .before .before .before .args .n ^ row (c .before .before .before .before) .width
@@ -48,18 +48,21 @@ width-small c =
     let w = node-width-le (s .args .n) (c .before .power .result) (row (c .before .before .before .before .before) .kind) (s .pre .1) (rows-small (c .before)) in
     omega (arith, row-width c)
 
--- how many actions it has at each of these, and in all
-row-choices : (c : tie.After-choices Inv-loop μ-loop)
-    → let s = c .before .before .before .before .before .before .before in c .choices .result ≡ choicesOf (s .before .before .args .n) (row s .kind) (row s .many)
-row-choices c = let s = c .before .before .before .before .before .before .before in c .choices .ensures ∙ ap₂ (choicesOf (s .before .before .args .n)) (c .before .before .before .before .before .wide .ensures .0) (c .before .wide3 .ensures .0)
+-- its sort is one of nine
+sort-small : (c : tie.After-wide3 Inv-loop μ-loop) → c .wide3 .result < 9
+sort-small c = omega (arith, c .wide3 .ensures .0, c .before .before .before .before .before .before .before .before .pre .2 .nodes .node (c .before .before .before .before .before .before .before .loop .nodes) .sort)
 
-acts-small : (c : tie.After-choices Inv-loop μ-loop) → c .before .before .before .power .result * c .choices .result ≤ 64 ^ 4 * 64
+-- how many actions it has at each of these, and in all
+row-choices : (c : tie.After-choices Inv-loop μ-loop) → c .choices .result ≡ choicesAt (c .before .before .before .before .before .before .before .before .before .before .before .args .t2 .count) (c .before .before .before .before .before .before .before .before .before .before .before .args .t3) (c .before .before .before .before .before .before .before .before .before .before .loop .nodes)
+row-choices c = c .choices .ensures ∙ choices-at (c .before .before .before .before .before .before .before .before .before .before .before .args .t2 .count) (c .before .before .before .wide3 .ensures .0) (c .before .before .before .before .before .before .before .wide .ensures .0) (c .before .wide4 .ensures .0)
+
+acts-small : (c : tie.After-choices Inv-loop μ-loop) → c .before .before .before .before .before .power .result * c .choices .result ≤ 64 ^ 4 * 64
 acts-small c =
-    let s = c .before .before .before .before .before .before .before .before .before in
-    acts-le (s .args .n) (s .args .t2) 0 0 (s .pre .1) (s .pre .2) (c .before .before .before .before .before .before .before .before .loop .nodes) (c .before .before .before .power .result) (c .choices .result) (rows-are (c .before .before .before)) (row-choices c)
+    let s = c .before .before .before .before .before .before .before .before .before .before .before in
+    acts-le (s .args .n) (s .args .t2 .count) (s .args .t3) 0 0 (s .pre .1) (s .pre .3 .count) (s .pre .2) (c .before .before .before .before .before .before .before .before .before .before .loop .nodes) (c .before .before .before .before .before .power .result) (c .choices .result) (rows-are (c .before .before .before .before .before)) (row-choices c)
 
 loop-holds : tie.Need-loop-holds Inv-loop μ-loop
-loop-holds c = (omega arith, nodes-first (c .args .n) (c .args .t2))
+loop-holds c = (omega arith, nodes-first (c .args .n) (c .args .t2 .count) (c .args .t3))
 
 mul-row : tie.Need-mul-row Inv-loop μ-loop
 mul-row c = omega (arith, c .before .before .pre .2 .few)
@@ -83,26 +86,23 @@ mul-actions : tie.Need-mul-actions Inv-loop μ-loop
 mul-actions c = omega (arith, acts-small c)
 
 add-actions : tie.Need-add-actions Inv-loop μ-loop
-add-actions c = omega (arith, counts-small (c .before .before .before .before .before .before .before .before) .1, acts-small c)
+add-actions c = omega (arith, counts-small (c .before .before .before .before .before .before .before .before .before .before) .1, acts-small c)
 
-add-nodes : tie.Need-add-nodes Inv-loop μ-loop
-add-nodes c = omega (arith, c .before .before .before .before .before .before .before .before .before .pre .2 .few)
-
-loop-less : tie.Need-loop-less Inv-loop μ-loop
-loop-less c = omega (arith, c .before .before .before .before .before .before .before .before .before .pre .2 .few)
+-- one node more is still one of 64
+few : (c : tie.After-choices Inv-loop μ-loop) → c .before .before .before .before .before .before .before .before .before .before .loop .nodes < 64
+few c = omega (arith, c .before .before .before .before .before .before .before .before .before .loop-test .taken, c .before .before .before .before .before .before .before .before .before .before .before .pre .2 .few)
 
 loop-again : tie.Need-loop-again Inv-loop μ-loop
 loop-again c =
-    let s = c .before .before .before .before .before .before .before .before .before in
-    let u = c .before .before .before .before .before .before .before .before in
-    let w = c .before .before .before in (
-      omega arith,
-      nodes-next (s .args .n) (s .args .t2) (u .loop .nodes) (u .loop .atoms) (u .loop .actions) (w .power .result) (c .before .before .node-width .result) (c .choices .result)
-          (rows-are (w)) (row-width (c .before .before)) (row-choices c) (u .loop .inv .1),
+    let s = c .before .before .before .before .before .before .before .before .before .before .before in
+    let u = c .before .before .before .before .before .before .before .before .before .before in (
+      omega (arith, c .before .before .before .before .before .before .before .before .before .loop-test .taken),
+      nodes-next (s .args .n) (s .args .t2 .count) (s .args .t3) (u .loop .nodes) (u .loop .atoms) (u .loop .actions) (c .before .before .before .before .before .power .result) (c .before .before .before .before .node-width .result) (c .choices .result)
+          (rows-are (c .before .before .before .before .before)) (row-width (c .before .before .before .before)) (row-choices c) (u .loop .inv .1),
     )
 
 returns : tie.Need-returns Inv-loop μ-loop
-returns c = let e : c .before .loop .nodes ≡ c .before .before .args .t2 .count = omega arith in subst (λ (x : ℕ). NodesSummed (c .before .before .args .n) (c .before .before .args .t2) x (c .before .loop .nodes) (c .before .loop .atoms) (c .before .loop .actions)) e (c .before .loop .inv .1)
+returns c = let e : c .before .loop .nodes ≡ c .before .before .args .t3 .count = omega arith in subst (λ (x : ℕ). NodesSummed (c .before .before .args .n) (c .before .before .args .t2 .count) (c .before .before .args .t3) x (c .before .loop .nodes) (c .before .loop .atoms) (c .before .loop .actions)) e (c .before .loop .inv .1)
 
 pub of-nodes-spec : {M : Type 1} → statement M
 of-nodes-spec =
@@ -119,10 +119,13 @@ of-nodes-spec =
     node-width-requires
     add-atoms
     (λ c κs. search needs)
+    (λ c. omega (arith, sort-small c))
+    (λ c. omega (arith, sort-small c))
+    (λ c κs. search needs)
     (λ c κs. search needs)
     mul-actions
     add-actions
-    add-nodes
-    loop-less
+    (λ c. omega (arith, few c))
+    (λ c. omega (arith, few c))
     loop-again
     returns)

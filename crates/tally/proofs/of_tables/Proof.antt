@@ -11,7 +11,7 @@ before-small : (c : tie.After-of-nodes) → let b = c .before .of-relations .res
 before-small c = let s = c .before .before in relation-counts (s .args .n) (s .pre .1) (s .args .g) (s .pre .2) (s .args .g .count) _ _ _ (omega arith) (c .before .of-relations .ensures)
 
 nodes-small : (c : tie.After-of-nodes) → let w = c .of-nodes .result in (w .atoms ≤ 2 ^ 36) × (w .actions ≤ 2 ^ 36)
-nodes-small c = let s = c .before .before in node-counts (s .args .n) (s .pre .1) (s .args .t) (s .pre .3) (s .args .t .count) _ _ _ (omega arith) (c .of-nodes .ensures)
+nodes-small c = let s = c .before .before in node-counts (s .args .n) (s .pre .1) (s .args .ranges .count) (s .args .t) (s .pre .4 .count) (s .pre .3) (s .args .t .count) _ _ _ (omega arith) (c .of-nodes .ensures)
 
 add-atoms : tie.Need-add-atoms
 add-atoms c = omega (arith, before-small (c .before .before) .0, nodes-small (c .before .before) .0)
@@ -32,9 +32,9 @@ add-bound-2 : tie.Need-add-bound-2
 add-bound-2 c = omega (arith, before-small (c .before .before .before .before .before .before) .2, nodes-small (c .before .before .before .before .before .before) .0)
 
 returns : tie.Need-returns
-returns c = λ p is.
+returns c = λ p w k ra is.
     let s = c .before .before .before .before .before .before .before .before in
-    tallied (s .args .n) p (s .args .g) (s .args .t) is (s .pre .3) _ _ _ _ _ _ (c .before .before .before .before .before .before .before .of-relations .ensures) (c .before .before .before .before .before .before .of-nodes .ensures)
+    tallied (s .args .n) p w k (s .args .ranges) (s .args .g) (s .args .t) ra is (s .pre .3) _ _ _ _ _ _ (c .before .before .before .before .before .before .before .of-relations .ensures) (c .before .before .before .before .before .before .of-nodes .ensures)
 
 pub of-tables-spec : {M : Type 1} → statement M
 of-tables-spec =

@@ -25,8 +25,11 @@ slice-write-rows-6 c = simp length-set (omega arith)
 slice-write-rows-7 : tie.Need-slice-write-rows-7
 slice-write-rows-7 c = simp length-set (omega arith)
 
+slice-write-rows-8 : tie.Need-slice-write-rows-8
+slice-write-rows-8 c = simp length-set (omega arith)
+
 returns : tie.Need-returns
-returns c = (simp length-set (c .before .pre .0), rw (stored-row (c .before .args .rows .now) (7 * c .before .args .i) (c .before .args .row)) (rows-put (c .before .args .rows .now) (c .before .args .i) (c .before .args .row) (c .before .pre .0) (c .before .pre .1) (search needs)))
+returns c = (simp length-set (c .before .pre .0), rw (stored-row (c .before .args .rows .now) (8 * c .before .args .i) (c .before .args .row)) (rows-put (c .before .args .rows .now) (c .before .args .i) (c .before .args .row) (c .before .pre .0) (c .before .pre .1) (search needs)))
 
 pub put-row-spec : {M : Type 1} → statement M
 put-row-spec =
@@ -50,4 +53,6 @@ put-row-spec =
     (λ c. search needs)
     slice-write-rows-7
     (λ c. search needs)
+    slice-write-rows-8
+    (λ c. search needs depth 12)
     returns)
