@@ -2,7 +2,7 @@
 """pack.py SCRIPT ..: writes the calls of scripts of vectors behind the own part of stdin, and the answers they require behind those of stdout.
 
 The own part of stdin ends before the line MARK. Taken are the calls that this program makes, in blocks that need nothing that has not
-landed, where each buffer is written out and not named by its digest. Of a script given as SCRIPT:WORD only blocks that need WORD are
+landed, where each buffer is no longer than its own, and is written out and not named by its digest. Of a script given as SCRIPT:WORD only blocks that need WORD are
 taken, and of all calls under one comment with the same number in their answers the first. So the program is held to the vectors and not
 to itself.
 """
@@ -10,7 +10,7 @@ import pathlib
 import sys
 
 MARK = "# What follows is written by pack.py, from scripts of vectors."
-LANDED = {"-", "big", "labels", "types"}  # what the answers of a block may rest on
+LANDED = {"-", "big", "labels", "types", "kinds"}  # what the answers of a block may rest on
 SHEETS = ("question", "site", "text")
 # The names of calls in scripts of vectors, here, and in the answers.
 NAMES = {"sizes": ("sizes", "sizes"), "check_text": ("check_text", "check"), "check": ("check_lent", "check"),
@@ -35,7 +35,6 @@ def own_calls(lines):
 
 def words(buffer, entries):
     """A buffer as the program writes it: all of its words, the sevens at its end counted; of the steps one more than is lent."""
-    assert len(entries) <= ROOMS.get(buffer, 64)
     if buffer == "steps":
         return [buffer, *entries, "7"]
     entries = entries + ["7"] * (ROOMS[buffer] - len(entries))
@@ -45,18 +44,29 @@ def words(buffer, entries):
     return [buffer, *entries[:front], *([f"7*{len(entries) - front}"] if front < len(entries) else [])]
 
 
+def buffers(required):
+    """The buffers of a required answer, with their entries."""
+    found = [("", [])]
+    for word in required[2:].split()[2:]:
+        if word.isalpha():
+            found.append((word, []))
+        else:
+            found[-1][1].append(word)
+    return found[1:]
+
+
+def fits(required):
+    """Whether the program has such buffers, and an answer tells all that they hold."""
+    return "sha256" not in required and all(len(entries) <= ROOMS.get(buffer, 64) for buffer, entries in buffers(required))
+
+
 def answer(name, required):
     """A required answer as the program writes it."""
     number, place, *rest = required[2:].split()
     if name == "sizes":
         return " ".join([name, "ok", *rest] if number == "0" else [name, number, place])
-    told, buffers = [name, "ok", place] if number == "0" else [name, number, place], []
-    for word in rest:
-        if word.isalpha():
-            buffers.append((word, []))
-        else:
-            buffers[-1][1].append(word)
-    return " ".join(told + [word for buffer, entries in buffers for word in words(buffer, entries)])
+    told = [name, "ok", place] if number == "0" else [name, number, place]
+    return " ".join(told + [word for buffer, entries in buffers(required) for word in words(buffer, entries)])
 
 
 def packed(lines, feature):
@@ -73,7 +83,7 @@ def packed(lines, feature):
         elif word in NAMES and LANDED.issuperset(needs.split()):
             required = next(lines)
             case = (about, word, required.split(" ")[1])
-            if "sha256" in required or feature and (feature not in needs.split() or case in seen):
+            if not fits(required) or feature and (feature not in needs.split() or case in seen):
                 continue
             seen.add(case)
             taken += [part for setting in settings.values() for part in setting] + [line.replace(word, NAMES[word][0], 1)]

@@ -9,7 +9,7 @@ import pathlib
 import struct
 import sys
 
-LANDED = {"-", "big", "labels", "types"}  # what the answers of a block may rest on
+LANDED = {"-", "big", "labels", "types", "kinds"}  # what the answers of a block may rest on
 if len(sys.argv) < 2:
     sys.exit(__doc__)
 CALLS = {"tally": 0, "sizes": 1, "allowances": 2}

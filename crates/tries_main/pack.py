@@ -9,7 +9,7 @@ import pathlib
 import struct
 import sys
 
-LANDED = {"-", "big", "labels", "types"}  # what the answers of a block may rest on
+LANDED = {"-", "big", "labels", "types", "kinds"}  # what the answers of a block may rest on
 if len(sys.argv) != 2:
     sys.exit(__doc__)
 lines = iter(pathlib.Path(sys.argv[1]).read_text().split("\n"))

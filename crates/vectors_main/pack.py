@@ -9,7 +9,7 @@ a line with the vector's name. So the program is held to the vectors and not to 
 import pathlib
 import sys
 
-LANDED = {"-", "big", "labels", "types"}  # what a vector may rest on
+LANDED = {"-", "big", "labels", "types", "kinds"}  # what a vector may rest on
 LATER = {"0342"}  # of the first folder: its `type` line was no record then, and stands in the wrong place now
 if len(sys.argv) < 2:
     sys.exit(__doc__)

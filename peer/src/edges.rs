@@ -106,6 +106,26 @@ fn sorted(types: usize, members: usize, variable: &str) -> Sample {
     Sample { question, site, picks, ..Sample::default() }
 }
 
+/// An injection from the last so many of 64 elements to as many, which both places have as their type.
+fn from_last(members: usize) -> Sample {
+    let types = "type\tDOOR\ntype\tGROUP\nchoose\tF\tInj\tDOOR\tGROUP\n";
+    let question = format!("{types}rule\t(exists (?y) (EQ ?y ?y))\n").into();
+    let (mut site, mut picks) = (String::from("size\t64\n"), String::new());
+    for element in 64 - members..64 {
+        site += &format!("member\tDOOR\t{element}\nmember\tGROUP\t{element}\n");
+        picks += &format!("pick\tF\t{element}\t{element}\n");
+    }
+    Sample { question, site: site.into(), picks: picks.into(), ..Sample::default() }
+}
+
+/// Four total kinds, which take 13 forms, beside a rule of two forms and so many `and`.
+fn four_total(ands: usize) -> Sample {
+    let kinds = ["T", "U", "V", "W"].map(|name| format!("choose\t{name}\tFun\tDOOR\tDOOR\n"));
+    let rule = format!("{}(EQ ?y ?y){}", "(and ".repeat(ands), ")".repeat(ands));
+    let question = format!("type\tDOOR\n{}rule\t(exists (?y) {rule})\n", kinds.concat()).into();
+    Sample { question, site: b"size\t2\nmember\tDOOR\t1\n".to_vec(), ..Sample::default() }
+}
+
 /// A literal with so many variables that the question has so many bytes.
 fn long_question(bytes: usize) -> Sample {
     let empty = case(1, &[], &[1], "(T)").question.len();
@@ -134,6 +154,19 @@ fn many_actions(ands: usize) -> Sample {
     let rule = chain(&[ands, 0, 24, 0], &format!("(or{})", " (T ?a) (U ?b) (V ?c)".repeat(6)));
     let sample = case(60, &[], &[1, 1, 1, 1], &rule);
     picked(sample, 60, false, |_, e| format!("pick\tT\t{e}\n"))
+}
+
+/// The same with a kind from ten elements to six in the place of the last unary relation, and so with as many actions.
+fn kind_actions(ands: usize) -> Sample {
+    let Sample { question, site, picks, .. } = many_actions(ands);
+    let [question, site] = [question, site].map(|text| String::from_utf8_lossy(&text).to_string());
+    let question = question.replace("choose\tW\t1\n", "choose\tW\tPFun\tDOOR\tGROUP\n");
+    let members = |name: &str, count: usize| -> String {
+        (0..count).map(|element| format!("member\t{name}\t{element}\n")).collect()
+    };
+    let question = format!("type\tDOOR\ntype\tGROUP\n{question}").into();
+    let site = format!("{site}{}{}", members("DOOR", 10), members("GROUP", 6)).into();
+    Sample { question, site, picks, ..Sample::default() }
 }
 
 /// As many atoms, actions and steps as the desk takes, with so many of each kind of `and`.
@@ -247,6 +280,62 @@ fn types() -> Vec<Edge> {
         refused("a typed variable of 9 bytes", || sorted(8, 1, "?abcdefgh"), "5 155"),
         refused("types without members", || sorted(8, 0, "?abcdefg"), "19 0"),
         refused("65 members", || sorted(8, 65, "?abcdefg"), "9 1470"),
+    ]
+}
+
+/// The rule of four kinds begins at 10 + 4 × 23.
+fn kinds() -> Vec<Edge> {
+    use Call::*;
+    let room = [64, 521, 196];
+    vec![
+        edge(
+            "a kind from 64 elements to 64",
+            || from_last(64),
+            &[
+                (Sizes, NONE, "0 0 64 33285 8323 196"),
+                (Action, [0, 0, 4_095], "0 0 0 5 4095 0"),
+                (Action, [0, 0, 4_096], "0 0 1 0 0 0"),
+                (BuildText, room, "0 196"),
+                (JudgeText, NONE, "0 0"),
+            ],
+        ),
+        edge(
+            "a kind from one element to one",
+            || from_last(1),
+            &[
+                (Sizes, NONE, "0 0 64 33285 133 196"),
+                (Action, [0, 0, 0], "0 0 0 5 4095 0"),
+                (Action, [0, 0, 1], "0 0 1 0 0 0"),
+                (BuildText, room, "0 7"),
+                (BuildText, [64, 521, 195], "12 196"),
+                (Build, [63, 521, 196], "12 64"),
+                (JudgeText, NONE, "0 0"),
+            ],
+        ),
+        edge(
+            "64 forms with four total kinds",
+            || four_total(49),
+            &[(Sizes, NONE, "0 0 2 191 119 126"), (JudgeText, NONE, "17 0")],
+        ),
+        refused("65 forms with four total kinds", || four_total(50), "6 102"),
+    ]
+}
+
+fn kinds_of_many_actions() -> Vec<Edge> {
+    use Call::*;
+    vec![
+        edge(
+            "4,194,304 actions with a typed kind",
+            || kind_actions(2),
+            &[
+                (Sizes, NONE, "0 0 60 551525 4194304 522304"),
+                (Action, [0, 0, 180], "0 0 0 8 0 0"),
+                (Action, [0, 0, 239], "0 0 0 8 545 0"),
+                (BuildText, [60, 8_618, 522_304], "0 522124"),
+                (JudgeText, NONE, "0 0"),
+            ],
+        ),
+        refused("4,194,305 actions with a typed kind", || kind_actions(3), "11 0"),
     ]
 }
 
@@ -405,6 +494,7 @@ fn desk() -> Vec<Edge> {
 
 /// Every limit, at it and past it.
 pub fn edges() -> Vec<Edge> {
-    let edges = [elements(), labels(), types(), bytes(), steps(), atoms(), actions(), desk()];
-    edges.into_iter().flatten().collect()
+    let forms = [elements(), labels(), types(), kinds(), bytes()];
+    let sizes = [steps(), atoms(), actions(), kinds_of_many_actions(), desk()];
+    forms.into_iter().chain(sizes).flatten().collect()
 }

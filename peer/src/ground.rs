@@ -42,15 +42,31 @@ pub enum Action {
 
 /// Where a relation's atoms lie: tuples, not-tuples, free-domain, free-range.
 #[derive(Clone, Copy, Debug)]
-struct RelationAtoms {
+struct RelationAtoms<'c> {
     kind: Kind,
     first: u32,
     tuples: u32,
     /// First set action; only for a `choose`.
     sets: u32,
+    /// What the places of a kind with types may be.
+    places: Option<[Extent<'c>; 2]>,
 }
 
-impl RelationAtoms {
+impl RelationAtoms<'_> {
+    /// The row of a set action, counted from the relation's first.
+    fn set_row(&self, number: u32, n: u32) -> u32 {
+        let Some([firsts, seconds]) = self.places else { return number };
+        firsts.nth(number / seconds.count()) * n + seconds.nth(number % seconds.count())
+    }
+
+    /// The set action of a row, if there is one, counted from the relation's first.
+    fn set_number(&self, row: u32, n: u32) -> Option<u32> {
+        let Some([firsts, seconds]) = self.places else {
+            return (row < self.tuples).then_some(row);
+        };
+        Some(firsts.place(row / n)? * seconds.count() + seconds.place(row % n)?)
+    }
+
     fn tuple(&self, row: u32) -> u32 {
         self.first + row
     }
@@ -156,7 +172,7 @@ impl<'c> NodeAtoms<'c> {
 pub struct Problem<'c> {
     question: &'c Question<'c>,
     structure: &'c Structure,
-    relations: Vec<RelationAtoms>,
+    relations: Vec<RelationAtoms<'c>>,
     pub nodes: Vec<NodeAtoms<'c>>,
     pub parts: Vec<PartAtom>,
     pub n: u32,
@@ -207,14 +223,15 @@ impl<'c> Problem<'c> {
         let chosen = self.question.signature.chosen();
         for (number, relation) in self.question.signature.relations.iter().enumerate() {
             let tuples = self.n.pow(relation.arity() as u32);
-            let sets = self.begin_proof;
-            let relation = RelationAtoms { kind: relation.kind, first: self.atoms, tuples, sets };
-            self.atoms += relation.count(self.n);
+            let typed = relation.sorts.iter().any(Option::is_some);
+            let places = typed.then(|| relation.sorts.map(|sort| self.structure.extent(sort)));
+            let (kind, first, sets) = (relation.kind, self.atoms, self.begin_proof);
             if chosen.contains(&number) {
-                self.begin_proof += tuples;
-                self.bound += if relation.kind.is_function() { self.n } else { tuples };
+                self.begin_proof += self.structure.sets(relation) as u32;
+                self.bound += if kind.is_function() { self.n } else { tuples };
             }
-            self.relations.push(relation);
+            self.relations.push(RelationAtoms { kind, first, tuples, sets, places });
+            self.atoms += self.relations[number].count(self.n);
         }
     }
 
@@ -295,7 +312,7 @@ impl<'c> Problem<'c> {
         if number < self.begin_proof {
             let chosen = &self.relations[self.question.signature.chosen()];
             let choose = chosen.partition_point(|relation| relation.sets <= number) - 1;
-            let row = number - chosen[choose].sets;
+            let row = chosen[choose].set_row(number - chosen[choose].sets, self.n);
             return Some(Action::Set(Set { choose: choose as u32, row }));
         }
         if number == self.begin_proof {
@@ -317,7 +334,7 @@ impl<'c> Problem<'c> {
             Action::Set(Set { choose, row }) => {
                 let chosen = &self.relations[self.question.signature.chosen()];
                 let relation = chosen.get(*choose as usize)?;
-                (*row < relation.tuples).then(|| relation.sets + row)
+                relation.set_number(*row, self.n).map(|number| relation.sets + number)
             }
             Action::BeginProof => Some(self.begin_proof),
             Action::Prove(Prove { node, row, choice }) => {
@@ -445,6 +462,10 @@ impl<'c> Problem<'c> {
 
     pub fn question(&self) -> &'c Question<'c> {
         self.question
+    }
+
+    pub fn structure(&self) -> &'c Structure {
+        self.structure
     }
 }
 

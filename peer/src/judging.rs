@@ -37,7 +37,7 @@ fn judge_lent(question: &[u8], site: &[u8], picks: &[u64]) -> Result<usize, Refu
 
 /// The kinds first, then the rule.
 fn verdict(question: &Question, structure: &Structure, picks: &Tables) -> Result<usize, Refusal> {
-    if let Some(choose) = broken_kind(&question.signature, structure.n as u32, picks) {
+    if let Some(choose) = broken_kind(&question.signature, structure, picks) {
         return Err(Refusal::new(cause::KIND_BROKEN, choose));
     }
     let chosen = question.signature.chosen().start;

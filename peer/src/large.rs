@@ -20,6 +20,9 @@ const SORTED_RULE: &str =
     "(and (forall (?x:ZONE) (exists (?g:GROUP) (F ?x ?g))) (forall (?x:ZONE ?y:ZONE) \
 (implies (DOOR ?x ?y) (not (exists (?g:GROUP) (and (F ?x ?g) (F ?y ?g)))))))";
 
+const KIND_RULE: &str = "(forall (?x:ZONE ?y:ZONE) \
+(implies (DOOR ?x ?y) (not (exists (?g:GROUP) (and (F ?x ?g) (F ?y ?g))))))";
+
 /// A directed Hamiltonian path through so many vertices, a number that 7 does not divide, with half of all edges.
 pub fn path(n: usize) -> Sample {
     let order: Vec<usize> = (0..n).map(|place| place * 7 % n).collect();
@@ -60,8 +63,17 @@ pub fn zones() -> Sample {
 
 /// The same for 60 zones, six to a row, where zones and groups are types and the last four elements are the groups.
 pub fn sorted_zones() -> Sample {
+    of_sorts("PFun", SORTED_RULE)
+}
+
+/// The same with a kind that goes from zones to groups, so that the rule need not say that each zone has one.
+pub fn kind_zones() -> Sample {
+    of_sorts("Fun\tZONE\tGROUP", KIND_RULE)
+}
+
+fn of_sorts(kind: &str, rule: &str) -> Sample {
     let types = "type\tZONE\ntype\tGROUP\n";
-    let question = format!("rel\tDOOR\t2\n{types}choose\tF\tPFun\nrule\t{SORTED_RULE}\n");
+    let question = format!("rel\tDOOR\t2\n{types}choose\tF\t{kind}\nrule\t{rule}\n");
     let near = |one: usize, other: usize| one.abs_diff(other) <= 1;
     let mut site = String::from("size\t64\n");
     for element in 0..64 {

@@ -36,7 +36,9 @@ fn tally_of(question: &Question, structure: &Structure) -> Tally {
         let places =
             u64::from(relation.kind.is_function()) + u64::from(relation.kind.is_injective());
         tally.atoms += 2 * tuples + places * n;
-        tally.actions += if question.signature.chosen().contains(&number) { tuples } else { 0 };
+        if question.signature.chosen().contains(&number) {
+            tally.actions += structure.sets(relation) as u64;
+        }
     }
     if !question.tree.nodes.is_empty() {
         visit(&question.tree, 0, structure, &mut tally);

@@ -3,7 +3,7 @@
 use crate::ground::{
     add, holds, read_bits, Action, NodeAtoms, PartAtom, Problem, Set, Values, GOAL, PROOF,
 };
-use crate::sheets::{Signature, Tables};
+use crate::sheets::{Signature, Structure, Tables};
 use crate::text::{cause, Refusal};
 use crate::tree::{Shape, Variables, NESTING_LIMIT};
 
@@ -43,7 +43,7 @@ pub struct Plan<'p> {
 
 /// Builds the plan of these picks if they meet their kinds and the rule.
 pub fn build<'p>(problem: &'p Problem, picks: &Tables) -> Result<Plan<'p>, Refusal> {
-    if let Some(choose) = broken_kind(&problem.question().signature, problem.n, picks) {
+    if let Some(choose) = broken_kind(&problem.question().signature, problem.structure(), picks) {
         return Err(Refusal::new(cause::KIND_BROKEN, choose));
     }
     let mut plan = Plan {
@@ -158,18 +158,24 @@ pub fn rows(words: &[u64]) -> impl Iterator<Item = u32> + '_ {
 }
 
 /// The first `choose`, from 0, whose picks break its kind.
-pub(crate) fn broken_kind(signature: &Signature, n: u32, picks: &Tables) -> Option<usize> {
-    let chosen = signature.chosen_relations();
+pub(crate) fn broken_kind(
+    signature: &Signature,
+    structure: &Structure,
+    picks: &Tables,
+) -> Option<usize> {
+    let (chosen, n) = (signature.chosen_relations(), structure.n as u32);
     (0..chosen.len()).find(|&choose| {
         let kind = chosen[choose].kind;
-        let (mut firsts, mut seconds) = (0u64, 0u64);
+        // The places that no further pick may have: outside the types, or taken.
+        let [mut firsts, mut seconds] =
+            chosen[choose].sorts.map(|sort| !structure.extent(sort).bits());
         kind.is_function()
             && rows(picks.relation(choose)).any(|row| {
                 let first = 1 << (row / n);
                 let second = 1 << (row % n);
-                let broken = firsts & first != 0 || (kind.is_injective() && seconds & second != 0);
+                let broken = firsts & first != 0 || seconds & second != 0;
                 firsts |= first;
-                seconds |= second;
+                seconds |= if kind.is_injective() { second } else { 0 };
                 broken
             })
     })

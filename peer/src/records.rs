@@ -49,11 +49,19 @@ impl Tuple {
     }
 }
 
+/// A relation to be chosen; a function kind may have types, for its first and its second place.
+#[derive(Clone, Copy, Debug)]
+pub struct Choose<'t> {
+    pub name: &'t [u8],
+    pub kind: Kind,
+    pub types: Option<[&'t [u8]; 2]>,
+}
+
 #[derive(Clone, Copy, Debug)]
 pub enum Record<'t> {
     Rel { name: &'t [u8], arity: usize },
     Type { name: &'t [u8] },
-    Choose { name: &'t [u8], kind: Kind },
+    Choose(Choose<'t>),
     Rule { formula: &'t [u8] },
     Size { n: u32 },
     Label { element: Element, name: Name },
@@ -76,7 +84,7 @@ fn well_formed(bytes: &[u8]) -> Option<Record<'_>> {
         b"pick" => Record::Pick { name: fields.next()?, tuple: tuple(&mut fields)? },
         b"step" => Record::Step { action: number(fields.next()?)? },
         b"rel" => Record::Rel { name: fields.next()?, arity: arity(fields.next()?)? },
-        b"choose" => Record::Choose { name: fields.next()?, kind: kind(fields.next()?)? },
+        b"choose" => return choose(fields).map(Record::Choose),
         b"rule" => Record::Rule { formula: fields.next()? },
         b"size" => Record::Size { n: number(fields.next()?)? },
         b"label" => {
@@ -91,6 +99,19 @@ fn well_formed(bytes: &[u8]) -> Option<Record<'_>> {
 
 fn arity(field: &[u8]) -> Option<usize> {
     number(field).map(|arity| arity as usize).filter(|arity| (1..=3).contains(arity))
+}
+
+/// A function kind alone may have types behind it, and then two. Apart, so that the lines of which there are thousands are read as fast
+/// as without it.
+#[inline(never)]
+fn choose<'t>(mut fields: impl Iterator<Item = &'t [u8]>) -> Option<Choose<'t>> {
+    let (name, kind) = (fields.next()?, kind(fields.next()?)?);
+    let types = match fields.next() {
+        Some(first) if kind.is_function() => Some([first, fields.next()?]),
+        Some(_) => return None,
+        None => None,
+    };
+    fields.next().is_none().then_some(Choose { name, kind, types })
 }
 
 fn kind(field: &[u8]) -> Option<Kind> {

@@ -17,7 +17,7 @@ use crate::tries::Try;
 use std::fmt::Display;
 
 /// What a block may rest on.
-const LANDED: [&str; 4] = ["-", "big", "labels", "types"];
+const LANDED: [&str; 5] = ["-", "big", "labels", "types", "kinds"];
 
 /// Longer buffers are named by their digest.
 const PRINTED: usize = 64;

@@ -3,7 +3,7 @@
 use crate::formula::{is_relation_name, parse};
 use crate::labels::{Element, Labels, Name};
 use crate::limits::Limits;
-use crate::records::{record, Kind, Record, Tuple};
+use crate::records::{record, Choose, Kind, Record, Tuple};
 use crate::text::{cause, limit, lines, Line, Refusal};
 use crate::tree::{grow, Tree};
 use crate::types::{Extent, Members, Sort};
@@ -17,9 +17,16 @@ const CHOOSE_LIMIT: usize = 4;
 pub struct Relation<'t> {
     pub name: &'t [u8],
     pub kind: Kind,
+    /// What a function kind's first and second place may be.
+    pub sorts: [Sort; 2],
 }
 
-impl Relation<'_> {
+impl<'t> Relation<'t> {
+    /// One whose places may be any element.
+    const fn new(name: &'t [u8], kind: Kind) -> Self {
+        Relation { name, kind, sorts: [None; 2] }
+    }
+
     pub fn arity(&self) -> usize {
         self.kind.arity()
     }
@@ -27,11 +34,11 @@ impl Relation<'_> {
 
 /// The five relations every site has, in the order of their numbers.
 pub const BUILT_IN: [Relation<'static>; 5] = [
-    Relation { name: b"EQ", kind: Kind::Plain(2) },
-    Relation { name: b"LT", kind: Kind::Plain(2) },
-    Relation { name: b"SUC", kind: Kind::Plain(2) },
-    Relation { name: b"ZERO", kind: Kind::Plain(1) },
-    Relation { name: b"MAX", kind: Kind::Plain(1) },
+    Relation::new(b"EQ", Kind::Plain(2)),
+    Relation::new(b"LT", Kind::Plain(2)),
+    Relation::new(b"SUC", Kind::Plain(2)),
+    Relation::new(b"ZERO", Kind::Plain(1)),
+    Relation::new(b"MAX", Kind::Plain(1)),
 ];
 
 /// All relations by number: built in, then `rel`, then `choose`; and the types by theirs.
@@ -87,11 +94,30 @@ impl<'t> Signature<'t> {
         self.chosen().len() < CHOOSE_LIMIT
     }
 
-    fn declare(&mut self, line: &Line, name: &'t [u8], kind: Kind) -> Result<(), Refusal> {
+    fn admit_name(&self, line: &Line, name: &[u8]) -> Result<(), Refusal> {
         if !is_relation_name(name) || self.find(name).is_some() {
             return Err(line.refuse(cause::DECLARED_NAME));
         }
-        self.relations.push(Relation { name, kind });
+        Ok(())
+    }
+
+    fn declare_rel(&mut self, line: &Line, name: &'t [u8], arity: usize) -> Result<(), Refusal> {
+        self.admit_name(line, name)?;
+        self.relations.push(Relation::new(name, Kind::Plain(arity)));
+        self.first_chosen += 1;
+        Ok(())
+    }
+
+    fn declare_choose(&mut self, line: &Line, choose: &Choose<'t>) -> Result<(), Refusal> {
+        self.admit_name(line, choose.name)?;
+        let mut relation = Relation::new(choose.name, choose.kind);
+        if let Some(types) = choose.types {
+            relation.sorts = types.map(|name| self.find_type(name));
+            if relation.sorts.contains(&None) {
+                return Err(line.refuse(cause::TYPE));
+            }
+        }
+        self.relations.push(relation);
         Ok(())
     }
 
@@ -123,14 +149,13 @@ pub fn question(text: &[u8]) -> Result<Question<'_>, Refusal> {
     for line in lines(text) {
         match (record(&line)?, &rule) {
             (Record::Rel { name, arity }, None) if signature.takes_rel() => {
-                signature.declare(&line, name, Kind::Plain(arity))?;
-                signature.first_chosen += 1;
+                signature.declare_rel(&line, name, arity)?;
             }
             (Record::Type { name }, None) if signature.takes_type() => {
                 signature.declare_type(&line, name)?;
             }
-            (Record::Choose { name, kind }, None) if signature.takes_choose() => {
-                signature.declare(&line, name, kind)?;
+            (Record::Choose(choose), None) if signature.takes_choose() => {
+                signature.declare_choose(&line, &choose)?;
             }
             (Record::Rule { formula }, None) if !signature.chosen().is_empty() => {
                 let tree = rule_tree(formula, &signature).map_err(|number| line.refuse(number))?;
@@ -230,6 +255,15 @@ impl Structure {
     /// What a variable of this sort goes through.
     pub fn extent(&self, sort: Sort) -> Extent<'_> {
         Extent::of(self.members(sort), self.n as u32)
+    }
+
+    /// How many set actions a `choose` has: one for each tuple that may be picked.
+    pub fn sets(&self, relation: &Relation) -> usize {
+        let [first, second] = relation.sorts.map(|sort| self.extent(sort).count() as usize);
+        match relation.kind {
+            Kind::Plain(arity) => self.n.pow(arity as u32),
+            _ => first * second,
+        }
     }
 
     /// The members of a sort that is not all elements.

@@ -1,8 +1,8 @@
 //! Texts that are as long or as deep as they may be, and cases with the largest tables and plans.
 
 use crate::large::{
-    deep, facts, long_text, named_facts, named_picks, padded, round, sorted_zones, wide_facts,
-    wide_picks, zones,
+    deep, facts, kind_zones, long_text, named_facts, named_picks, padded, round, sorted_zones,
+    wide_facts, wide_picks, zones,
 };
 use crate::limits;
 use crate::sample::Sample;
@@ -176,6 +176,7 @@ fn wide_cases(bytes: usize) -> Vec<Text> {
         ("the longest plan".into(), Box::new(|| padded(&deep(26), limits::STEPS))),
         ("zones of an airport".into(), Box::new(zones)),
         ("zones of an airport as a type".into(), Box::new(sorted_zones)),
+        ("zones of an airport by a typed kind".into(), Box::new(kind_zones)),
         ("a round of an airport".into(), Box::new(round)),
     ]
 }

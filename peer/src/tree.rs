@@ -112,11 +112,14 @@ impl Grower<'_, '_> {
         Some(())
     }
 
-    /// "For all a some b with F(a,b)".
+    /// "For all a some b with F(a,b)", each of its place's type.
     fn totality(&mut self, relation: usize) -> Part {
         let forall = self.begin(Shape::Forall, 1);
         let exists = self.begin(Shape::Exists, 1);
         self.tree.nodes[exists].depth = 1;
+        let [first, second] = self.signature.relations[relation].sorts;
+        self.tree.nodes[forall].sort = first;
+        self.tree.nodes[exists].sort = second;
         let literal = Literal { relation, positive: true, places: [0, 1, 0], arity: 2 };
         self.place(exists, 0, Part::Literal(literal));
         self.finish(exists);

@@ -66,6 +66,14 @@ impl<'c> Extent<'c> {
         }
     }
 
+    /// A bit for each element that is there.
+    pub fn bits(self) -> u64 {
+        match self {
+            Extent::All(n) => u64::MAX >> (64 - n),
+            Extent::Of(members) => members.word,
+        }
+    }
+
     /// The element at this place, from 0.
     #[inline]
     pub fn nth(self, place: u32) -> u32 {

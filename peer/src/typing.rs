@@ -1,8 +1,9 @@
-//! Cases with types: types are declared, elements are put into them, and variables of the rule range over them.
+//! Cases with types: types are declared, elements are put into them, variables of the rule range over them, and function kinds go
+//! from one to another.
 
 use crate::sample::{fill_records, Random, Sample};
 
-/// A case's own types, and how often a variable of its rule gets one.
+/// A case's own types, and how often a variable of its rule gets one, and a function kind two.
 struct Typing {
     names: Vec<String>,
     share: usize,
@@ -13,8 +14,8 @@ pub fn typed(random: &mut Random, sample: &Sample) -> Sample {
     let typing = Typing { names: names(random), share: *random.choose(&[2, 5, 8, 10]) };
     let question = typing.question(random, &String::from_utf8_lossy(&sample.question));
     let site = typing.site(random, &String::from_utf8_lossy(&sample.site));
-    let picks = sample.picks.clone();
-    let (question, site) = (question.into(), site.into());
+    let picks = picks(random, &question, &site, &String::from_utf8_lossy(&sample.picks));
+    let (question, site, picks) = (question.into(), site.into(), picks.into());
     let mut typed = Sample { question, site, picks, ..Sample::default() };
     fill_records(random, &mut typed);
     typed
@@ -36,12 +37,27 @@ fn names(random: &mut Random) -> Vec<String> {
 }
 
 impl Typing {
-    /// Types after the relations, and in the lists of quantifiers.
+    /// Types after the relations, behind function kinds, and in the lists of quantifiers.
     fn question(&self, random: &mut Random, question: &str) -> String {
         let chosen = question.find("choose\t").unwrap_or(question.len());
         let (given, rest) = question.split_at(chosen);
         let types = self.names.iter().map(|name| format!("type\t{name}\n"));
-        format!("{given}{}{}", types.collect::<String>(), self.rule(random, rest))
+        let types: String = types.collect();
+        let rest = rest.split_inclusive('\n').map(|line| match line.strip_prefix("choose\t") {
+            Some(_) => self.kind(random, line.trim_end()),
+            None => self.rule(random, line),
+        });
+        format!("{given}{types}{}", rest.collect::<String>())
+    }
+
+    /// Both places may have the same type.
+    fn kind(&self, random: &mut Random, line: &str) -> String {
+        let function = line.ends_with("Fun") || line.ends_with("Inj");
+        if !function || random.below(10) >= self.share {
+            return format!("{line}\n");
+        }
+        let [first, second] = [(); 2].map(|()| random.choose(&self.names));
+        format!("{line}\t{first}\t{second}\n")
     }
 
     /// Only in a list does a bracket stand before a variable.
@@ -67,7 +83,7 @@ impl Typing {
     /// Members after the size, in any order: all elements, one of them or some.
     fn site(&self, random: &mut Random, site: &str) -> String {
         let (size, facts) = site.split_at(site.find('\n').map_or(site.len(), |end| end + 1));
-        let n = size.trim_end().rsplit('\t').next().and_then(|n| n.parse().ok()).unwrap_or(1);
+        let n = self::size(site);
         let mut members = Vec::new();
         for name in &self.names {
             let share = *random.choose(&[0, 3, 5, 7, 10]);
@@ -83,17 +99,60 @@ impl Typing {
     }
 }
 
+/// The same picks, but where a kind has types mostly others, which keep to them.
+fn picks(random: &mut Random, question: &str, site: &str, picks: &str) -> String {
+    let mut lines: Vec<String> = picks.split_inclusive('\n').map(String::from).collect();
+    for line in question.lines() {
+        let fields: Vec<&str> = line.split('\t').collect();
+        let &["choose", name, kind, first, second] = &fields[..] else { continue };
+        if random.once_in(8) {
+            continue;
+        }
+        lines.retain(|line| self::name(line, "pick").as_deref() != Some(name));
+        let [firsts, mut seconds] = [first, second].map(|name| members(site, name));
+        random.shuffle(&mut seconds);
+        for (place, first) in firsts.iter().enumerate() {
+            let skipped = random.once_in(if kind.starts_with('P') { 3 } else { 20 });
+            let any = random.choose(&seconds);
+            let second = if kind.ends_with("Inj") { seconds.get(place) } else { Some(any) };
+            let pick = second.map(|second| format!("pick\t{name}\t{first}\t{second}\n"));
+            lines.extend(pick.filter(|_| !skipped));
+        }
+        let [first, second] = [(); 2].map(|()| random.below(size(site)));
+        let stray = format!("pick\t{name}\t{first}\t{second}\n");
+        if random.once_in(6) && !lines.contains(&stray) {
+            lines.push(stray);
+        }
+    }
+    lines.concat()
+}
+
+/// How many elements a site has.
+fn size(site: &str) -> usize {
+    let line = site.lines().next().unwrap_or_default();
+    line.rsplit('\t').next().and_then(|n| n.parse().ok()).unwrap_or(1)
+}
+
+/// A type's members, as they are written.
+fn members<'t>(site: &'t str, name: &str) -> Vec<&'t str> {
+    let member = |line: &'t str| line.strip_prefix("member\t")?.split_once('\t');
+    site.lines().filter_map(member).filter(|own| own.0 == name).map(|own| own.1).collect()
+}
+
 /// What may stand for a type, and seldom should.
 const TYPES: [&str; 9] =
     ["DOOR", "ZONE", "NOPE", "door", "", "ABCDEFGHIJ_2", "ABCDEFGHIJ_23", "EQ", "1"];
 
 /// Lines about types, most of them wrong in most places.
 #[rustfmt::skip]
-const LINES: [&str; 21] = [
+const LINES: [&str; 33] = [
     "type\tDOOR\n", "type\tZONE\n", "type\tEQ\n", "type\tdoor\n", "type\t\n", "type\tABCDEFGHIJ_23\n", "type\n", "type\tDOOR\t1\n",
     "member\tDOOR\t0\n", "member\tDOOR\tLOBBY\n", "member\tZONE\t1\n", "member\tNOPE\t0\n", "member\tNOPE\t65\n", "member\tNOPE\tNOPE\n",
     "member\tdoor\t0\n",
     "member\tNOPE\t00\n", "member\tDOOR\t65\n", "member\t\t0\n", "member\tDOOR\n", "member\tDOOR\t0\t0\n", "member\tDOOR\tNOPE\n",
+    "choose\tW\tFun\tDOOR\tDOOR\n", "choose\tW\tPInj\tDOOR\tZONE\n", "choose\tW\tInj\tDOOR\tNOPE\n", "choose\tW\tPFun\tdoor\tDOOR\n",
+    "choose\tW\tFun\t\t\n", "choose\tW\tFun\tDOOR\n", "choose\tW\tFun\tDOOR\tDOOR\tDOOR\n", "choose\tW\t2\tDOOR\tDOOR\n",
+    "choose\tW\t2\tDOOR\n", "choose\tEQ\tFun\tDOOR\tNOPE\n", "choose\tw\tPFun\tDOOR\tDOOR\n", "choose\tW\tfun\tDOOR\tDOOR\n",
 ];
 
 /// What may stand in a list of variables, and seldom should.
@@ -116,7 +175,7 @@ pub fn damage_types(random: &mut Random, sample: &mut Sample) {
     let declared: Vec<String> = question.iter().filter_map(|line| name(line, "type")).collect();
     let own = declared.get(random.below(declared.len().max(1))).cloned();
     let own = own.unwrap_or(random.choose(&TYPES).to_string());
-    match random.below(8) {
+    match random.below(10) {
         // A type without members, and one with one member too many.
         0 => sample.site = without(site, |line| name(line, "member").as_ref() == Some(&own)),
         1 => sample.site = with_copy(random, site, "member"),
@@ -131,6 +190,7 @@ pub fn damage_types(random: &mut Random, sample: &mut Sample) {
             let (listed, times) = (*random.choose(&LISTED), random.within(1, 2));
             sample.question = question.concat().replacen("?x", listed, times).into();
         }
+        7 | 8 => sample.question = damage_kind(random, question, &own),
         _ => {
             let (sheet, mut lines) = match random.below(5) {
                 0 | 1 => (&mut sample.question, question),
@@ -141,6 +201,32 @@ pub fn damage_types(random: &mut Random, sample: &mut Sample) {
             *sheet = lines.concat().into();
         }
     }
+}
+
+/// Spoils what stands behind the name in a `choose` line, or brings types in there.
+fn damage_kind(random: &mut Random, mut lines: Vec<String>, own: &str) -> Vec<u8> {
+    let chosen = (0..lines.len()).filter(|&at| name(&lines[at], "choose").is_some());
+    let chosen: Vec<usize> = chosen.collect();
+    if chosen.is_empty() {
+        return lines.concat().into();
+    }
+    let line = &mut lines[*random.choose(&chosen)];
+    let mut fields: Vec<&str> = line.trim_end_matches('\n').split('\t').collect();
+    let [one, other] =
+        [(); 2].map(|()| if random.once_in(3) { random.choose(&TYPES) } else { own });
+    match random.below(6) {
+        0 => drop(fields.pop()),
+        1 => fields.push(one),
+        2 => fields.extend([one, other]),
+        3 if fields.len() == 5 => fields[random.within(3, 4)] = one,
+        4 if fields.len() == 5 => fields.swap(3, 4),
+        _ if fields.len() > 2 => {
+            fields[2] = *random.choose(&["Fun", "PFun", "Inj", "PInj", "2", "1", "fun"]);
+        }
+        _ => (),
+    }
+    *line = format!("{}\n", fields.join("\t"));
+    lines.concat().into()
 }
 
 fn lines(sheet: &[u8]) -> Vec<String> {

@@ -161,7 +161,7 @@ fn the_desk_prints_labels() {
 #[test]
 fn names_give_the_same_problem() {
     let mut named = 0;
-    for seed in 0..4_000 {
+    for seed in 0..4_200 {
         let mut random = Random::new(seed << 24);
         let mut plain = sound(&mut random);
         if seed % 2 == 1 {

@@ -87,28 +87,41 @@ impl Model<'_> {
     }
 }
 
+/// Whether an element is of a type; all are where there is none.
+fn is_of(members: &Tuples, name: Option<&String>, element: &str) -> bool {
+    name.is_none_or(|name| members.contains(&vec![name.clone(), element.to_string()]))
+}
+
 /// The refusal the picks deserve by kind, totality and rule, if any.
 fn expected(sample: &Sample) -> Option<Refusal> {
     let n: usize = fields(&sample.site, "size")[0][0].parse().unwrap();
     let picks = fields(&sample.picks, "pick");
+    let members: Tuples = fields(&sample.site, "member").into_iter().collect();
     let chosen = fields(&sample.question, "choose");
     for (index, choose) in chosen.iter().enumerate() {
         let own: Vec<_> = picks.iter().filter(|pick| pick[0] == choose[0]).collect();
         let twice = |place: usize| {
             own.iter().map(|pick| &pick[place]).collect::<HashSet<_>>().len() < own.len()
         };
+        let outside = |place: usize| {
+            own.iter().any(|pick| !is_of(&members, choose.get(place + 1), &pick[place]))
+        };
         let function = choose[1].ends_with("Fun") || choose[1].ends_with("Inj");
-        if function && (twice(1) || choose[1].ends_with("Inj") && twice(2)) {
+        let doubled = function && (twice(1) || choose[1].ends_with("Inj") && twice(2));
+        if doubled || function && (outside(1) || outside(2)) {
             return Some(Refusal { number: 16, place: index as u64 });
         }
     }
     let total = chosen.iter().filter(|choose| choose[1] == "Fun" || choose[1] == "Inj").all(|f| {
-        (0..n).all(|a| picks.iter().any(|pick| pick[0] == f[0] && pick[1] == a.to_string()))
+        let given = |a: &String| {
+            let mut own = picks.iter().filter(|pick| pick[0] == f[0] && pick[1] == *a);
+            own.any(|pick| is_of(&members, f.get(3), &pick[2]))
+        };
+        (0..n).map(|a| a.to_string()).all(|a| !is_of(&members, f.get(2), &a) || given(&a))
     });
     let rule = fields(&sample.question, "rule")[0][0].clone();
     let formula = parse(rule.as_bytes()).expect("a formula");
     let facts = fields(&sample.site, "fact");
-    let members = fields(&sample.site, "member").into_iter().collect();
     let tuples = facts.into_iter().chain(picks).collect();
     let model = Model { n, members, tuples, formula: &formula };
     let met = total && model.truth(0, &mut Vec::new());
@@ -118,6 +131,8 @@ fn expected(sample: &Sample) -> Option<Refusal> {
 #[test]
 fn building_is_truth() {
     let (mut built, mut refused) = (0, 0);
+    // The same of cases with a typed kind.
+    let mut kinds = [0, 0];
     for seed in 0..6_000 {
         let random = &mut Random::new(seed << 20);
         let mut sample = sound(random);
@@ -135,9 +150,13 @@ fn building_is_truth() {
         let accepted = matches!(reply, Reply::Accepted(_));
         built += u32::from(accepted);
         refused += u32::from(!accepted);
+        if fields(&sample.question, "choose").iter().any(|choose| choose.len() == 4) {
+            kinds[usize::from(accepted)] += 1;
+        }
         plan_is_sound(&sample, picks, state.len());
     }
     assert!(built > 1_000 && refused > 1_000, "{built} built, {refused} refused");
+    assert!(kinds.iter().all(|&cases| cases > 300), "with typed kinds {kinds:?}");
 }
 
 /// Whatever plan is accepted, its picks are of their kinds and meet the rule.

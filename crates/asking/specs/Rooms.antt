@@ -40,7 +40,7 @@ unfoldable pub saysSmall : Entry → Bool
 saysSmall Wrong = true
 saysSmall (Rel a e k) = true
 saysSmall (Typed a e) = true
-saysSmall (Choose a e k kind) = true
+saysSmall (Choose a e k kind t u v) = true
 saysSmall (Rule a e) = true
 saysSmall (Size k) = leb k 16
 saysSmall (Label x a t e) = true
@@ -54,7 +54,7 @@ unfoldable sizeSaid : Option S.Entry → Option ℕ
 sizeSaid none = none
 sizeSaid (some (S.rel name arity)) = none
 sizeSaid (some (S.type name)) = none
-sizeSaid (some (S.choose name arity kind)) = none
+sizeSaid (some (S.choose name arity kind types)) = none
 sizeSaid (some (S.rule text)) = none
 sizeSaid (some (S.size n)) = some n
 sizeSaid (some (S.label x name)) = none
@@ -83,7 +83,7 @@ unfolding saysSmall entryIn sizeSaid
 small-said s Wrong k h e = absurd (none-some e)
 small-said s (Rel a t n) k h e = absurd (none-some e)
 small-said s (Typed a t) k h e = absurd (none-some e)
-small-said s (Choose a t n kind) k h e = absurd (none-some e)
+small-said s (Choose a t n kind u v w) k h e = absurd (none-some e)
 small-said s (Rule a t) k h e = absurd (none-some e)
 small-said s (Size n) k h e = subst (λ (m : ℕ). m ≤ 16) (some-eq e) (leb-true n 16 h)
 small-said s (Label x a t u) k h e = absurd (none-some e)

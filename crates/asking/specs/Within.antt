@@ -67,7 +67,7 @@ module _ (L : CaseLimits) where
     unfolding addToSite
     entry-few d next at (rel name arity) h e = absurd (refused-accepted e)
     entry-few d next at (type name) h e = absurd (refused-accepted e)
-    entry-few d next at (choose name arity kind) h e = absurd (refused-accepted e)
+    entry-few d next at (choose name arity kind types) h e = absurd (refused-accepted e)
     entry-few d next at (rule text) h e = absurd (refused-accepted e)
     entry-few d next at (size n) h e = size-few d next at n (d .sized) e
     entry-few d next at (label x name) h e = label-few d next at x name h e

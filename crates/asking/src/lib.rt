@@ -50,7 +50,7 @@ fn says_small(x: Entry) -> bool
         Entry::Wrong => true,
         Entry::Rel(_, _, _) => true,
         Entry::Typed(_, _) => true,
-        Entry::Choose(_, _, _, _) => true,
+        Entry::Choose(_, _, _, _, _, _, _) => true,
         Entry::Rule(_, _) => true,
         Entry::Size(k) => k <= SMALL,
         Entry::Label(_, _, _, _) => true,

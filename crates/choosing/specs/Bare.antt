@@ -22,8 +22,9 @@ use Rattle.tree.specs.declared.NodeRow.{NodeRow}
 use Rattle.tree.specs.declared.Nodes.{Nodes}
 use Rattle.layout.specs.declared.Relations.{Relations}
 use Rattle.layout.specs.declared.Layout.{Layout}
-use Rattle.layout.specs.Laid.{rangeBy, Inputs, Starts}
+use Rattle.layout.specs.Laid.{Inputs, Starts}
 use Rattle.picks.specs.Words.{wordStart, rowsIn}
+use Rattle.picks.specs.Tests.{brokenAt}
 
 unfoldable pub bare : Problem → Problem
 bare p = record { source = p .source; size = p .size; range = p .range; relations = p .relations; root = leaf true zero []; nodeList = [] }
@@ -83,23 +84,23 @@ none-table rels h = record {
 }
 
 module _ (p : Problem) where
-  pub bare-inputs : (n : ℕ) (w : List ℕ) (k : ℕ) (none : List ℕ) (g : Relations) (t : Nodes) → 0 < length (p .relations) → Inputs p n w k g t → Inputs (bare p) n none 0 g noNodes
-  unfolding bare nodes relationAt rangeBy Sorted
-  bare-inputs n w k none g t h i = record {
+  pub bare-inputs : (n : ℕ) (w : List ℕ) (k : ℕ) (g : Relations) (t : Nodes) → 0 < length (p .relations) → Inputs p n w k g t → Inputs (bare p) n w k g noNodes
+  unfolding bare nodes relationAt Sorted
+  bare-inputs n w k g t h i = record {
     size = i .size;
     list = refl;
-    ranges = λ s l. first s l;
+    ranges = i .ranges;
     ranged = i .ranged;
     sorted = tt;
     count = i .count;
     arity = i .arity;
     kind = i .kind;
+    pairs = i .pairs;
+    firsts = i .firsts;
+    seconds = i .seconds;
+    placed = i .placed;
     tree = none-table (g .count) (omega (arith, i .count));
   }
-    where
-      first : (s : ℕ) → s ≤ 0 → p .range s ≡ rangeBy n none s
-      first zero l = i .ranges 0 (omega arith)
-      first (suc s) l = absurd (omega arith)
 
   pub bare-starts : (l : Layout) → Starts p l → Starts (bare p) l
   unfolding bare relationStart nodeStart setStart proofStart relationAt tuplesOf
@@ -144,10 +145,10 @@ module _ (p : Problem) where
   start-same zero = refl
   start-same (suc r) = ap (λ (k : ℕ). k + (if isChosen (relationAt p r .kind) then relationWords p r else zero)) (start-same r)
 
-  breaks-alike : (words : List ℕ) (r : ℕ) → breaks (relationAt (bare p) r .kind) (bare p .size) (rowsIn (bare p) words r) ≡ breaks (relationAt p r .kind) (p .size) (rowsIn p words r)
+  breaks-alike : (words : List ℕ) (r : ℕ) → brokenAt (bare p) (rowsIn (bare p) words) r ≡ brokenAt p (rowsIn p words) r
   unfolding bare relationAt
-  breaks-alike words r = ap (λ (k : ℕ). breaks (relationAt p r .kind) (p .size) (λ row. bit words (64 * k + row))) (start-same r)
+  breaks-alike words r =
+      ap (λ (k : ℕ). breaks (relationAt p r .kind) (p .range (relationAt p r .firsts)) (p .range (relationAt p r .seconds)) (p .size) (λ row. bit words (64 * k + row))) (start-same r)
 
-  pub kinds-same : (words : List ℕ) → position (λ r. breaks (relationAt (bare p) r .kind) (bare p .size) (rowsIn (bare p) words r)) (chosenNumbers (bare p))
-      ≡ position (λ r. breaks (relationAt p r .kind) (p .size) (rowsIn p words r)) (chosenNumbers p)
+  pub kinds-same : (words : List ℕ) → position (brokenAt (bare p) (rowsIn (bare p) words)) (chosenNumbers (bare p)) ≡ position (brokenAt p (rowsIn p words)) (chosenNumbers p)
   kinds-same words = ap₂ (λ (f : ℕ → Bool) (rs : List ℕ). position f rs) (fun-ext (breaks-alike words)) chosen-same

@@ -1,16 +1,16 @@
 // The flat table of a case's relations alone: what is asked of lent picks (their words, spare bits, kinds) needs no node.
 ghost use mathlib.Core.Path.{_≡_};
-ghost use mathlib.Core.List.{List};
-ghost use Prim.Native.Nat.{ℕ, _<_, _≤_};
+ghost use Prim.Native.Nat.{_<_, _≤_};
 ghost use lib.ListN.{length};
 ghost use Rattle.definitions.specs.Atoms.{Problem};
 ghost use Rattle.rows.specs.Values.{Most};
 ghost use Rattle.ground.specs.Lines.{tableLength, Fits};
 ghost use Rattle.ground.specs.Of.{Is};
 ghost use Rattle.tree.specs.declared.Nodes.{Nodes as «Nodes-of»};
-ghost use Rattle.layout.specs.Laid.{RelationsFit, Inputs, Starts, Small, numberLimit};
+ghost use Rattle.layout.specs.Laid.{RangesFit, RangesAre, RelationsFit, Inputs, Starts, Small, numberLimit};
 ghost use Rattle.choosing.specs.Bare.{noNodes, bare};
 use layout::Layout;
+use layout::Ranges;
 use layout::Relations;
 use tree::NodeRow;
 use tree::Nodes;
@@ -45,13 +45,20 @@ fn no_nodes() -> Nodes
     }
 }
 
-// Fills the lent table of zeros with the lines of the relations. No type is asked for, since no node is there to have its sort.
-pub fn fill(table: &mut [usize], n: usize, g: Relations, l: Layout)
-    requires { ⌜ (length (now table) ≡ tableLength) × Most (now table) 0 × (0 < n) × (n ≤ 64) × RelationsFit g × Small l numberLimit ⌝ }
-    ensures { λ r. ⌜ Fits (now (table .exit)) × ((p : Problem) (w : List ℕ) (k : ℕ) (t : «Nodes-of») → 0 < length (p .relations) → Inputs p n w k g t → Starts p l → Is (bare p) (now (table .exit))) ⌝ }
+// Fills the lent table of zeros with the lines of the relations and the ranges of the sorts, which their places have.
+pub fn fill(
+    table: &mut [usize],
+    n: usize,
+    types: usize,
+    members: &[u64],
+    ranges: Ranges,
+    g: Relations,
+    l: Layout,
+)
+    requires { ⌜ (length (now table) ≡ tableLength) × Most (now table) 0 × (0 < n) × (n ≤ 64) × RelationsFit g × Small l numberLimit × (types ≤ 8) × (types ≤ length (now members))
+        × RangesFit n ranges × RangesAre n (now members) types ranges ⌝ }
+    ensures { λ r. ⌜ Fits (now (table .exit)) × ((p : Problem) (t : «Nodes-of») → 0 < length (p .relations) → Inputs p n (now (members .entry)) types g t → Starts p l → Is (bare p) (now (table .exit))) ⌝ }
 {
     let t = no_nodes();
-    let members = [0u64; 1];
-    let ranges = layout::ranges_of(n, 0, &members);
-    layout::fill(table, n, 0, &members, ranges, g, t, l);
+    layout::fill(table, n, types, members, ranges, g, t, l);
 }

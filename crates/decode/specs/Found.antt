@@ -1,5 +1,6 @@
 -- What a search over the starting numbers finds is the action of that number.
 use mathlib.Core.Path.{_≡_, refl, sym, ap, _∙_, subst}
+use mathlib.Core.Bool.{false}
 use mathlib.Core.List.{List}
 use Prim.Native.Nat.{ℕ, zero, suc, _+_, _-_, _*_, _/_, _%_, _^_, _≤_, _<_}
 use native.Mathlib.Nat.{div-one, div-le-self, mod-lt, mul-zero}
@@ -8,14 +9,15 @@ use native.Mathlib.Omega.{arith}
 use lib.ListN.{length, getD}
 use Rattle.definitions.specs.Tree.{Tree, leaf, forallNode, existsNode, andNode, orNode, parts, nodeSort}
 use Rattle.definitions.specs.Atoms.{Problem, relationAt, nodeAt, rowsOf}
-use Rattle.definitions.specs.Actions.{Action, proveExists, proveForall, choices, proveNode, proofsOf, actionAt, setStart, proofStart}
-use Rattle.laws.specs.Numbers.{row-at, set-next, set-first, proof-first, proof-next, at-set, at-begin, at-proof, at-goal, at-none}
+use Rattle.definitions.specs.Actions.{Action, proveExists, proveForall, choices, proveNode, setsOf, proofsOf, actionAt, setStart, proofStart}
+use Rattle.laws.specs.Numbers.{set-next, set-first, proof-first, proof-next, at-set, at-begin, at-proof, at-goal, at-none}
 use Rattle.tree.specs.Tables.{nodeKind}
-use Rattle.ground.specs.Lines.{relationPlace, nodePlace, relationsIn, nodesIn, relationLine, nodeLine, RangeFits}
+use Rattle.ground.specs.Lines.{relationPlace, nodePlace, relationsIn, nodesIn, relationLine, nodeLine, RangeFits, PlacesFit}
 use Rattle.ground.specs.NeedLaws.{members-length, member-at}
-use Rattle.ground.specs.Numbers.{ActFits}
+use Rattle.ground.specs.Numbers.{isWhole, setRow, ActFits}
 use Rattle.ground.specs.Of.{Is, IsNode, said, actOf}
-use Rattle.ground.specs.OfLaws.{parts-length}
+use Rattle.ground.specs.OfLaws.{parts-length, typed-sets, set-row-is}
+use Rattle.ground.specs.declared.RelationLine.{RelationLine}
 use Rattle.ground.specs.declared.NodeLine.{NodeLine}
 use Rattle.ground.specs.declared.Act.the-variants.{Set, Begin, And, Or, Exists, Forall, Goal, Nothing}
 use Rattle.decode.specs.Decoded.{proofBy, proofIn}
@@ -107,14 +109,28 @@ module _ (p : Problem) (w : List ℕ) (is : Is p w) where
       ∙ ap (λ (x : ℕ). x + 1) (sym (sets-at (length (p .relations)) (omega arith)) ∙ ap (λ (r : ℕ). getD w (relationPlace r) 0) (sym (is .relations)))
 
   module _ (k : ℕ) where
-    pub found-set : (r : ℕ) → r < relationsIn w → getD w (relationPlace r) 0 ≤ k → k < getD w (relationPlace (r + 1)) 0 → Set (record { relation = r; row = k - getD w (relationPlace r) 0 }) ≡ actOf (actionAt p k)
-    unfolding actOf said
-    found-set r h a b =
-        let e = sets-at r (omega (arith, is .relations)) in
-        let e' = sets-at (r + 1) (omega (arith, is .relations)) ∙ ap (setStart p) (add-one r) in
-        let s = set-next p r (omega (arith, is .relations)) in
-        let row = row-at (p .size) (p .range) (relationAt p r) (k - setStart p r) (omega arith) in
-        rw (at-set p k r (omega (arith, is .relations)) (omega (arith, e)) (omega (arith, e')), row, e) refl
+    module _ (r : ℕ) (h : r < relationsIn w) (a : getD w (relationPlace r) 0 ≤ k) (b : k < getD w (relationPlace (r + 1)) 0) where
+      abbrev offset : ℕ
+      offset = k - getD w (relationPlace r) 0
+
+      -- the offset is that of one of the relation's set actions
+      among-sets : offset < setsOf (p .size) (p .range) (relationAt p r)
+      among-sets =
+          let e = sets-at r (omega (arith, is .relations)) in
+          let e' = sets-at (r + 1) (omega (arith, is .relations)) ∙ ap (setStart p) (add-one r) in
+          let s = set-next p r (omega (arith, is .relations)) in
+          omega arith
+
+      pub found-pair : (x : RelationLine) → x ≡ relationLine w r → isWhole x ≡ false → offset < x .«first_count» * x .«second_count»
+      found-pair x l q = rw l (subst (λ (m : ℕ). offset < m) (typed-sets p w is r (omega (arith, is .relations)) (rw l at q)) among-sets)
+
+      pub found-set : (x : RelationLine) (row : ℕ) → x ≡ relationLine w r → PlacesFit w (relationLine w r) → row ≡ setRow w x offset → Set (record { relation = r; row = row }) ≡ actOf (actionAt p k)
+      unfolding actOf said
+      found-set x row l f q =
+          let e = sets-at r (omega (arith, is .relations)) in
+          let e' = sets-at (r + 1) (omega (arith, is .relations)) ∙ ap (setStart p) (add-one r) in
+          let z = q ∙ ap (λ (y : RelationLine). setRow w y offset) l ∙ set-row-is p w is r (omega (arith, is .relations)) f offset among-sets in
+          rw (at-set p k r (omega (arith, is .relations)) (omega (arith, e)) (omega (arith, e')), z, e) refl
 
     pub found-begin : k ≡ getD w (relationPlace (relationsIn w)) 0 → Begin ≡ actOf (actionAt p k)
     unfolding actOf said

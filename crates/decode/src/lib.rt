@@ -52,7 +52,9 @@ pub fn action_at(table: &[usize], k: usize) -> ground::Act
     let goal = table[ground::NODE_AT + ground::NODE_LINE * nodes];
     if k < begin {
         let r = rows::locate(table, ground::RELATION_AT, ground::RELATION_LINE, rels, k);
-        let row = k - table[ground::RELATION_AT + ground::RELATION_LINE * r];
+        let off = k - table[ground::RELATION_AT + ground::RELATION_LINE * r];
+        let line = ground::relation_line(table, r);
+        let row = ground::set_row(table, line, off);
         return ground::Act::Set(ground::TupleAct { relation: r, row });
     }
     if k == begin {

@@ -1,11 +1,11 @@
 -- Document 01, "Actions": their order and numbers, what they need, add and remove.
 use Prim.Native.Nat.{ℕ, zero, suc, _+_, _*_, _/_, _%_}
-use mathlib.Core.Bool.{true, false}
+use mathlib.Core.Bool.{Bool, true, false, _&&_}
 use mathlib.Core.Option.{Option}
 use mathlib.Core.List.{List, [], _∷_, _++_, map}
 use lib.ListN.{length, getD, take, drop}
 use lib.Dec.{eqb}
-use Rattle.definitions.specs.Lists.{if_then_else_, option, mapFrom, below, rank, before, greatest}
+use Rattle.definitions.specs.Lists.{if_then_else_, option, mapFrom, filter, isIn, below, rank, before, greatest}
 use Rattle.definitions.specs.Relations.{Relation, isChosen, isFunction, isInjective}
 use Rattle.definitions.specs.Tree.{Tree, leaf, forallNode, existsNode, andNode, orNode, Part, parts, howMany, nodeSort, free}
 use Rattle.definitions.specs.Atoms.{Problem, relationAt, nodeAt, tuplesOf, rowsOf, rowOf, placesOf, Block, itemAt, countOf, Atom, guess, proof, goal, tuple, notTuple, freeDomain, freeRange, holdsNode}
@@ -78,9 +78,14 @@ proveNode R (existsNode d s t) v row i = proveExists v row (getD (R s) i 0)
 proveNode R (andNode ts) v row i = proveAnd v row
 proveNode R (orNode ts) v row i = proveOr v row i
 
+-- whether a tuple may be set: that of a function kind where its first and its second place are of their sorts. (Such a kind has arity 2,
+-- so its row is n times the first place plus the second.)
+unfoldable pub isSettable : ℕ → (ℕ → List ℕ) → Relation → ℕ → Bool
+isSettable n R k row = if isFunction (k .kind) then isIn (row / n) (R (k .firsts)) && isIn (row % n) (R (k .seconds)) else true
+
 -- the rows of the tuples that a relation's set actions set, in order
 unfoldable pub setRows : ℕ → (ℕ → List ℕ) → Relation → List ℕ
-setRows n R k = if isChosen (k .kind) then below (tuplesOf n k) else []
+setRows n R k = if isChosen (k .kind) then filter (isSettable n R k) (below (tuplesOf n k)) else []
 
 unfoldable pub setsOf : ℕ → (ℕ → List ℕ) → Relation → ℕ
 setsOf n R k = length (setRows n R k)

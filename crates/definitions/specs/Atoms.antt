@@ -6,7 +6,7 @@ use mathlib.Core.List.{List, [], _∷_, _++_, map}
 use lib.ListN.{length, take, getD}
 use lib.Dec.{ltb}
 use Rattle.definitions.specs.Lists.{if_then_else_, option, flatMap, mapFrom, below}
-use Rattle.definitions.specs.Relations.{static, Relation, isFunction, isInjective}
+use Rattle.definitions.specs.Relations.{Relation, fixed, isFunction, isInjective}
 use Rattle.definitions.specs.Sheets.{relationsOf}
 use Rattle.definitions.specs.Truth.{Case, holds, membersOf}
 use Rattle.definitions.specs.Tree.{Tree, leaf, treeOf, nodes, free, isForall}
@@ -56,7 +56,7 @@ problemOf c = problemWith c (treeOf (c .question))
 
 -- (No atom or action has a number of a relation, or of a node, that is not there.)
 unfoldable pub relationAt : Problem → ℕ → Relation
-relationAt p r = getD (p .relations) r (record { name = []; arity = zero; kind = static })
+relationAt p r = getD (p .relations) r (fixed [] zero)
 
 unfoldable pub nodeAt : Problem → ℕ → Tree
 nodeAt p v = getD (p .nodeList) v (leaf true zero [])

@@ -143,8 +143,11 @@ mutual
 unfoldable pub typeNumber : List (List ℕ) → List ℕ → Option ℕ
 typeNumber types name = position (λ t. same t name) types
 
+unfoldable pub sortNamed : List (List ℕ) → List ℕ → ℕ
+sortNamed types name = option (typeNumber types name) zero suc
+
 unfoldable pub sortOf : List (List ℕ) → Quantified → ℕ
-sortOf types q = option (q .type) zero (λ name. option (typeNumber types name) zero suc)
+sortOf types q = option (q .type) zero (sortNamed types)
 
 -- ---- 6, "Forms counted": as written, a literal, a connective and a quantified variable are one form each; every added totality
 -- brings three, and if there is any, the `and` that joins them one more
@@ -222,8 +225,11 @@ unfoldable mutual
   areScoped scope (cons f fs) = isScoped scope f && areScoped scope fs
 
 -- ---- 19: every type in the formula is declared
+unfoldable pub isType : List (List ℕ) → List ℕ → Bool
+isType types name = any (λ t. same t name) types
+
 unfoldable pub hasType : List (List ℕ) → Quantified → Bool
-hasType types q = option (q .type) true (λ name. any (λ t. same t name) types)
+hasType types q = option (q .type) true (isType types)
 
 unfoldable mutual
   pub isTyped : List (List ℕ) → Formula → Bool

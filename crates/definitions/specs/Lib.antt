@@ -16,6 +16,7 @@
 --   job 3, sizes in one pass       Tally; TallyCases has cases
 --   job 4, types                   Formula (19 in the rule), Sheets (`type` and `member` lines), Truth (ranges), Untyped; TypeCases
 --                                  has cases
+--   job 5, kinds with types        Sheets (the `choose` line), Truth (kinds, totality), Actions.setRows; KindCases has cases
 --   job 6, yes or no               Judgement; JudgementCases has cases
 --   job 8, twenty tries            Tries; TriesDrawn has cases
 --   job 14, one card               Allowance; AllowanceCases has cases
@@ -49,6 +50,7 @@ pub mod Cases
 pub mod Whole
 pub mod LabelCases
 pub mod TypeCases
+pub mod KindCases
 pub mod TallyCases
 pub mod TriesDrawn
 pub mod JudgementCases

@@ -17,8 +17,8 @@
 --   17  Truth.ruleIsTrue, by Outcome.satisfying
 -- and of document 02:
 --   18  just after 9: Sheets.addLabel, Sheets.addMember, Sheets.addTuple
---   19  a type, just after 8: Sheets.addType, Formula.isTyped in the rule, Sheets.addMember; one without members, at the end of the
---       site: Sheets.readSite
+--   19  a type, just after 8: Sheets.addType, Sheets.addChoose, Formula.isTyped in the rule, Sheets.addMember; one without members,
+--       at the end of the site: Sheets.readSite
 use Prim.Native.Nat.{ℕ, zero}
 use mathlib.Core.Bool.{Bool, true, false}
 use mathlib.Core.Option.{Option, none, some}

@@ -1,4 +1,5 @@
--- Document 01, "The sheets": relations, built in and declared, and the kinds of chosen ones.
+-- Document 01, "The sheets": relations, built in and declared, and the kinds of chosen ones; and document 02, job 5: types of a function
+-- kind's places.
 use Prim.Native.Nat.{ℕ, zero, suc}
 use mathlib.Core.Bool.{Bool, true, false, not, _&&_}
 use mathlib.Core.Option.{Option}
@@ -47,19 +48,27 @@ isTotal PFun = false
 isTotal Inj = true
 isTotal PInj = false
 
+-- `firsts` and `seconds` are the sorts of its first and of its second place: 0, all elements, unless it is of a function kind that was
+-- given types
 pub record Relation : Type 0 where
   pub name : List ℕ
   pub arity : ℕ
   pub kind : Kind
+  pub firsts : ℕ
+  pub seconds : ℕ
+
+-- one that is built in or of a `rel` line
+abbrev pub fixed : List ℕ → ℕ → Relation
+fixed name arity = record { name = name; arity = arity; kind = static; firsts = zero; seconds = zero }
 
 -- "Five are built in". A relation's number is its index when all are listed as their atoms are: these five, each `rel`, each `choose`.
 unfoldable pub builtIn : List Relation
 builtIn =
-    record { name = bytes "EQ"; arity = 2; kind = static }
-    ∷ record { name = bytes "LT"; arity = 2; kind = static }
-    ∷ record { name = bytes "SUC"; arity = 2; kind = static }
-    ∷ record { name = bytes "ZERO"; arity = 1; kind = static }
-    ∷ record { name = bytes "MAX"; arity = 1; kind = static }
+    fixed (bytes "EQ") 2
+    ∷ fixed (bytes "LT") 2
+    ∷ fixed (bytes "SUC") 2
+    ∷ fixed (bytes "ZERO") 1
+    ∷ fixed (bytes "MAX") 1
     ∷ []
 
 -- What a built-in relation says of x, and of y where it has two places, over n elements, by its number: x is y; x is less

@@ -1,18 +1,18 @@
 -- Document 01, "The sheets" and the first ten rows of its "Refusal sheet": reading the question, the site, picks and steps; and
--- document 02, job 1: labels of elements, job 4: types and their members. A reader takes the relations and the types that its lines
+-- document 02, job 1: labels of elements, job 4: types and their members, job 5: types of a function kind. A reader takes the relations and the types that its lines
 -- may name, and nothing else of the question.
 use Prim.Native.Nat.{ℕ, zero, _+_}
 use mathlib.Core.Bool.{Bool, true, false, not, _&&_, _||_}
 use mathlib.Core.Option.{Option, none, some}
-use mathlib.Core.List.{List, [], _∷_, _++_}
-use lib.ListN.{length}
+use mathlib.Core.List.{List, [], _∷_, _++_, map}
+use lib.ListN.{length, getD}
 use lib.Dec.{eqb, leb, ltb}
 use Rattle.definitions.specs.Limits.{arityLimit, relLimit, typeLimit, chooseLimit, formLimit, nestingLimit, CaseLimits}
 use Rattle.definitions.specs.Lists.{if_then_else_, all, any, same, isEmpty, option, position, below}
 use Rattle.definitions.specs.Text.{bytes, Line, fields, number, isRelationName, isBetween}
 use Rattle.definitions.specs.Refusal.{Result, refused, accepted, _>>=_, refuseIf, given, readText}
-use Rattle.definitions.specs.Relations.{Kind, static, plain, Fun, PFun, Inj, PInj, Relation, Tuple, isAmong, builtIn, isDeclared}
-use Rattle.definitions.specs.Formula.{Formula, allForms, nesting, isKnown, isScoped, typeNumber, isTyped}
+use Rattle.definitions.specs.Relations.{Kind, plain, Fun, PFun, Inj, PInj, Relation, fixed, Tuple, isAmong, builtIn, isDeclared}
+use Rattle.definitions.specs.Formula.{Formula, allForms, nesting, isKnown, isScoped, typeNumber, sortNamed, isType, isTyped}
 use Rattle.definitions.specs.Parsing.{readFormula}
 
 -- ---- the records of all sheets, by their form
@@ -27,7 +27,7 @@ pub data Element : Type 0 where
 pub data Entry : Type 0 where
   rel : (name : List ℕ) → (arity : ℕ) → Entry
   type : (name : List ℕ) → Entry
-  choose : (name : List ℕ) → (arity : ℕ) → Kind → Entry
+  choose : (name : List ℕ) → (arity : ℕ) → Kind → (types : List (List ℕ)) → Entry
   rule : (formula : List ℕ) → Entry
   size : (n : ℕ) → Entry
   label : Element → (name : List ℕ) → Entry
@@ -39,14 +39,24 @@ pub data Entry : Type 0 where
 unfoldable pub arityOf : List ℕ → Option ℕ
 arityOf f = option (number f) none (λ a. if isBetween 1 arityLimit a then some a else none)
 
--- what follows the name in a `choose` line: one of the four words, each of arity 2, or an arity
-unfoldable pub chooseOf : List ℕ → List ℕ → Option Entry
-chooseOf name f =
-    if same f (bytes "Fun") then some (choose name 2 Fun)
-    else if same f (bytes "PFun") then some (choose name 2 PFun)
-    else if same f (bytes "Inj") then some (choose name 2 Inj)
-    else if same f (bytes "PInj") then some (choose name 2 PInj)
-    else option (arityOf f) none (λ a. some (choose name a plain))
+-- the function kind that a word names
+unfoldable pub kindNamed : List ℕ → Option Kind
+kindNamed f =
+    if same f (bytes "Fun") then some Fun
+    else if same f (bytes "PFun") then some PFun
+    else if same f (bytes "Inj") then some Inj
+    else if same f (bytes "PInj") then some PInj
+    else none
+
+-- what a `choose` line has: a name; then a function kind, which has arity 2, or an arity; after a function kind there may be two types.
+-- (Whether these are types is not its form: it is 19 where they are none.)
+unfoldable pub chooseOf : List (List ℕ) → Option Entry
+chooseOf [] = none
+chooseOf (name ∷ []) = none
+chooseOf (name ∷ f ∷ []) = option (kindNamed f) (option (arityOf f) none (λ a. some (choose name a plain []))) (λ kind. some (choose name 2 kind []))
+chooseOf (name ∷ f ∷ t ∷ []) = none
+chooseOf (name ∷ f ∷ t ∷ u ∷ []) = option (kindNamed f) none (λ kind. some (choose name 2 kind (t ∷ u ∷ [])))
+chooseOf (name ∷ f ∷ t ∷ u ∷ v ∷ fs) = none
 
 -- an element field, and a list of them
 unfoldable pub element : List ℕ → Option Element
@@ -86,7 +96,7 @@ entry [] = none
 entry (w ∷ fs) =
     if same w (bytes "rel") then withTwo (λ name a. option (arityOf a) none (λ k. some (rel name k))) fs
     else if same w (bytes "type") then withOne (λ f. some (type f)) fs
-    else if same w (bytes "choose") then withTwo chooseOf fs
+    else if same w (bytes "choose") then chooseOf fs
     else if same w (bytes "rule") then withOne (λ f. some (rule f)) fs
     else if same w (bytes "size") then withOne (λ f. option (number f) none (λ n. some (size n))) fs
     else if same w (bytes "label") then withTwo labelOf fs
@@ -138,7 +148,7 @@ unfoldable pub addRel : Draft → ℕ → List ℕ → ℕ → Result Draft
 addRel d at name arity = do
   _ ← refuseIf (not (isEmpty (d .types)) || not (isEmpty (d .chosen)) || leb relLimit (length (d .rels))) 3 at
   _ ← refuseIf (not (isNewName d name)) 4 at
-  accepted (record { rels = d .rels ++ (record { name = name; arity = arity; kind = static } ∷ []); types = d .types; chosen = d .chosen; ruled = d .ruled })
+  accepted (record { rels = d .rels ++ (fixed name arity ∷ []); types = d .types; chosen = d .chosen; ruled = d .ruled })
 
 -- a `type` line: 3 after a `choose` line, and where there are 8 already; 4 if its name has not a relation name's form, which is all that
 -- is asked of it; 19 if it is declared already
@@ -146,15 +156,21 @@ unfoldable pub addType : Draft → ℕ → List ℕ → Result Draft
 addType d at name = do
   _ ← refuseIf (not (isEmpty (d .chosen)) || leb typeLimit (length (d .types))) 3 at
   _ ← refuseIf (not (isRelationName name)) 4 at
-  _ ← refuseIf (any (λ t. same t name) (d .types)) 19 at
+  _ ← refuseIf (isType (d .types) name) 19 at
   accepted (record { rels = d .rels; types = d .types ++ (name ∷ []); chosen = d .chosen; ruled = d .ruled })
 
--- a `choose` line: 3 after the rule, and where there are 4 already
-unfoldable pub addChoose : Draft → ℕ → List ℕ → ℕ → Kind → Result Draft
-addChoose d at name arity kind = do
+-- the sort of place i, by the types that a `choose` line gives
+unfoldable pub placeSort : List (List ℕ) → List (List ℕ) → ℕ → ℕ
+placeSort types names i = getD (map (sortNamed types) names) i 0
+
+-- a `choose` line: 3 after the rule, and where there are 4 already; 19 if a type that it gives is not declared
+unfoldable pub addChoose : Draft → ℕ → List ℕ → ℕ → Kind → List (List ℕ) → Result Draft
+addChoose d at name arity kind names = do
   _ ← refuseIf (isRuled (d .ruled) || leb chooseLimit (length (d .chosen))) 3 at
   _ ← refuseIf (not (isNewName d name)) 4 at
-  accepted (record { rels = d .rels; types = d .types; chosen = d .chosen ++ (record { name = name; arity = arity; kind = kind } ∷ []); ruled = d .ruled })
+  _ ← refuseIf (not (all (isType (d .types)) names)) 19 at
+  let k : Relation = record { name = name; arity = arity; kind = kind; firsts = placeSort (d .types) names 0; seconds = placeSort (d .types) names 1 }
+  accepted (record { rels = d .rels; types = d .types; chosen = d .chosen ++ (k ∷ []); ruled = d .ruled })
 
 -- the `rule` line: 3 if it is the second, or comes before any `choose`; then 5 to 8 and 19, each of the whole formula. The formula
 -- begins 5 bytes into the line, after `rule` and the tab.
@@ -172,7 +188,7 @@ addRule d at text = do
 unfoldable pub addToQuestion : Draft → ℕ → Entry → Result Draft
 addToQuestion d at (rel name arity) = addRel d at name arity
 addToQuestion d at (type name) = addType d at name
-addToQuestion d at (choose name arity kind) = addChoose d at name arity kind
+addToQuestion d at (choose name arity kind types) = addChoose d at name arity kind types
 addToQuestion d at (rule text) = addRule d at text
 addToQuestion d at (size n) = refused 3 at
 addToQuestion d at (label x name) = refused 3 at
@@ -319,7 +335,7 @@ addFact rels d at name es = do
 unfoldable pub addToSite : CaseLimits → List Relation → List (List ℕ) → SiteDraft → ℕ → Entry → Result SiteDraft
 addToSite L rels types d at (rel name arity) = refused 3 at
 addToSite L rels types d at (type name) = refused 3 at
-addToSite L rels types d at (choose name arity kind) = refused 3 at
+addToSite L rels types d at (choose name arity kind names) = refused 3 at
 addToSite L rels types d at (rule text) = refused 3 at
 addToSite L rels types d at (size n) = addSize L d at n (d .sized)
 addToSite L rels types d at (label x name) = addLabel d at x name
@@ -344,7 +360,7 @@ readSite L rels types text = do
 unfoldable pub addToPicks : List Relation → ℕ → ℕ → List Label → List Tuple → ℕ → Entry → Result (List Tuple)
 addToPicks chosen first n labels picks at (rel name arity) = refused 3 at
 addToPicks chosen first n labels picks at (type name) = refused 3 at
-addToPicks chosen first n labels picks at (choose name arity kind) = refused 3 at
+addToPicks chosen first n labels picks at (choose name arity kind types) = refused 3 at
 addToPicks chosen first n labels picks at (rule text) = refused 3 at
 addToPicks chosen first n labels picks at (size m) = refused 3 at
 addToPicks chosen first n labels picks at (label x name) = refused 3 at
@@ -364,7 +380,7 @@ readPicks chosen first n labels text = readText (picksLine chosen first n labels
 unfoldable pub addToSteps : List ℕ → ℕ → Entry → Result (List ℕ)
 addToSteps steps at (rel name arity) = refused 3 at
 addToSteps steps at (type name) = refused 3 at
-addToSteps steps at (choose name arity kind) = refused 3 at
+addToSteps steps at (choose name arity kind types) = refused 3 at
 addToSteps steps at (rule text) = refused 3 at
 addToSteps steps at (size n) = refused 3 at
 addToSteps steps at (label x name) = refused 3 at

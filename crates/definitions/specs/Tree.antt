@@ -62,11 +62,11 @@ unfoldable mutual
   allNegated rs types scope nil = end
   allNegated rs types scope (cons f fs) = negated rs types scope f then allNegated rs types scope fs
 
--- For each total kind, in order, "for all a some b"; where there is one, the root is an `and` of the rule and all of these.
+-- For each total kind, in order, "for all a some b", each of its place's sort; where there is one, the root is an `and` of the rule and all of these.
 unfoldable pub totalities : ℕ → List Relation → Trees
 totalities r [] = end
 totalities r (k ∷ ks) =
-    if isTotal (k .kind) then forallNode 0 0 (existsNode 1 0 (leaf true r (0 ∷ 1 ∷ []))) then totalities (suc r) ks else totalities (suc r) ks
+    if isTotal (k .kind) then forallNode 0 (k .firsts) (existsNode 1 (k .seconds) (leaf true r (0 ∷ 1 ∷ []))) then totalities (suc r) ks else totalities (suc r) ks
 
 unfoldable pub joined : Tree → Trees → Tree
 joined t end = t

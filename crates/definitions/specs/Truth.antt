@@ -1,13 +1,13 @@
 -- Document 01, "The words of demand 3": truth of the rule and the declared kinds, read off the sheets; and document 02, job 4: what a
--- variable ranges over.
+-- variable ranges over, job 5: the types of a kind.
 use Prim.Native.Nat.{ℕ, zero, suc, _+_, _-_}
 use mathlib.Core.Bool.{Bool, true, false, not, _&&_, _||_}
 use mathlib.Core.Option.{Option}
 use mathlib.Core.List.{List, [], _∷_, map}
 use lib.ListN.{getD, length}
 use lib.Dec.{eqb, leb, ltb}
-use Rattle.definitions.specs.Lists.{if_then_else_, all, any, filter, same, option, position, mapFrom, below}
-use Rattle.definitions.specs.Relations.{static, Relation, Tuple, isAmong, areDistinct, builtInHolds, numberOf, isFunction, isInjective, isTotal}
+use Rattle.definitions.specs.Lists.{if_then_else_, all, any, filter, same, option, position, mapFrom, below, isIn}
+use Rattle.definitions.specs.Relations.{Relation, fixed, Tuple, isAmong, areDistinct, builtInHolds, numberOf, isFunction, isInjective, isTotal}
 use Rattle.definitions.specs.Formula.{Quantified, Formula, Formulas, literal, negation, implication, conjunction, disjunction, exists, forall, nil, cons, sortOf}
 use Rattle.definitions.specs.Sheets.{Question, Site, isMember, relationsOf, firstRel, firstChosen}
 
@@ -76,12 +76,12 @@ unfoldable mutual
 unfoldable pub eachChosen : Case → (ℕ → Relation → Bool) → List Bool
 eachChosen c test = mapFrom test (firstChosen (c .question)) (c .question .chosen)
 
--- totality of Fun and Inj: every element is the first place of some pick
-unfoldable pub isTotalIn : Case → List Tuple → ℕ → Bool
-isTotalIn c picks r = all (λ x. any (λ y. holds c picks r (x ∷ y ∷ [])) (membersOf c zero)) (membersOf c zero)
+-- totality of Fun and Inj: every element that may be a first place is that of some pick, whose second place is one that may be
+unfoldable pub isTotalIn : Case → List Tuple → ℕ → Relation → Bool
+isTotalIn c picks r k = all (λ x. any (λ y. holds c picks r (x ∷ y ∷ [])) (membersOf c (k .seconds))) (membersOf c (k .firsts))
 
 unfoldable pub areTotal : Case → List Tuple → Bool
-areTotal c picks = all (λ b. b) (eachChosen c (λ r (k : Relation). if isTotal (k .kind) then isTotalIn c picks r else true))
+areTotal c picks = all (λ b. b) (eachChosen c (λ r (k : Relation). if isTotal (k .kind) then isTotalIn c picks r k else true))
 
 -- the rule is true of the picks, totality included; 17 where it is not
 unfoldable pub ruleIsTrue : Case → List Tuple → Bool
@@ -98,23 +98,30 @@ first t = getD (t .places) 0 0
 unfoldable pub second : Tuple → ℕ
 second t = getD (t .places) 1 0
 
--- a function kind has no first place with two seconds, an injective one no second with two firsts
-unfoldable pub isOfKind : List Tuple → ℕ → Relation → Bool
-isOfKind picks r k = not (isFunction (k .kind) && two r first second picks) && not (isInjective (k .kind) && two r second first picks)
+-- the first and the second place of a tuple are of the sorts of these places
+unfoldable pub isInside : Case → Relation → Tuple → Bool
+isInside c k t = isIn (first t) (membersOf c (k .firsts)) && isIn (second t) (membersOf c (k .seconds))
+
+-- a function kind has no first place with two seconds, an injective one no second with two firsts, and neither a pick outside its types
+unfoldable pub isOfKind : Case → List Tuple → ℕ → Relation → Bool
+isOfKind c picks r k =
+    not (isFunction (k .kind) && two r first second picks)
+    && not (isInjective (k .kind) && two r second first picks)
+    && not (isFunction (k .kind) && any (λ (t : Tuple). eqb (t .relation) r && not (isInside c k t)) picks)
 
 -- picks are of the declared kinds; 16 by the first `choose` of which they are not
 unfoldable pub areOfKinds : Case → List Tuple → Bool
-areOfKinds c picks = all (λ b. b) (eachChosen c (isOfKind picks))
+areOfKinds c picks = all (λ b. b) (eachChosen c (isOfKind c picks))
 
 unfoldable pub firstOfOtherKind : Case → List Tuple → Option ℕ
-firstOfOtherKind c picks = position not (eachChosen c (isOfKind picks))
+firstOfOtherKind c picks = position not (eachChosen c (isOfKind c picks))
 
 -- ---- "Picks are a set of `choose` tuples": a tuple of a `choose` over the elements; no tuple stands twice
 unfoldable pub isPick : Case → Tuple → Bool
 isPick c t =
     let q = c .question in
     let r = t .relation in
-    let k = getD (q .chosen) (r - firstChosen q) (record { name = []; arity = zero; kind = static }) in
+    let k = getD (q .chosen) (r - firstChosen q) (fixed [] zero) in
     leb (firstChosen q) r
     && ltb r (firstChosen q + length (q .chosen))
     && eqb (length (t .places)) (k .arity)

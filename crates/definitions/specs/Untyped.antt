@@ -1,8 +1,12 @@
--- Document 02, job 4, for a rule that has no types: that no variable of it has one, and a case without its `type` and `member` lines.
+-- Document 02, jobs 4 and 5, for a question that uses no types: that no variable of its rule has one, that no relation was given any, and
+-- a case without its `type` and `member` lines.
 use mathlib.Core.Bool.{Bool, true, false, _&&_}
 use mathlib.Core.List.{[]}
+use lib.Dec.{eqb}
 use Rattle.definitions.specs.Lists.{all, option}
+use Rattle.definitions.specs.Relations.{Relation}
 use Rattle.definitions.specs.Formula.{Quantified, Formula, Formulas, literal, negation, implication, conjunction, disjunction, exists, forall, nil, cons}
+use Rattle.definitions.specs.Sheets.{Question, relationsOf}
 use Rattle.definitions.specs.Truth.{Case}
 
 unfoldable pub hasNoType : Quantified → Bool
@@ -21,6 +25,12 @@ unfoldable mutual
   pub areUntyped : Formulas → Bool
   areUntyped nil = true
   areUntyped (cons f fs) = isUntyped f && areUntyped fs
+
+unfoldable pub hasNoSorts : Relation → Bool
+hasNoSorts k = eqb (k .firsts) 0 && eqb (k .seconds) 0
+
+unfoldable pub usesNoTypes : Question → Bool
+usesNoTypes q = isUntyped (q .rule .formula) && all hasNoSorts (relationsOf q)
 
 -- all else stays: the relations, the rule, the elements and the facts
 unfoldable pub untyped : Case → Case

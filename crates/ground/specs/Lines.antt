@@ -13,26 +13,26 @@ use Rattle.ground.specs.declared.PartLine.{PartLine}
 
 -- where lines stand: after three numbers 18 lines of relations, 65 of nodes, 64 of parts and the root's, then the ranges of 9 sorts
 abbrev pub relationPlace : ℕ → ℕ
-relationPlace r = 3 + 5 * r
+relationPlace r = 3 + 9 * r
 
 abbrev pub nodePlace : ℕ → ℕ
-nodePlace v = 93 + 13 * v
+nodePlace v = 165 + 13 * v
 
 abbrev pub partPlace : ℕ → ℕ
-partPlace i = 938 + 5 * i
+partPlace i = 1010 + 5 * i
 
 abbrev pub rootPlace : ℕ
-rootPlace = 1258
+rootPlace = 1330
 
 -- the first range is that of all elements, sort 0
 abbrev pub rangesPlace : ℕ
-rangesPlace = 1263
+rangesPlace = 1335
 
 abbrev pub rangePlace : ℕ → ℕ
 rangePlace s = rangesPlace + 64 * s
 
 abbrev pub tableLength : ℕ
-tableLength = 1839
+tableLength = 1911
 
 -- n, how many relations, how many nodes
 abbrev pub sizeIn : List ℕ → ℕ
@@ -52,6 +52,10 @@ relationLine w r =
       nots = getD w (relationPlace r + 2) 0;
       free = getD w (relationPlace r + 3) 0;
       kind = getD w (relationPlace r + 4) 0;
+      firsts = getD w (relationPlace r + 5) 0;
+      «first_count» = getD w (relationPlace r + 6) 0;
+      seconds = getD w (relationPlace r + 7) 0;
+      «second_count» = getD w (relationPlace r + 8) 0;
     }
 
 unfoldable pub nodeLine : List ℕ → ℕ → NodeLine
@@ -83,7 +87,7 @@ partNumber e q = q .start + weighed e (valueIn (q .weights))
 unfoldable pub partAt : List ℕ → Values → ℕ → ℕ
 partAt w e i = partNumber e (partLine w i)
 
--- k numbers of the table from place a on; the elements that a quantifier's variable goes over
+-- k numbers of the table from place a on; the elements that a quantifier's variable, or a place of a function kind, goes over
 unfoldable pub membersIn : List ℕ → ℕ → ℕ → List ℕ
 membersIn w a k = map (λ i. getD w (a + i) 0) (below k)
 
@@ -97,11 +101,21 @@ pub record NodeFits (v : NodeLine) : Type 0 where
   pub level : v .level < 4
   pub parts : v .first + v .many ≤ 64
 
--- a quantifier's range is in the table, its members are elements, and the first range has all of them
-pub record RangeFits (w : List ℕ) (v : NodeLine) : Type 0 where
-  pub inside : v .range + v .count ≤ tableLength
-  pub member : (i : ℕ) → i < v .count → getD w (v .range + i) 0 < sizeIn w
-  pub whole : v .range ≡ rangesPlace → rangeIn w v ≡ below (sizeIn w)
+-- a range of k numbers from place a on is in the table, its members are elements, and the first range has all of them
+pub record SpanFits (w : List ℕ) (a k : ℕ) : Type 0 where
+  pub inside : a + k ≤ tableLength
+  pub member : (i : ℕ) → i < k → getD w (a + i) 0 < sizeIn w
+  pub whole : a ≡ rangesPlace → membersIn w a k ≡ below (sizeIn w)
+
+-- that of a quantifier
+abbrev pub RangeFits : List ℕ → NodeLine → Type 0
+RangeFits w v = SpanFits w (v .range) (v .count)
+
+-- those of the two places of a function kind; other kinds have none
+pub record PlacesFit (w : List ℕ) (k : RelationLine) : Type 0 where
+  pub firsts : SpanFits w (k .firsts) (k .«first_count»)
+  pub seconds : SpanFits w (k .seconds) (k .«second_count»)
+  pub untyped : k .kind < 2 → (k .firsts ≡ 0) × (k .«first_count» ≡ 0) × (k .seconds ≡ 0) × (k .«second_count» ≡ 0)
 
 pub record Fits (w : List ℕ) : Type 0 where
   pub whole : length w ≡ tableLength
@@ -112,3 +126,4 @@ pub record Fits (w : List ℕ) : Type 0 where
   pub entry : (i : ℕ) → getD w i 0 ≤ 2 ^ 32
   pub node : (v : ℕ) → v < 64 → NodeFits (nodeLine w v)
   pub range : (v : ℕ) → v < 64 → RangeFits w (nodeLine w v)
+  pub places : (r : ℕ) → r < 17 → PlacesFit w (relationLine w r)

@@ -6,18 +6,19 @@ use mathlib.Core.List.{List, [], _∷_, map}
 use Prim.Native.Nat.{ℕ, zero, suc, _+_, _-_, _*_, _/_, _%_, _^_, _≤_, _<_}
 use native.Mathlib.Nat.{mul-le-mul}
 use native.Mathlib.Omega.{arith}
-use borrow.Author.Tests.{lt-ltb, le-ltb, ltb-true}
-use lib.Dec.{ltb}
+use borrow.Author.Tests.{lt-ltb, le-ltb, ltb-true, ne-eqb}
+use lib.Dec.{ltb, eqb}
 use lib.ListN.{length, getD, take, set, length-map}
 use Rattle.definitions.specs.Lists.{if_then_else_, all, option, filter, from, below, last, before}
 use Rattle.definitions.specs.Atoms.{placesOf}
 use Rattle.definitions.specs.Actions.{Values, valuesIn, withValue}
 use Rattle.laws.specs.Lists.{length-below, getD-below}
 use Rattle.laws.specs.Members.{before-least, before-below}
+use Rattle.laws.specs.SetRows.{row-below}
 use Rattle.rows.specs.Values.{valueIn, Most, Within}
 use Rattle.rows.specs.Laws.{value-zeros, set-value}
-use Rattle.ground.specs.Lines.{relationPlace, nodePlace, partPlace, sizeIn, relationLine, nodeLine, partLine, partNumber, partAt, membersIn, rangeIn, NodeFits, RangeFits, Fits}
-use Rattle.ground.specs.Numbers.{freeNumbers, setNeeds, rowValues, underAt, andNeeds, orNeeds, existsNeeds, ownBefore, forallNeeds, goalNeeds, needNumbers, ActFits}
+use Rattle.ground.specs.Lines.{relationPlace, nodePlace, partPlace, rangesPlace, sizeIn, relationLine, nodeLine, partLine, partNumber, partAt, membersIn, rangeIn, tableLength, NodeFits, RangeFits, PlacesFit, Fits}
+use Rattle.ground.specs.Numbers.{isWhole, setRow, pairRow, freeNumbers, setNeeds, rowValues, underAt, andNeeds, orNeeds, existsNeeds, ownBefore, forallNeeds, goalNeeds, needNumbers, ActFits}
 use Rattle.ground.specs.declared.RelationLine.{RelationLine}
 use Rattle.ground.specs.declared.NodeLine.{NodeLine}
 use Rattle.ground.specs.declared.PartLine.{PartLine}
@@ -161,6 +162,39 @@ module _ (t : List ℕ) (range count z : ℕ) where
   unfolding beforeFrom from filter last option
   before-end i found h = let m : count - i ≡ 0 = omega arith in rw m refl
 
+-- ---- the row that a set action sets
+module _ (k : RelationLine) where
+  pub whole-plain : k .kind < 2 → true ≡ isWhole k
+  whole-plain h = rw (lt-ltb (k .kind) 2 h) refl
+
+  pub whole-pair : (b : Bool) → 2 ≤ k .kind → k .firsts ≡ rangesPlace → b ≡ eqb (k .seconds) rangesPlace → b ≡ isWhole k
+  whole-pair b h e q = rw (le-ltb (k .kind) 2 h, e) q
+
+  pub whole-not : 2 ≤ k .kind → (k .firsts ≡ rangesPlace → ⊥) → false ≡ isWhole k
+  whole-not h e = rw (le-ltb (k .kind) 2 h, ne-eqb (k .firsts) rangesPlace e) refl
+
+module _ (t : List ℕ) (k : RelationLine) (off : ℕ) where
+  pub row-whole : isWhole k ≡ true → off ≡ setRow t k off
+  unfolding setRow
+  row-whole e = rw e refl
+
+  -- where the two places of the offset are members of their ranges
+  module _ (fits : PlacesFit t k) (h : off < k .«first_count» * k .«second_count») where
+    pub pair-inside : (0 < k .«second_count») × (k .firsts + off / k .«second_count» < tableLength) × (k .seconds + off % k .«second_count» < tableLength)
+    pair-inside =
+        let (a, b) = row-below off (k .«first_count») (k .«second_count») h in
+        (omega arith, omega (arith, fits .firsts .inside), omega (arith, fits .seconds .inside))
+
+    pub pair-small : (getD t (k .firsts + off / k .«second_count») 0 < sizeIn t) × (getD t (k .seconds + off % k .«second_count») 0 < sizeIn t)
+    pair-small = let (a, b) = row-below off (k .«first_count») (k .«second_count») h in (fits .firsts .member (off / k .«second_count») a, fits .seconds .member (off % k .«second_count») b)
+
+    pub pair-le : sizeIn t ≤ 64 → getD t (k .firsts + off / k .«second_count») 0 * sizeIn t ≤ 64 * 64
+    pair-le s = mul-le-mul {n₂ = 64} (omega (arith, pair-small .0)) s
+
+  pub row-pair : isWhole k ≡ false → getD t (k .firsts + off / k .«second_count») 0 * sizeIn t + getD t (k .seconds + off % k .«second_count») 0 ≡ setRow t k off
+  unfolding setRow pairRow
+  row-pair e = rw e refl
+
 -- ---- set
 module _ (s : ℕ → Bool) (n : ℕ) (k : RelationLine) (row : ℕ) where
   pub set-no : s 0 ≡ false → false ≡ all s (setNeeds n k row)
@@ -293,6 +327,16 @@ module _ (t : List ℕ) (fits : Fits t) where
   pub node-small : (v : ℕ) (x : NodeLine) → x ≡ nodeLine t v → v < 64 → NodeFits x × (x .atoms ≤ 2 ^ 32) × RangeFits t x
   unfolding nodeLine
   node-small v x e h = (subst NodeFits (sym e) (fits .node v h), rw e (fits .entry (nodePlace v + 1)), subst (RangeFits t) (sym e) (fits .range v h))
+
+-- the row of a set action is in range where its offset is
+pub set-row-small : (t : List ℕ) → Fits t → (k : RelationLine) → PlacesFit t k → (off : ℕ) → off ≤ 2 ^ 32 → (isWhole k ≡ false → off < k .«first_count» * k .«second_count») → setRow t k off ≤ 2 ^ 32
+set-row-small t fits k p off h q = by-test (isWhole k) refl
+  where
+    by-test : (b : Bool) → isWhole k ≡ b → setRow t k off ≤ 2 ^ 32
+    by-test true e = let z = row-whole t k off e in omega arith
+    by-test false e =
+        let z = row-pair t k off e in
+        omega (arith, pair-le t k off p (q e) (fits .size), pair-small t k off p (q e) .1, fits .size)
 
 pub within-most : (n : ℕ) (env : List ℕ) → n ≤ 64 → Within n env → Most env 64
 within-most n env h w l = omega (arith, w l)

@@ -3,11 +3,11 @@ use mathlib.Core.Bool.{Bool, not, _&&_, _||_}
 use mathlib.Core.List.{List, [], _∷_, map}
 use Prim.Native.Nat.{ℕ, _+_, _*_, _/_, _%_, _^_, _≤_, _<_}
 use lib.Dec.{ltb, eqb}
-use lib.ListN.{take}
+use lib.ListN.{take, getD}
 use Rattle.definitions.specs.Lists.{if_then_else_, any, option, from, before}
 use Rattle.definitions.specs.Atoms.{placesOf}
 use Rattle.definitions.specs.Actions.{Values, valuesIn, withValue}
-use Rattle.ground.specs.Lines.{sizeIn, relationLine, nodeLine, partAt, rangeIn}
+use Rattle.ground.specs.Lines.{sizeIn, rangesPlace, relationLine, nodeLine, partAt, rangeIn}
 use Rattle.ground.specs.declared.RelationLine.{RelationLine}
 use Rattle.ground.specs.declared.NodeLine.{NodeLine}
 use Rattle.ground.specs.declared.Act.{Act}
@@ -17,6 +17,17 @@ use Rattle.ground.specs.declared.Act.the-variants.{Set, Begin, And, Or, 
 unfoldable pub freeNumbers : (n kind free row : ℕ) → List ℕ
 freeNumbers n kind free row =
     if ltb kind 2 then [] else ((free + row / n) ∷ (if ltb kind 4 then [] else ((free + n + row % n) ∷ [])))
+
+-- the row that the set action of an offset sets: the offset itself where every tuple may be set, else a member of the first place's range
+-- and one of the second's, which runs faster
+abbrev pub isWhole : RelationLine → Bool
+isWhole k = ltb (k .kind) 2 || (eqb (k .firsts) rangesPlace && eqb (k .seconds) rangesPlace)
+
+unfoldable pub pairRow : List ℕ → RelationLine → ℕ → ℕ
+pairRow w k off = getD w (k .firsts + off / k .«second_count») 0 * sizeIn w + getD w (k .seconds + off % k .«second_count») 0
+
+unfoldable pub setRow : List ℕ → RelationLine → ℕ → ℕ
+setRow w k off = if isWhole k then off else pairRow w k off
 
 unfoldable pub setNeeds : ℕ → RelationLine → ℕ → List ℕ
 setNeeds n k row = 0 ∷ (k .nots + row) ∷ freeNumbers n (k .kind) (k .free) row

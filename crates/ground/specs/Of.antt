@@ -4,14 +4,15 @@ use mathlib.Core.Bool.{true}
 use mathlib.Core.Option.{Option, none, some}
 use mathlib.Core.List.{List, []}
 use Prim.Native.Nat.{ℕ, _+_, _*_, _≤_, _<_}
+use lib.Dec.{T}
 use lib.ListN.{length, getD}
-use Rattle.definitions.specs.Relations.{Kind, static, plain, Fun, PFun, Inj, PInj}
+use Rattle.definitions.specs.Relations.{Kind, static, plain, Fun, PFun, Inj, PInj, isFunction}
 use Rattle.definitions.specs.Tree.{Tree, leaf, Part, parts, nodeSort}
 use Rattle.definitions.specs.Atoms.{Problem, relationAt, nodeAt, relationStart, nodeStart, tuplesOf, atomNumber}
 use Rattle.definitions.specs.Actions.{Action, set, beginProof, proveAnd, proveOr, proveExists, proveForall, proveGoal, setStart, proofStart, Values, valuesAt, partAtom}
 use Rattle.laws.specs.Members.{IsRange}
 use Rattle.tree.specs.Tables.{nodeKind, nodeLevel}
-use Rattle.ground.specs.Lines.{sizeIn, relationsIn, nodesIn, relationLine, nodeLine, partLine, partNumber, rangeIn}
+use Rattle.ground.specs.Lines.{sizeIn, relationsIn, nodesIn, relationLine, nodeLine, partLine, partNumber, membersIn, rangeIn}
 use Rattle.ground.specs.Numbers.{rowValues}
 use Rattle.ground.specs.declared.RelationLine.{RelationLine}
 use Rattle.ground.specs.declared.NodeLine.{NodeLine}
@@ -34,11 +35,15 @@ IsPart p q v u = (e : Values) → partNumber e q ≡ atomNumber p (partAtom (p .
 abbrev pub noPart : Part
 noPart = record { node = 0; tree = leaf true 0 [] }
 
-pub record IsRelation (p : Problem) (r : ℕ) (k : RelationLine) : Type 0 where
+-- a function kind has two places, and the ranges of their sorts
+pub record IsRelation (p : Problem) (w : List ℕ) (r : ℕ) (k : RelationLine) : Type 0 where
   pub tuples : k .tuples ≡ relationStart p r
   pub nots : k .nots ≡ relationStart p r + tuplesOf (p .size) (relationAt p r)
   pub free : k .free ≡ relationStart p r + 2 * tuplesOf (p .size) (relationAt p r)
   pub kind : k .kind ≡ kindNumber (relationAt p r .kind)
+  pub pairs : T (isFunction (relationAt p r .kind)) → relationAt p r .arity ≡ 2
+  pub firsts : T (isFunction (relationAt p r .kind)) → membersIn w (k .firsts) (k .«first_count») ≡ p .range (relationAt p r .firsts)
+  pub seconds : T (isFunction (relationAt p r .kind)) → membersIn w (k .seconds) (k .«second_count») ≡ p .range (relationAt p r .seconds)
 
 pub record IsNode (p : Problem) (w : List ℕ) (v : ℕ) (u : Tree) (x : NodeLine) : Type 0 where
   pub atoms : x .atoms ≡ nodeStart p v
@@ -57,7 +62,7 @@ pub record Is (p : Problem) (w : List ℕ) : Type 0 where
   pub relations : relationsIn w ≡ length (p .relations)
   pub nodes : nodesIn w ≡ length (p .nodeList)
   pub sets : (r : ℕ) → r ≤ length (p .relations) → relationLine w r .sets ≡ setStart p r
-  pub relation : (r : ℕ) → r < length (p .relations) → IsRelation p r (relationLine w r)
+  pub relation : (r : ℕ) → r < length (p .relations) → IsRelation p w r (relationLine w r)
   pub acts : (v : ℕ) → v ≤ length (p .nodeList) → nodeLine w v .acts ≡ proofStart p v
   pub node : (v : ℕ) → v < length (p .nodeList) → IsNode p w v (nodeAt p v) (nodeLine w v)
   pub root : IsPart p (partLine w 64) 0 (p .root)

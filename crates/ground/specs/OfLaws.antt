@@ -1,6 +1,6 @@
 -- The numbers by the table are those of the problem's atoms.
 use mathlib.Core.Path.{_≡_, refl, sym, ap, ap₂, _∙_, subst}
-use mathlib.Core.Bool.{Bool, _&&_}
+use mathlib.Core.Bool.{Bool, true, false, _&&_, _||_, false≢true}
 use mathlib.Core.Option.{Option, none, some}
 use mathlib.Core.List.{List, [], _∷_, _++_, map, List·Memᴰ}
 use Prim.Native.Nat.{ℕ, suc, _+_, _-_, _*_, _/_, _%_, _≤_, _<_}
@@ -9,17 +9,23 @@ use native.Mathlib.Omega.{arith}
 use lib.Arith.{digits-lt}
 use lib.ListN.{length, getD, take, drop, length-map, List·getD-map}
 use lib.Seq.{drop-cons}
-use Rattle.definitions.specs.Lists.{if_then_else_, all, option, from, before}
-use Rattle.definitions.specs.Relations.{Kind, static, plain, Fun, PFun, Inj, PInj, isFunction, isInjective}
+use lib.Dec.{T, ltb, eqb}
+use borrow.Author.Tests.{ltb-true, ltb-false, eqb-true}
+use Rattle.definitions.specs.Lists.{if_then_else_, all, option, from, below, before}
+use Rattle.definitions.specs.Relations.{Relation, Kind, static, plain, Fun, PFun, Inj, PInj, isChosen, isFunction, isInjective}
 use Rattle.definitions.specs.Tree.{Tree, Trees, end, _then_, leaf, forallNode, existsNode, andNode, orNode, Part, parts, partsFrom, howMany, nodes, isForall, nodeSort}
 use Rattle.definitions.specs.Atoms.{Problem, State, relationAt, nodeAt, relationStart, tuplesOf, rowsOf, nodeWidth, Atom, freeDomain, freeRange, holdsNode, atomNumber, atoms}
-use Rattle.definitions.specs.Actions.{Values, withValue, valuesAt, partAtom, partAtoms, underAtom, freeAtoms, forallNeeds, Action, set, beginProof, proveAnd, proveOr, proveExists, proveForall, proveGoal, needs, adds, removes}
+use Rattle.definitions.specs.Actions.{Values, withValue, valuesAt, partAtom, partAtoms, underAtom, freeAtoms, forallNeeds, Action, set, beginProof, proveAnd, proveOr, proveExists, proveForall, proveGoal, needs, adds, removes, setRows, setsOf}
 use Rattle.definitions.specs.Strips.{mayTake, after}
+use Rattle.laws.specs.Booleans.{T-of}
+use Rattle.laws.specs.SetRows.{row-below, sets-le, no-rows, plain-rows, free-rows, all-row, pair-count, pair-row}
 use Rattle.laws.specs.Numbers.{IsAction, set-below, tuple-below, node-below, three-atoms}
 use Rattle.tree.specs.Tables.{nodeKind, nodeLevel}
-use Rattle.ground.specs.Lines.{sizeIn, relationLine, nodeLine, partLine, partAt}
-use Rattle.ground.specs.Numbers.{freeNumbers, rowValues, underAt, needNumbers, addNumbers, removeNumbers, setNeeds, setRemoves, andNeeds, orNeeds, existsNeeds, ownBefore, forallNeeds as forallNumbers, goalNeeds, changed, Held}
+use Rattle.ground.specs.Lines.{sizeIn, rangesPlace, relationLine, nodeLine, partLine, partAt, PlacesFit}
+use Rattle.ground.specs.Numbers.{isWhole, setRow, freeNumbers, rowValues, underAt, needNumbers, addNumbers, removeNumbers, setNeeds, setRemoves, andNeeds, orNeeds, existsNeeds, ownBefore, forallNeeds as forallNumbers, goalNeeds, changed, Held}
 use Rattle.ground.specs.Of.{kindNumber, IsPart, noPart, IsNode, Is, said}
+use Rattle.ground.specs.NeedLaws.{members-length, member-at, whole-plain, row-whole, row-pair}
+use Rattle.ground.specs.declared.RelationLine.{RelationLine}
 use Rattle.ground.specs.declared.NodeLine.{NodeLine}
 
 pub parts-length : (v : ℕ) (ts : Trees) → length (partsFrom v ts) ≡ howMany ts
@@ -29,6 +35,51 @@ parts-length v (t then ts) = ap suc (parts-length (v + length (nodes t)) ts)
 
 take-one : {A : Type 0} (i : ℕ) (xs : List A) (d : A) → i < length xs → take 1 (drop i xs) ≡ getD xs i d ∷ []
 take-one i xs d h = ap (take 1) (drop-cons xs i d h)
+
+-- ---- a function kind by its number
+pub function-kind : (k : Kind) → 2 ≤ kindNumber k → T (isFunction k)
+unfolding kindNumber isFunction
+function-kind static l = absurd (omega arith)
+function-kind plain l = absurd (omega arith)
+function-kind Fun l = tt
+function-kind PFun l = tt
+function-kind Inj l = tt
+function-kind PInj l = tt
+
+pub function-number : (k : Kind) → T (isFunction k) → 2 ≤ kindNumber k
+unfolding kindNumber isFunction
+function-number static f = absurd f
+function-number plain f = absurd f
+function-number Fun f = omega arith
+function-number PFun f = omega arith
+function-number Inj f = omega arith
+function-number PInj f = omega arith
+
+plain-kind : (k : Kind) → kindNumber k < 2 → isFunction k ≡ false
+unfolding kindNumber isFunction
+plain-kind static l = refl
+plain-kind plain l = refl
+plain-kind Fun l = absurd (omega arith)
+plain-kind PFun l = absurd (omega arith)
+plain-kind Inj l = absurd (omega arith)
+plain-kind PInj l = absurd (omega arith)
+
+both-whole : (k : RelationLine) → ltb (k .kind) 2 ≡ false → isWhole k ≡ true → (k .firsts ≡ rangesPlace) × (k .seconds ≡ rangesPlace)
+both-whole k q e = by-tests (eqb (k .firsts) rangesPlace) (eqb (k .seconds) rangesPlace) refl refl (ap (λ (b : Bool). b || (eqb (k .firsts) rangesPlace && eqb (k .seconds) rangesPlace)) (sym q) ∙ e)
+  where
+    by-tests : (x y : Bool) → eqb (k .firsts) rangesPlace ≡ x → eqb (k .seconds) rangesPlace ≡ y → (false || (eqb (k .firsts) rangesPlace && eqb (k .seconds) rangesPlace)) ≡ true → (k .firsts ≡ rangesPlace) × (k .seconds ≡ rangesPlace)
+    by-tests true true a b z = (eqb-true (k .firsts) rangesPlace a, eqb-true (k .seconds) rangesPlace b)
+    by-tests true false a b z = absurd (false≢true (sym (ap₂ (λ (x y : Bool). false || (x && y)) a b) ∙ z))
+    by-tests false y a b z = absurd (false≢true (sym (ap (λ (x : Bool). false || (x && eqb (k .seconds) rangesPlace)) a) ∙ z))
+
+-- only what is chosen has set actions
+sets-chosen : (n : ℕ) (R : ℕ → List ℕ) (k : Relation) (off : ℕ) → off < setsOf n R k → T (isChosen (k .kind))
+unfolding setsOf
+sets-chosen n R k off h = by-test (isChosen (k .kind)) refl
+  where
+    by-test : (b : Bool) → isChosen (k .kind) ≡ b → T (isChosen (k .kind))
+    by-test true e = T-of e
+    by-test false e = let z = ap length (no-rows n R k e) in absurd (omega (arith, z))
 
 module _ (p : Problem) (w : List ℕ) (is : Is p w) where
   -- an element of a range is one of the elements
@@ -99,6 +150,63 @@ module _ (p : Problem) (w : List ℕ) (is : Is p w) where
   free-at r row h =
       free-are (relationAt p r .kind) r row (relationLine w r .free) (is .relation r h .free)
       ∙ ap (λ (k : ℕ). freeNumbers (p .size) k (relationLine w r .free) row) (sym (is .relation r h .kind))
+
+  -- ---- the rows of set actions
+  module _ (r : ℕ) (h : r < length (p .relations)) where
+    abbrev line : RelationLine
+    line = relationLine w r
+
+    abbrev relation : Relation
+    relation = relationAt p r
+
+    -- how many members the ranges of the two places have
+    first-length : T (isFunction (relation .kind)) → length (p .range (relation .firsts)) ≡ line .«first_count»
+    first-length f = ap length (sym (is .relation r h .firsts f)) ∙ members-length w (line .firsts) (line .«first_count»)
+
+    second-length : T (isFunction (relation .kind)) → length (p .range (relation .seconds)) ≡ line .«second_count»
+    second-length f = ap length (sym (is .relation r h .seconds f)) ∙ members-length w (line .seconds) (line .«second_count»)
+
+    pub typed-kind : isWhole line ≡ false → T (isFunction (relation .kind))
+    typed-kind e = function-kind (relation .kind) (rw (is .relation r h .kind) at (not-whole (ltb (line .kind) 2) refl))
+      where
+        not-whole : (b : Bool) → ltb (line .kind) 2 ≡ b → 2 ≤ line .kind
+        not-whole true q = absurd (false≢true (sym e ∙ sym (whole-plain line (ltb-true (line .kind) 2 q))))
+        not-whole false q = ltb-false (line .kind) 2 q
+
+    pub typed-sets : isWhole line ≡ false → setsOf (p .size) (p .range) relation ≡ line .«first_count» * line .«second_count»
+    typed-sets e =
+        let f = typed-kind e in
+        pair-count (p .size) (p .range) relation f (is .relation r h .pairs f) (is .ranges (relation .firsts)) (is .ranges (relation .seconds)) ∙ ap₂ _*_ (first-length f) (second-length f)
+
+    -- ... and none of them is missing
+    pub whole-rows : PlacesFit w line → T (isChosen (relation .kind)) → isWhole line ≡ true → setRows (p .size) (p .range) relation ≡ below (tuplesOf (p .size) relation)
+    whole-rows fits c e = by-kind (ltb (line .kind) 2) refl
+      where
+        by-kind : (b : Bool) → ltb (line .kind) 2 ≡ b → setRows (p .size) (p .range) relation ≡ below (tuplesOf (p .size) relation)
+        by-kind true q = plain-rows (p .size) (p .range) relation c (plain-kind (relation .kind) (rw (is .relation r h .kind) at (ltb-true (line .kind) 2 q)))
+        by-kind false q =
+            let f = function-kind (relation .kind) (rw (is .relation r h .kind) at (ltb-false (line .kind) 2 q)) in
+            let (a, b) = both-whole line q e in
+            free-rows (p .size) (p .range) relation f (is .relation r h .pairs f)
+            (sym (is .relation r h .firsts f) ∙ fits .firsts .whole a ∙ ap below (is .size)) (sym (is .relation r h .seconds f) ∙ fits .seconds .whole b ∙ ap below (is .size))
+
+    pub set-row-is : PlacesFit w line → (off : ℕ) → off < setsOf (p .size) (p .range) relation → setRow w line off ≡ getD (setRows (p .size) (p .range) relation) off 0
+    set-row-is fits off l = by-test (isWhole line) refl
+      where
+        by-test : (b : Bool) → isWhole line ≡ b → setRow w line off ≡ getD (setRows (p .size) (p .range) relation) off 0
+        by-test true e =
+            let c = sets-chosen (p .size) (p .range) relation off l in
+            sym (row-whole w line off e) ∙ sym (all-row (p .size) (p .range) relation (whole-rows fits c e) off (omega (arith, sets-le (p .size) (p .range) relation)))
+        by-test false e =
+            let f = typed-kind e in
+            let g = subst (λ (m : ℕ). off < m) (typed-sets e) l in
+            let (a, b) = row-below off (line .«first_count») (line .«second_count») g in
+            sym (row-pair w line off e)
+            ∙ sym (pair-row (p .size) (p .range) relation f (is .relation r h .pairs f) (is .ranges (relation .firsts)) (is .ranges (relation .seconds)) off (rw (first-length f, second-length f) g)
+            ∙ rw (second-length f) (ap₂ (λ (x y : ℕ). x * p .size + y)
+            (ap (λ (l : List ℕ). getD l (off / line .«second_count») 0) (sym (is .relation r h .firsts f)) ∙ member-at w (line .firsts) (line .«first_count») (off / line .«second_count») a)
+            (ap (λ (l : List ℕ). getD l (off % line .«second_count») 0) (sym (is .relation r h .seconds f)) ∙ member-at w (line .seconds) (line .«second_count») (off % line .«second_count») b))
+            ∙ ap (λ (n : ℕ). getD w (line .firsts + off / line .«second_count») 0 * n + getD w (line .seconds + off % line .«second_count») 0) (sym (is .size)))
 
   forall-are : (v row z : ℕ) → v < length (p .nodeList) → nodeKind (nodeAt p v) ≡ 0
       → map (atomNumber p) (forallNeeds (p .size) (p .range) v (nodeAt p v) row z) ≡ underAt (p .size) w (nodeLine w v) row z ∷ ownBefore (p .size) w (nodeLine w v) row z

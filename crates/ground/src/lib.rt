@@ -1,48 +1,54 @@
 // The grounded problem by number: a table of numbers, lent as a slice, from which come the numbers of the atoms that an action needs,
 // adds and removes. Nothing is listed, and an action costs its own parts.
 ghost use mathlib.Core.Path.{_≡_};
+ghost use mathlib.Core.Bool.{false};
 ghost use mathlib.Core.List.{[], _∷_, map};
-ghost use Prim.Native.Nat.{suc, _+_, _/_, _^_, _<_, _≤_};
+ghost use Prim.Native.Nat.{suc, _+_, _*_, _/_, _^_, _<_, _≤_};
 ghost use lib.Dec.{ltb};
 ghost use lib.ListN.{length, take as «take-of»};
 ghost use Rattle.definitions.specs.Lists.{if_then_else_, all, option, from, below, before};
 ghost use Rattle.definitions.specs.Outcome.{written};
 ghost use Rattle.bits.specs.Table.{bit, Words};
 ghost use Rattle.rows.specs.Values.{valueIn, Most};
-ghost use Rattle.ground.specs.Lines.{tableLength, rangesPlace, sizeIn, membersIn, relationLine, nodeLine, partLine, partNumber, partAt, NodeFits, RangeFits, Fits};
-ghost use Rattle.ground.specs.Numbers.{freeNumbers, setNeeds, andNeeds, orNeeds, existsNeeds, forallNeeds, goalNeeds, underAt, setRemoves, ActFits, needNumbers, addNumbers, removeNumbers, changed, Held};
+ghost use Rattle.ground.specs.Lines.{tableLength, rangesPlace, sizeIn, membersIn, relationLine, nodeLine, partLine, partNumber, partAt, NodeFits, RangeFits, PlacesFit, Fits};
+ghost use Rattle.ground.specs.Numbers.{isWhole, setRow, freeNumbers, setNeeds, andNeeds, orNeeds, existsNeeds, forallNeeds, goalNeeds, underAt, setRemoves, ActFits, needNumbers, addNumbers, removeNumbers, changed, Held};
 
 // The numbers of a table: n, how many relations and how many nodes there are; a line for each relation and one past the last; a
 // line for each node and one past the last; a line for each part, and the root's last; the range of each sort, that of all elements
 // first.
 pub const RELATION_AT: usize = 3;
 
-pub const RELATION_LINE: usize = 5;
+pub const RELATION_LINE: usize = 9;
 
-pub const NODE_AT: usize = 93;
+pub const NODE_AT: usize = 165;
 
 pub const NODE_LINE: usize = 13;
 
-pub const PART_AT: usize = 938;
+pub const PART_AT: usize = 1010;
 
 pub const PART_LINE: usize = 5;
 
-pub const ROOT_AT: usize = 1258;
+pub const ROOT_AT: usize = 1330;
 
-pub const RANGE_AT: usize = 1263;
+pub const RANGE_AT: usize = 1335;
 
 pub const RANGE_LINE: usize = 64;
 
-pub const TABLE: usize = 1839;
+pub const TABLE: usize = 1911;
 
 // A relation: where its set actions, its tuples, its not-tuples and its free atoms start; its kind (0 static, 1 plain, 2 Fun,
-// 3 PFun, 4 Inj, 5 PInj).
+// 3 PFun, 4 Inj, 5 PInj); of a function kind where the ranges of its first and of its second place start in the table, and how many
+// elements these have (0 for other kinds).
 pub struct RelationLine {
     pub sets: usize,
     pub tuples: usize,
     pub nots: usize,
     pub free: usize,
     pub kind: usize,
+    pub firsts: usize,
+    pub first_count: usize,
+    pub seconds: usize,
+    pub second_count: usize,
 }
 
 // A node: where its actions and its atoms start; its kind (0 forall, 1 exists, 2 and, 3 or), a quantifier's level, its first
@@ -108,7 +114,36 @@ pub fn relation_line(table: &[usize], r: usize) -> RelationLine
         nots: table[at + 2],
         free: table[at + 3],
         kind: table[at + 4],
+        firsts: table[at + 5],
+        first_count: table[at + 6],
+        seconds: table[at + 7],
+        second_count: table[at + 8],
     }
+}
+
+// Every tuple of the relation may be set: it is of no function kind, or of one whose places have no types.
+pub fn is_whole(line: RelationLine) -> bool
+    ensures { λ r. ⌜ r ≡ isWhole line ⌝ }
+{
+    if line.kind < 2 {
+        return true;
+    }
+    if line.firsts == RANGE_AT {
+        return line.seconds == RANGE_AT;
+    }
+    false
+}
+
+// The row of the tuple that the set action of offset `off` sets.
+pub fn set_row(table: &[usize], line: RelationLine, off: usize) -> usize
+    requires { ⌜ Fits (now table) × PlacesFit (now table) line × (isWhole line ≡ false → off < line .«first_count» * line .«second_count») ⌝ }
+    ensures { λ r. ⌜ r ≡ setRow (now (table .entry)) line off ⌝ }
+{
+    if is_whole(line) {
+        return off;
+    }
+    let count = line.second_count;
+    table[line.firsts + off / count] * table[0] + table[line.seconds + off % count]
 }
 
 // The line of a node.

@@ -13,9 +13,10 @@ use Rattle.definitions.specs.Refusal.{Result, refused, accepted, _>>=_, refuseI
 use Rattle.definitions.specs.Relations.{Relation}
 use Rattle.definitions.specs.Sheets.{readQuestion, relations, relationsOf, isMember}
 use Rattle.laws.specs.Booleans.{T-true}
-use Rattle.laws.specs.Reader.{gives-if, QuestionFits, RuleFits, question-fits}
+use Rattle.laws.specs.Reader.{gives-if, QuestionFits, RuleFits, question-fits, Accepted as CaseFits, accepted-range}
+use Rattle.laws.specs.Grounded.{relation-sorts, good}
 use Rattle.laws.specs.Lists.{below-lt, filter-same}
-use Rattle.laws.specs.Members.{members-range, members-are}
+use Rattle.laws.specs.Members.{members-are}
 use Rattle.laws.specs.Sorts.{Sorted, tree-sorted}
 use Rattle.bits.specs.Table.{bit}
 use Rattle.formula.specs.Seen.{ruleNumber}
@@ -78,10 +79,17 @@ module _ (s : List ℕ) (o : Opened) (c : Case) (facts : ℕ → Bool) (h : Hold
   relations-are = all-are
 
   pub declared : Declared (o .sig)
-  declared = record { rels = h .sound .rels-le; chosen = h .sound .chosen-le; arity = λ i l. small i (h .sound .arities i l .1) }
+  declared = record { rels = h .sound .rels-le; chosen = h .sound .chosen-le; arity = λ i l. small i (h .sound .arities i l .1); sorts = sorts }
     where
       small : (i : ℕ) → getD (o .sig .arity) i 0 ≤ 3 → getD (o .sig .arity) i 0 ≤ 4
       small i a = omega arith
+
+      sorts : (i : ℕ) → i < o .sig .rels + o .sig .chosen → (getD (o .sig .firsts) i 0 ≤ 8) × (getD (o .sig .seconds) i 0 ≤ 8)
+      sorts i l = let a = h .sound .sorts i l in let b = h .sound .types-le in (omega (arith, a .0), omega (arith, a .1))
+
+  -- the case was accepted
+  accepted-case : CaseFits c
+  accepted-case = record { question-fits = gives-if QuestionFits (readQuestion s) (c .question) (h .asked) (question-fits s); site-fits = h .site-fits }
 
   -- the rule was not refused
   pub rule-fine : Accepted s (o .rule .from) (o .rule .to) (o .sig)
@@ -97,7 +105,7 @@ module _ (s : List ℕ) (o : Opened) (c : Case) (facts : ℕ → Bool) (h : Hold
       f = c .question .rule .formula
 
       fits : RuleFits (c .question .rels) (c .question .types) (c .question .chosen) (c .question .rule)
-      fits = gives-if QuestionFits (readQuestion s) (c .question) (h .asked) (question-fits s) .rule-fits
+      fits = accepted-case .question-fits .rule-fits
 
       few : ltb formLimit (allForms (chosenOf s (o .sig)) f) ≡ false
       few = le-ltb formLimit (allForms (chosenOf s (o .sig)) f) (subst (λ (ks : List Relation). allForms ks f ≤ formLimit) (h .chosen) (fits .few-forms))
@@ -137,11 +145,15 @@ module _ (s : List ℕ) (o : Opened) (c : Case) (facts : ℕ → Bool) (h : Hold
       size = h .size;
       list = refl;
       ranges = ranges-are;
-      ranged = λ σ. members-range c σ (h .site-fits .some-element) (h .site-fits .members-fit) (h .site-fits .each-type);
-      sorted = subst (λ (k : ℕ). Sorted k (treeOf (c .question))) types-count (tree-sorted (c .question));
+      ranged = accepted-range c accepted-case;
+      sorted = subst (λ (k : ℕ). Sorted k (treeOf (c .question))) types-count (tree-sorted (c .question) (accepted-case .question-fits .chosen-sorted));
       count = m .count s ∙ ap length (sym relations-are);
       arity = λ r l. m .arity s r l ∙ ap (λ (ks : List Relation). getD ks r noRelation .arity) (sym relations-are);
       kind = λ r l. m .kind s r l ∙ ap (λ (ks : List Relation). kindNumber (getD ks r noRelation .kind)) (sym relations-are);
+      pairs = λ r l. good c accepted-case .pairs r (omega (arith, m .count s, ap length relations-are));
+      firsts = λ r l. m .firsts s r l ∙ ap (λ (ks : List Relation). getD ks r noRelation .firsts) (sym relations-are);
+      seconds = λ r l. m .seconds s r l ∙ ap (λ (ks : List Relation). getD ks r noRelation .seconds) (sym relations-are);
+      placed = λ r l. let f = relation-sorts c accepted-case r in (omega (arith, f .firsts-few, types-count), omega (arith, f .seconds-few, types-count));
       tree = subst (λ (k : ℕ). IsTable k (treeOf (c .question)) t) (ap length relations-are ∙ sym (m .count s)) (table .is (c .question) is-question);
     }
 

@@ -9,17 +9,20 @@ use Rattle.names.specs.declared.Signature.{Signature}
 use Rattle.ground.specs.Of.{kindNumber}
 use Rattle.layout.specs.declared.Relations.{Relations}
 
--- a signature of as many relations as there may be, whose arities are in range
+-- a signature of as many relations as there may be, whose arities and sorts are in range
 pub record Declared (g : Signature) : Type 0 where
   pub rels : g .rels ≤ 8
   pub chosen : g .chosen ≤ 4
   pub arity : (i : ℕ) → i < g .rels + g .chosen → getD (g .arity) i 0 ≤ 4
+  pub sorts : (i : ℕ) → i < g .rels + g .chosen → (getD (g .firsts) i 0 ≤ 8) × (getD (g .seconds) i 0 ≤ 8)
 
 abbrev pub noRelation : Relation
-noRelation = record { name = []; arity = zero; kind = static }
+noRelation = record { name = []; arity = zero; kind = static; firsts = zero; seconds = zero }
 
 -- the relations by number are all those of the signature, whatever text its names are spans of
 pub record Numbered (g : Signature) (r : Relations) : Type 0 where
   pub count : (q : List ℕ) → r .count ≡ length (allOf q g)
   pub arity : (q : List ℕ) (i : ℕ) → i < r .count → getD (r .arity) i 0 ≡ getD (allOf q g) i noRelation .arity
   pub kind : (q : List ℕ) (i : ℕ) → i < r .count → getD (r .kind) i 0 ≡ kindNumber (getD (allOf q g) i noRelation .kind)
+  pub firsts : (q : List ℕ) (i : ℕ) → i < r .count → getD (r .firsts) i 0 ≡ getD (allOf q g) i noRelation .firsts
+  pub seconds : (q : List ℕ) (i : ℕ) → i < r .count → getD (r .seconds) i 0 ≡ getD (allOf q g) i noRelation .seconds

@@ -8,9 +8,9 @@ use lib.ListN.{length, getD, set, replicate, length-append}
 use lib.Seq.{getD-set-same, getD-set-other, set-out}
 use Rattle.definitions.specs.Relations.{builtIn}
 use Rattle.text.specs.Spans.{kindOf}
-use Rattle.names.specs.Signatures.{allOf, relationsFrom, HasArity, HasKind}
+use Rattle.names.specs.Signatures.{allOf, relationsFrom, HasArity, HasKind, HasFirsts, HasSeconds}
 use Rattle.names.specs.declared.Signature.{Signature}
-use Rattle.names.proofs.Laws.{all-are, length-relations, arity-built-in, arity-declared}
+use Rattle.names.proofs.Laws.{all-are, length-relations, arity-built-in, arity-declared, firsts-built-in, firsts-declared, seconds-built-in, seconds-declared}
 use Rattle.rows.specs.Values.{Most}
 use Rattle.ground.specs.Of.{kindNumber}
 use Rattle.layout.specs.Laid.{RelationsFit}
@@ -63,6 +63,24 @@ arity-small g r a d h q = go (decLt r 5)
     go (yes k) = rw (same-arity g r a _ q (arity-built-in g r k)) (built-small r)
     go (no k) = rw (same-arity g r a _ q (arity-declared g r (omega arith) h)) (d .arity (r - 5) (omega arith))
 
+-- ---- sorts
+module _ (g : Signature) (r a : ℕ) (d : Declared g) (h : r < 5 + (g .rels + g .chosen)) where
+  pub firsts-small : HasFirsts g r a → a ≤ 8
+  unfolding HasFirsts
+  firsts-small q = go (decLt r 5)
+    where
+      go : Dec (r < 5) → a ≤ 8
+      go (yes k) = rw (q [] ∙ sym (firsts-built-in g r k [])) (omega arith)
+      go (no k) = rw (q [] ∙ sym (firsts-declared g r (omega arith) h [])) (d .sorts (r - 5) (omega arith) .0)
+
+  pub seconds-small : HasSeconds g r a → a ≤ 8
+  unfolding HasSeconds
+  seconds-small q = go (decLt r 5)
+    where
+      go : Dec (r < 5) → a ≤ 8
+      go (yes k) = rw (q [] ∙ sym (seconds-built-in g r k [])) (omega arith)
+      go (no k) = rw (q [] ∙ sym (seconds-declared g r (omega arith) h [])) (d .sorts (r - 5) (omega arith) .1)
+
 built-length : length builtIn ≡ 5
 unfolding builtIn
 built-length = refl
@@ -75,14 +93,27 @@ all-length q g =
     sym (ap length (all-are q g) ∙ omega (arith, a, b, c))
 
 -- ---- the loop: what holds of the entries before i
-pub record Upto (g : Signature) (i : ℕ) (arity kind : List ℕ) : Type 0 where
+pub record Upto (g : Signature) (i : ℕ) (arity kind firsts seconds : List ℕ) : Type 0 where
   pub arities : (u : ℕ) → u < i → HasArity g u (getD arity u 0)
   pub kinds : (u : ℕ) → u < i → (q : List ℕ) → getD kind u 0 ≡ kindNumber (getD (allOf q g) u noRelation .kind)
+  pub firsts-are : (u : ℕ) → u < i → HasFirsts g u (getD firsts u 0)
+  pub seconds-are : (u : ℕ) → u < i → HasSeconds g u (getD seconds u 0)
   pub arity-most : Most arity 4
   pub kind-most : Most kind 5
+  pub firsts-most : Most firsts 8
+  pub seconds-most : Most seconds 8
 
-pub upto-none : (g : Signature) (xs ys : List ℕ) → Most xs 4 → Most ys 5 → Upto g 0 xs ys
-upto-none g xs ys h k = record { arities = λ u l. absurd (omega arith); kinds = λ u l. absurd (omega arith); arity-most = h; kind-most = k }
+pub upto-start : (g : Signature) → Upto g 0 (replicate 17 0) (replicate 17 0) (replicate 17 0) (replicate 17 0)
+upto-start g = record {
+  arities = λ u l. absurd (omega arith);
+  kinds = λ u l. absurd (omega arith);
+  firsts-are = λ u l. absurd (omega arith);
+  seconds-are = λ u l. absurd (omega arith);
+  arity-most = most-zeros 17 4;
+  kind-most = most-zeros 17 5;
+  firsts-most = most-zeros 17 8;
+  seconds-most = most-zeros 17 8;
+}
 
 most-set : (xs : List ℕ) (i x b : ℕ) → x ≤ b → Most xs b → Most (set xs i x) b
 most-set xs i x b h m r = go (ℕ-discrete r i) (decLt i (length xs))
@@ -96,30 +127,37 @@ kind-by : (g : Signature) (r k x : ℕ) → HasKind g r k → x ≡ kindNumber (
 unfolding HasKind
 kind-by g r k x h e q = e ∙ ap kindNumber (h q)
 
-pub upto-next : (g : Signature) (i a k x : ℕ) (xs ys : List ℕ) → i < length xs → i < length ys → HasArity g i a → a ≤ 4 → HasKind g i k → x ≡ kindNumber (kindOf k) → x ≤ 5 → Upto g i xs ys → Upto g (i + 1) (set xs i a) (set ys i x)
-upto-next g i a k x xs ys la lk ha sa hk ex sx u =
-    record {
-      arities = λ v h. arity v h (ℕ-discrete v i);
-      kinds = λ v h. kind v h (ℕ-discrete v i);
-      arity-most = most-set xs i a 4 sa (u .arity-most);
-      kind-most = most-set ys i x 5 sx (u .kind-most);
-    }
+-- what holds of the entries before i, and of the one that is written there
+entry-next : (P : ℕ → ℕ → Type 0) (xs : List ℕ) (i x : ℕ) → i < length xs → P i x → ((u : ℕ) → u < i → P u (getD xs u 0)) → (u : ℕ) → u < i + 1 → P u (getD (set xs i x) u 0)
+entry-next P xs i x l h q u k = go (ℕ-discrete u i)
   where
-    arity : (v : ℕ) → v < i + 1 → Dec (v ≡ i) → HasArity g v (getD (set xs i a) v 0)
-    arity v h (yes e) = subst (λ (j : ℕ). HasArity g j (getD (set xs i a) j 0)) (sym e) (subst (HasArity g i) (sym (getD-set-same xs i a 0 la)) ha)
-    arity v h (no e) = subst (HasArity g v) (sym (getD-set-other xs i v a 0 e)) (u .arities v (omega arith))
+    go : Dec (u ≡ i) → P u (getD (set xs i x) u 0)
+    go (yes e) = subst (λ (j : ℕ). P j (getD (set xs i x) j 0)) (sym e) (subst (P i) (sym (getD-set-same xs i x 0 l)) h)
+    go (no e) = subst (P u) (sym (getD-set-other xs i u x 0 e)) (q u (omega arith))
 
-    kind : (v : ℕ) → v < i + 1 → Dec (v ≡ i) → (q : List ℕ) → getD (set ys i x) v 0 ≡ kindNumber (getD (allOf q g) v noRelation .kind)
-    kind v h (yes e) q = rw e (getD-set-same ys i x 0 lk ∙ kind-by g i k x hk ex q)
-    kind v h (no e) q = getD-set-other ys i v x 0 e ∙ u .kinds v (omega arith) q
+pub upto-next : (g : Signature) (i a k x y z : ℕ) (xs ys us vs : List ℕ) → i < length xs → i < length ys → i < length us → i < length vs → HasArity g i a → a ≤ 4 → HasKind g i k → x ≡ kindNumber (kindOf k) → x ≤ 5
+    → HasFirsts g i y → y ≤ 8 → HasSeconds g i z → z ≤ 8 → Upto g i xs ys us vs → Upto g (i + 1) (set xs i a) (set ys i x) (set us i y) (set vs i z)
+upto-next g i a k x y z xs ys us vs la lk lf ls ha sa hk ex sx hy sy hz sz u = record {
+  arities = entry-next (HasArity g) xs i a la ha (u .arities);
+  kinds = entry-next (λ r c. (q : List ℕ) → c ≡ kindNumber (getD (allOf q g) r noRelation .kind)) ys i x lk (kind-by g i k x hk ex) (u .kinds);
+  firsts-are = entry-next (HasFirsts g) us i y lf hy (u .firsts-are);
+  seconds-are = entry-next (HasSeconds g) vs i z ls hz (u .seconds-are);
+  arity-most = most-set xs i a 4 sa (u .arity-most);
+  kind-most = most-set ys i x 5 sx (u .kind-most);
+  firsts-most = most-set us i y 8 sy (u .firsts-most);
+  seconds-most = most-set vs i z 8 sz (u .seconds-most);
+}
 
-pub numbered : (g : Signature) (i : ℕ) (xs ys : List ℕ) → Declared g → i ≡ 5 + (g .rels + g .chosen) → Upto g i xs ys
-    → RelationsFit (record { count = 5 + (g .rels + g .chosen); arity = xs; kind = ys }) × Numbered g (record { count = 5 + (g .rels + g .chosen); arity = xs; kind = ys })
-unfolding HasArity
-numbered g i xs ys d e u = (
-  record { count = omega (arith, d .rels, d .chosen); arity = u .arity-most; kind = u .kind-most },
-  record { count = λ q. all-length q g; arity = λ q j h. u .arities j (omega arith) q; kind = λ q j h. u .kinds j (omega arith) q },
+pub numbered : (g : Signature) (i : ℕ) (xs ys us vs : List ℕ) → Declared g → i ≡ 5 + (g .rels + g .chosen) → Upto g i xs ys us vs
+    → RelationsFit (record { count = 5 + (g .rels + g .chosen); arity = xs; kind = ys; firsts = us; seconds = vs }) × Numbered g (record { count = 5 + (g .rels + g .chosen); arity = xs; kind = ys; firsts = us; seconds = vs })
+unfolding HasArity HasFirsts HasSeconds
+numbered g i xs ys us vs d e u = (
+  record { count = omega (arith, d .rels, d .chosen); arity = u .arity-most; kind = u .kind-most; firsts = u .firsts-most; seconds = u .seconds-most },
+  record {
+    count = λ q. all-length q g;
+    arity = λ q j h. u .arities j (omega arith) q;
+    kind = λ q j h. u .kinds j (omega arith) q;
+    firsts = λ q j h. u .firsts-are j (omega arith) q;
+    seconds = λ q j h. u .seconds-are j (omega arith) q;
+  },
 )
-
-pub upto-start : (g : Signature) → Upto g 0 (replicate 17 0) (replicate 17 0)
-upto-start g = upto-none g (replicate 17 0) (replicate 17 0) (most-zeros 17 4) (most-zeros 17 5)

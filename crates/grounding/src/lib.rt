@@ -29,7 +29,7 @@ fn kind_number(k: u32) -> usize
     5
 }
 
-// Arity and kind of each relation.
+// Arity and kind of each relation, and the sorts of its places.
 pub fn relations_of(g: Signature) -> Relations
     requires { ⌜ Declared g ⌝ }
     ensures { λ r. ⌜ RelationsFit r × Numbered g r ⌝ }
@@ -37,15 +37,25 @@ pub fn relations_of(g: Signature) -> Relations
     let count = 5 + (g.rels + g.chosen);
     let mut arity = [0usize; layout::RELATIONS];
     let mut kind = [0usize; layout::RELATIONS];
+    let mut firsts = [0usize; layout::RELATIONS];
+    let mut seconds = [0usize; layout::RELATIONS];
     let mut r: usize = 0;
     while r < count {
         let a = names::arity(g, r);
         let k = names::kind(g, r);
         arity[r] = a;
         kind[r] = kind_number(k);
+        firsts[r] = tree::wide(names::firsts(g, r));
+        seconds[r] = tree::wide(names::seconds(g, r));
         r += 1;
     }
-    Relations { count, arity, kind }
+    Relations {
+        count,
+        arity,
+        kind,
+        firsts,
+        seconds,
+    }
 }
 
 // How many atoms and actions there are, the bound, and whether there are more than the limits allow.

@@ -13,7 +13,7 @@ use Rattle.definitions.specs.Refusal.{Result, refused, accepted, _>>=_, refuseI
 use Rattle.definitions.specs.Relations.{Tuple, builtIn}
 use Rattle.definitions.specs.Sheets.{relationsOf, relations}
 use Rattle.definitions.specs.Truth.{Case, arePicks, ruleIsTrue, firstOfOtherKind}
-use Rattle.definitions.specs.Atoms.{Problem, problemOf, problemWith, relationAt, atoms}
+use Rattle.definitions.specs.Atoms.{Problem, problemOf, problemWith, atoms}
 use Rattle.definitions.specs.Actions.{actions}
 use Rattle.definitions.specs.Built.{chosenNumbers}
 use Rattle.definitions.specs.Outcome.{CaseRead, readFiled, ground, Ready, asked, nothing, Given, asText, picksRoom, textPicks, takePicks, picksLength, spareWord, kindRefusal, satisfying}
@@ -21,7 +21,6 @@ use Rattle.definitions.specs.Judgement.{judge}
 use Rattle.laws.specs.Asked as Order
 use Rattle.bits.specs.Table.{bit, Words}
 use Rattle.laws.specs.Reader.{Accepted}
-use Rattle.states.specs.Kinds.{breaks}
 use Rattle.tree.specs.Tables.{Fits}
 use Rattle.tree.specs.declared.Nodes.{Nodes}
 use Rattle.ground.specs.Of.{Is}
@@ -32,7 +31,7 @@ use Rattle.layout.specs.Laid.{RangesFit, RangesAre, Inputs, Laid}
 use Rattle.initial.specs.Initial.{FactsIn}
 use Rattle.picks.specs.declared.Kinds.{Kinds}
 use Rattle.picks.specs.declared.Kinds.the-variants.{Kept, Broken}
-use Rattle.picks.specs.Tests.{told as toldKinds}
+use Rattle.picks.specs.Tests.{told as toldKinds, brokenAt}
 use Rattle.picks.specs.Words.{rowsIn, PicksAre}
 use Rattle.picks.specs.Spare.{spareFound}
 use Rattle.picks.specs.KindLaws.{kinds-are}
@@ -100,7 +99,7 @@ lines-of c n ms types ranges g t w R f i l = record { relations = g; nodes = t; 
 
 -- ---- 16, 17, yes
 module _ (c : Case) (F : List Tuple) (n : ℕ) (ms : List ℕ) (types : ℕ) (g : Relations) (t : Nodes) (table facts words : List ℕ) (asks : Asks c F n ms types g t table facts words) (k : Kinds)
-    (e : toldKinds k ≡ position (λ r. breaks (relationAt (bare (problemOf c)) r .kind) (bare (problemOf c) .size) (rowsIn (bare (problemOf c)) words r)) (chosenNumbers (bare (problemOf c)))) where
+    (e : toldKinds k ≡ position (brokenAt (bare (problemOf c)) (rowsIn (bare (problemOf c)) words)) (chosenNumbers (bare (problemOf c)))) where
   kinds-told : toldKinds k ≡ firstOfOtherKind c F
   kinds-told = e ∙ kinds-same (problemOf c) words ∙ kinds-are c (asks .accepted-case) F (asks .picks) words (asks .picked)
 

@@ -97,7 +97,7 @@ fn judge_case(question: &[u8], o: Opened, facts: &[u64], picks: &[u64]) -> Reply
     }
     let mut table = [0usize; ground::TABLE];
     let l = m.layout;
-    choosing::fill(&mut table, n, g, l);
+    choosing::fill(&mut table, n, types, &members, ranges, g, l);
     let held = picks::picks_length(&table);
     if picks.len() < held {
         return Reply::Refused(12, held);

@@ -110,11 +110,11 @@ plan-is L question site g c labels p F stateRoom stepsRoom rc rg rf hs hb =
 -- the kinds: 16 is refused exactly if some `choose` is not of its kind, by the first such
 pub kinds-hold : (c : Case) (F : List Tuple) → areOfKinds c F ≡ true → firstOfOtherKind c F ≡ none
 unfolding areOfKinds firstOfOtherKind
-kinds-hold c F e = position-none not (eachChosen c (isOfKind F)) (any-not (eachChosen c (isOfKind F)) ∙ ap not e)
+kinds-hold c F e = position-none not (eachChosen c (isOfKind c F)) (any-not (eachChosen c (isOfKind c F)) ∙ ap not e)
 
 pub kinds-fail : (c : Case) (F : List Tuple) → areOfKinds c F ≡ false → (i : ℕ) × (firstOfOtherKind c F ≡ some i)
 unfolding areOfKinds firstOfOtherKind
-kinds-fail c F e = let q = position-some not (eachChosen c (isOfKind F)) true (any-not (eachChosen c (isOfKind F)) ∙ ap not e) in (q .0, q .1)
+kinds-fail c F e = let q = position-some not (eachChosen c (isOfKind c F)) true (any-not (eachChosen c (isOfKind c F)) ∙ ap not e) in (q .0, q .1)
 
 pub kinds-told : (c : Case) (F : List Tuple) → firstOfOtherKind c F ≡ none → areOfKinds c F ≡ true
 kinds-told c F e = go (areOfKinds c F) refl

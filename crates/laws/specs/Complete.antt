@@ -110,9 +110,9 @@ module _ (p : Problem) (G : Good p) where
     sets-run [] o R P sub fresh s E = (tt, subst (λ (Q : List Tuple). Exact Q s) (sym (append-nil P)) E)
     sets-run (q ∷ l) o R P sub fresh s E =
         let (w, m) = R q (List·Memᴰ·head refl) in
-        let v = pair-action p q w in
+        let v = pair-action p G F K q w m in
         let n = fresh q (List·Memᴰ·head refl) in
-        let h = sets-run l (o .1) (λ u k. R u (List·Memᴰ·tail k)) (P ++ (tupleOf p q ∷ [])) (sub1 q m) (fresh1 q l (o .0) v (λ u k. pair-action p u (R u (List·Memᴰ·tail k) .0)) (λ u k. fresh u (List·Memᴰ·tail k))) (after p s (setOf q))
+        let h = sets-run l (o .1) (λ u k. R u (List·Memᴰ·tail k)) (P ++ (tupleOf p q ∷ [])) (sub1 q m) (fresh1 q l (o .0) v (λ u k. let (x, y) = R u (List·Memᴰ·tail k) in pair-action p G F K u x y) (λ u k. fresh u (List·Memᴰ·tail k))) (after p s (setOf q))
         (set-exact P s (q .0) (q .1) E v (new q v n) (nf q v m n) (ni q v m n)) in (
           (v, set-legal P s (q .0) (q .1) E v (new q v n) (nf q v m n) (ni q v m n), h .0),
           subst (λ (Q : List Tuple). Exact Q (ends p G (after p s (setOf q)) (map setOf l))) (append-assoc P (tupleOf p q ∷ []) (map (tupleOf p) l)) (h .1),

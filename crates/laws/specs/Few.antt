@@ -92,7 +92,7 @@ module _ (rs : List Relation) (first n : ℕ) (labels : List Label) where
   unfolding addToPicks Says isBetween
   add-long acc at fs (rel name a) m s e = absurd (refused-accepted e)
   add-long acc at fs (type name) m s e = absurd (refused-accepted e)
-  add-long acc at fs (choose name a k) m s e = absurd (refused-accepted e)
+  add-long acc at fs (choose name a k types) m s e = absurd (refused-accepted e)
   add-long acc at fs (rule f) m s e = absurd (refused-accepted e)
   add-long acc at fs (size k) m s e = absurd (refused-accepted e)
   add-long acc at fs (label x name) m s e = absurd (refused-accepted e)

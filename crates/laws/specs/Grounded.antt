@@ -8,7 +8,7 @@ use mathlib.Core.List.{List, [], _∷_, _++_, map, append-assoc, List·Memᴰ, L
 use native.Mathlib.Omega.{arith}
 use native.Mathlib.Nat.{add-zero, zero-add}
 use lib.Dec.{T, ltb, eqb, leb, lt→ltb, eqb→eq, T-not, leb→le}
-use lib.ListN.{length, getD, length-append, length-map, List·getD-append}
+use lib.ListN.{length, getD, length-append, length-map, List·getD-append, List·getD-eq-default}
 use lib.Seq.{getD-append-add}
 use borrow.Author.Tests.{ltb-true, ltb-false, le-ltb, lt-ltb}
 use Rattle.definitions.specs.Lists.{if_then_else_, all, any, same, option, position}
@@ -23,7 +23,7 @@ use Rattle.laws.specs.Lists.{all-at, getD-mem}
 use Rattle.laws.specs.Positions.{place, place-lt, position-place}
 use Rattle.laws.specs.Tuples.{same-eq}
 use Rattle.laws.specs.Numbers.{noRelation}
-use Rattle.laws.specs.Reader.{Apart, Fit, Accepted, accepted-range}
+use Rattle.laws.specs.Reader.{Apart, Fit, SortsFit, unsorted-fits, Accepted, accepted-range}
 use Rattle.laws.specs.Meaning.{known-name}
 use Rattle.laws.specs.Parts.{Within, WithinAll, Fits, FitsAll, Here, IsNode}
 use Rattle.laws.specs.Means.{Good}
@@ -60,6 +60,12 @@ builtIn-static k m =
     let q : T (isStatic (k .kind) && leb 1 (k .arity) && leb (k .arity) 3) = all-at (λ (k : Relation). isStatic (k .kind) && leb 1 (k .arity) && leb (k .arity) 3) builtIn tt k m in
     let a = T-and-l (isStatic (k .kind) && leb 1 (k .arity)) _ q in
     (static-kind (k .kind) (T-and-l (isStatic (k .kind)) _ a), leb→le 1 (k .arity) (T-and-r (isStatic (k .kind)) _ a), leb→le (k .arity) 3 (T-and-r (isStatic (k .kind) && leb 1 (k .arity)) _ q))
+
+builtIn-unsorted : (k : Relation) → List·Memᴰ k builtIn → (k .firsts ≡ 0) × (k .seconds ≡ 0)
+unfolding builtIn all
+builtIn-unsorted k m =
+    let q : T (eqb (k .firsts) 0 && eqb (k .seconds) 0) = all-at (λ (k : Relation). eqb (k .firsts) 0 && eqb (k .seconds) 0) builtIn tt k m in
+    (eqb→eq (k .firsts) 0 (T-and-l (eqb (k .firsts) 0) _ q), eqb→eq (k .seconds) 0 (T-and-r (eqb (k .firsts) 0) _ q))
 
 -- five are built in, so a question's own relations have the numbers from 5 on
 pub first-rel : firstRel ≡ 5
@@ -136,6 +142,20 @@ module _ (c : Case) (A : Accepted c) where
       (λ a. ⊎-elim (λ b. let h = builtIn-static k b in (h .1, h .2, inl (h .0))) (λ b. let h = A .question-fits .rels-fit k b in (h .few .0, h .few .1, inl (h .is-static))) (List·Memᴰ·append-cases builtIn a))
       (λ a. let h = A .question-fits .chosen-fit k a in (h .few .0, h .few .1, inr h))
       (List·Memᴰ·append-cases low (subst (λ (l : List Relation). List·Memᴰ k l) low-first m))
+
+  -- the sorts of a relation's places, and so whatever its number
+  pub sorts-fit : (k : Relation) → List·Memᴰ k (relationsOf (c .question)) → SortsFit (length (c .question .types)) k
+  sorts-fit k m = ⊎-elim
+      (λ a. unsorted-fits (length (c .question .types)) k (⊎-elim (λ b. builtIn-unsorted k b) (λ b. A .question-fits .rels-fit k b .no-sorts) (List·Memᴰ·append-cases builtIn a)))
+      (λ a. A .question-fits .chosen-sorted k a)
+      (List·Memᴰ·append-cases low (subst (λ (l : List Relation). List·Memᴰ k l) low-first m))
+
+  pub relation-sorts : (r : ℕ) → SortsFit (length (c .question .types)) (relationAt p r)
+  relation-sorts r = subst (SortsFit (length (c .question .types))) (sym (relation-is r)) (go (ltb r (length (relationsOf (c .question)))) refl)
+    where
+      go : (b : Bool) → ltb r (length (relationsOf (c .question))) ≡ b → SortsFit (length (c .question .types)) (getD (relationsOf (c .question)) r noRelation)
+      go true e = sorts-fit _ (getD-mem (relationsOf (c .question)) r noRelation (ltb-true r _ e))
+      go false e = subst (SortsFit (length (c .question .types))) (sym (List·getD-eq-default (relationsOf (c .question)) noRelation (ltb-false r _ e))) (unsorted-fits (length (c .question .types)) noRelation (refl, refl))
 
   low-count : length low ≡ firstChosen (c .question)
   unfolding firstChosen firstRel
@@ -287,7 +307,7 @@ module _ (c : Case) (A : Accepted c) where
   totals-fit r [] h = tt
   totals-fit r (k ∷ ks) h = go (isTotal (k .kind)) refl (totals-fit (suc r) ks (λ j l. let g = h (suc j) (omega arith) in let e : r + suc j ≡ suc r + j = omega arith in subst (λ (x : ℕ). (x < length (p .relations)) × (relationAt p x ≡ getD ks j noRelation) × (T (isFunction (getD ks j noRelation .kind)) → getD ks j noRelation .arity ≡ 2)) e g))
     where
-      go : (b : Bool) → isTotal (k .kind) ≡ b → FitsAll p (totalities (suc r) ks) → FitsAll p (if b then forallNode 0 0 (existsNode 1 0 (leaf true r (0 ∷ 1 ∷ []))) then totalities (suc r) ks else totalities (suc r) ks)
+      go : (b : Bool) → isTotal (k .kind) ≡ b → FitsAll p (totalities (suc r) ks) → FitsAll p (if b then forallNode 0 (k .firsts) (existsNode 1 (k .seconds) (leaf true r (0 ∷ 1 ∷ []))) then totalities (suc r) ks else totalities (suc r) ks)
       go true e f =
           let g = h 0 (omega arith) in
           let z : r + 0 ≡ r = add-zero r in
@@ -299,7 +319,7 @@ module _ (c : Case) (A : Accepted c) where
   totals-within r [] = tt
   totals-within r (k ∷ ks) = go (isTotal (k .kind)) (totals-within (suc r) ks)
     where
-      go : (b : Bool) → WithinAll (totalities (suc r) ks) → WithinAll (if b then forallNode 0 0 (existsNode 1 0 (leaf true r (0 ∷ 1 ∷ []))) then totalities (suc r) ks else totalities (suc r) ks)
+      go : (b : Bool) → WithinAll (totalities (suc r) ks) → WithinAll (if b then forallNode 0 (k .firsts) (existsNode 1 (k .seconds) (leaf true r (0 ∷ 1 ∷ []))) then totalities (suc r) ks else totalities (suc r) ks)
       go true f = ((omega arith, (omega arith, tt)), f)
       go false f = f
 

@@ -7,6 +7,7 @@
 --   Members            ranges: ascending lists of elements
 --   Rows               tuples and their rows, for any number of places
 --   Blocks             runs of numbers, one after another
+--   SetRows            the rows that set actions set
 --   Numbers            the numbers of atoms and of actions
 --   Words              states and picks as words
 --   Copies             a buffer copied element by element
@@ -45,6 +46,7 @@ pub mod Repeats
 pub mod Members
 pub mod Rows
 pub mod Blocks
+pub mod SetRows
 pub mod Numbers
 pub mod Words
 pub mod Copies

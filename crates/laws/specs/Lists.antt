@@ -165,6 +165,11 @@ map-mem {A} f (z ∷ l) y m = go (map-mem f l y) (List·Memᴰ·cases-cons m)
     go r (inl e) = (z, List·Memᴰ·head refl, e)
     go r (inr q) = let h = r q in (h .0, List·Memᴰ·tail (h .1), h .2)
 
+pub getD-map : {A B : Type 0} (f : A → B) (l : List A) (i : ℕ) (d : A) (e : B) → i < length l → getD (map f l) i e ≡ f (getD l i d)
+getD-map f [] i d e h = absurd (omega arith)
+getD-map f (x ∷ l) zero d e h = refl
+getD-map f (x ∷ l) (suc i) d e h = getD-map f l i d e (omega arith)
+
 pub take-mem : {A : Type 0} (k : ℕ) (l : List A) (x : A) → List·Memᴰ x (take k l) → List·Memᴰ x l
 take-mem zero [] x m = m
 take-mem zero (y ∷ l) x m = absurd (List·Memᴰ·not-nil m)

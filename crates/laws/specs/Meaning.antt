@@ -164,15 +164,15 @@ module _ (c : Case) (picks : List Tuple) where
     some-neg (cons f fs) scope bs e a s k = ap₂ _||_ (neg-means f scope bs e a (T-and-l (isScoped scope f) _ s) (T-and-l (isKnown (relationsOf (c .question)) f) _ k)) (some-neg fs scope bs e a (T-and-r (isScoped scope f) _ s) (T-and-r (isKnown (relationsOf (c .question)) f) _ k)) ∙ sym (not-and (isTrue c picks bs f) (allTrue c picks bs fs))
 
   -- the totalities
-  totalities-mean : (r : ℕ) (ks : List Relation) (e : Values) → treesHold c picks e (totalities r ks) ≡ all (λ b. b) (mapFrom (λ r (k : Relation). if isTotal (k .kind) then isTotalIn c picks r else true) r ks)
+  totalities-mean : (r : ℕ) (ks : List Relation) (e : Values) → treesHold c picks e (totalities r ks) ≡ all (λ b. b) (mapFrom (λ r (k : Relation). if isTotal (k .kind) then isTotalIn c picks r k else true) r ks)
   unfolding treesHold treeHolds totalities all mapFrom isTotalIn withValue
   totalities-mean r [] e = refl
   totalities-mean r (k ∷ ks) e = go (isTotal (k .kind)) (totalities-mean (suc r) ks e)
     where
-      go : (b : Bool) → treesHold c picks e (totalities (suc r) ks) ≡ all (λ b. b) (mapFrom (λ r (k : Relation). if isTotal (k .kind) then isTotalIn c picks r else true) (suc r) ks)
-          → treesHold c picks e (if b then forallNode 0 0 (existsNode 1 0 (leaf true r (0 ∷ 1 ∷ []))) then totalities (suc r) ks else totalities (suc r) ks)
-          ≡ ((if b then isTotalIn c picks r else true) && all (λ b. b) (mapFrom (λ r (k : Relation). if isTotal (k .kind) then isTotalIn c picks r else true) (suc r) ks))
-      go true h = ap (λ (x : Bool). isTotalIn c picks r && x) h
+      go : (b : Bool) → treesHold c picks e (totalities (suc r) ks) ≡ all (λ b. b) (mapFrom (λ r (k : Relation). if isTotal (k .kind) then isTotalIn c picks r k else true) (suc r) ks)
+          → treesHold c picks e (if b then forallNode 0 (k .firsts) (existsNode 1 (k .seconds) (leaf true r (0 ∷ 1 ∷ []))) then totalities (suc r) ks else totalities (suc r) ks)
+          ≡ ((if b then isTotalIn c picks r k else true) && all (λ b. b) (mapFrom (λ r (k : Relation). if isTotal (k .kind) then isTotalIn c picks r k else true) (suc r) ks))
+      go true h = ap (λ (x : Bool). isTotalIn c picks r k && x) h
       go false h = h
 
   joined-holds : (t : Tree) (us : Trees) (e : Values) → treeHolds c picks e (joined t us) ≡ (treeHolds c picks e t && treesHold c picks e us)

@@ -1,11 +1,11 @@
 -- Ranges: ascending lists of elements. An element and its rank, the elements up to one, the one before it and the greatest; and that
 -- the numbers below n are a range.
 use Prim.Native.Nat.{ℕ, zero, suc, _+_, _-_, _<_, _≤_}
-use mathlib.Core.Path.{_≡_, refl, sym, ap, subst, _∙_}
+use mathlib.Core.Path.{_≡_, refl, sym, ap, ap₂, subst, _∙_}
 use mathlib.Core.Logic.{_⊎_, inl, inr, ⊎-elim, _↔_}
 use mathlib.Core.Bool.{Bool, true, false, _&&_}
 use mathlib.Core.Option.{Option, none, some}
-use mathlib.Core.List.{List, [], _∷_, List·Memᴰ, List·Memᴰ·head, List·Memᴰ·tail, List·Memᴰ·not-nil, List·Memᴰ·cases-cons, Memᴰ·cast}
+use mathlib.Core.List.{List, [], _∷_, map, List·Memᴰ, List·Memᴰ·head, List·Memᴰ·tail, List·Memᴰ·not-nil, List·Memᴰ·cases-cons, Memᴰ·cast}
 use native.Mathlib.Omega.{arith}
 use native.Mathlib.Numerals.{add-one}
 use lib.Dec.{T, eqb, leb, ltb, eqb→eq, eqb-refl, ltb→lt, lt→ltb, leb→le, le→leb}
@@ -16,7 +16,7 @@ use Rattle.definitions.specs.Sheets.{Member, isMember, hasMember}
 use Rattle.definitions.specs.Truth.{Case, membersOf}
 use Rattle.definitions.specs.Built.{least}
 use Rattle.laws.specs.Booleans.{T-and-l, T-and-r, and-T, T-of, T-true, T-ext}
-use Rattle.laws.specs.Lists.{none-some, some-eq, below-lt, mem-below, getD-below, from-mem, mem-filter, filter-mem, all-at, all-of, any-at, any-of, getD-mem, mem-getD, length-below}
+use Rattle.laws.specs.Lists.{none-some, some-eq, below-lt, mem-below, getD-below, from-mem, mem-filter, filter-mem, all-at, all-of, any-at, any-of, getD-mem, mem-getD, map-mem, length-below}
 use Rattle.laws.specs.Positions.{place, position-place, place-lt, place-holds, least-place}
 use Rattle.laws.specs.Repeats.{Once}
 
@@ -49,6 +49,34 @@ ascending-filter f (x ∷ l) a = go (f x) (ascending-filter f l (a .1))
     go true r = (λ y m. a .0 y (filter-mem f l y m .0), r)
     go false r = r
 
+pub ascending-map : (g : ℕ → ℕ) (l : List ℕ) → Ascending l → ((x y : ℕ) → List·Memᴰ x l → List·Memᴰ y l → x < y → g x < g y) → Ascending (map g l)
+unfolding Ascending
+ascending-map g [] a h = tt
+ascending-map g (x ∷ l) a h = (
+  (λ y m. let (z, i, e) = map-mem g l y m in subst (λ (w : ℕ). g x < w) (sym e) (h x z (List·Memᴰ·head refl) (List·Memᴰ·tail i) (a .0 z i))),
+  ascending-map g l (a .1) (λ y z i j. h y z (List·Memᴰ·tail i) (List·Memᴰ·tail j)),
+)
+
+-- two with the same members are the same
+pub ascending-same : (l m : List ℕ) → Ascending l → Ascending m → ((x : ℕ) → List·Memᴰ x l → List·Memᴰ x m) → ((x : ℕ) → List·Memᴰ x m → List·Memᴰ x l) → l ≡ m
+unfolding Ascending
+ascending-same [] [] a b f g = refl
+ascending-same [] (y ∷ m) a b f g = absurd (List·Memᴰ·not-nil (g y (List·Memᴰ·head refl)))
+ascending-same (x ∷ l) [] a b f g = absurd (List·Memᴰ·not-nil (f x (List·Memᴰ·head refl)))
+ascending-same (x ∷ l) (y ∷ m) a b f g = ap₂ _∷_ same (ascending-same l m (a .1) (b .1) down up)
+  where
+    least : (x y : ℕ) (m : List ℕ) → ((z : ℕ) → List·Memᴰ z m → y < z) → List·Memᴰ x (y ∷ m) → y ≤ x
+    least x y m b i = ⊎-elim (λ e. omega arith) (λ j. let h = b x j in omega arith) (List·Memᴰ·cases-cons i)
+
+    same : x ≡ y
+    same = let h = least x y m (b .0) (f x (List·Memᴰ·head refl)) in let k = least y x l (a .0) (g y (List·Memᴰ·head refl)) in omega arith
+
+    down : (z : ℕ) → List·Memᴰ z l → List·Memᴰ z m
+    down z i = ⊎-elim (λ e. let h = a .0 z i in let q = same in absurd (omega arith)) (λ j. j) (List·Memᴰ·cases-cons (f z (List·Memᴰ·tail i)))
+
+    up : (z : ℕ) → List·Memᴰ z m → List·Memᴰ z l
+    up z i = ⊎-elim (λ e. let h = b .0 z i in let q = same in absurd (omega arith)) (λ j. j) (List·Memᴰ·cases-cons (g z (List·Memᴰ·tail i)))
+
 pub ascending-once : (l : List ℕ) → Ascending l → Once l
 unfolding Ascending Once
 ascending-once [] a = tt
@@ -74,6 +102,10 @@ has-member types n members k F t =
     (m .element, F .small m i, any-of (λ (u : Member). eqb (u .type) k && eqb (u .element) (m .element)) members m i (and-T (eqb (m .type) k) _ e (eqb-refl (m .element))))
 
 -- what a variable ranges over: elements, and with a type those that are members of it
+pub members-all : (c : Case) → membersOf c zero ≡ below (c .site .size)
+unfolding membersOf
+members-all c = refl
+
 pub all-range : (c : Case) (x : ℕ) → List·Memᴰ x (membersOf c zero) ↔ (x < c .site .size)
 unfolding membersOf
 all-range c x = (below-lt (c .site .size) x, mem-below (c .site .size) x)

@@ -5,22 +5,23 @@ use mathlib.Core.Path.{_≡_, refl, sym, ap, ap₂, subst, _∙_}
 use mathlib.Core.Logic.{_⊎_, inl, inr, ⊎-elim}
 use mathlib.Core.Bool.{Bool, true, false}
 use mathlib.Core.Option.{none, some}
-use mathlib.Core.List.{List, [], _∷_, _++_, List·Memᴰ, List·Memᴰ·not-nil}
+use mathlib.Core.List.{List, [], _∷_, _++_, List·Memᴰ}
 use native.Mathlib.Omega.{arith}
-use native.Mathlib.Nat.{add-zero, mul-zero, mod-lt, div-lt-iff-lt-mul, div-add-mod', div-one, mul-one}
+use native.Mathlib.Nat.{add-zero, mul-zero, div-add-mod', div-one, mul-one}
 use lib.Arith.{digits-lt, digits-div, digits-mod}
 use lib.Dec.{T}
 use lib.ListN.{length, getD, take}
 use lib.Seq.{take-all}
-use Rattle.definitions.specs.Lists.{if_then_else_, flatMap, mapFrom, below, rank}
-use Rattle.definitions.specs.Relations.{Kind, static, plain, Fun, PFun, Inj, PInj, isChosen, isFunction, isInjective, Relation}
+use Rattle.definitions.specs.Lists.{if_then_else_, flatMap, mapFrom, rank}
+use Rattle.definitions.specs.Relations.{Kind, static, plain, Fun, PFun, Inj, PInj, isChosen, isFunction, isInjective, Relation, fixed}
 use Rattle.definitions.specs.Tree.{Tree, Trees, leaf, forallNode, existsNode, andNode, orNode, howMany, nodeSort}
 use Rattle.definitions.specs.Atoms.{Block, itemAt, countOf, Problem, relationAt, nodeAt, tuplesOf, rowsOf, nodeWidth, Atom, guess, proof, goal, tuple, notTuple, freeDomain, freeRange, holdsNode, relationBlocks, relationsBlocks, nodesBlocks, atomBlocks, atoms, nodeAtoms, relationStart, nodeStart, atomNumber}
 use Rattle.definitions.specs.Actions.{Action, set, beginProof, proveAnd, proveOr, proveExists, proveForall, proveGoal, choices, proveNode, setRows, setsOf, setBlocks, proofsOf, proofBlocks, actionBlocks, actions, actionAt, setStart, proofStart, proofNumber, rangeAt, actionNumber}
 use Rattle.laws.specs.Booleans.{T-true}
-use Rattle.laws.specs.Lists.{some-eq, below-lt, mem-below, length-below, getD-below, getD-mem}
-use Rattle.laws.specs.Repeats.{Once, once-below}
-use Rattle.laws.specs.Members.{rank-lt, rank-select, select-rank, rank-below}
+use Rattle.laws.specs.Lists.{some-eq, getD-mem}
+use Rattle.laws.specs.Repeats.{Once}
+use Rattle.laws.specs.Members.{rank-lt, rank-select, select-rank}
+use Rattle.laws.specs.SetRows.{row-below, set-row, once-sets}
 use Rattle.laws.specs.Blocks.{count-nil, count-cons, count-append, item-here, item-past, item-cases, item-one, item-lt, item-some, item-none, item-left, item-right, item-append, groups, next-start, at-start, of-start, one-each}
 
 pub inj-fun : (k : Kind) → T (isInjective k) → T (isFunction k)
@@ -34,7 +35,7 @@ inj-fun PInj t = tt
 
 -- what `relationAt` and `nodeAt` give past the end
 abbrev pub noRelation : Relation
-noRelation = record { name = []; arity = zero; kind = static }
+noRelation = fixed [] zero
 
 abbrev pub noNode : Tree
 noNode = leaf true zero []
@@ -100,69 +101,6 @@ relationWidth n k = tuplesOf n k + (tuplesOf n k + ((if isFunction (k .kind) the
 pub relation-width : (n r : ℕ) (k : Relation) → countOf (relationBlocks n r k) ≡ relationWidth n k
 unfolding relationBlocks relationWidth countOf
 relation-width n r k = omega arith
-
--- ---- the rows that set actions set: rows of tuples, none twice; of a `choose` all of them
-module _ (n : ℕ) (R : ℕ → List ℕ) (k : Relation) where
-  pub set-row : (row : ℕ) → List·Memᴰ row (setRows n R k) → T (isChosen (k .kind)) × (row < tuplesOf n k)
-  unfolding setRows
-  set-row row m = go (isChosen (k .kind)) m
-    where
-      go : (b : Bool) → List·Memᴰ row (if b then below (tuplesOf n k) else []) → T b × (row < tuplesOf n k)
-      go true m = (tt, below-lt (tuplesOf n k) row m)
-      go false m = absurd (List·Memᴰ·not-nil m)
-
-  pub row-set : (row : ℕ) → T (isChosen (k .kind)) → row < tuplesOf n k → List·Memᴰ row (setRows n R k)
-  unfolding setRows
-  row-set row t h = go (isChosen (k .kind)) t
-    where
-      go : (b : Bool) → T b → List·Memᴰ row (if b then below (tuplesOf n k) else [])
-      go true t = mem-below (tuplesOf n k) row h
-      go false t = absurd t
-
-  pub once-sets : Once (setRows n R k)
-  unfolding setRows Once
-  once-sets = go (isChosen (k .kind))
-    where
-      go : (b : Bool) → Once (if b then below (tuplesOf n k) else [])
-      go true = once-below (tuplesOf n k)
-      go false = tt
-
-  pub sets-all : setsOf n R k ≡ (if isChosen (k .kind) then tuplesOf n k else zero)
-  unfolding setsOf setRows
-  sets-all = all-rows (isChosen (k .kind))
-    where
-      all-rows : (b : Bool) → length (if b then below (tuplesOf n k) else []) ≡ (if b then tuplesOf n k else zero)
-      all-rows true = length-below (tuplesOf n k)
-      all-rows false = refl
-
-  -- all rows being there, a row is its own place
-  pub row-rank : (row : ℕ) → List·Memᴰ row (setRows n R k) → rank (setRows n R k) row ≡ row
-  unfolding setRows
-  row-rank row m = rank-of (isChosen (k .kind)) m
-    where
-      rank-of : (b : Bool) → List·Memᴰ row (if b then below (tuplesOf n k) else []) → rank (if b then below (tuplesOf n k) else []) row ≡ row
-      rank-of true m = rank-below (tuplesOf n k) row (below-lt (tuplesOf n k) row m)
-      rank-of false m = absurd (List·Memᴰ·not-nil m)
-
-  pub row-at : (i : ℕ) → i < setsOf n R k → getD (setRows n R k) i 0 ≡ i
-  unfolding setsOf setRows
-  row-at i h = at-row (isChosen (k .kind)) h
-    where
-      at-row : (b : Bool) → i < length (if b then below (tuplesOf n k) else []) → getD (if b then below (tuplesOf n k) else []) i 0 ≡ i
-      at-row true h = getD-below (tuplesOf n k) i (omega (arith, length-below (tuplesOf n k)))
-      at-row false h = absurd (omega arith)
-
-  pub sets-le : setsOf n R k ≤ tuplesOf n k
-  unfolding setsOf setRows
-  sets-le = go (isChosen (k .kind))
-    where
-      go : (b : Bool) → length (if b then below (tuplesOf n k) else []) ≤ tuplesOf n k
-      go true = let e = length-below (tuplesOf n k) in omega arith
-      go false = omega arith
-
-row-below : (i a c : ℕ) → i < a * c → (i / c < a) × (i % c < c)
-row-below i a zero h = let z = mul-zero a in absurd (omega arith)
-row-below i a (suc c) h = let q : 0 < suc c = omega arith in (div-lt-iff-lt-mul q .1 h, mod-lt i q)
 
 -- ---- the four blocks of a relation
 module _ (n r : ℕ) (k : Relation) where
@@ -290,25 +228,25 @@ module _ (p : Problem) where
       omega arith
 
   -- ---- the atoms' blocks, and their end
-  abbrev fixed : List (Block Atom)
-  fixed = record { width = 1; item = λ _. guess } ∷ record { width = 1; item = λ _. proof } ∷ record { width = 1; item = λ _. goal } ∷ []
+  abbrev phases : List (Block Atom)
+  phases = record { width = 1; item = λ _. guess } ∷ record { width = 1; item = λ _. proof } ∷ record { width = 1; item = λ _. goal } ∷ []
 
-  atoms-form : atomBlocks p ≡ fixed ++ (R (p .relations) ++ N (p .nodeList))
+  atoms-form : atomBlocks p ≡ phases ++ (R (p .relations) ++ N (p .nodeList))
   unfolding atomBlocks
-  atoms-form = ap₂ (λ (bs cs : List (Block Atom)). fixed ++ (bs ++ cs)) (relations-form (p .size) (p .relations)) (nodes-form (p .size) (p .nodeList))
+  atoms-form = ap₂ (λ (bs cs : List (Block Atom)). phases ++ (bs ++ cs)) (relations-form (p .size) (p .relations)) (nodes-form (p .size) (p .nodeList))
 
-  fixed-count : countOf fixed ≡ 3
+  phases-count : countOf phases ≡ 3
   unfolding countOf
-  fixed-count = refl
+  phases-count = refl
 
   pub atoms-end : nodeStart p (length (p .nodeList)) ≡ atoms p
   unfolding atoms
   atoms-end =
       let a = node-end in
       let b = ap countOf atoms-form in
-      let c = count-append fixed (R (p .relations) ++ N (p .nodeList)) in
+      let c = count-append phases (R (p .relations) ++ N (p .nodeList)) in
       let d = count-append (R (p .relations)) (N (p .nodeList)) in
-      let e = fixed-count in
+      let e = phases-count in
       omega arith
 
   pub node-atoms : nodeStart p 0 + nodeAtoms p ≡ atoms p
@@ -350,15 +288,15 @@ module _ (p : Problem) where
   relation-atom : (r i : ℕ) (a : Atom) → r < length (p .relations) → itemAt (relationBlocks (p .size) r (relationAt p r)) i ≡ some a → itemAt (atomBlocks p) (relationStart p r + i) ≡ some a
   unfolding relationAt
   relation-atom r i a l e =
-      let w : relationStart p r + i ≡ countOf fixed + (countOf (R (take r (p .relations))) + i) = let s = relation-start r in let f = fixed-count in omega arith in
-      ap₂ itemAt atoms-form w ∙ item-right fixed (R (p .relations) ++ N (p .nodeList)) (countOf (R (take r (p .relations))) + i)
+      let w : relationStart p r + i ≡ countOf phases + (countOf (R (take r (p .relations))) + i) = let s = relation-start r in let f = phases-count in omega arith in
+      ap₂ itemAt atoms-form w ∙ item-right phases (R (p .relations) ++ N (p .nodeList)) (countOf (R (take r (p .relations))) + i)
       ∙ item-left (R (p .relations)) (N (p .nodeList)) (countOf (R (take r (p .relations))) + i) a (at-start (relationBlocks (p .size)) (p .relations) noRelation r i a l e)
 
   node-atom : (v row : ℕ) → v < length (p .nodeList) → row < nodeWidth (p .size) (nodeAt p v) → itemAt (atomBlocks p) (nodeStart p v + row) ≡ some (holdsNode v row)
   unfolding nodeAt
   node-atom v row l h =
-      let w : nodeStart p v + row ≡ countOf fixed + (countOf (R (p .relations)) + (countOf (N (take v (p .nodeList))) + row)) = let s = node-start v in let f = fixed-count in omega arith in
-      ap₂ itemAt atoms-form w ∙ item-right fixed (R (p .relations) ++ N (p .nodeList)) (countOf (R (p .relations)) + (countOf (N (take v (p .nodeList))) + row))
+      let w : nodeStart p v + row ≡ countOf phases + (countOf (R (p .relations)) + (countOf (N (take v (p .nodeList))) + row)) = let s = node-start v in let f = phases-count in omega arith in
+      ap₂ itemAt atoms-form w ∙ item-right phases (R (p .relations) ++ N (p .nodeList)) (countOf (R (p .relations)) + (countOf (N (take v (p .nodeList))) + row))
       ∙ item-right (R (p .relations)) (N (p .nodeList)) (countOf (N (take v (p .nodeList))) + row)
       ∙ at-start (λ v t. nodeBlock (p .size) v t ∷ []) (p .nodeList) noNode v row (holdsNode v row) l (item-here (nodeBlock (p .size) v (getD (p .nodeList) v noNode)) [] row h)
 
@@ -599,6 +537,11 @@ module _ (p : Problem) where
   pub set-below : (r row : ℕ) → IsAction p (set r row) → row < tuplesOf (p .size) (relationAt p r)
   unfolding IsAction
   set-below r row v = set-row (p .size) (p .range) (relationAt p r) row (v .2) .1
+
+  -- and its places, of a function kind, are of their sorts
+  pub set-typed : (r row : ℕ) → IsAction p (set r row) → T (isFunction (relationAt p r .kind)) → List·Memᴰ (row / p .size) (p .range (relationAt p r .firsts)) × List·Memᴰ (row % p .size) (p .range (relationAt p r .seconds))
+  unfolding IsAction
+  set-typed r row v = set-row (p .size) (p .range) (relationAt p r) row (v .2) .2
 
   -- what decodes is an action of the problem, and where no range has an element twice the number is its number
   abbrev pub Alone : Type 0

@@ -1,5 +1,5 @@
 -- Picks as pairs of a relation and a row, in the order of the atoms: the set steps of built steps.
-use Prim.Native.Nat.{ℕ, _^_, _<_}
+use Prim.Native.Nat.{ℕ, _/_, _%_, _^_, _<_}
 use mathlib.Core.Path.{_≡_, sym, ap, ap₂, subst, _∙_, fun-ext}
 use mathlib.Core.List.{List, map, List·Memᴰ}
 use lib.Dec.{T}
@@ -13,9 +13,11 @@ use Rattle.laws.specs.Lists.{below-lt, filter-mem, flat-mem, map-flat, m
 use Rattle.laws.specs.Tuples.{among-mem, mem-among}
 use Rattle.laws.specs.Repeats.{Once, once-below, once-filter, once-flat, once-map}
 use Rattle.laws.specs.Rows.{places-row, row-lt}
-use Rattle.laws.specs.Numbers.{IsAction, row-set}
+use Rattle.laws.specs.SetRows.{row-set}
+use Rattle.laws.specs.Numbers.{IsAction}
 use Rattle.laws.specs.Means.{Good}
-use Rattle.laws.specs.Sound.{tup, tupleAt, Inside, same-row}
+use Rattle.laws.specs.Valid.{pair-of}
+use Rattle.laws.specs.Sound.{tup, tupleAt, Inside, OfKinds, same-row}
 
 abbrev pub Pair : Type 0
 Pair = ℕ × ℕ
@@ -30,10 +32,15 @@ tupleOf p q = tupleAt p (q .0) (q .1)
 unfoldable pub IsPair : Problem → Pair → Type 0
 IsPair p q = (q .0 < length (p .relations)) × T (isChosen (relationAt p (q .0) .kind)) × (q .1 < tuplesOf (p .size) (relationAt p (q .0)))
 
--- it has a set action
-pub pair-action : (p : Problem) (q : Pair) → IsPair p q → IsAction p (setOf q)
+-- one of picks that are of their kinds has a set action
+pub pair-action : (p : Problem) (G : Good p) (F : List Tuple) → OfKinds p G F → (q : Pair) → IsPair p q → List·Memᴰ (tupleOf p q) F → IsAction p (setOf q)
 unfolding IsPair IsAction
-pair-action p q v = (v .0, v .1, row-set (p .size) (p .range) (relationAt p (q .0)) (q .1) (v .1) (v .2))
+pair-action p G F K q v m = (
+  v .0,
+  v .1,
+  row-set (p .size) (p .range) (relationAt p (q .0)) (q .1) (v .1) (v .2)
+      (λ f. K .typed (q .0) (q .1 / p .size) (q .1 % p .size) f (subst (λ (xs : List ℕ). List·Memᴰ (tup (q .0) xs) F) (pair-of p G (q .0) (q .1) (v .0) (v .2) f .0) m)),
+)
 
 -- each is such a pair, and its tuple among F
 abbrev pub Ready : Problem → List Tuple → List Pair → Type 0

@@ -11,7 +11,7 @@ use lib.ListN.{length, getD}
 use Rattle.definitions.specs.Lists.{if_then_else_, all, any, option, position, below}
 use Rattle.definitions.specs.Built.{least}
 use Rattle.laws.specs.Booleans.{T-or, or-l, or-r, T-of, T-true, T-false}
-use Rattle.laws.specs.Lists.{none-some, length-below, getD-below}
+use Rattle.laws.specs.Lists.{none-some, some-eq, length-below, getD-below}
 
 unfoldable pub place : {A : Type 0} → (A → Bool) → List A → ℕ
 place p [] = zero
@@ -111,6 +111,13 @@ module _ {A : Type 0} (p : A → Bool) where
 
   pub position-some : (xs : List A) (d : A) → any p xs ≡ true → (i : ℕ) × (position p xs ≡ some i) × (i < length xs) × (p (getD xs i d) ≡ true) × ((j : ℕ) → j < i → p (getD xs j d) ≡ false)
   position-some xs d e = (place p xs, position-place p xs (T-of e), place-lt p xs (T-of e), T-true (p (getD xs (place p xs) d)) (place-holds p xs d (T-of e)), place-first p xs d)
+
+  pub some-position : (xs : List A) (d : A) (i : ℕ) → position p xs ≡ some i → (i < length xs) × (p (getD xs i d) ≡ true) × ((j : ℕ) → j < i → p (getD xs j d) ≡ false)
+  some-position xs d i e = go (any p xs) refl
+    where
+      go : (b : Bool) → any p xs ≡ b → (i < length xs) × (p (getD xs i d) ≡ true) × ((j : ℕ) → j < i → p (getD xs j d) ≡ false)
+      go true q = let (k, f, l, t, h) = position-some xs d q in subst (λ (i : ℕ). (i < length xs) × (p (getD xs i d) ≡ true) × ((j : ℕ) → j < i → p (getD xs j d) ≡ false)) (some-eq (sym f ∙ e)) (l, t, h)
+      go false q = absurd (none-some (sym (position-none xs q) ∙ e))
 
 -- some test fails exactly if not all pass
 pub any-not : (l : List Bool) → any not l ≡ not (all (λ b. b) l)

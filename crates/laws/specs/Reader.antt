@@ -13,11 +13,11 @@ use Rattle.definitions.specs.Lists.{if_then_else_, all, any, same, isEmpty, opt
 use Rattle.definitions.specs.Text.{Line, fields, isBetween, isRelationName, number, lines, bytes}
 use Rattle.definitions.specs.Refusal.{Result, refused, accepted, _>>=_, refuseIf, given, readLines, readText}
 use Rattle.definitions.specs.Limits.{textLimit}
-use Rattle.definitions.specs.Relations.{Kind, static, plain, Fun, PFun, Inj, PInj, isChosen, isFunction, Relation, Tuple, isAmong, areDistinct, builtIn, isDeclared}
-use Rattle.definitions.specs.Formula.{allForms, nesting, isKnown, isScoped, isTyped, typeNumber}
+use Rattle.definitions.specs.Relations.{Kind, static, plain, Fun, PFun, Inj, PInj, isChosen, isFunction, Relation, fixed, Tuple, isAmong, areDistinct, builtIn, isDeclared}
+use Rattle.definitions.specs.Formula.{allForms, nesting, isKnown, isScoped, isTyped, typeNumber, sortNamed, isType}
 use Rattle.definitions.specs.Parsing.{readFormula}
 use Rattle.definitions.specs.Sheets
-use Sheets.{Element, Entry, rel, type, choose, rule, size, label, member, fact, pick, step, arityOf, element, elements, labelOf, memberOf, chooseOf, withOne, withTwo, withElements, entry, entryOf, Rule, Draft, Question, relations, isRuled, isNewName, addRel, addType, addChoose, addRule, addToQuestion, questionLine, readQuestion, relationsOf, firstRel, used, Label, elementOf, elementsOf, isInRange, addTuple, Member, isMember, hasMember, SiteDraft, Site, Labelled, addSize, isTaken, addLabel, addMember, addFact, addToSite, siteLine, readSite, addToPicks, picksLine, readPicks}
+use Sheets.{Element, Entry, rel, type, choose, rule, size, label, member, fact, pick, step, arityOf, element, elements, labelOf, memberOf, kindNamed, chooseOf, withOne, withTwo, withElements, entry, entryOf, Rule, Draft, Question, relations, isRuled, isNewName, addRel, addType, placeSort, addChoose, addRule, addToQuestion, questionLine, readQuestion, relationsOf, firstRel, used, Label, elementOf, elementsOf, isInRange, addTuple, Member, isMember, hasMember, SiteDraft, Site, Labelled, addSize, isTaken, addLabel, addMember, addFact, addToSite, siteLine, readSite, addToPicks, picksLine, readPicks}
 use Rattle.definitions.specs.Truth.{Case, membersOf}
 use Rattle.definitions.specs.Atoms.{Problem, problemOf, atoms}
 use Rattle.definitions.specs.Actions.{actions}
@@ -27,6 +27,7 @@ use Rattle.laws.specs.Tuples.{distinct-snoc, same-eq, same-refl}
 use Rattle.laws.specs.Lists.{all-at, any-of, mem-below}
 use Rattle.laws.specs.Repeats.{Once, once-append}
 use Rattle.laws.specs.Members.{IsRange, MembersFit, no-members, members-range}
+use Rattle.laws.specs.SetRows.{fun-chosen}
 use Rattle.laws.specs.Numbers.{noRelation}
 use Rattle.laws.specs.Labels.{LabelsFit, no-labels, mean-small, mean-length, means-small, one-snoc}
 
@@ -109,6 +110,21 @@ module _ {A : Type 0} where
   unfolding readText
   gives-text P line h s text p = gives-bind (λ _. T (not (ltb textLimit (length text)))) P (refuseIf (ltb textLimit (length text)) 1 zero) (λ _. readLines line s (lines text)) (gives-refuse (ltb textLimit (length text)) 1 zero) (λ a q. gives-lines P line h s (lines text) p)
 
+holds-more : {A : Type 0} {P Q : A → Type 0} (o : Option A) → ((a : A) → P a → Q a) → Holds P o → Holds Q o
+unfolding Holds
+holds-more none f h = tt
+holds-more (some a) f h = f a h
+
+pub position-holds : {A : Type 0} (p : A → Bool) (xs : List A) (d : A) → Holds (λ i. (i < length xs) × T (p (getD xs i d))) (position p xs)
+unfolding position Holds option
+position-holds p [] d = tt
+position-holds {A} p (x ∷ xs) d = go (p x) refl (position p xs) (position-holds p xs d)
+  where
+    go : (b : Bool) → p x ≡ b → (o : Option ℕ) → Holds (λ i. (i < length xs) × T (p (getD xs i d))) o → Holds (λ i. (i < suc (length xs)) × T (p (getD (x ∷ xs) i d))) (if b then some zero else option o none (λ i. some (suc i)))
+    go true e o h = (omega arith, T-of e)
+    go false e none h = tt
+    go false e (some i) h = (omega (arith, h .0), h .1)
+
 -- ---- one record: its arity is 1 to 3, and 2 for the function kinds; a label has a name's form
 abbrev pub Arity : ℕ → Type 0
 Arity a = (1 ≤ a) × (a ≤ 3)
@@ -121,7 +137,7 @@ pub record Fit (arity : ℕ) (kind : Kind) : Type 0 where
 unfoldable EntryFits : Entry → Type 0
 EntryFits (rel name a) = Arity a
 EntryFits (type name) = Unit {0}
-EntryFits (choose name a k) = Fit a k
+EntryFits (choose name a k types) = Fit a k × (isFunction k ≡ false → types ≡ [])
 EntryFits (rule f) = Unit {0}
 EntryFits (size n) = Unit {0}
 EntryFits (label x name) = T (isRelationName name)
@@ -146,14 +162,34 @@ arity-fits f = holds-option (λ _. Unit {0}) Arity (number f) _ (all-there (numb
 two-few : Arity 2
 two-few = (omega arith, omega arith)
 
-choose-fits : (name f : List ℕ) → Holds EntryFits (chooseOf name f)
-unfolding chooseOf EntryFits isChosen isFunction
-choose-fits name f =
-    holds-if EntryFits (same f (bytes "Fun")) _ _ (λ t. holds-some EntryFits (choose name 2 Fun) (record { few = two-few; chosen = tt; pairs = λ t. refl }))
-    (holds-if EntryFits (same f (bytes "PFun")) _ _ (λ t. holds-some EntryFits (choose name 2 PFun) (record { few = two-few; chosen = tt; pairs = λ t. refl }))
-    (holds-if EntryFits (same f (bytes "Inj")) _ _ (λ t. holds-some EntryFits (choose name 2 Inj) (record { few = two-few; chosen = tt; pairs = λ t. refl }))
-    (holds-if EntryFits (same f (bytes "PInj")) _ _ (λ t. holds-some EntryFits (choose name 2 PInj) (record { few = two-few; chosen = tt; pairs = λ t. refl }))
-    (holds-option Arity EntryFits (arityOf f) _ (arity-fits f) (λ a h. holds-some EntryFits (choose name a plain) (record { few = h; chosen = tt; pairs = λ t. absurd t }))))))
+kind-fits : (f : List ℕ) → Holds (λ k. T (isFunction k)) (kindNamed f)
+unfolding kindNamed isFunction
+kind-fits f =
+    holds-if Named (same f (bytes "Fun")) _ _ (λ t. holds-some Named Fun tt)
+    (holds-if Named (same f (bytes "PFun")) _ _ (λ t. holds-some Named PFun tt)
+    (holds-if Named (same f (bytes "Inj")) _ _ (λ t. holds-some Named Inj tt)
+    (holds-if Named (same f (bytes "PInj")) _ _ (λ t. holds-some Named PInj tt)
+    (holds-none Named))))
+  where
+    Named : Kind → Type 0
+    Named k = T (isFunction k)
+
+function-fits : (name : List ℕ) (k : Kind) (types : List (List ℕ)) → T (isFunction k) → Holds EntryFits (some (choose name 2 k types))
+unfolding EntryFits
+function-fits name k types f = holds-some EntryFits (choose name 2 k types) (record { few = two-few; chosen = fun-chosen k f; pairs = λ t. refl }, λ e. absurd (subst T e f))
+
+choose-fits : (fs : List (List ℕ)) → Holds EntryFits (chooseOf fs)
+unfolding chooseOf EntryFits isChosen isFunction option Holds
+choose-fits [] = holds-none EntryFits
+choose-fits (name ∷ []) = holds-none EntryFits
+choose-fits (name ∷ f ∷ []) = go (kindNamed f) (kind-fits f)
+  where
+    go : (o : Option Kind) → Holds (λ k. T (isFunction k)) o → Holds EntryFits (option o (option (arityOf f) none (λ a. some (choose name a plain []))) (λ k. some (choose name 2 k [])))
+    go none h = holds-option Arity EntryFits (arityOf f) _ (arity-fits f) (λ a h. holds-some EntryFits (choose name a plain []) (record { few = h; chosen = tt; pairs = λ t. absurd t }, λ e. refl))
+    go (some k) h = function-fits name k [] h
+choose-fits (name ∷ f ∷ t ∷ []) = holds-none EntryFits
+choose-fits (name ∷ f ∷ t ∷ u ∷ []) = holds-option (λ k. T (isFunction k)) EntryFits (kindNamed f) _ (kind-fits f) (λ k h. function-fits name k (t ∷ u ∷ []) h)
+choose-fits (name ∷ f ∷ t ∷ u ∷ v ∷ fs) = holds-none EntryFits
 
 two-fits : (make : List ℕ → List ℕ → Option Entry) → ((f g : List ℕ) → Holds EntryFits (make f g)) → (fs : List (List ℕ)) → Holds EntryFits (withTwo make fs)
 unfolding withTwo Holds
@@ -187,7 +223,7 @@ entry-fits [] = holds-none EntryFits
 entry-fits (w ∷ fs) =
     holds-if EntryFits (same w (bytes "rel")) _ _ (λ t. two-fits (λ name a. option (arityOf a) none (λ k. some (rel name k))) (λ name a. holds-option Arity EntryFits (arityOf a) _ (arity-fits a) (λ k h. holds-some EntryFits (rel name k) h)) fs)
     (holds-if EntryFits (same w (bytes "type")) _ _ (λ t. one-fits (λ f. some (type f)) (λ f. holds-some EntryFits (type f) tt) fs)
-    (holds-if EntryFits (same w (bytes "choose")) _ _ (λ t. two-fits chooseOf choose-fits fs)
+    (holds-if EntryFits (same w (bytes "choose")) _ _ (λ t. choose-fits fs)
     (holds-if EntryFits (same w (bytes "rule")) _ _ (λ t. one-fits (λ f. some (rule f)) (λ f. holds-some EntryFits (rule f) tt) fs)
     (holds-if EntryFits (same w (bytes "size")) _ _ (λ t. one-fits (λ f. option (number f) none (λ n. some (size n))) (λ f. holds-option (λ _. Unit {0}) EntryFits (number f) _ (all-there (number f)) (λ n _. holds-some EntryFits (size n) tt)) fs)
     (holds-if EntryFits (same w (bytes "label")) _ _ (λ t. two-fits labelOf label-fits fs)
@@ -223,6 +259,16 @@ apart-snoc (k ∷ ks) x a h = (
 pub record RelFits (k : Relation) : Type 0 where
   pub few : Arity (k .arity)
   pub is-static : k .kind ≡ static
+  pub no-sorts : (k .firsts ≡ 0) × (k .seconds ≡ 0)
+
+-- the sorts of its places: of types that are declared, and of none unless it is of a function kind
+pub record SortsFit (types : ℕ) (k : Relation) : Type 0 where
+  pub firsts-few : k .firsts ≤ types
+  pub seconds-few : k .seconds ≤ types
+  pub no-sorts : isFunction (k .kind) ≡ false → (k .firsts ≡ 0) × (k .seconds ≡ 0)
+
+pub unsorted-fits : (types : ℕ) (k : Relation) → (k .firsts ≡ 0) × (k .seconds ≡ 0) → SortsFit types k
+unsorted-fits types k h = record { firsts-few = omega (arith, h .0); seconds-few = omega (arith, h .1); no-sorts = λ _. h }
 
 pub record RuleFits (rels : List Relation) (types : List (List ℕ)) (chosen : List Relation) (r : Rule) : Type 0 where
   pub scoped : T (isScoped [] (r .formula))
@@ -243,6 +289,7 @@ record DraftFits (d : Draft) : Type 0 where
   types-fit : TypesFit (d .types)
   chosen-fit : (k : Relation) → List·Memᴰ k (d .chosen) → Fit (k .arity) (k .kind)
   chosen-named : (k : Relation) → List·Memᴰ k (d .chosen) → T (isRelationName (k .name))
+  chosen-sorted : (k : Relation) → List·Memᴰ k (d .chosen) → SortsFit (length (d .types)) k
   apart : Apart (relations (d .rels) (d .chosen))
   ruled-fits : Holds (RuleFits (d .rels) (d .types) (d .chosen)) (d .ruled)
 
@@ -299,50 +346,82 @@ rel-line d at name arity D h =
     (λ _ t. let z = not-or-r (not (isEmpty (d .types))) (not (isEmpty (d .chosen))) (not-or-l (not (isEmpty (d .types)) || not (isEmpty (d .chosen))) (leb 8 (length (d .rels))) t) in
     gives-bind (λ _. T (not (not (isNewName d name)))) DraftFits _ _ (gives-refuse (not (isNewName d name)) 4 at)
     (λ _ u. gives-accepted DraftFits _ (record {
-      rels-fit = mem-snoc RelFits (d .rels) (record { name = name; arity = arity; kind = static }) (D .rels-fit) (record { few = h; is-static = refl });
+      rels-fit = mem-snoc RelFits (d .rels) (fixed name arity) (D .rels-fit) (record { few = h; is-static = refl; no-sorts = (refl, refl) });
       types-fit = D .types-fit;
       chosen-fit = D .chosen-fit;
       chosen-named = D .chosen-named;
+      chosen-sorted = D .chosen-sorted;
       apart = go (d .chosen) (empty-nil (d .chosen) z) (D .apart) (new-name d name u);
-      ruled-fits = no-rule (d .rels) (d .types) (d .chosen) (d .ruled) (D .ruled-fits) z (RuleFits (d .rels ++ (record { name = name; arity = arity; kind = static } ∷ [])) (d .types) (d .chosen));
+      ruled-fits = no-rule (d .rels) (d .types) (d .chosen) (d .ruled) (D .ruled-fits) z (RuleFits (d .rels ++ (fixed name arity ∷ [])) (d .types) (d .chosen));
     })))
   where
-    go : (ch : List Relation) → ch ≡ [] → Apart (relations (d .rels) ch) → T (not (isDeclared (relations (d .rels) ch) name)) → Apart (relations (d .rels ++ (record { name = name; arity = arity; kind = static } ∷ [])) ch)
-    go [] e a n = subst Apart (sym (relations-snoc-rel (d .rels) (record { name = name; arity = arity; kind = static }))) (apart-snoc (relations (d .rels) []) (record { name = name; arity = arity; kind = static }) a n)
+    go : (ch : List Relation) → ch ≡ [] → Apart (relations (d .rels) ch) → T (not (isDeclared (relations (d .rels) ch) name)) → Apart (relations (d .rels ++ (fixed name arity ∷ [])) ch)
+    go [] e a n = subst Apart (sym (relations-snoc-rel (d .rels) (fixed name arity))) (apart-snoc (relations (d .rels) []) (fixed name arity) a n)
     go (x ∷ ch) e a n = absurd (nil≢cons (sym e))
 
+-- a place's sort is 0 or that of a declared type
+pub sort-named : (types : List (List ℕ)) (name : List ℕ) → sortNamed types name ≤ length types
+unfolding sortNamed typeNumber option Holds
+sort-named types name = go (position (λ t. same t name) types) (position-holds (λ t. same t name) types [])
+  where
+    go : (o : Option ℕ) → Holds (λ i. (i < length types) × T (same (getD types i []) name)) o → option o zero suc ≤ length types
+    go none h = omega arith
+    go (some i) h = omega (arith, h .0)
+
+place-sort : (types names : List (List ℕ)) (i : ℕ) → placeSort types names i ≤ length types
+unfolding placeSort
+place-sort types [] i = omega arith
+place-sort types (name ∷ names) zero = sort-named types name
+place-sort types (name ∷ names) (suc i) = place-sort types names i
+
+sorts-more : (m n : ℕ) (k : Relation) → m ≤ n → SortsFit m k → SortsFit n k
+sorts-more m n k h s = record { firsts-few = omega (arith, s .firsts-few); seconds-few = omega (arith, s .seconds-few); no-sorts = s .no-sorts }
+
+none-sorted : (types : List (List ℕ)) (i : ℕ) → placeSort types [] i ≡ 0
+unfolding placeSort
+none-sorted types i = refl
+
 type-line : (d : Draft) (at : ℕ) (name : List ℕ) → DraftFits d → Gives DraftFits (addType d at name)
-unfolding addType
+unfolding addType isType
 type-line d at name D =
     gives-bind (λ _. T (not (not (isEmpty (d .chosen)) || leb 8 (length (d .types))))) DraftFits _ _ (gives-refuse (not (isEmpty (d .chosen)) || leb 8 (length (d .types))) 3 at)
     (λ _ t. gives-bind (λ _. T (not (not (isRelationName name)))) DraftFits _ _ (gives-refuse (not (isRelationName name)) 4 at)
-    (λ _ u. gives-bind (λ _. T (not (any (λ t. same t name) (d .types)))) DraftFits _ _ (gives-refuse (any (λ t. same t name) (d .types)) 19 at)
+    (λ _ u. gives-bind (λ _. T (not (isType (d .types) name))) DraftFits _ _ (gives-refuse (isType (d .types) name) 19 at)
     (λ _ v. gives-accepted DraftFits _ (record {
       rels-fit = D .rels-fit;
       types-fit = record {
         few = types-more (d .types) name (not-or-r (not (isEmpty (d .chosen))) (leb 8 (length (d .types))) t);
         named = mem-snoc (λ t. T (isRelationName t)) (d .types) name (D .types-fit .named) (not-not-T (isRelationName name) u);
-        once = once-append (d .types) (name ∷ []) (D .types-fit .once) (once-one name) (λ x m i. T-not (any (λ t. same t name) (d .types)) v (any-of (λ t. same t name) (d .types) x m (subst (λ (y : List ℕ). T (same x y)) (List·Memᴰ·eq-of-singleton i) (same-refl x))));
+        once = once-append (d .types) (name ∷ []) (D .types-fit .once) (once-one name) (λ x m i. T-not (isType (d .types) name) v (any-of (λ t. same t name) (d .types) x m (subst (λ (y : List ℕ). T (same x y)) (List·Memᴰ·eq-of-singleton i) (same-refl x))));
       };
       chosen-fit = D .chosen-fit;
       chosen-named = D .chosen-named;
+      chosen-sorted = λ k m. sorts-more (length (d .types)) (length (d .types ++ (name ∷ []))) k (omega (arith, length-append (d .types) (name ∷ []))) (D .chosen-sorted k m);
       apart = D .apart;
       ruled-fits = no-rule (d .rels) (d .types) (d .chosen) (d .ruled) (D .ruled-fits) (not-or-l (not (isEmpty (d .chosen))) (leb 8 (length (d .types))) t) (RuleFits (d .rels) (d .types ++ (name ∷ [])) (d .chosen));
     }))))
 
-choose-line : (d : Draft) (at : ℕ) (name : List ℕ) (arity : ℕ) (kind : Kind) → DraftFits d → Fit arity kind → Gives DraftFits (addChoose d at name arity kind)
+choose-line : (d : Draft) (at : ℕ) (name : List ℕ) (arity : ℕ) (kind : Kind) (names : List (List ℕ)) → DraftFits d → Fit arity kind × (isFunction kind ≡ false → names ≡ []) → Gives DraftFits (addChoose d at name arity kind names)
 unfolding addChoose
-choose-line d at name arity kind D h =
+choose-line d at name arity kind names D h =
     gives-bind (λ _. T (not (isRuled (d .ruled) || leb 4 (length (d .chosen))))) DraftFits _ _ (gives-refuse (isRuled (d .ruled) || leb 4 (length (d .chosen))) 3 at)
     (λ _ t. gives-bind (λ _. T (not (not (isNewName d name)))) DraftFits _ _ (gives-refuse (not (isNewName d name)) 4 at)
-    (λ _ u. gives-accepted DraftFits _ (record {
+    (λ _ u. gives-bind (λ _. T (not (not (all (isType (d .types)) names)))) DraftFits _ _ (gives-refuse (not (all (isType (d .types)) names)) 19 at)
+    (λ _ v. gives-accepted DraftFits _ (record {
       rels-fit = D .rels-fit;
       types-fit = D .types-fit;
-      chosen-fit = mem-snoc (λ (k : Relation). Fit (k .arity) (k .kind)) (d .chosen) (record { name = name; arity = arity; kind = kind }) (D .chosen-fit) h;
-      chosen-named = mem-snoc (λ (k : Relation). T (isRelationName (k .name))) (d .chosen) (record { name = name; arity = arity; kind = kind }) (D .chosen-named) (formed-name d name u);
-      apart = subst Apart (sym (relations-snoc (d .rels) (d .chosen) (record { name = name; arity = arity; kind = kind }))) (apart-snoc (relations (d .rels) (d .chosen)) (record { name = name; arity = arity; kind = kind }) (D .apart) (new-name d name u));
-      ruled-fits = not-ruled (d .ruled) (not-or-l (isRuled (d .ruled)) (leb 4 (length (d .chosen))) t) (RuleFits (d .rels) (d .types) (d .chosen ++ (record { name = name; arity = arity; kind = kind } ∷ [])));
-    })))
+      chosen-fit = mem-snoc (λ (k : Relation). Fit (k .arity) (k .kind)) (d .chosen) new (D .chosen-fit) (h .0);
+      chosen-named = mem-snoc (λ (k : Relation). T (isRelationName (k .name))) (d .chosen) new (D .chosen-named) (formed-name d name u);
+      chosen-sorted = mem-snoc (SortsFit (length (d .types))) (d .chosen) new (D .chosen-sorted) (record { firsts-few = place-sort (d .types) names 0; seconds-few = place-sort (d .types) names 1; no-sorts = λ e. unsorted (h .1 e) });
+      apart = subst Apart (sym (relations-snoc (d .rels) (d .chosen) new)) (apart-snoc (relations (d .rels) (d .chosen)) new (D .apart) (new-name d name u));
+      ruled-fits = not-ruled (d .ruled) (not-or-l (isRuled (d .ruled)) (leb 4 (length (d .chosen))) t) (RuleFits (d .rels) (d .types) (d .chosen ++ (new ∷ [])));
+    }))))
+  where
+    new : Relation
+    new = record { name = name; arity = arity; kind = kind; firsts = placeSort (d .types) names 0; seconds = placeSort (d .types) names 1 }
+
+    unsorted : names ≡ [] → (placeSort (d .types) names 0 ≡ 0) × (placeSort (d .types) names 1 ≡ 0)
+    unsorted e = (ap (λ (l : List (List ℕ)). placeSort (d .types) l 0) e ∙ none-sorted (d .types) 0, ap (λ (l : List (List ℕ)). placeSort (d .types) l 1) e ∙ none-sorted (d .types) 1)
 
 rule-line : (d : Draft) (at : ℕ) (text : List ℕ) → DraftFits d → Gives DraftFits (addRule d at text)
 unfolding addRule
@@ -358,6 +437,7 @@ rule-line d at text D =
       types-fit = D .types-fit;
       chosen-fit = D .chosen-fit;
       chosen-named = D .chosen-named;
+      chosen-sorted = D .chosen-sorted;
       apart = D .apart;
       ruled-fits = holds-some (RuleFits (d .rels) (d .types) (d .chosen)) _ (record {
         scoped = not-not-T (isScoped [] f) w;
@@ -373,7 +453,7 @@ question-entry : (d : Draft) (at : ℕ) (e : Entry) → DraftFits d → EntryFit
 unfolding addToQuestion EntryFits
 question-entry d at (rel name a) D h = rel-line d at name a D h
 question-entry d at (type name) D h = type-line d at name D
-question-entry d at (choose name a k) D h = choose-line d at name a k D h
+question-entry d at (choose name a k types) D h = choose-line d at name a k types D h
 question-entry d at (rule f) D h = rule-line d at f D
 question-entry d at (size n) D h = gives-refused DraftFits 3 at
 question-entry d at (label x name) D h = gives-refused DraftFits 3 at
@@ -392,6 +472,7 @@ pub record QuestionFits (q : Question) : Type 0 where
   pub types-fit : TypesFit (q .types)
   pub chosen-fit : (k : Relation) → List·Memᴰ k (q .chosen) → Fit (k .arity) (k .kind)
   pub chosen-named : (k : Relation) → List·Memᴰ k (q .chosen) → T (isRelationName (k .name))
+  pub chosen-sorted : (k : Relation) → List·Memᴰ k (q .chosen) → SortsFit (length (q .types)) k
   pub apart : Apart (relationsOf q)
   pub rule-fits : RuleFits (q .rels) (q .types) (q .chosen) (q .rule)
 
@@ -404,9 +485,9 @@ unfolding readQuestion relationsOf
 question-fits text =
     gives-bind DraftFits QuestionFits (readText questionLine (record { rels = []; types = []; chosen = []; ruled = none }) text) _
     (gives-text DraftFits questionLine line-step (record { rels = []; types = []; chosen = []; ruled = none }) text
-    (record { rels-fit = λ k m. absurd (List·Memᴰ·not-nil m); types-fit = no-types; chosen-fit = λ k m. absurd (List·Memᴰ·not-nil m); chosen-named = λ k m. absurd (List·Memᴰ·not-nil m); apart = builtIn-apart; ruled-fits = holds-none (RuleFits [] [] []) }))
+    (record { rels-fit = λ k m. absurd (List·Memᴰ·not-nil m); types-fit = no-types; chosen-fit = λ k m. absurd (List·Memᴰ·not-nil m); chosen-named = λ k m. absurd (List·Memᴰ·not-nil m); chosen-sorted = λ k m. absurd (List·Memᴰ·not-nil m); apart = builtIn-apart; ruled-fits = holds-none (RuleFits [] [] []) }))
     (λ d D. gives-bind (RuleFits (d .rels) (d .types) (d .chosen)) QuestionFits (given (d .ruled) 3 (length text)) _ (gives-given (RuleFits (d .rels) (d .types) (d .chosen)) (d .ruled) 3 (length text) (D .ruled-fits))
-    (λ r R. gives-accepted QuestionFits _ (record { rels-fit = D .rels-fit; types-fit = D .types-fit; chosen-fit = D .chosen-fit; chosen-named = D .chosen-named; apart = D .apart; rule-fits = R })))
+    (λ r R. gives-accepted QuestionFits _ (record { rels-fit = D .rels-fit; types-fit = D .types-fit; chosen-fit = D .chosen-fit; chosen-named = D .chosen-named; chosen-sorted = D .chosen-sorted; apart = D .apart; rule-fits = R })))
 
 -- ---- tuples of a sheet
 -- a tuple of one of the relations, whose numbers begin at `first`, over n elements
@@ -420,21 +501,6 @@ pub record TupleFits (rs : List Relation) (first n : ℕ) (t : Tuple) : Type 0 w
 pub record TuplesFit (rs : List Relation) (first n : ℕ) (ts : List Tuple) : Type 0 where
   pub each-fits : (t : Tuple) → List·Memᴰ t ts → TupleFits rs first n t
   pub distinct : T (areDistinct ts)
-
-holds-more : {A : Type 0} {P Q : A → Type 0} (o : Option A) → ((a : A) → P a → Q a) → Holds P o → Holds Q o
-unfolding Holds
-holds-more none f h = tt
-holds-more (some a) f h = f a h
-
-pub position-holds : {A : Type 0} (p : A → Bool) (xs : List A) (d : A) → Holds (λ i. (i < length xs) × T (p (getD xs i d))) (position p xs)
-unfolding position Holds option
-position-holds p [] d = tt
-position-holds {A} p (x ∷ xs) d = go (p x) refl (position p xs) (position-holds p xs d)
-  where
-    go : (b : Bool) → p x ≡ b → (o : Option ℕ) → Holds (λ i. (i < length xs) × T (p (getD xs i d))) o → Holds (λ i. (i < suc (length xs)) × T (p (getD (x ∷ xs) i d))) (if b then some zero else option o none (λ i. some (suc i)))
-    go true e o h = (omega arith, T-of e)
-    go false e none h = tt
-    go false e (some i) h = (omega (arith, h .0), h .1)
 
 tuple-line : (rs : List Relation) (first n : ℕ) (labels : List Label) (ts : List Tuple) (at : ℕ) (name : List ℕ) (es : List Element) → LabelsFit n labels → TuplesFit rs first n ts → Gives (TuplesFit rs first n) (addTuple rs first n labels ts at name es)
 unfolding addTuple used
@@ -541,7 +607,7 @@ site-entry : (L : CaseLimits) → L .elements ≤ 64 → (rs : List Relation) (t
 unfolding addToSite EntryFits
 site-entry L few rs types d at (rel name a) D h = gives-refused (SiteSoFar rs types) 3 at
 site-entry L few rs types d at (type name) D h = gives-refused (SiteSoFar rs types) 3 at
-site-entry L few rs types d at (choose name a k) D h = gives-refused (SiteSoFar rs types) 3 at
+site-entry L few rs types d at (choose name a k names) D h = gives-refused (SiteSoFar rs types) 3 at
 site-entry L few rs types d at (rule f) D h = gives-refused (SiteSoFar rs types) 3 at
 site-entry L few rs types d at (size n) D h = size-line rs types L few d at n (d .sized) D
 site-entry L few rs types d at (label x name) D h = label-line rs types (d .labels) (d .members) (d .facts) (d .sized) at x name h D
@@ -595,7 +661,7 @@ module _ (rs : List Relation) (first n : ℕ) (labels : List Label) (K : LabelsF
   unfolding addToPicks
   picks-entry ts at (rel name a) D = gives-refused _ 3 at
   picks-entry ts at (type name) D = gives-refused _ 3 at
-  picks-entry ts at (choose name a k) D = gives-refused _ 3 at
+  picks-entry ts at (choose name a k types) D = gives-refused _ 3 at
   picks-entry ts at (rule f) D = gives-refused _ 3 at
   picks-entry ts at (size m) D = gives-refused _ 3 at
   picks-entry ts at (label x name) D = gives-refused _ 3 at

@@ -98,7 +98,7 @@ question-add : (d : Draft) (at : ℕ) (e : Entry) → Refuses Sheet (addToQuesti
 unfolding addToQuestion addRel addType addChoose addRule isIn any
 question-add d at (rel name arity) = bind-by Sheet _ _ (if-by Sheet _ 3 at refl) (λ _. bind-by Sheet _ _ (if-by Sheet _ 4 at refl) (λ _. accepted-by Sheet _))
 question-add d at (type name) = bind-by Sheet _ _ (if-by Sheet _ 3 at refl) (λ _. bind-by Sheet _ _ (if-by Sheet _ 4 at refl) (λ _. bind-by Sheet _ _ (if-by Sheet _ 19 at refl) (λ _. accepted-by Sheet _)))
-question-add d at (choose name arity kind) = bind-by Sheet _ _ (if-by Sheet _ 3 at refl) (λ _. bind-by Sheet _ _ (if-by Sheet _ 4 at refl) (λ _. accepted-by Sheet _))
+question-add d at (choose name arity kind types) = bind-by Sheet _ _ (if-by Sheet _ 3 at refl) (λ _. bind-by Sheet _ _ (if-by Sheet _ 4 at refl) (λ _. bind-by Sheet _ _ (if-by Sheet _ 19 at refl) (λ _. accepted-by Sheet _)))
 question-add d at (rule text) = bind-by Sheet _ _ (if-by Sheet _ 3 at refl) (λ _. bind-by Sheet _ _ (given-by Sheet _ 5 at refl) (λ f. bind-by Sheet _ _ (if-by Sheet _ 6 at refl)
     (λ _. bind-by Sheet _ _ (if-by Sheet _ 7 at refl) (λ _. bind-by Sheet _ _ (if-by Sheet _ 8 at refl) (λ _. bind-by Sheet _ _ (if-by Sheet _ 19 at refl) (λ _. accepted-by Sheet _))))))
 question-add d at (size n) = other Draft at
@@ -137,7 +137,7 @@ site-add : (L : CaseLimits) (rels : List Relation) (types : List (List ℕ)) (d 
 unfolding addToSite addFact isIn any
 site-add L rels types d at (rel name arity) = other SiteDraft at
 site-add L rels types d at (type name) = other SiteDraft at
-site-add L rels types d at (choose name arity kind) = other SiteDraft at
+site-add L rels types d at (choose name arity kind names) = other SiteDraft at
 site-add L rels types d at (rule text) = other SiteDraft at
 site-add L rels types d at (size n) = size-by L d at n (d .sized)
 site-add L rels types d at (label x name) = label-by d at x name
@@ -154,7 +154,7 @@ picks-add : (rs : List Relation) (first n : ℕ) (labels : List Label) (ts : Lis
 unfolding addToPicks
 picks-add rs first n labels ts at (rel name arity) = other (List Tuple) at
 picks-add rs first n labels ts at (type name) = other (List Tuple) at
-picks-add rs first n labels ts at (choose name arity kind) = other (List Tuple) at
+picks-add rs first n labels ts at (choose name arity kind types) = other (List Tuple) at
 picks-add rs first n labels ts at (rule text) = other (List Tuple) at
 picks-add rs first n labels ts at (size m) = other (List Tuple) at
 picks-add rs first n labels ts at (label x name) = other (List Tuple) at
@@ -167,7 +167,7 @@ steps-add : (ks : List ℕ) (at : ℕ) (e : Entry) → Refuses Sheet (addToSteps
 unfolding addToSteps
 steps-add ks at (rel name arity) = other (List ℕ) at
 steps-add ks at (type name) = other (List ℕ) at
-steps-add ks at (choose name arity kind) = other (List ℕ) at
+steps-add ks at (choose name arity kind types) = other (List ℕ) at
 steps-add ks at (rule text) = other (List ℕ) at
 steps-add ks at (size m) = other (List ℕ) at
 steps-add ks at (label x name) = other (List ℕ) at

@@ -72,12 +72,17 @@ places-row n (x ∷ xs) h b =
     (ap (placesOf n (length xs)) s ∙ places-shift n (length xs) (rowOf n xs) x h ∙ places-row n xs h (q .1))
 
 -- a row of two places
+power-one : (n : ℕ) → n ^ 1 ≡ n
+power-one n = pow-suc n 0 ∙ ap (λ (x : ℕ). x * n) (pow-zero n) ∙ one-mul n
+
+pub square : (n : ℕ) → n ^ 2 ≡ n * n
+square n = pow-suc n 1 ∙ ap (λ (x : ℕ). x * n) (power-one n)
+
 pub pair-places : (n row : ℕ) → 0 < n → row < n ^ 2 → (placesOf n 2 row ≡ row / n ∷ row % n ∷ []) × (row / n < n)
 unfolding placesOf
 pair-places n row h l =
-    let e : n ^ 1 ≡ n = pow-suc n 0 ∙ ap (λ (x : ℕ). x * n) (pow-zero n) ∙ one-mul n in
+    let e = power-one n in
     let z : n ^ 0 ≡ 1 = pow-zero n in
-    let s : n ^ 2 ≡ n * n = pow-suc n 1 ∙ ap (λ (x : ℕ). x * n) e in
-    let l' : row < n * n = rw s at l in
+    let l' : row < n * n = rw (square n) at l in
     let q : row / n < n = div-lt-iff-lt-mul h .1 l' in
     (ap₂ (λ (x y : ℕ). x ∷ y ∷ []) (ap (λ (x : ℕ). row / x % n) e ∙ mod-eq-of-lt q) (ap (λ (x : ℕ). row / x % n) z ∙ ap (λ (x : ℕ). x % n) (div-one row)), q)

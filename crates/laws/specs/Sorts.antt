@@ -1,21 +1,21 @@
 -- The sort of every node of a question's tree is 0 or that of a declared type: no more than there are types.
-use Prim.Native.Nat.{ℕ, zero, suc, _<_, _≤_}
+use Prim.Native.Nat.{ℕ, zero, suc, _≤_}
 use mathlib.Core.Path.{_≡_, refl, sym, subst}
 use mathlib.Core.Logic.{⊎-elim}
 use mathlib.Core.Bool.{Bool, true, false}
 use mathlib.Core.Option.{Option, none, some}
-use mathlib.Core.List.{List, [], _∷_, _++_, map, List·Memᴰ, List·Memᴰ·not-nil, List·Memᴰ·append-cases, List·Memᴰ·cases-cons}
+use mathlib.Core.List.{List, [], _∷_, _++_, map, List·Memᴰ, List·Memᴰ·head, List·Memᴰ·tail, List·Memᴰ·not-nil, List·Memᴰ·append-cases, List·Memᴰ·cases-cons}
 use native.Mathlib.Omega.{arith}
-use lib.Dec.{T, ltb}
+use lib.Dec.{ltb}
 use lib.ListN.{length, getD, List·getD-eq-default}
 use borrow.Author.Tests.{ltb-true, ltb-false}
-use Rattle.definitions.specs.Lists.{if_then_else_, same, option, position}
+use Rattle.definitions.specs.Lists.{if_then_else_, option}
 use Rattle.definitions.specs.Relations.{Relation, isTotal}
-use Rattle.definitions.specs.Formula.{Quantified, Formula, Formulas, literal, negation, implication, conjunction, disjunction, exists, forall, nil, cons, variablesOf, typeNumber, sortOf}
+use Rattle.definitions.specs.Formula.{Quantified, Formula, Formulas, literal, negation, implication, conjunction, disjunction, exists, forall, nil, cons, variablesOf, sortNamed, sortOf}
 use Rattle.definitions.specs.Sheets.{Question, relationsOf, firstChosen}
 use Rattle.definitions.specs.Tree.{Tree, Trees, leaf, forallNode, existsNode, andNode, orNode, end, _then_, nest, leafOf, asIs, negated, allAsIs, allNegated, totalities, joined, treeOf, nodes, nodesAll, nodeSort}
 use Rattle.laws.specs.Lists.{getD-mem}
-use Rattle.laws.specs.Reader.{Holds, position-holds}
+use Rattle.laws.specs.Reader.{QuestionFits, SortsFit, sort-named}
 
 -- no sort in a tree is greater than k
 unfoldable mutual
@@ -64,16 +64,12 @@ node-sorted k t h v = go (ltb v (length (nodes t))) refl
 
 -- the sort of a variable
 sort-within : (types : List (List ℕ)) (q : Quantified) → sortOf types q ≤ length types
-unfolding sortOf typeNumber option Holds
+unfolding sortOf option
 sort-within types q = go (q .type)
   where
-    at : (name : List ℕ) (o : Option ℕ) → position (λ t. same t name) types ≡ o → option o zero suc ≤ length types
-    at name none e = omega arith
-    at name (some i) e = let h = subst (Holds (λ i. (i < length types) × T (same (getD types i []) name))) e (position-holds (λ t. same t name) types []) in omega (arith, h .0)
-
-    go : (o : Option (List ℕ)) → option o zero (λ name. option (position (λ t. same t name) types) zero suc) ≤ length types
+    go : (o : Option (List ℕ)) → option o zero (sortNamed types) ≤ length types
     go none = omega arith
-    go (some name) = at name (position (λ t. same t name) types) refl
+    go (some name) = sort-named types name
 
 module _ (rs : List Relation) (types : List (List ℕ)) where
   nest-sorted : (quantifier : ℕ → ℕ → Tree → Tree) → ((d σ : ℕ) (t : Tree) → σ ≤ length types → Sorted (length types) t → Sorted (length types) (quantifier d σ t)) → (qs : List Quantified) (level : ℕ) (t : Tree) → Sorted (length types) t → Sorted (length types) (nest quantifier level (map (sortOf types) qs) t)
@@ -110,13 +106,13 @@ module _ (rs : List Relation) (types : List (List ℕ)) where
     allneg-sorted nil scope = tt
     allneg-sorted (cons f fs) scope = (neg-sorted f scope, allneg-sorted fs scope)
 
-totals-sorted : (k r : ℕ) (ks : List Relation) → SortedAll k (totalities r ks)
+totals-sorted : (k r : ℕ) (ks : List Relation) → ((x : Relation) → List·Memᴰ x ks → SortsFit k x) → SortedAll k (totalities r ks)
 unfolding totalities Sorted SortedAll
-totals-sorted k r [] = tt
-totals-sorted k r (x ∷ ks) = go (isTotal (x .kind)) (totals-sorted k (suc r) ks)
+totals-sorted k r [] f = tt
+totals-sorted k r (x ∷ ks) f = go (isTotal (x .kind)) (totals-sorted k (suc r) ks (λ y m. f y (List·Memᴰ·tail m)))
   where
-    go : (b : Bool) → SortedAll k (totalities (suc r) ks) → SortedAll k (if b then forallNode 0 0 (existsNode 1 0 (leaf true r (0 ∷ 1 ∷ []))) then totalities (suc r) ks else totalities (suc r) ks)
-    go true h = ((omega arith, (omega arith, tt)), h)
+    go : (b : Bool) → SortedAll k (totalities (suc r) ks) → SortedAll k (if b then forallNode 0 (x .firsts) (existsNode 1 (x .seconds) (leaf true r (0 ∷ 1 ∷ []))) then totalities (suc r) ks else totalities (suc r) ks)
+    go true h = let s = f x (List·Memᴰ·head refl) in ((s .firsts-few, (s .seconds-few, tt)), h)
     go false h = h
 
 joined-sorted : (k : ℕ) (t : Tree) (us : Trees) → Sorted k t → SortedAll k us → Sorted k (joined t us)
@@ -124,9 +120,10 @@ unfolding joined Sorted SortedAll
 joined-sorted k t end w v = w
 joined-sorted k t (u then us) w v = (w, v)
 
-pub tree-sorted : (q : Question) → Sorted (length (q .types)) (treeOf q)
+-- a question's tree, where the sorts of its kinds fit, as they do once it is read
+pub tree-sorted : (q : Question) → ((k : Relation) → List·Memᴰ k (q .chosen) → SortsFit (length (q .types)) k) → Sorted (length (q .types)) (treeOf q)
 unfolding treeOf
-tree-sorted q = joined-sorted (length (q .types)) _ _ (as-sorted (relationsOf q) (q .types) (q .rule .formula) []) (totals-sorted (length (q .types)) (firstChosen q) (q .chosen))
+tree-sorted q f = joined-sorted (length (q .types)) _ _ (as-sorted (relationsOf q) (q .types) (q .rule .formula) []) (totals-sorted (length (q .types)) (firstChosen q) (q .chosen) f)
 
-pub sorts-within : (q : Question) (v : ℕ) → nodeSort (getD (nodes (treeOf q)) v (leaf true 0 [])) ≤ length (q .types)
-sorts-within q v = node-sort (length (q .types)) _ (node-sorted (length (q .types)) (treeOf q) (tree-sorted q) v)
+pub sorts-within : (q : Question) → QuestionFits q → (v : ℕ) → nodeSort (getD (nodes (treeOf q)) v (leaf true 0 [])) ≤ length (q .types)
+sorts-within q F v = node-sort (length (q .types)) _ (node-sorted (length (q .types)) (treeOf q) (tree-sorted q (F .chosen-sorted)) v)

@@ -22,7 +22,7 @@ use Rattle.laws.specs.Booleans.{T-and-l, T-and-r}
 use Rattle.laws.specs.Lists.{all-of, snoc-cases}
 use Rattle.laws.specs.Tuples.{among-mem, distinct-snoc, mem-among}
 use Rattle.laws.specs.Rows.{Below, length-places, places-below, row-places}
-use Rattle.laws.specs.Numbers.{IsAction, IsAtom, action-is, atom-at, inj-fun, set-below}
+use Rattle.laws.specs.Numbers.{IsAction, IsAtom, action-is, atom-at, inj-fun, set-below, set-typed}
 use Rattle.laws.specs.Parts.{Here, IsNode}
 use Rattle.laws.specs.Means.{Good, means, adds-mean, set-not, part-valid}
 use Rattle.laws.specs.Valid.{needs-valid, after-cases, may-at, domain-free, range-free, pair-of}
@@ -121,6 +121,7 @@ module _ (p : Problem) (G : Good p) where
     pub inside : (t : Tuple) → List·Memᴰ t P → Inside t
     pub fun : (r x y z : ℕ) → T (isFunction (relationAt p r .kind)) → List·Memᴰ (tup r (x ∷ y ∷ [])) P → List·Memᴰ (tup r (x ∷ z ∷ [])) P → y ≡ z
     pub inj : (r x y z : ℕ) → T (isInjective (relationAt p r .kind)) → List·Memᴰ (tup r (x ∷ z ∷ [])) P → List·Memᴰ (tup r (y ∷ z ∷ [])) P → x ≡ y
+    pub typed : (r x y : ℕ) → T (isFunction (relationAt p r .kind)) → List·Memᴰ (tup r (x ∷ y ∷ [])) P → List·Memᴰ x (p .range (relationAt p r .firsts)) × List·Memᴰ y (p .range (relationAt p r .seconds))
 
   pub record Solves (P : List Tuple) : Type 0 where
     pub kinds : OfKinds P
@@ -214,6 +215,15 @@ module _ (p : Problem) (G : Good p) where
         go (inr a) (inl b) = absurd (clash y x b a)
         go (inr a) (inr b) = first-of r′ x z g a .1 ∙ sym (first-of r′ y z g b .1)
 
+    set-inside-types : (r′ x y : ℕ) → T (isFunction (relationAt p r′ .kind)) → List·Memᴰ (tup r′ (x ∷ y ∷ [])) P₁ → List·Memᴰ x (p .range (relationAt p r′ .firsts)) × List·Memᴰ y (p .range (relationAt p r′ .seconds))
+    set-inside-types r′ x y f m = ⊎-elim (λ a. I .kinds .typed r′ x y f a) new (snoc-cases P (tupleAt p r row) _ m)
+      where
+        new : tup r′ (x ∷ y ∷ []) ≡ tupleAt p r row → List·Memᴰ x (p .range (relationAt p r′ .firsts)) × List·Memᴰ y (p .range (relationAt p r′ .seconds))
+        new e =
+            let (a, b, d) = first-of r′ x y f e in
+            let (i, j) = set-typed p r row v (subst (λ (q : ℕ). T (isFunction (relationAt p q .kind))) a f) in
+            (subst₂ (λ (q u : ℕ). List·Memᴰ u (p .range (relationAt p q .firsts))) (sym a) (sym b) i, subst₂ (λ (q u : ℕ). List·Memᴰ u (p .range (relationAt p q .seconds))) (sym a) (sym d) j)
+
     chosen-high : firstChosen (p .source .question) ≤ r
     unfolding IsAction
     chosen-high = G .high-chosen r (v .1)
@@ -253,7 +263,7 @@ module _ (p : Problem) (G : Good p) where
         (holds-pick (p .source) P r (placesOf (p .size) (relationAt p r .arity) row) chosen-high (among-mem (tupleAt p r row) P t)))
 
     pub guessing-set : Guessing P₁ (after p s (set r row))
-    guessing-set = record { kinds = record { inside = set-inside; fun = set-fun; inj = set-inj }; distinct = distinct-snoc P (tupleAt p r row) (I .distinct) is-new; asked = λ x w t. set-asked x w (after-cases p G s (set r row) x v w t) }
+    guessing-set = record { kinds = record { inside = set-inside; fun = set-fun; inj = set-inj; typed = set-inside-types }; distinct = distinct-snoc P (tupleAt p r row) (I .distinct) is-new; asked = λ x w t. set-asked x w (after-cases p G s (set r row) x v w t) }
 
   -- ---- begin-proof: what was asked is meant
   begin-cases : (P : List Tuple) (s : State) → Guessing P s → (x : Atom) → IsAtom p x → (T (s (atomNumber p x)) × (List·Memᴰ x (removes p beginProof) → ⊥)) ⊎ List·Memᴰ x (adds p beginProof) → T (means p P x)
@@ -363,4 +373,4 @@ module _ (p : Problem) (G : Good p) where
   -- steps that reach the goal are read as picks of the declared kinds of which the tree is true
   pub sound : (ks : List ℕ) → T (reachesGoal p ks) → Solves (picksOf p ks)
   unfolding reachesGoal areDistinct
-  sound ks t = guess-phase ks [] (initial p) (record { kinds = record { inside = λ t m. absurd (List·Memᴰ·not-nil m); fun = λ r x y z f m k. absurd (List·Memᴰ·not-nil m); inj = λ r x y z f m k. absurd (List·Memᴰ·not-nil m) }; distinct = tt; asked = λ x v h. initial-asked x (subst T (initial-at x v) h) }) t
+  sound ks t = guess-phase ks [] (initial p) (record { kinds = record { inside = λ t m. absurd (List·Memᴰ·not-nil m); fun = λ r x y z f m k. absurd (List·Memᴰ·not-nil m); inj = λ r x y z f m k. absurd (List·Memᴰ·not-nil m); typed = λ r x y f m. absurd (List·Memᴰ·not-nil m) }; distinct = tt; asked = λ x v h. initial-asked x (subst T (initial-at x v) h) }) t

@@ -12,8 +12,8 @@ use Rattle.definitions.specs.Limits.{textLimit}
 use Rattle.definitions.specs.Lists.{if_then_else_, all, same, option, flatMap, position, isEmpty}
 use Rattle.definitions.specs.Text.{bytes, decimal, number, onFirst, split, Line, lines, linesFrom, fields, isBetween, isRelationName}
 use Rattle.definitions.specs.Refusal.{Result, accepted, refuseIf, given, readLines, readText}
-use Rattle.definitions.specs.Relations.{plain, Relation, Tuple, isAmong}
-use Rattle.definitions.specs.Sheets.{Element, Entry, rel, type, choose, rule, size, label, member, fact, pick, step, arityOf, chooseOf, element, elements, labelOf, memberOf, withOne, withTwo, withElements, entry, entryOf, Label, elementsOf, isInRange, used, addTuple, addToPicks, picksLine, readPicks, addToSteps, stepsLine, readSteps}
+use Rattle.definitions.specs.Relations.{Kind, plain, Relation, Tuple, isAmong}
+use Rattle.definitions.specs.Sheets.{Element, Entry, rel, type, choose, rule, size, label, member, fact, pick, step, arityOf, kindNamed, chooseOf, element, elements, labelOf, memberOf, withOne, withTwo, withElements, entry, entryOf, Label, elementsOf, isInRange, used, addTuple, addToPicks, picksLine, readPicks, addToSteps, stepsLine, readSteps}
 use Rattle.definitions.specs.Desk.{printLine, stepLine}
 use Rattle.definitions.specs.Demand.{isAccepted}
 use Rattle.laws.specs.Booleans.{T-and-l, T-of}
@@ -60,7 +60,7 @@ Tells fs word name es = (gs : List (List ℕ)) × (fs ≡ word ∷ name ∷ gs) 
 unfoldable pub Says : List (List ℕ) → Entry → Type 0
 Says fs (rel name a) = Unit {0}
 Says fs (type name) = Unit {0}
-Says fs (choose name a k) = Unit {0}
+Says fs (choose name a k types) = Unit {0}
 Says fs (rule f) = Unit {0}
 Says fs (size n) = (fs ≡ bytes "size" ∷ decimal n ∷ []) × (n < 10 ^ 7)
 Says fs (label x name) = (f : List ℕ) × (fs ≡ bytes "label" ∷ f ∷ name ∷ [])
@@ -116,14 +116,18 @@ one-told fs make [] h = holds-none (Says fs)
 one-told fs make (f ∷ []) h = h f
 one-told fs make (f ∷ g ∷ gs) h = holds-none (Says fs)
 
-choose-told : (fs : List (List ℕ)) (name f : List ℕ) → Holds (Says fs) (chooseOf name f)
-unfolding chooseOf Says
-choose-told fs name f =
-    holds-if (Says fs) (same f (bytes "Fun")) _ _ (λ t. holds-some (Says fs) _ tt)
-    (holds-if (Says fs) (same f (bytes "PFun")) _ _ (λ t. holds-some (Says fs) _ tt)
-    (holds-if (Says fs) (same f (bytes "Inj")) _ _ (λ t. holds-some (Says fs) _ tt)
-    (holds-if (Says fs) (same f (bytes "PInj")) _ _ (λ t. holds-some (Says fs) _ tt)
-    (holds-option (λ a. arityOf f ≡ some a) (Says fs) (arityOf f) _ (holds-self (arityOf f)) (λ a e. holds-some (Says fs) (choose name a plain) tt)))))
+choose-told : (fs gs : List (List ℕ)) → Holds (Says fs) (chooseOf gs)
+unfolding chooseOf Says option
+choose-told fs [] = holds-none (Says fs)
+choose-told fs (name ∷ []) = holds-none (Says fs)
+choose-told fs (name ∷ f ∷ []) = go (kindNamed f)
+  where
+    go : (o : Option Kind) → Holds (Says fs) (option o (option (arityOf f) none (λ a. some (choose name a plain []))) (λ k. some (choose name 2 k [])))
+    go none = holds-option (λ a. arityOf f ≡ some a) (Says fs) (arityOf f) _ (holds-self (arityOf f)) (λ a e. holds-some (Says fs) (choose name a plain []) tt)
+    go (some k) = holds-some (Says fs) (choose name 2 k []) tt
+choose-told fs (name ∷ f ∷ t ∷ []) = holds-none (Says fs)
+choose-told fs (name ∷ f ∷ t ∷ u ∷ []) = holds-option (λ k. kindNamed f ≡ some k) (Says fs) (kindNamed f) _ (holds-self (kindNamed f)) (λ k e. holds-some (Says fs) (choose name 2 k (t ∷ u ∷ [])) tt)
+choose-told fs (name ∷ f ∷ t ∷ u ∷ v ∷ gs) = holds-none (Says fs)
 
 entry-told : (fs : List (List ℕ)) → Holds (Says fs) (entry fs)
 unfolding entry Says
@@ -131,7 +135,7 @@ entry-told [] = holds-none (Says [])
 entry-told (w ∷ fs) =
     holds-if (Says (w ∷ fs)) (same w (bytes "rel")) _ _ (λ t. two-told (w ∷ fs) _ fs (λ f g. holds-option (λ a. arityOf g ≡ some a) (Says (w ∷ fs)) (arityOf g) _ (holds-self (arityOf g)) (λ a e. holds-some (Says (w ∷ fs)) (rel f a) tt)))
     (holds-if (Says (w ∷ fs)) (same w (bytes "type")) _ _ (λ t. one-told (w ∷ fs) _ fs (λ f. holds-some (Says (w ∷ fs)) (type f) tt))
-    (holds-if (Says (w ∷ fs)) (same w (bytes "choose")) _ _ (λ t. two-told (w ∷ fs) _ fs (choose-told (w ∷ fs)))
+    (holds-if (Says (w ∷ fs)) (same w (bytes "choose")) _ _ (λ t. choose-told (w ∷ fs) fs)
     (holds-if (Says (w ∷ fs)) (same w (bytes "rule")) _ _ (λ t. one-told (w ∷ fs) _ fs (λ f. holds-some (Says (w ∷ fs)) (rule f) tt))
     (holds-if (Says (w ∷ fs)) (same w (bytes "size")) _ _ (λ t. number-told size (bytes "size") w fs t (λ k h. h))
     (holds-if (Says (w ∷ fs)) (same w (bytes "label")) _ _ (λ t. label-told w fs t)
@@ -201,7 +205,7 @@ steps-add : (acc : List ℕ) (at : ℕ) (fs : List (List ℕ)) (e : Entry) (m : 
 unfolding addToSteps Says isAccepted
 steps-add acc at fs (rel name a) m s e = absurd (refused-accepted e)
 steps-add acc at fs (type name) m s e = absurd (refused-accepted e)
-steps-add acc at fs (choose name a k) m s e = absurd (refused-accepted e)
+steps-add acc at fs (choose name a k types) m s e = absurd (refused-accepted e)
 steps-add acc at fs (rule f) m s e = absurd (refused-accepted e)
 steps-add acc at fs (size n) m s e = absurd (refused-accepted e)
 steps-add acc at fs (label x name) m s e = absurd (refused-accepted e)
@@ -273,7 +277,7 @@ module _ (rs : List Relation) (first n : ℕ) (labels : List Label) (K : LabelsF
   unfolding addToPicks Says isAccepted
   picks-add acc at fs (rel name a) m s e = absurd (refused-accepted e)
   picks-add acc at fs (type name) m s e = absurd (refused-accepted e)
-  picks-add acc at fs (choose name a k) m s e = absurd (refused-accepted e)
+  picks-add acc at fs (choose name a k types) m s e = absurd (refused-accepted e)
   picks-add acc at fs (rule f) m s e = absurd (refused-accepted e)
   picks-add acc at fs (size k) m s e = absurd (refused-accepted e)
   picks-add acc at fs (label x name) m s e = absurd (refused-accepted e)

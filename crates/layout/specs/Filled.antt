@@ -13,20 +13,23 @@ use Rattle.tree.specs.declared.Nodes.{Nodes}
 use Rattle.rows.specs.Values.{weightOf}
 use Rattle.ground.specs.Lines.{rootPlace, rangesPlace, rangePlace, nodesIn, nodeLine, Fits}
 use Rattle.ground.specs.Of.{Is}
-use Rattle.layout.specs.Laid.{countAt, rangeBy, Inputs, Starts}
+use Rattle.layout.specs.Laid.{firstsAt, secondsAt, countAt, rangeBy, Inputs, Starts}
 use Rattle.layout.specs.declared.Relations.{Relations}
 use Rattle.layout.specs.declared.Ranges.{Ranges}
 use Rattle.layout.specs.declared.Layout.{Layout}
 
--- where the lines of relations, of nodes and of parts start, and how long a node's line is
+-- where the lines of relations, of nodes and of parts start, and how long a relation's and a node's line is
 abbrev pub relationsPlace : ℕ
 relationsPlace = 3
 
 abbrev pub nodesPlace : ℕ
-nodesPlace = 93
+nodesPlace = 165
 
 abbrev pub partsPlace : ℕ
-partsPlace = 938
+partsPlace = 1010
+
+abbrev pub relationLength : ℕ
+relationLength = 9
 
 abbrev pub nodeLength : ℕ
 nodeLength = 13
@@ -40,12 +43,29 @@ unfoldable pub tab : (ℕ → List ℕ) → ℕ → List ℕ
 tab f zero = []
 tab f (suc k) = tab f k ++ f k
 
-unfoldable pub relationNumbers : Relations → Layout → ℕ → List ℕ
-relationNumbers g l r = getD (l .set) r 0 ∷ getD (l .rel) r 0 ∷ getD (l .neg) r 0 ∷ getD (l .dom) r 0 ∷ getD (g .kind) r 0 ∷ []
+-- where the range of a place starts, and how many of the elements of its sort it has: only a function kind has any
+unfoldable pub placeStart : (kind sort : ℕ) → ℕ
+placeStart kind sort = if ltb kind 2 then 0 else rangePlace sort
+
+unfoldable pub placeCount : (count kind : ℕ) → ℕ
+placeCount count kind = if ltb kind 2 then 0 else count
+
+unfoldable pub relationNumbers : List ℕ → Relations → Layout → ℕ → List ℕ
+relationNumbers counts g l r =
+    getD (l .set) r 0
+    ∷ getD (l .rel) r 0
+    ∷ getD (l .neg) r 0
+    ∷ getD (l .dom) r 0
+    ∷ getD (g .kind) r 0
+    ∷ placeStart (getD (g .kind) r 0) (getD (g .firsts) r 0)
+    ∷ placeCount (firstsAt counts g r) (getD (g .kind) r 0)
+    ∷ placeStart (getD (g .kind) r 0) (getD (g .seconds) r 0)
+    ∷ placeCount (secondsAt counts g r) (getD (g .kind) r 0)
+    ∷ []
 
 -- past the last of r relations
 unfoldable pub relationEnd : Layout → ℕ → List ℕ
-relationEnd l r = getD (l .set) r 0 ∷ getD (l .rel) r 0 ∷ 0 ∷ 0 ∷ 0 ∷ []
+relationEnd l r = getD (l .set) r 0 ∷ getD (l .rel) r 0 ∷ 0 ∷ 0 ∷ 0 ∷ 0 ∷ 0 ∷ 0 ∷ 0 ∷ []
 
 -- where the range of a node of that kind starts, and how many of the elements of its sort it has: only a quantifier goes over any
 unfoldable pub rangeStart : (kind sort : ℕ) → ℕ
@@ -101,8 +121,8 @@ abbrev pub partNumbers : ℕ → List ℕ → Layout → PartRow → List ℕ
 partNumbers n tops l q = numbersIn n tops (l .rel) (l .neg) (l .node) q
 
 -- the lines of all relations, of all nodes, and of all parts
-unfoldable pub relationLines : Relations → Layout → List ℕ
-relationLines g l = tab (relationNumbers g l) (g .count) ++ relationEnd l (g .count)
+unfoldable pub relationLines : List ℕ → Relations → Layout → List ℕ
+relationLines counts g l = tab (relationNumbers counts g l) (g .count) ++ relationEnd l (g .count)
 
 unfoldable pub nodeLines : List ℕ → Nodes → Layout → List ℕ
 nodeLines counts t l = tab (nodeNumbers counts t l) (t .count) ++ nodeEnd l (t .count)
@@ -120,7 +140,7 @@ unfoldable pub tableOf : (n : ℕ) → List ℕ → ℕ → Ranges → Relations
 tableOf n w k r g t l d =
     withRanges rangesPlace n w k
     (splice rootPlace (partNumbers n (r .top) l (t .root))
-    (splice partsPlace (partLines n (r .top) t l) (splice nodesPlace (nodeLines (r .count) t l) (splice relationsPlace (relationLines g l) (set (set (set d 0 n) 1 (g .count)) 2 (t .count))))))
+    (splice partsPlace (partLines n (r .top) t l) (splice nodesPlace (nodeLines (r .count) t l) (splice relationsPlace (relationLines (r .count) g l) (set (set (set d 0 n) 1 (g .count)) 2 (t .count))))))
 
 -- the table is that of every problem whose elements, members, relations, nodes and starts these are, and all its numbers are in range
 pub record Filled (n : ℕ) (members : List ℕ) (k : ℕ) (g : Relations) (t : Nodes) (l : Layout) (w : List ℕ) : Type 0 where

@@ -7,11 +7,12 @@ use native.Mathlib.Omega.{arith}
 use lib.ListN.{length, getD, take, drop, set, replicate, length-append, length-set, List·getD-eq-default}
 use lib.Seq.{getD-set-same, getD-set-other, getD-drop}
 use mathlib.Core.Bool.{Bool, true, false}
-use lib.Dec.{ltb}
-use borrow.Author.Tests.{lt-ltb}
+use lib.Dec.{ltb, T as Holds}
+use borrow.Author.Tests.{lt-ltb, le-ltb}
 use Rattle.definitions.specs.Lists.{if_then_else_, below, greatest}
+use Rattle.definitions.specs.Relations.{isFunction}
 use Rattle.definitions.specs.Tree.{Tree, Part, parts, free, nodeSort}
-use Rattle.definitions.specs.Atoms.{Problem, placesOf, nodeAt, atoms}
+use Rattle.definitions.specs.Atoms.{Problem, relationAt, placesOf, nodeAt, atoms}
 use Rattle.definitions.specs.Actions.{valuesIn, valuesAt}
 use Rattle.laws.specs.Lists.{length-below}
 use Rattle.laws.specs.Numbers.{atoms-end}
@@ -20,28 +21,29 @@ use Rattle.tree.specs.declared.PartRow.{PartRow}
 use Rattle.tree.specs.declared.NodeRow.{NodeRow}
 use Rattle.tree.specs.declared.Nodes.{Nodes}
 use Rattle.rows.specs.Values.{Most}
-use Rattle.ground.specs.Lines.{tableLength, rootPlace, rangesPlace, rangePlace, relationPlace, nodePlace, partPlace, nodesIn, relationLine, nodeLine, partLine, membersIn, rangeIn, NodeFits, RangeFits, Fits}
+use Rattle.ground.specs.Lines.{tableLength, rootPlace, rangesPlace, rangePlace, relationPlace, nodePlace, partPlace, nodesIn, relationLine, nodeLine, partLine, membersIn, rangeIn, NodeFits, SpanFits, RangeFits, PlacesFit, Fits}
 use Rattle.ground.specs.Numbers.{rowValues}
 use Rattle.ground.specs.Of.{IsPart, noPart as noTreePart, IsRelation, IsNode, Is}
+use Rattle.ground.specs.OfLaws.{function-number}
 use Rattle.ground.specs.declared.NodeLine.{NodeLine}
 use Rattle.ground.specs.declared.PartLine.{PartLine}
-use Rattle.layout.specs.Laid.{rangeBy, RangesFit, RangesAre, countAt, RelationsFit, Inputs, Starts, Small, numberLimit}
+use Rattle.layout.specs.Laid.{rangeBy, RangesFit, RangesAre, firstsAt, secondsAt, countAt, RelationsFit, Inputs, Starts, Small, numberLimit}
 use Rattle.layout.specs.SortLaws.{sort-within, part-sorted}
-use Rattle.layout.specs.StartsAre.{count-is, node-is, many-are, node-sort, count-of, in-parts}
+use Rattle.layout.specs.StartsAre.{firsts-count, seconds-count, count-is, node-is, many-are, node-sort, count-of, in-parts}
 use Rattle.layout.specs.declared.Relations.{Relations}
 use Rattle.layout.specs.declared.Ranges.{Ranges}
 use Rattle.layout.specs.declared.Layout.{Layout}
-use Rattle.layout.specs.Filled.{relationsPlace, nodesPlace, partsPlace, nodeLength, splice, tab, relationNumbers, relationEnd, rangeStart, rangeCount, nodeFrom, nodeEnd, nodeNumbers, partNumbers, relationLines, nodeLines, partLines, withRanges, tableOf, Filled}
+use Rattle.layout.specs.Filled.{relationsPlace, nodesPlace, partsPlace, relationLength, nodeLength, splice, tab, placeStart, placeCount, relationNumbers, relationEnd, rangeStart, rangeCount, nodeFrom, nodeEnd, nodeNumbers, partNumbers, relationLines, nodeLines, partLines, withRanges, tableOf, Filled}
 use Rattle.layout.specs.SpliceLaws.{ZeroFrom, length-splice, read-in, read-before, read-from, zeros-after, length-tab, tab-at, lines-at, end-at, tab-most, append-most, each-most}
 use Rattle.layout.specs.PartLaws.{length-part, lineOf, part-is}
 use Rattle.layout.specs.RangeLaws.{length-ranges, before-ranges, in-ranges, ranges-low, map-places}
 
 -- ---- lengths of lines
-pub length-relation : (g : Relations) (l : Layout) (r : ℕ) → length (relationNumbers g l r) ≡ 5
+pub length-relation : (counts : List ℕ) (g : Relations) (l : Layout) (r : ℕ) → length (relationNumbers counts g l r) ≡ relationLength
 unfolding relationNumbers
-length-relation g l r = refl
+length-relation counts g l r = refl
 
-pub length-relation-end : (l : Layout) (r : ℕ) → length (relationEnd l r) ≡ 5
+pub length-relation-end : (l : Layout) (r : ℕ) → length (relationEnd l r) ≡ relationLength
 unfolding relationEnd
 length-relation-end l r = refl
 
@@ -54,14 +56,51 @@ unfolding nodeEnd
 length-node-end l v = refl
 
 -- ---- bounds of lines
-relation-most : (g : Relations) (l : Layout) (r : ℕ) → RelationsFit g → Small l numberLimit → Most (relationNumbers g l r) (2 ^ 32)
+place-start-most : (kind sort : ℕ) → sort ≤ 8 → placeStart kind sort ≤ 2 ^ 32
+unfolding placeStart
+place-start-most kind sort h = by-test (ltb kind 2)
+  where
+    by-test : (b : Bool) → (if b then 0 else rangePlace sort) ≤ 2 ^ 32
+    by-test true = omega arith
+    by-test false = omega arith
+
+place-count-most : (count kind : ℕ) → count ≤ 64 → placeCount count kind ≤ 2 ^ 32
+unfolding placeCount
+place-count-most count kind h = by-test (ltb kind 2)
+  where
+    by-test : (b : Bool) → (if b then 0 else count) ≤ 2 ^ 32
+    by-test true = omega arith
+    by-test false = omega arith
+
+relation-most : (counts : List ℕ) (g : Relations) (l : Layout) (r : ℕ) → Most counts 64 → RelationsFit g → Small l numberLimit → Most (relationNumbers counts g l r) (2 ^ 32)
 unfolding relationNumbers
-relation-most g l r f s =
-    each-most (2 ^ 32) (relationNumbers g l r) (omega (arith, s .set r), (omega (arith, s .rel r), (omega (arith, s .neg r), (omega (arith, s .dom r), (omega (arith, f .kind r), tt)))))
+relation-most counts g l r few f s =
+    each-most (2 ^ 32) (relationNumbers counts g l r) (
+      omega (arith, s .set r),
+      (
+        omega (arith, s .rel r),
+        (
+          omega (arith, s .neg r),
+          (
+            omega (arith, s .dom r),
+            (
+              omega (arith, f .kind r),
+              (
+                place-start-most (getD (g .kind) r 0) (getD (g .firsts) r 0) (f .firsts r),
+                (
+                  place-count-most (firstsAt counts g r) (getD (g .kind) r 0) (few (getD (g .firsts) r 0)),
+                  (place-start-most (getD (g .kind) r 0) (getD (g .seconds) r 0) (f .seconds r), (place-count-most (secondsAt counts g r) (getD (g .kind) r 0) (few (getD (g .seconds) r 0)), tt)),
+                ),
+              ),
+            ),
+          ),
+        ),
+      ),
+    )
 
 relation-end-most : (l : Layout) (r : ℕ) → Small l numberLimit → Most (relationEnd l r) (2 ^ 32)
 unfolding relationEnd
-relation-end-most l r s = each-most (2 ^ 32) (relationEnd l r) (omega (arith, s .set r), (omega (arith, s .rel r), (omega arith, (omega arith, (omega arith, tt)))))
+relation-end-most l r s = each-most (2 ^ 32) (relationEnd l r) (omega (arith, s .set r), (omega (arith, s .rel r), (omega arith, (omega arith, (omega arith, (omega arith, (omega arith, (omega arith, (omega arith, tt)))))))))
 
 node-end-most : (l : Layout) (v : ℕ) → Small l numberLimit → Most (nodeEnd l v) (2 ^ 32)
 unfolding nodeEnd
@@ -135,7 +174,13 @@ zeros-at zero j = refl
 zeros-at (suc k) zero = refl
 zeros-at (suc k) (suc j) = zeros-at k j
 
--- past its first two numbers the line past the last node has zeros
+-- past its first two numbers the line past the last relation has zeros, and that past the last node
+relation-zero : (l : Layout) (r j : ℕ) → 2 ≤ j → getD (relationEnd l r) j 0 ≡ 0
+unfolding relationEnd
+relation-zero l r zero h = absurd (omega arith)
+relation-zero l r (suc zero) h = absurd (omega arith)
+relation-zero l r (suc (suc j)) h = zeros-at 7 j
+
 end-zero : (l : Layout) (v j : ℕ) → 2 ≤ j → getD (nodeEnd l v) j 0 ≡ 0
 unfolding nodeEnd
 end-zero l v zero h = absurd (omega arith)
@@ -144,7 +189,7 @@ end-zero l v (suc (suc j)) h = zeros-at 11 j
 
 module _ (n : ℕ) (ws : List ℕ) (types : ℕ) (ranges : Ranges) (g : Relations) (t : Nodes) (l : Layout) (d : List ℕ) (len : length d ≡ tableLength) (zeros : Most d 0) (ty : types ≤ 8) (fr : RangesFit n ranges) (fg : RelationsFit g) (ft : TreeFits t) (some : 0 < n) (small : n ≤ 64) where
   abbrev R : List ℕ
-  R = relationLines g l
+  R = relationLines (ranges .count) g l
 
   abbrev N : List ℕ
   N = nodeLines (ranges .count) t l
@@ -174,11 +219,11 @@ module _ (n : ℕ) (ws : List ℕ) (types : ℕ) (ranges : Ranges) (g : Relation
   T = withRanges rangesPlace n ws types T₄
 
   -- ---- lengths
-  length-R : length R ≡ 5 * g .count + 5
+  length-R : length R ≡ relationLength * g .count + relationLength
   unfolding relationLines
   length-R =
-      length-append (tab (relationNumbers g l) (g .count)) (relationEnd l (g .count))
-      ∙ ap₂ (λ (x y : ℕ). x + y) (length-tab (relationNumbers g l) 5 (length-relation g l) (g .count)) (length-relation-end l (g .count))
+      length-append (tab (relationNumbers (ranges .count) g l) (g .count)) (relationEnd l (g .count))
+      ∙ ap₂ (λ (x y : ℕ). x + y) (length-tab (relationNumbers (ranges .count) g l) relationLength (length-relation (ranges .count) g l) (g .count)) (length-relation-end l (g .count))
 
   length-N : length N ≡ nodeLength * t .count + nodeLength
   unfolding nodeLines
@@ -245,7 +290,7 @@ module _ (n : ℕ) (ws : List ℕ) (types : ℕ) (ranges : Ranges) (g : Relation
   zero-T₄ = zeros-after rootPlace Q T₃ room₄ rangesPlace (omega (arith, length-Q)) zero-T₃
 
   -- ---- what stands where
-  in-R : (j : ℕ) → j < 90 → getD T (relationsPlace + j) 0 ≡ getD R j 0
+  in-R : (j : ℕ) → j < 162 → getD T (relationsPlace + j) 0 ≡ getD R j 0
   in-R j h =
       before-ranges rangesPlace n ws small types T₄ room₅ (relationsPlace + j) (omega arith) ∙ read-before rootPlace Q T₃ room₄ (relationsPlace + j) (omega arith) ∙ read-before partsPlace P T₂ room₃ (relationsPlace + j) (omega arith) ∙ read-before nodesPlace N T₁ room₂ (relationsPlace + j) (omega arith)
       ∙ read-from relationsPlace R T₀ room₁ zero-T₀ j
@@ -285,16 +330,16 @@ module _ (n : ℕ) (ws : List ℕ) (types : ℕ) (ranges : Ranges) (g : Relation
       ∙ getD-set-same (set (set d 0 n) 1 (g .count)) 2 (t .count) 0 (omega (arith, len, length-set d 0 n, length-set (set d 0 n) 1 (g .count)))
 
   -- ---- lines
-  relation-at : (r j i : ℕ) → r < g .count → j < 5 → i ≡ relationsPlace + (5 * r + j) → getD T i 0 ≡ getD (relationNumbers g l r) j 0
+  relation-at : (r j i : ℕ) → r < g .count → j < relationLength → i ≡ relationsPlace + (relationLength * r + j) → getD T i 0 ≡ getD (relationNumbers (ranges .count) g l r) j 0
   unfolding relationLines
   relation-at r j i h k e =
-      ap (λ (x : ℕ). getD T x 0) e ∙ in-R (5 * r + j) (omega (arith, fg .count))
-      ∙ lines-at (relationNumbers g l) 5 (length-relation g l) (g .count) (relationEnd l (g .count)) r j h k
+      ap (λ (x : ℕ). getD T x 0) e ∙ in-R (relationLength * r + j) (omega (arith, fg .count))
+      ∙ lines-at (relationNumbers (ranges .count) g l) relationLength (length-relation (ranges .count) g l) (g .count) (relationEnd l (g .count)) r j h k
 
-  relation-past : (j i : ℕ) → 5 * g .count + j < 90 → i ≡ relationsPlace + (5 * g .count + j) → getD T i 0 ≡ getD (relationEnd l (g .count)) j 0
+  relation-past : (j i : ℕ) → relationLength * g .count + j < 162 → i ≡ relationsPlace + (relationLength * g .count + j) → getD T i 0 ≡ getD (relationEnd l (g .count)) j 0
   unfolding relationLines
   relation-past j i k e =
-      ap (λ (x : ℕ). getD T x 0) e ∙ in-R (5 * g .count + j) k ∙ end-at (relationNumbers g l) 5 (length-relation g l) (g .count) (relationEnd l (g .count)) j
+      ap (λ (x : ℕ). getD T x 0) e ∙ in-R (relationLength * g .count + j) k ∙ end-at (relationNumbers (ranges .count) g l) relationLength (length-relation (ranges .count) g l) (g .count) (relationEnd l (g .count)) j
 
   node-at : (v j i : ℕ) → v < t .count → j < nodeLength → i ≡ nodesPlace + (nodeLength * v + j) → getD T i 0 ≡ getD (nodeNumbers (ranges .count) t l v) j 0
   unfolding nodeLines
@@ -341,6 +386,26 @@ module _ (n : ℕ) (ws : List ℕ) (types : ℕ) (ranges : Ranges) (g : Relation
   kind-at : (r : ℕ) → r < g .count → relationLine T r .kind ≡ getD (g .kind) r 0
   unfolding relationLine relationNumbers
   kind-at r h = relation-at r 4 (relationPlace r + 4) h (omega arith) (omega arith)
+
+  -- the ranges of the two places of relation r
+  places-at : (r : ℕ) → r < g .count
+      → (relationLine T r .firsts ≡ placeStart (getD (g .kind) r 0) (getD (g .firsts) r 0)) × (relationLine T r .«first_count» ≡ placeCount (firstsAt (ranges .count) g r) (getD (g .kind) r 0))
+      × (relationLine T r .seconds ≡ placeStart (getD (g .kind) r 0) (getD (g .seconds) r 0)) × (relationLine T r .«second_count» ≡ placeCount (secondsAt (ranges .count) g r) (getD (g .kind) r 0))
+  unfolding relationLine relationNumbers
+  places-at r h = (
+    relation-at r 5 (relationPlace r + 5) h (omega arith) (omega arith),
+    relation-at r 6 (relationPlace r + 6) h (omega arith) (omega arith),
+    relation-at r 7 (relationPlace r + 7) h (omega arith) (omega arith),
+    relation-at r 8 (relationPlace r + 8) h (omega arith) (omega arith),
+  )
+
+  -- past the last relation they are empty
+  places-past : (r : ℕ) → g .count ≤ r → r < 17 → (relationLine T r .firsts ≡ 0) × (relationLine T r .«first_count» ≡ 0) × (relationLine T r .seconds ≡ 0) × (relationLine T r .«second_count» ≡ 0)
+  unfolding relationLine
+  places-past r h k = (at 5 (omega arith) (omega arith), at 6 (omega arith) (omega arith), at 7 (omega arith) (omega arith), at 8 (omega arith) (omega arith))
+    where
+      at : (j : ℕ) → 2 ≤ j → j < relationLength → getD T (relationPlace r + j) 0 ≡ 0
+      at j a b = relation-past (relationLength * (r - g .count) + j) (relationPlace r + j) (omega arith) (omega arith) ∙ relation-zero l (g .count) (relationLength * (r - g .count) + j) (omega arith)
 
   acts-at : (v : ℕ) → v ≤ t .count → nodeLine T v .acts ≡ getD (l .act) v 0
   unfolding nodeLine nodeFrom nodeEnd
@@ -427,7 +492,7 @@ module _ (n : ℕ) (ws : List ℕ) (types : ℕ) (ranges : Ranges) (g : Relation
     most-R : Most R (2 ^ 32)
     unfolding relationLines
     most-R =
-        append-most (tab (relationNumbers g l) (g .count)) (relationEnd l (g .count)) (2 ^ 32) (tab-most (relationNumbers g l) (g .count) (2 ^ 32) (λ r h. relation-most g l r fg sl)) (relation-end-most l (g .count) sl)
+        append-most (tab (relationNumbers (ranges .count) g l) (g .count)) (relationEnd l (g .count)) (2 ^ 32) (tab-most (relationNumbers (ranges .count) g l) (g .count) (2 ^ 32) (λ r h. relation-most (ranges .count) g l r (fr .count) fg sl)) (relation-end-most l (g .count) sl)
 
     most-N : Most N (2 ^ 32)
     unfolding nodeLines
@@ -482,6 +547,21 @@ module _ (n : ℕ) (ws : List ℕ) (types : ℕ) (ranges : Ranges) (g : Relation
         let e = length-below n in
         rw e at (map-places (λ i. getD T (rangesPlace + i) 0) (below n) (λ i h. let z : rangePlace 0 + i ≡ rangesPlace + i = omega arith in rw z at (in-M 0 i (omega arith) h)))
 
+    -- a range of a sort, and none
+    span-fits : (sort count : ℕ) → sort ≤ 8 → count ≤ 64 → (sort ≡ 0 → count ≡ n) → SpanFits T (rangePlace sort) count
+    span-fits sort count a b e = record {
+      inside = omega arith;
+      member = λ i h. rw size-at (low-M (rangePlace sort + i) (omega arith));
+      whole = λ z. let o : sort ≡ 0 = omega arith in rw (z, e o, size-at) whole-range;
+    }
+
+    no-span : SpanFits T 0 0
+    no-span = record { inside = omega arith; member = λ i h. absurd (omega arith); whole = λ z. absurd (omega arith) }
+
+    -- how many elements a sort has, where it is that of all
+    whole-count : (sort : ℕ) → sort ≡ 0 → getD (ranges .count) sort 0 ≡ n
+    whole-count sort e = ap (λ (s : ℕ). getD (ranges .count) s 0) e ∙ fr .whole
+
     abbrev FitsAt : NodeLine → Type 0
     FitsAt x = RangeFits T x
 
@@ -490,20 +570,48 @@ module _ (n : ℕ) (ws : List ℕ) (types : ℕ) (ranges : Ranges) (g : Relation
     kind-range act node kind sort count x a b e = by-test (ltb kind 2)
       where
         by-test : (q : Bool) → FitsAt (lineFrom act node (if q then rangePlace sort else 0) (if q then count else 0) x)
-        by-test true = record {
-          inside = omega arith;
-          member = λ i h. rw size-at (low-M (rangePlace sort + i) (omega arith));
-          whole = λ z. let o : sort ≡ 0 = omega arith in rw (z, e o, size-at) whole-range;
-        }
-        by-test false = record { inside = omega arith; member = λ i h. absurd (omega arith); whole = λ z. absurd (omega arith) }
+        by-test true = span-fits sort count a b e
+        by-test false = no-span
 
     range-fits : (v : ℕ) → v < 64 → RangeFits T (nodeLine T v)
     range-fits v h = by-place (decLt v (t .count))
       where
         by-place : Dec (v < t .count) → RangeFits T (nodeLine T v)
-        by-place (yes q) = subst (RangeFits T) (sym (line-is v q)) (kind-range _ _ (getD (t .rows) v noNode .kind) (getD (t .rows) v noNode .sort) (countAt (ranges .count) t v) (getD (t .rows) v noNode)
-            (ft .nodes .node v .sort) (fr .count (getD (t .rows) v noNode .sort)) (λ e. ap (λ (s : ℕ). getD (ranges .count) s 0) e ∙ fr .whole))
-        by-place (no q) = subst (RangeFits T) (sym (line-past v (omega arith) h)) (record { inside = omega arith; member = λ i h. absurd (omega arith); whole = λ e. absurd (omega arith) })
+        by-place (yes q) = subst (RangeFits T) (sym (line-is v q)) (kind-range (getD (l .act) v 0) (getD (l .node) v 0) (getD (t .rows) v noNode .kind) (getD (t .rows) v noNode .sort) (countAt (ranges .count) t v) (getD (t .rows) v noNode)
+            (ft .nodes .node v .sort) (fr .count (getD (t .rows) v noNode .sort)) (whole-count (getD (t .rows) v noNode .sort)))
+        by-place (no q) = subst (RangeFits T) (sym (line-past v (omega arith) h)) no-span
+
+    -- so are those of a relation's places
+    place-fits : (kind sort count : ℕ) → sort ≤ 8 → count ≤ 64 → (sort ≡ 0 → count ≡ n) → SpanFits T (placeStart kind sort) (placeCount count kind)
+    unfolding placeStart placeCount
+    place-fits kind sort count a b e = by-test (ltb kind 2)
+      where
+        by-test : (q : Bool) → SpanFits T (if q then 0 else rangePlace sort) (if q then 0 else count)
+        by-test true = no-span
+        by-test false = span-fits sort count a b e
+
+    no-place : (kind sort count : ℕ) → kind < 2 → (placeStart kind sort ≡ 0) × (placeCount count kind ≡ 0)
+    unfolding placeStart placeCount
+    no-place kind sort count h = (rw (lt-ltb kind 2 h) refl, rw (lt-ltb kind 2 h) refl)
+
+    places-fit : (r : ℕ) → r < 17 → PlacesFit T (relationLine T r)
+    places-fit r h = by-place (decLt r (g .count))
+      where
+        by-place : Dec (r < g .count) → PlacesFit T (relationLine T r)
+        by-place (yes q) =
+            let (a, x, b, y) = places-at r q in
+            record {
+              firsts = rw (a, x) (place-fits (getD (g .kind) r 0) (getD (g .firsts) r 0) (firstsAt (ranges .count) g r) (fg .firsts r) (fr .count (getD (g .firsts) r 0)) (whole-count (getD (g .firsts) r 0)));
+              seconds = rw (b, y) (place-fits (getD (g .kind) r 0) (getD (g .seconds) r 0) (secondsAt (ranges .count) g r) (fg .seconds r) (fr .count (getD (g .seconds) r 0)) (whole-count (getD (g .seconds) r 0)));
+              untyped = λ l.
+                  let k : getD (g .kind) r 0 < 2 = subst (λ (m : ℕ). m < 2) (kind-at r q) l in
+                  let u = no-place (getD (g .kind) r 0) (getD (g .firsts) r 0) (firstsAt (ranges .count) g r) k in
+                  let v = no-place (getD (g .kind) r 0) (getD (g .seconds) r 0) (secondsAt (ranges .count) g r) k in
+                  (a ∙ u .0, x ∙ u .1, b ∙ v .0, y ∙ v .1);
+            }
+        by-place (no q) =
+            let (a, x, b, y) = places-past r (omega arith) h in
+            record { firsts = rw (a, x) no-span; seconds = rw (b, y) no-span; untyped = λ _. (a, x, b, y) }
 
     fits : Fits T
     fits =
@@ -516,6 +624,7 @@ module _ (n : ℕ) (ws : List ℕ) (types : ℕ) (ranges : Ranges) (g : Relation
           entry = entry;
           node = node-fits;
           range = range-fits;
+          places = places-fit;
         }
 
 -- ---- of the problem
@@ -527,14 +636,28 @@ module _ (p : Problem) (ws : List ℕ) (types : ℕ) (ranges : Ranges) (g : Rela
   counted : t .count ≡ length (p .nodeList)
   counted = count-is p ws types g t inputs
 
-  relation-of : (r : ℕ) → r < length (p .relations) → IsRelation p r (relationLine W r)
+  -- what stands in the table as a range is the problem's
+  range-is : (σ : ℕ) → σ ≤ types → membersIn W (rangePlace σ) (length (p .range σ)) ≡ p .range σ
+  unfolding membersIn
+  range-is σ h = rw (inputs .ranges σ h) (map-places (λ i. getD W (rangePlace σ + i) 0) (rangeBy (p .size) ws σ) (λ i q. in-M (p .size) ws types ranges g t l d len zeros ty fr fg ft some small σ i h q))
+
+  place-is : (kind sort count a x : ℕ) (σ : ℕ) → 2 ≤ kind → σ ≤ types → a ≡ placeStart kind sort → x ≡ placeCount count kind → sort ≡ σ → count ≡ length (p .range σ) → membersIn W a x ≡ p .range σ
+  unfolding placeStart placeCount
+  place-is kind sort count a x σ h b e q s c = rw (e, q, le-ltb kind 2 h, s, c) (range-is σ b)
+
+  relation-of : (r : ℕ) → r < length (p .relations) → IsRelation p W r (relationLine W r)
   relation-of r h =
       let b : r < g .count = omega (arith, inputs .count) in
+      let places = places-at (p .size) ws types ranges g t l d len zeros ty fr fg ft some small r b in
+      let two : Holds (isFunction (relationAt p r .kind)) → 2 ≤ getD (g .kind) r 0 = λ f. rw (inputs .kind r b) (function-number (relationAt p r .kind) f) in
       record {
         tuples = tuples-at (p .size) ws types ranges g t l d len zeros ty fr fg ft some small r b ∙ starts .rel r (omega arith);
         nots = nots-at (p .size) ws types ranges g t l d len zeros ty fr fg ft some small r b ∙ starts .neg r h;
         free = free-at (p .size) ws types ranges g t l d len zeros ty fr fg ft some small r b ∙ starts .dom r h;
         kind = kind-at (p .size) ws types ranges g t l d len zeros ty fr fg ft some small r b ∙ inputs .kind r b;
+        pairs = inputs .pairs r b;
+        firsts = λ f. place-is (getD (g .kind) r 0) (getD (g .firsts) r 0) (firstsAt (ranges .count) g r) _ _ (relationAt p r .firsts) (two f) (inputs .placed r b .0) (places .0) (places .1) (inputs .firsts r b) (firsts-count p ws types g t inputs ranges ra r b);
+        seconds = λ f. place-is (getD (g .kind) r 0) (getD (g .seconds) r 0) (secondsAt (ranges .count) g r) _ _ (relationAt p r .seconds) (two f) (inputs .placed r b .1) (places .2) (places .3) (inputs .seconds r b) (seconds-count p ws types g t inputs ranges ra r b);
       }
 
   values-of : (v row act node range count : ℕ) (u : Tree) (x : NodeRow) (ps : List PartRow) → IsRow v u x ps → x .width ≤ 4 → rowValues (p .size) (lineFrom act node range count x) row ≡ valuesAt (p .size) u row
@@ -542,11 +665,6 @@ module _ (p : Problem) (ws : List ℕ) (types : ℕ) (ranges : Ranges) (g : Rela
   values-of v row act node range count u x ps i h =
       let a : length (take (x .width) (x .levels)) ≡ x .width = ap length (i .levels) ∙ sym (i .width) in
       ap₂ (λ (ls : List ℕ) (k : ℕ). valuesIn ls (placesOf (p .size) k row)) (four-take (x .width) (x .levels) h (taken (x .width) (x .levels) a) ∙ i .levels) (i .width)
-
-  -- what stands in the table as a range is the problem's
-  range-is : (σ : ℕ) → σ ≤ types → membersIn W (rangePlace σ) (length (p .range σ)) ≡ p .range σ
-  unfolding membersIn
-  range-is σ h = rw (inputs .ranges σ h) (map-places (λ i. getD W (rangePlace σ + i) 0) (rangeBy (p .size) ws σ) (λ i q. in-M (p .size) ws types ranges g t l d len zeros ty fr fg ft some small σ i h q))
 
   range-of : (kind act node sort count : ℕ) (x : NodeRow) (σ : ℕ) → kind < 2 → σ ≤ types → sort ≡ σ → count ≡ length (p .range σ) → rangeIn W (lineFrom act node (rangeStart kind sort) (rangeCount count kind) x) ≡ p .range σ
   unfolding rangeStart rangeCount
@@ -632,7 +750,7 @@ filled n ws types ranges g t l d w len zeros some small fg ft sl ty fr ra e nm p
 pub three-set : (d : List ℕ) (a b c : ℕ) → length (set (set (set d 0 a) 1 b) 2 c) ≡ length d
 three-set d a b c = length-set (set (set d 0 a) 1 b) 2 c ∙ length-set (set d 0 a) 1 b ∙ length-set d 0 a
 
-pub all-filled : (n : ℕ) (ws : List ℕ) (types : ℕ) (ranges : Ranges) (g : Relations) (t : Nodes) (l : Layout) (d x y z w : List ℕ) → x ≡ splice relationsPlace (relationLines g l) (set (set (set d 0 n) 1 (g .count)) 2 (t .count)) → y ≡ splice nodesPlace (nodeLines (ranges .count) t l) x
+pub all-filled : (n : ℕ) (ws : List ℕ) (types : ℕ) (ranges : Ranges) (g : Relations) (t : Nodes) (l : Layout) (d x y z w : List ℕ) → x ≡ splice relationsPlace (relationLines (ranges .count) g l) (set (set (set d 0 n) 1 (g .count)) 2 (t .count)) → y ≡ splice nodesPlace (nodeLines (ranges .count) t l) x
     → z ≡ splice rootPlace (partNumbers n (ranges .top) l (t .root)) (splice partsPlace (partLines n (ranges .top) t l) y) → w ≡ withRanges rangesPlace n ws types z → w ≡ tableOf n ws types ranges g t l d
 unfolding tableOf
 all-filled n ws types ranges g t l d x y z w a b c e =

@@ -3,10 +3,11 @@ use mathlib.Core.Path.{_≡_}
 use mathlib.Core.Bool.{false, _||_}
 use mathlib.Core.List.{List}
 use Prim.Native.Nat.{ℕ, zero, suc, _+_, _*_, _^_, _≤_, _<_}
-use lib.Dec.{ltb}
+use lib.Dec.{T, ltb}
 use lib.ListN.{length, getD}
 use Rattle.bits.specs.Table.{bit}
 use Rattle.definitions.specs.Lists.{if_then_else_, filter, below, greatest}
+use Rattle.definitions.specs.Relations.{isFunction}
 use Rattle.definitions.specs.Tree.{nodes}
 use Rattle.definitions.specs.Atoms.{Problem, relationAt, tuplesOf, relationStart, nodeStart, atoms}
 use Rattle.definitions.specs.Actions.{actions, setStart, proofStart}
@@ -26,9 +27,11 @@ use Rattle.layout.specs.declared.Made.{Made}
 unfoldable pub relationWidth : (n size kind : ℕ) → ℕ
 relationWidth n size kind = if ltb kind 2 then size + size else (if ltb kind 4 then size + size + n else size + size + n + n)
 
-unfoldable pub setWidth : (size kind : ℕ) → ℕ
-setWidth size zero = 0
-setWidth size (suc k) = size
+-- of a function kind by how many elements its places have
+unfoldable pub setWidth : (size firsts seconds kind : ℕ) → ℕ
+setWidth size firsts seconds zero = 0
+setWidth size firsts seconds (suc zero) = size
+setWidth size firsts seconds (suc (suc k)) = firsts * seconds
 
 unfoldable pub mostWidth : (n size kind : ℕ) → ℕ
 mostWidth n size zero = 0
@@ -61,20 +64,29 @@ pub record RangesFit (n : ℕ) (r : Ranges) : Type 0 where
   pub count : Most (r .count) 64
   pub top : (s : ℕ) → getD (r .top) s 0 < n
 
--- the relations fit their arrays, and no arity or kind is out of range
+-- the relations fit their arrays, and no arity, kind or sort is out of range
 pub record RelationsFit (g : Relations) : Type 0 where
   pub count : g .count ≤ 17
   pub arity : Most (g .arity) 4
   pub kind : Most (g .kind) 5
+  pub firsts : Most (g .firsts) 8
+  pub seconds : Most (g .seconds) 8
 
 -- ---- starts by the tables: the sum of the widths before
 unfoldable pub relationSum : ℕ → Relations → ℕ → ℕ
 relationSum n g zero = 3
 relationSum n g (suc r) = relationSum n g r + relationWidth n (n ^ getD (g .arity) r 0) (getD (g .kind) r 0)
 
-unfoldable pub setSum : ℕ → Relations → ℕ → ℕ
-setSum n g zero = 0
-setSum n g (suc r) = setSum n g r + setWidth (n ^ getD (g .arity) r 0) (getD (g .kind) r 0)
+-- how many elements the first and the second place of relation r have
+abbrev pub firstsAt : List ℕ → Relations → ℕ → ℕ
+firstsAt counts g r = getD counts (getD (g .firsts) r 0) 0
+
+abbrev pub secondsAt : List ℕ → Relations → ℕ → ℕ
+secondsAt counts g r = getD counts (getD (g .seconds) r 0) 0
+
+unfoldable pub setSum : ℕ → List ℕ → Relations → ℕ → ℕ
+setSum n counts g zero = 0
+setSum n counts g (suc r) = setSum n counts g r + setWidth (n ^ getD (g .arity) r 0) (firstsAt counts g r) (secondsAt counts g r) (getD (g .kind) r 0)
 
 unfoldable pub pickSum : ℕ → Relations → ℕ → ℕ
 pickSum n g zero = 0
@@ -95,14 +107,14 @@ unfoldable pub actSum : ℕ → List ℕ → Nodes → ℕ → ℕ → ℕ
 actSum n counts t from zero = from
 actSum n counts t from (suc v) = actSum n counts t from v + (n ^ getD (t .rows) v noNode .width) * choicesAt counts t v
 
-pub record RelationsLaid (n : ℕ) (g : Relations) (i : ℕ) (rel neg dom sets : List ℕ) (at set picks : ℕ) : Type 0 where
+pub record RelationsLaid (n : ℕ) (counts : List ℕ) (g : Relations) (i : ℕ) (rel neg dom sets : List ℕ) (at set picks : ℕ) : Type 0 where
   pub at-is : at ≡ relationSum n g i
-  pub set-is : set ≡ setSum n g i
+  pub set-is : set ≡ setSum n counts g i
   pub picks-are : picks ≡ pickSum n g i
   pub rel-at : (r : ℕ) → r ≤ i → getD rel r 0 ≡ relationSum n g r
   pub neg-at : (r : ℕ) → r < i → getD neg r 0 ≡ relationSum n g r + n ^ getD (g .arity) r 0
   pub dom-at : (r : ℕ) → r < i → getD dom r 0 ≡ relationSum n g r + (n ^ getD (g .arity) r 0 + n ^ getD (g .arity) r 0)
-  pub set-at : (r : ℕ) → r ≤ i → getD sets r 0 ≡ setSum n g r
+  pub set-at : (r : ℕ) → r ≤ i → getD sets r 0 ≡ setSum n counts g r
   pub rel-most : Most rel at
   pub neg-most : Most neg at
   pub dom-most : Most dom at
@@ -126,6 +138,10 @@ pub record Inputs (p : Problem) (n : ℕ) (w : List ℕ) (k : ℕ) (g : Relation
   pub count : g .count ≡ length (p .relations)
   pub arity : (r : ℕ) → r < g .count → getD (g .arity) r 0 ≡ relationAt p r .arity
   pub kind : (r : ℕ) → r < g .count → getD (g .kind) r 0 ≡ kindNumber (relationAt p r .kind)
+  pub pairs : (r : ℕ) → r < g .count → T (isFunction (relationAt p r .kind)) → relationAt p r .arity ≡ 2
+  pub firsts : (r : ℕ) → r < g .count → getD (g .firsts) r 0 ≡ relationAt p r .firsts
+  pub seconds : (r : ℕ) → r < g .count → getD (g .seconds) r 0 ≡ relationAt p r .seconds
+  pub placed : (r : ℕ) → r < g .count → (relationAt p r .firsts ≤ k) × (relationAt p r .seconds ≤ k)
   pub tree : IsTable (g .count) (p .root) t
 
 -- every start is the problem's

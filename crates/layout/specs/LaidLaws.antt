@@ -16,7 +16,7 @@ use Rattle.tree.specs.Tables.{noNode, Fits}
 use Rattle.tree.specs.declared.Nodes.{Nodes}
 use Rattle.rows.specs.Values.{Most}
 use Rattle.layout.specs.declared.Relations.{Relations}
-use Rattle.layout.specs.Laid.{relationWidth, setWidth, mostWidth, nodeWidth, choicesOf, choicesAt, RelationsFit, relationSum, setSum, pickSum, nodeSum, actSum, RelationsLaid, NodesLaid}
+use Rattle.layout.specs.Laid.{relationWidth, setWidth, firstsAt, secondsAt, mostWidth, nodeWidth, choicesOf, choicesAt, RelationsFit, relationSum, setSum, pickSum, nodeSum, actSum, RelationsLaid, NodesLaid}
 
 -- ---- powers
 pub pow-most : (n k : ℕ) → n ≤ 64 → k ≤ 4 → n ^ k ≤ 64 ^ 4
@@ -51,19 +51,26 @@ module _ (n size kind : ℕ) where
       go false true = omega arith
       go false false = omega arith
 
-pub set-none : (size kind : ℕ) → kind ≡ 0 → 0 ≡ setWidth size kind
-unfolding setWidth
-set-none size kind e = rw e refl
+module _ (size firsts seconds : ℕ) where
+  pub set-none : (kind : ℕ) → kind ≡ 0 → 0 ≡ setWidth size firsts seconds kind
+  unfolding setWidth
+  set-none kind e = rw e refl
 
-pub set-some : (size kind : ℕ) → (kind ≡ 0 → ⊥) → size ≡ setWidth size kind
-unfolding setWidth
-set-some size zero e = absurd (e refl)
-set-some size (suc k) e = refl
+  pub set-all : (kind : ℕ) → kind ≡ 1 → size ≡ setWidth size firsts seconds kind
+  unfolding setWidth
+  set-all kind e = rw e refl
 
-pub set-width-le : (size kind : ℕ) → setWidth size kind ≤ size
-unfolding setWidth
-set-width-le size zero = omega arith
-set-width-le size (suc k) = omega arith
+  pub set-pairs : (kind : ℕ) → (kind ≡ 0 → ⊥) → (kind ≡ 1 → ⊥) → firsts * seconds ≡ setWidth size firsts seconds kind
+  unfolding setWidth
+  set-pairs zero a b = absurd (a refl)
+  set-pairs (suc zero) a b = absurd (b refl)
+  set-pairs (suc (suc k)) a b = refl
+
+  pub set-width-le : (kind : ℕ) → size ≤ 64 ^ 4 → firsts ≤ 64 → seconds ≤ 64 → setWidth size firsts seconds kind ≤ 64 ^ 4
+  unfolding setWidth
+  set-width-le zero h a b = omega arith
+  set-width-le (suc zero) h a b = h
+  set-width-le (suc (suc k)) h a b = omega (arith, mul-le-mul {n₁ = firsts} {n₂ = 64} a b)
 
 module _ (n size : ℕ) where
   pub most-none : (kind : ℕ) → kind ≡ 0 → 0 ≡ mostWidth n size kind
@@ -161,9 +168,9 @@ module _ (n : ℕ) (g : Relations) (small : n ≤ 64) (sizes : RelationsFit g) w
   unfolding relationSum
   rel-suc i = refl
 
-  set-suc : (i : ℕ) → setSum n g (suc i) ≡ setSum n g i + setWidth (n ^ getD (g .arity) i 0) (getD (g .kind) i 0)
+  set-suc : (counts : List ℕ) (i : ℕ) → setSum n counts g (suc i) ≡ setSum n counts g i + setWidth (n ^ getD (g .arity) i 0) (firstsAt counts g i) (secondsAt counts g i) (getD (g .kind) i 0)
   unfolding setSum
-  set-suc i = refl
+  set-suc counts i = refl
 
   pub rel-bound : (i : ℕ) → relationSum n g i ≤ 3 + i * (2 * 64 ^ 4 + 128)
   unfolding relationSum
@@ -172,10 +179,12 @@ module _ (n : ℕ) (g : Relations) (small : n ≤ 64) (sizes : RelationsFit g) w
       let q = width-le n (n ^ getD (g .arity) i 0) (getD (g .kind) i 0) small (pow-most n (getD (g .arity) i 0) small (sizes .arity i)) in
       omega (arith, rel-bound i, q .1)
 
-  pub set-bound : (i : ℕ) → setSum n g i ≤ i * 64 ^ 4
+  pub set-bound : (counts : List ℕ) → Most counts 64 → (i : ℕ) → setSum n counts g i ≤ i * 64 ^ 4
   unfolding setSum
-  set-bound zero = omega arith
-  set-bound (suc i) = omega (arith, set-bound i, set-width-le (n ^ getD (g .arity) i 0) (getD (g .kind) i 0), pow-most n (getD (g .arity) i 0) small (sizes .arity i))
+  set-bound counts few zero = omega arith
+  set-bound counts few (suc i) =
+      let q = set-width-le (n ^ getD (g .arity) i 0) (firstsAt counts g i) (secondsAt counts g i) (getD (g .kind) i 0) (pow-most n (getD (g .arity) i 0) small (sizes .arity i)) (few (getD (g .firsts) i 0)) (few (getD (g .seconds) i 0)) in
+      omega (arith, set-bound counts few i, q)
 
   pick-suc : (i : ℕ) → pickSum n g (suc i) ≡ pickSum n g i + mostWidth n (n ^ getD (g .arity) i 0) (getD (g .kind) i 0)
   unfolding pickSum
@@ -186,22 +195,22 @@ module _ (n : ℕ) (g : Relations) (small : n ≤ 64) (sizes : RelationsFit g) w
   pick-bound zero = omega arith
   pick-bound (suc i) = omega (arith, pick-bound i, most-width-le n (n ^ getD (g .arity) i 0) (getD (g .kind) i 0) small (pow-most n (getD (g .arity) i 0) small (sizes .arity i)))
 
-  pub rels-next : (i : ℕ) (rel neg dom sets : List ℕ) (at st pk size w u m : ℕ) → i < 17 → length rel ≡ 18 → length neg ≡ 17 → length dom ≡ 17 → length sets ≡ 18
-      → size ≡ n ^ getD (g .arity) i 0 → w ≡ relationWidth n size (getD (g .kind) i 0) → u ≡ setWidth size (getD (g .kind) i 0) → m ≡ mostWidth n size (getD (g .kind) i 0)
-      → RelationsLaid n g i rel neg dom sets at st pk
-      → RelationsLaid n g (i + 1) (set rel (i + 1) (at + w)) (set neg i (at + size)) (set dom i (at + (size + size))) (set sets (i + 1) (st + u)) (at + w) (st + u) (pk + m)
-  rels-next i rel neg dom sets at st pk size w u m h l₁ l₂ l₃ l₄ e ew eu em L =
+  pub rels-next : (counts : List ℕ) (i : ℕ) (rel neg dom sets : List ℕ) (at st pk size w u m : ℕ) → i < 17 → length rel ≡ 18 → length neg ≡ 17 → length dom ≡ 17 → length sets ≡ 18
+      → size ≡ n ^ getD (g .arity) i 0 → w ≡ relationWidth n size (getD (g .kind) i 0) → u ≡ setWidth size (firstsAt counts g i) (secondsAt counts g i) (getD (g .kind) i 0) → m ≡ mostWidth n size (getD (g .kind) i 0)
+      → RelationsLaid n counts g i rel neg dom sets at st pk
+      → RelationsLaid n counts g (i + 1) (set rel (i + 1) (at + w)) (set neg i (at + size)) (set dom i (at + (size + size))) (set sets (i + 1) (st + u)) (at + w) (st + u) (pk + m)
+  rels-next counts i rel neg dom sets at st pk size w u m h l₁ l₂ l₃ l₄ e ew eu em L =
       let q = width-le n size (getD (g .kind) i 0) small (rw e (pow-most n (getD (g .arity) i 0) small (sizes .arity i))) in
       let a : at + w ≡ relationSum n g (suc i) = ap₂ (λ (x y : ℕ). x + y) (L .at-is) (ew ∙ ap (λ (x : ℕ). relationWidth n x (getD (g .kind) i 0)) e) ∙ sym (rel-suc i) in
-      let b : st + u ≡ setSum n g (suc i) = ap₂ (λ (x y : ℕ). x + y) (L .set-is) (eu ∙ ap (λ (x : ℕ). setWidth x (getD (g .kind) i 0)) e) ∙ sym (set-suc i) in
+      let b : st + u ≡ setSum n counts g (suc i) = ap₂ (λ (x y : ℕ). x + y) (L .set-is) (eu ∙ ap (λ (x : ℕ). setWidth x (firstsAt counts g i) (secondsAt counts g i) (getD (g .kind) i 0)) e) ∙ sym (set-suc counts i) in
       record {
         at-is = a ∙ ap (relationSum n g) (sym (add-one i));
-        set-is = b ∙ ap (setSum n g) (sym (add-one i));
+        set-is = b ∙ ap (setSum n counts g) (sym (add-one i));
         picks-are = ap₂ (λ (x y : ℕ). x + y) (L .picks-are) (em ∙ ap (λ (x : ℕ). mostWidth n x (getD (g .kind) i 0)) e) ∙ sym (pick-suc i) ∙ ap (pickSum n g) (sym (add-one i));
         rel-at = entry-le rel (relationSum n g) i (at + w) (omega arith) a (L .rel-at);
         neg-at = entry-lt neg (λ (r : ℕ). relationSum n g r + n ^ getD (g .arity) r 0) i (at + size) (omega arith) (ap₂ (λ (x y : ℕ). x + y) (L .at-is) e) (L .neg-at);
         dom-at = entry-lt dom (λ (r : ℕ). relationSum n g r + (n ^ getD (g .arity) r 0 + n ^ getD (g .arity) r 0)) i (at + (size + size)) (omega arith) (ap₂ (λ (x y : ℕ). x + (y + y)) (L .at-is) e) (L .dom-at);
-        set-at = entry-le sets (setSum n g) i (st + u) (omega arith) b (L .set-at);
+        set-at = entry-le sets (setSum n counts g) i (st + u) (omega arith) b (L .set-at);
         rel-most = most-set rel (i + 1) (at + w) at (at + w) (omega arith) (omega arith) (L .rel-most);
         neg-most = most-set neg i (at + size) at (at + w) (omega (arith, q .0, ew)) (omega arith) (L .neg-most);
         dom-most = most-set dom i (at + (size + size)) at (at + w) (omega (arith, q .0, ew)) (omega arith) (L .dom-most);
@@ -216,9 +225,9 @@ most-zeros (suc k) b (suc r) = most-zeros k b r
 zero-le : (a : List ℕ) (f : ℕ → ℕ) (x : ℕ) → getD a 0 0 ≡ x → x ≡ f 0 → (r : ℕ) → r ≤ 0 → getD a r 0 ≡ f r
 zero-le a f x e q r h = let z : r ≡ 0 = omega arith in rw z (e ∙ q)
 
-pub rels-first : (n : ℕ) (g : Relations) → RelationsLaid n g 0 (set (replicate 18 0) 0 3) (replicate 17 0) (replicate 17 0) (replicate 18 0) 3 0 0
+pub rels-first : (n : ℕ) (counts : List ℕ) (g : Relations) → RelationsLaid n counts g 0 (set (replicate 18 0) 0 3) (replicate 17 0) (replicate 17 0) (replicate 18 0) 3 0 0
 unfolding relationSum setSum pickSum
-rels-first n g =
+rels-first n counts g =
     record {
       at-is = refl;
       set-is = refl;
@@ -226,7 +235,7 @@ rels-first n g =
       rel-at = zero-le (set (replicate 18 0) 0 3) (relationSum n g) 3 refl refl;
       neg-at = λ r h. absurd (omega arith);
       dom-at = λ r h. absurd (omega arith);
-      set-at = zero-le (replicate 18 0) (setSum n g) 0 refl refl;
+      set-at = zero-le (replicate 18 0) (setSum n counts g) 0 refl refl;
       rel-most = most-set (replicate 18 0) 0 3 3 3 (omega arith) (omega arith) (most-zeros 18 3);
       neg-most = most-zeros 17 3;
       dom-most = most-zeros 17 3;

@@ -16,7 +16,8 @@ use Rattle.definitions.specs.Atoms.{Problem, relationAt, nodeAt, relationStart,
 use Rattle.definitions.specs.Actions.{choices, setsOf, proofsOf, setStart, proofStart, actions}
 use Rattle.definitions.specs.Built.{mostPicks, bound}
 use Rattle.laws.specs.Sorts.{Sorted}
-use Rattle.laws.specs.Numbers.{noRelation, sets-all, relationWidth as widthIn, relation-first, relation-next, set-first, set-next, node-first, node-next, proof-first, proof-next, atoms-end, node-atoms, actions-end}
+use Rattle.laws.specs.SetRows.{sets-all}
+use Rattle.laws.specs.Numbers.{noRelation, relationWidth as widthIn, relation-first, relation-next, set-first, set-next, node-first, node-next, proof-first, proof-next, atoms-end, node-atoms, actions-end}
 use Rattle.tree.specs.Tables.{nodeKind, headIn, headOf, IsNode, noNode, Fits}
 use Rattle.tree.specs.declared.PartRow.{PartRow}
 use Rattle.tree.specs.declared.NodeRow.{NodeRow}
@@ -25,7 +26,7 @@ use Rattle.ground.specs.Of.{kindNumber}
 use Rattle.ground.specs.OfLaws.{parts-length}
 use Rattle.layout.specs.declared.Relations.{Relations}
 use Rattle.layout.specs.declared.Ranges.{Ranges}
-use Rattle.layout.specs.Laid.{relationWidth, setWidth, mostWidth, nodeWidth, choicesOf, RangesAre, countAt, choicesAt, relationSum, setSum, pickSum, nodeSum, actSum, RelationsLaid, NodesLaid, Inputs, Laid, numberLimit}
+use Rattle.layout.specs.Laid.{relationWidth, setWidth, firstsAt, secondsAt, mostWidth, nodeWidth, choicesOf, RangesAre, countAt, choicesAt, relationSum, setSum, pickSum, nodeSum, actSum, RelationsLaid, NodesLaid, Inputs, Laid, numberLimit}
 use Rattle.layout.specs.SortLaws.{sort-within, node-sorted}
 
 -- ---- by the kind
@@ -38,14 +39,14 @@ width-is n T PFun = omega arith
 width-is n T Inj = omega arith
 width-is n T PInj = omega arith
 
-sets-are : (T : ℕ) (k : Kind) → setWidth T (kindNumber k) ≡ (if isChosen k then T else 0)
-unfolding setWidth kindNumber isChosen
-sets-are T static = refl
-sets-are T plain = refl
-sets-are T Fun = refl
-sets-are T PFun = refl
-sets-are T Inj = refl
-sets-are T PInj = refl
+sets-are : (T a b : ℕ) (k : Kind) → setWidth T a b (kindNumber k) ≡ (if isFunction k then a * b else if isChosen k then T else 0)
+unfolding setWidth kindNumber isFunction isChosen
+sets-are T a b static = refl
+sets-are T a b plain = refl
+sets-are T a b Fun = refl
+sets-are T a b PFun = refl
+sets-are T a b Inj = refl
+sets-are T a b PInj = refl
 
 picks-are : (n T : ℕ) (k : Kind) → mostWidth n T (kindNumber k) ≡ (if isFunction k then n else (if isChosen k then T else 0))
 unfolding mostWidth kindNumber isFunction isChosen
@@ -92,9 +93,28 @@ module _ (p : Problem) (ws : List ℕ) (k : ℕ) (g : Relations) (t : Nodes) (is
   unfolding widthIn tuplesOf
   relation-width r h = ap₂ (λ (a k : ℕ). relationWidth (p .size) (p .size ^ a) k) (is .arity r h) (is .kind r h) ∙ width-is (p .size) (p .size ^ relationAt p r .arity) (relationAt p r .kind)
 
-  set-width : (r : ℕ) → r < g .count → setWidth (p .size ^ getD (g .arity) r 0) (getD (g .kind) r 0) ≡ setsOf (p .size) (p .range) (relationAt p r)
-  unfolding tuplesOf
-  set-width r h = ap₂ (λ (a k : ℕ). setWidth (p .size ^ a) k) (is .arity r h) (is .kind r h) ∙ sets-are (p .size ^ relationAt p r .arity) (relationAt p r .kind) ∙ sym (sets-all (p .size) (p .range) (relationAt p r))
+  module _ (ranges : Ranges) (ra : RangesAre (p .size) ws k ranges) where
+    -- a sort has as many elements as its range
+    pub sort-count : (s : ℕ) → s ≤ k → getD (ranges .count) s 0 ≡ length (p .range s)
+    sort-count s b = ra .count s b ∙ ap length (sym (is .ranges s b))
+
+    pub firsts-count : (r : ℕ) → r < g .count → firstsAt (ranges .count) g r ≡ length (p .range (relationAt p r .firsts))
+    firsts-count r h = ap (λ (s : ℕ). getD (ranges .count) s 0) (is .firsts r h) ∙ sort-count (relationAt p r .firsts) (is .placed r h .0)
+
+    pub seconds-count : (r : ℕ) → r < g .count → secondsAt (ranges .count) g r ≡ length (p .range (relationAt p r .seconds))
+    seconds-count r h = ap (λ (s : ℕ). getD (ranges .count) s 0) (is .seconds r h) ∙ sort-count (relationAt p r .seconds) (is .placed r h .1)
+
+    set-width : (r : ℕ) → r < g .count → setWidth (p .size ^ getD (g .arity) r 0) (firstsAt (ranges .count) g r) (secondsAt (ranges .count) g r) (getD (g .kind) r 0) ≡ setsOf (p .size) (p .range) (relationAt p r)
+    unfolding tuplesOf
+    set-width r h =
+        ap₂ (λ (a k : ℕ). setWidth (p .size ^ a) (firstsAt (ranges .count) g r) (secondsAt (ranges .count) g r) k) (is .arity r h) (is .kind r h)
+        ∙ ap₂ (λ (x y : ℕ). setWidth (p .size ^ relationAt p r .arity) x y (kindNumber (relationAt p r .kind))) (firsts-count r h) (seconds-count r h)
+        ∙ sets-are (p .size ^ relationAt p r .arity) (length (p .range (relationAt p r .firsts))) (length (p .range (relationAt p r .seconds))) (relationAt p r .kind) ∙ sym (sets-all (p .size) (p .range) (relationAt p r) (is .ranged) (is .pairs r h))
+
+    pub set-are : (r : ℕ) → r ≤ g .count → setSum (p .size) (ranges .count) g r ≡ setStart p r
+    unfolding setSum
+    set-are zero h = sym (set-first p)
+    set-are (suc r) h = ap₂ (λ (x y : ℕ). x + y) (set-are r (omega arith)) (set-width r h) ∙ sym (set-next p r (omega (arith, is .count)))
 
   pick-width : (r : ℕ) → r < g .count → mostWidth (p .size) (p .size ^ getD (g .arity) r 0) (getD (g .kind) r 0) ≡ mostPicks (p .size) (getD (p .relations) r noRelation)
   unfolding mostPicks tuplesOf relationAt
@@ -108,11 +128,6 @@ module _ (p : Problem) (ws : List ℕ) (k : ℕ) (g : Relations) (t : Nodes) (is
   unfolding relationSum
   rel-are zero h = sym (relation-first p)
   rel-are (suc r) h = ap₂ (λ (x y : ℕ). x + y) (rel-are r (omega arith)) (relation-width r h) ∙ sym (relation-next p r (omega (arith, is .count)))
-
-  pub set-are : (r : ℕ) → r ≤ g .count → setSum (p .size) g r ≡ setStart p r
-  unfolding setSum
-  set-are zero h = sym (set-first p)
-  set-are (suc r) h = ap₂ (λ (x y : ℕ). x + y) (set-are r (omega arith)) (set-width r h) ∙ sym (set-next p r (omega (arith, is .count)))
 
   pub pick-are : (r : ℕ) → r ≤ g .count → pickSum (p .size) g r ≡ sum (map (mostPicks (p .size)) (take r (p .relations)))
   unfolding pickSum
@@ -142,7 +157,7 @@ module _ (p : Problem) (ws : List ℕ) (k : ℕ) (g : Relations) (t : Nodes) (is
   pub count-of : (ranges : Ranges) → RangesAre (p .size) ws k ranges → (v : ℕ) → v < t .count → countAt (ranges .count) t v ≡ length (p .range (nodeSort (nodeAt p v)))
   count-of ranges r v h =
       let b = sort-within k (nodeAt p v) (node-sort v h) in
-      ap (λ (s : ℕ). getD (ranges .count) s 0) (node-is v h .sort) ∙ r .count (nodeSort (nodeAt p v)) b ∙ ap length (sym (is .ranges (nodeSort (nodeAt p v)) b))
+      ap (λ (s : ℕ). getD (ranges .count) s 0) (node-is v h .sort) ∙ sort-count ranges r (nodeSort (nodeAt p v)) b
 
   module _ (fits : Fits t) where
     pub in-parts : (v : ℕ) → getD (t .rows) v noNode .first + getD (t .rows) v noNode .many ≤ length (t .parts)
@@ -183,12 +198,12 @@ neither a b x y e = go (decLt a x) (decLt b y)
 
 -- ---- a layout is the problem's
 module _ (p : Problem) (ws : List ℕ) (k : ℕ) (ranges : Ranges) (g : Relations) (t : Nodes) (ra : RangesAre (p .size) ws k ranges) (is : Inputs p (p .size) ws k g t) (fits : Fits t) (rel neg dom sets node act : List ℕ) (at st picks end acts : ℕ)
-    (L : RelationsLaid (p .size) g (g .count) rel neg dom sets at st picks) (N : NodesLaid (p .size) (ranges .count) t at (st + 1) (t .count) node act end acts) where
+    (L : RelationsLaid (p .size) (ranges .count) g (g .count) rel neg dom sets at st picks) (N : NodesLaid (p .size) (ranges .count) t at (st + 1) (t .count) node act end acts) where
   at-is : at ≡ relationStart p (length (p .relations))
   at-is = L .at-is ∙ rel-are p ws k g t is (g .count) (omega arith) ∙ ap (relationStart p) (is .count)
 
   st-is : st + 1 ≡ setStart p (length (p .relations)) + 1
-  st-is = ap (λ (x : ℕ). x + 1) (L .set-is ∙ set-are p ws k g t is (g .count) (omega arith) ∙ ap (setStart p) (is .count))
+  st-is = ap (λ (x : ℕ). x + 1) (L .set-is ∙ set-are p ws k g t is ranges ra (g .count) (omega arith) ∙ ap (setStart p) (is .count))
 
   node-at : (v : ℕ) → v ≤ t .count → getD node v 0 ≡ nodeStart p v
   node-at v h = N .node-at v h ∙ ap (λ (x : ℕ). nodeSum (p .size) t x v) at-is ∙ node-are p ws k g t is v h
@@ -233,7 +248,7 @@ module _ (p : Problem) (ws : List ℕ) (k : ℕ) (ranges : Ranges) (g : Relation
               let q = tuples-are p ws k g t is r (omega (arith, is .count)) in
               let w = L .dom-at r (omega (arith, is .count)) in
               omega arith;
-          set = λ r h. L .set-at r (omega (arith, is .count)) ∙ set-are p ws k g t is r (omega (arith, is .count));
+          set = λ r h. L .set-at r (omega (arith, is .count)) ∙ set-are p ws k g t is ranges ra r (omega (arith, is .count));
           node = λ v h. node-at v (omega (arith, count-is p ws k g t is));
           act = λ v h. act-at v (omega (arith, count-is p ws k g t is));
         };
@@ -254,11 +269,11 @@ module _ (p : Problem) (ws : List ℕ) (k : ℕ) (ranges : Ranges) (g : Relation
       }
 
 pub laid : (n : ℕ) (p : Problem) (ws : List ℕ) (k : ℕ) (ranges : Ranges) (g : Relations) (t : Nodes) → RangesAre n ws k ranges → Inputs p n ws k g t → Fits t → (rel neg dom sets node act : List ℕ) (at st picks end acts : ℕ) (over : Bool)
-    → RelationsLaid n g (g .count) rel neg dom sets at st picks → NodesLaid n (ranges .count) t at (st + 1) (t .count) node act end acts → (a b : ℕ) → a ≤ numberLimit → b ≤ numberLimit → over ≡ (ltb a end || ltb b (acts + 1))
+    → RelationsLaid n (ranges .count) g (g .count) rel neg dom sets at st picks → NodesLaid n (ranges .count) t at (st + 1) (t .count) node act end acts → (a b : ℕ) → a ≤ numberLimit → b ≤ numberLimit → over ≡ (ltb a end || ltb b (acts + 1))
     → Laid a b p (record { over = over; atoms = end; actions = acts + 1; bound = picks + (end - at) + 2; layout = record { rel = rel; neg = neg; dom = dom; set = sets; node = node; act = act } })
 laid n p ws k ranges g t r is f rel neg dom sets node act at st picks end acts over L N a b fa fb o =
     laid-at p ws k ranges g t (subst (λ (m : ℕ). RangesAre m ws k ranges) (is .size) r) (subst (λ (m : ℕ). Inputs p m ws k g t) (is .size) is) f rel neg dom sets node act at st picks end acts
-    (subst (λ (m : ℕ). RelationsLaid m g (g .count) rel neg dom sets at st picks) (is .size) L) (subst (λ (m : ℕ). NodesLaid m (ranges .count) t at (st + 1) (t .count) node act end acts) (is .size) N) a b fa fb over o
+    (subst (λ (m : ℕ). RelationsLaid m (ranges .count) g (g .count) rel neg dom sets at st picks) (is .size) L) (subst (λ (m : ℕ). NodesLaid m (ranges .count) t at (st + 1) (t .count) node act end acts) (is .size) N) a b fa fb over o
 
 -- the nodes' starts begin with the first
 pub nodes-low : (n : ℕ) (counts : List ℕ) (from first v : ℕ) (t : Nodes) (node act : List ℕ) (at acts : ℕ) → NodesLaid n counts t from first v node act at acts → from ≤ at

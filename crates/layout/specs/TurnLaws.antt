@@ -16,23 +16,27 @@ use Rattle.rows.specs.Values.{Most}
 use Rattle.ground.specs.Lines.{tableLength, rootPlace, relationPlace, nodePlace, partPlace}
 use Rattle.layout.specs.declared.Relations.{Relations}
 use Rattle.layout.specs.declared.Layout.{Layout}
-use Rattle.layout.specs.Filled.{relationsPlace, nodesPlace, partsPlace, nodeLength, splice, tab, relationNumbers, relationEnd, rangeStart, rangeCount, nodeFrom, nodeEnd, nodeNumbers, numbersIn, partNumbers, relationLines, nodeLines, partLines}
+use Rattle.layout.specs.Filled.{relationsPlace, nodesPlace, partsPlace, relationLength, nodeLength, splice, tab, placeStart, placeCount, relationNumbers, relationEnd, rangeStart, rangeCount, nodeFrom, nodeEnd, nodeNumbers, numbersIn, partNumbers, relationLines, nodeLines, partLines}
 use Rattle.layout.specs.SpliceLaws.{splice-all, tab-next, tab-end, each-most}
 use Rattle.layout.specs.PartLaws.{length-part}
 use Rattle.layout.specs.FilledLaws.{length-relation, length-relation-end, length-node, length-node-end}
-use Rattle.layout.specs.Laid.{numberLimit}
+use Rattle.layout.specs.Laid.{firstsAt, secondsAt, numberLimit}
 
-module _ (g : Relations) (l : Layout) (w d z : List ℕ) (len : length d ≡ tableLength) where
-  pub relation-turn : (r : ℕ) → r < 17 → w ≡ splice relationsPlace (tab (relationNumbers g l) r) d
-      → z ≡ splice (relationPlace r) (getD (l .set) r 0 ∷ getD (l .rel) r 0 ∷ getD (l .neg) r 0 ∷ getD (l .dom) r 0 ∷ getD (g .kind) r 0 ∷ []) w → z ≡ splice relationsPlace (tab (relationNumbers g l) (r + 1)) d
+module _ (counts : List ℕ) (g : Relations) (l : Layout) (w d z : List ℕ) (len : length d ≡ tableLength) where
+  pub relation-turn : (r a x b y : ℕ) → r < 17 → a ≡ placeStart (getD (g .kind) r 0) (getD (g .firsts) r 0) → x ≡ placeCount (firstsAt counts g r) (getD (g .kind) r 0)
+      → b ≡ placeStart (getD (g .kind) r 0) (getD (g .seconds) r 0) → y ≡ placeCount (secondsAt counts g r) (getD (g .kind) r 0) → w ≡ splice relationsPlace (tab (relationNumbers counts g l) r) d
+      → z ≡ splice (relationPlace r) (getD (l .set) r 0 ∷ getD (l .rel) r 0 ∷ getD (l .neg) r 0 ∷ getD (l .dom) r 0 ∷ getD (g .kind) r 0 ∷ a ∷ x ∷ b ∷ y ∷ []) w
+      → z ≡ splice relationsPlace (tab (relationNumbers counts g l) (r + 1)) d
   unfolding relationNumbers
-  relation-turn r h e q = tab-next (relationNumbers g l) 5 (length-relation g l) relationsPlace r (relationNumbers g l r) w d z (omega arith) refl e q
+  relation-turn r a x b y h ea ex eb ey e q =
+      tab-next (relationNumbers counts g l) relationLength (length-relation counts g l) relationsPlace r (relationNumbers counts g l r) w d z (omega arith) refl e (rw (ea, ex, eb, ey) at q)
 
-  pub relation-last : (r : ℕ) → r ≤ 17 → r ≡ g .count → w ≡ splice relationsPlace (tab (relationNumbers g l) r) d → z ≡ splice (relationPlace r) (getD (l .set) r 0 ∷ getD (l .rel) r 0 ∷ 0 ∷ 0 ∷ 0 ∷ []) w → z ≡ splice relationsPlace (relationLines g l) d
+  pub relation-last : (r : ℕ) → r ≤ 17 → r ≡ g .count → w ≡ splice relationsPlace (tab (relationNumbers counts g l) r) d
+      → z ≡ splice (relationPlace r) (getD (l .set) r 0 ∷ getD (l .rel) r 0 ∷ 0 ∷ 0 ∷ 0 ∷ 0 ∷ 0 ∷ 0 ∷ 0 ∷ []) w → z ≡ splice relationsPlace (relationLines counts g l) d
   unfolding relationLines relationEnd
   relation-last r b h e q =
-      q ∙ tab-end (relationNumbers g l) 5 (length-relation g l) relationsPlace r (relationEnd l r) w d (omega (arith, length-relation-end l r)) e
-      ∙ ap (λ (k : ℕ). splice relationsPlace (tab (relationNumbers g l) k ++ relationEnd l k) d) h
+      q ∙ tab-end (relationNumbers counts g l) relationLength (length-relation counts g l) relationsPlace r (relationEnd l r) w d (omega (arith, length-relation-end l r)) e
+      ∙ ap (λ (k : ℕ). splice relationsPlace (tab (relationNumbers counts g l) k ++ relationEnd l k) d) h
 
 module _ (counts : List ℕ) (t : Nodes) (l : Layout) (w d z : List ℕ) (len : length d ≡ tableLength) where
   pub node-turn : (v : ℕ) (line : List ℕ) → v < 64 → line ≡ nodeNumbers counts t l v → w ≡ splice nodesPlace (tab (nodeNumbers counts t l) v) d → z ≡ splice (nodePlace v) line w → z ≡ splice nodesPlace (tab (nodeNumbers counts t l) (v + 1)) d

@@ -11,7 +11,7 @@ ghost use lib.ListN.{getD, length};
 ghost use Rattle.rows.specs.Values.{Most};
 ghost use Rattle.ground.specs.Lines.{tableLength, rootPlace};
 ghost use Rattle.definitions.specs.Lists.{below, greatest};
-ghost use Rattle.layout.specs.Filled.{relationsPlace, nodesPlace, partsPlace, rangeStart, rangeCount, splice, nodeFrom, nodeNumbers, startIn, numbersFrom, partNumbers, relationLines, nodeLines, partLines, withRanges, tableOf, Filled};
+ghost use Rattle.layout.specs.Filled.{relationsPlace, nodesPlace, partsPlace, rangeStart, rangeCount, placeStart, placeCount, splice, nodeFrom, nodeNumbers, startIn, numbersFrom, partNumbers, relationLines, nodeLines, partLines, withRanges, tableOf, Filled};
 use tree::NodeRow;
 use tree::Nodes;
 use tree::PartRow;
@@ -21,11 +21,14 @@ pub const RELATIONS: usize = 17;
 
 pub const NODES: usize = tree::NODES;
 
-// The relations by number: arity and kind (0 static, 1 plain, 2 Fun, 3 PFun, 4 Inj, 5 PInj) of each.
+// The relations by number: arity and kind (0 static, 1 plain, 2 Fun, 3 PFun, 4 Inj, 5 PInj) of each, and the sorts of its first and
+// of its second place (0, all elements, unless it is of a function kind with types).
 pub struct Relations {
     pub count: usize,
     pub arity: [usize; RELATIONS],
     pub kind: [usize; RELATIONS],
+    pub firsts: [usize; RELATIONS],
+    pub seconds: [usize; RELATIONS],
 }
 
 // The most sorts of a variable: all elements, and the members of 8 types.
@@ -96,14 +99,18 @@ pub fn relation_width(n: usize, size: usize, kind: usize) -> usize
     size + size + n + n
 }
 
-// How many set actions it has.
-pub fn set_width(size: usize, kind: usize) -> usize
-    ensures { λ r. ⌜ r ≡ setWidth size kind ⌝ }
+// How many set actions it has, where its two places have `firsts` and `seconds` elements.
+pub fn set_width(size: usize, firsts: usize, seconds: usize, kind: usize) -> usize
+    requires { ⌜ (firsts ≤ 64) × (seconds ≤ 64) ⌝ }
+    ensures { λ r. ⌜ r ≡ setWidth size firsts seconds kind ⌝ }
 {
     if kind == 0 {
         return 0;
     }
-    size
+    if kind == 1 {
+        return size;
+    }
+    firsts * seconds
 }
 
 // How many picks of it there are at the most.
@@ -181,9 +188,9 @@ pub fn ranges_of(n: usize, types: usize, members: &[u64]) -> Ranges
     Ranges { count, top }
 }
 
-fn relation_starts(n: usize, g: Relations) -> RelationStarts
-    requires { ⌜ (0 < n) × (n ≤ 64) × RelationsFit g ⌝ }
-    ensures { λ r. ⌜ RelationsLaid n g (g .count) (r .rel) (r .neg) (r .dom) (r .set) (r .at) (r .sets) (r .picks) ⌝ }
+fn relation_starts(n: usize, ranges: Ranges, g: Relations) -> RelationStarts
+    requires { ⌜ (0 < n) × (n ≤ 64) × RelationsFit g × RangesFit n ranges ⌝ }
+    ensures { λ r. ⌜ RelationsLaid n (ranges .count) g (g .count) (r .rel) (r .neg) (r .dom) (r .set) (r .at) (r .sets) (r .picks) ⌝ }
 {
     let mut rel = [0usize; RELATIONS + 1];
     let mut neg = [0usize; RELATIONS];
@@ -200,7 +207,9 @@ fn relation_starts(n: usize, g: Relations) -> RelationStarts
         neg[i] = at + size;
         dom[i] = at + (size + size);
         at = at + relation_width(n, size, kind);
-        sets = sets + set_width(size, kind);
+        let firsts = ranges.count[g.firsts[i]];
+        let seconds = ranges.count[g.seconds[i]];
+        sets = sets + set_width(size, firsts, seconds, kind);
         picks = picks + most_width(n, size, kind);
         i += 1;
         rel[i] = at;
@@ -269,7 +278,7 @@ pub fn lay_out(
     requires { ⌜ (0 < n) × (n ≤ 64) × RelationsFit g × Fits t × («most_atoms» ≤ numberLimit) × («most_actions» ≤ numberLimit) × RangesFit n ranges ⌝ }
     ensures { λ r. ⌜ ((p : Problem) (w : List ℕ) (k : ℕ) → RangesAre n w k ranges → Inputs p n w k g t → Laid «most_atoms» «most_actions» p r) ⌝ }
 {
-    let r = relation_starts(n, g);
+    let r = relation_starts(n, ranges, g);
     let first = r.sets + 1;
     let s = node_starts(n, ranges, t, r.at, first);
     let atoms = s.at;
@@ -311,14 +320,50 @@ pub fn store(table: &mut [usize], at: usize, line: &[usize])
     }
 }
 
+// Where the range of a place of a relation of that kind starts, and how many of the elements of its sort it has: only a function kind
+// has any.
+fn place_start(kind: usize, sort: usize) -> usize
+    requires { ⌜ sort ≤ 8 ⌝ }
+    ensures { λ r. ⌜ r ≡ placeStart kind sort ⌝ }
+{
+    if kind < 2 {
+        return 0;
+    }
+    ground::RANGE_AT + ground::RANGE_LINE * sort
+}
+
+fn place_count(count: usize, kind: usize) -> usize
+    ensures { λ r. ⌜ r ≡ placeCount count kind ⌝ }
+{
+    if kind < 2 {
+        return 0;
+    }
+    count
+}
+
 // The lines of the relations, and the line past the last.
-fn fill_relations(table: &mut [usize], g: Relations, l: Layout)
+fn fill_relations(table: &mut [usize], g: Relations, l: Layout, ranges: Ranges)
     requires { ⌜ (length (now table) ≡ tableLength) × RelationsFit g ⌝ }
-    ensures { λ r. ⌜ now (table .exit) ≡ splice relationsPlace (relationLines g l) (now (table .entry)) ⌝ }
+    ensures { λ r. ⌜ now (table .exit) ≡ splice relationsPlace (relationLines (ranges .count) g l) (now (table .entry)) ⌝ }
 {
     let mut r: usize = 0;
     while r < g.count {
-        let line = [l.set[r], l.rel[r], l.neg[r], l.dom[r], g.kind[r]];
+        let kind = g.kind[r];
+        let firsts = place_start(kind, g.firsts[r]);
+        let first_count = place_count(ranges.count[g.firsts[r]], kind);
+        let seconds = place_start(kind, g.seconds[r]);
+        let second_count = place_count(ranges.count[g.seconds[r]], kind);
+        let line = [
+            l.set[r],
+            l.rel[r],
+            l.neg[r],
+            l.dom[r],
+            kind,
+            firsts,
+            first_count,
+            seconds,
+            second_count,
+        ];
         store(
             table,
             ground::RELATION_AT + ground::RELATION_LINE * r,
@@ -326,7 +371,7 @@ fn fill_relations(table: &mut [usize], g: Relations, l: Layout)
         );
         r += 1;
     }
-    let last = [l.set[r], l.rel[r], 0, 0, 0];
+    let last = [l.set[r], l.rel[r], 0, 0, 0, 0, 0, 0, 0];
     store(
         table,
         ground::RELATION_AT + ground::RELATION_LINE * r,
@@ -509,7 +554,7 @@ pub fn fill(
     table[0] = n;
     table[1] = g.count;
     table[2] = t.count;
-    fill_relations(table, g, l);
+    fill_relations(table, g, l, ranges);
     fill_nodes(table, n, t, l, ranges);
     fill_parts(table, n, t, l, ranges);
     fill_ranges(table, ground::RANGE_AT, n, types, members);

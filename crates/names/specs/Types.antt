@@ -10,7 +10,7 @@ use lib.ListN.{getD, drop}
 use lib.Seq.{slice}
 use Rattle.definitions.specs.Lists.{if_then_else_, same, any, option, position}
 use Rattle.definitions.specs.Text.{isRelationName, isVariable}
-use Rattle.definitions.specs.Formula.{Quantified, isQuantified, typeNumber, sortOf, hasType}
+use Rattle.definitions.specs.Formula.{Quantified, isQuantified, typeNumber, sortNamed, sortOf, isType, hasType}
 use Rattle.definitions.specs.Writing.{and-r}
 use Rattle.names.specs.Signatures.{namesFrom, typesIn, NoFurther}
 
@@ -64,7 +64,7 @@ module _ (q from to name : List ℕ) (named : isRelationName name ≡ true) wher
 -- of a quantified variable: whether its type is there, and its sort
 module _ (q from to : List ℕ) (k : ℕ) (h : k ≤ 8) (e : NoFurther to k) where
   type-in : (v : List ℕ) (t : Option (List ℕ)) → option t true isRelationName ≡ true → hasType (typesIn q from to 8) (record { variable = v; type = t }) ≡ hasType (typesIn q from to k) (record { variable = v; type = t })
-  unfolding hasType option
+  unfolding hasType isType option
   type-in v none w = refl
   type-in v (some name) w = any-in q from to name w k h e
 
@@ -73,7 +73,7 @@ module _ (q from to : List ℕ) (k : ℕ) (h : k ≤ 8) (e : NoFurther to k) whe
   has-type-in x w = type-in (x .variable) (x .type) (and-r (isVariable (x .variable)) (option (x .type) true isRelationName) w)
 
   sort-of : (v : List ℕ) (t : Option (List ℕ)) → option t true isRelationName ≡ true → sortOf (typesIn q from to 8) (record { variable = v; type = t }) ≡ sortOf (typesIn q from to k) (record { variable = v; type = t })
-  unfolding sortOf option
+  unfolding sortOf sortNamed option
   sort-of v none w = refl
   sort-of v (some name) w = ap (λ (o : Option ℕ). option o zero suc) (number-in q from to name w k h e)
 

@@ -1,7 +1,7 @@
 -- The kinds of picks tested on their bits are those of the definitions.
 use Prim.Native.Nat.{ℕ, zero, suc, _+_, _*_, _^_, _<_}
 use mathlib.Core.Path.{_≡_, refl, sym, ap, ap₂, subst, _∙_}
-use mathlib.Core.Bool.{Bool, true, _&&_, _||_}
+use mathlib.Core.Bool.{Bool, true, not, _&&_, _||_}
 use mathlib.Core.Option.{Option, none, some}
 use mathlib.Core.List.{List, [], _∷_, List·Memᴰ, List·Memᴰ·head, List·Memᴰ·tail}
 use native.Mathlib.Omega.{arith}
@@ -10,18 +10,20 @@ use lib.Arith.{digits-lt}
 use lib.Dec.{T, ltb}
 use lib.ListN.{length}
 use Rattle.bits.specs.Table.{num, count}
-use Rattle.definitions.specs.Lists.{if_then_else_, any, option, position, below}
+use Rattle.definitions.specs.Lists.{if_then_else_, any, option, position, below, isIn}
 use Rattle.definitions.specs.Relations.{Kind, static, plain, Fun, PFun, Inj, PInj, Tuple, isChosen, isFunction, isInjective}
 use Rattle.definitions.specs.Truth.{Case, arePicks, firstOfOtherKind}
 use Rattle.definitions.specs.Atoms.{problemOf, relationAt, tuplesOf}
 use Rattle.definitions.specs.Built.{isPicked, chosenNumbers}
 use Rattle.laws.specs.Booleans.{T-of}
 use Rattle.laws.specs.Lists.{below-lt, filter-mem}
+use Rattle.laws.specs.Rows.{square}
 use Rattle.laws.specs.Reader.{Accepted}
 use Rattle.laws.specs.Grounded.{good}
 use Rattle.laws.specs.Picks.{picks-inside}
-use Rattle.states.specs.Kinds.{square, hasTwo, isCrowded, breaks, first-broken}
+use Rattle.states.specs.Kinds.{hasTwo, isCrowded, isStray, breaks, first-broken}
 use Rattle.picks.specs.Words.{rowsIn, PicksAre}
+use Rattle.picks.specs.Tests.{brokenAt}
 
 any-same : {A : Type 0} (f g : A → Bool) (l : List A) → ((x : A) → List·Memᴰ x l → f x ≡ g x) → any f l ≡ any g l
 unfolding any
@@ -50,27 +52,32 @@ module _ (f g : ℕ → Bool) (n : ℕ) (h : (row : ℕ) → row < n * n → f r
   in-column : (y x : ℕ) → y < n → x < n → y * 1 + x * n < n * n
   in-column y x a b = let e = mul-one y in let l : x * n + y < n * n = digits-lt b a in omega arith
 
-  crowds-same : (k : Kind) → breaks k n f ≡ breaks k n g
+  stray-same : (xs ys : List ℕ) → isStray f n xs ys ≡ isStray g n xs ys
+  unfolding isStray
+  stray-same xs ys = any-same _ _ (below n) (λ x mx. any-same (λ y. f (x * n + y) && not (isIn x xs && isIn y ys)) (λ y. g (x * n + y) && not (isIn x xs && isIn y ys)) (below n)
+      (λ y my. ap (λ (b : Bool). b && not (isIn x xs && isIn y ys)) (h (x * n + y) (digits-lt (below-lt n x mx) (below-lt n y my)))))
+
+  tests-same : (k : Kind) (xs ys : List ℕ) → breaks k xs ys n f ≡ breaks k xs ys n g
   unfolding breaks
-  crowds-same k = ap₂ (λ (a b : Bool). (isFunction k && a) || (isInjective k && b)) (crowd-same n 1 in-row) (crowd-same 1 n in-column)
+  tests-same k xs ys = ap₂ (λ (a b : Bool). a || (isFunction k && b)) (ap₂ (λ (a b : Bool). (isFunction k && a) || (isInjective k && b)) (crowd-same n 1 in-row) (crowd-same 1 n in-column)) (stray-same xs ys)
 
 -- only a function kind is tested
-breaks-same : (k : Kind) (n : ℕ) (f g : ℕ → Bool) → (T (isFunction k) → (row : ℕ) → row < n * n → f row ≡ g row) → breaks k n f ≡ breaks k n g
+breaks-same : (k : Kind) (xs ys : List ℕ) (n : ℕ) (f g : ℕ → Bool) → (T (isFunction k) → (row : ℕ) → row < n * n → f row ≡ g row) → breaks k xs ys n f ≡ breaks k xs ys n g
 unfolding breaks isFunction isInjective
-breaks-same static n f g h = refl
-breaks-same plain n f g h = refl
-breaks-same Fun n f g h = crowds-same f g n (h tt) Fun
-breaks-same PFun n f g h = crowds-same f g n (h tt) PFun
-breaks-same Inj n f g h = crowds-same f g n (h tt) Inj
-breaks-same PInj n f g h = crowds-same f g n (h tt) PInj
+breaks-same static xs ys n f g h = refl
+breaks-same plain xs ys n f g h = refl
+breaks-same Fun xs ys n f g h = tests-same f g n (h tt) Fun xs ys
+breaks-same PFun xs ys n f g h = tests-same f g n (h tt) PFun xs ys
+breaks-same Inj xs ys n f g h = tests-same f g n (h tt) Inj xs ys
+breaks-same PInj xs ys n f g h = tests-same f g n (h tt) PInj xs ys
 
 module _ (c : Case) (A : Accepted c) (F : List Tuple) (picks : arePicks c F ≡ true) (words : List ℕ) (same : PicksAre (problemOf c) words F) where
   -- 16
-  pub kinds-are : position (λ r. breaks (relationAt (problemOf c) r .kind) (problemOf c .size) (rowsIn (problemOf c) words r)) (chosenNumbers (problemOf c)) ≡ firstOfOtherKind c F
+  pub kinds-are : position (brokenAt (problemOf c) (rowsIn (problemOf c) words)) (chosenNumbers (problemOf c)) ≡ firstOfOtherKind c F
   unfolding chosenNumbers tuplesOf
   kinds-are =
-      position-same (λ r. breaks (relationAt (problemOf c) r .kind) (problemOf c .size) (rowsIn (problemOf c) words r)) (λ r. breaks (relationAt (problemOf c) r .kind) (problemOf c .size) (isPicked (problemOf c) F r)) (chosenNumbers (problemOf c)) (λ r m.
+      position-same (brokenAt (problemOf c) (rowsIn (problemOf c) words)) (brokenAt (problemOf c) (isPicked (problemOf c) F)) (chosenNumbers (problemOf c)) (λ r m.
       let q = filter-mem (λ r. isChosen (relationAt (problemOf c) r .kind)) (below (length (problemOf c .relations))) r m in
       let l = below-lt (length (problemOf c .relations)) r (q .0) in
-      breaks-same (relationAt (problemOf c) r .kind) (problemOf c .size) (rowsIn (problemOf c) words r) (isPicked (problemOf c) F r) (λ f row h. same r row l (q .1) (subst (λ (k : ℕ). row < problemOf c .size ^ k) (sym (good c A .pairs r l f)) (rw (square (problemOf c .size)) h))))
+      breaks-same (relationAt (problemOf c) r .kind) _ _ (problemOf c .size) (rowsIn (problemOf c) words r) (isPicked (problemOf c) F r) (λ f row h. same r row l (q .1) (subst (λ (k : ℕ). row < problemOf c .size ^ k) (sym (good c A .pairs r l f)) (rw (square (problemOf c .size)) h))))
       ∙ sym (first-broken c A F (picks-inside c A F (T-of picks)))

@@ -1,21 +1,21 @@
 // Picks as bits in lent words, each `choose` from a new word on: how many words they have, whether they are of the declared kinds, cut
 // out of the state that steps leave, and whether a bit is set past those of the tuples.
 ghost use mathlib.Core.Path.{_≡_};
-ghost use mathlib.Core.Bool.{_&&_};
+ghost use mathlib.Core.Bool.{not, _&&_};
 ghost use Prim.Native.Nat.{_+_, _-_, _*_, _^_, _<_, _≤_};
 ghost use lib.Dec.{ltb};
 ghost use lib.ListN.{length, getD};
 ghost use lib.Seq.{sets};
-ghost use Rattle.definitions.specs.Lists.{position};
-ghost use Rattle.definitions.specs.Atoms.{Problem, relationAt};
+ghost use Rattle.definitions.specs.Lists.{any, position, below, isIn};
+ghost use Rattle.definitions.specs.Atoms.{Problem};
 ghost use Rattle.definitions.specs.Built.{chosenNumbers};
 ghost use Rattle.definitions.specs.Outcome.{picksLength, spareWord};
 ghost use Rattle.bits.specs.Table.{bit, num, count as «count-of», word as «word-of»};
-ghost use Rattle.ground.specs.Lines.{Fits};
+ghost use Rattle.ground.specs.Lines.{tableLength, sizeIn, membersIn, PlacesFit, Fits};
 ghost use Rattle.ground.specs.Of.{Is};
-ghost use Rattle.states.specs.Kinds.{isCrowded, breaks};
+ghost use Rattle.states.specs.Kinds.{isCrowded, isStray};
 ghost use Rattle.picks.specs.Words.{wordsIn, rowsIn};
-ghost use Rattle.picks.specs.Tests.{breaksBy, chosenBy, told};
+ghost use Rattle.picks.specs.Tests.{crowdsBy, breaksBy, firstsIn, secondsIn, areInside, chosenBy, brokenAt, told};
 ghost use Rattle.picks.specs.Copies.{lineWords, picksIn, Copied};
 ghost use Rattle.picks.specs.Spare.{spareIn, spareFound};
 use ground::RelationLine;
@@ -97,10 +97,10 @@ fn crowded(picks: &[u64], start: usize, n: usize, a: usize, b: usize) -> bool
     false
 }
 
-// Whether the picks of a relation, from bit `start` on, break its kind.
-fn breaks_kind(picks: &[u64], start: usize, n: usize, kind: usize) -> bool
+// Whether the picks of a relation, from bit `start` on, give a first place two seconds or, of an injective kind, a second two firsts.
+fn crowds(picks: &[u64], start: usize, n: usize, kind: usize) -> bool
     requires { ⌜ (start ≤ 2 ^ 39) × (0 < n) × (n ≤ 64) ⌝ }
-    ensures { λ r. ⌜ r ≡ breaksBy kind n (λ i. bit (now (picks .entry)) (start + i)) ⌝ }
+    ensures { λ r. ⌜ r ≡ crowdsBy kind n (λ i. bit (now (picks .entry)) (start + i)) ⌝ }
 {
     if kind < 2 {
         return false;
@@ -114,11 +114,100 @@ fn breaks_kind(picks: &[u64], start: usize, n: usize, kind: usize) -> bool
     crowded(picks, start, n, 1, n)
 }
 
+// Whether x is among `count` numbers of the table from place `at` on.
+fn among(table: &[usize], at: usize, count: usize, x: usize) -> bool
+    requires { ⌜ (length (now table) ≡ tableLength) × (at + count ≤ tableLength) ⌝ }
+    ensures { λ r. ⌜ r ≡ isIn x (membersIn (now (table .entry)) at count) ⌝ }
+{
+    let mut i: usize = 0;
+    while i < count {
+        if table[at + i] == x {
+            return true;
+        }
+        i += 1;
+    }
+    false
+}
+
+// Whether the pair of x and y is inside the types of a function kind.
+fn inside(table: &[usize], line: RelationLine, x: usize, y: usize) -> bool
+    requires { ⌜ (length (now table) ≡ tableLength) × PlacesFit (now table) line ⌝ }
+    ensures { λ r. ⌜ r ≡ areInside (now (table .entry)) line x y ⌝ }
+{
+    if among(table, line.firsts, line.first_count, x) {
+        return among(table, line.seconds, line.second_count, y);
+    }
+    false
+}
+
+// Whether bit i is set, that of a pair outside the types.
+fn stray(picks: &[u64], i: usize, table: &[usize], line: RelationLine, x: usize, y: usize) -> bool
+    requires { ⌜ (length (now table) ≡ tableLength) × PlacesFit (now table) line ⌝ }
+    ensures { λ r. ⌜ r ≡ (bit (now (picks .entry)) i && not (areInside (now (table .entry)) line x y)) ⌝ }
+{
+    if ground::test(picks, i) {
+        return !inside(table, line, x, y);
+    }
+    false
+}
+
+// Whether one of the n pairs with the first place x is picked outside the types; their bits start at bit `start`.
+fn row_strays(
+    picks: &[u64],
+    start: usize,
+    n: usize,
+    table: &[usize],
+    line: RelationLine,
+    x: usize,
+) -> bool
+    requires { ⌜ (length (now table) ≡ tableLength) × PlacesFit (now table) line × (start ≤ 2 ^ 40) × (n ≤ 64) ⌝ }
+    ensures { λ r. ⌜ r ≡ any (λ y. bit (now (picks .entry)) (start + y) && not (areInside (now (table .entry)) line x y)) (below n) ⌝ }
+{
+    let mut y: usize = 0;
+    while y < n {
+        if stray(picks, start + y, table, line, x, y) {
+            return true;
+        }
+        y += 1;
+    }
+    false
+}
+
+// Whether any pair is.
+fn some_strays(picks: &[u64], start: usize, n: usize, table: &[usize], line: RelationLine) -> bool
+    requires { ⌜ (length (now table) ≡ tableLength) × PlacesFit (now table) line × (start ≤ 2 ^ 39) × (n ≤ 64) ⌝ }
+    ensures { λ r. ⌜ r ≡ isStray (λ i. bit (now (picks .entry)) (start + i)) n (firstsIn (now (table .entry)) line) (secondsIn (now (table .entry)) line) ⌝ }
+{
+    let mut x: usize = 0;
+    while x < n {
+        if row_strays(picks, start + x * n, n, table, line, x) {
+            return true;
+        }
+        x += 1;
+    }
+    false
+}
+
+// Whether the picks of a relation, from bit `start` on, break its kind. Where every tuple may be set, none is outside its types.
+fn breaks_kind(picks: &[u64], start: usize, n: usize, table: &[usize], line: RelationLine) -> bool
+    requires { ⌜ (length (now table) ≡ tableLength) × PlacesFit (now table) line × (n ≡ sizeIn (now table)) ⌝ }
+    requires { ⌜ (start ≤ 2 ^ 39) × (0 < n) × (n ≤ 64) ⌝ }
+    ensures { λ r. ⌜ r ≡ breaksBy (line .kind) (firstsIn (now (table .entry)) line) (secondsIn (now (table .entry)) line) n (λ i. bit (now (picks .entry)) (start + i)) ⌝ }
+{
+    if crowds(picks, start, n, line.kind) {
+        return true;
+    }
+    if ground::is_whole(line) {
+        return false;
+    }
+    some_strays(picks, start, n, table, line)
+}
+
 // Whether picks are of the declared kinds.
 pub fn test_kinds(table: &[usize], picks: &[u64]) -> Kinds
     requires { ⌜ Fits (now table) ⌝ }
     ensures { λ r. ⌜ ((p : Problem) → Is p (now (table .entry))
-        → told r ≡ position (λ r. breaks (relationAt p r .kind) (p .size) (rowsIn p (now (picks .entry)) r)) (chosenNumbers p)) ⌝ }
+        → told r ≡ position (brokenAt p (rowsIn p (now (picks .entry)))) (chosenNumbers p)) ⌝ }
 {
     let n = table[0];
     let mut i: usize = 0;
@@ -126,7 +215,7 @@ pub fn test_kinds(table: &[usize], picks: &[u64]) -> Kinds
     let mut r: usize = 0;
     while r < table[1] {
         let line = ground::relation_line(table, r);
-        if breaks_kind(picks, 64 * word, n, line.kind) {
+        if breaks_kind(picks, 64 * word, n, table, line) {
             return Kinds::Broken(i);
         }
         word += words_in(line);

@@ -6,20 +6,28 @@ use mathlib.Core.Option.{none, some}
 use mathlib.Core.List.{List, [], _∷_, _++_, append-assoc}
 use native.Mathlib.Omega.{arith}
 use native.Mathlib.Nat.{zero-add}
+use lib.Dec.{T}
 use lib.ListN.{length, take, drop, length-map}
 use lib.Seq.{sets-eq, length-take-le, getD-take}
 use Rattle.bits.specs.Table.{digit, bit, Words}
 use Rattle.bits.proofs.Laws.{is-words}
 use Rattle.definitions.specs.Lists.{if_then_else_}
 use Rattle.definitions.specs.Refusal.{_>>=_, refuseIf}
-use Rattle.definitions.specs.Relations.{Tuple}
+use Rattle.definitions.specs.Relations.{Tuple, isChosen}
 use Rattle.definitions.specs.Truth.{Case, arePicks, areOfKinds, ruleIsTrue, firstOfOtherKind}
-use Rattle.definitions.specs.Atoms.{Problem, problemOf, State, initial, stateWords}
-use Rattle.definitions.specs.Actions.{Action, beginProof, proveGoal, actionNumber}
+use Rattle.definitions.specs.Atoms.{Problem, problemOf, State, initial, stateWords, relationAt, tuplesOf}
+use Rattle.definitions.specs.Actions.{Action, set, beginProof, proveGoal, actionNumber}
 use Rattle.definitions.specs.Strips.{mayTake, after, run}
-use Rattle.definitions.specs.Built.{setSteps, builtActions, builtSteps, bound}
+use Rattle.definitions.specs.Built.{isPicked, setSteps, builtActions, builtSteps, bound}
 use Rattle.definitions.specs.Outcome.{stateLength, written, kindRefusal, takePicks, satisfying, builtFrom}
+use Rattle.laws.specs.Booleans.{T-of}
 use Rattle.laws.specs.Words.{state-words}
+use Rattle.laws.specs.Tuples.{among-mem}
+use Rattle.laws.specs.Numbers.{IsAction}
+use Rattle.laws.specs.Grounded.{good}
+use Rattle.laws.specs.Kinds.{tested-kinds}
+use Rattle.laws.specs.Picks.{picks-inside}
+use Rattle.laws.specs.Pairs.{IsPair, pair-action}
 use Rattle.laws.specs.Reader.{Accepted}
 use Rattle.laws.specs.Lent.{words-take}
 use Rattle.laws.specs.Building.{count-case}
@@ -52,9 +60,15 @@ module _ (c : Case) (A : Accepted c) (F : List Tuple) (picks : arePicks c F ≡ 
   abbrev front : List Action
   front = setSteps (problemOf c) F ++ (beginProof ∷ provedSteps (problemOf c) s₂ (length (problemOf c .nodeList)))
 
+  -- each pick has a set action, since it is of its kind
+  settable : (r row : ℕ) → r < length (problemOf c .relations) → T (isChosen (relationAt (problemOf c) r .kind)) → row < tuplesOf (problemOf c .size) (relationAt (problemOf c) r) → T (isPicked (problemOf c) F r row)
+      → IsAction (problemOf c) (set r row)
+  unfolding isPicked IsPair
+  settable r row l t h m = pair-action (problemOf c) (good c A) F (tested-kinds c A F (picks-inside c A F (T-of picks)) (T-of kinds)) (r, row) (l, t, h) (among-mem _ F m)
+
   module _ (b : List ℕ) (o′ : Out) (holds : Bool) (W : Follows (problemOf c) (rowsIn (problemOf c) words) (out (initial (problemOf c)) b 0) o′ holds) where
     proved-is : proved p (rowsIn p words) (out (initial p) b 0) ≡ follow p (out (initial p) b 0) front
-    proved-is = proved-follow p (rowsIn p words) F same (out (initial p) b 0)
+    proved-is = proved-follow p (rowsIn p words) F same settable (out (initial p) b 0)
 
     -- 17
     pub holds-is : holds ≡ ruleIsTrue c F

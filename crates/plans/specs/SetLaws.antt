@@ -1,25 +1,32 @@
 -- Setting the picks, step by step.
 use Prim.Native.Nat.{ℕ, suc, _+_, _-_, _*_, _<_, _≤_}
-use mathlib.Core.Path.{_≡_, refl, sym, ap, _∙_, fun-ext}
+use mathlib.Core.Path.{_≡_, refl, sym, ap, subst, _∙_, fun-ext}
 use mathlib.Core.Bool.{Bool, true, false}
-use mathlib.Core.List.{List}
+use mathlib.Core.List.{List, List·Memᴰ}
 use native.Mathlib.Omega.{arith}
 use native.Mathlib.Numerals.{add-one}
 use lib.ListN.{length}
 use Rattle.bits.specs.Table.{bit}
-use Rattle.definitions.specs.Relations.{isChosen}
-use Rattle.definitions.specs.Atoms.{Problem, relationAt, tuplesOf}
-use Rattle.definitions.specs.Actions.{set, setStart, actionNumber}
+use Rattle.definitions.specs.Lists.{if_then_else_, rank}
+use Rattle.definitions.specs.Relations.{isChosen, Relation}
+use Rattle.definitions.specs.Atoms.{Problem, relationAt}
+use Rattle.definitions.specs.Actions.{set, setRows as settableRows, setsOf, setStart, actionNumber}
 use Rattle.laws.specs.Booleans.{T-of}
-use Rattle.laws.specs.Numbers.{IsAction, row-set, row-rank}
-use Rattle.ground.specs.Lines.{relationLine}
+use Rattle.laws.specs.Lists.{getD-mem}
+use Rattle.laws.specs.Members.{rank-select}
+use Rattle.laws.specs.SetRows.{set-row, once-sets, all-count}
+use Rattle.laws.specs.Numbers.{IsAction}
+use Rattle.ground.specs.Lines.{relationLine, PlacesFit}
+use Rattle.ground.specs.Numbers.{isWhole, setRow as rowIn}
+use Rattle.ground.specs.NeedLaws.{row-whole}
 use Rattle.ground.specs.Of.{Is, said}
+use Rattle.ground.specs.OfLaws.{whole-rows, typed-sets, set-row-is}
 use Rattle.ground.specs.declared.Act.the-variants.{Set}
 use Rattle.ground.specs.declared.RelationLine.{RelationLine}
 use Rattle.picks.specs.Words.{wordStart, rowsIn}
 use Rattle.picks.specs.WordLaws.{is-chosen, is-static, tuples-are}
 use Rattle.proving.specs.Following.{Out, one}
-use Rattle.plans.specs.Setting.{setRow, setRows, setRelation, setRelations}
+use Rattle.plans.specs.Setting.{rowAt, setCount, setRow, setRows, setRelation, setRelations}
 
 -- ---- rows
 module _ (p : Problem) (r : ℕ) where
@@ -35,15 +42,28 @@ module _ (p : Problem) (r : ℕ) where
     pub rows-start : (o : Out) (k : ℕ) → setRows p r f o 0 k ≡ setRows p r f o 0 (k - 0)
     rows-start o k = let m : k ≡ k - 0 = omega arith in ap (setRows p r f o 0) m
 
-    pub rows-next : (b : Bool) (o o′ : Out) (j k : ℕ) → j < k → b ≡ f j → setRow p r b o j ≡ o′ → setRows p r f o j (k - j) ≡ setRows p r f o′ (j + 1) (k - (j + 1))
+    pub rows-next : (b : Bool) (o o′ : Out) (j k row : ℕ) → j < k → row ≡ rowAt p r j → b ≡ f row → setRow p r b o row ≡ o′ → setRows p r f o j (k - j) ≡ setRows p r f o′ (j + 1) (k - (j + 1))
     unfolding setRows
-    rows-next b o o′ j k h q e =
+    rows-next b o o′ j k row h a q e =
         let m : k - j ≡ suc (k - suc j) = omega arith in
-        rw (m, add-one) (ap (λ (x : Out). setRows p r f x (suc j) (k - suc j)) (ap (λ (t : Bool). setRow p r t o j) (sym q) ∙ e))
+        rw (m, add-one) (ap (λ (x : Out). setRows p r f x (suc j) (k - suc j)) (ap (λ (x : ℕ). setRow p r (f x) o x) (sym a) ∙ ap (λ (t : Bool). setRow p r t o row) (sym q) ∙ e))
 
     pub rows-end : (o : Out) (j k : ℕ) → k ≤ j → setRows p r f o j (k - j) ≡ o
     unfolding setRows
     rows-end o j k h = let m : k - j ≡ 0 = omega arith in rw m
+
+-- how many set actions there are by the line
+module _ (x : RelationLine) (whole : Bool) (q : whole ≡ isWhole x) where
+  pub count-whole : (k : ℕ) → whole ≡ true → k ≡ x .nots - x .tuples → k ≡ setCount x
+  unfolding setCount
+  count-whole k t e = rw (sym q ∙ t) e
+
+  pub count-typed : whole ≡ false → x .«first_count» * x .«second_count» ≡ setCount x
+  unfolding setCount
+  count-typed t = rw (sym q ∙ t)
+
+  pub row-whole-at : (w : List ℕ) (off : ℕ) → whole ≡ true → off ≡ rowIn w x off
+  row-whole-at w off t = row-whole w x off (sym q ∙ t)
 
 -- the action of a row
 pub set-said : (r row : ℕ) → Set (record { relation = r; row = row }) ≡ said (set r row)
@@ -51,25 +71,46 @@ unfolding said
 set-said r row = refl
 
 module _ (p : Problem) (w : List ℕ) (is : Is p w) (r : ℕ) (l : r < length (p .relations)) where
-  pub set-number : (x : RelationLine) → x ≡ relationLine w r → (row : ℕ) → isChosen (relationAt p r .kind) ≡ true → row < tuplesOf (p .size) (relationAt p r) → x .sets + row ≡ actionNumber p (set r row)
-  unfolding actionNumber
-  set-number x e row t h =
-      let k = relationAt p r in
-      ap (λ (y : ℕ). y + row) (ap (λ (y : RelationLine). y .sets) e ∙ is .sets r (omega arith))
-      ∙ ap (λ (y : ℕ). setStart p r + y) (sym (row-rank (p .size) (p .range) k row (row-set (p .size) (p .range) k row (T-of t) h)))
+  -- the actions of a relation, one for each offset
+  module _ (off row : ℕ) (h : off < setsOf (p .size) (p .range) (relationAt p r)) (a : row ≡ rowAt p r off) where
+    abbrev rows : List ℕ
+    rows = settableRows (p .size) (p .range) (relationAt p r)
 
-  pub set-is : (row : ℕ) → isChosen (relationAt p r .kind) ≡ true → row < tuplesOf (p .size) (relationAt p r) → IsAction p (set r row)
-  unfolding IsAction
-  set-is row t h = (l, T-of t, row-set (p .size) (p .range) (relationAt p r) row (T-of t) h)
+    pub set-number : (x : RelationLine) → x ≡ relationLine w r → x .sets + off ≡ actionNumber p (set r row)
+    unfolding actionNumber setsOf
+    set-number x e =
+        ap (λ (y : ℕ). y + off) (ap (λ (y : RelationLine). y .sets) e ∙ is .sets r (omega arith))
+        ∙ ap (λ (y : ℕ). setStart p r + y) (sym (ap (rank rows) a ∙ rank-select rows off (once-sets (p .size) (p .range) (relationAt p r)) h))
+
+    pub set-is : IsAction p (set r row)
+    unfolding IsAction setsOf
+    set-is = let m = subst (λ (x : ℕ). List·Memᴰ x rows) (sym a) (getD-mem rows off 0 h) in (l, set-row (p .size) (p .range) (relationAt p r) row m .0, m)
+
+    -- a row of the table is one of these
+    pub row-is : (x : RelationLine) → x ≡ relationLine w r → PlacesFit w x → (z : ℕ) → z ≡ rowIn w x off → z ≡ rowAt p r off
+    row-is x e fits z q = q ∙ ap (λ (y : RelationLine). rowIn w y off) e ∙ set-row-is p w is r l (subst (PlacesFit w) e fits) off h
+
+  -- how many there are
+  pub count-is : (x : RelationLine) → x ≡ relationLine w r → PlacesFit w x → isChosen (relationAt p r .kind) ≡ true → setCount x ≡ setsOf (p .size) (p .range) (relationAt p r)
+  unfolding setCount
+  count-is x e fits t = by-test (isWhole x) refl
+    where
+      k : Relation
+      k = relationAt p r
+
+      by-test : (b : Bool) → isWhole x ≡ b → (if b then x .nots - x .tuples else x .«first_count» * x .«second_count») ≡ setsOf (p .size) (p .range) (relationAt p r)
+      by-test true q = tuples-are p w is r l x e (x .nots - x .tuples) refl
+          ∙ sym (all-count (p .size) (p .range) k (whole-rows p w is r l (subst (PlacesFit w) e fits) (T-of t) (ap isWhole (sym e) ∙ q)))
+      by-test false q = ap (λ (y : RelationLine). y .«first_count» * y .«second_count») e ∙ sym (typed-sets p w is r l (ap isWhole (sym e) ∙ q))
 
   -- a relation by its line
   module _ (x : RelationLine) (e : x ≡ relationLine w r) (f : ℕ → Bool) where
-    pub relation-yes : (o o′ : Out) (k : ℕ) → 0 < x .kind → k ≡ x .nots - x .tuples → (isChosen (relationAt p r .kind) ≡ true → k ≡ tuplesOf (p .size) (relationAt p r) → setRows p r f o 0 k ≡ o′) → setRelation p f o r ≡ o′
+    pub relation-yes : (o o′ : Out) (k : ℕ) → 0 < x .kind → PlacesFit w x → k ≡ setCount x → (k ≡ setsOf (p .size) (p .range) (relationAt p r) → setRows p r f o 0 k ≡ o′) → setRelation p f o r ≡ o′
     unfolding setRelation
-    relation-yes o o′ k h q g =
+    relation-yes o o′ k h fits q g =
         let t = is-chosen p w is r l x e h in
-        let n = tuples-are p w is r l x e k q in
-        rw t (ap (setRows p r f o 0) (sym n) ∙ g t n)
+        let n = q ∙ count-is x e fits t in
+        rw t (ap (setRows p r f o 0) (sym n) ∙ g n)
 
     pub relation-no : (o : Out) → x .kind ≡ 0 → setRelation p f o r ≡ o
     unfolding setRelation

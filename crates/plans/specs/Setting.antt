@@ -1,23 +1,33 @@
 -- Setting the picks as folds over the builder's progress.
-use Prim.Native.Nat.{ℕ, zero, suc}
+use Prim.Native.Nat.{ℕ, zero, suc, _-_, _*_}
 use mathlib.Core.Bool.{Bool}
+use lib.ListN.{getD}
 use Rattle.definitions.specs.Lists.{if_then_else_}
 use Rattle.definitions.specs.Relations.{isChosen}
-use Rattle.definitions.specs.Atoms.{Problem, relationAt, tuplesOf}
-use Rattle.definitions.specs.Actions.{set}
+use Rattle.definitions.specs.Atoms.{Problem, relationAt}
+use Rattle.definitions.specs.Actions.{set, setRows as settableRows, setsOf}
+use Rattle.ground.specs.Numbers.{isWhole}
+use Rattle.ground.specs.declared.RelationLine.{RelationLine}
 use Rattle.proving.specs.Following.{Out, one}
 
--- a row of the relation r, if it is picked; k rows from row j on, of which f says which are picked
+-- the row that the set action of offset j sets; how many such actions there are, by a relation's line
+abbrev pub rowAt : Problem → ℕ → ℕ → ℕ
+rowAt p r j = getD (settableRows (p .size) (p .range) (relationAt p r)) j 0
+
+unfoldable pub setCount : RelationLine → ℕ
+setCount k = if isWhole k then k .nots - k .tuples else k .«first_count» * k .«second_count»
+
+-- a row of the relation r, if it is picked; those of k set actions from offset j on, f saying which rows are picked
 unfoldable pub setRow : Problem → ℕ → Bool → Out → ℕ → Out
-setRow p r picked o j = if picked then one p o (set r j) else o
+setRow p r picked o row = if picked then one p o (set r row) else o
 
 unfoldable pub setRows : Problem → ℕ → (ℕ → Bool) → Out → ℕ → ℕ → Out
 setRows p r f o j zero = o
-setRows p r f o j (suc k) = setRows p r f (setRow p r (f j) o j) (suc j) k
+setRows p r f o j (suc k) = setRows p r f (setRow p r (f (rowAt p r j)) o (rowAt p r j)) (suc j) k
 
 -- a relation, if it is a `choose`; k relations from r on
 unfoldable pub setRelation : Problem → (ℕ → Bool) → Out → ℕ → Out
-setRelation p f o r = if isChosen (relationAt p r .kind) then setRows p r f o zero (tuplesOf (p .size) (relationAt p r)) else o
+setRelation p f o r = if isChosen (relationAt p r .kind) then setRows p r f o zero (setsOf (p .size) (p .range) (relationAt p r)) else o
 
 unfoldable pub setRelations : Problem → (ℕ → ℕ → Bool) → Out → ℕ → ℕ → Out
 setRelations p f o r zero = o

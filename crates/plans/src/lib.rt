@@ -2,20 +2,22 @@
 // set in the order of the atoms, the proof begins, every true node atom is proved, and the goal is. All is decided before anything
 // lent is written.
 ghost use mathlib.Core.Path.{_≡_};
-ghost use mathlib.Core.Bool.{true};
+ghost use mathlib.Core.Bool.{true, false};
 ghost use Prim.Native.Nat.{ℕ, _+_, _/_, _^_, _<_, _≤_, _*_};
 ghost use mathlib.Core.Option.{none};
 ghost use mathlib.Core.List.{List};
 ghost use lib.ListN.{length, take};
-ghost use Rattle.definitions.specs.Relations.{Tuple, isChosen};
+ghost use Rattle.definitions.specs.Relations.{Tuple};
 ghost use Rattle.definitions.specs.Truth.{Case, arePicks, firstOfOtherKind};
-ghost use Rattle.definitions.specs.Atoms.{Problem, problemOf, initial as «initial-of», atoms as «atoms-of», relationAt, tuplesOf};
-ghost use Rattle.definitions.specs.Actions.{actions};
+ghost use Rattle.definitions.specs.Atoms.{Problem, problemOf, initial as «initial-of», atoms as «atoms-of», relationAt};
+ghost use Rattle.definitions.specs.Actions.{set, setsOf, actions, actionNumber};
 ghost use Rattle.definitions.specs.Built.{bound};
 ghost use Rattle.definitions.specs.Outcome.{written};
 ghost use Rattle.laws.specs.Reader.{Accepted};
+ghost use Rattle.laws.specs.Numbers.{IsAction};
 ghost use Rattle.bits.specs.Table.{bit};
-ghost use Rattle.ground.specs.Lines.{Fits, relationLine};
+ghost use Rattle.ground.specs.Lines.{Fits, PlacesFit, relationLine};
+ghost use Rattle.ground.specs.Numbers.{isWhole, setRow as «row-of»};
 ghost use Rattle.ground.specs.Of.{Is};
 ghost use Rattle.initial.specs.Rows.{atomsIn};
 ghost use Rattle.picks.specs.Words.{rowsIn, PicksAre};
@@ -23,9 +25,9 @@ ghost use Rattle.proving.specs.Following.{Ready, out};
 ghost use Rattle.plans.specs.Following.{Follows};
 ghost use Rattle.plans.specs.Answers.{Gives, Asked};
 ghost use Rattle.plans.specs.Starts.{Prepared};
-ghost use Rattle.plans.specs.Setting.{setRow, setRows, setRelation, setRelations};
+ghost use Rattle.plans.specs.Setting.{setRow, setRows, setRelation, setRelations, setCount};
 
-// A tuple is set, if it is picked.
+// A tuple is set by the action of this number, if it is picked.
 fn set_row(
     state: &mut [u64],
     steps: &mut [u32],
@@ -33,22 +35,44 @@ fn set_row(
     table: &[usize],
     relation: usize,
     row: usize,
+    number: usize,
     picked: bool,
 ) -> usize
-    requires { ⌜ Fits (now table) × (relation < 17) × (row < 2 ^ 32) × (at < 2 ^ 40) ⌝ }
-    ensures { λ r. ⌜ (r ≤ at + 1) × ((p : Problem) → Ready p (now (table .entry)) (length (now (state .entry))) → relation < length (p .relations) → isChosen (relationAt p relation .kind) ≡ true
-        → row < tuplesOf (p .size) (relationAt p relation)
+    requires { ⌜ Fits (now table) × (relation < 17) × (row ≤ 2 ^ 32) × (at < 2 ^ 40) ⌝ }
+    ensures { λ r. ⌜ (r ≤ at + 1) × ((p : Problem) → Ready p (now (table .entry)) (length (now (state .entry))) → IsAction p (set relation row) → number ≡ actionNumber p (set relation row)
         → setRow p relation picked (out (bit (now (state .entry))) (now (steps .entry)) at) row ≡ out (bit (now (state .exit))) (now (steps .exit)) r) ⌝ }
 {
     if picked {
-        let line = ground::relation_line(table, relation);
         let a = ground::Act::Set(ground::TupleAct { relation, row });
-        return proving::step(state, steps, at, table, a, line.sets + row);
+        return proving::step(state, steps, at, table, a, number);
     }
     at
 }
 
-// The tuples of a relation that are picked are set, in order; their bits are those of `picks` from bit `start` on.
+// The row that the set action of offset `off` sets. It is asked for at every offset, so what it takes where types leave tuples out is
+// not on the way of a relation that is whole.
+fn row_at(table: &[usize], line: ground::RelationLine, whole: bool, off: usize) -> usize
+    requires { ⌜ Fits (now table) × PlacesFit (now table) line × (whole ≡ isWhole line) × (whole ≡ false → off < line .«first_count» * line .«second_count») ⌝ }
+    ensures { λ r. ⌜ r ≡ «row-of» (now (table .entry)) line off ⌝ }
+{
+    if whole {
+        return off;
+    }
+    ground::set_row(table, line, off)
+}
+
+// How many set actions a `choose` has.
+fn set_count(line: ground::RelationLine, whole: bool) -> usize
+    requires { ⌜ (line .nots ≤ 2 ^ 32) × (line .«first_count» ≤ 2 ^ 16) × (line .«second_count» ≤ 2 ^ 16) × (whole ≡ isWhole line) ⌝ }
+    ensures { λ r. ⌜ (r ≡ setCount line) × (r ≤ 2 ^ 32) × (whole ≡ false → r ≡ line .«first_count» * line .«second_count») ⌝ }
+{
+    if whole {
+        return picks::tuples_in(line);
+    }
+    line.first_count * line.second_count
+}
+
+// The tuples of a relation that are picked are set, in order, by its set actions; their bits are those of `picks` from bit `start` on.
 fn set_rows(
     state: &mut [u64],
     steps: &mut [u32],
@@ -56,20 +80,33 @@ fn set_rows(
     table: &[usize],
     picks: &[u64],
     relation: usize,
+    line: ground::RelationLine,
     start: usize,
-    tuples: usize,
+    whole: bool,
+    count: usize,
 ) -> usize
-    requires { ⌜ Fits (now table) × (relation < 17) × (tuples ≤ 2 ^ 32) × (start ≤ 2 ^ 40) × (at < 2 ^ 39) ⌝ }
-    ensures { λ r. ⌜ (r ≤ at + tuples) × ((p : Problem) → Ready p (now (table .entry)) (length (now (state .entry))) → relation < length (p .relations) → isChosen (relationAt p relation .kind) ≡ true
-        → tuples ≡ tuplesOf (p .size) (relationAt p relation)
-        → setRows p relation (λ row. bit (now (picks .entry)) (start + row)) (out (bit (now (state .entry))) (now (steps .entry)) at) 0 tuples ≡ out (bit (now (state .exit))) (now (steps .exit)) r) ⌝ }
+    requires { ⌜ Fits (now table) × (relation < 17) × PlacesFit (now table) line × (line .sets ≤ 2 ^ 32) × (start ≤ 2 ^ 40) × (at < 2 ^ 39) ⌝ }
+    requires { ⌜ (whole ≡ isWhole line) × (count ≤ 2 ^ 32) × (whole ≡ false → count ≡ line .«first_count» * line .«second_count») ⌝ }
+    ensures { λ r. ⌜ (r ≤ at + count) × ((p : Problem) → Ready p (now (table .entry)) (length (now (state .entry))) → relation < length (p .relations) → line ≡ relationLine (now (table .entry)) relation
+        → count ≡ setsOf (p .size) (p .range) (relationAt p relation)
+        → setRows p relation (λ row. bit (now (picks .entry)) (start + row)) (out (bit (now (state .entry))) (now (steps .entry)) at) 0 count ≡ out (bit (now (state .exit))) (now (steps .exit)) r) ⌝ }
 {
     let mut k = at;
-    let mut row: usize = 0;
-    while row < tuples {
+    let mut off: usize = 0;
+    while off < count {
+        let row = row_at(table, line, whole, off);
         let picked = ground::test(picks, start + row);
-        k = set_row(state, steps, k, table, relation, row, picked);
-        row += 1;
+        k = set_row(
+            state,
+            steps,
+            k,
+            table,
+            relation,
+            row,
+            line.sets + off,
+            picked,
+        );
+        off += 1;
     }
     k
 }
@@ -85,15 +122,27 @@ fn set_relation(
     line: ground::RelationLine,
     start: usize,
 ) -> usize
-    requires { ⌜ Fits (now table) × (relation < 17) × (line .nots ≤ 2 ^ 32) × (start ≤ 2 ^ 40) × (at < 2 ^ 39) ⌝ }
+    requires { ⌜ Fits (now table) × (relation < 17) × PlacesFit (now table) line × (line .sets ≤ 2 ^ 32) × (line .nots ≤ 2 ^ 32) × (start ≤ 2 ^ 40) × (at < 2 ^ 39) ⌝ }
     ensures { λ r. ⌜ (r ≤ at + 2 ^ 32) × ((p : Problem) → Ready p (now (table .entry)) (length (now (state .entry))) → relation < length (p .relations) → line ≡ relationLine (now (table .entry)) relation
         → setRelation p (λ row. bit (now (picks .entry)) (start + row)) (out (bit (now (state .entry))) (now (steps .entry)) at) relation ≡ out (bit (now (state .exit))) (now (steps .exit)) r) ⌝ }
 {
     if line.kind == 0 {
         return at;
     }
-    let tuples = picks::tuples_in(line);
-    set_rows(state, steps, at, table, picks, relation, start, tuples)
+    let whole = ground::is_whole(line);
+    let count = set_count(line, whole);
+    set_rows(
+        state,
+        steps,
+        at,
+        table,
+        picks,
+        relation,
+        line,
+        start,
+        whole,
+        count,
+    )
 }
 
 // All picks are set; the bits of each `choose` start at a new word.

@@ -93,7 +93,7 @@ module _ (s : List ℕ) (g : Signature) (p : ℕ) (text : List ℕ) (f : Formula
   unfolding given entryIn _>>=_ D.addToQuestion laterOf D.addRel D.addType D.addChoose D.addRule D.isRuled refuseIf ruled
   later-by (Rel a e k) = rw (not-empty s g h) (late-rel (not (isEmpty (typesOf s g))) _ _)
   later-by (Typed a e) = rw (not-empty s g h)
-  later-by (Choose a e k d) = refl
+  later-by (Choose a e k d t u v) = refl
   later-by (Rule a e) = refl
   later-by Wrong = refl
   later-by (Size n) = refl

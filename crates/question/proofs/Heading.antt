@@ -10,26 +10,28 @@ use lib.ListN.{length}
 use lib.Seq.{slice}
 use borrow.Author.Tests.{eq-eqb, ne-eqb, eqb-true, eqb-false, leb-false}
 use Rattle.definitions.specs.Limits.{textLimit}
-use Rattle.definitions.specs.Lists.{if_then_else_, any, same, isEmpty}
+use Rattle.definitions.specs.Lists.{if_then_else_, all, isEmpty}
 use Rattle.definitions.specs.Refusal.{Result, refused, accepted, _>>=_, refuseIf, given, readText}
 use Rattle.definitions.specs.Text.{isRelationName}
-use Rattle.definitions.specs.Relations.{Kind, static, Relation}
+use Rattle.definitions.specs.Relations.{static, Relation}
+use Rattle.definitions.specs.Formula.{isType}
 use Rattle.definitions.specs.Sheets as D
 use Rattle.records.specs.Lines.{lineBy, readAt}
 use Rattle.text.specs.Spans.{kindOf}
-use Rattle.records.specs.Entries.{entryIn, InText, Reads}
+use Rattle.records.specs.Entries.{typesAt, entryIn, InText, Reads}
 use Rattle.records.specs.declared.Entry.{Entry}
 use Rattle.records.specs.declared.Entry.the-variants.{Wrong, Rel, Typed, Choose, Rule, Size, Label, Member, Fact, Pick, Step}
 use Rattle.records.proofs.Runs.{read-long, read-start, read-stop, read-next}
 use Rattle.names.specs.declared.Signature.{Signature}
 use Rattle.names.specs.Signatures.{relationsFrom, namesFrom, relsOf, chosenOf, typesOf, Sound}
 use Rattle.question.specs.declared.Span.{Span}
+use Rattle.question.specs.declared.Sorts.{Sorts}
 use Rattle.question.specs.declared.Head.{Head}
-use Rattle.question.specs.Drafts.{draftOf, isLate, nameFault, typeFault, judgeOf, pushed, grownBy, spanIn, whole, noSignature, Reached, HeadBy, Headed}
+use Rattle.question.specs.Drafts.{draftOf, isLate, nameFault, typeFault, chooseFault, judgeOf, Room, sortsIn, pushed, grownBy, spanIn, whole, noSignature, Reached, HeadBy, Headed}
 use Rattle.names.proofs.Laws.{length-relations, length-names}
 use Rattle.question.proofs.Tests.{unless, untested, test, unless-ext, unless-good, unless-bad}
 use Rattle.question.proofs.Judging.{not-late}
-use Rattle.question.proofs.Growing.{Roomy, none-sound, none-roomy, pushed-before, one-more, pushed-types, pushed-roomy, pushed-sound, typed-rels, typed-chosen, typed-types, typed-roomy, typed-sound}
+use Rattle.question.proofs.Growing.{Roomy, none-sound, none-roomy, related, sorts-few, pushed-before, one-more, pushed-types, pushed-roomy, pushed-sound, typed-rels, typed-chosen, typed-types, typed-roomy, typed-sound}
 
 -- ---- the draft
 
@@ -62,9 +64,18 @@ name-not-one s g name p = go (D.isNewName (draftOf s g) name) p
 
 type-not-one : (types : List (List ℕ)) (name : List ℕ) → typeFault types name ≡ 1 → ⊥
 unfolding typeFault
-type-not-one types name p = go (isRelationName name) (any (λ t. same t name) types) p
+type-not-one types name p = go (isRelationName name) (isType types name) p
   where
     go : (b c : Bool) → _≡_ {A = ℕ} (if not b then 4 else if c then 19 else 0) 1 → ⊥
+    go true true q = omega arith
+    go true false q = omega arith
+    go false c q = omega arith
+
+choose-not-one : (s : List ℕ) (g : Signature) (name : List ℕ) (names : List (List ℕ)) → chooseFault s g name names ≡ 1 → ⊥
+unfolding chooseFault
+choose-not-one s g name names p = go (D.isNewName (draftOf s g) name) (all (isType (typesOf s g)) names) p
+  where
+    go : (b c : Bool) → _≡_ {A = ℕ} (if not b then 4 else if not c then 19 else 0) 1 → ⊥
     go true true q = omega arith
     go true false q = omega arith
     go false c q = omega arith
@@ -72,8 +83,8 @@ type-not-one types name p = go (isRelationName name) (any (λ t. same t name) ty
 abbrev unruled : (rels : List Relation) → (types : List (List ℕ)) → (chosen : List Relation) → D.Draft
 unruled rels types chosen = record { rels = rels; types = types; chosen = chosen; ruled = none }
 
-abbrev related : (name : List ℕ) → (arity : ℕ) → Kind → Relation
-related name arity kind = record { name = name; arity = arity; kind = kind }
+abbrev unsorted : Sorts
+unsorted = record { firsts = 0; seconds = 0 }
 
 module _ (s : List ℕ) (g : Signature) where
   types-length : length (typesOf s g) ≡ g .types
@@ -98,60 +109,62 @@ module _ (s : List ℕ) (g : Signature) where
     unfolding judgeOf
     type-room p = let n = not-late 0 (g .chosen) (g .types) (in-place _ _ p) in (n .1, n .2)
 
-    choose-room : (k d : ℕ) → judgeOf s g (Choose a e k d) ≡ 0 → g .chosen < 4
+    choose-room : (k d t u v : ℕ) → judgeOf s g (Choose a e k d t u v) ≡ 0 → g .chosen < 4
     unfolding judgeOf
-    choose-room k d p = leb-false 4 (g .chosen) (in-place _ _ p)
+    choose-room k d t u v p = leb-false 4 (g .chosen) (in-place _ _ p)
 
   -- the draft after it
   module _ (v : Sound s g) (w : Roomy g) (a e : ℕ) where
     rel-grown : (k : ℕ) → judgeOf s g (Rel a e k) ≡ 0
-        → unruled (relsOf s g ++ (related (slice a e s) k static ∷ [])) (typesOf s g) (chosenOf s g) ≡ draftOf s (grownBy g (Rel a e k))
+        → unruled (relsOf s g ++ (related (slice a e s) k static unsorted ∷ [])) (typesOf s g) (chosenOf s g) ≡ draftOf s (grownBy s g (Rel a e k))
     unfolding draftOf grownBy relsOf chosenOf pushed relationsFrom kindOf
     rel-grown k p =
         let n = rel-room a e k p in
         let z : 0 + g .rels ≡ g .rels = omega arith in
         rw (
-          one-more s g (g .rels) a e k 0 (g .rels + 1) (g .chosen) 0 (g .rels) z w (omega (arith, n .2)),
-          pushed-types s g (g .rels) a e k 0 (g .rels + 1) (g .chosen) (omega (arith, n .2)),
+          one-more s g (g .rels) a e k 0 unsorted (g .rels + 1) (g .chosen) 0 (g .rels) z w (omega (arith, n .2)),
+          pushed-types s g (g .rels) a e k 0 unsorted (g .rels + 1) (g .chosen) (omega (arith, n .2)),
           n .1,
         )
 
-    type-grown : judgeOf s g (Typed a e) ≡ 0 → unruled (relsOf s g) (typesOf s g ++ (slice a e s ∷ [])) (chosenOf s g) ≡ draftOf s (grownBy g (Typed a e))
+    type-grown : judgeOf s g (Typed a e) ≡ 0 → unruled (relsOf s g) (typesOf s g ++ (slice a e s ∷ [])) (chosenOf s g) ≡ draftOf s (grownBy s g (Typed a e))
     unfolding draftOf grownBy
     type-grown p = rw (typed-rels s g a e (v .rels-le), typed-types s g a e w (type-room a e p .1), typed-chosen s g a e (v .rels-le) (v .chosen-le))
 
-    choose-grown : (k d : ℕ) → judgeOf s g (Choose a e k d) ≡ 0
-        → unruled (relsOf s g) (typesOf s g) (chosenOf s g ++ (related (slice a e s) k (kindOf d) ∷ [])) ≡ draftOf s (grownBy g (Choose a e k d))
+    choose-grown : (k d x y z : ℕ) → judgeOf s g (Choose a e k d x y z) ≡ 0
+        → unruled (relsOf s g) (typesOf s g) (chosenOf s g ++ (related (slice a e s) k (kindOf d) (sortsIn (typesOf s g) (typesAt s x y z)) ∷ [])) ≡ draftOf s (grownBy s g (Choose a e k d x y z))
     unfolding draftOf grownBy relsOf chosenOf pushed
-    choose-grown k d p =
+    choose-grown k d x y z p =
         let i = g .rels + g .chosen in
-        let l : i < 12 = omega (arith, choose-room a e k d p, v .rels-le) in
+        let q = sortsIn (typesOf s g) (typesAt s x y z) in
+        let l : i < 12 = omega (arith, choose-room a e k d x y z p, v .rels-le) in
         rw (
-          one-more s g i a e k d (g .rels) (g .chosen + 1) (g .rels) (g .chosen) refl w l,
-          pushed-types s g i a e k d (g .rels) (g .chosen + 1) l,
-          pushed-before s g i a e k d (g .rels) (g .chosen + 1) 0 (g .rels) (omega arith),
+          one-more s g i a e k d q (g .rels) (g .chosen + 1) (g .rels) (g .chosen) refl w l,
+          pushed-types s g i a e k d q (g .rels) (g .chosen + 1) l,
+          pushed-before s g i a e k d q (g .rels) (g .chosen + 1) 0 (g .rels) (omega arith),
         )
 
     -- what the definitions make of a line, by the number that it gets
-    rel-is : (at k : ℕ) → D.addRel (draftOf s g) at (slice a e s) k ≡ unless (judgeOf s g (Rel a e k)) at (accepted (draftOf s (grownBy g (Rel a e k))))
+    rel-is : (at k : ℕ) → D.addRel (draftOf s g) at (slice a e s) k ≡ unless (judgeOf s g (Rel a e k)) at (accepted (draftOf s (grownBy s g (Rel a e k))))
     unfolding D.addRel draftOf judgeOf nameFault isLate
     rel-is at k =
         rw (empty-is (typesOf s g), types-length, empty-is (chosenOf s g), chosen-length, rels-length)
         (test at _ 2 _ _ _ (test at _ 3 _ _ _ (untested at _)))
         ∙ unless-ext at (judgeOf s g (Rel a e k)) _ _ (λ p. ap accepted (rel-grown k p))
 
-    type-is : (at : ℕ) → D.addType (draftOf s g) at (slice a e s) ≡ unless (judgeOf s g (Typed a e)) at (accepted (draftOf s (grownBy g (Typed a e))))
+    type-is : (at : ℕ) → D.addType (draftOf s g) at (slice a e s) ≡ unless (judgeOf s g (Typed a e)) at (accepted (draftOf s (grownBy s g (Typed a e))))
     unfolding D.addType draftOf judgeOf typeFault isLate
     type-is at =
         rw (empty-is (chosenOf s g), chosen-length, types-length)
         (test at _ 2 _ _ _ (test at _ 3 _ _ _ (test at _ 18 _ _ _ (untested at _))))
         ∙ unless-ext at (judgeOf s g (Typed a e)) _ _ (λ p. ap accepted (type-grown p))
 
-    choose-is : (at k d : ℕ) → D.addChoose (draftOf s g) at (slice a e s) k (kindOf d) ≡ unless (judgeOf s g (Choose a e k d)) at (accepted (draftOf s (grownBy g (Choose a e k d))))
-    unfolding D.addChoose D.isRuled draftOf judgeOf nameFault
-    choose-is at k d =
-        rw chosen-length (test at _ 2 _ _ _ (test at _ 3 _ _ _ (untested at _)))
-        ∙ unless-ext at (judgeOf s g (Choose a e k d)) _ _ (λ p. ap accepted (choose-grown k d p))
+    choose-is : (at k d x y z : ℕ) → D.addChoose (draftOf s g) at (slice a e s) k (kindOf d) (typesAt s x y z)
+        ≡ unless (judgeOf s g (Choose a e k d x y z)) at (accepted (draftOf s (grownBy s g (Choose a e k d x y z))))
+    unfolding D.addChoose D.isRuled draftOf judgeOf chooseFault sortsIn
+    choose-is at k d x y z =
+        rw chosen-length (test at _ 2 _ _ _ (test at _ 3 _ _ _ (test at _ 18 _ _ _ (untested at _))))
+        ∙ unless-ext at (judgeOf s g (Choose a e k d x y z)) _ _ (λ p. ap accepted (choose-grown k d x y z p))
 
   rule-out : (at : ℕ) (text : List ℕ) → g .chosen ≡ 0 → D.addRule (draftOf s g) at text ≡ refused 3 at
   unfolding D.addRule draftOf D.isRuled refuseIf _>>=_
@@ -162,25 +175,29 @@ module _ (s : List ℕ) (g : Signature) where
 module _ (s : List ℕ) (g : Signature) (at : ℕ) (v : Sound s g) (w : Roomy g) where
   -- a good line: there is room for it, and the signature stays sound
   unfoldable pub Grows : Entry → Type 0
-  Grows x = (g .rels + g .chosen < 12) × Sound s (grownBy g x) × Roomy (grownBy g x)
+  Grows x = Room g x × Sound s (grownBy s g x) × Roomy (grownBy s g x)
 
   pub line-grows : (x : Entry) → InText s at x → judgeOf s g x ≡ 0 → Grows x
-  unfolding Grows judgeOf InText grownBy
+  unfolding Grows Room judgeOf InText grownBy
   line-grows (Rel a e k) t p =
       let n = rel-room s g a e k p in (
         omega (arith, n .1, n .2),
-        pushed-sound s g (g .rels) a e k 0 (g .rels + 1) (g .chosen) v w (omega (arith, n .1)) (omega (arith, n .2)) (omega (arith, n .1)) (omega (arith, n .2)) (v .chosen-le) (t .0) (t .1) (t .2) (t .3),
-        pushed-roomy s g (g .rels) a e k 0 (g .rels + 1) (g .chosen) w,
+        pushed-sound s g (g .rels) a e k 0 unsorted (g .rels + 1) (g .chosen) v w (omega (arith, n .1)) (omega (arith, n .2)) (omega (arith, n .1)) (omega (arith, n .2)) (v .chosen-le) (t .0) (t .1) (t .2) (t .3) (omega arith) (omega arith),
+        pushed-roomy s g (g .rels) a e k 0 unsorted (g .rels + 1) (g .chosen) w,
       )
   line-grows (Typed a e) t p =
       let n = type-room s g a e p in
-      (omega (arith, n .0, v .rels-le), typed-sound s g a e v (n .1), typed-roomy s g a e w)
-  line-grows (Choose a e k d) t p =
-      let l = choose-room s g a e k d p in
-      let i = g .rels + g .chosen in (
-        omega (arith, v .rels-le),
-        pushed-sound s g i a e k d (g .rels) (g .chosen + 1) v w refl (omega (arith, v .rels-le)) (omega arith) (v .rels-le) (omega arith) (t .0) (t .1) (t .2) (t .3),
-        pushed-roomy s g i a e k d (g .rels) (g .chosen + 1) w,
+      (n .1, typed-sound s g a e v (n .1), typed-roomy s g a e w)
+  line-grows (Choose a e k d x y z) t p =
+      let l = choose-room s g a e k d x y z p in
+      let i = g .rels + g .chosen in
+      let q = sortsIn (typesOf s g) (typesAt s x y z) in
+      let f = sorts-few (typesOf s g) (typesAt s x y z) in
+      let n = types-length s g in (
+        (omega (arith, v .rels-le), v .types-le, λ h. t .4 h .1),
+        pushed-sound s g i a e k d q (g .rels) (g .chosen + 1) v w refl (omega (arith, v .rels-le)) (omega arith) (v .rels-le) (omega arith) (t .0) (t .1) (t .2) (t .3)
+            (omega (arith, n, f .0)) (omega (arith, n, f .1)),
+        pushed-roomy s g i a e k d q (g .rels) (g .chosen + 1) w,
       )
   line-grows (Rule a e) t p = absurd (not-good (eqb (g .chosen) 0) p)
   line-grows Wrong t p = absurd (omega arith)
@@ -192,14 +209,14 @@ module _ (s : List ℕ) (g : Signature) (at : ℕ) (v : Sound s g) (w : Roomy g)
   line-grows (Step k) t p = absurd (omega arith)
 
   -- any line but the rule in its place
-  pub line-is : (x : Entry) → (judgeOf s g x ≡ 1 → ⊥) → (given (entryIn s x) 2 at >>= D.addToQuestion (draftOf s g) at) ≡ unless (judgeOf s g x) at (accepted (draftOf s (grownBy g x)))
+  pub line-is : (x : Entry) → (judgeOf s g x ≡ 1 → ⊥) → (given (entryIn s x) 2 at >>= D.addToQuestion (draftOf s g) at) ≡ unless (judgeOf s g x) at (accepted (draftOf s (grownBy s g x)))
   unfolding judgeOf entryIn given _>>=_ D.addToQuestion unless
   line-is (Rel a e k) m = rel-is s g v w a e at k
   line-is (Typed a e) m = type-is s g v w a e at
-  line-is (Choose a e k d) m = choose-is s g v w a e at k d
+  line-is (Choose a e k d x y z) m = choose-is s g v w a e at k d x y z
   line-is (Rule a e) m = go (eqb (g .chosen) 0) refl
     where
-      go : (b : Bool) → eqb (g .chosen) 0 ≡ b → D.addRule (draftOf s g) at (slice a e s) ≡ unless (judgeOf s g (Rule a e)) at (accepted (draftOf s (grownBy g (Rule a e))))
+      go : (b : Bool) → eqb (g .chosen) 0 ≡ b → D.addRule (draftOf s g) at (slice a e s) ≡ unless (judgeOf s g (Rule a e)) at (accepted (draftOf s (grownBy s g (Rule a e))))
       go true q = rw q (rule-out s g at (slice a e s) (eqb-true (g .chosen) 0 q))
       go false q = absurd (m (rw q))
   line-is Wrong m = refl
@@ -224,7 +241,7 @@ module _ (s : List ℕ) (g : Signature) (at : ℕ) (v : Sound s g) (w : Roomy g)
       go false q = let z = eqb-false (g .chosen) 0 q in omega arith
   line-rule (Rel a e k) t p = absurd (name-not-one s g (slice a e s) (in-place-one (isLate (g .types) (g .chosen) (g .rels)) _ p))
   line-rule (Typed a e) t p = absurd (type-not-one (typesOf s g) (slice a e s) (in-place-one (isLate 0 (g .chosen) (g .types)) _ p))
-  line-rule (Choose a e k d) t p = absurd (name-not-one s g (slice a e s) (in-place-one (leb 4 (g .chosen)) _ p))
+  line-rule (Choose a e k d x y z) t p = absurd (choose-not-one s g (slice a e s) (typesAt s x y z) (in-place-one (leb 4 (g .chosen)) _ p))
   line-rule Wrong t p = absurd (omega arith)
   line-rule (Size n) t p = absurd (omega arith)
   line-rule (Label k a b e) t p = absurd (omega arith)
@@ -272,20 +289,20 @@ module _ (s : List ℕ) where
           h .2
           ∙ ap (λ (r : Result D.Draft). r >>= whole s) (read-next D.addToQuestion s at next (draftOf s g) x l ∙ ap (λ (r : Result D.Draft). r >>= readAt D.addToQuestion s next) e)
 
-      head-line : (c ≡ 1 → ⊥) → (given (entryIn s x) 2 at >>= D.addToQuestion (draftOf s g) at) ≡ unless c at (accepted (draftOf s (grownBy g x)))
+      head-line : (c ≡ 1 → ⊥) → (given (entryIn s x) 2 at >>= D.addToQuestion (draftOf s g) at) ≡ unless c at (accepted (draftOf s (grownBy s g x)))
       unfolding HeadAt
-      head-line m = line-is s g at (h .0) (h .1) x (λ q. m (j ∙ q)) ∙ ap (λ (n : ℕ). unless n at (accepted (draftOf s (grownBy g x)))) (sym j)
+      head-line m = line-is s g at (h .0) (h .1) x (λ q. m (j ∙ q)) ∙ ap (λ (n : ℕ). unless n at (accepted (draftOf s (grownBy s g x)))) (sym j)
 
-      pub head-next : c ≡ 0 → HeadAt (grownBy g x) next
+      pub head-next : c ≡ 0 → HeadAt (grownBy s g x) next
       unfolding HeadAt Grows _>>=_
       head-next z =
           let v = line-grows s g at (h .0) (h .1) x t (sym j ∙ z) in
-          (v .1, v .2, head-reads (accepted (draftOf s (grownBy g x))) (head-line (λ q. omega arith) ∙ unless-good at c _ z))
+          (v .1, v .2, head-reads (accepted (draftOf s (grownBy s g x))) (head-line (λ q. omega arith) ∙ unless-good at c _ z))
 
       -- a good line leaves room for what it declares
-      pub head-room : c ≡ 0 → (g .rels + g .chosen < 12) × ((a e : ℕ) → x ≡ Typed a e → g .types < 8)
+      pub head-room : c ≡ 0 → Room g x
       unfolding HeadAt Grows
-      head-room z = (line-grows s g at (h .0) (h .1) x t (sym j ∙ z) .0, λ a e p. type-room s g a e (ap (judgeOf s g) (sym p) ∙ sym j ∙ z) .1)
+      head-room z = line-grows s g at (h .0) (h .1) x t (sym j ∙ z) .0
 
       pub head-bad : (c ≡ 0 → ⊥) → (c ≡ 1 → ⊥) → (p : Span) (e : ℕ) → Headed s (record { fault = c; place = at; sig = g; span = p; next = e })
       unfolding Headed _>>=_

@@ -1,29 +1,35 @@
 -- What a line before the rule gets.
-use Prim.Native.Nat.{ℕ, _≤_, _<_}
-use mathlib.Core.Path.{_≡_, refl, sym, ap, _∙_}
-use mathlib.Core.Bool.{true, false, not, _||_}
+use Prim.Native.Nat.{ℕ, zero, suc, _+_, _≤_, _<_}
+use mathlib.Core.Path.{_≡_, refl, sym, ap, subst, _∙_}
+use mathlib.Core.Bool.{Bool, true, false, not, _&&_, _||_}
+use mathlib.Core.Option.{Option, none, some}
 use mathlib.Core.List.{List, [], _∷_}
+use native.Mathlib.Numerals.{add-one}
+use native.Mathlib.Omega.{arith}
 use lib.Dec.{eqb, leb}
 use lib.Seq.{slice}
 use borrow.Author.Tests.{eq-eqb, ne-eqb, le-leb, lt-leb, eqb-true, leb-false, not-false}
 use denote.Enum.Declared.{tagOf}
 use types.Run.{OneOf, miss}
-use Rattle.definitions.specs.Lists.{same}
+use Rattle.definitions.specs.Lists.{if_then_else_, all, any, same, option, position}
 use Rattle.definitions.specs.Text.{isRelationName}
 use Rattle.definitions.specs.Relations.{isDeclared}
-use Rattle.definitions.specs.Formula.{typeNumber}
+use Rattle.definitions.specs.Formula.{typeNumber, sortNamed, isType}
 use Rattle.definitions.specs.Sheets as D
 use Rattle.laws.specs.Booleans.{or-both}
 use Rattle.text.specs.Spans.{placeOf}
 use Rattle.text.specs.declared.Found.{Found}
 use Rattle.text.specs.declared.Found.the-variants.{At, Nowhere}
-use Rattle.names.specs.Signatures.{typesOf, allOf}
+use Rattle.names.specs.Signatures.{typesIn, typesOf, allOf}
 use Rattle.names.specs.declared.Signature.{Signature}
-use Rattle.names.proofs.Laws.{any-found, any-missed, found-some, found-none}
+use Rattle.names.proofs.Laws.{any-found, any-missed, position-some, found-some, found-none, length-names}
+use Rattle.records.specs.Entries.{typesAt}
 use Rattle.records.specs.declared.Entry.{Entry}
 use Rattle.records.specs.declared.Entry.the-variants.{Wrong, Rel, Typed, Choose, Rule, Size, Label, Member, Fact, Pick, Step}
 use Rattle.records.proofs.Entry.{the-type}
-use Rattle.question.specs.Drafts.{draftOf, isLate, nameFault, typeFault, judgeOf, grownBy, spanIn, laterOf}
+use Rattle.records.proofs.Made.{types-at}
+use Rattle.question.specs.declared.Sorts.{Sorts}
+use Rattle.question.specs.Drafts.{draftOf, isLate, nameFault, typeFault, chooseFault, judgeOf, Room, sortsIn, pushed, grownBy, spanIn, laterOf}
 
 -- ---- too late
 
@@ -70,12 +76,87 @@ module _ (types : List (List ℕ)) (name : List ℕ) where
 
   module _ (p : isRelationName name ≡ true) (f : Found) (w : f ≡ placeOf (typeNumber types name)) where
     pub type-twice : (i : ℕ) → f ≡ At i → 19 ≡ typeFault types name
-    unfolding typeFault typeNumber
+    unfolding typeFault isType typeNumber
     type-twice i e = rw (p, ← any-found (λ t. same t name) (λ t. same t name) (λ t. refl) types i (found-some _ i f e w))
 
     pub type-new : f ≡ Nowhere → 0 ≡ typeFault types name
-    unfolding typeFault typeNumber
+    unfolding typeFault isType typeNumber
     type-new e = rw (p, ← any-missed (λ t. same t name) (λ t. same t name) (λ t. refl) types (found-none _ f e w))
+
+-- ---- a chosen relation's types
+
+-- a type has a sort above 0
+sorted : (types : List (List ℕ)) (name : List ℕ) → isType types name ≡ not (eqb (sortNamed types name) 0)
+unfolding isType sortNamed typeNumber option
+sorted types name = go (position (λ t. same t name) types) refl
+  where
+    go : (o : Option ℕ) → position (λ t. same t name) types ≡ o → any (λ t. same t name) types ≡ not (eqb (option o zero suc) 0)
+    go none q = sym (any-missed (λ t. same t name) (λ t. same t name) (λ t. refl) types q)
+    go (some i) q = sym (any-found (λ t. same t name) (λ t. same t name) (λ t. refl) types i q) ∙ rw (ne-eqb (suc i) 0 (λ z. omega arith))
+
+module _ (q F T : List ℕ) (k : ℕ) (name : List ℕ) (f : Found) (w : f ≡ placeOf (typeNumber (typesIn q F T k) name)) where
+  pub sort-found : (i : ℕ) → f ≡ At i → i + 1 ≡ sortNamed (typesIn q F T k) name
+  unfolding sortNamed option
+  sort-found i e = rw (found-some (typeNumber (typesIn q F T k) name) i f e w) (add-one i)
+
+  pub sort-missed : f ≡ Nowhere → 0 ≡ sortNamed (typesIn q F T k) name
+  unfolding sortNamed option
+  sort-missed e = rw (found-none (typeNumber (typesIn q F T k) name) f e w)
+
+  pub type-few : (i : ℕ) → f ≡ At i → i < k
+  unfolding typeNumber
+  type-few i e = omega (arith, position-some (λ t. same t name) (typesIn q F T k) i [] (found-some (typeNumber (typesIn q F T k) name) i f e w) .0, length-names q F T 12 k)
+
+-- the sorts of its places
+module _ (s : List ℕ) (types : List (List ℕ)) (t u v : ℕ) where
+  pub sorts-none : v ≡ 0 → record { firsts = 0; seconds = 0 } ≡ sortsIn types (typesAt s t u v)
+  unfolding sortsIn typesAt D.placeSort
+  sorts-none e = rw e
+
+  pub sorts-both : 0 < v → (a b : ℕ) → a ≡ sortNamed types (slice t u s) → b ≡ sortNamed types (slice (u + 1) v s) → record { firsts = a; seconds = b } ≡ sortsIn types (typesAt s t u v)
+  unfolding sortsIn D.placeSort
+  sorts-both h a b p q = rw (p, q) (rw (types-at s t u v h))
+
+  all-sorted : 0 < v → (p : Sorts) → p ≡ sortsIn types (typesAt s t u v) → all (isType types) (typesAt s t u v) ≡ (not (eqb (p .firsts) 0) && (not (eqb (p .seconds) 0) && true))
+  unfolding all sortsIn D.placeSort
+  all-sorted h p e = rw e (rw (types-at s t u v h) (rw (sorted types (slice t u s), sorted types (slice (u + 1) v s))))
+
+module _ (s : List ℕ) (g : Signature) (name : List ℕ) (t u v : ℕ) where
+  choose-test : Bool → Bool → ℕ
+  choose-test new typed = if not new then 4 else if not typed then 19 else 0
+
+  pub choose-name : (r : ℕ) → r ≡ nameFault s g name → (r ≡ 0 → ⊥) → r ≡ chooseFault s g name (typesAt s t u v)
+  unfolding nameFault chooseFault choose-test
+  choose-name r e h = go (D.isNewName (draftOf s g) name) e
+    where
+      go : (b : Bool) → r ≡ (if not b then 4 else 0) → r ≡ choose-test b (all (isType (typesOf s g)) (typesAt s t u v))
+      go true q = absurd (h q)
+      go false q = q
+
+  -- a new name: its types decide
+  module _ (new : 0 ≡ nameFault s g name) where
+    by-types : (b : Bool) → all (isType (typesOf s g)) (typesAt s t u v) ≡ b → (if not b then 19 else 0) ≡ chooseFault s g name (typesAt s t u v)
+    unfolding nameFault chooseFault choose-test
+    by-types b e = rw e (go (D.isNewName (draftOf s g) name) new)
+      where
+        go : (c : Bool) → _≡_ {A = ℕ} 0 (if not c then 4 else 0) → (if not b then 19 else 0) ≡ choose-test c b
+        go true q = refl
+        go false q = absurd (omega arith)
+
+    pub choose-untyped : v ≡ 0 → 0 ≡ chooseFault s g name (typesAt s t u v)
+    unfolding typesAt all
+    choose-untyped e = by-types true (rw e)
+
+    module _ (h : 0 < v) (p : Sorts) (e : p ≡ sortsIn (typesOf s g) (typesAt s t u v)) where
+      pub choose-first : p .firsts ≡ 0 → 19 ≡ chooseFault s g name (typesAt s t u v)
+      choose-first a = by-types false (all-sorted s (typesOf s g) t u v h p e ∙ rw (eq-eqb (p .firsts) 0 a))
+
+      module _ (first : p .firsts ≡ 0 → ⊥) where
+        pub choose-second : p .seconds ≡ 0 → 19 ≡ chooseFault s g name (typesAt s t u v)
+        choose-second b = by-types false (all-sorted s (typesOf s g) t u v h p e ∙ rw (ne-eqb (p .firsts) 0 first, eq-eqb (p .seconds) 0 b))
+
+        pub choose-typed : (p .seconds ≡ 0 → ⊥) → 0 ≡ chooseFault s g name (typesAt s t u v)
+        choose-typed second = by-types true (all-sorted s (typesOf s g) t u v h p e ∙ rw (ne-eqb (p .firsts) 0 first, ne-eqb (p .seconds) 0 second))
 
 -- ---- the line
 
@@ -102,12 +183,12 @@ module _ (s : List ℕ) (g : Signature) (x : Entry) where
     unfolding judgeOf
     type-here r l n = n ∙ sym (ap (judgeOf s g) p ∙ rw l)
 
-  module _ (a e k d : ℕ) (p : x ≡ Choose a e k d) where
+  module _ (a e k d t u v : ℕ) (p : x ≡ Choose a e k d t u v) where
     pub choose-many : 4 ≤ g .chosen → 3 ≡ judgeOf s g x
     unfolding judgeOf
     choose-many l = sym (ap (judgeOf s g) p ∙ rw (le-leb 4 (g .chosen) l))
 
-    pub choose-here : (r : ℕ) → g .chosen < 4 → r ≡ nameFault s g (slice a e s) → r ≡ judgeOf s g x
+    pub choose-here : (r : ℕ) → g .chosen < 4 → r ≡ chooseFault s g (slice a e s) (typesAt s t u v) → r ≡ judgeOf s g x
     unfolding judgeOf
     choose-here r l n = n ∙ sym (ap (judgeOf s g) p ∙ rw (lt-leb 4 (g .chosen) l))
 
@@ -120,6 +201,26 @@ module _ (s : List ℕ) (g : Signature) (x : Entry) where
     unfolding judgeOf
     rule-now h = sym (ap (judgeOf s g) p ∙ rw (ne-eqb (g .chosen) 0 h))
 
+-- ---- the signature after a good line, and the room for it
+
+module _ (s : List ℕ) (g : Signature) (x : Entry) (room : Room g x) where
+  pub room-rel : (a e k : ℕ) → x ≡ Rel a e k → g .rels + g .chosen < 12
+  unfolding Room
+  room-rel a e k p = subst (Room g) p room
+
+  pub room-type : (a e : ℕ) → x ≡ Typed a e → g .types < 8
+  unfolding Room
+  room-type a e p = subst (Room g) p room
+
+  module _ (a e k d t u v : ℕ) (p : x ≡ Choose a e k d t u v) where
+    pub room-choose : (g .rels + g .chosen < 12) × (g .types ≤ 8) × (0 < v → u < v)
+    unfolding Room
+    room-choose = subst (Room g) p room
+
+    pub grown-choose : (y : Sorts) (r : Signature) → y ≡ sortsIn (typesOf s g) (typesAt s t u v) → r ≡ pushed g (g .rels + g .chosen) a e k d y (g .rels) (g .chosen + 1) → r ≡ grownBy s g x
+    unfolding grownBy
+    grown-choose y r q w = w ∙ ap (λ (z : Sorts). pushed g (g .rels + g .chosen) a e k d z (g .rels) (g .chosen + 1)) q ∙ sym (ap (grownBy s g) p)
+
 -- ---- what is left of an enum when some of its variants, by their places, are ruled out
 
 abbrev otherSheets : List ℕ
@@ -130,7 +231,7 @@ unfolding judgeOf
 judge-other s g Wrong w = absurd (miss otherSheets 0 tt w)
 judge-other s g (Rel a e k) w = absurd (miss otherSheets 1 tt w)
 judge-other s g (Typed a e) w = absurd (miss otherSheets 2 tt w)
-judge-other s g (Choose a e k d) w = absurd (miss otherSheets 3 tt w)
+judge-other s g (Choose a e k d t u v) w = absurd (miss otherSheets 3 tt w)
 judge-other s g (Rule a e) w = absurd (miss otherSheets 4 tt w)
 judge-other s g (Size n) w = refl
 judge-other s g (Label k a t e) w = refl
@@ -142,19 +243,19 @@ judge-other s g (Step k) w = refl
 abbrev undeclaring : List ℕ
 undeclaring = 0 ∷ 4 ∷ otherSheets
 
-pub grown-other : (g : Signature) (x : Entry) → OneOf undeclaring (tagOf the-type x) → g ≡ grownBy g x
+pub grown-other : (s : List ℕ) (g : Signature) (x : Entry) → OneOf undeclaring (tagOf the-type x) → g ≡ grownBy s g x
 unfolding grownBy
-grown-other g (Rel a e k) w = absurd (miss undeclaring 1 tt w)
-grown-other g (Typed a e) w = absurd (miss undeclaring 2 tt w)
-grown-other g (Choose a e k d) w = absurd (miss undeclaring 3 tt w)
-grown-other g Wrong w = refl
-grown-other g (Rule a e) w = refl
-grown-other g (Size n) w = refl
-grown-other g (Label k a t e) w = refl
-grown-other g (Member a t k e) w = refl
-grown-other g (Fact a t e p) w = refl
-grown-other g (Pick a t e p) w = refl
-grown-other g (Step k) w = refl
+grown-other s g (Rel a e k) w = absurd (miss undeclaring 1 tt w)
+grown-other s g (Typed a e) w = absurd (miss undeclaring 2 tt w)
+grown-other s g (Choose a e k d t u v) w = absurd (miss undeclaring 3 tt w)
+grown-other s g Wrong w = refl
+grown-other s g (Rule a e) w = refl
+grown-other s g (Size n) w = refl
+grown-other s g (Label k a t e) w = refl
+grown-other s g (Member a t k e) w = refl
+grown-other s g (Fact a t e p) w = refl
+grown-other s g (Pick a t e p) w = refl
+grown-other s g (Step k) w = refl
 
 abbrev notRule : List ℕ
 notRule = 0 ∷ 1 ∷ 2 ∷ 3 ∷ otherSheets
@@ -165,7 +266,7 @@ span-other (Rule a e) w = absurd (miss notRule 4 tt w)
 span-other Wrong w = refl
 span-other (Rel a e k) w = refl
 span-other (Typed a e) w = refl
-span-other (Choose a e k d) w = refl
+span-other (Choose a e k d t u v) w = refl
 span-other (Size n) w = refl
 span-other (Label k a t e) w = refl
 span-other (Member a t k e) w = refl
@@ -181,7 +282,7 @@ unfolding laterOf
 later-other Wrong w = absurd (miss notWrong 0 tt w)
 later-other (Rel a e k) w = refl
 later-other (Typed a e) w = refl
-later-other (Choose a e k d) w = refl
+later-other (Choose a e k d t u v) w = refl
 later-other (Rule a e) w = refl
 later-other (Size n) w = refl
 later-other (Label k a t e) w = refl

@@ -1,5 +1,5 @@
 -- What the reader of the question answers, in the words of the definitions.
-use Prim.Native.Nat.{ℕ, zero, suc, _+_, _≤_}
+use Prim.Native.Nat.{ℕ, zero, suc, _+_, _≤_, _<_}
 use mathlib.Core.Path.{_≡_}
 use mathlib.Core.Bool.{Bool, not, _||_}
 use mathlib.Core.List.{List}
@@ -7,18 +7,21 @@ use mathlib.Core.Option.{none, some}
 use lib.Dec.{eqb, leb}
 use lib.ListN.{length, set, replicate}
 use lib.Seq.{slice}
-use Rattle.definitions.specs.Lists.{if_then_else_, any, same}
+use Rattle.definitions.specs.Lists.{if_then_else_, all}
 use Rattle.definitions.specs.Text.{isRelationName}
+use Rattle.definitions.specs.Formula.{isType}
 use Rattle.definitions.specs.Refusal.{Result, refused, accepted, _>>=_, given}
 use Rattle.definitions.specs.Parsing.{readFormula}
 use Rattle.definitions.specs.Sheets as D
 use Rattle.records.specs.Lines.{readAt}
+use Rattle.records.specs.Entries.{typesAt}
 use Rattle.records.specs.declared.Entry.{Entry}
 use Rattle.records.specs.declared.Entry.the-variants.{Wrong, Rel, Typed, Choose, Rule, Size, Label, Member, Fact, Pick, Step}
 use Rattle.names.specs.declared.Signature.{Signature}
 use Rattle.names.specs.Signatures.{relsOf, chosenOf, typesOf, allOf, Sound}
 use Rattle.formula.specs.Seen.{ruleNumber}
 use Rattle.question.specs.declared.Span.{Span}
+use Rattle.question.specs.declared.Sorts.{Sorts}
 use Rattle.question.specs.declared.Head.{Head}
 use Rattle.question.specs.declared.Asked.{Asked}
 
@@ -35,14 +38,18 @@ unfoldable pub nameFault : List ℕ → Signature → List ℕ → ℕ
 nameFault s g name = if not (D.isNewName (draftOf s g) name) then 4 else 0
 
 unfoldable pub typeFault : List (List ℕ) → List ℕ → ℕ
-typeFault types name = if not (isRelationName name) then 4 else if any (λ t. same t name) types then 19 else 0
+typeFault types name = if not (isRelationName name) then 4 else if isType types name then 19 else 0
+
+-- what a chosen relation gets in its place, by its name and the types that it gives
+unfoldable pub chooseFault : List ℕ → Signature → List ℕ → List (List ℕ) → ℕ
+chooseFault s g name names = if not (D.isNewName (draftOf s g) name) then 4 else if not (all (isType (typesOf s g)) names) then 19 else 0
 
 -- what a line before the rule gets: 0 for a good relation or type, 1 for a rule in its place, else the refusal's number
 unfoldable pub judgeOf : List ℕ → Signature → Entry → ℕ
 judgeOf s g Wrong = 2
 judgeOf s g (Rel a e k) = if isLate (g .types) (g .chosen) (g .rels) then 3 else nameFault s g (slice a e s)
 judgeOf s g (Typed a e) = if isLate 0 (g .chosen) (g .types) then 3 else typeFault (typesOf s g) (slice a e s)
-judgeOf s g (Choose a e k d) = if leb 4 (g .chosen) then 3 else nameFault s g (slice a e s)
+judgeOf s g (Choose a e k d t u v) = if leb 4 (g .chosen) then 3 else chooseFault s g (slice a e s) (typesAt s t u v)
 judgeOf s g (Rule a e) = if eqb (g .chosen) 0 then 3 else 1
 judgeOf s g (Size n) = 3
 judgeOf s g (Label k a t e) = 3
@@ -51,9 +58,27 @@ judgeOf s g (Fact a t e p) = 3
 judgeOf s g (Pick a t e p) = 3
 judgeOf s g (Step k) = 3
 
+-- there is room for what a line declares, and the second of its types begins inside the text
+unfoldable pub Room : Signature → Entry → Type 0
+Room g Wrong = Unit {0}
+Room g (Rel a e k) = g .rels + g .chosen < 12
+Room g (Typed a e) = g .types < 8
+Room g (Choose a e k d t u v) = (g .rels + g .chosen < 12) × (g .types ≤ 8) × (0 < v → u < v)
+Room g (Rule a e) = Unit {0}
+Room g (Size n) = Unit {0}
+Room g (Label k a t e) = Unit {0}
+Room g (Member a t k e) = Unit {0}
+Room g (Fact a t e p) = Unit {0}
+Room g (Pick a t e p) = Unit {0}
+Room g (Step k) = Unit {0}
+
+-- the sorts of a relation's places, by the types that its line gives
+unfoldable pub sortsIn : List (List ℕ) → List (List ℕ) → Sorts
+sortsIn types names = record { firsts = D.placeSort types names 0; seconds = D.placeSort types names 1 }
+
 -- the signature with relation i; with one type more
-unfoldable pub pushed : Signature → ℕ → ℕ → ℕ → ℕ → ℕ → ℕ → ℕ → Signature
-pushed g i a e k d rels chosen = record {
+unfoldable pub pushed : Signature → ℕ → ℕ → ℕ → ℕ → ℕ → Sorts → ℕ → ℕ → Signature
+pushed g i a e k d p rels chosen = record {
   rels = rels;
   chosen = chosen;
   types = g .types;
@@ -61,6 +86,8 @@ pushed g i a e k d rels chosen = record {
   to = set (g .to) i e;
   arity = set (g .arity) i k;
   kind = set (g .kind) i d;
+  firsts = set (g .firsts) i (p .firsts);
+  seconds = set (g .seconds) i (p .seconds);
 }
 
 unfoldable pub typed : Signature → ℕ → ℕ → Signature
@@ -72,28 +99,30 @@ typed g a e = record {
   to = set (g .to) (12 + g .types) e;
   arity = g .arity;
   kind = g .kind;
+  firsts = g .firsts;
+  seconds = g .seconds;
 }
 
 -- the signature after a good line
-unfoldable pub grownBy : Signature → Entry → Signature
-grownBy g Wrong = g
-grownBy g (Rel a e k) = pushed g (g .rels) a e k 0 (g .rels + 1) (g .chosen)
-grownBy g (Typed a e) = typed g a e
-grownBy g (Choose a e k d) = pushed g (g .rels + g .chosen) a e k d (g .rels) (g .chosen + 1)
-grownBy g (Rule a e) = g
-grownBy g (Size n) = g
-grownBy g (Label k a t e) = g
-grownBy g (Member a t k e) = g
-grownBy g (Fact a t e p) = g
-grownBy g (Pick a t e p) = g
-grownBy g (Step k) = g
+unfoldable pub grownBy : List ℕ → Signature → Entry → Signature
+grownBy s g Wrong = g
+grownBy s g (Rel a e k) = pushed g (g .rels) a e k 0 (record { firsts = 0; seconds = 0 }) (g .rels + 1) (g .chosen)
+grownBy s g (Typed a e) = typed g a e
+grownBy s g (Choose a e k d t u v) = pushed g (g .rels + g .chosen) a e k d (sortsIn (typesOf s g) (typesAt s t u v)) (g .rels) (g .chosen + 1)
+grownBy s g (Rule a e) = g
+grownBy s g (Size n) = g
+grownBy s g (Label k a t e) = g
+grownBy s g (Member a t k e) = g
+grownBy s g (Fact a t e p) = g
+grownBy s g (Pick a t e p) = g
+grownBy s g (Step k) = g
 
 -- the span of a rule; none of another line
 unfoldable pub spanIn : Entry → Span
 spanIn Wrong = record { from = 0; to = 0 }
 spanIn (Rel a e k) = record { from = 0; to = 0 }
 spanIn (Typed a e) = record { from = 0; to = 0 }
-spanIn (Choose a e k d) = record { from = 0; to = 0 }
+spanIn (Choose a e k d t u v) = record { from = 0; to = 0 }
 spanIn (Rule a e) = record { from = a; to = e }
 spanIn (Size n) = record { from = 0; to = 0 }
 spanIn (Label k a t e) = record { from = 0; to = 0 }
@@ -133,6 +162,8 @@ noSignature = record {
   to = replicate 20 0;
   arity = replicate 12 0;
   kind = replicate 12 0;
+  firsts = replicate 12 0;
+  seconds = replicate 12 0;
 }
 
 unfoldable pub refusedWith : ℕ → ℕ → Asked
@@ -163,7 +194,7 @@ unfoldable pub laterOf : Entry → ℕ
 laterOf Wrong = 2
 laterOf (Rel a e k) = 3
 laterOf (Typed a e) = 3
-laterOf (Choose a e k d) = 3
+laterOf (Choose a e k d t u v) = 3
 laterOf (Rule a e) = 3
 laterOf (Size n) = 3
 laterOf (Label k a t e) = 3

@@ -1,14 +1,15 @@
 // The question's reader: its relations and types as a signature, the place of its rule's formula, or its refusal (1 to 8, 19).
 ghost use mathlib.Core.Path.{_≡_};
-ghost use Prim.Native.Nat.{ℕ, _+_, _≤_, _<_};
+ghost use Prim.Native.Nat.{_+_, _≤_, _<_};
 ghost use lib.ListN.{length, take, drop};
 ghost use lib.Seq.{slice};
 ghost use Rattle.definitions.specs.Sheets.{readQuestion};
 ghost use Rattle.definitions.specs.Outcome.{rulePart};
-ghost use Rattle.records.specs.Entries.{InText};
-ghost use Rattle.names.specs.Signatures.{typesIn, Sound, Lent};
+ghost use Rattle.definitions.specs.Formula.{sortNamed};
+ghost use Rattle.records.specs.Entries.{InText, typesAt};
+ghost use Rattle.names.specs.Signatures.{typesIn, typesOf, Sound, Lent};
 ghost use Rattle.formula.specs.Seen.{verdictNumber};
-ghost use Rattle.question.specs.Drafts.{isLate, nameFault, typeFault, judgeOf, pushed, typed, grownBy, spanIn, Headed, laterOf, noSignature, refusedWith, QuestionRead};
+ghost use Rattle.question.specs.Drafts.{isLate, nameFault, typeFault, chooseFault, judgeOf, Room, sortsIn, pushed, typed, grownBy, spanIn, Headed, laterOf, noSignature, refusedWith, QuestionRead};
 use formula::Verdict;
 use names::Signature;
 use records::Entry;
@@ -17,6 +18,12 @@ use text::Found;
 pub struct Span {
     pub from: usize,
     pub to: usize,
+}
+
+// The sorts of a relation's first and second place.
+struct Sorts {
+    firsts: u8,
+    seconds: u8,
 }
 
 // What the lines up to the rule's give: a refusal (its number and place), or fault 0, the signature, the place of the rule's
@@ -97,6 +104,70 @@ fn type_fault(
     }
 }
 
+// The sort of the type that the span names among the first k of a signature whose names are lent, 0 where it names none.
+fn sort_named(
+    s: &[u8],
+    from: &[usize; names::NAMES],
+    to: &[usize; names::NAMES],
+    k: usize,
+    a: usize,
+    e: usize,
+) -> u8
+    requires { ⌜ k ≤ 8 ⌝ }
+    ensures { λ r. ⌜ r ≡ sortNamed (typesIn (now (s .entry)) (now (from .entry)) (now (to .entry)) k) (slice a e (now (s .entry))) ⌝ }
+{
+    let f = names::type_named(s, from, to, k, s, a, e);
+    match f {
+        Found::At(i) => (i + 1) as u8,
+        Found::Nowhere => 0,
+    }
+}
+
+// The sorts of a chosen relation's places, by the types that it gives.
+fn sorts_of(s: &[u8], g: Signature, t: usize, u: usize, v: usize) -> Sorts
+    requires { ⌜ (g .types ≤ 8) × (0 < v → u < v) ⌝ }
+    ensures { λ r. ⌜ r ≡ sortsIn (typesOf (now (s .entry)) g) (typesAt (now (s .entry)) t u v) ⌝ }
+{
+    if v == 0 {
+        return Sorts {
+            firsts: 0,
+            seconds: 0,
+        };
+    }
+    let from = g.from;
+    let to = g.to;
+    let first = sort_named(s, &from, &to, g.types, t, u);
+    let second = sort_named(s, &from, &to, g.types, u + 1, v);
+    Sorts {
+        firsts: first,
+        seconds: second,
+    }
+}
+
+// What a chosen relation gets in its place: 4 by its name, then 19 if a type that it gives is not declared.
+fn choose_fault(s: &[u8], g: Signature, a: usize, e: usize, t: usize, u: usize, v: usize) -> u32
+    requires { ⌜ Sound (now s) g × (a ≤ e) × (e ≤ length (now s)) × (0 < v → u < v) ⌝ }
+    ensures { λ r. ⌜ r ≡ chooseFault (now (s .entry)) g (slice a e (now (s .entry))) (typesAt (now (s .entry)) t u v) ⌝ }
+{
+    let from = g.from;
+    let to = g.to;
+    let c = name_fault(s, &from, &to, g.rels + g.chosen, a, e);
+    if c != 0 {
+        return c;
+    }
+    if v == 0 {
+        return 0;
+    }
+    let p = sorts_of(s, g, t, u, v);
+    if p.firsts == 0 {
+        return 19;
+    }
+    if p.seconds == 0 {
+        return 19;
+    }
+    0
+}
+
 // What a line before the rule gets: 0 for a good relation or type, 1 for the rule in its place, else the refusal's number.
 fn judge(s: &[u8], g: Signature, at: usize, x: Entry) -> u32
     requires { ⌜ Sound (now s) g × InText (now s) at x ⌝ }
@@ -120,13 +191,11 @@ fn judge(s: &[u8], g: Signature, at: usize, x: Entry) -> u32
             let to = g.to;
             type_fault(s, &from, &to, g.types, a, e)
         }
-        Entry::Choose(a, e, _, _) => {
+        Entry::Choose(a, e, _, _, t, u, v) => {
             if 4 <= g.chosen {
                 return 3;
             }
-            let from = g.from;
-            let to = g.to;
-            name_fault(s, &from, &to, g.rels + g.chosen, a, e)
+            choose_fault(s, g, a, e, t, u, v)
         }
         Entry::Rule(_, _) => {
             if g.chosen == 0 {
@@ -146,17 +215,20 @@ fn push(
     e: usize,
     k: usize,
     d: u32,
+    p: Sorts,
     rels: usize,
     chosen: usize,
 ) -> Signature
     requires { ⌜ i < 12 ⌝ }
-    ensures { λ r. ⌜ r ≡ pushed g i a e k d rels chosen ⌝ }
+    ensures { λ r. ⌜ r ≡ pushed g i a e k d p rels chosen ⌝ }
 {
     let mut h = g;
     h.from[i] = a;
     h.to[i] = e;
     h.arity[i] = k;
     h.kind[i] = d;
+    h.firsts[i] = p.firsts;
+    h.seconds[i] = p.seconds;
     h.rels = rels;
     h.chosen = chosen;
     h
@@ -176,23 +248,24 @@ fn push_type(g: Signature, a: usize, e: usize) -> Signature
 }
 
 // The signature after a line that is good.
-fn grow(g: Signature, x: Entry) -> Signature
-    requires { ⌜ (g .rels + g .chosen < 12) × ((a e : ℕ) → x ≡ Entry.Typed a e → g .types < 8) ⌝ }
-    ensures { λ r. ⌜ r ≡ grownBy g x ⌝ }
+fn grow(s: &[u8], g: Signature, x: Entry) -> Signature
+    requires { ⌜ Room g x ⌝ }
+    ensures { λ r. ⌜ r ≡ grownBy (now (s .entry)) g x ⌝ }
 {
     match x {
-        Entry::Rel(a, e, k) => push(g, g.rels, a, e, k as usize, 0, g.rels + 1, g.chosen),
+        Entry::Rel(a, e, k) => {
+            let p = Sorts {
+                firsts: 0,
+                seconds: 0,
+            };
+            push(g, g.rels, a, e, k as usize, 0, p, g.rels + 1, g.chosen)
+        }
         Entry::Typed(a, e) => push_type(g, a, e),
-        Entry::Choose(a, e, k, d) => push(
-            g,
-            g.rels + g.chosen,
-            a,
-            e,
-            k as usize,
-            d,
-            g.rels,
-            g.chosen + 1,
-        ),
+        Entry::Choose(a, e, k, d, t, u, v) => {
+            let p = sorts_of(s, g, t, u, v);
+            let i = g.rels + g.chosen;
+            push(g, i, a, e, k as usize, d, p, g.rels, g.chosen + 1)
+        }
         _ => g,
     }
 }
@@ -219,6 +292,8 @@ fn no_relations() -> Signature
         to: [0; names::NAMES],
         arity: [0; names::DECLARED],
         kind: [0; names::DECLARED],
+        firsts: [0; names::DECLARED],
+        seconds: [0; names::DECLARED],
     }
 }
 
@@ -263,7 +338,7 @@ fn question_head(s: &[u8]) -> Head
             }
             return stopped(c, at, g, p);
         }
-        g = grow(g, x);
+        g = grow(s, g, x);
         at = l.next;
     }
     stopped(3, end, g, none)

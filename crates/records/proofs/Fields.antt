@@ -31,7 +31,7 @@ use Rattle.records.specs.declared.Places.{Places}
 use Rattle.records.specs.declared.Places.the-variants.{Unread, One, Two, Three}
 use Rattle.records.specs.declared.Entry.{Entry}
 use Rattle.records.specs.declared.Entry.the-variants.{Wrong}
-use Rattle.text.proofs.Laws.{slice-all, slice-done, pieces-at, pieces-whole, end-within, split-some, same-length}
+use Rattle.text.proofs.Laws.{slice-all, slice-done, pieces-at, pieces-whole, end-within, split-some}
 
 -- ---- one field, two fields
 
@@ -155,14 +155,14 @@ module _ (f : List ℕ) where
         unfolding kindWord
         kind-0 p = rw (n2, n3, n4, p)
 
-choose-tests : (name f : List ℕ) → S.chooseOf name f ≡
-    (if same f (70 ∷ 117 ∷ 110 ∷ []) then some (S.choose name 2 Fun)
-    else if same f (80 ∷ 70 ∷ 117 ∷ 110 ∷ []) then some (S.choose name 2 PFun)
-    else if same f (73 ∷ 110 ∷ 106 ∷ []) then some (S.choose name 2 Inj)
-    else if same f (80 ∷ 73 ∷ 110 ∷ 106 ∷ []) then some (S.choose name 2 PInj)
-    else option (S.arityOf f) none (λ a. some (S.choose name a plain)))
-unfolding S.chooseOf
-choose-tests name f = refl
+named-tests : (f : List ℕ) → S.kindNamed f ≡
+    (if same f (70 ∷ 117 ∷ 110 ∷ []) then some Fun
+    else if same f (80 ∷ 70 ∷ 117 ∷ 110 ∷ []) then some PFun
+    else if same f (73 ∷ 110 ∷ 106 ∷ []) then some Inj
+    else if same f (80 ∷ 73 ∷ 110 ∷ 106 ∷ []) then some PInj
+    else none)
+unfolding S.kindNamed
+named-tests f = refl
 
 kind-tests : (f : List ℕ) → kindWord f ≡
     (if same f (70 ∷ 117 ∷ 110 ∷ []) then 2
@@ -173,29 +173,71 @@ kind-tests : (f : List ℕ) → kindWord f ≡
 unfolding kindWord
 kind-tests f = refl
 
-choose-plain : (name : List ℕ) (o : Option S.Entry) (a b c d : Bool) → _≡_ {A = ℕ} (if a then 2 else if b then 3 else if c then 4 else if d then 5 else 0) 0
-    → (if a then some (S.choose name 2 Fun) else if b then some (S.choose name 2 PFun) else if c then some (S.choose name 2 Inj) else if d then some (S.choose name 2 PInj) else o) ≡ o
-choose-plain name o true b c d p = absurd (omega arith)
-choose-plain name o false true c d p = absurd (omega arith)
-choose-plain name o false false true d p = absurd (omega arith)
-choose-plain name o false false false true p = absurd (omega arith)
-choose-plain name o false false false false p = refl
+none-named : (a b c d : Bool) → _≡_ {A = ℕ} (if a then 2 else if b then 3 else if c then 4 else if d then 5 else 0) 0
+    → (if a then some Fun else if b then some PFun else if c then some Inj else if d then some PInj else none) ≡ none
+none-named true b c d p = absurd (omega arith)
+none-named false true c d p = absurd (omega arith)
+none-named false false true d p = absurd (omega arith)
+none-named false false false true p = absurd (omega arith)
+none-named false false false false p = refl
 
-choose-kind : (name : List ℕ) (o : Option S.Entry) (a b c d : Bool) → (_≡_ {A = ℕ} (if a then 2 else if b then 3 else if c then 4 else if d then 5 else 0) 0 → ⊥)
-    → (if a then some (S.choose name 2 Fun) else if b then some (S.choose name 2 PFun) else if c then some (S.choose name 2 Inj) else if d then some (S.choose name 2 PInj) else o)
-    ≡ some (S.choose name 2 (kindOf (if a then 2 else if b then 3 else if c then 4 else if d then 5 else 0)))
+one-named : (a b c d : Bool) → (_≡_ {A = ℕ} (if a then 2 else if b then 3 else if c then 4 else if d then 5 else 0) 0 → ⊥)
+    → (if a then some Fun else if b then some PFun else if c then some Inj else if d then some PInj else none)
+    ≡ some (kindOf (if a then 2 else if b then 3 else if c then 4 else if d then 5 else 0))
 unfolding kindOf
-choose-kind name o true b c d p = refl
-choose-kind name o false true c d p = refl
-choose-kind name o false false true d p = refl
-choose-kind name o false false false true p = refl
-choose-kind name o false false false false p = absurd (p refl)
+one-named true b c d p = refl
+one-named false true c d p = refl
+one-named false false true d p = refl
+one-named false false false true p = refl
+one-named false false false false p = absurd (p refl)
 
-pub choose-by-arity : (name f : List ℕ) → kindWord f ≡ 0 → S.chooseOf name f ≡ option (S.arityOf f) none (λ a. some (S.choose name a plain))
-choose-by-arity name f p = choose-tests name f ∙ choose-plain name _ (same f (70 ∷ 117 ∷ 110 ∷ [])) (same f (80 ∷ 70 ∷ 117 ∷ 110 ∷ [])) (same f (73 ∷ 110 ∷ 106 ∷ [])) (same f (80 ∷ 73 ∷ 110 ∷ 106 ∷ [])) (sym (kind-tests f) ∙ p)
+module _ (f : List ℕ) where
+  no-kind : kindWord f ≡ 0 → S.kindNamed f ≡ none
+  no-kind p = named-tests f ∙ none-named (same f (70 ∷ 117 ∷ 110 ∷ [])) (same f (80 ∷ 70 ∷ 117 ∷ 110 ∷ [])) (same f (73 ∷ 110 ∷ 106 ∷ [])) (same f (80 ∷ 73 ∷ 110 ∷ 106 ∷ [])) (sym (kind-tests f) ∙ p)
 
-pub choose-by-kind : (name f : List ℕ) → (kindWord f ≡ 0 → ⊥) → S.chooseOf name f ≡ some (S.choose name 2 (kindOf (kindWord f)))
-choose-by-kind name f p = choose-tests name f ∙ choose-kind name _ (same f (70 ∷ 117 ∷ 110 ∷ [])) (same f (80 ∷ 70 ∷ 117 ∷ 110 ∷ [])) (same f (73 ∷ 110 ∷ 106 ∷ [])) (same f (80 ∷ 73 ∷ 110 ∷ 106 ∷ [])) (λ z. p (kind-tests f ∙ z)) ∙ ap (λ (k : ℕ). some (S.choose name 2 (kindOf k))) (sym (kind-tests f))
+  a-kind : (kindWord f ≡ 0 → ⊥) → S.kindNamed f ≡ some (kindOf (kindWord f))
+  a-kind p =
+      named-tests f
+      ∙ one-named (same f (70 ∷ 117 ∷ 110 ∷ [])) (same f (80 ∷ 70 ∷ 117 ∷ 110 ∷ [])) (same f (73 ∷ 110 ∷ 106 ∷ [])) (same f (80 ∷ 73 ∷ 110 ∷ 106 ∷ [])) (λ z. p (kind-tests f ∙ z))
+      ∙ ap (λ (k : ℕ). some (kindOf k)) (sym (kind-tests f))
+
+-- ---- what a `choose` line has: by the number of its fields, and by its kind
+
+pub choose-of-one : (name : List ℕ) → S.chooseOf (name ∷ []) ≡ none
+unfolding S.chooseOf
+choose-of-one name = refl
+
+module _ (name f : List ℕ) where
+  pub choose-by-arity : kindWord f ≡ 0 → S.chooseOf (name ∷ f ∷ []) ≡ option (S.arityOf f) none (λ a. some (S.choose name a plain []))
+  unfolding S.chooseOf option
+  choose-by-arity p = rw (no-kind f p)
+
+  pub choose-by-kind : (kindWord f ≡ 0 → ⊥) → S.chooseOf (name ∷ f ∷ []) ≡ some (S.choose name 2 (kindOf (kindWord f)) [])
+  unfolding S.chooseOf option
+  choose-by-kind p = rw (a-kind f p)
+
+  with-types : (fs : List (List ℕ)) → 0 < length fs → S.chooseOf (name ∷ f ∷ fs) ≡ S.withTwo (λ t u. option (S.kindNamed f) none (λ kind. some (S.choose name 2 kind (t ∷ u ∷ [])))) fs
+  unfolding S.chooseOf S.withTwo
+  with-types [] h = absurd (omega arith)
+  with-types (t ∷ []) h = refl
+  with-types (t ∷ u ∷ []) h = refl
+  with-types (t ∷ u ∷ v ∷ fs) h = refl
+
+  -- types only after a function kind
+  none-with-types : (fs : List (List ℕ)) → S.withTwo (λ t u. none) fs ≡ none
+  unfolding S.withTwo
+  none-with-types [] = refl
+  none-with-types (t ∷ []) = refl
+  none-with-types (t ∷ u ∷ []) = refl
+  none-with-types (t ∷ u ∷ v ∷ fs) = refl
+
+  pub typed-no-kind : (fs : List (List ℕ)) → 0 < length fs → kindWord f ≡ 0 → S.chooseOf (name ∷ f ∷ fs) ≡ none
+  unfolding option
+  typed-no-kind fs h p = with-types fs h ∙ rw (no-kind f p) (none-with-types fs)
+
+  pub typed-by-kind : (fs : List (List ℕ)) → 0 < length fs → (kindWord f ≡ 0 → ⊥) → S.chooseOf (name ∷ f ∷ fs) ≡ S.withTwo (λ t u. some (S.choose name 2 (kindOf (kindWord f)) (t ∷ u ∷ []))) fs
+  unfolding option
+  typed-by-kind fs h p = with-types fs h ∙ rw (a-kind f p)
 
 -- ---- record words
 
@@ -253,7 +295,7 @@ none-either true x y p q = p
 none-either false x y p q = q
 
 alone : (w : List ℕ) → S.entry (w ∷ []) ≡ none
-unfolding S.entry S.withOne S.withTwo S.withElements
+unfolding S.entry S.withOne S.withTwo S.chooseOf S.withElements
 alone w = none-either (same w (114 ∷ 101 ∷ 108 ∷ [])) none _ refl (none-either (same w (116 ∷ 121 ∷ 112 ∷ 101 ∷ [])) none _ refl (none-either (same w (99 ∷ 104 ∷ 111 ∷ 111 ∷ 115 ∷ 101 ∷ [])) none _ refl (none-either (same w (114 ∷ 117 ∷ 108 ∷ 101 ∷ [])) none _ refl (none-either (same w (115 ∷ 105 ∷ 122 ∷ 101 ∷ [])) none _ refl (none-either (same w (108 ∷ 97 ∷ 98 ∷ 101 ∷ 108 ∷ [])) none _ refl (none-either (same w (109 ∷ 101 ∷ 109 ∷ 98 ∷ 101 ∷ 114 ∷ [])) none _ refl (none-either (same w (102 ∷ 97 ∷ 99 ∷ 116 ∷ [])) none _ refl (none-either (same w (112 ∷ 105 ∷ 99 ∷ 107 ∷ [])) none _ refl (none-either (same w (115 ∷ 116 ∷ 101 ∷ 112 ∷ [])) none _ refl refl)))))))))
 
 module _ (s : List ℕ) (a e : ℕ) (h : a ≤ e) (k : e ≤ length s) (t : ℕ) (q : t ≡ a + indexOf 9 (slice a e s)) where

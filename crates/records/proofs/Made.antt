@@ -1,17 +1,17 @@
 -- Each record's entry by its fields.
-use Prim.Native.Nat.{ℕ, _+_, _-_, _≤_, _<_}
+use Prim.Native.Nat.{ℕ, zero, suc, _+_, _-_, _≤_, _<_}
 use mathlib.Core.Path.{_≡_, refl, sym, ap, _∙_}
 use mathlib.Core.Bool.{Bool, true, false}
-use mathlib.Core.List.{List}
+use mathlib.Core.List.{List, [], _∷_}
 use mathlib.Core.Option.{Option, none, some}
 use native.Mathlib.Omega.{arith}
 use lib.ListN.{length}
-use lib.Seq.{slice, length-slice}
+use lib.Seq.{slice}
 use Rattle.definitions.specs.Lists.{option}
 use Rattle.definitions.specs.Text.{split, number, isRelationName}
 use Rattle.definitions.specs.Sheets as S
-use Rattle.text.specs.Spans.{numOf, kindOf}
-use Rattle.records.specs.Entries.{OneField, TwoFields, Named, codeOf, codes, kindWord, relOf, typeOf, ruleOf, sizeOf, stepOf, entryIn, InText, IsArity}
+use Rattle.text.specs.Spans.{indexOf, numOf, kindOf}
+use Rattle.records.specs.Entries.{OneField, TwoFields, Named, codeOf, codes, kindWord, relOf, typeOf, ruleOf, sizeOf, stepOf, typesAt, entryIn, InText, IsArity}
 use Rattle.text.specs.declared.Num.{Num}
 use Rattle.text.specs.declared.Num.the-variants.{Is, Bad}
 use Rattle.text.specs.declared.Found.{Found}
@@ -19,17 +19,67 @@ use Rattle.text.specs.declared.Found.the-variants.{At, Nowhere}
 use Rattle.records.specs.declared.Places.{Places}
 use Rattle.records.specs.declared.Places.the-variants.{Unread, One, Two, Three}
 use Rattle.records.specs.declared.Entry.the-variants.{Wrong, Rel, Typed, Choose, Rule, Size, Label, Member, Fact, Pick, Step}
-use Rattle.records.proofs.Fields.{two-bounds, two-bad, two-is, one-bad, one-is, num-is, num-bad, element-by, choose-by-arity, choose-by-kind, named-made, named-fields}
+use Rattle.text.proofs.Laws.{pieces-at, pieces-whole, split-some}
+use Rattle.records.proofs.Fields.{two-bounds, two-bad, two-is, one-bad, one-is, num-is, num-bad, element-by, choose-of-one, choose-by-arity, choose-by-kind, typed-no-kind, typed-by-kind, named-made, named-fields}
 
+-- what a `choose` line says, by its fields
+pub types-at : (s : List ℕ) (t u v : ℕ) → 0 < v → typesAt s t u v ≡ slice t u s ∷ slice (u + 1) v s ∷ []
+unfolding typesAt
+types-at s t u zero h = absurd (omega arith)
+types-at s t u (suc v) h = refl
+
+module _ (s : List ℕ) (a t e : ℕ) where
+  module _ (z : 0 ≡ kindWord (slice (t + 1) e s)) (n : Num) (q : n ≡ numOf (S.arityOf (slice (t + 1) e s))) where
+    pub untyped-bad : n ≡ Bad → entryIn s Wrong ≡ S.chooseOf (slice a t s ∷ slice (t + 1) e s ∷ [])
+    unfolding entryIn option
+    untyped-bad b = sym (choose-by-arity (slice a t s) (slice (t + 1) e s) (sym z) ∙ rw (num-bad (S.arityOf (slice (t + 1) e s)) n b q))
+
+    pub untyped-good : (k : ℕ) → n ≡ Is k → entryIn s (Choose a t k 1 0 0 0) ≡ S.chooseOf (slice a t s ∷ slice (t + 1) e s ∷ [])
+    unfolding entryIn option kindOf typesAt
+    untyped-good k b = sym (choose-by-arity (slice a t s) (slice (t + 1) e s) (sym z) ∙ rw (num-is (S.arityOf (slice (t + 1) e s)) n k b q))
+
+  pub untyped-kind : (kind : ℕ) → kind ≡ kindWord (slice (t + 1) e s) → (kind ≡ 0 → ⊥) → entryIn s (Choose a t 2 kind 0 0 0) ≡ S.chooseOf (slice a t s ∷ slice (t + 1) e s ∷ [])
+  unfolding entryIn typesAt
+  untyped-kind kind q z = ap (λ (k : ℕ). some (S.choose (slice a t s) 2 (kindOf k) [])) q ∙ sym (choose-by-kind (slice a t s) (slice (t + 1) e s) (λ y. z (q ∙ y)))
+
+  module _ (u kind : ℕ) (q : kind ≡ kindWord (slice (t + 1) u s)) where
+    pub typed-none : kind ≡ 0 → entryIn s Wrong ≡ S.chooseOf (slice a t s ∷ slice (t + 1) u s ∷ split 9 (slice (u + 1) e s))
+    unfolding entryIn
+    typed-none z = sym (typed-no-kind (slice a t s) (slice (t + 1) u s) (split 9 (slice (u + 1) e s)) (split-some 9 (slice (u + 1) e s)) (sym q ∙ z))
+
+    module _ (z : kind ≡ 0 → ⊥) (f : Found) (w : TwoFields s (u + 1) e f) where
+      typed-so : S.chooseOf (slice a t s ∷ slice (t + 1) u s ∷ split 9 (slice (u + 1) e s)) ≡ S.withTwo (λ x y. some (S.choose (slice a t s) 2 (kindOf kind) (x ∷ y ∷ []))) (split 9 (slice (u + 1) e s))
+      typed-so = typed-by-kind (slice a t s) (slice (t + 1) u s) (split 9 (slice (u + 1) e s)) (split-some 9 (slice (u + 1) e s)) (λ y. z (q ∙ y)) ∙ rw (sym q)
+
+      pub typed-bad : f ≡ Nowhere → entryIn s Wrong ≡ S.chooseOf (slice a t s ∷ slice (t + 1) u s ∷ split 9 (slice (u + 1) e s))
+      unfolding entryIn
+      typed-bad p = sym (typed-so ∙ two-bad s (u + 1) e f _ p w)
+
+      pub typed-good : (v : ℕ) → f ≡ At v → entryIn s (Choose a t 2 kind (u + 1) v e) ≡ S.chooseOf (slice a t s ∷ slice (t + 1) u s ∷ split 9 (slice (u + 1) e s))
+      unfolding entryIn
+      typed-good v p =
+          let l = two-bounds s (u + 1) e v f p w in
+          ap (λ (ts : List (List ℕ)). some (S.choose (slice a t s) 2 (kindOf kind) ts)) (types-at s (u + 1) v e (omega arith))
+          ∙ sym (typed-so ∙ two-is s (u + 1) e v f (λ x y. some (S.choose (slice a t s) 2 (kindOf kind) (x ∷ y ∷ []))) p w)
+
+module _ (s : List ℕ) (a e : ℕ) (h : a ≤ e) (k : e ≤ length s) (t : ℕ) (q : t ≡ a + indexOf 9 (slice a e s)) where
+  pub choose-alone : e ≤ t → entryIn s Wrong ≡ S.chooseOf (split 9 (slice a e s))
+  unfolding entryIn
+  choose-alone l = sym (ap S.chooseOf (pieces-whole 9 a e s h k t q l) ∙ choose-of-one (slice a e s))
+
+  module _ (l : t < e) (u : ℕ) (r : u ≡ (t + 1) + indexOf 9 (slice (t + 1) e s)) where
+    pub choose-two : e ≤ u → S.chooseOf (slice a t s ∷ slice (t + 1) e s ∷ []) ≡ S.chooseOf (split 9 (slice a e s))
+    choose-two m = ap S.chooseOf (sym (pieces-at 9 a e s h k t q l ∙ ap (λ (fs : List (List ℕ)). slice a t s ∷ fs) (pieces-whole 9 (t + 1) e s (omega arith) k u r m)))
+
+    pub choose-more : u < e → S.chooseOf (slice a t s ∷ slice (t + 1) u s ∷ split 9 (slice (u + 1) e s)) ≡ S.chooseOf (split 9 (slice a e s))
+    choose-more m = ap S.chooseOf (sym (pieces-at 9 a e s h k t q l ∙ ap (λ (fs : List (List ℕ)). slice a t s ∷ fs) (pieces-at 9 (t + 1) e s (omega arith) k u r m)))
+
+-- what a line with one or two fields, or a name and elements, says
 module _ (s : List ℕ) (a e : ℕ) where
   module _ (f : Found) (w : TwoFields s a e f) where
     pub rel-none : f ≡ Nowhere → entryIn s Wrong ≡ S.withTwo relOf (split 9 (slice a e s))
     unfolding entryIn
     rel-none p = sym (two-bad s a e f relOf p w)
-
-    pub choose-none : f ≡ Nowhere → entryIn s Wrong ≡ S.withTwo S.chooseOf (split 9 (slice a e s))
-    unfolding entryIn
-    choose-none p = sym (two-bad s a e f S.chooseOf p w)
 
     module _ (t : ℕ) (p : f ≡ At t) (n : Num) (q : n ≡ numOf (S.arityOf (slice (t + 1) e s))) where
       pub rel-bad : n ≡ Bad → entryIn s Wrong ≡ S.withTwo relOf (split 9 (slice a e s))
@@ -39,21 +89,6 @@ module _ (s : List ℕ) (a e : ℕ) where
       pub rel-good : (k : ℕ) → n ≡ Is k → entryIn s (Rel a t k) ≡ S.withTwo relOf (split 9 (slice a e s))
       unfolding entryIn relOf option
       rel-good k b = sym (two-is s a e t f relOf p w ∙ rw (num-is (S.arityOf (slice (t + 1) e s)) n k b q))
-
-      module _ (z : 0 ≡ kindWord (slice (t + 1) e s)) where
-        pub choose-bad : n ≡ Bad → entryIn s Wrong ≡ S.withTwo S.chooseOf (split 9 (slice a e s))
-        unfolding entryIn option
-        choose-bad b = sym (two-is s a e t f S.chooseOf p w ∙ choose-by-arity (slice a t s) (slice (t + 1) e s) (sym z) ∙ rw (num-bad (S.arityOf (slice (t + 1) e s)) n b q))
-
-        pub choose-good : (k : ℕ) → n ≡ Is k → entryIn s (Choose a t k 1) ≡ S.withTwo S.chooseOf (split 9 (slice a e s))
-        unfolding entryIn option kindOf
-        choose-good k b = sym (two-is s a e t f S.chooseOf p w ∙ choose-by-arity (slice a t s) (slice (t + 1) e s) (sym z) ∙ rw (num-is (S.arityOf (slice (t + 1) e s)) n k b q))
-
-    pub choose-kind : (t : ℕ) → f ≡ At t → (kind : ℕ) → kind ≡ kindWord (slice (t + 1) e s) → (kind ≡ 0 → ⊥) → entryIn s (Choose a t 2 kind) ≡ S.withTwo S.chooseOf (split 9 (slice a e s))
-    unfolding entryIn
-    choose-kind t p kind q z =
-        ap (λ (k : ℕ). some (S.choose (slice a t s) 2 (kindOf k))) q
-        ∙ sym (two-is s a e t f S.chooseOf p w ∙ choose-by-kind (slice a t s) (slice (t + 1) e s) (λ y. z (q ∙ y)))
 
     pub label-none : f ≡ Nowhere → entryIn s Wrong ≡ S.withTwo S.labelOf (split 9 (slice a e s))
     unfolding entryIn
@@ -209,10 +244,15 @@ module _ (s : List ℕ) where
     unfolding InText
     in-member k at = let b = two-bounds s a e t f p w in (b .0, b .1, h)
 
-    pub in-choose : (n : Num) (k : ℕ) → n ≡ Is k → IsArity n → (at : ℕ) → InText s at (Choose a t k 1)
+  module _ (a t e : ℕ) (h : a ≤ t) (l : t < e) (k : e ≤ length s) where
+    pub in-choose : (n : Num) (j : ℕ) → n ≡ Is j → IsArity n → (at : ℕ) → InText s at (Choose a t j 1 0 0 0)
     unfolding InText
-    in-choose n k q v at = let b = two-bounds s a e t f p w in let c = arity-told n k q v in (b .0, omega arith, c .0, c .1)
+    in-choose n j q v at = let c = arity-told n j q v in (h, omega arith, c .0, c .1, λ z. absurd (omega arith))
 
-    pub in-kind : (kind at : ℕ) → InText s at (Choose a t 2 kind)
+    pub in-kind : (kind at : ℕ) → InText s at (Choose a t 2 kind 0 0 0)
     unfolding InText
-    in-kind kind at = let b = two-bounds s a e t f p w in (b .0, omega arith, omega arith, omega arith)
+    in-kind kind at = (h, omega arith, omega arith, omega arith, λ z. absurd (omega arith))
+
+    pub in-typed : (u v : ℕ) (f : Found) → f ≡ At v → TwoFields s u e f → (kind at : ℕ) → InText s at (Choose a t 2 kind u v e)
+    unfolding InText
+    in-typed u v f p w kind at = let b = two-bounds s u e v f p w in (h, omega arith, omega arith, omega arith, λ z. (b .0, b .1, k))

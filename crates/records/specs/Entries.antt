@@ -119,7 +119,7 @@ unfoldable pub made : ℕ → List (List ℕ) → Option S.Entry
 made zero fs = none
 made (suc zero) fs = S.withTwo relOf fs
 made (suc (suc zero)) fs = S.withOne typeOf fs
-made (suc (suc (suc zero))) fs = S.withTwo S.chooseOf fs
+made (suc (suc (suc zero))) fs = S.chooseOf fs
 made (suc (suc (suc (suc zero)))) fs = S.withOne ruleOf fs
 made (suc (suc (suc (suc (suc zero))))) fs = S.withOne sizeOf fs
 made (suc (suc (suc (suc (suc (suc zero)))))) fs = S.withTwo S.labelOf fs
@@ -132,12 +132,17 @@ made (suc (suc (suc (suc (suc (suc (suc (suc (suc (suc (suc k))))))))))) fs = no
 unfoldable pub Says : List ℕ → ℕ → Type 0
 Says w k = ((fs : List (List ℕ)) → S.entry (w ∷ fs) ≡ made k fs) × (k ≡ 4 → length w ≡ 4)
 
+-- the types that a `choose` line gives: from t to u and from u + 1 to v, or none where v is 0
+unfoldable pub typesAt : List ℕ → ℕ → ℕ → ℕ → List (List ℕ)
+typesAt s t u zero = []
+typesAt s t u (suc v) = slice t u s ∷ slice (u + 1) (suc v) s ∷ []
+
 -- the entry of the text s that an answer stands for
 unfoldable pub entryIn : List ℕ → Entry → Option S.Entry
 entryIn s Wrong = none
 entryIn s (Rel a e k) = some (S.rel (slice a e s) k)
 entryIn s (Typed a e) = some (S.type (slice a e s))
-entryIn s (Choose a e k kind) = some (S.choose (slice a e s) k (kindOf kind))
+entryIn s (Choose a e k kind t u v) = some (S.choose (slice a e s) k (kindOf kind) (typesAt s t u v))
 entryIn s (Rule a e) = some (S.rule (slice a e s))
 entryIn s (Size n) = some (S.size n)
 entryIn s (Label k a t e) = some (S.label (elementBy (slice a t s) k) (slice (t + 1) e s))
@@ -151,7 +156,7 @@ unfoldable pub InText : List ℕ → ℕ → Entry → Type 0
 InText s at Wrong = Unit {0}
 InText s at (Rel a e k) = (a ≤ e) × (e ≤ length s) × (1 ≤ k) × (k ≤ 3)
 InText s at (Typed a e) = (a ≤ e) × (e ≤ length s)
-InText s at (Choose a e k kind) = (a ≤ e) × (e ≤ length s) × (1 ≤ k) × (k ≤ 3)
+InText s at (Choose a e k kind t u v) = (a ≤ e) × (e ≤ length s) × (1 ≤ k) × (k ≤ 3) × (0 < v → (t ≤ u) × (u < v) × (v ≤ length s))
 InText s at (Rule a e) = (a ≡ at + 5) × (a ≤ e) × (e ≤ length s)
 InText s at (Size n) = Unit {0}
 InText s at (Label k a t e) = (t < e) × (e ≤ length s) × (isRelationName (slice (t + 1) e s) ≡ true)

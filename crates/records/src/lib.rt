@@ -1,5 +1,6 @@
 // What a line of any sheet says: its record word and the fields after it (document 01, "The sheets").
 ghost use mathlib.Core.Path.{_≡_};
+ghost use mathlib.Core.List.{[], _∷_};
 ghost use Prim.Native.Nat.{ℕ, _+_, _≤_, _<_};
 ghost use lib.ListN.{length};
 ghost use lib.Seq.{slice};
@@ -23,12 +24,12 @@ pub enum Places {
 
 // A record: names and the rule as spans of the text, a kind by its number. A label's element field is a span too, and after the tab
 // that ends it the label goes up to the line's end; so do the element fields of a fact or a pick after its name, and that of a member
-// after its type.
+// after its type. A chosen relation's types are a span and, after the tab that ends it, another, which goes up to 0 where there are none.
 pub enum Entry {
     Wrong,
     Rel(usize, usize, u32),
     Typed(usize, usize),
-    Choose(usize, usize, u32, u32),
+    Choose(usize, usize, u32, u32, usize, usize, usize),
     Rule(usize, usize),
     Size(u32),
     Label(u32, usize, usize, usize),
@@ -180,26 +181,53 @@ fn rel_entry(s: &[u8], a: usize, e: usize) -> Entry
     }
 }
 
+// The two fields after `choose`, parted by the tab at t: a name, then a function kind or an arity.
+fn choose_untyped(s: &[u8], a: usize, t: usize, e: usize) -> Entry
+    requires { ⌜ (a ≤ t) × (t < e) × (e ≤ length (now s)) ⌝ }
+    ensures { λ r. ⌜ (entryIn (now (s .entry)) r ≡ chooseOf (slice a t (now (s .entry)) ∷ slice (t + 1) e (now (s .entry)) ∷ [])) × ((at : ℕ) → InText (now (s .entry)) at r) ⌝ }
+{
+    let kind = kind_word(s, t + 1, e);
+    if kind == 0 {
+        let n = arity(s, t + 1, e);
+        return match n {
+            Num::Bad => Entry::Wrong,
+            Num::Is(k) => Entry::Choose(a, t, k, 1, 0, 0, 0),
+        };
+    }
+    Entry::Choose(a, t, 2, kind, 0, 0, 0)
+}
+
+// The fields after `choose` where there are more than two; the first two end at t and u. Only a function kind has types, and two of them.
+fn choose_typed(s: &[u8], a: usize, t: usize, u: usize, e: usize) -> Entry
+    requires { ⌜ (a ≤ t) × (t < u) × (u < e) × (e ≤ length (now s)) ⌝ }
+    ensures { λ r. ⌜ (entryIn (now (s .entry)) r ≡ chooseOf (slice a t (now (s .entry)) ∷ slice (t + 1) u (now (s .entry)) ∷ split 9 (slice (u + 1) e (now (s .entry)))))
+        × ((at : ℕ) → InText (now (s .entry)) at r) ⌝ }
+{
+    let kind = kind_word(s, t + 1, u);
+    if kind == 0 {
+        return Entry::Wrong;
+    }
+    let f = two(s, u + 1, e);
+    match f {
+        Found::Nowhere => Entry::Wrong,
+        Found::At(v) => Entry::Choose(a, t, 2, kind, u + 1, v, e),
+    }
+}
+
 // The fields after `choose`.
 fn choose_entry(s: &[u8], a: usize, e: usize) -> Entry
     requires { ⌜ (a ≤ e) × (e ≤ length (now s)) ⌝ }
-    ensures { λ r. ⌜ (entryIn (now (s .entry)) r ≡ withTwo chooseOf (split 9 (slice a e (now (s .entry))))) × ((at : ℕ) → InText (now (s .entry)) at r) ⌝ }
+    ensures { λ r. ⌜ (entryIn (now (s .entry)) r ≡ chooseOf (split 9 (slice a e (now (s .entry))))) × ((at : ℕ) → InText (now (s .entry)) at r) ⌝ }
 {
-    let f = two(s, a, e);
-    match f {
-        Found::Nowhere => Entry::Wrong,
-        Found::At(t) => {
-            let kind = kind_word(s, t + 1, e);
-            if kind == 0 {
-                let n = arity(s, t + 1, e);
-                return match n {
-                    Num::Bad => Entry::Wrong,
-                    Num::Is(k) => Entry::Choose(a, t, k, 1),
-                };
-            }
-            Entry::Choose(a, t, 2, kind)
-        }
+    let t = text::find(s, a, e, 9);
+    if t == e {
+        return Entry::Wrong;
     }
+    let u = text::find(s, t + 1, e, 9);
+    if u == e {
+        return choose_untyped(s, a, t, e);
+    }
+    choose_typed(s, a, t, u, e)
 }
 
 // The field after `type`.

@@ -24,7 +24,8 @@
 --   17  rule-texts, rule-once; rule-typed, types-are, members-are, each-member, range-is, range-ascends; untyped-atom, untyped-atoms,
 --       untyped-action, untyped-actions, untyped-needs, untyped-adds, untyped-removes, untyped-initial, untyped-bound, untyped-run;
 --       plain-rule, plain-case, plain-range
-use Prim.Native.Nat.{ℕ, zero, _+_, _*_, _^_, _<_, _≤_}
+--   18  kind-sorts, place-range, kinds-are, first-is, settable, set-counts
+use Prim.Native.Nat.{ℕ, zero, suc, _+_, _*_, _/_, _%_, _^_, _<_, _≤_}
 use mathlib.Core.Path.{_≡_, refl, sym, ap, subst, subst₂, _∙_}
 use mathlib.Core.Logic.{_⊎_, ⊎-elim, _↔_}
 use mathlib.Core.Bool.{Bool, true, false, not, _&&_, _||_}
@@ -40,15 +41,15 @@ use Rattle.definitions.specs.Text.{bytes, number, decimal, isRelationName, Line
 use Rattle.definitions.specs.Rewritten.{inNumbers}
 use Rattle.definitions.specs.Desk.{stepLine, pickLine, sheets, answer}
 use Rattle.definitions.specs.Refusal.{Result, refused, accepted, _>>=_, refuseIf, caseNumbers, readyNumbers, runNumbers, picksNumbers, given, readText}
-use Rattle.definitions.specs.Relations.{Tuple, isAmong}
+use Rattle.definitions.specs.Relations.{Relation, Tuple, isAmong, isChosen, isFunction}
 use Rattle.definitions.specs.Formula.{Quantified, Formula, write, WellFormed, typeNumber, hasType, isTyped}
 use Rattle.definitions.specs.Parsing.{readFormula}
 use Rattle.definitions.specs.Writing
-use Rattle.definitions.specs.Untyped.{isUntyped, untyped}
+use Rattle.definitions.specs.Untyped.{usesNoTypes, untyped}
 use Rattle.definitions.specs.Sheets.{Question, Member, hasMember, Label, elementNamed, nameOf, readQuestion, readPicks, firstChosen, readSteps}
 use Rattle.definitions.specs.Truth.{Case, membersOf, rangeOf, arePicks, areOfKinds, firstOfOtherKind, ruleIsTrue}
-use Rattle.definitions.specs.Atoms.{Problem, problemOf, Block, countOf, Atom, itemAt, atomBlocks, atoms, atomNumber, relationAt, placesOf, initial, stateWords, rowOf}
-use Rattle.definitions.specs.Actions.{Action, set, actionAt, actionBlocks, actions, actionNumber, needs, adds, removes}
+use Rattle.definitions.specs.Atoms.{Problem, problemOf, Block, countOf, Atom, itemAt, atomBlocks, atoms, atomNumber, relationAt, tuplesOf, placesOf, initial, stateWords, rowOf}
+use Rattle.definitions.specs.Actions.{Action, set, actionAt, actionBlocks, actions, setStart, actionNumber, needs, adds, removes}
 use Rattle.definitions.specs.Strips.{reachesGoal, run, picksOf}
 use Rattle.definitions.specs.Built.{chosenNumbers, builtSteps, builtCount, bound, boundExponents, boundPolynomial, pickedRows}
 use Rattle.definitions.specs.Outcome.{replyNumber, replyPlace, sizes, action, CaseRead, readFiled, readCase, ground, readProblem, asked, nothing, roomFor, stateLength, written, picksLength, pickWords, bitOf, lentPicks, spareWord, Given, asText, asNumbers, takeSteps, textPicks, picksRoom, takePicks, readyToRun, Checked, checkedFrom, checkSteps, picksIfAccepted, picksReadFrom, picksFromSteps, kindRefusal, Plan, plan, Built, builtFrom, buildSteps, Ready, PicksRead, sizesOf, satisfying}
@@ -66,7 +67,7 @@ use Rattle.laws.specs.Repeats.{Once}
 use Rattle.laws.specs.Booleans.{T-of, T-true}
 use Rattle.laws.specs.Results.{accepted-eq, accepted-is, is-accepted}
 use Rattle.laws.specs.Blocks.{item-lt}
-use Rattle.laws.specs.Numbers.{IsAction, IsAtom}
+use Rattle.laws.specs.Numbers.{noRelation, IsAction, IsAtom}
 use Rattle.laws.specs.Words.{words-for}
 use Rattle.laws.specs.Asked
 use Rattle.laws.specs.Count
@@ -102,6 +103,8 @@ use Rattle.reduction.specs.InNumbers
 use Rattle.reduction.specs.SameReplies
 use Rattle.reduction.specs.Ranges
 use Rattle.reduction.specs.NoTypes
+use Rattle.reduction.specs.BothSides.{Keeps}
+use Rattle.reduction.specs.TypedKinds
 
 -- A question and a site are accepted exactly if a case is read from them, with its labels, and its problem is within the limits.
 pub accepted-case : (L : CaseLimits) (question site : List ℕ)
@@ -744,9 +747,9 @@ module _ (L : CaseLimits) (few : L .elements ≤ 64) (question site : List ℕ) 
   unfolding rangeOf
   range-ascends q = let R = Reader.accepted-range c fits-case _ in (R .ascends, R .some-member)
 
-  -- Without `type` lines no variable of the rule has a type, nothing is left out by leaving out types, and there is one range, all
+  -- Without `type` lines no variable of the rule and no kind has a type, nothing is left out by leaving out types, and there is one range, all
   -- elements.
-  pub plain-rule : c .question .types ≡ [] → isUntyped (c .question .rule .formula) ≡ true
+  pub plain-rule : c .question .types ≡ [] → usesNoTypes (c .question) ≡ true
   plain-rule e = T-true _ (NoTypes.no-types-rule c fits-case e)
 
   pub plain-case : c .question .types ≡ [] → untyped c ≡ c
@@ -755,9 +758,9 @@ module _ (L : CaseLimits) (few : L .elements ≤ 64) (question site : List ℕ) 
   pub plain-range : c .question .types ≡ [] → (s : ℕ) → membersOf c s ≡ below (c .site .size)
   plain-range e s = NoTypes.no-types-range c e s
 
--- A rule without types gives the problem of document 01, number for number, whatever types and members there are: the same as the case
--- without its `type` and `member` lines. For every number the same atom, and the same action,
-module _ (c : Case) (no-types : isUntyped (c .question .rule .formula) ≡ true) where
+-- A rule without types, and kinds without them, give the problem of document 01, number for number, whatever types and members there are:
+-- the same as the case without its `type` and `member` lines. For every number the same atom, and the same action,
+module _ (c : Case) (no-types : usesNoTypes (c .question) ≡ true) where
   pub untyped-atom : (i : ℕ) → itemAt (atomBlocks (problemOf c)) i ≡ itemAt (atomBlocks (problemOf (untyped c))) i
   untyped-atom i = ap (λ (bs : List (Block Atom)). itemAt bs i) (NoTypes.for-untyped c (T-of no-types) (λ p q. atomBlocks p ≡ atomBlocks q) (NoTypes.atoms-same c))
 
@@ -766,7 +769,7 @@ module _ (c : Case) (no-types : isUntyped (c .question .rule .formula) ≡ true)
   untyped-atoms = ap countOf (NoTypes.for-untyped c (T-of no-types) (λ p q. atomBlocks p ≡ atomBlocks q) (NoTypes.atoms-same c))
 
   pub untyped-action : (k : ℕ) → actionAt (problemOf c) k ≡ actionAt (problemOf (untyped c)) k
-  untyped-action k = NoTypes.for-untyped c (T-of no-types) (λ p q. actionAt p k ≡ actionAt q k) (λ t h. NoTypes.action-same c t h k)
+  untyped-action k = NoTypes.for-untyped c (T-of no-types) (λ p q. actionAt p k ≡ actionAt q k) (λ t h u. NoTypes.action-same c t h u k)
 
   pub untyped-actions : actions (problemOf c) ≡ actions (problemOf (untyped c))
   unfolding actions
@@ -774,13 +777,13 @@ module _ (c : Case) (no-types : isUntyped (c .question .rule .formula) ≡ true)
 
   -- which needs, adds and removes the same;
   pub untyped-needs : (a : Action) → needs (problemOf c) a ≡ needs (problemOf (untyped c)) a
-  untyped-needs a = NoTypes.for-untyped c (T-of no-types) (λ p q. needs p a ≡ needs q a) (λ t h. NoTypes.needs-same c t h a)
+  untyped-needs a = NoTypes.for-untyped c (T-of no-types) (λ p q. needs p a ≡ needs q a) (λ t h u. NoTypes.needs-same c t h u a)
 
   pub untyped-adds : (a : Action) → adds (problemOf c) a ≡ adds (problemOf (untyped c)) a
-  untyped-adds a = NoTypes.for-untyped c (T-of no-types) (λ p q. adds p a ≡ adds q a) (λ t h. NoTypes.adds-same c t h a)
+  untyped-adds a = NoTypes.for-untyped c (T-of no-types) (λ p q. adds p a ≡ adds q a) (λ t h u. NoTypes.adds-same c t h u a)
 
   pub untyped-removes : (a : Action) → removes (problemOf c) a ≡ removes (problemOf (untyped c)) a
-  untyped-removes a = NoTypes.for-untyped c (T-of no-types) (λ p q. removes p a ≡ removes q a) (λ t h. NoTypes.removes-same c t h a)
+  untyped-removes a = NoTypes.for-untyped c (T-of no-types) (λ p q. removes p a ≡ removes q a) (λ t h u. NoTypes.removes-same c t h u a)
 
   -- the same atoms initially, and the same bound.
   pub untyped-initial : initial (problemOf c) ≡ initial (problemOf (untyped c))
@@ -791,4 +794,46 @@ module _ (c : Case) (no-types : isUntyped (c .question .rule .formula) ≡ true)
 
   -- So every list of steps gets the same answer and leaves the same state.
   pub untyped-run : (steps : List ℕ) → run (problemOf c) steps ≡ run (problemOf (untyped c)) steps
-  untyped-run steps = NoTypes.for-untyped c (T-of no-types) (λ p q. run p steps ≡ run q steps) (λ t h. NoTypes.run-same c t h steps)
+  untyped-run steps = NoTypes.for-untyped c (T-of no-types) (λ p q. run p steps ≡ run q steps) (λ t h u. NoTypes.run-same c t h u steps)
+
+-- ---- 18, document 02, job 5. For every limits of at most 64 elements, and every question and site that a case c is read from:
+module _ (L : CaseLimits) (few : L .elements ≤ 64) (question site : List ℕ) (c : Case) (is-case : readCase L question site ≡ accepted c) where
+  fits-kinds : Accepted c
+  fits-kinds = gives-if Accepted (readCase L question site) c is-case (case-fits L few question site)
+
+  -- the sorts of a `choose`'s places are of declared types, and those of one that is of no function kind are 0;
+  pub kind-sorts : (k : Relation) → List·Memᴰ k (c .question .chosen)
+      → (k .firsts ≤ length (c .question .types)) × (k .seconds ≤ length (c .question .types)) × (isFunction (k .kind) ≡ false → (k .firsts ≡ 0) × (k .seconds ≡ 0))
+  kind-sorts k m = let F = fits-kinds .question-fits .chosen-sorted k m in (F .firsts-few, F .seconds-few, F .no-sorts)
+
+  -- by such a sort a place has all elements, where it is 0, and otherwise those of the `member` lines of the type.
+  pub place-range : (s : ℕ) → s ≤ length (c .question .types) → (x : ℕ)
+      → List·Memᴰ x (membersOf c s) ↔ ((x < c .site .size) × ((s ≡ 0) ⊎ ((m : Member) × List·Memᴰ m (c .site .members) × (s ≡ suc (m .type)) × (m .element ≡ x))))
+  place-range s h x = Ranges.place-range c x s h
+
+  -- Picks are of the declared kinds exactly if they keep to the kind of each `choose`: a function kind has no first place with two
+  -- seconds, an injective one no second with two firsts, and a function kind no pick whose first or second place is outside its type.
+  pub kinds-are : (picks : List Tuple)
+      → (areOfKinds c picks ≡ true)
+      ↔ ((j : ℕ) → j < length (c .question .chosen) → Keeps c picks (firstChosen (c .question) + j) (getD (c .question .chosen) j noRelation))
+  kinds-are = TypedKinds.kinds-are c
+
+  -- The index that 16 has is that of the first `choose` to which they do not keep.
+  pub first-is : (picks : List Tuple) (i : ℕ) → firstOfOtherKind c picks ≡ some i
+      → (i < length (c .question .chosen)) × (Keeps c picks (firstChosen (c .question) + i) (getD (c .question .chosen) i noRelation) → ⊥)
+      × ((j : ℕ) → j < i → Keeps c picks (firstChosen (c .question) + j) (getD (c .question .chosen) j noRelation))
+  first-is = TypedKinds.first-is c
+
+  -- A tuple of a `choose` has a set action exactly if it is not outside these types,
+  pub settable : (r row : ℕ)
+      → ((k : ℕ) × (actionAt (problemOf c) k ≡ some (set r row)))
+      ↔ ((r < length (problemOf c .relations)) × (isChosen (relationAt (problemOf c) r .kind) ≡ true) × (row < tuplesOf (problemOf c .size) (relationAt (problemOf c) r))
+      × (isFunction (relationAt (problemOf c) r .kind) ≡ true → List·Memᴰ (row / problemOf c .size) (membersOf c (relationAt (problemOf c) r .firsts)) × List·Memᴰ (row % problemOf c .size) (membersOf c (relationAt (problemOf c) r .seconds))))
+  settable = TypedKinds.settable c fits-kinds
+
+  -- so a function kind has as many as there are pairs of members, and any other `choose` one for each tuple.
+  pub set-counts : (r : ℕ) → r < length (problemOf c .relations)
+      → setStart (problemOf c) (suc r) ≡ setStart (problemOf c) r
+      + (if isFunction (relationAt (problemOf c) r .kind) then length (membersOf c (relationAt (problemOf c) r .firsts)) * length (membersOf c (relationAt (problemOf c) r .seconds))
+      else if isChosen (relationAt (problemOf c) r .kind) then tuplesOf (problemOf c .size) (relationAt (problemOf c) r) else zero)
+  set-counts = TypedKinds.set-counts c fits-kinds

@@ -256,7 +256,7 @@ module _ (L : CaseLimits) (few : L .elements ≤ 64) (rels : List Relation) (typ
   unfolding addToSite Says fields AllWithout all isBetween
   entry-goes labels more d m at w (rel name a) v D p s q = absurd (refused-accepted q)
   entry-goes labels more d m at w (type name) v D p s q = absurd (refused-accepted q)
-  entry-goes labels more d m at w (choose name a k) v D p s q = absurd (refused-accepted q)
+  entry-goes labels more d m at w (choose name a k names) v D p s q = absurd (refused-accepted q)
   entry-goes labels more d m at w (rule f) v D p s q = absurd (refused-accepted q)
   entry-goes labels more d m at w (size n) v D p s q = (
     ([], size-plain L d m at at n (d .sized) q .0 ∙ sym (append-nil (d .labels))),

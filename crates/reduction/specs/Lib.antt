@@ -12,8 +12,9 @@
 --   Written      sheets of steps and picks, written and read back
 --   InNumbers    a case rewritten with numbers for labels is the same case
 --   SameReplies  two sites that are read as one case have the same replies
---   Ranges       what a variable ranges over, from the lines of the sheets
---   NoTypes      a rule without types: the problem does not depend on types and members
+--   Ranges       what a variable and a place of a kind range over, from the lines of the sheets
+--   NoTypes      a question that uses no types: the problem does not depend on types and members
+--   TypedKinds   kinds with types, in plain words; which tuples have a set action
 --   Buffers      what is left in lent buffers
 --   Filed        what the desk program prints
 --   Short        where the limits of texts and steps lie, and that the desk stays below them; how many picks it prints
@@ -35,6 +36,7 @@ pub mod InNumbers
 pub mod SameReplies
 pub mod Ranges
 pub mod NoTypes
+pub mod TypedKinds
 pub mod Buffers
 pub mod Filed
 pub mod Short

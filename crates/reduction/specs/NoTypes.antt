@@ -1,29 +1,31 @@
--- A rule without types: its tree is the one that it has where no types are declared, every sort in that tree is 0, and so the problem
--- does not depend on types and members.
+-- A question that uses no types: its tree is the one that it has where no types are declared, every sort in that tree and of a relation's
+-- places is 0, and so the problem does not depend on types and members.
 use Prim.Native.Nat.{ℕ, zero, suc, _+_, _*_, _/_, _%_, _≤_}
 use mathlib.Core.Path.{_≡_, refl, sym, ap, ap₂, subst, _∙_, fun-ext}
 use mathlib.Core.Bool.{Bool, true, false, not, _&&_, _||_}
 use mathlib.Core.Option.{Option, none, some}
-use mathlib.Core.List.{List, [], _∷_, _++_, map, List·Memᴰ, List·Memᴰ·head, List·Memᴰ·tail}
+use mathlib.Core.List.{List, [], _∷_, _++_, map, List·Memᴰ, List·Memᴰ·head, List·Memᴰ·tail, Memᴰ·append-right}
 use native.Mathlib.Omega.{arith}
-use lib.Dec.{T, eqb, ltb}
+use lib.Dec.{T, eqb, eqb→eq, ltb}
 use lib.ListN.{length, getD, take, drop}
-use borrow.Author.Tests.{le-ltb}
-use Rattle.definitions.specs.Lists.{if_then_else_, all, any, option, filter, mapFrom, below, before}
-use Rattle.definitions.specs.Relations.{Relation}
-use Rattle.definitions.specs.Formula.{Quantified, Formula, Formulas, literal, negation, implication, conjunction, disjunction, exists, forall, nil, cons, variablesOf, typeNumber, sortOf, hasType, isTyped, areTyped}
-use Rattle.definitions.specs.Sheets.{Member, isMember, relationsOf, firstChosen}
+use borrow.Author.Tests.{eq-eqb, le-ltb}
+use Rattle.definitions.specs.Lists.{if_then_else_, all, any, option, filter, mapFrom, below, isIn, before}
+use Rattle.definitions.specs.Relations.{Relation, isChosen, isFunction, builtIn}
+use Rattle.definitions.specs.Formula.{Quantified, Formula, Formulas, literal, negation, implication, conjunction, disjunction, exists, forall, nil, cons, variablesOf, sortNamed, sortOf, isType, hasType, isTyped, areTyped}
+use Rattle.definitions.specs.Sheets.{Member, isMember, relations, relationsOf, firstChosen}
 use Rattle.definitions.specs.Truth.{Case, holds, membersOf}
 use Rattle.definitions.specs.Tree.{Tree, Trees, leaf, forallNode, existsNode, andNode, orNode, end, _then_, nest, asIs, negated, allAsIs, allNegated, joined, totalities, treeOf, nodes, parts, partsFrom, nodeSort}
-use Rattle.definitions.specs.Atoms.{Problem, problemWith, problemOf, relationAt, nodeAt, rowsOf, Block, itemAt, atomBlocks, atoms, Atom, guess, proof, goal, tuple, notTuple, freeDomain, freeRange, holdsNode, atomNumber, relationStart, nodeStart, nodeAtoms, tupleHolds, isInitial, State, initial}
-use Rattle.definitions.specs.Actions.{Action, set, beginProof, proveAnd, proveOr, proveExists, proveForall, proveGoal, choices, proveNode, setRows, setsOf, setBlocks, proofsOf, proofBlocks, actionBlocks, actions, actionAt, Values, partAtom, partAtoms, underAtom, forallNeeds, needs, adds, removes}
+use Rattle.definitions.specs.Atoms.{Problem, problemWith, problemOf, relationAt, nodeAt, tuplesOf, rowsOf, Block, itemAt, atomBlocks, atoms, Atom, guess, proof, goal, tuple, notTuple, freeDomain, freeRange, holdsNode, atomNumber, relationStart, nodeStart, nodeAtoms, tupleHolds, isInitial, State, initial}
+use Rattle.definitions.specs.Actions.{Action, set, beginProof, proveAnd, proveOr, proveExists, proveForall, proveGoal, choices, proveNode, isSettable, setRows, setsOf, setBlocks, proofsOf, proofBlocks, actionBlocks, actions, actionAt, Values, partAtom, partAtoms, underAtom, forallNeeds, needs, adds, removes}
 use Rattle.definitions.specs.Refusal.{refused, accepted}
 use Rattle.definitions.specs.Strips.{mayTake, after, runFrom, run}
 use Rattle.definitions.specs.Built.{bound}
-use Rattle.definitions.specs.Untyped.{hasNoType, isUntyped, areUntyped, untyped}
-use Rattle.laws.specs.Booleans.{T-and-l, T-and-r}
+use Rattle.definitions.specs.Untyped.{hasNoType, isUntyped, areUntyped, hasNoSorts, usesNoTypes, untyped}
+use Rattle.laws.specs.Booleans.{T-and-l, T-and-r, T-of, and-T}
+use Rattle.laws.specs.Lists.{all-at, all-of}
 use Rattle.laws.specs.Members.{MembersFit}
-use Rattle.laws.specs.Reader.{Accepted}
+use Rattle.laws.specs.Reader.{SortsFit, unsorted-fits, Accepted}
+use Rattle.laws.specs.Grounded.{sorts-fit}
 use Rattle.laws.specs.Sorts.{Sorted, SortedAll, node-sort, node-sorted, nodes-sorted, tree-sorted}
 
 -- ---- the tree
@@ -31,7 +33,7 @@ sort-none : (types : List (List ℕ)) (q : Quantified) → T (hasNoType q) → s
 unfolding sortOf hasNoType option
 sort-none types q = go (q .type)
   where
-    go : (o : Option (List ℕ)) → T (option o true (λ _. false)) → option o zero (λ name. option (typeNumber types name) zero suc) ≡ zero
+    go : (o : Option (List ℕ)) → T (option o true (λ _. false)) → option o zero (sortNamed types) ≡ zero
     go none t = refl
     go (some name) t = absurd t
 
@@ -74,9 +76,17 @@ tree-same : (c : Case) → T (isUntyped (c .question .rule .formula)) → treeOf
 unfolding treeOf relationsOf firstChosen untyped
 tree-same c h = ap (λ (t : Tree). joined t (totalities (firstChosen (c .question)) (c .question .chosen))) (as-same (relationsOf (c .question)) (c .question .types) (c .question .rule .formula) [] h)
 
-untyped-sorted : (c : Case) → Sorted 0 (treeOf (untyped c .question))
-unfolding untyped
-untyped-sorted c = tree-sorted (untyped c .question)
+no-sorts : (k : Relation) → T (hasNoSorts k) → (k .firsts ≡ 0) × (k .seconds ≡ 0)
+unfolding hasNoSorts
+no-sorts k t = (eqb→eq (k .firsts) 0 (T-and-l (eqb (k .firsts) 0) _ t), eqb→eq (k .seconds) 0 (T-and-r (eqb (k .firsts) 0) _ t))
+
+sorts-none : (k : Relation) → k .firsts ≡ 0 → k .seconds ≡ 0 → T (hasNoSorts k)
+unfolding hasNoSorts
+sorts-none k a b = and-T (eqb (k .firsts) 0) _ (T-of (eq-eqb (k .firsts) 0 a)) (T-of (eq-eqb (k .seconds) 0 b))
+
+untyped-sorted : (c : Case) → T (all hasNoSorts (relationsOf (c .question))) → Sorted 0 (treeOf (untyped c .question))
+unfolding untyped relationsOf relations
+untyped-sorted c u = tree-sorted (untyped c .question) (λ k m. unsorted-fits 0 k (no-sorts k (all-at hasNoSorts (relationsOf (c .question)) u k (Memᴰ·append-right builtIn (Memᴰ·append-right (c .question .rels) m)))))
 
 -- ---- actions of nodes whose sorts are 0, by ranges that are the same there
 module _ (n : ℕ) (R S : ℕ → List ℕ) (same : R 0 ≡ S 0) where
@@ -99,6 +109,20 @@ module _ (n : ℕ) (R S : ℕ → List ℕ) (same : R 0 ≡ S 0) where
   prove-same (existsNode d σ t) v row i h = ap (λ (ms : List ℕ). proveExists v row (getD ms i 0)) (zeroth σ (h .0))
   prove-same (andNode ts) v row i h = refl
   prove-same (orNode ts) v row i h = refl
+
+  rows-same : (k : Relation) → T (hasNoSorts k) → setRows n R k ≡ setRows n S k
+  unfolding setRows isSettable
+  rows-same k t =
+      let (a, b) = no-sorts k t in
+      let x : k .firsts ≤ 0 = omega arith in
+      let y : k .seconds ≤ 0 = omega arith in
+      ap₂ (λ (xs ys : List ℕ). if isChosen (k .kind) then filter (λ row. if isFunction (k .kind) then isIn (row / n) xs && isIn (row % n) ys else true) (below (tuplesOf n k)) else []) (zeroth (k .firsts) x) (zeroth (k .seconds) y)
+
+  sets-same : (ks : List Relation) (r : ℕ) → T (all hasNoSorts ks)
+      → mapFrom {B = Block Action} (λ r (k : Relation). record { width = setsOf n R k; item = λ i. set r (getD (setRows n R k) i 0) }) r ks ≡ mapFrom (λ r (k : Relation). record { width = setsOf n S k; item = λ i. set r (getD (setRows n S k) i 0) }) r ks
+  unfolding mapFrom all setsOf
+  sets-same [] r u = refl
+  sets-same (k ∷ ks) r u = ap₂ _∷_ (ap (λ (rows : List ℕ). record { width = length rows; item = λ i. set r (getD rows i 0) }) (rows-same k (T-and-l (hasNoSorts k) _ u))) (sets-same ks (suc r) (T-and-r (hasNoSorts k) _ u))
 
   block-same : (t : Tree) (v : ℕ) → Sorted 0 t
       → _≡_ {A = Block Action} (record { width = proofsOf n R t; item = λ i. proveNode R t v (i / choices R t) (i % choices R t) }) (record { width = proofsOf n S t; item = λ i. proveNode S t v (i / choices S t) (i % choices S t) })
@@ -149,8 +173,8 @@ module _ (n : ℕ) (R S : ℕ → List ℕ) (same : R 0 ≡ S 0) where
   unfolding forallNeeds
   chain-same v t row z h = ap₂ (λ (a : Atom) (ms : List ℕ). a ∷ option (before ms z) [] (λ y. holdsNode v (row * n + y) ∷ [])) (under-same v t row z h) (zeroth (nodeSort t) (node-sort 0 t h))
 
--- ---- the problem of a tree whose sorts are 0: with the case's types and members, and without
-module _ (c : Case) (t : Tree) (h : Sorted 0 t) where
+-- ---- the problem of a tree and of relations whose sorts are 0: with the case's types and members, and without
+module _ (c : Case) (t : Tree) (h : Sorted 0 t) (none-sorted : T (all hasNoSorts (relationsOf (c .question)))) where
   abbrev p : Problem
   p = problemWith c t
 
@@ -165,13 +189,13 @@ module _ (c : Case) (t : Tree) (h : Sorted 0 t) where
   unfolding problemWith atomBlocks untyped relationsOf
   atoms-same = refl
 
-  sets-same : setBlocks (c .site .size) (membersOf c) (relationsOf (c .question)) ≡ setBlocks (c .site .size) (membersOf (untyped c)) (relationsOf (c .question))
-  unfolding setBlocks setsOf setRows
-  sets-same = refl
+  set-blocks : setBlocks (c .site .size) (membersOf c) (relationsOf (c .question)) ≡ setBlocks (c .site .size) (membersOf (untyped c)) (relationsOf (c .question))
+  unfolding setBlocks
+  set-blocks = sets-same (c .site .size) (membersOf c) (membersOf (untyped c)) ranges-same (relationsOf (c .question)) zero none-sorted
 
   pub actions-same : actionBlocks p ≡ actionBlocks q
   unfolding problemWith actionBlocks untyped relationsOf
-  actions-same = ap₂ (λ (x y : List (Block Action)). x ++ (record { width = 1; item = λ _. beginProof } ∷ (y ++ (record { width = 1; item = λ _. proveGoal } ∷ [])))) sets-same (proofs-same (c .site .size) (membersOf c) (membersOf (untyped c)) ranges-same (nodes t) (λ u m. nodes-sorted 0 t u h m))
+  actions-same = ap₂ (λ (x y : List (Block Action)). x ++ (record { width = 1; item = λ _. beginProof } ∷ (y ++ (record { width = 1; item = λ _. proveGoal } ∷ [])))) set-blocks (proofs-same (c .site .size) (membersOf c) (membersOf (untyped c)) ranges-same (nodes t) (λ u m. nodes-sorted 0 t u h m))
 
   pub action-same : (k : ℕ) → actionAt p k ≡ actionAt q k
   unfolding actionAt
@@ -260,16 +284,17 @@ module _ (c : Case) (t : Tree) (h : Sorted 0 t) where
   unfolding run
   run-same ks = run-from-same ks (initial p) zero ∙ ap (λ (s : State). runFrom q s zero ks) initial-same
 
--- ---- so of a case whose rule has no types: what holds of both problems by any such tree holds of them by their own
-pub for-untyped : (c : Case) → T (isUntyped (c .question .rule .formula)) → (P : Problem → Problem → Type 0) → ((t : Tree) → Sorted 0 t → P (problemWith c t) (problemWith (untyped c) t)) → P (problemOf c) (problemOf (untyped c))
-unfolding problemOf
+-- ---- so of a case whose question uses no types: what holds of both problems by any such tree holds of them by their own
+pub for-untyped : (c : Case) → T (usesNoTypes (c .question)) → (P : Problem → Problem → Type 0) → ((t : Tree) → Sorted 0 t → T (all hasNoSorts (relationsOf (c .question))) → P (problemWith c t) (problemWith (untyped c) t)) → P (problemOf c) (problemOf (untyped c))
+unfolding problemOf usesNoTypes
 for-untyped c h P x =
-    let e = tree-same c h in
-    subst (λ (t : Tree). P (problemWith c (treeOf (c .question))) (problemWith (untyped c) t)) e (x (treeOf (c .question)) (subst (Sorted 0) (sym e) (untyped-sorted c)))
+    let e = tree-same c (T-and-l (isUntyped (c .question .rule .formula)) _ h) in
+    let u = T-and-r (isUntyped (c .question .rule .formula)) (all hasNoSorts (relationsOf (c .question))) h in
+    subst (λ (t : Tree). P (problemWith c (treeOf (c .question))) (problemWith (untyped c) t)) e (x (treeOf (c .question)) (subst (Sorted 0) (sym e) (untyped-sorted c u)) u)
 
 -- ---- a case without `type` lines is such a one, and is its own
 none-declared : hasType [] ≡ hasNoType
-unfolding hasType hasNoType any
+unfolding hasType hasNoType isType any
 none-declared = refl
 
 mutual
@@ -288,8 +313,16 @@ mutual
   typed-nones nil = refl
   typed-nones (cons f fs) = ap₂ _&&_ (typed-none f) (typed-nones fs)
 
-pub no-types-rule : (c : Case) → Accepted c → c .question .types ≡ [] → T (isUntyped (c .question .rule .formula))
-no-types-rule c A e = subst T (typed-none (c .question .rule .formula)) (subst (λ (types : List (List ℕ)). T (isTyped types (c .question .rule .formula))) e (A .question-fits .rule-fits .typed))
+pub no-types-rule : (c : Case) → Accepted c → c .question .types ≡ [] → T (usesNoTypes (c .question))
+unfolding usesNoTypes
+no-types-rule c A e = and-T (isUntyped (c .question .rule .formula)) _
+    (subst T (typed-none (c .question .rule .formula)) (subst (λ (types : List (List ℕ)). T (isTyped types (c .question .rule .formula))) e (A .question-fits .rule-fits .typed)))
+    (all-of hasNoSorts (relationsOf (c .question)) unsorted)
+  where
+    unsorted : (k : Relation) → List·Memᴰ k (relationsOf (c .question)) → T (hasNoSorts k)
+    unsorted k m =
+        let s = subst (λ (types : List (List ℕ)). SortsFit (length types) k) e (sorts-fit c A k m) in
+        sorts-none k (omega (arith, s .firsts-few)) (omega (arith, s .seconds-few))
 
 no-members : (members : List Member) (n : ℕ) → MembersFit 0 n members → members ≡ []
 no-members [] n F = refl

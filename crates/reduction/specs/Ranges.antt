@@ -1,14 +1,15 @@
--- What a variable ranges over, from the lines of the sheets.
-use Prim.Native.Nat.{ℕ, zero, suc, _<_}
+-- What a variable and a place of a kind range over, from the lines of the sheets.
+use Prim.Native.Nat.{ℕ, zero, suc, _<_, _≤_}
 use mathlib.Core.Path.{_≡_, refl, sym, ap, subst, _∙_}
 use mathlib.Core.Logic.{_⊎_, inl, inr, ⊎-elim, _↔_}
 use mathlib.Core.Bool.{true, _&&_}
 use mathlib.Core.Option.{Option, none, some}
 use mathlib.Core.List.{List, [], List·Memᴰ}
+use native.Mathlib.Omega.{arith}
 use lib.Dec.{T, eqb, eqb→eq, eqb-refl}
 use lib.ListN.{length}
-use Rattle.definitions.specs.Lists.{any, same, option, position}
-use Rattle.definitions.specs.Formula.{Quantified, typeNumber, sortOf, hasType}
+use Rattle.definitions.specs.Lists.{same, option}
+use Rattle.definitions.specs.Formula.{Quantified, typeNumber, sortNamed, sortOf, isType, hasType}
 use Rattle.definitions.specs.Sheets.{Member, isMember}
 use Rattle.definitions.specs.Truth.{Case, membersOf, rangeOf}
 use Rattle.laws.specs.Booleans.{T-and-l, T-and-r, T-true, and-T}
@@ -29,6 +30,13 @@ member-line members k x = (
 abbrev pub Says : Case → List ℕ → ℕ → Type 0
 Says c name x = (m : Member) × List·Memᴰ m (c .site .members) × (typeNumber (c .question .types) name ≡ some (m .type)) × (m .element ≡ x)
 
+-- the sort of a type that is declared
+pub sort-is : (types : List (List ℕ)) (name : List ℕ) → T (isType types name) → (k : ℕ) × (typeNumber types name ≡ some k) × (k < length types) × (sortNamed types name ≡ suc k)
+unfolding isType sortNamed typeNumber option
+sort-is types name t =
+    let (k, e, l, f, g) = position-some (λ t. same t name) types [] (T-true _ t) in
+    (k, e, l, ap (λ (o : Option ℕ). option o zero suc) e)
+
 module _ (c : Case) (x : ℕ) where
   abbrev types : List (List ℕ)
   types = c .question .types
@@ -40,20 +48,33 @@ module _ (c : Case) (x : ℕ) where
     (λ q. let (h, (m, j, a, b)) = q in range-means c k x l .1 (h, member-line (c .site .members) k x .1 (m, j, some-eq (sym a ∙ e), b))),
   )
 
-  by-type : (o : Option (List ℕ)) → T (option o true (λ name. any (λ t. same t name) types))
-      → List·Memᴰ x (membersOf c (option o zero (λ name. option (typeNumber types name) zero suc))) ↔ ((x < c .site .size) × ((o ≡ none) ⊎ ((name : List ℕ) × (o ≡ some name) × Says c name x)))
-  unfolding option typeNumber
+  by-name : (name : List ℕ) → T (isType types name) → List·Memᴰ x (membersOf c (sortNamed types name)) ↔ ((x < c .site .size) × Says c name x)
+  by-name name t = let (k, e, l, f) = sort-is types name t in subst (λ (s : ℕ). List·Memᴰ x (membersOf c s) ↔ ((x < c .site .size) × Says c name x)) (sym f) (named name k e l)
+
+  by-type : (o : Option (List ℕ)) → T (option o true (isType types))
+      → List·Memᴰ x (membersOf c (option o zero (sortNamed types))) ↔ ((x < c .site .size) × ((o ≡ none) ⊎ ((name : List ℕ) × (o ≡ some name) × Says c name x)))
+  unfolding option
   by-type none t = (
     (λ i. (all-range c x .0 i, inl refl)),
     (λ q. all-range c x .1 (q .0)),
   )
-  by-type (some name) t =
-      let (k, e, l, f, g) = position-some (λ t. same t name) types [] (T-true _ t) in
-      rw e (
-        (λ i. let (h, s) = named name k e l .0 i in (h, inr (name, refl, s))),
-        (λ q. named name k e l .1 (q .0, ⊎-elim (λ z. absurd (none-some (sym z))) (λ z. let (other, a, s) = z in subst (λ (w : List ℕ). Says c w x) (sym (some-eq a)) s) (q .1))),
-      )
+  by-type (some name) t = (
+    (λ i. let (h, s) = by-name name t .0 i in (h, inr (name, refl, s))),
+    (λ q. by-name name t .1 (q .0, ⊎-elim (λ z. absurd (none-some (sym z))) (λ z. let (other, a, s) = z in subst (λ (w : List ℕ). Says c w x) (sym (some-eq a)) s) (q .1))),
+  )
 
   pub range-is : (q : Quantified) → T (hasType types q) → List·Memᴰ x (rangeOf c q) ↔ ((x < c .site .size) × ((q .type ≡ none) ⊎ ((name : List ℕ) × (q .type ≡ some name) × Says c name x)))
   unfolding rangeOf sortOf hasType
   range-is q t = by-type (q .type) t
+
+  -- and what a place of a kind ranges over, by its sort
+  pub place-range : (s : ℕ) → s ≤ length types → List·Memᴰ x (membersOf c s) ↔ ((x < c .site .size) × ((s ≡ 0) ⊎ ((m : Member) × List·Memᴰ m (c .site .members) × (s ≡ suc (m .type)) × (m .element ≡ x))))
+  place-range zero h = (
+    (λ i. (all-range c x .0 i, inl refl)),
+    (λ q. all-range c x .1 (q .0)),
+  )
+  place-range (suc k) h =
+      let l : k < length types = omega arith in (
+        (λ i. let (h, t) = range-means c k x l .0 i in let (m, j, a, b) = member-line (c .site .members) k x .0 t in (h, inr (m, j, ap suc (sym a), b))),
+        (λ q. range-means c k x l .1 (q .0, ⊎-elim (λ z. absurd (omega arith)) (λ z. let (m, j, a, b) = z in member-line (c .site .members) k x .1 (m, j, omega arith, b)) (q .1))),
+      )

@@ -48,7 +48,7 @@ module _ (L M : CaseLimits) (w : Wider L M) where
   unfolding addToSite
   entry-wider rels types d at (rel name arity) e q = q
   entry-wider rels types d at (type name) e q = q
-  entry-wider rels types d at (choose name arity kind) e q = q
+  entry-wider rels types d at (choose name arity kind names) e q = q
   entry-wider rels types d at (rule text) e q = q
   entry-wider rels types d at (size n) e q = size-wider d at n (d .sized) e q
   entry-wider rels types d at (label x name) e q = q

@@ -12,7 +12,7 @@ use lib.Seq.{getD-append-add}
 use borrow.Author.Tests.{lt-ltb, le-ltb}
 use Rattle.definitions.specs.Lists.{if_then_else_, filter, flatMap, from, below}
 use Rattle.definitions.specs.Text.{bytes, decimal}
-use Rattle.definitions.specs.Relations.{Relation, Tuple, static, builtIn}
+use Rattle.definitions.specs.Relations.{Relation, Tuple, fixed, builtIn}
 use Rattle.definitions.specs.Atoms.{Problem, relationAt, tuplesOf, wordsFor}
 use Rattle.definitions.specs.Built.{chosenNumbers, isPicked, pickedRows}
 use Rattle.definitions.specs.Sheets.{Label}
@@ -82,7 +82,7 @@ module _ (p test : ℕ → Bool) (a : ℕ) where
 -- ---- a signature's relations
 
 abbrev pub noRelation : Relation
-noRelation = record { name = []; arity = zero; kind = static }
+noRelation = fixed [] zero
 
 relation-is : (p : Problem) (q : List ℕ) (g : Signature) → p .relations ≡ allOf q g → (i : ℕ) → i < g .rels + g .chosen → relationAt p (5 + i) ≡ relationIn q g i
 unfolding relationAt builtIn

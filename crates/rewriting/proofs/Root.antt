@@ -33,7 +33,7 @@ use Rattle.tree.specs.Pass.{Ranged}
 use Rattle.tree.specs.Whole.{Of, tree-ranged}
 use Rattle.tree.specs.declared.Row.{Row}
 use Rattle.rewriting.specs.Trees.{treeIn, length-post, length-postAll, rows-le}
-use Rattle.rewriting.specs.Sizes.{FewPlaces, tree-small}
+use Rattle.rewriting.specs.Sizes.{FewPlaces, FewSorts, tree-small}
 use Rattle.rewriting.specs.Ready.{Adds, pushed, numbered, Ready, ReadyIn, Walked}
 use Rattle.rewriting.specs.Rule.{totalityOf, oneTotality, Accepted, rootOf, IsQuestion, RowsOf, TableOf}
 use Rattle.rewriting.proofs.Tables.{adds-none, adds-push, adds-at, adds-number, adds-both, adds-as}
@@ -41,48 +41,48 @@ use Rattle.rewriting.proofs.Words.{length-all, types-many}
 use Rattle.rewriting.proofs.Turns.{over, first-rows, joined as joined-adds}
 
 -- ---- one totality
-pub totality-adds : (t u x y : Rows) (r : ℕ) (a b c : Row) → length (t .at) ≡ 64 → t .len + 3 ≤ 64 → a ≡ leafRow true r (0 ∷ 1 ∷ []) → u ≡ pushed (numbered t 2) a → b ≡ quantRow 1 (t .nodes + 1) 1 0 → x ≡ record { at = set (u .at) (t .len + 1) b; len = t .len + 2; nodes = u .nodes } → c ≡ quantRow 0 (t .nodes) 0 0 → y ≡ record { at = set (x .at) (t .len + 2) c; len = t .len + 3; nodes = x .nodes } → Adds t (post (t .nodes) (totalityOf r)) 2 y
+pub totality-adds : (t u x y : Rows) (r σ τ : ℕ) (a b c : Row) → length (t .at) ≡ 64 → t .len + 3 ≤ 64 → a ≡ leafRow true r (0 ∷ 1 ∷ []) → u ≡ pushed (numbered t 2) a → b ≡ quantRow 1 (t .nodes + 1) 1 τ → x ≡ record { at = set (u .at) (t .len + 1) b; len = t .len + 2; nodes = u .nodes } → c ≡ quantRow 0 (t .nodes) 0 σ → y ≡ record { at = set (x .at) (t .len + 2) c; len = t .len + 3; nodes = x .nodes } → Adds t (post (t .nodes) (totalityOf r σ τ)) 2 y
 unfolding post
-totality-adds t u x y r a b c h l ea eu eb ex ec ey =
+totality-adds t u x y r σ τ a b c h l ea eu eb ex ec ey =
     let P = adds-number t 2 h in
     let U = adds-push (numbered t 2) u a h (omega arith) eu in
     let X = adds-at u x b (t .len + 1) (t .len + 2) (U .long) (omega (arith, U .len)) (omega (arith, U .len)) (omega (arith, U .len)) ex in
     let Y = adds-at x y c (t .len + 2) (t .len + 3) (X .long) (omega (arith, U .len, X .len)) (omega (arith, U .len, X .len)) (omega (arith, U .len, X .len)) ey in
     adds-as (rows a b c ea eb ec) (omega arith) (adds-both P (adds-both U (adds-both X Y)))
   where
-    rows : (a b c : Row) → a ≡ leafRow true r (0 ∷ 1 ∷ []) → b ≡ quantRow 1 (t .nodes + 1) 1 0 → c ≡ quantRow 0 (t .nodes) 0 0 → _≡_ {A = List Row} (a ∷ b ∷ c ∷ []) (leafRow true r (0 ∷ 1 ∷ []) ∷ quantRow 1 (suc (t .nodes)) 1 0 ∷ quantRow 0 (t .nodes) 0 0 ∷ [])
+    rows : (a b c : Row) → a ≡ leafRow true r (0 ∷ 1 ∷ []) → b ≡ quantRow 1 (t .nodes + 1) 1 τ → c ≡ quantRow 0 (t .nodes) 0 σ → _≡_ {A = List Row} (a ∷ b ∷ c ∷ []) (leafRow true r (0 ∷ 1 ∷ []) ∷ quantRow 1 (suc (t .nodes)) 1 τ ∷ quantRow 0 (t .nodes) 0 σ ∷ [])
     rows a b c e f g = rw (e, f, g, add-one (t .nodes))
 
 -- what the kind adds
-pub one-none : (k r : ℕ) (t : Rows) → length (t .at) ≡ 64 → totalOf k ≡ 0 → Adds t (postAll (t .nodes) (oneTotality k r)) (length (nodesAll (oneTotality k r))) t
+pub one-none : (k r σ τ : ℕ) (t : Rows) → length (t .at) ≡ 64 → totalOf k ≡ 0 → Adds t (postAll (t .nodes) (oneTotality k r σ τ)) (length (nodesAll (oneTotality k r σ τ))) t
 unfolding oneTotality totalOf post nodes
-one-none k r t h e = go (isTotal (kindOf k)) e
+one-none k r σ τ t h e = go (isTotal (kindOf k)) e
   where
-    go : (b : Bool) → _≡_ {A = ℕ} (if b then 1 else 0) 0 → Adds t (postAll (t .nodes) (if b then totalityOf r then end else end)) (length (nodesAll (if b then totalityOf r then end else end))) t
+    go : (b : Bool) → _≡_ {A = ℕ} (if b then 1 else 0) 0 → Adds t (postAll (t .nodes) (if b then totalityOf r σ τ then end else end)) (length (nodesAll (if b then totalityOf r σ τ then end else end))) t
     go true q = absurd (omega arith)
     go false q = adds-none t h
 
-pub one-some : (k r : ℕ) (t u : Rows) → (totalOf k ≡ 0 → ⊥) → Adds t (post (t .nodes) (totalityOf r)) 2 u → Adds t (postAll (t .nodes) (oneTotality k r)) (length (nodesAll (oneTotality k r))) u
+pub one-some : (k r σ τ : ℕ) (t u : Rows) → (totalOf k ≡ 0 → ⊥) → Adds t (post (t .nodes) (totalityOf r σ τ)) 2 u → Adds t (postAll (t .nodes) (oneTotality k r σ τ)) (length (nodesAll (oneTotality k r σ τ))) u
 unfolding oneTotality totalOf post nodes
-one-some k r t u e a = go (isTotal (kindOf k)) e
+one-some k r σ τ t u e a = go (isTotal (kindOf k)) e
   where
-    go : (b : Bool) → (_≡_ {A = ℕ} (if b then 1 else 0) 0 → ⊥) → Adds t (postAll (t .nodes) (if b then totalityOf r then end else end)) (length (nodesAll (if b then totalityOf r then end else end))) u
-    go true q = adds-as (sym (append-nil (post (t .nodes) (totalityOf r)))) refl a
+    go : (b : Bool) → (_≡_ {A = ℕ} (if b then 1 else 0) 0 → ⊥) → Adds t (postAll (t .nodes) (if b then totalityOf r σ τ then end else end)) (length (nodesAll (if b then totalityOf r σ τ then end else end))) u
+    go true q = adds-as (sym (append-nil (post (t .nodes) (totalityOf r σ τ)))) refl a
     go false q = absurd (q refl)
 
-one-rows : (k r v : ℕ) → length (postAll v (oneTotality k r)) ≡ 3 * totalOf k
+one-rows : (k r σ τ v : ℕ) → length (postAll v (oneTotality k r σ τ)) ≡ 3 * totalOf k
 unfolding oneTotality totalOf post
-one-rows k r v = go (isTotal (kindOf k))
+one-rows k r σ τ v = go (isTotal (kindOf k))
   where
-    go : (b : Bool) → length (postAll v (if b then totalityOf r then end else end)) ≡ 3 * (if b then 1 else 0)
+    go : (b : Bool) → length (postAll v (if b then totalityOf r σ τ then end else end)) ≡ 3 * (if b then 1 else 0)
     go true = refl
     go false = refl
 
-one-nodes : (k r : ℕ) → length (nodesAll (oneTotality k r)) ≡ 2 * totalOf k
+one-nodes : (k r σ τ : ℕ) → length (nodesAll (oneTotality k r σ τ)) ≡ 2 * totalOf k
 unfolding oneTotality totalOf nodes
-one-nodes k r = go (isTotal (kindOf k))
+one-nodes k r σ τ = go (isTotal (kindOf k))
   where
-    go : (b : Bool) → length (nodesAll (if b then totalityOf r then end else end)) ≡ 2 * (if b then 1 else 0)
+    go : (b : Bool) → length (nodesAll (if b then totalityOf r σ τ then end else end)) ≡ 2 * (if b then 1 else 0)
     go true = refl
     go false = refl
 
@@ -91,17 +91,17 @@ one-nodes k r = go (isTotal (kindOf k))
 unfoldable pub totalsFrom : List ℕ → Signature → ℕ → Trees
 totalsFrom q g i = totalities (5 + i) (relationsFrom q g i (g .rels + g .chosen - i))
 
-split-rows : (b : Bool) (v r : ℕ) (TS : Trees) → postAll v (if b then totalityOf r then TS else TS) ≡ postAll v (if b then totalityOf r then end else end) ++ postAll (v + length (nodesAll (if b then totalityOf r then end else end))) TS
+split-rows : (b : Bool) (v r σ τ : ℕ) (TS : Trees) → postAll v (if b then totalityOf r σ τ then TS else TS) ≡ postAll v (if b then totalityOf r σ τ then end else end) ++ postAll (v + length (nodesAll (if b then totalityOf r σ τ then end else end))) TS
 unfolding post nodes
-split-rows true v r TS = refl
-split-rows false v r TS = let e : v + 0 ≡ v = omega arith in rw e
+split-rows true v r σ τ TS = refl
+split-rows false v r σ τ TS = let e : v + 0 ≡ v = omega arith in rw e
 
-split-nodes : (b : Bool) (r : ℕ) (TS : Trees) → length (nodesAll (if b then totalityOf r then TS else TS)) ≡ length (nodesAll (if b then totalityOf r then end else end)) + length (nodesAll TS)
+split-nodes : (b : Bool) (r σ τ : ℕ) (TS : Trees) → length (nodesAll (if b then totalityOf r σ τ then TS else TS)) ≡ length (nodesAll (if b then totalityOf r σ τ then end else end)) + length (nodesAll TS)
 unfolding nodes
-split-nodes true r TS = omega arith
-split-nodes false r TS = omega arith
+split-nodes true r σ τ TS = omega arith
+split-nodes false r σ τ TS = omega arith
 
-totals-step : (q : List ℕ) (g : Signature) (i : ℕ) → i < g .rels + g .chosen → totalsFrom q g i ≡ (if isTotal (kindOf (getD (g .kind) i 0)) then totalityOf (5 + i) then totalsFrom q g (i + 1) else totalsFrom q g (i + 1))
+totals-step : (q : List ℕ) (g : Signature) (i : ℕ) → i < g .rels + g .chosen → totalsFrom q g i ≡ (if isTotal (kindOf (getD (g .kind) i 0)) then totalityOf (5 + i) (getD (g .firsts) i 0) (getD (g .seconds) i 0) then totalsFrom q g (i + 1) else totalsFrom q g (i + 1))
 unfolding totalsFrom totalities relationsFrom relationIn
 totals-step q g i h =
     let n : g .rels + g .chosen - i ≡ suc (g .rels + g .chosen - (i + 1)) = omega arith in
@@ -133,23 +133,29 @@ module _ (t u : Rows) (g : Signature) (i : ℕ) (l : Left t u g i) (h : i < g .r
   pub left-nodes : u .nodes + 3 * totalOf (getD (g .kind) i 0) ≤ 64
   left-nodes = omega (arith, l .nodes [], totals-next [] g (g .rels + g .chosen) i h)
 
-  pub left-again : (r : Rows) → Adds u (postAll (u .nodes) (oneTotality (getD (g .kind) i 0) (5 + i))) (length (nodesAll (oneTotality (getD (g .kind) i 0) (5 + i)))) r → Left t r g (i + 1)
+  pub left-again : (r : Rows) → Adds u (postAll (u .nodes) (oneTotality (getD (g .kind) i 0) (5 + i) (getD (g .firsts) i 0) (getD (g .seconds) i 0))) (length (nodesAll (oneTotality (getD (g .kind) i 0) (5 + i) (getD (g .firsts) i 0) (getD (g .seconds) i 0)))) r → Left t r g (i + 1)
   unfolding oneTotality
   left-again r a = record {
     rest = λ q y x. l .rest q y (adds-as (rows q) (many q) (adds-both a x));
-    space = λ q. omega (arith, l .space q, totals-next q g (g .rels + g .chosen) i h, a .len, one-rows (getD (g .kind) i 0) (5 + i) (u .nodes));
-    nodes = λ q. omega (arith, l .nodes q, totals-next q g (g .rels + g .chosen) i h, a .nodes, one-nodes (getD (g .kind) i 0) (5 + i));
+    space = λ q. omega (arith, l .space q, totals-next q g (g .rels + g .chosen) i h, a .len, one-rows (getD (g .kind) i 0) (5 + i) σ τ (u .nodes));
+    nodes = λ q. omega (arith, l .nodes q, totals-next q g (g .rels + g .chosen) i h, a .nodes, one-nodes (getD (g .kind) i 0) (5 + i) σ τ);
     long = a .long;
   }
     where
       b : Bool
       b = isTotal (kindOf (getD (g .kind) i 0))
 
-      rows : (q : List ℕ) → postAll (u .nodes) (if b then totalityOf (5 + i) then end else end) ++ postAll (r .nodes) (totalsFrom q g (i + 1)) ≡ postAll (u .nodes) (totalsFrom q g i)
-      rows q = ap (λ (n : ℕ). postAll (u .nodes) (if b then totalityOf (5 + i) then end else end) ++ postAll n (totalsFrom q g (i + 1))) (a .nodes) ∙ sym (split-rows b (u .nodes) (5 + i) (totalsFrom q g (i + 1))) ∙ ap (λ (TS : Trees). postAll (u .nodes) TS) (sym (totals-step q g i h))
+      σ : ℕ
+      σ = getD (g .firsts) i 0
 
-      many : (q : List ℕ) → length (nodesAll (if b then totalityOf (5 + i) then end else end)) + length (nodesAll (totalsFrom q g (i + 1))) ≡ length (nodesAll (totalsFrom q g i))
-      many q = sym (split-nodes b (5 + i) (totalsFrom q g (i + 1))) ∙ ap (λ (TS : Trees). length (nodesAll TS)) (sym (totals-step q g i h))
+      τ : ℕ
+      τ = getD (g .seconds) i 0
+
+      rows : (q : List ℕ) → postAll (u .nodes) (if b then totalityOf (5 + i) σ τ then end else end) ++ postAll (r .nodes) (totalsFrom q g (i + 1)) ≡ postAll (u .nodes) (totalsFrom q g i)
+      rows q = ap (λ (n : ℕ). postAll (u .nodes) (if b then totalityOf (5 + i) σ τ then end else end) ++ postAll n (totalsFrom q g (i + 1))) (a .nodes) ∙ sym (split-rows b (u .nodes) (5 + i) σ τ (totalsFrom q g (i + 1))) ∙ ap (λ (TS : Trees). postAll (u .nodes) TS) (sym (totals-step q g i h))
+
+      many : (q : List ℕ) → length (nodesAll (if b then totalityOf (5 + i) σ τ then end else end)) + length (nodesAll (totalsFrom q g (i + 1))) ≡ length (nodesAll (totalsFrom q g i))
+      many q = sym (split-nodes b (5 + i) σ τ (totalsFrom q g (i + 1))) ∙ ap (λ (TS : Trees). length (nodesAll TS)) (sym (totals-step q g i h))
 
 none-left : (q : List ℕ) (g : Signature) (i : ℕ) (u : Rows) → g .rels + g .chosen ≤ i → length (u .at) ≡ 64 → Adds u (postAll (u .nodes) (totalsFrom q g i)) (length (nodesAll (totalsFrom q g i))) u
 unfolding totalsFrom totalities relationsFrom post nodes
@@ -201,6 +207,19 @@ few-from q g i (suc m) f = (f i (omega arith), few-from q g (suc i) m (λ j h. f
 pub few-places : (s : List ℕ) (g : Signature) → Sound s g → FewPlaces (allOf s g)
 few-places s g a = subst (λ (l : List Relation). FewPlaces l) (sym (all-are s g)) (few-append builtIn (relationsFrom s g 0 (g .rels + g .chosen)) few-built-in (few-from s g 0 (g .rels + g .chosen) (λ j h. a .arities j (omega arith) .1)))
 
+sorts-from : (q : List ℕ) (g : Signature) (i m : ℕ) → ((j : ℕ) → j < i + m → (getD (g .firsts) j 0 ≤ 8) × (getD (g .seconds) j 0 ≤ 8)) → FewSorts (relationsFrom q g i m)
+unfolding FewSorts relationsFrom relationIn
+sorts-from q g i zero f = tt
+sorts-from q g i (suc m) f = let (x, y) = f i (omega arith) in (x, y, sorts-from q g (suc i) m (λ j h. f j (omega arith)))
+
+few-sorts : (s : List ℕ) (g : Signature) → Sound s g → FewSorts (chosenOf s g)
+unfolding chosenOf
+few-sorts s g a = sorts-from s g (g .rels) (g .chosen) (λ j h. let (x, y) = a .sorts j h in let t = a .types-le in (omega arith, omega arith))
+
+few-cons : (k : Relation) (ks : List Relation) → FewSorts (k ∷ ks) → (k .firsts ≤ 8) × (k .seconds ≤ 8) × FewSorts ks
+unfolding FewSorts
+few-cons k ks h = h
+
 -- ---- the walk's start
 abbrev pub top-ready : (s : List ℕ) (at stop : ℕ) (g : Signature) (F T : List ℕ) (t : Rows) → Accepted s at stop g → (a : Formed s at stop g) → length (t .at) ≡ 64 → t .len + forms (a .f) ≤ 64 → t .nodes + forms (a .f) ≤ 64 → Ready s at g (record { from = F; to = T; n = 0 }) t
 top-ready s at stop g F T t c a h n m = record {
@@ -235,25 +254,25 @@ totals-some k ds = go (isTotal (k .kind))
 pub record Totals (r rels : ℕ) (ds : List Relation) (TS : Trees) : Type 0 where
   pub many : howMany TS ≡ totals ds
   pub rows : innerAll TS ≡ 2 * totals ds
-  pub small : r + length ds ≤ rels → AllSmall rels TS
+  pub small : r + length ds ≤ rels → FewSorts ds → AllSmall rels TS
 
-one-many : (r : ℕ) (TS : Trees) (n m : ℕ) → m ≡ 1 + n → howMany TS ≡ n → howMany (totalityOf r then TS) ≡ m
+one-many : (r σ τ : ℕ) (TS : Trees) (n m : ℕ) → m ≡ 1 + n → howMany TS ≡ n → howMany (totalityOf r σ τ then TS) ≡ m
 unfolding howMany
-one-many r TS n m e h = omega arith
+one-many r σ τ TS n m e h = omega arith
 
-one-inner : (r : ℕ) (TS : Trees) (n m : ℕ) → m ≡ 1 + n → innerAll TS ≡ 2 * n → innerAll (totalityOf r then TS) ≡ 2 * m
+one-inner : (r σ τ : ℕ) (TS : Trees) (n m : ℕ) → m ≡ 1 + n → innerAll TS ≡ 2 * n → innerAll (totalityOf r σ τ then TS) ≡ 2 * m
 unfolding inner
-one-inner r TS n m e h = omega arith
+one-inner r σ τ TS n m e h = omega arith
 
-one-small : (r rels : ℕ) (TS : Trees) → r < rels → ((i : ℕ) → getD (0 ∷ 1 ∷ []) i 0 < 4) → AllSmall rels TS → AllSmall rels (totalityOf r then TS)
+one-small : (r σ τ rels : ℕ) (TS : Trees) → r < rels → σ ≤ 8 → τ ≤ 8 → ((i : ℕ) → getD (0 ∷ 1 ∷ []) i 0 < 4) → AllSmall rels TS → AllSmall rels (totalityOf r σ τ then TS)
 unfolding Small
-one-small r rels TS h f s = ((omega arith, omega arith, (omega arith, omega arith, (h, omega arith, f))), s)
+one-small r σ τ rels TS h a b f s = ((omega arith, a, (omega arith, b, (h, omega arith, f))), s)
 
 totals-nil : (r rels : ℕ) → Totals r rels [] end
 unfolding howMany inner totals filter Small
-totals-nil r rels = record { many = refl; rows = refl; small = λ q. tt }
+totals-nil r rels = record { many = refl; rows = refl; small = λ q l. tt }
 
-totals-one : (r rels : ℕ) (k : Relation) (ds : List Relation) (TS : Trees) → Totals (suc r) rels ds TS → Totals r rels (k ∷ ds) (if isTotal (k .kind) then totalityOf r then TS else TS)
+totals-one : (r rels : ℕ) (k : Relation) (ds : List Relation) (TS : Trees) → Totals (suc r) rels ds TS → Totals r rels (k ∷ ds) (if isTotal (k .kind) then totalityOf r (k .firsts) (k .seconds) then TS else TS)
 totals-one r rels k ds TS h = go (isTotal (k .kind)) (totals-some k ds)
   where
     low : (i : ℕ) → getD (0 ∷ 1 ∷ []) i 0 < 4
@@ -262,9 +281,9 @@ totals-one r rels k ds TS h = go (isTotal (k .kind)) (totals-some k ds)
     low (suc (suc zero)) = omega arith
     low (suc (suc (suc i))) = omega arith
 
-    go : (b : Bool) → totals (k ∷ ds) ≡ (if b then 1 else 0) + totals ds → Totals r rels (k ∷ ds) (if b then totalityOf r then TS else TS)
-    go true e = record { many = one-many r TS (totals ds) (totals (k ∷ ds)) e (h .many); rows = one-inner r TS (totals ds) (totals (k ∷ ds)) e (h .rows); small = λ q. one-small r rels TS (omega arith) low (h .small (omega arith)) }
-    go false e = record { many = omega (arith, h .many); rows = omega (arith, h .rows); small = λ q. h .small (omega arith) }
+    go : (b : Bool) → totals (k ∷ ds) ≡ (if b then 1 else 0) + totals ds → Totals r rels (k ∷ ds) (if b then totalityOf r (k .firsts) (k .seconds) then TS else TS)
+    go true e = record { many = one-many r (k .firsts) (k .seconds) TS (totals ds) (totals (k ∷ ds)) e (h .many); rows = one-inner r (k .firsts) (k .seconds) TS (totals ds) (totals (k ∷ ds)) e (h .rows); small = λ q l. let (x, y, m) = few-cons k ds l in one-small r (k .firsts) (k .seconds) rels TS (omega arith) x y low (h .small (omega arith) m) }
+    go false e = record { many = omega (arith, h .many); rows = omega (arith, h .rows); small = λ q l. h .small (omega arith) (few-cons k ds l .2) }
 
 totals-are : (r rels : ℕ) (ds : List Relation) → Totals r rels ds (totalities r ds)
 unfolding totalities
@@ -396,7 +415,7 @@ module _ (s : List ℕ) (at stop : ℕ) (g : Signature) (c : Accepted s at stop 
         all = joined-adds {t = t} {z = z} true ands (asIs (allOf s g) (typesOf s g) [] (a .f) then totalities (5 + g .rels) (chosenOf s g)) row u (er ∙ rw (en) (ap (λ (n : ℕ). joinRow 2 0 n) (joined-many (asIs (allOf s g) (typesOf s g) [] (a .f)) (totalities (5 + g .rels) (chosenOf s g)) (totals (chosenOf s g)) (all-totals .many)))) eu (omega (arith, joined-space)) (first-rows (asIs (allOf s g) (typesOf s g) [] (a .f)) (totalities (5 + g .rels) (chosenOf s g)) (adds-number t 1 long) walk-adds A)
 
         root-small : Small (length (allOf s g)) (andNode (asIs (allOf s g) (typesOf s g) [] (a .f) then totalities (5 + g .rels) (chosenOf s g)))
-        root-small = small-and (length (allOf s g)) (asIs (allOf s g) (typesOf s g) [] (a .f)) (totalities (5 + g .rels) (chosenOf s g)) tops-small (all-totals .small (omega (arith, chosen-long, length-all s g)))
+        root-small = small-and (length (allOf s g)) (asIs (allOf s g) (typesOf s g) [] (a .f)) (totalities (5 + g .rels) (chosenOf s g)) tops-small (all-totals .small (omega (arith, chosen-long, length-all s g)) (few-sorts s g (c .sound)))
 
         root-rows : suc (inner (andNode (asIs (allOf s g) (typesOf s g) [] (a .f) then totalities (5 + g .rels) (chosenOf s g)))) ≤ 64
         root-rows = and-rows (asIs (allOf s g) (typesOf s g) [] (a .f)) (totalities (5 + g .rels) (chosenOf s g)) (totals (chosenOf s g)) (forms (a .f)) (all-totals .many) (all-totals .rows) tops-rows (joined-forms h)

@@ -11,8 +11,8 @@ use lib.Seq.{slice, drop-drop, take-suc-set}
 use borrow.Author.Tests.{eq-eqb, ne-eqb}
 use Rattle.definitions.specs.Lists.{same, option, position}
 use Rattle.definitions.specs.Text.{isSmall, isBetween, isDigit}
-use Rattle.definitions.specs.Relations.{Relation, static, numberOf, builtIn}
-use Rattle.definitions.specs.Formula.{Quantified, variablesOf, writeEach, writeVars, writeTyped, writeMore, Variables, AllQuantified, a-word, typeNumber, sortOf}
+use Rattle.definitions.specs.Relations.{Relation, fixed, numberOf, builtIn}
+use Rattle.definitions.specs.Formula.{Quantified, variablesOf, writeEach, writeVars, writeTyped, writeMore, Variables, AllQuantified, a-word, typeNumber, sortNamed, sortOf}
 use Rattle.definitions.specs.Parsing.{span}
 use Rattle.definitions.specs.Writing.{vars-stop, more-stop, typed-close}
 use Rattle.text.specs.Spans.{placeOf}
@@ -81,11 +81,11 @@ number-lost (some j) e = let z : _≡_ {A = ℕ} 0 1 = cc in absurd (omega arith
 
 number-low : (q : List ℕ) (g : Signature) (w : List ℕ) (k : ℕ) → g .rels + g .chosen ≤ 12 → At k ≡ placeOf (numberOf (allOf q g) w) → k < 17
 unfolding numberOf
-number-low q g w k h e = omega (arith, length-all q g, position-some (λ (r : Relation). same (r .name) w) (allOf q g) k (record { name = []; arity = 0; kind = static }) (number-found (numberOf (allOf q g) w) k e) .0)
+number-low q g w k h e = omega (arith, length-all q g, position-some (λ (r : Relation). same (r .name) w) (allOf q g) k (fixed [] 0) (number-found (numberOf (allOf q g) w) k e) .0)
 
 -- ... of any signature whose names and count are lent
 pub lent-low : (q F T w : List ℕ) (m k : ℕ) → m ≤ 12 → ((g : Signature) → Lent g F T m → At k ≡ placeOf (numberOf (allOf q g) w)) → k < 17
-lent-low q F T w m k h e = let g : Signature = record { rels = m; chosen = 0; types = 0; from = F; to = T; arity = []; kind = [] } in number-low q g w k (omega arith) (e g (record { from-is = refl; to-is = refl; count = omega arith }))
+lent-low q F T w m k h e = let g : Signature = record { rels = m; chosen = 0; types = 0; from = F; to = T; arity = []; kind = []; firsts = []; seconds = [] } in number-low q g w k (omega arith) (e g (record { from-is = refl; to-is = refl; count = omega arith }))
 
 pub types-many : (q from to : List ℕ) (i k : ℕ) → length (namesFrom q from to i k) ≡ k
 unfolding namesFrom
@@ -215,7 +215,7 @@ type-low q from to name k w = omega (arith, types-many q from to 12 8, position-
 -- ---- `bind`
 -- the sort that stands in the text
 sort-read : (types : List (List ℕ)) (s r : List ℕ) (at : ℕ) (q : Quantified) → drop at s ≡ writeTyped q ++ r → at + length (writeTyped q) ≤ length s → sortIn types s (at + length (q .variable)) (at + length (writeTyped q)) ≡ sortOf types q
-unfolding sortIn sortOf writeTyped option
+unfolding sortIn sortOf sortNamed writeTyped option
 sort-read types s r at q w l = go (q .variable) (q .type) w l
   where
     go : (v : List ℕ) (o : Option (List ℕ)) → drop at s ≡ (v ++ option o [] (λ t. 58 ∷ t)) ++ r → at + length (v ++ option o [] (λ t. 58 ∷ t)) ≤ length s

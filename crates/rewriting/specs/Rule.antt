@@ -21,12 +21,12 @@ use Rattle.tree.specs.declared.Nodes.{Nodes}
 use Rattle.tree.specs.Whole.{Of}
 use Rattle.tree.specs.Postorder.{Rows}
 
--- "for all a some b" of a relation; what a relation adds by the number of its kind
-abbrev pub totalityOf : ℕ → Tree
-totalityOf r = forallNode 0 0 (existsNode 1 0 (leaf true r (0 ∷ 1 ∷ [])))
+-- "for all a some b" of a relation, a and b of the sorts of its places; what a relation adds by the number of its kind
+abbrev pub totalityOf : (relation firsts seconds : ℕ) → Tree
+totalityOf r x y = forallNode 0 x (existsNode 1 y (leaf true r (0 ∷ 1 ∷ [])))
 
-unfoldable pub oneTotality : ℕ → ℕ → Trees
-oneTotality k r = if isTotal (kindOf k) then totalityOf r then end else end
+unfoldable pub oneTotality : (kind relation firsts seconds : ℕ) → Trees
+oneTotality k r x y = if isTotal (kindOf k) then totalityOf r x y then end else end
 
 -- the rule from `at` to `stop` of a question's text was not refused
 pub record Accepted (s : List ℕ) (at stop : ℕ) (g : Signature) : Type 0 where

@@ -9,8 +9,8 @@ use lib.ListN.{length, getD, length-append, length-map}
 use lib.Dec.{eqb}
 use borrow.Author.Tests.{eqb-true}
 use Rattle.definitions.specs.Lists.{any, same, option, position}
-use Rattle.definitions.specs.Relations.{Relation, static, numberOf}
-use Rattle.definitions.specs.Formula.{Formula, Formulas, literal, negation, implication, conjunction, disjunction, exists, forall, nil, cons, Join, ands, ors, Quant, somes, everys, nesting, nestingAll, isKnown, areKnown, Quantified, variablesOf, typeNumber, sortOf}
+use Rattle.definitions.specs.Relations.{Relation, fixed, numberOf}
+use Rattle.definitions.specs.Formula.{Formula, Formulas, literal, negation, implication, conjunction, disjunction, exists, forall, nil, cons, Join, ands, ors, Quant, somes, everys, nesting, nestingAll, isKnown, areKnown, Quantified, variablesOf, typeNumber, sortNamed, sortOf}
 use Rattle.definitions.specs.Tree.{Tree, Trees, end, _then_, nest, leafOf}
 use Rattle.definitions.specs.Writing.{and-l, and-r}
 use Rattle.names.proofs.Laws.{position-some}
@@ -22,6 +22,11 @@ use Rattle.rewriting.specs.Trees.{treeIn, treesIn, joinNode, quantNode, 
 unfoldable pub FewPlaces : List Relation → Type 0
 FewPlaces [] = Unit {0}
 FewPlaces (r ∷ rs) = (r .arity ≤ 3) × FewPlaces rs
+
+-- ... and sorts of eight types at the most
+unfoldable pub FewSorts : List Relation → Type 0
+FewSorts [] = Unit {0}
+FewSorts (r ∷ rs) = (r .firsts ≤ 8) × (r .seconds ≤ 8) × FewSorts rs
 
 -- ---- literals
 position-lt : {A : Type 0} (p : A → Bool) (xs : List A) (d : A) (n : ℕ) → length xs ≤ n → 0 < n → option (position p xs) zero (λ k. k) < n
@@ -54,7 +59,7 @@ known-few (r ∷ rs) n m h e = go (same (r .name) n) (eqb (r .arity) m) refl e (
 
 -- ---- sorts
 sort-low : (types : List (List ℕ)) (v : List ℕ) (t : Option (List ℕ)) (n : ℕ) → length types ≤ n → sortOf types (record { variable = v; type = t }) ≤ n
-unfolding sortOf option
+unfolding sortOf sortNamed option
 sort-low types v none n h = omega arith
 sort-low types v (some name) n h = go (typeNumber types name) refl
   where
@@ -95,7 +100,7 @@ small-two rels t u a b = (a, (b, tt))
 module _ (rs : List Relation) (few : FewPlaces rs) (some-rels : 0 < length rs) (types : List (List ℕ)) (few-types : length types ≤ 8) where
   small-lit : (b : Bool) (sc : List (List ℕ)) (n : List ℕ) (vs : List (List ℕ)) → any (λ (k : Relation). same (k .name) n && eqb (k .arity) (length vs)) rs ≡ true → length sc ≤ 4 → Small (length rs) (leafOf b rs sc n vs)
   unfolding leafOf Small numberOf
-  small-lit b sc n vs e h = (position-lt (λ (r : Relation). same (r .name) n) rs (record { name = []; arity = 0; kind = static }) (length rs) (omega arith) some-rels, rw (length-map vs (λ v. option (position (same v) sc) zero (λ k. k))) (known-few rs n (length vs) few e), λ i. levels-low sc vs i h)
+  small-lit b sc n vs e h = (position-lt (λ (r : Relation). same (r .name) n) rs (fixed [] 0) (length rs) (omega arith) some-rels, rw (length-map vs (λ v. option (position (same v) sc) zero (λ k. k))) (known-few rs n (length vs) few e), λ i. levels-low sc vs i h)
 
   mutual
     unfolding nesting isKnown Small

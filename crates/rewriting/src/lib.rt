@@ -523,28 +523,36 @@ fn pair_row(relation: usize) -> Row
     }
 }
 
-// "For all a some b" of a relation.
-fn totality(rows: &mut [u8], len: usize, nodes: usize, relation: usize)
+// "For all a some b" of a relation, of these sorts.
+fn totality(rows: &mut [u8], len: usize, nodes: usize, relation: usize, firsts: u8, seconds: u8)
     requires { ⌜ (len + 3 ≤ 64) × (nodes + 3 ≤ 64) × (relation ≤ 64) × (length (now rows) ≡ 512) ⌝ }
-    ensures { λ r. ⌜ Adds (rowsFrom (now (rows .entry)) len nodes) (post nodes (totalityOf relation)) 2 (rowsFrom (now (rows .exit)) (len + 3) (nodes + 2)) ⌝ }
+    ensures { λ r. ⌜ Adds (rowsFrom (now (rows .entry)) len nodes) (post nodes (totalityOf relation firsts seconds)) 2 (rowsFrom (now (rows .exit)) (len + 3) (nodes + 2)) ⌝ }
 {
     let a = pair_row(relation);
     tree::put_row(rows, len, a);
-    let b = quant_row(1, nodes + 1, 1, 0);
+    let b = quant_row(1, nodes + 1, 1, seconds);
     tree::put_row(rows, len + 1, b);
-    let c = quant_row(0, nodes, 0, 0);
+    let c = quant_row(0, nodes, 0, firsts);
     tree::put_row(rows, len + 2, c);
 }
 
 // ... if it is of a total kind.
-fn totality_by_kind(rows: &mut [u8], len: usize, nodes: usize, kind: u32, relation: usize) -> Used
+fn totality_by_kind(
+    rows: &mut [u8],
+    len: usize,
+    nodes: usize,
+    kind: u32,
+    relation: usize,
+    firsts: u8,
+    seconds: u8,
+) -> Used
     requires { ⌜ (len + 3 * totalOf kind ≤ 64) × (nodes + 3 * totalOf kind ≤ 64) × (relation ≤ 64) × (length (now rows) ≡ 512) ⌝ }
-    ensures { λ r. ⌜ Adds (rowsFrom (now (rows .entry)) len nodes) (postAll nodes (oneTotality kind relation)) (length (nodesAll (oneTotality kind relation))) (rowsFrom (now (rows .exit)) (r .len) (r .nodes)) ⌝ }
+    ensures { λ r. ⌜ Adds (rowsFrom (now (rows .entry)) len nodes) (postAll nodes (oneTotality kind relation firsts seconds)) (length (nodesAll (oneTotality kind relation firsts seconds))) (rowsFrom (now (rows .exit)) (r .len) (r .nodes)) ⌝ }
 {
     if formula::total(kind) == 0 {
         return Used { len, nodes };
     }
-    totality(rows, len, nodes, relation);
+    totality(rows, len, nodes, relation, firsts, seconds);
     Used {
         len: len + 3,
         nodes: nodes + 2,
@@ -562,7 +570,9 @@ fn totalities(rows: &mut [u8], len: usize, nodes: usize, sig: Signature) -> Used
     let end = sig.rels + sig.chosen;
     while i < end {
         let kind = sig.kind[i];
-        u = totality_by_kind(rows, u.len, u.nodes, kind, 5 + i);
+        let firsts = sig.firsts[i];
+        let seconds = sig.seconds[i];
+        u = totality_by_kind(rows, u.len, u.nodes, kind, 5 + i, firsts, seconds);
         i += 1;
     }
     u

@@ -196,9 +196,9 @@ module _ (L : CaseLimits) (q : List ℕ) (g : Signature) (s : List ℕ) (st : St
   unfolding SiteTurned SiteTurns given entryIn _>>=_ D.addToSite
   site-type a e p at labels members facts w = rw p
 
-  pub site-choose : (a e k d : ℕ) → x ≡ Choose a e k d → Turned (Fault 3)
+  pub site-choose : (a e k d t u v : ℕ) → x ≡ Choose a e k d t u v → Turned (Fault 3)
   unfolding SiteTurned SiteTurns given entryIn _>>=_ D.addToSite
-  site-choose a e k d p at labels members facts w = rw p
+  site-choose a e k d t u v p at labels members facts w = rw p
 
   pub site-rule : (a e : ℕ) → x ≡ Rule a e → Turned (Fault 3)
   unfolding SiteTurned SiteTurns given entryIn _>>=_ D.addToSite
@@ -497,7 +497,7 @@ module _ (L : CaseLimits) (q : List ℕ) (g : Signature) (s : List ℕ) where
   first-size Wrong at m labels ls members ms facts fs e = absurd (refused-accepted e)
   first-size (Rel a b k) at m labels ls members ms facts fs e = absurd (refused-accepted e)
   first-size (Typed a b) at m labels ls members ms facts fs e = absurd (refused-accepted e)
-  first-size (Choose a b k d) at m labels ls members ms facts fs e = absurd (refused-accepted e)
+  first-size (Choose a b k d t u v) at m labels ls members ms facts fs e = absurd (refused-accepted e)
   first-size (Rule a b) at m labels ls members ms facts fs e = absurd (refused-accepted e)
   first-size (Size k) at m labels ls members ms facts fs e = ap Size (sym (sized-by k at m (not (isBetween 1 (L .elements) k)) labels ls members ms facts fs e))
   first-size (Label k a b d) at m labels ls members ms facts fs e = absurd (refused-accepted e)
@@ -517,7 +517,7 @@ module _ (L : CaseLimits) (q : List ℕ) (g : Signature) (s : List ℕ) where
   sized-stays Wrong at (suc j) m labels ls members ms facts fs h e = absurd (refused-accepted e)
   sized-stays (Rel a b k) at (suc j) m labels ls members ms facts fs h e = absurd (refused-accepted e)
   sized-stays (Typed a b) at (suc j) m labels ls members ms facts fs h e = absurd (refused-accepted e)
-  sized-stays (Choose a b k d) at (suc j) m labels ls members ms facts fs h e = absurd (refused-accepted e)
+  sized-stays (Choose a b k d t u v) at (suc j) m labels ls members ms facts fs h e = absurd (refused-accepted e)
   sized-stays (Rule a b) at (suc j) m labels ls members ms facts fs h e = absurd (refused-accepted e)
   sized-stays (Size k) at (suc j) m labels ls members ms facts fs h e = absurd (refused-accepted e)
   sized-stays (Label k a b d) at (suc j) m labels ls members ms facts fs h e =
@@ -567,9 +567,9 @@ module _ (q : List ℕ) (g : Signature) (s : List ℕ) (n : ℕ) (ls : List D.La
   unfolding PickTurned PickTurns given entryIn _>>=_ D.addToPicks
   picks-type a e p at picks w = rw p
 
-  pub picks-choose : (a e k d : ℕ) → x ≡ Choose a e k d → PickTurned q g s n ls x old new 3
+  pub picks-choose : (a e k d t u v : ℕ) → x ≡ Choose a e k d t u v → PickTurned q g s n ls x old new 3
   unfolding PickTurned PickTurns given entryIn _>>=_ D.addToPicks
-  picks-choose a e k d p at picks w = rw p
+  picks-choose a e k d t u v p at picks w = rw p
 
   pub picks-rule : (a e : ℕ) → x ≡ Rule a e → PickTurned q g s n ls x old new 3
   unfolding PickTurned PickTurns given entryIn _>>=_ D.addToPicks

@@ -156,7 +156,7 @@ unfoldable pub verdictOf : Entry → Verdict
 verdictOf Wrong = Bad 2
 verdictOf (Rel a e k) = Bad 3
 verdictOf (Typed a e) = Bad 3
-verdictOf (Choose a e k d) = Bad 3
+verdictOf (Choose a e k d t u v) = Bad 3
 verdictOf (Rule a e) = Bad 3
 verdictOf (Size n) = Bad 3
 verdictOf (Label k a t e) = Bad 3

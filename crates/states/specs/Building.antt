@@ -130,7 +130,7 @@ module _ (p : Problem) (G : Good p) where
         (λ t. mem-among (tupleAt p r row) _ (in-picked p G F (K .inside) _ (among-mem (tupleAt p r row) F t)))
 
     ready : (q : Pair) → List·Memᴰ q (pairs p F) → IsAction p (setOf q)
-    ready q m = pair-action p q (pairs-ready p F q m .0)
+    ready q m = let (v, i) = pairs-ready p F q m in pair-action p G F K q v i
 
     sets-form : taken p (initial p) (setSteps p F) ≡ taken p (initial p) (map setOf (pairs p F))
     sets-form = ap (taken p (initial p)) (sets-are p F)

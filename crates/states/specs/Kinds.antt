@@ -1,27 +1,29 @@
 -- The declared kinds tested on bits: a function kind is broken if some first place has two seconds, which are n bits in a row; an
--- injective one also if some second has two firsts, which are bits n apart.
-use Prim.Native.Nat.{ℕ, zero, suc, _+_, _*_, _^_, _<_}
+-- injective one also if some second has two firsts, which are bits n apart; and either by a bit whose first or second place is not of
+-- its sort.
+use Prim.Native.Nat.{ℕ, zero, suc, _+_, _*_, _<_}
 use mathlib.Core.Path.{_≡_, refl, sym, ap, ap₂, subst, _∙_}
 use mathlib.Core.Logic.{⊎-elim}
-use mathlib.Core.Bool.{Bool, true, false, not, _&&_, _||_, Bool·not-not}
+use mathlib.Core.Bool.{Bool, true, false, not, _&&_, _||_, Bool·not-not, and-false}
 use mathlib.Core.Option.{Option, none, some}
 use mathlib.Core.List.{List, [], _∷_, List·Memᴰ}
 use native.Mathlib.Omega.{arith}
-use native.Mathlib.Nat.{add-zero, zero-add, pow-zero, pow-suc, mul-one, one-mul}
+use native.Mathlib.Nat.{add-zero, zero-add, mul-one}
 use lib.Arith.{digits-lt, digits-div, digits-mod}
-use lib.Dec.{T, ltb, ltb→lt, nltb→le, lt→ltb}
+use lib.Dec.{T, eqb, eqb→eq, eqb-refl, ltb, ltb→lt, nltb→le, lt→ltb}
 use lib.ListN.{length, getD}
 use Rattle.bits.specs.Table.{num, count}
-use Rattle.definitions.specs.Lists.{if_then_else_, any, filter, option, position, mapFrom, from, below}
+use Rattle.definitions.specs.Lists.{if_then_else_, any, filter, option, position, mapFrom, from, below, isIn}
 use Rattle.definitions.specs.Relations.{Kind, Relation, Tuple, isAmong, isChosen, isFunction, isInjective}
 use Rattle.definitions.specs.Sheets.{firstChosen}
-use Rattle.definitions.specs.Truth.{Case, two, first, second, isOfKind, eachChosen, firstOfOtherKind}
-use Rattle.definitions.specs.Atoms.{Problem, problemOf, relationAt, placesOf}
+use Rattle.definitions.specs.Truth.{Case, two, first, second, isInside, isOfKind, eachChosen, firstOfOtherKind}
+use Rattle.definitions.specs.Atoms.{Problem, problemOf, problemWith, relationAt, placesOf}
 use Rattle.definitions.specs.Built.{isPicked, chosenNumbers}
-use Rattle.laws.specs.Booleans.{T-of, T-true, T-false, T-ext, T-dec, lt-split, not-or}
-use Rattle.laws.specs.Lists.{mem-below, below-lt, any-of, any-at}
+use Rattle.laws.specs.Booleans.{T-and-l, T-and-r, T-of, T-true, T-false, T-ext, T-dec, and-T, lt-split, not-or}
+use Rattle.laws.specs.Lists.{mem-below, below-lt, any-of, any-at, any-none}
 use Rattle.laws.specs.Tuples.{among-mem, mem-among}
-use Rattle.laws.specs.Rows.{Below, below-cons, pair-places}
+use Rattle.laws.specs.Members.{mem-in}
+use Rattle.laws.specs.Rows.{Below, below-cons, pair-places, square}
 use Rattle.laws.specs.Numbers.{noRelation, inj-fun}
 use Rattle.laws.specs.Means.{Good}
 use Rattle.laws.specs.Sound.{tup, Inside, tupleAt}
@@ -37,9 +39,20 @@ hasTwo f n = ltb 1 (count f 0 n)
 unfoldable pub isCrowded : (ℕ → Bool) → (n a b : ℕ) → Bool
 isCrowded f n a b = any (λ x. hasTwo (λ y. f (x * a + y * b)) n) (below n)
 
--- the tuples whose rows f says break a kind
-unfoldable pub breaks : Kind → ℕ → (ℕ → Bool) → Bool
-breaks k n f = (isFunction k && isCrowded f n n 1) || (isInjective k && isCrowded f n 1 n)
+-- f holds of some pair whose first place is not among xs or whose second is not among ys
+unfoldable pub isStray : (ℕ → Bool) → ℕ → (xs ys : List ℕ) → Bool
+isStray f n xs ys = any (λ x. any (λ y. f (x * n + y) && not (isIn x xs && isIn y ys)) (below n)) (below n)
+
+-- the tuples whose rows f says break a kind, whose places have the elements xs and ys
+unfoldable pub breaks : Kind → (xs ys : List ℕ) → ℕ → (ℕ → Bool) → Bool
+breaks k xs ys n f = (isFunction k && isCrowded f n n 1) || (isInjective k && isCrowded f n 1 n) || (isFunction k && isStray f n xs ys)
+
+-- where these are all elements, no pair strays
+pub none-stray : (f : ℕ → Bool) (n : ℕ) → isStray f n (below n) (below n) ≡ false
+unfolding isStray
+none-stray f n = any-none (λ x. any (λ y. f (x * n + y) && not (isIn x (below n) && isIn y (below n))) (below n)) (below n)
+    (λ x mx. any-none (λ y. f (x * n + y) && not (isIn x (below n) && isIn y (below n))) (below n)
+    (λ y my. rw (T-true (isIn x (below n)) (mem-in x (below n) mx), T-true (isIn y (below n)) (mem-in y (below n) my)) (and-false (f (x * n + y)))))
 
 -- ---- counts
 abbrev Some : (ℕ → Bool) → ℕ → Type 0
@@ -115,10 +128,16 @@ module _ (p : Problem) (F : List Tuple) (r a b : ℕ) (A B : Tuple → ℕ) (cel
   two-crowd = T-ext (two r A B F) (isCrowded (isPicked p F r) (p .size) a b) to-crowd from-crowd
 
 -- ---- of a relation of pairs
-pub square : (n : ℕ) → n ^ 2 ≡ n * n
-square n = pow-suc n 1 ∙ ap (λ (x : ℕ). x * n) (pow-suc n 0 ∙ ap (λ (x : ℕ). x * n) (pow-zero n) ∙ one-mul n)
-
 module _ (p : Problem) (G : Good p) (F : List Tuple) (inside : (t : Tuple) → List·Memᴰ t F → Inside p G t) (r : ℕ) (l : r < length (p .relations)) where
+  abbrev k : Relation
+  k = relationAt p r
+
+  abbrev xs : List ℕ
+  xs = p .range (relationAt p r .firsts)
+
+  abbrev ys : List ℕ
+  ys = p .range (relationAt p r .seconds)
+
   module _ (f : T (isFunction (relationAt p r .kind))) where
     pair-row : (x y : ℕ) → x < p .size → y < p .size → tupleAt p r (x * p .size + y) ≡ tup r (x ∷ y ∷ [])
     pair-row x y hx hy =
@@ -148,13 +167,44 @@ module _ (p : Problem) (G : Good p) (F : List Tuple) (inside : (t : Tuple) → L
         (λ t m e. let q = pair-form t m e in (q .0, q .2, q .1))
         (λ y x hy hx. let i : y * 1 + x * p .size ≡ x * p .size + y = omega (arith, mul-one y) in ap (λ (t : Tuple). isAmong t F) (ap (tupleAt p r) i ∙ pair-row x y hx hy))
 
+    -- a pick outside its types
+    stray : any (λ (t : Tuple). eqb (t .relation) r && not (isInside (p .source) k t)) F ≡ isStray (isPicked p F r) (p .size) xs ys
+    unfolding isStray isPicked isInside first second
+    stray = T-ext _ _
+        (λ h.
+        let (t, m, q) = any-at (λ (t : Tuple). eqb (t .relation) r && not (isInside (p .source) k t)) F h in
+        let (e, lx, ly) = pair-form t m (eqb→eq (t .relation) r (T-and-l (eqb (t .relation) r) _ q)) in
+        any-of outer (below (p .size)) (first t) (mem-below (p .size) (first t) lx) (any-of (inner (first t)) (below (p .size)) (second t) (mem-below (p .size) (second t) ly)
+        (and-T (isPicked p F r (first t * p .size + second t)) _
+        (mem-among _ F (subst (λ (u : Tuple). List·Memᴰ u F) (e ∙ sym (pair-row (first t) (second t) lx ly)) m))
+        (subst (λ (R : ℕ → List ℕ). T (not (isIn (first t) (R (k .firsts)) && isIn (second t) (R (k .seconds))))) (sym (G .ranges)) (T-and-r (eqb (t .relation) r) _ q)))))
+        (λ h.
+        let (x, mx, hx) = any-at outer (below (p .size)) h in
+        let (y, my, q) = any-at (inner x) (below (p .size)) hx in
+        any-of (λ (t : Tuple). eqb (t .relation) r && not (isInside (p .source) k t)) F (tup r (x ∷ y ∷ []))
+        (subst (λ (u : Tuple). List·Memᴰ u F) (pair-row x y (below-lt (p .size) x mx) (below-lt (p .size) y my)) (among-mem (tupleAt p r (x * p .size + y)) F (T-and-l (isPicked p F r (x * p .size + y)) _ q)))
+        (and-T (eqb r r) _ (eqb-refl r) (subst (λ (R : ℕ → List ℕ). T (not (isIn x (R (k .firsts)) && isIn y (R (k .seconds))))) (G .ranges) (T-and-r (isPicked p F r (x * p .size + y)) _ q))))
+      where
+        inner : ℕ → ℕ → Bool
+        inner x y = isPicked p F r (x * p .size + y) && not (isIn x xs && isIn y ys)
+
+        outer : ℕ → Bool
+        outer x = any (inner x) (below (p .size))
+
   -- what `isOfKind` tests, by rows
-  pub of-kind : isOfKind F r (relationAt p r) ≡ not (breaks (relationAt p r .kind) (p .size) (isPicked p F r))
+  pub of-kind : isOfKind (p .source) F r (relationAt p r) ≡ not (breaks (relationAt p r .kind) (p .range (relationAt p r .firsts)) (p .range (relationAt p r .seconds)) (p .size) (isPicked p F r))
   unfolding isOfKind breaks
-  of-kind = ap₂ (λ (x y : Bool). not x && not y)
-      (when-test (isFunction (relationAt p r .kind)) (λ t. fun-crowd t)) (when-test (isInjective (relationAt p r .kind)) (λ t. inj-crowd (inj-fun (relationAt p r .kind) t)))
-      ∙ sym (not-or (isFunction (relationAt p r .kind) && isCrowded (isPicked p F r) (p .size) (p .size) 1) (isInjective (relationAt p r .kind) && isCrowded (isPicked p F r) (p .size) 1 (p .size)))
+  of-kind = ap₂ _&&_ (ap₂ (λ (x y : Bool). not x && not y)
+      (when-test (isFunction (k .kind)) (λ t. fun-crowd t)) (when-test (isInjective (k .kind)) (λ t. inj-crowd (inj-fun (k .kind) t))))
+      (ap not (when-test (isFunction (k .kind)) (λ t. stray t)))
+      ∙ ap (λ (x : Bool). x && not (isFunction (k .kind) && isStray (isPicked p F r) (p .size) xs ys)) (sym (not-or crowd₁ crowd₂)) ∙ sym (not-or (crowd₁ || crowd₂) (isFunction (k .kind) && isStray (isPicked p F r) (p .size) xs ys))
     where
+      crowd₁ : Bool
+      crowd₁ = isFunction (k .kind) && isCrowded (isPicked p F r) (p .size) (p .size) 1
+
+      crowd₂ : Bool
+      crowd₂ = isInjective (k .kind) && isCrowded (isPicked p F r) (p .size) 1 (p .size)
+
       when-test : (b : Bool) {x y : Bool} → (T b → x ≡ y) → (b && x) ≡ (b && y)
       when-test true e = e tt
       when-test false e = refl
@@ -188,16 +238,27 @@ module _ (c : Case) (A : Accepted c) where
       ∙ ap (λ (a : ℕ). filter f (from a (length (c .question .chosen)))) (zero-add (firstChosen (c .question)))
       ∙ filter-all f (firstChosen (c .question)) (length (c .question .chosen)) (λ i h. T-true (f (firstChosen (c .question) + i)) (chosen-is c A i h .1))
 
-  position-not : (F : List Tuple) (f : ℕ → Bool) (ks : List Relation) (a : ℕ) → ((j : ℕ) → j < length ks → not (isOfKind F (a + j) (getD ks j noRelation)) ≡ f (a + j)) → position not (mapFrom (isOfKind F) a ks) ≡ position f (from a (length ks))
+  position-not : (F : List Tuple) (f : ℕ → Bool) (ks : List Relation) (a : ℕ) → ((j : ℕ) → j < length ks → not (isOfKind c F (a + j) (getD ks j noRelation)) ≡ f (a + j)) → position not (mapFrom (isOfKind c F) a ks) ≡ position f (from a (length ks))
   unfolding position mapFrom from option
   position-not F f [] a h = refl
   position-not F f (k ∷ ks) a h = ap₂ (λ (b : Bool) (o : Option ℕ). if b then some zero else option o none (λ i. some (suc i)))
-      (ap (λ (x : ℕ). not (isOfKind F x k)) (sym (add-zero a)) ∙ h 0 (omega arith) ∙ ap f (add-zero a))
-      (position-not F f ks (suc a) (λ j i. let e : suc a + j ≡ a + suc j = omega arith in ap (λ (x : ℕ). not (isOfKind F x (getD ks j noRelation))) e ∙ h (suc j) (omega arith) ∙ ap f (sym e)))
+      (ap (λ (x : ℕ). not (isOfKind c F x k)) (sym (add-zero a)) ∙ h 0 (omega arith) ∙ ap f (add-zero a))
+      (position-not F f ks (suc a) (λ j i. let e : suc a + j ≡ a + suc j = omega arith in ap (λ (x : ℕ). not (isOfKind c F x (getD ks j noRelation))) e ∙ h (suc j) (omega arith) ∙ ap f (sym e)))
 
-  pub first-broken : (F : List Tuple) → ((t : Tuple) → List·Memᴰ t F → Inside (problemOf c) (good c A) t)
-      → firstOfOtherKind c F ≡ position (λ r. breaks (relationAt (problemOf c) r .kind) (problemOf c .size) (isPicked (problemOf c) F r)) (chosenNumbers (problemOf c))
+  abbrev p₀ : Problem
+  p₀ = problemOf c
+
+  -- whether a relation's picks break its kind
+  abbrev pub isBroken : List Tuple → ℕ → Bool
+  isBroken F r = breaks (relationAt p₀ r .kind) (p₀ .range (relationAt p₀ r .firsts)) (p₀ .range (relationAt p₀ r .seconds)) (p₀ .size) (isPicked p₀ F r)
+
+  source-is : p₀ .source ≡ c
+  unfolding problemOf problemWith
+  source-is = refl
+
+  pub first-broken : (F : List Tuple) → ((t : Tuple) → List·Memᴰ t F → Inside (problemOf c) (good c A) t) → firstOfOtherKind c F ≡ position (isBroken F) (chosenNumbers (problemOf c))
   unfolding firstOfOtherKind eachChosen
-  first-broken F inside = position-not F (λ r. breaks (relationAt (problemOf c) r .kind) (problemOf c .size) (isPicked (problemOf c) F r)) (c .question .chosen) (firstChosen (c .question))
-      (λ j h. ap (λ (k : Relation). not (isOfKind F (firstChosen (c .question) + j) k)) (sym (chosen-at c A j)) ∙ ap not (of-kind (problemOf c) (good c A) F inside (firstChosen (c .question) + j) (chosen-is c A j h .0)) ∙ Bool·not-not _)
-      ∙ ap (position (λ r. breaks (relationAt (problemOf c) r .kind) (problemOf c .size) (isPicked (problemOf c) F r))) (sym numbers-are)
+  first-broken F inside = position-not F (isBroken F) (c .question .chosen) (firstChosen (c .question))
+      (λ j h. ap₂ (λ (d : Case) (k : Relation). not (isOfKind d F (firstChosen (c .question) + j) k)) (sym source-is) (sym (chosen-at c A j))
+      ∙ ap not (of-kind (problemOf c) (good c A) F inside (firstChosen (c .question) + j) (chosen-is c A j h .0)) ∙ Bool·not-not _)
+      ∙ ap (position (isBroken F)) (sym numbers-are)

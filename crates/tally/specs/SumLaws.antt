@@ -20,34 +20,34 @@ use Rattle.tree.specs.declared.Nodes.{Nodes}
 use Rattle.rows.specs.Values.{Most}
 use Rattle.layout.specs.declared.Relations.{Relations}
 use Rattle.layout.specs.declared.Ranges.{Ranges}
-use Rattle.layout.specs.Laid.{relationWidth, setWidth, mostWidth, nodeWidth, RangesAre, choicesAt, RelationsFit, relationSum, setSum, pickSum, nodeSum, actSum, Inputs}
+use Rattle.layout.specs.Laid.{relationWidth, setWidth, firstsAt, secondsAt, mostWidth, nodeWidth, RangesAre, choicesAt, RelationsFit, relationSum, setSum, pickSum, nodeSum, actSum, Inputs}
 use Rattle.layout.specs.LaidLaws.{rel-bound, set-bound, pick-bound, node-bound, act-bound}
 use Rattle.layout.specs.StartsAre.{rel-are, set-are, pick-are, count-is, node-width, act-width}
 use Rattle.tally.specs.declared.Tally.{Tally}
 use Rattle.tally.specs.Sums.{RelationsSummed, NodesSummed, Tallied}
 
 -- ---- turns
-module _ (n : ℕ) (g : Relations) where
-  pub relations-first : RelationsSummed n g 0 3 0 0
+module _ (n : ℕ) (counts : List ℕ) (g : Relations) where
+  pub relations-first : RelationsSummed n counts g 0 3 0 0
   unfolding relationSum setSum pickSum
   relations-first = record { atoms-are = refl; sets-are = refl; picks-are = refl }
 
   -- (stated for the next number as it is counted)
   relations-suc : (i atoms sets picks size w u m : ℕ) → size ≡ n ^ getD (g .arity) i 0
-      → w ≡ relationWidth n size (getD (g .kind) i 0) → u ≡ setWidth size (getD (g .kind) i 0) → m ≡ mostWidth n size (getD (g .kind) i 0)
-      → RelationsSummed n g i atoms sets picks → RelationsSummed n g (suc i) (atoms + w) (sets + u) (picks + m)
+      → w ≡ relationWidth n size (getD (g .kind) i 0) → u ≡ setWidth size (firstsAt counts g i) (secondsAt counts g i) (getD (g .kind) i 0) → m ≡ mostWidth n size (getD (g .kind) i 0)
+      → RelationsSummed n counts g i atoms sets picks → RelationsSummed n counts g (suc i) (atoms + w) (sets + u) (picks + m)
   unfolding relationSum setSum pickSum
   relations-suc i atoms sets picks size w u m e ew eu em s = record {
     atoms-are = ap₂ _+_ (s .atoms-are) (ew ∙ ap (λ (x : ℕ). relationWidth n x (getD (g .kind) i 0)) e);
-    sets-are = ap₂ _+_ (s .sets-are) (eu ∙ ap (λ (x : ℕ). setWidth x (getD (g .kind) i 0)) e);
+    sets-are = ap₂ _+_ (s .sets-are) (eu ∙ ap (λ (x : ℕ). setWidth x (firstsAt counts g i) (secondsAt counts g i) (getD (g .kind) i 0)) e);
     picks-are = ap₂ _+_ (s .picks-are) (em ∙ ap (λ (x : ℕ). mostWidth n x (getD (g .kind) i 0)) e);
   }
 
   pub relations-next : (i atoms sets picks size w u m : ℕ) → size ≡ n ^ getD (g .arity) i 0
-      → w ≡ relationWidth n size (getD (g .kind) i 0) → u ≡ setWidth size (getD (g .kind) i 0) → m ≡ mostWidth n size (getD (g .kind) i 0)
-      → RelationsSummed n g i atoms sets picks → RelationsSummed n g (i + 1) (atoms + w) (sets + u) (picks + m)
+      → w ≡ relationWidth n size (getD (g .kind) i 0) → u ≡ setWidth size (firstsAt counts g i) (secondsAt counts g i) (getD (g .kind) i 0) → m ≡ mostWidth n size (getD (g .kind) i 0)
+      → RelationsSummed n counts g i atoms sets picks → RelationsSummed n counts g (i + 1) (atoms + w) (sets + u) (picks + m)
   relations-next i atoms sets picks size w u m e ew eu em s =
-      subst (λ (j : ℕ). RelationsSummed n g j (atoms + w) (sets + u) (picks + m)) (sym (add-one i)) (relations-suc i atoms sets picks size w u m e ew eu em s)
+      subst (λ (j : ℕ). RelationsSummed n counts g j (atoms + w) (sets + u) (picks + m)) (sym (add-one i)) (relations-suc i atoms sets picks size w u m e ew eu em s)
 
 module _ (n : ℕ) (counts : List ℕ) (t : Nodes) where
   pub nodes-first : NodesSummed n counts t 0 0 0 0
@@ -117,14 +117,14 @@ module _ (p : Problem) (ws : List ℕ) (types : ℕ) (ranges : Ranges) (g : Rela
   unfolding relationStart
   relation-atoms = rel-are p ws types g t is (g .count) (omega arith) ∙ ap (λ (ks : List Relation). 3 + countOf (relationsBlocks n ks)) all-relations
 
-  relation-sets : setSum n g (g .count) ≡ countOf (setBlocks n (p .range) (p .relations))
+  relation-sets : setSum n (ranges .count) g (g .count) ≡ countOf (setBlocks n (p .range) (p .relations))
   unfolding setStart
-  relation-sets = set-are p ws types g t is (g .count) (omega arith) ∙ ap (λ (ks : List Relation). countOf (setBlocks n (p .range) ks)) all-relations
+  relation-sets = set-are p ws types g t is ranges ra (g .count) (omega arith) ∙ ap (λ (ks : List Relation). countOf (setBlocks n (p .range) ks)) all-relations
 
   relation-picks : pickSum n g (g .count) ≡ sum (map (mostPicks n) (p .relations))
   relation-picks = pick-are p ws types g t is (g .count) (omega arith) ∙ ap (λ (ks : List Relation). sum (map (mostPicks n) ks)) all-relations
 
-  tallied-here : (atoms sets picks nodes a k : ℕ) → RelationsSummed n g (g .count) atoms sets picks → NodesSummed n (ranges .count) t (t .count) nodes a k
+  tallied-here : (atoms sets picks nodes a k : ℕ) → RelationsSummed n (ranges .count) g (g .count) atoms sets picks → NodesSummed n (ranges .count) t (t .count) nodes a k
       → Tallied p (record { elements = n; nodes = nodes; atoms = atoms + a; actions = sets + 1 + (k + 1); bound = picks + a + 2 })
   unfolding tallyOf
   tallied-here atoms sets picks nodes a k R N =
@@ -136,19 +136,19 @@ module _ (p : Problem) (ws : List ℕ) (types : ℕ) (ranges : Ranges) (g : Rela
       record { elements-are = refl; nodes-are = N .visited ∙ visited-walked; atoms-are = omega arith; actions-are = omega arith; bound-is = omega arith }
 
 pub tallied : (n : ℕ) (p : Problem) (ws : List ℕ) (types : ℕ) (ranges : Ranges) (g : Relations) (t : Nodes) → RangesAre n ws types ranges → Inputs p n ws types g t → Fits t → (atoms sets picks nodes a k : ℕ)
-    → RelationsSummed n g (g .count) atoms sets picks → NodesSummed n (ranges .count) t (t .count) nodes a k
+    → RelationsSummed n (ranges .count) g (g .count) atoms sets picks → NodesSummed n (ranges .count) t (t .count) nodes a k
     → Tallied p (record { elements = n; nodes = nodes; atoms = atoms + a; actions = sets + 1 + (k + 1); bound = picks + a + 2 })
 tallied n p ws types ranges g t ra is f atoms sets picks nodes a k R N =
     subst (λ (m : ℕ). Tallied p (record { elements = m; nodes = nodes; atoms = atoms + a; actions = sets + 1 + (k + 1); bound = picks + a + 2 })) (sym (is .size))
     (tallied-here p ws types ranges g t (subst (λ (m : ℕ). RangesAre m ws types ranges) (is .size) ra) (subst (λ (m : ℕ). Inputs p m ws types g t) (is .size) is) f atoms sets picks nodes a k
-    (subst (λ (m : ℕ). RelationsSummed m g (g .count) atoms sets picks) (is .size) R) (subst (λ (m : ℕ). NodesSummed m (ranges .count) t (t .count) nodes a k) (is .size) N))
+    (subst (λ (m : ℕ). RelationsSummed m (ranges .count) g (g .count) atoms sets picks) (is .size) R) (subst (λ (m : ℕ). NodesSummed m (ranges .count) t (t .count) nodes a k) (is .size) N))
 
 -- ---- no count overflows
 module _ (n : ℕ) (small : n ≤ 64) where
-  pub relation-counts : (g : Relations) → RelationsFit g → (i atoms sets picks : ℕ) → i ≤ g .count → RelationsSummed n g i atoms sets picks → (atoms ≤ 2 ^ 30) × (sets ≤ 2 ^ 29) × (picks ≤ 2 ^ 29)
-  relation-counts g f i atoms sets picks h s =
+  pub relation-counts : (counts : List ℕ) (g : Relations) → Most counts 64 → RelationsFit g → (i atoms sets picks : ℕ) → i ≤ g .count → RelationsSummed n counts g i atoms sets picks → (atoms ≤ 2 ^ 30) × (sets ≤ 2 ^ 29) × (picks ≤ 2 ^ 29)
+  relation-counts counts g few f i atoms sets picks h s =
       let a = rel-bound n g small f i in
-      let b = set-bound n g small f i in
+      let b = set-bound n g small f counts few i in
       let d = pick-bound n g small f i in
       (omega (arith, s .atoms-are, f .count), omega (arith, s .sets-are, f .count), omega (arith, s .picks-are, f .count))
 

@@ -10,9 +10,9 @@ use Rattle.layout.specs.Laid.{relationSum, setSum, pickSum, nodeSum, actSum}
 use Rattle.tally.specs.declared.Tally.{Tally}
 
 -- the sums over the first i relations, and over the first v nodes
-pub record RelationsSummed (n : ℕ) (g : Relations) (i atoms sets picks : ℕ) : Type 0 where
+pub record RelationsSummed (n : ℕ) (counts : List ℕ) (g : Relations) (i atoms sets picks : ℕ) : Type 0 where
   pub atoms-are : atoms ≡ relationSum n g i
-  pub sets-are : sets ≡ setSum n g i
+  pub sets-are : sets ≡ setSum n counts g i
   pub picks-are : picks ≡ pickSum n g i
 
 pub record NodesSummed (n : ℕ) (counts : List ℕ) (t : Nodes) (v nodes atoms actions : ℕ) : Type 0 where

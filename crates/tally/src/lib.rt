@@ -26,9 +26,9 @@ struct Before {
     picks: usize,
 }
 
-fn of_relations(n: usize, g: Relations) -> Before
-    requires { ⌜ (0 < n) × (n ≤ 64) × RelationsFit g ⌝ }
-    ensures { λ r. ⌜ RelationsSummed n g (g .count) (r .atoms) (r .sets) (r .picks) ⌝ }
+fn of_relations(n: usize, ranges: Ranges, g: Relations) -> Before
+    requires { ⌜ (0 < n) × (n ≤ 64) × RelationsFit g × RangesFit n ranges ⌝ }
+    ensures { λ r. ⌜ RelationsSummed n (ranges .count) g (g .count) (r .atoms) (r .sets) (r .picks) ⌝ }
 {
     let mut atoms: usize = 3;
     let mut sets: usize = 0;
@@ -38,7 +38,9 @@ fn of_relations(n: usize, g: Relations) -> Before
         let kind = g.kind[i];
         let size = rows::power(n, g.arity[i]);
         atoms = atoms + layout::relation_width(n, size, kind);
-        sets = sets + layout::set_width(size, kind);
+        let firsts = ranges.count[g.firsts[i]];
+        let seconds = ranges.count[g.seconds[i]];
+        sets = sets + layout::set_width(size, firsts, seconds, kind);
         picks = picks + layout::most_width(n, size, kind);
         i += 1;
     }
@@ -81,7 +83,7 @@ pub fn of_tables(n: usize, ranges: Ranges, g: Relations, t: tree::Nodes) -> Tall
     requires { ⌜ (0 < n) × (n ≤ 64) × RelationsFit g × Fits t × RangesFit n ranges ⌝ }
     ensures { λ r. ⌜ ((p : Problem) (w : List ℕ) (k : ℕ) → RangesAre n w k ranges → Inputs p n w k g t → Tallied p r) ⌝ }
 {
-    let b = of_relations(n, g);
+    let b = of_relations(n, ranges, g);
     let w = of_nodes(n, ranges, t);
     let nodes = w.nodes;
     let atoms = b.atoms + w.atoms;

@@ -20,7 +20,7 @@ use Rattle.text.specs.Spans.{placeOf}
 use Rattle.text.specs.declared.Found.{Found}
 use Rattle.text.specs.declared.Found.the-variants.{At, Nowhere}
 use Rattle.names.specs.declared.Signature.{Signature}
-use Rattle.names.specs.Signatures.{relationIn, relationsFrom, matches, counted}
+use Rattle.names.specs.Signatures.{lentOf, relationIn, relationsFrom, matches, counted}
 use Rattle.names.proofs.Laws.{found-some, found-none, look-found}
 use Rattle.tuples.specs.declared.Mark.{Mark}
 use Rattle.tuples.specs.declared.Mark.the-variants.{Bit, Fault}
@@ -33,7 +33,7 @@ use Rattle.tuples.proofs.Words.{its-words}
 
 -- a signature of no relation: bounds hold for every signature with the arrays, so for this one
 pub noSignature : Signature
-noSignature = record { rels = 0; chosen = 0; types = 0; from = []; to = []; arity = []; kind = [] }
+noSignature = lentOf [] [] [] 0
 
 -- ---- the tests 7, 9 and 18
 

@@ -3,8 +3,8 @@
 //!     bench [ROUNDS] [WORD]      all jobs, or those whose names have the word
 
 use peer::large::{
-    broken_deep, broken_path, deep, facts, last, long_text, named_facts, named_picks, padded, path,
-    round, sorted_zones, wide_facts, zones,
+    broken_deep, broken_path, deep, facts, kind_zones, last, long_text, named_facts, named_picks,
+    padded, path, round, sorted_zones, wide_facts, zones,
 };
 use peer::limits::{STEPS, TEXT};
 use peer::sample::{needs, sound, Random, Sample};
@@ -173,6 +173,7 @@ fn wide_jobs() -> Vec<Job> {
     let cases = [
         ("airport of 64, zones", zones()),
         ("airport of 64, zones as a type", sorted_zones()),
+        ("airport of 64, a typed kind", kind_zones()),
         ("airport of 64, a round", round()),
         ("path of 31", path(31)),
         ("four deep of 26", deep(26)),
@@ -238,6 +239,7 @@ fn judgements() -> Vec<(String, Vec<Sample>)> {
         ("four deep, true at the last witness".into(), vec![last(13)]),
         ("airport of 64, zones".into(), vec![zones()]),
         ("airport of 64, zones as a type".into(), vec![sorted_zones()]),
+        ("airport of 64, a typed kind".into(), vec![kind_zones()]),
         ("airport of 64, a round".into(), vec![round()]),
     ]
 }

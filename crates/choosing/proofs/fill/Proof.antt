@@ -1,6 +1,5 @@
 -- `choosing::fill` meets its contract.
-use mathlib.Core.Path.{_≡_, subst, sym}
-use native.Mathlib.Omega.{arith}
+use mathlib.Core.Path.{subst, sym}
 use Rattle.tree.specs.Tables.{Fits}
 use Rattle.layout.specs.Laid.{Inputs}
 use Rattle.choosing.specs.Bare.{bare, none-fits, bare-inputs, bare-starts}
@@ -8,20 +7,16 @@ use borrow.Author.Needs.{needs}
 use Rattle.choosing.proofs.fill.Statement.{statement}
 use Rattle.choosing.proofs.fill.Tie as tie
 
-ranges-of-requires : tie.Need-ranges-of-requires
-ranges-of-requires c κs = let h = c .before .before .before .pre in (h .2, h .3, omega arith, omega arith)
-
 fill-requires : tie.Need-fill-requires
 fill-requires c κs =
-    let h = c .before .before .before .before .before .before .pre in
-    let r = c .before .before .ranges-of .ensures in
-    (h .0, h .1, h .2, h .3, h .4, subst Fits (sym (c .before .before .before .before .no-nodes .ensures)) none-fits, h .5, omega arith, omega arith, r .0, r .1)
+    let h = c .before .before .before .before .pre in
+    (h .0, h .1, h .2, h .3, h .4, subst Fits (sym (c .before .no-nodes .ensures)) none-fits, h .5, h .6, h .7, h .8, h .9)
 
 returns : tie.Need-returns
 returns c =
-    let a = c .before .before .before .before .before .before .before .before .before .args in
+    let a = c .before .before .before .before .before .before .before .args in
     let f = c .before .before .fill .ensures .1 in
-    (f .fits, λ p w k t some i s. f .is (bare p) (subst (Inputs (bare p) (a .n) _ 0 (a .g)) (sym (c .before .before .before .before .before .before .before .no-nodes .ensures)) (bare-inputs p (a .n) w k _ (a .g) t some i)) (bare-starts p (a .l) s))
+    (f .fits, λ p t some i s. f .is (bare p) (subst (Inputs (bare p) (a .n) (a .members .now) (a .types) (a .g)) (sym (c .before .before .before .before .no-nodes .ensures)) (bare-inputs p (a .n) (a .members .now) (a .types) (a .g) t some i)) (bare-starts p (a .l) s))
 
 pub fill-spec : {M : Type 1} → statement M
-fill-spec = tie.close (tie.spec (λ c κs. search needs) (λ c. search needs) ranges-of-requires (λ c. search needs) fill-requires (λ c. search needs) returns)
+fill-spec = tie.close (tie.spec (λ c κs. search needs) fill-requires (λ c. search needs) returns)

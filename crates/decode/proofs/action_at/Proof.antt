@@ -1,14 +1,16 @@
 -- `decode::action_at` meets its contract.
-use Prim.Native.Nat.{_+_, _-_}
-use mathlib.Core.Path.{sym, _∙_, subst}
+use Prim.Native.Nat.{_+_, _-_, _*_}
+use mathlib.Core.Path.{_≡_, sym, _∙_, subst}
+use mathlib.Core.Bool.{false}
 use native.Mathlib.Omega.{arith}
 use borrow.Author.Needs.{needs}
 use lib.ListN.{getD}
 use Prim.Native.Nat.{_<_}
-use Rattle.ground.specs.Lines.{relationPlace, nodePlace, RangeFits}
-use Rattle.ground.specs.Numbers.{ActFits}
+use Rattle.ground.specs.Lines.{relationPlace, nodePlace, RangeFits, PlacesFit}
+use Rattle.ground.specs.Numbers.{isWhole, ActFits}
+use Rattle.ground.specs.NeedLaws.{set-row-small}
 use Rattle.ground.specs.declared.Act.{Act}
-use Rattle.decode.specs.Found.{sets-begin, acts-begin, found-set, found-begin, found-proof, found-counted, found-goal, found-none, proof-fits}
+use Rattle.decode.specs.Found.{sets-begin, acts-begin, found-pair, found-set, found-begin, found-proof, found-counted, found-goal, found-none, proof-fits}
 use borrow.Author.Needs.{needs}
 use Rattle.decode.proofs.action_at.Statement.{statement}
 use Rattle.decode.proofs.action_at.Tie as tie
@@ -16,6 +18,8 @@ use Rattle.decode.proofs.action_at.Reads as reads
 use Rattle.decode.proofs.action_at.Lts as lts
 use Rattle.decode.proofs.proof_of.Reads as proof-of-reads
 use Rattle.ground.proofs.node_line.Reads as node-line-reads
+use Rattle.ground.proofs.relation_line.Reads as relation-line-reads
+use Rattle.ground.proofs.set_row.Reads as set-row-reads
 use Rattle.rows.proofs.locate.Reads as locate-reads
 
 locate-requires : tie.Need-locate-requires
@@ -23,12 +27,37 @@ locate-requires c κs =
     let s = c .before .before .before .before .before .before in
     (omega (arith, s .pre .fits .whole, s .pre .fits .relations), omega (arith, sets-begin (s .pre .problem) (s .args .table .now) (s .pre .is)), c .if1 .taken)
 
+relation-line-requires : tie.Need-relation-line-requires
+relation-line-requires c κs = let s = c .before .before .before .before .before .before .before .before in (s .pre .fits .whole, omega (arith, c .before .locate .ensures .0, s .pre .fits .relations))
+
+-- the ranges of the relation's places are in the table, and its offset is that of one of its set actions
+in-places : (c : tie.After-relation-line) → PlacesFit (c .before .before .before .before .before .before .before .before .before .args .table .now) (c .relation-line .result)
+in-places c =
+    let s = c .before .before .before .before .before .before .before .before .before in
+    let l = c .before .before .locate in
+    subst (PlacesFit (s .args .table .now)) (sym (c .relation-line .ensures)) (s .pre .fits .places (l .result) (omega (arith, l .ensures .0, s .pre .fits .relations)))
+
+among : (c : tie.After-relation-line) → let s = c .before .before .before .before .before .before .before .before .before in
+    isWhole (c .relation-line .result) ≡ false → s .args .k - getD (s .args .table .now) (relationPlace (c .before .before .locate .result)) 0 < c .relation-line .result .«first_count» * c .relation-line .result .«second_count»
+among c =
+    let s = c .before .before .before .before .before .before .before .before .before in
+    let l = c .before .before .locate in
+    found-pair (s .pre .problem) (s .args .table .now) (s .pre .is) (s .args .k) (l .result) (l .ensures .0) (l .ensures .1) (l .ensures .2) (c .relation-line .result) (c .relation-line .ensures)
+
+set-row-requires : tie.Need-set-row-requires
+set-row-requires c κs = (c .before .before .before .before .before .before .before .before .before .pre .fits, in-places c, among c)
+
 returns : tie.Need-returns
 returns c =
-    let s = c .before .before .before .before .before .before .before .before in
-    let l = c .before .locate in (
-      (omega (arith, l .ensures .0, s .pre .fits .relations), omega (arith, s .pre .fits .entry (relationPlace (l .result + 1)), l .ensures .2)),
-      λ p is. found-set p (s .args .table .now) is (s .args .k) (l .result) (l .ensures .0) (l .ensures .1) (l .ensures .2),
+    let s = c .before .before .before .before .before .before .before .before .before .before in
+    let w = s .args .table .now in
+    let l = c .before .before .before .locate in
+    let line = c .before .relation-line in
+    let few : l .result < 17 = omega (arith, l .ensures .0, s .pre .fits .relations) in
+    let off = s .args .k - getD w (relationPlace (l .result)) 0 in
+    let small = set-row-small w (s .pre .fits) (line .result) (in-places (c .before)) off (omega (arith, s .pre .fits .entry (relationPlace (l .result + 1)), l .ensures .2)) (among (c .before)) in (
+      (few, omega (arith, c .set-row .ensures, small, s .pre .fits .entry (relationPlace (l .result + 1)), l .ensures .2)),
+      λ p is. found-set p w is (s .args .k) (l .result) (l .ensures .0) (l .ensures .1) (l .ensures .2) (line .result) (c .set-row .result) (line .ensures) (s .pre .fits .places (l .result) few) (c .set-row .ensures),
     )
 
 returns-2 : tie.Need-returns-2
@@ -87,6 +116,8 @@ action-at-spec =
     (λ c. search needs)
     (λ c. search needs)
     (λ c. search needs)
+    relation-line-requires
+    set-row-requires
     returns
     returns-2
     locate-requires-2

@@ -25,9 +25,6 @@ returns c = let a = c .before .before .args in let q = c .before .before .pre in
 loop-holds : tie.Need-loop-holds Inv-loop μ-loop
 loop-holds c = let a = c .before .before .args in (omega arith, omega arith, before-start (a .table .now) (a .range) (a .count) (a .z))
 
-latest-requires : tie.Need-latest-requires Inv-loop μ-loop
-latest-requires c κs = search needs
-
 loop-again : tie.Need-loop-again Inv-loop μ-loop
 loop-again c =
     let a = c .before .before .before .before .before .before .args in
@@ -51,7 +48,7 @@ element-before-spec =
     (λ c. search needs)
     (λ c. search needs)
     (λ c. search needs)
-    latest-requires
+    (λ c κs. search needs)
     (λ c. search needs)
     (λ c. search needs)
     loop-again

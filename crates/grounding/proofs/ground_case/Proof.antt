@@ -18,7 +18,7 @@ nodes-of-requires : tie.Need-nodes-of-requires
 nodes-of-requires c κs = rule-fine _ _ _ _ (c .before .before .before .before .before .before .before .before .pre .1 .holds)
 
 lay-out-requires : tie.Need-lay-out-requires
-lay-out-requires c κs = let h = c .before .before .before .before .before .before .before .before .before .pre .1 .holds in (h .some-elements, h .few-elements, c .before .relations-of .ensures .0, c .nodes-of .ensures .fits, search needs, search needs, c .before .before .ranges-of .ensures .0)
+lay-out-requires c κs = let h = c .before .before .before .before .before .before .before .before .before .pre .1 .holds in (h .some-elements, h .few-elements, c .before .relations-of .ensures .0, c .nodes-of .ensures .fits, c .before .before .before .before .before .before .before .before .before .pre .0 .2, c .before .before .before .before .before .before .before .before .before .pre .0 .3, c .before .before .ranges-of .ensures .0)
 
 returns : tie.Need-returns
 returns c = λ L x facts a b h.

@@ -14,13 +14,13 @@ use Rattle.layout.proofs.relation_starts.Reads as relation-starts-reads
 use Rattle.layout.proofs.too_many.Reads as too-many-reads
 
 add-first : tie.Need-add-first
-add-first c = omega (arith, c .before .relation-starts .ensures .set-is, set-bound (c .before .before .args .n) (c .before .before .args .g) (c .before .before .pre .1) (c .before .before .pre .2) (c .before .before .args .g .count), c .before .before .pre .2 .count)
+add-first c = omega (arith, c .before .relation-starts .ensures .set-is, set-bound (c .before .before .args .n) (c .before .before .args .g) (c .before .before .pre .1) (c .before .before .pre .2) (c .before .before .args .ranges .count) (c .before .before .pre .6 .count) (c .before .before .args .g .count), c .before .before .pre .2 .count)
 
 node-starts-requires : tie.Need-node-starts-requires
-node-starts-requires c κs = (c .before .before .pre .0, c .before .before .pre .1, c .before .before .pre .3, omega (arith, c .before .relation-starts .ensures .at-is, rel-bound (c .before .before .args .n) (c .before .before .args .g) (c .before .before .pre .1) (c .before .before .pre .2) (c .before .before .args .g .count), c .before .before .pre .2 .count), omega (arith, c .before .relation-starts .ensures .set-is, set-bound (c .before .before .args .n) (c .before .before .args .g) (c .before .before .pre .1) (c .before .before .pre .2) (c .before .before .args .g .count), c .before .before .pre .2 .count), c .before .before .pre .6)
+node-starts-requires c κs = (c .before .before .pre .0, c .before .before .pre .1, c .before .before .pre .3, omega (arith, c .before .relation-starts .ensures .at-is, rel-bound (c .before .before .args .n) (c .before .before .args .g) (c .before .before .pre .1) (c .before .before .pre .2) (c .before .before .args .g .count), c .before .before .pre .2 .count), omega (arith, c .before .relation-starts .ensures .set-is, set-bound (c .before .before .args .n) (c .before .before .args .g) (c .before .before .pre .1) (c .before .before .pre .2) (c .before .before .args .ranges .count) (c .before .before .pre .6 .count) (c .before .before .args .g .count), c .before .before .pre .2 .count), c .before .before .pre .6)
 
 add-actions : tie.Need-add-actions
-add-actions c = omega (arith, c .before .before .before .relation-starts .ensures .set-is, set-bound (c .before .before .before .before .args .n) (c .before .before .before .before .args .g) (c .before .before .before .before .pre .1) (c .before .before .before .before .pre .2) (c .before .before .before .before .args .g .count), c .before .before .before .before .pre .2 .count, c .before .node-starts .ensures .act-is, act-bound (c .before .before .before .before .args .n) (c .before .before .before .before .args .ranges .count) (c .before .before .before .before .args .t) (c .before .before .before .relation-starts .result .at) (c .before .before .before .relation-starts .result .sets + 1) (c .before .before .before .before .pre .1) (c .before .before .before .before .pre .6 .count) (c .before .before .before .before .pre .3) (c .before .before .before .before .args .t .count), c .before .before .before .before .pre .3 .few)
+add-actions c = omega (arith, c .before .before .before .relation-starts .ensures .set-is, set-bound (c .before .before .before .before .args .n) (c .before .before .before .before .args .g) (c .before .before .before .before .pre .1) (c .before .before .before .before .pre .2) (c .before .before .before .before .args .ranges .count) (c .before .before .before .before .pre .6 .count) (c .before .before .before .before .args .g .count), c .before .before .before .before .pre .2 .count, c .before .node-starts .ensures .act-is, act-bound (c .before .before .before .before .args .n) (c .before .before .before .before .args .ranges .count) (c .before .before .before .before .args .t) (c .before .before .before .relation-starts .result .at) (c .before .before .before .relation-starts .result .sets + 1) (c .before .before .before .before .pre .1) (c .before .before .before .before .pre .6 .count) (c .before .before .before .before .pre .3) (c .before .before .before .before .args .t .count), c .before .before .before .before .pre .3 .few)
 
 sub-bound : tie.Need-sub-bound
 sub-bound c = nodes-low (c .before .before .before .before .before .args .n) (c .before .before .before .before .before .args .ranges .count) (c .before .before .before .before .relation-starts .result .at) (c .before .before .before .before .relation-starts .result .sets + 1) (c .before .before .before .before .before .args .t .count) (c .before .before .before .before .before .args .t) (c .before .before .node-starts .result .node) (c .before .before .node-starts .result .act) (c .before .before .node-starts .result .at) (c .before .before .node-starts .result .acts) (c .before .before .node-starts .ensures)

@@ -1,5 +1,5 @@
 use Prim.Native.Nat.{ℕ, _+_, _-_, _*_, _^_, _≤_}
-use mathlib.Core.Path.{_≡_, sym, ap, _∙_}
+use mathlib.Core.Path.{_≡_, refl, sym, ap, _∙_}
 use native.Mathlib.Omega.{arith}
 use borrow.Author.Needs.{needs}
 use lib.ListN.{length}
@@ -9,7 +9,7 @@ use Rattle.ground.specs.Of.{Is}
 use Rattle.picks.specs.Words.{wordStart, rowsIn}
 use Rattle.picks.specs.WordLaws.{words-few}
 use Rattle.picks.specs.Tests.{brokenFrom}
-use Rattle.picks.specs.TestLaws.{broken-all, broken-end, told-kept, told-broken, kinds-start, kinds-yes, kinds-no, kinds-word, chosen-le}
+use Rattle.picks.specs.TestLaws.{broken-all, broken-end, told-kept, told-broken, kinds-start, kinds-yes, kinds-no, kinds-word, chosen-le, line-places}
 use Rattle.picks.proofs.test_kinds.Statement.{statement}
 use Rattle.picks.proofs.test_kinds.Tie as tie
 
@@ -35,7 +35,9 @@ mul-breaks-kind : tie.Need-mul-breaks-kind Inv-loop μ-loop
 mul-breaks-kind c = omega (arith, c .before .before .before .before .before .before .before .pre .relations)
 
 breaks-kind-requires : tie.Need-breaks-kind-requires Inv-loop μ-loop
-breaks-kind-requires c κs = (omega (arith, c .before .before .before .before .before .before .before .pre .relations), c .before .before .before .before .before .before .before .pre .some, c .before .before .before .before .before .before .before .pre .size)
+breaks-kind-requires c κs =
+    let fits = c .before .before .before .before .before .before .before .pre in
+    ((fits .whole, line-places _ fits _ (c .relation-line .result) (c .relation-line .ensures) (omega (arith, fits .relations)), refl), (omega (arith, fits .relations), fits .some, fits .size))
 
 returns : tie.Need-returns Inv-loop μ-loop
 returns c = λ p is. told-broken (c .before .before .before .before .before .loop .i) ∙ sym (kinds-yes p (c .before .before .before .before .before .before .before .before .before .args .table .now) is (c .before .before .before .before .before .before .before .before .before .args .picks .now) (c .before .before .before .before .before .loop .r) (c .before .before .before .before .before .loop .word) (c .before .before .before .before .before .loop .i) (c .before .before .relation-line .result) (c .before .before .relation-line .ensures) (omega arith) (c .before .before .before .before .before .loop .inv .3 p is .0) (c .before .breaks-kind .result) (c .before .breaks-kind .ensures) (c .if2 .taken)) ∙ sym (c .before .before .before .before .before .loop .inv .3 p is .1) ∙ broken-all p (rowsIn p (c .before .before .before .before .before .before .before .before .before .args .picks .now))

@@ -8,6 +8,7 @@ use Rattle.definitions.specs.Atoms.{Problem}
 use Rattle.ground.specs.Lines.{relationsIn}
 use Rattle.picks.specs.Words.{wordStart, rowsIn}
 use Rattle.picks.specs.WordLaws.{words-few, word-next}
+use Rattle.picks.specs.TestLaws.{line-places}
 use Rattle.proving.specs.Following.{Ready, out}
 use Rattle.plans.specs.Setting.{setRelations}
 use Rattle.plans.specs.SetLaws.{relations-start, relations-next, relations-end, word-first, rows-at}
@@ -33,7 +34,11 @@ mul-set-relation : tie.Need-mul-set-relation Inv-loop μ-loop
 mul-set-relation c = omega (arith, c .before .before .before .before .before .before .before .before .before .before .pre .relations)
 
 set-relation-requires : tie.Need-set-relation-requires Inv-loop μ-loop
-set-relation-requires c κs = (c .before .before .before .before .before .before .before .before .before .before .pre, omega (arith, c .before .before .before .before .before .before .before .before .before .before .pre .relations), words-few (c .before .before .before .before .before .before .before .before .before .before .args .table .now) (c .before .before .before .before .before .loop .r) (c .before .before .before .before .before .before .before .before .before .before .pre) (c .before .before .relation-line .result) (c .before .before .relation-line .ensures) .2, omega (arith, c .before .before .before .before .before .before .before .before .before .before .pre .relations), omega (arith, c .before .before .before .before .before .before .before .before .before .before .pre .relations))
+set-relation-requires c κs =
+    let fits = c .before .before .before .before .before .before .before .before .before .before .pre in
+    let line = c .before .before .relation-line in
+    let w = words-few (c .before .before .before .before .before .before .before .before .before .before .args .table .now) (c .before .before .before .before .before .loop .r) fits (line .result) (line .ensures) in
+    (fits, omega (arith, fits .relations), line-places _ fits (c .before .before .before .before .before .loop .r) (line .result) (line .ensures) (omega (arith, fits .relations)), w .0, w .2, omega (arith, fits .relations), omega (arith, fits .relations))
 
 words-in-requires : tie.Need-words-in-requires Inv-loop μ-loop
 words-in-requires c κs = words-few (c .before .before .before .before .before .before .before .before .before .before .before .before .before .before .before .args .table .now) (c .before .before .before .before .before .before .before .before .before .before .loop .r) (c .before .before .before .before .before .before .before .before .before .before .before .before .before .before .before .pre) (c .before .before .before .before .before .before .before .relation-line .result) (c .before .before .before .before .before .before .before .relation-line .ensures) .2

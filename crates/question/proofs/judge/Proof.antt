@@ -32,15 +32,15 @@ type-fault-requires c κs =
     (o .pre .0 .types-le, w .0, w .1)
 
 returns-3 : tie.Need-returns-3
-returns-3 c = choose-many _ _ _ _ _ _ _ (c .before .before .before .x3 .given .1) (c .if3 .taken)
+returns-3 c = choose-many _ _ _ _ _ _ _ _ _ _ (c .before .before .before .x3 .given .1) (c .if3 .taken)
 
-name-fault-requires-2 : tie.Need-name-fault-requires-2
+choose-fault-requires : tie.Need-choose-fault-requires
 unfolding InText
-name-fault-requires-2 c κs =
-    let x = c .before .before .before .before .before .before .before .before in
+choose-fault-requires c κs =
+    let x = c .before .before .before in
     let o = x .before .before .before in
     let w = subst (InText (o .args .s .now) (o .args .at)) (x .x3 .given .1) (o .pre .1) in
-    (omega (arith, o .pre .0 .rels-le, o .pre .0 .chosen-le), w .0, w .1)
+    (o .pre .0, w .0, w .1, λ h. w .4 h .1)
 
 returns-4 : tie.Need-returns-4
 returns-4 c = rule-early _ _ _ _ _ (c .before .before .enum-told2 .given .1) (c .if4 .taken)
@@ -63,10 +63,7 @@ returns-7 c =
     type-here _ _ _ _ _ (l .before .before .x2 .given .1) _ (sym (l .late2 .ensures) ∙ o .if2 .left) (c .type-fault .ensures)
 
 returns-8 : tie.Need-returns-8
-returns-8 c =
-    let x = c .before .before .before .before .before .before .before .before .before in
-    choose-here _ _ _ _ _ _ _ (x .x3 .given .1) _ (omega arith)
-    (c .name-fault2 .ensures (x .before .before .before .args .g) (record { from-is = refl; to-is = refl; count = refl }))
+returns-8 c = choose-here _ _ _ _ _ _ _ _ _ _ (c .before .before .before .before .x3 .given .1) _ (omega arith) (c .choose-fault .ensures)
 
 returns-9 : tie.Need-returns-9
 returns-9 c = rule-now _ _ _ _ _ (c .before .before .enum-told2 .given .1) (c .if4 .left)
@@ -90,8 +87,7 @@ judge-spec =
     type-fault-requires
     (λ c. search needs)
     returns-3
-    (λ c. search needs)
-    name-fault-requires-2
+    choose-fault-requires
     (λ c. search needs)
     returns-4
     returns-5

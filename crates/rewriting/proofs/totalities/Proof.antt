@@ -27,17 +27,23 @@ mul-kind c = omega (arith, c .before .loop .inv .1, c .before .before .before .p
 element-copy-out-kind : tie.Need-element-copy-out-kind Inv-loop μ-loop
 element-copy-out-kind c = omega (arith, c .before .loop .inv .1, c .before .before .before .pre .0 .0)
 
+element-copy-out-firsts : tie.Need-element-copy-out-firsts Inv-loop μ-loop
+element-copy-out-firsts c = omega (arith, c .before .before .loop .inv .1, c .before .before .before .before .pre .0 .0)
+
+element-copy-out-seconds : tie.Need-element-copy-out-seconds Inv-loop μ-loop
+element-copy-out-seconds c = omega (arith, c .before .before .before .loop .inv .1, c .before .before .before .before .before .pre .0 .0)
+
 add-totality-by-kind : tie.Need-add-totality-by-kind Inv-loop μ-loop
-add-totality-by-kind c = omega (arith, c .before .before .before .loop .inv .1, c .before .before .before .before .before .pre .0 .0)
+add-totality-by-kind c = omega (arith, c .before .before .before .before .before .loop .inv .1, c .before .before .before .before .before .before .before .pre .0 .0)
 
 totality-by-kind-requires : tie.Need-totality-by-kind-requires Inv-loop μ-loop
-totality-by-kind-requires c κs = (left-space _ _ _ _ (c .before .before .before .loop .inv .2) (omega (arith, c .before .before .before .loop .inv .1)), left-nodes _ _ _ _ (c .before .before .before .loop .inv .2) (omega (arith, c .before .before .before .loop .inv .1)), omega (arith, c .before .before .before .loop .inv .1, c .before .before .before .before .before .pre .0 .0), c .before .before .before .loop .inv .3)
+totality-by-kind-requires c κs = (left-space _ _ _ _ (c .before .before .before .before .before .loop .inv .2) (omega (arith, c .before .before .before .before .before .loop .inv .1)), left-nodes _ _ _ _ (c .before .before .before .before .before .loop .inv .2) (omega (arith, c .before .before .before .before .before .loop .inv .1)), omega (arith, c .before .before .before .before .before .loop .inv .1, c .before .before .before .before .before .before .before .pre .0 .0), c .before .before .before .before .before .loop .inv .3)
 
 add-i : tie.Need-add-i Inv-loop μ-loop
-add-i c = omega (arith, c .before .before .before .before .before .before .loop .inv .1, c .before .before .before .before .before .before .before .before .pre .0 .0)
+add-i c = omega (arith, c .before .before .before .before .before .before .before .before .loop .inv .1, c .before .before .before .before .before .before .before .before .before .before .pre .0 .0)
 
 loop-again : tie.Need-loop-again Inv-loop μ-loop
-loop-again c = (omega arith, c .before .before .before .before .before .before .loop .inv .1, left-again _ _ _ _ (c .before .before .before .before .before .before .loop .inv .2) (omega (arith, c .before .before .before .before .before .before .loop .inv .1)) _ (c .before .before .totality-by-kind .ensures), c .before .before .totality-by-kind .kept .0 ∙ c .before .before .before .before .before .before .loop .inv .3)
+loop-again c = (omega arith, c .before .before .before .before .before .before .before .before .loop .inv .1, left-again _ _ _ _ (c .before .before .before .before .before .before .before .before .loop .inv .2) (omega (arith, c .before .before .before .before .before .before .before .before .loop .inv .1)) _ (c .before .before .totality-by-kind .ensures), c .before .before .totality-by-kind .kept .0 ∙ c .before .before .before .before .before .before .before .before .loop .inv .3)
 
 same-length : tie.Need-same-length Inv-loop μ-loop
 same-length c = c .before .loop .inv .3 ∙ sym (c .before .before .before .pre .0 .1)
@@ -55,6 +61,8 @@ totalities-spec =
     loop-holds
     mul-kind
     element-copy-out-kind
+    element-copy-out-firsts
+    element-copy-out-seconds
     add-totality-by-kind
     totality-by-kind-requires
     add-i

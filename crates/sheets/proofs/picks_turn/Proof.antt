@@ -24,7 +24,7 @@ returns-3 : tie.Need-returns-3
 returns-3 c = λ ls K g z y. picks-type _ _ _ _ _ _ _ _ _ _ (c .enum-told3 .given .1)
 
 returns-4 : tie.Need-returns-4
-returns-4 c = λ ls K g z y. picks-choose _ _ _ _ _ _ _ _ _ _ _ _ (c .enum-told4 .given .1)
+returns-4 c = λ ls K g z y. picks-choose _ _ _ _ _ _ _ _ _ _ _ _ _ _ _ (c .enum-told4 .given .1)
 
 returns-5 : tie.Need-returns-5
 returns-5 c = λ ls K g z y. picks-rule _ _ _ _ _ _ _ _ _ _ (c .enum-told5 .given .1)

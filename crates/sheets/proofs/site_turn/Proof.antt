@@ -49,7 +49,7 @@ returns-6 : tie.Need-returns-6
 returns-6 c = λ L e g z y. site-type _ _ _ _ _ _ _ _ _ _ _ _ _ _ (c .enum-told3 .given .1)
 
 returns-7 : tie.Need-returns-7
-returns-7 c = λ L e g z y. site-choose _ _ _ _ _ _ _ _ _ _ _ _ _ _ _ _ (c .enum-told4 .given .1)
+returns-7 c = λ L e g z y. site-choose _ _ _ _ _ _ _ _ _ _ _ _ _ _ _ _ _ _ _ (c .enum-told4 .given .1)
 
 returns-8 : tie.Need-returns-8
 returns-8 c = λ L e g z y. site-rule _ _ _ _ _ _ _ _ _ _ _ _ _ _ (c .enum-told5 .given .1)

@@ -8,7 +8,7 @@ use Rattle.tally.proofs.of_tables.Tie as tie
 
 -- the sums that are added
 before-small : (c : tie.After-of-nodes) → let b = c .before .of-relations .result in (b .atoms ≤ 2 ^ 30) × (b .sets ≤ 2 ^ 29) × (b .picks ≤ 2 ^ 29)
-before-small c = let s = c .before .before in relation-counts (s .args .n) (s .pre .1) (s .args .g) (s .pre .2) (s .args .g .count) _ _ _ (omega arith) (c .before .of-relations .ensures)
+before-small c = let s = c .before .before in relation-counts (s .args .n) (s .pre .1) (s .args .ranges .count) (s .args .g) (s .pre .4 .count) (s .pre .2) (s .args .g .count) _ _ _ (omega arith) (c .before .of-relations .ensures)
 
 nodes-small : (c : tie.After-of-nodes) → let w = c .of-nodes .result in (w .atoms ≤ 2 ^ 36) × (w .actions ≤ 2 ^ 36)
 nodes-small c = let s = c .before .before in node-counts (s .args .n) (s .pre .1) (s .args .ranges .count) (s .args .t) (s .pre .4 .count) (s .pre .3) (s .args .t .count) _ _ _ (omega arith) (c .of-nodes .ensures)
