@@ -126,11 +126,11 @@ from-at a (suc n) (suc j) h = let e = from-at (suc a) n j (omega arith) in omega
 
 module _ (n : ℕ) (t : Nodes) (first : ℕ) where
   pub shown-next : (k x : ℕ) (out : List ℕ) → k < length out → ((p : Problem) (w : List ℕ) (types : ℕ) (g : Relations) → Good p → Inputs p n w types g t → x ≡ Allowance.allowance p (first + k)) → Shown n t first k out → Shown n t first (k + 1) (set out k x)
-  shown-next k x out l e s p w types g G is j h = go (ℕ-discrete j k)
+  shown-next k x out l e s p w types g G is j h = from-this (ℕ-discrete j k)
     where
-      go : Dec (j ≡ k) → getD (set out k x) j 0 ≡ Allowance.allowance p (first + j)
-      go (yes q) = rw (q, getD-set-same out k x 0 l) (e p w types g G is)
-      go (no q) = getD-set-other out k j x 0 q ∙ s p w types g G is j (omega arith)
+      from-this : Dec (j ≡ k) → getD (set out k x) j 0 ≡ Allowance.allowance p (first + j)
+      from-this (yes q) = rw (q, getD-set-same out k x 0 l) (e p w types g G is)
+      from-this (no q) = getD-set-other out k j x 0 q ∙ s p w types g G is j (omega arith)
 
   pub shown-all : (out : List ℕ) → Shown n t first (length out) out → (p : Problem) (w : List ℕ) (types : ℕ) (g : Relations) → Good p → Inputs p n w types g t → out ≡ map (Allowance.allowance p) (from first (length out))
   shown-all out s p w types g G is =

@@ -53,7 +53,7 @@ abbrev pub Filed : CaseLimits → List ℕ → List ℕ → Front → (labels fa
 Filed L question site r labels facts table = FiledBy L question site (readFiled L question site) r labels facts table
 
 -- some case was read and grounded: what is known inside a call
-pub record Ready (question : List ℕ) (r : Front) (facts table : List ℕ) : Type 0 where
+pub record ReadyFront (question : List ℕ) (r : Front) (facts table : List ℕ) : Type 0 where
   pub limits-are : CaseLimits
   pub case : Case
   pub held : Held limits-are question case r facts table
@@ -63,59 +63,59 @@ pub record Ready (question : List ℕ) (r : Front) (facts table : List ℕ) : Ty
 module _ (L : CaseLimits) (question site : List ℕ) (r : Front) (facts table : List ℕ) (f : Fronted L question site r facts table) where
   pub front-refused : (r .fault ≡ 0 → ⊥) → readCase L question site ≡ refused (r .fault) (r .place)
   unfolding FrontedBy
-  front-refused z = go (readCase L question site) f
+  front-refused z = by-result (readCase L question site) f
     where
-      go : (x : Result Case) → FrontedBy L question x r facts table → x ≡ refused (r .fault) (r .place)
-      go (refused k place) h = ap₂ refused (sym (h .number)) (sym (h .where-it-is))
-      go (accepted c) h = absurd (z (h .no-fault))
+      by-result : (x : Result Case) → FrontedBy L question x r facts table → x ≡ refused (r .fault) (r .place)
+      by-result (refused k place) h = ap₂ refused (sym (h .number)) (sym (h .where-it-is))
+      by-result (accepted c) h = absurd (z (h .no-fault))
 
   pub front-held : r .fault ≡ 0 → (c : Case) × (readCase L question site ≡ accepted c) × Held L question c r facts table
   unfolding FrontedBy
-  front-held z = go (readCase L question site) refl f
+  front-held z = by-result (readCase L question site) refl f
     where
-      go : (x : Result Case) → readCase L question site ≡ x → FrontedBy L question x r facts table → (c : Case) × (readCase L question site ≡ accepted c) × Held L question c r facts table
-      go (refused k place) e h = absurd (omega (arith, h .some-fault))
-      go (accepted c) e h = (c, e, h)
+      by-result : (x : Result Case) → readCase L question site ≡ x → FrontedBy L question x r facts table → (c : Case) × (readCase L question site ≡ accepted c) × Held L question c r facts table
+      by-result (refused k place) e h = absurd (omega (arith, h .some-fault))
+      by-result (accepted c) e h = (c, e, h)
 
-  pub front-ready : L .atoms ≤ 1048576 → L .actions ≤ 8388608 → r .fault ≡ 0 → Ready question r facts table
+  pub front-ready : L .atoms ≤ 1048576 → L .actions ≤ 8388608 → r .fault ≡ 0 → ReadyFront question r facts table
   front-ready a b z = let (c, e, h) = front-held z in record { limits-are = L; case = c; held = h; atoms-few = a; actions-few = b }
 
 -- what was filed is a case, and its labels are at hand
 module _ (L : CaseLimits) (question site : List ℕ) (r : Front) (labels facts table : List ℕ) (f : Filed L question site r labels facts table) where
   pub filed-alone : Fronted L question site r facts table
   unfolding FiledBy FrontedBy readCase _>>=_
-  filed-alone = go (readFiled L question site) f
+  filed-alone = by-result (readFiled L question site) f
     where
-      go : (x : Result CaseRead) → FiledBy L question site x r labels facts table → FrontedBy L question (x >>= λ y. accepted (y .case)) r facts table
-      go (refused k place) h = h
-      go (accepted x) h = h .0
+      by-result : (x : Result CaseRead) → FiledBy L question site x r labels facts table → FrontedBy L question (x >>= λ y. accepted (y .case)) r facts table
+      by-result (refused k place) h = h
+      by-result (accepted x) h = h .0
 
   pub filed-held : r .fault ≡ 0 → (x : CaseRead) × (readFiled L question site ≡ accepted x) × Held L question (x .case) r facts table × LabelsAre site labels (r .o .n) (x .labels)
   unfolding FiledBy
-  filed-held z = go (readFiled L question site) refl f
+  filed-held z = by-result (readFiled L question site) refl f
     where
-      go : (x : Result CaseRead) → readFiled L question site ≡ x → FiledBy L question site x r labels facts table
+      by-result : (x : Result CaseRead) → readFiled L question site ≡ x → FiledBy L question site x r labels facts table
           → (x : CaseRead) × (readFiled L question site ≡ accepted x) × Held L question (x .case) r facts table × LabelsAre site labels (r .o .n) (x .labels)
-      go (refused k place) e h = absurd (omega (arith, h .some-fault))
-      go (accepted x) e h = (x, e, h .0, h .1)
+      by-result (refused k place) e h = absurd (omega (arith, h .some-fault))
+      by-result (accepted x) e h = (x, e, h .0, h .1)
 
 -- ---- from what reading and grounding say
 module _ (L : CaseLimits) (few : L .elements ≤ 64) (question site : List ℕ) (o : Opened) (labels facts : List ℕ) (read : FiledRead question site (readFiled L question site) o labels (bit facts)) where
   pub fronts-refused : (o .fault ≡ 0 → ⊥) → (r : Front) → r .fault ≡ o .fault → r .place ≡ o .place → (table : List ℕ) → Filed L question site r labels facts table
   unfolding FiledBy FiledRead
-  fronts-refused z r a b table = go (readFiled L question site) read
+  fronts-refused z r a b table = by-result (readFiled L question site) read
     where
-      go : (x : Result CaseRead) → FiledRead question site x o labels (bit facts) → FiledBy L question site x r labels facts table
-      go (refused k place) h = record { number = a ∙ h .number; where-it-is = b ∙ h .where-it-is; some-fault = omega (arith, h .some-fault) }
-      go (accepted x) h = absurd (z (h .0 .no-fault))
+      by-result : (x : Result CaseRead) → FiledRead question site x o labels (bit facts) → FiledBy L question site x r labels facts table
+      by-result (refused k place) h = record { number = a ∙ h .number; where-it-is = b ∙ h .where-it-is; some-fault = omega (arith, h .some-fault) }
+      by-result (accepted x) h = absurd (z (h .0 .no-fault))
 
   pub fronts-read : o .fault ≡ 0 → (m : Sized) (table : List ℕ) → ((c : Case) → Holds question c o (bit facts) → GroundsTo (ground L c) m table) → (r : Front) → r ≡ record { fault = 0; place = 0; o = o; m = m } → Filed L question site r labels facts table
   unfolding FiledBy FiledRead
-  fronts-read z m table g r e = go (readFiled L question site) refl read
+  fronts-read z m table g r e = by-result (readFiled L question site) refl read
     where
-      go : (x : Result CaseRead) → readFiled L question site ≡ x → FiledRead question site x o labels (bit facts) → FiledBy L question site x r labels facts table
-      go (refused k place) q h = absurd (omega (arith, h .some-fault))
-      go (accepted x) q h = let w = filed-case L question site x q in rw e (
+      by-result : (x : Result CaseRead) → readFiled L question site ≡ x → FiledRead question site x o labels (bit facts) → FiledBy L question site x r labels facts table
+      by-result (refused k place) q h = absurd (omega (arith, h .some-fault))
+      by-result (accepted x) q h = let w = filed-case L question site x q in rw e (
         record {
           no-fault = refl;
           accepts = gives-if Accepted (readCase L question site) (x .case) w (case-fits L few question site);

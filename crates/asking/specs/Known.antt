@@ -42,20 +42,20 @@ facts-held s c o f h =
 module _ (L : CaseLimits) (c : Case) (m : Sized) (w : List ℕ) (g : GroundsTo (Outcome.ground L c) m w) where
   pub case-over : m .over ≡ true → Outcome.ground L c ≡ refused 11 0
   unfolding GroundsTo
-  case-over o = go (Outcome.ground L c) g
+  case-over o = by-result (Outcome.ground L c) g
     where
-      go : (x : Result Problem) → GroundsTo x m w → x ≡ refused 11 0
-      go (refused k place) h = ap₂ refused (h .number) (h .no-place)
-      go (accepted p) h = let z : false ≡ true = sym (h .within) ∙ o in absurd (T-of z)
+      by-result : (x : Result Problem) → GroundsTo x m w → x ≡ refused 11 0
+      by-result (refused k place) h = ap₂ refused (h .number) (h .no-place)
+      by-result (accepted p) h = let z : false ≡ true = sym (h .within) ∙ o in absurd (T-of z)
 
   module _ (o : m .over ≡ false) where
     within : (p : Problem) × (Outcome.ground L c ≡ accepted p) × Tabled p m w
     unfolding GroundsTo
-    within = go (Outcome.ground L c) refl g
+    within = by-result (Outcome.ground L c) refl g
       where
-        go : (x : Result Problem) → Outcome.ground L c ≡ x → GroundsTo x m w → (p : Problem) × (Outcome.ground L c ≡ accepted p) × Tabled p m w
-        go (refused k place) e h = let z : false ≡ true = sym o ∙ h .over in absurd (T-of z)
-        go (accepted p) e h = (p, e, h)
+        by-result : (x : Result Problem) → Outcome.ground L c ≡ x → GroundsTo x m w → (p : Problem) × (Outcome.ground L c ≡ accepted p) × Tabled p m w
+        by-result (refused k place) e h = let z : false ≡ true = sym o ∙ h .over in absurd (T-of z)
+        by-result (accepted p) e h = (p, e, h)
 
     -- it is the case's, and the table is its
     pub grounds : Outcome.ground L c ≡ accepted (problemOf c)

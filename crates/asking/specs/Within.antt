@@ -8,7 +8,7 @@ use lib.Dec.{leb, leb→le}
 use borrow.Author.Tests.{not-false}
 use Rattle.definitions.specs.Limits.{CaseLimits}
 use Rattle.definitions.specs.Text.{Line, isBetween, lines}
-use Rattle.definitions.specs.Refusal.{accepted, _>>=_, readLines, readText}
+use Rattle.definitions.specs.Refusal.{accepted, readLines, readText}
 use Rattle.definitions.specs.Relations.{Relation}
 use Rattle.definitions.specs.Sheets.{Entry, rel, type, choose, rule, size, label, member, fact, pick, step, Element, entryOf, SiteDraft, addSize, addLabel, addMember, addFact, addToSite, siteLine, Labelled, readSite, readQuestion}
 use Rattle.definitions.specs.Truth.{Case}

@@ -19,7 +19,7 @@ use Rattle.bits.specs.Table.{Words}
 use Rattle.grounding.specs.Grounds.{Tabled}
 use Rattle.plans.specs.Answers.{planned, answered, Gives}
 use Rattle.plans.specs.Starts.{Prepared, front-short}
-use Rattle.plans.specs.declared.Answer.{Answer}
+use Rattle.plans.specs.declared.PlanAnswer.{PlanAnswer}
 use Rattle.picks.specs.Picked.{front-picks}
 use Rattle.picks.specs.Spare.{spareFound}
 use Rattle.picks.specs.Handed.{Handed, spare-refused, spare-clear}
@@ -33,16 +33,16 @@ use Rattle.asking.specs.Known.{facts-held, case-over, grounds, tabled, actions-
 use Rattle.asking.specs.Replies.{resultOf}
 
 -- the answer of a call, and what the lent state and steps hold then
-abbrev pub Answers : CaseLimits → (question site : List ℕ) (picks : Outcome.Given) (state steps : List ℕ) → Reply → (state′ steps′ : List ℕ) → Type 0
+abbrev pub Answers : CaseLimits → (question site : List ℕ) (picks : Outcome.ThirdInput) (state steps : List ℕ) → Reply → (state′ steps′ : List ℕ) → Type 0
 Answers L question site picks state steps r state′ steps′ =
     (resultOf r ≡ Outcome.buildSteps L question site picks state steps .answer)
     × ((state′ ≡ Outcome.buildSteps L question site picks state steps .state) × (steps′ ≡ Outcome.buildSteps L question site picks state steps .steps))
 
 -- 12: lent picks, the state, the steps
-unfoldable pub rooms : Outcome.Given → ℕ → ℕ → Problem → Result (Unit {0})
+unfoldable pub rooms : Outcome.ThirdInput → ℕ → ℕ → Problem → Result (Unit {0})
 rooms picks state steps p = Outcome.picksRoom p picks >>= λ _. Outcome.roomFor (Outcome.stateLength p) state >>= λ _. Outcome.roomFor (bound p) steps
 
-module _ (L : CaseLimits) (question site : List ℕ) (picks : Outcome.Given) (state steps : List ℕ) where
+module _ (L : CaseLimits) (question site : List ℕ) (picks : Outcome.ThirdInput) (state steps : List ℕ) where
   abbrev opening : Result (Outcome.Ready (List Tuple))
   opening = Outcome.asked L question site (λ x. Outcome.textPicks (x .case) (x .labels) picks) Outcome.nothing Outcome.nothing (rooms picks (length state) (length steps))
 
@@ -51,7 +51,7 @@ module _ (L : CaseLimits) (question site : List ℕ) (picks : Outcome.Given) (st
   unfolding Outcome.buildSteps
   from-plan x e r state′ steps′ b =
       let q : Outcome.builtFrom (Outcome.plan L question site picks (length state) (length steps)) state steps ≡ record { answer = resultOf r; state = state′; steps = steps′ } = ap (λ (y : Result Outcome.Plan). Outcome.builtFrom y state steps) e ∙ b in
-      (sym (ap (λ (y : Outcome.Built). y .answer) q), (sym (ap (λ (y : Outcome.Built). y .state) q), sym (ap (λ (y : Outcome.Built). y .steps) q)))
+      (sym (ap (λ (y : Outcome.StepsBuilt). y .answer) q), (sym (ap (λ (y : Outcome.StepsBuilt). y .state) q), sym (ap (λ (y : Outcome.StepsBuilt). y .steps) q)))
 
   plan-refused : (k place : ℕ) → Outcome.plan L question site picks (length state) (length steps) ≡ refused k place → (r : Reply) → resultOf r ≡ refused k place → Answers L question site picks state steps r state steps
   unfolding Outcome.builtFrom
@@ -145,7 +145,7 @@ module _ (L : CaseLimits) (question site : List ℕ) (picks : Outcome.Given) (st
                       steps-room = subst (λ (x : ℕ). x ≤ length steps) (its .bound-is) steps-room;
                     }
 
-                pub builds-built : L .actions ≤ 2 ^ 32 → (a : Answer) (state′ steps′ : List ℕ) → (Prepared c F table facts (take k words) (f .m .atoms) (length steps) → Gives c p F state steps a state′ steps′)
+                pub builds-built : L .actions ≤ 2 ^ 32 → (a : PlanAnswer) (state′ steps′ : List ℕ) → (Prepared c F table facts (take k words) (f .m .atoms) (length steps) → Gives c p F state steps a state′ steps′)
                     → (r : Reply) → resultOf r ≡ answered a → Answers L question site picks state steps r state′ steps′
                 unfolding planned
                 builds-built few a state′ steps′ G r z =
@@ -154,7 +154,7 @@ module _ (L : CaseLimits) (question site : List ℕ) (picks : Outcome.Given) (st
 -- what is promised of building from words: they have 64 bits each, and whatever case and picks they are of, this is built
 pub record FromWords (f : Front) (facts table words state steps : List ℕ) (r : Reply) (state′ steps′ : List ℕ) : Type 0 where
   pub fit : Words words
-  pub builds : (L : CaseLimits) → L .actions ≤ 2 ^ 32 → (question site : List ℕ) (picks : Outcome.Given) (x : Outcome.CaseRead) → Outcome.readFiled L question site ≡ accepted x → Held L question (x .case) f facts table
+  pub builds : (L : CaseLimits) → L .actions ≤ 2 ^ 32 → (question site : List ℕ) (picks : Outcome.ThirdInput) (x : Outcome.CaseRead) → Outcome.readFiled L question site ≡ accepted x → Held L question (x .case) f facts table
       → (given F : List Tuple) → Handed (x .case) (x .labels) picks words given F → Answers L question site picks state steps r state′ steps′
 
 -- and from a text, by the labels that were filed

@@ -7,7 +7,7 @@ use lib.ListN.{length}
 use Rattle.definitions.specs.Limits.{CaseLimits}
 use Rattle.definitions.specs.Sheets.{Label, readPicks}
 use Rattle.definitions.specs.Atoms.{wordsFor}
-use Rattle.definitions.specs.Outcome.{Given, asText, asNumbers}
+use Rattle.definitions.specs.Outcome.{ThirdInput, asText, asNumbers}
 use Rattle.laws.specs.Asked as Order
 use Rattle.laws.specs.Labels.{LabelsFit}
 use Rattle.tuples.specs.Labels.{LabelsAre}
@@ -29,7 +29,7 @@ use Rattle.picks.specs.Handed.{text-handed, lent-handed}
 use Rattle.building.specs.Builds.{Answers, FromWords, ends}
 
 module _ (L : CaseLimits) (question site : List ℕ) (f : Front) (facts table : List ℕ) (front : Fronted L question site f facts table) where
-  pub call-case : (picks : Given) (state steps : List ℕ) → (f .fault ≡ 0 → ⊥) → Answers L question site picks state steps (Refused (f .fault) (f .place)) state steps
+  pub call-case : (picks : ThirdInput) (state steps : List ℕ) → (f .fault ≡ 0 → ⊥) → Answers L question site picks state steps (Refused (f .fault) (f .place)) state steps
   unfolding resultOf
   call-case picks state steps z =
       ends L question site picks state steps (f .fault) (f .place) (Order.case-refused L question site _ _ _ _ (f .fault) (f .place) (front-refused L question site f facts table front z)) (Refused (f .fault) (f .place)) refl
@@ -60,7 +60,9 @@ module _ (L : CaseLimits) (question site : List ℕ) (f : Front) (labels facts t
   labels-said = let (x, e, h, l) = filed-held L question site f labels facts table filed z in (x .labels, l)
 
   module _ (text state steps : List ℕ) (a : Answer) (words : List ℕ)
-      (read : (ls : List Label) → LabelsAre site labels (f .o .n) ls → (a ≡ answered length (readPicks (chosenOf question (f .o .sig)) (5 + f .o .sig .rels) (f .o .n) ls text)) × PicksIn (f .o .sig) (f .o .n) (readPicks (chosenOf question (f .o .sig)) (5 + f .o .sig .rels) (f .o .n) ls text) (bit words)) where
+      (read : (ls : List Label) → LabelsAre site labels (f .o .n) ls
+      → (a ≡ answered length (readPicks (chosenOf question (f .o .sig)) (5 + f .o .sig .rels) (f .o .n) ls text))
+      × PicksIn (f .o .sig) (f .o .n) (readPicks (chosenOf question (f .o .sig)) (5 + f .o .sig .rels) (f .o .n) ls text) (bit words)) where
     pub call-text-refused : (k place : ℕ) → a ≡ Bad k place → Answers L question site (asText text) state steps (Refused k place) state steps
     unfolding resultOf
     call-text-refused k place e =

@@ -11,7 +11,7 @@ ghost use Rattle.bits.specs.Table.{bit};
 ghost use Rattle.tuples.specs.Labels.{LabelsAre};
 ghost use Rattle.sheets.specs.Reading.{FactsRoom, PicksRoom};
 ghost use Rattle.plans.specs.Answers.{answered};
-ghost use Rattle.asking.specs.Fronts.{Ready};
+ghost use Rattle.asking.specs.Fronts.{ReadyFront};
 ghost use Rattle.asking.specs.Replies.{resultOf};
 ghost use Rattle.building.specs.Builds.{Answers, FromWords, FromText};
 use asking::Front;
@@ -19,13 +19,13 @@ use asking::Reply;
 use sheets::Answer;
 
 // What was built, as a reply.
-fn reply_of(a: plans::Answer) -> Reply
+fn reply_of(a: plans::PlanAnswer) -> Reply
     ensures { λ r. ⌜ resultOf r ≡ answered a ⌝ }
 {
     match a {
-        plans::Answer::Steps(count) => Reply::Accepted(count),
-        plans::Answer::OtherKind(i) => Reply::Refused(16, i),
-        plans::Answer::RuleFalse => Reply::Refused(17, 0),
+        plans::PlanAnswer::Steps(count) => Reply::Accepted(count),
+        plans::PlanAnswer::OtherKind(i) => Reply::Refused(16, i),
+        plans::PlanAnswer::RuleFalse => Reply::Refused(17, 0),
     }
 }
 
@@ -39,7 +39,7 @@ fn build_picks(
     state: &mut [u64],
     steps: &mut [u32],
 ) -> Reply
-    requires { ⌜ ((q : List ℕ) × Ready q f (now facts) (now table)) ⌝ }
+    requires { ⌜ ((q : List ℕ) × ReadyFront q f (now facts) (now table)) ⌝ }
     requires { ⌜ (f .m .over ≡ false → f .m .atoms ≤ 2 ^ 20) ⌝ }
     ensures { λ r. ⌜ FromWords f (now (facts .entry)) (now (table .entry)) (now (picks .entry)) (now (state .entry)) (now (steps .entry)) r (now (state .exit)) (now (steps .exit)) ⌝ }
 {
@@ -82,7 +82,7 @@ fn build_listed(
     state: &mut [u64],
     steps: &mut [u32],
 ) -> Reply
-    requires { ⌜ Ready (now question) f (now facts) (now table) × (f .m .over ≡ false → f .m .atoms ≤ 2 ^ 20) × ((ls : List Label) × LabelsAre (now site) (now labels) (f .o .n) ls) ⌝ }
+    requires { ⌜ ReadyFront (now question) f (now facts) (now table) × (f .m .over ≡ false → f .m .atoms ≤ 2 ^ 20) × ((ls : List Label) × LabelsAre (now site) (now labels) (f .o .n) ls) ⌝ }
     requires { ⌜ PicksRoom (f .o .sig) (f .o .n) (length (now words)) × (bit (now words) ≡ λ i. false) ⌝ }
     ensures { λ r. ⌜ FromText (now (question .entry)) (now (site .entry)) f (now (labels .entry)) (now (facts .entry)) (now (table .entry)) (now (picks .entry)) (now (state .entry)) (now (steps .entry)) r (now (state .exit)) (now (steps .exit)) ⌝ }
 {

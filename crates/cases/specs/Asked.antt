@@ -92,11 +92,11 @@ module _ (L : CaseLimits) (question site : List ℕ) (k : ℕ) (r : Front) (fact
 
       pub asked-none : r .m .actions ≤ k → actionOf (Refused 13 k) ≡ asks
       unfolding actionOf found given _>>=_
-      asked-none l = go (actionAt p k) refl ∙ sym asks-is
+      asked-none l = by-option (actionAt p k) refl ∙ sym asks-is
         where
-          go : (x : Option Action) → actionAt p k ≡ x → refused 13 k ≡ found (given x 13 k)
-          go none e = refl
-          go (some a) e = let u = action-below p k a e in let v = counts .actions-are in absurd (omega arith)
+          by-option : (x : Option Action) → actionAt p k ≡ x → refused 13 k ≡ found (given x 13 k)
+          by-option none e = refl
+          by-option (some a) e = let u = action-below p k a e in let v = counts .actions-are in absurd (omega arith)
 
       pub asked-known : k < r .m .actions → (a : Act) → ((p : Problem) → Is p table → a ≡ actOf (actionAt p k)) → actionOf (Known a) ≡ asks
       unfolding actionOf found given actOf _>>=_

@@ -29,11 +29,11 @@ use Rattle.cases.specs.declared.Sizing.the-variants.{Sized, Refused as U
 -- ---- the calls that check steps
 
 -- what a call answers and leaves, by the definitions
-abbrev pub Checked : CaseLimits → (question site : List ℕ) (given : Outcome.Given) (old : List ℕ) → Reply → List ℕ → Type 0
+abbrev pub Checked : CaseLimits → (question site : List ℕ) (given : Outcome.ThirdInput) (old : List ℕ) → Reply → List ℕ → Type 0
 Checked L question site given old r new =
     (resultOf r ≡ Outcome.checkSteps L question site given old .answer) × (new ≡ Outcome.checkSteps L question site given old .state)
 
-module _ (L : CaseLimits) (question site : List ℕ) (given : Outcome.Given) (old : List ℕ) (f : Front) (facts table : List ℕ) (opens : Fronted L question site f facts table) where
+module _ (L : CaseLimits) (question site : List ℕ) (given : Outcome.ThirdInput) (old : List ℕ) (f : Front) (facts table : List ℕ) (opens : Fronted L question site f facts table) where
   abbrev third : Outcome.CaseRead → Result (List ℕ)
   third x = Outcome.takeSteps given
 

@@ -7,12 +7,12 @@ ghost use Prim.Native.Nat.{ℕ};
 ghost use lib.ListN.{length};
 ghost use Rattle.definitions.specs.Limits.{CaseLimits, usual};
 ghost use Rattle.definitions.specs.Refusal.{accepted};
-ghost use Rattle.definitions.specs.Outcome.{Given, asText, asNumbers, takeSteps, checkSteps, sizes as «sizes-of», action as «action-of»};
+ghost use Rattle.definitions.specs.Outcome.{ThirdInput, asText, asNumbers, takeSteps, checkSteps, sizes as «sizes-of», action as «action-of»};
 ghost use Rattle.laws.specs.Walks.{within};
 ghost use Rattle.bits.specs.Table.{bit};
 ghost use Rattle.sheets.specs.Reading.{FactsRoom, RoomFor};
 ghost use Rattle.counting.specs.Counts.{tallyIn};
-ghost use Rattle.asking.specs.Fronts.{Fronted, Ready};
+ghost use Rattle.asking.specs.Fronts.{Fronted, ReadyFront};
 ghost use Rattle.asking.specs.Replies.{resultOf};
 ghost use Rattle.cases.specs.Replies.{sizingOf, Checked};
 ghost use Rattle.cases.specs.Asked.{actionOf, found};
@@ -108,8 +108,8 @@ pub fn action(question: &[u8], site: &[u8], k: usize) -> Asked
 
 // Steps of a case that was read and grounded: 11, 12, then the steps one by one.
 fn check_steps(f: Front, facts: &[u64], table: &[usize], steps: &[u32], state: &mut [u64]) -> Reply
-    requires { ⌜ ((q : List ℕ) × Ready q f (now facts) (now table)) ⌝ }
-    ensures { λ r. ⌜ ((L : CaseLimits) (question site : List ℕ) (given : Given) → Fronted L question site f (now (facts .entry)) (now (table .entry)) → f .fault ≡ 0
+    requires { ⌜ ((q : List ℕ) × ReadyFront q f (now facts) (now table)) ⌝ }
+    ensures { λ r. ⌜ ((L : CaseLimits) (question site : List ℕ) (given : ThirdInput) → Fronted L question site f (now (facts .entry)) (now (table .entry)) → f .fault ≡ 0
         → takeSteps given ≡ accepted (now (steps .entry)) → Checked L question site given (now (state .entry)) r (now (state .exit))) ⌝ }
 {
     let m = f.m;
@@ -133,7 +133,7 @@ fn check_listed(
     list: &mut [u32],
     state: &mut [u64],
 ) -> Reply
-    requires { ⌜ ((q : List ℕ) × Ready q f (now facts) (now table)) ⌝ }
+    requires { ⌜ ((q : List ℕ) × ReadyFront q f (now facts) (now table)) ⌝ }
     requires { ⌜ RoomFor (now steps) (length (now list)) ⌝ }
     ensures { λ r. ⌜ ((L : CaseLimits) (question site : List ℕ) → Fronted L question site f (now (facts .entry)) (now (table .entry)) → f .fault ≡ 0
         → Checked L question site (asText (now (steps .entry))) (now (state .entry)) r (now (state .exit))) ⌝ }

@@ -1,6 +1,6 @@
 -- A tally as the definitions have it, and the two answers.
 use Prim.Native.Nat.{ℕ}
-use mathlib.Core.Path.{_≡_, refl, ap, _∙_}
+use mathlib.Core.Path.{_≡_, refl, ap}
 use mathlib.Core.Bool.{Bool}
 use mathlib.Core.List.{List}
 use Rattle.definitions.specs.Limits.{CaseLimits}

@@ -14,7 +14,7 @@ use Rattle.definitions.specs.Lists.{all}
 use Rattle.definitions.specs.Refusal.{Result, refused, accepted, _>>=_}
 use Rattle.definitions.specs.Relations.{Tuple, isAmong}
 use Rattle.definitions.specs.Strips.{run}
-use Rattle.definitions.specs.Outcome.{readProblem, nothing, Given, readyToRun}
+use Rattle.definitions.specs.Outcome.{readProblem, nothing, ThirdInput, readyToRun}
 
 unfoldable pub isAccepted : {A : Type 0} → Result A → Bool
 isAccepted (refused k place) = false
@@ -25,7 +25,7 @@ unfoldable pub caseIsAccepted : CaseLimits → List ℕ → List ℕ → Bool
 caseIsAccepted L question site = isAccepted (readProblem L question site)
 
 -- steps are accepted: checking them refuses nothing
-unfoldable pub stepsAreAccepted : CaseLimits → List ℕ → List ℕ → Given → Bool
+unfoldable pub stepsAreAccepted : CaseLimits → List ℕ → List ℕ → ThirdInput → Bool
 stepsAreAccepted L question site steps =
     isAccepted (readyToRun L question site steps nothing >>= λ r. run (r .problem) (r .third) .answer)
 

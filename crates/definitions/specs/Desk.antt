@@ -40,21 +40,21 @@ unfoldable pub firstPickOrStep : ℕ → List Line → ℕ
 firstPickOrStep end [] = end
 firstPickOrStep end (l ∷ ls) = if isPickOrStep l then l .at else firstPickOrStep end ls
 
-pub record Sheets : Type 0 where
+pub record CaseSheets : Type 0 where
   pub question : List ℕ
   pub site : List ℕ
   pub rest : List ℕ
 
-unfoldable pub siteAndRest : List ℕ → List ℕ → ℕ → Sheets
+unfoldable pub siteAndRest : List ℕ → List ℕ → ℕ → CaseSheets
 siteAndRest question more cut = record { question = question; site = take cut more; rest = drop cut more }
 
-unfoldable pub afterQuestion : List ℕ → List ℕ → Sheets
+unfoldable pub afterQuestion : List ℕ → List ℕ → CaseSheets
 afterQuestion question more = siteAndRest question more (firstPickOrStep (length more) (lines more))
 
-unfoldable pub cutAt : List ℕ → ℕ → Sheets
+unfoldable pub cutAt : List ℕ → ℕ → CaseSheets
 cutAt input cut = afterQuestion (take cut input) (drop cut input)
 
-unfoldable pub sheets : List ℕ → Sheets
+unfoldable pub sheets : List ℕ → CaseSheets
 sheets input = cutAt input (afterRule (length input) (lines input))
 
 -- ---- what is printed
@@ -105,7 +105,7 @@ unfoldable pub startsWithStep : List Line → Bool
 startsWithStep [] = false
 startsWithStep (l ∷ ls) = isStep l
 
-unfoldable pub answerOf : Sheets → Result Plan
+unfoldable pub answerOf : CaseSheets → Result Plan
 answerOf s =
     if startsWithStep (lines (s .rest)) then checkedPlan (s .question) (s .site) (s .rest)
     else plan early (s .question) (s .site) (asText (s .rest)) deskWords deskSteps

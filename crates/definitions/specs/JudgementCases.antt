@@ -7,7 +7,7 @@ use mathlib.Core.List.{List, [], _∷_}
 use Rattle.definitions.specs.Limits.{usual}
 use Rattle.definitions.specs.Lists.{all}
 use Rattle.definitions.specs.Text.{bytes}
-use Rattle.definitions.specs.Outcome.{Given, asText, asNumbers}
+use Rattle.definitions.specs.Outcome.{ThirdInput, asText, asNumbers}
 use Rattle.definitions.specs.Opened.{everything}
 use Rattle.definitions.specs.Drawer
 use Rattle.definitions.specs.Whole.{replies, funQ, twoQ, overQ, twoS, sixtyFourS}
@@ -17,11 +17,11 @@ use Rattle.definitions.specs.Judgement.{judge}
 pub record Row : Type 0 where
   pub question : String
   pub site : String
-  pub picks : Given
+  pub picks : ThirdInput
   pub number : ℕ
   pub place : ℕ
 
-unfoldable pub judged : (question site : String) → Given → (number place : ℕ) → Row
+unfoldable pub judged : (question site : String) → ThirdInput → (number place : ℕ) → Row
 judged question site picks number place = record { question = question; site = site; picks = picks; number = number; place = place }
 
 unfoldable pub isSo : Row → Bool

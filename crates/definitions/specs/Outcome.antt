@@ -6,7 +6,7 @@ use mathlib.Core.List.{List, [], _∷_, _++_, map}
 use lib.ListN.{length, drop, getD}
 use lib.Dec.{eqb, leb, ltb}
 use Rattle.definitions.specs.Limits.{CaseLimits, stepLimit}
-use Rattle.definitions.specs.Lists.{if_then_else_, any, filter, option, position, below, from, sum, flatMap}
+use Rattle.definitions.specs.Lists.{any, filter, option, position, below, from, sum, flatMap}
 use Rattle.definitions.specs.Refusal.{Result, refused, accepted, _>>=_, refuseIf, given}
 use Rattle.definitions.specs.Relations.{Tuple}
 use Rattle.definitions.specs.Sheets.{Question, Label, readQuestion, readSite, readPicks, readSteps, firstChosen}
@@ -159,20 +159,20 @@ spareWord p words start (r ∷ rs) = option (position (hasSpare p words r) (belo
     (spareWord p (drop (relationWords p r) words) (start + relationWords p r) rs) (λ j. some (start + j))
 
 -- ---- what is handed to a call: a text, or numbers
-pub data Given : Type 0 where
-  asText : List ℕ → Given
-  asNumbers : List ℕ → Given
+pub data ThirdInput : Type 0 where
+  asText : List ℕ → ThirdInput
+  asNumbers : List ℕ → ThirdInput
 
 -- steps as a text, or lent: these are refused here only if they are too many
-unfoldable pub takeSteps : Given → Result (List ℕ)
+unfoldable pub takeSteps : ThirdInput → Result (List ℕ)
 takeSteps (asText text) = readSteps text
 takeSteps (asNumbers steps) = refuseIf (ltb stepLimit (length steps)) 1 zero >>= λ _. accepted steps
 
-unfoldable pub textPicks : Case → List Label → Given → Result (List Tuple)
+unfoldable pub textPicks : Case → List Label → ThirdInput → Result (List Tuple)
 textPicks c labels (asText text) = readPicks (c .question .chosen) (firstChosen (c .question)) (c .site .size) labels text
 textPicks c labels (asNumbers words) = accepted []
 
-unfoldable pub picksRoom : Problem → Given → Result (Unit {0})
+unfoldable pub picksRoom : Problem → ThirdInput → Result (Unit {0})
 picksRoom p (asText text) = accepted tt
 picksRoom p (asNumbers words) = roomFor (picksLength p) (length words)
 
@@ -181,7 +181,7 @@ unfoldable pub spareRefusal : Option ℕ → Result (Unit {0})
 spareRefusal none = accepted tt
 spareRefusal (some j) = refused 10 j
 
-unfoldable pub takePicks : Problem → Given → List Tuple → Result (List Tuple)
+unfoldable pub takePicks : Problem → ThirdInput → List Tuple → Result (List Tuple)
 takePicks p (asText text) picks = accepted picks
 takePicks p (asNumbers words) picks =
     spareRefusal (spareWord p words zero (chosenNumbers p)) >>= λ _. accepted (lentPicks p words (chosenNumbers p))
@@ -189,7 +189,7 @@ takePicks p (asNumbers words) picks =
 -- ---- checking steps
 
 -- everything before the steps go one by one; `rooms` tests the lent buffers
-unfoldable pub readyToRun : CaseLimits → List ℕ → List ℕ → Given → (Problem → Result (Unit {0})) → Result (Ready (List ℕ))
+unfoldable pub readyToRun : CaseLimits → List ℕ → List ℕ → ThirdInput → (Problem → Result (Unit {0})) → Result (Ready (List ℕ))
 readyToRun L question site steps rooms = asked L question site (λ _. takeSteps steps) nothing nothing rooms
 
 pub record Checked : Type 0 where
@@ -202,7 +202,7 @@ checkedFrom (accepted r) state =
     let ran = run (r .problem) (r .third) in
     record { answer = ran .answer; state = written (stateWords (r .problem) (ran .state)) state }
 
-unfoldable pub checkSteps : CaseLimits → List ℕ → List ℕ → Given → List ℕ → Checked
+unfoldable pub checkSteps : CaseLimits → List ℕ → List ℕ → ThirdInput → List ℕ → Checked
 checkSteps L question site steps state = checkedFrom (readyToRun L question site steps (λ p. roomFor (stateLength p) (length state))) state
 
 -- ---- reading picks from steps
@@ -226,7 +226,7 @@ picksReadFrom (accepted r) picks state =
       state = written (stateWords (r .problem) (ran .state)) state;
     }
 
-unfoldable pub picksFromSteps : CaseLimits → List ℕ → List ℕ → Given → List ℕ → List ℕ → PicksRead
+unfoldable pub picksFromSteps : CaseLimits → List ℕ → List ℕ → ThirdInput → List ℕ → List ℕ → PicksRead
 picksFromSteps L question site steps picks state = picksReadFrom
     (readyToRun L question site steps (λ p.
     roomFor (picksLength p) (length picks) >>= λ _. roomFor (stateLength p) (length state))) picks state
@@ -239,7 +239,7 @@ kindRefusal none = accepted tt
 kindRefusal (some i) = refused 16 i
 
 -- the picks that are taken, of the declared kinds, and of which the rule is true: 10, 16, 17
-unfoldable pub satisfying : Case → Problem → Given → List Tuple → Result (List Tuple)
+unfoldable pub satisfying : Case → Problem → ThirdInput → List Tuple → Result (List Tuple)
 satisfying c p picks read = do
   tuples ← takePicks p picks read
   _ ← kindRefusal (firstOfOtherKind c tuples)
@@ -253,18 +253,18 @@ pub record Plan : Type 0 where
   pub steps : List ℕ
 
 -- The refusals of building in their order: the texts, 11, 12 (lent picks, state, steps; the steps need the bound), 10, 16, 17.
-unfoldable pub plan : CaseLimits → List ℕ → List ℕ → Given → ℕ → ℕ → Result Plan
+unfoldable pub plan : CaseLimits → List ℕ → List ℕ → ThirdInput → ℕ → ℕ → Result Plan
 plan L question site picks stateRoom stepsRoom = do
   r ← asked L question site (λ c. textPicks (c .case) (c .labels) picks) nothing nothing (λ p. picksRoom p picks >>= λ _. roomFor (stateLength p) stateRoom >>= λ _. roomFor (bound p) stepsRoom)
   tuples ← satisfying (r .case) (r .problem) picks (r .third)
   accepted (record { labels = r .labels; problem = r .problem; picks = tuples; steps = builtSteps (r .problem) tuples })
 
-pub record Built : Type 0 where
+pub record StepsBuilt : Type 0 where
   pub answer : Result ℕ
   pub state : List ℕ
   pub steps : List ℕ
 
-unfoldable pub builtFrom : Result Plan → List ℕ → List ℕ → Built
+unfoldable pub builtFrom : Result Plan → List ℕ → List ℕ → StepsBuilt
 builtFrom (refused k place) state steps = record { answer = refused k place; state = state; steps = steps }
 builtFrom (accepted b) state steps =
     record {
@@ -273,5 +273,5 @@ builtFrom (accepted b) state steps =
       steps = written (b .steps) steps;
     }
 
-unfoldable pub buildSteps : CaseLimits → List ℕ → List ℕ → Given → List ℕ → List ℕ → Built
+unfoldable pub buildSteps : CaseLimits → List ℕ → List ℕ → ThirdInput → List ℕ → List ℕ → StepsBuilt
 buildSteps L question site picks state steps = builtFrom (plan L question site picks (length state) (length steps)) state steps

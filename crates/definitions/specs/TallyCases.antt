@@ -1,7 +1,7 @@
 -- Cases of document 02, job 3, and one theorem for the whole table.
 use mathlib.Core.Path.{_≡_, refl}
 use Prim.Native.Nat.{ℕ}
-use Prim.Native.String.{String, _++_ as _<>_}
+use Prim.Native.String.{String}
 use mathlib.Core.Bool.{Bool, true, false, _&&_}
 use mathlib.Core.List.{List, [], _∷_, map}
 use lib.Dec.{eqb}

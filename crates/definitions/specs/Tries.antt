@@ -4,7 +4,7 @@ use mathlib.Core.List.{List, map}
 use lib.ListN.{length, take, drop}
 use lib.Dec.{ltb}
 use Rattle.definitions.specs.Limits.{CaseLimits, stepLimit}
-use Rattle.definitions.specs.Refusal.{Result, refused, accepted, _>>=_, refuseIf}
+use Rattle.definitions.specs.Refusal.{Result, refused, accepted, refuseIf, _>>=_}
 use Rattle.definitions.specs.Atoms.{Problem, initial, stateWords}
 use Rattle.definitions.specs.Strips.{run}
 use Rattle.definitions.specs.Outcome.{replyNumber, replyPlace, Ready, asked, nothing, roomFor, stateLength, written}

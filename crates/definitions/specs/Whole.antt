@@ -11,15 +11,15 @@ use Rattle.definitions.specs.Limits.{usual}
 use Rattle.definitions.specs.Lists.{all, same}
 use Rattle.definitions.specs.Text.{bytes}
 use Rattle.definitions.specs.Refusal.{Result}
-use Rattle.definitions.specs.Outcome.{replyNumber, replyPlace, Given, asText, asNumbers, Checked, checkSteps, PicksRead, picksFromSteps, Built, buildSteps}
+use Rattle.definitions.specs.Outcome.{replyNumber, replyPlace, ThirdInput, asText, asNumbers, Checked, checkSteps, PicksRead, picksFromSteps, StepsBuilt, buildSteps}
 use Rattle.definitions.specs.Opened.{everything}
 use Rattle.definitions.specs.Drawer
 
 -- A question, a site and what is handed over; the buffers as they are lent; the reply's number and place; the buffers afterwards.
 pub data Row : Type 0 where
-  checks : (question site : String) (steps : Given) (state : List ℕ) (number place : ℕ) (state′ : List ℕ) → Row
-  reads : (question site : String) (steps : Given) (picks state : List ℕ) (number place : ℕ) (picks′ state′ : List ℕ) → Row
-  builds : (question site : String) (picks : Given) (state steps : List ℕ) (number place : ℕ) (state′ steps′ : List ℕ) → Row
+  checks : (question site : String) (steps : ThirdInput) (state : List ℕ) (number place : ℕ) (state′ : List ℕ) → Row
+  reads : (question site : String) (steps : ThirdInput) (picks state : List ℕ) (number place : ℕ) (picks′ state′ : List ℕ) → Row
+  builds : (question site : String) (picks : ThirdInput) (state steps : List ℕ) (number place : ℕ) (state′ steps′ : List ℕ) → Row
 
 unfoldable pub replies : Result ℕ → ℕ → ℕ → Bool
 replies r number place = eqb (replyNumber r) number && eqb (replyPlace r) place
@@ -30,7 +30,7 @@ checkedAs c number place state = replies (c .answer) number place && same (c .st
 unfoldable pub readAs : PicksRead → ℕ → ℕ → List ℕ → List ℕ → Bool
 readAs c number place picks state = replies (c .answer) number place && same (c .picks) picks && same (c .state) state
 
-unfoldable pub builtAs : Built → ℕ → ℕ → List ℕ → List ℕ → Bool
+unfoldable pub builtAs : StepsBuilt → ℕ → ℕ → List ℕ → List ℕ → Bool
 builtAs c number place state steps = replies (c .answer) number place && same (c .state) state && same (c .steps) steps
 
 unfoldable pub rowIsSo : Row → Bool

@@ -1,5 +1,5 @@
 -- Reading and writing belong together: what is read was written, and what is written is read. Assumes nothing.
-use Prim.Native.Nat.{ℕ, zero, suc, _+_, _-_, _≤_, _<_, suc-le-suc, zero-le}
+use Prim.Native.Nat.{ℕ, zero, suc, _+_, _≤_, _<_, suc-le-suc, zero-le}
 use native.Mathlib.Nat.{le-of-suc-le-suc, not-suc-le-zero}
 use native.Mathlib.Omega.{arith}
 use mathlib.Core.Path.{_≡_, refl, sym, ap, subst, _∙_}
@@ -13,8 +13,14 @@ use lib.Dec.{eqb, leb, lit<}
 use borrow.Author.Tests.{eq-eqb, ne-eqb, eqb-true, le-leb, lt-leb, leb-true}
 use Rattle.definitions.specs.Lists.{all, option}
 use Rattle.definitions.specs.Text.{isBetween, isCapital, isDigit, isSmall, isRelationName, isVariable}
-use Rattle.definitions.specs.Formula.{Quantified, Join, ands, ors, Quant, somes, everys, Formula, literal, negation, implication, join, quant, Formulas, nil, cons, joinWord, quantWord, notWord, impWord, writeEach, writeVars, writeTyped, writeMore, write, writeParts, isQuantified, Words, no-words, a-word, Variables, AllQuantified, WellFormed, g-lit, g-neg, g-imp, g-and, g-or, g-exists, g-forall, AllWellFormed, no-goods, a-good}
-use Rattle.definitions.specs.Parsing.{first, inside, longest, span, Res, bad, ok, andThen, begins, want, readWord, readVar, readEach, readVars, readType, readTyped, readMore, readParts, Head, isNot, isImplies, isAnd, isOr, isExists, isForall, isOther, kindOf, close, readJoin, readQuant, readLit, readNeg, readImp, readBody, read, finish, readFormula}
+use Rattle.definitions.specs.Formula.{Quantified, Join, ands, ors, Quant, somes, everys, Formula, literal, negation, implication, join, quant}
+use Rattle.definitions.specs.Formula.{Formulas, nil, cons, joinWord, quantWord, notWord, impWord, writeEach, writeVars, writeTyped, writeMore}
+use Rattle.definitions.specs.Formula.{write, writeParts, isQuantified, Words, no-words, a-word, Variables, AllQuantified, WellFormed, g-lit}
+use Rattle.definitions.specs.Formula.{g-neg, g-imp, g-and, g-or, g-exists, g-forall, AllWellFormed, no-goods, a-good}
+use Rattle.definitions.specs.Parsing.{first, inside, longest, span, Res, bad, ok, andThen, begins, want, readWord, readVar, readEach, readVars}
+use Rattle.definitions.specs.Parsing.{readType, readTyped, readMore, readParts, Head, isNot, isImplies, isAnd, isOr, isExists, isForall}
+use Rattle.definitions.specs.Parsing.{isOther, kindOf, close, readJoin, readQuant, readLit, readNeg, readImp, readBody, read, finish}
+use Rattle.definitions.specs.Parsing.{readFormula}
 
 -- ---- `begins`
 pub begins-step : (p s : List ℕ) (i j : ℕ) → i < length p → j < length s → getD p i 0 ≡ getD s j 0 → begins (drop i p) (drop j s) ≡ begins (drop (suc i) p) (drop (suc j) s)
@@ -86,11 +92,11 @@ pub record Wanted {A : Type 0} (p : List ℕ) (a : A) (l : List ℕ) (b : A) (r 
 
 pub want-ok : {A : Type 0} (p : List ℕ) (a : A) (l : List ℕ) (b : A) (r : List ℕ) → want p a l ≡ ok b r → Wanted p a l b r
 unfolding want
-want-ok p a l b r e = go (begins p l) refl e
+want-ok p a l b r e = by-test (begins p l) refl e
   where
-    go : (t : Bool) → begins p l ≡ t → elim t [ true ↦ ok a (drop (length p) l) | false ↦ bad ] ≡ ok b r → Wanted p a l b r
-    go true q h = record { same = cc; went = begins-is p l q ∙ ap (λ (m : List ℕ). p ++ m) (cc) }
-    go false q h = let z : _≡_ {A = ℕ} 0 1 = cc in absurd (omega arith)
+    by-test : (t : Bool) → begins p l ≡ t → elim t [ true ↦ ok a (drop (length p) l) | false ↦ bad ] ≡ ok b r → Wanted p a l b r
+    by-test true q h = record { same = cc; went = begins-is p l q ∙ ap (λ (m : List ℕ). p ++ m) (cc) }
+    by-test false q h = let z : _≡_ {A = ℕ} 0 1 = cc in absurd (omega arith)
 
 -- ---- which form it is, from the tests in turn
 pub kind-0 : (l : List ℕ) → begins notWord l ≡ true → kindOf l ≡ isNot
@@ -144,19 +150,19 @@ module _ (b : Bool) where
   span-taken : (l : List ℕ) → span b (take (span b l) l) ≡ length (take (span b l) l)
   unfolding span
   span-taken [] = refl
-  span-taken (c ∷ l) = go (inside b c) refl (span-taken l)
+  span-taken (c ∷ l) = by-test (inside b c) refl (span-taken l)
     where
-      go : (t : Bool) → inside b c ≡ t → span b (take (span b l) l) ≡ length (take (span b l) l) → span b (take (span b (c ∷ l)) (c ∷ l)) ≡ length (take (span b (c ∷ l)) (c ∷ l))
-      go true e h = rw (span-in c l e, span-in c (take (span b l) l) e, h)
-      go false e h = rw (span-out c l e)
+      by-test : (t : Bool) → inside b c ≡ t → span b (take (span b l) l) ≡ length (take (span b l) l) → span b (take (span b (c ∷ l)) (c ∷ l)) ≡ length (take (span b (c ∷ l)) (c ∷ l))
+      by-test true e h = rw (span-in c l e, span-in c (take (span b l) l) e, h)
+      by-test false e h = rw (span-out c l e)
 
   span-first : (c : ℕ) (l : List ℕ) → span b (c ∷ l) ≡ suc (length l) → (inside b c ≡ true) × (span b l ≡ length l)
   unfolding span
-  span-first c l e = go (inside b c) refl e
+  span-first c l e = by-test (inside b c) refl e
     where
-      go : (t : Bool) → inside b c ≡ t → elim t [ true ↦ suc (span b l) | false ↦ 0 ] ≡ suc (length l) → (inside b c ≡ true) × (span b l ≡ length l)
-      go true q h = (q, omega arith)
-      go false q h = absurd (omega arith)
+      by-test : (t : Bool) → inside b c ≡ t → elim t [ true ↦ suc (span b l) | false ↦ 0 ] ≡ suc (length l) → (inside b c ≡ true) × (span b l ≡ length l)
+      by-test true q h = (q, omega arith)
+      by-test false q h = absurd (omega arith)
 
   -- a word's letters end where other bytes begin
   pub span-append : (t r : List ℕ) → span b t ≡ length t → span b r ≡ 0 → span b (t ++ r) ≡ length t
@@ -194,10 +200,10 @@ name-yes w h = subst (λ (x : List ℕ). isRelationName x ≡ true) (sym (h .is)
 pub name-is : (w : List ℕ) → isRelationName w ≡ true → IsWord false w
 unfolding isRelationName isCapital isBetween isDigit
 name-is [] e = no-true e
-name-is (c ∷ l) e = go (three (first false c) (all (λ d. inside false d) l) (leb (suc (length l)) 12) e)
+name-is (c ∷ l) e = from-this (three (first false c) (all (λ d. inside false d) l) (leb (suc (length l)) 12) e)
   where
-    go : (first false c ≡ true) × (all (λ d. inside false d) l ≡ true) × (leb (suc (length l)) 12 ≡ true) → IsWord false (c ∷ l)
-    go (a, b, d) = record { head = c; tail = l; is = refl; starts = a; goes = span-all false l b; short = leb-true (suc (length l)) 12 d }
+    from-this : (first false c ≡ true) × (all (λ d. inside false d) l ≡ true) × (leb (suc (length l)) 12 ≡ true) → IsWord false (c ∷ l)
+    from-this (a, b, d) = record { head = c; tail = l; is = refl; starts = a; goes = span-all false l b; short = leb-true (suc (length l)) 12 d }
 
 pub record IsVar (v : List ℕ) : Type 0 where
   pub letters : List ℕ
@@ -206,16 +212,19 @@ pub record IsVar (v : List ℕ) : Type 0 where
 
 pub var-yes : (w : List ℕ) → IsWord true w → isVariable (63 ∷ w) ≡ true
 unfolding isVariable isSmall isBetween isDigit
-var-yes w h = subst (λ (x : List ℕ). isVariable (63 ∷ x) ≡ true) (sym (h .is)) (both3 (first true (h .head)) (all (λ c. inside true c) (h .tail)) (leb (suc (suc (length (h .tail)))) 8) (h .starts) (all-span true (h .tail) (h .goes)) (le-leb (suc (suc (length (h .tail)))) 8 (suc-le-suc (rw (h .is) at (h .short)))))
+var-yes w h =
+    subst (λ (x : List ℕ). isVariable (63 ∷ x) ≡ true) (sym (h .is))
+    (both3 (first true (h .head)) (all (λ c. inside true c) (h .tail)) (leb (suc (suc (length (h .tail)))) 8) (h .starts)
+    (all-span true (h .tail) (h .goes)) (le-leb (suc (suc (length (h .tail)))) 8 (suc-le-suc (rw (h .is) at (h .short)))))
 
 pub var-is : (v : List ℕ) → isVariable v ≡ true → IsVar v
 unfolding isVariable isSmall isBetween isDigit
 var-is [] e = no-true e
 var-is (q ∷ []) e = no-true e
-var-is (q ∷ c ∷ l) e = go (four (eqb q 63) (first true c) (all (λ d. inside true d) l) (leb (suc (suc (length l))) 8) e)
+var-is (q ∷ c ∷ l) e = from-this (four (eqb q 63) (first true c) (all (λ d. inside true d) l) (leb (suc (suc (length l))) 8) e)
   where
-    go : (eqb q 63 ≡ true) × (first true c ≡ true) × (all (λ d. inside true d) l ≡ true) × (leb (suc (suc (length l))) 8 ≡ true) → IsVar (q ∷ c ∷ l)
-    go (o, a, b, d) = record { letters = c ∷ l; is = ap (λ (x : ℕ). x ∷ c ∷ l) (eqb-true q 63 o); word = record { head = c; tail = l; is = refl; starts = a; goes = span-all true l b; short = le-of-suc-le-suc (leb-true (suc (suc (length l))) 8 d) } }
+    from-this : (eqb q 63 ≡ true) × (first true c ≡ true) × (all (λ d. inside true d) l ≡ true) × (leb (suc (suc (length l))) 8 ≡ true) → IsVar (q ∷ c ∷ l)
+    from-this (o, a, b, d) = record { letters = c ∷ l; is = ap (λ (x : ℕ). x ∷ c ∷ l) (eqb-true q 63 o); word = record { head = c; tail = l; is = refl; starts = a; goes = span-all true l b; short = le-of-suc-le-suc (leb-true (suc (suc (length l))) 8 d) } }
 
 pub record WordRead (b : Bool) (l w r : List ℕ) : Type 0 where
   pub written : l ≡ w ++ r
@@ -224,28 +233,28 @@ pub record WordRead (b : Bool) (l w r : List ℕ) : Type 0 where
 pub span-le : (b : Bool) (l : List ℕ) → span b l ≤ length l
 unfolding span
 span-le b [] = zero-le
-span-le b (c ∷ l) = go (inside b c) (span-le b l)
+span-le b (c ∷ l) = by-test (inside b c) (span-le b l)
   where
-    go : (t : Bool) → span b l ≤ length l → elim t [ true ↦ suc (span b l) | false ↦ 0 ] ≤ suc (length l)
-    go true h = suc-le-suc h
-    go false h = zero-le
+    by-test : (t : Bool) → span b l ≤ length l → elim t [ true ↦ suc (span b l) | false ↦ 0 ] ≤ suc (length l)
+    by-test true h = suc-le-suc h
+    by-test false h = zero-le
 
 pub length-take-span : (b : Bool) (l : List ℕ) → length (take (span b l) l) ≡ span b l
 unfolding span
 length-take-span b [] = refl
-length-take-span b (c ∷ l) = go (inside b c) refl (length-take-span b l)
+length-take-span b (c ∷ l) = by-test (inside b c) refl (length-take-span b l)
   where
-    go : (t : Bool) → inside b c ≡ t → length (take (span b l) l) ≡ span b l → length (take (span b (c ∷ l)) (c ∷ l)) ≡ span b (c ∷ l)
-    go true e h = rw (span-in b c l e, h)
-    go false e h = rw (span-out b c l e)
+    by-test : (t : Bool) → inside b c ≡ t → length (take (span b l) l) ≡ span b l → length (take (span b (c ∷ l)) (c ∷ l)) ≡ span b (c ∷ l)
+    by-test true e h = rw (span-in b c l e, h)
+    by-test false e h = rw (span-out b c l e)
 
 pub sound-word : (b : Bool) (l w r : List ℕ) → readWord b l ≡ ok w r → WordRead b l w r
 unfolding readWord
 sound-word b [] w r e = let z : _≡_ {A = ℕ} 0 1 = cc in absurd (omega arith)
-sound-word b (c ∷ l) w r e = go (if-ok (first b c && leb (suc (span b l)) (longest b)) (ok (c ∷ take (span b l) l) (drop (span b l) l)) w r e)
+sound-word b (c ∷ l) w r e = from-this (if-ok (first b c && leb (suc (span b l)) (longest b)) (ok (c ∷ take (span b l) l) (drop (span b l) l)) w r e)
   where
-    go : ((first b c && leb (suc (span b l)) (longest b)) ≡ true) × (ok (c ∷ take (span b l) l) (drop (span b l) l) ≡ ok w r) → WordRead b (c ∷ l) w r
-    go (q, h) =
+    from-this : ((first b c && leb (suc (span b l)) (longest b)) ≡ true) × (ok (c ∷ take (span b l) l) (drop (span b l) l) ≡ ok w r) → WordRead b (c ∷ l) w r
+    from-this (q, h) =
         let hw : c ∷ take (span b l) l ≡ w = cc in
         let hr : drop (span b l) l ≡ r = cc in
         let n : suc (span b l) ≤ longest b = leb-true (suc (span b l)) (longest b) (and-r (first b c) (leb (suc (span b l)) (longest b)) q) in
@@ -283,10 +292,10 @@ fin-var l w m v r hv hr q h = rw (← hv, ← hr) (record { written = begins-is 
 
 pub sound-var : (l v r : List ℕ) → readVar l ≡ ok v r → VarRead l v r
 unfolding readVar
-sound-var l v r e = go (if-ok (begins (63 ∷ []) l) (andThen (readWord true (drop 1 l)) (λ v r. ok (63 ∷ v) r)) v r e)
+sound-var l v r e = from-this (if-ok (begins (63 ∷ []) l) (andThen (readWord true (drop 1 l)) (λ v r. ok (63 ∷ v) r)) v r e)
   where
-    go : (begins (63 ∷ []) l ≡ true) × (andThen (readWord true (drop 1 l)) (λ v r. ok (63 ∷ v) r) ≡ ok v r) → VarRead l v r
-    go (q, h) =
+    from-this : (begins (63 ∷ []) l ≡ true) × (andThen (readWord true (drop 1 l)) (λ v r. ok (63 ∷ v) r) ≡ ok v r) → VarRead l v r
+    from-this (q, h) =
         let one = then-ok (readWord true (drop 1 l)) (λ v r. ok (63 ∷ v) r) v r h in
         let hv : 63 ∷ one .got ≡ v = cc in
         let hr : one .rest ≡ r = cc in
@@ -309,18 +318,20 @@ module _ {A : Type 0} (one : List ℕ → Res A) (word : A → List ℕ) (isWord
   pub sound-each : ((l : List ℕ) (v : A) (r : List ℕ) → one l ≡ ok v r → (l ≡ word v ++ r) × (isWord v ≡ true))
       → (n : ℕ) (l : List ℕ) (vs : List A) (r : List ℕ) → readEach one n l ≡ ok vs r → EachRead word isWord n l vs r
   unfolding readEach writeEach
-  sound-each snd zero l vs r e = go (if-either (begins (32 ∷ []) l) bad (ok [] l) (ok vs r) e)
+  sound-each snd zero l vs r e = by-cases (if-either (begins (32 ∷ []) l) bad (ok [] l) (ok vs r) e)
     where
-      go : ((begins (32 ∷ []) l ≡ true) × (bad ≡ ok vs r)) ⊎ ((begins (32 ∷ []) l ≡ false) × (ok [] l ≡ ok vs r)) → EachRead word isWord zero l vs r
-      go (inl (q, h)) = let z : _≡_ {A = ℕ} 0 1 = cc in absurd (omega arith)
-      go (inr (q, h)) =
+      by-cases : ((begins (32 ∷ []) l ≡ true) × (bad ≡ ok vs r)) ⊎ ((begins (32 ∷ []) l ≡ false) × (ok [] l ≡ ok vs r)) → EachRead word isWord zero l vs r
+      by-cases (inl (q, h)) = let z : _≡_ {A = ℕ} 0 1 = cc in absurd (omega arith)
+      by-cases (inr (q, h)) =
           let hv : [] ≡ vs = cc in
           let hr : l ≡ r = cc in
           rw (← hv) (record { written = hr; words = no-words; few = zero-le })
-  sound-each snd (suc n) l vs r e = go (λ m us p. sound-each snd n m us r p) (if-either (begins (32 ∷ []) l) (andThen (one (drop 1 l)) (λ v m. andThen (readEach one n m) (λ us r. ok (v ∷ us) r))) (ok [] l) (ok vs r) e)
+  sound-each snd (suc n) l vs r e = from-this (λ m us p. sound-each snd n m us r p) (if-either (begins (32 ∷ []) l) (andThen (one (drop 1 l)) (λ v m. andThen (readEach one n m) (λ us r. ok (v ∷ us) r))) (ok [] l) (ok vs r) e)
     where
-      go : ((m : List ℕ) (us : List A) → readEach one n m ≡ ok us r → EachRead word isWord n m us r) → ((begins (32 ∷ []) l ≡ true) × (andThen (one (drop 1 l)) (λ v m. andThen (readEach one n m) (λ us r. ok (v ∷ us) r)) ≡ ok vs r)) ⊎ ((begins (32 ∷ []) l ≡ false) × (ok [] l ≡ ok vs r)) → EachRead word isWord (suc n) l vs r
-      go ih (inl (q, h)) =
+      from-this : ((m : List ℕ) (us : List A) → readEach one n m ≡ ok us r → EachRead word isWord n m us r)
+          → ((begins (32 ∷ []) l ≡ true) × (andThen (one (drop 1 l)) (λ v m. andThen (readEach one n m) (λ us r. ok (v ∷ us) r)) ≡ ok vs r)) ⊎
+          ((begins (32 ∷ []) l ≡ false) × (ok [] l ≡ ok vs r)) → EachRead word isWord (suc n) l vs r
+      from-this ih (inl (q, h)) =
           let a = then-ok (one (drop 1 l)) (λ v m. andThen (readEach one n m) (λ us r. ok (v ∷ us) r)) vs r h in
           let b = then-ok (readEach one n (a .rest)) (λ us r. ok (a .got ∷ us) r) vs r (a .two) in
           let hr : b .rest ≡ r = cc in
@@ -332,7 +343,7 @@ module _ {A : Type 0} (one : List ℕ → Res A) (word : A → List ℕ) (isWord
             words = a-word (v .1) (us .words);
             few = suc-le-suc (us .few);
           })
-      go ih (inr (q, h)) =
+      from-this ih (inr (q, h)) =
           let hv : [] ≡ vs = cc in
           let hr : l ≡ r = cc in
           rw (← hv) (record { written = hr; words = no-words; few = zero-le })
@@ -359,10 +370,10 @@ module _ {A : Type 0} (one : List ℕ → Res A) (word : A → List ℕ) (isWord
   each-le : (vs : List A) (r : List ℕ) → length vs ≤ length (writeEach word vs ++ r)
   unfolding writeEach
   each-le [] r = zero-le
-  each-le (v ∷ vs) r = suc-le-suc (go (each-le vs r) (ap length (append-assoc (word v) (writeEach word vs) r) ∙ length-append (word v) (writeEach word vs ++ r)))
+  each-le (v ∷ vs) r = suc-le-suc (from-this (each-le vs r) (ap length (append-assoc (word v) (writeEach word vs) r) ∙ length-append (word v) (writeEach word vs ++ r)))
     where
-      go : length vs ≤ length (writeEach word vs ++ r) → length ((word v ++ writeEach word vs) ++ r) ≡ length (word v) + length (writeEach word vs ++ r) → length vs ≤ length ((word v ++ writeEach word vs) ++ r)
-      go h e = omega arith
+      from-this : length vs ≤ length (writeEach word vs ++ r) → length ((word v ++ writeEach word vs) ++ r) ≡ length (word v) + length (writeEach word vs ++ r) → length vs ≤ length ((word v ++ writeEach word vs) ++ r)
+      from-this h e = omega arith
 
 -- ... the variables of a literal
 abbrev pub VarStops : List ℕ → Type 0
@@ -397,15 +408,15 @@ type-none v m q r hq hr w = rw (← hq, ← hr) (sym (append-assoc v [] m), both
 
 sound-type : (v m : List ℕ) (q : Quantified) (r : List ℕ) → isVariable v ≡ true → readType v m ≡ ok q r → (v ++ m ≡ writeTyped q ++ r) × (isQuantified q ≡ true)
 unfolding readType
-sound-type v m q r w e = go (if-either (begins (58 ∷ []) m) (andThen (readWord false (drop 1 m)) (λ t s. ok (record { variable = v; type = some t }) s)) (ok (record { variable = v; type = none }) m) (ok q r) e)
+sound-type v m q r w e = by-cases (if-either (begins (58 ∷ []) m) (andThen (readWord false (drop 1 m)) (λ t s. ok (record { variable = v; type = some t }) s)) (ok (record { variable = v; type = none }) m) (ok q r) e)
   where
-    go : ((begins (58 ∷ []) m ≡ true) × (andThen (readWord false (drop 1 m)) (λ t s. ok (record { variable = v; type = some t }) s) ≡ ok q r)) ⊎ ((begins (58 ∷ []) m ≡ false) × (ok (record { variable = v; type = none }) m ≡ ok q r)) → (v ++ m ≡ writeTyped q ++ r) × (isQuantified q ≡ true)
-    go (inl (b, h)) =
+    by-cases : ((begins (58 ∷ []) m ≡ true) × (andThen (readWord false (drop 1 m)) (λ t s. ok (record { variable = v; type = some t }) s) ≡ ok q r)) ⊎ ((begins (58 ∷ []) m ≡ false) × (ok (record { variable = v; type = none }) m ≡ ok q r)) → (v ++ m ≡ writeTyped q ++ r) × (isQuantified q ≡ true)
+    by-cases (inl (b, h)) =
         let one = then-ok (readWord false (drop 1 m)) (λ t s. ok (record { variable = v; type = some t }) s) q r h in
         let hq : record { variable = v; type = some (one .got) } ≡ q = cc in
         let hr : one .rest ≡ r = cc in
         type-some v m (one .got) (one .rest) q r hq hr b w (sound-word false (drop 1 m) (one .got) (one .rest) (one .one))
-    go (inr (b, h)) =
+    by-cases (inr (b, h)) =
         let hq : record { variable = v; type = none } ≡ q = cc in
         let hr : m ≡ r = cc in
         type-none v m q r hq hr w
@@ -472,8 +483,8 @@ pub record PRead (k : ℕ) (l : List ℕ) (fs : Formulas) (r : List ℕ) : Type 
   pub written : l ≡ writeParts fs ++ r
   pub goods : AllWellFormed k fs
 
-abbrev pub Sound : ℕ → (List ℕ → Res Formula) → Type 0
-Sound k g = (l : List ℕ) (f : Formula) (r : List ℕ) → g l ≡ ok f r → FRead k l f r
+abbrev pub SoundReader : ℕ → (List ℕ → Res Formula) → Type 0
+SoundReader k g = (l : List ℕ) (f : Formula) (r : List ℕ) → g l ≡ ok f r → FRead k l f r
 
 -- ---- the writing, bracketed to the right
 lay3 : (p a z r : List ℕ) → ((p ++ a) ++ z) ++ r ≡ p ++ (a ++ (z ++ r))
@@ -522,7 +533,9 @@ fin-join : (k : ℕ) (j : Join) (l : List ℕ) (a : Formula) (fs : Formulas) (f 
 unfolding write
 fin-join k j l a fs f r h q d e = rw (← q, h) (record { written = sym (ap (λ (m : List ℕ). m ++ r) (write-join j a fs) ∙ lay-join (joinWord j) (write a) (writeParts fs) (41 ∷ []) r); good = good-join j a fs d e })
 
-fin-quant : (k : ℕ) (q : Quant) (l : List ℕ) (v : Quantified) (vs us : List Quantified) (a f : Formula) (r : List ℕ) → l ≡ writeTyped v ++ (writeMore vs ++ 41 ∷ 32 ∷ (write a ++ 41 ∷ r)) → vs ≡ us → quant q (v ∷ us) a ≡ f → isQuantified v ≡ true → AllQuantified vs → length vs ≤ 3 → WellFormed k a → FRead (suc k) (quantWord q ++ l) f r
+fin-quant : (k : ℕ) (q : Quant) (l : List ℕ) (v : Quantified) (vs us : List Quantified) (a f : Formula) (r : List ℕ) → l ≡ writeTyped v
+    ++ (writeMore vs ++ 41 ∷ 32 ∷ (write a ++ 41 ∷ r)) → vs ≡ us → quant q (v ∷ us) a ≡ f → isQuantified v ≡ true → AllQuantified vs → length vs ≤ 3
+    → WellFormed k a → FRead (suc k) (quantWord q ++ l) f r
 unfolding write
 fin-quant k q l v vs us a f r h s e w ws le d = rw (← e, ← s, h) (record { written = sym (ap (λ (m : List ℕ). m ++ r) (write-quant q v vs a) ∙ lay-quant (quantWord q) (writeTyped v) (writeMore vs) (41 ∷ 32 ∷ write a) (41 ∷ []) r); good = good-quant q v vs a w ws le d })
 
@@ -530,21 +543,21 @@ fin-lit : (k : ℕ) (l n m v : List ℕ) (vs : List (List ℕ)) (f : Formula) (r
 unfolding write
 fin-lit k l n m v vs f r h s e wn w ws = rw (← e, ← s, h) (record { written = sym (ap (λ (x : List ℕ). x ++ r) (write-lit n v vs) ∙ lay-join (40 ∷ n) (32 ∷ v) (writeVars vs) (41 ∷ []) r); good = g-lit (name-yes n wn) (a-word w ws) })
 
-module _ (k : ℕ) (g : List ℕ → Res Formula) (snd : Sound k g) where
+module _ (k : ℕ) (g : List ℕ → Res Formula) (snd : SoundReader k g) where
   pub sound-parts : (n : ℕ) (l : List ℕ) (fs : Formulas) (r : List ℕ) → readParts g n l ≡ ok fs r → PRead k l fs r
   unfolding readParts writeParts
-  sound-parts zero l fs r e = go (if-either (begins (32 ∷ []) l) bad (ok nil l) (ok fs r) e)
+  sound-parts zero l fs r e = by-cases (if-either (begins (32 ∷ []) l) bad (ok nil l) (ok fs r) e)
     where
-      go : ((begins (32 ∷ []) l ≡ true) × (bad ≡ ok fs r)) ⊎ ((begins (32 ∷ []) l ≡ false) × (ok nil l ≡ ok fs r)) → PRead k l fs r
-      go (inl (q, h)) = let z : _≡_ {A = ℕ} 0 1 = cc in absurd (omega arith)
-      go (inr (q, h)) =
+      by-cases : ((begins (32 ∷ []) l ≡ true) × (bad ≡ ok fs r)) ⊎ ((begins (32 ∷ []) l ≡ false) × (ok nil l ≡ ok fs r)) → PRead k l fs r
+      by-cases (inl (q, h)) = let z : _≡_ {A = ℕ} 0 1 = cc in absurd (omega arith)
+      by-cases (inr (q, h)) =
           let hv : nil ≡ fs = cc in
           let hr : l ≡ r = cc in
           rw (← hv) (record { written = hr; goods = no-goods })
-  sound-parts (suc n) l fs r e = go (λ m us p. sound-parts n m us r p) (if-either (begins (32 ∷ []) l) (andThen (g (drop 1 l)) (λ v m. andThen (readParts g n m) (λ us r. ok (cons v us) r))) (ok nil l) (ok fs r) e)
+  sound-parts (suc n) l fs r e = from-this (λ m us p. sound-parts n m us r p) (if-either (begins (32 ∷ []) l) (andThen (g (drop 1 l)) (λ v m. andThen (readParts g n m) (λ us r. ok (cons v us) r))) (ok nil l) (ok fs r) e)
     where
-      go : ((m : List ℕ) (us : Formulas) → readParts g n m ≡ ok us r → PRead k m us r) → ((begins (32 ∷ []) l ≡ true) × (andThen (g (drop 1 l)) (λ v m. andThen (readParts g n m) (λ us r. ok (cons v us) r)) ≡ ok fs r)) ⊎ ((begins (32 ∷ []) l ≡ false) × (ok nil l ≡ ok fs r)) → PRead k l fs r
-      go ih (inl (q, h)) =
+      from-this : ((m : List ℕ) (us : Formulas) → readParts g n m ≡ ok us r → PRead k m us r) → ((begins (32 ∷ []) l ≡ true) × (andThen (g (drop 1 l)) (λ v m. andThen (readParts g n m) (λ us r. ok (cons v us) r)) ≡ ok fs r)) ⊎ ((begins (32 ∷ []) l ≡ false) × (ok nil l ≡ ok fs r)) → PRead k l fs r
+      from-this ih (inl (q, h)) =
           let one = then-ok (g (drop 1 l)) (λ v m. andThen (readParts g n m) (λ us r. ok (cons v us) r)) fs r h in
           let two = then-ok (readParts g n (one .rest)) (λ us r. ok (cons (one .got) us) r) fs r (one .two) in
           let hr : two .rest ≡ r = cc in
@@ -555,7 +568,7 @@ module _ (k : ℕ) (g : List ℕ → Res Formula) (snd : Sound k g) where
             written = begins-is (32 ∷ []) l q ∙ ap (λ (m : List ℕ). 32 ∷ m) (v .written ∙ ap (λ (m : List ℕ). write (one .got) ++ m) (us .written) ∙ sym (append-assoc (write (one .got)) (writeParts (two .got)) r));
             goods = a-good (v .good) (us .goods);
           })
-      go ih (inr (q, h)) =
+      from-this ih (inr (q, h)) =
           let hv : nil ≡ fs = cc in
           let hr : l ≡ r = cc in
           rw (← hv) (record { written = hr; goods = no-goods })
@@ -659,7 +672,7 @@ kind-is l =
     (pick-is P (begins (quantWord everys) l) isForall _ (λ e. e) tt)))))
 
 -- what is read was written, and is of its form
-sound-body : (k : ℕ) (g : List ℕ → Res Formula) → Sound k g → (d : Head) (l : List ℕ) → KindIs d l → (f : Formula) (r : List ℕ) → readBody g d l ≡ ok f r → FRead (suc k) l f r
+sound-body : (k : ℕ) (g : List ℕ → Res Formula) → SoundReader k g → (d : Head) (l : List ℕ) → KindIs d l → (f : Formula) (r : List ℕ) → readBody g d l ≡ ok f r → FRead (suc k) l f r
 sound-body k g s isNot l h f r e = rw (begins-is notWord l h) (sound-neg k g s (drop 5 l) f r e)
 sound-body k g s isImplies l h f r e = rw (begins-is impWord l h) (sound-imp k g s (drop 9 l) f r e)
 sound-body k g s isAnd l h f r e = rw (begins-is (joinWord ands) l h) (sound-join k g s ands (drop 5 l) f r e)
@@ -686,10 +699,10 @@ count (cons f fs) = suc (count fs)
 count-le : (fs : Formulas) (r : List ℕ) → count fs ≤ length (writeParts fs ++ r)
 unfolding count writeParts
 count-le nil r = zero-le
-count-le (cons f fs) r = suc-le-suc (go (count-le fs r) (ap length (append-assoc (write f) (writeParts fs) r) ∙ length-append (write f) (writeParts fs ++ r)))
+count-le (cons f fs) r = suc-le-suc (from-this (count-le fs r) (ap length (append-assoc (write f) (writeParts fs) r) ∙ length-append (write f) (writeParts fs ++ r)))
   where
-    go : count fs ≤ length (writeParts fs ++ r) → length ((write f ++ writeParts fs) ++ r) ≡ length (write f) + length (writeParts fs ++ r) → count fs ≤ length ((write f ++ writeParts fs) ++ r)
-    go h e = omega arith
+    from-this : count fs ≤ length (writeParts fs ++ r) → length ((write f ++ writeParts fs) ++ r) ≡ length (write f) + length (writeParts fs ++ r) → count fs ≤ length ((write f ++ writeParts fs) ++ r)
+    from-this h e = omega arith
 
 module _ (g : List ℕ → Res Formula) where
   done-neg : (a : Formula) (r : List ℕ) → g (write a ++ 41 ∷ r) ≡ ok a (41 ∷ r) → readNeg g (write a ++ 41 ∷ r) ≡ ok (negation a) r
@@ -704,11 +717,15 @@ module _ (g : List ℕ → Res Formula) where
   unfolding readParts writeParts begins
   done-parts a fs n r h e = rw (append-assoc (write a) (writeParts fs) r, h, e)
 
-  done-join : (j : Join) (a : Formula) (fs : Formulas) (r : List ℕ) → g (write a ++ (writeParts fs ++ 41 ∷ r)) ≡ ok a (writeParts fs ++ 41 ∷ r) → readParts g (length (writeParts fs ++ 41 ∷ r)) (writeParts fs ++ 41 ∷ r) ≡ ok fs (41 ∷ r) → readJoin g j (write a ++ (writeParts fs ++ 41 ∷ r)) ≡ ok (join j (cons a fs)) r
+  done-join : (j : Join) (a : Formula) (fs : Formulas) (r : List ℕ) → g (write a ++ (writeParts fs ++ 41 ∷ r)) ≡ ok a (writeParts fs ++ 41 ∷ r)
+      → readParts g (length (writeParts fs ++ 41 ∷ r)) (writeParts fs ++ 41 ∷ r) ≡ ok fs (41 ∷ r)
+      → readJoin g j (write a ++ (writeParts fs ++ 41 ∷ r)) ≡ ok (join j (cons a fs)) r
   unfolding readJoin want begins
   done-join j a fs r h e = rw (h, e)
 
-  done-quant : (q : Quant) (v : Quantified) (vs : List Quantified) (a : Formula) (r : List ℕ) → isQuantified v ≡ true → AllQuantified vs → length vs ≤ 3 → g (write a ++ 41 ∷ r) ≡ ok a (41 ∷ r) → readQuant g q (writeTyped v ++ (writeMore vs ++ 41 ∷ 32 ∷ (write a ++ 41 ∷ r))) ≡ ok (quant q (v ∷ vs) a) r
+  done-quant : (q : Quant) (v : Quantified) (vs : List Quantified) (a : Formula) (r : List ℕ) → isQuantified v ≡ true → AllQuantified vs
+      → length vs ≤ 3 → g (write a ++ 41 ∷ r) ≡ ok a (41 ∷ r) → readQuant g q (writeTyped v ++ (writeMore vs ++ 41 ∷ 32 ∷ (write a ++ 41 ∷ r)))
+      ≡ ok (quant q (v ∷ vs) a) r
   unfolding readQuant want begins
   done-quant q v vs a r w ws le h =
       let end = typed-close (32 ∷ (write a ++ 41 ∷ r)) in
@@ -722,10 +739,10 @@ done-lit n v vs r wn w ws =
 -- a capital is no keyword's second byte
 not-cap : (c k : ℕ) → first false c ≡ true → 90 < k → eqb k c ≡ false
 unfolding isCapital isBetween
-not-cap c k e h = ne-eqb k c (λ q. go q (leb-true c 90 (and-r (leb 65 c) (leb c 90) e)))
+not-cap c k e h = ne-eqb k c (λ q. from-this q (leb-true c 90 (and-r (leb 65 c) (leb c 90) e)))
   where
-    go : k ≡ c → c ≤ 90 → ⊥
-    go q le = omega arith
+    from-this : k ≡ c → c ≤ 90 → ⊥
+    from-this q le = omega arith
 
 pub kind-lit : (c : ℕ) (l : List ℕ) → first false c ≡ true → kindOf (40 ∷ c ∷ l) ≡ isOther
 unfolding begins
@@ -760,10 +777,17 @@ unfolding read
 read-lit k n l w = ap (λ (d : Head). readBody (λ m. read k m) d (40 ∷ (n ++ l))) (ap (λ (m : List ℕ). kindOf (40 ∷ (m ++ l))) (w .is) ∙ kind-lit (w .head) (w .tail ++ l) (w .starts))
 
 comp-join : (k : ℕ) (j : Join) (f : Formula) (fs : Formulas) (r : List ℕ) → ((t : List ℕ) → read k (write f ++ t) ≡ ok f t) → ((n : ℕ) → count fs ≤ n → readParts (λ m. read k m) n (writeParts fs ++ 41 ∷ r) ≡ ok fs (41 ∷ r)) → read (suc k) (write (join j (cons f fs)) ++ r) ≡ ok (join j (cons f fs)) r
-comp-join k j f fs r h e = ap (λ (l : List ℕ). read (suc k) l) (ap (λ (m : List ℕ). m ++ r) (write-join j f fs) ∙ lay-join (joinWord j) (write f) (writeParts fs) (41 ∷ []) r) ∙ read-join k j (write f ++ (writeParts fs ++ 41 ∷ r)) ∙ done-join (λ m. read k m) j f fs r (h (writeParts fs ++ 41 ∷ r)) (e (length (writeParts fs ++ 41 ∷ r)) (count-le fs (41 ∷ r)))
+comp-join k j f fs r h e =
+    ap (λ (l : List ℕ). read (suc k) l) (ap (λ (m : List ℕ). m ++ r) (write-join j f fs)
+    ∙ lay-join (joinWord j) (write f) (writeParts fs) (41 ∷ []) r) ∙ read-join k j (write f ++ (writeParts fs ++ 41 ∷ r))
+    ∙ done-join (λ m. read k m) j f fs r (h (writeParts fs ++ 41 ∷ r)) (e (length (writeParts fs ++ 41 ∷ r)) (count-le fs (41 ∷ r)))
 
 comp-quant : (k : ℕ) (q : Quant) (v : Quantified) (vs : List Quantified) (f : Formula) (r : List ℕ) → AllQuantified (v ∷ vs) → length (v ∷ vs) ≤ 4 → ((t : List ℕ) → read k (write f ++ t) ≡ ok f t) → read (suc k) (write (quant q (v ∷ vs) f) ++ r) ≡ ok (quant q (v ∷ vs) f) r
-comp-quant k q v vs f r (a-word w ws) le h = ap (λ (l : List ℕ). read (suc k) l) (ap (λ (m : List ℕ). m ++ r) (write-quant q v vs f) ∙ lay-quant (quantWord q) (writeTyped v) (writeMore vs) (41 ∷ 32 ∷ write f) (41 ∷ []) r) ∙ read-quant k q (writeTyped v ++ (writeMore vs ++ 41 ∷ 32 ∷ (write f ++ 41 ∷ r))) ∙ done-quant (λ m. read k m) q v vs f r w ws (le-of-suc-le-suc le) (h (41 ∷ r))
+comp-quant k q v vs f r (a-word w ws) le h =
+    ap (λ (l : List ℕ). read (suc k) l) (ap (λ (m : List ℕ). m ++ r) (write-quant q v vs f)
+    ∙ lay-quant (quantWord q) (writeTyped v) (writeMore vs) (41 ∷ 32 ∷ write f) (41 ∷ []) r)
+    ∙ read-quant k q (writeTyped v ++ (writeMore vs ++ 41 ∷ 32 ∷ (write f ++ 41 ∷ r)))
+    ∙ done-quant (λ m. read k m) q v vs f r w ws (le-of-suc-le-suc le) (h (41 ∷ r))
 
 comp-lit : (k : ℕ) (n v : List ℕ) (vs : List (List ℕ)) (r : List ℕ) → isRelationName n ≡ true → Variables (v ∷ vs) → read (suc k) (write (literal n (v ∷ vs)) ++ r) ≡ ok (literal n (v ∷ vs)) r
 comp-lit k n v vs r e (a-word w ws) = ap (λ (l : List ℕ). read (suc k) l) (ap (λ (m : List ℕ). m ++ r) (write-lit n v vs) ∙ lay-join (40 ∷ n) (32 ∷ v) (writeVars vs) (41 ∷ []) r) ∙ read-lit k n (32 ∷ (v ++ (writeVars vs ++ 41 ∷ r))) (name-is n e) ∙ done-lit n v vs r (name-is n e) w ws

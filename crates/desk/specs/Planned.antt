@@ -13,7 +13,7 @@ use Rattle.definitions.specs.Sheets.{Label, readPicks, firstChosen}
 use Rattle.definitions.specs.Truth.{Case, ruleIsTrue, firstOfOtherKind}
 use Rattle.definitions.specs.Atoms.{Problem, problemOf}
 use Rattle.definitions.specs.Built.{bound, builtSteps}
-use Rattle.definitions.specs.Outcome.{picksLength, CaseRead, readFiled, readCase, ground, asked, nothing, Ready, roomFor, stateLength, asText, textPicks, picksRoom, takePicks, kindRefusal, satisfying, Plan, plan, written, Built, builtFrom}
+use Rattle.definitions.specs.Outcome.{picksLength, CaseRead, readFiled, readCase, ground, asked, nothing, Ready, roomFor, stateLength, asText, textPicks, picksRoom, takePicks, kindRefusal, satisfying, Plan, plan, written, StepsBuilt, builtFrom}
 use Rattle.definitions.specs.Desk.{printed}
 use Rattle.laws.specs.Asked.{untested, case-refused, third-refused, limits-refused, room-refused, ready}
 use Rattle.laws.specs.Labels.{LabelsFit}
@@ -24,8 +24,8 @@ use Rattle.sheets.specs.declared.Answer.{Answer as Sheet}
 use Rattle.sheets.specs.declared.Answer.the-variants.{Done, Refused as Bad}
 use Rattle.sheets.specs.Reading.{PicksIn, PicksRoom, answered as told}
 use Rattle.sheets.proofs.Numbers.{sheet-refused, sheet-read}
-use Rattle.plans.specs.declared.Answer.{Answer}
-use Rattle.plans.specs.declared.Answer.the-variants.{Steps, OtherKind, RuleFalse}
+use Rattle.plans.specs.declared.PlanAnswer.{PlanAnswer}
+use Rattle.plans.specs.declared.PlanAnswer.the-variants.{Steps, OtherKind, RuleFalse}
 use Rattle.picks.specs.Handed.{decided}
 use Rattle.plans.specs.Answers.{planned, answered, Gives}
 use Rattle.plans.specs.Starts.{Prepared}
@@ -105,14 +105,14 @@ module _ (question site text : List ℕ) where
 clash : (k place n : ℕ) → refused k place ≡ accepted n → ⊥
 clash k place n e = let z : _≡_ {A = ℕ} 0 1 = cc in omega arith
 
-module _ (labels : List Label) (c : Case) (p : Problem) (F : List Tuple) (state steps : List ℕ) (a : Answer) (state′ steps′ : List ℕ) (g : Gives c p F state steps a state′ steps′) where
+module _ (labels : List Label) (c : Case) (p : Problem) (F : List Tuple) (state steps : List ℕ) (a : PlanAnswer) (state′ steps′ : List ℕ) (g : Gives c p F state steps a state′ steps′) where
   gives-refused : (k place : ℕ) → answered a ≡ refused k place → planned labels c p F ≡ refused k place
   unfolding builtFrom
-  gives-refused k place e = go (planned labels c p F) (ap (λ (b : Built). b .answer) (g labels) ∙ e)
+  gives-refused k place e = by-result (planned labels c p F) (ap (λ (b : StepsBuilt). b .answer) (g labels) ∙ e)
     where
-      go : (x : Result Plan) → builtFrom x state steps .answer ≡ refused k place → x ≡ refused k place
-      go (refused j at) h = cc
-      go (accepted b) h = absurd (clash k place (length (b .steps)) (sym h))
+      by-result : (x : Result Plan) → builtFrom x state steps .answer ≡ refused k place → x ≡ refused k place
+      by-result (refused j at) h = cc
+      by-result (accepted b) h = absurd (clash k place (length (b .steps)) (sym h))
 
   abbrev made : Plan
   made = record { labels = labels; problem = p; picks = F; steps = builtSteps p F }
@@ -123,12 +123,12 @@ module _ (labels : List Label) (c : Case) (p : Problem) (F : List Tuple) (state 
   -- the steps written are the front of the lent ones
   gives-plan : (n : ℕ) → a ≡ Steps n → (planned labels c p F ≡ accepted made) × (n ≡ length (builtSteps p F)) × (steps′ ≡ written (builtSteps p F) steps)
   unfolding builtFrom planned decided satisfying takePicks kindRefusal refuseIf _>>=_ answered
-  gives-plan n e = go (firstOfOtherKind c F) (ruleIsTrue c F) (ap (λ (b : Built). b .answer) (g labels) ∙ ap answered e) (ap (λ (b : Built). b .steps) (g labels))
+  gives-plan n e = by-option (firstOfOtherKind c F) (ruleIsTrue c F) (ap (λ (b : StepsBuilt). b .answer) (g labels) ∙ ap answered e) (ap (λ (b : StepsBuilt). b .steps) (g labels))
     where
-      go : (o : Option ℕ) (t : Bool) → builtFrom (end o t) state steps .answer ≡ accepted n → builtFrom (end o t) state steps .steps ≡ steps′ → (end o t ≡ accepted made) × (n ≡ length (builtSteps p F)) × (steps′ ≡ written (builtSteps p F) steps)
-      go (some i) t h u = absurd (clash 16 i n h)
-      go none false h u = absurd (clash 17 zero n h)
-      go none true h u = (refl, cc, sym u)
+      by-option : (o : Option ℕ) (t : Bool) → builtFrom (end o t) state steps .answer ≡ accepted n → builtFrom (end o t) state steps .steps ≡ steps′ → (end o t ≡ accepted made) × (n ≡ length (builtSteps p F)) × (steps′ ≡ written (builtSteps p F) steps)
+      by-option (some i) t h u = absurd (clash 16 i n h)
+      by-option none false h u = absurd (clash 17 zero n h)
+      by-option none true h u = (refl, cc, sym u)
 
   gives-steps : (n : ℕ) → a ≡ Steps n → (take n steps′ ≡ builtSteps p F) × (n ≤ length steps′)
   unfolding written
@@ -140,7 +140,7 @@ module _ (labels : List Label) (c : Case) (p : Problem) (F : List Tuple) (state 
 
 module _ (q site : List ℕ) (f : Front) (labels facts w words : List ℕ) (ok : Words words) (enough : 256 ≤ length words) where
   -- what the builder asks, and what it gives
-  abbrev Building : (state steps : List ℕ) (a : Answer) (state′ steps′ : List ℕ) → Type 0
+  abbrev Building : (state steps : List ℕ) (a : PlanAnswer) (state′ steps′ : List ℕ) → Type 0
   Building state steps a state′ steps′ = (c : Case) (F : List Tuple) → Prepared c F w facts words (f .m .atoms) (length steps) → Gives c (problemOf c) F state steps a state′ steps′
 
   module _ (text : List ℕ) (F : List Tuple) (K : Known q site f labels facts w) (P : Picked q (K .filed) (f .o) text F words) where
@@ -198,7 +198,7 @@ module _ (q site : List ℕ) (f : Front) (labels facts w words : List ℕ) (ok :
             let e = its-bound in
             answer-as _ _ old new r (planned-long q site text (K .filed) (K .is-read) F (P .read) p its-problem (state-fits q site f labels facts w K v) (omega arith) ∙ ap (refused 12) (sym e)) h
 
-        module _ (l : f .m .bound ≤ 8192) (state steps : List ℕ) (a : Answer) (state′ steps′ : List ℕ) (b : Building state steps a state′ steps′) (room : 8192 ≤ length steps) where
+        module _ (l : f .m .bound ≤ 8192) (state steps : List ℕ) (a : PlanAnswer) (state′ steps′ : List ℕ) (b : Building state steps a state′ steps′) (room : 8192 ≤ length steps) where
           given : Gives c p F state steps a state′ steps′
           given = b c F (prepared v l (length steps) room)
 
@@ -224,7 +224,7 @@ module _ (q site : List ℕ) (f : Front) (labels facts w words : List ℕ) (ok :
 
   module _ (I : IsPicked q site f labels facts w words) where
     -- the steps built fit the lent ones
-    pub built-fit : f .m .over ≡ false → f .m .bound ≤ 8192 → (state steps : List ℕ) (a : Answer) (state′ steps′ : List ℕ) → Building state steps a state′ steps′ → 8192 ≤ length steps
+    pub built-fit : f .m .over ≡ false → f .m .bound ≤ 8192 → (state steps : List ℕ) (a : PlanAnswer) (state′ steps′ : List ℕ) → Building state steps a state′ steps′ → 8192 ≤ length steps
         → (n : ℕ) → a ≡ Steps n → n ≤ length steps′
     built-fit v l state steps a state′ steps′ b room n e =
         let K = I .known in

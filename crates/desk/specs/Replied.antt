@@ -11,7 +11,7 @@ use Rattle.definitions.specs.Text.{bytes, decimal}
 use Rattle.definitions.specs.Refusal.{Result, refused}
 use Rattle.definitions.specs.Outcome.{written, Plan}
 use Rattle.definitions.specs.Desk.{printLine, stepLine, printed}
-use Rattle.names.specs.Signatures.{Sound}
+use Rattle.names.specs.Signatures.{SoundSignature}
 use Rattle.asking.specs.declared.Front.{Front}
 use Rattle.printing.specs.Printed.{Prints, print-is, Left, begin, recut, left-length, room-for, next, finish}
 use Rattle.printing.specs.Lines.{Spans, saidBy}
@@ -55,7 +55,7 @@ reportOf q site f labels words steps =
 -- what the report asks: sound relations with short names, few elements, their labels in the site's text, words for every `choose`, few
 -- picks and few steps
 pub record Reportable (q site : List ℕ) (f : Front) (labels words steps : List ℕ) : Type 0 where
-  pub sound : Sound q (f .o .sig)
+  pub sound : SoundSignature q (f .o .sig)
   pub spans : Spans site labels (f .o .n)
   pub some-elements : 1 ≤ f .o .n
   pub few-elements : f .o .n ≤ 16

@@ -173,11 +173,11 @@ fn build_case(
     let mut steps = [0u32; 8192];
     let a = plans::start_and_build(&mut state, &mut steps, table, facts, m.atoms, picks);
     match a {
-        plans::Answer::Steps(count) => {
+        plans::PlanAnswer::Steps(count) => {
             report(out, question, site, labels, f, picks, &steps[..count])
         }
-        plans::Answer::OtherKind(i) => refuse(out, 16, i),
-        plans::Answer::RuleFalse => refuse(out, 17, 0),
+        plans::PlanAnswer::OtherKind(i) => refuse(out, 16, i),
+        plans::PlanAnswer::RuleFalse => refuse(out, 17, 0),
     }
 }
 

@@ -2,13 +2,13 @@
 use mathlib.Core.Path.{_≡_, refl, sym, ap, _∙_, fun-ext}
 use mathlib.Core.Bool.{Bool, true, false, not, cond, _&&_, _||_}
 use mathlib.Core.List.{List, [], _∷_}
-use Prim.Native.Nat.{ℕ, _+_, _-_, _*_, _/_, _%_, _≤_, _<_}
+use Prim.Native.Nat.{ℕ, _+_, _*_, _/_, _%_, _≤_, _<_}
 use native.Mathlib.Decide.{ℕ-discrete}
 use native.Mathlib.Omega.{arith}
 use borrow.Author.Tests.{lt-ltb, le-ltb}
 use lib.Dec.{eqb}
 use lib.ListN.{length}
-use Rattle.definitions.specs.Lists.{if_then_else_, any}
+use Rattle.definitions.specs.Lists.{any}
 use Rattle.bits.specs.Table.{bit, put}
 use Rattle.ground.specs.Numbers.{freeNumbers, changed, setRemoves, addNumbers, removeNumbers, Held}
 use Rattle.bits.proofs.Laws.{bit-past, put-same, put-other}
@@ -23,60 +23,60 @@ use Rattle.ground.specs.declared.Act.the-variants.{Set, Begin, And, Or, 
 
 pub put-clear : (s : ℕ → Bool) (i : ℕ) → put s i false ≡ changed s (i ∷ []) []
 unfolding put changed any
-put-clear s i = fun-ext (λ j. go (eqb j i) (s j))
+put-clear s i = fun-ext (λ j. by-test (eqb j i) (s j))
   where
-    go : (b x : Bool) → cond b false x ≡ ((x && not (b || false)) || false)
-    go true true = refl
-    go true false = refl
-    go false true = refl
-    go false false = refl
+    by-test : (b x : Bool) → cond b false x ≡ ((x && not (b || false)) || false)
+    by-test true true = refl
+    by-test true false = refl
+    by-test false true = refl
+    by-test false false = refl
 
 pub put-raise : (s : ℕ → Bool) (i : ℕ) → put s i true ≡ changed s [] (i ∷ [])
 unfolding put changed any
-put-raise s i = fun-ext (λ j. go (eqb j i) (s j))
+put-raise s i = fun-ext (λ j. by-test (eqb j i) (s j))
   where
-    go : (b x : Bool) → cond b true x ≡ ((x && not false) || (b || false))
-    go true true = refl
-    go true false = refl
-    go false true = refl
-    go false false = refl
+    by-test : (b x : Bool) → cond b true x ≡ ((x && not false) || (b || false))
+    by-test true true = refl
+    by-test true false = refl
+    by-test false true = refl
+    by-test false false = refl
 
 -- one after the other
 pub clear-then : (s : ℕ → Bool) (i : ℕ) (gone come : List ℕ) → changed (changed s (i ∷ []) []) gone come ≡ changed s (i ∷ gone) come
 unfolding changed any
-clear-then s i gone come = fun-ext (λ j. go (eqb j i) (s j) (any (eqb j) gone) (any (eqb j) come))
+clear-then s i gone come = fun-ext (λ j. by-test (eqb j i) (s j) (any (eqb j) gone) (any (eqb j) come))
   where
-    go : (b x g c : Bool) → ((((x && not (b || false)) || false) && not g) || c) ≡ ((x && not (b || g)) || c)
-    go true true g c = refl
-    go true false g c = refl
-    go false true true c = refl
-    go false true false c = refl
-    go false false g c = refl
+    by-test : (b x g c : Bool) → ((((x && not (b || false)) || false) && not g) || c) ≡ ((x && not (b || g)) || c)
+    by-test true true g c = refl
+    by-test true false g c = refl
+    by-test false true true c = refl
+    by-test false true false c = refl
+    by-test false false g c = refl
 
 pub gone-then-come : (s : ℕ → Bool) (gone come : List ℕ) → changed (changed s gone []) [] come ≡ changed s gone come
 unfolding changed any
-gone-then-come s gone come = fun-ext (λ j. go (s j) (any (eqb j) gone) (any (eqb j) come))
+gone-then-come s gone come = fun-ext (λ j. by-test (s j) (any (eqb j) gone) (any (eqb j) come))
   where
-    go : (x g c : Bool) → ((((x && not g) || false) && not false) || c) ≡ ((x && not g) || c)
-    go true true c = refl
-    go true false c = refl
-    go false g c = refl
+    by-test : (x g c : Bool) → ((((x && not g) || false) && not false) || c) ≡ ((x && not g) || c)
+    by-test true true c = refl
+    by-test true false c = refl
+    by-test false g c = refl
 
 pub changed-none : (s : ℕ → Bool) → s ≡ changed s [] []
 unfolding changed any
-changed-none s = fun-ext (λ j. go (s j))
+changed-none s = fun-ext (λ j. by-test (s j))
   where
-    go : (x : Bool) → x ≡ ((x && not false) || false)
-    go true = refl
-    go false = refl
+    by-test : (x : Bool) → x ≡ ((x && not false) || false)
+    by-test true = refl
+    by-test false = refl
 
 -- a bit past the end is clear
 pub clear-past : (t : List ℕ) (i : ℕ) → length t ≤ i / 64 → bit t ≡ changed (bit t) (i ∷ []) []
-clear-past t i h = fun-ext (λ j. go j (ℕ-discrete j i)) ∙ put-clear (bit t) i
+clear-past t i h = fun-ext (λ j. by-number j (ℕ-discrete j i)) ∙ put-clear (bit t) i
   where
-    go : (j : ℕ) → Dec (j ≡ i) → bit t j ≡ put (bit t) i false j
-    go j (yes e) = ap (bit t) e ∙ bit-past t i (omega arith) ∙ sym (put-same (bit t) i false) ∙ ap (put (bit t) i false) (sym e)
-    go j (no k) = sym (put-other (bit t) i false j k)
+    by-number : (j : ℕ) → Dec (j ≡ i) → bit t j ≡ put (bit t) i false j
+    by-number j (yes e) = ap (bit t) e ∙ bit-past t i (omega arith) ∙ sym (put-same (bit t) i false) ∙ ap (put (bit t) i false) (sym e)
+    by-number j (no k) = sym (put-other (bit t) i false j k)
 
 -- ---- the free atoms of a tuple
 module _ (s : ℕ → Bool) (n kind free row : ℕ) where

@@ -39,11 +39,11 @@ module _ {A : Type 0} (s : A → Bool) where
 
   pub all-one : (x : A) → s x ≡ all s (x ∷ [])
   unfolding all
-  all-one x = go (s x)
+  all-one x = by-test (s x)
     where
-      go : (b : Bool) → b ≡ (b && true)
-      go true = refl
-      go false = refl
+      by-test : (b : Bool) → b ≡ (b && true)
+      by-test true = refl
+      by-test false = refl
 
   pub all-nil : true ≡ all s []
   unfolding all

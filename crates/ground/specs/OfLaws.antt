@@ -3,7 +3,7 @@ use mathlib.Core.Path.{_≡_, refl, sym, ap, ap₂, _∙_, subst}
 use mathlib.Core.Bool.{Bool, true, false, _&&_, _||_, false≢true}
 use mathlib.Core.Option.{Option, none, some}
 use mathlib.Core.List.{List, [], _∷_, _++_, map, List·Memᴰ}
-use Prim.Native.Nat.{ℕ, suc, _+_, _-_, _*_, _/_, _%_, _≤_, _<_}
+use Prim.Native.Nat.{ℕ, suc, _+_, _*_, _/_, _%_, _≤_, _<_}
 use native.Mathlib.Nat.{add-zero}
 use native.Mathlib.Omega.{arith}
 use lib.Arith.{digits-lt}
@@ -64,7 +64,7 @@ plain-kind PFun l = absurd (omega arith)
 plain-kind Inj l = absurd (omega arith)
 plain-kind PInj l = absurd (omega arith)
 
-both-whole : (k : RelationLine) → ltb (k .kind) 2 ≡ false → isWhole k ≡ true → (k .firsts ≡ rangesPlace) × (k .seconds ≡ rangesPlace)
+pub both-whole : (k : RelationLine) → ltb (k .kind) 2 ≡ false → isWhole k ≡ true → (k .firsts ≡ rangesPlace) × (k .seconds ≡ rangesPlace)
 both-whole k q e = by-tests (eqb (k .firsts) rangesPlace) (eqb (k .seconds) rangesPlace) refl refl (ap (λ (b : Bool). b || (eqb (k .firsts) rangesPlace && eqb (k .seconds) rangesPlace)) (sym q) ∙ e)
   where
     by-tests : (x y : Bool) → eqb (k .firsts) rangesPlace ≡ x → eqb (k .seconds) rangesPlace ≡ y → (false || (eqb (k .firsts) rangesPlace && eqb (k .seconds) rangesPlace)) ≡ true → (k .firsts ≡ rangesPlace) × (k .seconds ≡ rangesPlace)

@@ -57,29 +57,29 @@ built-small (suc (suc (suc (suc (suc (suc (suc (suc (suc (suc (suc zero)))))))))
 built-small (suc (suc (suc (suc (suc (suc (suc (suc (suc (suc (suc (suc r)))))))))))) = omega arith
 
 pub arity-small : (g : Signature) (r a : ℕ) → Declared g → r < 5 + (g .rels + g .chosen) → HasArity g r a → a ≤ 4
-arity-small g r a d h q = go (decLt r 5)
+arity-small g r a d h q = from-this (decLt r 5)
   where
-    go : Dec (r < 5) → a ≤ 4
-    go (yes k) = rw (same-arity g r a _ q (arity-built-in g r k)) (built-small r)
-    go (no k) = rw (same-arity g r a _ q (arity-declared g r (omega arith) h)) (d .arity (r - 5) (omega arith))
+    from-this : Dec (r < 5) → a ≤ 4
+    from-this (yes k) = rw (same-arity g r a _ q (arity-built-in g r k)) (built-small r)
+    from-this (no k) = rw (same-arity g r a _ q (arity-declared g r (omega arith) h)) (d .arity (r - 5) (omega arith))
 
 -- ---- sorts
 module _ (g : Signature) (r a : ℕ) (d : Declared g) (h : r < 5 + (g .rels + g .chosen)) where
   pub firsts-small : HasFirsts g r a → a ≤ 8
   unfolding HasFirsts
-  firsts-small q = go (decLt r 5)
+  firsts-small q = from-this (decLt r 5)
     where
-      go : Dec (r < 5) → a ≤ 8
-      go (yes k) = rw (q [] ∙ sym (firsts-built-in g r k [])) (omega arith)
-      go (no k) = rw (q [] ∙ sym (firsts-declared g r (omega arith) h [])) (d .sorts (r - 5) (omega arith) .0)
+      from-this : Dec (r < 5) → a ≤ 8
+      from-this (yes k) = rw (q [] ∙ sym (firsts-built-in g r k [])) (omega arith)
+      from-this (no k) = rw (q [] ∙ sym (firsts-declared g r (omega arith) h [])) (d .sorts (r - 5) (omega arith) .0)
 
   pub seconds-small : HasSeconds g r a → a ≤ 8
   unfolding HasSeconds
-  seconds-small q = go (decLt r 5)
+  seconds-small q = from-this (decLt r 5)
     where
-      go : Dec (r < 5) → a ≤ 8
-      go (yes k) = rw (q [] ∙ sym (seconds-built-in g r k [])) (omega arith)
-      go (no k) = rw (q [] ∙ sym (seconds-declared g r (omega arith) h [])) (d .sorts (r - 5) (omega arith) .1)
+      from-this : Dec (r < 5) → a ≤ 8
+      from-this (yes k) = rw (q [] ∙ sym (seconds-built-in g r k [])) (omega arith)
+      from-this (no k) = rw (q [] ∙ sym (seconds-declared g r (omega arith) h [])) (d .sorts (r - 5) (omega arith) .1)
 
 built-length : length builtIn ≡ 5
 unfolding builtIn
@@ -116,12 +116,12 @@ upto-start g = record {
 }
 
 most-set : (xs : List ℕ) (i x b : ℕ) → x ≤ b → Most xs b → Most (set xs i x) b
-most-set xs i x b h m r = go (ℕ-discrete r i) (decLt i (length xs))
+most-set xs i x b h m r = from-this (ℕ-discrete r i) (decLt i (length xs))
   where
-    go : Dec (r ≡ i) → Dec (i < length xs) → getD (set xs i x) r 0 ≤ b
-    go (yes e) (yes l) = rw (e, getD-set-same xs i x 0 l) h
-    go (yes e) (no l) = rw (set-out xs i x (omega arith)) (m r)
-    go (no e) l = rw (getD-set-other xs i r x 0 e) (m r)
+    from-this : Dec (r ≡ i) → Dec (i < length xs) → getD (set xs i x) r 0 ≤ b
+    from-this (yes e) (yes l) = rw (e, getD-set-same xs i x 0 l) h
+    from-this (yes e) (no l) = rw (set-out xs i x (omega arith)) (m r)
+    from-this (no e) l = rw (getD-set-other xs i r x 0 e) (m r)
 
 kind-by : (g : Signature) (r k x : ℕ) → HasKind g r k → x ≡ kindNumber (kindOf k) → (q : List ℕ) → x ≡ kindNumber (getD (allOf q g) r noRelation .kind)
 unfolding HasKind
@@ -129,11 +129,11 @@ kind-by g r k x h e q = e ∙ ap kindNumber (h q)
 
 -- what holds of the entries before i, and of the one that is written there
 entry-next : (P : ℕ → ℕ → Type 0) (xs : List ℕ) (i x : ℕ) → i < length xs → P i x → ((u : ℕ) → u < i → P u (getD xs u 0)) → (u : ℕ) → u < i + 1 → P u (getD (set xs i x) u 0)
-entry-next P xs i x l h q u k = go (ℕ-discrete u i)
+entry-next P xs i x l h q u k = from-this (ℕ-discrete u i)
   where
-    go : Dec (u ≡ i) → P u (getD (set xs i x) u 0)
-    go (yes e) = subst (λ (j : ℕ). P j (getD (set xs i x) j 0)) (sym e) (subst (P i) (sym (getD-set-same xs i x 0 l)) h)
-    go (no e) = subst (P u) (sym (getD-set-other xs i u x 0 e)) (q u (omega arith))
+    from-this : Dec (u ≡ i) → P u (getD (set xs i x) u 0)
+    from-this (yes e) = subst (λ (j : ℕ). P j (getD (set xs i x) j 0)) (sym e) (subst (P i) (sym (getD-set-same xs i x 0 l)) h)
+    from-this (no e) = subst (P u) (sym (getD-set-other xs i u x 0 e)) (q u (omega arith))
 
 pub upto-next : (g : Signature) (i a k x y z : ℕ) (xs ys us vs : List ℕ) → i < length xs → i < length ys → i < length us → i < length vs → HasArity g i a → a ≤ 4 → HasKind g i k → x ≡ kindNumber (kindOf k) → x ≤ 5
     → HasFirsts g i y → y ≤ 8 → HasSeconds g i z → z ≤ 8 → Upto g i xs ys us vs → Upto g (i + 1) (set xs i a) (set ys i x) (set us i y) (set vs i z)

@@ -121,7 +121,7 @@ module _ (p : Problem) where
   past low in-relation (holdsNode v row) d q = refl
 
   nodes-initial : (i : ℕ) → nodeStart p 0 ≤ i → initial p i ≡ false
-  nodes-initial i h = go (decLt i (atoms p))
+  nodes-initial i h = from-this (decLt i (atoms p))
     where
       before : (r j : ℕ) → r < length (p .relations) → j < tuplesOf (p .size) (relationAt p r) + tuplesOf (p .size) (relationAt p r) + freeIn (p .size) (kindNumber (relationAt p r .kind))
           → nodeStart p 0 ≤ relationStart p r + j → ⊥
@@ -130,11 +130,11 @@ module _ (p : Problem) where
       low : (k : ℕ) → k < 3 → nodeStart p 0 ≤ k → ⊥
       low k l q = let a = relation-first p in let b = relation-le p 0 (omega arith) in omega arith
 
-      go : Dec (i < atoms p) → initial p i ≡ false
-      go (yes l) =
+      from-this : Dec (i < atoms p) → initial p i ≡ false
+      from-this (yes l) =
           let (a, e) = atom-some p i l in
           atom-initial i a e ∙ past low before a (atom-is p i a e) (subst (λ (k : ℕ). nodeStart p 0 ≤ k) (sym (atom-number p i a e)) h)
-      go (no l) = ends-initial i (omega arith)
+      from-this (no l) = ends-initial i (omega arith)
 
   free-initial : (r : ℕ) → r < length (p .relations) → (i : ℕ) → i < freeIn (p .size) (kindNumber (relationAt p r .kind))
       → true ≡ initial p (relationStart p r + tuplesOf (p .size) (relationAt p r) + tuplesOf (p .size) (relationAt p r) + i)

@@ -14,11 +14,11 @@ use Rattle.bits.specs.Table.{digit, bit, put, paste, Words, words}
 use Rattle.bits.proofs.Laws.{put-same, put-other, paste-in, paste-out, bit-past, bit-words, length-words, words-fit, table-ext}
 
 pub lt-or-le : (i n : ℕ) → (i < n) ⊎ (n ≤ i)
-lt-or-le i n = go (decLt i n)
+lt-or-le i n = from-this (decLt i n)
   where
-    go : Dec (i < n) → (i < n) ⊎ (n ≤ i)
-    go (yes l) = inl l
-    go (no l) = inr (omega arith)
+    from-this : Dec (i < n) → (i < n) ⊎ (n ≤ i)
+    from-this (yes l) = inl l
+    from-this (no l) = inr (omega arith)
 
 -- ---- the part of a state before atom k, and a state that is written part by part
 unfoldable pub cut : (ℕ → Bool) → ℕ → ℕ → Bool
@@ -45,7 +45,7 @@ over-out old m s i h = paste-out old 0 s 0 m i (λ q. omega (arith, q .1))
 module _ (old : ℕ → Bool) (m : ℕ) (s : ℕ → Bool) where
   -- the next w bits
   cut-more : (a w : ℕ) (g : ℕ → Bool) → a + w ≤ m → ((i : ℕ) → i < w → g i ≡ s (a + i)) → paste (over old m (cut s a)) a g 0 w ≡ over old m (cut s (a + w))
-  cut-more a w g l h = fun-ext (λ j. go j (decLe a j) (decLt j (a + w)))
+  cut-more a w g l h = fun-ext (λ j. by-number j (decLe a j) (decLt j (a + w)))
     where
       outside : (j : ℕ) → ((a ≤ j) × (j < a + w) → ⊥) → cut s a j ≡ cut s (a + w) j → paste (over old m (cut s a)) a g 0 w j ≡ over old m (cut s (a + w)) j
       outside j o e = paste-out (over old m (cut s a)) a g 0 w j o ∙ below (decLt j m)
@@ -54,14 +54,14 @@ module _ (old : ℕ → Bool) (m : ℕ) (s : ℕ → Bool) where
           below (yes q) = over-in old m (cut s a) j q ∙ e ∙ sym (over-in old m (cut s (a + w)) j q)
           below (no q) = over-out old m (cut s a) j (omega arith) ∙ sym (over-out old m (cut s (a + w)) j (omega arith))
 
-      go : (j : ℕ) → Dec (a ≤ j) → Dec (j < a + w) → paste (over old m (cut s a)) a g 0 w j ≡ over old m (cut s (a + w)) j
-      go j (yes p) (yes q) =
+      by-number : (j : ℕ) → Dec (a ≤ j) → Dec (j < a + w) → paste (over old m (cut s a)) a g 0 w j ≡ over old m (cut s (a + w)) j
+      by-number j (yes p) (yes q) =
           let z : 0 + (j - a) ≡ j - a = omega arith in
           let e : a + (j - a) ≡ j = omega arith in
           paste-in (over old m (cut s a)) a g 0 w j p q ∙ ap g z ∙ h (j - a) (omega arith) ∙ ap s e ∙ sym (cut-in s (a + w) j q)
           ∙ sym (over-in old m (cut s (a + w)) j (omega arith))
-      go j (yes p) (no q) = outside j (λ z. q (z .1)) (cut-out s a j p ∙ sym (cut-out s (a + w) j (omega arith)))
-      go j (no p) q = outside j (λ z. p (z .0)) (cut-in s a j (omega arith) ∙ sym (cut-in s (a + w) j (omega arith)))
+      by-number j (yes p) (no q) = outside j (λ z. q (z .1)) (cut-out s a j p ∙ sym (cut-out s (a + w) j (omega arith)))
+      by-number j (no p) q = outside j (λ z. p (z .0)) (cut-in s a j (omega arith) ∙ sym (cut-in s (a + w) j (omega arith)))
 
   -- nothing is set yet in a part that comes later
   pub cut-clear : (a i : ℕ) → a ≤ i → i < m → over old m (cut s a) i ≡ false
@@ -79,33 +79,33 @@ module _ (old : ℕ → Bool) (m : ℕ) (s : ℕ → Bool) where
 
   -- nothing but the first of three
   pub cut-first : 3 ≤ m → s 0 ≡ true → s 1 ≡ false → s 2 ≡ false → put (over old m (λ i. false)) 0 true ≡ over old m (cut s 3)
-  cut-first l a b c = fun-ext go
+  cut-first l a b c = fun-ext by-number
     where
       none : (j : ℕ) → j ≢ 0 → cut s 3 j ≡ false → Dec (j < m) → put (over old m (λ i. false)) 0 true j ≡ over old m (cut s 3) j
       none j n e (yes q) = put-other (over old m (λ i. false)) 0 true j n ∙ over-in old m (λ i. false) j q ∙ sym (over-in old m (cut s 3) j q ∙ e)
       none j n e (no q) = put-other (over old m (λ i. false)) 0 true j n ∙ over-out old m (λ i. false) j (omega arith) ∙ sym (over-out old m (cut s 3) j (omega arith))
 
-      go : (j : ℕ) → put (over old m (λ i. false)) 0 true j ≡ over old m (cut s 3) j
-      go zero = put-same (over old m (λ i. false)) 0 true ∙ sym (over-in old m (cut s 3) 0 (omega arith) ∙ cut-in s 3 0 (omega arith) ∙ a)
-      go (suc zero) = none 1 (λ z. omega arith) (cut-in s 3 1 (omega arith) ∙ b) (decLt 1 m)
-      go (suc (suc zero)) = none 2 (λ z. omega arith) (cut-in s 3 2 (omega arith) ∙ c) (decLt 2 m)
-      go (suc (suc (suc j))) = none (suc (suc (suc j))) (λ z. omega arith) (cut-out s 3 (suc (suc (suc j))) (omega arith)) (decLt (suc (suc (suc j))) m)
+      by-number : (j : ℕ) → put (over old m (λ i. false)) 0 true j ≡ over old m (cut s 3) j
+      by-number zero = put-same (over old m (λ i. false)) 0 true ∙ sym (over-in old m (cut s 3) 0 (omega arith) ∙ cut-in s 3 0 (omega arith) ∙ a)
+      by-number (suc zero) = none 1 (λ z. omega arith) (cut-in s 3 1 (omega arith) ∙ b) (decLt 1 m)
+      by-number (suc (suc zero)) = none 2 (λ z. omega arith) (cut-in s 3 2 (omega arith) ∙ c) (decLt 2 m)
+      by-number (suc (suc (suc j))) = none (suc (suc (suc j))) (λ z. omega arith) (cut-out s 3 (suc (suc (suc j))) (omega arith)) (decLt (suc (suc (suc j))) m)
 
   pub cut-all : (k : ℕ) → ((i : ℕ) → k ≤ i → s i ≡ false) → cut s k ≡ s
-  cut-all k h = fun-ext (λ i. go i (decLt i k))
+  cut-all k h = fun-ext (λ i. by-number i (decLt i k))
     where
-      go : (i : ℕ) → Dec (i < k) → cut s k i ≡ s i
-      go i (yes q) = cut-in s k i q
-      go i (no q) = cut-out s k i (omega arith) ∙ sym (h i (omega arith))
+      by-number : (i : ℕ) → Dec (i < k) → cut s k i ≡ s i
+      by-number i (yes q) = cut-in s k i q
+      by-number i (no q) = cut-out s k i (omega arith) ∙ sym (h i (omega arith))
 
 -- ---- the same as words
 written-bits : (t old : List ℕ) → bit (t ++ drop (length t) old) ≡ paste (bit old) 0 (bit t) 0 (64 * length t)
 unfolding bit
-written-bits t old = fun-ext (λ i. go i (decLt i (64 * length t)))
+written-bits t old = fun-ext (λ i. by-number i (decLt i (64 * length t)))
   where
-    go : (i : ℕ) → Dec (i < 64 * length t) → bit (t ++ drop (length t) old) i ≡ over (bit old) (64 * length t) (bit t) i
-    go i (yes l) = ap (λ (x : ℕ). digit x (i % 64)) (List·getD-append t (drop (length t) old) 0 (i / 64) (omega arith)) ∙ sym (over-in (bit old) (64 * length t) (bit t) i l)
-    go i (no l) =
+    by-number : (i : ℕ) → Dec (i < 64 * length t) → bit (t ++ drop (length t) old) i ≡ over (bit old) (64 * length t) (bit t) i
+    by-number i (yes l) = ap (λ (x : ℕ). digit x (i % 64)) (List·getD-append t (drop (length t) old) 0 (i / 64) (omega arith)) ∙ sym (over-in (bit old) (64 * length t) (bit t) i l)
+    by-number i (no l) =
         let e : i / 64 ≡ length t + (i / 64 - length t) = omega arith in
         ap (λ (x : ℕ). digit x (i % 64))
         (ap (λ (x : ℕ). getD (t ++ drop (length t) old) x 0) e ∙ getD-append-add t (drop (length t) old) (i / 64 - length t) 0
@@ -113,11 +113,11 @@ written-bits t old = fun-ext (λ i. go i (decLt i (64 * length t)))
         ∙ sym (over-out (bit old) (64 * length t) (bit t) i (omega arith))
 
 written-fit : (t old : List ℕ) → Words t → Words old → Words (t ++ drop (length t) old)
-written-fit t old wt wo j = go (decLt j (length t))
+written-fit t old wt wo j = from-this (decLt j (length t))
   where
-    go : Dec (j < length t) → getD (t ++ drop (length t) old) j 0 < 2 ^ 64
-    go (yes l) = subst (λ (x : ℕ). x < 2 ^ 64) (sym (List·getD-append t (drop (length t) old) 0 j l)) (wt j)
-    go (no l) =
+    from-this : Dec (j < length t) → getD (t ++ drop (length t) old) j 0 < 2 ^ 64
+    from-this (yes l) = subst (λ (x : ℕ). x < 2 ^ 64) (sym (List·getD-append t (drop (length t) old) 0 j l)) (wt j)
+    from-this (no l) =
         let e : j ≡ length t + (j - length t) = omega arith in
         let q : getD (t ++ drop (length t) old) j 0 ≡ getD old j 0 =
         ap (λ (x : ℕ). getD (t ++ drop (length t) old) x 0) e ∙ getD-append-add t (drop (length t) old) (j - length t) 0 ∙ getD-drop (length t) old (j - length t) 0 ∙ ap (λ (x : ℕ). getD old x 0) (sym e) in
@@ -129,11 +129,11 @@ written-length t old h = length-append t (drop (length t) old) ∙ omega (arith,
 -- a state of so many words whose bits are s's
 module _ (s : ℕ → Bool) (k : ℕ) (old new : List ℕ) (wo : Words old) (wn : Words new) (room : k ≤ length old) (len : length new ≡ length old) (e : bit new ≡ over (bit old) (64 * k) s) where
   same-over : over (bit old) (64 * k) s ≡ over (bit old) (64 * k) (bit (words s k))
-  same-over = fun-ext (λ i. go i (decLt i (64 * k)))
+  same-over = fun-ext (λ i. by-number i (decLt i (64 * k)))
     where
-      go : (i : ℕ) → Dec (i < 64 * k) → over (bit old) (64 * k) s i ≡ over (bit old) (64 * k) (bit (words s k)) i
-      go i (yes l) = over-in (bit old) (64 * k) s i l ∙ sym (bit-words s k i l) ∙ sym (over-in (bit old) (64 * k) (bit (words s k)) i l)
-      go i (no l) = over-out (bit old) (64 * k) s i (omega arith) ∙ sym (over-out (bit old) (64 * k) (bit (words s k)) i (omega arith))
+      by-number : (i : ℕ) → Dec (i < 64 * k) → over (bit old) (64 * k) s i ≡ over (bit old) (64 * k) (bit (words s k)) i
+      by-number i (yes l) = over-in (bit old) (64 * k) s i l ∙ sym (bit-words s k i l) ∙ sym (over-in (bit old) (64 * k) (bit (words s k)) i l)
+      by-number i (no l) = over-out (bit old) (64 * k) s i (omega arith) ∙ sym (over-out (bit old) (64 * k) (bit (words s k)) i (omega arith))
 
   pub words-over : new ≡ words s k ++ drop (length (words s k)) old
   words-over =
@@ -143,8 +143,8 @@ module _ (s : ℕ → Bool) (k : ℕ) (old new : List ℕ) (wo : Words old) (wn 
       (λ i _. ap (λ (b : ℕ → Bool). b i) (e ∙ same-over ∙ ap (λ (c : ℕ). over (bit old) (64 * c) (bit (words s k))) (sym l) ∙ sym (written-bits (words s k) old)))
 
   pub whole-over : length old ≡ k → ((i : ℕ) → 64 * k ≤ i → s i ≡ false) → bit new ≡ s
-  whole-over q z = fun-ext (λ i. ap (λ (b : ℕ → Bool). b i) e ∙ go i (decLt i (64 * k)))
+  whole-over q z = fun-ext (λ i. ap (λ (b : ℕ → Bool). b i) e ∙ by-number i (decLt i (64 * k)))
     where
-      go : (i : ℕ) → Dec (i < 64 * k) → over (bit old) (64 * k) s i ≡ s i
-      go i (yes l) = over-in (bit old) (64 * k) s i l
-      go i (no l) = over-out (bit old) (64 * k) s i (omega arith) ∙ bit-past old i (omega arith) ∙ sym (z i (omega arith))
+      by-number : (i : ℕ) → Dec (i < 64 * k) → over (bit old) (64 * k) s i ≡ s i
+      by-number i (yes l) = over-in (bit old) (64 * k) s i l
+      by-number i (no l) = over-out (bit old) (64 * k) s i (omega arith) ∙ bit-past old i (omega arith) ∙ sym (z i (omega arith))

@@ -103,12 +103,12 @@ module _ (n kind : ℕ) where
 
   pub free-le : freeIn n kind ≤ 2 * n
   unfolding freeIn
-  free-le = go (ltb kind 2) (ltb kind 4)
+  free-le = by-test (ltb kind 2) (ltb kind 4)
     where
-      go : (a b : Bool) → (if a then 0 else if b then n else 2 * n) ≤ 2 * n
-      go true b = omega arith
-      go false true = omega arith
-      go false false = omega arith
+      by-test : (a b : Bool) → (if a then 0 else if b then n else 2 * n) ≤ 2 * n
+      by-test true b = omega arith
+      by-test false true = omega arith
+      by-test false false = omega arith
 
   pub free-two : 4 ≤ kind → 2 * n ≡ freeIn n kind
   unfolding freeIn
@@ -126,22 +126,22 @@ module _ (f : List ℕ) (n r : ℕ) (k : RelationLine) (first row : ℕ) where
 
   pub holding-in : row < rowsIn k → holdingAt f n r k first row < k .nots + rowsIn k
   unfolding holdingAt
-  holding-in l = go (holdsAt f n r (k .kind) first row)
+  holding-in l = by-test (holdsAt f n r (k .kind) first row)
     where
-      go : (b : Bool) → (if b then k .tuples + row else k .nots + row) < k .nots + rowsIn k
-      go true = omega (arith, row-in k row l)
-      go false = omega arith
+      by-test : (b : Bool) → (if b then k .tuples + row else k .nots + row) < k .nots + rowsIn k
+      by-test true = omega (arith, row-in k row l)
+      by-test false = omega arith
 
 -- ---- a bit written beside a range, and two ranges written side by side
 put-paste : (s : ℕ → Bool) (to k i : ℕ) (g : ℕ → Bool) (b : Bool) → ((to ≤ i) × (i < to + k) → ⊥) → put (paste s to g 0 k) i b ≡ paste (put s i b) to g 0 k
 unfolding paste
-put-paste s to k i g b out = fun-ext (λ j. go j (ℕ-discrete j i))
+put-paste s to k i g b out = fun-ext (λ j. by-number j (ℕ-discrete j i))
   where
-    go : (j : ℕ) → Dec (j ≡ i) → put (paste s to g 0 k) i b j ≡ paste (put s i b) to g 0 k j
-    go j (yes e) =
+    by-number : (j : ℕ) → Dec (j ≡ i) → put (paste s to g 0 k) i b j ≡ paste (put s i b) to g 0 k j
+    by-number j (yes e) =
         ap (put (paste s to g 0 k) i b) e ∙ put-same (paste s to g 0 k) i b ∙ sym (put-same s i b) ∙ ap (put s i b) (sym e)
         ∙ sym (paste-out (put s i b) to g 0 k j (λ q. out (omega (arith, q .0), omega (arith, q .1))))
-    go j (no n) = put-other (paste s to g 0 k) i b j n ∙ ap (λ (x : Bool). cond (leb to j && ltb j (to + k)) (g (0 + (j - to))) x) (sym (put-other s i b j n))
+    by-number j (no n) = put-other (paste s to g 0 k) i b j n ∙ ap (λ (x : Bool). cond (leb to j && ltb j (to + k)) (g (0 + (j - to))) x) (sym (put-other s i b j n))
 
 -- one more bit of a range that is written from its start
 pub range-step : (s : ℕ → Bool) (to : ℕ) (g : ℕ → Bool) (k : ℕ) {d d′ : ℕ → Bool} {b : Bool} → d ≡ paste s to g 0 k → d′ ≡ put d (to + k) b → b ≡ g k → d′ ≡ paste s to g 0 (k + 1)
@@ -149,11 +149,11 @@ range-step s to g k e e′ h = paste-step s to g 0 k e e′ (h ∙ ap g (sym (ze
 
 -- clearing a clear bit changes nothing
 put-clear : (s : ℕ → Bool) (i : ℕ) → s i ≡ false → put s i false ≡ s
-put-clear s i e = fun-ext (λ j. go j (ℕ-discrete j i))
+put-clear s i e = fun-ext (λ j. by-number j (ℕ-discrete j i))
   where
-    go : (j : ℕ) → Dec (j ≡ i) → put s i false j ≡ s j
-    go j (yes q) = ap (put s i false) q ∙ put-same s i false ∙ sym e ∙ ap s (sym q)
-    go j (no q) = put-other s i false j q
+    by-number : (j : ℕ) → Dec (j ≡ i) → put s i false j ≡ s j
+    by-number j (yes q) = ap (put s i false) q ∙ put-same s i false ∙ sym e ∙ ap s (sym q)
+    by-number j (no q) = put-other s i false j q
 
 -- of two clear bits one is set: both are written
 one-of : (s : ℕ → Bool) (i j : ℕ) (b : Bool) → j ≢ i → s i ≡ false → s j ≡ false → put s (if b then i else j) true ≡ put (put s i b) j (not b)
@@ -239,11 +239,11 @@ first-step w r = rw (add-one r) refl
 module _ (w : List ℕ) (fits : Fits w) where
   words-few : (r : ℕ) → wordsIn w r ≤ 134217728
   unfolding wordsIn wordsFor
-  words-few r = go (ltb r 5)
+  words-few r = by-test (ltb r 5)
     where
-      go : (b : Bool) → (if b then 0 else (rowsIn (relationLine w r) + 63) / 64) ≤ 134217728
-      go true = omega arith
-      go false = omega (arith, rows-few w fits r)
+      by-test : (b : Bool) → (if b then 0 else (rowsIn (relationLine w r) + 63) / 64) ≤ 134217728
+      by-test true = omega arith
+      by-test false = omega (arith, rows-few w fits r)
 
   pub first-few : (r : ℕ) → firstIn w r ≤ 134217728 * r
   unfolding firstIn

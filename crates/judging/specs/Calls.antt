@@ -10,7 +10,7 @@ use Rattle.definitions.specs.Refusal.{accepted}
 use Rattle.definitions.specs.Sheets.{Label, readPicks}
 use Rattle.definitions.specs.Truth.{Case}
 use Rattle.definitions.specs.Atoms.{wordsFor}
-use Rattle.definitions.specs.Outcome.{CaseRead as Filed, Given, asText, asNumbers, readFiled, readCase}
+use Rattle.definitions.specs.Outcome.{CaseRead as Filed, ThirdInput, asText, asNumbers, readFiled, readCase}
 use Rattle.definitions.specs.Judgement.{judge}
 use Rattle.laws.specs.Asked as Order
 use Rattle.laws.specs.Labels.{LabelsFit}
@@ -33,7 +33,7 @@ use Rattle.picks.specs.Handed.{text-handed, lent-handed}
 use Rattle.judging.specs.Judges.{AcceptedIn, FromWords, ends}
 
 module _ (question site : List ℕ) (o : Opened) (facts : ℕ → Bool) (read : CaseRead question (readCase usual question site) o facts) where
-  pub call-case : (picks : Given) → (o .fault ≡ 0 → ⊥) → resultOf (Refused (o .fault) (o .place)) ≡ judge usual question site picks
+  pub call-case : (picks : ThirdInput) → (o .fault ≡ 0 → ⊥) → resultOf (Refused (o .fault) (o .place)) ≡ judge usual question site picks
   unfolding resultOf
   call-case picks z = ends usual question site picks (o .fault) (o .place) (Order.case-refused usual question site _ _ _ _ (o .fault) (o .place) (case-refused usual question site o facts read z)) (Refused (o .fault) (o .place)) refl
 

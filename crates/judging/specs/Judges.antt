@@ -1,5 +1,5 @@
 -- Judging from words: the order of refusals after the texts, one law for each place where it can end.
-use Prim.Native.Nat.{ℕ, zero, _+_, _≤_, _<_}
+use Prim.Native.Nat.{ℕ, zero, _≤_, _<_}
 use mathlib.Core.Path.{_≡_, refl, sym, ap, subst, _∙_}
 use mathlib.Core.Bool.{Bool, true, false, _||_}
 use mathlib.Core.Option.{none, some}
@@ -16,7 +16,7 @@ use Rattle.definitions.specs.Truth.{Case, arePicks, ruleIsTrue, firstOfOtherKin
 use Rattle.definitions.specs.Atoms.{Problem, problemOf, problemWith, atoms}
 use Rattle.definitions.specs.Actions.{actions}
 use Rattle.definitions.specs.Built.{chosenNumbers}
-use Rattle.definitions.specs.Outcome.{CaseRead, readFiled, ground, Ready, asked, nothing, Given, asText, picksRoom, textPicks, takePicks, picksLength, spareWord, kindRefusal, satisfying}
+use Rattle.definitions.specs.Outcome.{CaseRead, readFiled, ground, Ready, asked, nothing, ThirdInput, asText, picksRoom, textPicks, takePicks, picksLength, spareWord, kindRefusal, satisfying}
 use Rattle.definitions.specs.Judgement.{judge}
 use Rattle.laws.specs.Asked as Order
 use Rattle.bits.specs.Table.{bit, Words}
@@ -86,7 +86,7 @@ pub record Asks (c : Case) (F : List Tuple) (n : ℕ) (w : List ℕ) (types : �
 -- what is promised of judging words: they have 64 bits each, and whatever case and picks they are of, this is answered
 pub record FromWords (question : List ℕ) (o : Opened) (facts : ℕ → Bool) (words : List ℕ) (r : Reply) : Type 0 where
   pub fit : Words words
-  pub judges : (site : List ℕ) (picks : Given) (x : CaseRead) → readFiled usual question site ≡ accepted x → Holds question (x .case) o facts → Accepted (x .case)
+  pub judges : (site : List ℕ) (picks : ThirdInput) (x : CaseRead) → readFiled usual question site ≡ accepted x → Holds question (x .case) o facts → Accepted (x .case)
       → (given F : List Tuple) → Handed (x .case) (x .labels) picks words given F → resultOf r ≡ judge usual question site picks
 
 -- and of picks as a text, by the labels that were read
@@ -125,7 +125,7 @@ unfolding problemOf problemWith relationsOf relations builtIn
 some-relations c = omega arith
 
 -- ---- the places where judging can end
-module _ (L : CaseLimits) (question site : List ℕ) (picks : Given) where
+module _ (L : CaseLimits) (question site : List ℕ) (picks : ThirdInput) where
   abbrev opening : Result (Ready (List Tuple))
   opening = asked L question site (λ x. textPicks (x .case) (x .labels) picks) nothing nothing (λ p. picksRoom p picks)
 

@@ -29,11 +29,11 @@ module _ (L : CaseLimits) (question site : List ℕ) where
 
   pub case-fails : (k place : ℕ) → readCase L question site ≡ refused k place → readFiled L question site ≡ refused k place
   unfolding readCase _>>=_
-  case-fails k place e = go (readFiled L question site) refl e
+  case-fails k place e = by-result (readFiled L question site) refl e
     where
-      go : (x : Result CaseRead) → readFiled L question site ≡ x → (x >>= λ r. accepted (r .case)) ≡ refused k place → readFiled L question site ≡ refused k place
-      go (refused j at) q f = q ∙ cc
-      go (accepted r) q f = absurd (refused-accepted (sym f))
+      by-result : (x : Result CaseRead) → readFiled L question site ≡ x → (x >>= λ r. accepted (r .case)) ≡ refused k place → readFiled L question site ≡ refused k place
+      by-result (refused j at) q f = q ∙ cc
+      by-result (accepted r) q f = absurd (refused-accepted (sym f))
 
 module _ {A : Type 0} (L : CaseLimits) (question site : List ℕ) (third : CaseRead → Result A) (early late : Case → Result (Unit {0})) (rooms : Problem → Result (Unit {0})) where
   abbrev call : Result (Ready A)

@@ -42,11 +42,11 @@ module _ {A : Type 0} where
 
   pub item-cases : (b : Block A) (bs : List (Block A)) (i : ℕ) (a : A) → itemAt (b ∷ bs) i ≡ some a → ((i < b .width) × (a ≡ b .item i)) ⊎ ((b .width ≤ i) × (itemAt bs (i - b .width) ≡ some a))
   unfolding itemAt
-  item-cases b bs i a e = go (ltb i (b .width)) refl e
+  item-cases b bs i a e = by-test (ltb i (b .width)) refl e
     where
-      go : (t : Bool) → ltb i (b .width) ≡ t → (if t then some (b .item i) else itemAt bs (i - b .width)) ≡ some a → ((i < b .width) × (a ≡ b .item i)) ⊎ ((b .width ≤ i) × (itemAt bs (i - b .width) ≡ some a))
-      go true q h = inl (ltb-true i (b .width) q, sym (some-eq h))
-      go false q h = inr (ltb-false i (b .width) q, h)
+      by-test : (t : Bool) → ltb i (b .width) ≡ t → (if t then some (b .item i) else itemAt bs (i - b .width)) ≡ some a → ((i < b .width) × (a ≡ b .item i)) ⊎ ((b .width ≤ i) × (itemAt bs (i - b .width) ≡ some a))
+      by-test true q h = inl (ltb-true i (b .width) q, sym (some-eq h))
+      by-test false q h = inr (ltb-false i (b .width) q, h)
 
   pub item-one : (b : Block A) (i : ℕ) (a : A) → itemAt (b ∷ []) i ≡ some a → (i < b .width) × (a ≡ b .item i)
   unfolding itemAt
@@ -61,11 +61,11 @@ module _ {A : Type 0} where
   pub item-some : (bs : List (Block A)) (i : ℕ) → i < countOf bs → (a : A) × (itemAt bs i ≡ some a)
   unfolding countOf itemAt
   item-some [] i h = absurd (omega arith)
-  item-some (b ∷ bs) i h = go (ltb i (b .width)) refl (λ q. item-some bs (i - b .width) q)
+  item-some (b ∷ bs) i h = by-test (ltb i (b .width)) refl (λ q. item-some bs (i - b .width) q)
     where
-      go : (t : Bool) → ltb i (b .width) ≡ t → (i - b .width < countOf bs → (a : A) × (itemAt bs (i - b .width) ≡ some a)) → (a : A) × ((if t then some (b .item i) else itemAt bs (i - b .width)) ≡ some a)
-      go true q r = (b .item i, refl)
-      go false q r = let l : b .width ≤ i = ltb-false i (b .width) q in r (omega arith)
+      by-test : (t : Bool) → ltb i (b .width) ≡ t → (i - b .width < countOf bs → (a : A) × (itemAt bs (i - b .width) ≡ some a)) → (a : A) × ((if t then some (b .item i) else itemAt bs (i - b .width)) ≡ some a)
+      by-test true q r = (b .item i, refl)
+      by-test false q r = let l : b .width ≤ i = ltb-false i (b .width) q in r (omega arith)
 
   pub item-none : (bs : List (Block A)) (i : ℕ) → countOf bs ≤ i → itemAt bs i ≡ none
   unfolding countOf itemAt

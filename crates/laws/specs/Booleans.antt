@@ -32,9 +32,17 @@ pub or-r : (a b : Bool) → T b → T (a || b)
 or-r true b p = tt
 or-r false b p = p
 
+pub and-both : (a b : Bool) → (a && b) ≡ true → (a ≡ true) × (b ≡ true)
+and-both true b p = (refl, p)
+and-both false b p = let z : _≡_ {A = ℕ} 0 1 = cc in absurd (omega arith)
+
 pub or-both : (a b : Bool) → (a || b) ≡ false → (a ≡ false) × (b ≡ false)
 or-both true b e = let z : _≡_ {A = ℕ} 0 1 = cc in absurd (omega arith)
 or-both false b e = (refl, e)
+
+pub or-assoc : (a b c : Bool) → ((a || b) || c) ≡ (a || (b || c))
+or-assoc true b c = refl
+or-assoc false b c = refl
 
 pub T-true : (a : Bool) → T a → a ≡ true
 T-true true p = refl
@@ -69,11 +77,11 @@ pub neq : (x y : ℕ) → T (not (eqb x y)) → x ≡ y → ⊥
 neq x y t e = T-not (eqb x y) t (T-of (eq-eqb x y e))
 
 pub lt-split : (e n : ℕ) → e < suc n → (e < n) ⊎ (e ≡ n)
-lt-split e n h = go (T-dec (ltb e n))
+lt-split e n h = by-cases (T-dec (ltb e n))
   where
-    go : T (ltb e n) ⊎ T (not (ltb e n)) → (e < n) ⊎ (e ≡ n)
-    go (inl t) = inl (ltb→lt e n t)
-    go (inr t) = let q = nltb→le e n t in inr (omega arith)
+    by-cases : T (ltb e n) ⊎ T (not (ltb e n)) → (e < n) ⊎ (e ≡ n)
+    by-cases (inl t) = inl (ltb→lt e n t)
+    by-cases (inr t) = let q = nltb→le e n t in inr (omega arith)
 
 -- a disjunction that fails, part by part; a doubled negation
 pub not-or-l : (a b : Bool) → T (not (a || b)) → T (not a)
@@ -90,8 +98,8 @@ not-not-T false t = t
 
 -- numbers that are not unequal are equal
 pub not-unequal : (x y : ℕ) → ((x ≡ y → ⊥) → ⊥) → x ≡ y
-not-unequal x y h = go (eqb x y) refl
+not-unequal x y h = by-test (eqb x y) refl
   where
-    go : (b : Bool) → eqb x y ≡ b → x ≡ y
-    go true e = eqb-true x y e
-    go false e = absurd (h (eqb-false x y e))
+    by-test : (b : Bool) → eqb x y ≡ b → x ≡ y
+    by-test true e = eqb-true x y e
+    by-test false e = absurd (h (eqb-false x y e))

@@ -15,7 +15,7 @@ use Rattle.definitions.specs.Sheets.{Label, readPicks, firstChosen}
 use Rattle.definitions.specs.Truth.{Case, eachChosen, isOfKind, arePicks, areOfKinds, firstOfOtherKind, ruleIsTrue}
 use Rattle.definitions.specs.Atoms.{Problem, problemOf, relationAt, tuplesOf}
 use Rattle.definitions.specs.Built.{chosenNumbers, builtSteps, builtCount, bound}
-use Rattle.definitions.specs.Outcome.{readFiled, readCase, ground, asked, nothing, satisfying, roomFor, stateLength, picksLength, Given, asText, asNumbers, textPicks, picksRoom, spareWord, spareRefusal, takePicks, lentPicks, kindRefusal, Plan, plan, written, builtFrom}
+use Rattle.definitions.specs.Outcome.{readFiled, readCase, ground, asked, nothing, satisfying, roomFor, stateLength, picksLength, ThirdInput, asText, asNumbers, textPicks, picksRoom, spareWord, spareRefusal, takePicks, lentPicks, kindRefusal, Plan, plan, written, builtFrom}
 use Rattle.definitions.specs.Demand.{isAccepted}
 use Rattle.laws.specs.Booleans.{T-of, T-true}
 use Rattle.laws.specs.Results.{accepted-eq, bind-parts, not-refused, refused-accepted}
@@ -54,23 +54,23 @@ unfolding ground
 ground-is L c p e = let (u, a, g) = bind-parts (refuseIf _ 11 zero) (λ _. accepted (problemOf c)) p e in sym (accepted-eq (problemOf c) p g)
 
 -- ---- the picks that are handed over: read from a text, or the tuples of words that are long enough and have no spare bit set
-abbrev pub picksGiven : Case → List Label → Problem → Given → Result (List Tuple)
+abbrev pub picksGiven : Case → List Label → Problem → ThirdInput → Result (List Tuple)
 picksGiven c labels p g = textPicks c labels g >>= λ read. picksRoom p g >>= λ _. takePicks p g read
 
 pub given-text : (c : Case) (labels : List Label) (p : Problem) (text : List ℕ) → picksGiven c labels p (asText text) ≡ readPicks (c .question .chosen) (firstChosen (c .question)) (c .site .size) labels text
 unfolding textPicks picksRoom takePicks _>>=_
-given-text c labels p text = go (readPicks (c .question .chosen) (firstChosen (c .question)) (c .site .size) labels text)
+given-text c labels p text = by-result (readPicks (c .question .chosen) (firstChosen (c .question)) (c .site .size) labels text)
   where
-    go : (r : Result (List Tuple)) → (r >>= λ read. accepted read) ≡ r
-    go (refused k place) = refl
-    go (accepted read) = refl
+    by-result : (r : Result (List Tuple)) → (r >>= λ read. accepted read) ≡ r
+    by-result (refused k place) = refl
+    by-result (accepted read) = refl
 
 pub given-words : (c : Case) (labels : List Label) (p : Problem) (words : List ℕ) → picksLength p ≤ length words → spareWord p words zero (chosenNumbers p) ≡ none → picksGiven c labels p (asNumbers words) ≡ accepted (lentPicks p words (chosenNumbers p))
 unfolding textPicks picksRoom takePicks roomFor refuseIf spareRefusal _>>=_
 given-words c labels p words h e = let a : ltb (length words) (picksLength p) ≡ false = le-ltb (length words) (picksLength p) h in rw (a, e) refl
 
 -- whatever is handed over and taken is picks
-given-parts : (c : Case) (labels : List Label) (p : Problem) (g : Given) (F : List Tuple) → picksGiven c labels p g ≡ accepted F → (read : List Tuple) × (textPicks c labels g ≡ accepted read) × (picksRoom p g ≡ accepted tt) × (takePicks p g read ≡ accepted F)
+given-parts : (c : Case) (labels : List Label) (p : Problem) (g : ThirdInput) (F : List Tuple) → picksGiven c labels p g ≡ accepted F → (read : List Tuple) × (textPicks c labels g ≡ accepted read) × (picksRoom p g ≡ accepted tt) × (takePicks p g read ≡ accepted F)
 given-parts c labels p g F e =
     let (read, a, b) = bind-parts (textPicks c labels g) _ F e in
     let (u, d, f) = bind-parts (picksRoom p g) _ F b in
@@ -80,7 +80,7 @@ lent-taken : (p : Problem) (words : List ℕ) (read F : List Tuple) → takePick
 unfolding takePicks
 lent-taken p words read F e = let (u, a, d) = bind-parts (spareRefusal (spareWord p words zero (chosenNumbers p))) (λ _. accepted (lentPicks p words (chosenNumbers p))) F e in accepted-eq (lentPicks p words (chosenNumbers p)) F d
 
-pub given-picks : (c : Case) → Accepted c → (labels : List Label) → LabelsFit (c .site .size) labels → (g : Given) (F : List Tuple) → picksGiven c labels (problemOf c) g ≡ accepted F → arePicks c F ≡ true
+pub given-picks : (c : Case) → Accepted c → (labels : List Label) → LabelsFit (c .site .size) labels → (g : ThirdInput) (F : List Tuple) → picksGiven c labels (problemOf c) g ≡ accepted F → arePicks c F ≡ true
 given-picks c A labels K (asText text) F e = T-true (arePicks c F) (fit-picks c F (gives-if _ (readPicks (c .question .chosen) (firstChosen (c .question)) (c .site .size) labels text) F (sym (given-text c labels (problemOf c) text) ∙ e)
     (picks-fit (c .question .chosen) (firstChosen (c .question)) (c .site .size) labels K text)))
 given-picks c A labels K (asNumbers words) F e =
@@ -88,7 +88,7 @@ given-picks c A labels K (asNumbers words) F e =
     T-true (arePicks c F) (subst (λ (l : List Tuple). T (arePicks c l)) (lent-taken (problemOf c) words read F d) (lent-are c A words))
 
 -- ---- with buffers long enough only the kinds and the rule are left to test
-pub plan-is : (L : CaseLimits) (question site : List ℕ) (g : Given) (c : Case) (labels : List Label) (p : Problem) (F : List Tuple) (stateRoom stepsRoom : ℕ)
+pub plan-is : (L : CaseLimits) (question site : List ℕ) (g : ThirdInput) (c : Case) (labels : List Label) (p : Problem) (F : List Tuple) (stateRoom stepsRoom : ℕ)
     → readFiled L question site ≡ accepted (record { case = c; labels = labels }) → ground L c ≡ accepted p → picksGiven c labels p g ≡ accepted F → stateLength p ≤ stateRoom → bound p ≤ stepsRoom
     → plan L question site g stateRoom stepsRoom ≡ (kindRefusal (firstOfOtherKind c F) >>= λ _. refuseIf (not (ruleIsTrue c F)) 17 zero >>= λ _. accepted (record { labels = labels; problem = p; picks = F; steps = builtSteps p F }))
 unfolding plan asked nothing satisfying roomFor refuseIf _>>=_ kindRefusal
@@ -117,11 +117,11 @@ unfolding areOfKinds firstOfOtherKind
 kinds-fail c F e = let q = position-some not (eachChosen c (isOfKind c F)) true (any-not (eachChosen c (isOfKind c F)) ∙ ap not e) in (q .0, q .1)
 
 pub kinds-told : (c : Case) (F : List Tuple) → firstOfOtherKind c F ≡ none → areOfKinds c F ≡ true
-kinds-told c F e = go (areOfKinds c F) refl
+kinds-told c F e = by-test (areOfKinds c F) refl
   where
-    go : (b : Bool) → areOfKinds c F ≡ b → b ≡ true
-    go true q = refl
-    go false q = let r = kinds-fail c F q in absurd (none-some (sym e ∙ r .1))
+    by-test : (b : Bool) → areOfKinds c F ≡ b → b ≡ true
+    by-test true q = refl
+    by-test false q = let r = kinds-fail c F q in absurd (none-some (sym e ∙ r .1))
 
 kind-accepted : (o : Option ℕ) (u : Unit {0}) → kindRefusal o ≡ accepted u → o ≡ none
 unfolding kindRefusal isAccepted
@@ -129,7 +129,7 @@ kind-accepted none u e = refl
 kind-accepted (some i) u e = absurd (refused-accepted e)
 
 -- what picks that satisfy a case tell: they were taken, are of the declared kinds, and the rule is true of them
-pub satisfying-parts : (c : Case) (p : Problem) (g : Given) (read F : List Tuple) → satisfying c p g read ≡ accepted F → (takePicks p g read ≡ accepted F) × (areOfKinds c F ≡ true) × (ruleIsTrue c F ≡ true)
+pub satisfying-parts : (c : Case) (p : Problem) (g : ThirdInput) (read F : List Tuple) → satisfying c p g read ≡ accepted F → (takePicks p g read ≡ accepted F) × (areOfKinds c F ≡ true) × (ruleIsTrue c F ≡ true)
 unfolding satisfying
 satisfying-parts c p g read F e =
     let (G, rf, e₁) = bind-parts (takePicks p g read) _ F e in
@@ -138,12 +138,12 @@ satisfying-parts c p g read F e =
     subst (λ (F : List Tuple). (takePicks p g read ≡ accepted F) × (areOfKinds c F ≡ true) × (ruleIsTrue c F ≡ true)) (accepted-eq G F e₃)
     (rf, kinds-told c G (kind-accepted (firstOfOtherKind c G) u₁ r₁), not-false (ruleIsTrue c G) (not-refused (not (ruleIsTrue c G)) 17 zero u₂ r₂))
 
-given-from : (c : Case) (labels : List Label) (p : Problem) (g : Given) (read F : List Tuple) (u : Unit {0}) → textPicks c labels g ≡ accepted read → picksRoom p g ≡ accepted u → takePicks p g read ≡ accepted F → picksGiven c labels p g ≡ accepted F
+given-from : (c : Case) (labels : List Label) (p : Problem) (g : ThirdInput) (read F : List Tuple) (u : Unit {0}) → textPicks c labels g ≡ accepted read → picksRoom p g ≡ accepted u → takePicks p g read ≡ accepted F → picksGiven c labels p g ≡ accepted F
 unfolding _>>=_
 given-from c labels p g read F u a b d = rw (a, b) d
 
 -- what a plan tells: of its case and picks, and that it has room
-pub record Tells (L : CaseLimits) (question site : List ℕ) (g : Given) (stateRoom stepsRoom : ℕ) (b : Plan) : Type 0 where
+pub record Tells (L : CaseLimits) (question site : List ℕ) (g : ThirdInput) (stateRoom stepsRoom : ℕ) (b : Plan) : Type 0 where
   pub case : Case
   pub is-filed : readFiled L question site ≡ accepted (record { case = case; labels = b .labels })
   pub is-case : readCase L question site ≡ accepted case
@@ -155,7 +155,7 @@ pub record Tells (L : CaseLimits) (question site : List ℕ) (g : Given) (stateR
   pub state-room : stateLength (b .problem) ≤ stateRoom
   pub steps-room : bound (b .problem) ≤ stepsRoom
 
-pub plan-tells : (L : CaseLimits) (question site : List ℕ) (g : Given) (stateRoom stepsRoom : ℕ) (b : Plan) → plan L question site g stateRoom stepsRoom ≡ accepted b → Tells L question site g stateRoom stepsRoom b
+pub plan-tells : (L : CaseLimits) (question site : List ℕ) (g : ThirdInput) (stateRoom stepsRoom : ℕ) (b : Plan) → plan L question site g stateRoom stepsRoom ≡ accepted b → Tells L question site g stateRoom stepsRoom b
 unfolding plan roomFor
 plan-tells L question site g stateRoom stepsRoom b e =
     let (r, a, e₁) = bind-parts (asked L question site (λ c. textPicks (c .case) (c .labels) g) nothing nothing _) _ b e in

@@ -1,5 +1,5 @@
 -- Completeness: the built steps of picks that solve the case reach the goal and are read as those picks.
-use Prim.Native.Nat.{ℕ, zero, suc, _+_, _-_, _/_, _%_, _≤_}
+use Prim.Native.Nat.{ℕ, zero, suc, _/_, _%_, _≤_}
 use mathlib.Core.Path.{_≡_, refl, sym, ap, ap₂, subst, _∙_}
 use mathlib.Core.Logic.{_⊎_, inl, inr, ⊎-elim}
 use mathlib.Core.Bool.{true, not}
@@ -25,7 +25,7 @@ use Rattle.laws.specs.Numbers.{IsAction, IsAtom, action-at, inj-fun, set
 use Rattle.laws.specs.Means.{Good, means}
 use Rattle.laws.specs.Valid.{needs-valid, after-add, after-keep, may-of, free-cases, pair-of}
 use Rattle.laws.specs.Sound.{holds-mono, holds-new, tup, holds-split, holds-pick, holds-empty, OfKinds, asks, tupleAt, same-row, initial-at}
-use Rattle.laws.specs.Pairs.{pair-action, Pair, setOf, tupleOf, Ready, pairs, sets-are, pairs-once, pairs-ready, picked-in, in-picked}
+use Rattle.laws.specs.Pairs.{pair-action, Pair, setOf, tupleOf, PairsReady, pairs, sets-are, pairs-once, pairs-ready, picked-in, in-picked}
 use Rattle.laws.specs.Does.{Takes, ends, takes-append, ends-append, takes-reach, Has, Does, High, Low, nodes-do, part-low}
 
 -- ---- atoms of different kinds differ
@@ -52,15 +52,15 @@ module _ (p : Problem) (G : Good p) where
       (nf : T (isFunction (relationAt p r .kind)) → (y : ℕ) → List·Memᴰ (tup r (row / p .size ∷ y ∷ [])) P → ⊥) (ni : T (isInjective (relationAt p r .kind)) → (x : ℕ) → List·Memᴰ (tup r (x ∷ row % p .size ∷ [])) P → ⊥) where
     set-legal : T (mayTake p s (set r row))
     unfolding needs asks
-    set-legal = may-of p G s (set r row) (λ x m. E x (needs-valid p G (set r row) v x m) (go x (List·Memᴰ·cases-cons m)))
+    set-legal = may-of p G s (set r row) (λ x m. E x (needs-valid p G (set r row) v x m) (by-atom x (List·Memᴰ·cases-cons m)))
       where
         frees : (x : Atom) → (T (isFunction (relationAt p r .kind)) × (x ≡ freeDomain r (row / p .size))) ⊎ (T (isInjective (relationAt p r .kind)) × (x ≡ freeRange r (row % p .size))) → asks p G P x
         frees x (inl k) = subst (asks p G P) (sym (k .1)) (nf (k .0))
         frees x (inr k) = subst (asks p G P) (sym (k .1)) (ni (k .0))
 
-        go : (x : Atom) → (x ≡ guess) ⊎ List·Memᴰ x (notTuple r row ∷ freeAtoms (p .size) (relationAt p r) r row) → asks p G P x
-        go x (inl e) = subst (asks p G P) (sym e) tt
-        go x (inr m) = ⊎-elim (λ e. subst (asks p G P) (sym e) (not-T (holds (p .source) P r (placesOf (p .size) (relationAt p r .arity) row)) new)) (λ q. frees x (free-cases p G (p .size) r row (relationAt p r) x q)) (List·Memᴰ·cases-cons m)
+        by-atom : (x : Atom) → (x ≡ guess) ⊎ List·Memᴰ x (notTuple r row ∷ freeAtoms (p .size) (relationAt p r) r row) → asks p G P x
+        by-atom x (inl e) = subst (asks p G P) (sym e) tt
+        by-atom x (inr m) = ⊎-elim (λ e. subst (asks p G P) (sym e) (not-T (holds (p .source) P r (placesOf (p .size) (relationAt p r .arity) row)) new)) (λ q. frees x (free-cases p G (p .size) r row (relationAt p r) x q)) (List·Memᴰ·cases-cons m)
 
     abbrev P₁ : List Tuple
     P₁ = P ++ (tupleAt p r row ∷ [])
@@ -92,7 +92,10 @@ module _ (p : Problem) (G : Good p) where
         (λ q. stays (tuple r′ row′) w q (removed (tuple r′ row′) (λ e. num-clash tt (ap tag e)) (λ f e. num-clash tt (ap tag e)) (λ f e. num-clash tt (ap tag e))))
         (λ q. let k = same-row p G r row r′ row′ (set-below p r row v) (w .1) q in after-add p G s (set r row) (tuple r′ row′) (List·Memᴰ·head (ap₂ tuple (k .0) (k .1))))
         (holds-new (p .source) P (tupleAt p r row) r′ _ a)
-    set-exact (notTuple r′ row′) w a = stays (notTuple r′ row′) w (not-T (holds (p .source) P r′ (placesOf (p .size) (relationAt p r′ .arity) row′)) (λ t. T-not (holds (p .source) P₁ r′ (placesOf (p .size) (relationAt p r′ .arity) row′)) a (holds-mono (p .source) P P₁ (λ t m. Memᴰ·append-left (tupleAt p r row ∷ []) m) r′ _ t)))
+    set-exact (notTuple r′ row′) w a =
+        stays (notTuple r′ row′) w (not-T (holds (p .source) P r′ (placesOf (p .size) (relationAt p r′ .arity) row′))
+        (λ t. T-not (holds (p .source) P₁ r′ (placesOf (p .size) (relationAt p r′ .arity) row′)) a
+        (holds-mono (p .source) P P₁ (λ t m. Memᴰ·append-left (tupleAt p r row ∷ []) m) r′ _ t)))
         (removed (notTuple r′ row′) (λ e. T-not (holds (p .source) P₁ r (placesOf (p .size) (relationAt p r .arity) row)) (subst (asks p G P₁) e a) (holds-pick (p .source) P₁ r _ chosen-high here)) (λ f e. num-clash tt (ap tag e)) (λ f e. num-clash tt (ap tag e)))
     set-exact (freeDomain r′ x) w a = stays (freeDomain r′ x) w (λ y m. a y (Memᴰ·append-left (tupleAt p r row ∷ []) m))
         (removed (freeDomain r′ x) (λ e. num-clash tt (ap tag e)) (λ f e. subst (asks p G P₁) e a (row % p .size) (pair-mem f)) (λ f e. num-clash tt (ap tag e)))
@@ -105,7 +108,9 @@ module _ (p : Problem) (G : Good p) where
   empty-holds r xs c t = holds-empty (p .source) r xs (G .high-chosen r c) t
 
   module _ (F : List Tuple) (K : OfKinds p G F) where
-    sets-run : (l : List Pair) → Once l → Ready p F l → (P : List Tuple) → ((t : Tuple) → List·Memᴰ t P → List·Memᴰ t F) → ((q : Pair) → List·Memᴰ q l → List·Memᴰ (tupleOf p q) P → ⊥) → (s : State) → Exact P s → Takes p G s (map setOf l) × Exact (P ++ map (tupleOf p) l) (ends p G s (map setOf l))
+    sets-run : (l : List Pair) → Once l → PairsReady p F l → (P : List Tuple) → ((t : Tuple) → List·Memᴰ t P → List·Memᴰ t F)
+        → ((q : Pair) → List·Memᴰ q l → List·Memᴰ (tupleOf p q) P → ⊥) → (s : State) → Exact P s → Takes p G s (map setOf l)
+        × Exact (P ++ map (tupleOf p) l) (ends p G s (map setOf l))
     unfolding Takes ends Once IsAction
     sets-run [] o R P sub fresh s E = (tt, subst (λ (Q : List Tuple). Exact Q s) (sym (append-nil P)) E)
     sets-run (q ∷ l) o R P sub fresh s E =
@@ -139,7 +144,10 @@ module _ (p : Problem) (G : Good p) where
         sub1 q m t k = ⊎-elim (λ a. sub t a) (λ e. subst (λ (z : Tuple). List·Memᴰ z F) (sym e) m) (snoc-cases P (tupleOf p q) t k)
 
         fresh1 : (q : Pair) (l : List Pair) → (List·Memᴰ q l → ⊥) → IsAction p (setOf q) → ((u : Pair) → List·Memᴰ u l → IsAction p (setOf u)) → ((u : Pair) → List·Memᴰ u l → List·Memᴰ (tupleOf p u) P → ⊥) → (u : Pair) → List·Memᴰ u l → List·Memᴰ (tupleOf p u) (P ++ (tupleOf p q ∷ [])) → ⊥
-        fresh1 q l n v vs h u m k = ⊎-elim (λ a. h u m a) (λ e. let w = vs u m in let j = same-row p G (q .0) (q .1) (u .0) (u .1) (set-below p (q .0) (q .1) v) (set-below p (u .0) (u .1) w) e in n (Memᴰ·cast (ap₂ (λ (a b : ℕ). (a, b)) (sym (j .0)) (sym (j .1))) m)) (snoc-cases P (tupleOf p q) (tupleOf p u) k)
+        fresh1 q l n v vs h u m k =
+            ⊎-elim (λ a. h u m a) (λ e. let w = vs u m in let j = same-row p G (q .0) (q .1) (u .0) (u .1) (set-below p (q .0) (q .1) v)
+            (set-below p (u .0) (u .1) w) e in n (Memᴰ·cast (ap₂ (λ (a b : ℕ). (a, b)) (sym (j .0)) (sym (j .1))) m))
+            (snoc-cases P (tupleOf p q) (tupleOf p u) k)
 
     abbrev P₀ : List Tuple
     P₀ = map (tupleOf p) (pairs p F)
@@ -165,7 +173,11 @@ module _ (p : Problem) (G : Good p) where
     begin-has s E proof w a = after-add p G s beginProof proof (List·Memᴰ·head refl)
     begin-has s E goal w a = absurd (a .1)
     begin-has s E (tuple r row) w a = after-keep p G s beginProof (tuple r row) tt w (E (tuple r row) w (holds-mono (p .source) F P₀ (in-picked p G F (K .inside)) r _ (a .0))) (λ m. num-clash tt (ap tag (List·Memᴰ·eq-of-singleton m)))
-    begin-has s E (notTuple r row) w a = after-keep p G s beginProof (notTuple r row) tt w (E (notTuple r row) w (not-T (holds (p .source) P₀ r (placesOf (p .size) (relationAt p r .arity) row)) (λ t. T-not (holds (p .source) F r (placesOf (p .size) (relationAt p r .arity) row)) (a .0) (holds-mono (p .source) P₀ F (picked-in p F) r _ t)))) (λ m. num-clash tt (ap tag (List·Memᴰ·eq-of-singleton m)))
+    begin-has s E (notTuple r row) w a =
+        after-keep p G s beginProof (notTuple r row) tt w
+        (E (notTuple r row) w (not-T (holds (p .source) P₀ r (placesOf (p .size) (relationAt p r .arity) row))
+        (λ t. T-not (holds (p .source) F r (placesOf (p .size) (relationAt p r .arity) row)) (a .0)
+        (holds-mono (p .source) P₀ F (picked-in p F) r _ t)))) (λ m. num-clash tt (ap tag (List·Memᴰ·eq-of-singleton m)))
     begin-has s E (freeDomain r x) w a = absurd (a .1)
     begin-has s E (freeRange r y) w a = absurd (a .1)
     begin-has s E (holdsNode k row) w a = absurd (let h = a .1 in let l = w .0 in omega arith)

@@ -1,5 +1,5 @@
 -- How many the built steps are: picks, true node atoms and 2; and at most the bound.
-use Prim.Native.Nat.{ℕ, zero, suc, _+_, _-_, _*_, _/_, _%_, _<_, _≤_}
+use Prim.Native.Nat.{ℕ, zero, suc, _+_, _*_, _/_, _%_, _<_, _≤_}
 use mathlib.Core.Path.{_≡_, refl, sym, ap, ap₂, subst, _∙_}
 use mathlib.Core.Bool.{Bool, true, false}
 use mathlib.Core.List.{List, [], _∷_, _++_, map, List·Memᴰ}
@@ -87,12 +87,12 @@ module _ (p : Problem) (G : Good p) (F : List Tuple) (K : OfKinds p G F) where
 
   rows-le : (r : ℕ) → r < length (p .relations) → T (isChosen (relationAt p r .kind)) → length (pickedRows p F r) ≤ mostPicks (p .size) (relationAt p r)
   unfolding mostPicks pickedRows
-  rows-le r l c = go (isFunction (relationAt p r .kind)) refl (isChosen (relationAt p r .kind)) c
+  rows-le r l c = by-test (isFunction (relationAt p r .kind)) refl (isChosen (relationAt p r .kind)) c
     where
-      go : (b : Bool) → isFunction (relationAt p r .kind) ≡ b → (d : Bool) → T d → length (pickedRows p F r) ≤ (if b then p .size else if d then tuplesOf (p .size) (relationAt p r) else zero)
-      go true e d t = fun-le r l (T-of e)
-      go false e true t = le-trans (filter-le (isPicked p F r) (below (tuplesOf (p .size) (relationAt p r)))) (le-of-eq (length-below (tuplesOf (p .size) (relationAt p r))))
-      go false e false t = absurd t
+      by-test : (b : Bool) → isFunction (relationAt p r .kind) ≡ b → (d : Bool) → T d → length (pickedRows p F r) ≤ (if b then p .size else if d then tuplesOf (p .size) (relationAt p r) else zero)
+      by-test true e d t = fun-le r l (T-of e)
+      by-test false e true t = le-trans (filter-le (isPicked p F r) (below (tuplesOf (p .size) (relationAt p r)))) (le-of-eq (length-below (tuplesOf (p .size) (relationAt p r))))
+      by-test false e false t = absurd t
 
   abbrev pairWith : ℕ → ℕ → ℕ × ℕ
   pairWith r row = (r, row)
@@ -100,7 +100,10 @@ module _ (p : Problem) (G : Good p) (F : List Tuple) (K : OfKinds p G F) where
   abbrev rowPairs : ℕ → List ℕ → List (ℕ × ℕ)
   rowPairs r l = map (pairWith r) l
 
-  sets-most : (ks : List Relation) (a : ℕ) → ((j : ℕ) → j < length ks → (a + j < length (p .relations)) × (relationAt p (a + j) ≡ getD ks j noRelation)) → length (flatMap (λ r. rowPairs r (pickedRows p F r)) (filter (λ r. isChosen (relationAt p r .kind)) (from a (length ks)))) ≤ sum (map (mostPicks (p .size)) ks)
+  sets-most : (ks : List Relation) (a : ℕ) → ((j : ℕ) → j < length ks → (a + j < length (p .relations))
+      × (relationAt p (a + j) ≡ getD ks j noRelation)) → length
+      (flatMap (λ r. rowPairs r (pickedRows p F r)) (filter (λ r. isChosen (relationAt p r .kind)) (from a (length ks)))) ≤ sum
+      (map (mostPicks (p .size)) ks)
   unfolding from filter flatMap sum
   sets-most [] a h = omega arith
   sets-most (k ∷ ks) a h =
@@ -108,16 +111,16 @@ module _ (p : Problem) (G : Good p) (F : List Tuple) (K : OfKinds p G F) where
       let q = h 0 (omega arith) in
       let e : relationAt p a ≡ k = ap (relationAt p) (sym z) ∙ q .1 in
       let l : a < length (p .relations) = subst (λ (x : ℕ). x < length (p .relations)) z (q .0) in
-      go l e (isChosen (relationAt p a .kind)) refl (sets-most ks (suc a) (λ j i. let s : a + suc j ≡ suc a + j = omega arith in subst (λ (x : ℕ). (x < length (p .relations)) × (relationAt p x ≡ getD ks j noRelation)) s (h (suc j) (omega arith))))
+      from-this l e (isChosen (relationAt p a .kind)) refl (sets-most ks (suc a) (λ j i. let s : a + suc j ≡ suc a + j = omega arith in subst (λ (x : ℕ). (x < length (p .relations)) × (relationAt p x ≡ getD ks j noRelation)) s (h (suc j) (omega arith))))
     where
-      go : a < length (p .relations) → relationAt p a ≡ k → (b : Bool) → isChosen (relationAt p a .kind) ≡ b → length (flatMap (λ r. rowPairs r (pickedRows p F r)) (filter (λ r. isChosen (relationAt p r .kind)) (from (suc a) (length ks)))) ≤ sum (map (mostPicks (p .size)) ks)
+      from-this : a < length (p .relations) → relationAt p a ≡ k → (b : Bool) → isChosen (relationAt p a .kind) ≡ b → length (flatMap (λ r. rowPairs r (pickedRows p F r)) (filter (λ r. isChosen (relationAt p r .kind)) (from (suc a) (length ks)))) ≤ sum (map (mostPicks (p .size)) ks)
           → length (flatMap (λ r. rowPairs r (pickedRows p F r)) (if b then a ∷ filter (λ r. isChosen (relationAt p r .kind)) (from (suc a) (length ks)) else filter (λ r. isChosen (relationAt p r .kind)) (from (suc a) (length ks)))) ≤ mostPicks (p .size) k + sum (map (mostPicks (p .size)) ks)
-      go l e true c r =
+      from-this l e true c r =
           let x = length-append (rowPairs a (pickedRows p F a)) (flatMap (λ r. rowPairs r (pickedRows p F r)) (filter (λ r. isChosen (relationAt p r .kind)) (from (suc a) (length ks)))) in
           let y = length-map (pickedRows p F a) (pairWith a) in
           let w : length (pickedRows p F a) ≤ mostPicks (p .size) k = subst (λ (q : Relation). length (pickedRows p F a) ≤ mostPicks (p .size) q) e (rows-le a l (T-of c)) in
           omega arith
-      go l e false c r = omega arith
+      from-this l e false c r = omega arith
 
   pub pairs-le : length (pairs p F) ≤ sum (map (mostPicks (p .size)) (p .relations))
   unfolding pairs chosenNumbers below relationAt
@@ -134,12 +137,12 @@ module _ (p : Problem) (G : Good p) (F : List Tuple) (K : OfKinds p G F) where
 -- ---- the bound is below the number of atoms, so built steps are never too many
 most-le : (n r : ℕ) (k : Relation) → mostPicks n k ≤ countOf (relationBlocks n r k)
 unfolding mostPicks relationBlocks countOf
-most-le n r k = go (isFunction (k .kind)) (isChosen (k .kind)) (if isInjective (k .kind) then n else zero)
+most-le n r k = by-test (isFunction (k .kind)) (isChosen (k .kind)) (if isInjective (k .kind) then n else zero)
   where
-    go : (f c : Bool) (w : ℕ) → (if f then n else if c then tuplesOf n k else zero) ≤ tuplesOf n k + (tuplesOf n k + ((if f then n else zero) + (w + zero)))
-    go true c w = omega arith
-    go false true w = omega arith
-    go false false w = omega arith
+    by-test : (f c : Bool) (w : ℕ) → (if f then n else if c then tuplesOf n k else zero) ≤ tuplesOf n k + (tuplesOf n k + ((if f then n else zero) + (w + zero)))
+    by-test true c w = omega arith
+    by-test false true w = omega arith
+    by-test false false w = omega arith
 
 mosts-le : (n r : ℕ) (ks : List Relation) → sum (map (mostPicks n) ks) ≤ countOf (flatMap (λ (bs : List (Block Atom)). bs) (mapFrom (relationBlocks n) r ks))
 unfolding sum flatMap mapFrom countOf

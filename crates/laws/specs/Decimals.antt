@@ -20,21 +20,21 @@ ten : 0 < 10
 ten = omega arith
 
 -- ---- the digits of a number
-one-digit : (k n : ℕ) → n ≤ 9 → decimalIn (suc k) n ≡ (n + 48) ∷ []
+pub one-digit : (k n : ℕ) → n ≤ 9 → decimalIn (suc k) n ≡ (n + 48) ∷ []
 unfolding decimalIn
 one-digit k n h = rw (le-leb n 9 h) refl
 
-more-digits : (k n : ℕ) → 9 < n → decimalIn (suc k) n ≡ decimalIn k (n / 10) ++ ((n % 10 + 48) ∷ [])
+pub more-digits : (k n : ℕ) → 9 < n → decimalIn (suc k) n ≡ decimalIn k (n / 10) ++ ((n % 10 + 48) ∷ [])
 unfolding decimalIn
 more-digits k n h = rw (lt-leb n 9 h) refl
 
 -- by cases on the number of digits: one, or one more than those of the tenth
 digit-cases : (P : ℕ → Type 0) (n : ℕ) → (n ≤ 9 → P n) → (9 < n → P n) → P n
-digit-cases P n f g = go (leb n 9) refl
+digit-cases P n f g = by-test (leb n 9) refl
   where
-    go : (b : Bool) → leb n 9 ≡ b → P n
-    go true e = f (leb-true n 9 e)
-    go false e = g (leb-false n 9 e)
+    by-test : (b : Bool) → leb n 9 ≡ b → P n
+    by-test true e = f (leb-true n 9 e)
+    by-test false e = g (leb-false n 9 e)
 
 tenth : (k n : ℕ) → n < 10 ^ suc k → n / 10 < 10 ^ k
 tenth k n h = let e = pow-suc 10 k in omega arith
@@ -169,11 +169,11 @@ written-from (c ∷ b ∷ bs) d z l = several c (b ∷ bs) (T-and-l (isDigit c) 
 
 pub decimal-number : (t : List ℕ) (n : ℕ) → number t ≡ some n → (t ≡ decimal n) × (n < 10 ^ 7)
 unfolding number
-decimal-number t n e = go (all isDigit t && noLeadingZero t && leb (length t) 7) refl e
+decimal-number t n e = by-test (all isDigit t && noLeadingZero t && leb (length t) 7) refl e
   where
-    go : (b : Bool) → (all isDigit t && noLeadingZero t && leb (length t) 7) ≡ b → (if b then some (decimalValue zero t) else none) ≡ some n → (t ≡ decimal n) × (n < 10 ^ 7)
-    go true q h =
+    by-test : (b : Bool) → (all isDigit t && noLeadingZero t && leb (length t) 7) ≡ b → (if b then some (decimalValue zero t) else none) ≡ some n → (t ≡ decimal n) × (n < 10 ^ 7)
+    by-test true q h =
         let a = T-and-l (all isDigit t && noLeadingZero t) _ (T-of q) in
         let w = written-from t (T-and-l (all isDigit t) _ a) (T-and-r (all isDigit t) _ a) (leb→le (length t) 7 (T-and-r (all isDigit t && noLeadingZero t) _ (T-of q))) in
         subst (λ (k : ℕ). (t ≡ decimal k) × (k < 10 ^ 7)) (some-eq h) w
-    go false q h = absurd (none-some h)
+    by-test false q h = absurd (none-some h)

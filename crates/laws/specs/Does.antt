@@ -1,5 +1,5 @@
 -- The proof phase of the built steps: each step may be taken, nothing is lost, and every true node atom is there at the end.
-use Prim.Native.Nat.{ℕ, zero, suc, _+_, _-_, _*_, _/_, _%_, _<_, _≤_}
+use Prim.Native.Nat.{ℕ, zero, suc, _+_, _*_, _/_, _%_, _<_, _≤_}
 use mathlib.Core.Path.{_≡_, refl, sym, ap, subst, _∙_}
 use mathlib.Core.Logic.{_⊎_, inl, inr, ⊎-elim}
 use mathlib.Core.Bool.{Bool, true, false, _||_}
@@ -109,7 +109,7 @@ module _ (p : Problem) (G : Good p) where
     rows-do : ((row : ℕ) → row < w → T (test row) → Step (λ x. X x ⊎ Own row x) v row (step row)) → (k a : ℕ) → a + k ≤ w → Does (λ x. X x ⊎ Own a x) (map step (filter test (from a k))) (Own (a + k))
     unfolding from filter
     rows-do h zero a l = does-weaken (λ x q. q) (λ x w q. inl (inr (subst (λ (b : ℕ). Own b x) (add-zero a) q))) (does-nil (λ x. X x ⊎ Own a x))
-    rows-do h (suc k) a l = go (test a) refl (rows-do h k (suc a) (omega arith))
+    rows-do h (suc k) a l = by-test (test a) refl (rows-do h k (suc a) (omega arith))
       where
         up : (x : Atom) → Own (suc a) x → Own a x ⊎ (T (test a) × (x ≡ holdsNode v a))
         up x (row, q, t, e) = ⊎-elim (λ b. inl (row, b, t, e)) (λ b. inr (subst (λ (z : ℕ). T (test z)) b t, e ∙ ap (holdsNode v) b)) (lt-split row a q)
@@ -117,11 +117,11 @@ module _ (p : Problem) (G : Good p) where
         shift : suc a + k ≡ a + suc k
         shift = omega arith
 
-        go : (b : Bool) → test a ≡ b → Does (λ x. X x ⊎ Own (suc a) x) (map step (filter test (from (suc a) k))) (Own (suc a + k)) → Does (λ x. X x ⊎ Own a x) (map step (if b then a ∷ filter test (from (suc a) k) else filter test (from (suc a) k))) (Own (a + suc k))
-        go true e d = does-weaken (λ x q. q) (λ x w q. inr (inr (subst (λ (b : ℕ). Own b x) (sym shift) q)))
+        by-test : (b : Bool) → test a ≡ b → Does (λ x. X x ⊎ Own (suc a) x) (map step (filter test (from (suc a) k))) (Own (suc a + k)) → Does (λ x. X x ⊎ Own a x) (map step (if b then a ∷ filter test (from (suc a) k) else filter test (from (suc a) k))) (Own (a + suc k))
+        by-test true e d = does-weaken (λ x q. q) (λ x w q. inr (inr (subst (λ (b : ℕ). Own b x) (sym shift) q)))
             (does-append (does-one (λ x. X x ⊎ Own a x) v a (step a) (h a (omega arith) (T-of e)))
             (does-weaken (λ x q. ⊎-elim (λ b. inl (inl b)) (λ b. ⊎-elim (λ o. inl (inr o)) (λ o. inr (o .1)) (up x b)) q) (λ x w q. inr q) d))
-        go false e d = does-weaken
+        by-test false e d = does-weaken
             (λ x q. ⊎-elim (λ b. inl b) (λ b. ⊎-elim (λ o. inr o) (λ o. absurd (subst T e (o .0))) (up x b)) q)
             (λ x w q. inr (subst (λ (b : ℕ). Own b x) (sym shift) q)) d
 
@@ -168,16 +168,20 @@ module _ (p : Problem) (G : Good p) where
         → (place (λ (q : Part). treeHolds (p .source) P e (q .tree)) (partsFrom w ts) < howMany ts) × ((x : Atom) → List·Memᴰ x (take 1 (drop (place (λ (q : Part). treeHolds (p .source) P e (q .tree)) (partsFrom w ts)) (partAtoms (p .size) (p .range) e (partsFrom w ts)))) → Low k x)
     unfolding any partsFrom place howMany partAtoms
     part-first end k w e l h b t = absurd t
-    part-first (u then ts) k w e l h b t = go (treeHolds (p .source) P e u) refl t (part-first ts k (w + length (nodes u)) e (omega arith) (tail-here p w u ts h) b)
+    part-first (u then ts) k w e l h b t = by-test (treeHolds (p .source) P e u) refl t (part-first ts k (w + length (nodes u)) e (omega arith) (tail-here p w u ts h) b)
       where
         f : Part → Bool
         f q = treeHolds (p .source) P e (q .tree)
 
-        go : (c : Bool) → treeHolds (p .source) P e u ≡ c → T (c || any f (partsFrom (w + length (nodes u)) ts))
-            → (T (any f (partsFrom (w + length (nodes u)) ts)) → (place f (partsFrom (w + length (nodes u)) ts) < howMany ts) × ((x : Atom) → List·Memᴰ x (take 1 (drop (place f (partsFrom (w + length (nodes u)) ts)) (partAtoms (p .size) (p .range) e (partsFrom (w + length (nodes u)) ts)))) → Low k x))
-            → ((if c then zero else suc (place f (partsFrom (w + length (nodes u)) ts))) < suc (howMany ts)) × ((x : Atom) → List·Memᴰ x (take 1 (drop (if c then zero else suc (place f (partsFrom (w + length (nodes u)) ts))) (partAtom (p .size) (p .range) e w u ∷ partAtoms (p .size) (p .range) e (partsFrom (w + length (nodes u)) ts)))) → Low k x)
-        go true i t r = (omega arith, λ x m. subst (Low k) (sym (List·Memᴰ·eq-of-singleton m)) (part-low k w u e l (head-here p w u ts h) b (T-of i)))
-        go false i t r = let q = r t in (omega (arith, q .0), λ x m. q .1 x m)
+        by-test : (c : Bool) → treeHolds (p .source) P e u ≡ c → T (c || any f (partsFrom (w + length (nodes u)) ts))
+            → (T (any f (partsFrom (w + length (nodes u)) ts)) → (place f (partsFrom (w + length (nodes u)) ts) < howMany ts)
+            × ((x : Atom) → List·Memᴰ x (take 1 (drop (place f (partsFrom (w + length (nodes u)) ts))
+            (partAtoms (p .size) (p .range) e (partsFrom (w + length (nodes u)) ts)))) → Low k x))
+            → ((if c then zero else suc (place f (partsFrom (w + length (nodes u)) ts))) < suc (howMany ts))
+            × ((x : Atom) → List·Memᴰ x (take 1 (drop (if c then zero else suc (place f (partsFrom (w + length (nodes u)) ts)))
+            (partAtom (p .size) (p .range) e w u ∷ partAtoms (p .size) (p .range) e (partsFrom (w + length (nodes u)) ts)))) → Low k x)
+        by-test true i t r = (omega arith, λ x m. subst (Low k) (sym (List·Memᴰ·eq-of-singleton m)) (part-low k w u e l (head-here p w u ts h) b (T-of i)))
+        by-test false i t r = let q = r t in (omega (arith, q .0), λ x m. q .1 x m)
 
     -- ---- the step for a true atom of a node
     make-step : {X : Atom → Type 0} (v row : ℕ) (a : Action) → IsAction p a → removes p a ≡ [] → ((x : Atom) → List·Memᴰ x (needs p a) → X x) → List·Memᴰ (holdsNode v row) (adds p a) → Step X v row a
@@ -189,7 +193,10 @@ module _ (p : Problem) (G : Good p) where
     and-step : (v row : ℕ) (ts : Trees) → v < length (p .nodeList) → nodeAt p v ≡ andNode ts → row < nodeWidth (p .size) (andNode ts) → T (isTrueAt p P (andNode ts) row) → Step (Mine v (andNode ts) row) v row (proveAnd v row)
     unfolding IsAction needs adds removes parts isTrueAt treeHolds nodeWidth isForall
     and-step v row ts l e h t = make-step v row (proveAnd v row) (l, subst (λ (s : Tree). row < rowsOf (p .size) s) (sym e) h, (ts, e)) refl
-        (λ x m. proof-or (Mine v (andNode ts) row) x (inl (proof-low (suc v))) (λ y q. inl (parts-low ts (suc v) (suc v) (valuesAt (p .size) (andNode ts) row) (omega arith) (parts-and p v ts (here-as p G v (andNode ts) l e)) (values-bnd p G (andNode ts) row) t y (subst (λ (s : Tree). List·Memᴰ y (partAtoms (p .size) (p .range) (valuesAt (p .size) s row) (parts v s))) e q))) m)
+        (λ x m. proof-or (Mine v (andNode ts) row) x (inl (proof-low (suc v)))
+        (λ y q. inl (parts-low ts (suc v) (suc v) (valuesAt (p .size) (andNode ts) row) (omega arith)
+        (parts-and p v ts (here-as p G v (andNode ts) l e)) (values-bnd p G (andNode ts) row) t y
+        (subst (λ (s : Tree). List·Memᴰ y (partAtoms (p .size) (p .range) (valuesAt (p .size) s row) (parts v s))) e q))) m)
         (List·Memᴰ·head refl)
 
     or-step : (v row : ℕ) (ts : Trees) → v < length (p .nodeList) → nodeAt p v ≡ orNode ts → row < nodeWidth (p .size) (orNode ts) → T (isTrueAt p P (orNode ts) row) → Step (Mine v (orNode ts) row) v row (stepFor p P v (orNode ts) row)
@@ -201,7 +208,11 @@ module _ (p : Problem) (G : Good p) where
         let k : least f (partsFrom (suc v) ts) ≡ place f (partsFrom (suc v) ts) = least-place f (partsFrom (suc v) ts) a in
         let q = part-first ts (suc v) (suc v) (valuesAt (p .size) (orNode ts) row) (omega arith) (parts-or p v ts (here-as p G v (orNode ts) l e)) (values-bnd p G (orNode ts) row) a in
         make-step v row (proveOr v row (least f (partsFrom (suc v) ts))) (l, subst (λ (s : Tree). row < rowsOf (p .size) s) (sym e) h, (ts, e, subst (λ (i : ℕ). i < howMany ts) (sym k) (q .0))) refl
-        (λ x m. proof-or (Mine v (orNode ts) row) x (inl (proof-low (suc v))) (λ y i. inl (q .1 y (subst (λ (z : ℕ). List·Memᴰ y (take 1 (drop z (partAtoms (p .size) (p .range) (valuesAt (p .size) (orNode ts) row) (partsFrom (suc v) ts))))) k (subst (λ (s : Tree). List·Memᴰ y (take 1 (drop (least f (partsFrom (suc v) ts)) (partAtoms (p .size) (p .range) (valuesAt (p .size) s row) (parts v s))))) e i)))) m)
+        (λ x m. proof-or (Mine v (orNode ts) row) x (inl (proof-low (suc v)))
+        (λ y i. inl (q .1 y (subst (λ (z : ℕ). List·Memᴰ y
+        (take 1 (drop z (partAtoms (p .size) (p .range) (valuesAt (p .size) (orNode ts) row) (partsFrom (suc v) ts))))) k
+        (subst (λ (s : Tree). List·Memᴰ y (take 1 (drop (least f (partsFrom (suc v) ts))
+        (partAtoms (p .size) (p .range) (valuesAt (p .size) s row) (parts v s))))) e i)))) m)
         (List·Memᴰ·head refl)
 
     exists-step : (v row d σ : ℕ) (u : Tree) → v < length (p .nodeList) → nodeAt p v ≡ existsNode d σ u → row < nodeWidth (p .size) (existsNode d σ u) → T (isTrueAt p P (existsNode d σ u) row) → Step (Mine v (existsNode d σ u) row) v row (stepFor p P v (existsNode d σ u) row)
@@ -211,15 +222,22 @@ module _ (p : Problem) (G : Good p) where
         let q = least-in f (p .range σ) (subst (λ (R : ℕ → List ℕ). T (any f (R σ))) (sym (G .ranges)) t) in
         make-step v row (proveExists v row (getD (p .range σ) (least f (p .range σ)) 0)) (l, subst (λ (s : Tree). row < rowsOf (p .size) s) (sym e) h, (d, σ, u, e, q .0)) refl
         (λ x m. proof-or (Mine v (existsNode d σ u) row) x (inl (proof-low (suc v))) (λ y i. inl (subst (Low (suc v)) (sym (List·Memᴰ·eq-of-singleton i ∙ ap (λ (s : Tree). underAtom (p .size) (p .range) v s row (getD (p .range σ) (least f (p .range σ)) 0)) e))
-        (part-low (suc v) (suc v) u (withValue (valuesAt (p .size) (existsNode d σ u) row) d (getD (p .range σ) (least f (p .range σ)) 0)) (omega arith) (under-exists p v d σ u (here-as p G v (existsNode d σ u) l e)) (bnd-with (p .size) _ d _ (values-bnd p G (existsNode d σ u) row) (G .ranged σ .small _ (q .0))) (q .1)))) m)
+        (part-low (suc v) (suc v) u (withValue (valuesAt (p .size) (existsNode d σ u) row) d (getD (p .range σ) (least f (p .range σ)) 0))
+        (omega arith) (under-exists p v d σ u (here-as p G v (existsNode d σ u) l e))
+        (bnd-with (p .size) _ d _ (values-bnd p G (existsNode d σ u) row) (G .ranged σ .small _ (q .0))) (q .1)))) m)
         (List·Memᴰ·head refl)
 
     -- a forall's needs at a row and z
-    forall-have : (v row d σ : ℕ) (u : Tree) → v < length (p .nodeList) → nodeAt p v ≡ forallNode d σ u → (z : ℕ) → List·Memᴰ z (p .range σ) → T (isTrueAt p P (forallNode d σ u) (row * p .size + z)) → (x : Atom) → List·Memᴰ x (forallNeeds (p .size) (p .range) v (nodeAt p v) row z) → Mine v (forallNode d σ u) (row * p .size + z) x
+    forall-have : (v row d σ : ℕ) (u : Tree) → v < length (p .nodeList) → nodeAt p v ≡ forallNode d σ u → (z : ℕ) → List·Memᴰ z (p .range σ)
+        → T (isTrueAt p P (forallNode d σ u) (row * p .size + z)) → (x : Atom) → List·Memᴰ x (forallNeeds (p .size) (p .range) v (nodeAt p v) row z)
+        → Mine v (forallNode d σ u) (row * p .size + z) x
     unfolding forallNeeds underAtom nodeSort option
     forall-have v row d σ u l e z g t x m = ⊎-elim
-        (λ q. inl (subst (Low (suc v)) (sym q) (part-low (suc v) (suc v) u (withValue (valuesAt (p .size) (forallNode d σ u) row) d z) (omega arith) (under-forall p v d σ u (here-as p G v (forallNode d σ u) l e)) (bnd-with (p .size) _ d z (values-bnd p G (forallNode d σ u) row) (G .ranged σ .small z g)) (up-at f (p .range σ) z upper z g (omega arith)))))
-        (λ q. go (before (p .range σ) z) refl q)
+        (λ q. inl (subst (Low (suc v)) (sym q) (part-low (suc v) (suc v) u (withValue (valuesAt (p .size) (forallNode d σ u) row) d z) (omega arith)
+        (under-forall p v d σ u (here-as p G v (forallNode d σ u) l e))
+        (bnd-with (p .size) _ d z (values-bnd p G (forallNode d σ u) row) (G .ranged σ .small z g))
+        (up-at f (p .range σ) z upper z g (omega arith)))))
+        (λ q. by-option (before (p .range σ) z) refl q)
         (List·Memᴰ·cases-cons (subst (λ (s : Tree). List·Memᴰ x (forallNeeds (p .size) (p .range) v s row z)) e m))
       where
         f : ℕ → Bool
@@ -228,9 +246,9 @@ module _ (p : Problem) (G : Good p) where
         upper : T (all (λ x. treeHolds (p .source) P (withValue (valuesAt (p .size) (forallNode d σ u) row) d x) u) (upTo (p .range σ) z))
         upper = subst T (forall-at p G P d σ u row z g) t
 
-        go : (o : Option ℕ) → before (p .range σ) z ≡ o → List·Memᴰ x (option o [] (λ y. holdsNode v (row * p .size + y) ∷ [])) → Mine v (forallNode d σ u) (row * p .size + z) x
-        go none i q = absurd (List·Memᴰ·not-nil q)
-        go (some y) i q =
+        by-option : (o : Option ℕ) → before (p .range σ) z ≡ o → List·Memᴰ x (option o [] (λ y. holdsNode v (row * p .size + y) ∷ [])) → Mine v (forallNode d σ u) (row * p .size + z) x
+        by-option none i q = absurd (List·Memᴰ·not-nil q)
+        by-option (some y) i q =
             let (k, b, h) = before-some (p .range σ) z y (G .ranged σ .ascends) i in
             inr (row * p .size + y, omega arith, subst T (sym (forall-at p G P d σ u row y k)) (up-of f (p .range σ) y (λ m j c. up-at f (p .range σ) z upper m j (omega arith))), List·Memᴰ·eq-of-singleton q)
 
@@ -239,7 +257,10 @@ module _ (p : Problem) (G : Good p) where
     forall-step v row d σ u l e h t =
         let k : row / p .size * p .size + row % p .size ≡ row = div-add-mod' row (p .size) in
         make-step v row (proveForall v (row / p .size) (row % p .size)) (l, subst (λ (s : Tree). row / p .size < rowsOf (p .size) s) (sym e) (div-lt-iff-lt-mul (G .element) .1 h), (d, σ, u, e, forall-in p G P d σ u row t)) refl
-        (λ x m. proof-or (Mine v (forallNode d σ u) row) x (inl (proof-low (suc v))) (λ y q. subst (λ (z : ℕ). Mine v (forallNode d σ u) z y) k (forall-have v (row / p .size) d σ u l e (row % p .size) (forall-in p G P d σ u row t) (subst (λ (z : ℕ). T (isTrueAt p P (forallNode d σ u) z)) (sym k) t) y q)) m)
+        (λ x m. proof-or (Mine v (forallNode d σ u) row) x (inl (proof-low (suc v)))
+        (λ y q. subst (λ (z : ℕ). Mine v (forallNode d σ u) z y) k
+        (forall-have v (row / p .size) d σ u l e (row % p .size) (forall-in p G P d σ u row t)
+        (subst (λ (z : ℕ). T (isTrueAt p P (forallNode d σ u) z)) (sym k) t) y q)) m)
         (List·Memᴰ·head (ap (holdsNode v) (sym k)))
 
     node-step : (v row : ℕ) (s : Tree) → v < length (p .nodeList) → nodeAt p v ≡ s → row < nodeWidth (p .size) s → T (isTrueAt p P s row) → Step (Mine v s row) v row (stepFor p P v s row)

@@ -11,7 +11,7 @@ use lib.ListN.{length, length-append, length-map}
 use Rattle.definitions.specs.Limits.{CaseLimits, early, deskWords}
 use Rattle.definitions.specs.Lists.{if_then_else_, option, flatMap, sum}
 use Rattle.definitions.specs.Text.{bytes, decimalIn, decimal, split, isBetween}
-use Rattle.definitions.specs.Refusal.{accepted, _>>=_}
+use Rattle.definitions.specs.Refusal.{accepted}
 use Rattle.definitions.specs.Relations.{Relation, Tuple}
 use Rattle.definitions.specs.Sheets.{Entry, rel, type, choose, rule, size, label, member, fact, pick, step, entryOf, Label, addToPicks, picksLine, readPicks, readSteps}
 use Rattle.definitions.specs.Atoms.{Problem}
@@ -51,17 +51,17 @@ tuple-long word name g gs e =
 -- ---- steps, and the picks that they set
 some-digit : (k n : ℕ) → 1 ≤ length (decimalIn (suc k) n)
 unfolding decimalIn
-some-digit k n = go (leb n 9)
+some-digit k n = by-test (leb n 9)
   where
-    go : (b : Bool) → 1 ≤ length (if b then (n + 48) ∷ [] else decimalIn k (n / 10) ++ ((n % 10 + 48) ∷ []))
-    go true = omega arith
-    go false = let a = length-append (decimalIn k (n / 10)) ((n % 10 + 48) ∷ []) in omega arith
+    by-test : (b : Bool) → 1 ≤ length (if b then (n + 48) ∷ [] else decimalIn k (n / 10) ++ ((n % 10 + 48) ∷ []))
+    by-test true = omega arith
+    by-test false = let a = length-append (decimalIn k (n / 10)) ((n % 10 + 48) ∷ []) in omega arith
 
 step-long : (k : ℕ) → 7 ≤ length (stepLine k)
 unfolding stepLine printLine decimal
 step-long k = let a = some-digit 19 k in let b = length-append (bytes "step") (9 ∷ (decimalIn 20 k ++ (10 ∷ []))) in let c = length-append (decimalIn 20 k) (10 ∷ []) in omega arith
 
-steps-long : (ks : List ℕ) → 7 * length ks ≤ length (flatMap stepLine ks)
+pub steps-long : (ks : List ℕ) → 7 * length ks ≤ length (flatMap stepLine ks)
 unfolding flatMap
 steps-long [] = omega arith
 steps-long (k ∷ ks) = omega (arith, steps-long ks, step-long k, length-append (stepLine k) (flatMap stepLine ks))
@@ -100,11 +100,11 @@ module _ (rs : List Relation) (first n : ℕ) (labels : List Label) where
   add-long acc at fs (fact name es) m s e = absurd (refused-accepted e)
   add-long acc at fs (pick name es) m (gs, q, r, b) e =
       let A = tuple-told rs first n labels acc at name es m e in
-      (A .tuple, A .added, subst (λ (x : List (List ℕ)). 7 ≤ length (printLine x)) (sym q) (go gs (leb→le 1 (length gs) (T-and-l (leb 1 (length gs)) _ b))))
+      (A .tuple, A .added, subst (λ (x : List (List ℕ)). 7 ≤ length (printLine x)) (sym q) (by-list gs (leb→le 1 (length gs) (T-and-l (leb 1 (length gs)) _ b))))
     where
-      go : (gs : List (List ℕ)) → 1 ≤ length gs → 7 ≤ length (printLine (bytes "pick" ∷ name ∷ gs))
-      go [] l = absurd (omega arith)
-      go (g ∷ gs) l = tuple-long (bytes "pick") name g gs refl
+      by-list : (gs : List (List ℕ)) → 1 ≤ length gs → 7 ≤ length (printLine (bytes "pick" ∷ name ∷ gs))
+      by-list [] l = absurd (omega arith)
+      by-list (g ∷ gs) l = tuple-long (bytes "pick") name g gs refl
   add-long acc at fs (step k) m s e = absurd (refused-accepted e)
 
   pub picks-few : (text : List ℕ) (F : List Tuple) → readPicks rs first n labels text ≡ accepted F → 7 * length F ≤ length text

@@ -103,16 +103,25 @@ total-function Inj t = tt
 total-function PInj t = tt
 
 -- ---- a known literal's relation has its arity
-known-at : (rs : List Relation) (r : List ℕ) (k : ℕ) → Apart rs → T (any (λ (q : Relation). same (q .name) r && eqb (q .arity) k) rs) → (place (λ (q : Relation). same (q .name) r) rs < length rs) × (getD rs (place (λ (q : Relation). same (q .name) r) rs) noRelation .arity ≡ k) × T (any (λ (q : Relation). same (q .name) r) rs)
+known-at : (rs : List Relation) (r : List ℕ) (k : ℕ) → Apart rs → T (any (λ (q : Relation). same (q .name) r && eqb (q .arity) k) rs)
+    → (place (λ (q : Relation). same (q .name) r) rs < length rs) × (getD rs (place (λ (q : Relation). same (q .name) r) rs) noRelation .arity ≡ k)
+    × T (any (λ (q : Relation). same (q .name) r) rs)
 unfolding any place Apart isDeclared
 known-at [] r k a t = absurd t
-known-at (q ∷ rs) r k a t = go (same (q .name) r) refl t (known-at rs r k (a .1))
+known-at (q ∷ rs) r k a t = by-test (same (q .name) r) refl t (known-at rs r k (a .1))
   where
-    go : (b : Bool) → same (q .name) r ≡ b → T ((b && eqb (q .arity) k) || any (λ (q : Relation). same (q .name) r && eqb (q .arity) k) rs)
+    by-test : (b : Bool) → same (q .name) r ≡ b → T ((b && eqb (q .arity) k) || any (λ (q : Relation). same (q .name) r && eqb (q .arity) k) rs)
         → (T (any (λ (q : Relation). same (q .name) r && eqb (q .arity) k) rs) → (place (λ (q : Relation). same (q .name) r) rs < length rs) × (getD rs (place (λ (q : Relation). same (q .name) r) rs) noRelation .arity ≡ k) × T (any (λ (q : Relation). same (q .name) r) rs))
         → ((if b then zero else suc (place (λ (q : Relation). same (q .name) r) rs)) < suc (length rs)) × (getD (q ∷ rs) (if b then zero else suc (place (λ (q : Relation). same (q .name) r) rs)) noRelation .arity ≡ k) × T (b || any (λ (q : Relation). same (q .name) r) rs)
-    go true e t ih = (omega arith, ⊎-elim (λ u. eqb→eq (q .arity) k u) (λ u. absurd (T-not (any (λ (x : Relation). same (x .name) (q .name)) rs) (a .0) (subst (λ (z : List ℕ). T (any (λ (x : Relation). same (x .name) z) rs)) (sym (same-eq (q .name) r (T-of e))) (known-name rs r k u)))) (T-or (eqb (q .arity) k) _ t), tt)
-    go false e t ih = let h = ih t in (omega (arith, h .0), h .1, h .2)
+    by-test true e t ih = (
+      omega arith,
+      ⊎-elim (λ u. eqb→eq (q .arity) k u)
+          (λ u. absurd (T-not (any (λ (x : Relation). same (x .name) (q .name)) rs) (a .0)
+          (subst (λ (z : List ℕ). T (any (λ (x : Relation). same (x .name) z) rs)) (sym (same-eq (q .name) r (T-of e))) (known-name rs r k u))))
+          (T-or (eqb (q .arity) k) _ t),
+      tt,
+    )
+    by-test false e t ih = let h = ih t in (omega (arith, h .0), h .1, h .2)
 
 module _ (c : Case) (A : Accepted c) where
   abbrev q : Question
@@ -151,11 +160,11 @@ module _ (c : Case) (A : Accepted c) where
       (List·Memᴰ·append-cases low (subst (λ (l : List Relation). List·Memᴰ k l) low-first m))
 
   pub relation-sorts : (r : ℕ) → SortsFit (length (c .question .types)) (relationAt p r)
-  relation-sorts r = subst (SortsFit (length (c .question .types))) (sym (relation-is r)) (go (ltb r (length (relationsOf (c .question)))) refl)
+  relation-sorts r = subst (SortsFit (length (c .question .types))) (sym (relation-is r)) (by-test (ltb r (length (relationsOf (c .question)))) refl)
     where
-      go : (b : Bool) → ltb r (length (relationsOf (c .question))) ≡ b → SortsFit (length (c .question .types)) (getD (relationsOf (c .question)) r noRelation)
-      go true e = sorts-fit _ (getD-mem (relationsOf (c .question)) r noRelation (ltb-true r _ e))
-      go false e = subst (SortsFit (length (c .question .types))) (sym (List·getD-eq-default (relationsOf (c .question)) noRelation (ltb-false r _ e))) (unsorted-fits (length (c .question .types)) noRelation (refl, refl))
+      by-test : (b : Bool) → ltb r (length (relationsOf (c .question))) ≡ b → SortsFit (length (c .question .types)) (getD (relationsOf (c .question)) r noRelation)
+      by-test true e = sorts-fit _ (getD-mem (relationsOf (c .question)) r noRelation (ltb-true r _ e))
+      by-test false e = subst (SortsFit (length (c .question .types))) (sym (List·getD-eq-default (relationsOf (c .question)) noRelation (ltb-false r _ e))) (unsorted-fits (length (c .question .types)) noRelation (refl, refl))
 
   low-count : length low ≡ firstChosen (c .question)
   unfolding firstChosen firstRel
@@ -178,16 +187,18 @@ module _ (c : Case) (A : Accepted c) where
 
   -- a chosen relation's number
   pub chosen-index : (r : ℕ) → r < length (p .relations) → T (isChosen (relationAt p r .kind)) → (j : ℕ) × (r ≡ firstChosen (c .question) + j) × (j < length (c .question .chosen))
-  chosen-index r l t = go (ltb r (firstChosen (c .question))) refl
+  chosen-index r l t = by-test (ltb r (firstChosen (c .question))) refl
     where
-      go : (b : Bool) → ltb r (firstChosen (c .question)) ≡ b → (j : ℕ) × (r ≡ firstChosen (c .question) + j) × (j < length (c .question .chosen))
-      go true e = absurd (static-free (relationAt p r .kind) (low-static r (ltb-true r _ e)) t)
-      go false e =
+      by-test : (b : Bool) → ltb r (firstChosen (c .question)) ≡ b → (j : ℕ) × (r ≡ firstChosen (c .question) + j) × (j < length (c .question .chosen))
+      by-test true e = absurd (static-free (relationAt p r .kind) (low-static r (ltb-true r _ e)) t)
+      by-test false e =
           let h : firstChosen (c .question) ≤ r = ltb-false r _ e in
           let n = count-relations in
           (r - firstChosen (c .question), omega arith, omega arith)
 
-  pub chosen-is : (j : ℕ) → j < length (c .question .chosen) → (firstChosen (c .question) + j < length (p .relations)) × T (isChosen (relationAt p (firstChosen (c .question) + j) .kind)) × (T (isFunction (relationAt p (firstChosen (c .question) + j) .kind)) → relationAt p (firstChosen (c .question) + j) .arity ≡ 2)
+  pub chosen-is : (j : ℕ) → j < length (c .question .chosen) → (firstChosen (c .question) + j < length (p .relations))
+      × T (isChosen (relationAt p (firstChosen (c .question) + j) .kind))
+      × (T (isFunction (relationAt p (firstChosen (c .question) + j) .kind)) → relationAt p (firstChosen (c .question) + j) .arity ≡ 2)
   chosen-is j h =
       let f = A .question-fits .chosen-fit (getD (c .question .chosen) j noRelation) (getD-mem (c .question .chosen) j noRelation h) in
       let e = chosen-at j in
@@ -195,11 +206,11 @@ module _ (c : Case) (A : Accepted c) where
       (omega arith, subst (λ (k : Relation). T (isChosen (k .kind))) (sym e) (f .chosen), subst (λ (k : Relation). T (isFunction (k .kind)) → k .arity ≡ 2) (sym e) (f .pairs))
 
   pub static-low : (r : ℕ) → r < length (p .relations) → relationAt p r .kind ≡ static → r < firstChosen (c .question)
-  static-low r l e = go (ltb r (firstChosen (c .question))) refl
+  static-low r l e = by-test (ltb r (firstChosen (c .question))) refl
     where
-      go : (b : Bool) → ltb r (firstChosen (c .question)) ≡ b → r < firstChosen (c .question)
-      go true q = ltb-true r _ q
-      go false q =
+      by-test : (b : Bool) → ltb r (firstChosen (c .question)) ≡ b → r < firstChosen (c .question)
+      by-test true q = ltb-true r _ q
+      by-test false q =
           let h : firstChosen (c .question) ≤ r = ltb-false r _ q in
           let n = count-relations in
           let z : firstChosen (c .question) + (r - firstChosen (c .question)) ≡ r = omega arith in
@@ -270,7 +281,12 @@ module _ (c : Case) (A : Accepted c) where
   leaf-fits b scope r vs t =
       let k = known-at (relationsOf (c .question)) r (length vs) (A .question-fits .apart) t in
       let e : position (λ (q : Relation). same (q .name) r) (relationsOf (c .question)) ≡ some (place (λ (q : Relation). same (q .name) r) (relationsOf (c .question))) = position-place (λ (q : Relation). same (q .name) r) (relationsOf (c .question)) (k .2) in
-      rw e (subst (λ (l : List Relation). place (λ (q : Relation). same (q .name) r) (relationsOf (c .question)) < length l) (sym relations-are) (k .0), length-map vs _ ∙ sym (ap (λ (x : Relation). x .arity) (relation-is (place (λ (q : Relation). same (q .name) r) (relationsOf (c .question)))) ∙ k .1))
+      rw e (
+        subst (λ (l : List Relation). place (λ (q : Relation). same (q .name) r) (relationsOf (c .question)) < length l) (sym relations-are)
+            (k .0),
+        length-map vs _ ∙ sym (ap (λ (x : Relation). x .arity)
+            (relation-is (place (λ (q : Relation). same (q .name) r) (relationsOf (c .question)))) ∙ k .1),
+      )
 
   mutual
     unfolding asIs negated allAsIs allNegated isKnown areKnown Fits FitsAll
@@ -305,23 +321,26 @@ module _ (c : Case) (A : Accepted c) where
   totals-fit : (r : ℕ) (ks : List Relation) → ((j : ℕ) → j < length ks → (r + j < length (p .relations)) × (relationAt p (r + j) ≡ getD ks j noRelation) × (T (isFunction (getD ks j noRelation .kind)) → getD ks j noRelation .arity ≡ 2)) → FitsAll p (totalities r ks)
   unfolding totalities FitsAll Fits
   totals-fit r [] h = tt
-  totals-fit r (k ∷ ks) h = go (isTotal (k .kind)) refl (totals-fit (suc r) ks (λ j l. let g = h (suc j) (omega arith) in let e : r + suc j ≡ suc r + j = omega arith in subst (λ (x : ℕ). (x < length (p .relations)) × (relationAt p x ≡ getD ks j noRelation) × (T (isFunction (getD ks j noRelation .kind)) → getD ks j noRelation .arity ≡ 2)) e g))
+  totals-fit r (k ∷ ks) h =
+      by-test (isTotal (k .kind)) refl (totals-fit (suc r) ks (λ j l. let g = h (suc j) (omega arith) in
+      let e : r + suc j ≡ suc r + j = omega arith in subst (λ (x : ℕ). (x < length (p .relations)) × (relationAt p x ≡ getD ks j noRelation)
+      × (T (isFunction (getD ks j noRelation .kind)) → getD ks j noRelation .arity ≡ 2)) e g))
     where
-      go : (b : Bool) → isTotal (k .kind) ≡ b → FitsAll p (totalities (suc r) ks) → FitsAll p (if b then forallNode 0 (k .firsts) (existsNode 1 (k .seconds) (leaf true r (0 ∷ 1 ∷ []))) then totalities (suc r) ks else totalities (suc r) ks)
-      go true e f =
+      by-test : (b : Bool) → isTotal (k .kind) ≡ b → FitsAll p (totalities (suc r) ks) → FitsAll p (if b then forallNode 0 (k .firsts) (existsNode 1 (k .seconds) (leaf true r (0 ∷ 1 ∷ []))) then totalities (suc r) ks else totalities (suc r) ks)
+      by-test true e f =
           let g = h 0 (omega arith) in
           let z : r + 0 ≡ r = add-zero r in
           ((subst (λ (x : ℕ). x < length (p .relations)) z (g .0), sym (ap (λ (x : Relation). x .arity) (ap (relationAt p) (sym z) ∙ g .1) ∙ g .2 (total-function (k .kind) (T-of e)))), f)
-      go false e f = f
+      by-test false e f = f
 
   totals-within : (r : ℕ) (ks : List Relation) → WithinAll (totalities r ks)
   unfolding totalities WithinAll Within all
   totals-within r [] = tt
-  totals-within r (k ∷ ks) = go (isTotal (k .kind)) (totals-within (suc r) ks)
+  totals-within r (k ∷ ks) = by-test (isTotal (k .kind)) (totals-within (suc r) ks)
     where
-      go : (b : Bool) → WithinAll (totalities (suc r) ks) → WithinAll (if b then forallNode 0 (k .firsts) (existsNode 1 (k .seconds) (leaf true r (0 ∷ 1 ∷ []))) then totalities (suc r) ks else totalities (suc r) ks)
-      go true f = ((omega arith, (omega arith, tt)), f)
-      go false f = f
+      by-test : (b : Bool) → WithinAll (totalities (suc r) ks) → WithinAll (if b then forallNode 0 (k .firsts) (existsNode 1 (k .seconds) (leaf true r (0 ∷ 1 ∷ []))) then totalities (suc r) ks else totalities (suc r) ks)
+      by-test true f = ((omega arith, (omega arith, tt)), f)
+      by-test false f = f
 
   joined-within : (t : Tree) (us : Trees) → Within t → WithinAll us → Within (joined t us)
   unfolding joined Within WithinAll

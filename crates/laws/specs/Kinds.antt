@@ -1,5 +1,5 @@
 -- The declared kinds as tested and as said; soundness in the words of the definitions.
-use Prim.Native.Nat.{ℕ, zero, _+_, _-_, _<_}
+use Prim.Native.Nat.{ℕ, zero, _+_, _<_}
 use mathlib.Core.Path.{_≡_, refl, sym, ap, subst, subst₂, _∙_}
 use mathlib.Core.Logic.{_↔_}
 use mathlib.Core.Bool.{Bool, true, false, not, _&&_}
@@ -28,13 +28,13 @@ use Rattle.laws.specs.Grounded.{good, chosen-at, chosen-index, chosen-is
 -- a tuple of a relation with pairs
 pair-form : (t : Tuple) → length (t .places) ≡ 2 → t ≡ tup (t .relation) (first t ∷ second t ∷ [])
 unfolding first second
-pair-form t e = ap (tup (t .relation)) (go (t .places) e)
+pair-form t e = ap (tup (t .relation)) (by-list (t .places) e)
   where
-    go : (xs : List ℕ) → length xs ≡ 2 → xs ≡ getD xs 0 0 ∷ getD xs 1 0 ∷ []
-    go [] e = absurd (omega arith)
-    go (x ∷ []) e = absurd (omega arith)
-    go (x ∷ y ∷ []) e = refl
-    go (x ∷ y ∷ z ∷ xs) e = absurd (omega arith)
+    by-list : (xs : List ℕ) → length xs ≡ 2 → xs ≡ getD xs 0 0 ∷ getD xs 1 0 ∷ []
+    by-list [] e = absurd (omega arith)
+    by-list (x ∷ []) e = absurd (omega arith)
+    by-list (x ∷ y ∷ []) e = refl
+    by-list (x ∷ y ∷ z ∷ xs) e = absurd (omega arith)
 
 -- two tuples of r that agree in a and differ in b
 pub two-at : (r : ℕ) (a b : Tuple → ℕ) (P : List Tuple) → T (two r a b P) → (t : Tuple) × (u : Tuple) × List·Memᴰ t P × List·Memᴰ u P × (t .relation ≡ r) × (u .relation ≡ r) × (a t ≡ a u) × (b t ≡ b u → ⊥)

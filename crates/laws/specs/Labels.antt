@@ -57,20 +57,20 @@ one-snoc (l ∷ ls) k o h = (
 pub name-at : (ls : List Label) (x : ℕ) (name : List ℕ) → nameOf ls x ≡ some name → (l : Label) × List·Memᴰ l ls × (l .element ≡ x) × (l .name ≡ name)
 unfolding nameOf
 name-at [] x name e = absurd (none-some e)
-name-at (l ∷ ls) x name e = go (eqb (l .element) x) refl e (name-at ls x name)
+name-at (l ∷ ls) x name e = by-test (eqb (l .element) x) refl e (name-at ls x name)
   where
-    go : (b : Bool) → eqb (l .element) x ≡ b → (if b then some (l .name) else nameOf ls x) ≡ some name → (nameOf ls x ≡ some name → (k : Label) × List·Memᴰ k ls × (k .element ≡ x) × (k .name ≡ name)) → (k : Label) × List·Memᴰ k (l ∷ ls) × (k .element ≡ x) × (k .name ≡ name)
-    go true q f h = (l, List·Memᴰ·head refl, eqb→eq (l .element) x (T-of q), some-eq f)
-    go false q f h = let (k, m, a, b) = h f in (k, List·Memᴰ·tail m, a, b)
+    by-test : (b : Bool) → eqb (l .element) x ≡ b → (if b then some (l .name) else nameOf ls x) ≡ some name → (nameOf ls x ≡ some name → (k : Label) × List·Memᴰ k ls × (k .element ≡ x) × (k .name ≡ name)) → (k : Label) × List·Memᴰ k (l ∷ ls) × (k .element ≡ x) × (k .name ≡ name)
+    by-test true q f h = (l, List·Memᴰ·head refl, eqb→eq (l .element) x (T-of q), some-eq f)
+    by-test false q f h = let (k, m, a, b) = h f in (k, List·Memᴰ·tail m, a, b)
 
 pub element-at : (ls : List Label) (name : List ℕ) (x : ℕ) → elementNamed ls name ≡ some x → (l : Label) × List·Memᴰ l ls × (l .element ≡ x) × (l .name ≡ name)
 unfolding elementNamed
 element-at [] name x e = absurd (none-some e)
-element-at (l ∷ ls) name x e = go (same (l .name) name) refl e (element-at ls name x)
+element-at (l ∷ ls) name x e = by-test (same (l .name) name) refl e (element-at ls name x)
   where
-    go : (b : Bool) → same (l .name) name ≡ b → (if b then some (l .element) else elementNamed ls name) ≡ some x → (elementNamed ls name ≡ some x → (k : Label) × List·Memᴰ k ls × (k .element ≡ x) × (k .name ≡ name)) → (k : Label) × List·Memᴰ k (l ∷ ls) × (k .element ≡ x) × (k .name ≡ name)
-    go true q f h = (l, List·Memᴰ·head refl, some-eq f, same-eq (l .name) name (T-of q))
-    go false q f h = let (k, m, a, b) = h f in (k, List·Memᴰ·tail m, a, b)
+    by-test : (b : Bool) → same (l .name) name ≡ b → (if b then some (l .element) else elementNamed ls name) ≡ some x → (elementNamed ls name ≡ some x → (k : Label) × List·Memᴰ k ls × (k .element ≡ x) × (k .name ≡ name)) → (k : Label) × List·Memᴰ k (l ∷ ls) × (k .element ≡ x) × (k .name ≡ name)
+    by-test true q f h = (l, List·Memᴰ·head refl, some-eq f, same-eq (l .name) name (T-of q))
+    by-test false q f h = let (k, m, a, b) = h f in (k, List·Memᴰ·tail m, a, b)
 
 -- and where they are one to one, each label of the list is found, by its element and by its name
 pub name-found : (ls : List Label) (l : Label) → OneToOne ls → List·Memᴰ l ls → nameOf ls (l .element) ≡ some (l .name)
@@ -100,11 +100,11 @@ one-to-one ls o x name = (
 pub element-before : (ls ks : List Label) (name : List ℕ) (x : ℕ) → elementNamed ls name ≡ some x → elementNamed (ls ++ ks) name ≡ some x
 unfolding elementNamed
 element-before [] ks name x e = absurd (none-some e)
-element-before (l ∷ ls) ks name x e = go (same (l .name) name) e (element-before ls ks name x)
+element-before (l ∷ ls) ks name x e = by-test (same (l .name) name) e (element-before ls ks name x)
   where
-    go : (b : Bool) → (if b then some (l .element) else elementNamed ls name) ≡ some x → (elementNamed ls name ≡ some x → elementNamed (ls ++ ks) name ≡ some x) → (if b then some (l .element) else elementNamed (ls ++ ks) name) ≡ some x
-    go true f h = f
-    go false f h = h f
+    by-test : (b : Bool) → (if b then some (l .element) else elementNamed ls name) ≡ some x → (elementNamed ls name ≡ some x → elementNamed (ls ++ ks) name ≡ some x) → (if b then some (l .element) else elementNamed (ls ++ ks) name) ≡ some x
+    by-test true f h = f
+    by-test false f h = h f
 
 -- ---- the labels of a site: one to one, of its elements, and each of a name's form
 pub record LabelsFit (n : ℕ) (labels : List Label) : Type 0 where
@@ -119,14 +119,14 @@ no-labels n = record { small = λ l m. absurd (List·Memᴰ·not-nil m); formed 
 -- a `label` line with a name for its element is 18: the element that it means has a label, or it means none
 pub label-named : (d : SiteDraft) (at n : ℕ) (f name : List ℕ) → d .sized ≡ some n → d .members ≡ [] → d .facts ≡ [] → addLabel d at (named f) name ≡ refused 18 at
 unfolding addLabel elementOf isInRange isEmpty given refuseIf _>>=_
-label-named d at n f name z u e = rw (z, u, e) (go (elementNamed (d .labels) f) refl)
+label-named d at n f name z u e = rw (z, u, e) (by-option (elementNamed (d .labels) f) refl)
   where
     added : ℕ → SiteDraft
     added x = record { sized = some n; labels = d .labels ++ (record { element = x; name = name } ∷ []); members = []; facts = [] }
 
-    go : (o : Option ℕ) → elementNamed (d .labels) f ≡ o → (given o 18 at >>= λ x. refuseIf (isTaken (d .labels) x name) 18 at >>= λ _. accepted (added x)) ≡ refused 18 at
-    go none q = refl
-    go (some x) q = let (l, m, a, b) = element-at (d .labels) f x q in let t = T-true (isTaken (d .labels) x name) (taken-by (d .labels) l x name m (inl a)) in rw t refl
+    by-option : (o : Option ℕ) → elementNamed (d .labels) f ≡ o → (given o 18 at >>= λ x. refuseIf (isTaken (d .labels) x name) 18 at >>= λ _. accepted (added x)) ≡ refused 18 at
+    by-option none q = refl
+    by-option (some x) q = let (l, m, a, b) = element-at (d .labels) f x q in let t = T-true (isTaken (d .labels) x name) (taken-by (d .labels) l x name m (inl a)) in rw t refl
 
 -- ---- fields that are in range and mean something mean elements, as many as they are
 pub means-small : (n : ℕ) (labels : List Label) → LabelsFit n labels → (e : Element) (x : ℕ) → T (isInRange n e) → elementOf labels e ≡ some x → T (ltb x n)

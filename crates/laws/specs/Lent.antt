@@ -1,7 +1,7 @@
 -- Picks as words: the words written for picks are taken back as the same tuples, and words that were taken are written again.
 use Prim.Native.Nat.{ℕ, zero, _+_, _*_, _/_, _^_, _<_, _≤_}
 use mathlib.Core.Path.{_≡_, refl, sym, ap, ap₂, subst, _∙_, fun-ext}
-use mathlib.Core.Logic.{_⊎_, ⊎-elim}
+use mathlib.Core.Logic.{⊎-elim}
 use mathlib.Core.Bool.{Bool, true, false, _&&_}
 use mathlib.Core.Option.{Option, none, some}
 use mathlib.Core.List.{List, [], _∷_, _++_, map, append-assoc, List·Memᴰ, List·Memᴰ·head, List·Memᴰ·tail, List·Memᴰ·not-nil, List·Memᴰ·append-cases, Memᴰ·append-left, Memᴰ·append-right, Memᴰ·cast}
@@ -33,11 +33,11 @@ option-none none x f e = (refl, e)
 option-none (some j) x f e = absurd (none-some (sym e))
 
 pub words-take : (k : ℕ) (w : List ℕ) → Words w → Words (take k w)
-words-take k w ok j = go (ltb j k) refl
+words-take k w ok j = by-test (ltb j k) refl
   where
-    go : (b : Bool) → ltb j k ≡ b → getD (take k w) j 0 < 2 ^ 64
-    go true e = let q = getD-take k w j 0 (ltb-true j k e) in let h = ok j in omega arith
-    go false e = let h = ltb-false j k e in let a = length-take k w in let q = List·getD-eq-default (take k w) 0 {n = j} (omega arith) in omega arith
+    by-test : (b : Bool) → ltb j k ≡ b → getD (take k w) j 0 < 2 ^ 64
+    by-test true e = let q = getD-take k w j 0 (ltb-true j k e) in let h = ok j in omega arith
+    by-test false e = let h = ltb-false j k e in let a = length-take k w in let q = List·getD-eq-default (take k w) 0 {n = j} (omega arith) in omega arith
 
 pub words-drop : (k : ℕ) (w : List ℕ) → Words w → Words (drop k w)
 words-drop k w ok j = let q = getD-drop k w j 0 in let h = ok (k + j) in omega arith

@@ -1,7 +1,7 @@
 -- Lines and fields: a text of lines is cut into these lines, and a line of fields into these fields.
 use Prim.Native.Nat.{ℕ, _+_, _≤_, _<_}
 use mathlib.Core.Path.{_≡_, refl, sym, ap, ap₂, subst, _∙_}
-use mathlib.Core.Logic.{_⊎_, ⊎-elim}
+use mathlib.Core.Logic.{⊎-elim}
 use mathlib.Core.Bool.{Bool, true, false, not, _&&_, _||_}
 use mathlib.Core.List.{List, [], _∷_, _++_, append-assoc, List·Memᴰ, List·Memᴰ·head, List·Memᴰ·tail, List·Memᴰ·not-nil, List·Memᴰ·cases-cons}
 use native.Mathlib.Omega.{arith}
@@ -22,11 +22,11 @@ Without sep xs = T (all (λ b. not (eqb b sep)) xs)
 pub split-cons : (sep : ℕ) (t : List ℕ) → (q : List ℕ) × (qs : List (List ℕ)) × (split sep t ≡ q ∷ qs)
 unfolding split onFirst
 split-cons sep [] = ([], [], refl)
-split-cons sep (b ∷ t) = go (eqb b sep) (split-cons sep t)
+split-cons sep (b ∷ t) = by-test (eqb b sep) (split-cons sep t)
   where
-    go : (e : Bool) → ((q : List ℕ) × (qs : List (List ℕ)) × (split sep t ≡ q ∷ qs)) → (q : List ℕ) × (qs : List (List ℕ)) × ((if e then [] ∷ split sep t else onFirst b (split sep t)) ≡ q ∷ qs)
-    go true h = ([], split sep t, refl)
-    go false h = (b ∷ h .0, h .1, ap (onFirst b) (h .2))
+    by-test : (e : Bool) → ((q : List ℕ) × (qs : List (List ℕ)) × (split sep t ≡ q ∷ qs)) → (q : List ℕ) × (qs : List (List ℕ)) × ((if e then [] ∷ split sep t else onFirst b (split sep t)) ≡ q ∷ qs)
+    by-test true h = ([], split sep t, refl)
+    by-test false h = (b ∷ h .0, h .1, ap (onFirst b) (h .2))
 
 pub split-last : (sep : ℕ) (xs : List ℕ) → Without sep xs → split sep xs ≡ xs ∷ []
 unfolding split onFirst all

@@ -1,5 +1,5 @@
 -- Lists: what stands in a list of numbers, in a filter, in a map; tests of all or any elements.
-use Prim.Native.Nat.{ℕ, zero, suc, _+_, _<_, _≤_}
+use Prim.Native.Nat.{ℕ, zero, suc, _+_, _-_, _<_, _≤_}
 use mathlib.Core.Path.{_≡_, refl, sym, ap, ap₂, subst, _∙_}
 use mathlib.Core.Logic.{_⊎_, inl, inr, ⊎-elim}
 use mathlib.Core.Bool.{Bool, true, false, not, _||_}
@@ -7,8 +7,9 @@ use mathlib.Core.Option.{Option, none, some}
 use mathlib.Core.List.{List, [], _∷_, _++_, map, append-assoc, List·Memᴰ, List·Memᴰ·head, List·Memᴰ·tail, List·Memᴰ·not-nil, List·Memᴰ·cases-cons, List·Memᴰ·append-cases, List·Memᴰ·eq-of-singleton, Memᴰ·append-left, Memᴰ·append-right}
 use native.Mathlib.Omega.{arith}
 use native.Mathlib.Nat.{add-zero, zero-add, suc-add}
+use native.Mathlib.Numerals.{add-one}
 use lib.Dec.{T, eqb, eqb→eq}
-use lib.ListN.{length, getD, take, drop}
+use lib.ListN.{length, getD, take, drop, replicate}
 use Rattle.definitions.specs.Lists.{if_then_else_, all, any, filter, flatMap, mapFrom, from, below}
 use Rattle.laws.specs.Booleans.{and-T, T-and-l, T-and-r, T-or, or-l, or-r, T-of, T-false, T-dec, neq}
 
@@ -23,20 +24,20 @@ some-eq {A} {a} {b} e = ap (λ (o : Option A). elim o as (λ _. A) [ none ↦ a 
 pub mem-from : (n a x : ℕ) → a ≤ x → x < a + n → List·Memᴰ x (from a n)
 unfolding from
 mem-from zero a x h l = absurd (omega arith)
-mem-from (suc n) a x h l = go (T-dec (eqb x a)) (λ q. mem-from n (suc a) x q (omega arith))
+mem-from (suc n) a x h l = by-cases (T-dec (eqb x a)) (λ q. mem-from n (suc a) x q (omega arith))
   where
-    go : T (eqb x a) ⊎ T (not (eqb x a)) → (suc a ≤ x → List·Memᴰ x (from (suc a) n)) → List·Memᴰ x (a ∷ from (suc a) n)
-    go (inl t) r = List·Memᴰ·head (eqb→eq x a t)
-    go (inr t) r = List·Memᴰ·tail (r (let k = neq x a t in omega arith))
+    by-cases : T (eqb x a) ⊎ T (not (eqb x a)) → (suc a ≤ x → List·Memᴰ x (from (suc a) n)) → List·Memᴰ x (a ∷ from (suc a) n)
+    by-cases (inl t) r = List·Memᴰ·head (eqb→eq x a t)
+    by-cases (inr t) r = List·Memᴰ·tail (r (let k = neq x a t in omega arith))
 
 pub from-mem : (n a x : ℕ) → List·Memᴰ x (from a n) → (a ≤ x) × (x < a + n)
 unfolding from
 from-mem zero a x m = absurd (List·Memᴰ·not-nil m)
-from-mem (suc n) a x m = go (List·Memᴰ·cases-cons m) (from-mem n (suc a) x)
+from-mem (suc n) a x m = by-cases (List·Memᴰ·cases-cons m) (from-mem n (suc a) x)
   where
-    go : (x ≡ a) ⊎ List·Memᴰ x (from (suc a) n) → (List·Memᴰ x (from (suc a) n) → (suc a ≤ x) × (x < suc a + n)) → (a ≤ x) × (x < a + suc n)
-    go (inl e) r = (omega arith, omega arith)
-    go (inr q) r = let h = r q in (omega (arith, h .0), omega (arith, h .1))
+    by-cases : (x ≡ a) ⊎ List·Memᴰ x (from (suc a) n) → (List·Memᴰ x (from (suc a) n) → (suc a ≤ x) × (x < suc a + n)) → (a ≤ x) × (x < a + suc n)
+    by-cases (inl e) r = (omega arith, omega arith)
+    by-cases (inr q) r = let h = r q in (omega (arith, h .0), omega (arith, h .1))
 
 pub mem-below : (n x : ℕ) → x < n → List·Memᴰ x (below n)
 unfolding below
@@ -85,35 +86,35 @@ module _ {A : Type 0} where
   pub mem-filter : (p : A → Bool) (l : List A) (x : A) → List·Memᴰ x l → T (p x) → List·Memᴰ x (filter p l)
   unfolding filter
   mem-filter p [] x m t = absurd (List·Memᴰ·not-nil m)
-  mem-filter p (y ∷ l) x m t = go (p y) refl (λ q. mem-filter p l x q t) (List·Memᴰ·cases-cons m)
+  mem-filter p (y ∷ l) x m t = by-test (p y) refl (λ q. mem-filter p l x q t) (List·Memᴰ·cases-cons m)
     where
-      go : (b : Bool) → p y ≡ b → (List·Memᴰ x l → List·Memᴰ x (filter p l)) → (x ≡ y) ⊎ List·Memᴰ x l → List·Memᴰ x ((if b then y ∷ filter p l else filter p l))
-      go true e r (inl q) = List·Memᴰ·head q
-      go true e r (inr q) = List·Memᴰ·tail (r q)
-      go false e r (inl q) = absurd (subst T e (subst (λ (z : A). T (p z)) q t))
-      go false e r (inr q) = r q
+      by-test : (b : Bool) → p y ≡ b → (List·Memᴰ x l → List·Memᴰ x (filter p l)) → (x ≡ y) ⊎ List·Memᴰ x l → List·Memᴰ x ((if b then y ∷ filter p l else filter p l))
+      by-test true e r (inl q) = List·Memᴰ·head q
+      by-test true e r (inr q) = List·Memᴰ·tail (r q)
+      by-test false e r (inl q) = absurd (subst T e (subst (λ (z : A). T (p z)) q t))
+      by-test false e r (inr q) = r q
 
   pub filter-mem : (p : A → Bool) (l : List A) (x : A) → List·Memᴰ x (filter p l) → List·Memᴰ x l × T (p x)
   unfolding filter
   filter-mem p [] x m = absurd (List·Memᴰ·not-nil m)
-  filter-mem p (y ∷ l) x m = go (p y) refl (filter-mem p l x) m
+  filter-mem p (y ∷ l) x m = by-test (p y) refl (filter-mem p l x) m
     where
-      go : (b : Bool) → p y ≡ b → (List·Memᴰ x (filter p l) → List·Memᴰ x l × T (p x)) → List·Memᴰ x ((if b then y ∷ filter p l else filter p l)) → List·Memᴰ x (y ∷ l) × T (p x)
-      go true e r m = go2 (List·Memᴰ·cases-cons m)
+      by-test : (b : Bool) → p y ≡ b → (List·Memᴰ x (filter p l) → List·Memᴰ x l × T (p x)) → List·Memᴰ x ((if b then y ∷ filter p l else filter p l)) → List·Memᴰ x (y ∷ l) × T (p x)
+      by-test true e r m = go2 (List·Memᴰ·cases-cons m)
         where
           go2 : (x ≡ y) ⊎ List·Memᴰ x (filter p l) → List·Memᴰ x (y ∷ l) × T (p x)
           go2 (inl q) = (List·Memᴰ·head q, subst (λ (z : A). T (p z)) (sym q) (T-of e))
           go2 (inr q) = let h = r q in (List·Memᴰ·tail (h .0), h .1)
-      go false e r m = let h = r m in (List·Memᴰ·tail (h .0), h .1)
+      by-test false e r m = let h = r m in (List·Memᴰ·tail (h .0), h .1)
 
   pub all-at : (p : A → Bool) (l : List A) → T (all p l) → (x : A) → List·Memᴰ x l → T (p x)
   unfolding all
   all-at p [] t x m = absurd (List·Memᴰ·not-nil m)
-  all-at p (y ∷ l) t x m = go (all-at p l (T-and-r (p y) (all p l) t) x) (List·Memᴰ·cases-cons m)
+  all-at p (y ∷ l) t x m = from-this (all-at p l (T-and-r (p y) (all p l) t) x) (List·Memᴰ·cases-cons m)
     where
-      go : (List·Memᴰ x l → T (p x)) → (x ≡ y) ⊎ List·Memᴰ x l → T (p x)
-      go r (inl q) = subst (λ (z : A). T (p z)) (sym q) (T-and-l (p y) (all p l) t)
-      go r (inr q) = r q
+      from-this : (List·Memᴰ x l → T (p x)) → (x ≡ y) ⊎ List·Memᴰ x l → T (p x)
+      from-this r (inl q) = subst (λ (z : A). T (p z)) (sym q) (T-and-l (p y) (all p l) t)
+      from-this r (inr q) = r q
 
   pub all-of : (p : A → Bool) (l : List A) → ((x : A) → List·Memᴰ x l → T (p x)) → T (all p l)
   unfolding all
@@ -123,20 +124,20 @@ module _ {A : Type 0} where
   pub any-of : (p : A → Bool) (l : List A) (x : A) → List·Memᴰ x l → T (p x) → T (any p l)
   unfolding any
   any-of p [] x m t = absurd (List·Memᴰ·not-nil m)
-  any-of p (y ∷ l) x m t = go (λ q. any-of p l x q t) (List·Memᴰ·cases-cons m)
+  any-of p (y ∷ l) x m t = from-this (λ q. any-of p l x q t) (List·Memᴰ·cases-cons m)
     where
-      go : (List·Memᴰ x l → T (any p l)) → (x ≡ y) ⊎ List·Memᴰ x l → T (p y || any p l)
-      go r (inl q) = or-l (p y) (any p l) (subst (λ (z : A). T (p z)) q t)
-      go r (inr q) = or-r (p y) (any p l) (r q)
+      from-this : (List·Memᴰ x l → T (any p l)) → (x ≡ y) ⊎ List·Memᴰ x l → T (p y || any p l)
+      from-this r (inl q) = or-l (p y) (any p l) (subst (λ (z : A). T (p z)) q t)
+      from-this r (inr q) = or-r (p y) (any p l) (r q)
 
   pub any-at : (p : A → Bool) (l : List A) → T (any p l) → (x : A) × List·Memᴰ x l × T (p x)
   unfolding any
   any-at p [] t = absurd t
-  any-at p (y ∷ l) t = go (any-at p l) (T-or (p y) (any p l) t)
+  any-at p (y ∷ l) t = from-this (any-at p l) (T-or (p y) (any p l) t)
     where
-      go : (T (any p l) → (x : A) × List·Memᴰ x l × T (p x)) → T (p y) ⊎ T (any p l) → (x : A) × List·Memᴰ x (y ∷ l) × T (p x)
-      go r (inl q) = (y, List·Memᴰ·head refl, q)
-      go r (inr q) = let h = r q in (h .0, List·Memᴰ·tail (h .1), h .2)
+      from-this : (T (any p l) → (x : A) × List·Memᴰ x l × T (p x)) → T (p y) ⊎ T (any p l) → (x : A) × List·Memᴰ x (y ∷ l) × T (p x)
+      from-this r (inl q) = (y, List·Memᴰ·head refl, q)
+      from-this r (inr q) = let h = r q in (h .0, List·Memᴰ·tail (h .1), h .2)
 
   -- tests that agree on a list
   pub filter-same : (f g : A → Bool) (l : List A) → ((x : A) → List·Memᴰ x l → f x ≡ g x) → filter f l ≡ filter g l
@@ -159,11 +160,11 @@ mem-map f (z ∷ l) x m = ⊎-elim (λ e. List·Memᴰ·head (ap f e)) (λ q. Li
 
 pub map-mem : {A B : Type 0} (f : A → B) (l : List A) (y : B) → List·Memᴰ y (map f l) → (x : A) × List·Memᴰ x l × (y ≡ f x)
 map-mem f [] y m = absurd (List·Memᴰ·not-nil m)
-map-mem {A} f (z ∷ l) y m = go (map-mem f l y) (List·Memᴰ·cases-cons m)
+map-mem {A} f (z ∷ l) y m = from-this (map-mem f l y) (List·Memᴰ·cases-cons m)
   where
-    go : (List·Memᴰ y (map f l) → (x : A) × List·Memᴰ x l × (y ≡ f x)) → (y ≡ f z) ⊎ List·Memᴰ y (map f l) → (x : A) × List·Memᴰ x (z ∷ l) × (y ≡ f x)
-    go r (inl e) = (z, List·Memᴰ·head refl, e)
-    go r (inr q) = let h = r q in (h .0, List·Memᴰ·tail (h .1), h .2)
+    from-this : (List·Memᴰ y (map f l) → (x : A) × List·Memᴰ x l × (y ≡ f x)) → (y ≡ f z) ⊎ List·Memᴰ y (map f l) → (x : A) × List·Memᴰ x (z ∷ l) × (y ≡ f x)
+    from-this r (inl e) = (z, List·Memᴰ·head refl, e)
+    from-this r (inr q) = let h = r q in (h .0, List·Memᴰ·tail (h .1), h .2)
 
 pub getD-map : {A B : Type 0} (f : A → B) (l : List A) (i : ℕ) (d : A) (e : B) → i < length l → getD (map f l) i e ≡ f (getD l i d)
 getD-map f [] i d e h = absurd (omega arith)
@@ -192,11 +193,11 @@ getD-mem (x ∷ l) (suc i) d h = List·Memᴰ·tail (getD-mem l i d (omega arith
 
 pub mem-getD : {A : Type 0} (l : List A) (x d : A) → List·Memᴰ x l → (i : ℕ) × (i < length l) × (getD l i d ≡ x)
 mem-getD [] x d m = absurd (List·Memᴰ·not-nil m)
-mem-getD {A} (y ∷ l) x d m = go (List·Memᴰ·cases-cons m) (mem-getD l x d)
+mem-getD {A} (y ∷ l) x d m = by-cases (List·Memᴰ·cases-cons m) (mem-getD l x d)
   where
-    go : (x ≡ y) ⊎ List·Memᴰ x l → (List·Memᴰ x l → (i : ℕ) × (i < length l) × (getD l i d ≡ x)) → (i : ℕ) × (i < suc (length l)) × (getD (y ∷ l) i d ≡ x)
-    go (inl e) r = (zero, omega arith, sym e)
-    go (inr q) r = let (i, h, e) = r q in (suc i, omega arith, e)
+    by-cases : (x ≡ y) ⊎ List·Memᴰ x l → (List·Memᴰ x l → (i : ℕ) × (i < length l) × (getD l i d ≡ x)) → (i : ℕ) × (i < suc (length l)) × (getD (y ∷ l) i d ≡ x)
+    by-cases (inl e) r = (zero, omega arith, sym e)
+    by-cases (inr q) r = let (i, h, e) = r q in (suc i, omega arith, e)
 
 pub mem-flat : {A B : Type 0} (f : A → List B) (l : List A) (x : A) (y : B) → List·Memᴰ x l → List·Memᴰ y (f x) → List·Memᴰ y (flatMap f l)
 unfolding flatMap
@@ -206,11 +207,11 @@ mem-flat {A} f (z ∷ l) x y m q = ⊎-elim (λ e. Memᴰ·append-left (flatMap 
 pub flat-mem : {A B : Type 0} (f : A → List B) (l : List A) (y : B) → List·Memᴰ y (flatMap f l) → (x : A) × List·Memᴰ x l × List·Memᴰ y (f x)
 unfolding flatMap
 flat-mem f [] y m = absurd (List·Memᴰ·not-nil m)
-flat-mem {A} {B} f (z ∷ l) y m = go (flat-mem f l y) (List·Memᴰ·append-cases (f z) m)
+flat-mem {A} {B} f (z ∷ l) y m = from-this (flat-mem f l y) (List·Memᴰ·append-cases (f z) m)
   where
-    go : (List·Memᴰ y (flatMap f l) → (x : A) × List·Memᴰ x l × List·Memᴰ y (f x)) → List·Memᴰ y (f z) ⊎ List·Memᴰ y (flatMap f l) → (x : A) × List·Memᴰ x (z ∷ l) × List·Memᴰ y (f x)
-    go r (inl q) = (z, List·Memᴰ·head refl, q)
-    go r (inr q) = let h = r q in (h .0, List·Memᴰ·tail (h .1), h .2)
+    from-this : (List·Memᴰ y (flatMap f l) → (x : A) × List·Memᴰ x l × List·Memᴰ y (f x)) → List·Memᴰ y (f z) ⊎ List·Memᴰ y (flatMap f l) → (x : A) × List·Memᴰ x (z ∷ l) × List·Memᴰ y (f x)
+    from-this r (inl q) = (z, List·Memᴰ·head refl, q)
+    from-this r (inr q) = let h = r q in (h .0, List·Memᴰ·tail (h .1), h .2)
 
 pub flat-append : {A B : Type 0} (f : A → List B) (l m : List A) → flatMap f (l ++ m) ≡ flatMap f l ++ flatMap f m
 unfolding flatMap
@@ -258,12 +259,6 @@ module _ {A B : Type 0} (f : ℕ → A → B) where
   getD-mapFrom r zero (x ∷ l) d e h = ap (λ (i : ℕ). f i x) (sym (add-zero r))
   getD-mapFrom r (suc j) (x ∷ l) d e h = let w : suc r + j ≡ r + suc j = omega arith in getD-mapFrom (suc r) j l d e (omega arith) ∙ ap (λ (i : ℕ). f i (getD l j d)) w
 
-  pub take-mapFrom : (r j : ℕ) (l : List A) → take j (mapFrom f r l) ≡ mapFrom f r (take j l)
-  unfolding mapFrom
-  take-mapFrom r zero l = refl
-  take-mapFrom r (suc j) [] = refl
-  take-mapFrom r (suc j) (x ∷ l) = ap (λ (m : List B). f r x ∷ m) (take-mapFrom (suc r) j l)
-
 -- every numbered element passes the test
 module _ {A : Type 0} (f : ℕ → A → Bool) where
   pub each-at : (r : ℕ) (l : List A) (d : A) → T (all (λ b. b) (mapFrom f r l)) → (j : ℕ) → j < length l → T (f (r + j) (getD l j d))
@@ -276,3 +271,27 @@ module _ {A : Type 0} (f : ℕ → A → Bool) where
   unfolding all mapFrom
   each-of r [] d h = tt
   each-of r (x ∷ l) d h = and-T (f r x) _ (subst (λ (i : ℕ). T (f i x)) (add-zero r) (h 0 (omega arith))) (each-of (suc r) l d (λ j k. let e : r + suc j ≡ suc r + j = omega arith in subst (λ (i : ℕ). T (f i (getD l j d))) e (h (suc j) (omega arith))))
+
+-- ---- some of a run of numbers passes, gone through from the front
+module _ (g : ℕ → Bool) (k i : ℕ) where
+  pub any-yes : i < k → g i ≡ true → any g (from i (k - i)) ≡ true
+  unfolding any from
+  any-yes h e = let m : k - i ≡ suc (k - suc i) = omega arith in rw (m, e)
+
+  pub any-no : i < k → g i ≡ false → any g (from i (k - i)) ≡ any g (from (i + 1) (k - (i + 1)))
+  unfolding any from
+  any-no h e = let m : k - i ≡ suc (k - suc i) = omega arith in rw (m, e, add-one)
+
+  pub any-end : k ≤ i → any g (from i (k - i)) ≡ false
+  unfolding any from
+  any-end h = let m : k - i ≡ 0 = omega arith in rw m
+
+pub any-start : (g : ℕ → Bool) (k : ℕ) → any g (below k) ≡ any g (from 0 (k - 0))
+unfolding below
+any-start g k = let m : k ≡ k - 0 = omega arith in ap (λ (x : ℕ). any g (from 0 x)) m
+
+-- ---- a table of zeros
+pub zeros-at : (k j : ℕ) → _≡_ {A = ℕ} (getD (replicate k 0) j 0) 0
+zeros-at zero j = refl
+zeros-at (suc k) zero = refl
+zeros-at (suc k) (suc j) = zeros-at k j

@@ -1,5 +1,5 @@
 -- The tree means what the rule as written means, totalities included.
-use Prim.Native.Nat.{ℕ, zero, suc, _+_, _-_, _<_}
+use Prim.Native.Nat.{ℕ, zero, suc, _<_}
 use mathlib.Core.Path.{_≡_, refl, sym, ap, ap₂, subst, _∙_, fun-ext}
 use mathlib.Core.Logic.{_⊎_, inl, inr, ⊎-elim}
 use mathlib.Core.Bool.{Bool, true, false, not, _&&_, _||_, Bool·not-not, and-true}
@@ -40,17 +40,17 @@ with-other e d x l h = rw (ne-eqb l d h)
 
 agree-put : (scope : List (List ℕ)) (bs : List Binding) (e : Values) (v : List ℕ) (x : ℕ) → T (not (isBound scope v)) → Agree scope bs e → Agree (scope ++ (v ∷ [])) (record { variable = v; value = x } ∷ bs) (withValue e (length scope) x)
 unfolding Agree isBound valueOf
-agree-put scope bs e v x n a w h = go (same v w) refl (any-snoc (same w) scope v h)
+agree-put scope bs e v x n a w h = by-test (same v w) refl (any-snoc (same w) scope v h)
   where
-    go : (b : Bool) → same v w ≡ b → T (any (same w) scope) ⊎ T (same w v) → (if b then x else valueOf bs w) ≡ withValue e (length scope) x (place (same w) (scope ++ (v ∷ [])))
-    go true q u =
+    by-test : (b : Bool) → same v w ≡ b → T (any (same w) scope) ⊎ T (same w v) → (if b then x else valueOf bs w) ≡ withValue e (length scope) x (place (same w) (scope ++ (v ∷ [])))
+    by-test true q u =
         let k : v ≡ w = same-eq v w (T-of q) in
         let f : any (same w) scope ≡ false = T-false (any (same w) scope) (λ t. T-not (any (same v) scope) n (subst (λ (z : List ℕ). T (any (same z) scope)) (sym k) t)) in
         sym (ap (withValue e (length scope) x) (place-new (same w) scope v f (subst (λ (z : List ℕ). T (same w z)) (sym k) (same-refl w))) ∙ with-same e (length scope) x)
-    go false q (inl t) =
+    by-test false q (inl t) =
         let l : place (same w) scope < length scope = place-lt (same w) scope t in
         a w t ∙ sym (ap (withValue e (length scope) x) (place-left (same w) scope (v ∷ []) t) ∙ with-other e (length scope) x (place (same w) scope) (λ p. omega arith))
-    go false q (inr t) = absurd (subst T q (subst (λ (z : List ℕ). T (same v z)) (sym (same-eq w v t)) (same-refl v)))
+    by-test false q (inr t) = absurd (subst T q (subst (λ (z : List ℕ). T (same v z)) (sym (same-eq w v t)) (same-refl v)))
 
 -- ---- negation of all and any
 not-any : {A : Type 0} (p : A → Bool) (l : List A) → all (λ x. not (p x)) l ≡ not (any p l)
@@ -90,7 +90,10 @@ module _ (c : Case) (picks : List Tuple) where
   nest-some [] scope t G n h bs e a = h bs e (subst (λ (s : List (List ℕ)). Agree s bs e) (sym (append-nil scope)) a)
   nest-some (q ∷ qs) scope t G n h bs e a = ap (λ (f : ℕ → Bool). any f (rangeOf c q)) (fun-ext (λ x.
       ap (λ (k : ℕ). treeHolds c picks (withValue e (length scope) x) (nest existsNode k (map (sortOf (c .question .types)) qs) t)) (sym (length-snoc scope (q .variable)))
-      ∙ nest-some qs (scope ++ (q .variable ∷ [])) t G (T-and-r (not (isBound scope (q .variable))) _ n) (λ bs e b. h bs e (subst (λ (s : List (List ℕ)). Agree s bs e) (append-assoc scope (q .variable ∷ []) (variablesOf qs)) b)) (record { variable = q .variable; value = x } ∷ bs) (withValue e (length scope) x) (agree-put scope bs e (q .variable) x (T-and-l (not (isBound scope (q .variable))) _ n) a)))
+      ∙ nest-some qs (scope ++ (q .variable ∷ [])) t G (T-and-r (not (isBound scope (q .variable))) _ n)
+      (λ bs e b. h bs e (subst (λ (s : List (List ℕ)). Agree s bs e) (append-assoc scope (q .variable ∷ []) (variablesOf qs)) b))
+      (record { variable = q .variable; value = x } ∷ bs) (withValue e (length scope) x)
+      (agree-put scope bs e (q .variable) x (T-and-l (not (isBound scope (q .variable))) _ n) a)))
 
   nest-every : (qs : List Quantified) (scope : List (List ℕ)) (t : Tree) (G : List Binding → Bool) → T (areNew scope (variablesOf qs)) → ((bs : List Binding) (e : Values) → Agree (scope ++ variablesOf qs) bs e → treeHolds c picks e t ≡ G bs)
       → (bs : List Binding) (e : Values) → Agree scope bs e → treeHolds c picks e (nest forallNode (length scope) (map (sortOf (c .question .types)) qs) t) ≡ forEvery (rangeOf c) qs bs G
@@ -98,7 +101,10 @@ module _ (c : Case) (picks : List Tuple) where
   nest-every [] scope t G n h bs e a = h bs e (subst (λ (s : List (List ℕ)). Agree s bs e) (sym (append-nil scope)) a)
   nest-every (q ∷ qs) scope t G n h bs e a = ap (λ (f : ℕ → Bool). all f (rangeOf c q)) (fun-ext (λ x.
       ap (λ (k : ℕ). treeHolds c picks (withValue e (length scope) x) (nest forallNode k (map (sortOf (c .question .types)) qs) t)) (sym (length-snoc scope (q .variable)))
-      ∙ nest-every qs (scope ++ (q .variable ∷ [])) t G (T-and-r (not (isBound scope (q .variable))) _ n) (λ bs e b. h bs e (subst (λ (s : List (List ℕ)). Agree s bs e) (append-assoc scope (q .variable ∷ []) (variablesOf qs)) b)) (record { variable = q .variable; value = x } ∷ bs) (withValue e (length scope) x) (agree-put scope bs e (q .variable) x (T-and-l (not (isBound scope (q .variable))) _ n) a)))
+      ∙ nest-every qs (scope ++ (q .variable ∷ [])) t G (T-and-r (not (isBound scope (q .variable))) _ n)
+      (λ bs e b. h bs e (subst (λ (s : List (List ℕ)). Agree s bs e) (append-assoc scope (q .variable ∷ []) (variablesOf qs)) b))
+      (record { variable = q .variable; value = x } ∷ bs) (withValue e (length scope) x)
+      (agree-put scope bs e (q .variable) x (T-and-l (not (isBound scope (q .variable))) _ n) a)))
 
   map-agree : (scope : List (List ℕ)) (bs : List Binding) (e : Values) → Agree scope bs e → (vs : List (List ℕ)) → T (all (isBound scope) vs) → map e (map (λ v. option (position (same v) scope) zero (λ k. k)) vs) ≡ map (valueOf bs) vs
   unfolding Agree all
@@ -133,8 +139,14 @@ module _ (c : Case) (picks : List Tuple) where
         ∙ imp-or (isTrue c picks bs f) (isTrue c picks bs g)
     as-means (conjunction fs) scope bs e a s k = all-as fs scope bs e a s k
     as-means (disjunction fs) scope bs e a s k = some-as fs scope bs e a s k
-    as-means (exists qs f) scope bs e a s k = nest-some qs scope (asIs (relationsOf (c .question)) (c .question .types) (scope ++ variablesOf qs) f) (λ b. isTrue c picks b f) (T-and-l (areNew scope (variablesOf qs)) _ s) (λ b e′ a′. as-means f (scope ++ variablesOf qs) b e′ a′ (T-and-r (areNew scope (variablesOf qs)) _ s) k) bs e a
-    as-means (forall qs f) scope bs e a s k = nest-every qs scope (asIs (relationsOf (c .question)) (c .question .types) (scope ++ variablesOf qs) f) (λ b. isTrue c picks b f) (T-and-l (areNew scope (variablesOf qs)) _ s) (λ b e′ a′. as-means f (scope ++ variablesOf qs) b e′ a′ (T-and-r (areNew scope (variablesOf qs)) _ s) k) bs e a
+    as-means (exists qs f) scope bs e a s k =
+        nest-some qs scope (asIs (relationsOf (c .question)) (c .question .types) (scope ++ variablesOf qs) f) (λ b. isTrue c picks b f)
+        (T-and-l (areNew scope (variablesOf qs)) _ s) (λ b e′ a′. as-means f (scope ++ variablesOf qs) b e′ a′
+        (T-and-r (areNew scope (variablesOf qs)) _ s) k) bs e a
+    as-means (forall qs f) scope bs e a s k =
+        nest-every qs scope (asIs (relationsOf (c .question)) (c .question .types) (scope ++ variablesOf qs) f) (λ b. isTrue c picks b f)
+        (T-and-l (areNew scope (variablesOf qs)) _ s) (λ b e′ a′. as-means f (scope ++ variablesOf qs) b e′ a′
+        (T-and-r (areNew scope (variablesOf qs)) _ s) k) bs e a
 
     neg-means : (f : Formula) (scope : List (List ℕ)) (bs : List Binding) (e : Values) → Agree scope bs e → T (isScoped scope f) → T (isKnown (relationsOf (c .question)) f) → treeHolds c picks e (negated (relationsOf (c .question)) (c .question .types) scope f) ≡ not (isTrue c picks bs f)
     neg-means (literal r vs) scope bs e a s k = ap not (ap (holds c picks _) (map-agree scope bs e a vs s) ∙ leaf-holds (relationsOf (c .question)) r (map (valueOf bs) vs) (known-name (relationsOf (c .question)) r (length vs) k))
@@ -144,8 +156,14 @@ module _ (c : Case) (picks : List Tuple) where
         ∙ imp-and (isTrue c picks bs f) (isTrue c picks bs g)
     neg-means (conjunction fs) scope bs e a s k = some-neg fs scope bs e a s k
     neg-means (disjunction fs) scope bs e a s k = all-neg fs scope bs e a s k
-    neg-means (exists qs f) scope bs e a s k = nest-every qs scope (negated (relationsOf (c .question)) (c .question .types) (scope ++ variablesOf qs) f) (λ b. not (isTrue c picks b f)) (T-and-l (areNew scope (variablesOf qs)) _ s) (λ b e′ a′. neg-means f (scope ++ variablesOf qs) b e′ a′ (T-and-r (areNew scope (variablesOf qs)) _ s) k) bs e a ∙ not-some (rangeOf c) (λ b. isTrue c picks b f) qs bs
-    neg-means (forall qs f) scope bs e a s k = nest-some qs scope (negated (relationsOf (c .question)) (c .question .types) (scope ++ variablesOf qs) f) (λ b. not (isTrue c picks b f)) (T-and-l (areNew scope (variablesOf qs)) _ s) (λ b e′ a′. neg-means f (scope ++ variablesOf qs) b e′ a′ (T-and-r (areNew scope (variablesOf qs)) _ s) k) bs e a ∙ not-every (rangeOf c) (λ b. isTrue c picks b f) qs bs
+    neg-means (exists qs f) scope bs e a s k =
+        nest-every qs scope (negated (relationsOf (c .question)) (c .question .types) (scope ++ variablesOf qs) f) (λ b. not (isTrue c picks b f))
+        (T-and-l (areNew scope (variablesOf qs)) _ s) (λ b e′ a′. neg-means f (scope ++ variablesOf qs) b e′ a′
+        (T-and-r (areNew scope (variablesOf qs)) _ s) k) bs e a ∙ not-some (rangeOf c) (λ b. isTrue c picks b f) qs bs
+    neg-means (forall qs f) scope bs e a s k =
+        nest-some qs scope (negated (relationsOf (c .question)) (c .question .types) (scope ++ variablesOf qs) f) (λ b. not (isTrue c picks b f))
+        (T-and-l (areNew scope (variablesOf qs)) _ s) (λ b e′ a′. neg-means f (scope ++ variablesOf qs) b e′ a′
+        (T-and-r (areNew scope (variablesOf qs)) _ s) k) bs e a ∙ not-every (rangeOf c) (λ b. isTrue c picks b f) qs bs
 
     all-as : (fs : Formulas) (scope : List (List ℕ)) (bs : List Binding) (e : Values) → Agree scope bs e → T (areScoped scope fs) → T (areKnown (relationsOf (c .question)) fs) → treesHold c picks e (allAsIs (relationsOf (c .question)) (c .question .types) scope fs) ≡ allTrue c picks bs fs
     all-as nil scope bs e a s k = refl
@@ -157,23 +175,29 @@ module _ (c : Case) (picks : List Tuple) where
 
     all-neg : (fs : Formulas) (scope : List (List ℕ)) (bs : List Binding) (e : Values) → Agree scope bs e → T (areScoped scope fs) → T (areKnown (relationsOf (c .question)) fs) → treesHold c picks e (allNegated (relationsOf (c .question)) (c .question .types) scope fs) ≡ not (someTrue c picks bs fs)
     all-neg nil scope bs e a s k = refl
-    all-neg (cons f fs) scope bs e a s k = ap₂ _&&_ (neg-means f scope bs e a (T-and-l (isScoped scope f) _ s) (T-and-l (isKnown (relationsOf (c .question)) f) _ k)) (all-neg fs scope bs e a (T-and-r (isScoped scope f) _ s) (T-and-r (isKnown (relationsOf (c .question)) f) _ k)) ∙ sym (not-or (isTrue c picks bs f) (someTrue c picks bs fs))
+    all-neg (cons f fs) scope bs e a s k =
+        ap₂ _&&_ (neg-means f scope bs e a (T-and-l (isScoped scope f) _ s) (T-and-l (isKnown (relationsOf (c .question)) f) _ k))
+        (all-neg fs scope bs e a (T-and-r (isScoped scope f) _ s) (T-and-r (isKnown (relationsOf (c .question)) f) _ k))
+        ∙ sym (not-or (isTrue c picks bs f) (someTrue c picks bs fs))
 
     some-neg : (fs : Formulas) (scope : List (List ℕ)) (bs : List Binding) (e : Values) → Agree scope bs e → T (areScoped scope fs) → T (areKnown (relationsOf (c .question)) fs) → someHolds c picks e (allNegated (relationsOf (c .question)) (c .question .types) scope fs) ≡ not (allTrue c picks bs fs)
     some-neg nil scope bs e a s k = refl
-    some-neg (cons f fs) scope bs e a s k = ap₂ _||_ (neg-means f scope bs e a (T-and-l (isScoped scope f) _ s) (T-and-l (isKnown (relationsOf (c .question)) f) _ k)) (some-neg fs scope bs e a (T-and-r (isScoped scope f) _ s) (T-and-r (isKnown (relationsOf (c .question)) f) _ k)) ∙ sym (not-and (isTrue c picks bs f) (allTrue c picks bs fs))
+    some-neg (cons f fs) scope bs e a s k =
+        ap₂ _||_ (neg-means f scope bs e a (T-and-l (isScoped scope f) _ s) (T-and-l (isKnown (relationsOf (c .question)) f) _ k))
+        (some-neg fs scope bs e a (T-and-r (isScoped scope f) _ s) (T-and-r (isKnown (relationsOf (c .question)) f) _ k))
+        ∙ sym (not-and (isTrue c picks bs f) (allTrue c picks bs fs))
 
   -- the totalities
   totalities-mean : (r : ℕ) (ks : List Relation) (e : Values) → treesHold c picks e (totalities r ks) ≡ all (λ b. b) (mapFrom (λ r (k : Relation). if isTotal (k .kind) then isTotalIn c picks r k else true) r ks)
   unfolding treesHold treeHolds totalities all mapFrom isTotalIn withValue
   totalities-mean r [] e = refl
-  totalities-mean r (k ∷ ks) e = go (isTotal (k .kind)) (totalities-mean (suc r) ks e)
+  totalities-mean r (k ∷ ks) e = by-test (isTotal (k .kind)) (totalities-mean (suc r) ks e)
     where
-      go : (b : Bool) → treesHold c picks e (totalities (suc r) ks) ≡ all (λ b. b) (mapFrom (λ r (k : Relation). if isTotal (k .kind) then isTotalIn c picks r k else true) (suc r) ks)
+      by-test : (b : Bool) → treesHold c picks e (totalities (suc r) ks) ≡ all (λ b. b) (mapFrom (λ r (k : Relation). if isTotal (k .kind) then isTotalIn c picks r k else true) (suc r) ks)
           → treesHold c picks e (if b then forallNode 0 (k .firsts) (existsNode 1 (k .seconds) (leaf true r (0 ∷ 1 ∷ []))) then totalities (suc r) ks else totalities (suc r) ks)
           ≡ ((if b then isTotalIn c picks r k else true) && all (λ b. b) (mapFrom (λ r (k : Relation). if isTotal (k .kind) then isTotalIn c picks r k else true) (suc r) ks))
-      go true h = ap (λ (x : Bool). isTotalIn c picks r k && x) h
-      go false h = h
+      by-test true h = ap (λ (x : Bool). isTotalIn c picks r k && x) h
+      by-test false h = h
 
   joined-holds : (t : Tree) (us : Trees) (e : Values) → treeHolds c picks e (joined t us) ≡ (treeHolds c picks e t && treesHold c picks e us)
   unfolding joined treeHolds treesHold

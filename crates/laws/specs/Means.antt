@@ -1,7 +1,6 @@
 -- What each atom means in the proof phase, and that the actions of nodes keep to it.
-use Prim.Native.Nat.{ℕ, zero, suc, _+_, _-_, _*_, _%_, _^_, _<_, _≤_}
+use Prim.Native.Nat.{ℕ, zero, suc, _+_, _*_, _%_, _^_, _<_, _≤_}
 use mathlib.Core.Path.{_≡_, refl, sym, ap, ap₂, subst, subst₂, _∙_}
-use mathlib.Core.Logic.{_⊎_, ⊎-elim}
 use mathlib.Core.Bool.{Bool, true, false, not, _&&_}
 use mathlib.Core.Option.{Option, none, some}
 use mathlib.Core.List.{List, [], _∷_, map, List·Memᴰ, List·Memᴰ·eq-of-singleton}
@@ -141,20 +140,27 @@ module _ (p : Problem) (G : Good p) where
     unfolding needs parts isTrueAt treeHolds all
     and-sound v row ts l e t =
         let q : T (all (means p P) (partAtoms (p .size) (p .range) (valuesAt (p .size) (nodeAt p v) row) (parts v (nodeAt p v)))) = T-and-r (means p P proof) _ t in
-        at-node v row (andNode ts) e (subst T (parts-mean ts (suc v) (valuesAt (p .size) (andNode ts) row) (parts-and p v ts (here-as v (andNode ts) l e)) (values-bnd (andNode ts) row)) (subst (λ (s : Tree). T (all (means p P) (partAtoms (p .size) (p .range) (valuesAt (p .size) s row) (parts v s)))) e q))
+        at-node v row (andNode ts) e (subst T (parts-mean ts (suc v) (valuesAt (p .size) (andNode ts) row)
+        (parts-and p v ts (here-as v (andNode ts) l e)) (values-bnd (andNode ts) row))
+        (subst (λ (s : Tree). T (all (means p P) (partAtoms (p .size) (p .range) (valuesAt (p .size) s row) (parts v s)))) e q))
 
     or-sound : (v row i : ℕ) (ts : Trees) → v < length (p .nodeList) → nodeAt p v ≡ orNode ts → i < howMany ts → T (all (means p P) (needs p (proveOr v row i))) → T (means p P (holdsNode v row))
     unfolding needs parts isTrueAt treeHolds all
     or-sound v row i ts l e g t =
         let q : T (all (means p P) (take 1 (drop i (partAtoms (p .size) (p .range) (valuesAt (p .size) (nodeAt p v) row) (parts v (nodeAt p v)))))) = T-and-r (means p P proof) _ t in
-        at-node v row (orNode ts) e (part-sound ts (suc v) i (valuesAt (p .size) (orNode ts) row) (parts-or p v ts (here-as v (orNode ts) l e)) (values-bnd (orNode ts) row) g (subst (λ (s : Tree). T (all (means p P) (take 1 (drop i (partAtoms (p .size) (p .range) (valuesAt (p .size) s row) (parts v s)))))) e q))
+        at-node v row (orNode ts) e (part-sound ts (suc v) i (valuesAt (p .size) (orNode ts) row) (parts-or p v ts (here-as v (orNode ts) l e))
+        (values-bnd (orNode ts) row) g (subst (λ (s : Tree). T
+        (all (means p P) (take 1 (drop i (partAtoms (p .size) (p .range) (valuesAt (p .size) s row) (parts v s)))))) e q))
 
     exists-sound : (v row x d σ : ℕ) (u : Tree) → v < length (p .nodeList) → nodeAt p v ≡ existsNode d σ u → List·Memᴰ x (p .range σ) → T (all (means p P) (needs p (proveExists v row x))) → T (means p P (holdsNode v row))
     unfolding needs underAtom isTrueAt treeHolds all
     exists-sound v row x d σ u l e g t =
         let q : T (means p P (underAtom (p .size) (p .range) v (nodeAt p v) row x)) = T-and-l (means p P (underAtom (p .size) (p .range) v (nodeAt p v) row x)) true (T-and-r (means p P proof) _ t) in
         let f : ℕ → Bool = λ x. treeHolds (p .source) P (withValue (valuesAt (p .size) (existsNode d σ u) row) d x) u in
-        let w : T (f x) = subst T (means-at (suc v) u (withValue (valuesAt (p .size) (existsNode d σ u) row) d x) (under-exists p v d σ u (here-as v (existsNode d σ u) l e)) (bnd-with (p .size) _ d x (values-bnd (existsNode d σ u) row) (G .ranged σ .small x g))) (subst (λ (s : Tree). T (means p P (underAtom (p .size) (p .range) v s row x))) e q) in
+        let w : T (f x) = subst T (means-at (suc v) u (withValue (valuesAt (p .size) (existsNode d σ u) row) d x)
+        (under-exists p v d σ u (here-as v (existsNode d σ u) l e))
+        (bnd-with (p .size) _ d x (values-bnd (existsNode d σ u) row) (G .ranged σ .small x g)))
+        (subst (λ (s : Tree). T (means p P (underAtom (p .size) (p .range) v s row x))) e q) in
         at-node v row (existsNode d σ u) e (any-of f (membersOf (p .source) σ) x (subst (λ (R : ℕ → List ℕ). List·Memᴰ x (R σ)) (G .ranges) g) w)
 
     forall-sound : (v row z d σ : ℕ) (u : Tree) → v < length (p .nodeList) → nodeAt p v ≡ forallNode d σ u → List·Memᴰ z (p .range σ) → T (all (means p P) (needs p (proveForall v row z))) → T (means p P (holdsNode v (row * p .size + z)))
@@ -162,7 +168,7 @@ module _ (p : Problem) (G : Good p) where
     forall-sound v row z d σ u l e g t =
         let q : T (all (means p P) (forallNeeds (p .size) (p .range) v (forallNode d σ u) row z)) = subst (λ (s : Tree). T (all (means p P) (forallNeeds (p .size) (p .range) v s row z))) e t in
         at-node v (row * p .size + z) (forallNode d σ u) e (subst T (sym (forall-at d σ u row z g ∙ up-step f (p .range σ) z (G .ranged σ .ascends) g))
-        (and-T (f z) _ (under (T-and-l (means p P (underAtom (p .size) (p .range) v (forallNode d σ u) row z)) _ q)) (go (before (p .range σ) z) refl (T-and-r (means p P (underAtom (p .size) (p .range) v (forallNode d σ u) row z)) _ q))))
+        (and-T (f z) _ (under (T-and-l (means p P (underAtom (p .size) (p .range) v (forallNode d σ u) row z)) _ q)) (by-option (before (p .range σ) z) refl (T-and-r (means p P (underAtom (p .size) (p .range) v (forallNode d σ u) row z)) _ q))))
       where
         f : ℕ → Bool
         f x = treeHolds (p .source) P (withValue (valuesAt (p .size) (forallNode d σ u) row) d x) u
@@ -170,9 +176,9 @@ module _ (p : Problem) (G : Good p) where
         under : T (means p P (underAtom (p .size) (p .range) v (forallNode d σ u) row z)) → T (f z)
         under q = subst T (means-at (suc v) u (withValue (valuesAt (p .size) (forallNode d σ u) row) d z) (under-forall p v d σ u (here-as v (forallNode d σ u) l e)) (bnd-with (p .size) _ d z (values-bnd (forallNode d σ u) row) (G .ranged σ .small z g))) q
 
-        go : (o : Option ℕ) → before (p .range σ) z ≡ o → T (all (means p P) (option o [] (λ y. holdsNode v (row * p .size + y) ∷ []))) → T (option o true (λ y. all f (upTo (p .range σ) y)))
-        go none i q = tt
-        go (some y) i q =
+        by-option : (o : Option ℕ) → before (p .range σ) z ≡ o → T (all (means p P) (option o [] (λ y. holdsNode v (row * p .size + y) ∷ []))) → T (option o true (λ y. all f (upTo (p .range σ) y)))
+        by-option none i q = tt
+        by-option (some y) i q =
             let k = before-some (p .range σ) z y (G .ranged σ .ascends) i in
             let a : T (isTrueAt p P (nodeAt p v) (row * p .size + y)) = T-and-l (isTrueAt p P (nodeAt p v) (row * p .size + y)) true q in
             subst T (forall-at d σ u row y (k .0)) (subst (λ (s : Tree). T (isTrueAt p P s (row * p .size + y))) e a)

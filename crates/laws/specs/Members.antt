@@ -43,11 +43,11 @@ ascending-below n = ascending-from n 0
 pub ascending-filter : (f : ℕ → Bool) (l : List ℕ) → Ascending l → Ascending (filter f l)
 unfolding Ascending filter
 ascending-filter f [] a = tt
-ascending-filter f (x ∷ l) a = go (f x) (ascending-filter f l (a .1))
+ascending-filter f (x ∷ l) a = by-test (f x) (ascending-filter f l (a .1))
   where
-    go : (b : Bool) → Ascending (filter f l) → Ascending (if b then x ∷ filter f l else filter f l)
-    go true r = (λ y m. a .0 y (filter-mem f l y m .0), r)
-    go false r = r
+    by-test : (b : Bool) → Ascending (filter f l) → Ascending (if b then x ∷ filter f l else filter f l)
+    by-test true r = (λ y m. a .0 y (filter-mem f l y m .0), r)
+    by-test false r = r
 
 pub ascending-map : (g : ℕ → ℕ) (l : List ℕ) → Ascending l → ((x y : ℕ) → List·Memᴰ x l → List·Memᴰ y l → x < y → g x < g y) → Ascending (map g l)
 unfolding Ascending
@@ -101,11 +101,6 @@ has-member types n members k F t =
     let (m, i, e) = any-at (λ (m : Member). eqb (m .type) k) members t in
     (m .element, F .small m i, any-of (λ (u : Member). eqb (u .type) k && eqb (u .element) (m .element)) members m i (and-T (eqb (m .type) k) _ e (eqb-refl (m .element))))
 
--- what a variable ranges over: elements, and with a type those that are members of it
-pub members-all : (c : Case) → membersOf c zero ≡ below (c .site .size)
-unfolding membersOf
-members-all c = refl
-
 pub all-range : (c : Case) (x : ℕ) → List·Memᴰ x (membersOf c zero) ↔ (x < c .site .size)
 unfolding membersOf
 all-range c x = (below-lt (c .site .size) x, mem-below (c .site .size) x)
@@ -136,11 +131,11 @@ filter-range n f x h t = record {
 pub members-range : (c : Case) (s : ℕ) → 0 < c .site .size → MembersFit (length (c .question .types)) (c .site .size) (c .site .members) → ((k : ℕ) → k < length (c .question .types) → T (hasMember (c .site .members) k)) → IsRange (c .site .size) (membersOf c s)
 unfolding membersOf
 members-range c zero h F each = below-range (c .site .size) h
-members-range c (suc k) h F each = go (ltb k (length (c .question .types))) refl
+members-range c (suc k) h F each = by-test (ltb k (length (c .question .types))) refl
   where
-    go : (b : Bool) → ltb k (length (c .question .types)) ≡ b → IsRange (c .site .size) (if b then filter (isMember (c .site .members) k) (below (c .site .size)) else below (c .site .size))
-    go true e = let (x, l, t) = has-member (length (c .question .types)) (c .site .size) (c .site .members) k F (each k (ltb-true k (length (c .question .types)) e)) in filter-range (c .site .size) (isMember (c .site .members) k) x l t
-    go false e = below-range (c .site .size) h
+    by-test : (b : Bool) → ltb k (length (c .question .types)) ≡ b → IsRange (c .site .size) (if b then filter (isMember (c .site .members) k) (below (c .site .size)) else below (c .site .size))
+    by-test true e = let (x, l, t) = has-member (length (c .question .types)) (c .site .size) (c .site .members) k F (each k (ltb-true k (length (c .question .types)) e)) in filter-range (c .site .size) (isMember (c .site .members) k) x l t
+    by-test false e = below-range (c .site .size) h
 
 -- ---- the test of membership
 pub in-mem : (z : ℕ) (ms : List ℕ) → T (isIn z ms) → List·Memᴰ z ms
@@ -192,11 +187,11 @@ last-none (y ∷ l) e x m = none-some (sym e)
 last-some : (l : List ℕ) (y : ℕ) → Ascending l → last l ≡ some y → List·Memᴰ y l × ((x : ℕ) → List·Memᴰ x l → x ≤ y)
 unfolding last Ascending option
 last-some [] y a e = absurd (none-some e)
-last-some (x ∷ l) y a e = go (last l) refl (some-eq e) (λ z q. last-some l z (a .1) q)
+last-some (x ∷ l) y a e = by-option (last l) refl (some-eq e) (λ z q. last-some l z (a .1) q)
   where
-    go : (o : Option ℕ) → last l ≡ o → option o x (λ z. z) ≡ y → ((z : ℕ) → last l ≡ some z → List·Memᴰ z l × ((w : ℕ) → List·Memᴰ w l → w ≤ z)) → List·Memᴰ y (x ∷ l) × ((w : ℕ) → List·Memᴰ w (x ∷ l) → w ≤ y)
-    go none q k r = (List·Memᴰ·head (sym k), λ w m. ⊎-elim (λ i. omega arith) (λ i. absurd (last-none l q w i)) (List·Memᴰ·cases-cons m))
-    go (some z) q k r =
+    by-option : (o : Option ℕ) → last l ≡ o → option o x (λ z. z) ≡ y → ((z : ℕ) → last l ≡ some z → List·Memᴰ z l × ((w : ℕ) → List·Memᴰ w l → w ≤ z)) → List·Memᴰ y (x ∷ l) × ((w : ℕ) → List·Memᴰ w (x ∷ l) → w ≤ y)
+    by-option none q k r = (List·Memᴰ·head (sym k), λ w m. ⊎-elim (λ i. omega arith) (λ i. absurd (last-none l q w i)) (List·Memᴰ·cases-cons m))
+    by-option (some z) q k r =
         let (m, h) = r z q in
         (Memᴰ·cast (sym k) (List·Memᴰ·tail m), λ w i. ⊎-elim (λ j. let b = a .0 z m in omega arith) (λ j. let b = h w j in omega arith) (List·Memᴰ·cases-cons i))
 
@@ -235,11 +230,11 @@ abbrev pub upBefore : (ℕ → Bool) → List ℕ → ℕ → Bool
 upBefore f ms z = option (before ms z) true (λ y. all f (upTo ms y))
 
 le-cases : (m z : ℕ) → m ≤ z → (m < z) ⊎ (m ≡ z)
-le-cases m z h = go (eqb m z) refl
+le-cases m z h = by-test (eqb m z) refl
   where
-    go : (b : Bool) → eqb m z ≡ b → (m < z) ⊎ (m ≡ z)
-    go true e = inr (eqb→eq m z (T-of e))
-    go false e = inl (let k = ne m z e in omega arith)
+    by-test : (b : Bool) → eqb m z ≡ b → (m < z) ⊎ (m ≡ z)
+    by-test true e = inr (eqb→eq m z (T-of e))
+    by-test false e = inl (let k = ne m z e in omega arith)
       where
         ne : (m z : ℕ) → eqb m z ≡ false → m ≡ z → ⊥
         ne m z e q = subst T (sym (eq-eqb m z q) ∙ e) tt

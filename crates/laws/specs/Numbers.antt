@@ -15,7 +15,9 @@ use lib.Seq.{take-all}
 use Rattle.definitions.specs.Lists.{if_then_else_, flatMap, mapFrom, rank}
 use Rattle.definitions.specs.Relations.{Kind, static, plain, Fun, PFun, Inj, PInj, isChosen, isFunction, isInjective, Relation, fixed}
 use Rattle.definitions.specs.Tree.{Tree, Trees, leaf, forallNode, existsNode, andNode, orNode, howMany, nodeSort}
-use Rattle.definitions.specs.Atoms.{Block, itemAt, countOf, Problem, relationAt, nodeAt, tuplesOf, rowsOf, nodeWidth, Atom, guess, proof, goal, tuple, notTuple, freeDomain, freeRange, holdsNode, relationBlocks, relationsBlocks, nodesBlocks, atomBlocks, atoms, nodeAtoms, relationStart, nodeStart, atomNumber}
+use Rattle.definitions.specs.Atoms.{Block, itemAt, countOf, Problem, relationAt, nodeAt, tuplesOf, rowsOf, nodeWidth, Atom, guess, proof, goal, tuple}
+use Rattle.definitions.specs.Atoms.{notTuple, freeDomain, freeRange, holdsNode, relationBlocks, relationsBlocks, nodesBlocks, atomBlocks, atoms}
+use Rattle.definitions.specs.Atoms.{nodeAtoms, relationStart, nodeStart, atomNumber}
 use Rattle.definitions.specs.Actions.{Action, set, beginProof, proveAnd, proveOr, proveExists, proveForall, proveGoal, choices, proveNode, setRows, setsOf, setBlocks, proofsOf, proofBlocks, actionBlocks, actions, actionAt, setStart, proofStart, proofNumber, rangeAt, actionNumber}
 use Rattle.laws.specs.Booleans.{T-true}
 use Rattle.laws.specs.Lists.{some-eq, getD-mem}
@@ -547,7 +549,9 @@ module _ (p : Problem) where
   abbrev pub Alone : Type 0
   Alone = (s : ℕ) → Once (p .range s)
 
-  in-node : (v j : ℕ) (s : Tree) → nodeAt p v ≡ s → v < length (p .nodeList) → j < proofsOf (p .size) (p .range) s → IsAction p (proveNode (p .range) s v (j / choices (p .range) s) (j % choices (p .range) s)) × (Alone → actionNumber p (proveNode (p .range) s v (j / choices (p .range) s) (j % choices (p .range) s)) ≡ proofStart p v + j)
+  in-node : (v j : ℕ) (s : Tree) → nodeAt p v ≡ s → v < length (p .nodeList) → j < proofsOf (p .size) (p .range) s
+      → IsAction p (proveNode (p .range) s v (j / choices (p .range) s) (j % choices (p .range) s))
+      × (Alone → actionNumber p (proveNode (p .range) s v (j / choices (p .range) s) (j % choices (p .range) s)) ≡ proofStart p v + j)
   unfolding IsAction actionNumber proofNumber proofsOf choices proveNode nodeSort
   in-node v j (leaf q r ls) e l h = absurd (let z = mul-zero (rowsOf (p .size) (leaf q r ls)) in omega arith)
   in-node v j (andNode ts) e l h = let b = row-below j (rowsOf (p .size) (andNode ts)) 1 h in ((l, rw e (b .0), (ts, e)), λ U. rw e (let d = div-one j in let m = mul-one (j / 1) in omega arith))

@@ -43,8 +43,8 @@ pair-action p G F K q v m = (
 )
 
 -- each is such a pair, and its tuple among F
-abbrev pub Ready : Problem → List Tuple → List Pair → Type 0
-Ready p F l = (q : Pair) → List·Memᴰ q l → IsPair p q × List·Memᴰ (tupleOf p q) F
+abbrev pub PairsReady : Problem → List Tuple → List Pair → Type 0
+PairsReady p F l = (q : Pair) → List·Memᴰ q l → IsPair p q × List·Memᴰ (tupleOf p q) F
 
 unfoldable pub pairs : Problem → List Tuple → List Pair
 pairs p F = flatMap (λ r. map (λ row. (r, row)) (pickedRows p F r)) (chosenNumbers p)
@@ -61,7 +61,7 @@ module _ (p : Problem) (F : List Tuple) where
       (λ r q m. let (row, mr, e) = map-mem (λ row. (r, row)) (pickedRows p F r) q m in ap (λ (u : Pair). u .0) e)
       (once-filter (λ r. isChosen (relationAt p r .kind)) (below (length (p .relations))) (once-below (length (p .relations))))
 
-  pub pairs-ready : Ready p F (pairs p F)
+  pub pairs-ready : PairsReady p F (pairs p F)
   unfolding pairs pickedRows chosenNumbers isPicked IsPair
   pairs-ready q m =
       let (r, mr, mq) = flat-mem (λ r. map (λ row. (r, row)) (pickedRows p F r)) (chosenNumbers p) q m in

@@ -59,11 +59,11 @@ map-same (l ∷ ls) e θ h = ap₂ _∷_ (h l (or-l (eqb l l) _ (T-of (eq-eqb l 
 
 pub with-sames : (f : ℕ → Bool) (e θ : Values) (d x : ℕ) → Same (λ l. not (eqb l d) && f l) e θ → Same f (withValue e d x) (withValue θ d x)
 unfolding withValue
-with-sames f e θ d x h l q = go (eqb l d) refl
+with-sames f e θ d x h l q = by-test (eqb l d) refl
   where
-    go : (b : Bool) → eqb l d ≡ b → (if b then x else e l) ≡ (if b then x else θ l)
-    go true k = refl
-    go false k = h l (and-T (not (eqb l d)) (f l) (subst (λ (b : Bool). T (not b)) (sym k) tt) q)
+    by-test : (b : Bool) → eqb l d ≡ b → (if b then x else e l) ≡ (if b then x else θ l)
+    by-test true k = refl
+    by-test false k = h l (and-T (not (eqb l d)) (f l) (subst (λ (b : Bool). T (not b)) (sym k) tt) q)
 
 module _ (c : Case) (picks : List Tuple) where
   mutual
@@ -89,12 +89,12 @@ module _ (c : Case) (picks : List Tuple) where
 values-back : (ls : List ℕ) (e : Values) (l : ℕ) → List·Memᴰ l ls → valuesIn ls (map e ls) l ≡ e l
 unfolding valuesIn
 values-back [] e l m = absurd (List·Memᴰ·not-nil m)
-values-back (d ∷ ds) e l m = go (values-back ds e l) (List·Memᴰ·cases-cons m) (eqb l d) refl
+values-back (d ∷ ds) e l m = from-this (values-back ds e l) (List·Memᴰ·cases-cons m) (eqb l d) refl
   where
-    go : (List·Memᴰ l ds → valuesIn ds (map e ds) l ≡ e l) → (l ≡ d) ⊎ List·Memᴰ l ds → (b : Bool) → eqb l d ≡ b → (if b then e d else valuesIn ds (map e ds) l) ≡ e l
-    go r m true k = ap e (sym (eqb-true l d k))
-    go r (inl q) false k = absurd (eqb-false l d k q)
-    go r (inr q) false k = r q
+    from-this : (List·Memᴰ l ds → valuesIn ds (map e ds) l ≡ e l) → (l ≡ d) ⊎ List·Memᴰ l ds → (b : Bool) → eqb l d ≡ b → (if b then e d else valuesIn ds (map e ds) l) ≡ e l
+    from-this r m true k = ap e (sym (eqb-true l d k))
+    from-this r (inl q) false k = absurd (eqb-false l d k q)
+    from-this r (inr q) false k = r q
 
 pub back : (t : Tree) (e : Values) → Within t → Same (λ l. occurs l t) (valuesIn (free t) (map e (free t))) e
 unfolding free
@@ -106,21 +106,21 @@ Bnd n e = (l : ℕ) → e l < n
 
 pub bnd-with : (n : ℕ) (e : Values) (d x : ℕ) → Bnd n e → x < n → Bnd n (withValue e d x)
 unfolding withValue
-bnd-with n e d x b h l = go (eqb l d)
+bnd-with n e d x b h l = by-test (eqb l d)
   where
-    go : (c : Bool) → (if c then x else e l) < n
-    go true = h
-    go false = b l
+    by-test : (c : Bool) → (if c then x else e l) < n
+    by-test true = h
+    by-test false = b l
 
 pub bnd-values : (n : ℕ) (ls xs : List ℕ) → 0 < n → T (all (λ x. ltb x n) xs) → Bnd n (valuesIn ls xs)
 unfolding valuesIn all
 bnd-values n [] xs p h l = p
 bnd-values n (d ∷ ds) [] p h l = p
-bnd-values n (d ∷ ds) (x ∷ xs) p h l = go (eqb l d) (bnd-values n ds xs p (T-and-r (ltb x n) _ h) l)
+bnd-values n (d ∷ ds) (x ∷ xs) p h l = by-test (eqb l d) (bnd-values n ds xs p (T-and-r (ltb x n) _ h) l)
   where
-    go : (c : Bool) → valuesIn ds xs l < n → (if c then x else valuesIn ds xs l) < n
-    go true r = ltb→lt x n (T-and-l (ltb x n) _ h)
-    go false r = r
+    by-test : (c : Bool) → valuesIn ds xs l < n → (if c then x else valuesIn ds xs l) < n
+    by-test true r = ltb→lt x n (T-and-l (ltb x n) _ h)
+    by-test false r = r
 
 pub bnd-map : (n : ℕ) (e : Values) (ls : List ℕ) → Bnd n e → T (all (λ x. ltb x n) (map e ls))
 unfolding all
@@ -206,7 +206,9 @@ module _ (p : Problem) where
     here-subs end v h k l = absurd (omega arith)
     here-subs (t then ts) v h k l = step (ltb k (length (nodes t))) refl (λ q. here-sub t v (head-here v t ts h) k q) (λ q. here-subs ts (v + length (nodes t)) (tail-here v t ts h) (k - length (nodes t)) q)
       where
-        step : (b : Bool) → ltb k (length (nodes t)) ≡ b → (k < length (nodes t) → Here (v + k) (getD (nodes t) k noNode)) → (k - length (nodes t) < length (nodesAll ts) → Here (v + length (nodes t) + (k - length (nodes t))) (getD (nodesAll ts) (k - length (nodes t)) noNode)) → Here (v + k) (getD (nodes t ++ nodesAll ts) k noNode)
+        step : (b : Bool) → ltb k (length (nodes t)) ≡ b → (k < length (nodes t) → Here (v + k) (getD (nodes t) k noNode))
+            → (k - length (nodes t) < length (nodesAll ts) → Here (v + length (nodes t) + (k - length (nodes t)))
+            (getD (nodesAll ts) (k - length (nodes t)) noNode)) → Here (v + k) (getD (nodes t ++ nodesAll ts) k noNode)
         step true e f g = let q = ltb-true k (length (nodes t)) e in subst (Here (v + k)) (sym (List·getD-append (nodes t) (nodesAll ts) noNode k q)) (f q)
         step false e f g =
             let q : length (nodes t) ≤ k = ltb-false k (length (nodes t)) e in

@@ -1,5 +1,5 @@
 -- What acceptance gives: a question and site that `readProblem` accepts are those of a case that is `Accepted`.
-use Prim.Native.Nat.{ℕ, zero, suc, _+_, _-_, _<_, _≤_}
+use Prim.Native.Nat.{ℕ, zero, suc, _+_, _<_, _≤_}
 use mathlib.Core.Path.{_≡_, refl, sym, ap, subst, _∙_}
 use mathlib.Core.Logic.{_⊎_, inl, inr, ⊎-elim}
 use mathlib.Core.Bool.{Bool, true, false, not, _&&_, _||_}
@@ -17,7 +17,11 @@ use Rattle.definitions.specs.Relations.{Kind, static, plain, Fun, PFun, Inj, PI
 use Rattle.definitions.specs.Formula.{allForms, nesting, isKnown, isScoped, isTyped, typeNumber, sortNamed, isType}
 use Rattle.definitions.specs.Parsing.{readFormula}
 use Rattle.definitions.specs.Sheets
-use Sheets.{Element, Entry, rel, type, choose, rule, size, label, member, fact, pick, step, arityOf, element, elements, labelOf, memberOf, kindNamed, chooseOf, withOne, withTwo, withElements, entry, entryOf, Rule, Draft, Question, relations, isRuled, isNewName, addRel, addType, placeSort, addChoose, addRule, addToQuestion, questionLine, readQuestion, relationsOf, firstRel, used, Label, elementOf, elementsOf, isInRange, addTuple, Member, isMember, hasMember, SiteDraft, Site, Labelled, addSize, isTaken, addLabel, addMember, addFact, addToSite, siteLine, readSite, addToPicks, picksLine, readPicks}
+use Sheets.{Element, Entry, rel, type, choose, rule, size, label, member, fact, pick, step, arityOf, element, elements, labelOf, memberOf, kindNamed}
+use Sheets.{chooseOf, withOne, withTwo, withElements, entry, entryOf, Rule, Draft, Question, relations, isRuled, isNewName, addRel, addType}
+use Sheets.{placeSort, addChoose, addRule, addToQuestion, questionLine, readQuestion, relationsOf, firstRel, used, Label, elementOf, elementsOf}
+use Sheets.{isInRange, addTuple, Member, isMember, hasMember, SiteDraft, Site, Labelled, addSize, isTaken, addLabel, addMember, addFact, addToSite}
+use Sheets.{siteLine, readSite, addToPicks, picksLine, readPicks}
 use Rattle.definitions.specs.Truth.{Case, membersOf}
 use Rattle.definitions.specs.Atoms.{Problem, problemOf, atoms}
 use Rattle.definitions.specs.Actions.{actions}
@@ -118,12 +122,12 @@ holds-more (some a) f h = f a h
 pub position-holds : {A : Type 0} (p : A → Bool) (xs : List A) (d : A) → Holds (λ i. (i < length xs) × T (p (getD xs i d))) (position p xs)
 unfolding position Holds option
 position-holds p [] d = tt
-position-holds {A} p (x ∷ xs) d = go (p x) refl (position p xs) (position-holds p xs d)
+position-holds {A} p (x ∷ xs) d = by-test (p x) refl (position p xs) (position-holds p xs d)
   where
-    go : (b : Bool) → p x ≡ b → (o : Option ℕ) → Holds (λ i. (i < length xs) × T (p (getD xs i d))) o → Holds (λ i. (i < suc (length xs)) × T (p (getD (x ∷ xs) i d))) (if b then some zero else option o none (λ i. some (suc i)))
-    go true e o h = (omega arith, T-of e)
-    go false e none h = tt
-    go false e (some i) h = (omega (arith, h .0), h .1)
+    by-test : (b : Bool) → p x ≡ b → (o : Option ℕ) → Holds (λ i. (i < length xs) × T (p (getD xs i d))) o → Holds (λ i. (i < suc (length xs)) × T (p (getD (x ∷ xs) i d))) (if b then some zero else option o none (λ i. some (suc i)))
+    by-test true e o h = (omega arith, T-of e)
+    by-test false e none h = tt
+    by-test false e (some i) h = (omega (arith, h .0), h .1)
 
 -- ---- one record: its arity is 1 to 3, and 2 for the function kinds; a label has a name's form
 abbrev pub Arity : ℕ → Type 0
@@ -182,11 +186,11 @@ choose-fits : (fs : List (List ℕ)) → Holds EntryFits (chooseOf fs)
 unfolding chooseOf EntryFits isChosen isFunction option Holds
 choose-fits [] = holds-none EntryFits
 choose-fits (name ∷ []) = holds-none EntryFits
-choose-fits (name ∷ f ∷ []) = go (kindNamed f) (kind-fits f)
+choose-fits (name ∷ f ∷ []) = by-option (kindNamed f) (kind-fits f)
   where
-    go : (o : Option Kind) → Holds (λ k. T (isFunction k)) o → Holds EntryFits (option o (option (arityOf f) none (λ a. some (choose name a plain []))) (λ k. some (choose name 2 k [])))
-    go none h = holds-option Arity EntryFits (arityOf f) _ (arity-fits f) (λ a h. holds-some EntryFits (choose name a plain []) (record { few = h; chosen = tt; pairs = λ t. absurd t }, λ e. refl))
-    go (some k) h = function-fits name k [] h
+    by-option : (o : Option Kind) → Holds (λ k. T (isFunction k)) o → Holds EntryFits (option o (option (arityOf f) none (λ a. some (choose name a plain []))) (λ k. some (choose name 2 k [])))
+    by-option none h = holds-option Arity EntryFits (arityOf f) _ (arity-fits f) (λ a h. holds-some EntryFits (choose name a plain []) (record { few = h; chosen = tt; pairs = λ t. absurd t }, λ e. refl))
+    by-option (some k) h = function-fits name k [] h
 choose-fits (name ∷ f ∷ t ∷ []) = holds-none EntryFits
 choose-fits (name ∷ f ∷ t ∷ u ∷ []) = holds-option (λ k. T (isFunction k)) EntryFits (kindNamed f) _ (kind-fits f) (λ k h. function-fits name k (t ∷ u ∷ []) h)
 choose-fits (name ∷ f ∷ t ∷ u ∷ v ∷ fs) = holds-none EntryFits
@@ -251,7 +255,10 @@ apart-snoc : (ks : List Relation) (x : Relation) → Apart ks → T (not (isDecl
 unfolding Apart isDeclared any
 apart-snoc [] x a h = (tt, tt)
 apart-snoc (k ∷ ks) x a h = (
-  not-T (isDeclared (ks ++ (x ∷ [])) (k .name)) (λ t. ⊎-elim (λ q. T-not (isDeclared ks (k .name)) (a .0) q) (λ q. T-not (same (k .name) (x .name) || isDeclared ks (x .name)) h (or-l (same (k .name) (x .name)) _ (subst (λ (n : List ℕ). T (same (k .name) n)) (sym (same-eq (x .name) (k .name) q)) (same-refl (k .name))))) (declared-snoc ks x (k .name) t)),
+  not-T (isDeclared (ks ++ (x ∷ [])) (k .name)) (λ t. ⊎-elim (λ q. T-not (isDeclared ks (k .name)) (a .0) q)
+      (λ q. T-not (same (k .name) (x .name) || isDeclared ks (x .name)) h
+      (or-l (same (k .name) (x .name)) _ (subst (λ (n : List ℕ). T (same (k .name) n)) (sym (same-eq (x .name) (k .name) q)) (same-refl (k .name)))))
+      (declared-snoc ks x (k .name) t)),
   apart-snoc ks x (a .1) (not-T (isDeclared ks (x .name)) (λ t. T-not (same (k .name) (x .name) || isDeclared ks (x .name)) h (or-r (same (k .name) (x .name)) _ t))),
 )
 
@@ -351,22 +358,22 @@ rel-line d at name arity D h =
       chosen-fit = D .chosen-fit;
       chosen-named = D .chosen-named;
       chosen-sorted = D .chosen-sorted;
-      apart = go (d .chosen) (empty-nil (d .chosen) z) (D .apart) (new-name d name u);
+      apart = by-list (d .chosen) (empty-nil (d .chosen) z) (D .apart) (new-name d name u);
       ruled-fits = no-rule (d .rels) (d .types) (d .chosen) (d .ruled) (D .ruled-fits) z (RuleFits (d .rels ++ (fixed name arity ∷ [])) (d .types) (d .chosen));
     })))
   where
-    go : (ch : List Relation) → ch ≡ [] → Apart (relations (d .rels) ch) → T (not (isDeclared (relations (d .rels) ch) name)) → Apart (relations (d .rels ++ (fixed name arity ∷ [])) ch)
-    go [] e a n = subst Apart (sym (relations-snoc-rel (d .rels) (fixed name arity))) (apart-snoc (relations (d .rels) []) (fixed name arity) a n)
-    go (x ∷ ch) e a n = absurd (nil≢cons (sym e))
+    by-list : (ch : List Relation) → ch ≡ [] → Apart (relations (d .rels) ch) → T (not (isDeclared (relations (d .rels) ch) name)) → Apart (relations (d .rels ++ (fixed name arity ∷ [])) ch)
+    by-list [] e a n = subst Apart (sym (relations-snoc-rel (d .rels) (fixed name arity))) (apart-snoc (relations (d .rels) []) (fixed name arity) a n)
+    by-list (x ∷ ch) e a n = absurd (nil≢cons (sym e))
 
 -- a place's sort is 0 or that of a declared type
 pub sort-named : (types : List (List ℕ)) (name : List ℕ) → sortNamed types name ≤ length types
 unfolding sortNamed typeNumber option Holds
-sort-named types name = go (position (λ t. same t name) types) (position-holds (λ t. same t name) types [])
+sort-named types name = by-option (position (λ t. same t name) types) (position-holds (λ t. same t name) types [])
   where
-    go : (o : Option ℕ) → Holds (λ i. (i < length types) × T (same (getD types i []) name)) o → option o zero suc ≤ length types
-    go none h = omega arith
-    go (some i) h = omega (arith, h .0)
+    by-option : (o : Option ℕ) → Holds (λ i. (i < length types) × T (same (getD types i []) name)) o → option o zero suc ≤ length types
+    by-option none h = omega arith
+    by-option (some i) h = omega (arith, h .0)
 
 place-sort : (types names : List (List ℕ)) (i : ℕ) → placeSort types names i ≤ length types
 unfolding placeSort
@@ -485,7 +492,17 @@ unfolding readQuestion relationsOf
 question-fits text =
     gives-bind DraftFits QuestionFits (readText questionLine (record { rels = []; types = []; chosen = []; ruled = none }) text) _
     (gives-text DraftFits questionLine line-step (record { rels = []; types = []; chosen = []; ruled = none }) text
-    (record { rels-fit = λ k m. absurd (List·Memᴰ·not-nil m); types-fit = no-types; chosen-fit = λ k m. absurd (List·Memᴰ·not-nil m); chosen-named = λ k m. absurd (List·Memᴰ·not-nil m); chosen-sorted = λ k m. absurd (List·Memᴰ·not-nil m); apart = builtIn-apart; ruled-fits = holds-none (RuleFits [] [] []) }))
+    (record {
+      rels-fit = λ k m. absurd (List·Memᴰ·not-nil m);
+      types-fit = no-types;
+      chosen-fit = λ k m. absurd (List·Memᴰ·not-nil m);
+      chosen-named
+          = λ k m. absurd (List·Memᴰ·not-nil m);
+      chosen-sorted = λ k m. absurd (List·Memᴰ·not-nil m);
+      apart = builtIn-apart;
+      ruled-fits = holds-none
+          (RuleFits [] [] []);
+    }))
     (λ d D. gives-bind (RuleFits (d .rels) (d .types) (d .chosen)) QuestionFits (given (d .ruled) 3 (length text)) _ (gives-given (RuleFits (d .rels) (d .types) (d .chosen)) (d .ruled) 3 (length text) (D .ruled-fits))
     (λ r R. gives-accepted QuestionFits _ (record { rels-fit = D .rels-fit; types-fit = D .types-fit; chosen-fit = D .chosen-fit; chosen-named = D .chosen-named; chosen-sorted = D .chosen-sorted; apart = D .apart; rule-fits = R })))
 
@@ -551,7 +568,9 @@ module _ (rs : List Relation) (types : List (List ℕ)) where
       }))
   size-line L few d at n (some m) D = gives-refused (SiteSoFar rs types) 3 at
 
-  label-line : (labels : List Label) (members : List Member) (facts : List Tuple) (o : Option ℕ) (at : ℕ) (e : Element) (name : List ℕ) → T (isRelationName name) → DraftSite rs types o labels members facts → Gives (SiteSoFar rs types) (addLabel (record { sized = o; labels = labels; members = members; facts = facts }) at e name)
+  label-line : (labels : List Label) (members : List Member) (facts : List Tuple) (o : Option ℕ) (at : ℕ) (e : Element) (name : List ℕ)
+      → T (isRelationName name) → DraftSite rs types o labels members facts
+      → Gives (SiteSoFar rs types) (addLabel (record { sized = o; labels = labels; members = members; facts = facts }) at e name)
   unfolding addLabel DraftSite given _>>=_
   label-line labels members facts none at e name h D = gives-refused (SiteSoFar rs types) 3 at
   label-line labels members facts (some n) at e name h D =
@@ -576,7 +595,9 @@ module _ (rs : List Relation) (types : List (List ℕ)) where
   unfolding typeNumber
   type-small name = holds-more (position (λ t. same t name) types) (λ i h. h .0) (position-holds (λ t. same t name) types [])
 
-  member-line : (labels : List Label) (members : List Member) (facts : List Tuple) (o : Option ℕ) (at : ℕ) (name : List ℕ) (e : Element) → DraftSite rs types o labels members facts → Gives (SiteSoFar rs types) (addMember types (record { sized = o; labels = labels; members = members; facts = facts }) at name e)
+  member-line : (labels : List Label) (members : List Member) (facts : List Tuple) (o : Option ℕ) (at : ℕ) (name : List ℕ) (e : Element)
+      → DraftSite rs types o labels members facts → Gives (SiteSoFar rs types)
+      (addMember types (record { sized = o; labels = labels; members = members; facts = facts }) at name e)
   unfolding addMember DraftSite given _>>=_
   member-line labels members facts none at name e D = gives-refused (SiteSoFar rs types) 3 at
   member-line labels members facts (some n) at name e D =
@@ -596,7 +617,9 @@ module _ (rs : List Relation) (types : List (List ℕ)) where
         facts-fit = D .facts-fit;
       }))))))
 
-  fact-line : (labels : List Label) (members : List Member) (facts : List Tuple) (o : Option ℕ) (at : ℕ) (name : List ℕ) (es : List Element) → DraftSite rs types o labels members facts → Gives (SiteSoFar rs types) (addFact rs (record { sized = o; labels = labels; members = members; facts = facts }) at name es)
+  fact-line : (labels : List Label) (members : List Member) (facts : List Tuple) (o : Option ℕ) (at : ℕ) (name : List ℕ) (es : List Element)
+      → DraftSite rs types o labels members facts → Gives (SiteSoFar rs types)
+      (addFact rs (record { sized = o; labels = labels; members = members; facts = facts }) at name es)
   unfolding addFact DraftSite given _>>=_
   fact-line labels members facts none at name es D = gives-refused (SiteSoFar rs types) 3 at
   fact-line labels members facts (some n) at name es D =

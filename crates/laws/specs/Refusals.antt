@@ -12,14 +12,20 @@ use Rattle.definitions.specs.Lists.{if_then_else_, all, any, option, isIn}
 use Rattle.definitions.specs.Text.{Line, lines}
 use Rattle.definitions.specs.Refusal.{Result, refused, accepted, _>>=_, refuseIf, given, readLines, readText, caseNumbers, readyNumbers, runNumbers, picksNumbers}
 use Rattle.definitions.specs.Relations.{Relation, Tuple}
-use Rattle.definitions.specs.Sheets.{Element, Entry, rel, type, choose, rule, size, label, member, fact, pick, step, entryOf, Draft, addRel, addType, addChoose, addRule, addToQuestion, questionLine, readQuestion, firstRel, Label, addTuple, SiteDraft, addSize, addLabel, addMember, addFact, addToSite, siteLine, readSite, addToPicks, picksLine, readPicks, addToSteps, stepsLine, readSteps}
+use Rattle.definitions.specs.Sheets.{Element, Entry, rel, type, choose, rule, size, label, member, fact, pick, step, entryOf, Draft, addRel, addType}
+use Rattle.definitions.specs.Sheets.{addChoose, addRule, addToQuestion, questionLine, readQuestion, firstRel, Label, addTuple, SiteDraft, addSize}
+use Rattle.definitions.specs.Sheets.{addLabel, addMember, addFact, addToSite, siteLine, readSite, addToPicks, picksLine, readPicks, addToSteps}
+use Rattle.definitions.specs.Sheets.{stepsLine, readSteps}
 use Rattle.definitions.specs.Truth.{Case, firstOfOtherKind}
 use Rattle.definitions.specs.Atoms.{Problem, goal, atomNumber, State, initial}
 use Rattle.definitions.specs.Actions.{Action, actionAt}
 use Rattle.definitions.specs.Strips.{mayTake, after, runFrom, run}
 use Rattle.definitions.specs.Built.{chosenNumbers, bound}
 use Rattle.definitions.specs.Judgement.{judge}
-use Rattle.definitions.specs.Outcome.{CaseRead, readFiled, readCase, ground, readProblem, Ready, asked, nothing, satisfying, roomFor, sizes, action, stateLength, picksLength, Given, asText, asNumbers, takeSteps, textPicks, picksRoom, spareWord, spareRefusal, takePicks, readyToRun, checkedFrom, checkSteps, picksReadFrom, picksFromSteps, kindRefusal, Plan, plan, builtFrom, buildSteps}
+use Rattle.definitions.specs.Outcome.{CaseRead, readFiled, readCase, ground, readProblem, Ready, asked, nothing, satisfying, roomFor, sizes, action}
+use Rattle.definitions.specs.Outcome.{stateLength, picksLength, ThirdInput, asText, asNumbers, takeSteps, textPicks, picksRoom, spareWord, spareRefusal}
+use Rattle.definitions.specs.Outcome.{takePicks, readyToRun, checkedFrom, checkSteps, picksReadFrom, picksFromSteps, kindRefusal, Plan, plan}
+use Rattle.definitions.specs.Outcome.{builtFrom, buildSteps}
 use Rattle.laws.specs.Booleans.{T-of, T-true}
 use Rattle.laws.specs.Lists.{all-at}
 use Rattle.laws.specs.Members.{in-mem}
@@ -148,7 +154,10 @@ site-add L rels types d at (step k) = other SiteDraft at
 
 pub site-by : (L : CaseLimits) (rels : List Relation) (types : List (List ℕ)) (text : List ℕ) → Refuses Sheet (readSite L rels types text)
 unfolding readSite siteLine isIn any
-site-by L rels types text = bind-by Sheet _ _ (text-by Sheet (siteLine L rels types) refl (λ d l. bind-by Sheet (entryOf l) _ (entry-by l) (site-add L rels types d (l .at))) _ text) (λ d. bind-by Sheet _ _ (given-by Sheet (d .sized) 3 (length text) refl) (λ n. bind-by Sheet _ _ (if-by Sheet _ 19 zero refl) (λ _. accepted-by Sheet _)))
+site-by L rels types text =
+    bind-by Sheet _ _ (text-by Sheet (siteLine L rels types) refl (λ d l. bind-by Sheet (entryOf l) _ (entry-by l) (site-add L rels types d (l .at)))
+    _ text) (λ d. bind-by Sheet _ _ (given-by Sheet (d .sized) 3 (length text) refl)
+    (λ n. bind-by Sheet _ _ (if-by Sheet _ 19 zero refl) (λ _. accepted-by Sheet _)))
 
 picks-add : (rs : List Relation) (first n : ℕ) (labels : List Label) (ts : List Tuple) (at : ℕ) (e : Entry) → Refuses Sheet (addToPicks rs first n labels ts at e)
 unfolding addToPicks
@@ -176,12 +185,12 @@ steps-add ks at (fact name xs) = other (List ℕ) at
 steps-add ks at (pick name xs) = other (List ℕ) at
 steps-add ks at (step k) = accepted-by Sheet _
 
-steps-by : (g : Given) → Refuses Sheet (takeSteps g)
+steps-by : (g : ThirdInput) → Refuses Sheet (takeSteps g)
 unfolding takeSteps readSteps stepsLine isIn any
 steps-by (asText text) = text-by Sheet stepsLine refl (λ ks l. bind-by Sheet (entryOf l) _ (entry-by l) (steps-add ks (l .at))) [] text
 steps-by (asNumbers ks) = bind-by Sheet _ _ (if-by Sheet _ 1 zero refl) (λ _. accepted-by Sheet _)
 
-picks-by : (c : Case) (labels : List Label) (g : Given) → Refuses Sheet (textPicks c labels g)
+picks-by : (c : Case) (labels : List Label) (g : ThirdInput) → Refuses Sheet (textPicks c labels g)
 unfolding textPicks readPicks picksLine isIn any
 picks-by c labels (asText text) = text-by Sheet _ refl (λ ts l. bind-by Sheet (entryOf l) _ (entry-by l) (picks-add _ _ _ labels ts (l .at))) [] text
 picks-by c labels (asNumbers words) = accepted-by Sheet _
@@ -234,20 +243,22 @@ Late = In runNumbers
 
 run-by : (p : Problem) (ks : List ℕ) (s : State) (i : ℕ) → Refuses Late (runFrom p s i ks .answer)
 unfolding runFrom option isIn any
-run-by p [] s i = go (s (atomNumber p goal))
+run-by p [] s i = by-test (s (atomNumber p goal))
   where
-    go : (b : Bool) → Refuses Late (if b then accepted i else refused 15 i)
-    go true = accepted-by Late i
-    go false = refused-by Late ℕ 15 i refl
-run-by p (j ∷ ks) s i = go (actionAt p j) (λ a. run-by p ks (after p s a) (suc i))
+    by-test : (b : Bool) → Refuses Late (if b then accepted i else refused 15 i)
+    by-test true = accepted-by Late i
+    by-test false = refused-by Late ℕ 15 i refl
+run-by p (j ∷ ks) s i = by-option (actionAt p j) (λ a. run-by p ks (after p s a) (suc i))
   where
     may : (a : Action) (b : Bool) → Refuses Late (runFrom p (after p s a) (suc i) ks .answer) → Refuses Late ((if b then runFrom p (after p s a) (suc i) ks else record { answer = refused 14 i; state = s }) .answer)
     may a true r = r
     may a false r = refused-by Late ℕ 14 i refl
 
-    go : (o : Option Action) → ((a : Action) → Refuses Late (runFrom p (after p s a) (suc i) ks .answer)) → Refuses Late (option o (record { answer = refused 13 i; state = s }) (λ a. if mayTake p s a then runFrom p (after p s a) (suc i) ks else record { answer = refused 14 i; state = s }) .answer)
-    go none r = refused-by Late ℕ 13 i refl
-    go (some a) r = may a (mayTake p s a) (r a)
+    by-option : (o : Option Action) → ((a : Action) → Refuses Late (runFrom p (after p s a) (suc i) ks .answer))
+        → Refuses Late (option o (record { answer = refused 13 i; state = s })
+        (λ a. if mayTake p s a then runFrom p (after p s a) (suc i) ks else record { answer = refused 14 i; state = s }) .answer)
+    by-option none r = refused-by Late ℕ 13 i refl
+    by-option (some a) r = may a (mayTake p s a) (r a)
 
 -- ---- what each call refuses with
 pub told : {A : Type 0} (P : ℕ → Type 0) (r : Result A) (k place : ℕ) → r ≡ refused k place → Refuses P r → P k
@@ -287,26 +298,26 @@ module _ (L : CaseLimits) (question site : List ℕ) where
   unfolding run isIn all any
   run-checks r = weaken (among runNumbers (readyNumbers ++ runNumbers) refl) _ (run-by (r .problem) (r .third) (initial (r .problem)) zero)
 
-  ready-by : (g : Given) (rooms : Problem → Result (Unit {0})) → ((p : Problem) → Refuses Early (rooms p)) → Refuses Early (readyToRun L question site g rooms)
+  ready-by : (g : ThirdInput) (rooms : Problem → Result (Unit {0})) → ((p : Problem) → Refuses Early (rooms p)) → Refuses Early (readyToRun L question site g rooms)
   unfolding readyToRun
   ready-by g rooms h = asked-by L question site (λ _. takeSteps g) rooms (λ _. steps-by g) h
 
-  pub check-refuse : (steps : Given) (state : List ℕ) (k place : ℕ) → checkSteps L question site steps state .answer ≡ refused k place → In (readyNumbers ++ runNumbers) k
+  pub check-refuse : (steps : ThirdInput) (state : List ℕ) (k place : ℕ) → checkSteps L question site steps state .answer ≡ refused k place → In (readyNumbers ++ runNumbers) k
   unfolding checkSteps checkedFrom
-  check-refuse steps state k place e = told Checks _ k place e (go _ (ready-by steps (λ p. roomFor (stateLength p) (length state)) (λ p. room-by (stateLength p) (length state))))
+  check-refuse steps state k place e = told Checks _ k place e (from-this _ (ready-by steps (λ p. roomFor (stateLength p) (length state)) (λ p. room-by (stateLength p) (length state))))
     where
-      go : (m : Result (Ready (List ℕ))) → Refuses Early m → Refuses Checks (checkedFrom m state .answer)
-      go (refused j at) h = refused-by Checks ℕ j at (early-checks j (told Early (refused j at) j at refl h))
-      go (accepted r) h = run-checks r
+      from-this : (m : Result (Ready (List ℕ))) → Refuses Early m → Refuses Checks (checkedFrom m state .answer)
+      from-this (refused j at) h = refused-by Checks ℕ j at (early-checks j (told Early (refused j at) j at refl h))
+      from-this (accepted r) h = run-checks r
 
-  pub read-refuse : (steps : Given) (picks state : List ℕ) (k place : ℕ) → picksFromSteps L question site steps picks state .answer ≡ refused k place → In (readyNumbers ++ runNumbers) k
+  pub read-refuse : (steps : ThirdInput) (picks state : List ℕ) (k place : ℕ) → picksFromSteps L question site steps picks state .answer ≡ refused k place → In (readyNumbers ++ runNumbers) k
   unfolding picksFromSteps picksReadFrom
   read-refuse steps picks state k place e = told Checks _ k place e
-      (go _ (ready-by steps (λ p. roomFor (picksLength p) (length picks) >>= λ _. roomFor (stateLength p) (length state)) (λ p. bind-by Early _ _ (room-by (picksLength p) (length picks)) (λ _. room-by (stateLength p) (length state)))))
+      (from-this _ (ready-by steps (λ p. roomFor (picksLength p) (length picks) >>= λ _. roomFor (stateLength p) (length state)) (λ p. bind-by Early _ _ (room-by (picksLength p) (length picks)) (λ _. room-by (stateLength p) (length state)))))
     where
-      go : (m : Result (Ready (List ℕ))) → Refuses Early m → Refuses Checks (picksReadFrom m picks state .answer)
-      go (refused j at) h = refused-by Checks ℕ j at (early-checks j (told Early (refused j at) j at refl h))
-      go (accepted r) h = run-checks r
+      from-this : (m : Result (Ready (List ℕ))) → Refuses Early m → Refuses Checks (picksReadFrom m picks state .answer)
+      from-this (refused j at) h = refused-by Checks ℕ j at (early-checks j (told Early (refused j at) j at refl h))
+      from-this (accepted r) h = run-checks r
 
   -- ---- picks, built from and judged
   abbrev Builds : ℕ → Type 0
@@ -316,7 +327,7 @@ module _ (L : CaseLimits) (question site : List ℕ) where
   unfolding isIn all any
   early-by m h = weaken (among readyNumbers (readyNumbers ++ picksNumbers) refl) m h
 
-  picks-room : (p : Problem) (g : Given) → Refuses Early (picksRoom p g)
+  picks-room : (p : Problem) (g : ThirdInput) → Refuses Early (picksRoom p g)
   unfolding picksRoom
   picks-room p (asText text) = accepted-by Early tt
   picks-room p (asNumbers words) = room-by (picksLength p) (length words)
@@ -326,7 +337,7 @@ module _ (L : CaseLimits) (question site : List ℕ) where
   spare-by none = accepted-by Builds tt
   spare-by (some j) = refused-by Builds (Unit {0}) 10 j refl
 
-  take-by : (p : Problem) (g : Given) (read : List Tuple) → Refuses Builds (takePicks p g read)
+  take-by : (p : Problem) (g : ThirdInput) (read : List Tuple) → Refuses Builds (takePicks p g read)
   unfolding takePicks
   take-by p (asText text) read = accepted-by Builds read
   take-by p (asNumbers words) read = bind-by Builds _ _ (spare-by (spareWord p words zero (chosenNumbers p))) (λ _. accepted-by Builds _)
@@ -336,25 +347,25 @@ module _ (L : CaseLimits) (question site : List ℕ) where
   kind-by none = accepted-by Builds tt
   kind-by (some i) = refused-by Builds (Unit {0}) 16 i refl
 
-  satisfying-by : (c : Case) (p : Problem) (g : Given) (read : List Tuple) → Refuses Builds (satisfying c p g read)
+  satisfying-by : (c : Case) (p : Problem) (g : ThirdInput) (read : List Tuple) → Refuses Builds (satisfying c p g read)
   unfolding satisfying isIn any
   satisfying-by c p g read = bind-by Builds _ _ (take-by p g read) (λ F. bind-by Builds _ _ (kind-by (firstOfOtherKind c F)) (λ _. bind-by Builds _ _ (if-by Builds _ 17 zero refl) (λ _. accepted-by Builds _)))
 
-  plan-by : (g : Given) (stateRoom stepsRoom : ℕ) → Refuses Builds (plan L question site g stateRoom stepsRoom)
+  plan-by : (g : ThirdInput) (stateRoom stepsRoom : ℕ) → Refuses Builds (plan L question site g stateRoom stepsRoom)
   unfolding plan
   plan-by g stateRoom stepsRoom = bind-by Builds _ _
       (early-by _ (asked-by L question site (λ c. textPicks (c .case) (c .labels) g) _ (λ c. picks-by (c .case) (c .labels) g) (λ p. bind-by Early _ _ (picks-room p g) (λ _. bind-by Early _ _ (room-by (stateLength p) stateRoom) (λ _. room-by (bound p) stepsRoom)))))
       (λ r. bind-by Builds _ _ (satisfying-by (r .case) (r .problem) g (r .third)) (λ F. accepted-by Builds _))
 
-  pub build-refuse : (picks : Given) (state steps : List ℕ) (k place : ℕ) → buildSteps L question site picks state steps .answer ≡ refused k place → In (readyNumbers ++ picksNumbers) k
+  pub build-refuse : (picks : ThirdInput) (state steps : List ℕ) (k place : ℕ) → buildSteps L question site picks state steps .answer ≡ refused k place → In (readyNumbers ++ picksNumbers) k
   unfolding buildSteps builtFrom
-  build-refuse picks state steps k place e = told Builds _ k place e (go _ (plan-by picks (length state) (length steps)))
+  build-refuse picks state steps k place e = told Builds _ k place e (by-result _ (plan-by picks (length state) (length steps)))
     where
-      go : (m : Result Plan) → Refuses Builds m → Refuses Builds (builtFrom m state steps .answer)
-      go (refused j at) h = refused-by Builds ℕ j at (told Builds (refused j at) j at refl h)
-      go (accepted b) h = accepted-by Builds _
+      by-result : (m : Result Plan) → Refuses Builds m → Refuses Builds (builtFrom m state steps .answer)
+      by-result (refused j at) h = refused-by Builds ℕ j at (told Builds (refused j at) j at refl h)
+      by-result (accepted b) h = accepted-by Builds _
 
-  pub judge-refuse : (picks : Given) (k place : ℕ) → judge L question site picks ≡ refused k place → In (readyNumbers ++ picksNumbers) k
+  pub judge-refuse : (picks : ThirdInput) (k place : ℕ) → judge L question site picks ≡ refused k place → In (readyNumbers ++ picksNumbers) k
   unfolding judge
   judge-refuse picks k place e = told Builds _ k place e (bind-by Builds _ _ (early-by _ (asked-by L question site (λ c. textPicks (c .case) (c .labels) picks) _ (λ c. picks-by (c .case) (c .labels) picks) (λ p. picks-room p picks)))
       (λ r. bind-by Builds _ _ (satisfying-by (r .case) (r .problem) picks (r .third)) (λ F. accepted-by Builds _)))

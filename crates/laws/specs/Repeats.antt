@@ -21,11 +21,11 @@ module _ {A : Type 0} where
   pub once-filter : (f : A → Bool) (l : List A) → Once l → Once (filter f l)
   unfolding Once filter
   once-filter f [] h = tt
-  once-filter f (x ∷ l) h = go (f x) (once-filter f l (h .1))
+  once-filter f (x ∷ l) h = by-test (f x) (once-filter f l (h .1))
     where
-      go : (b : Bool) → Once (filter f l) → Once (if b then x ∷ filter f l else filter f l)
-      go true r = (λ m. h .0 (filter-mem f l x m .0), r)
-      go false r = r
+      by-test : (b : Bool) → Once (filter f l) → Once (if b then x ∷ filter f l else filter f l)
+      by-test true r = (λ m. h .0 (filter-mem f l x m .0), r)
+      by-test false r = r
 
   pub once-append : (l m : List A) → Once l → Once m → ((x : A) → List·Memᴰ x l → List·Memᴰ x m → ⊥) → Once (l ++ m)
   unfolding Once
@@ -60,11 +60,11 @@ once-flat f tag (x ∷ l) o d h = once-append (f x) (flatMap f l) (o x) (once-fl
 module _ {A : Type 0} where
   cut : (m : List A) (x : A) → List·Memᴰ x m → (m′ : List A) × (length m ≡ suc (length m′)) × ((y : A) → List·Memᴰ y m → (y ≡ x) ⊎ List·Memᴰ y m′)
   cut [] x i = absurd (List·Memᴰ·not-nil i)
-  cut (z ∷ m) x i = go (List·Memᴰ·cases-cons i) (cut m x)
+  cut (z ∷ m) x i = by-cases (List·Memᴰ·cases-cons i) (cut m x)
     where
-      go : (x ≡ z) ⊎ List·Memᴰ x m → (List·Memᴰ x m → (m′ : List A) × (length m ≡ suc (length m′)) × ((y : A) → List·Memᴰ y m → (y ≡ x) ⊎ List·Memᴰ y m′)) → (m′ : List A) × (suc (length m) ≡ suc (length m′)) × ((y : A) → List·Memᴰ y (z ∷ m) → (y ≡ x) ⊎ List·Memᴰ y m′)
-      go (inl e) r = (m, refl, λ y j. ⊎-elim (λ k. inl (k ∙ sym e)) (λ k. inr k) (List·Memᴰ·cases-cons j))
-      go (inr q) r = let h = r q in (z ∷ h .0, ap suc (h .1), λ y j. ⊎-elim (λ k. inr (List·Memᴰ·head k)) (λ k. ⊎-elim (λ a. inl a) (λ a. inr (List·Memᴰ·tail a)) (h .2 y k)) (List·Memᴰ·cases-cons j))
+      by-cases : (x ≡ z) ⊎ List·Memᴰ x m → (List·Memᴰ x m → (m′ : List A) × (length m ≡ suc (length m′)) × ((y : A) → List·Memᴰ y m → (y ≡ x) ⊎ List·Memᴰ y m′)) → (m′ : List A) × (suc (length m) ≡ suc (length m′)) × ((y : A) → List·Memᴰ y (z ∷ m) → (y ≡ x) ⊎ List·Memᴰ y m′)
+      by-cases (inl e) r = (m, refl, λ y j. ⊎-elim (λ k. inl (k ∙ sym e)) (λ k. inr k) (List·Memᴰ·cases-cons j))
+      by-cases (inr q) r = let h = r q in (z ∷ h .0, ap suc (h .1), λ y j. ⊎-elim (λ k. inr (List·Memᴰ·head k)) (λ k. ⊎-elim (λ a. inl a) (λ a. inr (List·Memᴰ·tail a)) (h .2 y k)) (List·Memᴰ·cases-cons j))
 
   pub pigeon : (l m : List A) → Once l → ((x : A) → List·Memᴰ x l → List·Memᴰ x m) → length l ≤ length m
   unfolding Once
@@ -77,22 +77,22 @@ module _ {A : Type 0} where
   pub filter-le : (f : A → Bool) (l : List A) → length (filter f l) ≤ length l
   unfolding filter
   filter-le f [] = omega arith
-  filter-le f (x ∷ l) = go (f x) (filter-le f l)
+  filter-le f (x ∷ l) = by-test (f x) (filter-le f l)
     where
-      go : (b : Bool) → length (filter f l) ≤ length l → length (if b then x ∷ filter f l else filter f l) ≤ suc (length l)
-      go true h = omega arith
-      go false h = omega arith
+      by-test : (b : Bool) → length (filter f l) ≤ length l → length (if b then x ∷ filter f l else filter f l) ≤ suc (length l)
+      by-test true h = omega arith
+      by-test false h = omega arith
 
 -- leaving out some element makes a list shorter
 pub filter-lt : {A : Type 0} (f : A → Bool) (l : List A) (x : A) → List·Memᴰ x l → f x ≡ false → length (filter f l) < length l
 unfolding filter
 filter-lt f [] x m e = absurd (List·Memᴰ·not-nil m)
-filter-lt {A} f (y ∷ l) x m e = go (f y) refl (List·Memᴰ·cases-cons m) (λ q. filter-lt f l x q e)
+filter-lt {A} f (y ∷ l) x m e = by-test (f y) refl (List·Memᴰ·cases-cons m) (λ q. filter-lt f l x q e)
   where
-    go : (b : Bool) → f y ≡ b → (x ≡ y) ⊎ List·Memᴰ x l → (List·Memᴰ x l → length (filter f l) < length l) → length (if b then y ∷ filter f l else filter f l) < suc (length l)
-    go true q (inl i) r = absurd (subst T (sym (ap f i) ∙ e) (T-of q))
-    go true q (inr i) r = let h = r i in omega arith
-    go false q i r = let h = filter-le f l in omega arith
+    by-test : (b : Bool) → f y ≡ b → (x ≡ y) ⊎ List·Memᴰ x l → (List·Memᴰ x l → length (filter f l) < length l) → length (if b then y ∷ filter f l else filter f l) < suc (length l)
+    by-test true q (inl i) r = absurd (subst T (sym (ap f i) ∙ e) (T-of q))
+    by-test true q (inr i) r = let h = r i in omega arith
+    by-test false q i r = let h = filter-le f l in omega arith
 
 -- ---- of tuples it is the same as the definitions' test
 pub distinct-once : (ts : List Tuple) → T (areDistinct ts) → Once ts

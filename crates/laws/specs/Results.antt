@@ -10,6 +10,9 @@ use Rattle.laws.specs.Booleans.{T-of}
 pub refused-accepted : {A : Type 0} {k place : ℕ} {a : A} → refused k place ≡ accepted a → ⊥
 refused-accepted {A} e = subst (λ (r : Result A). elim r as (λ _. Type 0) [ refused k place ↦ Unit {0} | accepted a ↦ ⊥ ]) e tt
 
+pub refused-number : {A : Type 0} (j k at place : ℕ) → _≡_ {A = Result A} (refused j at) (refused k place) → j ≡ k
+refused-number j k at place e = cc
+
 pub accepted-eq : {A : Type 0} (a b : A) → accepted a ≡ accepted b → a ≡ b
 accepted-eq {A} a b e = ap (λ (r : Result A). elim r as (λ _. A) [ refused k place ↦ a | accepted x ↦ x ]) e
 

@@ -3,7 +3,7 @@
 use Prim.Native.Nat.{ℕ, zero, suc, _+_, _*_, _/_, _%_, _^_, _<_, _≤_}
 use mathlib.Core.Path.{_≡_, refl, sym, ap, ap₂, subst, _∙_}
 use mathlib.Core.Bool.{Bool, true, false, _&&_}
-use mathlib.Core.List.{List, [], _∷_, map, List·Memᴰ, List·Memᴰ·not-nil}
+use mathlib.Core.List.{List, [], map, List·Memᴰ, List·Memᴰ·not-nil}
 use native.Mathlib.Omega.{arith}
 use native.Mathlib.Nat.{mul-zero, suc-mul, mul-le-mul-right, mod-lt, le-div-iff-mul-le, div-lt-iff-lt-mul, div-add-mod', div-mul-le-self}
 use lib.Arith.{digits-lt, digits-div, digits-mod}
@@ -18,7 +18,7 @@ use Rattle.laws.specs.Booleans.{T-and-l, T-and-r, T-of, and-T}
 use Rattle.laws.specs.Lists.{below-lt, mem-below, length-below, getD-below, filter-mem, mem-filter, getD-mem, getD-map, map-mem, mem-map}
 use Rattle.laws.specs.Repeats.{Once, filter-le}
 use Rattle.laws.specs.Rows.{square}
-use Rattle.laws.specs.Members.{Ascending, IsRange, ascending-below, ascending-filter, ascending-map, ascending-once, ascending-same, ascending-lt, in-mem, mem-in, rank-lt, rank-below, rank-select, select-rank}
+use Rattle.laws.specs.Members.{Ascending, IsRange, ascending-below, ascending-filter, ascending-map, ascending-once, ascending-same, ascending-lt, in-mem, mem-in, rank-lt, select-rank}
 
 pub fun-chosen : (k : Kind) → T (isFunction k) → T (isChosen k)
 unfolding isFunction isChosen
@@ -59,54 +59,54 @@ module _ (n : ℕ) (R : ℕ → List ℕ) (k : Relation) where
   -- a tuple of a function kind may be set where both places are of their sorts, and any other tuple
   settable-typed : (row : ℕ) → T (isSettable n R k row) → T (isFunction (k .kind)) → Typed row
   unfolding isSettable
-  settable-typed row s f = go (isFunction (k .kind)) f s
+  settable-typed row s f = by-test (isFunction (k .kind)) f s
     where
-      go : (b : Bool) → T b → T (if b then isIn (row / n) (R (k .firsts)) && isIn (row % n) (R (k .seconds)) else true) → Typed row
-      go true t s = (in-mem (row / n) (R (k .firsts)) (T-and-l (isIn (row / n) (R (k .firsts))) _ s), in-mem (row % n) (R (k .seconds)) (T-and-r (isIn (row / n) (R (k .firsts))) _ s))
-      go false t s = absurd t
+      by-test : (b : Bool) → T b → T (if b then isIn (row / n) (R (k .firsts)) && isIn (row % n) (R (k .seconds)) else true) → Typed row
+      by-test true t s = (in-mem (row / n) (R (k .firsts)) (T-and-l (isIn (row / n) (R (k .firsts))) _ s), in-mem (row % n) (R (k .seconds)) (T-and-r (isIn (row / n) (R (k .firsts))) _ s))
+      by-test false t s = absurd t
 
   typed-settable : (row : ℕ) → (T (isFunction (k .kind)) → Typed row) → T (isSettable n R k row)
   unfolding isSettable
-  typed-settable row h = go (isFunction (k .kind)) h
+  typed-settable row h = by-test (isFunction (k .kind)) h
     where
-      go : (b : Bool) → (T b → Typed row) → T (if b then isIn (row / n) (R (k .firsts)) && isIn (row % n) (R (k .seconds)) else true)
-      go true h = and-T (isIn (row / n) (R (k .firsts))) _ (mem-in (row / n) (R (k .firsts)) (h tt .0)) (mem-in (row % n) (R (k .seconds)) (h tt .1))
-      go false h = tt
+      by-test : (b : Bool) → (T b → Typed row) → T (if b then isIn (row / n) (R (k .firsts)) && isIn (row % n) (R (k .seconds)) else true)
+      by-test true h = and-T (isIn (row / n) (R (k .firsts))) _ (mem-in (row / n) (R (k .firsts)) (h tt .0)) (mem-in (row % n) (R (k .seconds)) (h tt .1))
+      by-test false h = tt
 
   pub set-row : (row : ℕ) → List·Memᴰ row (setRows n R k) → T (isChosen (k .kind)) × (row < tuplesOf n k) × (T (isFunction (k .kind)) → Typed row)
   unfolding setRows
-  set-row row m = go (isChosen (k .kind)) m
+  set-row row m = by-test (isChosen (k .kind)) m
     where
-      go : (b : Bool) → List·Memᴰ row (if b then filter (isSettable n R k) (below (tuplesOf n k)) else []) → T b × (row < tuplesOf n k) × (T (isFunction (k .kind)) → Typed row)
-      go true m = let (i, s) = filter-mem (isSettable n R k) (below (tuplesOf n k)) row m in (tt, below-lt (tuplesOf n k) row i, settable-typed row s)
-      go false m = absurd (List·Memᴰ·not-nil m)
+      by-test : (b : Bool) → List·Memᴰ row (if b then filter (isSettable n R k) (below (tuplesOf n k)) else []) → T b × (row < tuplesOf n k) × (T (isFunction (k .kind)) → Typed row)
+      by-test true m = let (i, s) = filter-mem (isSettable n R k) (below (tuplesOf n k)) row m in (tt, below-lt (tuplesOf n k) row i, settable-typed row s)
+      by-test false m = absurd (List·Memᴰ·not-nil m)
 
   pub row-set : (row : ℕ) → T (isChosen (k .kind)) → row < tuplesOf n k → (T (isFunction (k .kind)) → Typed row) → List·Memᴰ row (setRows n R k)
   unfolding setRows
-  row-set row t h s = go (isChosen (k .kind)) t
+  row-set row t h s = by-test (isChosen (k .kind)) t
     where
-      go : (b : Bool) → T b → List·Memᴰ row (if b then filter (isSettable n R k) (below (tuplesOf n k)) else [])
-      go true t = mem-filter (isSettable n R k) (below (tuplesOf n k)) row (mem-below (tuplesOf n k) row h) (typed-settable row s)
-      go false t = absurd t
+      by-test : (b : Bool) → T b → List·Memᴰ row (if b then filter (isSettable n R k) (below (tuplesOf n k)) else [])
+      by-test true t = mem-filter (isSettable n R k) (below (tuplesOf n k)) row (mem-below (tuplesOf n k) row h) (typed-settable row s)
+      by-test false t = absurd t
 
   rows-ascend : Ascending (setRows n R k)
   unfolding setRows Ascending
-  rows-ascend = go (isChosen (k .kind))
+  rows-ascend = by-test (isChosen (k .kind))
     where
-      go : (b : Bool) → Ascending (if b then filter (isSettable n R k) (below (tuplesOf n k)) else [])
-      go true = ascending-filter (isSettable n R k) (below (tuplesOf n k)) (ascending-below (tuplesOf n k))
-      go false = tt
+      by-test : (b : Bool) → Ascending (if b then filter (isSettable n R k) (below (tuplesOf n k)) else [])
+      by-test true = ascending-filter (isSettable n R k) (below (tuplesOf n k)) (ascending-below (tuplesOf n k))
+      by-test false = tt
 
   pub once-sets : Once (setRows n R k)
   once-sets = ascending-once (setRows n R k) rows-ascend
 
   pub sets-le : setsOf n R k ≤ tuplesOf n k
   unfolding setsOf setRows
-  sets-le = go (isChosen (k .kind))
+  sets-le = by-test (isChosen (k .kind))
     where
-      go : (b : Bool) → length (if b then filter (isSettable n R k) (below (tuplesOf n k)) else []) ≤ tuplesOf n k
-      go true = omega (arith, length-below (tuplesOf n k), filter-le (isSettable n R k) (below (tuplesOf n k)))
-      go false = omega arith
+      by-test : (b : Bool) → length (if b then filter (isSettable n R k) (below (tuplesOf n k)) else []) ≤ tuplesOf n k
+      by-test true = omega (arith, length-below (tuplesOf n k), filter-le (isSettable n R k) (below (tuplesOf n k)))
+      by-test false = omega arith
 
   -- of a relation that is not chosen there are none
   pub no-rows : isChosen (k .kind) ≡ false → setRows n R k ≡ []
@@ -130,9 +130,6 @@ module _ (n : ℕ) (R : ℕ → List ℕ) (k : Relation) where
 
     pub all-row : (i : ℕ) → i < tuplesOf n k → getD (setRows n R k) i 0 ≡ i
     all-row i h = ap (λ (l : List ℕ). getD l i 0) e ∙ getD-below (tuplesOf n k) i h
-
-    pub all-rank : (row : ℕ) → row < tuplesOf n k → rank (setRows n R k) row ≡ row
-    all-rank row h = ap (λ (l : List ℕ). rank l row) e ∙ rank-below (tuplesOf n k) row h
 
   module _ (f : T (isFunction (k .kind))) (two : k .arity ≡ 2) where
     chosen : T (isChosen (k .kind))
@@ -210,22 +207,13 @@ module _ (n : ℕ) (R : ℕ → List ℕ) (k : Relation) where
       pub pair-row : (i : ℕ) → i < length (R (k .firsts)) * length (R (k .seconds)) → getD (setRows n R k) i 0 ≡ getD (R (k .firsts)) (i / length (R (k .seconds))) 0 * n + getD (R (k .seconds)) (i % length (R (k .seconds))) 0
       pair-row i h = ap (λ (l : List ℕ). getD l i 0) grid ∙ getD-map pairAt (below (length xs * length ys)) i 0 0 (omega (arith, length-below (length xs * length ys))) ∙ ap pairAt (getD-below (length xs * length ys) i h)
 
-      pub pair-rank : (x y : ℕ) → List·Memᴰ x (R (k .firsts)) → List·Memᴰ y (R (k .seconds)) → rank (setRows n R k) (x * n + y) ≡ rank (R (k .firsts)) x * length (R (k .seconds)) + rank (R (k .seconds)) y
-      unfolding setsOf
-      pair-rank x y mx my =
-          let ly = rank-lt ys y my in
-          let i = rank xs x * length ys + rank ys y in
-          let h : i < length xs * length ys = digits-lt (rank-lt xs x mx) ly in
-          let e : getD (setRows n R k) i 0 ≡ x * n + y = pair-row i h ∙ ap₂ (λ (a b : ℕ). getD xs a 0 * n + getD ys b 0) (digits-div (rank xs x) ly) (digits-mod (rank xs x) ly) ∙ ap₂ (λ (a b : ℕ). a * n + b) (select-rank xs x mx) (select-rank ys y my) in
-          ap (rank (setRows n R k)) (sym e) ∙ rank-select (setRows n R k) i once-sets (subst (λ (z : ℕ). i < z) (sym pair-count) h)
-
   -- how many set actions any relation has
   pub sets-all : ((s : ℕ) → IsRange n (R s)) → (T (isFunction (k .kind)) → k .arity ≡ 2)
       → setsOf n R k ≡ (if isFunction (k .kind) then length (R (k .firsts)) * length (R (k .seconds)) else if isChosen (k .kind) then tuplesOf n k else zero)
   unfolding setsOf
-  sets-all ranged two = go (isFunction (k .kind)) refl (isChosen (k .kind)) refl
+  sets-all ranged two = by-test (isFunction (k .kind)) refl (isChosen (k .kind)) refl
     where
-      go : (b : Bool) → isFunction (k .kind) ≡ b → (d : Bool) → isChosen (k .kind) ≡ d → setsOf n R k ≡ (if b then length (R (k .firsts)) * length (R (k .seconds)) else if d then tuplesOf n k else zero)
-      go true e d q = pair-count (T-of e) (two (T-of e)) (ranged (k .firsts)) (ranged (k .seconds))
-      go false e true q = all-count (plain-rows (T-of q) e)
-      go false e false q = ap length (no-rows q)
+      by-test : (b : Bool) → isFunction (k .kind) ≡ b → (d : Bool) → isChosen (k .kind) ≡ d → setsOf n R k ≡ (if b then length (R (k .firsts)) * length (R (k .seconds)) else if d then tuplesOf n k else zero)
+      by-test true e d q = pair-count (T-of e) (two (T-of e)) (ranged (k .firsts)) (ranged (k .seconds))
+      by-test false e true q = all-count (plain-rows (T-of q) e)
+      by-test false e false q = ap length (no-rows q)

@@ -15,7 +15,7 @@ use Rattle.definitions.specs.Formula.{Quantified, Formula, Formulas, literal, n
 use Rattle.definitions.specs.Sheets.{Question, relationsOf, firstChosen}
 use Rattle.definitions.specs.Tree.{Tree, Trees, leaf, forallNode, existsNode, andNode, orNode, end, _then_, nest, leafOf, asIs, negated, allAsIs, allNegated, totalities, joined, treeOf, nodes, nodesAll, nodeSort}
 use Rattle.laws.specs.Lists.{getD-mem}
-use Rattle.laws.specs.Reader.{QuestionFits, SortsFit, sort-named}
+use Rattle.laws.specs.Reader.{SortsFit, sort-named}
 
 -- no sort in a tree is greater than k
 unfoldable mutual
@@ -56,23 +56,26 @@ mutual
 -- by its number, too; past the last there is a literal
 pub node-sorted : (k : ℕ) (t : Tree) → Sorted k t → (v : ℕ) → Sorted k (getD (nodes t) v (leaf true 0 []))
 unfolding Sorted
-node-sorted k t h v = go (ltb v (length (nodes t))) refl
+node-sorted k t h v = by-test (ltb v (length (nodes t))) refl
   where
-    go : (b : Bool) → ltb v (length (nodes t)) ≡ b → Sorted k (getD (nodes t) v (leaf true 0 []))
-    go true e = nodes-sorted k t _ h (getD-mem (nodes t) v (leaf true 0 []) (ltb-true v _ e))
-    go false e = subst (Sorted k) (sym (List·getD-eq-default (nodes t) (leaf true 0 []) (ltb-false v _ e))) tt
+    by-test : (b : Bool) → ltb v (length (nodes t)) ≡ b → Sorted k (getD (nodes t) v (leaf true 0 []))
+    by-test true e = nodes-sorted k t _ h (getD-mem (nodes t) v (leaf true 0 []) (ltb-true v _ e))
+    by-test false e = subst (Sorted k) (sym (List·getD-eq-default (nodes t) (leaf true 0 []) (ltb-false v _ e))) tt
 
 -- the sort of a variable
 sort-within : (types : List (List ℕ)) (q : Quantified) → sortOf types q ≤ length types
 unfolding sortOf option
-sort-within types q = go (q .type)
+sort-within types q = by-option (q .type)
   where
-    go : (o : Option (List ℕ)) → option o zero (sortNamed types) ≤ length types
-    go none = omega arith
-    go (some name) = sort-named types name
+    by-option : (o : Option (List ℕ)) → option o zero (sortNamed types) ≤ length types
+    by-option none = omega arith
+    by-option (some name) = sort-named types name
 
 module _ (rs : List Relation) (types : List (List ℕ)) where
-  nest-sorted : (quantifier : ℕ → ℕ → Tree → Tree) → ((d σ : ℕ) (t : Tree) → σ ≤ length types → Sorted (length types) t → Sorted (length types) (quantifier d σ t)) → (qs : List Quantified) (level : ℕ) (t : Tree) → Sorted (length types) t → Sorted (length types) (nest quantifier level (map (sortOf types) qs) t)
+  nest-sorted : (quantifier : ℕ → ℕ → Tree → Tree) →
+      ((d σ : ℕ) (t : Tree) → σ ≤ length types → Sorted (length types) t → Sorted (length types) (quantifier d σ t))
+      → (qs : List Quantified) (level : ℕ) (t : Tree) → Sorted (length types) t
+      → Sorted (length types) (nest quantifier level (map (sortOf types) qs) t)
   unfolding nest
   nest-sorted quantifier h [] level t w = w
   nest-sorted quantifier h (q ∷ qs) level t w = h level (sortOf types q) _ (sort-within types q) (nest-sorted quantifier h qs (suc level) t w)
@@ -109,11 +112,11 @@ module _ (rs : List Relation) (types : List (List ℕ)) where
 totals-sorted : (k r : ℕ) (ks : List Relation) → ((x : Relation) → List·Memᴰ x ks → SortsFit k x) → SortedAll k (totalities r ks)
 unfolding totalities Sorted SortedAll
 totals-sorted k r [] f = tt
-totals-sorted k r (x ∷ ks) f = go (isTotal (x .kind)) (totals-sorted k (suc r) ks (λ y m. f y (List·Memᴰ·tail m)))
+totals-sorted k r (x ∷ ks) f = by-test (isTotal (x .kind)) (totals-sorted k (suc r) ks (λ y m. f y (List·Memᴰ·tail m)))
   where
-    go : (b : Bool) → SortedAll k (totalities (suc r) ks) → SortedAll k (if b then forallNode 0 (x .firsts) (existsNode 1 (x .seconds) (leaf true r (0 ∷ 1 ∷ []))) then totalities (suc r) ks else totalities (suc r) ks)
-    go true h = let s = f x (List·Memᴰ·head refl) in ((s .firsts-few, (s .seconds-few, tt)), h)
-    go false h = h
+    by-test : (b : Bool) → SortedAll k (totalities (suc r) ks) → SortedAll k (if b then forallNode 0 (x .firsts) (existsNode 1 (x .seconds) (leaf true r (0 ∷ 1 ∷ []))) then totalities (suc r) ks else totalities (suc r) ks)
+    by-test true h = let s = f x (List·Memᴰ·head refl) in ((s .firsts-few, (s .seconds-few, tt)), h)
+    by-test false h = h
 
 joined-sorted : (k : ℕ) (t : Tree) (us : Trees) → Sorted k t → SortedAll k us → Sorted k (joined t us)
 unfolding joined Sorted SortedAll
@@ -124,6 +127,3 @@ joined-sorted k t (u then us) w v = (w, v)
 pub tree-sorted : (q : Question) → ((k : Relation) → List·Memᴰ k (q .chosen) → SortsFit (length (q .types)) k) → Sorted (length (q .types)) (treeOf q)
 unfolding treeOf
 tree-sorted q f = joined-sorted (length (q .types)) _ _ (as-sorted (relationsOf q) (q .types) (q .rule .formula) []) (totals-sorted (length (q .types)) (firstChosen q) (q .chosen) f)
-
-pub sorts-within : (q : Question) → QuestionFits q → (v : ℕ) → nodeSort (getD (nodes (treeOf q)) v (leaf true 0 [])) ≤ length (q .types)
-sorts-within q F v = node-sort (length (q .types)) _ (node-sorted (length (q .types)) (treeOf q) (tree-sorted q (F .chosen-sorted)) v)

@@ -1,5 +1,5 @@
 -- Soundness: steps that reach the goal have picks of the declared kinds, of which the tree is true.
-use Prim.Native.Nat.{ℕ, zero, _+_, _-_, _/_, _%_, _<_, _≤_}
+use Prim.Native.Nat.{ℕ, zero, _/_, _%_, _<_, _≤_}
 use mathlib.Core.Path.{_≡_, refl, sym, ap, ap₂, subst, subst₂, _∙_}
 use mathlib.Core.Logic.{_⊎_, inl, inr, ⊎-elim}
 use mathlib.Core.Bool.{Bool, true, false, not, _&&_}
@@ -72,21 +72,21 @@ module _ (c : Case) where
 
   pub holds-split : (P : List Tuple) (r : ℕ) (xs : List ℕ) → T (holds c P r xs) → T (holds c [] r xs) ⊎ (high r × List·Memᴰ (tup r xs) P)
   unfolding holds isAmong by-number
-  holds-split P r xs t = go (ltb r firstRel) (ltb r (firstChosen (c .question))) refl t
+  holds-split P r xs t = by-test (ltb r firstRel) (ltb r (firstChosen (c .question))) refl t
     where
-      go : (b d : Bool) → ltb r (firstChosen (c .question)) ≡ d → T (by-number P r xs b d) → T (by-number [] r xs b d) ⊎ (high r × List·Memᴰ (tup r xs) P)
-      go true d e t = inl t
-      go false true e t = inl t
-      go false false e t = inr (ltb-false r _ e, among-mem (tup r xs) P t)
+      by-test : (b d : Bool) → ltb r (firstChosen (c .question)) ≡ d → T (by-number P r xs b d) → T (by-number [] r xs b d) ⊎ (high r × List·Memᴰ (tup r xs) P)
+      by-test true d e t = inl t
+      by-test false true e t = inl t
+      by-test false false e t = inr (ltb-false r _ e, among-mem (tup r xs) P t)
 
   pub holds-base : (P : List Tuple) (r : ℕ) (xs : List ℕ) → T (holds c [] r xs) → T (holds c P r xs)
   unfolding holds isAmong any by-number
-  holds-base P r xs t = go (ltb r firstRel) (ltb r (firstChosen (c .question))) t
+  holds-base P r xs t = by-test (ltb r firstRel) (ltb r (firstChosen (c .question))) t
     where
-      go : (b d : Bool) → T (by-number [] r xs b d) → T (by-number P r xs b d)
-      go true d t = t
-      go false true t = t
-      go false false t = absurd t
+      by-test : (b d : Bool) → T (by-number [] r xs b d) → T (by-number P r xs b d)
+      by-test true d t = t
+      by-test false true t = t
+      by-test false false t = absurd t
 
   pub holds-pick : (P : List Tuple) (r : ℕ) (xs : List ℕ) → high r → List·Memᴰ (tup r xs) P → T (holds c P r xs)
   unfolding holds
@@ -95,12 +95,12 @@ module _ (c : Case) where
   -- of a chosen relation nothing holds without picks
   pub holds-empty : (r : ℕ) (xs : List ℕ) → high r → T (holds c [] r xs) → ⊥
   unfolding holds isAmong any by-number
-  holds-empty r xs h t = go (ltb r firstRel) (below-rel r h) (ltb r (firstChosen (c .question))) (le-ltb r (firstChosen (c .question)) h) t
+  holds-empty r xs h t = by-test (ltb r firstRel) (below-rel r h) (ltb r (firstChosen (c .question))) (le-ltb r (firstChosen (c .question)) h) t
     where
-      go : (b : Bool) → b ≡ false → (d : Bool) → d ≡ false → T (by-number [] r xs b d) → ⊥
-      go true e d f t = subst T e tt
-      go false e true f t = subst T f tt
-      go false e false f t = t
+      by-test : (b : Bool) → b ≡ false → (d : Bool) → d ≡ false → T (by-number [] r xs b d) → ⊥
+      by-test true e d f t = subst T e tt
+      by-test false e true f t = subst T f tt
+      by-test false e false f t = t
 
   -- more picks, and one more
   pub holds-mono : (P Q : List Tuple) → ((t : Tuple) → List·Memᴰ t P → List·Memᴰ t Q) → (r : ℕ) (xs : List ℕ) → T (holds c P r xs) → T (holds c Q r xs)
@@ -189,19 +189,19 @@ module _ (p : Problem) (G : Good p) where
     set-inside t m = ⊎-elim (λ q. I .kinds .inside t q) (λ e. subst Inside (sym e) (record { known = v .0; chosen = v .1; long = length-places (p .size) (relationAt p r .arity) row; small = places-below (p .size) (relationAt p r .arity) row (G .element) })) (snoc-cases P (tupleAt p r row) t m)
 
     set-fun : (r′ x y z : ℕ) → T (isFunction (relationAt p r′ .kind)) → List·Memᴰ (tup r′ (x ∷ y ∷ [])) P₁ → List·Memᴰ (tup r′ (x ∷ z ∷ [])) P₁ → y ≡ z
-    set-fun r′ x y z f m k = go (snoc-cases P (tupleAt p r row) _ m) (snoc-cases P (tupleAt p r row) _ k)
+    set-fun r′ x y z f m k = by-cases (snoc-cases P (tupleAt p r row) _ m) (snoc-cases P (tupleAt p r row) _ k)
       where
         clash : (w u : ℕ) → List·Memᴰ (tup r′ (x ∷ w ∷ [])) P → tup r′ (x ∷ u ∷ []) ≡ tupleAt p r row → ⊥
         clash w u m e = let (a, b, d) = first-of r′ x u f e in no-second (subst (λ (q : ℕ). T (isFunction (relationAt p q .kind))) a f) w (subst₂ (λ (i j : ℕ). List·Memᴰ (tup i (j ∷ w ∷ [])) P) a b m)
 
-        go : List·Memᴰ (tup r′ (x ∷ y ∷ [])) P ⊎ (tup r′ (x ∷ y ∷ []) ≡ tupleAt p r row) → List·Memᴰ (tup r′ (x ∷ z ∷ [])) P ⊎ (tup r′ (x ∷ z ∷ []) ≡ tupleAt p r row) → y ≡ z
-        go (inl a) (inl b) = I .kinds .fun r′ x y z f a b
-        go (inl a) (inr b) = absurd (clash y z a b)
-        go (inr a) (inl b) = absurd (clash z y b a)
-        go (inr a) (inr b) = first-of r′ x y f a .2 ∙ sym (first-of r′ x z f b .2)
+        by-cases : List·Memᴰ (tup r′ (x ∷ y ∷ [])) P ⊎ (tup r′ (x ∷ y ∷ []) ≡ tupleAt p r row) → List·Memᴰ (tup r′ (x ∷ z ∷ [])) P ⊎ (tup r′ (x ∷ z ∷ []) ≡ tupleAt p r row) → y ≡ z
+        by-cases (inl a) (inl b) = I .kinds .fun r′ x y z f a b
+        by-cases (inl a) (inr b) = absurd (clash y z a b)
+        by-cases (inr a) (inl b) = absurd (clash z y b a)
+        by-cases (inr a) (inr b) = first-of r′ x y f a .2 ∙ sym (first-of r′ x z f b .2)
 
     set-inj : (r′ x y z : ℕ) → T (isInjective (relationAt p r′ .kind)) → List·Memᴰ (tup r′ (x ∷ z ∷ [])) P₁ → List·Memᴰ (tup r′ (y ∷ z ∷ [])) P₁ → x ≡ y
-    set-inj r′ x y z f m k = go (snoc-cases P (tupleAt p r row) _ m) (snoc-cases P (tupleAt p r row) _ k)
+    set-inj r′ x y z f m k = by-cases (snoc-cases P (tupleAt p r row) _ m) (snoc-cases P (tupleAt p r row) _ k)
       where
         g : T (isFunction (relationAt p r′ .kind))
         g = inj-fun (relationAt p r′ .kind) f
@@ -209,11 +209,11 @@ module _ (p : Problem) (G : Good p) where
         clash : (w u : ℕ) → List·Memᴰ (tup r′ (w ∷ z ∷ [])) P → tup r′ (u ∷ z ∷ []) ≡ tupleAt p r row → ⊥
         clash w u m e = let (a, b, d) = first-of r′ u z g e in no-first (subst (λ (q : ℕ). T (isInjective (relationAt p q .kind))) a f) w (subst₂ (λ (i j : ℕ). List·Memᴰ (tup i (w ∷ j ∷ [])) P) a d m)
 
-        go : List·Memᴰ (tup r′ (x ∷ z ∷ [])) P ⊎ (tup r′ (x ∷ z ∷ []) ≡ tupleAt p r row) → List·Memᴰ (tup r′ (y ∷ z ∷ [])) P ⊎ (tup r′ (y ∷ z ∷ []) ≡ tupleAt p r row) → x ≡ y
-        go (inl a) (inl b) = I .kinds .inj r′ x y z f a b
-        go (inl a) (inr b) = absurd (clash x y a b)
-        go (inr a) (inl b) = absurd (clash y x b a)
-        go (inr a) (inr b) = first-of r′ x z g a .1 ∙ sym (first-of r′ y z g b .1)
+        by-cases : List·Memᴰ (tup r′ (x ∷ z ∷ [])) P ⊎ (tup r′ (x ∷ z ∷ []) ≡ tupleAt p r row) → List·Memᴰ (tup r′ (y ∷ z ∷ [])) P ⊎ (tup r′ (y ∷ z ∷ []) ≡ tupleAt p r row) → x ≡ y
+        by-cases (inl a) (inl b) = I .kinds .inj r′ x y z f a b
+        by-cases (inl a) (inr b) = absurd (clash x y a b)
+        by-cases (inr a) (inl b) = absurd (clash y x b a)
+        by-cases (inr a) (inr b) = first-of r′ x z g a .1 ∙ sym (first-of r′ y z g b .1)
 
     set-inside-types : (r′ x y : ℕ) → T (isFunction (relationAt p r′ .kind)) → List·Memᴰ (tup r′ (x ∷ y ∷ [])) P₁ → List·Memᴰ x (p .range (relationAt p r′ .firsts)) × List·Memᴰ y (p .range (relationAt p r′ .seconds))
     set-inside-types r′ x y f m = ⊎-elim (λ a. I .kinds .typed r′ x y f a) new (snoc-cases P (tupleAt p r row) _ m)
@@ -285,11 +285,11 @@ module _ (p : Problem) (G : Good p) where
   -- ---- one step of reachesFrom
   step-cases : (s : State) (k : ℕ) (ks : List ℕ) → T (reachesFrom p s (k ∷ ks)) → (a : Action) × (actionAt p k ≡ some a) × T (mayTake p s a) × T (reachesFrom p (after p s a) ks)
   unfolding reachesFrom option
-  step-cases s k ks t = go (actionAt p k) refl t
+  step-cases s k ks t = by-option (actionAt p k) refl t
     where
-      go : (o : Option Action) → actionAt p k ≡ o → T (option o false (λ a. mayTake p s a && reachesFrom p (after p s a) ks)) → (a : Action) × (actionAt p k ≡ some a) × T (mayTake p s a) × T (reachesFrom p (after p s a) ks)
-      go none e t = absurd t
-      go (some a) e t = (a, e, T-and-l (mayTake p s a) _ t, T-and-r (mayTake p s a) _ t)
+      by-option : (o : Option Action) → actionAt p k ≡ o → T (option o false (λ a. mayTake p s a && reachesFrom p (after p s a) ks)) → (a : Action) × (actionAt p k ≡ some a) × T (mayTake p s a) × T (reachesFrom p (after p s a) ks)
+      by-option none e t = absurd t
+      by-option (some a) e t = (a, e, T-and-l (mayTake p s a) _ t, T-and-r (mayTake p s a) _ t)
 
   pub picks-cons : (k : ℕ) (ks : List ℕ) (a : Action) → actionAt p k ≡ some a → picksOf p (k ∷ ks) ≡ pickOf p a ++ picksOf p ks
   unfolding picksOf flatMap option
@@ -335,7 +335,9 @@ module _ (p : Problem) (G : Good p) where
   unfolding asks IsAtom
   no-proof P s a I t m = I .asked proof tt (may-at p G s a t proof m)
 
-  after-action : (P : List Tuple) (s : State) (ks : List ℕ) → Guessing P s → (a : Action) → IsAction p a → T (mayTake p s a) → T (reachesFrom p (after p s a) ks) → ((P′ : List Tuple) (s′ : State) → Guessing P′ s′ → T (reachesFrom p s′ ks) → Solves (P′ ++ picksOf p ks)) → Solves (P ++ (pickOf p a ++ picksOf p ks))
+  after-action : (P : List Tuple) (s : State) (ks : List ℕ) → Guessing P s → (a : Action) → IsAction p a → T (mayTake p s a)
+      → T (reachesFrom p (after p s a) ks) → ((P′ : List Tuple) (s′ : State) → Guessing P′ s′ → T (reachesFrom p s′ ks) → Solves (P′ ++ picksOf p ks))
+      → Solves (P ++ (pickOf p a ++ picksOf p ks))
   unfolding pickOf needs means
   after-action P s ks I (set r row) v ok rest ih = subst Solves (append-assoc P (tupleAt p r row ∷ []) (picksOf p ks)) (ih (P ++ (tupleAt p r row ∷ [])) (after p s (set r row)) (guessing-set P s r row I v ok) rest)
   after-action P s ks I beginProof v ok rest ih =
@@ -373,4 +375,16 @@ module _ (p : Problem) (G : Good p) where
   -- steps that reach the goal are read as picks of the declared kinds of which the tree is true
   pub sound : (ks : List ℕ) → T (reachesGoal p ks) → Solves (picksOf p ks)
   unfolding reachesGoal areDistinct
-  sound ks t = guess-phase ks [] (initial p) (record { kinds = record { inside = λ t m. absurd (List·Memᴰ·not-nil m); fun = λ r x y z f m k. absurd (List·Memᴰ·not-nil m); inj = λ r x y z f m k. absurd (List·Memᴰ·not-nil m); typed = λ r x y f m. absurd (List·Memᴰ·not-nil m) }; distinct = tt; asked = λ x v h. initial-asked x (subst T (initial-at x v) h) }) t
+  sound ks t =
+      guess-phase ks [] (initial p) (record {
+        kinds = record {
+          inside = λ t m. absurd (List·Memᴰ·not-nil m);
+          fun = λ r x y z f m k. absurd (List·Memᴰ·not-nil m);
+          inj = λ r x y z f m k. absurd
+              (List·Memᴰ·not-nil m);
+          typed = λ r x y f m. absurd (List·Memᴰ·not-nil m);
+        };
+        distinct = tt;
+        asked = λ x v h. initial-asked x
+            (subst T (initial-at x v) h);
+      }) t

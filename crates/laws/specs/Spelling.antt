@@ -4,7 +4,7 @@ use mathlib.Core.Path.{_≡_, refl, sym, ap, ap₂, subst, _∙_}
 use mathlib.Core.Logic.{_⊎_, inl, inr, ⊎-elim}
 use mathlib.Core.Bool.{Bool, true, false, _&&_, _||_}
 use mathlib.Core.Option.{Option, none, some}
-use mathlib.Core.List.{List, [], _∷_, map, List·Memᴰ}
+use mathlib.Core.List.{List, [], _∷_, map}
 use native.Mathlib.Omega.{arith}
 use lib.Dec.{T, ltb, leb, eqb, ltb→lt, leb→le}
 use lib.ListN.{length}
@@ -46,12 +46,12 @@ name-no-number (b ∷ bs) t =
 
 element-cases : (f : List ℕ) (e : Element) → element f ≡ some e → ((x : ℕ) × (e ≡ numbered x) × (number f ≡ some x)) ⊎ ((e ≡ named f) × T (isRelationName f))
 unfolding element option
-element-cases f e q = go (number f) refl (isRelationName f) refl q
+element-cases f e q = by-option (number f) refl (isRelationName f) refl q
   where
-    go : (o : Option ℕ) → number f ≡ o → (b : Bool) → isRelationName f ≡ b → option o (if b then some (named f) else none) (λ x. some (numbered x)) ≡ some e → ((x : ℕ) × (e ≡ numbered x) × (number f ≡ some x)) ⊎ ((e ≡ named f) × T (isRelationName f))
-    go (some x) n b r q = inl (x, sym (some-eq q), n)
-    go none n true r q = inr (sym (some-eq q), T-of r)
-    go none n false r q = absurd (none-some q)
+    by-option : (o : Option ℕ) → number f ≡ o → (b : Bool) → isRelationName f ≡ b → option o (if b then some (named f) else none) (λ x. some (numbered x)) ≡ some e → ((x : ℕ) × (e ≡ numbered x) × (number f ≡ some x)) ⊎ ((e ≡ named f) × T (isRelationName f))
+    by-option (some x) n b r q = inl (x, sym (some-eq q), n)
+    by-option none n true r q = inr (sym (some-eq q), T-of r)
+    by-option none n false r q = absurd (none-some q)
 
 pub element-number : (f : List ℕ) (x : ℕ) → number f ≡ some x → element f ≡ some (numbered x)
 unfolding element option
@@ -129,11 +129,11 @@ numbers-spelled labels (x ∷ xs) = (inl refl, numbers-spelled labels xs)
 -- ---- how the desk program spells them; where there are no labels, the only way
 pub said-spells : (labels : List Label) (x : ℕ) → Spells labels x (said labels x)
 unfolding said option Spells
-said-spells labels x = go (nameOf labels x) refl
+said-spells labels x = by-option (nameOf labels x) refl
   where
-    go : (o : Option (List ℕ)) → nameOf labels x ≡ o → (option o (decimal x) (λ name. name) ≡ decimal x) ⊎ (nameOf labels x ≡ some (option o (decimal x) (λ name. name)))
-    go none e = inl refl
-    go (some name) e = inr e
+    by-option : (o : Option (List ℕ)) → nameOf labels x ≡ o → (option o (decimal x) (λ name. name) ≡ decimal x) ⊎ (nameOf labels x ≡ some (option o (decimal x) (λ name. name)))
+    by-option none e = inl refl
+    by-option (some name) e = inr e
 
 pub said-spelled : (labels : List Label) (xs : List ℕ) → Spelled labels xs (map (said labels) xs)
 unfolding Spelled

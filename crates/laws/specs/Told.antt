@@ -13,7 +13,9 @@ use Rattle.definitions.specs.Lists.{if_then_else_, all, same, option, flatMap, 
 use Rattle.definitions.specs.Text.{bytes, decimal, number, onFirst, split, Line, lines, linesFrom, fields, isBetween, isRelationName}
 use Rattle.definitions.specs.Refusal.{Result, accepted, refuseIf, given, readLines, readText}
 use Rattle.definitions.specs.Relations.{Kind, plain, Relation, Tuple, isAmong}
-use Rattle.definitions.specs.Sheets.{Element, Entry, rel, type, choose, rule, size, label, member, fact, pick, step, arityOf, kindNamed, chooseOf, element, elements, labelOf, memberOf, withOne, withTwo, withElements, entry, entryOf, Label, elementsOf, isInRange, used, addTuple, addToPicks, picksLine, readPicks, addToSteps, stepsLine, readSteps}
+use Rattle.definitions.specs.Sheets.{Element, Entry, rel, type, choose, rule, size, label, member, fact, pick, step, arityOf, kindNamed, chooseOf}
+use Rattle.definitions.specs.Sheets.{element, elements, labelOf, memberOf, withOne, withTwo, withElements, entry, entryOf, Label, elementsOf}
+use Rattle.definitions.specs.Sheets.{isInRange, used, addTuple, addToPicks, picksLine, readPicks, addToSteps, stepsLine, readSteps}
 use Rattle.definitions.specs.Desk.{printLine, stepLine}
 use Rattle.definitions.specs.Demand.{isAccepted}
 use Rattle.laws.specs.Booleans.{T-and-l, T-of}
@@ -41,11 +43,11 @@ unsplit-first sep b q (r ∷ qs) = refl
 pub split-back : (sep : ℕ) (t : List ℕ) → unsplit sep (split sep t) ≡ t
 unfolding split unsplit onFirst
 split-back sep [] = refl
-split-back sep (b ∷ t) = go (split-cons sep t) (eqb b sep) refl (split-back sep t)
+split-back sep (b ∷ t) = from-this (split-cons sep t) (eqb b sep) refl (split-back sep t)
   where
-    go : ((q : List ℕ) × (qs : List (List ℕ)) × (split sep t ≡ q ∷ qs)) → (e : Bool) → eqb b sep ≡ e → unsplit sep (split sep t) ≡ t → unsplit sep (if e then [] ∷ split sep t else onFirst b (split sep t)) ≡ b ∷ t
-    go (q, qs, f) true e h = ap (λ (l : List (List ℕ)). unsplit sep ([] ∷ l)) f ∙ ap₂ _∷_ (sym (eqb-true b sep e)) (ap (unsplit sep) (sym f) ∙ h)
-    go (q, qs, f) false e h = ap (λ (l : List (List ℕ)). unsplit sep (onFirst b l)) f ∙ unsplit-first sep b q qs ∙ ap (λ (l : List ℕ). b ∷ l) (ap (unsplit sep) (sym f) ∙ h)
+    from-this : ((q : List ℕ) × (qs : List (List ℕ)) × (split sep t ≡ q ∷ qs)) → (e : Bool) → eqb b sep ≡ e → unsplit sep (split sep t) ≡ t → unsplit sep (if e then [] ∷ split sep t else onFirst b (split sep t)) ≡ b ∷ t
+    from-this (q, qs, f) true e h = ap (λ (l : List (List ℕ)). unsplit sep ([] ∷ l)) f ∙ ap₂ _∷_ (sym (eqb-true b sep e)) (ap (unsplit sep) (sym f) ∙ h)
+    from-this (q, qs, f) false e h = ap (λ (l : List (List ℕ)). unsplit sep (onFirst b l)) f ∙ unsplit-first sep b q qs ∙ ap (λ (l : List ℕ). b ∷ l) (ap (unsplit sep) (sym f) ∙ h)
 
 joined-back : (fs : List (List ℕ)) → joined fs ≡ unsplit 9 fs
 unfolding joined unsplit
@@ -120,11 +122,11 @@ choose-told : (fs gs : List (List ℕ)) → Holds (Says fs) (chooseOf gs)
 unfolding chooseOf Says option
 choose-told fs [] = holds-none (Says fs)
 choose-told fs (name ∷ []) = holds-none (Says fs)
-choose-told fs (name ∷ f ∷ []) = go (kindNamed f)
+choose-told fs (name ∷ f ∷ []) = by-option (kindNamed f)
   where
-    go : (o : Option Kind) → Holds (Says fs) (option o (option (arityOf f) none (λ a. some (choose name a plain []))) (λ k. some (choose name 2 k [])))
-    go none = holds-option (λ a. arityOf f ≡ some a) (Says fs) (arityOf f) _ (holds-self (arityOf f)) (λ a e. holds-some (Says fs) (choose name a plain []) tt)
-    go (some k) = holds-some (Says fs) (choose name 2 k []) tt
+    by-option : (o : Option Kind) → Holds (Says fs) (option o (option (arityOf f) none (λ a. some (choose name a plain []))) (λ k. some (choose name 2 k [])))
+    by-option none = holds-option (λ a. arityOf f ≡ some a) (Says fs) (arityOf f) _ (holds-self (arityOf f)) (λ a e. holds-some (Says fs) (choose name a plain []) tt)
+    by-option (some k) = holds-some (Says fs) (choose name 2 k []) tt
 choose-told fs (name ∷ f ∷ t ∷ []) = holds-none (Says fs)
 choose-told fs (name ∷ f ∷ t ∷ u ∷ []) = holds-option (λ k. kindNamed f ≡ some k) (Says fs) (kindNamed f) _ (holds-self (kindNamed f)) (λ k e. holds-some (Says fs) (choose name 2 k (t ∷ u ∷ [])) tt)
 choose-told fs (name ∷ f ∷ t ∷ u ∷ v ∷ gs) = holds-none (Says fs)
@@ -269,7 +271,10 @@ module _ (rs : List Relation) (first n : ℕ) (labels : List Label) (K : LabelsF
   unfolding used
   used-told name k r e =
       let (i, f, g) = option-told (position (λ (q : Relation). same (q .name) name && eqb (q .arity) k) rs) (λ i. first + i) r e in
-      let h = holds-told (λ i. (i < length rs) × T (same (getD rs i noRelation .name) name && eqb (getD rs i noRelation .arity) k)) (position (λ (q : Relation). same (q .name) name && eqb (q .arity) k) rs) i f (position-holds (λ (q : Relation). same (q .name) name && eqb (q .arity) k) rs noRelation) in
+      let h =
+      holds-told (λ i. (i < length rs) × T (same (getD rs i noRelation .name) name && eqb (getD rs i noRelation .arity) k))
+      (position (λ (q : Relation). same (q .name) name && eqb (q .arity) k) rs) i f
+      (position-holds (λ (q : Relation). same (q .name) name && eqb (q .arity) k) rs noRelation) in
       let w : i ≡ r - first = omega arith in
       sym (same-eq (getD rs i noRelation .name) name (T-and-l (same (getD rs i noRelation .name) name) _ (h .1))) ∙ ap (λ (j : ℕ). getD rs j noRelation .name) w
 

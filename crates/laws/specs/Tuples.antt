@@ -1,7 +1,7 @@
 -- Equal lists of numbers, equal tuples, and tuples among tuples.
 use Prim.Native.Nat.{ℕ}
 use mathlib.Core.Path.{_≡_, refl, sym, ap₂, subst}
-use mathlib.Core.Logic.{_⊎_, ⊎-elim}
+use mathlib.Core.Logic.{⊎-elim}
 use mathlib.Core.Bool.{not}
 use mathlib.Core.List.{List, [], _∷_, _++_, List·Memᴰ, List·Memᴰ·head, List·Memᴰ·tail, List·Memᴰ·not-nil, List·Memᴰ·cases-cons, List·Memᴰ·append-cases, List·Memᴰ·eq-of-singleton}
 use lib.Dec.{T, eqb, eqb→eq, eqb-refl, T-not, not-T}
@@ -23,10 +23,10 @@ same-refl (x ∷ xs) = and-T (eqb x x) _ (eqb-refl x) (same-refl xs)
 
 pub sameTuple-eq : (t u : Tuple) → T (sameTuple t u) → t ≡ u
 unfolding sameTuple
-sameTuple-eq t u h = go (eqb→eq (t .relation) (u .relation) (T-and-l (eqb (t .relation) (u .relation)) _ h)) (same-eq (t .places) (u .places) (T-and-r (eqb (t .relation) (u .relation)) _ h))
+sameTuple-eq t u h = from-this (eqb→eq (t .relation) (u .relation) (T-and-l (eqb (t .relation) (u .relation)) _ h)) (same-eq (t .places) (u .places) (T-and-r (eqb (t .relation) (u .relation)) _ h))
   where
-    go : t .relation ≡ u .relation → t .places ≡ u .places → t ≡ u
-    go e f = ap₂ (λ (r : ℕ) (xs : List ℕ). record { relation = r; places = xs }) e f
+    from-this : t .relation ≡ u .relation → t .places ≡ u .places → t ≡ u
+    from-this e f = ap₂ (λ (r : ℕ) (xs : List ℕ). record { relation = r; places = xs }) e f
 
 pub sameTuple-refl : (t : Tuple) → T (sameTuple t t)
 unfolding sameTuple
@@ -46,5 +46,7 @@ pub distinct-snoc : (ts : List Tuple) (x : Tuple) → T (areDistinct ts) → T (
 unfolding areDistinct isAmong any
 distinct-snoc [] x o h = tt
 distinct-snoc (t ∷ ts) x o h = and-T (not (isAmong t (ts ++ (x ∷ [])))) _
-    (not-T (isAmong t (ts ++ (x ∷ []))) (λ q. ⊎-elim (λ m. T-not (isAmong t ts) (T-and-l (not (isAmong t ts)) _ o) (mem-among t ts m)) (λ m. T-not (isAmong x (t ∷ ts)) h (mem-among x (t ∷ ts) (List·Memᴰ·head (sym (List·Memᴰ·eq-of-singleton m))))) (List·Memᴰ·append-cases ts (among-mem t (ts ++ (x ∷ [])) q))))
+    (not-T (isAmong t (ts ++ (x ∷ []))) (λ q. ⊎-elim (λ m. T-not (isAmong t ts) (T-and-l (not (isAmong t ts)) _ o) (mem-among t ts m))
+    (λ m. T-not (isAmong x (t ∷ ts)) h (mem-among x (t ∷ ts) (List·Memᴰ·head (sym (List·Memᴰ·eq-of-singleton m)))))
+    (List·Memᴰ·append-cases ts (among-mem t (ts ++ (x ∷ [])) q))))
     (distinct-snoc ts x (T-and-r (not (isAmong t ts)) _ o) (not-T (isAmong x ts) (λ q. T-not (isAmong x (t ∷ ts)) h (mem-among x (t ∷ ts) (List·Memᴰ·tail (among-mem x ts q))))))

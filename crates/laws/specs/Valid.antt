@@ -1,5 +1,5 @@
 -- The problem's actions need, add and remove atoms of the problem only; so taking a step is seen on atoms.
-use Prim.Native.Nat.{ℕ, zero, suc, _+_, _-_, _*_, _/_, _%_, _^_, _<_}
+use Prim.Native.Nat.{ℕ, zero, suc, _+_, _*_, _/_, _%_, _^_, _<_}
 use mathlib.Core.Path.{_≡_, refl, sym, ap, subst, _∙_}
 use mathlib.Core.Logic.{_⊎_, inl, inr, ⊎-elim}
 use mathlib.Core.Bool.{Bool, true, false, not, _&&_}
@@ -40,19 +40,19 @@ module _ (p : Problem) (G : Good p) where
 
   pub domain-free : (n r row : ℕ) (k : Relation) → T (isFunction (k .kind)) → List·Memᴰ (freeDomain r (row / n)) (freeAtoms n k r row)
   unfolding freeAtoms
-  domain-free n r row k f = Memᴰ·append-left _ (go (isFunction (k .kind)) f)
+  domain-free n r row k f = Memᴰ·append-left _ (by-test (isFunction (k .kind)) f)
     where
-      go : (b : Bool) → T b → List·Memᴰ (freeDomain r (row / n)) (if b then freeDomain r (row / n) ∷ [] else [])
-      go true t = List·Memᴰ·head refl
-      go false t = absurd t
+      by-test : (b : Bool) → T b → List·Memᴰ (freeDomain r (row / n)) (if b then freeDomain r (row / n) ∷ [] else [])
+      by-test true t = List·Memᴰ·head refl
+      by-test false t = absurd t
 
   pub range-free : (n r row : ℕ) (k : Relation) → T (isInjective (k .kind)) → List·Memᴰ (freeRange r (row % n)) (freeAtoms n k r row)
   unfolding freeAtoms
-  range-free n r row k f = Memᴰ·append-right (if isFunction (k .kind) then freeDomain r (row / n) ∷ [] else []) (go (isInjective (k .kind)) f)
+  range-free n r row k f = Memᴰ·append-right (if isFunction (k .kind) then freeDomain r (row / n) ∷ [] else []) (by-test (isInjective (k .kind)) f)
     where
-      go : (b : Bool) → T b → List·Memᴰ (freeRange r (row % n)) (if b then freeRange r (row % n) ∷ [] else [])
-      go true t = List·Memᴰ·head refl
-      go false t = absurd t
+      by-test : (b : Bool) → T b → List·Memᴰ (freeRange r (row % n)) (if b then freeRange r (row % n) ∷ [] else [])
+      by-test true t = List·Memᴰ·head refl
+      by-test false t = absurd t
 
   -- of a function kind, a row is a pair
   pub pair-of : (r row : ℕ) → r < length (p .relations) → row < tuplesOf (p .size) (relationAt p r) → T (isFunction (relationAt p r .kind)) → (placesOf (p .size) (relationAt p r .arity) row ≡ row / p .size ∷ row % p .size ∷ []) × (row / p .size < p .size)
@@ -94,12 +94,12 @@ module _ (p : Problem) (G : Good p) where
   unfolding forallNeeds IsNode nodeSort option
   forall-valid v row z d σ t l e h g x m = ⊎-elim
       (λ q. subst (IsAtom p) (sym q) (under-valid v row z (forallNode d σ t) l e (G .ranged σ .small z g) tt))
-      (λ q. go (before (p .range σ) z) refl q)
+      (λ q. by-option (before (p .range σ) z) refl q)
       (List·Memᴰ·cases-cons (subst (λ (s : Tree). List·Memᴰ x (forallNeeds (p .size) (p .range) v s row z)) e m))
     where
-      go : (o : Option ℕ) → before (p .range σ) z ≡ o → List·Memᴰ x (option o [] (λ y. holdsNode v (row * p .size + y) ∷ [])) → IsAtom p x
-      go none i q = absurd (List·Memᴰ·not-nil q)
-      go (some y) i q = subst (IsAtom p) (sym (List·Memᴰ·eq-of-singleton q)) (own-valid v row y d σ t l e h (G .ranged σ .small y (before-some (p .range σ) z y (G .ranged σ .ascends) i .0)))
+      by-option : (o : Option ℕ) → before (p .range σ) z ≡ o → List·Memᴰ x (option o [] (λ y. holdsNode v (row * p .size + y) ∷ [])) → IsAtom p x
+      by-option none i q = absurd (List·Memᴰ·not-nil q)
+      by-option (some y) i q = subst (IsAtom p) (sym (List·Memᴰ·eq-of-singleton q)) (own-valid v row y d σ t l e h (G .ranged σ .small y (before-some (p .range σ) z y (G .ranged σ .ascends) i .0)))
 
   pub needs-valid : (a : Action) → IsAction p a → (x : Atom) → List·Memᴰ x (needs p a) → IsAtom p x
   unfolding needs IsAction IsAtom parts IsNode
@@ -108,7 +108,9 @@ module _ (p : Problem) (G : Good p) where
   needs-valid (proveAnd v row) (l, h, (ts, e)) x m = proof-or (IsAtom p) x tt
       (λ y q. parts-valid ts (suc v) (valuesAt (p .size) (andNode ts) row) (parts-and p v ts (here-as p G v (andNode ts) l e)) (values-bnd p G (andNode ts) row) y (subst (λ (s : Tree). List·Memᴰ y (partAtoms (p .size) (p .range) (valuesAt (p .size) s row) (parts v s))) e q)) m
   needs-valid (proveOr v row i) (l, h, (ts, e, g)) x m = proof-or (IsAtom p) x tt
-      (λ y q. parts-valid ts (suc v) (valuesAt (p .size) (orNode ts) row) (parts-or p v ts (here-as p G v (orNode ts) l e)) (values-bnd p G (orNode ts) row) y (subst (λ (s : Tree). List·Memᴰ y (partAtoms (p .size) (p .range) (valuesAt (p .size) s row) (parts v s))) e (drop-mem i _ y (take-mem 1 _ y q)))) m
+      (λ y q. parts-valid ts (suc v) (valuesAt (p .size) (orNode ts) row) (parts-or p v ts (here-as p G v (orNode ts) l e))
+      (values-bnd p G (orNode ts) row) y (subst (λ (s : Tree). List·Memᴰ y (partAtoms (p .size) (p .range) (valuesAt (p .size) s row) (parts v s)))
+      e (drop-mem i _ y (take-mem 1 _ y q)))) m
   needs-valid (proveExists v row z) (l, h, (d, σ, t, e, g)) x m = proof-or (IsAtom p) x tt
       (λ y q. subst (IsAtom p) (sym (List·Memᴰ·eq-of-singleton q ∙ ap (λ (s : Tree). underAtom (p .size) (p .range) v s row z) e)) (under-valid v row z (existsNode d σ t) l e (G .ranged σ .small z g) tt)) m
   needs-valid (proveForall v row z) (l, h, (d, σ, t, e, g)) x m = proof-or (IsAtom p) x tt (λ y q. forall-valid v row z d σ t l e h g y q) m

@@ -183,9 +183,9 @@ module _ (L : CaseLimits) where
 
   pub sizes-tally : (question site : List ℕ) → sizes L question site ≡ (tally L question site >>= within L)
   unfolding sizes asked nothing tally readCase ground sizesOf _>>=_
-  sizes-tally question site = go (readFiled L question site)
+  sizes-tally question site = by-result (readFiled L question site)
     where
-      go : (m : Result CaseRead)
+      by-result : (m : Result CaseRead)
           → (m >>= (λ r. ground L (r .case) >>= λ p. accepted (record { case = r .case; labels = r .labels; problem = p; third = tt })) >>= λ (r : Ready (Unit {0})). accepted (sizesOf (r .problem))) ≡ (m >>= (λ r. accepted (r .case)) >>= (λ c. accepted (tallyOf (problemOf c))) >>= within L)
-      go (refused k place) = refl
-      go (accepted r) = let c : Case = r .case in limited c (r .labels) (ltb (L .atoms) (atoms (problemOf c)) || ltb (L .actions) (actions (problemOf c))) ∙ ap (within L) (sym (tally-is c))
+      by-result (refused k place) = refl
+      by-result (accepted r) = let c : Case = r .case in limited c (r .labels) (ltb (L .atoms) (atoms (problemOf c)) || ltb (L .actions) (actions (problemOf c))) ∙ ap (within L) (sym (tally-is c))

@@ -16,6 +16,7 @@ use Rattle.definitions.specs.Atoms.{Problem, relationAt, placesOf, nodeAt, atom
 use Rattle.definitions.specs.Actions.{valuesIn, valuesAt}
 use Rattle.laws.specs.Lists.{length-below}
 use Rattle.laws.specs.Numbers.{atoms-end}
+use Rattle.tree.specs.Bounds.{in-parts}
 use Rattle.tree.specs.Tables.{Levels, headIn, headOf, IsNode as IsRow, noPart, noNode, NodeFits as RowFits, Fits as TreeFits}
 use Rattle.tree.specs.declared.PartRow.{PartRow}
 use Rattle.tree.specs.declared.NodeRow.{NodeRow}
@@ -29,11 +30,13 @@ use Rattle.ground.specs.declared.NodeLine.{NodeLine}
 use Rattle.ground.specs.declared.PartLine.{PartLine}
 use Rattle.layout.specs.Laid.{rangeBy, RangesFit, RangesAre, firstsAt, secondsAt, countAt, RelationsFit, Inputs, Starts, Small, numberLimit}
 use Rattle.layout.specs.SortLaws.{sort-within, part-sorted}
-use Rattle.layout.specs.StartsAre.{firsts-count, seconds-count, count-is, node-is, many-are, node-sort, count-of, in-parts}
+use Rattle.layout.specs.StartsAre.{firsts-count, seconds-count, count-is, node-is, many-are, node-sort, count-of}
 use Rattle.layout.specs.declared.Relations.{Relations}
 use Rattle.layout.specs.declared.Ranges.{Ranges}
 use Rattle.layout.specs.declared.Layout.{Layout}
-use Rattle.layout.specs.Filled.{relationsPlace, nodesPlace, partsPlace, relationLength, nodeLength, splice, tab, placeStart, placeCount, relationNumbers, relationEnd, rangeStart, rangeCount, nodeFrom, nodeEnd, nodeNumbers, partNumbers, relationLines, nodeLines, partLines, withRanges, tableOf, Filled}
+use Rattle.layout.specs.Filled.{relationsPlace, nodesPlace, partsPlace, relationLength, nodeLength, splice, tab, placeStart, placeCount}
+use Rattle.layout.specs.Filled.{relationNumbers, relationEnd, rangeStart, rangeCount, nodeFrom, nodeEnd, nodeNumbers, partNumbers}
+use Rattle.layout.specs.Filled.{relationLines, nodeLines, partLines, withRanges, tableOf, Filled}
 use Rattle.layout.specs.SpliceLaws.{ZeroFrom, length-splice, read-in, read-before, read-from, zeros-after, length-tab, tab-at, lines-at, end-at, tab-most, append-most, each-most}
 use Rattle.layout.specs.PartLaws.{length-part, lineOf, part-is}
 use Rattle.layout.specs.RangeLaws.{length-ranges, before-ranges, in-ranges, ranges-low, map-places}
@@ -292,7 +295,9 @@ module _ (n : ℕ) (ws : List ℕ) (types : ℕ) (ranges : Ranges) (g : Relation
   -- ---- what stands where
   in-R : (j : ℕ) → j < 162 → getD T (relationsPlace + j) 0 ≡ getD R j 0
   in-R j h =
-      before-ranges rangesPlace n ws small types T₄ room₅ (relationsPlace + j) (omega arith) ∙ read-before rootPlace Q T₃ room₄ (relationsPlace + j) (omega arith) ∙ read-before partsPlace P T₂ room₃ (relationsPlace + j) (omega arith) ∙ read-before nodesPlace N T₁ room₂ (relationsPlace + j) (omega arith)
+      before-ranges rangesPlace n ws small types T₄ room₅ (relationsPlace + j) (omega arith)
+      ∙ read-before rootPlace Q T₃ room₄ (relationsPlace + j) (omega arith) ∙ read-before partsPlace P T₂ room₃ (relationsPlace + j) (omega arith)
+      ∙ read-before nodesPlace N T₁ room₂ (relationsPlace + j) (omega arith)
       ∙ read-from relationsPlace R T₀ room₁ zero-T₀ j
 
   in-N : (j : ℕ) → j < 845 → getD T (nodesPlace + j) 0 ≡ getD N j 0
@@ -365,11 +370,11 @@ module _ (n : ℕ) (ws : List ℕ) (types : ℕ) (ranges : Ranges) (g : Relation
   -- what the code reads as a line
   sets-at : (r : ℕ) → r ≤ g .count → relationLine T r .sets ≡ getD (l .set) r 0
   unfolding relationLine relationNumbers relationEnd
-  sets-at r h = go (decLt r (g .count))
+  sets-at r h = from-this (decLt r (g .count))
     where
-      go : Dec (r < g .count) → getD T (relationPlace r) 0 ≡ getD (l .set) r 0
-      go (yes q) = relation-at r 0 (relationPlace r) q (omega arith) (omega arith)
-      go (no q) = let e : r ≡ g .count = omega arith in rw e (relation-past 0 (relationPlace (g .count)) (omega (arith, fg .count)) (omega arith))
+      from-this : Dec (r < g .count) → getD T (relationPlace r) 0 ≡ getD (l .set) r 0
+      from-this (yes q) = relation-at r 0 (relationPlace r) q (omega arith) (omega arith)
+      from-this (no q) = let e : r ≡ g .count = omega arith in rw e (relation-past 0 (relationPlace (g .count)) (omega (arith, fg .count)) (omega arith))
 
   tuples-at : (r : ℕ) → r < g .count → relationLine T r .tuples ≡ getD (l .rel) r 0
   unfolding relationLine relationNumbers
@@ -409,19 +414,19 @@ module _ (n : ℕ) (ws : List ℕ) (types : ℕ) (ranges : Ranges) (g : Relation
 
   acts-at : (v : ℕ) → v ≤ t .count → nodeLine T v .acts ≡ getD (l .act) v 0
   unfolding nodeLine nodeFrom nodeEnd
-  acts-at v h = go (decLt v (t .count))
+  acts-at v h = from-this (decLt v (t .count))
     where
-      go : Dec (v < t .count) → getD T (nodePlace v) 0 ≡ getD (l .act) v 0
-      go (yes q) = node-at v 0 (nodePlace v) q (omega arith) (omega arith)
-      go (no q) = let e : v ≡ t .count = omega arith in rw e (node-past 0 (nodePlace (t .count)) (omega (arith, ft .few)) (omega arith))
+      from-this : Dec (v < t .count) → getD T (nodePlace v) 0 ≡ getD (l .act) v 0
+      from-this (yes q) = node-at v 0 (nodePlace v) q (omega arith) (omega arith)
+      from-this (no q) = let e : v ≡ t .count = omega arith in rw e (node-past 0 (nodePlace (t .count)) (omega (arith, ft .few)) (omega arith))
 
   atoms-at : (v : ℕ) → v ≤ t .count → nodeLine T v .atoms ≡ getD (l .node) v 0
   unfolding nodeLine nodeFrom nodeEnd
-  atoms-at v h = go (decLt v (t .count))
+  atoms-at v h = from-this (decLt v (t .count))
     where
-      go : Dec (v < t .count) → getD T (nodePlace v + 1) 0 ≡ getD (l .node) v 0
-      go (yes q) = node-at v 1 (nodePlace v + 1) q (omega arith) (omega arith)
-      go (no q) = let e : v ≡ t .count = omega arith in rw e (node-past 1 (nodePlace (t .count) + 1) (omega (arith, ft .few)) (omega arith))
+      from-this : Dec (v < t .count) → getD T (nodePlace v + 1) 0 ≡ getD (l .node) v 0
+      from-this (yes q) = node-at v 1 (nodePlace v + 1) q (omega arith) (omega arith)
+      from-this (no q) = let e : v ≡ t .count = omega arith in rw e (node-past 1 (nodePlace (t .count) + 1) (omega (arith, ft .few)) (omega arith))
 
   -- all but a line's first two numbers
   line-by : (v range count : ℕ) (x : NodeRow) (xs : List ℕ) → ((j i : ℕ) → 2 ≤ j → j < nodeLength → i ≡ nodesPlace + (nodeLength * v + j) → getD T i 0 ≡ getD xs j 0)
@@ -512,33 +517,33 @@ module _ (n : ℕ) (ws : List ℕ) (types : ℕ) (ranges : Ranges) (g : Relation
     range-most j = omega (arith, low-M (rangesPlace + j) (omega arith))
 
     entry : (i : ℕ) → getD T i 0 ≤ 2 ^ 32
-    entry i = go (decLt i relationsPlace) (decLt i nodesPlace) (decLt i partsPlace) (decLt i rootPlace) (decLt i rangesPlace) (decLt i tableLength)
+    entry i = from-this (decLt i relationsPlace) (decLt i nodesPlace) (decLt i partsPlace) (decLt i rootPlace) (decLt i rangesPlace) (decLt i tableLength)
       where
-        go : Dec (i < relationsPlace) → Dec (i < nodesPlace) → Dec (i < partsPlace) → Dec (i < rootPlace) → Dec (i < rangesPlace) → Dec (i < tableLength) → getD T i 0 ≤ 2 ^ 32
-        go (yes h) q r s u m = head-most i h
-        go (no h) (yes q) r s u m =
+        from-this : Dec (i < relationsPlace) → Dec (i < nodesPlace) → Dec (i < partsPlace) → Dec (i < rootPlace) → Dec (i < rangesPlace) → Dec (i < tableLength) → getD T i 0 ≤ 2 ^ 32
+        from-this (yes h) q r s u m = head-most i h
+        from-this (no h) (yes q) r s u m =
             let e : i ≡ relationsPlace + (i - relationsPlace) = omega arith in
             rw e (rw (in-R (i - relationsPlace) (omega arith)) (most-R (i - relationsPlace)))
-        go (no h) (no q) (yes r) s u m =
+        from-this (no h) (no q) (yes r) s u m =
             let e : i ≡ nodesPlace + (i - nodesPlace) = omega arith in
             rw e (rw (in-N (i - nodesPlace) (omega arith)) (most-N (i - nodesPlace)))
-        go (no h) (no q) (no r) (yes s) u m =
+        from-this (no h) (no q) (no r) (yes s) u m =
             let e : i ≡ partsPlace + (i - partsPlace) = omega arith in
             rw e (rw (in-P (i - partsPlace) (omega arith)) (most-P (i - partsPlace)))
-        go (no h) (no q) (no r) (no s) (yes u) m =
+        from-this (no h) (no q) (no r) (no s) (yes u) m =
             let e : i ≡ rootPlace + (i - rootPlace) = omega arith in
             rw e (rw (in-Q (i - rootPlace) (omega arith)) (rm (i - rootPlace)))
-        go (no h) (no q) (no r) (no s) (no u) (yes m) =
+        from-this (no h) (no q) (no r) (no s) (no u) (yes m) =
             let e : i ≡ rangesPlace + (i - rangesPlace) = omega arith in
             rw e (range-most (i - rangesPlace))
-        go (no h) (no q) (no r) (no s) (no u) (no m) = let e : getD T i 0 ≡ 0 = List·getD-eq-default T 0 (omega (arith, length-T)) in omega arith
+        from-this (no h) (no q) (no r) (no s) (no u) (no m) = let e : getD T i 0 ≡ 0 = List·getD-eq-default T 0 (omega (arith, length-T)) in omega arith
 
     node-fits : (v : ℕ) → v < 64 → NodeFits (nodeLine T v)
-    node-fits v h = go (decLt v (t .count))
+    node-fits v h = from-this (decLt v (t .count))
       where
-        go : Dec (v < t .count) → NodeFits (nodeLine T v)
-        go (yes q) = subst NodeFits (sym (line-is v q)) (line-fits _ _ _ _ (t .placed) (getD (t .rows) v noNode) (ft .few-parts) (ft .nodes .node v))
-        go (no q) = subst NodeFits (sym (line-past v (omega arith) h)) (line-fits _ _ _ _ (t .placed) noNode (ft .few-parts) (none-fits (t .placed)))
+        from-this : Dec (v < t .count) → NodeFits (nodeLine T v)
+        from-this (yes q) = subst NodeFits (sym (line-is v q)) (line-fits _ _ _ _ (t .placed) (getD (t .rows) v noNode) (ft .few-parts) (ft .nodes .node v))
+        from-this (no q) = subst NodeFits (sym (line-past v (omega arith) h)) (line-fits _ _ _ _ (t .placed) noNode (ft .few-parts) (none-fits (t .placed)))
 
     -- the range of a node is in the table, its members are elements, and the first range has all of them
     whole-range : membersIn T rangesPlace n ≡ below n
@@ -628,7 +633,9 @@ module _ (n : ℕ) (ws : List ℕ) (types : ℕ) (ranges : Ranges) (g : Relation
         }
 
 -- ---- of the problem
-module _ (p : Problem) (ws : List ℕ) (types : ℕ) (ranges : Ranges) (g : Relations) (t : Nodes) (l : Layout) (d : List ℕ) (len : length d ≡ tableLength) (zeros : Most d 0) (ty : types ≤ 8) (fr : RangesFit (p .size) ranges) (fg : RelationsFit g) (ft : TreeFits t) (some : 0 < p .size) (small : p .size ≤ 64)
+module _ (p : Problem) (ws : List ℕ) (types : ℕ) (ranges : Ranges) (g : Relations) (t : Nodes) (l : Layout) (d : List ℕ)
+    (len : length d ≡ tableLength) (zeros : Most d 0) (ty : types ≤ 8) (fr : RangesFit (p .size) ranges) (fg : RelationsFit g) (ft : TreeFits t)
+    (some : 0 < p .size) (small : p .size ≤ 64)
     (ra : RangesAre (p .size) ws types ranges) (inputs : Inputs p (p .size) ws types g t) (starts : Starts p l) where
   abbrev W : List ℕ
   W = T (p .size) ws types ranges g t l d len zeros ty fr fg ft some small
@@ -679,7 +686,7 @@ module _ (p : Problem) (ws : List ℕ) (types : ℕ) (ranges : Ranges) (g : Rela
       let x = getD (t .rows) v noNode in
       let i = node-is p ws types g t inputs v b in
       let o = node-sort p ws types g t inputs v b in
-      let m : x .many ≡ length (parts v (nodeAt p v)) = many-are v (nodeAt p v) x (t .parts) i (in-parts p ws types g t inputs ft v) in
+      let m : x .many ≡ length (parts v (nodeAt p v)) = many-are v (nodeAt p v) x (t .parts) i (in-parts t ft v) in
       subst (IsNode p W v (nodeAt p v)) (sym (line-is (p .size) ws types ranges g t l d len zeros ty fr fg ft some small v b))
       (record {
         atoms = starts .node v (omega arith);
@@ -750,7 +757,9 @@ filled n ws types ranges g t l d w len zeros some small fg ft sl ty fr ra e nm p
 pub three-set : (d : List ℕ) (a b c : ℕ) → length (set (set (set d 0 a) 1 b) 2 c) ≡ length d
 three-set d a b c = length-set (set (set d 0 a) 1 b) 2 c ∙ length-set (set d 0 a) 1 b ∙ length-set d 0 a
 
-pub all-filled : (n : ℕ) (ws : List ℕ) (types : ℕ) (ranges : Ranges) (g : Relations) (t : Nodes) (l : Layout) (d x y z w : List ℕ) → x ≡ splice relationsPlace (relationLines (ranges .count) g l) (set (set (set d 0 n) 1 (g .count)) 2 (t .count)) → y ≡ splice nodesPlace (nodeLines (ranges .count) t l) x
+pub all-filled : (n : ℕ) (ws : List ℕ) (types : ℕ) (ranges : Ranges) (g : Relations) (t : Nodes) (l : Layout) (d x y z w : List ℕ) → x
+    ≡ splice relationsPlace (relationLines (ranges .count) g l) (set (set (set d 0 n) 1 (g .count)) 2 (t .count)) → y
+    ≡ splice nodesPlace (nodeLines (ranges .count) t l) x
     → z ≡ splice rootPlace (partNumbers n (ranges .top) l (t .root)) (splice partsPlace (partLines n (ranges .top) t l) y) → w ≡ withRanges rangesPlace n ws types z → w ≡ tableOf n ws types ranges g t l d
 unfolding tableOf
 all-filled n ws types ranges g t l d x y z w a b c e =

@@ -2,7 +2,7 @@
 use mathlib.Core.Path.{_≡_, refl, sym, ap, ap₂, _∙_}
 use mathlib.Core.Bool.{Bool, true, false}
 use mathlib.Core.List.{List}
-use Prim.Native.Nat.{ℕ, zero, suc, _+_, _-_, _*_, _^_, _≤_, _<_}
+use Prim.Native.Nat.{ℕ, zero, suc, _+_, _*_, _^_, _≤_, _<_}
 use native.Mathlib.Nat.{pow-le-pow-left, pow-le-pow-right, le-trans, mul-le-mul}
 use native.Mathlib.Numerals.{add-one}
 use native.Mathlib.Decide.{ℕ-discrete, decLt}
@@ -44,12 +44,12 @@ module _ (n size kind : ℕ) where
 
   pub width-le : n ≤ 64 → size ≤ 64 ^ 4 → (size + size ≤ relationWidth n size kind) × (relationWidth n size kind ≤ 2 * 64 ^ 4 + 128)
   unfolding relationWidth
-  width-le a b = go (ltb kind 2) (ltb kind 4)
+  width-le a b = by-test (ltb kind 2) (ltb kind 4)
     where
-      go : (x y : Bool) → (size + size ≤ (if x then size + size else (if y then size + size + n else size + size + n + n))) × ((if x then size + size else (if y then size + size + n else size + size + n + n)) ≤ 2 * 64 ^ 4 + 128)
-      go true y = omega arith
-      go false true = omega arith
-      go false false = omega arith
+      by-test : (x y : Bool) → (size + size ≤ (if x then size + size else (if y then size + size + n else size + size + n + n))) × ((if x then size + size else (if y then size + size + n else size + size + n + n)) ≤ 2 * 64 ^ 4 + 128)
+      by-test true y = omega arith
+      by-test false true = omega arith
+      by-test false false = omega arith
 
 module _ (size firsts seconds : ℕ) where
   pub set-none : (kind : ℕ) → kind ≡ 0 → 0 ≡ setWidth size firsts seconds kind
@@ -141,26 +141,26 @@ choices-at counts e q m = rw (e, q, m) refl
 
 -- ---- entries
 pub entry-lt : (a : List ℕ) (f : ℕ → ℕ) (i x : ℕ) → i < length a → x ≡ f i → ((r : ℕ) → r < i → getD a r 0 ≡ f r) → (r : ℕ) → r < i + 1 → getD (set a i x) r 0 ≡ f r
-entry-lt a f i x h e q r l = go (ℕ-discrete r i)
+entry-lt a f i x h e q r l = from-this (ℕ-discrete r i)
   where
-    go : Dec (r ≡ i) → getD (set a i x) r 0 ≡ f r
-    go (yes k) = rw (k, getD-set-same a i x 0 h) e
-    go (no k) = getD-set-other a i r x 0 k ∙ q r (omega arith)
+    from-this : Dec (r ≡ i) → getD (set a i x) r 0 ≡ f r
+    from-this (yes k) = rw (k, getD-set-same a i x 0 h) e
+    from-this (no k) = getD-set-other a i r x 0 k ∙ q r (omega arith)
 
 pub entry-le : (a : List ℕ) (f : ℕ → ℕ) (i x : ℕ) → i + 1 < length a → x ≡ f (suc i) → ((r : ℕ) → r ≤ i → getD a r 0 ≡ f r) → (r : ℕ) → r ≤ i + 1 → getD (set a (i + 1) x) r 0 ≡ f r
-entry-le a f i x h e q r l = go (ℕ-discrete r (i + 1))
+entry-le a f i x h e q r l = from-this (ℕ-discrete r (i + 1))
   where
-    go : Dec (r ≡ i + 1) → getD (set a (i + 1) x) r 0 ≡ f r
-    go (yes k) = rw (k, getD-set-same a (i + 1) x 0 h) (e ∙ ap f (sym (add-one i)))
-    go (no k) = getD-set-other a (i + 1) r x 0 k ∙ q r (omega arith)
+    from-this : Dec (r ≡ i + 1) → getD (set a (i + 1) x) r 0 ≡ f r
+    from-this (yes k) = rw (k, getD-set-same a (i + 1) x 0 h) (e ∙ ap f (sym (add-one i)))
+    from-this (no k) = getD-set-other a (i + 1) r x 0 k ∙ q r (omega arith)
 
 pub most-set : (a : List ℕ) (i x b b' : ℕ) → x ≤ b' → b ≤ b' → Most a b → Most (set a i x) b'
-most-set a i x b b' h k m r = go (ℕ-discrete r i) (decLt i (length a))
+most-set a i x b b' h k m r = from-this (ℕ-discrete r i) (decLt i (length a))
   where
-    go : Dec (r ≡ i) → Dec (i < length a) → getD (set a i x) r 0 ≤ b'
-    go (yes e) (yes l) = rw (e, getD-set-same a i x 0 l) h
-    go (yes e) (no l) = rw (set-out a i x (omega arith)) (omega (arith, m r))
-    go (no e) l = rw (getD-set-other a i r x 0 e) (omega (arith, m r))
+    from-this : Dec (r ≡ i) → Dec (i < length a) → getD (set a i x) r 0 ≤ b'
+    from-this (yes e) (yes l) = rw (e, getD-set-same a i x 0 l) h
+    from-this (yes e) (no l) = rw (set-out a i x (omega arith)) (omega (arith, m r))
+    from-this (no e) l = rw (getD-set-other a i r x 0 e) (omega (arith, m r))
 
 -- ---- relations
 module _ (n : ℕ) (g : Relations) (small : n ≤ 64) (sizes : RelationsFit g) where

@@ -66,12 +66,12 @@ weight-times w n a b = mul-le-mul a b
 
 length-from : (n top s : ℕ) (q : PartRow) → length (numbersFrom n top s q) ≡ 5
 unfolding numbersFrom
-length-from n top s q = go (eqb (q .tag) 2)
+length-from n top s q = by-test (eqb (q .tag) 2)
   where
-    go : (b : Bool) → length (if b then (s + top) ∷ (weightOf n (take (q .width) (q .levels)) 0 * n) ∷ (weightOf n (take (q .width) (q .levels)) 1 * n) ∷ (weightOf n (take (q .width) (q .levels)) 2 * n) ∷ (weightOf n (take (q .width) (q .levels)) 3 * n) ∷ []
+    by-test : (b : Bool) → length (if b then (s + top) ∷ (weightOf n (take (q .width) (q .levels)) 0 * n) ∷ (weightOf n (take (q .width) (q .levels)) 1 * n) ∷ (weightOf n (take (q .width) (q .levels)) 2 * n) ∷ (weightOf n (take (q .width) (q .levels)) 3 * n) ∷ []
         else s ∷ weightOf n (take (q .width) (q .levels)) 0 ∷ weightOf n (take (q .width) (q .levels)) 1 ∷ weightOf n (take (q .width) (q .levels)) 2 ∷ weightOf n (take (q .width) (q .levels)) 3 ∷ []) ≡ 5
-    go true = refl
-    go false = refl
+    by-test true = refl
+    by-test false = refl
 
 module _ (n : ℕ) (tops rel neg node : List ℕ) (q : PartRow) where
   pub length-part : length (numbersIn n tops rel neg node q) ≡ 5
@@ -104,7 +104,7 @@ weighed-times e w n =
 
 part-by-head : (n : ℕ) (tops : List ℕ) (l : Layout) (e : Values) (q : PartRow) → PartFits q → partNumber e (lineOf (partNumbers n tops l q)) ≡ numberBy l n tops e (headIn q)
 unfolding numbersIn numbersFrom partNumber numberBy rowBy valueIn
-part-by-head n tops l e q f = go (eqb (q .tag) 2)
+part-by-head n tops l e q f = by-test (eqb (q .tag) 2)
   where
     w : Values
     w = weightOf n (take (q .width) (q .levels))
@@ -121,12 +121,12 @@ part-by-head n tops l e q f = go (eqb (q .tag) 2)
     row : r ≡ weighed e w
     row = row-weighed n e (q .width) (q .levels) (f .levels)
 
-    go : (b : Bool) → partNumber e (lineOf (if b then (s + top) ∷ (w 0 * n) ∷ (w 1 * n) ∷ (w 2 * n) ∷ (w 3 * n) ∷ [] else s ∷ w 0 ∷ w 1 ∷ w 2 ∷ w 3 ∷ [])) ≡ s + (if b then r * n + top else r)
-    go true =
+    by-test : (b : Bool) → partNumber e (lineOf (if b then (s + top) ∷ (w 0 * n) ∷ (w 1 * n) ∷ (w 2 * n) ∷ (w 3 * n) ∷ [] else s ∷ w 0 ∷ w 1 ∷ w 2 ∷ w 3 ∷ [])) ≡ s + (if b then r * n + top else r)
+    by-test true =
         let z = weighed-times e w n in
         let y : r * n ≡ weighed e w * n = ap (λ (x : ℕ). x * n) row in
         omega (arith, z, y)
-    go false = ap (λ (x : ℕ). s + x) (sym row)
+    by-test false = ap (λ (x : ℕ). s + x) (sym row)
 
 module _ (p : Problem) (l : Layout) (starts : Starts p l) (tops : List ℕ) (k : ℕ) (top : (s : ℕ) → s ≤ k → getD tops s 0 ≡ greatest (p .range s)) (rels nodes : ℕ) (rs : rels ≡ length (p .relations)) (ns : nodes ≡ length (p .nodeList)) where
   by-tree : (e : Values) (v : ℕ) (u : Tree) (q : PartRow) → Sorted k u → PartIn rels nodes q → headIn q ≡ headFrom v u → numberBy l (p .size) tops e (headFrom v u) ≡ atomNumber p (partAtom (p .size) (p .range) e v u)

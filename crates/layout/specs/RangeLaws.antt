@@ -25,11 +25,11 @@ use Rattle.layout.specs.SpliceLaws.{ZeroFrom, length-splice, read-in, re
 filter-append : (p : ℕ → Bool) (l m : List ℕ) → filter p (l ++ m) ≡ filter p l ++ filter p m
 unfolding filter
 filter-append p [] m = refl
-filter-append p (x ∷ l) m = go (p x) (filter-append p l m)
+filter-append p (x ∷ l) m = by-test (p x) (filter-append p l m)
   where
-    go : (b : Bool) → filter p (l ++ m) ≡ filter p l ++ filter p m → (if b then x ∷ filter p (l ++ m) else filter p (l ++ m)) ≡ (if b then x ∷ filter p l else filter p l) ++ filter p m
-    go true e = ap (λ (y : List ℕ). x ∷ y) e
-    go false e = e
+    by-test : (b : Bool) → filter p (l ++ m) ≡ filter p l ++ filter p m → (if b then x ∷ filter p (l ++ m) else filter p (l ++ m)) ≡ (if b then x ∷ filter p l else filter p l) ++ filter p m
+    by-test true e = ap (λ (y : List ℕ). x ∷ y) e
+    by-test false e = e
 
 last-snoc : (l : List ℕ) (x : ℕ) → last (l ++ (x ∷ [])) ≡ some x
 unfolding last option
@@ -180,14 +180,14 @@ module _ (p : ℕ → Bool) (at : ℕ) (d : List ℕ) where
 
 -- every number of a list, and of a piece in it, is below n
 low-splice : (n at : ℕ) (s d : List ℕ) → at + length s ≤ length d → ((j : ℕ) → j < length s → getD s j 0 < n) → (i : ℕ) → getD d i 0 < n → getD (splice at s d) i 0 < n
-low-splice n at s d room h i q = go (decLt i at) (decLt i (at + length s))
+low-splice n at s d room h i q = from-this (decLt i at) (decLt i (at + length s))
   where
-    go : Dec (i < at) → Dec (i < at + length s) → getD (splice at s d) i 0 < n
-    go (yes b) c = rw (read-before at s d room i b) q
-    go (no b) (yes c) =
+    from-this : Dec (i < at) → Dec (i < at + length s) → getD (splice at s d) i 0 < n
+    from-this (yes b) c = rw (read-before at s d room i b) q
+    from-this (no b) (yes c) =
         let e : i ≡ at + (i - at) = omega arith in
         rw e (rw (read-in at s d room (i - at) (omega arith)) (h (i - at) (omega arith)))
-    go (no b) (no c) = rw (read-after at s d room i (omega arith)) q
+    from-this (no b) (no c) = rw (read-after at s d room i (omega arith)) q
 
 -- ---- the ranges of sorts 0 to k from a place on
 module _ (at n : ℕ) (w : List ℕ) (small : n ≤ 64) where
@@ -220,12 +220,12 @@ module _ (at n : ℕ) (w : List ℕ) (small : n ≤ 64) where
       let z : s ≡ 0 = omega arith in
       let e : at + 64 * 0 + i ≡ at + i = omega arith in
       rw (z, e) (read-in at (rangeBy n w 0) d (omega (arith, range-few n w 0)) i (rw z at q))
-  in-ranges (suc k) d h s i l q = go (decLt s (suc k)) (λ b. in-ranges k d (omega arith) s i b q)
+  in-ranges (suc k) d h s i l q = from-this (decLt s (suc k)) (λ b. in-ranges k d (omega arith) s i b q)
     where
-      go : Dec (s < suc k) → (s ≤ k → getD (withRanges at n w k d) (at + 64 * s + i) 0 ≡ getD (rangeBy n w s) i 0)
+      from-this : Dec (s < suc k) → (s ≤ k → getD (withRanges at n w k d) (at + 64 * s + i) 0 ≡ getD (rangeBy n w s) i 0)
           → getD (splice (at + 64 * suc k) (rangeBy n w (suc k)) (withRanges at n w k d)) (at + 64 * s + i) 0 ≡ getD (rangeBy n w s) i 0
-      go (yes b) r = read-before (at + 64 * suc k) (rangeBy n w (suc k)) (withRanges at n w k d) (room k d h) (at + 64 * s + i) (omega (arith, range-few n w s)) ∙ r (omega arith)
-      go (no b) r = let z : s ≡ suc k = omega arith in rw z (read-in (at + 64 * suc k) (rangeBy n w (suc k)) (withRanges at n w k d) (room k d h) i (rw z at q))
+      from-this (yes b) r = read-before (at + 64 * suc k) (rangeBy n w (suc k)) (withRanges at n w k d) (room k d h) (at + 64 * s + i) (omega (arith, range-few n w s)) ∙ r (omega arith)
+      from-this (no b) r = let z : s ≡ suc k = omega arith in rw z (read-in (at + 64 * suc k) (rangeBy n w (suc k)) (withRanges at n w k d) (room k d h) i (rw z at q))
 
   -- in place of zeros: every number from there on is an element
   pub ranges-low : (k : ℕ) (d : List ℕ) → at + 64 * k + 64 ≤ length d → 0 < n → ZeroFrom at d → (i : ℕ) → at ≤ i → getD (withRanges at n w k d) i 0 < n

@@ -1,6 +1,6 @@
 -- No sort in a tree is greater than k: nor is one of its nodes, of their parts and of the tree itself.
 use mathlib.Core.Bool.{true}
-use mathlib.Core.List.{[], _∷_}
+use mathlib.Core.List.{[]}
 use Prim.Native.Nat.{ℕ, suc, _+_, _≤_, _<_}
 use native.Mathlib.Omega.{arith}
 use lib.ListN.{length, getD}

@@ -56,11 +56,11 @@ module _ (at : ℕ) (s d : List ℕ) (room : at + length s ≤ length d) where
 
   -- in place of zeros: past the piece, too, one reads what a list has past its end
   pub read-from : ZeroFrom at d → (j : ℕ) → getD (splice at s d) (at + j) 0 ≡ getD s j 0
-  read-from h j = go (decLt j (length s))
+  read-from h j = from-this (decLt j (length s))
     where
-      go : Dec (j < length s) → getD (splice at s d) (at + j) 0 ≡ getD s j 0
-      go (yes k) = read-in j k
-      go (no k) = read-after (at + j) (omega arith) ∙ h (at + j) (omega arith) ∙ sym (List·getD-eq-default s 0 (omega arith))
+      from-this : Dec (j < length s) → getD (splice at s d) (at + j) 0 ≡ getD s j 0
+      from-this (yes k) = read-in j k
+      from-this (no k) = read-after (at + j) (omega arith) ∙ h (at + j) (omega arith) ∙ sym (List·getD-eq-default s 0 (omega arith))
 
   pub zeros-after : (k : ℕ) → at + length s ≤ k → ZeroFrom at d → ZeroFrom k (splice at s d)
   zeros-after k h q i b = read-after i (omega arith) ∙ q i (omega arith)
@@ -109,11 +109,11 @@ module _ (f : ℕ → List ℕ) (s : ℕ) (each : (i : ℕ) → length (f i) ≡
 
   pub tab-at : (k i j : ℕ) → i < k → j < s → getD (tab f k) (s * i + j) 0 ≡ getD (f i) j 0
   tab-at zero i j h l = absurd (omega arith)
-  tab-at (suc k) i j h l = go (decLt i k) (λ q. tab-at k i j q l)
+  tab-at (suc k) i j h l = from-this (decLt i k) (λ q. tab-at k i j q l)
     where
-      go : Dec (i < k) → ((q : i < k) → getD (tab f k) (s * i + j) 0 ≡ getD (f i) j 0) → getD (tab f (suc k)) (s * i + j) 0 ≡ getD (f i) j 0
-      go (yes q) r = ap (λ (x : List ℕ). getD x (s * i + j) 0) (tab-suc k) ∙ List·getD-append (tab f k) (f k) 0 (s * i + j) (in-tab k i j q l) ∙ r q
-      go (no q) r =
+      from-this : Dec (i < k) → ((q : i < k) → getD (tab f k) (s * i + j) 0 ≡ getD (f i) j 0) → getD (tab f (suc k)) (s * i + j) 0 ≡ getD (f i) j 0
+      from-this (yes q) r = ap (λ (x : List ℕ). getD x (s * i + j) 0) (tab-suc k) ∙ List·getD-append (tab f k) (f k) 0 (s * i + j) (in-tab k i j q l) ∙ r q
+      from-this (no q) r =
           let e : i ≡ k = omega arith in
           rw e (ap (λ (x : List ℕ). getD x (s * k + j) 0) (tab-suc k) ∙ last-at k j (f k))
 
@@ -144,11 +144,11 @@ unfolding tab splice
 tab-none f at d = let e : at + 0 ≡ at = add-zero at in rw (e, take-append-drop at d) refl
 
 pub append-most : (s u : List ℕ) (b : ℕ) → Most s b → Most u b → Most (s ++ u) b
-append-most s u b h k i = go (decLt i (length s))
+append-most s u b h k i = from-this (decLt i (length s))
   where
-    go : Dec (i < length s) → getD (s ++ u) i 0 ≤ b
-    go (yes q) = rw (List·getD-append s u 0 i q) (h i)
-    go (no q) =
+    from-this : Dec (i < length s) → getD (s ++ u) i 0 ≤ b
+    from-this (yes q) = rw (List·getD-append s u 0 i q) (h i)
+    from-this (no q) =
         let e : i ≡ length s + (i - length s) = omega arith in
         rw e (rw (getD-append-add s u (i - length s) 0) (k (i - length s)))
 

@@ -11,13 +11,14 @@ use lib.ListN.{length, getD, take, drop, length-map, length-drop}
 use lib.Seq.{take-all, length-take-le}
 use Rattle.definitions.specs.Lists.{if_then_else_, sum}
 use Rattle.definitions.specs.Relations.{Kind, static, plain, Fun, PFun, Inj, PInj, Relation, isChosen, isFunction, isInjective}
-use Rattle.definitions.specs.Tree.{Tree, leaf, forallNode, existsNode, andNode, orNode, parts, nodes, isForall, nodeSort}
+use Rattle.definitions.specs.Tree.{Tree, leaf, forallNode, existsNode, andNode, orNode, parts, isForall, nodeSort}
 use Rattle.definitions.specs.Atoms.{Problem, relationAt, nodeAt, relationStart, nodeStart, tuplesOf, rowsOf, nodeWidth as widthOf, atoms}
 use Rattle.definitions.specs.Actions.{choices, setsOf, proofsOf, setStart, proofStart, actions}
 use Rattle.definitions.specs.Built.{mostPicks, bound}
 use Rattle.laws.specs.Sorts.{Sorted}
 use Rattle.laws.specs.SetRows.{sets-all}
 use Rattle.laws.specs.Numbers.{noRelation, relationWidth as widthIn, relation-first, relation-next, set-first, set-next, node-first, node-next, proof-first, proof-next, atoms-end, node-atoms, actions-end}
+use Rattle.tree.specs.Bounds.{in-parts}
 use Rattle.tree.specs.Tables.{nodeKind, headIn, headOf, IsNode, noNode, Fits}
 use Rattle.tree.specs.declared.PartRow.{PartRow}
 use Rattle.tree.specs.declared.NodeRow.{NodeRow}
@@ -160,16 +161,13 @@ module _ (p : Problem) (ws : List ℕ) (k : ℕ) (g : Relations) (t : Nodes) (is
       ap (λ (s : ℕ). getD (ranges .count) s 0) (node-is v h .sort) ∙ sort-count ranges r (nodeSort (nodeAt p v)) b
 
   module _ (fits : Fits t) where
-    pub in-parts : (v : ℕ) → getD (t .rows) v noNode .first + getD (t .rows) v noNode .many ≤ length (t .parts)
-    in-parts v = omega (arith, fits .nodes .node v .parts, fits .parts .parts-length)
-
     module _ (ranges : Ranges) (r : RangesAre (p .size) ws k ranges) where
       pub act-width : (v : ℕ) → v < t .count → (p .size ^ getD (t .rows) v noNode .width) * choicesAt (ranges .count) t v ≡ proofsOf (p .size) (p .range) (nodeAt p v)
       unfolding proofsOf
       act-width v h =
           ap₂ (λ (x y : ℕ). x * y) (rows-are v h)
           (ap (λ (kind : ℕ). choicesOf (countAt (ranges .count) t v) kind (getD (t .rows) v noNode .many)) (node-is v h .kind)
-          ∙ choices-are (countAt (ranges .count) t v) (p .range) v (nodeAt p v) (getD (t .rows) v noNode) (t .parts) (count-of ranges r v h) (node-is v h) (in-parts v))
+          ∙ choices-are (countAt (ranges .count) t v) (p .range) v (nodeAt p v) (getD (t .rows) v noNode) (t .parts) (count-of ranges r v h) (node-is v h) (in-parts t fits v))
 
       act-are : (v : ℕ) → v ≤ t .count → actSum (p .size) (ranges .count) t (setStart p (length (p .relations)) + 1) v ≡ proofStart p v
       unfolding actSum
@@ -189,12 +187,12 @@ pub not-first : (a b x y : ℕ) (r : Bool) → x ≤ a → r ≡ ltb b y → r �
 not-first a b x y r h e = rw (le-ltb a x h) e
 
 neither : (a b x y : ℕ) → (ltb a x || ltb b y) ≡ false → (x ≤ a) × (y ≤ b)
-neither a b x y e = go (decLt a x) (decLt b y)
+neither a b x y e = from-this (decLt a x) (decLt b y)
   where
-    go : Dec (a < x) → Dec (b < y) → (x ≤ a) × (y ≤ b)
-    go (yes h) q = absurd (false≢true (sym e ∙ sym (too-many a b x y h)))
-    go (no h) (yes k) = absurd (false≢true (sym e ∙ sym (not-first a b x y true (omega arith) (sym (lt-ltb b y k)))))
-    go (no h) (no k) = (omega arith, omega arith)
+    from-this : Dec (a < x) → Dec (b < y) → (x ≤ a) × (y ≤ b)
+    from-this (yes h) q = absurd (false≢true (sym e ∙ sym (too-many a b x y h)))
+    from-this (no h) (yes k) = absurd (false≢true (sym e ∙ sym (not-first a b x y true (omega arith) (sym (lt-ltb b y k)))))
+    from-this (no h) (no k) = (omega arith, omega arith)
 
 -- ---- a layout is the problem's
 module _ (p : Problem) (ws : List ℕ) (k : ℕ) (ranges : Ranges) (g : Relations) (t : Nodes) (ra : RangesAre (p .size) ws k ranges) (is : Inputs p (p .size) ws k g t) (fits : Fits t) (rel neg dom sets node act : List ℕ) (at st picks end acts : ℕ)

@@ -1,7 +1,7 @@
 -- One turn of each loop that fills the table, and its end.
 use mathlib.Core.Path.{_≡_, refl, sym, ap, ap₂, _∙_, subst}
 use mathlib.Core.List.{List, [], _∷_, _++_}
-use Prim.Native.Nat.{ℕ, _+_, _*_, _^_, _≤_, _<_}
+use Prim.Native.Nat.{ℕ, _+_, _^_, _≤_, _<_}
 use native.Mathlib.Decide.{decLt}
 use native.Mathlib.Omega.{arith}
 use native.Mathlib.Numerals.{add-one}
@@ -82,8 +82,8 @@ module _ (place : ℕ) (d w : List ℕ) (n i : ℕ) where
 
 -- what holds of all before the next and of the next holds of all up to it
 pub one-more : (P : ℕ → Type 0) (v : ℕ) → ((u : ℕ) → u < v → P u) → P v → (u : ℕ) → u < v + 1 → P u
-one-more P v h q u l = go (decLt u v)
+one-more P v h q u l = from-this (decLt u v)
   where
-    go : Dec (u < v) → P u
-    go (yes k) = h u k
-    go (no k) = let e : v ≡ u = omega arith in subst P e q
+    from-this : Dec (u < v) → P u
+    from-this (yes k) = h u k
+    from-this (no k) = let e : v ≡ u = omega arith in subst P e q

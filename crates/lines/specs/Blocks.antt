@@ -191,11 +191,11 @@ module _ (c : Case) (F : List Tuple) where
   -- what does not depend on a level is the same at each of its values
   pub alike : (t : Tree) (e : Values) (d x y : ℕ) → occurs d t ≡ false → treeHolds c F (withValue e d x) t ≡ treeHolds c F (withValue e d y) t
   unfolding withValue
-  alike t e d x y h = holds-same c F t (withValue e d x) (withValue e d y) (λ l q. go l q (eqb l d) refl)
+  alike t e d x y h = holds-same c F t (withValue e d x) (withValue e d y) (λ l q. by-number l q (eqb l d) refl)
     where
-      go : (l : ℕ) → T (occurs l t) → (b : Bool) → eqb l d ≡ b → (if b then x else e l) ≡ (if b then y else e l)
-      go l q true k = absurd (subst T (ap (λ (z : ℕ). occurs z t) (eqb-true l d k) ∙ h) q)
-      go l q false k = refl
+      by-number : (l : ℕ) → T (occurs l t) → (b : Bool) → eqb l d ≡ b → (if b then x else e l) ≡ (if b then y else e l)
+      by-number l q true k = absurd (subst T (ap (λ (z : ℕ). occurs z t) (eqb-true l d k) ∙ h) q)
+      by-number l q false k = refl
 
   served : (sought : Bool) (e : Values) (d σ : ℕ) (t : Tree) (xs : List ℕ) → Serves d σ t xs
       → any (λ x. agree (treeHolds c F (withValue e d x) t) sought) (membersOf c σ) ≡ any (λ x. agree (treeHolds c F (withValue e d x) t) sought) xs

@@ -190,11 +190,11 @@ unfolding any
 some-level level zero i ls h l e = absurd (omega arith)
 some-level level (suc w) i [] h l e = absurd (omega arith)
 some-level level (suc w) zero (x ∷ ls) h l e = rw (eq-eqb level x (sym e)) refl
-some-level level (suc w) (suc i) (x ∷ ls) h l e = rw (some-level level w i ls (omega arith) (omega arith) e) (go (eqb level x))
+some-level level (suc w) (suc i) (x ∷ ls) h l e = rw (some-level level w i ls (omega arith) (omega arith) e) (by-test (eqb level x))
   where
-    go : (b : Bool) → (b || true) ≡ true
-    go true = refl
-    go false = refl
+    by-test : (b : Bool) → (b || true) ≡ true
+    by-test true = refl
+    by-test false = refl
 
 no-level : (level w : ℕ) (ls : List ℕ) → ((k : ℕ) → k < w → getD ls k 0 ≡ level → ⊥) → any (eqb level) (take w ls) ≡ false
 unfolding any
@@ -220,20 +220,20 @@ module _ (n : ℕ) (t : Nodes) (fits : Fits t) (x : NodeRow) where
   pub node-past : (r : List ℕ) → 64 ≤ x .first → IsLine r (ownLine 1 x) → IsLine r (nodeOf n t x)
   unfolding nodeOf blockLine turnsOf any
   node-past r h e = (
-    e .0 ∙ ap nodeNumbers (sym (ap (λ (q : PartRow). blockLine (turnsOf n (x .level) q) x q (getD (t .rows) (q .which) noNode)) (past (t .parts) (x .first) (omega (arith, fits .parts .parts-length))) ∙ go (ltb (x .kind) 2))),
+    e .0 ∙ ap nodeNumbers (sym (ap (λ (q : PartRow). blockLine (turnsOf n (x .level) q) x q (getD (t .rows) (q .which) noNode)) (past (t .parts) (x .first) (omega (arith, fits .parts .parts-length))) ∙ by-test (ltb (x .kind) 2))),
     e .1,
   )
     where
-      go : (b : Bool) → (if b then ownLine 1 x else ownLine 1 x) ≡ ownLine 1 x
-      go true = refl
-      go false = refl
+      by-test : (b : Bool) → (if b then ownLine 1 x else ownLine 1 x) ≡ ownLine 1 x
+      by-test true = refl
+      by-test false = refl
 
   pub which-small : (i : ℕ) → getD (t .parts) i noPart .which < 64
-  which-small i = let f = fits .parts .part i in go (ltb (getD (t .parts) i noPart .tag) 2) refl f
+  which-small i = let f = fits .parts .part i in by-test (ltb (getD (t .parts) i noPart .tag) 2) refl f
     where
-      go : (b : Bool) → ltb (getD (t .parts) i noPart .tag) 2 ≡ b → PartFits (getD (t .parts) i noPart) → getD (t .parts) i noPart .which < 64
-      go true e f = omega (arith, f .relation (ltb-true (getD (t .parts) i noPart .tag) 2 e))
-      go false e f = f .node (ltb-false (getD (t .parts) i noPart .tag) 2 e)
+      by-test : (b : Bool) → ltb (getD (t .parts) i noPart .tag) 2 ≡ b → PartFits (getD (t .parts) i noPart) → getD (t .parts) i noPart .which < 64
+      by-test true e f = omega (arith, f .relation (ltb-true (getD (t .parts) i noPart .tag) 2 e))
+      by-test false e f = f .node (ltb-false (getD (t .parts) i noPart .tag) 2 e)
 
 -- ---- the loop over the relations
 pub words-small : (n k p : ℕ) → n ≤ 64 → k ≤ 4 → p ≡ n ^ k → (p + 63) / 64 ≤ 262145
@@ -249,11 +249,11 @@ choose-next n g r f c p a b d = rw (add-one, a, d, b) refl
 
 pub bits-next : (n : ℕ) (g : Relations) (bits : List ℕ) (r b f p : ℕ) → r < length bits → f ≡ factSum n g r → p ≡ chooseSum n g r → b ≡ firstBit r (getD (g .kind) r 0) f p
     → ((u : ℕ) → u < r → getD bits u 0 ≡ bitOf n g u) → (u : ℕ) → u < r + 1 → getD (set bits r b) u 0 ≡ bitOf n g u
-bits-next n g bits r b f p l a q e h u k = go (decLt u r)
+bits-next n g bits r b f p l a q e h u k = from-this (decLt u r)
   where
-    go : Dec (u < r) → getD (set bits r b) u 0 ≡ bitOf n g u
-    go (yes z) = getD-set-other bits r u b 0 (λ (x : u ≡ r). omega arith) ∙ h u z
-    go (no z) =
+    from-this : Dec (u < r) → getD (set bits r b) u 0 ≡ bitOf n g u
+    from-this (yes z) = getD-set-other bits r u b 0 (λ (x : u ≡ r). omega arith) ∙ h u z
+    from-this (no z) =
         let x : u ≡ r = omega arith in
         rw x (getD-set-same bits r b 0 l ∙ e ∙ ap₂ (firstBit r (getD (g .kind) r 0)) a q)
 
@@ -282,15 +282,52 @@ unfolding factSum chooseSum
 sums-none n g = (refl, refl)
 
 pub zeros-most : Most (0 ∷ 0 ∷ 0 ∷ 0 ∷ 0 ∷ 0 ∷ 0 ∷ 0 ∷ 0 ∷ 0 ∷ 0 ∷ 0 ∷ 0 ∷ 0 ∷ 0 ∷ 0 ∷ 0 ∷ []) (2 ^ 32)
-zeros-most = each-most (2 ^ 32) (0 ∷ 0 ∷ 0 ∷ 0 ∷ 0 ∷ 0 ∷ 0 ∷ 0 ∷ 0 ∷ 0 ∷ 0 ∷ 0 ∷ 0 ∷ 0 ∷ 0 ∷ 0 ∷ 0 ∷ []) (omega arith, (omega arith, (omega arith, (omega arith, (omega arith, (omega arith, (omega arith, (omega arith, (omega arith, (omega arith, (omega arith, (omega arith, (omega arith, (omega arith, (omega arith, (omega arith, (omega arith, tt)))))))))))))))))
+zeros-most =
+    each-most (2 ^ 32) (0 ∷ 0 ∷ 0 ∷ 0 ∷ 0 ∷ 0 ∷ 0 ∷ 0 ∷ 0 ∷ 0 ∷ 0 ∷ 0 ∷ 0 ∷ 0 ∷ 0 ∷ 0 ∷ 0 ∷ []) (
+      omega arith,
+      (
+        omega arith,
+        (
+          omega arith,
+          (
+            omega arith,
+            (
+              omega arith,
+              (
+                omega arith,
+                (
+                  omega arith,
+                  (
+                    omega arith,
+                    (
+                      omega arith,
+                      (
+                        omega arith,
+                        (
+                          omega arith,
+                          (
+                            omega arith,
+                            (omega arith, (omega arith, (omega arith, (omega arith, (omega arith, tt))))),
+                          ),
+                        ),
+                      ),
+                    ),
+                  ),
+                ),
+              ),
+            ),
+          ),
+        ),
+      ),
+    )
 
 pub part-list : (n : ℕ) (g : Relations) (bits line : List ℕ) (q : PartRow) → Bits n g bits → PartFits q → (line ≡ partNumbers n (g .kind) bits q) × Most line (2 ^ 32) → (line ≡ partList n g q) × Most line (2 ^ 32)
 unfolding partNumbers partOf lineOf
-part-list n g bits line q b f e = (e .0 ∙ go (ltb (q .tag) 2) refl, e .1)
+part-list n g bits line q b f e = (e .0 ∙ by-test (ltb (q .tag) 2) refl, e .1)
   where
-    go : (z : Bool) → ltb (q .tag) 2 ≡ z → partNumbers n (g .kind) bits q ≡ partList n g q
-    go true k = rw (k, b (q .which) (f .relation (ltb-true (q .tag) 2 k))) refl
-    go false k = rw k refl
+    by-test : (z : Bool) → ltb (q .tag) 2 ≡ z → partNumbers n (g .kind) bits q ≡ partList n g q
+    by-test true k = rw (k, b (q .which) (f .relation (ltb-true (q .tag) 2 k))) refl
+    by-test false k = rw k refl
 
 -- ---- the turns of filling
 pub node-turn : (counts : List ℕ) (t : Nodes) (w d z : List ℕ) (v : ℕ) (line : List ℕ) → length d ≡ linesLength → v < 64 → line ≡ nodeLines counts t v
@@ -389,13 +426,13 @@ module _ (n : ℕ) (members : List ℕ) (k : ℕ) (counts : List ℕ) (g : Relat
   root-at j i h e = ap (λ (x : ℕ). getD T x 0) e ∙ in-Q j h
 
   entry : (i : ℕ) → getD T i 0 ≤ 2 ^ 32
-  entry i = go (decLt i 448) (decLt i 896) (decLt i 903)
+  entry i = from-this (decLt i 448) (decLt i 896) (decLt i 903)
     where
-      go : Dec (i < 448) → Dec (i < 896) → Dec (i < 903) → getD T i 0 ≤ 2 ^ 32
-      go (yes h) q r = rw (in-N i h) (tab-most (nodeLines counts t) (t .count) (2 ^ 32) nm i)
-      go (no h) (yes q) r = let e : i ≡ 448 + (i - 448) = omega arith in rw e (rw (in-P (i - 448) (omega arith)) (tab-most (partLines n g t) (t .placed) (2 ^ 32) pm (i - 448)))
-      go (no h) (no q) (yes r) = let e : i ≡ 896 + (i - 896) = omega arith in rw e (rw (in-Q (i - 896) (omega arith)) (rm (i - 896)))
-      go (no h) (no q) (no r) = omega (arith, low-M i (omega arith))
+      from-this : Dec (i < 448) → Dec (i < 896) → Dec (i < 903) → getD T i 0 ≤ 2 ^ 32
+      from-this (yes h) q r = rw (in-N i h) (tab-most (nodeLines counts t) (t .count) (2 ^ 32) nm i)
+      from-this (no h) (yes q) r = let e : i ≡ 448 + (i - 448) = omega arith in rw e (rw (in-P (i - 448) (omega arith)) (tab-most (partLines n g t) (t .placed) (2 ^ 32) pm (i - 448)))
+      from-this (no h) (no q) (yes r) = let e : i ≡ 896 + (i - 896) = omega arith in rw e (rw (in-Q (i - 896) (omega arith)) (rm (i - 896)))
+      from-this (no h) (no q) (no r) = omega (arith, low-M i (omega arith))
 
   four : (ws : List ℕ) → length ws ≡ 4 → getD ws 0 0 ∷ getD ws 1 0 ∷ getD ws 2 0 ∷ getD ws 3 0 ∷ [] ≡ ws
   four (a ∷ b ∷ c ∷ e ∷ []) h = refl
@@ -419,15 +456,51 @@ module _ (n : ℕ) (members : List ℕ) (k : ℕ) (counts : List ℕ) (g : Relat
     range = in-M;
     low = low-M;
     entry = entry;
-    node = λ v h. rw (node-at v 0 (7 * v) h (omega arith) (omega arith), node-at v 1 (7 * v + 1) h (omega arith) (omega arith), node-at v 2 (7 * v + 2) h (omega arith) (omega arith), node-at v 3 (7 * v + 3) h (omega arith) (omega arith), node-at v 4 (7 * v + 4) h (omega arith) (omega arith), node-at v 5 (7 * v + 5) h (omega arith) (omega arith), node-at v 6 (7 * v + 6) h (omega arith) (omega arith)) refl;
-    rest = λ v h l. rw (past-N (7 * v) (omega arith) (omega arith), past-N (7 * v + 1) (omega arith) (omega arith), past-N (7 * v + 2) (omega arith) (omega arith), past-N (7 * v + 3) (omega arith) (omega arith), past-N (7 * v + 4) (omega arith) (omega arith), past-N (7 * v + 5) (omega arith) (omega arith), past-N (7 * v + 6) (omega arith) (omega arith)) refl;
+    node =
+        λ v h. rw (
+          node-at v 0 (7 * v) h (omega arith) (omega arith),
+          node-at v 1 (7 * v + 1) h (omega arith) (omega arith),
+          node-at v 2 (7 * v + 2) h
+              (omega arith) (omega arith),
+          node-at v 3 (7 * v + 3) h (omega arith) (omega arith),
+          node-at v 4 (7 * v + 4) h (omega arith) (omega arith),
+          node-at v 5 (7 * v + 5) h (omega arith) (omega arith),
+          node-at v 6 (7 * v + 6) h (omega arith) (omega arith),
+        ) refl;
+    rest =
+        λ v h l. rw (
+          past-N (7 * v) (omega arith) (omega arith),
+          past-N (7 * v + 1) (omega arith) (omega arith),
+          past-N (7 * v + 2) (omega arith)
+              (omega arith),
+          past-N (7 * v + 3) (omega arith) (omega arith),
+          past-N (7 * v + 4) (omega arith) (omega arith),
+          past-N (7 * v + 5)
+              (omega arith) (omega arith),
+          past-N (7 * v + 6) (omega arith) (omega arith),
+        ) refl;
     part = λ i h. (
       rw (part-at i 0 (448 + 7 * i) h (omega arith) (omega arith), part-at i 1 (448 + 7 * i + 1) h (omega arith) (omega arith)) refl,
-      same-line (getD (t .parts) i noPart) _ (rw (part-at i 2 (448 + 7 * i + 2) h (omega arith) (omega arith), part-at i 3 (448 + 7 * i + 3) h (omega arith) (omega arith), part-at i 4 (448 + 7 * i + 4) h (omega arith) (omega arith), part-at i 5 (448 + 7 * i + 5) h (omega arith) (omega arith), part-at i 6 (448 + 7 * i + 6) h (omega arith) (omega arith)) refl),
+      same-line (getD (t .parts) i noPart) _ (rw (
+        part-at i 2 (448 + 7 * i + 2) h (omega arith) (omega arith),
+        part-at i 3 (448 + 7 * i + 3) h
+            (omega arith) (omega arith),
+        part-at i 4 (448 + 7 * i + 4) h (omega arith) (omega arith),
+        part-at i 5 (448 + 7 * i + 5) h (omega arith)
+            (omega arith),
+        part-at i 6 (448 + 7 * i + 6) h (omega arith) (omega arith),
+      ) refl),
     );
     top = (
       rw (root-at 0 (448 + 7 * 64) (omega arith) (omega arith), root-at 1 (448 + 7 * 64 + 1) (omega arith) (omega arith)) refl,
-      same-line (t .root) _ (rw (root-at 2 (448 + 7 * 64 + 2) (omega arith) (omega arith), root-at 3 (448 + 7 * 64 + 3) (omega arith) (omega arith), root-at 4 (448 + 7 * 64 + 4) (omega arith) (omega arith), root-at 5 (448 + 7 * 64 + 5) (omega arith) (omega arith), root-at 6 (448 + 7 * 64 + 6) (omega arith) (omega arith)) refl),
+      same-line (t .root) _ (rw (
+        root-at 2 (448 + 7 * 64 + 2) (omega arith) (omega arith),
+        root-at 3 (448 + 7 * 64 + 3) (omega arith) (omega arith),
+        root-at 4 (448 + 7 * 64 + 4) (omega arith) (omega arith),
+        root-at 5 (448 + 7 * 64 + 5) (omega arith) (omega arith),
+        root-at 6
+            (448 + 7 * 64 + 6) (omega arith) (omega arith),
+      ) refl),
     );
   }
 

@@ -26,6 +26,7 @@ use Rattle.laws.specs.Grounded.{good}
 use Rattle.laws.specs.Meaning.{tree-means}
 use Rattle.laws.specs.Means.{here-at}
 use Rattle.laws.specs.Parts.{Bnd, bnd-map, Fits, IsNode as NotLeaf, Here, HereAll, under-forall, under-exists, parts-and, parts-or, head-here, tail-here, node-at}
+use Rattle.tree.specs.Bounds.{in-parts}
 use Rattle.tree.specs.Tables.{Head, headIn, headOf, headFrom, nodeKind, nodeLevel, noNode, PartFits, IsNode, Fits as TreeFits}
 use Rattle.tree.specs.Tables.{noPart as noRow}
 use Rattle.tree.specs.declared.PartRow.{PartRow}
@@ -44,7 +45,7 @@ use Rattle.layout.specs.StartsAre.{many-are, node-sort, count-of}
 use Rattle.layout.specs.RangeLaws.{map-places}
 use Rattle.initial.specs.Initial.{FactsIn}
 use Rattle.picks.specs.Words.{PicksAre}
-use Rattle.truth.specs.Lines.{rangePlace, nodeIn, partIn, lineIn, literalAt, leafAt, agree, fixedIn, NodeSound, Sound}
+use Rattle.truth.specs.Lines.{rangePlace, nodeIn, partIn, lineIn, literalAt, leafAt, agree, fixedIn, NodeSound, SoundLines}
 use Rattle.truth.specs.Says.{nodeOf as nodeOfTree, noValues, truthBy, PartSays, NodeSays, Says}
 use Rattle.truth.specs.declared.NodeAt.{NodeAt}
 use Rattle.truth.specs.declared.PartAt.{PartAt}
@@ -117,11 +118,11 @@ weighs n l [] p h = absurd (clash h)
   where
     clash : _≡_ {A = Bool} false true → ⊥
     clash q = let z : _≡_ {A = ℕ} 0 1 = cc in omega arith
-weighs n l (x ∷ ls) p h = go (eqb l x) h (weighs n l ls p)
+weighs n l (x ∷ ls) p h = by-test (eqb l x) h (weighs n l ls p)
   where
-    go : (b : Bool) → (b || any (eqb l) ls) ≡ true → (any (eqb l) ls ≡ true → 0 < weightOf n ls l) → 0 < (if b then n ^ length ls else 0) + weightOf n ls l
-    go true e r = let q : 0 < n ^ length ls = one-le-pow (length ls) n p in omega arith
-    go false e r = omega (arith, r e)
+    by-test : (b : Bool) → (b || any (eqb l) ls) ≡ true → (any (eqb l) ls ≡ true → 0 < weightOf n ls l) → 0 < (if b then n ^ length ls else 0) + weightOf n ls l
+    by-test true e r = let q : 0 < n ^ length ls = one-le-pow (length ls) n p in omega arith
+    by-test false e r = omega (arith, r e)
 
 four-at : (a b c d : ℕ) (f : ℕ → ℕ) (l : ℕ) → l < 4 → a ≡ f 0 → b ≡ f 1 → c ≡ f 2 → d ≡ f 3 → getD (a ∷ b ∷ c ∷ d ∷ []) l 0 ≡ f l
 four-at a b c d f zero h p q r s = p
@@ -132,14 +133,14 @@ four-at a b c d f (suc (suc (suc (suc l)))) h p q r s = absurd (omega arith)
 
 fixed-free : (n : ℕ) (g : Relations) (w : List ℕ) (i k level : ℕ) (q : PartRow) (t : Tree) → 0 < n → level < 4 → lineIn w i ≡ lineOf n g q → headIn q ≡ headFrom k t → fixedIn w i level ≡ true → occurs level t ≡ false
 unfolding fixedIn lineOf
-fixed-free n g w i k level q t p h e d f = go (occurs level t) refl
+fixed-free n g w i k level q t p h e d f = by-test (occurs level t) refl
   where
     light : weightOf n (take (q .width) (q .levels)) level ≡ 0
     light = sym (four-at _ _ _ _ (weightOf n (take (q .width) (q .levels))) level h refl refl refl refl) ∙ eqb-true _ 0 (ap (λ (z : PartLine). eqb (getD (z .weights) level 0) 0) (sym e) ∙ f)
 
-    go : (b : Bool) → occurs level t ≡ b → occurs level t ≡ false
-    go true o = let z = weighs n level (take (q .width) (q .levels)) p (ap (λ (x : Head). any (eqb level) (x .levels)) d ∙ head-has k t level h ∙ o) in absurd (omega (arith, light))
-    go false o = o
+    by-test : (b : Bool) → occurs level t ≡ b → occurs level t ≡ false
+    by-test true o = let z = weighs n level (take (q .width) (q .levels)) p (ap (λ (x : Head). any (eqb level) (x .levels)) d ∙ head-has k t level h ∙ o) in absurd (omega (arith, light))
+    by-test false o = o
 
 -- ---- a block's line
 
@@ -208,15 +209,15 @@ module _ (c : ℕ) (t : Nodes) (x : NodeRow) where
     level = refl;
     join = sym j;
     many = rw u m;
-    head = λ i l. go i (rw u at l);
+    head = λ i l. by-number i (rw u at l);
     fits = f;
     range = refl;
     count = refl;
   })
     where
-      go : (i : ℕ) → i < 1 → headIn (getD (t .parts) (x .first + i) noRow) ≡ headOf (getD (under k s) i noPart)
-      go zero l = rw u (ap (λ (z : ℕ). headIn (getD (t .parts) z noRow)) (add-zero (x .first)) ∙ h)
-      go (suc i) l = absurd (omega arith)
+      by-number : (i : ℕ) → i < 1 → headIn (getD (t .parts) (x .first + i) noRow) ≡ headOf (getD (under k s) i noPart)
+      by-number zero l = rw u (ap (λ (z : ℕ). headIn (getD (t .parts) z noRow)) (add-zero (x .first)) ∙ h)
+      by-number (suc i) l = absurd (omega arith)
 
 module _ (p : Problem) (n : ℕ) (ws : List ℕ) (types : ℕ) (g : Relations) (t : Nodes) (inputs : Inputs p n ws types g t) (ft : TreeFits t) where
   count-is : t .count ≡ length (p .nodeList)
@@ -228,9 +229,6 @@ module _ (p : Problem) (n : ℕ) (ws : List ℕ) (types : ℕ) (g : Relations) (
 
   placed-is : (v : ℕ) → getD (t .rows) v noNode .first + getD (t .rows) v noNode .many ≤ t .placed
   placed-is v = ft .nodes .node v .parts
-
-  in-parts : (v : ℕ) → getD (t .rows) v noNode .first + getD (t .rows) v noNode .many ≤ length (t .parts)
-  in-parts v = omega (arith, ft .nodes .node v .parts, ft .few-parts, ft .parts .parts-length)
 
   heads-of : (v : ℕ) (u : Tree) (x : NodeRow) → IsNode v u x (t .parts) → (i : ℕ) → i < length (parts v u) → headIn (getD (t .parts) (x .first + i) noRow) ≡ headOf (getD (parts v u) i noPart)
   heads-of v u x is i l = ap headIn (sym (getD-drop (x .first) (t .parts) i noRow)) ∙ heads-at (drop (x .first) (t .parts)) (x .many) (parts v u) (is .parts) i l
@@ -244,7 +242,7 @@ module _ (p : Problem) (n : ℕ) (ws : List ℕ) (types : ℕ) (g : Relations) (
         kind = refl;
         level = refl;
         join = ap (λ (z : ℕ). z - 2) (is .kind) ∙ j;
-        many = rw u (many-are k s (getD (t .rows) k noNode) (t .parts) is (in-parts k));
+        many = rw u (many-are k s (getD (t .rows) k noNode) (t .parts) is (in-parts t ft k));
         head = λ i l. rw u (heads-of k s (getD (t .rows) k noNode) is i (rw u at l));
         fits = placed-is k;
         range = refl;
@@ -293,13 +291,39 @@ module _ (p : Problem) (n : ℕ) (ws : List ℕ) (types : ℕ) (g : Relations) (
       let m : x .many ≡ 1 = many-are v (forallNode d σ s) x (t .parts) is l in
       let e : headIn (part₀ c t x) ≡ headFrom (suc v) s = ap (λ (z : ℕ). headIn (getD (t .parts) z noRow)) (sym (add-zero (x .first))) ∙ heads-of v (forallNode d σ s) x is 0 (omega arith) in
       let z = under-is c v s x (omega arith) m f e (under-forall p v d σ s here) in
-      record { kind = z .kind ∙ k; level = z .level ∙ is .level; join = z .join; many = z .many; head = z .head; fits = z .fits; low = rw (z .level) low; range = z .range ∙ ap (λ (σ : ℕ). rangePlace σ) (is .sort); count = z .count ∙ turns-are c (x .level) d (suc v) (part₀ c t x) s e (is .level) low ∙ ap (λ (m : ℕ). if occurs d s then m else 1) r }
+      record {
+        kind =
+            z .kind ∙ k;
+        level = z .level ∙ is .level;
+        join = z .join;
+        many = z .many;
+        head = z .head;
+        fits = z .fits;
+        low = rw (z .level) low;
+        range
+            = z .range ∙ ap (λ (σ : ℕ). rangePlace σ) (is .sort);
+        count = z .count
+            ∙ turns-are c (x .level) d (suc v) (part₀ c t x) s e (is .level) low ∙ ap (λ (m : ℕ). if occurs d s then m else 1) r;
+      }
   block-of c v (existsNode d σ s) x r is f l low h here =
       let k : x .kind ≡ 1 = is .kind in
       let m : x .many ≡ 1 = many-are v (existsNode d σ s) x (t .parts) is l in
       let e : headIn (part₀ c t x) ≡ headFrom (suc v) s = ap (λ (z : ℕ). headIn (getD (t .parts) z noRow)) (sym (add-zero (x .first))) ∙ heads-of v (existsNode d σ s) x is 0 (omega arith) in
       let z = under-is c v s x (omega arith) m f e (under-exists p v d σ s here) in
-      record { kind = z .kind ∙ k; level = z .level ∙ is .level; join = z .join; many = z .many; head = z .head; fits = z .fits; low = rw (z .level) low; range = z .range ∙ ap (λ (σ : ℕ). rangePlace σ) (is .sort); count = z .count ∙ turns-are c (x .level) d (suc v) (part₀ c t x) s e (is .level) low ∙ ap (λ (m : ℕ). if occurs d s then m else 1) r }
+      record {
+        kind =
+            z .kind ∙ k;
+        level = z .level ∙ is .level;
+        join = z .join;
+        many = z .many;
+        head = z .head;
+        fits = z .fits;
+        low = rw (z .level) low;
+        range
+            = z .range ∙ ap (λ (σ : ℕ). rangePlace σ) (is .sort);
+        count = z .count
+            ∙ turns-are c (x .level) d (suc v) (part₀ c t x) s e (is .level) low ∙ ap (λ (m : ℕ). if occurs d s then m else 1) r;
+      }
   block-of c v (andNode ts) x r is f l low h here =
       let k : x .kind ≡ 2 = is .kind in
       rw (own-join c t x (omega arith)) (record { kind = refl; level = refl; join = ap (λ (z : ℕ). z - 2) k; many = many-are v (andNode ts) x (t .parts) is l; head = heads-of v (andNode ts) x is; fits = f; low = omega arith; range = ap (λ (σ : ℕ). rangePlace σ) (is .sort); count = refl })
@@ -373,7 +397,7 @@ module _ (c : Case) (A : Accepted c) (n : ℕ) (ws : List ℕ) (types : ℕ) (ra
 
   block-is : (v : ℕ) → v < length (p .nodeList) → IsBlock (p .range) t v (nodeAt p v) (lineAt v)
   block-is v l =
-      block-of p n ws types g t inputs ft (countAt (ranges .count) t v) v (nodeAt p v) (getD (t .rows) v noNode) (count-at v (omega (arith, count-is p n ws types g t inputs ft))) (row-is p n ws types g t inputs ft v l) (placed-is p n ws types g t inputs ft v) (in-parts p n ws types g t inputs ft v)
+      block-of p n ws types g t inputs ft (countAt (ranges .count) t v) v (nodeAt p v) (getD (t .rows) v noNode) (count-at v (omega (arith, count-is p n ws types g t inputs ft))) (row-is p n ws types g t inputs ft v l) (placed-is p n ws types g t inputs ft v) (in-parts t ft v)
       (ft .nodes .node v .level) (kind-is v l) (here-at p (good c A) v l)
 
   here-of : (v : ℕ) → v < length (p .nodeList) → (i : ℕ) → i < length (blockParts v (nodeAt p v)) → Here p (getD (blockParts v (nodeAt p v)) i noPart .node) (getD (blockParts v (nodeAt p v)) i noPart .tree) × (v < getD (blockParts v (nodeAt p v)) i noPart .node)
@@ -429,23 +453,23 @@ module _ (c : Case) (A : Accepted c) (n : ℕ) (ws : List ℕ) (types : ℕ) (ra
     rest-sound : (v : ℕ) → t .count ≤ v → v < 64 → NodeSound n w v (nodeIn w v)
     rest-sound v h l = rw (lined .rest v h l) (record { level = omega arith; parts = omega arith; inside = omega arith; element = λ i k. absurd (omega arith); rises = λ i k z. absurd (omega arith) })
 
-    pub sound : Sound n w
+    pub sound : SoundLines n w
     unfolding problemOf problemWith
     sound = record {
       whole = lined .whole;
       some = some;
       size = small;
       entry = lined .entry;
-      node = λ v l. go v l (ltb v (t .count)) refl;
+      node = λ v l. by-number v l (ltb v (t .count)) refl;
       root = λ z.
           let s = tag-node (t .root) 0 (p .root) (inputs .tree .top) (good c A .root-here) (rw (lined .top .0) at z) in
           let a : partIn w 64 .which ≡ 0 = ap (λ (x : PartAt). x .which) (lined .top .0) ∙ s .0 in
           omega (arith, a);
     }
       where
-        go : (v : ℕ) → v < 64 → (b : Bool) → ltb v (t .count) ≡ b → NodeSound n w v (nodeIn w v)
-        go v l true e = node-sound v (ltb-true v (t .count) e)
-        go v l false e = rest-sound v (ltb-false v (t .count) e) l
+        by-number : (v : ℕ) → v < 64 → (b : Bool) → ltb v (t .count) ≡ b → NodeSound n w v (nodeIn w v)
+        by-number v l true e = node-sound v (ltb-true v (t .count) e)
+        by-number v l false e = rest-sound v (ltb-false v (t .count) e) l
 
   -- ---- what the lines say
   module _ (F : List Tuple) (pk : arePicks c F ≡ true) (facts : List ℕ) (fi : FactsIn (problemOf c) facts) (picks : List ℕ) (pa : PicksAre (problemOf c) picks F) where
@@ -458,19 +482,19 @@ module _ (c : Case) (A : Accepted c) (n : ℕ) (ws : List ℕ) (types : ℕ) (ra
 
     leaf-of : (q : PartRow) (e : Values) (b : Bool) → q .tag ≡ 0 → literalAt facts picks n (partOf g q .which) (partNumber e (lineOf n g q)) ≡ b → leafAt facts picks n e (partOf g q) (lineOf n g q) ≡ b
     unfolding leafAt agree
-    leaf-of q e b h k = ap₂ agree k (ap (λ (x : PartAt). eqb (x .tag) 1) (is-literal g q (omega arith)) ∙ ap (λ (x : ℕ). eqb (suc x) 1) h) ∙ go b
+    leaf-of q e b h k = ap₂ agree k (ap (λ (x : PartAt). eqb (x .tag) 1) (is-literal g q (omega arith)) ∙ ap (λ (x : ℕ). eqb (suc x) 1) h) ∙ by-test b
       where
-        go : (b : Bool) → agree b true ≡ b
-        go true = refl
-        go false = refl
+        by-test : (b : Bool) → agree b true ≡ b
+        by-test true = refl
+        by-test false = refl
 
     not-leaf-of : (q : PartRow) (e : Values) (b : Bool) → q .tag ≡ 1 → literalAt facts picks n (partOf g q .which) (partNumber e (lineOf n g q)) ≡ b → leafAt facts picks n e (partOf g q) (lineOf n g q) ≡ not b
     unfolding leafAt agree
-    not-leaf-of q e b h k = ap₂ agree k (ap (λ (x : PartAt). eqb (x .tag) 1) (is-literal g q (omega arith)) ∙ ap (λ (x : ℕ). eqb (suc x) 1) h) ∙ go b
+    not-leaf-of q e b h k = ap₂ agree k (ap (λ (x : PartAt). eqb (x .tag) 1) (is-literal g q (omega arith)) ∙ ap (λ (x : ℕ). eqb (suc x) 1) h) ∙ by-test b
       where
-        go : (b : Bool) → agree b false ≡ not b
-        go true = refl
-        go false = refl
+        by-test : (b : Bool) → agree b false ≡ not b
+        by-test true = refl
+        by-test false = refl
 
     literal-says : (q : PartRow) (k : ℕ) (s : Tree) → PartFits q → headIn q ≡ headFrom k s → Here p k s → (partOf g q .tag ≡ 0 → ⊥) → (e : Values) → Bnd n e → leafAt facts picks n e (partOf g q) (lineOf n g q) ≡ treeHolds c F e s
     unfolding headFrom treeHolds Fits
@@ -497,11 +521,11 @@ module _ (c : Case) (A : Accepted c) (n : ℕ) (ws : List ℕ) (types : ℕ) (ra
 
       serves : (d σ : ℕ) (s : Tree) → σ ≤ types → Serves c F d σ s (membersIn w (rangePlace σ) (if occurs d s then length (p .range σ) else 1))
       unfolding problemOf problemWith
-      serves d σ s h = go (occurs d s) refl
+      serves d σ s h = by-test (occurs d s) refl
         where
-          go : (b : Bool) → occurs d s ≡ b → Serves c F d σ s (membersIn w (rangePlace σ) (if b then length (p .range σ) else 1))
-          go true k = inl (range-is σ h)
-          go false k = inr (k, omega (arith, members-length w (rangePlace σ) 1), inputs .ranged σ .some-member)
+          by-test : (b : Bool) → occurs d s ≡ b → Serves c F d σ s (membersIn w (rangePlace σ) (if b then length (p .range σ) else 1))
+          by-test true k = inl (range-is σ h)
+          by-test false k = inr (k, omega (arith, members-length w (rangePlace σ) 1), inputs .ranged σ .some-member)
 
       goes-over : (u : Tree) → Sorted types u → nodeKind u < 4 → GoesOver c F u (membersIn w (rangePlace (nodeSort u)) (blockTurns (p .range) u))
       unfolding GoesOver blockTurns nodeKind nodeSort Sorted

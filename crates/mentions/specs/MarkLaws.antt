@@ -19,22 +19,23 @@ use Rattle.definitions.specs.Allowance.{mentions, mentionsIn, allowance}
 use Rattle.laws.specs.Lists.{getD-mem}
 use Rattle.laws.specs.Parts.{Here, HereAll, IsNode, under-forall, under-exists, parts-and, parts-or, head-here, tail-here, node-at}
 use Rattle.laws.specs.Means.{Good, here-at}
+use Rattle.tree.specs.Bounds.{in-parts}
 use Rattle.tree.specs.Tables.{Head, headFrom, headOf, headIn, noNode, noPart, PartFits, Fits}
 use Rattle.tree.specs.declared.PartRow.{PartRow}
 use Rattle.tree.specs.declared.Nodes.{Nodes}
 use Rattle.layout.specs.declared.Relations.{Relations}
-use Rattle.layout.specs.Laid.{nodeWidth, Inputs}
+use Rattle.layout.specs.Laid.{Inputs}
 use Rattle.layout.specs.LaidLaws.{node-width-le, pow-most}
-use Rattle.layout.specs.StartsAre.{count-is, node-is, node-width, in-parts}
+use Rattle.layout.specs.StartsAre.{count-is, node-is, node-width}
 use Rattle.mentions.specs.Marks.{partHits, hits, rowHits, rowWidth, marksAfter, atomsAfter}
 
 -- ---- a part's number is in range
 pub which-small : (q : PartRow) → PartFits q → q .which < 64
-which-small q f = go (ltb (q .tag) 2) refl
+which-small q f = by-test (ltb (q .tag) 2) refl
   where
-    go : (b : Bool) → ltb (q .tag) 2 ≡ b → q .which < 64
-    go true e = let h = f .relation (ltb-true (q .tag) 2 e) in omega arith
-    go false e = f .node (ltb-false (q .tag) 2 e)
+    by-test : (b : Bool) → ltb (q .tag) 2 ≡ b → q .which < 64
+    by-test true e = let h = f .relation (ltb-true (q .tag) 2 e) in omega arith
+    by-test false e = f .node (ltb-false (q .tag) 2 e)
 
 -- ---- turns
 pub found-literal : (before : Bool) (tag which : ℕ) (marked : Bool) (r : ℕ) → before ≡ false → tag < 2 → eqb which r ≡ (before || (if ltb tag 2 then eqb which r else marked))
@@ -198,7 +199,7 @@ module _ (p : Problem) (G : Good p) (ws : List ℕ) (types : ℕ) (g : Relations
       let l : v < length (p .nodeList) = omega (arith, count-is p ws types g t is) in
       let first = getD (t .rows) v noNode .first in
       let many = getD (t .rows) v noNode .many in
-      hits-any (t .parts) marks r first many (in-parts p ws types g t is fits v)
+      hits-any (t .parts) marks r first many (in-parts t fits v)
       ∙ heads-hit marks r (take many (drop first (t .parts)))
       ∙ ap (any (headHits marks r)) (node-is p ws types g t is v h .parts)
       ∙ any-map (headHits marks r) headOf (parts v (nodeAt p v))
@@ -209,14 +210,14 @@ module _ (p : Problem) (G : Good p) (ws : List ℕ) (types : ℕ) (g : Relations
 
   marked : (d : ℕ) → d ≤ t .count → Marked (t .count - d) (marksAfter t r d)
   marked zero h u a b = absurd (omega arith)
-  marked (suc d) h u a b = ap (λ (m : List Bool). getD m u false) (marks-suc t r d) ∙ go (ℕ-discrete u (t .count - suc d)) (marked d (omega arith))
+  marked (suc d) h u a b = ap (λ (m : List Bool). getD m u false) (marks-suc t r d) ∙ from-this (ℕ-discrete u (t .count - suc d)) (marked d (omega arith))
     where
-      go : Dec (u ≡ t .count - suc d) → Marked (t .count - d) (marksAfter t r d) → getD (set (marksAfter t r d) (t .count - suc d) (rowHits t (marksAfter t r d) r (t .count - suc d))) u false ≡ mentions r (nodeAt p u)
-      go (yes e) m =
+      from-this : Dec (u ≡ t .count - suc d) → Marked (t .count - d) (marksAfter t r d) → getD (set (marksAfter t r d) (t .count - suc d) (rowHits t (marksAfter t r d) r (t .count - suc d))) u false ≡ mentions r (nodeAt p u)
+      from-this (yes e) m =
           let f = fits .few in
           let k = marks-length t r d in
           rw e (getD-set-same (marksAfter t r d) (t .count - suc d) _ false (omega arith) ∙ mark-next d h m)
-      go (no e) m = getD-set-other (marksAfter t r d) (t .count - suc d) u _ false e ∙ m u (omega arith) b
+      from-this (no e) m = getD-set-other (marksAfter t r d) (t .count - suc d) u _ false e ∙ m u (omega arith) b
 
   -- ---- and the atoms are those of the nodes that mention r
   abbrev weight : List Tree → ℕ
@@ -224,11 +225,11 @@ module _ (p : Problem) (G : Good p) (ws : List ℕ) (types : ℕ) (g : Relations
 
   weight-cons : (x : Tree) (ts : List Tree) → weight (x ∷ ts) ≡ (if mentions r x then widthOf (p .size) x else 0) + weight ts
   unfolding filter sum
-  weight-cons x ts = go (mentions r x)
+  weight-cons x ts = by-test (mentions r x)
     where
-      go : (b : Bool) → sum (map (widthOf (p .size)) (if b then x ∷ filter (mentions r) ts else filter (mentions r) ts)) ≡ (if b then widthOf (p .size) x else 0) + weight ts
-      go true = refl
-      go false = sym (zero-add (weight ts))
+      by-test : (b : Bool) → sum (map (widthOf (p .size)) (if b then x ∷ filter (mentions r) ts else filter (mentions r) ts)) ≡ (if b then widthOf (p .size) x else 0) + weight ts
+      by-test true = refl
+      by-test false = sym (zero-add (weight ts))
 
   weight-none : weight [] ≡ 0
   unfolding filter sum

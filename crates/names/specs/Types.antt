@@ -17,12 +17,12 @@ use Rattle.names.specs.Signatures.{namesFrom, typesIn, NoFurther}
 any-is : {A : Type 0} (p : A → Bool) (xs : List A) → any p xs ≡ option (position p xs) false (λ _. true)
 unfolding any position option
 any-is p [] = refl
-any-is p (x ∷ xs) = rw (any-is p xs) (go (p x) (position p xs))
+any-is p (x ∷ xs) = rw (any-is p xs) (by-test (p x) (position p xs))
   where
-    go : (b : Bool) (o : Option ℕ) → (b || option o false (λ _. true)) ≡ option (if b then some zero else option o none (λ i. some (suc i))) false (λ _. true)
-    go true o = refl
-    go false none = refl
-    go false (some i) = refl
+    by-test : (b : Bool) (o : Option ℕ) → (b || option o false (λ _. true)) ≡ option (if b then some zero else option o none (λ i. some (suc i))) false (λ _. true)
+    by-test true o = refl
+    by-test false none = refl
+    by-test false (some i) = refl
 
 drop-none : (n : ℕ) → drop {A = ℕ} n [] ≡ []
 drop-none zero = refl

@@ -100,19 +100,19 @@ module _ (x : Result Action) (r : Asked) (e : actionOf r ≡ found x) (kind subj
 
   its-refusal : (k place : ℕ) → r ≡ Unknown k place → x ≡ refused k place
   unfolding actionOf found _>>=_
-  its-refusal k place q = go x (sym (ap actionOf q) ∙ e)
+  its-refusal k place q = by-result x (sym (ap actionOf q) ∙ e)
     where
-      go : (y : Result Action) → refused k place ≡ found y → y ≡ refused k place
-      go (refused j at) h = cc
-      go (accepted a) h = let z : _≡_ {A = ℕ} 0 1 = cc in absurd (omega arith)
+      by-result : (y : Result Action) → refused k place ≡ found y → y ≡ refused k place
+      by-result (refused j at) h = cc
+      by-result (accepted a) h = let z : _≡_ {A = ℕ} 0 1 = cc in absurd (omega arith)
 
   its-action : (a : Act) → r ≡ Known a → (b : Action) × (x ≡ accepted b) × (heard a ≡ some b)
   unfolding actionOf found _>>=_
-  its-action a q = go x (sym (ap actionOf q) ∙ e)
+  its-action a q = by-result x (sym (ap actionOf q) ∙ e)
     where
-      go : (y : Result Action) → accepted (heard a) ≡ found y → (b : Action) × (y ≡ accepted b) × (heard a ≡ some b)
-      go (refused j at) h = let z : _≡_ {A = ℕ} 0 1 = cc in absurd (omega arith)
-      go (accepted b) h = (b, refl, cc)
+      by-result : (y : Result Action) → accepted (heard a) ≡ found y → (b : Action) × (y ≡ accepted b) × (heard a ≡ some b)
+      by-result (refused j at) h = let z : _≡_ {A = ℕ} 0 1 = cc in absurd (omega arith)
+      by-result (accepted b) h = (b, refl, cc)
 
   pub action-refused : (k place : ℕ) → r ≡ Unknown k place → Action-told k place kind subject row choice
   action-refused k place q = let (i, j, t) = refused-told x k place (its-refusal k place q) in (i, (j, (t actionKind kind, (t actionSubject subject, (t actionRow row, t actionChoice choice)))))

@@ -58,11 +58,11 @@ module _ (s : ℕ → Bool) (x : RelationLine) where
   -- words are left while tuples are
   pub line-tuples : (count tuples j : ℕ) → count ≡ wordsIn x → tuples ≡ x .nots - x .tuples → j < count → 64 * j < tuples
   unfolding wordsIn wordsFor
-  line-tuples count tuples j e t h = go (eqb (x .kind) 0) refl
+  line-tuples count tuples j e t h = by-test (eqb (x .kind) 0) refl
     where
-      go : (b : Bool) → eqb (x .kind) 0 ≡ b → 64 * j < tuples
-      go true q = let z : count ≡ 0 = rw q at e in absurd (omega arith)
-      go false q = let z : count ≡ (x .nots - x .tuples + 63) / 64 = rw q at e in omega arith
+      by-test : (b : Bool) → eqb (x .kind) 0 ≡ b → 64 * j < tuples
+      by-test true q = let z : count ≡ 0 = rw q at e in absurd (omega arith)
+      by-test false q = let z : count ≡ (x .nots - x .tuples + 63) / 64 = rw q at e in omega arith
 
   -- word j is cut from the state
   own-word : (tuples j : ℕ) → tuples ≡ x .nots - x .tuples → 64 * j < tuples
@@ -157,22 +157,22 @@ module _ (p : Problem) (w : List ℕ) (is : Is p w) where
   -- a line's words count if the relation is a `choose`
   line-count : (r : ℕ) → r < length (p .relations) → wordsIn (relationLine w r) ≡ (if chosen r then relationWords p r else zero)
   unfolding wordsIn relationWords
-  line-count r l = go (eqb (relationLine w r .kind) 0) refl
+  line-count r l = by-test (eqb (relationLine w r .kind) 0) refl
     where
-      go : (b : Bool) → eqb (relationLine w r .kind) 0 ≡ b → (if b then zero else wordsFor (relationLine w r .nots - relationLine w r .tuples)) ≡ (if chosen r then wordsFor (tuplesOf (p .size) (relationAt p r)) else zero)
-      go true e = rw (is-static p w is r l (relationLine w r) refl (eqb-true (relationLine w r .kind) 0 e))
-      go false e =
+      by-test : (b : Bool) → eqb (relationLine w r .kind) 0 ≡ b → (if b then zero else wordsFor (relationLine w r .nots - relationLine w r .tuples)) ≡ (if chosen r then wordsFor (tuplesOf (p .size) (relationAt p r)) else zero)
+      by-test true e = rw (is-static p w is r l (relationLine w r) refl (eqb-true (relationLine w r .kind) 0 e))
+      by-test false e =
           let h = eqb-false (relationLine w r .kind) 0 e in
           rw (is-chosen p w is r l (relationLine w r) refl (omega arith)) (ap wordsFor (tuples-are p w is r l (relationLine w r) refl _ refl))
 
   counts-are : (k r : ℕ) → r + k ≤ length (p .relations) → countFrom w r k ≡ sum (map (relationWords p) (filter chosen (from r k)))
   unfolding countFrom sum filter from
   counts-are zero r l = refl
-  counts-are (suc k) r l = ap₂ _+_ (line-count r (omega arith)) (counts-are k (suc r) (omega arith)) ∙ go (chosen r)
+  counts-are (suc k) r l = ap₂ _+_ (line-count r (omega arith)) (counts-are k (suc r) (omega arith)) ∙ by-test (chosen r)
     where
-      go : (b : Bool) → (if b then relationWords p r else zero) + sum (map (relationWords p) (filter chosen (from (suc r) k))) ≡ sum (map (relationWords p) (if b then r ∷ filter chosen (from (suc r) k) else filter chosen (from (suc r) k)))
-      go true = refl
-      go false = zero-add (sum (map (relationWords p) (filter chosen (from (suc r) k))))
+      by-test : (b : Bool) → (if b then relationWords p r else zero) + sum (map (relationWords p) (filter chosen (from (suc r) k))) ≡ sum (map (relationWords p) (if b then r ∷ filter chosen (from (suc r) k) else filter chosen (from (suc r) k)))
+      by-test true = refl
+      by-test false = zero-add (sum (map (relationWords p) (filter chosen (from (suc r) k))))
 
   pub picks-in : picksIn w ≡ picksLength p
   unfolding picksIn picksLength chosenNumbers below
@@ -190,28 +190,30 @@ module _ (p : Problem) (w : List ℕ) (is : Is p w) where
     unfolding rowHolds
     row-is r l row =
         ap₂ (λ (m a : ℕ). ltb row m && bit state (a + row)) (tuples-are p w is r l (relationLine w r) refl _ refl) (is .relation r l .tuples)
-        ∙ go (ltb row (tuplesOf (p .size) (relationAt p r))) refl
+        ∙ by-test (ltb row (tuplesOf (p .size) (relationAt p r))) refl
       where
-        go : (b : Bool) → ltb row (tuplesOf (p .size) (relationAt p r)) ≡ b → (b && bit state (relationStart p r + row)) ≡ (b && s (relationStart p r + row))
-        go true q = state-at (relationStart p r + row) (tuple-below p r row l (ltb-true row (tuplesOf (p .size) (relationAt p r)) q))
-        go false q = refl
+        by-test : (b : Bool) → ltb row (tuplesOf (p .size) (relationAt p r)) ≡ b → (b && bit state (relationStart p r + row)) ≡ (b && s (relationStart p r + row))
+        by-test true q = state-at (relationStart p r + row) (tuple-below p r row l (ltb-true row (tuplesOf (p .size) (relationAt p r)) q))
+        by-test false q = refl
 
     line-words : (r : ℕ) → r < length (p .relations) → lineWords (bit state) (relationLine w r) ≡ (if chosen r then words (rowOf r) (relationWords p r) else [])
     unfolding lineWords words
-    line-words r l = ap₂ words (fun-ext (row-is r l)) (line-count r l) ∙ go (chosen r)
+    line-words r l = ap₂ words (fun-ext (row-is r l)) (line-count r l) ∙ by-test (chosen r)
       where
-        go : (b : Bool) → words (rowOf r) (if b then relationWords p r else zero) ≡ (if b then words (rowOf r) (relationWords p r) else [])
-        go true = refl
-        go false = refl
+        by-test : (b : Bool) → words (rowOf r) (if b then relationWords p r else zero) ≡ (if b then words (rowOf r) (relationWords p r) else [])
+        by-test true = refl
+        by-test false = refl
 
     lines-are : (k r : ℕ) → r + k ≤ length (p .relations) → wordsFrom (bit state) w r k ≡ flatMap (λ r. words (rowOf r) (relationWords p r)) (filter chosen (from r k))
     unfolding wordsFrom flatMap filter from
     lines-are zero r l = refl
-    lines-are (suc k) r l = ap₂ _++_ (line-words r (omega arith)) (lines-are k (suc r) (omega arith)) ∙ go (chosen r)
+    lines-are (suc k) r l = ap₂ _++_ (line-words r (omega arith)) (lines-are k (suc r) (omega arith)) ∙ by-test (chosen r)
       where
-        go : (b : Bool) → (if b then words (rowOf r) (relationWords p r) else []) ++ flatMap (λ r. words (rowOf r) (relationWords p r)) (filter chosen (from (suc r) k)) ≡ flatMap (λ r. words (rowOf r) (relationWords p r)) (if b then r ∷ filter chosen (from (suc r) k) else filter chosen (from (suc r) k))
-        go true = refl
-        go false = refl
+        by-test : (b : Bool) → (if b then words (rowOf r) (relationWords p r) else [])
+            ++ flatMap (λ r. words (rowOf r) (relationWords p r)) (filter chosen (from (suc r) k))
+            ≡ flatMap (λ r. words (rowOf r) (relationWords p r)) (if b then r ∷ filter chosen (from (suc r) k) else filter chosen (from (suc r) k))
+        by-test true = refl
+        by-test false = refl
 
     all-lines : wordsFrom (bit state) w 0 (relationsIn w) ≡ flatMap (λ r. words (rowOf r) (relationWords p r)) (chosenNumbers p)
     unfolding chosenNumbers below

@@ -90,14 +90,14 @@ module _ (t : List ℕ) (i : ℕ) (small : getD t (i / 64) 0 < 2 ^ 64) where
 
   both-digit : (k : ℕ) → k < 64 → digit both k ≡ bit t (i + k)
   unfolding bit
-  both-digit k l = go (decLt (i % 64 + k) 64)
+  both-digit k l = from-this (decLt (i % 64 + k) 64)
     where
-      go : Dec (i % 64 + k < 64) → digit both k ≡ bit t (i + k)
-      go (yes h) =
+      from-this : Dec (i % 64 + k < 64) → digit both k ≡ bit t (i + k)
+      from-this (yes h) =
           let q : i / 64 ≡ (i + k) / 64 = omega arith in
           let r : i % 64 + k ≡ (i + k) % 64 = omega arith in
           joined-first _ _ (i % 64) small (omega arith) k h ∙ ap₂ (λ (x y : ℕ). digit (getD t x 0) y) q r
-      go (no h) =
+      from-this (no h) =
           let q : i / 64 + 1 ≡ (i + k) / 64 = omega arith in
           let r : i % 64 + k - 64 ≡ (i + k) % 64 = omega arith in
           joined-second _ _ (i % 64) small (omega arith) k l (omega arith) ∙ ap₂ (λ (x y : ℕ). digit (getD t x 0) y) q r

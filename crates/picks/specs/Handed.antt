@@ -1,7 +1,7 @@
 -- Picks that are handed over, once they stand in words: a text's are written to words that are long enough and have no spare bit, lent
 -- words are themselves. What a call tests of either is tested of the words.
-use Prim.Native.Nat.{ℕ, zero, _+_, _≤_}
-use mathlib.Core.Path.{_≡_, refl, _∙_}
+use Prim.Native.Nat.{ℕ, zero, _+_}
+use mathlib.Core.Path.{_≡_, refl}
 use mathlib.Core.Bool.{Bool}
 use mathlib.Core.Option.{none, some}
 use mathlib.Core.List.{List, []}
@@ -14,7 +14,7 @@ use Rattle.definitions.specs.Sheets.{Label, readPicks}
 use Rattle.definitions.specs.Truth.{Case}
 use Rattle.definitions.specs.Atoms.{Problem, problemOf}
 use Rattle.definitions.specs.Built.{chosenNumbers}
-use Rattle.definitions.specs.Outcome.{Given, asText, asNumbers, picksLength, lentPicks, spareWord, textPicks, picksRoom, roomFor, spareRefusal, takePicks, satisfying}
+use Rattle.definitions.specs.Outcome.{ThirdInput, asText, asNumbers, picksLength, lentPicks, spareWord, textPicks, picksRoom, roomFor, spareRefusal, takePicks, satisfying}
 use Rattle.names.specs.Signatures.{chosenOf}
 use Rattle.laws.specs.Labels.{LabelsFit}
 use Rattle.laws.specs.Reader.{Accepted}
@@ -28,13 +28,13 @@ unfoldable pub decided : Case → Problem → List Tuple → Result (List Tuple)
 decided c p F = satisfying c p (asText []) F
 
 -- the words are those of the picks F of the case c, as they are handed over; a text's are read first, by the labels
-pub record Handed (c : Case) (labels : List Label) (given : Given) (words : List ℕ) (read F : List Tuple) : Type 0 where
+pub record Handed (c : Case) (labels : List Label) (given : ThirdInput) (words : List ℕ) (read F : List Tuple) : Type 0 where
   pub is-read : textPicks c labels given ≡ accepted read
   pub room-is : picksRoom (problemOf c) given ≡ roomFor (picksLength (problemOf c)) (length words)
   pub taken : takePicks (problemOf c) given read ≡ (spareRefusal (spareWord (problemOf c) words zero (chosenNumbers (problemOf c))) >>= λ _. accepted F)
   pub held : Held c words F
 
-module _ (c : Case) (labels : List Label) (given : Given) (words : List ℕ) (read F : List Tuple) (h : Handed c labels given words read F) where
+module _ (c : Case) (labels : List Label) (given : ThirdInput) (words : List ℕ) (read F : List Tuple) (h : Handed c labels given words read F) where
   pub spare-refused : (j : ℕ) → spareWord (problemOf c) words zero (chosenNumbers (problemOf c)) ≡ some j → satisfying c (problemOf c) given read ≡ refused 10 j
   unfolding satisfying spareRefusal _>>=_
   spare-refused j e = rw (h .taken, e) refl

@@ -77,16 +77,16 @@ module _ (p : Problem) (F : List Tuple) where
       rw (T-true (isOne r) (subst (λ (x : ℕ). T (isOne x)) z t))
       (ap₂ (λ (w : List ℕ) (x : ℕ). bit w x) (append-assoc (own r) (flatMap own (filter isOne (from (suc r) m))) rest) i
       ∙ own-row r row (flatMap own (filter isOne (from (suc r) m)) ++ rest) (subst (λ (x : ℕ). row < rows x) z l) ∙ ap (λ (x : ℕ). isPicked p F x row) (sym z))
-  rows-from (suc m) r (suc j) row base rest h t l e = go (isOne r) refl (λ base′ q.
+  rows-from (suc m) r (suc j) row base rest h t l e = by-test (isOne r) refl (λ base′ q.
       rows-from m (suc r) j row base′ rest (omega arith) (subst (λ (x : ℕ). T (isOne x)) next t) (subst (λ (x : ℕ). row < rows x) next l) (sym (ap (wordStart p) next) ∙ q) ∙ ap (λ (x : ℕ). isPicked p F x row) (sym next))
     where
       next : r + suc j ≡ suc r + j
       next = omega arith
 
-      go : (b : Bool) → isOne r ≡ b
+      by-test : (b : Bool) → isOne r ≡ b
           → ((base′ : ℕ) → wordStart p (r + suc j) ≡ wordStart p (suc r) + base′ → bit (flatMap own (filter isOne (from (suc r) m)) ++ rest) (64 * base′ + row) ≡ isPicked p F (r + suc j) row)
           → bit (flatMap own (if b then r ∷ filter isOne (from (suc r) m) else filter isOne (from (suc r) m)) ++ rest) (64 * base + row) ≡ isPicked p F (r + suc j) row
-      go true q later =
+      by-test true q later =
           let n = start-next r true q in
           let g = start-grows (suc r) j in
           let g′ = ap (wordStart p) next in
@@ -94,7 +94,7 @@ module _ (p : Problem) (F : List Tuple) where
           ap₂ (λ (w : List ℕ) (x : ℕ). bit w x) (append-assoc (own r) (flatMap own (filter isOne (from (suc r) m))) rest) i
           ∙ back-bit (own r) (flatMap own (filter isOne (from (suc r) m)) ++ rest) (relationWords p r) (64 * (base - relationWords p r) + row) (length-words _ (relationWords p r))
           ∙ later (base - relationWords p r) (omega arith)
-      go false q later = let n = start-next r false q in later base (omega arith)
+      by-test false q later = let n = start-next r false q in later base (omega arith)
 
   -- so words whose front is written for picks hold them
   pub front-picks : (w : List ℕ) → take (picksLength p) w ≡ pickWords p F → PicksAre p w F

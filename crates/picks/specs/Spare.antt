@@ -66,7 +66,7 @@ module _ (p : Problem) (u : List ℕ) (ok : Words u) (r : ℕ) where
 
   spare-last : 0 < t % 64 → hasSpare p u r (t / 64) ≡ ltb 0 (getD u (t / 64) 0 / 2 ^ (t % 64))
   unfolding hasSpare
-  spare-last h = go (ltb 0 (getD u (t / 64) 0 / 2 ^ (t % 64))) refl (any (λ i. leb t i && bitOf u i) (from (64 * (t / 64)) 64)) refl
+  spare-last h = by-test (ltb 0 (getD u (t / 64) 0 / 2 ^ (t % 64))) refl (any (λ i. leb t i && bitOf u i) (from (64 * (t / 64)) 64)) refl
     where
       high : ℕ
       high = getD u (t / 64) 0 / 2 ^ (t % 64)
@@ -89,28 +89,28 @@ module _ (p : Problem) (u : List ℕ) (ok : Words u) (r : ℕ) where
               ap (bitOf u) z ∙ its-bit (i - t) (omega arith) ∙ ap (λ (x : ℕ). digit x (i - t)) e ∙ digit-of-zero (i - t)
           each i a b false q = refl
 
-      go : (b : Bool) → ltb 0 high ≡ b → (d : Bool) → any (λ i. leb t i && bitOf u i) (from (64 * (t / 64)) 64) ≡ d → d ≡ b
-      go true e true q = refl
-      go true e false q = let a = ltb-true 0 high e in let z = none-set q in absurd (omega arith)
-      go false e d q = sym q ∙ zero-none (let a = ltb-false 0 high e in omega arith)
+      by-test : (b : Bool) → ltb 0 high ≡ b → (d : Bool) → any (λ i. leb t i && bitOf u i) (from (64 * (t / 64)) 64) ≡ d → d ≡ b
+      by-test true e true q = refl
+      by-test true e false q = let a = ltb-true 0 high e in let z = none-set q in absurd (omega arith)
+      by-test false e d q = sym q ∙ zero-none (let a = ltb-false 0 high e in omega arith)
 
   -- of a relation's words, the last one has a spare bit set, or none has
   spare-position : position (hasSpare p u r) (below (relationWords p r)) ≡ (if (if eqb (t % 64) 0 then false else ltb 0 (getD u (t / 64) 0 / 2 ^ (t % 64))) then some (t / 64) else none)
   unfolding relationWords wordsFor
-  spare-position = go (eqb (t % 64) 0) refl (ltb 0 (getD u (t / 64) 0 / 2 ^ (t % 64))) refl
+  spare-position = by-test (eqb (t % 64) 0) refl (ltb 0 (getD u (t / 64) 0 / 2 ^ (t % 64))) refl
     where
       nowhere : ((j : ℕ) → j < relationWords p r → hasSpare p u r j ≡ false) → position (hasSpare p u r) (below (relationWords p r)) ≡ none
       nowhere f = position-none (hasSpare p u r) (below (relationWords p r)) (any-none (hasSpare p u r) (below (relationWords p r)) (λ j m. f j (below-lt (relationWords p r) j m)))
 
-      go : (b : Bool) → eqb (t % 64) 0 ≡ b → (d : Bool) → ltb 0 (getD u (t / 64) 0 / 2 ^ (t % 64)) ≡ d → position (hasSpare p u r) (below (relationWords p r)) ≡ (if (if b then false else d) then some (t / 64) else none)
-      go true e d q = let z = eqb-true (t % 64) 0 e in nowhere (λ j l. spare-before j (omega arith))
-      go false e true q =
+      by-test : (b : Bool) → eqb (t % 64) 0 ≡ b → (d : Bool) → ltb 0 (getD u (t / 64) 0 / 2 ^ (t % 64)) ≡ d → position (hasSpare p u r) (below (relationWords p r)) ≡ (if (if b then false else d) then some (t / 64) else none)
+      by-test true e d q = let z = eqb-true (t % 64) 0 e in nowhere (λ j l. spare-before j (omega arith))
+      by-test false e true q =
           let z = eqb-false (t % 64) 0 e in
           let l : t / 64 < relationWords p r = omega arith in
           position-at (hasSpare p u r) (below (relationWords p r)) 0 (t / 64) (subst (λ (x : ℕ). t / 64 < x) (sym (length-below (relationWords p r))) l)
           (ap (hasSpare p u r) (getD-below (relationWords p r) (t / 64) l) ∙ spare-last (omega arith) ∙ q)
           (λ j h. ap (hasSpare p u r) (getD-below (relationWords p r) j (omega arith)) ∙ spare-before j h)
-      go false e false q = let z = eqb-false (t % 64) 0 e in nowhere (λ j l. each j (lt-split j (t / 64) (omega arith)))
+      by-test false e false q = let z = eqb-false (t % 64) 0 e in nowhere (λ j l. each j (lt-split j (t / 64) (omega arith)))
         where
           each : (j : ℕ) → (j < t / 64) ⊎ (j ≡ t / 64) → hasSpare p u r j ≡ false
           each j s = ⊎-elim (λ h. spare-before j h) (λ same. ap (hasSpare p u r) same ∙ spare-last (let z = eqb-false (t % 64) 0 e in omega arith) ∙ q) s
@@ -145,33 +145,33 @@ module _ (p : Problem) (picks : List ℕ) (ok : Words picks) (r word : ℕ) (l :
   next-chosen e b q =
       let n : ℕ = tuplesOf (p .size) (relationAt p r) in
       let test : (if eqb (n % 64) 0 then false else ltb 0 (getD (drop word picks) (n / 64) 0 / 2 ^ (n % 64))) ≡ b = rw (getD-drop word picks (n / 64) 0) q in
-      rw (from-next, e, spare-position p (drop word picks) (words-drop word picks ok) r, test, drop-drop (relationWords p r) word picks) (go b)
+      rw (from-next, e, spare-position p (drop word picks) (words-drop word picks ok) r, test, drop-drop (relationWords p r) word picks) (by-test b)
     where
-      go : (b : Bool) → option (if b then some (tuplesOf (p .size) (relationAt p r) / 64) else none) (spareWord p (drop (word + relationWords p r) picks) (word + relationWords p r) rest) (λ j. some (word + j))
+      by-test : (b : Bool) → option (if b then some (tuplesOf (p .size) (relationAt p r) / 64) else none) (spareWord p (drop (word + relationWords p r) picks) (word + relationWords p r) rest) (λ j. some (word + j))
           ≡ (if b then some (word + tuplesOf (p .size) (relationAt p r) / 64) else spareWord p (drop (word + relationWords p r) picks) (word + relationWords p r) rest)
-      go true = refl
-      go false = refl
+      by-test true = refl
+      by-test false = refl
 
   -- by the table
   module _ (w : List ℕ) (is : Is p w) (x : RelationLine) (e : x ≡ relationLine w r) where
     pub spare-yes : spareIn picks word x ≡ true → (n : ℕ) → n ≡ x .nots - x .tuples → spareFrom p picks r word ≡ some (word + n / 64)
     unfolding spareIn
-    spare-yes t n m = go (eqb (x .kind) 0) refl t
+    spare-yes t n m = by-test (eqb (x .kind) 0) refl t
       where
-        go : (b : Bool) → eqb (x .kind) 0 ≡ b → (if b then false else isSpare picks word (x .nots - x .tuples)) ≡ true → spareFrom p picks r word ≡ some (word + n / 64)
-        go true k t = absurd (T-of t)
-        go false k t =
+        by-test : (b : Bool) → eqb (x .kind) 0 ≡ b → (if b then false else isSpare picks word (x .nots - x .tuples)) ≡ true → spareFrom p picks r word ≡ some (word + n / 64)
+        by-test true k t = absurd (T-of t)
+        by-test false k t =
             let h = eqb-false (x .kind) 0 k in
             let q = tuples-are p w is r l x e (x .nots - x .tuples) refl in
             next-chosen (is-chosen p w is r l x e (omega arith)) true (ap (isSpare picks word) (sym q) ∙ t) ∙ ap (λ (n : ℕ). some (word + n / 64)) (sym (m ∙ q))
 
     pub spare-no : spareIn picks word x ≡ false → (k : ℕ) → k ≡ wordsIn x → spareFrom p picks r word ≡ spareFrom p picks (r + 1) (word + k)
     unfolding spareIn wordsIn relationWords
-    spare-no t k m = go (eqb (x .kind) 0) refl t ∙ ap (λ (k : ℕ). spareFrom p picks (r + 1) (word + k)) (sym m)
+    spare-no t k m = by-test (eqb (x .kind) 0) refl t ∙ ap (λ (k : ℕ). spareFrom p picks (r + 1) (word + k)) (sym m)
       where
-        go : (b : Bool) → eqb (x .kind) 0 ≡ b → (if b then false else isSpare picks word (x .nots - x .tuples)) ≡ false → spareFrom p picks r word ≡ spareFrom p picks (r + 1) (word + (if b then zero else wordsFor (x .nots - x .tuples)))
-        go true k t = next-static (is-static p w is r l x e (eqb-true (x .kind) 0 k))
-        go false k t =
+        by-test : (b : Bool) → eqb (x .kind) 0 ≡ b → (if b then false else isSpare picks word (x .nots - x .tuples)) ≡ false → spareFrom p picks r word ≡ spareFrom p picks (r + 1) (word + (if b then zero else wordsFor (x .nots - x .tuples)))
+        by-test true k t = next-static (is-static p w is r l x e (eqb-true (x .kind) 0 k))
+        by-test false k t =
             let h = eqb-false (x .kind) 0 k in
             let q = tuples-are p w is r l x e (x .nots - x .tuples) refl in
             next-chosen (is-chosen p w is r l x e (omega arith)) false (ap (isSpare picks word) (sym q) ∙ t) ∙ ap (λ (n : ℕ). spareFrom p picks (r + 1) (word + wordsFor n)) (sym q)

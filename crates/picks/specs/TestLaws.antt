@@ -7,7 +7,7 @@ use mathlib.Core.List.{List, [], _∷_, map}
 use native.Mathlib.Omega.{arith}
 use native.Mathlib.Numerals.{add-one}
 use native.Mathlib.Nat.{add-assoc, add-zero, zero-add}
-use lib.Dec.{T, ltb, eqb, eqb→eq}
+use lib.Dec.{T, ltb, eqb}
 use lib.ListN.{length, getD}
 use borrow.Author.Tests.{lt-ltb, le-ltb, ltb-true, ltb-false, eq-eqb, ne-eqb}
 use Rattle.bits.specs.Table.{bit, num, count}
@@ -15,7 +15,8 @@ use Rattle.definitions.specs.Lists.{if_then_else_, any, filter, option, positio
 use Rattle.definitions.specs.Relations.{Kind, static, plain, Fun, PFun, Inj, PInj, isChosen, isFunction, isInjective}
 use Rattle.definitions.specs.Atoms.{Problem, relationAt}
 use Rattle.definitions.specs.Built.{chosenNumbers}
-use Rattle.laws.specs.Booleans.{T-of, T-and-l, T-and-r}
+use Rattle.laws.specs.Booleans.{T-of}
+use Rattle.ground.specs.OfLaws.{both-whole}
 use Rattle.ground.specs.Lines.{rangesPlace, sizeIn, relationsIn, relationLine, membersIn, PlacesFit, Fits}
 use Rattle.ground.specs.Numbers.{isWhole}
 use Rattle.ground.specs.Of.{Is, kindNumber}
@@ -42,25 +43,11 @@ count-next f i s b e q = rw (add-one, e, q) (ap (λ (x : ℕ). count f 0 i + num
 pub count-le : (f : ℕ → Bool) (i : ℕ) → count f 0 i ≤ i
 unfolding count
 count-le f zero = omega arith
-count-le f (suc i) = go (f (0 + i)) (count-le f i)
+count-le f (suc i) = by-test (f (0 + i)) (count-le f i)
   where
-    go : (b : Bool) → count f 0 i ≤ i → count f 0 i + num b ≤ suc i
-    go true h = omega arith
-    go false h = omega arith
-
--- ---- some of a run of numbers passes
-module _ (g : ℕ → Bool) (k i : ℕ) where
-  pub any-yes : i < k → g i ≡ true → any g (from i (k - i)) ≡ true
-  unfolding any from
-  any-yes h e = let m : k - i ≡ suc (k - suc i) = omega arith in rw (m, e)
-
-  pub any-no : i < k → g i ≡ false → any g (from i (k - i)) ≡ any g (from (i + 1) (k - (i + 1)))
-  unfolding any from
-  any-no h e = let m : k - i ≡ suc (k - suc i) = omega arith in rw (m, e, add-one)
-
-  pub any-end : k ≤ i → any g (from i (k - i)) ≡ false
-  unfolding any from
-  any-end h = let m : k - i ≡ 0 = omega arith in rw m
+    by-test : (b : Bool) → count f 0 i ≤ i → count f 0 i + num b ≤ suc i
+    by-test true h = omega arith
+    by-test false h = omega arith
 
 -- ---- two in a row
 row-of : (words : List ℕ) (start x a b : ℕ) → _≡_ {A = ℕ → Bool} (λ y. bit words (start + x * a + y * b)) (λ y. bit words (start + (x * a + y * b)))
@@ -133,10 +120,6 @@ module _ (words : List ℕ) (start n : ℕ) (w : List ℕ) (line : RelationLine)
   pub row-strays : (x : ℕ) (t b : Bool) → t ≡ any (straysAt words (start + x * n) w line x) (below n) → t ≡ b → rowStrays x ≡ b
   row-strays x t b e q = ap (λ (f : ℕ → Bool). any f (below n)) (fun-ext (λ y. ap (λ (i : ℕ). bit words i && not (areInside w line x y)) (sym (add-assoc start (x * n) y)))) ∙ sym e ∙ q
 
-pub row-start : (f : ℕ → Bool) (n : ℕ) → any f (below n) ≡ any f (from 0 (n - 0))
-unfolding below
-row-start f n = let m : n ≡ n - 0 = omega arith in ap (λ (k : ℕ). any f (from 0 k)) m
-
 -- ---- all that breaks a kind
 module _ (kind : ℕ) (xs ys : List ℕ) (n : ℕ) (f : ℕ → Bool) where
   pub breaks-crowd : crowdsBy kind n f ≡ true → true ≡ breaksBy kind xs ys n f
@@ -148,18 +131,13 @@ module _ (kind : ℕ) (xs ys : List ℕ) (n : ℕ) (f : ℕ → Bool) where
   breaks-stray b e q = rw e q
 
 -- where every tuple may be set, no pair strays; where not, the kind is a function kind
-whole-places : (line : RelationLine) → ltb (line .kind) 2 ≡ false → isWhole line ≡ true → (line .firsts ≡ rangesPlace) × (line .seconds ≡ rangesPlace)
-whole-places line q h =
-    let t : T (eqb (line .firsts) rangesPlace && eqb (line .seconds) rangesPlace) = T-of (ap (λ (b : Bool). b || (eqb (line .firsts) rangesPlace && eqb (line .seconds) rangesPlace)) (sym q) ∙ h) in
-    (eqb→eq (line .firsts) rangesPlace (T-and-l (eqb (line .firsts) rangesPlace) _ t), eqb→eq (line .seconds) rangesPlace (T-and-r (eqb (line .firsts) rangesPlace) _ t))
-
 pub whole-none : (w : List ℕ) (line : RelationLine) (f : ℕ → Bool) (n : ℕ) → PlacesFit w line → n ≡ sizeIn w → isWhole line ≡ true → false ≡ (ltb 1 (line .kind) && isStray f n (firstsIn w line) (secondsIn w line))
 whole-none w line f n fits e h = by-kind (ltb (line .kind) 2) refl
   where
     by-kind : (b : Bool) → ltb (line .kind) 2 ≡ b → false ≡ (ltb 1 (line .kind) && isStray f n (firstsIn w line) (secondsIn w line))
     by-kind true q = rw (le-ltb 1 (line .kind) (omega (arith, ltb-true (line .kind) 2 q)))
     by-kind false q =
-        let (a, b) = whole-places line q h in
+        let (a, b) = both-whole line q h in
         let s : isStray f n (firstsIn w line) (secondsIn w line) ≡ false = ap₂ (isStray f n) (fits .firsts .whole a ∙ ap below (sym e)) (fits .seconds .whole b ∙ ap below (sym e)) ∙ none-stray f n in
         rw s (sym (and-false (ltb 1 (line .kind))))
 
@@ -190,11 +168,11 @@ chosen-is PInj = refl
 
 pub chosen-le : (kind : ℕ) → chosenBy kind ≤ 1
 unfolding chosenBy
-chosen-le kind = go (eqb kind 0)
+chosen-le kind = by-test (eqb kind 0)
   where
-    go : (b : Bool) → (if b then zero else 1) ≤ 1
-    go true = omega arith
-    go false = omega arith
+    by-test : (b : Bool) → (if b then zero else 1) ≤ 1
+    by-test true = omega arith
+    by-test false = omega arith
 
 pub chosen-none : (kind : ℕ) → kind ≡ 0 → 0 ≡ chosenBy kind
 unfolding chosenBy
@@ -236,19 +214,19 @@ module _ (p : Problem) (f : ℕ → ℕ → Bool) where
   broken-position : (k r i : ℕ) → brokenFrom p f r k i ≡ option (position (brokenAt p f) (filter (λ r. isChosen (relationAt p r .kind)) (from r k))) none (λ j. some (i + j))
   unfolding brokenFrom position filter from option
   broken-position zero r i = refl
-  broken-position (suc k) r i = go (isChosen (relationAt p r .kind)) refl (brokenAt p f r) refl (λ i. broken-position k (suc r) i)
+  broken-position (suc k) r i = by-test (isChosen (relationAt p r .kind)) refl (brokenAt p f r) refl (λ i. broken-position k (suc r) i)
     where
-      go : (b : Bool) → isChosen (relationAt p r .kind) ≡ b → (t : Bool) → brokenAt p f r ≡ t
+      by-test : (b : Bool) → isChosen (relationAt p r .kind) ≡ b → (t : Bool) → brokenAt p f r ≡ t
           → ((i : ℕ) → brokenFrom p f (suc r) k i ≡ option (position (brokenAt p f) (filter (λ r. isChosen (relationAt p r .kind)) (from (suc r) k))) none (λ j. some (i + j)))
           → (if t then some i else brokenFrom p f (suc r) k (i + (if b then 1 else zero))) ≡ option (position (brokenAt p f) (if b then r ∷ filter (λ r. isChosen (relationAt p r .kind)) (from (suc r) k) else filter (λ r. isChosen (relationAt p r .kind)) (from (suc r) k))) none (λ j. some (i + j))
-      go true e true q ih = rw q (ap some (sym (add-zero i)))
-      go true e false q ih = rw q (ih (i + 1) ∙ shift (position (brokenAt p f) (filter (λ r. isChosen (relationAt p r .kind)) (from (suc r) k))))
+      by-test true e true q ih = rw q (ap some (sym (add-zero i)))
+      by-test true e false q ih = rw q (ih (i + 1) ∙ shift (position (brokenAt p f) (filter (λ r. isChosen (relationAt p r .kind)) (from (suc r) k))))
         where
           shift : (o : Option ℕ) → option o none (λ j. some (i + 1 + j)) ≡ option (option o none (λ j. some (suc j))) none (λ j. some (i + j))
           shift none = refl
           shift (some j) = let n : i + 1 + j ≡ i + suc j = omega arith in ap some n
-      go false e true q ih = absurd (T-of (sym (static-kept (relationAt p r .kind) _ _ (p .size) (f r) e) ∙ q))
-      go false e false q ih = ih (i + 0) ∙ ap (λ (x : ℕ). option (position (brokenAt p f) (filter (λ r. isChosen (relationAt p r .kind)) (from (suc r) k))) none (λ j. some (x + j))) (add-zero i)
+      by-test false e true q ih = absurd (T-of (sym (static-kept (relationAt p r .kind) _ _ (p .size) (f r) e) ∙ q))
+      by-test false e false q ih = ih (i + 0) ∙ ap (λ (x : ℕ). option (position (brokenAt p f) (filter (λ r. isChosen (relationAt p r .kind)) (from (suc r) k))) none (λ j. some (x + j))) (add-zero i)
 
   plain-option : (o : Option ℕ) → option o none (λ j. some (0 + j)) ≡ o
   unfolding option

@@ -1,5 +1,5 @@
 -- By the table, a relation is a `choose` if its kind is not 0, and its tuples end where its not-tuples start.
-use Prim.Native.Nat.{ℕ, zero, _+_, _-_, _*_, _/_, _<_, _≤_, _^_}
+use Prim.Native.Nat.{ℕ, zero, _+_, _-_, _/_, _<_, _≤_, _^_}
 use mathlib.Core.Path.{_≡_, refl, ap, ap₂, _∙_}
 use mathlib.Core.Bool.{Bool, true, false}
 use mathlib.Core.List.{List}
@@ -64,20 +64,20 @@ module _ (p : Problem) (w : List ℕ) (is : Is p w) (r : ℕ) (l : r < length (p
   -- the first word of the next relation
   pub word-next : (word : ℕ) → word ≡ wordStart p r → word + wordsIn x ≡ wordStart p (r + 1)
   unfolding wordStart wordsIn relationWords
-  word-next word q = rw add-one (go (eqb (x .kind) 0) refl)
+  word-next word q = rw add-one (by-test (eqb (x .kind) 0) refl)
     where
-      go : (b : Bool) → eqb (x .kind) 0 ≡ b → word + (if b then zero else wordsFor (x .nots - x .tuples)) ≡ wordStart p r + (if isChosen (relationAt p r .kind) then wordsFor (tuplesOf (p .size) (relationAt p r)) else zero)
-      go true t = rw (is-static (eqb-true (x .kind) 0 t), q)
-      go false t = let h = eqb-false (x .kind) 0 t in rw (is-chosen (omega arith)) (ap₂ (λ (a b : ℕ). a + wordsFor b) q (tuples-are (x .nots - x .tuples) refl))
+      by-test : (b : Bool) → eqb (x .kind) 0 ≡ b → word + (if b then zero else wordsFor (x .nots - x .tuples)) ≡ wordStart p r + (if isChosen (relationAt p r .kind) then wordsFor (tuplesOf (p .size) (relationAt p r)) else zero)
+      by-test true t = rw (is-static (eqb-true (x .kind) 0 t), q)
+      by-test false t = let h = eqb-false (x .kind) 0 t in rw (is-chosen (omega arith)) (ap₂ (λ (a b : ℕ). a + wordsFor b) q (tuples-are (x .nots - x .tuples) refl))
 
 -- the lines of a table that fits are not long
 words-le : (x : RelationLine) → x .nots ≤ 2 ^ 32 → wordsIn x ≤ 2 ^ 27
 unfolding wordsIn wordsFor
-words-le x h = go (eqb (x .kind) 0)
+words-le x h = by-test (eqb (x .kind) 0)
   where
-    go : (b : Bool) → (if b then zero else (x .nots - x .tuples + 63) / 64) ≤ 2 ^ 27
-    go true = omega arith
-    go false = omega arith
+    by-test : (b : Bool) → (if b then zero else (x .nots - x .tuples + 63) / 64) ≤ 2 ^ 27
+    by-test true = omega arith
+    by-test false = omega arith
 
 pub words-few : (w : List ℕ) (r : ℕ) → Fits w → (x : RelationLine) → x ≡ relationLine w r → (x .sets ≤ 2 ^ 32) × (x .tuples ≤ 2 ^ 32) × (x .nots ≤ 2 ^ 32) × (wordsIn x ≤ 2 ^ 27)
 unfolding relationLine

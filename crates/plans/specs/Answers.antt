@@ -16,20 +16,20 @@ use Rattle.laws.specs.Reader.{Accepted}
 use Rattle.ground.specs.Of.{Is}
 use Rattle.picks.specs.Words.{PicksAre}
 use Rattle.picks.specs.Handed.{decided}
-use Rattle.plans.specs.declared.Answer.{Answer}
-use Rattle.plans.specs.declared.Answer.the-variants.{Steps, OtherKind, RuleFalse}
+use Rattle.plans.specs.declared.PlanAnswer.{PlanAnswer}
+use Rattle.plans.specs.declared.PlanAnswer.the-variants.{Steps, OtherKind, RuleFalse}
 
 -- 16, then 17, then the steps; the labels are only handed on
 unfoldable pub planned : List Label → Case → Problem → List Tuple → Result Plan
 planned labels c p F = decided c p F >>= λ G. accepted (record { labels = labels; problem = p; picks = G; steps = builtSteps p G })
 
-unfoldable pub answered : Answer → Result ℕ
+unfoldable pub answered : PlanAnswer → Result ℕ
 answered (Steps k) = accepted k
 answered (OtherKind i) = refused 16 i
 answered RuleFalse = refused 17 zero
 
 -- the answer, and what the lent state and steps hold then, are those of building, whatever the labels
-abbrev pub Gives : Case → Problem → List Tuple → (state steps : List ℕ) → Answer → (state′ steps′ : List ℕ) → Type 0
+abbrev pub Gives : Case → Problem → List Tuple → (state steps : List ℕ) → PlanAnswer → (state′ steps′ : List ℕ) → Type 0
 Gives c p F state steps r state′ steps′ = (labels : List Label) → builtFrom (planned labels c p F) state steps ≡ record { answer = answered r; state = state′; steps = steps′ }
 
 -- a table, picks of the declared kinds, the state to start from and room for the steps are those of a case

@@ -25,7 +25,7 @@ use Rattle.plans.specs.Following.{Follows}
 use Rattle.plans.specs.Answers.{Gives, Asked}
 use Rattle.plans.specs.BuiltLaws.{holds-is, count-is, steps-are, state-is, gives-kind, gives-false, gives-steps}
 use Rattle.plans.specs.EndLaws.{state-lent, steps-lent}
-use Rattle.plans.specs.declared.Answer.the-variants.{Steps, OtherKind, RuleFalse}
+use Rattle.plans.specs.declared.PlanAnswer.the-variants.{Steps, OtherKind, RuleFalse}
 
 -- ---- what the test of the kinds told
 module _ (c : Case) (F : List Tuple) (k : Kinds) (t : told k ≡ firstOfOtherKind c F) where

@@ -39,7 +39,7 @@ use Rattle.plans.specs.Following.{proved, Follows}
 use Rattle.plans.specs.Ways.{follow, follow-append, follow-state, follow-steps, follow-count, proved-follow}
 use Rattle.picks.specs.Handed.{decided}
 use Rattle.plans.specs.Answers.{planned, answered, Gives}
-use Rattle.plans.specs.declared.Answer.the-variants.{Steps, OtherKind, RuleFalse}
+use Rattle.plans.specs.declared.PlanAnswer.the-variants.{Steps, OtherKind, RuleFalse}
 
 -- the front of a table whose bits are a state's is the state's words
 bit-take : (k : ℕ) (t : List ℕ) (i : ℕ) → i < 64 * k → bit (take k t) i ≡ bit t i

@@ -1,5 +1,5 @@
 -- The way from part to part: begin-proof and prove-goal by the table, and a fresh table that holds a lent state.
-use Prim.Native.Nat.{ℕ, zero, suc, _+_, _-_, _/_, _%_, _<_, _≤_}
+use Prim.Native.Nat.{ℕ, _+_, _-_, _/_, _%_, _<_, _≤_}
 use mathlib.Core.Path.{_≡_, refl, sym, ap, subst, _∙_, fun-ext}
 use mathlib.Core.Logic.{⊎-elim}
 use mathlib.Core.Bool.{Bool, true, false, _&&_, or-true}
@@ -16,6 +16,7 @@ use Rattle.definitions.specs.Strips.{mayTake}
 use Rattle.definitions.specs.Outcome.{written, stateLength}
 use Rattle.laws.specs.Booleans.{T-dec}
 use Rattle.laws.specs.Numbers.{IsAction, three-atoms}
+use Rattle.laws.specs.Lists.{zeros-at}
 use Rattle.ground.specs.Lines.{relationLine, relationsIn, nodesIn, nodeLine}
 use Rattle.ground.specs.Numbers.{needNumbers, addNumbers, removeNumbers, changed}
 use Rattle.ground.specs.Of.{Is, said}
@@ -75,11 +76,6 @@ module _ (p : Problem) (f : ℕ → ℕ → Bool) (o o₁ o₂ o₃ : Out) (a : 
   way-no t e n = record { goal = sym n ∙ e ∙ ap (λ (x : Out). mayTake p (x .state) proveGoal) (sym proved-is); end = proved-is }
 
 -- ---- a table of zeros into whose front words are written has their bits
-zeros-at : (k j : ℕ) → _≡_ {A = ℕ} (getD (replicate k 0) j 0) 0
-zeros-at zero j = refl
-zeros-at (suc k) zero = refl
-zeros-at (suc k) (suc j) = zeros-at k j
-
 pub fresh-bits : (t : List ℕ) (k : ℕ) → bit (written (take (length t) t) (replicate k 0)) ≡ bit t
 unfolding written bit
 fresh-bits t k = fun-ext (λ i. ap (λ (w : ℕ). digit w (i % 64)) (front (i / 64)))

@@ -23,7 +23,7 @@ use Rattle.plans.specs.Answers.{Gives}
 use Rattle.plans.specs.Starts.{Prepared}
 use Rattle.plans.specs.BuiltLaws.{holds-is, count-is, steps-are, state-is, gives-false, gives-steps}
 use Rattle.plans.specs.EndLaws.{state-lent}
-use Rattle.plans.specs.declared.Answer.the-variants.{Steps, RuleFalse}
+use Rattle.plans.specs.declared.PlanAnswer.the-variants.{Steps, RuleFalse}
 
 -- where no steps were lent, none came back changed
 none-lent : (new steps : List ℕ) → length new ≡ length (take 0 steps) → new ++ drop 0 steps ≡ steps

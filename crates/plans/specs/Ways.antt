@@ -93,15 +93,15 @@ module _ (p : Problem) where
   set-follow : (r : ℕ) (f : ℕ → Bool) (k j : ℕ) (o : Out) → setRows p r f o j k ≡ follow p o (map (set r) (filter f (map (rowAt p r) (from j k))))
   unfolding setRows setRow from filter follow
   set-follow r f zero j o = refl
-  set-follow r f (suc k) j o = go (f (rowAt p r j)) (λ o′. set-follow r f k (suc j) o′)
+  set-follow r f (suc k) j o = by-test (f (rowAt p r j)) (λ o′. set-follow r f k (suc j) o′)
     where
       rest : List ℕ
       rest = filter f (map (rowAt p r) (from (suc j) k))
 
-      go : (b : Bool) → ((o′ : Out) → setRows p r f o′ (suc j) k ≡ follow p o′ (map (set r) (filter f (map (rowAt p r) (from (suc j) k)))))
+      by-test : (b : Bool) → ((o′ : Out) → setRows p r f o′ (suc j) k ≡ follow p o′ (map (set r) (filter f (map (rowAt p r) (from (suc j) k)))))
           → setRows p r f (setRow p r b o (rowAt p r j)) (suc j) k ≡ follow p o (map (set r) (if b then rowAt p r j ∷ rest else rest))
-      go true ih = ih (one p o (set r (rowAt p r j)))
-      go false ih = ih o
+      by-test true ih = ih (one p o (set r (rowAt p r j)))
+      by-test false ih = ih o
 
   module _ (f : ℕ → ℕ → Bool) where
     abbrev setsIn : ℕ → List Action
@@ -116,12 +116,14 @@ module _ (p : Problem) where
     sets-follow : (k r : ℕ) (o : Out) → setRelations p f o r k ≡ follow p o (flatMap setsIn (filter (λ r. isChosen (relationAt p r .kind)) (from r k)))
     unfolding setRelations setRelation from filter flatMap follow
     sets-follow zero r o = refl
-    sets-follow (suc k) r o = go (isChosen (relationAt p r .kind)) (λ o′. sets-follow k (suc r) o′)
+    sets-follow (suc k) r o = by-test (isChosen (relationAt p r .kind)) (λ o′. sets-follow k (suc r) o′)
       where
-        go : (b : Bool) → ((o′ : Out) → setRelations p f o′ (suc r) k ≡ follow p o′ (flatMap setsIn (filter (λ r. isChosen (relationAt p r .kind)) (from (suc r) k))))
-            → setRelations p f (if b then setRows p r (f r) o zero (setsOf (p .size) (p .range) (relationAt p r)) else o) (suc r) k ≡ follow p o (flatMap setsIn (if b then r ∷ filter (λ r. isChosen (relationAt p r .kind)) (from (suc r) k) else filter (λ r. isChosen (relationAt p r .kind)) (from (suc r) k)))
-        go true ih = ap (λ (x : Out). setRelations p f x (suc r) k) (relation-follow r o) ∙ ih (follow p o (setsIn r)) ∙ sym (follow-append (setsIn r) (flatMap setsIn (filter (λ r. isChosen (relationAt p r .kind)) (from (suc r) k))) o)
-        go false ih = ih o
+        by-test : (b : Bool) → ((o′ : Out) → setRelations p f o′ (suc r) k ≡ follow p o′ (flatMap setsIn (filter (λ r. isChosen (relationAt p r .kind)) (from (suc r) k))))
+            → setRelations p f (if b then setRows p r (f r) o zero (setsOf (p .size) (p .range) (relationAt p r)) else o) (suc r) k
+            ≡ follow p o (flatMap setsIn (if b then r ∷ filter (λ r. isChosen (relationAt p r .kind)) (from (suc r) k) else filter
+            (λ r. isChosen (relationAt p r .kind)) (from (suc r) k)))
+        by-test true ih = ap (λ (x : Out). setRelations p f x (suc r) k) (relation-follow r o) ∙ ih (follow p o (setsIn r)) ∙ sym (follow-append (setsIn r) (flatMap setsIn (filter (λ r. isChosen (relationAt p r .kind)) (from (suc r) k))) o)
+        by-test false ih = ih o
 
     -- by picks, each of which has a set action
     module _ (F : List Tuple)

@@ -21,7 +21,7 @@ ghost use Rattle.ground.specs.Numbers.{isWhole, setRow as «row-of»};
 ghost use Rattle.ground.specs.Of.{Is};
 ghost use Rattle.initial.specs.Rows.{atomsIn};
 ghost use Rattle.picks.specs.Words.{rowsIn, PicksAre};
-ghost use Rattle.proving.specs.Following.{Ready, out};
+ghost use Rattle.proving.specs.Following.{ReadyToFollow, out};
 ghost use Rattle.plans.specs.Following.{Follows};
 ghost use Rattle.plans.specs.Answers.{Gives, Asked};
 ghost use Rattle.plans.specs.Starts.{Prepared};
@@ -39,7 +39,7 @@ fn set_row(
     picked: bool,
 ) -> usize
     requires { ⌜ Fits (now table) × (relation < 17) × (row ≤ 2 ^ 32) × (at < 2 ^ 40) ⌝ }
-    ensures { λ r. ⌜ (r ≤ at + 1) × ((p : Problem) → Ready p (now (table .entry)) (length (now (state .entry))) → IsAction p (set relation row) → number ≡ actionNumber p (set relation row)
+    ensures { λ r. ⌜ (r ≤ at + 1) × ((p : Problem) → ReadyToFollow p (now (table .entry)) (length (now (state .entry))) → IsAction p (set relation row) → number ≡ actionNumber p (set relation row)
         → setRow p relation picked (out (bit (now (state .entry))) (now (steps .entry)) at) row ≡ out (bit (now (state .exit))) (now (steps .exit)) r) ⌝ }
 {
     if picked {
@@ -87,7 +87,7 @@ fn set_rows(
 ) -> usize
     requires { ⌜ Fits (now table) × (relation < 17) × PlacesFit (now table) line × (line .sets ≤ 2 ^ 32) × (start ≤ 2 ^ 40) × (at < 2 ^ 39) ⌝ }
     requires { ⌜ (whole ≡ isWhole line) × (count ≤ 2 ^ 32) × (whole ≡ false → count ≡ line .«first_count» * line .«second_count») ⌝ }
-    ensures { λ r. ⌜ (r ≤ at + count) × ((p : Problem) → Ready p (now (table .entry)) (length (now (state .entry))) → relation < length (p .relations) → line ≡ relationLine (now (table .entry)) relation
+    ensures { λ r. ⌜ (r ≤ at + count) × ((p : Problem) → ReadyToFollow p (now (table .entry)) (length (now (state .entry))) → relation < length (p .relations) → line ≡ relationLine (now (table .entry)) relation
         → count ≡ setsOf (p .size) (p .range) (relationAt p relation)
         → setRows p relation (λ row. bit (now (picks .entry)) (start + row)) (out (bit (now (state .entry))) (now (steps .entry)) at) 0 count ≡ out (bit (now (state .exit))) (now (steps .exit)) r) ⌝ }
 {
@@ -123,7 +123,7 @@ fn set_relation(
     start: usize,
 ) -> usize
     requires { ⌜ Fits (now table) × (relation < 17) × PlacesFit (now table) line × (line .sets ≤ 2 ^ 32) × (line .nots ≤ 2 ^ 32) × (start ≤ 2 ^ 40) × (at < 2 ^ 39) ⌝ }
-    ensures { λ r. ⌜ (r ≤ at + 2 ^ 32) × ((p : Problem) → Ready p (now (table .entry)) (length (now (state .entry))) → relation < length (p .relations) → line ≡ relationLine (now (table .entry)) relation
+    ensures { λ r. ⌜ (r ≤ at + 2 ^ 32) × ((p : Problem) → ReadyToFollow p (now (table .entry)) (length (now (state .entry))) → relation < length (p .relations) → line ≡ relationLine (now (table .entry)) relation
         → setRelation p (λ row. bit (now (picks .entry)) (start + row)) (out (bit (now (state .entry))) (now (steps .entry)) at) relation ≡ out (bit (now (state .exit))) (now (steps .exit)) r) ⌝ }
 {
     if line.kind == 0 {
@@ -148,7 +148,7 @@ fn set_relation(
 // All picks are set; the bits of each `choose` start at a new word.
 pub fn set_picks(state: &mut [u64], steps: &mut [u32], table: &[usize], picks: &[u64]) -> usize
     requires { ⌜ Fits (now table) ⌝ }
-    ensures { λ r. ⌜ (r ≤ 17 * 2 ^ 32) × ((p : Problem) → Ready p (now (table .entry)) (length (now (state .entry)))
+    ensures { λ r. ⌜ (r ≤ 17 * 2 ^ 32) × ((p : Problem) → ReadyToFollow p (now (table .entry)) (length (now (state .entry)))
         → setRelations p (rowsIn p (now (picks .entry))) (out (bit (now (state .entry))) (now (steps .entry)) 0) 0 (length (p .relations)) ≡ out (bit (now (state .exit))) (now (steps .exit)) r) ⌝ }
 {
     let mut k: usize = 0;
@@ -192,7 +192,7 @@ fn follow(
     picks: &[u64],
 ) -> Followed
     requires { ⌜ Fits (now table) × (atoms ≤ 2 ^ 32) ⌝ }
-    ensures { λ r. ⌜ ((p : Problem) → Ready p (now (table .entry)) (length (now (state .entry))) → atoms ≡ «atoms-of» p
+    ensures { λ r. ⌜ ((p : Problem) → ReadyToFollow p (now (table .entry)) (length (now (state .entry))) → atoms ≡ «atoms-of» p
         → Follows p (rowsIn p (now (picks .entry))) (out (bit (now (state .entry))) (now (steps .entry)) 0) (out (bit (now (state .exit))) (now (steps .exit)) (r .count)) (r .holds)) ⌝ }
 {
     let relations = table[1];
@@ -230,7 +230,7 @@ fn copy_steps(dst: &mut [u32], src: &[u32], k: usize)
 }
 
 // What building gives: how many steps, the index of the first `choose` of which the picks are not, or that the rule is false.
-pub enum Answer {
+pub enum PlanAnswer {
     Steps(usize),
     OtherKind(usize),
     RuleFalse,
@@ -246,7 +246,7 @@ fn build_in(
     table: &[usize],
     atoms: usize,
     picks: &[u64],
-) -> Answer
+) -> PlanAnswer
     requires { ⌜ Fits (now table) × (atoms ≤ 2 ^ 16) × (length (now start) ≤ 1024) × ((atoms + 63) / 64 ≤ length (now state)) × (atoms ≤ length (now made)) ⌝ }
     ensures { λ r. ⌜ ((c : Case) (F : List Tuple) → Asked c F (now (table .entry)) (now (picks .entry)) (bit (now (start .entry))) atoms (length (now (steps .entry)))
         → Gives c (problemOf c) F (now (state .entry)) (now (steps .entry)) r (now (state .exit)) (now (steps .exit))) ⌝ }
@@ -259,9 +259,9 @@ fn build_in(
         let words = (atoms + 63) / 64;
         ground::copy(state, &left, words);
         copy_steps(steps, made, f.count);
-        return Answer::Steps(f.count);
+        return PlanAnswer::Steps(f.count);
     }
-    Answer::RuleFalse
+    PlanAnswer::RuleFalse
 }
 
 // The same for a small problem.
@@ -272,7 +272,7 @@ fn build_small(
     table: &[usize],
     atoms: usize,
     picks: &[u64],
-) -> Answer
+) -> PlanAnswer
     requires { ⌜ Fits (now table) × (atoms ≤ 1024) × (length (now start) ≤ 1024) × ((atoms + 63) / 64 ≤ length (now state)) ⌝ }
     ensures { λ r. ⌜ ((c : Case) (F : List Tuple) → Asked c F (now (table .entry)) (now (picks .entry)) (bit (now (start .entry))) atoms (length (now (steps .entry)))
         → Gives c (problemOf c) F (now (state .entry)) (now (steps .entry)) r (now (state .exit)) (now (steps .exit))) ⌝ }
@@ -289,7 +289,7 @@ fn build_large(
     table: &[usize],
     atoms: usize,
     picks: &[u64],
-) -> Answer
+) -> PlanAnswer
     requires { ⌜ Fits (now table) × (atoms ≤ 2 ^ 16) × (length (now start) ≤ 1024) × ((atoms + 63) / 64 ≤ length (now state)) ⌝ }
     ensures { λ r. ⌜ ((c : Case) (F : List Tuple) → Asked c F (now (table .entry)) (now (picks .entry)) (bit (now (start .entry))) atoms (length (now (steps .entry)))
         → Gives c (problemOf c) F (now (state .entry)) (now (steps .entry)) r (now (state .exit)) (now (steps .exit))) ⌝ }
@@ -306,7 +306,7 @@ fn build(
     table: &[usize],
     atoms: usize,
     picks: &[u64],
-) -> Answer
+) -> PlanAnswer
     requires { ⌜ Fits (now table) × (atoms ≤ 2 ^ 16) × (length (now start) ≤ 1024) × ((atoms + 63) / 64 ≤ length (now state)) ⌝ }
     ensures { λ r. ⌜ ((c : Case) (F : List Tuple) → Accepted c → arePicks c F ≡ true → Is (problemOf c) (now (table .entry)) → PicksAre (problemOf c) (now (picks .entry)) F
         → atoms ≡ «atoms-of» (problemOf c) → actions (problemOf c) ≤ 2 ^ 32 → bit (now (start .entry)) ≡ «initial-of» (problemOf c) → bound (problemOf c) ≤ length (now (steps .entry))
@@ -315,7 +315,7 @@ fn build(
     let kinds = picks::test_kinds(table, picks);
     match kinds {
         picks::Kinds::Broken(i) => {
-            return Answer::OtherKind(i);
+            return PlanAnswer::OtherKind(i);
         }
         picks::Kinds::Kept => {
             if atoms <= SMALL {
@@ -335,7 +335,7 @@ fn build_from(
     facts: &[u64],
     atoms: usize,
     picks: &[u64],
-) -> Answer
+) -> PlanAnswer
     requires { ⌜ Fits (now table) × (atomsIn (now table) ≡ atoms) × (atoms ≤ 2 ^ 16) × ((atoms + 63) / 64 ≤ length (now state)) ⌝ }
     requires { ⌜ (atoms + 63) / 64 ≤ length (now start) ⌝ }
     ensures { λ r. ⌜ ((c : Case) (F : List Tuple) → Prepared c F (now (table .entry)) (now (facts .entry)) (now (picks .entry)) atoms (length (now (steps .entry)))
@@ -372,7 +372,7 @@ fn follow_twice(
     facts: &[u64],
     atoms: usize,
     picks: &[u64],
-) -> Answer
+) -> PlanAnswer
     requires { ⌜ Fits (now table) × (atomsIn (now table) ≡ atoms) × (atoms ≤ 2 ^ 20) × ((atoms + 63) / 64 ≤ length (now state)) ⌝ }
     ensures { λ r. ⌜ ((c : Case) (F : List Tuple) → Prepared c F (now (table .entry)) (now (facts .entry)) (now (picks .entry)) atoms (length (now (steps .entry))) → none ≡ firstOfOtherKind c F
         → Gives c (problemOf c) F (now (state .entry)) (now (steps .entry)) r (now (state .exit)) (now (steps .exit))) ⌝ }
@@ -389,9 +389,9 @@ fn follow_twice(
     );
     if once.holds {
         let again = start_and_follow(&mut state[..words], steps, table, facts, atoms, picks);
-        return Answer::Steps(again.count);
+        return PlanAnswer::Steps(again.count);
     }
-    Answer::RuleFalse
+    PlanAnswer::RuleFalse
 }
 
 // The steps built from picks and the state that they leave, of a problem of more than LARGE atoms.
@@ -402,7 +402,7 @@ fn build_twice(
     facts: &[u64],
     atoms: usize,
     picks: &[u64],
-) -> Answer
+) -> PlanAnswer
     requires { ⌜ Fits (now table) × (atomsIn (now table) ≡ atoms) × (atoms ≤ 2 ^ 20) × ((atoms + 63) / 64 ≤ length (now state)) ⌝ }
     ensures { λ r. ⌜ ((c : Case) (F : List Tuple) → Prepared c F (now (table .entry)) (now (facts .entry)) (now (picks .entry)) atoms (length (now (steps .entry)))
         → Gives c (problemOf c) F (now (state .entry)) (now (steps .entry)) r (now (state .exit)) (now (steps .exit))) ⌝ }
@@ -410,7 +410,7 @@ fn build_twice(
     let kinds = picks::test_kinds(table, picks);
     match kinds {
         picks::Kinds::Broken(i) => {
-            return Answer::OtherKind(i);
+            return PlanAnswer::OtherKind(i);
         }
         picks::Kinds::Kept => {
             return follow_twice(state, steps, table, facts, atoms, picks);
@@ -426,7 +426,7 @@ pub fn start_and_build(
     facts: &[u64],
     atoms: usize,
     picks: &[u64],
-) -> Answer
+) -> PlanAnswer
     requires { ⌜ Fits (now table) × (atomsIn (now table) ≡ atoms) × (atoms ≤ 2 ^ 20) × ((atoms + 63) / 64 ≤ length (now state)) ⌝ }
     ensures { λ r. ⌜ ((c : Case) (F : List Tuple) → Prepared c F (now (table .entry)) (now (facts .entry)) (now (picks .entry)) atoms (length (now (steps .entry)))
         → Gives c (problemOf c) F (now (state .entry)) (now (steps .entry)) r (now (state .exit)) (now (steps .exit))) ⌝ }

@@ -80,11 +80,11 @@ module _ (site labels : List ℕ) (x from to : ℕ) (a : from ≡ getD labels (2
 
   pub labelled : 0 < to → element site labels x ≡ (9 ∷ []) ++ take (to - from) (drop from site)
   unfolding spelled
-  labelled h = its-element ∙ ap (λ (t : List ℕ). (9 ∷ []) ++ t) (go to h ∙ part-is from to site)
+  labelled h = its-element ∙ ap (λ (t : List ℕ). (9 ∷ []) ++ t) (by-number to h ∙ part-is from to site)
     where
-      go : (to : ℕ) → 0 < to → spelled site x from to ≡ slice from to site
-      go zero h = absurd (omega arith)
-      go (suc to) h = refl
+      by-number : (to : ℕ) → 0 < to → spelled site x from to ≡ slice from to site
+      by-number zero h = absurd (omega arith)
+      by-number (suc to) h = refl
 
 -- a line of a first field and elements
 fields-is : (site labels f : List ℕ) (xs : List ℕ) → printLine (f ∷ map (saidBy site labels) xs) ≡ f ++ (elements site labels xs ++ (10 ∷ []))

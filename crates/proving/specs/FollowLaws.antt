@@ -18,10 +18,10 @@ use Rattle.ground.specs.Of.{Is, said}
 use Rattle.ground.specs.OfLaws.{after-is, held}
 use Rattle.ground.specs.declared.Act.{Act}
 use Rattle.states.specs.Planning.{stepNow}
-use Rattle.proving.specs.Following.{Ready, Out, out, one, provedRow, provedRows, provedNodes}
+use Rattle.proving.specs.Following.{ReadyToFollow, Out, out, one, provedRow, provedRows, provedNodes}
 
 -- a step taken and written is one more
-pub step-one : (p : Problem) (w : List ℕ) (k : ℕ) (s s′ : State) (b b′ : List ℕ) (at number : ℕ) (a : Act) (x : Action) → Ready p w k → IsAction p x → a ≡ said x → number ≡ actionNumber p x
+pub step-one : (p : Problem) (w : List ℕ) (k : ℕ) (s s′ : State) (b b′ : List ℕ) (at number : ℕ) (a : Act) (x : Action) → ReadyToFollow p w k → IsAction p x → a ≡ said x → number ≡ actionNumber p x
     → (Held (addNumbers w a) k → s′ ≡ changed s (removeNumbers w a) (addNumbers w a)) → (number < 2 ^ 32 → b′ ≡ set b at number) → one p (out s b at) x ≡ out s′ b′ (at + 1)
 unfolding one
 step-one p w k s s′ b b′ at number a x R v e n f g =

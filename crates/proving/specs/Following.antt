@@ -17,14 +17,14 @@ use Rattle.laws.specs.Members.{reached}
 use Rattle.proving.specs.declared.Elements.{Elements}
 
 -- the table is the problem's, a state of k words has room for its atoms, and its action numbers fit a step
-pub record Ready (p : Problem) (w : List ℕ) (k : ℕ) : Type 0 where
+pub record ReadyToFollow (p : Problem) (w : List ℕ) (k : ℕ) : Type 0 where
   pub is : Is p w
   pub room : atoms p ≤ 64 * k
   pub few : actions p ≤ 2 ^ 32
 
 -- x is the line of the node v in such a table
 pub record NodeOf (p : Problem) (w : List ℕ) (k v : ℕ) (x : NodeLine) : Type 0 where
-  pub ready : Ready p w k
+  pub ready : ReadyToFollow p w k
   pub here : v < length (p .nodeList)
   pub line : x ≡ nodeLine w v
 

@@ -26,7 +26,7 @@ use Rattle.ground.specs.declared.Act.the-variants.{And, Or, Exists, Forall}
 use Rattle.proving.specs.Tries.{Way, actBy, wayBy, wayAt, chained, firstFrom, firstAt, firstBy, FlatAt}
 use Rattle.proving.specs.TryLaws.{way-forall, first-same, only-yes, only-no}
 use Rattle.proving.specs.NeedLaws.{need-by, chain-tried}
-use Rattle.proving.specs.Following.{Ready, NodeOf, Chain, Out, Goes, out, provedRow, provedRows, rowsLeft}
+use Rattle.proving.specs.Following.{ReadyToFollow, NodeOf, Chain, Out, Goes, out, provedRow, provedRows, rowsLeft}
 use Rattle.proving.specs.FollowLaws.{step-one, row-some, row-none, some-start, some-next, some-end}
 use Rattle.proving.specs.declared.Elements.{Elements}
 use Rattle.proving.specs.RowLaws.{row-found, row-lost, row-out}
@@ -73,7 +73,7 @@ still s i a e = rw e
 -- ---- by what the code finds
 module _ (p : Problem) (w : List ℕ) (k node : ℕ) (x : NodeLine) (N : NodeOf p w k node x) (j : ℕ) (h : j < nodeWidth (p .size) (nodeAt p node)) (y : Way) (ey : y ≡ wayAt w x j)
     (s : State) (begun : s 1 ≡ true) (b : List ℕ) (at r : ℕ) (e : r ≡ firstAt s (sizeIn w) w x y) where
-  R : Ready p w k
+  R : ReadyToFollow p w k
   R = N .ready
 
   abbrev found : ℕ → Act
@@ -235,8 +235,8 @@ rows-whole p w k node x N e =
 
 -- a multiple that another does not reach within one row is at most that one
 pub whole-end : (q m n : ℕ) → m * n < q * n + n → m * n ≤ q * n
-whole-end q m n h = go (ltb q m) refl
+whole-end q m n h = by-test (ltb q m) refl
   where
-    go : (b : Bool) → ltb q m ≡ b → m * n ≤ q * n
-    go true e = let l = ltb-true q m e in let k : q + 1 ≤ m = omega arith in let o : n ≤ n = omega arith in absurd (omega (arith, mul-le-mul k o, add-mul q 1 n, one-mul n))
-    go false e = let l = ltb-false q m e in let o : n ≤ n = omega arith in mul-le-mul l o
+    by-test : (b : Bool) → ltb q m ≡ b → m * n ≤ q * n
+    by-test true e = let l = ltb-true q m e in let k : q + 1 ≤ m = omega arith in let o : n ≤ n = omega arith in absurd (omega (arith, mul-le-mul k o, add-mul q 1 n, one-mul n))
+    by-test false e = let l = ltb-false q m e in let o : n ≤ n = omega arith in mul-le-mul l o

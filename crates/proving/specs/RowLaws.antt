@@ -31,31 +31,31 @@ use Rattle.proving.specs.TryLaws.{first-same}
 first-le : (f : ℕ → Bool) (k a : ℕ) → a ≤ firstFrom f a k
 unfolding firstFrom
 first-le f zero a = omega arith
-first-le f (suc k) a = go (f a) (first-le f k (suc a))
+first-le f (suc k) a = by-test (f a) (first-le f k (suc a))
   where
-    go : (b : Bool) → suc a ≤ firstFrom f (suc a) k → a ≤ (if b then a else firstFrom f (suc a) k)
-    go true h = omega arith
-    go false h = omega arith
+    by-test : (b : Bool) → suc a ≤ firstFrom f (suc a) k → a ≤ (if b then a else firstFrom f (suc a) k)
+    by-test true h = omega arith
+    by-test false h = omega arith
 
 pub found : (f : ℕ → Bool) (k a : ℕ) → firstFrom f a k < a + k → position f (from a k) ≡ some (firstFrom f a k - a)
 unfolding firstFrom position from option
 found f zero a h = absurd (omega arith)
-found f (suc k) a h = go (f a) h (found f k (suc a)) (first-le f k (suc a))
+found f (suc k) a h = by-test (f a) h (found f k (suc a)) (first-le f k (suc a))
   where
-    go : (b : Bool) → (if b then a else firstFrom f (suc a) k) < a + suc k → (firstFrom f (suc a) k < suc a + k → position f (from (suc a) k) ≡ some (firstFrom f (suc a) k - suc a)) → suc a ≤ firstFrom f (suc a) k
+    by-test : (b : Bool) → (if b then a else firstFrom f (suc a) k) < a + suc k → (firstFrom f (suc a) k < suc a + k → position f (from (suc a) k) ≡ some (firstFrom f (suc a) k - suc a)) → suc a ≤ firstFrom f (suc a) k
         → (if b then some zero else option (position f (from (suc a) k)) none (λ i. some (suc i))) ≡ some ((if b then a else firstFrom f (suc a) k) - a)
-    go true h r l = let e : a - a ≡ 0 = omega arith in ap some (sym e)
-    go false h r l = let e : suc (firstFrom f (suc a) k - suc a) ≡ firstFrom f (suc a) k - a = omega arith in rw (r (omega arith)) (ap some e)
+    by-test true h r l = let e : a - a ≡ 0 = omega arith in ap some (sym e)
+    by-test false h r l = let e : suc (firstFrom f (suc a) k - suc a) ≡ firstFrom f (suc a) k - a = omega arith in rw (r (omega arith)) (ap some e)
 
 pub lost : (f : ℕ → Bool) (k a : ℕ) → a + k ≤ firstFrom f a k → position f (from a k) ≡ none
 unfolding firstFrom position from option
 lost f zero a h = refl
-lost f (suc k) a h = go (f a) h (lost f k (suc a))
+lost f (suc k) a h = by-test (f a) h (lost f k (suc a))
   where
-    go : (b : Bool) → a + suc k ≤ (if b then a else firstFrom f (suc a) k) → (suc a + k ≤ firstFrom f (suc a) k → position f (from (suc a) k) ≡ none)
+    by-test : (b : Bool) → a + suc k ≤ (if b then a else firstFrom f (suc a) k) → (suc a + k ≤ firstFrom f (suc a) k → position f (from (suc a) k) ≡ none)
         → (if b then some zero else option (position f (from (suc a) k)) none (λ i. some (suc i))) ≡ none
-    go true h r = absurd (omega arith)
-    go false h r = rw (r (omega arith))
+    by-test true h r = absurd (omega arith)
+    by-test false h r = rw (r (omega arith))
 
 -- ---- the way by the table
 module _ (n : ℕ) (R : ℕ → List ℕ) (v j : ℕ) where
@@ -169,7 +169,7 @@ module _ (p : Problem) (w : List ℕ) (is : Is p w) (v : ℕ) (l : v < length (p
         ap (λ (a : Act). all s (needNumbers w a)) (act-said (0 + i) e) ∙ may-is p w is s (tryOf (nodeAt p v) (0 + i)) (try-is (nodeAt p v) refl h (0 + i) e))
 
     -- by a node's line x and a way y
-    pub record Found (x : NodeLine) (y : Way) (r : ℕ) : Type 0 where
+    pub record FoundRow (x : NodeLine) (y : Way) (r : ℕ) : Type 0 where
       pub action : Action
       pub valid : IsAction p action
       pub step : stepNow p s v (nodeAt p v) j ≡ some action
@@ -179,7 +179,7 @@ module _ (p : Problem) (w : List ℕ) (is : Is p w) (v : ℕ) (l : v < length (p
     abbrev First : NodeLine → Way → ℕ → Type 0
     First x y r = r ≡ firstFrom (λ i. all s (needNumbers w (actBy (x .kind) (rangeIn w x) v (y .row) (y .base + i)))) 0 (y .tries)
 
-    found-here : (r : ℕ) → First (nodeLine w v) way r → r < way .tries → Found (nodeLine w v) way r
+    found-here : (r : ℕ) → First (nodeLine w v) way r → r < way .tries → FoundRow (nodeLine w v) way r
     unfolding stepNow below option
     found-here r e k =
         let m : r < triesAt (nodeAt p v) = subst (λ (x : ℕ). r < x) (here .tries) k in
@@ -207,8 +207,8 @@ module _ (p : Problem) (w : List ℕ) (is : Is p w) (v : ℕ) (l : v < length (p
       way-here : y ≡ way
       way-here = ey ∙ ap (λ (z : NodeLine). wayAt w z j) ex
 
-      pub row-found : (r : ℕ) → First x y r → r < y .tries → Found x y r
-      row-found = subst₂ (λ (x : NodeLine) (y : Way). (r : ℕ) → First x y r → r < y .tries → Found x y r) (sym ex) (sym way-here) found-here
+      pub row-found : (r : ℕ) → First x y r → r < y .tries → FoundRow x y r
+      row-found = subst₂ (λ (x : NodeLine) (y : Way). (r : ℕ) → First x y r → r < y .tries → FoundRow x y r) (sym ex) (sym way-here) found-here
 
       pub row-lost : (r : ℕ) → First x y r → y .tries ≤ r → stepNow p s v (nodeAt p v) j ≡ none
       row-lost = subst₂ (λ (x : NodeLine) (y : Way). (r : ℕ) → First x y r → y .tries ≤ r → stepNow p s v (nodeAt p v) j ≡ none) (sym ex) (sym way-here) lost-here

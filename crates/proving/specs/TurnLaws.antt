@@ -75,19 +75,19 @@ module _ (n w row : ℕ) (o : 0 < n) (ds : List ℕ) where
         record {
           carry = rw (s, over-suc n (row + 1), over-suc n row) (ap (λ (y : ℕ). y / n) (C .carry) ∙ g .0);
           before = λ q l. getD-set-other ds i q 0 0 (λ e. omega arith) ∙ C .before q (omega arith);
-          later = λ q a l. go q a l (eqb q i) refl (ap (λ (y : ℕ). y % n) (C .carry) ∙ g .1);
+          later = λ q a l. by-number q a l (eqb q i) refl (ap (λ (y : ℕ). y % n) (C .carry) ∙ g .1);
         }
       where
-        go : (q : ℕ) → i ≤ q → q < w → (b : Bool) → eqb q i ≡ b → (row + 1) / n ^ (w - suc i) % n ≡ 0 → getD (set ds i 0) q 0 ≡ (row + 1) / n ^ (w - suc q) % n
-        go q a l true e z = let f = eqb-true q i e in at-set i 0 q (omega arith) f ∙ sym (ap (λ (u : ℕ). (row + 1) / n ^ (w - suc u) % n) f ∙ z)
-        go q a l false e z = let f = eqb-false q i e in getD-set-other ds i q 0 0 f ∙ C .later q (omega arith) l
+        by-number : (q : ℕ) → i ≤ q → q < w → (b : Bool) → eqb q i ≡ b → (row + 1) / n ^ (w - suc i) % n ≡ 0 → getD (set ds i 0) q 0 ≡ (row + 1) / n ^ (w - suc q) % n
+        by-number q a l true e z = let f = eqb-true q i e in at-set i 0 q (omega arith) f ∙ sym (ap (λ (u : ℕ). (row + 1) / n ^ (w - suc u) % n) f ∙ z)
+        by-number q a l false e z = let f = eqb-false q i e in getD-set-other ds i q 0 0 f ∙ C .later q (omega arith) l
 
     pub done : getD ds i 0 + 1 < n → Digits n w (row + 1) (set ds i (getD ds i 0 + 1))
     done t q l =
         let s : w - i ≡ suc (w - suc i) = omega arith in
         let d = C .before i (omega arith) in
         let g = next-stays n (row / n ^ (w - suc i)) o (omega arith) in
-        go (eqb q i) refl (ap (λ (y : ℕ). y % n) (C .carry) ∙ g .1 ∙ ap (λ (y : ℕ). y + 1) (sym d)) (rw (s, over-suc n (row + 1), over-suc n row) (ap (λ (y : ℕ). y / n) (C .carry) ∙ g .0))
+        by-test (eqb q i) refl (ap (λ (y : ℕ). y % n) (C .carry) ∙ g .1 ∙ ap (λ (y : ℕ). y + 1) (sym d)) (rw (s, over-suc n (row + 1), over-suc n row) (ap (λ (y : ℕ). y / n) (C .carry) ∙ g .0))
       where
         up : (row + 1) / n ^ (w - i) ≡ row / n ^ (w - i) → q < i → (row + 1) / n ^ (w - suc q) ≡ row / n ^ (w - suc q)
         up e m = let z : (i - suc q) + (w - i) ≡ w - suc q = omega arith in rw z at (over-same n (row + 1) row (w - i) (i - suc q) e)
@@ -96,9 +96,9 @@ module _ (n w row : ℕ) (o : 0 < n) (ds : List ℕ) where
         other u true e f = let m = ltb-true q i e in C .before q (omega arith) ∙ ap (λ (y : ℕ). y % n) (sym (u m))
         other u false e f = let m = ltb-false q i e in C .later q (omega arith) l
 
-        go : (b : Bool) → eqb q i ≡ b → (row + 1) / n ^ (w - suc i) % n ≡ getD ds i 0 + 1 → (row + 1) / n ^ (w - i) ≡ row / n ^ (w - i) → getD (set ds i (getD ds i 0 + 1)) q 0 ≡ (row + 1) / n ^ (w - suc q) % n
-        go true e z u = let f = eqb-true q i e in at-set i (getD ds i 0 + 1) q (omega arith) f ∙ sym (ap (λ (u : ℕ). (row + 1) / n ^ (w - suc u) % n) f ∙ z)
-        go false e z u = let f = eqb-false q i e in getD-set-other ds i q (getD ds i 0 + 1) 0 f ∙ other (up u) (ltb q i) refl f
+        by-test : (b : Bool) → eqb q i ≡ b → (row + 1) / n ^ (w - suc i) % n ≡ getD ds i 0 + 1 → (row + 1) / n ^ (w - i) ≡ row / n ^ (w - i) → getD (set ds i (getD ds i 0 + 1)) q 0 ≡ (row + 1) / n ^ (w - suc q) % n
+        by-test true e z u = let f = eqb-true q i e in at-set i (getD ds i 0 + 1) q (omega arith) f ∙ sym (ap (λ (u : ℕ). (row + 1) / n ^ (w - suc u) % n) f ∙ z)
+        by-test false e z u = let f = eqb-false q i e in getD-set-other ds i q (getD ds i 0 + 1) 0 f ∙ other (up u) (ltb q i) refl f
 
 -- by the index that is counted down
 module _ (n w row i : ℕ) (ds : List ℕ) (o : 0 < n) (p : 0 < i) (h : i ≤ w) (k : w ≤ length ds) (C : Carried n w row i ds) where
@@ -137,14 +137,14 @@ nothing-set d = fun-ext (λ l. same (eqb l d))
     same false = refl
 
 pub place-next : (n w i row : ℕ) (out ls ds : List ℕ) → w ≤ length ls → getD ls i 0 < length out → Digits n w row ds → Rest w ds → Spread n w row ls (i + 1) out → Spread n w row ls i (set out (getD ls i 0) (getD ds i 0))
-place-next n w i row out ls ds k m D z v = go (ltb i w) refl
+place-next n w i row out ls ds k m D z v = by-test (ltb i w) refl
   where
-    go : (b : Bool) → ltb i w ≡ b → Spread n w row ls i (set out (getD ls i 0) (getD ds i 0))
-    go true e =
+    by-test : (b : Bool) → ltb i w ≡ b → Spread n w row ls i (set out (getD ls i 0) (getD ds i 0))
+    by-test true e =
         let l = ltb-true i w e in
         let o : i + 1 - 1 ≡ i = omega arith in
         rw o at (spread-next n w (i + 1) row out ls ds (omega arith) (omega arith) k (rw o m) D v)
-    go false e =
+    by-test false e =
         let l = ltb-false i w e in
         ap (λ (x : ℕ). valueIn (set out (getD ls i 0) x)) (z i l) ∙ set-value out (getD ls i 0) 0 m ∙ ap (λ (f : Values). withValue f (getD ls i 0) 0) (v ∙ nothing n w (i + 1) row ls (omega arith)) ∙ nothing-set (getD ls i 0) ∙ sym (nothing n w i row ls l)
 

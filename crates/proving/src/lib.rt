@@ -16,7 +16,7 @@ ghost use Rattle.ground.specs.declared.NodeLine.{NodeLine};
 ghost use Rattle.ground.specs.Numbers.{underAt, ActFits, changed};
 ghost use Rattle.ground.specs.Of.{said};
 ghost use Rattle.proving.specs.Tries.{wayBy, wayAt, chained, firstFrom, firstBy, Digits, Rest};
-ghost use Rattle.proving.specs.Following.{Ready, NodeOf, Chain, Goes, out, one, provedRow, provedRows, provedNodes};
+ghost use Rattle.proving.specs.Following.{ReadyToFollow, NodeOf, Chain, Goes, out, one, provedRow, provedRows, provedNodes};
 
 // Where an element takes a part: its atom's number at element 0, and by how much that grows with the element.
 pub struct Elements {
@@ -184,7 +184,7 @@ pub fn step(
 ) -> usize
     requires { ⌜ Fits (now table) × (at < 2 ^ 40) ⌝ }
     requires { ⌜ ActFits (now table) a ⌝ }
-    ensures { λ r. ⌜ (r ≡ at + 1) × ((p : Problem) (x : Action) → Ready p (now (table .entry)) (length (now (state .entry))) → IsAction p x → a ≡ said x → number ≡ actionNumber p x
+    ensures { λ r. ⌜ (r ≡ at + 1) × ((p : Problem) (x : Action) → ReadyToFollow p (now (table .entry)) (length (now (state .entry))) → IsAction p x → a ≡ said x → number ≡ actionNumber p x
         → one p (out (bit (now (state .entry))) (now (steps .entry)) at) x ≡ out (bit (now (state .exit))) (now (steps .exit)) r) ⌝ }
 {
     ground::take(state, table, a);
@@ -378,7 +378,7 @@ fn prove_node(
     width: usize,
 ) -> usize
     requires { ⌜ Fits (now table) × (node < 64) × (width ≤ 2 ^ 32) × (at < 2 ^ 39) ⌝ }
-    ensures { λ r. ⌜ (r ≤ at + width) × ((p : Problem) → Ready p (now (table .entry)) (length (now (state .entry))) → node < length (p .nodeList) → width ≡ nodeWidth (p .size) (nodeAt p node) → bit (now (state .entry)) 1 ≡ true
+    ensures { λ r. ⌜ (r ≤ at + width) × ((p : Problem) → ReadyToFollow p (now (table .entry)) (length (now (state .entry))) → node < length (p .nodeList) → width ≡ nodeWidth (p .size) (nodeAt p node) → bit (now (state .entry)) 1 ≡ true
         → Goes (provedRows p node (out (bit (now (state .entry))) (now (steps .entry)) at) 0 width) (bit (now (state .exit))) (now (steps .exit)) r) ⌝ }
 {
     let v = ground::node_line(table, node);
@@ -397,7 +397,7 @@ pub fn prove_nodes(
     atoms: usize,
 ) -> usize
     requires { ⌜ Fits (now table) × (atoms ≤ 2 ^ 32) × (at ≤ 2 ^ 37) ⌝ }
-    ensures { λ r. ⌜ (r ≤ at + 64 * 2 ^ 32) × ((p : Problem) → Ready p (now (table .entry)) (length (now (state .entry))) → atoms ≡ «atoms-of» p → bit (now (state .entry)) 1 ≡ true
+    ensures { λ r. ⌜ (r ≤ at + 64 * 2 ^ 32) × ((p : Problem) → ReadyToFollow p (now (table .entry)) (length (now (state .entry))) → atoms ≡ «atoms-of» p → bit (now (state .entry)) 1 ≡ true
         → provedNodes p (out (bit (now (state .entry))) (now (steps .entry)) at) (length (p .nodeList)) ≡ out (bit (now (state .exit))) (now (steps .exit)) r) ⌝ }
 {
     let mut k = at;

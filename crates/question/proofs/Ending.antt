@@ -20,7 +20,7 @@ use Rattle.records.specs.declared.Entry.{Entry}
 use Rattle.records.specs.declared.Entry.the-variants.{Wrong, Rel, Typed, Choose, Rule, Size, Label, Member, Fact, Pick, Step}
 use Rattle.records.proofs.Runs.{read-stop, read-next}
 use Rattle.names.specs.declared.Signature.{Signature}
-use Rattle.names.specs.Signatures.{relationsFrom, relsOf, chosenOf, typesOf, allOf, NoFurther, Sound}
+use Rattle.names.specs.Signatures.{relationsFrom, relsOf, chosenOf, typesOf, allOf, NoFurther, SoundSignature}
 use Rattle.formula.specs.Seen.{ruleNumber}
 use Rattle.question.specs.declared.Head.{Head}
 use Rattle.question.specs.declared.Asked.{Asked}
@@ -231,10 +231,10 @@ part-start s r w = start-by s (D.readQuestion s) r w
 
 -- ---- the signature is sound, whether the question is refused or not
 
-sound-by : (s : List ℕ) (o : Result D.Question) (r : Asked) → QuestionRead s o r → Sound s (r .sig)
+sound-by : (s : List ℕ) (o : Result D.Question) (r : Asked) → QuestionRead s o r → SoundSignature s (r .sig)
 unfolding QuestionRead refusedWith
 sound-by s (refused k place) r w = rw w (none-sound s)
 sound-by s (accepted q) r w = w .sound
 
-pub question-sound : (s : List ℕ) (r : Asked) → QuestionRead s (D.readQuestion s) r → Sound s (r .sig)
+pub question-sound : (s : List ℕ) (r : Asked) → QuestionRead s (D.readQuestion s) r → SoundSignature s (r .sig)
 question-sound s r w = sound-by s (D.readQuestion s) r w

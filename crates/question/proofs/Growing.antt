@@ -1,5 +1,5 @@
 -- A good line: the signature grows as the draft does.
-use Prim.Native.Nat.{ℕ, zero, suc, _+_, _-_, _≤_, _<_}
+use Prim.Native.Nat.{ℕ, zero, suc, _+_, _≤_, _<_}
 use mathlib.Core.Path.{_≡_, refl, ap, ap₂, _∙_}
 use mathlib.Core.Logic.{_≢_}
 use mathlib.Core.List.{List, [], _∷_, _++_}
@@ -13,7 +13,7 @@ use Rattle.definitions.specs.Sheets.{placeSort}
 use Rattle.laws.specs.Reader.{sort-named}
 use Rattle.text.specs.Spans.{kindOf}
 use Rattle.names.specs.declared.Signature.{Signature}
-use Rattle.names.specs.Signatures.{relationIn, relationsFrom, namesFrom, relsOf, chosenOf, typesOf, Sound}
+use Rattle.names.specs.Signatures.{relationIn, relationsFrom, namesFrom, relsOf, chosenOf, typesOf, SoundSignature}
 use Rattle.question.specs.declared.Sorts.{Sorts}
 use Rattle.question.specs.Drafts.{sortsIn, pushed, typed, noSignature}
 use Rattle.names.proofs.Laws.{relations-append}
@@ -23,7 +23,7 @@ unfoldable pub Roomy : Signature → Type 0
 Roomy g = (length (g .from) ≡ 20) × (length (g .to) ≡ 20) × (length (g .arity) ≡ 12) × (length (g .kind) ≡ 12) × (length (g .firsts) ≡ 12) × (length (g .seconds) ≡ 12)
 
 -- no relations and no types
-pub none-sound : (s : List ℕ) → Sound s noSignature
+pub none-sound : (s : List ℕ) → SoundSignature s noSignature
 unfolding noSignature
 none-sound s = record {
   rels-le = omega arith;
@@ -125,8 +125,8 @@ module _ (s : List ℕ) (g : Signature) (i a e k d : ℕ) (p : Sorts) (rels chos
     length-set (g .seconds) i (p .seconds) ∙ w .5,
   )
 
-  pub pushed-sound : Sound s g → Roomy g → i ≡ g .rels + g .chosen → i < 12 → rels + chosen ≡ suc i → rels ≤ 8 → chosen ≤ 4 → a ≤ e → e ≤ length s → 1 ≤ k → k ≤ 3
-      → p .firsts ≤ g .types → p .seconds ≤ g .types → Sound s (pushed g i a e k d p rels chosen)
+  pub pushed-sound : SoundSignature s g → Roomy g → i ≡ g .rels + g .chosen → i < 12 → rels + chosen ≡ suc i → rels ≤ 8 → chosen ≤ 4 → a ≤ e → e ≤ length s → 1 ≤ k → k ≤ 3
+      → p .firsts ≤ g .types → p .seconds ≤ g .types → SoundSignature s (pushed g i a e k d p rels chosen)
   unfolding pushed Roomy
   pushed-sound v w q h t r c ae el k1 k3 f1 f2 = record {
     rels-le = r;
@@ -182,7 +182,7 @@ module _ (s : List ℕ) (g : Signature) (a e : ℕ) where
   unfolding Roomy typed
   typed-roomy w = (length-set (g .from) (12 + g .types) a ∙ w .0, length-set (g .to) (12 + g .types) e ∙ w .1, w .2, w .3, w .4, w .5)
 
-  pub typed-sound : Sound s g → g .types < 8 → Sound s (typed g a e)
+  pub typed-sound : SoundSignature s g → g .types < 8 → SoundSignature s (typed g a e)
   unfolding typed
   typed-sound v h = record {
     rels-le = v .rels-le;

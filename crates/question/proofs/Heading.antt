@@ -1,7 +1,7 @@
 -- The loop over a question's lines up to its rule.
 use Prim.Native.Nat.{ℕ, zero, suc, _+_, _≤_, _<_}
 use mathlib.Core.Path.{_≡_, refl, sym, ap, subst, _∙_}
-use mathlib.Core.Bool.{Bool, true, false, not, _||_}
+use mathlib.Core.Bool.{Bool, true, false, not}
 use mathlib.Core.Option.{none}
 use mathlib.Core.List.{List, [], _∷_, _++_}
 use native.Mathlib.Omega.{arith}
@@ -23,7 +23,7 @@ use Rattle.records.specs.declared.Entry.{Entry}
 use Rattle.records.specs.declared.Entry.the-variants.{Wrong, Rel, Typed, Choose, Rule, Size, Label, Member, Fact, Pick, Step}
 use Rattle.records.proofs.Runs.{read-long, read-start, read-stop, read-next}
 use Rattle.names.specs.declared.Signature.{Signature}
-use Rattle.names.specs.Signatures.{relationsFrom, namesFrom, relsOf, chosenOf, typesOf, Sound}
+use Rattle.names.specs.Signatures.{relationsFrom, namesFrom, relsOf, chosenOf, typesOf, SoundSignature}
 use Rattle.question.specs.declared.Span.{Span}
 use Rattle.question.specs.declared.Sorts.{Sorts}
 use Rattle.question.specs.declared.Head.{Head}
@@ -56,29 +56,29 @@ in-place-one false n p = p
 
 name-not-one : (s : List ℕ) (g : Signature) (name : List ℕ) → nameFault s g name ≡ 1 → ⊥
 unfolding nameFault
-name-not-one s g name p = go (D.isNewName (draftOf s g) name) p
+name-not-one s g name p = by-test (D.isNewName (draftOf s g) name) p
   where
-    go : (b : Bool) → _≡_ {A = ℕ} (if not b then 4 else 0) 1 → ⊥
-    go true q = omega arith
-    go false q = omega arith
+    by-test : (b : Bool) → _≡_ {A = ℕ} (if not b then 4 else 0) 1 → ⊥
+    by-test true q = omega arith
+    by-test false q = omega arith
 
 type-not-one : (types : List (List ℕ)) (name : List ℕ) → typeFault types name ≡ 1 → ⊥
 unfolding typeFault
-type-not-one types name p = go (isRelationName name) (isType types name) p
+type-not-one types name p = by-test (isRelationName name) (isType types name) p
   where
-    go : (b c : Bool) → _≡_ {A = ℕ} (if not b then 4 else if c then 19 else 0) 1 → ⊥
-    go true true q = omega arith
-    go true false q = omega arith
-    go false c q = omega arith
+    by-test : (b c : Bool) → _≡_ {A = ℕ} (if not b then 4 else if c then 19 else 0) 1 → ⊥
+    by-test true true q = omega arith
+    by-test true false q = omega arith
+    by-test false c q = omega arith
 
 choose-not-one : (s : List ℕ) (g : Signature) (name : List ℕ) (names : List (List ℕ)) → chooseFault s g name names ≡ 1 → ⊥
 unfolding chooseFault
-choose-not-one s g name names p = go (D.isNewName (draftOf s g) name) (all (isType (typesOf s g)) names) p
+choose-not-one s g name names p = by-test (D.isNewName (draftOf s g) name) (all (isType (typesOf s g)) names) p
   where
-    go : (b c : Bool) → _≡_ {A = ℕ} (if not b then 4 else if not c then 19 else 0) 1 → ⊥
-    go true true q = omega arith
-    go true false q = omega arith
-    go false c q = omega arith
+    by-test : (b c : Bool) → _≡_ {A = ℕ} (if not b then 4 else if not c then 19 else 0) 1 → ⊥
+    by-test true true q = omega arith
+    by-test true false q = omega arith
+    by-test false c q = omega arith
 
 abbrev unruled : (rels : List Relation) → (types : List (List ℕ)) → (chosen : List Relation) → D.Draft
 unruled rels types chosen = record { rels = rels; types = types; chosen = chosen; ruled = none }
@@ -114,7 +114,7 @@ module _ (s : List ℕ) (g : Signature) where
     choose-room k d t u v p = leb-false 4 (g .chosen) (in-place _ _ p)
 
   -- the draft after it
-  module _ (v : Sound s g) (w : Roomy g) (a e : ℕ) where
+  module _ (v : SoundSignature s g) (w : Roomy g) (a e : ℕ) where
     rel-grown : (k : ℕ) → judgeOf s g (Rel a e k) ≡ 0
         → unruled (relsOf s g ++ (related (slice a e s) k static unsorted ∷ [])) (typesOf s g) (chosenOf s g) ≡ draftOf s (grownBy s g (Rel a e k))
     unfolding draftOf grownBy relsOf chosenOf pushed relationsFrom kindOf
@@ -172,10 +172,10 @@ module _ (s : List ℕ) (g : Signature) where
 
 -- ---- one line
 
-module _ (s : List ℕ) (g : Signature) (at : ℕ) (v : Sound s g) (w : Roomy g) where
+module _ (s : List ℕ) (g : Signature) (at : ℕ) (v : SoundSignature s g) (w : Roomy g) where
   -- a good line: there is room for it, and the signature stays sound
   unfoldable pub Grows : Entry → Type 0
-  Grows x = Room g x × Sound s (grownBy s g x) × Roomy (grownBy s g x)
+  Grows x = Room g x × SoundSignature s (grownBy s g x) × Roomy (grownBy s g x)
 
   pub line-grows : (x : Entry) → InText s at x → judgeOf s g x ≡ 0 → Grows x
   unfolding Grows Room judgeOf InText grownBy
@@ -214,11 +214,11 @@ module _ (s : List ℕ) (g : Signature) (at : ℕ) (v : Sound s g) (w : Roomy g)
   line-is (Rel a e k) m = rel-is s g v w a e at k
   line-is (Typed a e) m = type-is s g v w a e at
   line-is (Choose a e k d x y z) m = choose-is s g v w a e at k d x y z
-  line-is (Rule a e) m = go (eqb (g .chosen) 0) refl
+  line-is (Rule a e) m = by-test (eqb (g .chosen) 0) refl
     where
-      go : (b : Bool) → eqb (g .chosen) 0 ≡ b → D.addRule (draftOf s g) at (slice a e s) ≡ unless (judgeOf s g (Rule a e)) at (accepted (draftOf s (grownBy s g (Rule a e))))
-      go true q = rw q (rule-out s g at (slice a e s) (eqb-true (g .chosen) 0 q))
-      go false q = absurd (m (rw q))
+      by-test : (b : Bool) → eqb (g .chosen) 0 ≡ b → D.addRule (draftOf s g) at (slice a e s) ≡ unless (judgeOf s g (Rule a e)) at (accepted (draftOf s (grownBy s g (Rule a e))))
+      by-test true q = rw q (rule-out s g at (slice a e s) (eqb-true (g .chosen) 0 q))
+      by-test false q = absurd (m (rw q))
   line-is Wrong m = refl
   line-is (Size n) m = refl
   line-is (Label k a b e) m = refl
@@ -234,11 +234,11 @@ module _ (s : List ℕ) (g : Signature) (at : ℕ) (v : Sound s g) (w : Roomy g)
 
   pub line-rule : (x : Entry) → InText s at x → judgeOf s g x ≡ 1 → IsRule x (spanIn x)
   unfolding IsRule judgeOf entryIn given _>>=_ D.addToQuestion InText spanIn
-  line-rule (Rule a e) t p = (refl, go (eqb (g .chosen) 0) refl, t .0, t .1, t .2)
+  line-rule (Rule a e) t p = (refl, by-test (eqb (g .chosen) 0) refl, t .0, t .1, t .2)
     where
-      go : (b : Bool) → eqb (g .chosen) 0 ≡ b → 1 ≤ g .chosen
-      go true q = let z : _≡_ {A = ℕ} 3 1 = sym (rw q) ∙ p in absurd (omega arith)
-      go false q = let z = eqb-false (g .chosen) 0 q in omega arith
+      by-test : (b : Bool) → eqb (g .chosen) 0 ≡ b → 1 ≤ g .chosen
+      by-test true q = let z : _≡_ {A = ℕ} 3 1 = sym (rw q) ∙ p in absurd (omega arith)
+      by-test false q = let z = eqb-false (g .chosen) 0 q in omega arith
   line-rule (Rel a e k) t p = absurd (name-not-one s g (slice a e s) (in-place-one (isLate (g .types) (g .chosen) (g .rels)) _ p))
   line-rule (Typed a e) t p = absurd (type-not-one (typesOf s g) (slice a e s) (in-place-one (isLate 0 (g .chosen) (g .types)) _ p))
   line-rule (Choose a e k d x y z) t p = absurd (choose-not-one s g (slice a e s) (typesAt s x y z) (in-place-one (leb 4 (g .chosen)) _ p))
@@ -258,7 +258,7 @@ module _ (s : List ℕ) where
   question-by = refl
 
   unfoldable pub HeadAt : Signature → ℕ → Type 0
-  HeadAt g at = Sound s g × Roomy g × (D.readQuestion s ≡ (readAt D.addToQuestion s at (draftOf s g) >>= whole s))
+  HeadAt g at = SoundSignature s g × Roomy g × (D.readQuestion s ≡ (readAt D.addToQuestion s at (draftOf s g) >>= whole s))
 
   pub head-long : textLimit < length s → (g : Signature) (p : Span) (e : ℕ) → Headed s (record { fault = 1; place = 0; sig = g; span = p; next = e })
   unfolding Headed HeadBy _>>=_
@@ -274,7 +274,7 @@ module _ (s : List ℕ) where
   refused-by (suc k) y n p = p
 
   module _ (g : Signature) (at : ℕ) (h : HeadAt g at) where
-    pub head-sound : Sound s g
+    pub head-sound : SoundSignature s g
     unfolding HeadAt
     head-sound = h .0
 
@@ -282,12 +282,12 @@ module _ (s : List ℕ) where
     unfolding Headed HeadBy HeadAt whole draftOf given _>>=_
     head-missing z p e = h .2 ∙ ap (λ (r : Result D.Draft). r >>= whole s) (read-stop D.addToQuestion s at (draftOf s g) z)
 
-    module _ (next : ℕ) (x : Entry) (l : Reads s at next x) (t : InText s at x) (c : ℕ) (j : c ≡ judgeOf s g x) where
+    module _ (next : ℕ) (x : Entry) (line : (at < next) × (next ≤ length s) × Reads s at next x × InText s at x) (c : ℕ) (j : c ≡ judgeOf s g x) where
       head-reads : (r : Result D.Draft) → (given (entryIn s x) 2 at >>= D.addToQuestion (draftOf s g) at) ≡ r → D.readQuestion s ≡ ((r >>= readAt D.addToQuestion s next) >>= whole s)
       unfolding HeadAt
       head-reads r e =
           h .2
-          ∙ ap (λ (r : Result D.Draft). r >>= whole s) (read-next D.addToQuestion s at next (draftOf s g) x l ∙ ap (λ (r : Result D.Draft). r >>= readAt D.addToQuestion s next) e)
+          ∙ ap (λ (r : Result D.Draft). r >>= whole s) (read-next D.addToQuestion s at next (draftOf s g) x (line .2) ∙ ap (λ (r : Result D.Draft). r >>= readAt D.addToQuestion s next) e)
 
       head-line : (c ≡ 1 → ⊥) → (given (entryIn s x) 2 at >>= D.addToQuestion (draftOf s g) at) ≡ unless c at (accepted (draftOf s (grownBy s g x)))
       unfolding HeadAt
@@ -296,20 +296,20 @@ module _ (s : List ℕ) where
       pub head-next : c ≡ 0 → HeadAt (grownBy s g x) next
       unfolding HeadAt Grows _>>=_
       head-next z =
-          let v = line-grows s g at (h .0) (h .1) x t (sym j ∙ z) in
+          let v = line-grows s g at (h .0) (h .1) x (line .3) (sym j ∙ z) in
           (v .1, v .2, head-reads (accepted (draftOf s (grownBy s g x))) (head-line (λ q. omega arith) ∙ unless-good at c _ z))
 
       -- a good line leaves room for what it declares
       pub head-room : c ≡ 0 → Room g x
       unfolding HeadAt Grows
-      head-room z = line-grows s g at (h .0) (h .1) x t (sym j ∙ z) .0
+      head-room z = line-grows s g at (h .0) (h .1) x (line .3) (sym j ∙ z) .0
 
       pub head-bad : (c ≡ 0 → ⊥) → (c ≡ 1 → ⊥) → (p : Span) (e : ℕ) → Headed s (record { fault = c; place = at; sig = g; span = p; next = e })
       unfolding Headed _>>=_
       head-bad n m p e = refused-by c (record { fault = c; place = at; sig = g; span = p; next = e }) n (head-reads (refused c at) (head-line m ∙ unless-bad at c _ n))
 
-      pub head-rule : c ≡ 1 → next ≤ length s → (p : Span) → p ≡ spanIn x → Headed s (record { fault = 0; place = at; sig = g; span = p; next = next })
+      pub head-rule : c ≡ 1 → (p : Span) → p ≡ spanIn x → Headed s (record { fault = 0; place = at; sig = g; span = p; next = next })
       unfolding Headed HeadBy Reached HeadAt IsRule
-      head-rule z n p q =
-          let v = subst (λ (p : Span). IsRule s g at (h .0) (h .1) x p) (sym q) (line-rule s g at (h .0) (h .1) x t (sym j ∙ z)) in
-          (h .0, v .1, v .2, v .3, v .4, n, head-reads _ (v .0))
+      head-rule z p q =
+          let v = subst (λ (p : Span). IsRule s g at (h .0) (h .1) x p) (sym q) (line-rule s g at (h .0) (h .1) x (line .3) (sym j ∙ z)) in
+          (h .0, v .1, v .2, v .3, v .4, line .1, head-reads _ (v .0))

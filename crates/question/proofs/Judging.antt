@@ -20,7 +20,7 @@ use Rattle.laws.specs.Booleans.{or-both}
 use Rattle.text.specs.Spans.{placeOf}
 use Rattle.text.specs.declared.Found.{Found}
 use Rattle.text.specs.declared.Found.the-variants.{At, Nowhere}
-use Rattle.names.specs.Signatures.{typesIn, typesOf, allOf}
+use Rattle.names.specs.Signatures.{typesIn, typesOf, allOf, Lent}
 use Rattle.names.specs.declared.Signature.{Signature}
 use Rattle.names.proofs.Laws.{any-found, any-missed, position-some, found-some, found-none, length-names}
 use Rattle.records.specs.Entries.{typesAt}
@@ -29,7 +29,7 @@ use Rattle.records.specs.declared.Entry.the-variants.{Wrong, Rel, Typed, Choose
 use Rattle.records.proofs.Entry.{the-type}
 use Rattle.records.proofs.Made.{types-at}
 use Rattle.question.specs.declared.Sorts.{Sorts}
-use Rattle.question.specs.Drafts.{draftOf, isLate, nameFault, typeFault, chooseFault, judgeOf, Room, sortsIn, pushed, grownBy, spanIn, laterOf}
+use Rattle.question.specs.Drafts.{draftOf, isLate, nameFault, typeFault, chooseFault, judgeOf, Room, sortsIn, pushed, typed, grownBy, spanIn, laterOf}
 
 -- ---- too late
 
@@ -54,6 +54,10 @@ module _ (types chosen own : ℕ) where
       (eqb-true types 0 (not-false (eqb types 0) (d .0)), eqb-true chosen 0 (not-false (eqb chosen 0) (d .1)), leb-false 8 own (b .1))
 
 -- ---- names
+
+-- a signature lends its own arrays
+pub own-arrays : (g : Signature) → Lent g (g .from) (g .to) (g .rels + g .chosen)
+own-arrays g = record { from-is = refl; to-is = refl; count = refl }
 
 module _ (s : List ℕ) (g : Signature) (name : List ℕ) where
   pub name-malformed : isRelationName name ≡ false → 4 ≡ nameFault s g name
@@ -88,11 +92,11 @@ module _ (types : List (List ℕ)) (name : List ℕ) where
 -- a type has a sort above 0
 sorted : (types : List (List ℕ)) (name : List ℕ) → isType types name ≡ not (eqb (sortNamed types name) 0)
 unfolding isType sortNamed typeNumber option
-sorted types name = go (position (λ t. same t name) types) refl
+sorted types name = by-option (position (λ t. same t name) types) refl
   where
-    go : (o : Option ℕ) → position (λ t. same t name) types ≡ o → any (λ t. same t name) types ≡ not (eqb (option o zero suc) 0)
-    go none q = sym (any-missed (λ t. same t name) (λ t. same t name) (λ t. refl) types q)
-    go (some i) q = sym (any-found (λ t. same t name) (λ t. same t name) (λ t. refl) types i q) ∙ rw (ne-eqb (suc i) 0 (λ z. omega arith))
+    by-option : (o : Option ℕ) → position (λ t. same t name) types ≡ o → any (λ t. same t name) types ≡ not (eqb (option o zero suc) 0)
+    by-option none q = sym (any-missed (λ t. same t name) (λ t. same t name) (λ t. refl) types q)
+    by-option (some i) q = sym (any-found (λ t. same t name) (λ t. same t name) (λ t. refl) types i q) ∙ rw (ne-eqb (suc i) 0 (λ z. omega arith))
 
 module _ (q F T : List ℕ) (k : ℕ) (name : List ℕ) (f : Found) (w : f ≡ placeOf (typeNumber (typesIn q F T k) name)) where
   pub sort-found : (i : ℕ) → f ≡ At i → i + 1 ≡ sortNamed (typesIn q F T k) name
@@ -127,21 +131,21 @@ module _ (s : List ℕ) (g : Signature) (name : List ℕ) (t u v : ℕ) where
 
   pub choose-name : (r : ℕ) → r ≡ nameFault s g name → (r ≡ 0 → ⊥) → r ≡ chooseFault s g name (typesAt s t u v)
   unfolding nameFault chooseFault choose-test
-  choose-name r e h = go (D.isNewName (draftOf s g) name) e
+  choose-name r e h = by-test (D.isNewName (draftOf s g) name) e
     where
-      go : (b : Bool) → r ≡ (if not b then 4 else 0) → r ≡ choose-test b (all (isType (typesOf s g)) (typesAt s t u v))
-      go true q = absurd (h q)
-      go false q = q
+      by-test : (b : Bool) → r ≡ (if not b then 4 else 0) → r ≡ choose-test b (all (isType (typesOf s g)) (typesAt s t u v))
+      by-test true q = absurd (h q)
+      by-test false q = q
 
   -- a new name: its types decide
   module _ (new : 0 ≡ nameFault s g name) where
     by-types : (b : Bool) → all (isType (typesOf s g)) (typesAt s t u v) ≡ b → (if not b then 19 else 0) ≡ chooseFault s g name (typesAt s t u v)
     unfolding nameFault chooseFault choose-test
-    by-types b e = rw e (go (D.isNewName (draftOf s g) name) new)
+    by-types b e = rw e (by-test (D.isNewName (draftOf s g) name) new)
       where
-        go : (c : Bool) → _≡_ {A = ℕ} 0 (if not c then 4 else 0) → (if not b then 19 else 0) ≡ choose-test c b
-        go true q = refl
-        go false q = absurd (omega arith)
+        by-test : (c : Bool) → _≡_ {A = ℕ} 0 (if not c then 4 else 0) → (if not b then 19 else 0) ≡ choose-test c b
+        by-test true q = refl
+        by-test false q = absurd (omega arith)
 
     pub choose-untyped : v ≡ 0 → 0 ≡ chooseFault s g name (typesAt s t u v)
     unfolding typesAt all
@@ -203,23 +207,33 @@ module _ (s : List ℕ) (g : Signature) (x : Entry) where
 
 -- ---- the signature after a good line, and the room for it
 
-module _ (s : List ℕ) (g : Signature) (x : Entry) (room : Room g x) where
-  pub room-rel : (a e k : ℕ) → x ≡ Rel a e k → g .rels + g .chosen < 12
+module _ (g : Signature) {x : Entry} (room : Room g x) where
+  pub room-rel : {a e k : ℕ} → x ≡ Rel a e k → g .rels + g .chosen < 12
   unfolding Room
-  room-rel a e k p = subst (Room g) p room
+  room-rel p = subst (Room g) p room
 
-  pub room-type : (a e : ℕ) → x ≡ Typed a e → g .types < 8
+  pub room-type : {a e : ℕ} → x ≡ Typed a e → g .types < 8
   unfolding Room
-  room-type a e p = subst (Room g) p room
+  room-type p = subst (Room g) p room
 
-  module _ (a e k d t u v : ℕ) (p : x ≡ Choose a e k d t u v) where
-    pub room-choose : (g .rels + g .chosen < 12) × (g .types ≤ 8) × (0 < v → u < v)
-    unfolding Room
-    room-choose = subst (Room g) p room
+  pub room-choose : {a e k d t u v : ℕ} → x ≡ Choose a e k d t u v → (g .rels + g .chosen < 12) × (g .types ≤ 8) × (0 < v → u < v)
+  unfolding Room
+  room-choose p = subst (Room g) p room
 
-    pub grown-choose : (y : Sorts) (r : Signature) → y ≡ sortsIn (typesOf s g) (typesAt s t u v) → r ≡ pushed g (g .rels + g .chosen) a e k d y (g .rels) (g .chosen + 1) → r ≡ grownBy s g x
-    unfolding grownBy
-    grown-choose y r q w = w ∙ ap (λ (z : Sorts). pushed g (g .rels + g .chosen) a e k d z (g .rels) (g .chosen + 1)) q ∙ sym (ap (grownBy s g) p)
+module _ (s : List ℕ) (g : Signature) {x : Entry} where
+  pub grown-rel : {a e k : ℕ} → x ≡ Rel a e k
+      → pushed g (g .rels) a e k 0 (record { firsts = 0; seconds = 0 }) (g .rels + 1) (g .chosen) ≡ grownBy s g x
+  unfolding grownBy
+  grown-rel p = sym (ap (grownBy s g) p)
+
+  pub grown-type : {a e : ℕ} → x ≡ Typed a e → typed g a e ≡ grownBy s g x
+  unfolding grownBy
+  grown-type p = sym (ap (grownBy s g) p)
+
+  pub grown-choose : {a e k d t u v : ℕ} → x ≡ Choose a e k d t u v → {y : Sorts} → y ≡ sortsIn (typesOf s g) (typesAt s t u v)
+      → pushed g (g .rels + g .chosen) a e k d y (g .rels) (g .chosen + 1) ≡ grownBy s g x
+  unfolding grownBy
+  grown-choose {a} {e} {k} {d} p q = ap (λ (z : Sorts). pushed g (g .rels + g .chosen) a e k d z (g .rels) (g .chosen + 1)) q ∙ sym (ap (grownBy s g) p)
 
 -- ---- what is left of an enum when some of its variants, by their places, are ruled out
 

@@ -18,7 +18,7 @@ use Rattle.records.specs.Entries.{typesAt}
 use Rattle.records.specs.declared.Entry.{Entry}
 use Rattle.records.specs.declared.Entry.the-variants.{Wrong, Rel, Typed, Choose, Rule, Size, Label, Member, Fact, Pick, Step}
 use Rattle.names.specs.declared.Signature.{Signature}
-use Rattle.names.specs.Signatures.{relsOf, chosenOf, typesOf, allOf, Sound}
+use Rattle.names.specs.Signatures.{relsOf, chosenOf, typesOf, allOf, SoundSignature}
 use Rattle.formula.specs.Seen.{ruleNumber}
 use Rattle.question.specs.declared.Span.{Span}
 use Rattle.question.specs.declared.Sorts.{Sorts}
@@ -138,7 +138,7 @@ whole s d = given (d .ruled) 3 (length s) >>= λ r. accepted (record { rels = d 
 -- the rule's line was reached with a signature: what is left is the rule's own verdict, and the lines after it
 unfoldable pub Reached : List ℕ → Head → Type 0
 Reached s h =
-    Sound s (h .sig) × (1 ≤ h .sig .chosen) × (h .span .from ≡ h .place + 5) × (h .span .from ≤ h .span .to) × (h .span .to ≤ length s) × (h .next ≤ length s)
+    SoundSignature s (h .sig) × (1 ≤ h .sig .chosen) × (h .span .from ≡ h .place + 5) × (h .span .from ≤ h .span .to) × (h .span .to ≤ length s) × (h .next ≤ length s)
     × (D.readQuestion s ≡ ((D.addRule (draftOf s (h .sig)) (h .place) (slice (h .span .from) (h .span .to) s) >>= readAt D.addToQuestion s (h .next)) >>= whole s))
 
 unfoldable pub HeadBy : ℕ → List ℕ → Head → Type 0
@@ -173,7 +173,7 @@ refusedWith k place = record { fault = k; place = place; sig = noSignature; rule
 pub record Accepts (s : List ℕ) (q : D.Question) (r : Asked) : Type 0 where
   pub no-fault : r .fault ≡ 0
   pub no-place : r .place ≡ 0
-  pub sound : Sound s (r .sig)
+  pub sound : SoundSignature s (r .sig)
   pub some-chosen : 1 ≤ r .sig .chosen
   pub rels : q .rels ≡ relsOf s (r .sig)
   pub types : q .types ≡ typesOf s (r .sig)

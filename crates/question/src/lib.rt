@@ -7,7 +7,7 @@ ghost use Rattle.definitions.specs.Sheets.{readQuestion};
 ghost use Rattle.definitions.specs.Outcome.{rulePart};
 ghost use Rattle.definitions.specs.Formula.{sortNamed};
 ghost use Rattle.records.specs.Entries.{InText, typesAt};
-ghost use Rattle.names.specs.Signatures.{typesIn, typesOf, Sound, Lent};
+ghost use Rattle.names.specs.Signatures.{typesIn, typesOf, SoundSignature, Lent};
 ghost use Rattle.formula.specs.Seen.{verdictNumber};
 ghost use Rattle.question.specs.Drafts.{isLate, nameFault, typeFault, chooseFault, judgeOf, Room, sortsIn, pushed, typed, grownBy, spanIn, Headed, laterOf, noSignature, refusedWith, QuestionRead};
 use formula::Verdict;
@@ -146,7 +146,7 @@ fn sorts_of(s: &[u8], g: Signature, t: usize, u: usize, v: usize) -> Sorts
 
 // What a chosen relation gets in its place: 4 by its name, then 19 if a type that it gives is not declared.
 fn choose_fault(s: &[u8], g: Signature, a: usize, e: usize, t: usize, u: usize, v: usize) -> u32
-    requires { ⌜ Sound (now s) g × (a ≤ e) × (e ≤ length (now s)) × (0 < v → u < v) ⌝ }
+    requires { ⌜ SoundSignature (now s) g × (a ≤ e) × (e ≤ length (now s)) × (0 < v → u < v) ⌝ }
     ensures { λ r. ⌜ r ≡ chooseFault (now (s .entry)) g (slice a e (now (s .entry))) (typesAt (now (s .entry)) t u v) ⌝ }
 {
     let from = g.from;
@@ -170,7 +170,7 @@ fn choose_fault(s: &[u8], g: Signature, a: usize, e: usize, t: usize, u: usize, 
 
 // What a line before the rule gets: 0 for a good relation or type, 1 for the rule in its place, else the refusal's number.
 fn judge(s: &[u8], g: Signature, at: usize, x: Entry) -> u32
-    requires { ⌜ Sound (now s) g × InText (now s) at x ⌝ }
+    requires { ⌜ SoundSignature (now s) g × InText (now s) at x ⌝ }
     ensures { λ r. ⌜ r ≡ judgeOf (now (s .entry)) g x ⌝ }
 {
     match x {

@@ -66,23 +66,23 @@ module _ (w f steps picks state newState : List ℕ) (e : End) (runs : Runs w f 
 unfoldable pub rooms : ℕ → ℕ → Problem → Result (Unit {0})
 rooms picks state p = Outcome.roomFor (Outcome.picksLength p) picks >>= λ _. Outcome.roomFor (Outcome.stateLength p) state
 
-abbrev pub PicksRead : CaseLimits → (question site : List ℕ) (given : Outcome.Given) (picks state : List ℕ) → Reply → List ℕ → List ℕ → Type 0
+abbrev pub PicksRead : CaseLimits → (question site : List ℕ) (given : Outcome.ThirdInput) (picks state : List ℕ) → Reply → List ℕ → List ℕ → Type 0
 PicksRead L question site given picks state r newPicks newState =
     (resultOf r ≡ Outcome.picksFromSteps L question site given picks state .answer)
     × ((newPicks ≡ Outcome.picksFromSteps L question site given picks state .picks)
     × (newState ≡ Outcome.picksFromSteps L question site given picks state .state))
 
 -- what is answered to steps that are handed over, whatever texts were opened
-abbrev pub ReadsGiven : (f : Front) (facts table : List ℕ) (given : Outcome.Given) (picks state : List ℕ) → Reply → List ℕ → List ℕ → Type 0
+abbrev pub ReadsGiven : (f : Front) (facts table : List ℕ) (given : Outcome.ThirdInput) (picks state : List ℕ) → Reply → List ℕ → List ℕ → Type 0
 ReadsGiven f facts table given picks state r newPicks newState =
     ((L : CaseLimits) (question site : List ℕ) → Fronted L question site f facts table → f .fault ≡ 0 → PicksRead L question site given picks state r newPicks newState)
 
 -- the same to steps that were taken
 abbrev pub Reads : (f : Front) (facts table steps picks state : List ℕ) → Reply → List ℕ → List ℕ → Type 0
 Reads f facts table steps picks state r newPicks newState =
-    ((given : Outcome.Given) → Outcome.takeSteps given ≡ accepted steps → ReadsGiven f facts table given picks state r newPicks newState)
+    ((given : Outcome.ThirdInput) → Outcome.takeSteps given ≡ accepted steps → ReadsGiven f facts table given picks state r newPicks newState)
 
-module _ (given : Outcome.Given) (picks state : List ℕ) (f : Front) (facts table : List ℕ) (L : CaseLimits) (question site : List ℕ) (front : Fronted L question site f facts table) where
+module _ (given : Outcome.ThirdInput) (picks state : List ℕ) (f : Front) (facts table : List ℕ) (L : CaseLimits) (question site : List ℕ) (front : Fronted L question site f facts table) where
   abbrev call : Result (Outcome.Ready (List ℕ))
   call = Outcome.asked L question site (λ _. Outcome.takeSteps given) Outcome.nothing Outcome.nothing (rooms (length picks) (length state))
 

@@ -11,7 +11,7 @@ ghost use Rattle.bits.specs.Table.{bit};
 ghost use Rattle.decode.specs.Decoded.{Grounded};
 ghost use Rattle.initial.specs.Rows.{atomsIn};
 ghost use Rattle.sheets.specs.Reading.{FactsRoom, RoomFor};
-ghost use Rattle.asking.specs.Fronts.{Ready};
+ghost use Rattle.asking.specs.Fronts.{ReadyFront};
 ghost use Rattle.asking.specs.Replies.{resultOf};
 ghost use Rattle.picks.specs.Copies.{picksIn};
 ghost use Rattle.reading.specs.Reads.{ReadBy, Reads, ReadsGiven, PicksRead};
@@ -52,7 +52,7 @@ fn read_steps(
     picks: &mut [u64],
     state: &mut [u64],
 ) -> Reply
-    requires { ⌜ ((q : List ℕ) × Ready q f (now facts) (now table)) ⌝ }
+    requires { ⌜ ((q : List ℕ) × ReadyFront q f (now facts) (now table)) ⌝ }
     ensures { λ r. ⌜ Reads f (now (facts .entry)) (now (table .entry)) (now (steps .entry)) (now (picks .entry)) (now (state .entry)) r (now (picks .exit)) (now (state .exit)) ⌝ }
 {
     let m = f.m;
@@ -80,7 +80,7 @@ fn read_listed(
     picks: &mut [u64],
     state: &mut [u64],
 ) -> Reply
-    requires { ⌜ ((q : List ℕ) × Ready q f (now facts) (now table)) ⌝ }
+    requires { ⌜ ((q : List ℕ) × ReadyFront q f (now facts) (now table)) ⌝ }
     requires { ⌜ RoomFor (now steps) (length (now list)) ⌝ }
     ensures { λ r. ⌜ ReadsGiven f (now (facts .entry)) (now (table .entry)) (asText (now (steps .entry))) (now (picks .entry)) (now (state .entry)) r (now (picks .exit)) (now (state .exit)) ⌝ }
 {

@@ -1,5 +1,5 @@
 -- A step line by its first five bytes, its digits and its end.
-use Prim.Native.Nat.{ℕ, zero, suc, _+_, _-_, _≤_, _<_}
+use Prim.Native.Nat.{ℕ, zero, suc, _+_, _≤_, _<_}
 use mathlib.Core.Path.{_≡_, refl, sym, ap, subst, _∙_}
 use mathlib.Core.Bool.{Bool, true, false, _&&_}
 use mathlib.Core.List.{List, [], _∷_, _++_}
@@ -12,7 +12,7 @@ use borrow.Author.Tests.{leb-true}
 use Rattle.definitions.specs.Lists.{if_then_else_, all, same, option}
 use Rattle.definitions.specs.Text.{split, onFirst, isBetween, isDigit, noLeadingZero, decimalValue, number}
 use Rattle.definitions.specs.Sheets as S
-use Rattle.laws.specs.Booleans.{T-of}
+use Rattle.laws.specs.Booleans.{T-of, and-both}
 use Rattle.laws.specs.Tuples.{same-eq}
 use Rattle.text.specs.Spans.{indexOf, numOf}
 use Rattle.text.specs.declared.Num.{Num}
@@ -34,16 +34,12 @@ digits-only : (t : List ℕ) (k : ℕ) → number t ≡ some k → all isDigit t
 unfolding number
 digits-only t k p = first-two (all isDigit t) (noLeadingZero t) (leb (length t) 7) (decimalValue zero t) k p
 
-both : (a b : Bool) → (a && b) ≡ true → (a ≡ true) × (b ≡ true)
-both true b p = (refl, p)
-both false b p = let z : _≡_ {A = ℕ} 0 1 = cc in absurd (omega arith)
-
 no-tab : (t : List ℕ) → all isDigit t ≡ true → indexOf 9 t ≡ length t
 unfolding all isDigit isBetween indexOf
 no-tab [] p = refl
 no-tab (c ∷ t) p =
-    let q = both (isDigit c) (all isDigit t) p in
-    let l = leb-true 48 c (both (leb 48 c) (leb c 57) (q .0) .0) in
+    let q = and-both (isDigit c) (all isDigit t) p in
+    let l = leb-true 48 c (and-both (leb 48 c) (leb c 57) (q .0) .0) in
     indexOf-miss 9 c t (λ z. omega arith) ∙ ap suc (no-tab t (q .1))
 
 pub one-number : (t : List ℕ) (k : ℕ) → number t ≡ some k → S.withOne stepOf (split 9 t) ≡ some (S.step k)

@@ -1,5 +1,5 @@
 -- Laws of fields and entries.
-use Prim.Native.Nat.{ℕ, zero, suc, _+_, _-_, _≤_, _<_}
+use Prim.Native.Nat.{ℕ, zero, suc, _+_, _≤_, _<_}
 use mathlib.Core.Path.{_≡_, refl, sym, ap, subst, _∙_}
 use mathlib.Core.Bool.{Bool, true, false}
 use mathlib.Core.List.{List, [], _∷_}
@@ -285,7 +285,10 @@ module _ (w : List ℕ) where
   unfolding Says made S.entry same relOf typeOf ruleOf sizeOf stepOf
   says-step e = says-as w (115 ∷ 116 ∷ 101 ∷ 112 ∷ []) 10 e (λ fs. refl, λ p. absurd (omega arith))
 
-  pub says-none : same w (102 ∷ 97 ∷ 99 ∷ 116 ∷ []) ≡ false → same w (112 ∷ 105 ∷ 99 ∷ 107 ∷ []) ≡ false → same w (114 ∷ 101 ∷ 108 ∷ []) ≡ false → same w (116 ∷ 121 ∷ 112 ∷ 101 ∷ []) ≡ false → same w (99 ∷ 104 ∷ 111 ∷ 111 ∷ 115 ∷ 101 ∷ []) ≡ false → same w (114 ∷ 117 ∷ 108 ∷ 101 ∷ []) ≡ false → same w (115 ∷ 105 ∷ 122 ∷ 101 ∷ []) ≡ false → same w (108 ∷ 97 ∷ 98 ∷ 101 ∷ 108 ∷ []) ≡ false → same w (109 ∷ 101 ∷ 109 ∷ 98 ∷ 101 ∷ 114 ∷ []) ≡ false → same w (115 ∷ 116 ∷ 101 ∷ 112 ∷ []) ≡ false → Says w 0
+  pub says-none : same w (102 ∷ 97 ∷ 99 ∷ 116 ∷ []) ≡ false → same w (112 ∷ 105 ∷ 99 ∷ 107 ∷ []) ≡ false → same w (114 ∷ 101 ∷ 108 ∷ []) ≡ false
+      → same w (116 ∷ 121 ∷ 112 ∷ 101 ∷ []) ≡ false → same w (99 ∷ 104 ∷ 111 ∷ 111 ∷ 115 ∷ 101 ∷ []) ≡ false → same w (114 ∷ 117 ∷ 108 ∷ 101 ∷ [])
+      ≡ false → same w (115 ∷ 105 ∷ 122 ∷ 101 ∷ []) ≡ false → same w (108 ∷ 97 ∷ 98 ∷ 101 ∷ 108 ∷ []) ≡ false
+      → same w (109 ∷ 101 ∷ 109 ∷ 98 ∷ 101 ∷ 114 ∷ []) ≡ false → same w (115 ∷ 116 ∷ 101 ∷ 112 ∷ []) ≡ false → Says w 0
   unfolding Says made S.entry
   says-none n-fact n-pick n-rel n-type n-choose n-rule n-size n-label n-member n-step = (λ fs. rw (n-rel, n-type, n-choose, n-rule, n-size, n-label, n-member, n-fact, n-pick, n-step), λ p. absurd (omega arith))
 
@@ -296,7 +299,16 @@ none-either false x y p q = q
 
 alone : (w : List ℕ) → S.entry (w ∷ []) ≡ none
 unfolding S.entry S.withOne S.withTwo S.chooseOf S.withElements
-alone w = none-either (same w (114 ∷ 101 ∷ 108 ∷ [])) none _ refl (none-either (same w (116 ∷ 121 ∷ 112 ∷ 101 ∷ [])) none _ refl (none-either (same w (99 ∷ 104 ∷ 111 ∷ 111 ∷ 115 ∷ 101 ∷ [])) none _ refl (none-either (same w (114 ∷ 117 ∷ 108 ∷ 101 ∷ [])) none _ refl (none-either (same w (115 ∷ 105 ∷ 122 ∷ 101 ∷ [])) none _ refl (none-either (same w (108 ∷ 97 ∷ 98 ∷ 101 ∷ 108 ∷ [])) none _ refl (none-either (same w (109 ∷ 101 ∷ 109 ∷ 98 ∷ 101 ∷ 114 ∷ [])) none _ refl (none-either (same w (102 ∷ 97 ∷ 99 ∷ 116 ∷ [])) none _ refl (none-either (same w (112 ∷ 105 ∷ 99 ∷ 107 ∷ [])) none _ refl (none-either (same w (115 ∷ 116 ∷ 101 ∷ 112 ∷ [])) none _ refl refl)))))))))
+alone w =
+    none-either (same w (114 ∷ 101 ∷ 108 ∷ [])) none _ refl
+    (none-either (same w (116 ∷ 121 ∷ 112 ∷ 101 ∷ [])) none _ refl
+    (none-either (same w (99 ∷ 104 ∷ 111 ∷ 111 ∷ 115 ∷ 101 ∷ [])) none _ refl
+    (none-either (same w (114 ∷ 117 ∷ 108 ∷ 101 ∷ [])) none _ refl
+    (none-either (same w (115 ∷ 105 ∷ 122 ∷ 101 ∷ [])) none _ refl
+    (none-either (same w (108 ∷ 97 ∷ 98 ∷ 101 ∷ 108 ∷ [])) none _ refl
+    (none-either (same w (109 ∷ 101 ∷ 109 ∷ 98 ∷ 101 ∷ 114 ∷ [])) none _ refl
+    (none-either (same w (102 ∷ 97 ∷ 99 ∷ 116 ∷ [])) none _ refl
+    (none-either (same w (112 ∷ 105 ∷ 99 ∷ 107 ∷ [])) none _ refl (none-either (same w (115 ∷ 116 ∷ 101 ∷ 112 ∷ [])) none _ refl refl)))))))))
 
 module _ (s : List ℕ) (a e : ℕ) (h : a ≤ e) (k : e ≤ length s) (t : ℕ) (q : t ≡ a + indexOf 9 (slice a e s)) where
   pub record-alone : t ≡ e → entryIn s Wrong ≡ S.entry (split 9 (slice a e s))
@@ -349,22 +361,24 @@ module _ (f : List ℕ) where
   -- the number tells the element
   pub element-by : S.element f ≡ option (codeOf f) none (λ k. some (elementBy f k))
   unfolding S.element codeOf option elementBy
-  element-by = go (number f) refl (isRelationName f)
+  element-by = by-option (number f) refl (isRelationName f)
     where
-      go : (o : Option ℕ) → number f ≡ o → (b : Bool) → option o (if b then some (S.named f) else none) (λ x. some (S.numbered x)) ≡ option (option o (if b then some 10000000 else none) some) none (λ k. some (if eqb k 10000000 then S.named f else S.numbered k))
-      go (some k) q b = rw (ne-eqb k 10000000 (λ z. omega (arith, decimal-number f k q .1)))
-      go none q true = refl
-      go none q false = refl
+      by-option : (o : Option ℕ) → number f ≡ o → (b : Bool) → option o (if b then some (S.named f) else none) (λ x. some (S.numbered x)) ≡ option (option o (if b then some 10000000 else none) some) none (λ k. some (if eqb k 10000000 then S.named f else S.numbered k))
+      by-option (some k) q b = rw (ne-eqb k 10000000 (λ z. omega (arith, decimal-number f k q .1)))
+      by-option none q true = refl
+      by-option none q false = refl
 
 pub elements-by : (fs : List (List ℕ)) → S.elements fs ≡ option (codesIn fs) none (λ ks. some (elementsBy fs ks))
 unfolding S.elements codesIn elementsBy option
 elements-by [] = refl
-elements-by (f ∷ fs) = rw (element-by f, elements-by fs) (go (codeOf f) (codesIn fs))
+elements-by (f ∷ fs) = rw (element-by f, elements-by fs) (by-option (codeOf f) (codesIn fs))
   where
-    go : (o : Option ℕ) (p : Option (List ℕ)) → option (option o none (λ k. some (elementBy f k))) none (λ x. option (option p none (λ ks. some (elementsBy fs ks))) none (λ xs. some (x ∷ xs))) ≡ option (option o none (λ k. option p none (λ ks. some (k ∷ ks)))) none (λ ks. some (elementsBy (f ∷ fs) ks))
-    go none p = refl
-    go (some k) none = refl
-    go (some k) (some ks) = refl
+    by-option : (o : Option ℕ) (p : Option (List ℕ)) → option (option o none (λ k. some (elementBy f k))) none
+        (λ x. option (option p none (λ ks. some (elementsBy fs ks))) none (λ xs. some (x ∷ xs)))
+        ≡ option (option o none (λ k. option p none (λ ks. some (k ∷ ks)))) none (λ ks. some (elementsBy (f ∷ fs) ks))
+    by-option none p = refl
+    by-option (some k) none = refl
+    by-option (some k) (some ks) = refl
 
 codes-count : (fs : List (List ℕ)) (ks : List ℕ) → codesIn fs ≡ some ks → length fs ≡ length ks
 unfolding codesIn
@@ -376,11 +390,11 @@ codes-count (f ∷ fs) ks q =
 
 upTo-count : (m : ℕ) (fs : List (List ℕ)) (ks : List ℕ) → upTo m fs ≡ some ks → length fs ≡ length ks
 unfolding upTo
-upTo-count m fs ks q = go (isBetween 1 m (length fs)) q
+upTo-count m fs ks q = by-test (isBetween 1 m (length fs)) q
   where
-    go : (b : Bool) → (if b then codesIn fs else none) ≡ some ks → length fs ≡ length ks
-    go true p = codes-count fs ks p
-    go false p = absurd (none-some p)
+    by-test : (b : Bool) → (if b then codesIn fs else none) ≡ some ks → length fs ≡ length ks
+    by-test true p = codes-count fs ks p
+    by-test false p = absurd (none-some p)
 
 -- ---- elements
 
@@ -431,11 +445,11 @@ module _ (s : List ℕ) (a e : ℕ) (h : a ≤ e) (k : e ≤ length s) (t : ℕ)
   first-whole l = let z : t ≡ e = omega (arith, end-within 9 a e s h k) in pieces-whole 9 a e s h k t q l ∙ rw z
 
   pub places-bad : (m : ℕ) → codeOf (slice a t s) ≡ none → upTo m (split 9 (slice a e s)) ≡ none
-  places-bad m p = go (decLt t e)
+  places-bad m p = from-this (decLt t e)
     where
-      go : Dec (t < e) → upTo m (split 9 (slice a e s)) ≡ none
-      go (yes l) = ap (upTo m) (pieces-at 9 a e s h k t q l) ∙ upTo-bad m (slice a t s) (split 9 (slice (t + 1) e s)) p
-      go (no l) = ap (upTo m) (first-whole (omega arith)) ∙ upTo-bad m (slice a t s) [] p
+      from-this : Dec (t < e) → upTo m (split 9 (slice a e s)) ≡ none
+      from-this (yes l) = ap (upTo m) (pieces-at 9 a e s h k t q l) ∙ upTo-bad m (slice a t s) (split 9 (slice (t + 1) e s)) p
+      from-this (no l) = ap (upTo m) (first-whole (omega arith)) ∙ upTo-bad m (slice a t s) [] p
 
   pub places-last : (m x : ℕ) → codeOf (slice a t s) ≡ some x → e ≤ t → upTo (suc m) (split 9 (slice a e s)) ≡ some (x ∷ [])
   places-last m x p l = ap (upTo (suc m)) (first-whole l) ∙ upTo-last m (slice a t s) x p
@@ -485,12 +499,12 @@ module _ (make : List ℕ → List S.Element → S.Entry) where
 
   with-some : (f : List ℕ) (fs : List (List ℕ)) → S.withElements make (f ∷ fs) ≡ option (upTo 3 fs) none (λ ks. some (make f (elementsBy fs ks)))
   unfolding S.withElements upTo option
-  with-some f fs = rw (elements-by fs) (go (isBetween 1 3 (length fs)) (codesIn fs))
+  with-some f fs = rw (elements-by fs) (by-test (isBetween 1 3 (length fs)) (codesIn fs))
     where
-      go : (b : Bool) (o : Option (List ℕ)) → (if b then option (option o none (λ ks. some (elementsBy fs ks))) none (λ xs. some (make f xs)) else none) ≡ option (if b then o else none) none (λ ks. some (make f (elementsBy fs ks)))
-      go true none = refl
-      go true (some ks) = refl
-      go false o = refl
+      by-test : (b : Bool) (o : Option (List ℕ)) → (if b then option (option o none (λ ks. some (elementsBy fs ks))) none (λ xs. some (make f xs)) else none) ≡ option (if b then o else none) none (λ ks. some (make f (elementsBy fs ks)))
+      by-test true none = refl
+      by-test true (some ks) = refl
+      by-test false o = refl
 
 codes-some : (p : Places) → (p ≡ Unread → ⊥) → codes p ≡ some (codesOf p)
 unfolding codes codesOf

@@ -3,3 +3,4 @@ pub mod Fields
 pub mod Made
 pub mod Runs
 pub mod Digits
+mod Tabs

@@ -17,7 +17,7 @@ use Rattle.definitions.specs.Truth.{Case}
 use Rattle.definitions.specs.Atoms.{Problem, relationAt, tuplesOf, placesOf, bitsFrom}
 use Rattle.definitions.specs.Strips.{run, picksOf, reachesGoal}
 use Rattle.definitions.specs.Built.{isPicked, chosenNumbers}
-use Rattle.definitions.specs.Outcome.{Given, asNumbers, takeSteps, CaseRead, readFiled, readCase, ground, readProblem, nothing, roomFor, picksLength, relationWords, pickWords, written, stateLength, Ready, readyToRun, checkedFrom, checkSteps, picksIfAccepted, picksReadFrom, picksFromSteps}
+use Rattle.definitions.specs.Outcome.{ThirdInput, asNumbers, takeSteps, CaseRead, readFiled, readCase, ground, readProblem, nothing, roomFor, picksLength, relationWords, pickWords, written, stateLength, Ready, readyToRun, checkedFrom, checkSteps, picksIfAccepted, picksReadFrom, picksFromSteps}
 use Rattle.definitions.specs.Demand.{isAccepted, caseIsAccepted, areSamePicks}
 use Rattle.laws.specs.Booleans.{T-of, T-true, T-ext, T-and-l, T-and-r}
 use Rattle.laws.specs.Lists.{all-at}
@@ -40,7 +40,7 @@ run-tells p steps k e =
     let g = sym (run-accepts p steps) ∙ is-accepted (run p steps .answer) k e in
     (g, accepted-eq k (length steps) (sym e ∙ run-count p steps (T-of g)))
 
-module _ (L : CaseLimits) (question site : List ℕ) (given : Given) where
+module _ (L : CaseLimits) (question site : List ℕ) (given : ThirdInput) where
   abbrev steps-of : CaseRead → Result (List ℕ)
   steps-of c = takeSteps given
 
@@ -143,9 +143,6 @@ module _ (L : CaseLimits) (question site : List ℕ) where
           let (labels, f) = Asked.case-filed L question site c q in
           rw (Asked.limits-refused L question site no-steps nothing nothing rooms (record { case = c; labels = labels }) f [] (lent-steps [] (omega arith)) (Asked.untested c) k place r) refl
 
-  sheets-only : (k place : ℕ) → readProblem L question site ≡ refused k place → In caseNumbers k
-  sheets-only k place e = problem-refuse L question site k place e
-
   pub accepted-checks : (caseIsAccepted L question site ≡ true) ↔ Late
   unfolding caseIsAccepted isAccepted
   accepted-checks = (
@@ -154,5 +151,5 @@ module _ (L : CaseLimits) (question site : List ℕ) where
   )
     where
       by-problem : Late → (x : Result Problem) → readProblem L question site ≡ x → isAccepted x ≡ true
-      by-problem h (refused k place) e = absurd (T-of (sym (h [] k place (refused-if k place e)) ∙ sheets-only k place e))
+      by-problem h (refused k place) e = absurd (T-of (sym (h [] k place (refused-if k place e)) ∙ problem-refuse L question site k place e))
       by-problem h (accepted p) e = refl

@@ -41,11 +41,11 @@ module _ (p : Problem) where
 
   step-set : (k : ℕ) (t : Tuple) → List·Memᴰ t (at-step k) → (r : ℕ) × (row : ℕ) × (actionAt p k ≡ some (set r row)) × (t ≡ tupleAt p r row)
   unfolding option
-  step-set k t m = go (actionAt p k) m
+  step-set k t m = by-option (actionAt p k) m
     where
-      go : (o : Option Action) → List·Memᴰ t (option o [] (pickOf p)) → (r : ℕ) × (row : ℕ) × (o ≡ some (set r row)) × (t ≡ tupleAt p r row)
-      go none m = absurd (List·Memᴰ·not-nil m)
-      go (some a) m = let (r, row, e, f) = pick-set a t m in (r, row, ap some e, f)
+      by-option : (o : Option Action) → List·Memᴰ t (option o [] (pickOf p)) → (r : ℕ) × (row : ℕ) × (o ≡ some (set r row)) × (t ≡ tupleAt p r row)
+      by-option none m = absurd (List·Memᴰ·not-nil m)
+      by-option (some a) m = let (r, row, e, f) = pick-set a t m in (r, row, ap some e, f)
 
   set-step : (k r row : ℕ) → actionAt p k ≡ some (set r row) → List·Memᴰ (tupleAt p r row) (at-step k)
   unfolding option pickOf

@@ -1,5 +1,5 @@
 -- Lent buffers, for whatever is handed over: they keep their length, and a refusal leaves them alone unless steps were run.
-use Prim.Native.Nat.{ℕ, _-_, _≤_}
+use Prim.Native.Nat.{ℕ, _≤_}
 use mathlib.Core.Path.{_≡_, refl, sym, ap, subst}
 use mathlib.Core.Bool.{true, not}
 use mathlib.Core.List.{List, []}
@@ -14,7 +14,7 @@ use Rattle.definitions.specs.Relations.{Tuple}
 use Rattle.definitions.specs.Atoms.{Problem, problemOf, stateWords}
 use Rattle.definitions.specs.Strips.{run, picksOf}
 use Rattle.definitions.specs.Built.{builtSteps, bound}
-use Rattle.definitions.specs.Outcome.{CaseRead, readFiled, nothing, roomFor, stateLength, picksLength, written, pickWords, Given, takeSteps, Ready, readyToRun, checkedFrom, checkSteps, picksIfAccepted, picksReadFrom, picksFromSteps, Plan, plan, builtFrom, buildSteps}
+use Rattle.definitions.specs.Outcome.{CaseRead, readFiled, nothing, roomFor, stateLength, picksLength, written, pickWords, ThirdInput, takeSteps, Ready, readyToRun, checkedFrom, checkSteps, picksIfAccepted, picksReadFrom, picksFromSteps, Plan, plan, builtFrom, buildSteps}
 use Rattle.definitions.specs.Truth.{areOfKinds}
 use Rattle.laws.specs.Results.{bind-parts, not-refused, refused-accepted}
 use Rattle.laws.specs.Words.{state-length}
@@ -43,32 +43,32 @@ run-or-ready k h e = T-not (isIn k readyNumbers) (all-at (λ j. not (isIn j read
 
 module _ (L : CaseLimits) (question site : List ℕ) where
   -- ---- checking
-  ready-room : (given : Given) (rooms : Problem → Result (Unit {0})) (r : Ready (List ℕ)) → readyToRun L question site given rooms ≡ accepted r → rooms (r .problem) ≡ accepted tt
+  ready-room : (given : ThirdInput) (rooms : Problem → Result (Unit {0})) (r : Ready (List ℕ)) → readyToRun L question site given rooms ≡ accepted r → rooms (r .problem) ≡ accepted tt
   unfolding readyToRun
   ready-room given rooms r e = Asked.parts L question site (λ _. takeSteps given) nothing nothing rooms r e .has-room
 
-  module _ (given : Given) (state : List ℕ) where
+  module _ (given : ThirdInput) (state : List ℕ) where
     abbrev ready : Result (Ready (List ℕ))
     ready = readyToRun L question site given (λ p. roomFor (stateLength p) (length state))
 
     pub check-length : length (checkSteps L question site given state .state) ≡ length state
     unfolding checkSteps checkedFrom
-    check-length = go ready (λ r e. has-room (stateLength (r .problem)) (length state) tt (ready-room given (λ p. roomFor (stateLength p) (length state)) r e))
+    check-length = from-this ready (λ r e. has-room (stateLength (r .problem)) (length state) tt (ready-room given (λ p. roomFor (stateLength p) (length state)) r e))
       where
-        go : (m : Result (Ready (List ℕ))) → ((r : Ready (List ℕ)) → m ≡ accepted r → stateLength (r .problem) ≤ length state) → length (checkedFrom m state .state) ≡ length state
-        go (refused k place) h = refl
-        go (accepted r) h = let l = state-length (r .problem) (run (r .problem) (r .third) .state) in let q = h r refl in written-length (stateWords (r .problem) (run (r .problem) (r .third) .state)) state (omega arith)
+        from-this : (m : Result (Ready (List ℕ))) → ((r : Ready (List ℕ)) → m ≡ accepted r → stateLength (r .problem) ≤ length state) → length (checkedFrom m state .state) ≡ length state
+        from-this (refused k place) h = refl
+        from-this (accepted r) h = let l = state-length (r .problem) (run (r .problem) (r .third) .state) in let q = h r refl in written-length (stateWords (r .problem) (run (r .problem) (r .third) .state)) state (omega arith)
 
     pub check-leaves : (k place : ℕ) → checkSteps L question site given state .answer ≡ refused k place → In readyNumbers k → checkSteps L question site given state .state ≡ state
     unfolding checkSteps checkedFrom
-    check-leaves k place e h = go ready e
+    check-leaves k place e h = from-this ready e
       where
-        go : (m : Result (Ready (List ℕ))) → checkedFrom m state .answer ≡ refused k place → checkedFrom m state .state ≡ state
-        go (refused j at) e = refl
-        go (accepted r) e = absurd (run-or-ready k (run-refuses (r .problem) (r .third) k place e) h)
+        from-this : (m : Result (Ready (List ℕ))) → checkedFrom m state .answer ≡ refused k place → checkedFrom m state .state ≡ state
+        from-this (refused j at) e = refl
+        from-this (accepted r) e = absurd (run-or-ready k (run-refuses (r .problem) (r .third) k place e) h)
 
   -- ---- reading picks
-  module _ (given : Given) (picks state : List ℕ) where
+  module _ (given : ThirdInput) (picks state : List ℕ) where
     abbrev rooms : Problem → Result (Unit {0})
     rooms p = roomFor (picksLength p) (length picks) >>= λ _. roomFor (stateLength p) (length state)
 
@@ -77,42 +77,44 @@ module _ (L : CaseLimits) (question site : List ℕ) where
 
     pub read-length : (length (picksFromSteps L question site given picks state .picks) ≡ length picks) × (length (picksFromSteps L question site given picks state .state) ≡ length state)
     unfolding picksFromSteps picksReadFrom picksIfAccepted
-    read-length = go (readyToRun L question site given rooms) (λ r e. rooms-both (r .problem) (ready-room given rooms r e))
+    read-length = from-this (readyToRun L question site given rooms) (λ r e. rooms-both (r .problem) (ready-room given rooms r e))
       where
         taken : (r : Ready (List ℕ)) (m : Result ℕ) → picksLength (r .problem) ≤ length picks → length (picksIfAccepted m (pickWords (r .problem) (picksOf (r .problem) (r .third))) picks) ≡ length picks
         taken r (refused k place) h = refl
         taken r (accepted n) h = let (l, a, b) = pick-words (r .problem) (picksOf (r .problem) (r .third)) [] in written-length (pickWords (r .problem) (picksOf (r .problem) (r .third))) picks (omega arith)
 
-        go : (m : Result (Ready (List ℕ))) → ((r : Ready (List ℕ)) → m ≡ accepted r → (picksLength (r .problem) ≤ length picks) × (stateLength (r .problem) ≤ length state)) → (length (picksReadFrom m picks state .picks) ≡ length picks) × (length (picksReadFrom m picks state .state) ≡ length state)
-        go (refused k place) h = (refl, refl)
-        go (accepted r) h = let l = state-length (r .problem) (run (r .problem) (r .third) .state) in let q = h r refl in
+        from-this : (m : Result (Ready (List ℕ))) → ((r : Ready (List ℕ)) → m ≡ accepted r → (picksLength (r .problem) ≤ length picks)
+            × (stateLength (r .problem) ≤ length state)) → (length (picksReadFrom m picks state .picks) ≡ length picks)
+            × (length (picksReadFrom m picks state .state) ≡ length state)
+        from-this (refused k place) h = (refl, refl)
+        from-this (accepted r) h = let l = state-length (r .problem) (run (r .problem) (r .third) .state) in let q = h r refl in
             (taken r (run (r .problem) (r .third) .answer) (q .0), written-length (stateWords (r .problem) (run (r .problem) (r .third) .state)) state (omega (arith, q .1)))
 
     pub read-leaves : (k place : ℕ) → picksFromSteps L question site given picks state .answer ≡ refused k place → (picksFromSteps L question site given picks state .picks ≡ picks) × (In readyNumbers k → picksFromSteps L question site given picks state .state ≡ state)
     unfolding picksFromSteps picksReadFrom picksIfAccepted
-    read-leaves k place e = go (readyToRun L question site given rooms) e
+    read-leaves k place e = from-this (readyToRun L question site given rooms) e
       where
         kept : (new : List ℕ) (m : Result ℕ) → m ≡ refused k place → picksIfAccepted m new picks ≡ picks
         kept new (refused j at) e = refl
         kept new (accepted n) e = absurd (refused-accepted (sym e))
 
-        go : (m : Result (Ready (List ℕ))) → picksReadFrom m picks state .answer ≡ refused k place → (picksReadFrom m picks state .picks ≡ picks) × (In readyNumbers k → picksReadFrom m picks state .state ≡ state)
-        go (refused j at) e = (refl, λ h. refl)
-        go (accepted r) e = (kept (pickWords (r .problem) (picksOf (r .problem) (r .third))) (run (r .problem) (r .third) .answer) e, λ h. absurd (run-or-ready k (run-refuses (r .problem) (r .third) k place e) h))
+        from-this : (m : Result (Ready (List ℕ))) → picksReadFrom m picks state .answer ≡ refused k place → (picksReadFrom m picks state .picks ≡ picks) × (In readyNumbers k → picksReadFrom m picks state .state ≡ state)
+        from-this (refused j at) e = (refl, λ h. refl)
+        from-this (accepted r) e = (kept (pickWords (r .problem) (picksOf (r .problem) (r .third))) (run (r .problem) (r .third) .answer) e, λ h. absurd (run-or-ready k (run-refuses (r .problem) (r .third) k place e) h))
 
   -- ---- building
-  module _ (given : Given) (state steps : List ℕ) where
+  module _ (given : ThirdInput) (state steps : List ℕ) where
     pub build-leaves : (k place : ℕ) → buildSteps L question site given state steps .answer ≡ refused k place → (buildSteps L question site given state steps .state ≡ state) × (buildSteps L question site given state steps .steps ≡ steps)
     unfolding buildSteps builtFrom
-    build-leaves k place e = go (plan L question site given (length state) (length steps)) e
+    build-leaves k place e = by-result (plan L question site given (length state) (length steps)) e
       where
-        go : (m : Result Plan) → builtFrom m state steps .answer ≡ refused k place → (builtFrom m state steps .state ≡ state) × (builtFrom m state steps .steps ≡ steps)
-        go (refused j at) e = (refl, refl)
-        go (accepted b) e = absurd (refused-accepted (sym e))
+        by-result : (m : Result Plan) → builtFrom m state steps .answer ≡ refused k place → (builtFrom m state steps .state ≡ state) × (builtFrom m state steps .steps ≡ steps)
+        by-result (refused j at) e = (refl, refl)
+        by-result (accepted b) e = absurd (refused-accepted (sym e))
 
     pub build-length : L .elements ≤ 64 → (length (buildSteps L question site given state steps .state) ≡ length state) × (length (buildSteps L question site given state steps .steps) ≡ length steps)
     unfolding buildSteps builtFrom
-    build-length small = go (plan L question site given (length state) (length steps)) (λ b e. room b e)
+    build-length small = by-result (plan L question site given (length state) (length steps)) (λ b e. room b e)
       where
         few : (r : CaseRead) (p : Problem) (F : List Tuple) → FiledFits r → p ≡ problemOf (r .case) → picksGiven (r .case) (r .labels) p given ≡ accepted F → areOfKinds (r .case) F ≡ true → length (builtSteps p F) ≤ bound p
         few r p F A e t k = subst (λ (q : Problem). length (builtSteps q F) ≤ bound q) (sym e)
@@ -126,7 +128,7 @@ module _ (L : CaseLimits) (question site : List ℕ) where
             let l : length (b .steps) ≡ length (builtSteps (b .problem) (b .picks)) = ap length (t .steps) in
             (t .state-room, omega (arith, t .steps-room))
 
-        go : (m : Result Plan) → ((b : Plan) → m ≡ accepted b → (stateLength (b .problem) ≤ length state) × (length (b .steps) ≤ length steps)) → (length (builtFrom m state steps .state) ≡ length state) × (length (builtFrom m state steps .steps) ≡ length steps)
-        go (refused k place) h = (refl, refl)
-        go (accepted b) h = let l = state-length (b .problem) (run (b .problem) (b .steps) .state) in let q = h b refl in
+        by-result : (m : Result Plan) → ((b : Plan) → m ≡ accepted b → (stateLength (b .problem) ≤ length state) × (length (b .steps) ≤ length steps)) → (length (builtFrom m state steps .state) ≡ length state) × (length (builtFrom m state steps .steps) ≡ length steps)
+        by-result (refused k place) h = (refl, refl)
+        by-result (accepted b) h = let l = state-length (b .problem) (run (b .problem) (b .steps) .state) in let q = h b refl in
             (written-length (stateWords (b .problem) (run (b .problem) (b .steps) .state)) state (omega (arith, q .0)), written-length (b .steps) steps (q .1))

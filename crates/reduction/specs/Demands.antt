@@ -52,7 +52,11 @@ use Rattle.definitions.specs.Atoms.{Problem, problemOf, Block, countOf, Atom, i
 use Rattle.definitions.specs.Actions.{Action, set, actionAt, actionBlocks, actions, setStart, actionNumber, needs, adds, removes}
 use Rattle.definitions.specs.Strips.{reachesGoal, run, picksOf}
 use Rattle.definitions.specs.Built.{chosenNumbers, builtSteps, builtCount, bound, boundExponents, boundPolynomial, pickedRows}
-use Rattle.definitions.specs.Outcome.{replyNumber, replyPlace, sizes, action, CaseRead, readFiled, readCase, ground, readProblem, asked, nothing, roomFor, stateLength, written, picksLength, pickWords, bitOf, lentPicks, spareWord, Given, asText, asNumbers, takeSteps, textPicks, picksRoom, takePicks, readyToRun, Checked, checkedFrom, checkSteps, picksIfAccepted, picksReadFrom, picksFromSteps, kindRefusal, Plan, plan, Built, builtFrom, buildSteps, Ready, PicksRead, sizesOf, satisfying}
+use Rattle.definitions.specs.Outcome.{replyNumber, replyPlace, sizes, action, CaseRead, readFiled, readCase, ground, readProblem, asked, nothing}
+use Rattle.definitions.specs.Outcome.{roomFor, stateLength, written, picksLength, pickWords, bitOf, lentPicks, spareWord, ThirdInput, asText, asNumbers}
+use Rattle.definitions.specs.Outcome.{takeSteps, textPicks, picksRoom, takePicks, readyToRun, Checked, checkedFrom, checkSteps, picksIfAccepted}
+use Rattle.definitions.specs.Outcome.{picksReadFrom, picksFromSteps, kindRefusal, Plan, plan, StepsBuilt, builtFrom, buildSteps, Ready, PicksRead, sizesOf}
+use Rattle.definitions.specs.Outcome.{satisfying}
 use Rattle.definitions.specs.Tree.{Part, nodes, treeOf}
 use Rattle.definitions.specs.Tally.{walked, tally}
 use Rattle.definitions.specs.Allowance.{allowance, allowancesOf, allowedFrom, allowances}
@@ -162,7 +166,7 @@ module _ (L : CaseLimits) (few : L .elements ≤ 64) (lendable : L .atoms ≤ st
   )
 
   -- ---- 2, acceptance: steps, as a text or as numbers, are accepted exactly if they reach the goal.
-  pub acceptance : (given : Given) (steps : List ℕ) → takeSteps given ≡ accepted steps → stepsAreAccepted L question site given ≡ reachesGoal p steps
+  pub acceptance : (given : ThirdInput) (steps : List ℕ) → takeSteps given ≡ accepted steps → stepsAreAccepted L question site given ≡ reachesGoal p steps
   acceptance given steps t = Accepting.steps-accepted L question site p given steps is-problem t
 
   -- Numbers are taken as they are, unless they are too many.
@@ -170,13 +174,13 @@ module _ (L : CaseLimits) (few : L .elements ≤ 64) (lendable : L .atoms ≤ st
   lent-steps steps h = Accepting.lent-steps steps h
 
   -- The checking call runs the steps, and leaves the last state's words at the front of its buffer.
-  pub checking : (given : Given) (steps : List ℕ) → takeSteps given ≡ accepted steps → (state : List ℕ) → stateLength p ≤ length state
+  pub checking : (given : ThirdInput) (steps : List ℕ) → takeSteps given ≡ accepted steps → (state : List ℕ) → stateLength p ≤ length state
       → checkSteps L question site given state ≡ record { answer = run p steps .answer; state = written (stateWords p (run p steps .state)) state }
   unfolding checkSteps readyToRun asked nothing roomFor refuseIf checkedFrom _>>=_
   checking given steps t state h = let e : ltb (length state) (stateLength p) ≡ false = le-ltb (length state) (stateLength p) h in rw (is-filed, t, grounds, e) refl
 
   -- It accepts, with the step count, exactly the steps that reach the goal.
-  pub checking-accepts : (given : Given) (steps : List ℕ) → takeSteps given ≡ accepted steps → (state : List ℕ) → stateLength p ≤ length state
+  pub checking-accepts : (given : ThirdInput) (steps : List ℕ) → takeSteps given ≡ accepted steps → (state : List ℕ) → stateLength p ≤ length state
       → (checkSteps L question site given state .answer ≡ accepted (length steps)) ↔ (reachesGoal p steps ≡ true)
   checking-accepts given steps t state h = let q = ap (λ (r : Checked). r .answer) (checking given steps t state h) in (
     (λ e. sym (Accepting.run-accepts p steps) ∙ is-accepted (run p steps .answer) (length steps) (sym q ∙ e)),
@@ -185,7 +189,7 @@ module _ (L : CaseLimits) (few : L .elements ≤ 64) (lendable : L .atoms ≤ st
 
   -- ---- 3, soundness: whatever steps are accepted, the picks read from them are picks, of the declared kinds, and make the rule
   -- true, totality included.
-  pub soundness : (given : Given) → stepsAreAccepted L question site given ≡ true
+  pub soundness : (given : ThirdInput) → stepsAreAccepted L question site given ≡ true
       → (steps : List ℕ) × (takeSteps given ≡ accepted steps) × (arePicks c (picksOf p steps) ≡ true) × (areOfKinds c (picksOf p steps) ≡ true) × (ruleIsTrue c (picksOf p steps) ≡ true)
   soundness given e =
       let (steps, t) = Accepting.steps-taken L question site given e in
@@ -199,7 +203,7 @@ module _ (L : CaseLimits) (few : L .elements ≤ 64) (lendable : L .atoms ≤ st
 
   -- The reading call runs the steps too; if they are accepted it leaves the words of these picks at the front of its buffer, and
   -- otherwise leaves the buffer alone.
-  pub reading : (given : Given) (steps : List ℕ) → takeSteps given ≡ accepted steps → (picks state : List ℕ) → picksLength p ≤ length picks → stateLength p ≤ length state
+  pub reading : (given : ThirdInput) (steps : List ℕ) → takeSteps given ≡ accepted steps → (picks state : List ℕ) → picksLength p ≤ length picks → stateLength p ≤ length state
       → picksFromSteps L question site given picks state
       ≡ record { answer = run p steps .answer; picks = picksIfAccepted (run p steps .answer) (pickWords p (picksOf p steps)) picks; state = written (stateWords p (run p steps .state)) state }
   unfolding picksFromSteps readyToRun asked nothing roomFor refuseIf picksReadFrom _>>=_
@@ -210,26 +214,26 @@ module _ (L : CaseLimits) (few : L .elements ≤ 64) (lendable : L .atoms ≤ st
 
   -- Whatever the lent lengths: whenever checking answers with a count, the steps were taken, that is how many there are, they reach the
   -- goal, and the picks read from them are of the declared kinds and make the rule true.
-  abbrev Counts : Given → ℕ → List ℕ → Type 0
+  abbrev Counts : ThirdInput → ℕ → List ℕ → Type 0
   Counts given k steps =
       (takeSteps given ≡ accepted steps) × (k ≡ length steps) × (reachesGoal p steps ≡ true)
       × (arePicks c (picksOf p steps) ≡ true) × (areOfKinds c (picksOf p steps) ≡ true) × (ruleIsTrue c (picksOf p steps) ≡ true)
 
   -- (from what was read before the steps ran to this case and problem)
-  counted : (given : Given) (k : ℕ) (r : Ready (List ℕ)) → Answered.Tells L question site given k r → (r .problem ≡ p) × Counts given k (r .third)
+  counted : (given : ThirdInput) (k : ℕ) (r : Ready (List ℕ)) → Answered.Tells L question site given k r → (r .problem ≡ p) × Counts given k (r .third)
   counted given k r t =
       let same : r .problem ≡ p = accepted-eq (r .problem) p (sym (t .is-problem) ∙ ap (ground L) (accepted-eq (r .case) c (sym (t .is-case) ∙ is-case)) ∙ grounds) in
       let reached : reachesGoal p (r .third) ≡ true = subst (λ (x : Problem). reachesGoal x (r .third) ≡ true) same (t .reached) in
       let (a, b, d) = sound (r .third) reached in
       (same, (t .is-taken, t .counted, reached, a, b, d))
 
-  pub whenever-checked : (given : Given) (state : List ℕ) (k : ℕ) → checkSteps L question site given state .answer ≡ accepted k → (steps : List ℕ) × Counts given k steps
+  pub whenever-checked : (given : ThirdInput) (state : List ℕ) (k : ℕ) → checkSteps L question site given state .answer ≡ accepted k → (steps : List ℕ) × Counts given k steps
   whenever-checked given state k e =
       let (r, h) = Answered.check-tells L question site given state k e in
       (r .third, counted given k r h .1)
 
   -- The same of reading, which then has left the words of these picks.
-  pub whenever-read : (given : Given) (picks state : List ℕ) (k : ℕ) → picksFromSteps L question site given picks state .answer ≡ accepted k
+  pub whenever-read : (given : ThirdInput) (picks state : List ℕ) (k : ℕ) → picksFromSteps L question site given picks state .answer ≡ accepted k
       → (steps : List ℕ) × Counts given k steps × (picksFromSteps L question site given picks state .picks ≡ written (pickWords p (picksOf p steps)) picks)
   whenever-read given picks state k e =
       let (r, h, w) = Answered.read-tells L question site given picks state k e in
@@ -237,7 +241,7 @@ module _ (L : CaseLimits) (few : L .elements ≤ 64) (lendable : L .atoms ≤ st
       (r .third, n, w ∙ ap (λ (x : Problem). written (pickWords x (picksOf x (r .third))) picks) same)
 
   -- ---- 4, completeness. Picks are handed over as a text or as words: these are the picks that are taken then.
-  abbrev taken : Given → Result (List Tuple)
+  abbrev taken : ThirdInput → Result (List Tuple)
   taken given = textPicks c labels given >>= λ read. picksRoom p given >>= λ _. takePicks p given read
 
   -- Of a text they are those that are read; of words that are long enough and have no spare bit set, the tuples whose bits are set.
@@ -248,10 +252,10 @@ module _ (L : CaseLimits) (few : L .elements ≤ 64) (lendable : L .atoms ≤ st
   lent-picks words h e = Building.given-words c labels p words h e
 
   -- Whatever is taken is a set of tuples of the `choose` relations.
-  pub taken-picks : (given : Given) (picks : List Tuple) → taken given ≡ accepted picks → arePicks c picks ≡ true
+  pub taken-picks : (given : ThirdInput) (picks : List Tuple) → taken given ≡ accepted picks → arePicks c picks ≡ true
   taken-picks = rw same-problem (Building.given-picks c A labels K)
 
-  module _ (given : Given) (picks : List Tuple) (is-taken : taken given ≡ accepted picks) (state steps : List ℕ) (room : stateLength p ≤ length state) (space : bound p ≤ length steps) where
+  module _ (given : ThirdInput) (picks : List Tuple) (is-taken : taken given ≡ accepted picks) (state steps : List ℕ) (room : stateLength p ≤ length state) (space : bound p ≤ length steps) where
     plans : plan L question site given (length state) (length steps) ≡ (kindRefusal (firstOfOtherKind c picks) >>= λ _. refuseIf (not (ruleIsTrue c picks)) 17 zero >>= λ _. accepted (record { labels = labels; problem = p; picks = picks; steps = builtSteps p picks }))
     plans = Building.plan-is L question site given c labels p picks (length state) (length steps) is-filed grounds is-taken room space
 
@@ -274,15 +278,15 @@ module _ (L : CaseLimits) (few : L .elements ≤ 64) (lendable : L .atoms ≤ st
     -- So steps are built exactly if the picks are of the declared kinds and the rule is true of them.
     pub built-exactly : isAccepted (buildSteps L question site given state steps .answer) ≡ (areOfKinds c picks && ruleIsTrue c picks)
     unfolding isAccepted
-    built-exactly = go (areOfKinds c picks) refl (ruleIsTrue c picks) refl
+    built-exactly = by-test (areOfKinds c picks) refl (ruleIsTrue c picks) refl
       where
-        go : (k : Bool) → areOfKinds c picks ≡ k → (r : Bool) → ruleIsTrue c picks ≡ r → isAccepted (buildSteps L question site given state steps .answer) ≡ (k && r)
-        go true a true b = ap (λ (x : Built). isAccepted (x .answer)) (building a b)
-        go true a false b = ap (λ (x : Built). isAccepted (x .answer)) (refused-17 a b)
-        go false a r b = let (i, e, q) = refused-16 a in ap (λ (x : Built). isAccepted (x .answer)) q
+        by-test : (k : Bool) → areOfKinds c picks ≡ k → (r : Bool) → ruleIsTrue c picks ≡ r → isAccepted (buildSteps L question site given state steps .answer) ≡ (k && r)
+        by-test true a true b = ap (λ (x : StepsBuilt). isAccepted (x .answer)) (building a b)
+        by-test true a false b = ap (λ (x : StepsBuilt). isAccepted (x .answer)) (refused-17 a b)
+        by-test false a r b = let (i, e, q) = refused-16 a in ap (λ (x : StepsBuilt). isAccepted (x .answer)) q
 
   -- Whenever steps are built, it is from picks of the declared kinds of which the rule is true, and the built steps are handed back.
-  pub whenever-built : (given : Given) (state steps : List ℕ) (k : ℕ) → buildSteps L question site given state steps .answer ≡ accepted k
+  pub whenever-built : (given : ThirdInput) (state steps : List ℕ) (k : ℕ) → buildSteps L question site given state steps .answer ≡ accepted k
       → (picks : List Tuple) × (taken given ≡ accepted picks) × (arePicks c picks ≡ true) × (areOfKinds c picks ≡ true) × (ruleIsTrue c picks ≡ true) × (k ≡ length (builtSteps p picks)) × (buildSteps L question site given state steps .steps ≡ written (builtSteps p picks) steps)
   unfolding buildSteps
   whenever-built given state steps k e =
@@ -470,7 +474,7 @@ module _ (L : CaseLimits) (few : L .elements ≤ 64) (lendable : L .atoms ≤ st
 
   -- So whenever the building call builds steps before and after such a pick is added, or before and after it is dropped, its two
   -- counts differ by at most that.
-  pub one-pick-built : (before after : Given) (state₁ steps₁ state₂ steps₂ : List ℕ) (m n : ℕ) (P Q : List Tuple) (more : Tuple)
+  pub one-pick-built : (before after : ThirdInput) (state₁ steps₁ state₂ steps₂ : List ℕ) (m n : ℕ) (P Q : List Tuple) (more : Tuple)
       → buildSteps L question site before state₁ steps₁ .answer ≡ accepted m → buildSteps L question site after state₂ steps₂ .answer ≡ accepted n
       → taken before ≡ accepted P → taken after ≡ accepted Q → isAmong more P ≡ false → areSamePicks Q (more ∷ P) ≡ true
       → (n ≤ m + allowance p (more .relation)) × (m ≤ n + allowance p (more .relation))
@@ -511,37 +515,37 @@ module _ (L : CaseLimits) (question site : List ℕ) where
   action-refuse n k place e = Refusals.action-refuse L question site n k place e
 
   -- Checking: a refusal before the steps run leaves the state's buffer as it was.
-  pub check-refuse : (steps : Given) (state : List ℕ) (k place : ℕ) → checkSteps L question site steps state .answer ≡ refused k place
+  pub check-refuse : (steps : ThirdInput) (state : List ℕ) (k place : ℕ) → checkSteps L question site steps state .answer ≡ refused k place
       → (isIn k (readyNumbers ++ runNumbers) ≡ true) × (isIn k readyNumbers ≡ true → checkSteps L question site steps state .state ≡ state)
   check-refuse steps state k place e = (Refusals.check-refuse L question site steps state k place e, Buffers.check-leaves L question site steps state k place e)
 
-  pub check-length : (steps : Given) (state : List ℕ) → length (checkSteps L question site steps state .state) ≡ length state
+  pub check-length : (steps : ThirdInput) (state : List ℕ) → length (checkSteps L question site steps state .state) ≡ length state
   check-length steps state = Buffers.check-length L question site steps state
 
   -- Reading picks: every refusal leaves the picks' buffer as it was; one before the steps run leaves the state's too.
-  pub read-refuse : (steps : Given) (picks state : List ℕ) (k place : ℕ) → picksFromSteps L question site steps picks state .answer ≡ refused k place
+  pub read-refuse : (steps : ThirdInput) (picks state : List ℕ) (k place : ℕ) → picksFromSteps L question site steps picks state .answer ≡ refused k place
       → (isIn k (readyNumbers ++ runNumbers) ≡ true) × (picksFromSteps L question site steps picks state .picks ≡ picks) × (isIn k readyNumbers ≡ true → picksFromSteps L question site steps picks state .state ≡ state)
   read-refuse steps picks state k place e = let (f, g) = Buffers.read-leaves L question site steps picks state k place e in (Refusals.read-refuse L question site steps picks state k place e, f, g)
 
-  pub read-length : (steps : Given) (picks state : List ℕ) → (length (picksFromSteps L question site steps picks state .picks) ≡ length picks) × (length (picksFromSteps L question site steps picks state .state) ≡ length state)
+  pub read-length : (steps : ThirdInput) (picks state : List ℕ) → (length (picksFromSteps L question site steps picks state .picks) ≡ length picks) × (length (picksFromSteps L question site steps picks state .state) ≡ length state)
   read-length steps picks state = Buffers.read-length L question site steps picks state
 
   -- Building: every refusal leaves both buffers as they were.
-  pub build-refuse : (picks : Given) (state steps : List ℕ) (k place : ℕ) → buildSteps L question site picks state steps .answer ≡ refused k place
+  pub build-refuse : (picks : ThirdInput) (state steps : List ℕ) (k place : ℕ) → buildSteps L question site picks state steps .answer ≡ refused k place
       → (isIn k (readyNumbers ++ picksNumbers) ≡ true) × (buildSteps L question site picks state steps .state ≡ state) × (buildSteps L question site picks state steps .steps ≡ steps)
   build-refuse picks state steps k place e = let (f, g) = Buffers.build-leaves L question site picks state steps k place e in (Refusals.build-refuse L question site picks state steps k place e, f, g)
 
-  pub build-length : L .elements ≤ 64 → (picks : Given) (state steps : List ℕ) → (length (buildSteps L question site picks state steps .state) ≡ length state) × (length (buildSteps L question site picks state steps .steps) ≡ length steps)
+  pub build-length : L .elements ≤ 64 → (picks : ThirdInput) (state steps : List ℕ) → (length (buildSteps L question site picks state steps .state) ≡ length state) × (length (buildSteps L question site picks state steps .steps) ≡ length steps)
   build-length few picks state steps = Buffers.build-length L question site picks state steps few
 
   -- ---- 14, document 02, job 6. Judging answers as building does, but for the count of steps: exactly so where the state and the steps have
   -- room for the problem, if one is read; where none is, whatever is lent.
-  pub judging : (picks : Given) (state steps : List ℕ) → ((p : Problem) → readProblem L question site ≡ accepted p → (stateLength p ≤ length state) × (bound p ≤ length steps))
+  pub judging : (picks : ThirdInput) (state steps : List ℕ) → ((p : Problem) → readProblem L question site ≡ accepted p → (stateLength p ≤ length state) × (bound p ≤ length steps))
       → judge L question site picks ≡ forget (buildSteps L question site picks state steps .answer)
   judging picks state steps rooms = Judging.alike L question site picks state steps rooms
 
   -- So its numbers are those of building.
-  pub judge-refuse : (picks : Given) (k place : ℕ) → judge L question site picks ≡ refused k place → isIn k (readyNumbers ++ picksNumbers) ≡ true
+  pub judge-refuse : (picks : ThirdInput) (k place : ℕ) → judge L question site picks ≡ refused k place → isIn k (readyNumbers ++ picksNumbers) ≡ true
   judge-refuse picks k place e = Refusals.judge-refuse L question site picks k place e
 
   -- Many step lists: every refusal of the call leaves the records and the state's buffer as they were.
@@ -562,7 +566,9 @@ module _ (L : CaseLimits) (question site : List ℕ) where
 -- ---- 10, the desk program: unless it refuses, what it prints (`Desk.report`) are the two records of one case: picks of the declared
 -- kinds of which the rule is true, and steps that reach the goal and are read as the same tuples.
 pub desk-records : (input : List ℕ) (b : Plan) → answer input ≡ accepted b
-    → (c : Case) × (readCase early (sheets input .question) (sheets input .site) ≡ accepted c) × (ground early c ≡ accepted (b .problem)) × (arePicks c (b .picks) ≡ true) × (areOfKinds c (b .picks) ≡ true) × (ruleIsTrue c (b .picks) ≡ true) × (reachesGoal (b .problem) (b .steps) ≡ true) × (areSamePicks (picksOf (b .problem) (b .steps)) (b .picks) ≡ true)
+    → (c : Case) × (readCase early (sheets input .question) (sheets input .site) ≡ accepted c) × (ground early c ≡ accepted (b .problem))
+    × (arePicks c (b .picks) ≡ true) × (areOfKinds c (b .picks) ≡ true) × (ruleIsTrue c (b .picks) ≡ true)
+    × (reachesGoal (b .problem) (b .steps) ≡ true) × (areSamePicks (picksOf (b .problem) (b .steps)) (b .picks) ≡ true)
 desk-records input b e = let (c, rc, rg, h) = Filed.desk-filed input b e in let (a, k, r, g, s) = h in (c, rc, rg, a, k, r, g, s)
 
 -- It never prints more than 2,340 `pick` lines: a line of picks or of steps has at least 7 bytes.
@@ -600,21 +606,21 @@ module _ (L M : CaseLimits) (larger : Wider.Wider L M) (question site : List ℕ
   unfolding action
   kept-action k = ap (λ (r : Result (Ready (Unit {0}))). r >>= λ x. given (actionAt (x .problem) k) 13 k) (Wider.asked-wider L M larger question site p is-problem nothing nothing nothing nothing)
 
-  pub kept-check : (steps : Given) (state : List ℕ) → checkSteps L question site steps state ≡ checkSteps M question site steps state
+  pub kept-check : (steps : ThirdInput) (state : List ℕ) → checkSteps L question site steps state ≡ checkSteps M question site steps state
   unfolding checkSteps readyToRun
   kept-check steps state = ap (λ (r : Result (Ready (List ℕ))). checkedFrom r state) (Wider.asked-wider L M larger question site p is-problem (λ _. takeSteps steps) nothing nothing _)
 
-  pub kept-read : (steps : Given) (picks state : List ℕ) → picksFromSteps L question site steps picks state ≡ picksFromSteps M question site steps picks state
+  pub kept-read : (steps : ThirdInput) (picks state : List ℕ) → picksFromSteps L question site steps picks state ≡ picksFromSteps M question site steps picks state
   unfolding picksFromSteps readyToRun
   kept-read steps picks state = ap (λ (r : Result (Ready (List ℕ))). picksReadFrom r picks state) (Wider.asked-wider L M larger question site p is-problem (λ _. takeSteps steps) nothing nothing _)
 
-  pub kept-build : (picks : Given) (state steps : List ℕ) → buildSteps L question site picks state steps ≡ buildSteps M question site picks state steps
+  pub kept-build : (picks : ThirdInput) (state steps : List ℕ) → buildSteps L question site picks state steps ≡ buildSteps M question site picks state steps
   unfolding buildSteps plan
   kept-build picks state steps = ap
       (λ (r : Result (Ready (List Tuple))). builtFrom (r >>= λ x. satisfying (x .case) (x .problem) picks (x .third) >>= λ F. accepted (record { labels = x .labels; problem = x .problem; picks = F; steps = builtSteps (x .problem) F })) state steps)
       (Wider.asked-wider L M larger question site p is-problem (λ c. textPicks (c .case) (c .labels) picks) nothing nothing _)
 
-  pub kept-judgement : (picks : Given) → judge L question site picks ≡ judge M question site picks
+  pub kept-judgement : (picks : ThirdInput) → judge L question site picks ≡ judge M question site picks
   unfolding judge
   kept-judgement picks = ap (λ (r : Result (Ready (List Tuple))). r >>= λ x. satisfying (x .case) (x .problem) picks (x .third) >>= λ _. accepted zero) (Wider.asked-wider L M larger question site p is-problem (λ c. textPicks (c .case) (c .labels) picks) nothing nothing _)
 
@@ -678,10 +684,10 @@ module _ (L : CaseLimits) (few : L .elements ≤ 64) (question site : List ℕ) 
     pub rewritten-action : (k : ℕ) → action L question (inNumbers labels site) k ≡ action L question site k
     rewritten-action = SameReplies.same-action L question site (inNumbers labels site) (record { case = c; labels = labels }) [] is-filed rewritten-case
 
-    pub rewritten-check : (steps : Given) (state : List ℕ) → checkSteps L question (inNumbers labels site) steps state ≡ checkSteps L question site steps state
+    pub rewritten-check : (steps : ThirdInput) (state : List ℕ) → checkSteps L question (inNumbers labels site) steps state ≡ checkSteps L question site steps state
     rewritten-check = SameReplies.same-check L question site (inNumbers labels site) (record { case = c; labels = labels }) [] is-filed rewritten-case
 
-    pub rewritten-read : (steps : Given) (picks state : List ℕ) → picksFromSteps L question (inNumbers labels site) steps picks state ≡ picksFromSteps L question site steps picks state
+    pub rewritten-read : (steps : ThirdInput) (picks state : List ℕ) → picksFromSteps L question (inNumbers labels site) steps picks state ≡ picksFromSteps L question site steps picks state
     rewritten-read = SameReplies.same-read L question site (inNumbers labels site) (record { case = c; labels = labels }) [] is-filed rewritten-case
 
     pub rewritten-tries : (steps : List ℕ) (tries : List Try) (state : List ℕ) → tryLists L question (inNumbers labels site) steps tries state ≡ tryLists L question site steps tries state

@@ -15,9 +15,9 @@ use Rattle.definitions.specs.Truth.{Case, arePicks, areOfKinds, ruleIsTrue}
 use Rattle.definitions.specs.Atoms.{Problem, problemOf}
 use Rattle.definitions.specs.Strips.{reachesGoal, run, picksOf}
 use Rattle.definitions.specs.Built.{builtSteps}
-use Rattle.definitions.specs.Outcome.{CaseRead, readFiled, readCase, ground, nothing, roomFor, stateLength, Given, asText, takeSteps, readyToRun, Plan, plan}
+use Rattle.definitions.specs.Outcome.{CaseRead, readFiled, readCase, ground, nothing, roomFor, stateLength, ThirdInput, asText, takeSteps, readyToRun, Plan, plan}
 use Rattle.definitions.specs.Demand.{areSamePicks}
-use Rattle.definitions.specs.Desk.{Sheets, sheets, checkedPlan, startsWithStep, answerOf, answer}
+use Rattle.definitions.specs.Desk.{CaseSheets, sheets, checkedPlan, startsWithStep, answerOf, answer}
 use Rattle.laws.specs.Results.{accepted-eq, bind-parts, is-accepted}
 use Rattle.laws.specs.Asked
 use Rattle.laws.specs.Reader.{Accepted, FiledFits, filed-fits, gives-if}
@@ -37,7 +37,7 @@ module _ (L : CaseLimits) (few : L .elements ≤ 64) (question site : List ℕ) 
   fits r e = gives-if FiledFits (readFiled L question site) r e (filed-fits L few question site)
 
   -- from picks
-  plan-filed : (g : Given) (stateRoom stepsRoom : ℕ) (b : Plan) → plan L question site g stateRoom stepsRoom ≡ accepted b → Filed L question site b
+  plan-filed : (g : ThirdInput) (stateRoom stepsRoom : ℕ) (b : Plan) → plan L question site g stateRoom stepsRoom ≡ accepted b → Filed L question site b
   plan-filed g stateRoom stepsRoom b e =
       let t = plan-tells L question site g stateRoom stepsRoom b e in
       let c : Case = t .case in
@@ -58,8 +58,14 @@ module _ (L : CaseLimits) (few : L .elements ≤ 64) (question site : List ℕ) 
       let (r, f, e₁) = bind-parts (readyToRun L question site (asText steps) (λ p. roomFor (stateLength p) room)) _ b e in
       let (n, h, e₂) = bind-parts (run (r .problem) (r .third) .answer) _ b e₁ in
       let q = Asked.parts L question site (λ _. takeSteps (asText steps)) nothing nothing (λ p. roomFor (stateLength p) room) r f in
-      subst (Filed L question site) (accepted-eq _ b e₂)
-      (r .case, q .is-case, q .is-problem, records (r .case) (fits (record { case = r .case; labels = r .labels }) (q .is-filed) .case-fits) (r .problem) (r .third) (ground-is L (r .case) (r .problem) (q .is-problem)) (sym (run-accepts (r .problem) (r .third)) ∙ is-accepted (run (r .problem) (r .third) .answer) n h))
+      subst (Filed L question site) (accepted-eq _ b e₂) (
+        r .case,
+        q .is-case,
+        q .is-problem,
+        records (r .case) (fits (record { case = r .case; labels = r .labels }) (q .is-filed) .case-fits)
+            (r .problem) (r .third) (ground-is L (r .case) (r .problem) (q .is-problem))
+            (sym (run-accepts (r .problem) (r .third)) ∙ is-accepted (run (r .problem) (r .third) .answer) n h),
+      )
     where
       records : (c : Case) → Accepted c → (p : Problem) (ks : List ℕ) → p ≡ problemOf c → reachesGoal p ks ≡ true → Records c p (picksOf p ks) ks
       records c A p ks e g =
@@ -70,8 +76,8 @@ pub desk-filed : (input : List ℕ) (b : Plan) → answer input ≡ accepted b �
 unfolding answer answerOf checkedPlan
 desk-filed input b e =
     let (u, f, g) = bind-parts (refuseIf (ltb deskBytes (length input)) 1 zero) _ b e in
-    go (sheets input) (startsWithStep (lines (sheets input .rest))) g
+    by-sheets (sheets input) (startsWithStep (lines (sheets input .rest))) g
   where
-    go : (s : Sheets) (t : Bool) → (if t then checkedPlan (s .question) (s .site) (s .rest) else plan early (s .question) (s .site) (asText (s .rest)) deskWords deskSteps) ≡ accepted b → Filed early (s .question) (s .site) b
-    go s true e = checked-filed early (omega arith) (s .question) (s .site) (s .rest) deskWords b e
-    go s false e = plan-filed early (omega arith) (s .question) (s .site) (asText (s .rest)) deskWords deskSteps b e
+    by-sheets : (s : CaseSheets) (t : Bool) → (if t then checkedPlan (s .question) (s .site) (s .rest) else plan early (s .question) (s .site) (asText (s .rest)) deskWords deskSteps) ≡ accepted b → Filed early (s .question) (s .site) b
+    by-sheets s true e = checked-filed early (omega arith) (s .question) (s .site) (s .rest) deskWords b e
+    by-sheets s false e = plan-filed early (omega arith) (s .question) (s .site) (asText (s .rest)) deskWords deskSteps b e

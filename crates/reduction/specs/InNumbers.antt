@@ -15,7 +15,10 @@ use Rattle.definitions.specs.Text.{bytes, decimal, onFirst, split, Line, linesF
 use Rattle.definitions.specs.Refusal.{Result, accepted, _>>=_, refuseIf, given, readLines, readText}
 use Rattle.definitions.specs.Relations.{Relation, Tuple}
 use Rattle.definitions.specs.Formula.{typeNumber}
-use Rattle.definitions.specs.Sheets.{Element, numbered, named, Entry, rel, type, choose, rule, size, label, member, fact, pick, step, element, elements, memberOf, withOne, withTwo, withElements, entry, entryOf, firstRel, Label, elementOf, elementsOf, isInRange, used, addTuple, Question, readQuestion, Member, isMember, hasMember, SiteDraft, Labelled, addSize, isTaken, addLabel, addMember, addFact, addToSite, siteLine, readSite, firstChosen, readPicks}
+use Rattle.definitions.specs.Sheets.{Element, numbered, named, Entry, rel, type, choose, rule, size, label, member, fact, pick, step, element}
+use Rattle.definitions.specs.Sheets.{elements, memberOf, withOne, withTwo, withElements, entry, entryOf, firstRel, Label, elementOf, elementsOf}
+use Rattle.definitions.specs.Sheets.{isInRange, used, addTuple, Question, readQuestion, Member, isMember, hasMember, SiteDraft, Labelled, addSize}
+use Rattle.definitions.specs.Sheets.{isTaken, addLabel, addMember, addFact, addToSite, siteLine, readSite, firstChosen, readPicks}
 use Rattle.definitions.specs.Truth.{Case}
 use Rattle.definitions.specs.Atoms.{Problem, problemOf, relationAt}
 use Rattle.definitions.specs.Outcome.{CaseRead, readFiled}
@@ -43,20 +46,20 @@ first-without k b (p ∷ ps) t w = (and-T (not (eqb b k)) _ t (w .0), w .1)
 pieces-without : (sep : ℕ) (t : List ℕ) → AllWithout sep (split sep t)
 unfolding split AllWithout all
 pieces-without sep [] = (tt, tt)
-pieces-without sep (b ∷ t) = go (eqb b sep) refl (pieces-without sep t)
+pieces-without sep (b ∷ t) = by-test (eqb b sep) refl (pieces-without sep t)
   where
-    go : (e : Bool) → eqb b sep ≡ e → AllWithout sep (split sep t) → AllWithout sep (if e then [] ∷ split sep t else onFirst b (split sep t))
-    go true q w = (tt, w)
-    go false q w = first-without sep b (split sep t) (not-T (eqb b sep) (λ h. T-not (eqb b sep) (T-of (ap not q)) h)) w
+    by-test : (e : Bool) → eqb b sep ≡ e → AllWithout sep (split sep t) → AllWithout sep (if e then [] ∷ split sep t else onFirst b (split sep t))
+    by-test true q w = (tt, w)
+    by-test false q w = first-without sep b (split sep t) (not-T (eqb b sep) (λ h. T-not (eqb b sep) (T-of (ap not q)) h)) w
 
 pieces-keep : (sep k : ℕ) (t : List ℕ) → Without k t → AllWithout k (split sep t)
 unfolding split AllWithout all
 pieces-keep sep k [] w = (tt, tt)
-pieces-keep sep k (b ∷ t) w = go (eqb b sep) (pieces-keep sep k t (T-and-r (not (eqb b k)) _ w))
+pieces-keep sep k (b ∷ t) w = by-test (eqb b sep) (pieces-keep sep k t (T-and-r (not (eqb b k)) _ w))
   where
-    go : (e : Bool) → AllWithout k (split sep t) → AllWithout k (if e then [] ∷ split sep t else onFirst b (split sep t))
-    go true h = (tt, h)
-    go false h = first-without k b (split sep t) (T-and-l (not (eqb b k)) _ w) h
+    by-test : (e : Bool) → AllWithout k (split sep t) → AllWithout k (if e then [] ∷ split sep t else onFirst b (split sep t))
+    by-test true h = (tt, h)
+    by-test false h = first-without k b (split sep t) (T-and-l (not (eqb b k)) _ w) h
 
 -- ---- fields: what they mean, written in numbers, is read as these numbers
 elements-plain : (xs : List ℕ) → T (all (λ x. ltb x 64) xs) → elements (map decimal xs) ≡ some (map numbered xs)
@@ -328,7 +331,9 @@ module _ (L : CaseLimits) (few : L .elements ≤ 64) (rels : List Relation) (typ
   abbrev empty : SiteDraft
   empty = record { sized = none; labels = []; members = []; facts = [] }
 
-  site-ends : (text : List ℕ) (d : SiteDraft) (n : ℕ) → d .sized ≡ some n → all (hasMember (d .members)) (below (length types)) ≡ true → readText (siteLine L rels types) empty text ≡ accepted (stripped d) → readSite L rels types text ≡ accepted (record { site = record { size = n; members = d .members; facts = d .facts }; labels = [] })
+  site-ends : (text : List ℕ) (d : SiteDraft) (n : ℕ) → d .sized ≡ some n → all (hasMember (d .members)) (below (length types)) ≡ true
+      → readText (siteLine L rels types) empty text ≡ accepted (stripped d) → readSite L rels types text
+      ≡ accepted (record { site = record { size = n; members = d .members; facts = d .facts }; labels = [] })
   unfolding readSite given refuseIf _>>=_
   site-ends text d n z h r = rw (r, z, h) refl
 

@@ -9,7 +9,7 @@ use Rattle.definitions.specs.Refusal.{Result, refused, accepted, _>>=_, refuseI
 use Rattle.definitions.specs.Relations.{Tuple}
 use Rattle.definitions.specs.Atoms.{Problem}
 use Rattle.definitions.specs.Built.{bound}
-use Rattle.definitions.specs.Outcome.{CaseRead, readFiled, ground, readProblem, asked, nothing, roomFor, stateLength, Given, textPicks, picksRoom, satisfying, plan, builtFrom, buildSteps}
+use Rattle.definitions.specs.Outcome.{CaseRead, readFiled, ground, readProblem, asked, nothing, roomFor, stateLength, ThirdInput, textPicks, picksRoom, satisfying, plan, builtFrom, buildSteps}
 use Rattle.definitions.specs.Judgement.{judge, forget}
 use Rattle.laws.specs.Asked.{filed-case, problem-from}
 
@@ -21,7 +21,7 @@ there : (needed room : ℕ) → needed ≤ room → roomFor needed room ≡ acce
 unfolding roomFor refuseIf
 there needed room h = rw (le-ltb room needed h) refl
 
-module _ (L : CaseLimits) (question site : List ℕ) (picks : Given) (state steps : List ℕ) (rooms : RoomEnough L question site state steps) where
+module _ (L : CaseLimits) (question site : List ℕ) (picks : ThirdInput) (state steps : List ℕ) (rooms : RoomEnough L question site state steps) where
   abbrev Alike : Type 0
   Alike = judge L question site picks ≡ forget (buildSteps L question site picks state steps .answer)
 

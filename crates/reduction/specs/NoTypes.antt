@@ -15,8 +15,12 @@ use Rattle.definitions.specs.Formula.{Quantified, Formula, Formulas, literal, n
 use Rattle.definitions.specs.Sheets.{Member, isMember, relations, relationsOf, firstChosen}
 use Rattle.definitions.specs.Truth.{Case, holds, membersOf}
 use Rattle.definitions.specs.Tree.{Tree, Trees, leaf, forallNode, existsNode, andNode, orNode, end, _then_, nest, asIs, negated, allAsIs, allNegated, joined, totalities, treeOf, nodes, parts, partsFrom, nodeSort}
-use Rattle.definitions.specs.Atoms.{Problem, problemWith, problemOf, relationAt, nodeAt, tuplesOf, rowsOf, Block, itemAt, atomBlocks, atoms, Atom, guess, proof, goal, tuple, notTuple, freeDomain, freeRange, holdsNode, atomNumber, relationStart, nodeStart, nodeAtoms, tupleHolds, isInitial, State, initial}
-use Rattle.definitions.specs.Actions.{Action, set, beginProof, proveAnd, proveOr, proveExists, proveForall, proveGoal, choices, proveNode, isSettable, setRows, setsOf, setBlocks, proofsOf, proofBlocks, actionBlocks, actions, actionAt, Values, partAtom, partAtoms, underAtom, forallNeeds, needs, adds, removes}
+use Rattle.definitions.specs.Atoms.{Problem, problemWith, problemOf, relationAt, nodeAt, tuplesOf, rowsOf, Block, itemAt, atomBlocks, Atom}
+use Rattle.definitions.specs.Atoms.{guess, proof, goal, tuple, notTuple, freeDomain, freeRange, holdsNode, atomNumber, relationStart, nodeStart}
+use Rattle.definitions.specs.Atoms.{nodeAtoms, tupleHolds, isInitial, State, initial}
+use Rattle.definitions.specs.Actions.{Action, set, beginProof, proveAnd, proveOr, proveExists, proveForall, proveGoal, choices, proveNode, isSettable}
+use Rattle.definitions.specs.Actions.{setRows, setsOf, setBlocks, proofsOf, proofBlocks, actionBlocks, actionAt, Values, partAtom, partAtoms}
+use Rattle.definitions.specs.Actions.{underAtom, forallNeeds, needs, adds, removes}
 use Rattle.definitions.specs.Refusal.{refused, accepted}
 use Rattle.definitions.specs.Strips.{mayTake, after, runFrom, run}
 use Rattle.definitions.specs.Built.{bound}
@@ -31,11 +35,11 @@ use Rattle.laws.specs.Sorts.{Sorted, SortedAll, node-sort, node-sorted, nodes-s
 -- ---- the tree
 sort-none : (types : List (List ℕ)) (q : Quantified) → T (hasNoType q) → sortOf types q ≡ zero
 unfolding sortOf hasNoType option
-sort-none types q = go (q .type)
+sort-none types q = by-option (q .type)
   where
-    go : (o : Option (List ℕ)) → T (option o true (λ _. false)) → option o zero (sortNamed types) ≡ zero
-    go none t = refl
-    go (some name) t = absurd t
+    by-option : (o : Option (List ℕ)) → T (option o true (λ _. false)) → option o zero (sortNamed types) ≡ zero
+    by-option none t = refl
+    by-option (some name) t = absurd t
 
 sorts-same : (types : List (List ℕ)) (qs : List Quantified) → T (all hasNoType qs) → map (sortOf types) qs ≡ map (sortOf []) qs
 unfolding all
@@ -272,13 +276,13 @@ module _ (c : Case) (t : Tree) (h : Sorted 0 t) (none-sorted : T (all hasNoSorts
   run-from-same : (ks : List ℕ) (s : State) (i : ℕ) → runFrom p s i ks ≡ runFrom q s i ks
   unfolding runFrom option
   run-from-same [] s i = ap (λ (k : ℕ). record { answer = if s k then accepted i else refused 15 i; state = s }) (number-same goal)
-  run-from-same (k ∷ ks) s i = rw (action-same k) (go (actionAt q k) (λ a. run-from-same ks (after p s a) (suc i)))
+  run-from-same (k ∷ ks) s i = rw (action-same k) (by-option (actionAt q k) (λ a. run-from-same ks (after p s a) (suc i)))
     where
-      go : (o : Option Action) → ((a : Action) → runFrom p (after p s a) (suc i) ks ≡ runFrom q (after p s a) (suc i) ks)
+      by-option : (o : Option Action) → ((a : Action) → runFrom p (after p s a) (suc i) ks ≡ runFrom q (after p s a) (suc i) ks)
           → option o (record { answer = refused 13 i; state = s }) (λ a. if mayTake p s a then runFrom p (after p s a) (suc i) ks else record { answer = refused 14 i; state = s })
           ≡ option o (record { answer = refused 13 i; state = s }) (λ a. if mayTake q s a then runFrom q (after q s a) (suc i) ks else record { answer = refused 14 i; state = s })
-      go none h = refl
-      go (some a) h = rw (may-same s a, h a, after-same s a) refl
+      by-option none h = refl
+      by-option (some a) h = rw (may-same s a, h a, after-same s a) refl
 
   pub run-same : (ks : List ℕ) → run p ks ≡ run q ks
   unfolding run
@@ -330,7 +334,14 @@ no-members (m ∷ ms) n F = let h = F .typed m (List·Memᴰ·head refl) in absu
 
 pub no-types-case : (c : Case) → Accepted c → c .question .types ≡ [] → untyped c ≡ c
 unfolding untyped
-no-types-case c A e = ap₂ (λ (ts : List (List ℕ)) (ms : List Member). record { question = record { rels = c .question .rels; types = ts; chosen = c .question .chosen; rule = c .question .rule }; site = record { size = c .site .size; members = ms; facts = c .site .facts } }) (sym e) (sym (no-members (c .site .members) (c .site .size) (subst (λ (types : List (List ℕ)). MembersFit (length types) (c .site .size) (c .site .members)) e (A .site-fits .members-fit))))
+no-types-case c A e =
+    ap₂ (λ (ts : List (List ℕ)) (ms : List Member). record {
+      question = record { rels = c .question .rels; types = ts; chosen = c .question .chosen; rule = c .question .rule };
+      site = record
+          { size = c .site .size; members = ms; facts = c .site .facts };
+    }) (sym e)
+    (sym (no-members (c .site .members) (c .site .size)
+    (subst (λ (types : List (List ℕ)). MembersFit (length types) (c .site .size) (c .site .members)) e (A .site-fits .members-fit))))
 
 pub no-types-range : (c : Case) → c .question .types ≡ [] → (s : ℕ) → membersOf c s ≡ below (c .site .size)
 unfolding membersOf

@@ -25,7 +25,7 @@ use Rattle.laws.specs.Booleans.{T-and-l, T-and-r, T-of, T-ext, or-both}
 use Rattle.laws.specs.Lists.{all-at, filter-same, length-below}
 use Rattle.laws.specs.Tuples.{among-mem, mem-among}
 use Rattle.laws.specs.Repeats.{Once, distinct-once, filter-le, pigeon}
-use Rattle.laws.specs.Results.{refused-accepted}
+use Rattle.laws.specs.Results.{refused-accepted, refused-number}
 use Rattle.laws.specs.Picks.{picks-distinct}
 use Rattle.laws.specs.Asked
 use Rattle.laws.specs.Refusals.{In, Refuses, Early, told, asked-by, nothing-by, room-by}
@@ -94,12 +94,12 @@ module _ (p : Problem) (r : ℕ) (P Q : List Tuple) (same : Elsewhere r P Q) whe
   pub true-moves : (ts : List Tree) → sum (map (λ t. length (trueRows p Q t)) ts) ≤ sum (map (λ t. length (trueRows p P t)) ts) + sum (map (nodeWidth (p .size)) (filter (mentions r) ts))
   unfolding sum filter
   true-moves [] = omega arith
-  true-moves (t ∷ ts) = go (mentions r t) refl (true-moves ts)
+  true-moves (t ∷ ts) = by-test (mentions r t) refl (true-moves ts)
     where
-      go : (b : Bool) → mentions r t ≡ b → sum (map (λ t. length (trueRows p Q t)) ts) ≤ sum (map (λ t. length (trueRows p P t)) ts) + sum (map (nodeWidth (p .size)) (filter (mentions r) ts))
+      by-test : (b : Bool) → mentions r t ≡ b → sum (map (λ t. length (trueRows p Q t)) ts) ≤ sum (map (λ t. length (trueRows p P t)) ts) + sum (map (nodeWidth (p .size)) (filter (mentions r) ts))
           → length (trueRows p Q t) + sum (map (λ t. length (trueRows p Q t)) ts) ≤ length (trueRows p P t) + sum (map (λ t. length (trueRows p P t)) ts) + sum (map (nodeWidth (p .size)) (if b then t ∷ filter (mentions r) ts else filter (mentions r) ts))
-      go true e h = let a = rows-most t in omega arith
-      go false e h = let a = rows-same t e in omega arith
+      by-test true e h = let a = rows-most t in omega arith
+      by-test false e h = let a = rows-same t e in omega arith
 
   pub count-moves : length Q ≤ suc (length P) → builtCount p Q ≤ builtCount p P + allowance p r
   unfolding builtCount allowance
@@ -144,22 +144,19 @@ module _ (L : CaseLimits) (question site old : List ℕ) where
 
   pub allowances-refuse : (k place : ℕ) → allowances L question site old .answer ≡ refused k place → In readyNumbers k × (allowances L question site old .allowances ≡ old)
   unfolding allowances allowedFrom
-  allowances-refuse k place e = go ready (asked-by L question site nothing rooms nothing-by (λ p. room-by (length (chosenNumbers p)) (length old))) e
+  allowances-refuse k place e = from-this ready (asked-by L question site nothing rooms nothing-by (λ p. room-by (length (chosenNumbers p)) (length old))) e
     where
-      number-is : (j at : ℕ) → _≡_ {A = Result ℕ} (refused j at) (refused k place) → j ≡ k
-      number-is j at e = cc
-
-      go : (m : Result (Ready (Unit {0}))) → Refuses Early m → allowedFrom m old .answer ≡ refused k place → In readyNumbers k × (allowedFrom m old .allowances ≡ old)
-      go (refused j at) h e = (subst (In readyNumbers) (number-is j at e) (told Early (refused j at) j at refl h), refl)
-      go (accepted r) h e = absurd (refused-accepted (sym e))
+      from-this : (m : Result (Ready (Unit {0}))) → Refuses Early m → allowedFrom m old .answer ≡ refused k place → In readyNumbers k × (allowedFrom m old .allowances ≡ old)
+      from-this (refused j at) h e = (subst (In readyNumbers) (refused-number j k at place e) (told Early (refused j at) j at refl h), refl)
+      from-this (accepted r) h e = absurd (refused-accepted (sym e))
 
   pub allowances-length : length (allowances L question site old .allowances) ≡ length old
   unfolding allowances allowedFrom allowancesOf
-  allowances-length = go ready (λ r e. has-room (length (chosenNumbers (r .problem))) (length old) tt (Asked.parts L question site nothing nothing nothing rooms r e .has-room))
+  allowances-length = from-this ready (λ r e. has-room (length (chosenNumbers (r .problem))) (length old) tt (Asked.parts L question site nothing nothing nothing rooms r e .has-room))
     where
-      go : (m : Result (Ready (Unit {0}))) → ((r : Ready (Unit {0})) → m ≡ accepted r → length (chosenNumbers (r .problem)) ≤ length old) → length (allowedFrom m old .allowances) ≡ length old
-      go (refused k place) h = refl
-      go (accepted r) h =
+      from-this : (m : Result (Ready (Unit {0}))) → ((r : Ready (Unit {0})) → m ≡ accepted r → length (chosenNumbers (r .problem)) ≤ length old) → length (allowedFrom m old .allowances) ≡ length old
+      from-this (refused k place) h = refl
+      from-this (accepted r) h =
           let p = r .problem in
           let q = h r refl in
           let l = length-map (chosenNumbers p) (allowance p) in

@@ -1,7 +1,7 @@
 -- The bound as a polynomial in the number of elements: its terms are fixed by the question alone, and no exponent is above 4.
 use Prim.Native.Nat.{ℕ, zero, suc, _+_, _*_, _^_, _<_, _≤_}
 use mathlib.Core.Path.{_≡_, refl, sym, ap, subst, _∙_}
-use mathlib.Core.Logic.{_⊎_, ⊎-elim}
+use mathlib.Core.Logic.{⊎-elim}
 use mathlib.Core.Bool.{Bool, true, false}
 use mathlib.Core.List.{List, [], _∷_, _++_, map, List·Memᴰ, List·Memᴰ·not-nil, List·Memᴰ·append-cases, List·Memᴰ·eq-of-singleton}
 use native.Mathlib.Omega.{arith}
@@ -34,12 +34,12 @@ pow-one n = pow-suc n 0 ∙ ap (λ (x : ℕ). x * n) (pow-zero n) ∙ one-mul n
 
 most-value : (n : ℕ) (k : Relation) → mostPicks n k ≡ polynomial (pickExponent k) n
 unfolding mostPicks pickExponent polynomial sum tuplesOf
-most-value n k = go (isFunction (k .kind)) (isChosen (k .kind))
+most-value n k = by-test (isFunction (k .kind)) (isChosen (k .kind))
   where
-    go : (f c : Bool) → (if f then n else if c then n ^ k .arity else zero) ≡ sum (map (λ x. n ^ x) (if f then 1 ∷ [] else if c then k .arity ∷ [] else []))
-    go true c = let e = pow-one n in omega arith
-    go false true = omega arith
-    go false false = refl
+    by-test : (f c : Bool) → (if f then n else if c then n ^ k .arity else zero) ≡ sum (map (λ x. n ^ x) (if f then 1 ∷ [] else if c then k .arity ∷ [] else []))
+    by-test true c = let e = pow-one n in omega arith
+    by-test false true = omega arith
+    by-test false false = refl
 
 picks-value : (n : ℕ) (ks : List Relation) → sum (map (mostPicks n) ks) ≡ polynomial (flatMap pickExponent ks) n
 unfolding sum flatMap polynomial
@@ -53,11 +53,14 @@ picks-value n (k ∷ ks) =
 nodes-value : (n v : ℕ) (ts : List Tree) → countOf (mapFrom (λ v t. record { width = nodeWidth n t; item = holdsNode v }) v ts) ≡ polynomial (map nodeExponent ts) n
 unfolding countOf mapFrom polynomial sum nodeWidth nodeExponent rowsOf
 nodes-value n v [] = refl
-nodes-value n v (t ∷ ts) = go (isForall t) (nodes-value n (suc v) ts)
+nodes-value n v (t ∷ ts) = by-test (isForall t) (nodes-value n (suc v) ts)
   where
-    go : (b : Bool) → countOf (mapFrom (λ v t. record { width = nodeWidth n t; item = holdsNode v }) (suc v) ts) ≡ polynomial (map nodeExponent ts) n → (if b then n ^ length (free t) * n else n ^ length (free t)) + countOf (mapFrom (λ v t. record { width = nodeWidth n t; item = holdsNode v }) (suc v) ts) ≡ n ^ (if b then suc (length (free t)) else length (free t)) + polynomial (map nodeExponent ts) n
-    go true h = let e = pow-suc n (length (free t)) in omega arith
-    go false h = omega arith
+    by-test : (b : Bool) → countOf (mapFrom (λ v t. record { width = nodeWidth n t; item = holdsNode v }) (suc v) ts)
+        ≡ polynomial (map nodeExponent ts) n → (if b then n ^ length (free t) * n else n ^ length (free t)) + countOf
+        (mapFrom (λ v t. record { width = nodeWidth n t; item = holdsNode v }) (suc v) ts)
+        ≡ n ^ (if b then suc (length (free t)) else length (free t)) + polynomial (map nodeExponent ts) n
+    by-test true h = let e = pow-suc n (length (free t)) in omega arith
+    by-test false h = omega arith
 
 -- whatever the site holds, the bound is this polynomial in the number of elements
 pub bound-value : (c : Case) → bound (problemOf c) ≡ boundPolynomial (c .question) (c .site .size)
@@ -88,12 +91,12 @@ node-degree (orNode ts) w = four-free (orNode ts)
 
 pick-degree : (k : Relation) → k .arity ≤ 3 → (x : ℕ) → List·Memᴰ x (pickExponent k) → x ≤ 3
 unfolding pickExponent
-pick-degree k h x m = go (isFunction (k .kind)) (isChosen (k .kind)) m
+pick-degree k h x m = by-test (isFunction (k .kind)) (isChosen (k .kind)) m
   where
-    go : (f c : Bool) → List·Memᴰ x (if f then 1 ∷ [] else if c then k .arity ∷ [] else []) → x ≤ 3
-    go true c m = let e = List·Memᴰ·eq-of-singleton m in omega arith
-    go false true m = let e = List·Memᴰ·eq-of-singleton m in omega arith
-    go false false m = absurd (List·Memᴰ·not-nil m)
+    by-test : (f c : Bool) → List·Memᴰ x (if f then 1 ∷ [] else if c then k .arity ∷ [] else []) → x ≤ 3
+    by-test true c m = let e = List·Memᴰ·eq-of-singleton m in omega arith
+    by-test false true m = let e = List·Memᴰ·eq-of-singleton m in omega arith
+    by-test false false m = absurd (List·Memᴰ·not-nil m)
 
 pub degree : (c : Case) → Accepted c → (x : ℕ) → List·Memᴰ x (boundExponents (c .question)) → x ≤ 4
 unfolding boundExponents problemOf problemWith nodeAt

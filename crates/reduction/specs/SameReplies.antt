@@ -11,7 +11,9 @@ use Rattle.definitions.specs.Truth.{Case}
 use Rattle.definitions.specs.Atoms.{Problem}
 use Rattle.definitions.specs.Actions.{actionAt}
 use Rattle.definitions.specs.Built.{builtSteps, bound}
-use Rattle.definitions.specs.Outcome.{CaseRead, readFiled, readCase, ground, readProblem, Ready, asked, nothing, roomFor, stateLength, sizesOf, sizes, action, Given, asText, asNumbers, takeSteps, textPicks, picksRoom, takePicks, readyToRun, checkedFrom, checkSteps, picksReadFrom, picksFromSteps, satisfying, Plan, plan, builtFrom, buildSteps}
+use Rattle.definitions.specs.Outcome.{CaseRead, readFiled, readCase, ground, readProblem, Ready, asked, nothing, roomFor, stateLength, sizesOf, sizes}
+use Rattle.definitions.specs.Outcome.{action, ThirdInput, asText, asNumbers, takeSteps, textPicks, picksRoom, takePicks, readyToRun, checkedFrom}
+use Rattle.definitions.specs.Outcome.{checkSteps, picksReadFrom, picksFromSteps, satisfying, Plan, plan, builtFrom, buildSteps}
 use Rattle.definitions.specs.Tally.{tally}
 use Rattle.definitions.specs.Judgement.{judge}
 use Rattle.definitions.specs.Tries.{Try, readyToTry, triedFrom, tryLists}
@@ -44,21 +46,21 @@ module _ (L : CaseLimits) (question site other : List ℕ) (r : CaseRead) (label
   module _ {A : Type 0} (third third′ : CaseRead → Result A) (rooms rooms′ : Problem → Result (Unit {0})) (t : third r ≡ third′ (record { case = r .case; labels = labels })) (m : (p : Problem) → rooms p ≡ rooms′ p) where
     by-room : (c : Case) (p : Problem) (a : A) (x y : Result (Unit {0})) → x ≡ y → (y >>= λ _. accepted (record { case = c; labels = labels; problem = p; third = a })) ≡ relabelled labels (x >>= λ _. accepted (record { case = c; labels = r .labels; problem = p; third = a }))
     unfolding relabelled _>>=_
-    by-room c p a x y e = rw e (go y)
+    by-room c p a x y e = rw e (by-result y)
       where
-        go : (y : Result (Unit {0})) → (y >>= λ _. accepted (record { case = c; labels = labels; problem = p; third = a })) ≡ relabelled labels (y >>= λ _. accepted (record { case = c; labels = r .labels; problem = p; third = a }))
-        go (refused k place) = refl
-        go (accepted u) = refl
+        by-result : (y : Result (Unit {0})) → (y >>= λ _. accepted (record { case = c; labels = labels; problem = p; third = a })) ≡ relabelled labels (y >>= λ _. accepted (record { case = c; labels = r .labels; problem = p; third = a }))
+        by-result (refused k place) = refl
+        by-result (accepted u) = refl
 
     asked-same : asked L question other third′ nothing nothing rooms′ ≡ relabelled labels (asked L question site third nothing nothing rooms)
     unfolding asked nothing relabelled _>>=_
-    asked-same = rw (here, there, t) (go (third′ (record { case = r .case; labels = labels })) (ground L (r .case)))
+    asked-same = rw (here, there, t) (by-result (third′ (record { case = r .case; labels = labels })) (ground L (r .case)))
       where
-        go : (x : Result A) (g : Result Problem)
+        by-result : (x : Result A) (g : Result Problem)
             → (x >>= λ a. g >>= λ p. rooms′ p >>= λ _. accepted (record { case = r .case; labels = labels; problem = p; third = a })) ≡ relabelled labels (x >>= λ a. g >>= λ p. rooms p >>= λ _. accepted (record { case = r .case; labels = r .labels; problem = p; third = a }))
-        go (refused k place) g = refl
-        go (accepted a) (refused k place) = refl
-        go (accepted a) (accepted p) = by-room (r .case) p a (rooms p) (rooms′ p) (m p)
+        by-result (refused k place) g = refl
+        by-result (accepted a) (refused k place) = refl
+        by-result (accepted a) (accepted p) = by-room (r .case) p a (rooms p) (rooms′ p) (m p)
 
     -- a reply made of it without the labels
     same-by : {B : Type 0} (f : Result (Ready A) → B) → ((x : Ready A) → f (accepted (record { case = x .case; labels = labels; problem = x .problem; third = x .third })) ≡ f (accepted x))
@@ -74,11 +76,11 @@ module _ (L : CaseLimits) (question site other : List ℕ) (r : CaseRead) (label
   unfolding action nothing _>>=_
   same-action k = same-by nothing nothing nothing nothing refl (λ p. refl) (λ x. x >>= λ y. given (actionAt (y .problem) k) 13 k) (λ x. refl)
 
-  pub same-check : (steps : Given) (state : List ℕ) → checkSteps L question other steps state ≡ checkSteps L question site steps state
+  pub same-check : (steps : ThirdInput) (state : List ℕ) → checkSteps L question other steps state ≡ checkSteps L question site steps state
   unfolding checkSteps readyToRun checkedFrom
   same-check steps state = same-by (λ _. takeSteps steps) (λ _. takeSteps steps) _ _ refl (λ p. refl) (λ x. checkedFrom x state) (λ x. refl)
 
-  pub same-read : (steps : Given) (picks state : List ℕ) → picksFromSteps L question other steps picks state ≡ picksFromSteps L question site steps picks state
+  pub same-read : (steps : ThirdInput) (picks state : List ℕ) → picksFromSteps L question other steps picks state ≡ picksFromSteps L question site steps picks state
   unfolding picksFromSteps readyToRun picksReadFrom
   same-read steps picks state = same-by (λ _. takeSteps steps) (λ _. takeSteps steps) _ _ refl (λ p. refl) (λ x. picksReadFrom x picks state) (λ x. refl)
 
@@ -91,7 +93,7 @@ module _ (L : CaseLimits) (question site other : List ℕ) (r : CaseRead) (label
   same-allowances old = same-by nothing nothing _ _ refl (λ p. refl) (λ x. allowedFrom x old) (λ x. refl)
 
   -- what is handed over as picks, to each of the two: read and taken alike
-  module _ (g g′ : Given) (t : textPicks (r .case) (r .labels) g ≡ textPicks (r .case) labels g′) (m : (p : Problem) → picksRoom p g ≡ picksRoom p g′) (k : (p : Problem) (F : List Tuple) → takePicks p g F ≡ takePicks p g′ F) where
+  module _ (g g′ : ThirdInput) (t : textPicks (r .case) (r .labels) g ≡ textPicks (r .case) labels g′) (m : (p : Problem) → picksRoom p g ≡ picksRoom p g′) (k : (p : Problem) (F : List Tuple) → takePicks p g F ≡ takePicks p g′ F) where
     satisfied : (c : Case) (p : Problem) (F : List Tuple) → satisfying c p g′ F ≡ satisfying c p g F
     unfolding satisfying
     satisfied c p F = rw (k p F) refl
@@ -110,7 +112,7 @@ module _ (L : CaseLimits) (question site other : List ℕ) (r : CaseRead) (label
         (λ x. builtFrom (x >>= λ y. planned (y .labels) (y .problem) (satisfying (y .case) (y .problem) g (y .third))) state steps)
         (λ y. ends (y .problem) labels (y .labels) (satisfying (y .case) (y .problem) g (y .third)))
       where
-        rooms : Given → Problem → Result (Unit {0})
+        rooms : ThirdInput → Problem → Result (Unit {0})
         rooms h p = picksRoom p h >>= λ _. roomFor (stateLength p) (length state) >>= λ _. roomFor (bound p) (length steps)
 
         planned : List Label → Problem → Result (List Tuple) → Result Plan

@@ -16,7 +16,7 @@ use Rattle.definitions.specs.Sheets.{readSteps}
 use Rattle.definitions.specs.Atoms.{Problem, problemOf}
 use Rattle.definitions.specs.Built.{chosenNumbers, pickedRows}
 use Rattle.definitions.specs.Outcome.{readCase, asText, asNumbers, takeSteps, Plan, plan}
-use Rattle.definitions.specs.Desk.{Sheets, sheets, cutAt, afterQuestion, siteAndRest, afterRule, firstPickOrStep, checkedPlan, startsWithStep, answerOf, answer}
+use Rattle.definitions.specs.Desk.{CaseSheets, sheets, cutAt, afterQuestion, siteAndRest, afterRule, firstPickOrStep, checkedPlan, startsWithStep, answerOf, answer}
 use Rattle.laws.specs.Results.{bind-parts, not-refused}
 use Rattle.laws.specs.Few
 use Rattle.laws.specs.Reader.{Accepted, case-fits, gives-if}
@@ -68,6 +68,6 @@ desk-picks input b e =
     let m = subst (λ (p : Problem). sum (map (λ r. length (pickedRows p (b .picks) r)) (chosenNumbers p)) ≤ length (b .picks)) (sym (ground-is early c (b .problem) rg)) (Few.rows-few (problemOf c) (good c A) (b .picks)) in
     (omega (arith, n, r), omega (arith, n, r, m))
   where
-    few : (s : Sheets) (t : Bool) → (if t then checkedPlan (s .question) (s .site) (s .rest) else plan early (s .question) (s .site) (asText (s .rest)) deskWords deskSteps) ≡ accepted b → 7 * length (b .picks) ≤ length (s .rest)
+    few : (s : CaseSheets) (t : Bool) → (if t then checkedPlan (s .question) (s .site) (s .rest) else plan early (s .question) (s .site) (asText (s .rest)) deskWords deskSteps) ≡ accepted b → 7 * length (b .picks) ≤ length (s .rest)
     few s true h = Few.checked-few (s .question) (s .site) (s .rest) b h
     few s false h = Few.plan-few early (s .question) (s .site) (s .rest) deskWords deskSteps b h

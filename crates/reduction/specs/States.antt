@@ -34,15 +34,17 @@ module _ (p : Problem) (G : Good p) where
   runs-end : (ks : List ℕ) (s : State) (i : ℕ) → Ends s → Ends (runFrom p s i ks .state)
   unfolding runFrom option
   runs-end [] s i e = e
-  runs-end (k ∷ ks) s i e = go (λ a h. runs-end ks (after p s a) (suc i) h) (actionAt p k) refl
+  runs-end (k ∷ ks) s i e = from-this (λ a h. runs-end ks (after p s a) (suc i) h) (actionAt p k) refl
     where
       may : ((a : Action) → Ends (after p s a) → Ends (runFrom p (after p s a) (suc i) ks .state)) → (a : Action) → actionAt p k ≡ some a → (b : Bool) → Ends ((if b then runFrom p (after p s a) (suc i) ks else record { answer = refused 14 i; state = s }) .state)
       may r a f true = r a (after-ends s a (action-is p k a f) e)
       may r a f false = e
 
-      go : ((a : Action) → Ends (after p s a) → Ends (runFrom p (after p s a) (suc i) ks .state)) → (o : Option Action) → actionAt p k ≡ o → Ends (option o (record { answer = refused 13 i; state = s }) (λ a. if mayTake p s a then runFrom p (after p s a) (suc i) ks else record { answer = refused 14 i; state = s }) .state)
-      go r none f = e
-      go r (some a) f = may r a f (mayTake p s a)
+      from-this : ((a : Action) → Ends (after p s a) → Ends (runFrom p (after p s a) (suc i) ks .state)) → (o : Option Action) → actionAt p k ≡ o
+          → Ends (option o (record { answer = refused 13 i; state = s })
+          (λ a. if mayTake p s a then runFrom p (after p s a) (suc i) ks else record { answer = refused 14 i; state = s }) .state)
+      from-this r none f = e
+      from-this r (some a) f = may r a f (mayTake p s a)
 
   pub run-ends : (ks : List ℕ) → Ends (run p ks .state)
   unfolding run

@@ -1,5 +1,5 @@
 -- STRIPS-1: an action that removes something removes a need that no action adds, so no legal run takes it twice.
-use Prim.Native.Nat.{ℕ, zero, suc, _+_}
+use Prim.Native.Nat.{ℕ, zero, suc}
 use mathlib.Core.Path.{_≡_, refl, sym, subst, _∙_}
 use mathlib.Core.Logic.{_⊎_, inl, inr, ⊎-elim}
 use mathlib.Core.Bool.{Bool, true, false, not, _&&_}
@@ -56,15 +56,20 @@ module _ (p : Problem) (G : Good p) where
   -- a step of a legal run, and the rest
   legal-step : (s : State) (i k : ℕ) (ks : List ℕ) → T (isLegal (runFrom p s i (k ∷ ks) .answer)) → (a : Action) × (actionAt p k ≡ some a) × T (mayTake p s a) × T (isLegal (runFrom p (after p s a) (suc i) ks .answer))
   unfolding runFrom option isLegal
-  legal-step s i k ks h = go (actionAt p k) refl h
+  legal-step s i k ks h = by-option (actionAt p k) refl h
     where
-      may : (a : Action) → actionAt p k ≡ some a → (b : Bool) → mayTake p s a ≡ b → T (isLegal ((if b then runFrom p (after p s a) (suc i) ks else record { answer = refused 14 i; state = s }) .answer)) → (a : Action) × (actionAt p k ≡ some a) × T (mayTake p s a) × T (isLegal (runFrom p (after p s a) (suc i) ks .answer))
+      may : (a : Action) → actionAt p k ≡ some a → (b : Bool) → mayTake p s a ≡ b
+          → T (isLegal ((if b then runFrom p (after p s a) (suc i) ks else record { answer = refused 14 i; state = s }) .answer)) → (a : Action)
+          × (actionAt p k ≡ some a) × T (mayTake p s a) × T (isLegal (runFrom p (after p s a) (suc i) ks .answer))
       may a e true q h = (a, e, T-of q, h)
       may a e false q h = absurd h
 
-      go : (o : Option Action) → actionAt p k ≡ o → T (isLegal (option o (record { answer = refused 13 i; state = s }) (λ a. if mayTake p s a then runFrom p (after p s a) (suc i) ks else record { answer = refused 14 i; state = s }) .answer)) → (a : Action) × (actionAt p k ≡ some a) × T (mayTake p s a) × T (isLegal (runFrom p (after p s a) (suc i) ks .answer))
-      go none e h = absurd h
-      go (some a) e h = may a e (mayTake p s a) refl h
+      by-option : (o : Option Action) → actionAt p k ≡ o
+          → T (isLegal (option o (record { answer = refused 13 i; state = s })
+          (λ a. if mayTake p s a then runFrom p (after p s a) (suc i) ks else record { answer = refused 14 i; state = s }) .answer)) → (a : Action)
+          × (actionAt p k ≡ some a) × T (mayTake p s a) × T (isLegal (runFrom p (after p s a) (suc i) ks .answer))
+      by-option none e h = absurd h
+      by-option (some a) e h = may a e (mayTake p s a) refl h
 
   -- an atom that nothing adds, once gone, stays away; so an action that needs it is not taken later
   never : (x : Atom) → IsAtom p x → ((b : Action) → List·Memᴰ x (adds p b) → ⊥) → (k : ℕ) (a : Action) → actionAt p k ≡ some a → List·Memᴰ x (needs p a) → (ks ms : List ℕ) (s : State) (i : ℕ) → (T (s (atomNumber p x)) → ⊥) → T (isLegal (runFrom p s i (ks ++ (k ∷ ms)) .answer)) → ⊥

@@ -1,5 +1,5 @@
 -- Many step lists of one case: each gets what a check of it alone gives, and the call keeps what it is lent.
-use Prim.Native.Nat.{ℕ, zero, suc, _+_, _-_, _≤_, _<_}
+use Prim.Native.Nat.{ℕ, zero, suc, _+_, _≤_, _<_}
 use mathlib.Core.Path.{_≡_, refl, sym, ap, subst, _∙_}
 use mathlib.Core.Logic.{_↔_}
 use mathlib.Core.Bool.{Bool, true, false}
@@ -17,7 +17,7 @@ use Rattle.definitions.specs.Strips.{run, reachesGoal}
 use Rattle.definitions.specs.Outcome.{replyNumber, replyPlace, CaseRead, Ready, nothing, readProblem, roomFor, stateLength, written, asNumbers, takeSteps, readyToRun, checkedFrom, checkSteps}
 use Rattle.definitions.specs.Tries.{Try, tryList, tried, readyToTry, triedFrom, tryLists}
 use Rattle.laws.specs.Booleans.{T-of}
-use Rattle.laws.specs.Results.{bind-parts, is-accepted, not-refused, refused-accepted}
+use Rattle.laws.specs.Results.{bind-parts, is-accepted, not-refused, refused-accepted, refused-number}
 use Rattle.laws.specs.Words.{state-length}
 use Rattle.reduction.specs.Accepting.{run-accepts, run-count}
 use Rattle.laws.specs.Asked
@@ -54,18 +54,15 @@ module _ (p : Problem) (steps : List ℕ) (first len : ℕ) where
   -- no refusal has the number 0
   not-zero : (k place : ℕ) → tryList p steps first len ≡ refused k place → k ≡ 0 → ⊥
   unfolding tryList roomFor refuseIf _>>=_
-  not-zero k place e z = go (ltb stepLimit len) (ltb (length steps) (first + len)) e
+  not-zero k place e z = by-test (ltb stepLimit len) (ltb (length steps) (first + len)) e
     where
       late : run p (take len (drop first steps)) .answer ≡ refused k place → ⊥
       late e = run-not-zero (subst (In runNumbers) z (run-refuses p (take len (drop first steps)) k place e))
 
-      number-is : (j at : ℕ) → _≡_ {A = Result ℕ} (refused j at) (refused k place) → j ≡ k
-      number-is j at e = ap (λ (r : Result ℕ). elim r as (λ _. ℕ) [ refused a b ↦ a | accepted n ↦ 0 ]) e
-
-      go : (b c : Bool) → (refuseIf b 1 zero >>= λ _. refuseIf c 12 (first + len) >>= λ _. run p (take len (drop first steps)) .answer) ≡ refused k place → ⊥
-      go true c e = let h = number-is 1 zero e in absurd (omega (arith, h, z))
-      go false true e = let h = number-is 12 (first + len) e in absurd (omega (arith, h, z))
-      go false false e = late e
+      by-test : (b c : Bool) → (refuseIf b 1 zero >>= λ _. refuseIf c 12 (first + len) >>= λ _. run p (take len (drop first steps)) .answer) ≡ refused k place → ⊥
+      by-test true c e = let h = refused-number 1 k zero place e in absurd (omega (arith, h, z))
+      by-test false true e = let h = refused-number 12 k (first + len) place e in absurd (omega (arith, h, z))
+      by-test false false e = late e
 
   -- it has 0 exactly if it is short enough, all there, and reaches the goal
   pub accepts : (replyNumber (tryList p steps first len) ≡ 0) ↔ ((len ≤ stepLimit) × (first + len ≤ length steps) × (reachesGoal p (take len (drop first steps)) ≡ true))
@@ -85,16 +82,16 @@ module _ (p : Problem) (steps : List ℕ) (first len : ℕ) where
 pub outside : (p : Problem) (steps : List ℕ) (t : Try) → length steps < t .first + t .len
     → tried p steps t ≡ record { first = t .first; len = t .len; number = if ltb stepLimit (t .len) then 1 else 12; place = if ltb stepLimit (t .len) then 0 else t .first + t .len }
 unfolding tried tryList roomFor refuseIf _>>=_ replyNumber replyPlace
-outside p steps t h = let e : ltb (length steps) (t .first + t .len) ≡ true = lt-ltb (length steps) (t .first + t .len) h in rw e (go (ltb stepLimit (t .len)))
+outside p steps t h = let e : ltb (length steps) (t .first + t .len) ≡ true = lt-ltb (length steps) (t .first + t .len) h in rw e (by-test (ltb stepLimit (t .len)))
   where
     reply : Bool → Result ℕ
     reply b = refuseIf b 1 zero >>= λ _. _>>=_ {A = Unit {0}} (refused 12 (t .first + t .len)) (λ _. run p (take (t .len) (drop (t .first) steps)) .answer)
 
-    go : (b : Bool)
+    by-test : (b : Bool)
         → _≡_ {A = Try} (record { first = t .first; len = t .len; number = replyNumber (reply b); place = replyPlace (reply b) })
         (record { first = t .first; len = t .len; number = if b then 1 else 12; place = if b then 0 else t .first + t .len })
-    go true = refl
-    go false = refl
+    by-test true = refl
+    by-test false = refl
 
 module _ (L : CaseLimits) (question site : List ℕ) (p : Problem) (is-problem : readProblem L question site ≡ accepted p) (state : List ℕ) (room : stateLength p ≤ length state) where
   abbrev rooms : Problem → Result (Unit {0})
@@ -107,14 +104,14 @@ module _ (L : CaseLimits) (question site : List ℕ) (p : Problem) (is-problem :
   -- a list that is all there gets what checking it alone answers
   checked : (ks : List ℕ) → checkSteps L question site (asNumbers ks) state .answer ≡ (refuseIf (ltb stepLimit (length ks)) 1 zero >>= λ _. run p ks .answer)
   unfolding checkSteps readyToRun takeSteps refuseIf checkedFrom _>>=_
-  checked ks = go (ltb stepLimit (length ks)) refl
+  checked ks = by-test (ltb stepLimit (length ks)) refl
     where
       third : CaseRead → Result (List ℕ)
       third c = takeSteps (asNumbers ks)
 
-      go : (b : Bool) → ltb stepLimit (length ks) ≡ b → checkSteps L question site (asNumbers ks) state .answer ≡ (_>>=_ {A = Unit {0}} (refuseIf b 1 zero) (λ _. run p ks .answer))
-      go true t = let (c, a, g) = Asked.problem-filed L question site p is-problem in rw (Asked.third-refused L question site third nothing nothing rooms c a 1 zero (rw t refl)) refl
-      go false t = let (c, a, g) = Asked.problem-filed L question site p is-problem in rw (Asked.ready L question site third nothing nothing rooms c a ks (rw t refl) (Asked.untested (c .case)) p g (Asked.untested (c .case)) has) refl
+      by-test : (b : Bool) → ltb stepLimit (length ks) ≡ b → checkSteps L question site (asNumbers ks) state .answer ≡ (_>>=_ {A = Unit {0}} (refuseIf b 1 zero) (λ _. run p ks .answer))
+      by-test true t = let (c, a, g) = Asked.problem-filed L question site p is-problem in rw (Asked.third-refused L question site third nothing nothing rooms c a 1 zero (rw t refl)) refl
+      by-test false t = let (c, a, g) = Asked.problem-filed L question site p is-problem in rw (Asked.ready L question site third nothing nothing rooms c a ks (rw t refl) (Asked.untested (c .case)) p g (Asked.untested (c .case)) has) refl
 
   pub alone : (steps : List ℕ) (first len : ℕ) → first + len ≤ length steps → tryList p steps first len ≡ checkSteps L question site (asNumbers (take len (drop first steps))) state .answer
   alone steps first len h =
@@ -132,19 +129,16 @@ module _ (L : CaseLimits) (question site steps : List ℕ) (tries : List Try) (s
   pub tries-refuse : (k place : ℕ) → tryLists L question site steps tries state .answer ≡ refused k place
       → In readyNumbers k × (tryLists L question site steps tries state .tries ≡ tries) × (tryLists L question site steps tries state .state ≡ state)
   unfolding tryLists triedFrom readyToTry
-  tries-refuse k place e = go (readyToTry L question site (length state)) (asked-by L question site nothing (λ p. roomFor (stateLength p) (length state)) nothing-by (λ p. room-by (stateLength p) (length state))) e
+  tries-refuse k place e = from-this (readyToTry L question site (length state)) (asked-by L question site nothing (λ p. roomFor (stateLength p) (length state)) nothing-by (λ p. room-by (stateLength p) (length state))) e
     where
-      go : (m : Result (Ready (Unit {0}))) → Refuses Early m → triedFrom m steps tries state .answer ≡ refused k place
+      from-this : (m : Result (Ready (Unit {0}))) → Refuses Early m → triedFrom m steps tries state .answer ≡ refused k place
           → In readyNumbers k × (triedFrom m steps tries state .tries ≡ tries) × (triedFrom m steps tries state .state ≡ state)
-      go (refused j at) h e = (subst (In readyNumbers) (number-is j at e) (told Early (refused j at) j at refl h), refl, refl)
-        where
-          number-is : (j at : ℕ) → _≡_ {A = Result ℕ} (refused j at) (refused k place) → j ≡ k
-          number-is j at e = cc
-      go (accepted r) h e = absurd (refused-accepted (sym e))
+      from-this (refused j at) h e = (subst (In readyNumbers) (refused-number j k at place e) (told Early (refused j at) j at refl h), refl, refl)
+      from-this (accepted r) h e = absurd (refused-accepted (sym e))
 
   pub tries-length : (length (tryLists L question site steps tries state .tries) ≡ length tries) × (length (tryLists L question site steps tries state .state) ≡ length state)
   unfolding tryLists triedFrom readyToTry
-  tries-length = go (readyToTry L question site (length state)) room-there
+  tries-length = from-this (readyToTry L question site (length state)) room-there
     where
       same : (f : Try → Try) (ts : List Try) → length (map f ts) ≡ length ts
       same f [] = refl
@@ -153,6 +147,6 @@ module _ (L : CaseLimits) (question site steps : List ℕ) (tries : List Try) (s
       room-there : (r : Ready (Unit {0})) → readyToTry L question site (length state) ≡ accepted r → stateLength (r .problem) ≤ length state
       room-there r e = has-room (stateLength (r .problem)) (length state) tt (Asked.parts L question site nothing nothing nothing (λ p. roomFor (stateLength p) (length state)) r e .has-room)
 
-      go : (m : Result (Ready (Unit {0}))) → ((r : Ready (Unit {0})) → m ≡ accepted r → stateLength (r .problem) ≤ length state) → (length (triedFrom m steps tries state .tries) ≡ length tries) × (length (triedFrom m steps tries state .state) ≡ length state)
-      go (refused k place) h = (refl, refl)
-      go (accepted r) h = let p = r .problem in let l = state-length p (initial p) in let q = h r refl in (same (tried p steps) tries, written-length (stateWords p (initial p)) state (omega (arith, l, q)))
+      from-this : (m : Result (Ready (Unit {0}))) → ((r : Ready (Unit {0})) → m ≡ accepted r → stateLength (r .problem) ≤ length state) → (length (triedFrom m steps tries state .tries) ≡ length tries) × (length (triedFrom m steps tries state .state) ≡ length state)
+      from-this (refused k place) h = (refl, refl)
+      from-this (accepted r) h = let p = r .problem in let l = state-length p (initial p) in let q = h r refl in (same (tried p steps) tries, written-length (stateWords p (initial p)) state (omega (arith, l, q)))

@@ -5,7 +5,7 @@ use mathlib.Core.Bool.{Bool, true, false, _&&_}
 use mathlib.Core.Option.{some}
 use mathlib.Core.List.{List, [], _∷_, _++_, map, append-assoc, append-nil, List·Memᴰ, List·Memᴰ·head, List·Memᴰ·tail}
 use native.Mathlib.Omega.{arith}
-use lib.Dec.{T, ltb, eqb, eqb-refl, T-not, ltb→lt}
+use lib.Dec.{T, ltb, eqb, eqb-refl, T-not}
 use lib.ListN.{length, getD}
 use borrow.Author.Tests.{le-ltb, le-leb}
 use Rattle.definitions.specs.Limits.{textLimit}
@@ -106,7 +106,9 @@ apart-at (k ∷ ks) (suc j) (suc i) a h l = apart-at ks j i (a .1) (omega arith)
 used-at : (ks : List Relation) (first i : ℕ) → Apart ks → i < length ks → used ks first (getD ks i noRelation .name) (getD ks i noRelation .arity) ≡ some (first + i)
 unfolding used option
 used-at ks first i a l = rw (position-at (λ (r : Relation). same (r .name) (getD ks i noRelation .name) && eqb (r .arity) (getD ks i noRelation .arity)) ks noRelation i l
-    (T-true (same (getD ks i noRelation .name) (getD ks i noRelation .name) && eqb (getD ks i noRelation .arity) (getD ks i noRelation .arity)) (and-T (same (getD ks i noRelation .name) (getD ks i noRelation .name)) _ (same-refl (getD ks i noRelation .name)) (eqb-refl (getD ks i noRelation .arity))))
+    (T-true (same (getD ks i noRelation .name) (getD ks i noRelation .name) && eqb (getD ks i noRelation .arity) (getD ks i noRelation .arity))
+    (and-T (same (getD ks i noRelation .name) (getD ks i noRelation .name)) _ (same-refl (getD ks i noRelation .name))
+    (eqb-refl (getD ks i noRelation .arity))))
     (λ j h. ap (λ (b : Bool). b && eqb (getD ks j noRelation .arity) (getD ks i noRelation .arity)) (apart-at ks j i a h l))) refl
 
 pub tuple-added : (rs : List Relation) (first n : ℕ) (labels : List Label) (acc : List Tuple) (at : ℕ) (name : List ℕ) (es : List Element) (t : Tuple)

@@ -38,26 +38,26 @@ flat-same {B} f g a b (suc m) h = ap₂ _++_ (rw (add-zero a, add-zero b) at (h 
 flat-if : {B : Type 0} (test : ℕ → Bool) (f : ℕ → List B) (l : List ℕ) → flatMap (λ x. if test x then f x else []) l ≡ flatMap f (filter test l)
 unfolding flatMap filter
 flat-if test f [] = refl
-flat-if {B} test f (x ∷ l) = go (test x) (flat-if test f l)
+flat-if {B} test f (x ∷ l) = by-test (test x) (flat-if test f l)
   where
-    go : (b : Bool) → flatMap (λ x. if test x then f x else []) l ≡ flatMap f (filter test l) → (if b then f x else []) ++ flatMap (λ x. if test x then f x else []) l ≡ flatMap f (if b then x ∷ filter test l else filter test l)
-    go true e = ap (λ (t : List B). f x ++ t) e
-    go false e = e
+    by-test : (b : Bool) → flatMap (λ x. if test x then f x else []) l ≡ flatMap f (filter test l) → (if b then f x else []) ++ flatMap (λ x. if test x then f x else []) l ≡ flatMap f (if b then x ∷ filter test l else filter test l)
+    by-test true e = ap (λ (t : List B). f x ++ t) e
+    by-test false e = e
 
 -- ---- counted bits are the numbers of those that pass
 
 filter-snoc : (test : ℕ → Bool) (l : List ℕ) (x : ℕ) → length (filter test (l ++ (x ∷ []))) ≡ length (filter test l) + num (test x)
 unfolding filter
-filter-snoc test [] x = go (test x)
+filter-snoc test [] x = by-test (test x)
   where
-    go : (b : Bool) → length (if b then x ∷ [] else []) ≡ 0 + num b
-    go true = refl
-    go false = refl
-filter-snoc test (y ∷ l) x = go (test y) (filter-snoc test l x)
+    by-test : (b : Bool) → length (if b then x ∷ [] else []) ≡ 0 + num b
+    by-test true = refl
+    by-test false = refl
+filter-snoc test (y ∷ l) x = by-test (test y) (filter-snoc test l x)
   where
-    go : (b : Bool) → length (filter test (l ++ (x ∷ []))) ≡ length (filter test l) + num (test x) → length (if b then y ∷ filter test (l ++ (x ∷ [])) else filter test (l ++ (x ∷ []))) ≡ length (if b then y ∷ filter test l else filter test l) + num (test x)
-    go true e = omega arith
-    go false e = e
+    by-test : (b : Bool) → length (filter test (l ++ (x ∷ []))) ≡ length (filter test l) + num (test x) → length (if b then y ∷ filter test (l ++ (x ∷ [])) else filter test (l ++ (x ∷ []))) ≡ length (if b then y ∷ filter test l else filter test l) + num (test x)
+    by-test true e = omega arith
+    by-test false e = e
 
 module _ (p test : ℕ → Bool) (a : ℕ) where
   count-filter : (k : ℕ) → ((i : ℕ) → i < k → p (a + i) ≡ test i) → count p a k ≡ length (filter test (below k))

@@ -17,12 +17,12 @@ use Rattle.definitions.specs.Atoms.{Problem, relationAt, atoms}
 use Rattle.definitions.specs.Actions.{actions}
 use Rattle.definitions.specs.Built.{pickedRows, bound}
 use Rattle.definitions.specs.Outcome.{Plan, plan, asText, sizesOf}
-use Rattle.definitions.specs.Desk.{printLine, sizesLine, said, pickLine, stepLine, report, printed, Sheets, sheets, checkedPlan, answerOf, answer, desk}
+use Rattle.definitions.specs.Desk.{printLine, sizesLine, said, pickLine, stepLine, report, printed, CaseSheets, sheets, checkedPlan, answerOf, answer, desk}
 use Rattle.laws.specs.Means.{Good}
 use Rattle.laws.specs.Labels.{LabelsFit}
 use Rattle.laws.specs.Few.{rows-few}
 use Rattle.names.specs.declared.Signature.{Signature}
-use Rattle.names.specs.Signatures.{Sound}
+use Rattle.names.specs.Signatures.{SoundSignature}
 use Rattle.reporting.specs.Cutting.{CutAt}
 use Rattle.reporting.specs.Report.{nameAt, counts, picks, headOf}
 use Rattle.reporting.specs.Agrees.{Agrees, its-name, its-arity, counts-agree, picks-agree-all}
@@ -43,7 +43,7 @@ module _ (input : List ℕ) (h : length input ≤ 16384) (question site : ℕ) (
   cut-answer : desk input ≡ printed (if steps then checkedPlan (take question input) (take (site - question) (drop question input)) (drop site input) else plan early (take question input) (take (site - question) (drop question input)) (asText (drop site input)) 1024 8192)
   unfolding answerOf
   cut-answer =
-      fits input h ∙ ap (λ (s : Sheets). printed (answerOf s)) (c .sheets)
+      fits input h ∙ ap (λ (s : CaseSheets). printed (answerOf s)) (c .sheets)
       ∙ ap (λ (b : Bool). printed (if b then checkedPlan (take question input) (take (site - question) (drop question input)) (drop site input) else plan early (take question input) (take (site - question) (drop question input)) (asText (drop site input)) 1024 8192)) (sym (c .begins))
 
   pub checked-answer : steps ≡ true → desk input ≡ printed (checkedPlan (take question input) (take (site - question) (drop question input)) (drop site input))
@@ -74,7 +74,7 @@ module _ (ls : List Label) (p : Problem) (F : List Tuple) (ks : List ℕ) (say :
 
 -- ---- the report up to its steps fits: a pick has a line of 57 bytes at the most
 
-module _ (ls : List Label) (p : Problem) (F : List Tuple) (q : List ℕ) (g : Signature) (n : ℕ) (words : List ℕ) (A : Agrees p F q g n words) (L : LabelsFit n ls) (s : Sound q g) (some : 1 ≤ n) (few : n ≤ 16) (named : (j : ℕ) → j < g .chosen → length (nameAt q g (g .rels + j)) ≤ 12) where
+module _ (ls : List Label) (p : Problem) (F : List Tuple) (q : List ℕ) (g : Signature) (n : ℕ) (words : List ℕ) (A : Agrees p F q g n words) (L : LabelsFit n ls) (s : SoundSignature q g) (some : 1 ≤ n) (few : n ≤ 16) (named : (j : ℕ) → j < g .chosen → length (nameAt q g (g .rels + j)) ≤ 12) where
   line-short : (j row : ℕ) → j < g .chosen → length (pickLine ls p (5 + (g .rels + j)) row) ≤ 57
   unfolding pickLine
   line-short j row h =
@@ -92,7 +92,7 @@ module _ (ls : List Label) (p : Problem) (F : List Tuple) (q : List ℕ) (g : Si
       let c = ap (λ (rs : List ℕ). sum (map (λ k. length (pickedRows p F k)) rs)) (A .chosen) in
       omega (arith, rows-few p G F)
 
-pub head-short : (say : ℕ → List ℕ) (q : List ℕ) (g : Signature) (n atoms actions bound : ℕ) (words : List ℕ) → Sound q g → ((j : ℕ) → j < g .chosen → length (nameAt q g (g .rels + j)) ≤ 12)
+pub head-short : (say : ℕ → List ℕ) (q : List ℕ) (g : Signature) (n atoms actions bound : ℕ) (words : List ℕ) → SoundSignature q g → ((j : ℕ) → j < g .chosen → length (nameAt q g (g .rels + j)) ≤ 12)
     → length (headOf say q g n atoms actions bound words) ≤ length (picks say q g n words) + 250
 unfolding headOf
 head-short say q g n atoms actions bound words s named =

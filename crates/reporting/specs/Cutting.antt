@@ -77,11 +77,11 @@ module _ (s : List ℕ) (at end : ℕ) (h : at ≤ end) (k : end ≤ length s) (
   record-first ps e = rw e
 
   pub record-is : isRecord w (split 9 (slice at end s)) ≡ same (slice at tab s) w
-  record-is = go (decLt tab end)
+  record-is = from-this (decLt tab end)
     where
-      go : Dec (tab < end) → isRecord w (split 9 (slice at end s)) ≡ same (slice at tab s) w
-      go (yes l) = record-first _ (pieces-at 9 at end s h k tab q l)
-      go (no l) =
+      from-this : Dec (tab < end) → isRecord w (split 9 (slice at end s)) ≡ same (slice at tab s) w
+      from-this (yes l) = record-first _ (pieces-at 9 at end s h k tab q l)
+      from-this (no l) =
           let e : tab ≡ end = omega (arith, end-within 9 at end s h k) in
           record-first [] (pieces-whole 9 at end s h k tab q (omega arith) ∙ rw e)
 
@@ -139,18 +139,18 @@ pub record CutAt (input : List ℕ) (question site : ℕ) (steps : Bool) : Type 
   pub begins : steps ≡ startsWithStep (lines (drop site input))
 
 take-min : (c : ℕ) (t : List ℕ) → take (min c (length t)) t ≡ take c t
-take-min c t = go (decLt c (length t))
+take-min c t = from-this (decLt c (length t))
   where
-    go : Dec (c < length t) → take (min c (length t)) t ≡ take c t
-    go (yes l) = rw (min-eq-left {n = c} {m = length t} (omega arith))
-    go (no l) = rw (min-eq-right {n = length t} {m = c} (omega arith)) (take-length t ∙ sym (take-all c t (omega arith)))
+    from-this : Dec (c < length t) → take (min c (length t)) t ≡ take c t
+    from-this (yes l) = rw (min-eq-left {n = c} {m = length t} (omega arith))
+    from-this (no l) = rw (min-eq-right {n = length t} {m = c} (omega arith)) (take-length t ∙ sym (take-all c t (omega arith)))
 
 drop-min : (c : ℕ) (t : List ℕ) → drop (min c (length t)) t ≡ drop c t
-drop-min c t = go (decLt c (length t))
+drop-min c t = from-this (decLt c (length t))
   where
-    go : Dec (c < length t) → drop (min c (length t)) t ≡ drop c t
-    go (yes l) = rw (min-eq-left {n = c} {m = length t} (omega arith))
-    go (no l) = rw (min-eq-right {n = length t} {m = c} (omega arith)) (drop-length t ∙ sym (drop-of-length-le t {i = c} (omega arith)))
+    from-this : Dec (c < length t) → drop (min c (length t)) t ≡ drop c t
+    from-this (yes l) = rw (min-eq-left {n = c} {m = length t} (omega arith))
+    from-this (no l) = rw (min-eq-right {n = length t} {m = c} (omega arith)) (drop-length t ∙ sym (drop-of-length-le t {i = c} (omega arith)))
 
 module _ (input : List ℕ) (question : ℕ) (q : question ≡ min (afterRule (length input) (lines input)) (length input)) (more : List ℕ) (m : more ≡ drop question input)
     (site : ℕ) (l : site ≤ length more) (e : site ≡ firstPickOrStep (length more) (lines more)) (rest : List ℕ) (r : rest ≡ drop site more) (steps : Bool) (b : steps ≡ startsWithStep (lines rest)) where

@@ -14,7 +14,7 @@ use Rattle.definitions.specs.Atoms.{placesOf, wordsFor}
 use Rattle.definitions.specs.Desk.{printLine, sizesLine}
 use Rattle.bits.specs.Table.{bit, count}
 use Rattle.names.specs.declared.Signature.{Signature}
-use Rattle.names.specs.Signatures.{Sound}
+use Rattle.names.specs.Signatures.{SoundSignature}
 use Rattle.tuples.specs.Marks.{firstWord}
 use Rattle.tuples.proofs.Words.{words-most}
 
@@ -125,7 +125,7 @@ module _ (say : ℕ → List ℕ) (words : List ℕ) (first : ℕ) (name : List 
 
 -- ---- what a sound signature says of `choose` j
 
-module _ (q : List ℕ) (g : Signature) (s : Sound q g) (j : ℕ) (h : j < g .chosen) where
+module _ (q : List ℕ) (g : Signature) (s : SoundSignature q g) (j : ℕ) (h : j < g .chosen) where
   pub its-arity : arity g j ≤ 3
   its-arity = s .arities (g .rels + j) (omega arith) .1
 
@@ -142,7 +142,7 @@ module _ (q : List ℕ) (g : Signature) (s : Sound q g) (j : ℕ) (h : j < g .ch
 pub power-few : (n k : ℕ) → n ≤ 16 → k ≤ 3 → n ^ k ≤ 4096
 power-few n k h l = le-trans (pow-le-pow-left h k) (pow-le-pow-right {n = 16} (omega arith) l)
 
-pub first-few : (q : List ℕ) (g : Signature) → Sound q g → (n j r : ℕ) → n ≤ 16 → j < g .chosen → r ≡ firstWord g n (g .rels) (g .rels + j - g .rels) → r ≤ 64 * j
+pub first-few : (q : List ℕ) (g : Signature) → SoundSignature q g → (n j r : ℕ) → n ≤ 16 → j < g .chosen → r ≡ firstWord g n (g .rels) (g .rels + j - g .rels) → r ≤ 64 * j
 unfolding wordsFor
 first-few q g s n j r h l e =
     let z : g .rels + j - g .rels ≡ j = omega arith in

@@ -15,7 +15,7 @@ use Rattle.definitions.specs.Outcome.{Sizes}
 use Rattle.definitions.specs.Desk.{printLine, sizesLine, stepLine}
 use Rattle.laws.specs.Booleans.{T-and-r}
 use Rattle.names.specs.declared.Signature.{Signature}
-use Rattle.names.specs.Signatures.{Sound}
+use Rattle.names.specs.Signatures.{SoundSignature}
 use Rattle.printing.specs.Decimals.{decimal-length}
 use Rattle.printing.specs.Lines.{field, no-is, ok-is, step-is, sizes-is, count-is}
 use Rattle.reporting.specs.Report.{nameAt, countAt, counts}
@@ -25,11 +25,11 @@ use Rattle.reporting.specs.Report.{nameAt, countAt, counts}
 digits-most : (f k : ℕ) → length (decimalIn f k) ≤ f
 unfolding decimalIn
 digits-most zero k = omega arith
-digits-most (suc f) k = go (leb k 9) (digits-most f (k / 10))
+digits-most (suc f) k = by-test (leb k 9) (digits-most f (k / 10))
   where
-    go : (b : Bool) → length (decimalIn f (k / 10)) ≤ f → length (if b then (k + 48) ∷ [] else decimalIn f (k / 10) ++ ((k % 10 + 48) ∷ [])) ≤ suc f
-    go true h = omega arith
-    go false h = rw (length-append (decimalIn f (k / 10)) ((k % 10 + 48) ∷ [])) (omega arith)
+    by-test : (b : Bool) → length (decimalIn f (k / 10)) ≤ f → length (if b then (k + 48) ∷ [] else decimalIn f (k / 10) ++ ((k % 10 + 48) ∷ [])) ≤ suc f
+    by-test true h = omega arith
+    by-test false h = rw (length-append (decimalIn f (k / 10)) ((k % 10 + 48) ∷ [])) (omega arith)
 
 field-most : (k : ℕ) → length (field k) ≤ 21
 unfolding field decimal
@@ -144,6 +144,6 @@ steps-short (k ∷ ks) h =
     let c = length-append (stepLine k) (flatMap stepLine ks) in
     omega arith
 
-pub counts-short : (q : List ℕ) (g : Signature) (n : ℕ) (words : List ℕ) → Sound q g → ((j : ℕ) → j < g .chosen → length (nameAt q g (g .rels + j)) ≤ 12) → length (counts q g n words) ≤ 160
+pub counts-short : (q : List ℕ) (g : Signature) (n : ℕ) (words : List ℕ) → SoundSignature q g → ((j : ℕ) → j < g .chosen → length (nameAt q g (g .rels + j)) ≤ 12) → length (counts q g n words) ≤ 160
 unfolding counts countAt below
 counts-short q g n words s named = let h = flat-short (countAt q g n words) 40 0 (g .chosen) (λ j h. let z : 0 + j ≡ j = omega arith in rw z (count-short (nameAt q g (g .rels + j)) _ (named j h))) in let c = s .chosen-le in omega arith

@@ -5,7 +5,7 @@ ghost use lib.ListN.{length};
 ghost use lib.Seq.{slice};
 ghost use Rattle.definitions.specs.Text.{lines, split};
 ghost use Rattle.definitions.specs.Desk.{isRecord, afterRule, firstPickOrStep, startsWithStep};
-ghost use Rattle.names.specs.Signatures.{Sound};
+ghost use Rattle.names.specs.Signatures.{SoundSignature};
 ghost use Rattle.printing.specs.Printed.{Prints};
 ghost use Rattle.printing.specs.Lines.{Spans, saidBy};
 ghost use Rattle.reporting.specs.Cutting.{LineAt, CutAt};
@@ -119,7 +119,7 @@ fn count(
     words: &[u64],
     j: usize,
 ) -> usize
-    requires { ⌜ Sound (now q) g × (1 ≤ n) × (n ≤ 16) × (j < g .chosen) × (64 * g .chosen ≤ length (now words)) × (at + length (countAt (now q) g n (now words) j) ≤ length (now out)) ⌝ }
+    requires { ⌜ SoundSignature (now q) g × (1 ≤ n) × (n ≤ 16) × (j < g .chosen) × (64 * g .chosen ≤ length (now words)) × (at + length (countAt (now q) g n (now words) j) ≤ length (now out)) ⌝ }
     ensures { λ r. ⌜ Prints (countAt (now (q .entry)) g n (now (words .entry)) j) (now (out .entry)) at (now (out .exit)) r ⌝ }
 {
     let lo = g.rels;
@@ -135,7 +135,7 @@ fn count(
 
 // The `count` line of each `choose`.
 fn counts(out: &mut [u8], at: usize, q: &[u8], g: Signature, n: usize, words: &[u64]) -> usize
-    requires { ⌜ Sound (now q) g × (1 ≤ n) × (n ≤ 16) × (64 * g .chosen ≤ length (now words)) × (at + length («counts-of» (now q) g n (now words)) ≤ length (now out)) ⌝ }
+    requires { ⌜ SoundSignature (now q) g × (1 ≤ n) × (n ≤ 16) × (64 * g .chosen ≤ length (now words)) × (at + length («counts-of» (now q) g n (now words)) ≤ length (now out)) ⌝ }
     ensures { λ r. ⌜ Prints («counts-of» (now (q .entry)) g n (now (words .entry))) (now (out .entry)) at (now (out .exit)) r ⌝ }
 {
     let m = g.chosen;
@@ -220,7 +220,7 @@ fn picked(
     words: &[u64],
     j: usize,
 ) -> usize
-    requires { ⌜ Sound (now q) g × Spans (now site) (now labels) n × (1 ≤ n) × (n ≤ 16) × (j < g .chosen) × (64 * g .chosen ≤ length (now words)) × (at + length (picksAt (saidBy (now site) (now labels)) (now q) g n (now words) j) ≤ length (now out)) ⌝ }
+    requires { ⌜ SoundSignature (now q) g × Spans (now site) (now labels) n × (1 ≤ n) × (n ≤ 16) × (j < g .chosen) × (64 * g .chosen ≤ length (now words)) × (at + length (picksAt (saidBy (now site) (now labels)) (now q) g n (now words) j) ≤ length (now out)) ⌝ }
     ensures { λ r. ⌜ Prints (picksAt (saidBy (now (site .entry)) (now (labels .entry))) (now (q .entry)) g n (now (words .entry)) j) (now (out .entry)) at (now (out .exit)) r ⌝ }
 {
     let lo = g.rels;
@@ -255,7 +255,7 @@ fn picks(
     n: usize,
     words: &[u64],
 ) -> usize
-    requires { ⌜ Sound (now q) g × Spans (now site) (now labels) n × (1 ≤ n) × (n ≤ 16) × (64 * g .chosen ≤ length (now words)) × (at + length («picks-of» (saidBy (now site) (now labels)) (now q) g n (now words)) ≤ length (now out)) ⌝ }
+    requires { ⌜ SoundSignature (now q) g × Spans (now site) (now labels) n × (1 ≤ n) × (n ≤ 16) × (64 * g .chosen ≤ length (now words)) × (at + length («picks-of» (saidBy (now site) (now labels)) (now q) g n (now words)) ≤ length (now out)) ⌝ }
     ensures { λ r. ⌜ Prints («picks-of» (saidBy (now (site .entry)) (now (labels .entry))) (now (q .entry)) g n (now (words .entry))) (now (out .entry)) at (now (out .exit)) r ⌝ }
 {
     let m = g.chosen;
@@ -281,7 +281,7 @@ pub fn head(
     bound: usize,
     words: &[u64],
 ) -> usize
-    requires { ⌜ Sound (now q) g × Spans (now site) (now labels) n × (1 ≤ n) × (n ≤ 16) × (64 * g .chosen ≤ length (now words)) × (length (headOf (saidBy (now site) (now labels)) (now q) g n atoms actions bound (now words)) ≤ length (now out)) ⌝ }
+    requires { ⌜ SoundSignature (now q) g × Spans (now site) (now labels) n × (1 ≤ n) × (n ≤ 16) × (64 * g .chosen ≤ length (now words)) × (length (headOf (saidBy (now site) (now labels)) (now q) g n atoms actions bound (now words)) ≤ length (now out)) ⌝ }
     ensures { λ r. ⌜ Prints (headOf (saidBy (now (site .entry)) (now (labels .entry))) (now (q .entry)) g n atoms actions bound (now (words .entry))) (now (out .entry)) 0 (now (out .exit)) r ⌝ }
 {
     let sized = printing::sizes_line(out, 0, n, atoms, actions, bound);

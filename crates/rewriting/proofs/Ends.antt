@@ -26,7 +26,7 @@ use Rattle.tree.specs.Postorder.{pad, post, Rows, leafKind, leafRow}
 use Rattle.tree.specs.declared.Row.{Row}
 use Rattle.rewriting.specs.Trees.{treeIn, quantNode, quantKind, chain, Sorted, tree-lit, tree-quant, post-nest, nodes-nest}
 use Rattle.rewriting.specs.Sizes.{known-few}
-use Rattle.rewriting.specs.Ready.{levelOf, Adds, pushed, numbered, Fine, Fixed, Ready, ListReady, VarsReady, Walked, Opened, Filled}
+use Rattle.rewriting.specs.Ready.{levelOf, Adds, pushed, numbered, Fine, Fixed, ReadyAt, ListReady, VarsReady, Walked, Opened, Filled}
 use Rattle.rewriting.specs.declared.Bound.{Bound}
 use Rattle.rewriting.specs.declared.Leaf.{Leaf}
 use Rattle.rewriting.proofs.Tables.{adds-push, adds-number, adds-both, adds-as}
@@ -67,7 +67,7 @@ module _ (s : List ℕ) (g : Signature) (t : Rows) (f : Fixed s g t) where
   lent-sorts {qs} F T m l h =
       ap (λ (x : List ℕ). map (sortOf (typesIn s x T 8)) qs) (l .from-is) ∙ ap (λ (x : List ℕ). map (sortOf (typesIn s (g .from) x 8)) qs) (l .to-is) ∙ own-sorts h
 
-module _ {s : List ℕ} {at : ℕ} {g : Signature} {sc : Scope} {t : Rows} (k : Quant) (w : Ready s at g sc t) (v : IsQuant k (w .f)) where
+module _ {s : List ℕ} {at : ℕ} {g : Signature} {sc : Scope} {t : Rows} (k : Quant) (w : ReadyAt s at g sc t) (v : IsQuant k (w .f)) where
   pub quant-fine : Fine (allOf s g) (names s sc) (t .len) (t .nodes) (quant k (v .q ∷ v .qs) (v .g))
   quant-fine = subst (λ (f : Formula). Fine (allOf s g) (names s sc) (t .len) (t .nodes) f) (v .is) (w .fine)
 
@@ -95,7 +95,7 @@ module _ {s : List ℕ} {at : ℕ} {g : Signature} {sc : Scope} {t : Rows} (k : 
         ap (λ (n : ℕ). drop (at + 9 + n) s) (sym (length-append (writeList (v .q ∷ v .qs)) (41 ∷ 32 ∷ [])))
         ∙ front-rest s (writeList (v .q ∷ v .qs) ++ (41 ∷ 32 ∷ [])) (write (v .g) ++ (41 ∷ w .rest)) (at + 9) (quant-text ∙ sym (regroup (writeTyped (v .q)) (writeMore (v .qs)) (write (v .g) ++ (41 ∷ w .rest))))
 
-    abbrev pub quant-ready : Ready s (d .at) g (d .scope) (numbered t n)
+    abbrev pub quant-ready : ReadyAt s (d .at) g (d .scope) (numbered t n)
     quant-ready = record {
       f = v .g;
       rest = 41 ∷ w .rest;
@@ -152,11 +152,13 @@ known-literal : (rs : List Relation) (n : List ℕ) (vs : List (List ℕ)) → i
 unfolding isKnown
 known-literal rs n vs = refl
 
-leaf-adds : (b : Bool) (rs : List Relation) (scope : List (List ℕ)) (n : List ℕ) (vs : List (List ℕ)) (t u : Rows) (row : Row) → length (t .at) ≡ 64 → t .len < 64 → row ≡ leafRow b (option (numberOf rs n) zero (λ k. k)) (map (λ v. levelOf scope v) vs) → u ≡ pushed t row → Adds t (post (t .nodes) (leafOf b rs scope n vs)) (length (nodes (leafOf b rs scope n vs))) u
+leaf-adds : (b : Bool) (rs : List Relation) (scope : List (List ℕ)) (n : List ℕ) (vs : List (List ℕ)) (t u : Rows) (row : Row) → length (t .at) ≡ 64
+    → t .len < 64 → row ≡ leafRow b (option (numberOf rs n) zero (λ k. k)) (map (λ v. levelOf scope v) vs) → u ≡ pushed t row
+    → Adds t (post (t .nodes) (leafOf b rs scope n vs)) (length (nodes (leafOf b rs scope n vs))) u
 unfolding leafOf post nodes
 leaf-adds b rs scope n vs t u row h k er eu = adds-as (ap (λ (x : Row). x ∷ []) er) refl (adds-push t u row h k eu)
 
-module _ {s : List ℕ} {at : ℕ} {g : Signature} {sc : Scope} {t : Rows} (w : Ready s at g sc t) (v : IsLit (w .f)) (a : ℕ) (ea : a ≡ (at + 1) + span false (drop (at + 1) s)) where
+module _ {s : List ℕ} {at : ℕ} {g : Signature} {sc : Scope} {t : Rows} (w : ReadyAt s at g sc t) (v : IsLit (w .f)) (a : ℕ) (ea : a ≡ (at + 1) + span false (drop (at + 1) s)) where
   lit-text : drop (at + 1) s ≡ v .n ++ (writeVars (v .v ∷ v .vs) ++ (41 ∷ w .rest))
   lit-text = sym (drop-drop 1 at s) ∙ ap (λ (l : List ℕ). drop 1 l) (w .is ∙ ap (λ (f : Formula). write f ++ w .rest) (v .is) ∙ lay-literal (v .n) (v .v ∷ v .vs) (w .rest))
 

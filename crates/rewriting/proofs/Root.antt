@@ -19,29 +19,33 @@ use Rattle.definitions.specs.Writing.{accepted-texts}
 use Rattle.definitions.specs.Sheets.{Question, relationsOf, firstChosen, firstRel}
 use Rattle.definitions.specs.Tree.{Tree, Trees, andNode, end, _then_, asIs, totalities, joined, treeOf, nodes, nodesAll, howMany}
 use Rattle.text.specs.Spans.{kindOf}
-use Rattle.names.specs.Signatures.{Sound, allOf, relsOf, chosenOf, typesOf, relationIn, relationsFrom}
+use Rattle.names.specs.Signatures.{SoundSignature, allOf, relsOf, chosenOf, typesOf, relationIn, relationsFrom}
 use Rattle.names.specs.declared.Signature.{Signature}
-use Rattle.names.proofs.Laws.{all-are, length-relations}
+use Rattle.names.proofs.Laws.{all-are, length-relations, length-names}
 use Rattle.formula.specs.Seen.{ruleNumber, totalOf, names}
 use Rattle.formula.specs.Spans.{chosen-are, totals-next}
 use Rattle.formula.specs.Bound.{slice-rest, names-none}
 use Rattle.formula.specs.declared.Scope.{Scope}
 use Rattle.tree.specs.Tables.{IsTable, Fits}
 use Rattle.tree.specs.declared.Nodes.{Nodes}
-use Rattle.tree.specs.Postorder.{post, postAll, inner, innerAll, Rows, rowsIn, Small, AllSmall, leafRow, quantRow, joinRow}
+use Rattle.tree.specs.Lent.{rows-many}
+use Rattle.tree.specs.Postorder.{post, postAll, inner, innerAll, Rows, rowsIn, rowsFrom, Small, AllSmall, leafRow, quantRow, joinRow}
 use Rattle.tree.specs.Pass.{Ranged}
 use Rattle.tree.specs.Whole.{Of, tree-ranged}
 use Rattle.tree.specs.declared.Row.{Row}
 use Rattle.rewriting.specs.Trees.{treeIn, length-post, length-postAll, rows-le}
 use Rattle.rewriting.specs.Sizes.{FewPlaces, FewSorts, tree-small}
-use Rattle.rewriting.specs.Ready.{Adds, pushed, numbered, Ready, ReadyIn, Walked}
+use Rattle.rewriting.specs.Ready.{Adds, pushed, numbered, ReadyAt, ReadyIn, Walked, Walks}
 use Rattle.rewriting.specs.Rule.{totalityOf, oneTotality, Accepted, rootOf, IsQuestion, RowsOf, TableOf}
 use Rattle.rewriting.proofs.Tables.{adds-none, adds-push, adds-at, adds-number, adds-both, adds-as}
-use Rattle.rewriting.proofs.Words.{length-all, types-many}
-use Rattle.rewriting.proofs.Turns.{over, first-rows, joined as joined-adds}
+use Rattle.rewriting.proofs.Words.{length-all}
+use Rattle.rewriting.proofs.Turns.{over, walked-len, walked-nodes, first-rows, joined as joined-adds}
 
 -- ---- one totality
-pub totality-adds : (t u x y : Rows) (r σ τ : ℕ) (a b c : Row) → length (t .at) ≡ 64 → t .len + 3 ≤ 64 → a ≡ leafRow true r (0 ∷ 1 ∷ []) → u ≡ pushed (numbered t 2) a → b ≡ quantRow 1 (t .nodes + 1) 1 τ → x ≡ record { at = set (u .at) (t .len + 1) b; len = t .len + 2; nodes = u .nodes } → c ≡ quantRow 0 (t .nodes) 0 σ → y ≡ record { at = set (x .at) (t .len + 2) c; len = t .len + 3; nodes = x .nodes } → Adds t (post (t .nodes) (totalityOf r σ τ)) 2 y
+pub totality-adds : (t u x y : Rows) (r σ τ : ℕ) (a b c : Row) → length (t .at) ≡ 64 → t .len + 3 ≤ 64 → a ≡ leafRow true r (0 ∷ 1 ∷ []) → u
+    ≡ pushed (numbered t 2) a → b ≡ quantRow 1 (t .nodes + 1) 1 τ → x ≡ record { at = set (u .at) (t .len + 1) b; len = t .len + 2; nodes = u .nodes }
+    → c ≡ quantRow 0 (t .nodes) 0 σ → y ≡ record { at = set (x .at) (t .len + 2) c; len = t .len + 3; nodes = x .nodes }
+    → Adds t (post (t .nodes) (totalityOf r σ τ)) 2 y
 unfolding post
 totality-adds t u x y r σ τ a b c h l ea eu eb ex ec ey =
     let P = adds-number t 2 h in
@@ -56,35 +60,35 @@ totality-adds t u x y r σ τ a b c h l ea eu eb ex ec ey =
 -- what the kind adds
 pub one-none : (k r σ τ : ℕ) (t : Rows) → length (t .at) ≡ 64 → totalOf k ≡ 0 → Adds t (postAll (t .nodes) (oneTotality k r σ τ)) (length (nodesAll (oneTotality k r σ τ))) t
 unfolding oneTotality totalOf post nodes
-one-none k r σ τ t h e = go (isTotal (kindOf k)) e
+one-none k r σ τ t h e = by-test (isTotal (kindOf k)) e
   where
-    go : (b : Bool) → _≡_ {A = ℕ} (if b then 1 else 0) 0 → Adds t (postAll (t .nodes) (if b then totalityOf r σ τ then end else end)) (length (nodesAll (if b then totalityOf r σ τ then end else end))) t
-    go true q = absurd (omega arith)
-    go false q = adds-none t h
+    by-test : (b : Bool) → _≡_ {A = ℕ} (if b then 1 else 0) 0 → Adds t (postAll (t .nodes) (if b then totalityOf r σ τ then end else end)) (length (nodesAll (if b then totalityOf r σ τ then end else end))) t
+    by-test true q = absurd (omega arith)
+    by-test false q = adds-none t h
 
 pub one-some : (k r σ τ : ℕ) (t u : Rows) → (totalOf k ≡ 0 → ⊥) → Adds t (post (t .nodes) (totalityOf r σ τ)) 2 u → Adds t (postAll (t .nodes) (oneTotality k r σ τ)) (length (nodesAll (oneTotality k r σ τ))) u
 unfolding oneTotality totalOf post nodes
-one-some k r σ τ t u e a = go (isTotal (kindOf k)) e
+one-some k r σ τ t u e a = by-test (isTotal (kindOf k)) e
   where
-    go : (b : Bool) → (_≡_ {A = ℕ} (if b then 1 else 0) 0 → ⊥) → Adds t (postAll (t .nodes) (if b then totalityOf r σ τ then end else end)) (length (nodesAll (if b then totalityOf r σ τ then end else end))) u
-    go true q = adds-as (sym (append-nil (post (t .nodes) (totalityOf r σ τ)))) refl a
-    go false q = absurd (q refl)
+    by-test : (b : Bool) → (_≡_ {A = ℕ} (if b then 1 else 0) 0 → ⊥) → Adds t (postAll (t .nodes) (if b then totalityOf r σ τ then end else end)) (length (nodesAll (if b then totalityOf r σ τ then end else end))) u
+    by-test true q = adds-as (sym (append-nil (post (t .nodes) (totalityOf r σ τ)))) refl a
+    by-test false q = absurd (q refl)
 
 one-rows : (k r σ τ v : ℕ) → length (postAll v (oneTotality k r σ τ)) ≡ 3 * totalOf k
 unfolding oneTotality totalOf post
-one-rows k r σ τ v = go (isTotal (kindOf k))
+one-rows k r σ τ v = by-test (isTotal (kindOf k))
   where
-    go : (b : Bool) → length (postAll v (if b then totalityOf r σ τ then end else end)) ≡ 3 * (if b then 1 else 0)
-    go true = refl
-    go false = refl
+    by-test : (b : Bool) → length (postAll v (if b then totalityOf r σ τ then end else end)) ≡ 3 * (if b then 1 else 0)
+    by-test true = refl
+    by-test false = refl
 
 one-nodes : (k r σ τ : ℕ) → length (nodesAll (oneTotality k r σ τ)) ≡ 2 * totalOf k
 unfolding oneTotality totalOf nodes
-one-nodes k r σ τ = go (isTotal (kindOf k))
+one-nodes k r σ τ = by-test (isTotal (kindOf k))
   where
-    go : (b : Bool) → length (nodesAll (if b then totalityOf r σ τ then end else end)) ≡ 2 * (if b then 1 else 0)
-    go true = refl
-    go false = refl
+    by-test : (b : Bool) → length (nodesAll (if b then totalityOf r σ τ then end else end)) ≡ 2 * (if b then 1 else 0)
+    by-test true = refl
+    by-test false = refl
 
 -- ---- all totalities
 -- those of the declared relations from i on
@@ -174,17 +178,22 @@ pub record Formed (s : List ℕ) (at stop : ℕ) (g : Signature) : Type 0 where
 
 pub formed : (s : List ℕ) (at stop : ℕ) (g : Signature) → Accepted s at stop g → Formed s at stop g
 unfolding ruleNumber option
-formed s at stop g a = go (readFormula (slice at stop s)) refl (a .fine)
+formed s at stop g a = by-option (readFormula (slice at stop s)) refl (a .fine)
   where
-    tests : (f : Formula) → readFormula (slice at stop s) ≡ some f → (x y z w v : Bool) → ltb formLimit (allForms (chosenOf s g) f) ≡ x → ltb nestingLimit (nesting f) ≡ y → isKnown (allOf s g) f ≡ z → _≡_ {A = ℕ} (if x || y then 6 else if not z then 7 else if not w then 8 else if not v then 19 else 0) 0 → Formed s at stop g
+    tests : (f : Formula) → readFormula (slice at stop s) ≡ some f → (x y z w v : Bool) → ltb formLimit (allForms (chosenOf s g) f) ≡ x
+        → ltb nestingLimit (nesting f) ≡ y → isKnown (allOf s g) f ≡ z
+        → _≡_ {A = ℕ} (if x || y then 6 else if not z then 7 else if not w then 8 else if not v then 19 else 0) 0 → Formed s at stop g
     tests f e true y z w v p q r k = absurd (omega arith)
     tests f e false true z w v p q r k = absurd (omega arith)
     tests f e false false false w v p q r k = absurd (omega arith)
     tests f e false false true w v p q r k = record { f = f; read = e; forms-le = ltb-false formLimit (allForms (chosenOf s g) f) p; deep = ltb-false nestingLimit (nesting f) q; known = r }
 
-    go : (o : Option Formula) → readFormula (slice at stop s) ≡ o → _≡_ {A = ℕ} (option o 5 (λ f. if ltb formLimit (allForms (chosenOf s g) f) || ltb nestingLimit (nesting f) then 6 else if not (isKnown (allOf s g) f) then 7 else if not (isScoped [] f) then 8 else if not (isTyped (typesOf s g) f) then 19 else 0)) 0 → Formed s at stop g
-    go none e k = absurd (omega arith)
-    go (some f) e k = tests f e (ltb formLimit (allForms (chosenOf s g) f)) (ltb nestingLimit (nesting f)) (isKnown (allOf s g) f) (isScoped [] f) (isTyped (typesOf s g) f) refl refl refl k
+    by-option : (o : Option Formula) → readFormula (slice at stop s) ≡ o
+        → _≡_ {A = ℕ} (option o 5 (λ f. if ltb formLimit (allForms (chosenOf s g) f)
+        || ltb nestingLimit (nesting f) then 6 else if not (isKnown (allOf s g) f) then 7 else if not (isScoped [] f) then 8 else if not
+        (isTyped (typesOf s g) f) then 19 else 0)) 0 → Formed s at stop g
+    by-option none e k = absurd (omega arith)
+    by-option (some f) e k = tests f e (ltb formLimit (allForms (chosenOf s g) f)) (ltb nestingLimit (nesting f)) (isKnown (allOf s g) f) (isScoped [] f) (isTyped (typesOf s g) f) refl refl refl k
 
 pub same-formed : (s : List ℕ) (at stop : ℕ) (g : Signature) (a : Formed s at stop g) (f : Formula) → readFormula (slice at stop s) ≡ some f → f ≡ a .f
 same-formed s at stop g a f e = let q : some f ≡ some (a .f) = sym e ∙ a .read in cc
@@ -204,7 +213,7 @@ unfolding FewPlaces relationsFrom relationIn
 few-from q g i zero f = tt
 few-from q g i (suc m) f = (f i (omega arith), few-from q g (suc i) m (λ j h. f j (omega arith)))
 
-pub few-places : (s : List ℕ) (g : Signature) → Sound s g → FewPlaces (allOf s g)
+pub few-places : (s : List ℕ) (g : Signature) → SoundSignature s g → FewPlaces (allOf s g)
 few-places s g a = subst (λ (l : List Relation). FewPlaces l) (sym (all-are s g)) (few-append builtIn (relationsFrom s g 0 (g .rels + g .chosen)) few-built-in (few-from s g 0 (g .rels + g .chosen) (λ j h. a .arities j (omega arith) .1)))
 
 sorts-from : (q : List ℕ) (g : Signature) (i m : ℕ) → ((j : ℕ) → j < i + m → (getD (g .firsts) j 0 ≤ 8) × (getD (g .seconds) j 0 ≤ 8)) → FewSorts (relationsFrom q g i m)
@@ -212,7 +221,7 @@ unfolding FewSorts relationsFrom relationIn
 sorts-from q g i zero f = tt
 sorts-from q g i (suc m) f = let (x, y) = f i (omega arith) in (x, y, sorts-from q g (suc i) m (λ j h. f j (omega arith)))
 
-few-sorts : (s : List ℕ) (g : Signature) → Sound s g → FewSorts (chosenOf s g)
+few-sorts : (s : List ℕ) (g : Signature) → SoundSignature s g → FewSorts (chosenOf s g)
 unfolding chosenOf
 few-sorts s g a = sorts-from s g (g .rels) (g .chosen) (λ j h. let (x, y) = a .sorts j h in let t = a .types-le in (omega arith, omega arith))
 
@@ -221,7 +230,7 @@ unfolding FewSorts
 few-cons k ks h = h
 
 -- ---- the walk's start
-abbrev pub top-ready : (s : List ℕ) (at stop : ℕ) (g : Signature) (F T : List ℕ) (t : Rows) → Accepted s at stop g → (a : Formed s at stop g) → length (t .at) ≡ 64 → t .len + forms (a .f) ≤ 64 → t .nodes + forms (a .f) ≤ 64 → Ready s at g (record { from = F; to = T; n = 0 }) t
+abbrev pub top-ready : (s : List ℕ) (at stop : ℕ) (g : Signature) (F T : List ℕ) (t : Rows) → Accepted s at stop g → (a : Formed s at stop g) → length (t .at) ≡ 64 → t .len + forms (a .f) ≤ 64 → t .nodes + forms (a .f) ≤ 64 → ReadyAt s at g (record { from = F; to = T; n = 0 }) t
 top-ready s at stop g F T t c a h n m = record {
   f = a .f;
   rest = drop stop s;
@@ -238,17 +247,17 @@ top-ready s at stop g F T t c a h n m = record {
 }
 
 -- ... over the names and the count of the signature itself
-abbrev pub own : {s : List ℕ} {at : ℕ} {g : Signature} {sc : Scope} {t : Rows} → Ready s at g sc t → ReadyIn s at (g .from) (g .to) (g .rels + g .chosen) sc t
+abbrev pub own : {s : List ℕ} {at : ℕ} {g : Signature} {sc : Scope} {t : Rows} → ReadyAt s at g sc t → ReadyIn s at (g .from) (g .to) (g .rels + g .chosen) sc t
 own w = over (record { from-is = refl; to-is = refl; count = refl }) w
 
 -- ---- the tree with its totalities
 totals-some : (k : Relation) (ds : List Relation) → totals (k ∷ ds) ≡ (if isTotal (k .kind) then 1 else 0) + totals ds
 unfolding totals filter
-totals-some k ds = go (isTotal (k .kind))
+totals-some k ds = by-test (isTotal (k .kind))
   where
-    go : (b : Bool) → length (if b then k ∷ filter (λ (r : Relation). isTotal (r .kind)) ds else filter (λ (r : Relation). isTotal (r .kind)) ds) ≡ (if b then 1 else 0) + length (filter (λ (r : Relation). isTotal (r .kind)) ds)
-    go true = omega arith
-    go false = omega arith
+    by-test : (b : Bool) → length (if b then k ∷ filter (λ (r : Relation). isTotal (r .kind)) ds else filter (λ (r : Relation). isTotal (r .kind)) ds) ≡ (if b then 1 else 0) + length (filter (λ (r : Relation). isTotal (r .kind)) ds)
+    by-test true = omega arith
+    by-test false = omega arith
 
 -- how many there are, their rows, and that each has a place in the table
 pub record Totals (r rels : ℕ) (ds : List Relation) (TS : Trees) : Type 0 where
@@ -273,7 +282,7 @@ unfolding howMany inner totals filter Small
 totals-nil r rels = record { many = refl; rows = refl; small = λ q l. tt }
 
 totals-one : (r rels : ℕ) (k : Relation) (ds : List Relation) (TS : Trees) → Totals (suc r) rels ds TS → Totals r rels (k ∷ ds) (if isTotal (k .kind) then totalityOf r (k .firsts) (k .seconds) then TS else TS)
-totals-one r rels k ds TS h = go (isTotal (k .kind)) (totals-some k ds)
+totals-one r rels k ds TS h = by-test (isTotal (k .kind)) (totals-some k ds)
   where
     low : (i : ℕ) → getD (0 ∷ 1 ∷ []) i 0 < 4
     low zero = omega arith
@@ -281,9 +290,16 @@ totals-one r rels k ds TS h = go (isTotal (k .kind)) (totals-some k ds)
     low (suc (suc zero)) = omega arith
     low (suc (suc (suc i))) = omega arith
 
-    go : (b : Bool) → totals (k ∷ ds) ≡ (if b then 1 else 0) + totals ds → Totals r rels (k ∷ ds) (if b then totalityOf r (k .firsts) (k .seconds) then TS else TS)
-    go true e = record { many = one-many r (k .firsts) (k .seconds) TS (totals ds) (totals (k ∷ ds)) e (h .many); rows = one-inner r (k .firsts) (k .seconds) TS (totals ds) (totals (k ∷ ds)) e (h .rows); small = λ q l. let (x, y, m) = few-cons k ds l in one-small r (k .firsts) (k .seconds) rels TS (omega arith) x y low (h .small (omega arith) m) }
-    go false e = record { many = omega (arith, h .many); rows = omega (arith, h .rows); small = λ q l. h .small (omega arith) (few-cons k ds l .2) }
+    by-test : (b : Bool) → totals (k ∷ ds) ≡ (if b then 1 else 0) + totals ds → Totals r rels (k ∷ ds) (if b then totalityOf r (k .firsts) (k .seconds) then TS else TS)
+    by-test true e = record {
+      many =
+          one-many r (k .firsts) (k .seconds) TS (totals ds) (totals (k ∷ ds)) e (h .many);
+      rows = one-inner r (k .firsts) (k .seconds) TS (totals ds)
+          (totals (k ∷ ds)) e (h .rows);
+      small = λ q l. let (x, y, m) = few-cons k ds l in
+          one-small r (k .firsts) (k .seconds) rels TS (omega arith) x y low (h .small (omega arith) m);
+    }
+    by-test false e = record { many = omega (arith, h .many); rows = omega (arith, h .rows); small = λ q l. h .small (omega arith) (few-cons k ds l .2) }
 
 totals-are : (r rels : ℕ) (ds : List Relation) → Totals r rels ds (totalities r ds)
 unfolding totalities
@@ -345,7 +361,7 @@ module _ (s : List ℕ) (at stop : ℕ) (g : Signature) (c : Accepted s at stop 
 
   types-few : length (typesOf s g) ≤ 8
   unfolding typesOf
-  types-few = omega (arith, types-many s (g .from) (g .to) 12 (g .types), c .sound .types-le)
+  types-few = omega (arith, length-names s (g .from) (g .to) 12 (g .types), c .sound .types-le)
 
   tops-small : Small (length (allOf s g)) (asIs (allOf s g) (typesOf s g) [] (a .f))
   unfolding treeIn
@@ -363,10 +379,10 @@ module _ (s : List ℕ) (at stop : ℕ) (g : Signature) (c : Accepted s at stop 
   plain-forms = omega (arith, few-forms)
 
   pub joined-forms : (totals (chosenOf s g) ≡ 0 → ⊥) → forms (a .f) + 3 * totals (chosenOf s g) + 1 ≤ 64
-  joined-forms h = go (ne-eqb (totals (chosenOf s g)) 0 h) few-forms
+  joined-forms h = from-this (ne-eqb (totals (chosenOf s g)) 0 h) few-forms
     where
-      go : eqb (totals (chosenOf s g)) 0 ≡ false → forms (a .f) + 3 * totals (chosenOf s g) + (if eqb (totals (chosenOf s g)) zero then zero else 1) ≤ 64 → forms (a .f) + 3 * totals (chosenOf s g) + 1 ≤ 64
-      go e x = rw e at x
+      from-this : eqb (totals (chosenOf s g)) 0 ≡ false → forms (a .f) + 3 * totals (chosenOf s g) + (if eqb (totals (chosenOf s g)) zero then zero else 1) ≤ 64 → forms (a .f) + 3 * totals (chosenOf s g) + 1 ≤ 64
+      from-this e x = rw e at x
 
   all-totals : Totals (5 + g .rels) (length (allOf s g)) (chosenOf s g) (totalities (5 + g .rels) (chosenOf s g))
   all-totals = totals-are (5 + g .rels) (length (allOf s g)) (chosenOf s g)
@@ -389,36 +405,85 @@ module _ (s : List ℕ) (at stop : ℕ) (g : Signature) (c : Accepted s at stop 
       root = joined-none (asIs (allOf s g) (typesOf s g) [] (a .f)) (totalities (5 + g .rels) (chosenOf s g)) (totals (chosenOf s g)) (all-totals .many) z
 
   -- ---- some
-  module _ (h : totals (chosenOf s g) ≡ 0 → ⊥) (t z : Rows) (after : ℕ) (r : Rows) (el : t .len ≡ 0) (en : t .nodes ≡ 0) (long : length (t .at) ≡ 64) (w : Walked true s at g (record { from = F; to = T; n = 0 }) (numbered t 1) (a .f) after r) (A : Adds r (postAll (r .nodes) (totalities (5 + g .rels) (chosenOf s g))) (length (nodesAll (totalities (5 + g .rels) (chosenOf s g)))) z) where
-    walk-adds : Adds (numbered t 1) (post (t .nodes + 1) (asIs (allOf s g) (typesOf s g) [] (a .f))) (length (nodes (asIs (allOf s g) (typesOf s g) [] (a .f)))) r
-    walk-adds = subst (λ (x : Tree). Adds (numbered t 1) (post (t .nodes + 1) x) (length (nodes x)) r) tops (w .adds)
+  module _ (h : totals (chosenOf s g) ≡ 0 → ⊥) (t z : Rows) (after : ℕ) (r : Rows) (el : t .len ≡ 0) (en : t .nodes ≡ 0) (long : length (t .at) ≡ 64)
+      (w : Walked true s at g (record { from = F; to = T; n = 0 }) (numbered t 1) (a .f) after r)
+      (A : Adds r (postAll (r .nodes) (totalities (5 + g .rels) (chosenOf s g))) (length (nodesAll (totalities (5 + g .rels) (chosenOf s g)))) z)
+    where
+      walk-adds : Adds (numbered t 1) (post (t .nodes + 1) (asIs (allOf s g) (typesOf s g) [] (a .f))) (length (nodes (asIs (allOf s g) (typesOf s g) [] (a .f)))) r
+      walk-adds = subst (λ (x : Tree). Adds (numbered t 1) (post (t .nodes + 1) x) (length (nodes x)) r) tops (w .adds)
 
-    parts-rows : length (postAll (r .nodes) (totalities (5 + g .rels) (chosenOf s g))) ≡ 3 * totals (chosenOf s g)
-    parts-rows = omega (arith, length-postAll (r .nodes) (totalities (5 + g .rels) (chosenOf s g)), all-totals .many, all-totals .rows)
+      parts-rows : length (postAll (r .nodes) (totalities (5 + g .rels) (chosenOf s g))) ≡ 3 * totals (chosenOf s g)
+      parts-rows = omega (arith, length-postAll (r .nodes) (totalities (5 + g .rels) (chosenOf s g)), all-totals .many, all-totals .rows)
 
-    pub joined-space : z .len + 1 ≤ 64
-    joined-space = omega (arith, joined-forms h, tops-rows, walk-adds .len, length-post (t .nodes + 1) (asIs (allOf s g) (typesOf s g) [] (a .f)), A .len, parts-rows)
+      pub joined-space : z .len + 1 ≤ 64
+      joined-space = omega (arith, joined-forms h, tops-rows, walk-adds .len, length-post (t .nodes + 1) (asIs (allOf s g) (typesOf s g) [] (a .f)), A .len, parts-rows)
 
-    pub of-joined : (u : Rows) (row : Row) → row ≡ joinRow 2 0 (totals (chosenOf s g) + 1) → u ≡ pushed z row → RowsOf s at stop g u
-    of-joined u row er eu = record {
-      long = all .long;
-      few = omega (arith, all .len, length-post (t .nodes) (andNode (asIs (allOf s g) (typesOf s g) [] (a .f) then totalities (5 + g .rels) (chosenOf s g))), root-rows);
-      of = λ f q. subst (λ (x : Formula). Of (length (allOf s g)) (rootOf s g x) u) (sym (same-formed s at stop g a f q))
-          (subst (λ (x : Tree). Of (length (allOf s g)) x u) (sym root)
-          (of-adds t u (length (allOf s g)) (andNode (asIs (allOf s g) (typesOf s g) [] (a .f) then totalities (5 + g .rels) (chosenOf s g))) el en all root-small root-rows rels-some rels-few));
-    }
-      where
-        root : rootOf s g (a .f) ≡ andNode (asIs (allOf s g) (typesOf s g) [] (a .f) then totalities (5 + g .rels) (chosenOf s g))
-        root = joined-some (asIs (allOf s g) (typesOf s g) [] (a .f)) (totalities (5 + g .rels) (chosenOf s g)) (totals (chosenOf s g)) (all-totals .many) h
+      pub of-joined : (u : Rows) (row : Row) → row ≡ joinRow 2 0 (totals (chosenOf s g) + 1) → u ≡ pushed z row → RowsOf s at stop g u
+      of-joined u row er eu = record {
+        long = all .long;
+        few = omega (arith, all .len, length-post (t .nodes) (andNode (asIs (allOf s g) (typesOf s g) [] (a .f) then totalities (5 + g .rels) (chosenOf s g))), root-rows);
+        of = λ f q. subst (λ (x : Formula). Of (length (allOf s g)) (rootOf s g x) u) (sym (same-formed s at stop g a f q))
+            (subst (λ (x : Tree). Of (length (allOf s g)) x u) (sym root)
+            (of-adds t u (length (allOf s g)) (andNode (asIs (allOf s g) (typesOf s g) [] (a .f) then totalities (5 + g .rels) (chosenOf s g))) el en all root-small root-rows rels-some rels-few));
+      }
+        where
+          root : rootOf s g (a .f) ≡ andNode (asIs (allOf s g) (typesOf s g) [] (a .f) then totalities (5 + g .rels) (chosenOf s g))
+          root = joined-some (asIs (allOf s g) (typesOf s g) [] (a .f)) (totalities (5 + g .rels) (chosenOf s g)) (totals (chosenOf s g)) (all-totals .many) h
 
-        all : Adds t (post (t .nodes) (andNode (asIs (allOf s g) (typesOf s g) [] (a .f) then totalities (5 + g .rels) (chosenOf s g)))) (length (nodes (andNode (asIs (allOf s g) (typesOf s g) [] (a .f) then totalities (5 + g .rels) (chosenOf s g))))) u
-        all = joined-adds {t = t} {z = z} true ands (asIs (allOf s g) (typesOf s g) [] (a .f) then totalities (5 + g .rels) (chosenOf s g)) row u (er ∙ rw (en) (ap (λ (n : ℕ). joinRow 2 0 n) (joined-many (asIs (allOf s g) (typesOf s g) [] (a .f)) (totalities (5 + g .rels) (chosenOf s g)) (totals (chosenOf s g)) (all-totals .many)))) eu (omega (arith, joined-space)) (first-rows (asIs (allOf s g) (typesOf s g) [] (a .f)) (totalities (5 + g .rels) (chosenOf s g)) (adds-number t 1 long) walk-adds A)
+          all : Adds t (post (t .nodes) (andNode (asIs (allOf s g) (typesOf s g) [] (a .f) then totalities (5 + g .rels) (chosenOf s g)))) (length (nodes (andNode (asIs (allOf s g) (typesOf s g) [] (a .f) then totalities (5 + g .rels) (chosenOf s g))))) u
+          all = joined-adds {t = t} {z =
+              z} true ands (asIs (allOf s g) (typesOf s g) [] (a .f) then totalities (5 + g .rels) (chosenOf s g)) row u
+              (er ∙ rw (en) (ap (λ (n : ℕ). joinRow 2 0 n) (joined-many (asIs (allOf s g) (typesOf s g) [] (a .f))
+              (totalities (5 + g .rels) (chosenOf s g)) (totals (chosenOf s g)) (all-totals .many)))) eu (omega (arith, joined-space))
+              (first-rows (asIs (allOf s g) (typesOf s g) [] (a .f)) (totalities (5 + g .rels) (chosenOf s g)) (adds-number t 1 long) walk-adds A)
 
-        root-small : Small (length (allOf s g)) (andNode (asIs (allOf s g) (typesOf s g) [] (a .f) then totalities (5 + g .rels) (chosenOf s g)))
-        root-small = small-and (length (allOf s g)) (asIs (allOf s g) (typesOf s g) [] (a .f)) (totalities (5 + g .rels) (chosenOf s g)) tops-small (all-totals .small (omega (arith, chosen-long, length-all s g)) (few-sorts s g (c .sound)))
+          root-small : Small (length (allOf s g)) (andNode (asIs (allOf s g) (typesOf s g) [] (a .f) then totalities (5 + g .rels) (chosenOf s g)))
+          root-small = small-and (length (allOf s g)) (asIs (allOf s g) (typesOf s g) [] (a .f)) (totalities (5 + g .rels) (chosenOf s g)) tops-small (all-totals .small (omega (arith, chosen-long, length-all s g)) (few-sorts s g (c .sound)))
 
-        root-rows : suc (inner (andNode (asIs (allOf s g) (typesOf s g) [] (a .f) then totalities (5 + g .rels) (chosenOf s g)))) ≤ 64
-        root-rows = and-rows (asIs (allOf s g) (typesOf s g) [] (a .f)) (totalities (5 + g .rels) (chosenOf s g)) (totals (chosenOf s g)) (forms (a .f)) (all-totals .many) (all-totals .rows) tops-rows (joined-forms h)
+          root-rows : suc (inner (andNode (asIs (allOf s g) (typesOf s g) [] (a .f) then totalities (5 + g .rels) (chosenOf s g)))) ≤ 64
+          root-rows = and-rows (asIs (allOf s g) (typesOf s g) [] (a .f)) (totalities (5 + g .rels) (chosenOf s g)) (totals (chosenOf s g)) (forms (a .f)) (all-totals .many) (all-totals .rows) tops-rows (joined-forms h)
+
+-- ---- what `rows_of` asks of those that it calls, and makes of their answers: no variable is bound, and the table is empty
+abbrev pub unbound : Scope
+unbound = record { from = 0 ∷ 0 ∷ 0 ∷ 0 ∷ []; to = 0 ∷ 0 ∷ 0 ∷ 0 ∷ []; n = 0 }
+
+module _ {s : List ℕ} {at stop : ℕ} {g : Signature} (c : Accepted s at stop g) (b : List ℕ) where
+  abbrev pub plain-ready : ReadyIn s at (g .from) (g .to) (g .rels + g .chosen) unbound (rowsFrom b 0 0)
+  plain-ready =
+      let a = formed s at stop g c in let h = plain-forms s at stop g c a [] [] in
+      own (top-ready s at stop g (unbound .from) (unbound .to) (rowsFrom b 0 0) c a (rows-many b 0 0) (omega (arith, h)) (omega (arith, h)))
+
+  pub plain-rows : totals (chosenOf s g) ≡ 0 → {after : ℕ} {r : Rows}
+      → Walks true s at (g .from) (g .to) (g .rels + g .chosen) unbound (rowsFrom b 0 0) after r → RowsOf s at stop g r
+  plain-rows e {after} {r} w =
+      of-plain s at stop g c (formed s at stop g c) (unbound .from) (unbound .to) (rowsFrom b 0 0) after r refl refl e (w plain-ready)
+
+  module _ {n : ℕ} (all : (q : List ℕ) → n ≡ totals (chosenOf q g)) (some : n ≡ 0 → ⊥) where
+    pub joined-few : forms (formed s at stop g c .f) + 3 * n + 1 ≤ 64
+    joined-few = omega (arith, all s, joined-forms s at stop g c (formed s at stop g c) [] [] (λ e. some (all s ∙ e)))
+
+    abbrev pub joined-ready : ReadyIn s at (g .from) (g .to) (g .rels + g .chosen) unbound (rowsFrom b 0 1)
+    joined-ready =
+        let a = formed s at stop g c in
+        own (top-ready s at stop g (unbound .from) (unbound .to) (rowsFrom b 0 1) c a (rows-many b 0 1) (omega (arith, joined-few)) (omega (arith, joined-few)))
+
+    module _ {after : ℕ} {r : Rows} (w : Walks true s at (g .from) (g .to) (g .rels + g .chosen) unbound (rowsFrom b 0 1) after r) where
+      pub joined-left : (q : List ℕ) → (r .len + 3 * totals (chosenOf q g) ≤ 64) × (r .nodes + 3 * totals (chosenOf q g) ≤ 64)
+      joined-left q =
+          let f = formed s at stop g c .f in let W = w joined-ready in
+          (omega (arith, joined-few, all q, walked-len true f after r W), omega (arith, joined-few, all q, walked-nodes true f after r W))
+
+      module _ {z : Rows} (A : (q : List ℕ)
+          → Adds r (postAll (r .nodes) (totalities (5 + g .rels) (chosenOf q g))) (length (nodesAll (totalities (5 + g .rels) (chosenOf q g)))) z) where
+        pub joined-room : z .len + 1 ≤ 64
+        joined-room =
+            joined-space s at stop g c (formed s at stop g c) (unbound .from) (unbound .to) (λ e. some (all s ∙ e)) (rowsFrom b 0 0) z after r refl refl
+            (rows-many b 0 0) (w joined-ready) (A s)
+
+        pub joined-rows : {u : Rows} {row : Row} → row ≡ joinRow 2 0 (n + 1) → u ≡ pushed z row → RowsOf s at stop g u
+        joined-rows {u} {row} er eu =
+            of-joined s at stop g c (formed s at stop g c) (unbound .from) (unbound .to) (λ e. some (all s ∙ e)) (rowsFrom b 0 0) z after r refl refl
+            (rows-many b 0 0) (w joined-ready) (A s) u row (er ∙ ap (λ (m : ℕ). joinRow 2 0 (m + 1)) (all s)) eu
 
 -- ---- the question's table
 relations-are : (s : List ℕ) (at stop : ℕ) (g : Signature) (q : Question) → IsQuestion s at stop g q → allOf s g ≡ relationsOf q

@@ -1,12 +1,13 @@
 -- Tables of rows: one row more, several, the rows of quantifiers one inside the other. Assumes nothing.
-use Prim.Native.Nat.{ℕ, zero, suc, _+_, _-_, _<_}
+use Prim.Native.Nat.{ℕ, zero, suc, _+_, _-_, _≤_, _<_}
 use native.Mathlib.Numerals.{add-one, sub-one}
 use native.Mathlib.Omega.{arith}
 use mathlib.Core.Path.{_≡_, refl, sym, ap, subst, _∙_}
 use mathlib.Core.List.{List, [], _∷_, _++_, append-assoc, append-nil}
 use lib.ListN.{length, getD, set, take, length-set, length-append}
 use lib.Seq.{take-suc-set}
-use Rattle.tree.specs.Postorder.{Rows, rowsIn, quantRow}
+use Rattle.tree.specs.Lent.{rows-many}
+use Rattle.tree.specs.Postorder.{Rows, rowsIn, rowsFrom, quantRow}
 use Rattle.tree.specs.declared.Row.{Row}
 use Rattle.rewriting.specs.Trees.{chain}
 use Rattle.rewriting.specs.Ready.{Adds, pushed, numbered}
@@ -59,9 +60,24 @@ module _ (kind v d : ℕ) (sorts : List ℕ) where
   chain-suc zero n = absurd (n refl)
   chain-suc (suc k) n = rw (sub-one (suc k))
 
-  pub chain-none : (k : ℕ) (t : Rows) → k ≡ 0 → length (t .at) ≡ 64 → Adds t (chain kind v d sorts k) 0 t
-  chain-none k t e h = adds-as (chain-zero k e) refl (adds-none t h)
+  pub chain-none : (k : ℕ) (b : List ℕ) (len nodes : ℕ) → k ≡ 0 → Adds (rowsFrom b len nodes) (chain kind v d sorts k) 0 (rowsFrom b (len + k) nodes)
+  chain-none k b len nodes e =
+      let z : len ≡ len + k = omega arith in
+      subst (λ (l : ℕ). Adds (rowsFrom b len nodes) (chain kind v d sorts k) 0 (rowsFrom b l nodes)) z
+      (adds-as (chain-zero k e) refl (adds-none (rowsFrom b len nodes) (rows-many b len nodes)))
 
-  pub chain-more : (k : ℕ) (t u r : Rows) (row : Row) → (k ≡ 0 → ⊥) → length (t .at) ≡ 64 → t .len < 64 → row ≡ quantRow kind (v + (k - 1)) (d + (k - 1)) (getD sorts (d + (k - 1)) 0) → u ≡ pushed t row → Adds u (chain kind v d sorts (k - 1)) 0 r
-      → Adds t (chain kind v d sorts k) 0 r
-  chain-more k t u r row n h l e p a = adds-as (ap (λ (x : Row). x ∷ chain kind v d sorts (k - 1)) e ∙ chain-suc k n) (omega arith) (adds-both (adds-push t u row h l p) a)
+  pub chain-more : (k : ℕ) (b u r : List ℕ) (len nodes : ℕ) (row : Row) → (k ≡ 0 → ⊥) → len + k ≤ 64
+      → row ≡ quantRow kind (v + (k - 1)) (d + (k - 1)) (getD sorts (d + (k - 1)) 0)
+      → rowsFrom u (len + 1) nodes ≡ pushed (rowsFrom b len nodes) row
+      → Adds (rowsFrom u (len + 1) nodes) (chain kind v d sorts (k - 1)) 0 (rowsFrom r ((len + 1) + (k - 1)) nodes)
+      → Adds (rowsFrom b len nodes) (chain kind v d sorts k) 0 (rowsFrom r (len + k) nodes)
+  chain-more k b u r len nodes row n l e p a =
+      let some : 0 < k = from-this k n in
+      let z : (len + 1) + (k - 1) ≡ len + k = omega arith in
+      adds-as (ap (λ (x : Row). x ∷ chain kind v d sorts (k - 1)) e ∙ chain-suc k n) (omega arith)
+      (adds-both (adds-push (rowsFrom b len nodes) (rowsFrom u (len + 1) nodes) row (rows-many b len nodes) (omega arith) p)
+      (subst (λ (m : ℕ). Adds (rowsFrom u (len + 1) nodes) (chain kind v d sorts (k - 1)) 0 (rowsFrom r m nodes)) z a))
+    where
+      from-this : (k : ℕ) → (k ≡ 0 → ⊥) → 0 < k
+      from-this zero n = absurd (n refl)
+      from-this (suc k) n = omega arith

@@ -7,7 +7,9 @@ use mathlib.Core.Bool.{Bool, true, false, not}
 use mathlib.Core.List.{List, [], _∷_, _++_, append-assoc, append-nil}
 use lib.ListN.{length, getD, drop, length-append, length-drop}
 use lib.Seq.{drop-drop}
-use Rattle.definitions.specs.Formula.{Formula, Formulas, literal, negation, implication, conjunction, disjunction, exists, forall, nil, cons, Join, ands, ors, Quant, somes, everys, join, quant, joinWord, quantWord, notWord, impWord, Quantified, writeTyped, writeMore, writeList, write, writeParts, forms, formsAll}
+use Rattle.definitions.specs.Formula.{Formula, Formulas, literal, negation, implication, conjunction, disjunction, exists, forall, nil, cons, Join}
+use Rattle.definitions.specs.Formula.{ands, ors, Quant, somes, everys, join, quant, joinWord, quantWord, notWord, impWord, Quantified, writeTyped}
+use Rattle.definitions.specs.Formula.{writeMore, writeList, write, writeParts, forms, formsAll}
 use Rattle.definitions.specs.Parsing.{isNot, isImplies, isOther, kindOf}
 use Rattle.definitions.specs.Tree.{Tree, Trees, end, _then_, nodes, nodesAll, howMany}
 use Rattle.names.specs.Signatures.{Lent, allOf, typesOf}
@@ -20,7 +22,7 @@ use Rattle.tree.specs.Postorder.{post, postAll, Rows, joinRow}
 use Rattle.tree.specs.Whole.{nodes-le}
 use Rattle.tree.specs.declared.Row.{Row}
 use Rattle.rewriting.specs.Trees.{treeIn, treesIn, joinNode, joinKind, tree-neg, tree-imp, tree-join, trees-nil, trees-cons, post-join, nodes-join, length-post, length-postAll, rows-le, rows-le-all}
-use Rattle.rewriting.specs.Ready.{asJoin, asQuant, joinHead, quantHead, Adds, pushed, numbered, Fine, AllFine, Fixed, Ready, PartsReady, ReadyIn, PartsReadyIn, Walked, WalkedParts}
+use Rattle.rewriting.specs.Ready.{asJoin, asQuant, joinHead, quantHead, Adds, pushed, numbered, Fine, AllFine, Fixed, ReadyAt, PartsReady, ReadyIn, PartsReadyIn, Walked, WalkedParts}
 use Rattle.rewriting.proofs.Tables.{adds-none, adds-push, adds-number, adds-both, adds-as}
 use Rattle.rewriting.proofs.Words.{first-byte}
 use Rattle.rewriting.proofs.Views.{join-forms, formHead, kind-of, IsLit, IsNeg, IsImp, IsJoin, IsQuant, as-lit, as-neg, as-imp, as-join, as-quant, fine-neg, fine-imp-1, fine-imp-2, fine-join-1, fine-join-2, fine-part, fine-parts}
@@ -71,7 +73,20 @@ quant-nine everys = refl
 
 pub len-quant : (k : Quant) (q : Quantified) (qs : List Quantified) (f : Formula) → length (write (quant k (q ∷ qs) f)) ≡ 9 + (length (writeList (q ∷ qs)) + 2) + (length (write f) + 1)
 len-quant k q qs f =
-    omega (arith, whole (write (quant k (q ∷ qs) f)), ap length (lay-quant k q qs f []), length-append (quantWord k) (writeTyped q ++ (writeMore qs ++ (41 ∷ 32 ∷ (write f ++ (41 ∷ []))))), quant-nine k, length-append (writeTyped q) (writeMore qs ++ (41 ∷ 32 ∷ (write f ++ (41 ∷ [])))), length-append (writeMore qs) (41 ∷ 32 ∷ (write f ++ (41 ∷ []))), length-append (write f) (41 ∷ []), length-append (writeTyped q) (writeMore qs))
+    omega (
+      arith,
+      whole (write (quant k (q ∷ qs) f)),
+      ap length (lay-quant k q qs f []),
+      length-append (quantWord k)
+          (writeTyped q ++ (writeMore qs ++ (41 ∷ 32 ∷ (write f ++ (41 ∷ []))))),
+      quant-nine k,
+      length-append (writeTyped q)
+          (writeMore qs ++ (41 ∷ 32 ∷ (write f ++ (41 ∷ [])))),
+      length-append (writeMore qs) (41 ∷ 32 ∷ (write f ++ (41 ∷ []))),
+      length-append (write f)
+          (41 ∷ []),
+      length-append (writeTyped q) (writeMore qs),
+    )
 
 len-parts : (f : Formula) (fs : Formulas) → length (writeParts (cons f fs)) ≡ 1 + (length (write f) + length (writeParts fs))
 len-parts f fs = omega (arith, whole (writeParts (cons f fs)), ap length (lay-parts f fs []), length-append (write f) (writeParts fs ++ []), whole (writeParts fs))
@@ -87,44 +102,44 @@ long-write (exists vs f) = omega arith
 long-write (forall vs f) = omega arith
 
 pub text-in : (s p q : List ℕ) (at : ℕ) → drop at s ≡ p ++ q → 1 ≤ length p → at + (length p + length q) ≡ length s
-text-in s p q at e h = go (sym (length-drop at s) ∙ ap length e ∙ length-append p q)
+text-in s p q at e h = from-this (sym (length-drop at s) ∙ ap length e ∙ length-append p q)
   where
-    go : length s - at ≡ length p + length q → at + (length p + length q) ≡ length s
-    go x = omega arith
+    from-this : length s - at ≡ length p + length q → at + (length p + length q) ≡ length s
+    from-this x = omega arith
 
 -- ---- what is known at a place
 module _ {s : List ℕ} {at : ℕ} {g : Signature} {sc : Scope} {t : Rows} where
-  pub ready-head : (w : Ready s at g sc t) → kindOf (drop at s) ≡ formHead (w .f)
+  pub ready-head : (w : ReadyAt s at g sc t) → kindOf (drop at s) ≡ formHead (w .f)
   ready-head w = ap (λ (l : List ℕ). kindOf l) (w .is) ∙ kind-of (w .fine .good) (w .rest)
 
-  pub ready-end : (w : Ready s at g sc t) → at + length (write (w .f)) ≤ length s
+  pub ready-end : (w : ReadyAt s at g sc t) → at + length (write (w .f)) ≤ length s
   ready-end w = omega (arith, text-in s (write (w .f)) (w .rest) at (w .is) (long-write (w .f)))
 
-  pub ready-in : Ready s at g sc t → at < length s
+  pub ready-in : ReadyAt s at g sc t → at < length s
   ready-in w = omega (arith, ready-end w, long-write (w .f))
 
-  pub ready-few : Ready s at g sc t → sc .n ≤ 4
+  pub ready-few : ReadyAt s at g sc t → sc .n ≤ 4
   ready-few w = omega (arith, w .fine .deep, length-names s sc)
 
-  pub ready-rows : Ready s at g sc t → t .len < 64
+  pub ready-rows : ReadyAt s at g sc t → t .len < 64
   ready-rows w = omega (arith, w .fine .rows, rows-le true (allOf s g) (typesOf s g) (names s sc) (w .f))
 
-  pub ready-nodes : Ready s at g sc t → t .nodes < 64
+  pub ready-nodes : ReadyAt s at g sc t → t .nodes < 64
   ready-nodes w = omega (arith, w .fine .nodes, rows-le true (allOf s g) (typesOf s g) (names s sc) (w .f))
 
-  pub neg-view : (w : Ready s at g sc t) → kindOf (drop at s) ≡ isNot → IsNeg (w .f)
+  pub neg-view : (w : ReadyAt s at g sc t) → kindOf (drop at s) ≡ isNot → IsNeg (w .f)
   neg-view w e = as-neg (w .fine .good) (sym (ready-head w) ∙ e)
 
-  pub imp-view : (w : Ready s at g sc t) → kindOf (drop at s) ≡ isImplies → IsImp (w .f)
+  pub imp-view : (w : ReadyAt s at g sc t) → kindOf (drop at s) ≡ isImplies → IsImp (w .f)
   imp-view w e = as-imp (w .fine .good) (sym (ready-head w) ∙ e)
 
-  pub join-view : (b : Bool) (w : Ready s at g sc t) → kindOf (drop at s) ≡ joinHead b → IsJoin (asJoin b) (w .f)
+  pub join-view : (b : Bool) (w : ReadyAt s at g sc t) → kindOf (drop at s) ≡ joinHead b → IsJoin (asJoin b) (w .f)
   join-view b w e = as-join b (w .fine .good) (sym (ready-head w) ∙ e)
 
-  pub quant-view : (b : Bool) (w : Ready s at g sc t) → kindOf (drop at s) ≡ quantHead b → IsQuant (asQuant b) (w .f)
+  pub quant-view : (b : Bool) (w : ReadyAt s at g sc t) → kindOf (drop at s) ≡ quantHead b → IsQuant (asQuant b) (w .f)
   quant-view b w e = as-quant b (w .fine .good) (sym (ready-head w) ∙ e)
 
-  pub lit-view : (w : Ready s at g sc t) → kindOf (drop at s) ≡ isOther → IsLit (w .f)
+  pub lit-view : (w : ReadyAt s at g sc t) → kindOf (drop at s) ≡ isOther → IsLit (w .f)
   lit-view w e = as-lit (w .fine .good) (sym (ready-head w) ∙ e)
 
   -- rows and nodes that a part adds are no more than its forms, and one at least
@@ -138,7 +153,7 @@ module _ {s : List ℕ} {at : ℕ} {g : Signature} {sc : Scope} {t : Rows} where
   walked-nodes b f after u w = omega (arith, w .adds .nodes, nodes-le (treeIn b (allOf s g) (typesOf s g) (names s sc) f), rows-le b (allOf s g) (typesOf s g) (names s sc) f)
 
 -- over the signature whose names are lent
-abbrev pub over : {s : List ℕ} {at : ℕ} {g : Signature} {F T : List ℕ} {m : ℕ} {sc : Scope} {t : Rows} → Lent g F T m → Ready s at g sc t → ReadyIn s at F T m sc t
+abbrev pub over : {s : List ℕ} {at : ℕ} {g : Signature} {F T : List ℕ} {m : ℕ} {sc : Scope} {t : Rows} → Lent g F T m → ReadyAt s at g sc t → ReadyIn s at F T m sc t
 over {g = g} l w = record { g = g; lent = l; ready = w }
 
 abbrev pub over-parts : {s : List ℕ} {at : ℕ} {g : Signature} {F T : List ℕ} {m : ℕ} {sc : Scope} {t : Rows} → Lent g F T m → PartsReady s at g sc t → PartsReadyIn s at F T m sc t
@@ -162,12 +177,17 @@ trees-one v n m T U e h = rw (e, h) (ap (λ (l : List Row). post v T ++ l) (sym 
 
 two-rows : {t p u y : Rows} (T U : Tree) → Adds t [] 1 p → Adds p (post (p .nodes) T) (length (nodes T)) u → Adds u (post (u .nodes) U) (length (nodes U)) y → Adds t (postAll (suc (t .nodes)) (T then U then end)) (suc (length (nodesAll (T then U then end)))) y
 unfolding nodes
-two-rows {t} {p} {u} {y} T U a b c = adds-as (trees-one (suc (t .nodes)) (p .nodes) (u .nodes) T U (a .nodes ∙ add-one (t .nodes)) (b .nodes ∙ ap (λ (n : ℕ). n + length (nodes T)) (a .nodes ∙ add-one (t .nodes)))) (omega (arith, length-append (nodes T) (nodes U ++ []), whole-nodes (nodes U))) (adds-both a (adds-both b c))
+two-rows {t} {p} {u} {y} T U a b c =
+    adds-as (trees-one (suc (t .nodes)) (p .nodes) (u .nodes) T U (a .nodes ∙ add-one (t .nodes))
+    (b .nodes ∙ ap (λ (n : ℕ). n + length (nodes T)) (a .nodes ∙ add-one (t .nodes))))
+    (omega (arith, length-append (nodes T) (nodes U ++ []), whole-nodes (nodes U))) (adds-both a (adds-both b c))
   where
     whole-nodes : (l : List Tree) → length (l ++ []) ≡ length l
     whole-nodes l = ap length (append-nil l)
 
-pub joined : {t z : Rows} (b : Bool) (j : Join) (ts : Trees) (row : Row) (u : Rows) → row ≡ joinRow (joinKind b j) (t .nodes) (howMany ts) → u ≡ pushed z row → z .len < 64 → Adds t (postAll (suc (t .nodes)) ts) (suc (length (nodesAll ts))) z → Adds t (post (t .nodes) (joinNode b j ts)) (length (nodes (joinNode b j ts))) u
+pub joined : {t z : Rows} (b : Bool) (j : Join) (ts : Trees) (row : Row) (u : Rows) → row ≡ joinRow (joinKind b j) (t .nodes) (howMany ts) → u
+    ≡ pushed z row → z .len < 64 → Adds t (postAll (suc (t .nodes)) ts) (suc (length (nodesAll ts))) z
+    → Adds t (post (t .nodes) (joinNode b j ts)) (length (nodes (joinNode b j ts))) u
 joined {t} {z} b j ts row u er eu h a = adds-as (ap (λ (r : Row). postAll (suc (t .nodes)) ts ++ (r ∷ [])) er ∙ sym (post-join b j (t .nodes) ts)) (omega (arith, nodes-join b j ts)) (adds-both a (adds-push z u row (a .long) h eu))
 
 trees-two : (v n m : ℕ) (T : Tree) (TS : Trees) → n ≡ v → m ≡ v + length (nodes T) → post n T ++ postAll m TS ≡ postAll v (T then TS)
@@ -176,7 +196,10 @@ trees-two v n m T TS e h = rw (e, h)
 
 pub first-rows : {t p u y : Rows} (T : Tree) (TS : Trees) → Adds t [] 1 p → Adds p (post (p .nodes) T) (length (nodes T)) u → Adds u (postAll (u .nodes) TS) (length (nodesAll TS)) y → Adds t (postAll (suc (t .nodes)) (T then TS)) (suc (length (nodesAll (T then TS)))) y
 unfolding nodes
-first-rows {t} {p} {u} {y} T TS a b c = adds-as (trees-two (suc (t .nodes)) (p .nodes) (u .nodes) T TS (a .nodes ∙ add-one (t .nodes)) (b .nodes ∙ ap (λ (n : ℕ). n + length (nodes T)) (a .nodes ∙ add-one (t .nodes)))) (omega (arith, length-append (nodes T) (nodesAll TS))) (adds-both a (adds-both b c))
+first-rows {t} {p} {u} {y} T TS a b c =
+    adds-as (trees-two (suc (t .nodes)) (p .nodes) (u .nodes) T TS (a .nodes ∙ add-one (t .nodes))
+    (b .nodes ∙ ap (λ (n : ℕ). n + length (nodes T)) (a .nodes ∙ add-one (t .nodes)))) (omega (arith, length-append (nodes T) (nodesAll TS)))
+    (adds-both a (adds-both b c))
 
 next-rows : {t u y : Rows} (T : Tree) (TS : Trees) → Adds t (post (t .nodes) T) (length (nodes T)) u → Adds u (postAll (u .nodes) TS) (length (nodesAll TS)) y → Adds t (postAll (t .nodes) (T then TS)) (length (nodesAll (T then TS))) y
 unfolding nodes
@@ -206,7 +229,7 @@ module _ {s : List ℕ} {at : ℕ} {g : Signature} {sc : Scope} {t : Rows} where
 
 module _ {s : List ℕ} {at : ℕ} {g : Signature} {sc : Scope} {t : Rows} where
   -- ---- a negation
-  abbrev pub neg-ready : (w : Ready s at g sc t) → IsNeg (w .f) → Ready s (at + 5) g sc t
+  abbrev pub neg-ready : (w : ReadyAt s at g sc t) → IsNeg (w .f) → ReadyAt s (at + 5) g sc t
   neg-ready w v = record {
     f = v .g;
     rest = 41 ∷ w .rest;
@@ -215,24 +238,24 @@ module _ {s : List ℕ} {at : ℕ} {g : Signature} {sc : Scope} {t : Rows} where
     fixed = w .fixed;
   }
 
-  pub neg-place : (w : Ready s at g sc t) (v : IsNeg (w .f)) (a : ℕ) → a ≡ at + 5 + length (write (v .g)) → a + 1 ≡ at + length (write (w .f))
+  pub neg-place : (w : ReadyAt s at g sc t) (v : IsNeg (w .f)) (a : ℕ) → a ≡ at + 5 + length (write (v .g)) → a + 1 ≡ at + length (write (w .f))
   neg-place w v a e = omega (arith, ap (λ (f : Formula). length (write f)) (v .is), len-neg (v .g))
 
-  pub neg-done : (b : Bool) (w : Ready s at g sc t) (v : IsNeg (w .f)) (after : ℕ) (u : Rows) → Walked (not b) s (at + 5) g sc t (v .g) after u → Walked b s at g sc t (w .f) (after + 1) u
+  pub neg-done : (b : Bool) (w : ReadyAt s at g sc t) (v : IsNeg (w .f)) (after : ℕ) (u : Rows) → Walked (not b) s (at + 5) g sc t (v .g) after u → Walked b s at g sc t (w .f) (after + 1) u
   neg-done b w v after u x = record {
     place = neg-place w v after (x .place);
     adds = as-tree (ap (λ (f : Formula). treeIn b (allOf s g) (typesOf s g) (names s sc) f) (v .is) ∙ tree-neg (allOf s g) (typesOf s g) (names s sc) b (v .g)) (x .adds);
   }
 
   -- ---- an implication
-  module _ (w : Ready s at g sc t) (v : IsImp (w .f)) where
+  module _ (w : ReadyAt s at g sc t) (v : IsImp (w .f)) where
     pub imp-fine : Fine (allOf s g) (names s sc) (t .len) (t .nodes) (implication (v .g) (v .h))
     imp-fine = subst (λ (f : Formula). Fine (allOf s g) (names s sc) (t .len) (t .nodes) f) (v .is) (w .fine)
 
     pub imp-text : drop at s ≡ impWord ++ (write (v .g) ++ (32 ∷ (write (v .h) ++ (41 ∷ w .rest))))
     imp-text = w .is ∙ ap (λ (f : Formula). write f ++ w .rest) (v .is) ∙ lay-imp (v .g) (v .h) (w .rest)
 
-    abbrev pub imp-ready-1 : Ready s (at + 9) g sc (numbered t 1)
+    abbrev pub imp-ready-1 : ReadyAt s (at + 9) g sc (numbered t 1)
     imp-ready-1 = record {
       f = v .g;
       rest = 32 ∷ (write (v .h) ++ (41 ∷ w .rest));
@@ -248,7 +271,7 @@ module _ {s : List ℕ} {at : ℕ} {g : Signature} {sc : Scope} {t : Rows} where
           ∙ sym (drop-drop 1 (at + 9 + length (write (v .g))) s)
           ∙ ap (λ (l : List ℕ). drop 1 l) (front-rest s (write (v .g)) (32 ∷ (write (v .h) ++ (41 ∷ w .rest))) (at + 9) (imp-ready-1 .is))
 
-      abbrev pub imp-ready-2 : Ready s (x-end + 1) g sc x
+      abbrev pub imp-ready-2 : ReadyAt s (x-end + 1) g sc x
       imp-ready-2 = record {
         f = v .h;
         rest = 41 ∷ w .rest;
@@ -274,14 +297,14 @@ module _ {s : List ℕ} {at : ℕ} {g : Signature} {sc : Scope} {t : Rows} where
         }
 
   -- ---- `and`, `or`
-  module _ (j : Join) (w : Ready s at g sc t) (v : IsJoin j (w .f)) (a : ℕ) (ea : a ≡ at + length (joinWord j)) where
+  module _ (j : Join) (w : ReadyAt s at g sc t) (v : IsJoin j (w .f)) (a : ℕ) (ea : a ≡ at + length (joinWord j)) where
     pub join-fine : Fine (allOf s g) (names s sc) (t .len) (t .nodes) (join j (cons (v .g) (v .gs)))
     join-fine = subst (λ (f : Formula). Fine (allOf s g) (names s sc) (t .len) (t .nodes) f) (v .is) (w .fine)
 
     pub join-text : drop at s ≡ joinWord j ++ (write (v .g) ++ (writeParts (v .gs) ++ (41 ∷ w .rest)))
     join-text = w .is ∙ ap (λ (f : Formula). write f ++ w .rest) (v .is) ∙ lay-join j (v .g) (v .gs) (w .rest)
 
-    abbrev pub join-ready : Ready s a g sc (numbered t 1)
+    abbrev pub join-ready : ReadyAt s a g sc (numbered t 1)
     join-ready = record {
       f = v .g;
       rest = writeParts (v .gs) ++ (41 ∷ w .rest);
@@ -317,7 +340,10 @@ module _ {s : List ℕ} {at : ℕ} {g : Signature} {sc : Scope} {t : Rows} where
         join-done u row er eu = record {
           place = join-place;
           adds = as-tree (ap (λ (f : Formula). treeIn b (allOf s g) (typesOf s g) (names s sc) f) (v .is) ∙ tree-join (allOf s g) (typesOf s g) (names s sc) b j (cons (v .g) (v .gs)) ∙ ap (λ (ts : Trees). joinNode b j ts) (trees-cons (allOf s g) (typesOf s g) (names s sc) b (v .g) (v .gs)))
-              (joined b j (treeIn b (allOf s g) (typesOf s g) (names s sc) (v .g) then treesIn b (allOf s g) (typesOf s g) (names s sc) (v .gs)) row u (er ∙ ap (λ (n : ℕ). joinRow (joinKind b j) (t .nodes) n) (count-trees (treeIn b (allOf s g) (typesOf s g) (names s sc) (v .g)) (treesIn b (allOf s g) (typesOf s g) (names s sc) (v .gs)) many (Y .counted))) eu join-space
+              (joined b j (treeIn b (allOf s g) (typesOf s g) (names s sc) (v .g) then treesIn b (allOf s g) (typesOf s g) (names s sc) (v .gs)) row u
+              (er ∙ ap (λ (n : ℕ). joinRow (joinKind b j) (t .nodes) n)
+              (count-trees (treeIn b (allOf s g) (typesOf s g) (names s sc) (v .g)) (treesIn b (allOf s g) (typesOf s g) (names s sc) (v .gs)) many
+              (Y .counted))) eu join-space
               (first-rows (treeIn b (allOf s g) (typesOf s g) (names s sc) (v .g)) (treesIn b (allOf s g) (typesOf s g) (names s sc) (v .gs)) (adds-number t 1 (w .fixed .long)) (X .adds) (Y .adds)));
         }
 
@@ -330,27 +356,27 @@ pub record IsCons (fs : Formulas) : Type 0 where
 module _ {s : List ℕ} {at : ℕ} {g : Signature} {sc : Scope} {t : Rows} (w : PartsReady s at g sc t) where
   pub parts-in : at < length s
   unfolding write
-  parts-in = go (w .fs) (w .is)
+  parts-in = by-formulas (w .fs) (w .is)
     where
-      go : (fs : Formulas) → drop at s ≡ writeParts fs ++ (41 ∷ w .rest) → at < length s
-      go nil e = first-byte s at 41 _ e .1
-      go (cons f gs) e = first-byte s at 32 _ e .1
+      by-formulas : (fs : Formulas) → drop at s ≡ writeParts fs ++ (41 ∷ w .rest) → at < length s
+      by-formulas nil e = first-byte s at 41 _ e .1
+      by-formulas (cons f gs) e = first-byte s at 32 _ e .1
 
   pub parts-none : (getD s at 0 ≡ 32 → ⊥) → w .fs ≡ nil
   unfolding write
-  parts-none h = go (w .fs) (w .is)
+  parts-none h = by-formulas (w .fs) (w .is)
     where
-      go : (fs : Formulas) → drop at s ≡ writeParts fs ++ (41 ∷ w .rest) → fs ≡ nil
-      go nil e = refl
-      go (cons f gs) e = absurd (h (first-byte s at 32 _ e .0))
+      by-formulas : (fs : Formulas) → drop at s ≡ writeParts fs ++ (41 ∷ w .rest) → fs ≡ nil
+      by-formulas nil e = refl
+      by-formulas (cons f gs) e = absurd (h (first-byte s at 32 _ e .0))
 
   pub parts-some : getD s at 0 ≡ 32 → IsCons (w .fs)
   unfolding write
-  parts-some h = go (w .fs) (w .is)
+  parts-some h = by-formulas (w .fs) (w .is)
     where
-      go : (fs : Formulas) → drop at s ≡ writeParts fs ++ (41 ∷ w .rest) → IsCons fs
-      go nil e = absurd (omega (arith, first-byte s at 41 _ e .0))
-      go (cons f gs) e = record { f = f; gs = gs; is = refl }
+      by-formulas : (fs : Formulas) → drop at s ≡ writeParts fs ++ (41 ∷ w .rest) → IsCons fs
+      by-formulas nil e = absurd (omega (arith, first-byte s at 41 _ e .0))
+      by-formulas (cons f gs) e = record { f = f; gs = gs; is = refl }
 
   pub parts-end : (b : Bool) (many : ℕ) → (getD s at 0 ≡ 32 → ⊥) → WalkedParts b s at g sc t many (w .fs) at many t
   unfolding write
@@ -373,7 +399,7 @@ module _ {s : List ℕ} {at : ℕ} {g : Signature} {sc : Scope} {t : Rows} (w : 
     pub part-text : drop (at + 1) s ≡ write (v .f) ++ (writeParts (v .gs) ++ (41 ∷ w .rest))
     part-text = sym (drop-drop 1 at s) ∙ ap (λ (l : List ℕ). drop 1 l) (w .is ∙ ap (λ (fs : Formulas). writeParts fs ++ (41 ∷ w .rest)) (v .is) ∙ lay-parts (v .f) (v .gs) (41 ∷ w .rest))
 
-    abbrev pub part-ready : Ready s (at + 1) g sc t
+    abbrev pub part-ready : ReadyAt s (at + 1) g sc t
     part-ready = record {
       f = v .f;
       rest = writeParts (v .gs) ++ (41 ∷ w .rest);
@@ -394,7 +420,10 @@ module _ {s : List ℕ} {at : ℕ} {g : Signature} {sc : Scope} {t : Rows} (w : 
 
       pub parts-done : (many after n : ℕ) (u : Rows) → WalkedParts b s x-end g sc x (many + 1) (v .gs) after n u → WalkedParts b s at g sc t many (w .fs) after n u
       parts-done many after n u R =
-          let e : treesIn b (allOf s g) (typesOf s g) (names s sc) (w .fs) ≡ (treeIn b (allOf s g) (typesOf s g) (names s sc) (v .f) then treesIn b (allOf s g) (typesOf s g) (names s sc) (v .gs)) = ap (λ (fs : Formulas). treesIn b (allOf s g) (typesOf s g) (names s sc) fs) (v .is) ∙ trees-cons (allOf s g) (typesOf s g) (names s sc) b (v .f) (v .gs) in
+          let e : treesIn b (allOf s g) (typesOf s g) (names s sc) (w .fs)
+          ≡ (treeIn b (allOf s g) (typesOf s g) (names s sc) (v .f) then treesIn b (allOf s g) (typesOf s g) (names s sc) (v .gs)) = ap
+          (λ (fs : Formulas). treesIn b (allOf s g) (typesOf s g) (names s sc) fs) (v .is)
+          ∙ trees-cons (allOf s g) (typesOf s g) (names s sc) b (v .f) (v .gs) in
           record {
             place = omega (arith, R .place, X .place, ap (λ (fs : Formulas). length (writeParts fs)) (v .is), len-parts (v .f) (v .gs));
             adds = as-trees e (next-rows (treeIn b (allOf s g) (typesOf s g) (names s sc) (v .f)) (treesIn b (allOf s g) (typesOf s g) (names s sc) (v .gs)) (X .adds) (R .adds));

@@ -1,5 +1,5 @@
 -- A formula of its form by its kind: its parts, their places in the text, and that they are accepted too. Assumes nothing.
-use Prim.Native.Nat.{ℕ, _+_, _-_, _≤_, max}
+use Prim.Native.Nat.{ℕ, _+_, _≤_, max}
 use native.Mathlib.Omega.{arith}
 use mathlib.Core.Path.{_≡_, refl, sym, ap, _∙_}
 use mathlib.Core.Bool.{Bool, true, false, _&&_}
@@ -7,7 +7,10 @@ use mathlib.Core.List.{List, _∷_, _++_, append-assoc}
 use lib.ListN.{length, length-append}
 use Rattle.definitions.specs.Text.{isRelationName}
 use Rattle.definitions.specs.Relations.{Relation}
-use Rattle.definitions.specs.Formula.{Quantified, variablesOf, AllQuantified, Formula, Formulas, literal, negation, implication, conjunction, disjunction, exists, forall, cons, Join, ands, ors, Quant, somes, everys, join, quant, writeVars, write, Variables, WellFormed, g-lit, g-neg, g-imp, g-and, g-or, g-exists, g-forall, AllWellFormed, a-good, forms, formsAll, nesting, nestingAll, isKnown, areKnown}
+use Rattle.definitions.specs.Formula.{Quantified, variablesOf, AllQuantified, Formula, Formulas, literal, negation, implication, conjunction}
+use Rattle.definitions.specs.Formula.{disjunction, exists, forall, cons, Join, ands, ors, Quant, somes, everys, join, quant, writeVars, write}
+use Rattle.definitions.specs.Formula.{Variables, WellFormed, g-lit, g-neg, g-imp, g-and, g-or, g-exists, g-forall, AllWellFormed, a-good, forms}
+use Rattle.definitions.specs.Formula.{formsAll, nesting, nestingAll, isKnown, areKnown}
 use Rattle.definitions.specs.Parsing.{begins, Head, isNot, isImplies, isAnd, isOr, isExists, isForall, isOther, kindOf}
 use Rattle.definitions.specs.Writing.{and-l, and-r, name-is, kind-lit}
 use Rattle.formula.specs.Said.{length-variables}
@@ -210,13 +213,42 @@ module _ (rs : List Relation) (sc : List (List ℕ)) (n m : ℕ) where
   fine-imp-2 f g n′ m′ a b w = let d = deep-imp (w .good) .1 in record { depth = d .depth; good = d .good; rows = omega (arith, w .rows); nodes = omega (arith, w .nodes); deep = omega (arith, w .deep); known = and-r (isKnown rs f) (isKnown rs g) (w .known) }
 
   pub fine-join-1 : (j : Join) (f : Formula) (fs : Formulas) → Fine rs sc n m (join j (cons f fs)) → Fine rs sc n (m + 1) f
-  fine-join-1 j f fs w = let d = deep-join j f fs (w .good) .0 in record { depth = d .depth; good = d .good; rows = omega (arith, w .rows, join-forms j f fs); nodes = omega (arith, w .nodes, join-forms j f fs); deep = omega (arith, w .deep, join-nesting j f fs); known = and-l (isKnown rs f) (areKnown rs fs) (sym (join-known rs j f fs) ∙ w .known) }
+  fine-join-1 j f fs w = let d =
+      deep-join j f fs (w .good) .0 in record {
+        depth = d .depth;
+        good = d .good;
+        rows = omega (arith, w .rows, join-forms j f fs);
+        nodes = omega
+            (arith, w .nodes, join-forms j f fs);
+        deep = omega (arith, w .deep, join-nesting j f fs);
+        known = and-l (isKnown rs f) (areKnown rs fs)
+            (sym (join-known rs j f fs) ∙ w .known);
+      }
 
   pub fine-join-2 : (j : Join) (f : Formula) (fs : Formulas) (n′ m′ : ℕ) → n′ ≤ n + forms f → m′ ≤ (m + 1) + forms f → Fine rs sc n m (join j (cons f fs)) → AllFine rs sc n′ m′ fs
-  fine-join-2 j f fs n′ m′ a b w = let d = deep-join j f fs (w .good) .1 in record { depth = d .depth; good = d .good; rows = omega (arith, w .rows, join-forms j f fs); nodes = omega (arith, w .nodes, join-forms j f fs); deep = omega (arith, w .deep, join-nesting j f fs); known = and-r (isKnown rs f) (areKnown rs fs) (sym (join-known rs j f fs) ∙ w .known) }
+  fine-join-2 j f fs n′ m′ a b w = let d = deep-join j f fs (w .good) .1 in
+      record {
+        depth = d .depth;
+        good = d .good;
+        rows = omega (arith, w .rows, join-forms j f fs);
+        nodes = omega (arith, w .nodes, join-forms j f fs);
+        deep = omega (arith, w .deep, join-nesting j f fs);
+        known = and-r (isKnown rs f) (areKnown rs fs) (sym (join-known rs j f fs) ∙ w .known);
+      }
 
   pub fine-quant : (q : Quant) (qs : List Quantified) (f : Formula) (sc′ : List (List ℕ)) → sc′ ≡ sc ++ variablesOf qs → Fine rs sc n m (quant q qs f) → Fine rs sc′ n (m + length qs) f
-  fine-quant q qs f sc′ e w = let d = deep-quant q qs f (w .good) in record { depth = d .depth; good = d .good; rows = omega (arith, w .rows, quant-forms q qs f); nodes = omega (arith, w .nodes, quant-forms q qs f); deep = omega (arith, w .deep, quant-nesting q qs f, ap length e, length-append sc (variablesOf qs), length-variables qs); known = sym (quant-known rs q qs f) ∙ w .known }
+  fine-quant q qs f sc′ e w = let d = deep-quant q qs f (w .good) in
+      record {
+        depth = d .depth;
+        good = d .good;
+        rows = omega (arith, w .rows, quant-forms q qs f);
+        nodes = omega
+            (arith, w .nodes, quant-forms q qs f);
+        deep = omega
+            (arith, w .deep, quant-nesting q qs f, ap length e, length-append sc (variablesOf qs), length-variables qs);
+        known = sym (quant-known rs q qs f)
+            ∙ w .known;
+      }
 
   pub fine-part : (f : Formula) (fs : Formulas) → AllFine rs sc n m (cons f fs) → Fine rs sc n m f
   unfolding forms nesting isKnown

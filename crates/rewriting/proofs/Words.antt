@@ -17,9 +17,9 @@ use Rattle.definitions.specs.Parsing.{span}
 use Rattle.definitions.specs.Writing.{vars-stop, more-stop, typed-close}
 use Rattle.text.specs.Spans.{placeOf}
 use Rattle.text.specs.declared.Found.the-variants.{At, Nowhere}
-use Rattle.names.specs.Signatures.{Lent, allOf, relationsFrom, namesFrom, typesIn}
+use Rattle.names.specs.Signatures.{Lent, allOf, relationsFrom, typesIn}
 use Rattle.names.specs.declared.Signature.{Signature}
-use Rattle.names.proofs.Laws.{position-some, all-are, length-relations}
+use Rattle.names.proofs.Laws.{position-some, all-are, length-relations, length-names}
 use Rattle.formula.specs.Seen.{names, spans, pastType}
 use Rattle.formula.specs.Spans.{spans-next, spans-push}
 use Rattle.formula.specs.Steps.{front-rest, slice-front}
@@ -87,11 +87,6 @@ number-low q g w k h e = omega (arith, length-all q g, position-some (λ (r : Re
 pub lent-low : (q F T w : List ℕ) (m k : ℕ) → m ≤ 12 → ((g : Signature) → Lent g F T m → At k ≡ placeOf (numberOf (allOf q g) w)) → k < 17
 lent-low q F T w m k h e = let g : Signature = record { rels = m; chosen = 0; types = 0; from = F; to = T; arity = []; kind = []; firsts = []; seconds = [] } in number-low q g w k (omega arith) (e g (record { from-is = refl; to-is = refl; count = omega arith }))
 
-pub types-many : (q from to : List ℕ) (i k : ℕ) → length (namesFrom q from to i k) ≡ k
-unfolding namesFrom
-types-many q from to i zero = refl
-types-many q from to i (suc k) = ap suc (types-many q from to (suc i) k)
-
 pub number-at : (x : Option ℕ) (k : ℕ) → At k ≡ placeOf x → k ≡ option x zero (λ j. j)
 unfolding option
 number-at x k e = rw (number-found x k e)
@@ -115,20 +110,20 @@ no-span l = refl
 module _ (s : List ℕ) (at : ℕ) (sc : Scope) (n : ℕ) where
   pub vars-in : VarsReady s at sc n → at < length s
   unfolding writeEach
-  vars-in w = go (w .vs) (w .is)
+  vars-in w = by-list (w .vs) (w .is)
     where
-      go : (vs : List (List ℕ)) → drop at s ≡ writeVars vs ++ (41 ∷ w .rest) → at < length s
-      go [] e = first-byte s at 41 (w .rest) e .1
-      go (v ∷ vs) e = first-byte s at 32 _ e .1
+      by-list : (vs : List (List ℕ)) → drop at s ≡ writeVars vs ++ (41 ∷ w .rest) → at < length s
+      by-list [] e = first-byte s at 41 (w .rest) e .1
+      by-list (v ∷ vs) e = first-byte s at 32 _ e .1
 
   -- no space: no variable
   pub vars-none : (w : VarsReady s at sc n) → (getD s at 0 ≡ 32 → ⊥) → w .vs ≡ []
   unfolding writeEach
-  vars-none w h = go (w .vs) (w .is)
+  vars-none w h = by-list (w .vs) (w .is)
     where
-      go : (vs : List (List ℕ)) → drop at s ≡ writeVars vs ++ (41 ∷ w .rest) → vs ≡ []
-      go [] e = refl
-      go (v ∷ vs) e = absurd (h (first-byte s at 32 _ e .0))
+      by-list : (vs : List (List ℕ)) → drop at s ≡ writeVars vs ++ (41 ∷ w .rest) → vs ≡ []
+      by-list [] e = refl
+      by-list (v ∷ vs) e = absurd (h (first-byte s at 32 _ e .0))
 
   -- a space: one variable, and others
   pub record More (vs : List (List ℕ)) (e : ℕ) : Type 0 where
@@ -143,11 +138,11 @@ module _ (s : List ℕ) (at : ℕ) (sc : Scope) (n : ℕ) where
 
   pub vars-more : (w : VarsReady s at sc n) (e : ℕ) → getD s at 0 ≡ 32 → e ≡ (at + 2) + span true (drop (at + 2) s) → More (w .vs) e
   unfolding writeEach
-  vars-more w e c q = go (w .vs) (w .words) (w .is) (w .fits)
+  vars-more w e c q = by-list (w .vs) (w .words) (w .is) (w .fits)
     where
-      go : (vs : List (List ℕ)) → Variables vs → drop at s ≡ writeVars vs ++ (41 ∷ w .rest) → n + length vs ≤ 3 → More vs e
-      go [] h i k = absurd (omega (arith, first-byte s at 41 (w .rest) i .0))
-      go (v ∷ us) (a-word h hs) i k =
+      by-list : (vs : List (List ℕ)) → Variables vs → drop at s ≡ writeVars vs ++ (41 ∷ w .rest) → n + length vs ≤ 3 → More vs e
+      by-list [] h i k = absurd (omega (arith, first-byte s at 41 (w .rest) i .0))
+      by-list (v ∷ us) (a-word h hs) i k =
           let d : drop (at + 1) s ≡ v ++ (writeVars us ++ (41 ∷ w .rest)) = sym (drop-drop 1 at s) ∙ ap (λ (x : List ℕ). drop 1 x) i ∙ append-assoc v (writeVars us) (41 ∷ w .rest) in
           let z = var-ends s v (writeVars us ++ (41 ∷ w .rest)) (at + 1) h d (vars-stop us (41 ∷ w .rest) (no-span (w .rest))) in
           let two : at + 2 ≡ (at + 1) + 1 = omega arith in
@@ -169,7 +164,10 @@ module _ (s : List ℕ) (at : ℕ) (sc : Scope) (n : ℕ) where
   unfolding writeEach
   fill-none row w h p k ls e = subst (λ (vs : List (List ℕ)). Filled s at sc p k ls vs (record { row = row; at = at })) (sym (vars-none w h)) (record { place = omega arith; row = e ∙ ap (λ (l : List ℕ). leafRow p k l) (sym (append-nil ls)) })
 
-  pub fill-more : (row : Row) (i l e : ℕ) (r : Leaf) (w : VarsReady s at sc n) (m : More (w .vs) e) → row .width ≡ n → i ≡ row .width → l ≡ levelOf (names s sc) (slice (at + 1) e s) → (p : Bool) (k : ℕ) (ls : List ℕ) → row ≡ leafRow p k ls → (record { kind = row .kind; which = row .which; many = row .many; sort = row .sort; width = row .width + 1; levels = set (row .levels) i l } ≡ leafRow p k (ls ++ (l ∷ [])) → Filled s e sc p k (ls ++ (l ∷ [])) (m .next .vs) r) → Filled s at sc p k ls (w .vs) r
+  pub fill-more : (row : Row) (i l e : ℕ) (r : Leaf) (w : VarsReady s at sc n) (m : More (w .vs) e) → row .width ≡ n → i ≡ row .width → l
+      ≡ levelOf (names s sc) (slice (at + 1) e s) → (p : Bool) (k : ℕ) (ls : List ℕ) → row ≡ leafRow p k ls
+      → (record { kind = row .kind; which = row .which; many = row .many; sort = row .sort; width = row .width + 1; levels = set (row .levels) i l }
+      ≡ leafRow p k (ls ++ (l ∷ [])) → Filled s e sc p k (ls ++ (l ∷ [])) (m .next .vs) r) → Filled s at sc p k ls (w .vs) r
   unfolding writeEach
   fill-more row i l e r w m en ei el p k ls q f = done (f more)
     where
@@ -177,10 +175,24 @@ module _ (s : List ℕ) (at : ℕ) (sc : Scope) (n : ℕ) where
       few = omega (arith, ap (λ (x : Row). x .width) q, w .fits, ap length (m .is))
 
       more : record { kind = row .kind; which = row .which; many = row .many; sort = row .sort; width = row .width + 1; levels = set (row .levels) i l } ≡ leafRow p k (ls ++ (l ∷ []))
-      more = ap (λ (j : ℕ). record { kind = row .kind; which = row .which; many = row .many; sort = row .sort; width = row .width + 1; levels = set (row .levels) j l }) ei ∙ ap (λ (x : Row). record { kind = x .kind; which = x .which; many = x .many; sort = x .sort; width = x .width + 1; levels = set (x .levels) (x .width) l }) q ∙ rw (pad-more 3 ls l few, length-append ls (l ∷ []))
+      more =
+          ap (λ (j : ℕ). record {
+            kind = row .kind;
+            which = row .which;
+            many = row .many;
+            sort = row .sort;
+            width = row .width + 1;
+            levels = set
+                (row .levels) j l;
+          }) ei ∙ ap (λ (x : Row). record
+          { kind = x .kind; which = x .which; many = x .many; sort = x .sort; width = x .width + 1; levels = set (x .levels) (x .width) l }) q
+          ∙ rw (pad-more 3 ls l few, length-append ls (l ∷ []))
 
       levels : ls ++ (l ∷ map (λ v. levelOf (names s sc) v) (m .next .vs)) ≡ ls ++ map (λ v. levelOf (names s sc) v) (w .vs)
-      levels = ap (λ (x : ℕ). ls ++ (x ∷ map (λ v. levelOf (names s sc) v) (m .next .vs))) (el ∙ ap (λ (x : List ℕ). levelOf (names s sc) x) (m .name)) ∙ ap (λ (x : List (List ℕ)). ls ++ (levelOf (names s sc) (m .v) ∷ map (λ v. levelOf (names s sc) v) x)) (m .rest) ∙ ap (λ (x : List (List ℕ)). ls ++ map (λ v. levelOf (names s sc) v) x) (sym (m .is))
+      levels =
+          ap (λ (x : ℕ). ls ++ (x ∷ map (λ v. levelOf (names s sc) v) (m .next .vs))) (el ∙ ap (λ (x : List ℕ). levelOf (names s sc) x) (m .name))
+          ∙ ap (λ (x : List (List ℕ)). ls ++ (levelOf (names s sc) (m .v) ∷ map (λ v. levelOf (names s sc) v) x)) (m .rest)
+          ∙ ap (λ (x : List (List ℕ)). ls ++ map (λ v. levelOf (names s sc) v) x) (sym (m .is))
 
       long : e + length (writeVars (m .next .vs)) ≡ at + length (writeVars (w .vs))
       long = ap (λ (x : List (List ℕ)). e + length (writeVars x)) (m .rest) ∙ sum ∙ ap (λ (x : List (List ℕ)). at + length (writeVars x)) (sym (m .is))
@@ -210,18 +222,18 @@ module _ (types : List (List ℕ)) (s : List ℕ) (e p : ℕ) (h : e ≡ p → �
 
 pub type-low : (q from to name : List ℕ) (k : ℕ) → At k ≡ placeOf (typeNumber (typesIn q from to 8) name) → k < 8
 unfolding typeNumber
-type-low q from to name k w = omega (arith, types-many q from to 12 8, position-some (λ t. same t name) (typesIn q from to 8) k [] (number-found (typeNumber (typesIn q from to 8) name) k w) .0)
+type-low q from to name k w = omega (arith, length-names q from to 12 8, position-some (λ t. same t name) (typesIn q from to 8) k [] (number-found (typeNumber (typesIn q from to 8) name) k w) .0)
 
 -- ---- `bind`
 -- the sort that stands in the text
 sort-read : (types : List (List ℕ)) (s r : List ℕ) (at : ℕ) (q : Quantified) → drop at s ≡ writeTyped q ++ r → at + length (writeTyped q) ≤ length s → sortIn types s (at + length (q .variable)) (at + length (writeTyped q)) ≡ sortOf types q
 unfolding sortIn sortOf sortNamed writeTyped option
-sort-read types s r at q w l = go (q .variable) (q .type) w l
+sort-read types s r at q w l = by-list (q .variable) (q .type) w l
   where
-    go : (v : List ℕ) (o : Option (List ℕ)) → drop at s ≡ (v ++ option o [] (λ t. 58 ∷ t)) ++ r → at + length (v ++ option o [] (λ t. 58 ∷ t)) ≤ length s
+    by-list : (v : List ℕ) (o : Option (List ℕ)) → drop at s ≡ (v ++ option o [] (λ t. 58 ∷ t)) ++ r → at + length (v ++ option o [] (λ t. 58 ∷ t)) ≤ length s
         → sortIn types s (at + length v) (at + length (v ++ option o [] (λ t. 58 ∷ t))) ≡ sortOf types (record { variable = v; type = o })
-    go v none a b = rw (append-nil v, eq-eqb (at + length v) (at + length v) refl)
-    go v (some t) a b =
+    by-list v none a b = rw (append-nil v, eq-eqb (at + length v) (at + length v) refl)
+    by-list v (some t) a b =
         let n : length (v ++ (58 ∷ t)) ≡ length v + suc (length t) = length-append v (58 ∷ t) in
         let d : drop ((at + length v) + 1) s ≡ t ++ r = sym (drop-drop 1 (at + length v) s) ∙ ap (λ (x : List ℕ). drop 1 x) (front-rest s v (58 ∷ (t ++ r)) at (a ∙ append-assoc v (58 ∷ t) r)) in
         let c : slice ((at + length v) + 1) (at + length (v ++ (58 ∷ t))) s ≡ t = slice-front s t ((at + length v) + 1) (at + length (v ++ (58 ∷ t))) b (d ∙ ap (λ (x : List ℕ). t ++ x) (sym (front-rest s (v ++ (58 ∷ t)) r at a))) in
@@ -237,10 +249,10 @@ module _ (s : List ℕ) (at : ℕ) (sc : Scope) where
     pub within : p + 2 ≤ length s
 
   list-ends : (w : ListReady s at sc) → Ends s at (w .q)
-  list-ends w = go (w .words)
+  list-ends w = from-this (w .words)
     where
-      go : AllQuantified (w .q ∷ w .qs) → Ends s at (w .q)
-      go (a-word h hs) = ends-at s (writeMore (w .qs) ++ (41 ∷ 32 ∷ w .rest)) at (w .q) h (w .is) (more-stop (w .qs) (41 ∷ 32 ∷ w .rest) (typed-close (32 ∷ w .rest)))
+      from-this : AllQuantified (w .q ∷ w .qs) → Ends s at (w .q)
+      from-this (a-word h hs) = ends-at s (writeMore (w .qs) ++ (41 ∷ 32 ∷ w .rest)) at (w .q) h (w .is) (more-stop (w .qs) (41 ∷ 32 ∷ w .rest) (typed-close (32 ∷ w .rest)))
 
   pub list-in : ListReady s at sc → at < length s
   list-in w = list-ends w .low
@@ -265,11 +277,11 @@ module _ (s : List ℕ) (at : ℕ) (sc : Scope) where
   module _ (w : ListReady s at sc) (e p : ℕ) (f : Front w e p) where
     pub list-last : (getD s p 0 ≡ 32 → ⊥) → w .qs ≡ []
     unfolding writeEach
-    list-last h = go (w .qs) (f .rest)
+    list-last h = by-list (w .qs) (f .rest)
       where
-        go : (qs : List Quantified) → drop p s ≡ writeMore qs ++ (41 ∷ 32 ∷ w .rest) → qs ≡ []
-        go [] q = refl
-        go (u ∷ us) q = absurd (h (first-byte s p 32 _ q .0))
+        by-list : (qs : List Quantified) → drop p s ≡ writeMore qs ++ (41 ∷ 32 ∷ w .rest) → qs ≡ []
+        by-list [] q = refl
+        by-list (u ∷ us) q = absurd (h (first-byte s p 32 _ q .0))
 
     -- a space after it: another list, with one variable bound
     pub record Next (inner : Scope) : Type 0 where
@@ -278,11 +290,11 @@ module _ (s : List ℕ) (at : ℕ) (sc : Scope) where
 
     pub list-next : (inner : Scope) → inner .n ≡ sc .n + 1 → getD s p 0 ≡ 32 → Next inner
     unfolding writeEach
-    list-next inner n c = go (w .qs) refl (w .words) (f .rest)
+    list-next inner n c = by-list (w .qs) refl (w .words) (f .rest)
       where
-        go : (qs : List Quantified) → w .qs ≡ qs → AllQuantified (w .q ∷ qs) → drop p s ≡ writeMore qs ++ (41 ∷ 32 ∷ w .rest) → Next inner
-        go [] i h q = absurd (omega (arith, first-byte s p 41 _ q .0))
-        go (u ∷ us) i (a-word h hs) q = record {
+        by-list : (qs : List Quantified) → w .qs ≡ qs → AllQuantified (w .q ∷ qs) → drop p s ≡ writeMore qs ++ (41 ∷ 32 ∷ w .rest) → Next inner
+        by-list [] i h q = absurd (omega (arith, first-byte s p 41 _ q .0))
+        by-list (u ∷ us) i (a-word h hs) q = record {
           ready = record {
             q = u;
             qs = us;
@@ -322,3 +334,7 @@ module _ (s : List ℕ) (at : ℕ) (sc : Scope) where
         count = omega (arith, o .count);
         sorts = o .sorts ∙ ap (λ (l : List ℕ). l ++ map (sortOf types) (n .ready .q ∷ n .ready .qs)) sorted-one ∙ append-assoc (take (sc .n) sorts) (sortOf types (w .q) ∷ []) (map (sortOf types) (n .ready .q ∷ n .ready .qs));
       })
+
+      pub bind-again : {r : Bound} → getD s p 0 ≡ 32
+          → ((v : ListReady s (p + 1) with-one) → Opened s (p + 1) types with-one (set sorts (sc .n) σ) (v .q ∷ v .qs) r) → Opened s at types sc sorts (w .q ∷ w .qs) r
+      bind-again {r} c h = let n = list-next with-one refl c in bind-more n r (h (n .ready))

@@ -8,7 +8,9 @@ use lib.Seq.{slice}
 use lib.Dec.{eqb}
 use Rattle.definitions.specs.Lists.{if_then_else_, same, option, position}
 use Rattle.definitions.specs.Relations.{Relation}
-use Rattle.definitions.specs.Formula.{Quantified, variablesOf, Formula, Formulas, write, writeVars, writeTyped, writeMore, writeList, writeParts, WellFormed, AllWellFormed, Variables, AllQuantified, typeNumber, sortOf, Join, ands, ors, Quant, somes, everys, forms, formsAll, nesting, nestingAll, isKnown, areKnown}
+use Rattle.definitions.specs.Formula.{Quantified, variablesOf, Formula, Formulas, write, writeVars, writeTyped, writeMore, writeList, writeParts}
+use Rattle.definitions.specs.Formula.{WellFormed, AllWellFormed, Variables, AllQuantified, typeNumber, sortOf, Join, ands, ors, Quant, somes, everys}
+use Rattle.definitions.specs.Formula.{forms, formsAll, nesting, nestingAll, isKnown, areKnown}
 use Rattle.definitions.specs.Parsing.{Head, isAnd, isOr, isExists, isForall}
 use Rattle.definitions.specs.Tree.{nodes, nodesAll, howMany}
 use Rattle.names.specs.Signatures.{Lent, allOf, typesOf, NoFurther}
@@ -86,7 +88,7 @@ pub record Fixed (s : List ℕ) (g : Signature) (t : Rows) : Type 0 where
   pub long : length (t .at) ≡ 64
 
 -- such a formula is written at `at`
-pub record Ready (s : List ℕ) (at : ℕ) (g : Signature) (sc : Scope) (t : Rows) : Type 0 where
+pub record ReadyAt (s : List ℕ) (at : ℕ) (g : Signature) (sc : Scope) (t : Rows) : Type 0 where
   pub f : Formula
   pub rest : List ℕ
   pub is : drop at s ≡ write f ++ rest
@@ -105,7 +107,7 @@ pub record PartsReady (s : List ℕ) (at : ℕ) (g : Signature) (sc : Scope) (t 
 pub record ReadyIn (s : List ℕ) (at : ℕ) (from to : List ℕ) (m : ℕ) (sc : Scope) (t : Rows) : Type 0 where
   pub g : Signature
   pub lent : Lent g from to m
-  pub ready : Ready s at g sc t
+  pub ready : ReadyAt s at g sc t
 
 pub record PartsReadyIn (s : List ℕ) (at : ℕ) (from to : List ℕ) (m : ℕ) (sc : Scope) (t : Rows) : Type 0 where
   pub g : Signature

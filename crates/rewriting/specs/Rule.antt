@@ -13,7 +13,7 @@ use Rattle.definitions.specs.Parsing.{readFormula}
 use Rattle.definitions.specs.Sheets.{Question, relationsOf}
 use Rattle.definitions.specs.Tree.{Tree, Trees, leaf, forallNode, existsNode, end, _then_, asIs, totalities, joined, treeOf}
 use Rattle.text.specs.Spans.{kindOf}
-use Rattle.names.specs.Signatures.{Sound, allOf, relsOf, chosenOf, typesOf}
+use Rattle.names.specs.Signatures.{SoundSignature, allOf, relsOf, chosenOf, typesOf}
 use Rattle.names.specs.declared.Signature.{Signature}
 use Rattle.formula.specs.Seen.{ruleNumber}
 use Rattle.tree.specs.Tables.{IsTable, Fits}
@@ -32,7 +32,7 @@ oneTotality k r x y = if isTotal (kindOf k) then totalityOf r x y then end else 
 pub record Accepted (s : List ℕ) (at stop : ℕ) (g : Signature) : Type 0 where
   pub low : at ≤ stop
   pub high : stop ≤ length s
-  pub sound : Sound s g
+  pub sound : SoundSignature s g
   pub fine : ruleNumber (allOf s g) (typesOf s g) (chosenOf s g) (slice at stop s) ≡ 0
 
 -- the tree of the rule that is the formula f, with its totalities

@@ -31,11 +31,11 @@ FewSorts (r ∷ rs) = (r .firsts ≤ 8) × (r .seconds ≤ 8) × FewSorts rs
 -- ---- literals
 position-lt : {A : Type 0} (p : A → Bool) (xs : List A) (d : A) (n : ℕ) → length xs ≤ n → 0 < n → option (position p xs) zero (λ k. k) < n
 unfolding option
-position-lt p xs d n h o = go (position p xs) refl
+position-lt p xs d n h o = by-option (position p xs) refl
   where
-    go : (i : Option ℕ) → position p xs ≡ i → option i zero (λ k. k) < n
-    go none e = o
-    go (some i) e = omega (arith, position-some p xs i d e .0)
+    by-option : (i : Option ℕ) → position p xs ≡ i → option i zero (λ k. k) < n
+    by-option none e = o
+    by-option (some i) e = omega (arith, position-some p xs i d e .0)
 
 type-low : (types : List (List ℕ)) (name : List ℕ) (i : ℕ) → typeNumber types name ≡ some i → i < length types
 unfolding typeNumber
@@ -50,22 +50,22 @@ levels-low sc (v ∷ vs) (suc i) h = levels-low sc vs i h
 pub known-few : (rs : List Relation) (n : List ℕ) (m : ℕ) → FewPlaces rs → any (λ (k : Relation). same (k .name) n && eqb (k .arity) m) rs ≡ true → m ≤ 3
 unfolding FewPlaces any
 known-few [] n m h e = let z : _≡_ {A = ℕ} 0 1 = cc in absurd (omega arith)
-known-few (r ∷ rs) n m h e = go (same (r .name) n) (eqb (r .arity) m) refl e (known-few rs n m (h .1))
+known-few (r ∷ rs) n m h e = by-test (same (r .name) n) (eqb (r .arity) m) refl e (known-few rs n m (h .1))
   where
-    go : (a b : Bool) → eqb (r .arity) m ≡ b → ((a && b) || any (λ (k : Relation). same (k .name) n && eqb (k .arity) m) rs) ≡ true → (any (λ (k : Relation). same (k .name) n && eqb (k .arity) m) rs ≡ true → m ≤ 3) → m ≤ 3
-    go true true q x f = omega (arith, eqb-true (r .arity) m q, h .0)
-    go true false q x f = f x
-    go false b q x f = f x
+    by-test : (a b : Bool) → eqb (r .arity) m ≡ b → ((a && b) || any (λ (k : Relation). same (k .name) n && eqb (k .arity) m) rs) ≡ true → (any (λ (k : Relation). same (k .name) n && eqb (k .arity) m) rs ≡ true → m ≤ 3) → m ≤ 3
+    by-test true true q x f = omega (arith, eqb-true (r .arity) m q, h .0)
+    by-test true false q x f = f x
+    by-test false b q x f = f x
 
 -- ---- sorts
 sort-low : (types : List (List ℕ)) (v : List ℕ) (t : Option (List ℕ)) (n : ℕ) → length types ≤ n → sortOf types (record { variable = v; type = t }) ≤ n
 unfolding sortOf sortNamed option
 sort-low types v none n h = omega arith
-sort-low types v (some name) n h = go (typeNumber types name) refl
+sort-low types v (some name) n h = by-option (typeNumber types name) refl
   where
-    go : (o : Option ℕ) → typeNumber types name ≡ o → option o zero suc ≤ n
-    go none e = omega arith
-    go (some i) e = omega (arith, type-low types name i e)
+    by-option : (o : Option ℕ) → typeNumber types name ≡ o → option o zero suc ≤ n
+    by-option none e = omega arith
+    by-option (some i) e = omega (arith, type-low types name i e)
 
 sorts-low : (types : List (List ℕ)) (n : ℕ) → length types ≤ n → (qs : List Quantified) (i : ℕ) → getD (map (sortOf types) qs) i 0 ≤ n
 sorts-low types n h [] zero = omega arith
@@ -108,13 +108,21 @@ module _ (rs : List Relation) (few : FewPlaces rs) (some-rels : 0 < length rs) (
     pub tree-small : (b : Bool) (sc : List (List ℕ)) (f : Formula) → isKnown rs f ≡ true → length sc + nesting f ≤ 4 → Small (length rs) (treeIn b rs types sc f)
     tree-small b sc (literal n vs) e h = rw (tree-lit rs types sc b n vs) (small-lit b sc n vs e (omega arith))
     tree-small b sc (negation f) e h = rw (tree-neg rs types sc b f) (tree-small (not b) sc f e h)
-    tree-small b sc (implication f g) e h = rw (tree-imp rs types sc b f g) (small-join (length rs) b ors (treeIn (not b) rs types sc f then treeIn b rs types sc g then end) (small-two (length rs) (treeIn (not b) rs types sc f) (treeIn b rs types sc g) (tree-small (not b) sc f (and-l (isKnown rs f) (isKnown rs g) e) (omega arith)) (tree-small b sc g (and-r (isKnown rs f) (isKnown rs g) e) (omega arith))))
+    tree-small b sc (implication f g) e h =
+        rw (tree-imp rs types sc b f g) (small-join (length rs) b ors (treeIn (not b) rs types sc f then treeIn b rs types sc g then end)
+        (small-two (length rs) (treeIn (not b) rs types sc f) (treeIn b rs types sc g)
+        (tree-small (not b) sc f (and-l (isKnown rs f) (isKnown rs g) e) (omega arith))
+        (tree-small b sc g (and-r (isKnown rs f) (isKnown rs g) e) (omega arith))))
     tree-small b sc (conjunction fs) e h = rw (tree-join rs types sc b ands fs) (small-join (length rs) b ands (treesIn b rs types sc fs) (trees-small b sc fs e h))
     tree-small b sc (disjunction fs) e h = rw (tree-join rs types sc b ors fs) (small-join (length rs) b ors (treesIn b rs types sc fs) (trees-small b sc fs e h))
     tree-small b sc (exists qs f) e h =
-        rw (tree-quant rs types sc b somes qs f) (small-nest (length rs) b somes (length sc) (map (sortOf types) qs) (treeIn b rs types (sc ++ variablesOf qs) f) (omega (arith, length-map qs (sortOf types))) (sorts-low types 8 few-types qs) (tree-small b (sc ++ variablesOf qs) f e (omega (arith, length-append sc (variablesOf qs), length-variables qs))))
+        rw (tree-quant rs types sc b somes qs f) (small-nest (length rs) b somes (length sc) (map (sortOf types) qs)
+        (treeIn b rs types (sc ++ variablesOf qs) f) (omega (arith, length-map qs (sortOf types))) (sorts-low types 8 few-types qs)
+        (tree-small b (sc ++ variablesOf qs) f e (omega (arith, length-append sc (variablesOf qs), length-variables qs))))
     tree-small b sc (forall qs f) e h =
-        rw (tree-quant rs types sc b everys qs f) (small-nest (length rs) b everys (length sc) (map (sortOf types) qs) (treeIn b rs types (sc ++ variablesOf qs) f) (omega (arith, length-map qs (sortOf types))) (sorts-low types 8 few-types qs) (tree-small b (sc ++ variablesOf qs) f e (omega (arith, length-append sc (variablesOf qs), length-variables qs))))
+        rw (tree-quant rs types sc b everys qs f) (small-nest (length rs) b everys (length sc) (map (sortOf types) qs)
+        (treeIn b rs types (sc ++ variablesOf qs) f) (omega (arith, length-map qs (sortOf types))) (sorts-low types 8 few-types qs)
+        (tree-small b (sc ++ variablesOf qs) f e (omega (arith, length-append sc (variablesOf qs), length-variables qs))))
 
     trees-small : (b : Bool) (sc : List (List ℕ)) (fs : Formulas) → areKnown rs fs ≡ true → length sc + nestingAll fs ≤ 4 → AllSmall (length rs) (treesIn b rs types sc fs)
     trees-small b sc nil e h = rw (trees-nil rs types sc b) tt

@@ -30,19 +30,19 @@ pow-below n i k m h l b = let q : n ^ (i + 1) ≤ n ^ k = pow-le-pow-right h (om
 -- ---- values
 pub set-value : (env : List ℕ) (d x : ℕ) → d < length env → valueIn (set env d x) ≡ withValue (valueIn env) d x
 unfolding valueIn withValue
-set-value env d x h = fun-ext (λ l. go l (ℕ-discrete l d))
+set-value env d x h = fun-ext (λ l. by-number l (ℕ-discrete l d))
   where
-    go : (l : ℕ) → Dec (l ≡ d) → valueIn (set env d x) l ≡ withValue (valueIn env) d x l
-    go l (yes e) = rw (eq-eqb l d e, e) (getD-set-same env d x 0 h)
-    go l (no k) = rw (ne-eqb l d k) (getD-set-other env d l x 0 k)
+    by-number : (l : ℕ) → Dec (l ≡ d) → valueIn (set env d x) l ≡ withValue (valueIn env) d x l
+    by-number l (yes e) = rw (eq-eqb l d e, e) (getD-set-same env d x 0 h)
+    by-number l (no k) = rw (ne-eqb l d k) (getD-set-other env d l x 0 k)
 
 pub within-set : (n : ℕ) (env : List ℕ) (d x : ℕ) → x < n → Within n env → Within n (set env d x)
-within-set n env d x h w l = go l (ℕ-discrete l d) (decLt d (length env))
+within-set n env d x h w l = by-number l (ℕ-discrete l d) (decLt d (length env))
   where
-    go : (l : ℕ) → Dec (l ≡ d) → Dec (d < length env) → getD (set env d x) l 0 < n
-    go l (yes e) (yes k) = rw (e, getD-set-same env d x 0 k) h
-    go l (yes e) (no k) = rw (set-out env d x (omega arith)) (w l)
-    go l (no k) b = rw (getD-set-other env d l x 0 k) (w l)
+    by-number : (l : ℕ) → Dec (l ≡ d) → Dec (d < length env) → getD (set env d x) l 0 < n
+    by-number l (yes e) (yes k) = rw (e, getD-set-same env d x 0 k) h
+    by-number l (yes e) (no k) = rw (set-out env d x (omega arith)) (w l)
+    by-number l (no k) b = rw (getD-set-other env d l x 0 k) (w l)
 
 zeros : (l : ℕ) → _≡_ {A = ℕ} (getD (0 ∷ 0 ∷ 0 ∷ 0 ∷ []) l 0) 0
 zeros zero = refl
@@ -113,18 +113,18 @@ one l x = if eqb l x then 1 else 0
 
 weight-snoc : (n : ℕ) (xs : List ℕ) (x l : ℕ) → weightOf n (xs ++ (x ∷ [])) l ≡ weightOf n xs l * n + one l x
 unfolding weightOf
-weight-snoc n [] x l = go (eqb l x)
+weight-snoc n [] x l = by-test (eqb l x)
   where
-    go : (b : Bool) → (if b then n ^ 0 else 0) + 0 ≡ 0 * n + (if b then 1 else 0)
-    go true = let e : n ^ 0 ≡ 1 = pow-zero n in omega arith
-    go false = omega arith
+    by-test : (b : Bool) → (if b then n ^ 0 else 0) + 0 ≡ 0 * n + (if b then 1 else 0)
+    by-test true = let e : n ^ 0 ≡ 1 = pow-zero n in omega arith
+    by-test false = omega arith
 weight-snoc n (y ∷ xs) x l =
     let e : length (xs ++ (x ∷ [])) ≡ suc (length xs) = length-append xs (x ∷ []) ∙ omega arith in
-    rw (weight-snoc n xs x l, e, add-mul) (go (eqb l y))
+    rw (weight-snoc n xs x l, e, add-mul) (by-test (eqb l y))
   where
-    go : (b : Bool) → (if b then n ^ suc (length xs) else 0) + (weightOf n xs l * n + one l x) ≡ (if b then n ^ length xs else 0) * n + weightOf n xs l * n + one l x
-    go true = let e = pow-suc n (length xs) in omega arith
-    go false = omega arith
+    by-test : (b : Bool) → (if b then n ^ suc (length xs) else 0) + (weightOf n xs l * n + one l x) ≡ (if b then n ^ length xs else 0) * n + weightOf n xs l * n + one l x
+    by-test true = let e = pow-suc n (length xs) in omega arith
+    by-test false = omega arith
 
 weight-lt : (n : ℕ) (xs : List ℕ) (l : ℕ) → 0 < n → weightOf n xs l < suc n ^ length xs
 unfolding weightOf
@@ -135,11 +135,11 @@ weight-lt n (x ∷ xs) l h =
     let a : n ^ length xs ≤ suc n ^ length xs = pow-le-pow-left (omega arith) (length xs) in
     let q : suc n ^ length xs * 1 ≤ suc n ^ length xs * n = mul-le-mul (omega arith) h in
     let r = weight-lt n xs l h in
-    go (eqb l x) (omega arith) (omega arith)
+    by-test (eqb l x) (omega arith) (omega arith)
   where
-    go : (b : Bool) → n ^ length xs + weightOf n xs l < suc n ^ suc (length xs) → weightOf n xs l < suc n ^ suc (length xs) → (if b then n ^ length xs else 0) + weightOf n xs l < suc n ^ suc (length xs)
-    go true a b = a
-    go false a b = omega arith
+    by-test : (b : Bool) → n ^ length xs + weightOf n xs l < suc n ^ suc (length xs) → weightOf n xs l < suc n ^ suc (length xs) → (if b then n ^ length xs else 0) + weightOf n xs l < suc n ^ suc (length xs)
+    by-test true a b = a
+    by-test false a b = omega arith
 
 pub weight-most : (n k : ℕ) (ls : List ℕ) → 0 < n → n ≤ 64 → k ≤ 4 → k ≤ length ls → (l : ℕ) → weightOf n (take k ls) l ≤ 65 ^ 4
 weight-most n k ls h a b c l =
@@ -161,15 +161,15 @@ times-at n w l =
 pub weight-next : (n i : ℕ) (w ls : List ℕ) → i < length ls → getD ls i 0 < length w → valueIn w ≡ weightOf n (take i ls)
     → valueIn (set (map (λ (x : ℕ). x * n) w) (getD ls i 0) (getD (map (λ (x : ℕ). x * n) w) (getD ls i 0) 0 + 1)) ≡ weightOf n (take (i + 1) ls)
 unfolding valueIn
-weight-next n i w ls h k e = fun-ext (λ l. go l (ℕ-discrete l (getD ls i 0)))
+weight-next n i w ls h k e = fun-ext (λ l. by-number l (ℕ-discrete l (getD ls i 0)))
   where
-    go : (l : ℕ) → Dec (l ≡ getD ls i 0) → valueIn (set (map (λ (x : ℕ). x * n) w) (getD ls i 0) (getD (map (λ (x : ℕ). x * n) w) (getD ls i 0) 0 + 1)) l ≡ weightOf n (take (i + 1) ls) l
-    go l (yes q) =
+    by-number : (l : ℕ) → Dec (l ≡ getD ls i 0) → valueIn (set (map (λ (x : ℕ). x * n) w) (getD ls i 0) (getD (map (λ (x : ℕ). x * n) w) (getD ls i 0) 0 + 1)) l ≡ weightOf n (take (i + 1) ls) l
+    by-number l (yes q) =
         ap (λ (d : ℕ). getD (set (map (λ (x : ℕ). x * n) w) d (getD (map (λ (x : ℕ). x * n) w) d 0 + 1)) l 0) (sym q)
         ∙ getD-set-same (map (λ (x : ℕ). x * n) w) l _ 0 (omega (arith, length-map w (λ (x : ℕ). x * n)))
         ∙ ap (λ (x : ℕ). x + 1) (times-at n w l) ∙ ap₂ (λ (x y : ℕ). x * n + y) (ap (λ (f : Values). f l) e) (sym (ap (λ (b : Bool). if b then 1 else 0) (eq-eqb l (getD ls i 0) q)))
         ∙ sym (weight-snoc n (take i ls) (getD ls i 0) l) ∙ rw (add-one, take-suc ls i 0 h) refl
-    go l (no q) =
+    by-number l (no q) =
         getD-set-other (map (λ (x : ℕ). x * n) w) (getD ls i 0) l _ 0 q ∙ times-at n w l
         ∙ ap (λ (x : ℕ). x * n) (ap (λ (f : Values). f l) e) ∙ sym (add-none _)
         ∙ ap (λ (y : ℕ). weightOf n (take i ls) l * n + y) (sym (ap (λ (b : Bool). if b then 1 else 0) (ne-eqb l (getD ls i 0) q)))
@@ -188,18 +188,18 @@ levels-of (suc k) (x ∷ xs) h (suc i) = levels-of k xs (λ j. h (suc j)) i
 row-levels : (n : ℕ) (e : Values) (ls : List ℕ) → Levels ls → rowOf n (map e ls) ≡ weighed e (weightOf n ls)
 unfolding rowOf weightOf
 row-levels n e [] h = omega arith
-row-levels n e (x ∷ xs) h = rw (length-map xs e, row-levels n e xs (λ i. h (suc i))) (go x (h 0))
+row-levels n e (x ∷ xs) h = rw (length-map xs e, row-levels n e xs (λ i. h (suc i))) (by-number x (h 0))
   where
     P : ℕ
     P = n ^ length xs
 
-    go : (x : ℕ) → x < 4 → e x * P + weighed e (weightOf n xs)
+    by-number : (x : ℕ) → x < 4 → e x * P + weighed e (weightOf n xs)
         ≡ e 0 * ((if eqb 0 x then P else 0) + weightOf n xs 0) + (e 1 * ((if eqb 1 x then P else 0) + weightOf n xs 1) + (e 2 * ((if eqb 2 x then P else 0) + weightOf n xs 2) + e 3 * ((if eqb 3 x then P else 0) + weightOf n xs 3)))
-    go zero l = rw mul-add (omega arith)
-    go (suc zero) l = rw mul-add (omega arith)
-    go (suc (suc zero)) l = rw mul-add (omega arith)
-    go (suc (suc (suc zero))) l = rw mul-add (omega arith)
-    go (suc (suc (suc (suc x)))) l = absurd (omega arith)
+    by-number zero l = rw mul-add (omega arith)
+    by-number (suc zero) l = rw mul-add (omega arith)
+    by-number (suc (suc zero)) l = rw mul-add (omega arith)
+    by-number (suc (suc (suc zero))) l = rw mul-add (omega arith)
+    by-number (suc (suc (suc (suc x)))) l = absurd (omega arith)
 
 pub row-weighed : (n : ℕ) (e : Values) (k : ℕ) (ls : List ℕ) → Levels ls → rowOf n (map e (take k ls)) ≡ weighed e (weightOf n (take k ls))
 row-weighed n e k ls h = row-levels n e (take k ls) (levels-of k ls h)

@@ -59,19 +59,19 @@ unfolding actOf
 is-none none e = refl
 is-none (some x) e = absurd (false≢true (sym (said-some x) ∙ e))
 
-pub record Found (p : Problem) (k : ℕ) (a : Act) : Type 0 where
+pub record FoundAction (p : Problem) (k : ℕ) (a : Act) : Type 0 where
   pub action : Action
   pub at : actionAt p k ≡ some action
   pub says : a ≡ said action
   pub sound : IsAction p action
 
-is-some : (p : Problem) (k : ℕ) (a : Act) → a ≡ actOf (actionAt p k) → isNothing a ≡ false → Found p k a
+is-some : (p : Problem) (k : ℕ) (a : Act) → a ≡ actOf (actionAt p k) → isNothing a ≡ false → FoundAction p k a
 unfolding actOf
-is-some p k a e h = go (actionAt p k) refl e
+is-some p k a e h = by-option (actionAt p k) refl e
   where
-    go : (o : Option Action) → actionAt p k ≡ o → a ≡ actOf o → Found p k a
-    go none q e = absurd (false≢true (sym h ∙ ap isNothing e))
-    go (some x) q e = record { action = x; at = q; says = e; sound = action-is p k x q }
+    by-option : (o : Option Action) → actionAt p k ≡ o → a ≡ actOf o → FoundAction p k a
+    by-option none q e = absurd (false≢true (sym h ∙ ap isNothing e))
+    by-option (some x) q e = record { action = x; at = q; says = e; sound = action-is p k x q }
 
 act-some : (x : Action) → actOf (some x) ≡ said x
 unfolding actOf
@@ -81,7 +81,7 @@ module _ (p : Problem) (w : List ℕ) (is : Is p w) (s : State) (i k : ℕ) (ks 
   pub none-run : isNothing a ≡ true → runFrom p s i (k ∷ ks) ≡ record { answer = refused 13 i; state = s }
   none-run h = run-none p s i k ks (is-none (actionAt p k) (sym (ap isNothing e) ∙ h))
 
-  may-be : (f : Found p k a) (b : Bool) → b ≡ all s (needNumbers w a) → mayTake p s (f .action) ≡ b
+  may-be : (f : FoundAction p k a) (b : Bool) → b ≡ all s (needNumbers w a) → mayTake p s (f .action) ≡ b
   may-be f b q = sym (q ∙ ap (λ (y : Act). all s (needNumbers w y)) (f .says) ∙ may-is p w is s (f .action) (f .sound))
 
   pub not-run : isNothing a ≡ false → false ≡ all s (needNumbers w a) → runFrom p s i (k ∷ ks) ≡ record { answer = refused 14 i; state = s }

@@ -16,7 +16,7 @@ use Rattle.definitions.specs.Relations.{Tuple}
 use Rattle.definitions.specs.Sheets as D
 use Rattle.bits.specs.Table.{digit, bit, paste, num, count}
 use Rattle.laws.specs.Booleans.{T-of, T-true, T-false, T-or, or-l, or-r, T-and-l}
-use Rattle.laws.specs.Lists.{all-at, all-of, mem-below, below-lt}
+use Rattle.laws.specs.Lists.{all-at, all-of, mem-below, below-lt, zeros-at}
 use Rattle.laws.specs.Labels.{no-labels}
 use Rattle.laws.specs.Members.{no-members, has-member}
 use Rattle.bits.proofs.Digit.{digit-of-zero}
@@ -67,21 +67,21 @@ none-joined joins types z = record { room = z .room; says = λ k x h. ap (λ (p 
 count-none : (p : ℕ → Bool) (a n : ℕ) → count p a n ≡ 0 → (i : ℕ) → i < n → p (a + i) ≡ false
 unfolding count
 count-none p a zero e i h = absurd (omega arith)
-count-none p a (suc n) e i h = go (p (a + n)) refl (decLt i n) (λ z l. count-none p a n z i l)
+count-none p a (suc n) e i h = by-test (p (a + n)) refl (decLt i n) (λ z l. count-none p a n z i l)
   where
-    go : (b : Bool) → p (a + n) ≡ b → Dec (i < n) → (count p a n ≡ 0 → i < n → p (a + i) ≡ false) → p (a + i) ≡ false
-    go true q d ih = let z : num (p (a + n)) ≡ 1 = ap num q in absurd (omega arith)
-    go false q (yes l) ih = ih (omega arith) l
-    go false q (no l) ih = let z : i ≡ n = omega arith in ap (λ (k : ℕ). p (a + k)) z ∙ q
+    by-test : (b : Bool) → p (a + n) ≡ b → Dec (i < n) → (count p a n ≡ 0 → i < n → p (a + i) ≡ false) → p (a + i) ≡ false
+    by-test true q d ih = let z : num (p (a + n)) ≡ 1 = ap num q in absurd (omega arith)
+    by-test false q (yes l) ih = ih (omega arith) l
+    by-test false q (no l) ih = let z : i ≡ n = omega arith in ap (λ (k : ℕ). p (a + k)) z ∙ q
 
 count-some : (p : ℕ → Bool) (a n : ℕ) → 0 < count p a n → (i : ℕ) × (i < n) × (p (a + i) ≡ true)
 unfolding count
 count-some p a zero e = absurd (omega arith)
-count-some p a (suc n) e = go (p (a + n)) refl (λ h. count-some p a n h)
+count-some p a (suc n) e = by-test (p (a + n)) refl (λ h. count-some p a n h)
   where
-    go : (b : Bool) → p (a + n) ≡ b → (0 < count p a n → (i : ℕ) × (i < n) × (p (a + i) ≡ true)) → (i : ℕ) × (i < suc n) × (p (a + i) ≡ true)
-    go true q ih = (n, omega arith, q)
-    go false q ih = let z : num (p (a + n)) ≡ 0 = ap num q in let (i, l, r) = ih (omega arith) in (i, omega arith, r)
+    by-test : (b : Bool) → p (a + n) ≡ b → (0 < count p a n → (i : ℕ) × (i < n) × (p (a + i) ≡ true)) → (i : ℕ) × (i < suc n) × (p (a + i) ≡ true)
+    by-test true q ih = (n, omega arith, q)
+    by-test false q ih = let z : num (p (a + n)) ≡ 0 = ap num q in let (i, l, r) = ih (omega arith) in (i, omega arith, r)
 
 not-both : (b : Bool) → T b → b ≡ false → ⊥
 not-both true t e = let z : _≡_ {A = ℕ} 0 1 = cc in omega arith
@@ -109,11 +109,11 @@ module _ (joins : List ℕ) (types n : ℕ) (ms : List D.Member) (few : n ≤ 64
       positive (suc c) h = omega arith
 
 pub each-next : (p : ℕ → Bool) (k : ℕ) → all p (below k) ≡ true → p k ≡ true → all p (below (k + 1)) ≡ true
-each-next p k a b = T-true (all p (below (k + 1))) (all-of p (below (k + 1)) (λ i m. go i (decLt i k) (below-lt (k + 1) i m)))
+each-next p k a b = T-true (all p (below (k + 1))) (all-of p (below (k + 1)) (λ i m. by-number i (decLt i k) (below-lt (k + 1) i m)))
   where
-    go : (i : ℕ) → Dec (i < k) → i < k + 1 → T (p i)
-    go i (yes l) h = all-at p (below k) (T-of a) i (mem-below k i l)
-    go i (no l) h = let z : i ≡ k = omega arith in T-of (ap p z ∙ b)
+    by-number : (i : ℕ) → Dec (i < k) → i < k + 1 → T (p i)
+    by-number i (yes l) h = all-at p (below k) (T-of a) i (mem-below k i l)
+    by-number i (no l) h = let z : i ≡ k = omega arith in T-of (ap p z ∙ b)
 
 -- all of them, once none is left
 pub each-end : (p : ℕ → Bool) (k n : ℕ) → k ≡ n → all p (below k) ≡ true → true ≡ all p (below n)
@@ -206,7 +206,7 @@ module _ (L : CaseLimits) (q : List ℕ) (g : Signature) (s : List ℕ) where
         pub room-next : (room most : ℕ) → L .elements ≡ most → SizeRoom s g most room → (st .n ≡ 0 → at ≡ 0) → ((st .n ≡ 0 → ⊥) → Roomy (g .from) (g .to) (g .arity) 0 (g .rels) (st .n) room)
             → Roomy (g .from) (g .to) (g .arity) 0 (g .rels) (st′ .n) room
         unfolding SiteAt SiteTurns SoFar Facts added
-        room-next room most e k z h = go (st .n) refl
+        room-next room most e k z h = by-number (st .n) refl
           where
             v : SiteTurns L g s (added st (w .0) (w .1) (w .2)) at (Next st′) words′ joins′ (bit new)
             v = turned (Next st′) p (w .0) (w .1) (w .2) (w .4)
@@ -214,9 +214,9 @@ module _ (L : CaseLimits) (q : List ℕ) (g : Signature) (s : List ℕ) where
             said : st .n ≡ 0 → x ≡ Size (st′ .n)
             said a = first-size L q g s x at (st′ .n) (w .0) (v .0) (w .1) (v .1) (w .2) (v .2) (subst (λ (j : ℕ). (given (entryIn s x) 2 at >>= add (draft j (w .0) (w .1) (w .2)) at) ≡ accepted (draft (st′ .n) (v .0) (v .1) (v .2))) a (v .3))
 
-            go : (j : ℕ) → st .n ≡ j → Roomy (g .from) (g .to) (g .arity) 0 (g .rels) (st′ .n) room
-            go zero a = k (st′ .n) next (subst₂ (λ (i : ℕ) (y : Entry). Reads s i next y) (z a) (said a) l) (omega (arith, v .4 .0 .0))
-            go (suc j) a = subst (λ (i : ℕ). Roomy (g .from) (g .to) (g .arity) 0 (g .rels) i room) (same-size a) (h (λ b. absurd (omega arith)))
+            by-number : (j : ℕ) → st .n ≡ j → Roomy (g .from) (g .to) (g .arity) 0 (g .rels) (st′ .n) room
+            by-number zero a = k (st′ .n) next (subst₂ (λ (i : ℕ) (y : Entry). Reads s i next y) (z a) (said a) l) (omega (arith, v .4 .0 .0))
+            by-number (suc j) a = subst (λ (i : ℕ). Roomy (g .from) (g .to) (g .arity) 0 (g .rels) i room) (same-size a) (h (λ b. absurd (omega arith)))
               where
                 same-size : st .n ≡ suc j → st .n ≡ st′ .n
                 same-size a = sized-stays L q g s x at (st .n) (st′ .n) (w .0) (v .0) (w .1) (v .1) (w .2) (v .2) (λ b. absurd (omega arith)) (v .3)
@@ -249,7 +249,7 @@ module _ (L : CaseLimits) (q : List ℕ) (g : Signature) (s : List ℕ) where
 
       pub site-end : (r : Answer) → ((ms : List D.Member) → MembersAre joins (g .types) (st .n) ms → r ≡ endOf (st .n) (all (D.hasMember ms) (below (g .types))) (length s)) → GotSite L g s site-read r words joins (bit table)
       unfolding SiteAt SoFar Facts endOf GotSite typesOf
-      site-end r f = subst (λ (a : Answer). GotSite L g s site-read a words joins (bit table)) (sym (f (w .1) (w .4 .3))) (go (st .n) refl (eqb (st .n) 0) refl (all (D.hasMember (w .1)) (below (g .types))) refl)
+      site-end r f = subst (λ (a : Answer). GotSite L g s site-read a words joins (bit table)) (sym (f (w .1) (w .4 .3))) (by-number (st .n) refl (eqb (st .n) 0) refl (all (D.hasMember (w .1)) (below (g .types))) refl)
         where
           its-types : (b : Bool) → all (D.hasMember (w .1)) (below (g .types)) ≡ b → all (D.hasMember (w .1)) (below (length (typesOf q g))) ≡ b
           its-types b h = ap (λ (k : ℕ). all (D.hasMember (w .1)) (below k)) (length-names q (g .from) (g .to) 12 (g .types)) ∙ h
@@ -258,11 +258,11 @@ module _ (L : CaseLimits) (q : List ℕ) (g : Signature) (s : List ℕ) where
           at-least zero h = absurd (h refl)
           at-least (suc n) h = omega arith
 
-          go : (n : ℕ) → st .n ≡ n → (z : Bool) → eqb (st .n) 0 ≡ z → (b : Bool) → all (D.hasMember (w .1)) (below (g .types)) ≡ b
+          by-number : (n : ℕ) → st .n ≡ n → (z : Bool) → eqb (st .n) 0 ≡ z → (b : Bool) → all (D.hasMember (w .1)) (below (g .types)) ≡ b
               → GotSite L g s site-read (if z then Refused 3 (length s) else if b then Done (st .n) else Refused 19 0) words joins (bit table)
-          go n a true z b h = site-refused 3 (length s) words joins (bit table) (ended (w .0) (w .1) (w .2) (w .3) ∙ closed-none (st .n) (w .0) (w .1) (w .2) (eqb-true (st .n) 0 z))
-          go n a false z false h = site-refused 19 0 words joins (bit table) (ended (w .0) (w .1) (w .2) (w .3) ∙ closed-missing (st .n) (w .0) (w .1) (w .2) (eqb-false (st .n) 0 z) (its-types false h))
-          go n a false z true h =
+          by-number n a true z b h = site-refused 3 (length s) words joins (bit table) (ended (w .0) (w .1) (w .2) (w .3) ∙ closed-none (st .n) (w .0) (w .1) (w .2) (eqb-true (st .n) 0 z))
+          by-number n a false z false h = site-refused 19 0 words joins (bit table) (ended (w .0) (w .1) (w .2) (w .3) ∙ closed-missing (st .n) (w .0) (w .1) (w .2) (eqb-false (st .n) 0 z) (its-types false h))
+          by-number n a false z true h =
               rw (ended (w .0) (w .1) (w .2) (w .3) ∙ closed-some (st .n) (w .0) (w .1) (w .2) (eqb-false (st .n) 0 z) (its-types true h))
               (refl, w .4 .0 .1, w .4 .0 .2, at-least (st .n) (eqb-false (st .n) 0 z), w .4 .0 .0, w .4 .1, w .4 .3)
 
@@ -310,18 +310,13 @@ module _ (q : List ℕ) (g : Signature) (n : ℕ) (ls : List D.Label) (s : List 
 
 -- ---- a cleared table
 
-zeros : (k j : ℕ) → _≡_ {A = ℕ} (getD (replicate k 0) j 0) 0
-zeros zero j = refl
-zeros (suc k) zero = refl
-zeros (suc k) (suc j) = zeros k j
-
 pub zeros-clear : (k : ℕ) → bit (replicate k 0) ≡ λ i. false
 unfolding bit
-zeros-clear k = fun-ext (λ i. ap (λ (w : ℕ). digit w (i % 64)) (zeros k (i / 64)) ∙ digit-of-zero (i % 64))
+zeros-clear k = fun-ext (λ i. ap (λ (w : ℕ). digit w (i % 64)) (zeros-at k (i / 64)) ∙ digit-of-zero (i % 64))
 
 -- words for labels, as they are lent
 pub no-label-words : NoLabels (replicate 128 0)
-no-label-words = record { room = refl; zeros = zeros 128 }
+no-label-words = record { room = refl; zeros = zeros-at 128 }
 
 pub no-member-words : NoMembers (replicate 8 0)
 no-member-words = record { room = refl; none-set = zeros-clear 8 }
@@ -330,42 +325,42 @@ no-member-words = record { room = refl; none-set = zeros-clear 8 }
 
 -- a table all of whose words are cleared
 pub all-cleared : (t : List ℕ) (p : ℕ → Bool) → p ≡ paste (bit t) 0 (λ i. false) 0 (64 * length t) → p ≡ λ i. false
-all-cleared t p e = e ∙ fun-ext (λ i. go i (decLt i (64 * length t)))
+all-cleared t p e = e ∙ fun-ext (λ i. by-number i (decLt i (64 * length t)))
   where
-    go : (i : ℕ) → Dec (i < 64 * length t) → paste (bit t) 0 (λ i. false) 0 (64 * length t) i ≡ false
-    go i (yes h) = paste-in (bit t) 0 (λ i. false) 0 (64 * length t) i (omega arith) (omega arith)
-    go i (no h) = paste-out (bit t) 0 (λ i. false) 0 (64 * length t) i (λ b. omega (arith, b .1)) ∙ bit-past t i (omega arith)
+    by-number : (i : ℕ) → Dec (i < 64 * length t) → paste (bit t) 0 (λ i. false) 0 (64 * length t) i ≡ false
+    by-number i (yes h) = paste-in (bit t) 0 (λ i. false) 0 (64 * length t) i (omega arith) (omega arith)
+    by-number i (no h) = paste-out (bit t) 0 (λ i. false) 0 (64 * length t) i (λ b. omega (arith, b .1)) ∙ bit-past t i (omega arith)
 
 module _ (L : CaseLimits) (g : Signature) (s : List ℕ) (r : Result D.Labelled) (a : Answer) (words joins : List ℕ) (p : ℕ → Bool) where
   pub site-kept : (n : ℕ) → a ≡ Done n → GotSite L g s r a words joins p → (Done n ≡ answered sizeIn r) × FactsIn L g r p × LabelsIn s r words × MembersIn g r joins
   unfolding GotSite answered sizeIn FactsIn LabelsIn MembersIn
-  site-kept n e w = go r w
+  site-kept n e w = by-result r w
     where
-      go : (r : Result D.Labelled) → GotSite L g s r a words joins p → (Done n ≡ answered sizeIn r) × FactsIn L g r p × LabelsIn s r words × MembersIn g r joins
-      go (refused k place) w = let z : _≡_ {A = ℕ} 0 1 = cc in absurd (omega arith)
-      go (accepted st) w = (sym e ∙ w .0, (w .1, w .2, w .3, w .4), w .5, w .6)
+      by-result : (r : Result D.Labelled) → GotSite L g s r a words joins p → (Done n ≡ answered sizeIn r) × FactsIn L g r p × LabelsIn s r words × MembersIn g r joins
+      by-result (refused k place) w = let z : _≡_ {A = ℕ} 0 1 = cc in absurd (omega arith)
+      by-result (accepted st) w = (sym e ∙ w .0, (w .1, w .2, w .3, w .4), w .5, w .6)
 
   pub site-cleared : (new : ℕ → Bool) (k place : ℕ) → a ≡ Refused k place → GotSite L g s r a words joins p → new ≡ (λ i. false) → (Refused k place ≡ answered sizeIn r) × FactsIn L g r new × LabelsIn s r words × MembersIn g r joins
   unfolding GotSite answered sizeIn FactsIn LabelsIn MembersIn
-  site-cleared new k place e w z = go r w
+  site-cleared new k place e w z = by-result r w
     where
-      go : (r : Result D.Labelled) → GotSite L g s r a words joins p → (Refused k place ≡ answered sizeIn r) × FactsIn L g r new × LabelsIn s r words × MembersIn g r joins
-      go (refused j at) w = (sym e ∙ w, z, tt, tt)
-      go (accepted st) w = let y : _≡_ {A = ℕ} 0 1 = cc in absurd (omega arith)
+      by-result : (r : Result D.Labelled) → GotSite L g s r a words joins p → (Refused k place ≡ answered sizeIn r) × FactsIn L g r new × LabelsIn s r words × MembersIn g r joins
+      by-result (refused j at) w = (sym e ∙ w, z, tt, tt)
+      by-result (accepted st) w = let y : _≡_ {A = ℕ} 0 1 = cc in absurd (omega arith)
 
 module _ (g : Signature) (n : ℕ) (r : Result (List Tuple)) (a : Answer) (p : ℕ → Bool) where
   pub picks-kept : (k : ℕ) → a ≡ Done k → GotPicks g n r a p → (Done k ≡ answered length r) × PicksIn g n r p
   unfolding GotPicks answered PicksIn
-  picks-kept k e w = go r w
+  picks-kept k e w = by-result r w
     where
-      go : (r : Result (List Tuple)) → GotPicks g n r a p → (Done k ≡ answered length r) × PicksIn g n r p
-      go (refused j place) w = let z : _≡_ {A = ℕ} 0 1 = cc in absurd (omega arith)
-      go (accepted ts) w = (sym e ∙ w .0, w .1)
+      by-result : (r : Result (List Tuple)) → GotPicks g n r a p → (Done k ≡ answered length r) × PicksIn g n r p
+      by-result (refused j place) w = let z : _≡_ {A = ℕ} 0 1 = cc in absurd (omega arith)
+      by-result (accepted ts) w = (sym e ∙ w .0, w .1)
 
   pub picks-cleared : (new : ℕ → Bool) (k place : ℕ) → a ≡ Refused k place → GotPicks g n r a p → new ≡ (λ i. false) → (Refused k place ≡ answered length r) × PicksIn g n r new
   unfolding GotPicks answered PicksIn
-  picks-cleared new k place e w z = go r w
+  picks-cleared new k place e w z = by-result r w
     where
-      go : (r : Result (List Tuple)) → GotPicks g n r a p → (Refused k place ≡ answered length r) × PicksIn g n r new
-      go (refused j at) w = (sym e ∙ w, z)
-      go (accepted ts) w = let y : _≡_ {A = ℕ} 0 1 = cc in absurd (omega arith)
+      by-result : (r : Result (List Tuple)) → GotPicks g n r a p → (Refused k place ≡ answered length r) × PicksIn g n r new
+      by-result (refused j at) w = (sym e ∙ w, z)
+      by-result (accepted ts) w = let y : _≡_ {A = ℕ} 0 1 = cc in absurd (omega arith)

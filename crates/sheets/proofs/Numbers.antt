@@ -1,17 +1,13 @@
 -- The loop over a steps sheet: its state is the numbers read so far.
-use Prim.Native.Nat.{ℕ, suc, _+_, _*_, _/_, _%_, _≤_, _<_}
+use Prim.Native.Nat.{ℕ, suc, _+_, _≤_, _<_}
 use mathlib.Core.Path.{_≡_, refl, sym, ap, _∙_}
-use mathlib.Core.Bool.{Bool, true, false}
 use mathlib.Core.List.{List, [], _∷_, _++_, append-assoc}
 use native.Mathlib.Omega.{arith}
 use native.Mathlib.Decide.{decLt}
 use native.Mathlib.Numerals.{add-one}
-use lib.Dec.{leb}
 use lib.ListN.{length, drop, set, length-append}
 use lib.Seq.{set-at, drop-cons}
-use Rattle.definitions.specs.Lists.{if_then_else_, flatMap}
-use Rattle.definitions.specs.Text.{Line, decimalIn, decimal}
-use Rattle.definitions.specs.Desk.{printLine, stepLine}
+use Rattle.definitions.specs.Text.{Line}
 use Rattle.definitions.specs.Limits.{textLimit}
 use Rattle.definitions.specs.Refusal.{Result, refused, accepted, _>>=_, given, readLines, readText}
 use Rattle.definitions.specs.Sheets as D
@@ -22,6 +18,7 @@ use Rattle.records.specs.declared.Entry.{Entry}
 use Rattle.records.specs.declared.Entry.the-variants.{Wrong, Rel, Typed, Choose, Rule, Size, Label, Member, Fact, Pick, Step}
 use Rattle.records.proofs.Runs.{read-long, read-start, read-stop, read-went, read-halted}
 use Rattle.laws.specs.Told.{steps-told}
+use Rattle.laws.specs.Few.{steps-long}
 use Rattle.sheets.specs.Reading.{answered, verdictOf, RoomFor, Writes, left}
 use Rattle.sheets.specs.declared.Verdict.the-variants.{Number, Fault}
 use Rattle.sheets.specs.declared.Answer.{Answer}
@@ -151,11 +148,11 @@ short r room k p w = let q = writes-is r room w in clash 1 k (q .0) (sym p ∙ q
 
 pub write-start : (s old : List ℕ) → Writes (D.readSteps s) (length old) → Written s old 0 0 old
 unfolding Written
-write-start s old w = ([], refl, steps-by s ∙ read-start D.addToSteps s [] (go (decLt textLimit (length s))), refl)
+write-start s old w = ([], refl, steps-by s ∙ read-start D.addToSteps s [] (from-this (decLt textLimit (length s))), refl)
   where
-    go : Dec (textLimit < length s) → length s ≤ textLimit
-    go (yes h) = absurd (short (D.readSteps s) (length old) 0 (steps-by s ∙ read-long D.addToSteps s [] h) w)
-    go (no h) = omega arith
+    from-this : Dec (textLimit < length s) → length s ≤ textLimit
+    from-this (yes h) = absurd (short (D.readSteps s) (length old) 0 (steps-by s ∙ read-long D.addToSteps s [] h) w)
+    from-this (no h) = omega arith
 
 module _ (s old : List ℕ) (at n : ℕ) (out : List ℕ) (w : Writes (D.readSteps s) (length old)) (r : Written s old at n out) where
   pub write-room : (next : ℕ) (x : Entry) (k : ℕ) → Reads s at next x → verdictOf x ≡ Number k → n < length old
@@ -182,25 +179,8 @@ module _ (s old : List ℕ) (at n : ℕ) (out : List ℕ) (w : Writes (D.readSte
 
 -- ---- a step line has at least 7 bytes, so a text has no more steps than a seventh of its bytes
 
-some-digit : (k n : ℕ) → 1 ≤ length (decimalIn (suc k) n)
-unfolding decimalIn
-some-digit k n = go (leb n 9)
-  where
-    go : (b : Bool) → 1 ≤ length (if b then (n + 48) ∷ [] else decimalIn k (n / 10) ++ ((n % 10 + 48) ∷ []))
-    go true = omega arith
-    go false = omega (arith, length-append (decimalIn k (n / 10)) ((n % 10 + 48) ∷ []))
-
-step-long : (k : ℕ) → 7 ≤ length (stepLine k)
-unfolding stepLine printLine decimal
-step-long k = omega (arith, some-digit 19 k, length-append (decimalIn 20 k) (10 ∷ []))
-
-pub lines-long : (ks : List ℕ) → 7 * length ks ≤ length (flatMap stepLine ks)
-unfolding flatMap
-lines-long [] = omega arith
-lines-long (k ∷ ks) = omega (arith, step-long k, lines-long ks, length-append (stepLine k) (flatMap stepLine ks))
-
 steps-few : (s ks : List ℕ) (room : ℕ) → D.readSteps s ≡ accepted ks → RoomFor s room → length ks ≤ room
-steps-few s ks room p h = let v = steps-told s ks p in omega (arith, lines-long ks, ap length (v .0), h (v .1))
+steps-few s ks room p h = let v = steps-told s ks p in omega (arith, steps-long ks, ap length (v .0), h (v .1))
 
 -- ---- the whole
 

@@ -26,8 +26,9 @@ use Rattle.records.specs.declared.Places.{Places}
 use Rattle.records.specs.declared.Entry.{Entry}
 use Rattle.records.specs.declared.Entry.the-variants.{Wrong, Rel, Typed, Choose, Rule, Size, Label, Member, Fact, Pick, Step}
 use Rattle.names.specs.declared.Signature.{Signature}
-use Rattle.names.specs.Signatures.{relationsFrom, relsOf, typesIn, typesOf, chosenOf, Sound, withArrays}
+use Rattle.names.specs.Signatures.{relationsFrom, relsOf, typesIn, typesOf, chosenOf, SoundSignature, withArrays}
 use Rattle.definitions.specs.Atoms.{wordsFor}
+use Rattle.laws.specs.Booleans.{or-both, or-assoc}
 use Rattle.tuples.proofs.Words.{words-most}
 use Rattle.tuples.specs.Labels.{LabelsAre, LabelAdds, LabelAdded}
 use Rattle.tuples.specs.Members.{MembersAre, memberDraft, MemberAdds, MemberAdded}
@@ -45,22 +46,22 @@ adds-fault q g lo m n ls name es ts at new zero h v = absurd (h refl)
 adds-fault q g lo m n ls name es ts at new (suc k) h v = v
 
 -- the arities of a question's signature, and its arrays
-pub sound-few : (q : List ℕ) (g : Signature) (lo m : ℕ) → Sound q g → lo + m ≤ g .rels + g .chosen → FewArities lo m (g .arity)
+pub sound-few : (q : List ℕ) (g : Signature) (lo m : ℕ) → SoundSignature q g → lo + m ≤ g .rels + g .chosen → FewArities lo m (g .arity)
 sound-few q g lo m s h = (omega (arith, s .rels-le, s .chosen-le), λ j l. s .arities j (omega arith) .1)
 
 pub arrays-of : (lo m : ℕ) (from to arity : List ℕ) → FewArities lo m arity → length from ≡ 20 → length to ≡ 20 → length arity ≡ 12 → Arrays lo m from to arity
 arrays-of lo m from to arity h f t a = record { few = h .0; length-from = omega arith; length-to = omega arith; length-arity = omega arith; arities = h .1 }
 
 -- a table that has room for 8 relations of three places has room for a question's `rel` relations, and for 4 such for its `choose`
-room-of : (q : List ℕ) (g : Signature) → Sound q g → (lo m most k room : ℕ) → lo + m ≤ g .rels + g .chosen → m ≤ most → most * wordsFor (k ^ 3) ≤ room → Roomy (g .from) (g .to) (g .arity) lo m k room
+room-of : (q : List ℕ) (g : Signature) → SoundSignature q g → (lo m most k room : ℕ) → lo + m ≤ g .rels + g .chosen → m ≤ most → most * wordsFor (k ^ 3) ≤ room → Roomy (g .from) (g .to) (g .arity) lo m k room
 unfolding Roomy
 room-of q g s lo m most k room h l r any-one =
     le-trans (words-most k (withArrays any-one (g .from) (g .to) (g .arity)) k lo m (le-refl k) (λ i b. s .arities (lo + i) (omega arith))) (le-trans (mul-le-mul-right (wordsFor (k ^ 3)) l) r)
 
-pub facts-room : (q : List ℕ) (g : Signature) → Sound q g → (k room : ℕ) → 8 * wordsFor (k ^ 3) ≤ room → Roomy (g .from) (g .to) (g .arity) 0 (g .rels) k room
+pub facts-room : (q : List ℕ) (g : Signature) → SoundSignature q g → (k room : ℕ) → 8 * wordsFor (k ^ 3) ≤ room → Roomy (g .from) (g .to) (g .arity) 0 (g .rels) k room
 facts-room q g s k room h = room-of q g s 0 (g .rels) 8 k room (omega arith) (s .rels-le) h
 
-pub picks-room : (q : List ℕ) (g : Signature) → Sound q g → (k room : ℕ) → 4 * wordsFor (k ^ 3) ≤ room → Roomy (g .from) (g .to) (g .arity) (g .rels) (g .chosen) k room
+pub picks-room : (q : List ℕ) (g : Signature) → SoundSignature q g → (k room : ℕ) → 4 * wordsFor (k ^ 3) ≤ room → Roomy (g .from) (g .to) (g .arity) (g .rels) (g .chosen) k room
 picks-room q g s k room h = room-of q g s (g .rels) (g .chosen) 4 k room (omega arith) (s .chosen-le) h
 
 -- ---- a line of a site
@@ -150,14 +151,6 @@ by-number : (c : ℕ) (st : Stage) (P : Turn → Type 0) → (c ≡ 0 → P (Nex
 unfolding afterOf
 by-number zero st P f g = f refl
 by-number (suc c) st P f g = g (λ e. absurd (omega arith))
-
-or-both : (a b : Bool) → (a || b) ≡ false → (a ≡ false) × (b ≡ false)
-or-both true b e = let z : _≡_ {A = ℕ} 0 1 = cc in absurd (omega arith)
-or-both false b e = (refl, e)
-
-or-assoc : (a b c : Bool) → ((a || b) || c) ≡ (a || (b || c))
-or-assoc true b c = refl
-or-assoc false b c = refl
 
 -- what is known of a line's entry
 module _ (s : List ℕ) (at : ℕ) (x : Entry) (w : InText s at x) where
@@ -269,12 +262,12 @@ module _ (L : CaseLimits) (q : List ℕ) (g : Signature) (s : List ℕ) (st : St
 
     pub size-turned : (most : ℕ) → L .elements ≡ most → (t : Turn) → t ≡ sizeTurn k most st → words′ ≡ words → joins′ ≡ joins → new ≡ old → Turned t
     unfolding sizeTurn
-    size-turned most e t r i j o = subst Turned (sym r) (go (eqb (st .n) 0) refl (isBetween 1 most k) (ap (λ (y : ℕ). isBetween 1 y k) e))
+    size-turned most e t r i j o = subst Turned (sym r) (by-test (eqb (st .n) 0) refl (isBetween 1 most k) (ap (λ (y : ℕ). isBetween 1 y k) e))
       where
-        go : (a : Bool) → eqb (st .n) 0 ≡ a → (b : Bool) → isBetween 1 (L .elements) k ≡ b → Turned (if not a then Fault 3 else if b then Next (record { n = k; joined = st .joined; begun = st .begun }) else Fault 9)
-        go false z b y = size-again (eqb-false (st .n) 0 z)
-        go true z true y = size-good (eqb-true (st .n) 0 z) y i j o
-        go true z false y = size-out (eqb-true (st .n) 0 z) y
+        by-test : (a : Bool) → eqb (st .n) 0 ≡ a → (b : Bool) → isBetween 1 (L .elements) k ≡ b → Turned (if not a then Fault 3 else if b then Next (record { n = k; joined = st .joined; begun = st .begun }) else Fault 9)
+        by-test false z b y = size-again (eqb-false (st .n) 0 z)
+        by-test true z true y = size-good (eqb-true (st .n) 0 z) y i j o
+        by-test true z false y = size-out (eqb-true (st .n) 0 z) y
 
   -- a draft with a size
   drafted : (m : ℕ) (labels : List D.Label) (members : List D.Member) (facts : List Tuple) → (m ≡ 0 → ⊥) → draft m labels members facts ≡ record { sized = some m; labels = labels; members = members; facts = facts }
@@ -488,7 +481,10 @@ module _ (L : CaseLimits) (q : List ℕ) (g : Signature) (s : List ℕ) where
   sized-by k at m true labels ls members ms facts fs e = absurd (refused-accepted e)
   sized-by k at m false labels ls members ms facts fs e = some-size m k (ap (λ (d : D.SiteDraft). d .sized) (sym (accepted-eq _ _ e)))
 
-  size-says : (x : Entry) (m at : ℕ) (labels : List D.Label) (members : List D.Member) (facts : List Tuple) → x ≡ Size m → (given (entryIn s x) 2 at >>= D.addToSite L (relsOf q g) (typesOf q g) (draft 0 labels members facts) at) ≡ (refuseIf (not (isBetween 1 (L .elements) m)) 9 at >>= λ _. accepted (record { sized = some m; labels = labels; members = members; facts = facts }))
+  size-says : (x : Entry) (m at : ℕ) (labels : List D.Label) (members : List D.Member) (facts : List Tuple) → x ≡ Size m
+      → (given (entryIn s x) 2 at >>= D.addToSite L (relsOf q g) (typesOf q g) (draft 0 labels members facts) at)
+      ≡ (refuseIf (not (isBetween 1 (L .elements) m)) 9 at >>= λ _. accepted
+      (record { sized = some m; labels = labels; members = members; facts = facts }))
   unfolding given entryIn D.addToSite D.addSize draft sizedOf _>>=_
   size-says x m at labels members facts p = rw p refl
 

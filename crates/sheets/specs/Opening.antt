@@ -1,5 +1,5 @@
 -- What is known of a case once its texts are read.
-use Prim.Native.Nat.{ℕ, _+_, _≤_, _<_}
+use Prim.Native.Nat.{ℕ, _≤_, _<_}
 use mathlib.Core.Path.{_≡_, refl, sym, ap, ap₂, subst, subst₂}
 use mathlib.Core.Bool.{Bool}
 use mathlib.Core.Option.{some}
@@ -15,13 +15,12 @@ use Rattle.definitions.specs.Relations.{Relation}
 use Rattle.definitions.specs.Truth.{Case}
 use Rattle.definitions.specs.Atoms.{problemOf, problemWith}
 use Rattle.definitions.specs.Outcome.{CaseRead as Filed, readFiled, readCase}
-use Rattle.names.specs.Signatures.{Sound, relsOf, typesOf, chosenOf}
+use Rattle.names.specs.Signatures.{SoundSignature, relsOf, typesOf, chosenOf}
 use Rattle.tuples.specs.Labels.{LabelsAre}
 use Rattle.tuples.specs.Members.{MembersAre}
 use Rattle.tuples.specs.Marks.{bitOf, marks, AllValid}
 use Rattle.question.specs.declared.Asked.{Asked}
 use Rattle.question.specs.Drafts.{QuestionRead, Accepts, refusedWith}
-use Rattle.sheets.specs.declared.Answer.{Answer}
 use Rattle.sheets.specs.declared.Answer.the-variants.{Done, Refused}
 use Rattle.sheets.specs.Reading.{answered, sizeIn, FactsIn, LabelsIn, MembersIn}
 use Rattle.laws.specs.Reader.{Gives, SiteFits, LabelledFits, site-fits}
@@ -39,7 +38,7 @@ opened q n members = record { fault = 0; place = 0; sig = q .sig; rule = q .rule
 pub record Holds (s : List ℕ) (c : Case) (r : Opened) (facts : ℕ → Bool) : Type 0 where
   pub no-fault : r .fault ≡ 0
   pub asked : readQuestion s ≡ accepted (c .question)
-  pub sound : Sound s (r .sig)
+  pub sound : SoundSignature s (r .sig)
   pub some-chosen : 1 ≤ r .sig .chosen
   pub rels : c .question .rels ≡ relsOf s (r .sig)
   pub types : c .question .types ≡ typesOf s (r .sig)
@@ -78,11 +77,11 @@ FiledRead s t (accepted c) r words facts = Holds s (c .case) r facts × LabelsAr
 -- the case alone
 pub case-alone : (L : CaseLimits) (s t : List ℕ) (r : Opened) (words : List ℕ) (facts : ℕ → Bool) → FiledRead s t (readFiled L s t) r words facts → CaseRead s (readCase L s t) r facts
 unfolding FiledRead CaseRead readCase _>>=_
-case-alone L s t r words facts h = go (readFiled L s t) h
+case-alone L s t r words facts h = by-result (readFiled L s t) h
   where
-    go : (x : Result Filed) → FiledRead s t x r words facts → CaseRead s (x >>= λ c. accepted (c .case)) r facts
-    go (refused k place) h = h
-    go (accepted c) h = h .0
+    by-result : (x : Result Filed) → FiledRead s t x r words facts → CaseRead s (x >>= λ c. accepted (c .case)) r facts
+    by-result (refused k place) h = h
+    by-result (accepted c) h = h .0
 
 -- ---- from what the two readers say
 
@@ -92,23 +91,23 @@ Known s a = (q : Question) × (readQuestion s ≡ accepted q) × Accepts s q a
 -- a question without a fault is accepted
 pub known : (s : List ℕ) (a : Asked) → QuestionRead s (readQuestion s) a → a .fault ≡ 0 → Known s a
 unfolding QuestionRead refusedWith RefusesBy
-known s a h z = go (readQuestion s) refl h (question-by s)
+known s a h z = by-result (readQuestion s) refl h (question-by s)
   where
-    go : (r : Result Question) → readQuestion s ≡ r → QuestionRead s r a → RefusesBy Sheet r → Known s a
-    go (refused k place) e x l = let w = ap (λ (b : Asked). b .fault) x in absurd (omega (arith, not-zero k l))
-    go (accepted q) e x l = (q, e, x)
+    by-result : (r : Result Question) → readQuestion s ≡ r → QuestionRead s r a → RefusesBy Sheet r → Known s a
+    by-result (refused k place) e x l = let w = ap (λ (b : Asked). b .fault) x in absurd (omega (arith, not-zero k l))
+    by-result (accepted q) e x l = (q, e, x)
 
-pub known-sound : (s : List ℕ) (a : Asked) → QuestionRead s (readQuestion s) a → a .fault ≡ 0 → Sound s (a .sig)
+pub known-sound : (s : List ℕ) (a : Asked) → QuestionRead s (readQuestion s) a → a .fault ≡ 0 → SoundSignature s (a .sig)
 known-sound s a h z = known s a h z .2 .sound
 
 module _ (L : CaseLimits) (s t : List ℕ) (a : Asked) (words : List ℕ) (facts : ℕ → Bool) (h : QuestionRead s (readQuestion s) a) where
   pub question-refused : (a .fault ≡ 0 → ⊥) → (r : Opened) → r ≡ failed a (a .fault) (a .place) → FiledRead s t (readFiled L s t) r words facts
   unfolding QuestionRead refusedWith RefusesBy FiledRead readFiled _>>=_ failed
-  question-refused z r is = subst (λ (x : Opened). FiledRead s t (readFiled L s t) x words facts) (sym is) (go (readQuestion s) h (question-by s))
+  question-refused z r is = subst (λ (x : Opened). FiledRead s t (readFiled L s t) x words facts) (sym is) (by-result (readQuestion s) h (question-by s))
     where
-      go : (r : Result Question) → QuestionRead s r a → RefusesBy Sheet r → FiledRead s t (r >>= λ q. readSite L (q .rels) (q .types) t >>= λ st. accepted (record { case = record { question = q; site = st .site }; labels = st .labels })) (failed a (a .fault) (a .place)) words facts
-      go (refused k place) x l = record { number = ap (λ (b : Asked). b .fault) x; where-it-is = ap (λ (b : Asked). b .place) x; some-fault = let w = ap (λ (b : Asked). b .fault) x in omega (arith, not-zero k l) }
-      go (accepted q) x l = absurd (z (x .no-fault))
+      by-result : (r : Result Question) → QuestionRead s r a → RefusesBy Sheet r → FiledRead s t (r >>= λ q. readSite L (q .rels) (q .types) t >>= λ st. accepted (record { case = record { question = q; site = st .site }; labels = st .labels })) (failed a (a .fault) (a .place)) words facts
+      by-result (refused k place) x l = record { number = ap (λ (b : Asked). b .fault) x; where-it-is = ap (λ (b : Asked). b .place) x; some-fault = let w = ap (λ (b : Asked). b .fault) x in omega (arith, not-zero k l) }
+      by-result (accepted q) x l = absurd (z (x .no-fault))
 
   module _ (z : a .fault ≡ 0) where
     site-is : readFiled L s t ≡ (readSite L (relsOf s (a .sig)) (typesOf s (a .sig)) t >>= λ st. accepted (record { case = record { question = known s a h z .0; site = st .site }; labels = st .labels }))
@@ -117,20 +116,23 @@ module _ (L : CaseLimits) (s t : List ℕ) (a : Asked) (words : List ℕ) (facts
 
     pub site-refused : (k place : ℕ) → answered sizeIn (readSite L (relsOf s (a .sig)) (typesOf s (a .sig)) t) ≡ Refused k place → (r : Opened) → r ≡ failed a k place → FiledRead s t (readFiled L s t) r words facts
     unfolding FiledRead answered RefusesBy _>>=_ failed
-    site-refused k place e r is = subst₂ (λ (x : Result Filed) (y : Opened). FiledRead s t x y words facts) (sym site-is) (sym is) (go (readSite L (relsOf s (a .sig)) (typesOf s (a .sig)) t) e (site-by L (relsOf s (a .sig)) (typesOf s (a .sig)) t))
+    site-refused k place e r is = subst₂ (λ (x : Result Filed) (y : Opened). FiledRead s t x y words facts) (sym site-is) (sym is) (by-result (readSite L (relsOf s (a .sig)) (typesOf s (a .sig)) t) e (site-by L (relsOf s (a .sig)) (typesOf s (a .sig)) t))
       where
-        go : (r : Result Labelled) → answered sizeIn r ≡ Refused k place → RefusesBy Sheet r → FiledRead s t (r >>= λ st. accepted (record { case = record { question = known s a h z .0; site = st .site }; labels = st .labels })) (failed a k place) words facts
-        go (refused j at) x l = record { number = cc; where-it-is = cc; some-fault = let w : j ≡ k = cc in omega (arith, not-zero j l) }
-        go (accepted st) x l = let w : _≡_ {A = ℕ} 0 1 = cc in absurd (omega arith)
+        by-result : (r : Result Labelled) → answered sizeIn r ≡ Refused k place → RefusesBy Sheet r → FiledRead s t (r >>= λ st. accepted (record { case = record { question = known s a h z .0; site = st .site }; labels = st .labels })) (failed a k place) words facts
+        by-result (refused j at) x l = record { number = cc; where-it-is = cc; some-fault = let w : j ≡ k = cc in omega (arith, not-zero j l) }
+        by-result (accepted st) x l = let w : _≡_ {A = ℕ} 0 1 = cc in absurd (omega arith)
 
     pub both-read : L .elements ≤ 64 → (n : ℕ) → answered sizeIn (readSite L (relsOf s (a .sig)) (typesOf s (a .sig)) t) ≡ Done n → FactsIn L (a .sig) (readSite L (relsOf s (a .sig)) (typesOf s (a .sig)) t) facts → LabelsIn t (readSite L (relsOf s (a .sig)) (typesOf s (a .sig)) t) words
         → (joins : List ℕ) → MembersIn (a .sig) (readSite L (relsOf s (a .sig)) (typesOf s (a .sig)) t) joins → FiledRead s t (readFiled L s t) (opened a n joins) words facts
     unfolding FiledRead answered FactsIn LabelsIn MembersIn sizeIn _>>=_ opened Gives
-    both-read small n e f l joins i = subst (λ (r : Result Filed). FiledRead s t r (opened a n joins) words facts) (sym site-is) (go (readSite L (relsOf s (a .sig)) (typesOf s (a .sig)) t) e f l i (site-fits L small (relsOf s (a .sig)) (typesOf s (a .sig)) t))
+    both-read small n e f l joins i = subst (λ (r : Result Filed). FiledRead s t r (opened a n joins) words facts) (sym site-is) (by-result (readSite L (relsOf s (a .sig)) (typesOf s (a .sig)) t) e f l i (site-fits L small (relsOf s (a .sig)) (typesOf s (a .sig)) t))
       where
-        go : (r : Result Labelled) → answered sizeIn r ≡ Done n → FactsIn L (a .sig) r facts → LabelsIn t r words → MembersIn (a .sig) r joins → Gives (LabelledFits (relsOf s (a .sig)) (typesOf s (a .sig))) r → FiledRead s t (r >>= λ st. accepted (record { case = record { question = known s a h z .0; site = st .site }; labels = st .labels })) (opened a n joins) words facts
-        go (refused j at) x f l i G = let w : _≡_ {A = ℕ} 0 1 = cc in absurd (omega arith)
-        go (accepted st) x f l i G =
+        by-result : (r : Result Labelled) → answered sizeIn r ≡ Done n → FactsIn L (a .sig) r facts → LabelsIn t r words → MembersIn (a .sig) r joins
+            → Gives (LabelledFits (relsOf s (a .sig)) (typesOf s (a .sig))) r
+            → FiledRead s t (r >>= λ st. accepted (record { case = record { question = known s a h z .0; site = st .site }; labels = st .labels }))
+            (opened a n joins) words facts
+        by-result (refused j at) x f l i G = let w : _≡_ {A = ℕ} 0 1 = cc in absurd (omega arith)
+        by-result (accepted st) x f l i G =
             let (q, e′, y) = known s a h z in
             let m : n ≡ st .site .size = cc in (
               record {
@@ -159,34 +161,26 @@ module _ (L : CaseLimits) (s t : List ℕ) (a : Asked) (words : List ℕ) (facts
 module _ (L : CaseLimits) (question site : List ℕ) (o : Opened) (facts : ℕ → Bool) (read : CaseRead question (readCase L question site) o facts) where
   pub case-refused : (o .fault ≡ 0 → ⊥) → readCase L question site ≡ refused (o .fault) (o .place)
   unfolding CaseRead
-  case-refused z = go (readCase L question site) read
+  case-refused z = by-result (readCase L question site) read
     where
-      go : (x : Result Case) → CaseRead question x o facts → x ≡ refused (o .fault) (o .place)
-      go (refused k place) h = ap₂ refused (sym (h .number)) (sym (h .where-it-is))
-      go (accepted c) h = absurd (z (h .no-fault))
+      by-result : (x : Result Case) → CaseRead question x o facts → x ≡ refused (o .fault) (o .place)
+      by-result (refused k place) h = ap₂ refused (sym (h .number)) (sym (h .where-it-is))
+      by-result (accepted c) h = absurd (z (h .no-fault))
 
   pub case-read : o .fault ≡ 0 → (c : Case) × (readCase L question site ≡ accepted c) × Holds question c o facts
   unfolding CaseRead
-  case-read z = go (readCase L question site) refl read
+  case-read z = by-result (readCase L question site) refl read
     where
-      go : (x : Result Case) → readCase L question site ≡ x → CaseRead question x o facts → (c : Case) × (readCase L question site ≡ accepted c) × Holds question c o facts
-      go (refused k place) e h = absurd (omega (arith, h .some-fault))
-      go (accepted c) e h = (c, e, h)
+      by-result : (x : Result Case) → readCase L question site ≡ x → CaseRead question x o facts → (c : Case) × (readCase L question site ≡ accepted c) × Holds question c o facts
+      by-result (refused k place) e h = absurd (omega (arith, h .some-fault))
+      by-result (accepted c) e h = (c, e, h)
 
 -- the same with the labels
 module _ (L : CaseLimits) (question site : List ℕ) (o : Opened) (words : List ℕ) (facts : ℕ → Bool) (read : FiledRead question site (readFiled L question site) o words facts) where
-  pub filed-refused : (o .fault ≡ 0 → ⊥) → readFiled L question site ≡ refused (o .fault) (o .place)
-  unfolding FiledRead
-  filed-refused z = go (readFiled L question site) read
-    where
-      go : (x : Result Filed) → FiledRead question site x o words facts → x ≡ refused (o .fault) (o .place)
-      go (refused k place) h = ap₂ refused (sym (h .number)) (sym (h .where-it-is))
-      go (accepted c) h = absurd (z (h .0 .no-fault))
-
   pub filed-read : o .fault ≡ 0 → (c : Filed) × (readFiled L question site ≡ accepted c) × Holds question (c .case) o facts × LabelsAre site words (o .n) (c .labels)
   unfolding FiledRead
-  filed-read z = go (readFiled L question site) refl read
+  filed-read z = by-result (readFiled L question site) refl read
     where
-      go : (x : Result Filed) → readFiled L question site ≡ x → FiledRead question site x o words facts → (c : Filed) × (readFiled L question site ≡ accepted c) × Holds question (c .case) o facts × LabelsAre site words (o .n) (c .labels)
-      go (refused k place) e h = absurd (omega (arith, h .some-fault))
-      go (accepted c) e h = (c, e, h .0, h .1)
+      by-result : (x : Result Filed) → readFiled L question site ≡ x → FiledRead question site x o words facts → (c : Filed) × (readFiled L question site ≡ accepted c) × Holds question (c .case) o facts × LabelsAre site words (o .n) (c .labels)
+      by-result (refused k place) e h = absurd (omega (arith, h .some-fault))
+      by-result (accepted c) e h = (c, e, h .0, h .1)

@@ -10,7 +10,7 @@ ghost use Rattle.definitions.specs.Limits.{CaseLimits};
 ghost use Rattle.definitions.specs.Lists.{all, below};
 ghost use Rattle.definitions.specs.Sheets.{Label, Member, hasMember, readSite, readPicks, readSteps};
 ghost use Rattle.records.specs.Entries.{InText};
-ghost use Rattle.names.specs.Signatures.{Sound, withArrays, relsOf, typesOf, chosenOf};
+ghost use Rattle.names.specs.Signatures.{SoundSignature, withArrays, relsOf, typesOf, chosenOf};
 ghost use Rattle.tuples.specs.Labels.{LabelsAre, NoLabels};
 ghost use Rattle.tuples.specs.Members.{MembersAre, NoMembers};
 ghost use Rattle.tuples.specs.Marks.{Roomy};
@@ -219,7 +219,7 @@ fn site_lines(
     members: &mut [u64],
     table: &mut [u64],
 ) -> Answer
-    requires { ⌜ Sound (now q) g × (most ≤ 64) × SizeRoom (now s) g most (length (now table)) × NoLabels (now labels) × NoMembers (now members) × (bit (now table) ≡ λ i. false) ⌝ }
+    requires { ⌜ SoundSignature (now q) g × (most ≤ 64) × SizeRoom (now s) g most (length (now table)) × NoLabels (now labels) × NoMembers (now members) × (bit (now table) ≡ λ i. false) ⌝ }
     ensures { λ r. ⌜ ((L : CaseLimits) → L .elements ≡ most → GotSite L g (now (s .entry)) (readSite L (relsOf (now (q .entry)) g) (typesOf (now (q .entry)) g) (now (s .entry))) r (now (labels .exit)) (now (members .exit)) (bit (now (table .exit)))) ⌝ }
 {
     let end = s.len();
@@ -277,7 +277,7 @@ pub fn site(
     members: &mut [u64],
     table: &mut [u64],
 ) -> Answer
-    requires { ⌜ Sound (now q) g × (most ≤ 64) × SizeRoom (now s) g most (length (now table)) × NoLabels (now labels) × NoMembers (now members) × (bit (now table) ≡ λ i. false) ⌝ }
+    requires { ⌜ SoundSignature (now q) g × (most ≤ 64) × SizeRoom (now s) g most (length (now table)) × NoLabels (now labels) × NoMembers (now members) × (bit (now table) ≡ λ i. false) ⌝ }
     ensures { λ r. ⌜ ((L : CaseLimits) → L .elements ≡ most → (r ≡ answered sizeIn (readSite L (relsOf (now (q .entry)) g) (typesOf (now (q .entry)) g) (now (s .entry))))
         × FactsIn L g (readSite L (relsOf (now (q .entry)) g) (typesOf (now (q .entry)) g) (now (s .entry))) (bit (now (table .exit)))
         × LabelsIn (now (s .entry)) (readSite L (relsOf (now (q .entry)) g) (typesOf (now (q .entry)) g) (now (s .entry))) (now (labels .exit))
@@ -357,7 +357,7 @@ fn picks_lines(
     labels: &[usize],
     table: &mut [u64],
 ) -> Answer
-    requires { ⌜ Sound (now q) g × (n ≤ 64) × PicksRoom g n (length (now table)) × (bit (now table) ≡ λ i. false) ⌝ }
+    requires { ⌜ SoundSignature (now q) g × (n ≤ 64) × PicksRoom g n (length (now table)) × (bit (now table) ≡ λ i. false) ⌝ }
     requires { ⌜ ((ls : List Label) × LabelsAre (now site) (now labels) n ls) ⌝ }
     ensures { λ r. ⌜ ((ls : List Label) → LabelsAre (now (site .entry)) (now (labels .entry)) n ls
         → GotPicks g n (readPicks (chosenOf (now (q .entry)) g) (5 + g .rels) n ls (now (s .entry))) r (bit (now (table .exit)))) ⌝ }
@@ -408,7 +408,7 @@ pub fn picks(
     labels: &[usize],
     table: &mut [u64],
 ) -> Answer
-    requires { ⌜ Sound (now q) g × (n ≤ 64) × PicksRoom g n (length (now table)) × (bit (now table) ≡ λ i. false) ⌝ }
+    requires { ⌜ SoundSignature (now q) g × (n ≤ 64) × PicksRoom g n (length (now table)) × (bit (now table) ≡ λ i. false) ⌝ }
     requires { ⌜ ((ls : List Label) × LabelsAre (now site) (now labels) n ls) ⌝ }
     ensures { λ r. ⌜ ((ls : List Label) → LabelsAre (now (site .entry)) (now (labels .entry)) n ls
         → (r ≡ answered length (readPicks (chosenOf (now (q .entry)) g) (5 + g .rels) n ls (now (s .entry)))) × PicksIn g n (readPicks (chosenOf (now (q .entry)) g) (5 + g .rels) n ls (now (s .entry))) (bit (now (table .exit)))) ⌝ }

@@ -131,7 +131,9 @@ module _ (p : Problem) (G : Good p) (F : List Tuple) (D : Decided) where
       unfolding IsAction needs underAtom all means
       exists-may row x d σ u e h k =
           may-told (proveExists v row x) (l, subst (λ (t : Tree). row < rowsOf (p .size) t) (sym e) h, (d, σ, u, e, k))
-          (λ y m. proof-or (partAtom (p .size) (p .range) (withValue (valuesAt (p .size) (existsNode d σ u) row) d x) (suc v) u ∷ []) (λ z q. subst Told (sym (List·Memᴰ·eq-of-singleton q)) (part-told (suc v) u (withValue (valuesAt (p .size) (existsNode d σ u) row) d x) (λ i. later (suc v) i (omega arith)))) y
+          (λ y m. proof-or (partAtom (p .size) (p .range) (withValue (valuesAt (p .size) (existsNode d σ u) row) d x) (suc v) u ∷ [])
+          (λ z q. subst Told (sym (List·Memᴰ·eq-of-singleton q))
+          (part-told (suc v) u (withValue (valuesAt (p .size) (existsNode d σ u) row) d x) (λ i. later (suc v) i (omega arith)))) y
           (subst (λ (t : Tree). List·Memᴰ y (proof ∷ underAtom (p .size) (p .range) v t row x ∷ [])) e m))
           ∙ ap (λ (t : Tree). all (means p F) (proof ∷ underAtom (p .size) (p .range) v t row x ∷ [])) e
           ∙ and-true (means p F (partAtom (p .size) (p .range) (withValue (valuesAt (p .size) (existsNode d σ u) row) d x) (suc v) u))

@@ -64,11 +64,11 @@ Two f n = (y : ℕ) × (z : ℕ) × (y < z) × (z < n) × T (f y) × T (f z)
 some-count : (f : ℕ → Bool) (n : ℕ) → 0 < count f 0 n → Some f n
 unfolding count
 some-count f zero h = absurd (omega arith)
-some-count f (suc n) h = go (f (0 + n)) refl h (some-count f n)
+some-count f (suc n) h = by-test (f (0 + n)) refl h (some-count f n)
   where
-    go : (b : Bool) → f (0 + n) ≡ b → 0 < count f 0 n + num b → (0 < count f 0 n → Some f n) → Some f (suc n)
-    go true e h r = (n, omega arith, T-of (ap f (sym (zero-add n)) ∙ e))
-    go false e h r = let q = r (omega arith) in (q .0, omega (arith, q .1), q .2)
+    by-test : (b : Bool) → f (0 + n) ≡ b → 0 < count f 0 n + num b → (0 < count f 0 n → Some f n) → Some f (suc n)
+    by-test true e h r = (n, omega arith, T-of (ap f (sym (zero-add n)) ∙ e))
+    by-test false e h r = let q = r (omega arith) in (q .0, omega (arith, q .1), q .2)
 
 count-more : (f : ℕ → Bool) (n y : ℕ) → y < n → T (f y) → 0 < count f 0 n
 unfolding count
@@ -78,11 +78,11 @@ count-more f (suc n) y h t = ⊎-elim (λ l. let r = count-more f n y l t in ome
 two-count : (f : ℕ → Bool) (n : ℕ) → 1 < count f 0 n → Two f n
 unfolding count
 two-count f zero h = absurd (omega arith)
-two-count f (suc n) h = go (f (0 + n)) refl h (two-count f n)
+two-count f (suc n) h = by-test (f (0 + n)) refl h (two-count f n)
   where
-    go : (b : Bool) → f (0 + n) ≡ b → 1 < count f 0 n + num b → (1 < count f 0 n → Two f n) → Two f (suc n)
-    go true e h r = let q = some-count f n (omega arith) in (q .0, n, q .1, omega arith, q .2, T-of (ap f (sym (zero-add n)) ∙ e))
-    go false e h r = let q = r (omega arith) in (q .0, q .1, q .2, omega (arith, q .3), q .4, q .5)
+    by-test : (b : Bool) → f (0 + n) ≡ b → 1 < count f 0 n + num b → (1 < count f 0 n → Two f n) → Two f (suc n)
+    by-test true e h r = let q = some-count f n (omega arith) in (q .0, n, q .1, omega arith, q .2, T-of (ap f (sym (zero-add n)) ∙ e))
+    by-test false e h r = let q = r (omega arith) in (q .0, q .1, q .2, omega (arith, q .3), q .4, q .5)
 
 count-two : (f : ℕ → Bool) (n y z : ℕ) → y < z → z < n → T (f y) → T (f z) → 1 < count f 0 n
 unfolding count
@@ -148,13 +148,13 @@ module _ (p : Problem) (G : Good p) (F : List Tuple) (inside : (t : Tuple) → L
     unfolding first second
     pair-form t m e =
         let i = inside t m in
-        go (t .places) (i .long ∙ ap (λ (x : ℕ). relationAt p x .arity) e ∙ G .pairs r l f) (i .small) e
+        by-list (t .places) (i .long ∙ ap (λ (x : ℕ). relationAt p x .arity) e ∙ G .pairs r l f) (i .small) e
       where
-        go : (xs : List ℕ) → length xs ≡ 2 → Below (p .size) xs → t .relation ≡ r → (tup (t .relation) xs ≡ tup r (getD xs 0 0 ∷ getD xs 1 0 ∷ [])) × (getD xs 0 0 < p .size) × (getD xs 1 0 < p .size)
-        go [] k b e = absurd (omega arith)
-        go (x ∷ []) k b e = absurd (omega arith)
-        go (x ∷ y ∷ []) k b e = let c = below-cons (p .size) x (y ∷ []) b in (ap (λ (z : ℕ). tup z (x ∷ y ∷ [])) e, c .0, below-cons (p .size) y [] (c .1) .0)
-        go (x ∷ y ∷ z ∷ xs) k b e = absurd (omega arith)
+        by-list : (xs : List ℕ) → length xs ≡ 2 → Below (p .size) xs → t .relation ≡ r → (tup (t .relation) xs ≡ tup r (getD xs 0 0 ∷ getD xs 1 0 ∷ [])) × (getD xs 0 0 < p .size) × (getD xs 1 0 < p .size)
+        by-list [] k b e = absurd (omega arith)
+        by-list (x ∷ []) k b e = absurd (omega arith)
+        by-list (x ∷ y ∷ []) k b e = let c = below-cons (p .size) x (y ∷ []) b in (ap (λ (z : ℕ). tup z (x ∷ y ∷ [])) e, c .0, below-cons (p .size) y [] (c .1) .0)
+        by-list (x ∷ y ∷ z ∷ xs) k b e = absurd (omega arith)
 
     fun-crowd : two r first second F ≡ isCrowded (isPicked p F r) (p .size) (p .size) 1
     unfolding first second isPicked

@@ -82,11 +82,11 @@ module _ {A : Type 0} where
   -- the first that passes is the least, where one passes
   first-is : {B : Type 0} (f : A → Bool) (xs : List A) (g : ℕ → B) → option (position f xs) none (λ i. some (g i)) ≡ when (any f xs) (g (least f xs))
   unfolding option when least
-  first-is f xs g = go (any f xs) refl
+  first-is f xs g = by-test (any f xs) refl
     where
-      go : (b : Bool) → any f xs ≡ b → option (position f xs) none (λ i. some (g i)) ≡ when b (g (option (position f xs) zero (λ i. i)))
-      go true e = rw (position-place f xs (T-of e))
-      go false e = rw (position-none f xs e)
+      by-test : (b : Bool) → any f xs ≡ b → option (position f xs) none (λ i. some (g i)) ≡ when b (g (option (position f xs) zero (λ i. i)))
+      by-test true e = rw (position-place f xs (T-of e))
+      by-test false e = rw (position-none f xs e)
 
   position-same : (f : ℕ → Bool) (g : A → Bool) (xs : List A) (d : A) (a : ℕ) → ((i : ℕ) → i < length xs → f (a + i) ≡ g (getD xs i d)) → position f (from a (length xs)) ≡ position g xs
   unfolding position from option
@@ -99,11 +99,11 @@ module _ {A : Type 0} where
 -- one try
 only : {B : Type 0} (f : ℕ → Bool) (g : ℕ → B) → option (position f (below 1)) none (λ i. some (g i)) ≡ when (f 0) (g 0)
 unfolding option position below from when
-only f g = go (f 0)
+only f g = by-test (f 0)
   where
-    go : (b : Bool) → option (if b then some zero else option {A = ℕ} {B = Option ℕ} none none (λ i. some (suc i))) none (λ i. some (g i)) ≡ when b (g 0)
-    go true = refl
-    go false = refl
+    by-test : (b : Bool) → option (if b then some zero else option {A = ℕ} {B = Option ℕ} none none (λ i. some (suc i))) none (λ i. some (g i)) ≡ when b (g 0)
+    by-test true = refl
+    by-test false = refl
 
 length-parts : (ts : Trees) (w : ℕ) → length (partsFrom w ts) ≡ howMany ts
 unfolding partsFrom howMany

@@ -40,16 +40,16 @@ module _ (p : Problem) (G : Good p) where
 
   pub first-taken : (s : State) (i k : ℕ) (ks : List ℕ) → T (areTaken (runFrom p s i (k ∷ ks) .answer)) → Taken s i k ks
   unfolding runFrom option areTaken
-  first-taken s i k ks t = go (actionAt p k) refl t
+  first-taken s i k ks t = by-option (actionAt p k) refl t
     where
       may : (a : Action) → actionAt p k ≡ some a → (b : Bool) → mayTake p s a ≡ b → T (areTaken ((if b then runFrom p (after p s a) (suc i) ks else record { answer = refused 14 i; state = s }) .answer)) → Taken s i k ks
       may a e true m t = record { action = a; at = e; may = m; runs = rw (e, m) }
       may a e false m t = absurd t
 
-      go : (o : Option Action) → actionAt p k ≡ o
+      by-option : (o : Option Action) → actionAt p k ≡ o
           → T (areTaken (option o (record { answer = refused 13 i; state = s }) (λ a. if mayTake p s a then runFrom p (after p s a) (suc i) ks else record { answer = refused 14 i; state = s }) .answer)) → Taken s i k ks
-      go none e t = absurd t
-      go (some a) e t = may a e (mayTake p s a) refl t
+      by-option none e t = absurd t
+      by-option (some a) e t = may a e (mayTake p s a) refl t
 
   run-end : (s : State) (i : ℕ) → runFrom p s i [] ≡ record { answer = if s (atomNumber p goal) then accepted i else refused 15 i; state = s }
   unfolding runFrom
@@ -132,11 +132,11 @@ module _ (p : Problem) (G : Good p) where
   row-left : (ks : List ℕ) → T (areTaken (run p ks .answer)) → (r row : ℕ) → r < length (p .relations) → T (isChosen (relationAt p r .kind))
       → (ltb row (tuplesOf (p .size) (relationAt p r)) && isPicked p (picksOf p ks) r row) ≡ (ltb row (tuplesOf (p .size) (relationAt p r)) && run p ks .state (relationStart p r + row))
   unfolding atomNumber
-  row-left ks t r row l c = go (ltb row (tuplesOf (p .size) (relationAt p r))) refl
+  row-left ks t r row l c = by-test (ltb row (tuplesOf (p .size) (relationAt p r))) refl
     where
-      go : (b : Bool) → ltb row (tuplesOf (p .size) (relationAt p r)) ≡ b → (b && isPicked p (picksOf p ks) r row) ≡ (b && run p ks .state (relationStart p r + row))
-      go true e = sym (tuples-left r row l (ltb-true row (tuplesOf (p .size) (relationAt p r)) e) c ks t)
-      go false e = refl
+      by-test : (b : Bool) → ltb row (tuplesOf (p .size) (relationAt p r)) ≡ b → (b && isPicked p (picksOf p ks) r row) ≡ (b && run p ks .state (relationStart p r + row))
+      by-test true e = sym (tuples-left r row l (ltb-true row (tuplesOf (p .size) (relationAt p r)) e) c ks t)
+      by-test false e = refl
 
   pub words-left : (ks : List ℕ) → T (areTaken (run p ks .answer))
       → pickWords p (picksOf p ks) ≡ flatMap (λ r. map (λ j. bitsFrom (λ row. ltb row (tuplesOf (p .size) (relationAt p r)) && run p ks .state (relationStart p r + row)) (64 * j) 64) (below (relationWords p r))) (chosenNumbers p)

@@ -23,7 +23,6 @@ use Rattle.layout.specs.declared.Ranges.{Ranges}
 use Rattle.layout.specs.Laid.{relationWidth, setWidth, firstsAt, secondsAt, mostWidth, nodeWidth, RangesAre, choicesAt, RelationsFit, relationSum, setSum, pickSum, nodeSum, actSum, Inputs}
 use Rattle.layout.specs.LaidLaws.{rel-bound, set-bound, pick-bound, node-bound, act-bound}
 use Rattle.layout.specs.StartsAre.{rel-are, set-are, pick-are, count-is, node-width, act-width}
-use Rattle.tally.specs.declared.Tally.{Tally}
 use Rattle.tally.specs.Sums.{RelationsSummed, NodesSummed, Tallied}
 
 -- ---- turns

@@ -18,10 +18,6 @@ use Rattle.text.proofs.Laws.{slice-next, slice-done}
 unfoldable pub readOn : ℕ → List ℕ → Option ℕ
 readOn v t = if all isDigit t then some (decimalValue v t) else none
 
--- the three tests on a text
-tests : Bool → Bool → Bool → ℕ → Option ℕ
-tests a b c v = if a && b && c then some v else none
-
 number-is : (t : List ℕ) → number t ≡ (if all isDigit t && noLeadingZero t && leb (length t) 7 then some (decimalValue zero t) else none)
 unfolding number
 number-is t = refl

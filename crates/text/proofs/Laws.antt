@@ -53,11 +53,11 @@ span-none b i e s h k = ap (indexOf b) (slice-done i e s h k)
 pub indexOf-le : (b : ℕ) (t : List ℕ) → indexOf b t ≤ length t
 unfolding indexOf
 indexOf-le b [] = omega arith
-indexOf-le b (c ∷ t) = go (eqb c b) (indexOf-le b t)
+indexOf-le b (c ∷ t) = by-test (eqb c b) (indexOf-le b t)
   where
-    go : (u : Bool) → indexOf b t ≤ length t → (if u then 0 else suc (indexOf b t)) ≤ suc (length t)
-    go true h = omega arith
-    go false h = omega arith
+    by-test : (u : Bool) → indexOf b t ≤ length t → (if u then 0 else suc (indexOf b t)) ≤ suc (length t)
+    by-test true h = omega arith
+    by-test false h = omega arith
 
 -- ---- split: the first piece goes up to the first byte b
 
@@ -92,11 +92,11 @@ onFirst-length c (p ∷ ps) h = refl
 pub split-some : (b : ℕ) (t : List ℕ) → 0 < length (split b t)
 unfolding split
 split-some b [] = omega arith
-split-some b (c ∷ t) = go (eqb c b) (split-some b t)
+split-some b (c ∷ t) = by-test (eqb c b) (split-some b t)
   where
-    go : (u : Bool) → 0 < length (split b t) → 0 < length (if u then [] ∷ split b t else onFirst c (split b t))
-    go true h = omega arith
-    go false h = rw (onFirst-length c (split b t) h) h
+    by-test : (u : Bool) → 0 < length (split b t) → 0 < length (if u then [] ∷ split b t else onFirst c (split b t))
+    by-test true h = omega arith
+    by-test false h = rw (onFirst-length c (split b t) h) h
 
 drop-take : (m n : ℕ) (l : List ℕ) → drop m (take (m + n) l) ≡ take n (drop m l)
 drop-take zero n l = rw (zero-add n)
@@ -143,20 +143,17 @@ span-outer a e s h = rw (take-all e s h) (sym (length-drop a s))
 
 -- an index below the length of a span is one of the text
 pub in-text : (a e : ℕ) (s : List ℕ) (i : ℕ) → i < length (slice a e s) → (a + i < e) × (a + i < length s)
-in-text a e s i h = go (decLt e (length s))
+in-text a e s i h = from-this (decLt e (length s))
   where
-    go : Dec (e < length s) → (a + i < e) × (a + i < length s)
-    go (yes l) = let z = span-inner a e s (omega arith) in (omega arith, omega arith)
-    go (no l) = let z = span-outer a e s (omega arith) in (omega arith, omega arith)
+    from-this : Dec (e < length s) → (a + i < e) × (a + i < length s)
+    from-this (yes l) = let z = span-inner a e s (omega arith) in (omega arith, omega arith)
+    from-this (no l) = let z = span-outer a e s (omega arith) in (omega arith, omega arith)
 
 -- ---- two texts, element by element
 
 -- an element of a span
 pub span-at : (a e : ℕ) (s : List ℕ) (i : ℕ) → a + i < e → getD (slice a e s) i 0 ≡ getD s (a + i) 0
 span-at a e s i h = getD-drop a (take e s) i 0 ∙ getD-take e s (a + i) 0 h
-
-pub in-span : (a e : ℕ) (s : List ℕ) (i : ℕ) → a + i < e → e ≤ length s → i < length (slice a e s)
-in-span a e s i h k = rw (length-slice a e s k) (omega arith)
 
 drop-next : (t : List ℕ) (i : ℕ) → i < length t → drop i t ≡ getD t i 0 ∷ drop (i + 1) t
 drop-next t i h = rw (add-one, drop-cons t i 0)

@@ -166,25 +166,18 @@ module _ (b : List ℕ) (n nodes : ℕ) (fits : n ≤ 64) where
       unfolding Ranged
       node-ranged = rw (lt-ltb (row .kind) 4 k, Ranged) at at-row
 
-      pub node-many : row .many ≤ height
-      node-many = node-ranged .0
-
-      pub node-space : placed + row .many ≤ 64
-      node-space = node-ranged .1
-
-      pub node-which : row .which < 64
-      node-which = node-ranged .2
+      pub node-fits : (row .many ≤ height) × (placed + row .many ≤ 64) × (row .which < 64) × (height - row .many < 64)
+      node-fits = (node-ranged .0, node-ranged .1, node-ranged .2, node-ranged .3)
 
       module _ (base : ℕ) (e : base ≡ height - row .many) where
-        pub base-room : base < 64
-        base-room = omega (arith, node-ranged .3)
-
         kids-many : length (slice base height stack) ≡ row .many
         kids-many = omega (arith, length-slice base height stack (omega (arith, o .tall, o .stack-length)), node-ranged .0)
 
-        node-turn : (free : Levels) → free ≡ levelsOf (freeWith row (slice base height stack)) → step row (held stack height parts placed rows) ≡ held (set stack base (nodePart row free)) (base + 1) (sets parts placed (slice base height stack)) (placed + length (slice base height stack)) (set rows (row .which) (nodeRow row free placed))
+        node-turn : (free : Levels) → free ≡ levelsOf (freeWith row (slice base height stack)) → step row (held stack height parts placed rows)
+            ≡ held (set stack base (nodePart row free)) (base + 1) (sets parts placed (slice base height stack))
+            (placed + length (slice base height stack)) (set rows (row .which) (nodeRow row free placed))
         unfolding step nodeStep layRow
-        node-turn free f = rw (lt-ltb (row .kind) 4 k) (go (length (take height stack) - row .many) at)
+        node-turn free f = rw (lt-ltb (row .kind) 4 k) (by-number (length (take height stack) - row .many) at)
           where
             at : length (take height stack) - row .many ≡ base
             at = omega (arith, length-take-le height stack (omega (arith, o .tall, o .stack-length)))
@@ -196,10 +189,43 @@ module _ (b : List ℕ) (n nodes : ℕ) (fits : n ≤ 64) where
                 ∙ sym (take-suc-set stack base (nodePart row free) (omega (arith, node-ranged .3, o .stack-length)))
                 ∙ ap (λ (n : ℕ). take n (set stack base (nodePart row free))) (sym (add-one base))
 
-            go : (n : ℕ) → n ≡ base → _≡_ {A = State} (record { stack = take n (take height stack) ++ (nodePart row (levelsOf (freeWith row (drop n (take height stack)))) ∷ []); laid = record { parts = sets parts placed (drop n (take height stack)); placed = placed + length (drop n (take height stack)); rows = set rows (row .which) (nodeRow row (levelsOf (freeWith row (drop n (take height stack)))) placed) } }) (held (set stack base (nodePart row free)) (base + 1) (sets parts placed (slice base height stack)) (placed + length (slice base height stack)) (set rows (row .which) (nodeRow row free placed)))
-            go n q = rw q (ap (λ (l : List PartRow). record { stack = l; laid = record { parts = sets parts placed (slice base height stack); placed = placed + length (slice base height stack); rows = set rows (row .which) (nodeRow row (levelsOf (freeWith row (slice base height stack))) placed) } }) tops ∙ ap (λ (g : Levels). record { stack = take (base + 1) (set stack base (nodePart row free)); laid = record { parts = sets parts placed (slice base height stack); placed = placed + length (slice base height stack); rows = set rows (row .which) (nodeRow row g placed) } }) (sym f))
+            by-number : (n : ℕ) → n ≡ base → _≡_ {A = State}
+                (record {
+                  stack = take n (take height stack) ++ (nodePart row (levelsOf (freeWith row (drop n (take height stack)))) ∷ []);
+                  laid
+                      = record {
+                        parts = sets parts placed (drop n (take height stack));
+                        placed = placed + length (drop n (take height stack));
+                        rows = set
+                            rows (row .which) (nodeRow row (levelsOf (freeWith row (drop n (take height stack)))) placed);
+                      };
+                })
+                (held (set stack base (nodePart row free)) (base + 1) (sets parts placed (slice base height stack))
+                (placed + length (slice base height stack)) (set rows (row .which) (nodeRow row free placed)))
+            by-number n q =
+                rw q (ap (λ (l : List PartRow). record {
+                  stack = l;
+                  laid = record {
+                    parts = sets parts placed (slice base height stack);
+                    placed = placed + length (slice base height stack);
+                    rows = set rows
+                        (row .which) (nodeRow row (levelsOf (freeWith row (slice base height stack))) placed);
+                  };
+                }) tops
+                ∙ ap (λ (g : Levels). record {
+                  stack = take (base + 1) (set stack base (nodePart row free));
+                  laid = record {
+                    parts = sets parts placed (slice base height stack);
+                    placed = placed + length (slice base height stack);
+                    rows = set rows
+                        (row .which) (nodeRow row g placed);
+                  };
+                }) (sym f))
 
-        pub outer-node : (parts′ : List PartRow) (placed′ : ℕ) (marks : List Bool) (j : ℕ) → Inner stack parts height placed base parts′ placed′ marks j → height ≤ j → (free : Levels) (v : ℕ) (r : NodeRow) (q : PartRow) → free ≡ levelsOf (filter (λ l. not (isOwn row l) && getD marks l false) (below 4)) → v ≡ row .which → r ≡ nodeRow row free placed → q ≡ nodePart row free → Outer from (set stack base q) parts′ (set rows v r) (base + 1) placed′ (i + 1)
+        pub outer-node : (parts′ : List PartRow) (placed′ : ℕ) (marks : List Bool) (j : ℕ)
+            → Inner stack parts height placed base parts′ placed′ marks j → height ≤ j → (free : Levels) (v : ℕ) (r : NodeRow) (q : PartRow) → free
+            ≡ levelsOf (filter (λ l. not (isOwn row l) && getD marks l false) (below 4)) → v ≡ row .which → r ≡ nodeRow row free placed → q
+            ≡ nodePart row free → Outer from (set stack base q) parts′ (set rows v r) (base + 1) placed′ (i + 1)
         outer-node parts′ placed′ marks j n z free v r q ef ev er eq = record {
           low = omega arith;
           tall = omega (arith, node-ranged .3);
@@ -227,7 +253,10 @@ take-first zero (y ∷ l) x d e = let z : _≡_ {A = ℕ} 0 1 = cc in absurd (om
 take-first (suc n) [] x d e = let z : _≡_ {A = ℕ} 0 1 = cc in absurd (omega arith)
 take-first (suc n) (y ∷ l) x d e = cc
 
-pub table-of : (from : Rows) (stack parts : List PartRow) (rows : List NodeRow) (height placed : ℕ) → run (rowsIn from) start ≡ held stack height parts placed rows → (rels : ℕ) (root : Tree) → Of rels root from → IsTable rels root (record { count = from .nodes; placed = placed; rows = rows; parts = parts; root = getD stack 0 noPart }) × Fits (record { count = from .nodes; placed = placed; rows = rows; parts = parts; root = getD stack 0 noPart })
+pub table-of : (from : Rows) (stack parts : List PartRow) (rows : List NodeRow) (height placed : ℕ) → run (rowsIn from) start
+    ≡ held stack height parts placed rows → (rels : ℕ) (root : Tree) → Of rels root from
+    → IsTable rels root (record { count = from .nodes; placed = placed; rows = rows; parts = parts; root = getD stack 0 noPart })
+    × Fits (record { count = from .nodes; placed = placed; rows = rows; parts = parts; root = getD stack 0 noPart })
 table-of from stack parts rows height placed e rels root o = subst (λ (x : Nodes). IsTable rels root x × Fits x) (sym is) (table-is rels root (o .some-rels) (o .few-rels) (o .small) (o .fits), table-fits rels root (o .some-rels) (o .few-rels) (o .small) (o .fits))
   where
     left : held stack height parts placed rows ≡ record { stack = partOf 0 root ∷ []; laid = laid 0 root blank }

@@ -1,5 +1,5 @@
 -- What keeps the table's indexes in range holds of every part and every row that the pass leaves. Assumes nothing.
-use Prim.Native.Nat.{ℕ, zero, suc, _+_, _-_, _≤_, _<_}
+use Prim.Native.Nat.{ℕ, zero, suc, _+_, _≤_, _<_}
 use native.Mathlib.Nat.{not-suc-le-zero, le-of-suc-le-suc}
 use native.Mathlib.Omega.{arith}
 use mathlib.Core.Path.{_≡_, _∙_}
@@ -8,7 +8,8 @@ use mathlib.Core.List.{List, [], _∷_, _++_}
 use lib.ListN.{length, getD, set, replicate, length-append, length-replicate}
 use lib.Seq.{sets}
 use Rattle.definitions.specs.Tree.{Tree, Trees, leaf, forallNode, existsNode, andNode, orNode, end, _then_, nodes, nodesAll, parts, partsFrom, nodeSort, free}
-use Rattle.tree.specs.Tables.{noPart, noNode, nodeLevel, PartIn, PartFits, NodeFits}
+use Rattle.tree.specs.declared.Nodes.{Nodes}
+use Rattle.tree.specs.Tables.{noPart, noNode, nodeLevel, PartIn, PartFits, NodeFits, Fits}
 use Rattle.tree.specs.declared.PartRow.{PartRow}
 use Rattle.tree.specs.declared.NodeRow.{NodeRow}
 use Rattle.tree.specs.Postorder.{inner, innerAll, pad, partOf, kidsOf, heads, rowOf, Small, AllSmall}
@@ -126,16 +127,19 @@ module _ (rels count : ℕ) (b : rels ≤ 17) (c : count ≤ 64) where
   heads-good v (t then ts) s h = (part-good v t (s .0) (omega (arith, length-append (nodes t) (nodesAll ts))), heads-good (v + length (nodes t)) ts (s .1) (omega (arith, length-append (nodes t) (nodesAll ts))))
 
   -- ---- the table
-  pub record Sound (l : Laid) : Type 0 where
+  pub record SoundLaid (l : Laid) : Type 0 where
     pub parts : All (Good rels count) noPart (l .parts)
     pub rows : All (NodeFits (l .placed)) noNode (l .rows)
     pub parts-length : length (l .parts) ≡ 64
     pub rows-length : length (l .rows) ≡ 64
 
-  sound-node : (v : ℕ) (t : Tree) (N : List Tree) (l m : Laid) (k : ℕ) → Grows v N l (lay v t m) k → length (l .parts) ≡ 64 → length (l .rows) ≡ 64 → l .placed + k ≤ 64 → nodeLevel t < 4 → nodeSort t ≤ 8 → Each (Good rels count) noPart (kidsOf v t) → Sound m → Sound (lay v t m)
+  sound-node : (v : ℕ) (t : Tree) (N : List Tree) (l m : Laid) (k : ℕ) → Grows v N l (lay v t m) k → length (l .parts) ≡ 64 → length (l .rows) ≡ 64 → l .placed + k ≤ 64 → nodeLevel t < 4 → nodeSort t ≤ 8 → Each (Good rels count) noPart (kidsOf v t) → SoundLaid m → SoundLaid (lay v t m)
   sound-node v t N l m k g x y h d σ e s = record {
     parts = all-sets (Good rels count) noPart (kidsOf v t) (m .parts) (m .placed) e (s .parts);
-    rows = all-set (NodeFits (m .placed + length (kidsOf v t))) noNode (m .rows) v (rowOf t (m .placed) (length (kidsOf v t))) (row-fits (m .placed + length (kidsOf v t)) t (m .placed) (length (kidsOf v t)) d σ (omega arith)) (λ i. fits-more (m .placed) (m .placed + length (kidsOf v t)) (getD (m .rows) i noNode) (omega arith) (s .rows i));
+    rows =
+        all-set (NodeFits (m .placed + length (kidsOf v t))) noNode (m .rows) v (rowOf t (m .placed) (length (kidsOf v t)))
+        (row-fits (m .placed + length (kidsOf v t)) t (m .placed) (length (kidsOf v t)) d σ (omega arith))
+        (λ i. fits-more (m .placed) (m .placed + length (kidsOf v t)) (getD (m .rows) i noNode) (omega arith) (s .rows i));
     parts-length = g .parts-length ∙ x;
     rows-length = g .rows-length ∙ y;
   }
@@ -143,13 +147,17 @@ module _ (rels count : ℕ) (b : rels ≤ 17) (c : count ≤ 64) where
   mutual
     unfolding laid Small nodes inner parts Each nodeLevel nodeSort
 
-    pub laid-sound : (v : ℕ) (t : Tree) (l : Laid) → Small rels t → v + length (nodes t) ≤ count → l .placed + inner t ≤ 64 → Sound l → Sound (laid v t l)
+    pub laid-sound : (v : ℕ) (t : Tree) (l : Laid) → Small rels t → v + length (nodes t) ≤ count → l .placed + inner t ≤ 64 → SoundLaid l → SoundLaid (laid v t l)
     laid-sound v (leaf p r ls) l s h q o = o
     laid-sound v (forallNode d σ t) l s h q o =
-        sound-node v (forallNode d σ t) (nodes (forallNode d σ t)) l (laid (suc v) t l) (inner (forallNode d σ t)) (laid-grows v (forallNode d σ t) l (omega (arith, o .rows-length)) (omega (arith, o .parts-length))) (o .parts-length) (o .rows-length) q (s .0) (s .1) (part-good (suc v) t (s .2) (omega arith), tt)
+        sound-node v (forallNode d σ t) (nodes (forallNode d σ t)) l (laid (suc v) t l) (inner (forallNode d σ t))
+        (laid-grows v (forallNode d σ t) l (omega (arith, o .rows-length)) (omega (arith, o .parts-length))) (o .parts-length) (o .rows-length) q
+        (s .0) (s .1) (part-good (suc v) t (s .2) (omega arith), tt)
         (laid-sound (suc v) t l (s .2) (omega arith) (omega arith) o)
     laid-sound v (existsNode d σ t) l s h q o =
-        sound-node v (existsNode d σ t) (nodes (existsNode d σ t)) l (laid (suc v) t l) (inner (existsNode d σ t)) (laid-grows v (existsNode d σ t) l (omega (arith, o .rows-length)) (omega (arith, o .parts-length))) (o .parts-length) (o .rows-length) q (s .0) (s .1) (part-good (suc v) t (s .2) (omega arith), tt)
+        sound-node v (existsNode d σ t) (nodes (existsNode d σ t)) l (laid (suc v) t l) (inner (existsNode d σ t))
+        (laid-grows v (existsNode d σ t) l (omega (arith, o .rows-length)) (omega (arith, o .parts-length))) (o .parts-length) (o .rows-length) q
+        (s .0) (s .1) (part-good (suc v) t (s .2) (omega arith), tt)
         (laid-sound (suc v) t l (s .2) (omega arith) (omega arith) o)
     laid-sound v (andNode ts) l s h q o =
         sound-node v (andNode ts) (nodes (andNode ts)) l (laidAll (suc v) ts l) (inner (andNode ts)) (laid-grows v (andNode ts) l (omega (arith, o .rows-length)) (omega (arith, o .parts-length))) (o .parts-length) (o .rows-length) q (omega arith) (omega arith) (heads-good (suc v) ts s (omega arith))
@@ -158,17 +166,24 @@ module _ (rels count : ℕ) (b : rels ≤ 17) (c : count ≤ 64) where
         sound-node v (orNode ts) (nodes (orNode ts)) l (laidAll (suc v) ts l) (inner (orNode ts)) (laid-grows v (orNode ts) l (omega (arith, o .rows-length)) (omega (arith, o .parts-length))) (o .parts-length) (o .rows-length) q (omega arith) (omega arith) (heads-good (suc v) ts s (omega arith))
         (all-sound (suc v) ts l s (omega arith) (omega arith) o)
 
-    pub all-sound : (v : ℕ) (ts : Trees) (l : Laid) → AllSmall rels ts → v + length (nodesAll ts) ≤ count → l .placed + innerAll ts ≤ 64 → Sound l → Sound (laidAll v ts l)
+    pub all-sound : (v : ℕ) (ts : Trees) (l : Laid) → AllSmall rels ts → v + length (nodesAll ts) ≤ count → l .placed + innerAll ts ≤ 64 → SoundLaid l → SoundLaid (laidAll v ts l)
     all-sound v end l s h q o = o
-    all-sound v (t then ts) l s h q o = two (laid-grows v t l (omega (arith, o .rows-length, length-append (nodes t) (nodesAll ts))) (omega (arith, o .parts-length))) (laid-sound v t l (s .0) (omega (arith, length-append (nodes t) (nodesAll ts))) (omega arith) o) (λ y z. all-sound (v + length (nodes t)) ts (laid v t l) (s .1) (omega (arith, length-append (nodes t) (nodesAll ts))) y z)
+    all-sound v (t then ts) l s h q o =
+        two (laid-grows v t l (omega (arith, o .rows-length, length-append (nodes t) (nodesAll ts))) (omega (arith, o .parts-length)))
+        (laid-sound v t l (s .0) (omega (arith, length-append (nodes t) (nodesAll ts))) (omega arith) o)
+        (λ y z. all-sound (v + length (nodes t)) ts (laid v t l) (s .1) (omega (arith, length-append (nodes t) (nodesAll ts))) y z)
       where
-        two : Grows v (nodes t) l (laid v t l) (inner t) → Sound (laid v t l) → (laid v t l .placed + innerAll ts ≤ 64 → Sound (laid v t l) → Sound (laidAll (v + length (nodes t)) ts (laid v t l))) → Sound (laidAll (v + length (nodes t)) ts (laid v t l))
+        two : Grows v (nodes t) l (laid v t l) (inner t) → SoundLaid (laid v t l) → (laid v t l .placed + innerAll ts ≤ 64 → SoundLaid (laid v t l) → SoundLaid (laidAll (v + length (nodes t)) ts (laid v t l))) → SoundLaid (laidAll (v + length (nodes t)) ts (laid v t l))
         two g z f = f (omega (arith, g .placed)) z
 
-  pub blank-sound : 0 < rels → Sound blank
+  pub blank-sound : 0 < rels → SoundLaid blank
   blank-sound h = record {
     parts = all-same (Good rels count) noPart 64 blankPart (blank-good rels count h) (none-good rels count h);
     rows = all-same (NodeFits 0) noNode 64 blankRow (blank-fits 0) (none-fits 0);
     parts-length = length-replicate 64 blankPart;
     rows-length = length-replicate 64 blankRow;
   }
+
+-- ---- the parts of a node stand in the table
+pub in-parts : (t : Nodes) → Fits t → (v : ℕ) → getD (t .rows) v noNode .first + getD (t .rows) v noNode .many ≤ length (t .parts)
+in-parts t fits v = omega (arith, fits .nodes .node v .parts, fits .parts .parts-length)

@@ -1,5 +1,5 @@
 -- Padded lists, and the free levels of a node from those of its parts. Assumes nothing.
-use Prim.Native.Nat.{ℕ, zero, suc, _+_, _-_, _≤_, _<_, zero-le}
+use Prim.Native.Nat.{ℕ, zero, suc, _+_, _≤_, _<_, zero-le}
 use native.Mathlib.Nat.{le-of-suc-le-suc, not-suc-le-zero}
 use native.Mathlib.Decide.{decLt}
 use native.Mathlib.Omega.{arith}
@@ -44,39 +44,39 @@ module _ (p : ℕ → Bool) where
   pub filter-le : (n a : ℕ) → length (filter p (from a n)) ≤ n
   unfolding filter from
   filter-le zero a = zero-le
-  filter-le (suc n) a = go (p a) (filter-le n (suc a))
+  filter-le (suc n) a = by-test (p a) (filter-le n (suc a))
     where
-      go : (b : Bool) → length (filter p (from (suc a) n)) ≤ n → length (if b then a ∷ filter p (from (suc a) n) else filter p (from (suc a) n)) ≤ suc n
-      go true h = omega arith
-      go false h = omega arith
+      by-test : (b : Bool) → length (filter p (from (suc a) n)) ≤ n → length (if b then a ∷ filter p (from (suc a) n) else filter p (from (suc a) n)) ≤ suc n
+      by-test true h = omega arith
+      by-test false h = omega arith
 
   filter-below : (n a b : ℕ) → 0 < b → a + n ≤ b → (i : ℕ) → getD (filter p (from a n)) i 0 < b
   unfolding filter from
   filter-below zero a b o h zero = o
   filter-below zero a b o h (suc i) = o
-  filter-below (suc n) a b o h i = go (p a) i (filter-below n (suc a) b o (omega arith))
+  filter-below (suc n) a b o h i = by-test (p a) i (filter-below n (suc a) b o (omega arith))
     where
-      go : (t : Bool) (j : ℕ) → ((k : ℕ) → getD (filter p (from (suc a) n)) k 0 < b) → getD (if t then a ∷ filter p (from (suc a) n) else filter p (from (suc a) n)) j 0 < b
-      go true zero f = omega arith
-      go true (suc j) f = f j
-      go false j f = f j
+      by-test : (t : Bool) (j : ℕ) → ((k : ℕ) → getD (filter p (from (suc a) n)) k 0 < b) → getD (if t then a ∷ filter p (from (suc a) n) else filter p (from (suc a) n)) j 0 < b
+      by-test true zero f = omega arith
+      by-test true (suc j) f = f j
+      by-test false j f = f j
 
   any-past : (n a l : ℕ) → l < a → any (eqb l) (filter p (from a n)) ≡ false
   unfolding any filter from
   any-past zero a l h = refl
-  any-past (suc n) a l h = go (p a) (any-past n (suc a) l (omega arith))
+  any-past (suc n) a l h = by-test (p a) (any-past n (suc a) l (omega arith))
     where
       ne : l ≡ a → ⊥
       ne e = omega arith
 
-      go : (b : Bool) → any (eqb l) (filter p (from (suc a) n)) ≡ false → any (eqb l) (if b then a ∷ filter p (from (suc a) n) else filter p (from (suc a) n)) ≡ false
-      go true e = ap (λ (x : Bool). x || any (eqb l) (filter p (from (suc a) n))) (ne-eqb l a ne) ∙ e
-      go false e = e
+      by-test : (b : Bool) → any (eqb l) (filter p (from (suc a) n)) ≡ false → any (eqb l) (if b then a ∷ filter p (from (suc a) n) else filter p (from (suc a) n)) ≡ false
+      by-test true e = ap (λ (x : Bool). x || any (eqb l) (filter p (from (suc a) n))) (ne-eqb l a ne) ∙ e
+      by-test false e = e
 
   pub any-filter : (n a l : ℕ) → a ≤ l → l < a + n → any (eqb l) (filter p (from a n)) ≡ p l
   unfolding any filter from
   any-filter zero a l h k = absurd (omega arith)
-  any-filter (suc n) a l h k = go (decLt a l) (λ q. any-filter n (suc a) l q (omega arith))
+  any-filter (suc n) a l h k = from-this (decLt a l) (λ q. any-filter n (suc a) l q (omega arith))
     where
       at : (b : Bool) → p a ≡ b → l ≡ a → any (eqb l) (if b then a ∷ filter p (from (suc a) n) else filter p (from (suc a) n)) ≡ b
       at true e q = ap (λ (x : Bool). x || any (eqb l) (filter p (from (suc a) n))) (eq-eqb l a q)
@@ -86,9 +86,9 @@ module _ (p : ℕ → Bool) where
       on true q e = ap (λ (x : Bool). x || any (eqb l) (filter p (from (suc a) n))) (ne-eqb l a q) ∙ e
       on false q e = e
 
-      go : Dec (a < l) → (a < l → any (eqb l) (filter p (from (suc a) n)) ≡ p l) → any (eqb l) (if p a then a ∷ filter p (from (suc a) n) else filter p (from (suc a) n)) ≡ p l
-      go (yes q) r = on (p a) (λ e. omega arith) (r q)
-      go (no q) r = let e : l ≡ a = omega arith in at (p a) refl e ∙ ap p (sym e)
+      from-this : Dec (a < l) → (a < l → any (eqb l) (filter p (from (suc a) n)) ≡ p l) → any (eqb l) (if p a then a ∷ filter p (from (suc a) n) else filter p (from (suc a) n)) ≡ p l
+      from-this (yes q) r = on (p a) (λ e. omega arith) (r q)
+      from-this (no q) r = let e : l ≡ a = omega arith in at (p a) refl e ∙ ap p (sym e)
 
 pub filter-ext : (p q : ℕ → Bool) (n a : ℕ) → ((l : ℕ) → l < a + n → p l ≡ q l) → filter p (from a n) ≡ filter q (from a n)
 unfolding filter from

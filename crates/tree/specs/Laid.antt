@@ -40,13 +40,18 @@ run-append (row ∷ rows) more st = run-append rows more (step row st)
 
 node-lays : (row : Row) (S kids : List PartRow) (l : Laid) → ltb (row .kind) 4 ≡ true → row .many ≡ length kids → step row (record { stack = S ++ kids; laid = l }) ≡ record { stack = S ++ (nodePart row (levelsOf (freeWith row kids)) ∷ []); laid = layRow row kids l }
 unfolding step nodeStep
-node-lays row S kids l e m = rw e (go (length (S ++ kids) - row .many) at)
+node-lays row S kids l e m = rw e (by-number (length (S ++ kids) - row .many) at)
   where
     at : length (S ++ kids) - row .many ≡ length S
     at = omega (arith, length-append S kids)
 
-    go : (n : ℕ) → n ≡ length S → _≡_ {A = State} (record { stack = take n (S ++ kids) ++ (nodePart row (levelsOf (freeWith row (drop n (S ++ kids)))) ∷ []); laid = layRow row (drop n (S ++ kids)) l }) (record { stack = S ++ (nodePart row (levelsOf (freeWith row kids)) ∷ []); laid = layRow row kids l })
-    go n q = rw (q, take-append-seam S kids, drop-append-seam S kids)
+    by-number : (n : ℕ) → n ≡ length S → _≡_ {A = State}
+        (record {
+          stack = take n (S ++ kids) ++ (nodePart row (levelsOf (freeWith row (drop n (S ++ kids)))) ∷ []);
+          laid = layRow row
+              (drop n (S ++ kids)) l;
+        }) (record { stack = S ++ (nodePart row (levelsOf (freeWith row kids)) ∷ []); laid = layRow row kids l })
+    by-number n q = rw (q, take-append-seam S kids, drop-append-seam S kids)
 
 leaf-lays : (v : ℕ) (p : Bool) (r : ℕ) (ls : List ℕ) (st : State) → length ls ≤ 3 → step (leafRow p r ls) st ≡ record { stack = st .stack ++ (partOf v (leaf p r ls) ∷ []); laid = st .laid }
 unfolding step leafStep partOf pad
@@ -70,7 +75,10 @@ both : (S : List PartRow) {p q : PartRow} {l m : Laid} → p ≡ q → l ≡ m �
 both S e h = rw (e, h)
 
 -- the rows of a node's parts have run, and then its own
-last-row : (rows : List Row) (row : Row) (st : State) (kids : List PartRow) (l : Laid) (p : PartRow) (m : Laid) → run rows st ≡ record { stack = st .stack ++ kids; laid = l } → ltb (row .kind) 4 ≡ true → row .many ≡ length kids → nodePart row (levelsOf (freeWith row kids)) ≡ p → layRow row kids l ≡ m → run (rows ++ (row ∷ [])) st ≡ record { stack = st .stack ++ (p ∷ []); laid = m }
+last-row : (rows : List Row) (row : Row) (st : State) (kids : List PartRow) (l : Laid) (p : PartRow) (m : Laid) → run rows st
+    ≡ record { stack = st .stack ++ kids; laid = l } → ltb (row .kind) 4 ≡ true → row .many ≡ length kids
+    → nodePart row (levelsOf (freeWith row kids)) ≡ p → layRow row kids l ≡ m → run (rows ++ (row ∷ [])) st
+    ≡ record { stack = st .stack ++ (p ∷ []); laid = m }
 unfolding run
 last-row rows row st kids l p m e k n q z = run-append rows (row ∷ []) st ∙ ap (λ (x : State). step row x) e ∙ node-lays row (st .stack) kids l k n ∙ both (st .stack) q z
 
@@ -82,7 +90,19 @@ as-row : (row : Row) (kids : List PartRow) (G : List ℕ) (l : Laid) → freeWit
 unfolding layRow
 as-row row kids G l e = ap (λ (F : List ℕ). record { parts = sets (l .parts) (l .placed) kids; placed = l .placed + length kids; rows = set (l .rows) (row .which) (nodeRow row (levelsOf F) (l .placed)) }) e
 
-as-many : (k v m : ℕ) (t : Tree) (kids : List PartRow) (l : Laid) → m ≡ length kids → _≡_ {A = Laid} (record { parts = sets (l .parts) (l .placed) kids; placed = l .placed + length kids; rows = set (l .rows) v (record { kind = k; level = 0; sort = 0; levels = pad 4 (free t); width = length (free t); first = l .placed; many = m }) }) (record { parts = sets (l .parts) (l .placed) kids; placed = l .placed + length kids; rows = set (l .rows) v (record { kind = k; level = 0; sort = 0; levels = pad 4 (free t); width = length (free t); first = l .placed; many = length kids }) })
+as-many : (k v m : ℕ) (t : Tree) (kids : List PartRow) (l : Laid) → m ≡ length kids
+    → _≡_ {A = Laid} (record {
+      parts = sets (l .parts) (l .placed) kids;
+      placed = l .placed + length kids;
+      rows = set (l .rows) v
+          (record { kind = k; level = 0; sort = 0; levels = pad 4 (free t); width = length (free t); first = l .placed; many = m });
+    })
+    (record {
+      parts = sets (l .parts) (l .placed) kids;
+      placed = l .placed + length kids;
+      rows = set (l .rows) v
+          (record { kind = k; level = 0; sort = 0; levels = pad 4 (free t); width = length (free t); first = l .placed; many = length kids });
+    })
 as-many k v m t kids l e = ap (λ (n : ℕ). record { parts = sets (l .parts) (l .placed) kids; placed = l .placed + length kids; rows = set (l .rows) v (record { kind = k; level = 0; sort = 0; levels = pad 4 (free t); width = length (free t); first = l .placed; many = n }) }) e
 
 -- ---- all rows of a tree

@@ -85,7 +85,11 @@ stored-row b p r = simp unary-clauses refl
 module _ (b : List ℕ) (i : ℕ) (row : Row) where
   row-same : 8 * i + 8 ≤ length b → length (row .levels) ≡ 3 → rowAt (sets b (8 * i) (bytesOf row)) i ≡ row
   unfolding rowAt
-  row-same h e = same-row (sets b (8 * i) (bytesOf row)) (bytesOf row) i 0 (λ k q. put-in (bytesOf row) b (8 * i) k q h ∙ ap (λ (n : ℕ). getD (bytesOf row) n 0) (sym (zero-add k))) ∙ ap (λ (ls : List ℕ). record { kind = row .kind; which = row .which; many = row .many; sort = row .sort; width = row .width; levels = ls }) (three (row .levels) e)
+  row-same h e =
+      same-row (sets b (8 * i) (bytesOf row)) (bytesOf row) i 0
+      (λ k q. put-in (bytesOf row) b (8 * i) k q h ∙ ap (λ (n : ℕ). getD (bytesOf row) n 0) (sym (zero-add k)))
+      ∙ ap (λ (ls : List ℕ). record { kind = row .kind; which = row .which; many = row .many; sort = row .sort; width = row .width; levels = ls })
+      (three (row .levels) e)
 
   row-other : (j : ℕ) → (j ≡ i → ⊥) → rowAt (sets b (8 * i) (bytesOf row)) j ≡ rowAt b j
   row-other j n = same-row (sets b (8 * i) (bytesOf row)) b j j (λ k q. put-out (bytesOf row) b (8 * i) (8 * j + k) (side k q (decLt j i)))
@@ -96,4 +100,7 @@ module _ (b : List ℕ) (i : ℕ) (row : Row) where
 
   pub rows-put : length b ≡ 512 → i < 64 → length (row .levels) ≡ 3 → (len nodes : ℕ) → rowsFrom (sets b (8 * i) (bytesOf row)) len nodes ≡ withRow (rowsFrom b len nodes) i row
   unfolding below
-  rows-put l h e len nodes = ap (λ (x : List Row). record { at = x; len = len; nodes = nodes }) (set-from (rowAt b) (rowAt (sets b (8 * i) (bytesOf row))) 64 0 i h (λ j n. row-other j (λ q. n (omega arith))) ∙ ap (λ (r : Row). set (map (rowAt b) (from 0 64)) i r) (rw (zero-add i) (row-same (omega arith) e)))
+  rows-put l h e len nodes =
+      ap (λ (x : List Row). record { at = x; len = len; nodes = nodes })
+      (set-from (rowAt b) (rowAt (sets b (8 * i) (bytesOf row))) 64 0 i h (λ j n. row-other j (λ q. n (omega arith)))
+      ∙ ap (λ (r : Row). set (map (rowAt b) (from 0 64)) i r) (rw (zero-add i) (row-same (omega arith) e)))

@@ -143,7 +143,9 @@ grows-node v t N l m k g h b = record {
 many-kids : (v : ℕ) (ts : Trees) (k : ℕ) → k + howMany ts ≡ k + length (heads (suc v) ts)
 many-kids v ts k = ap (λ (n : ℕ). k + n) (heads-many (suc v) ts)
 
-join-grows : (v : ℕ) (t : Tree) (ts : Trees) (l m : Laid) → kidsOf v t ≡ heads (suc v) ts → Grows (suc v) (nodesAll ts) l m (innerAll ts) → v + suc (length (nodesAll ts)) ≤ length (l .rows) → l .placed + (innerAll ts + howMany ts) ≤ length (l .parts) → Grows v (t ∷ nodesAll ts) l (lay v t m) (innerAll ts + howMany ts)
+join-grows : (v : ℕ) (t : Tree) (ts : Trees) (l m : Laid) → kidsOf v t ≡ heads (suc v) ts → Grows (suc v) (nodesAll ts) l m (innerAll ts)
+    → v + suc (length (nodesAll ts)) ≤ length (l .rows) → l .placed + (innerAll ts + howMany ts) ≤ length (l .parts)
+    → Grows v (t ∷ nodesAll ts) l (lay v t m) (innerAll ts + howMany ts)
 join-grows v t ts l m e g h b =
     let q : innerAll ts + length (kidsOf v t) ≡ innerAll ts + howMany ts = ap (λ (x : List _). innerAll ts + length x) e ∙ sym (many-kids v ts (innerAll ts)) in
     subst (λ (k : ℕ). Grows v (t ∷ nodesAll ts) l (lay v t m) k) q (grows-node v t (nodesAll ts) l m (innerAll ts) g (omega arith) (omega arith))
@@ -162,5 +164,8 @@ mutual
   all-grow v end l h b = grows-none v l
   all-grow v (t then ts) l h b = two (laid-grows v t l (omega (arith, length-append (nodes t) (nodesAll ts))) (omega arith)) (λ g. all-grow (v + length (nodes t)) ts (laid v t l) (omega (arith, g .rows-length, length-append (nodes t) (nodesAll ts))) (omega (arith, g .placed, g .parts-length)))
     where
-      two : Grows v (nodes t) l (laid v t l) (inner t) → (Grows v (nodes t) l (laid v t l) (inner t) → Grows (v + length (nodes t)) (nodesAll ts) (laid v t l) (laidAll (v + length (nodes t)) ts (laid v t l)) (innerAll ts)) → Grows v (nodes t ++ nodesAll ts) l (laidAll (v + length (nodes t)) ts (laid v t l)) (inner t + innerAll ts)
+      two : Grows v (nodes t) l (laid v t l) (inner t) →
+          (Grows v (nodes t) l (laid v t l) (inner t) → Grows (v + length (nodes t)) (nodesAll ts) (laid v t l)
+          (laidAll (v + length (nodes t)) ts (laid v t l)) (innerAll ts))
+          → Grows v (nodes t ++ nodesAll ts) l (laidAll (v + length (nodes t)) ts (laid v t l)) (inner t + innerAll ts)
       two g f = grows-both v (nodes t) (nodesAll ts) l (laid v t l) (laidAll (v + length (nodes t)) ts (laid v t l)) (inner t) (innerAll ts) g (f g)

@@ -16,7 +16,7 @@ use Rattle.tree.specs.Pass.{Laid, blank, run, Ranged}
 use Rattle.tree.specs.Free.{take-pad, free-few}
 use Rattle.tree.specs.Laid.{laid, run-post}
 use Rattle.tree.specs.Shown.{Shown, Grows, laid-grows}
-use Rattle.tree.specs.Bounds.{Each, each-at, each-append, Sound, part-good, laid-sound, blank-sound}
+use Rattle.tree.specs.Bounds.{Each, each-at, each-append, SoundLaid, part-good, laid-sound, blank-sound}
 use Rattle.tree.specs.declared.Row.{Row}
 
 -- the rows are those of a tree that a table can hold, over `rels` relations
@@ -132,14 +132,14 @@ module _ (rels : ℕ) (root : Tree) (o : 0 < rels) (b : rels ≤ 17) (s : Small 
   few : length (nodes root) ≤ 64
   few = omega (arith, nodes-le root)
 
-  sound : Sound rels (length (nodes root)) b few (laid 0 root blank)
+  sound : SoundLaid rels (length (nodes root)) b few (laid 0 root blank)
   sound = laid-sound rels (length (nodes root)) b few 0 root blank s (omega arith) (omega arith) (blank-sound rels (length (nodes root)) b few o)
 
   grows : Grows 0 (nodes root) blank (laid 0 root blank) (inner root)
-  grows = go (blank-sound rels (length (nodes root)) b few o)
+  grows = from-this (blank-sound rels (length (nodes root)) b few o)
     where
-      go : Sound rels (length (nodes root)) b few blank → Grows 0 (nodes root) blank (laid 0 root blank) (inner root)
-      go x = laid-grows 0 root blank (omega (arith, x .rows-length, nodes-le root)) (omega (arith, x .parts-length))
+      from-this : SoundLaid rels (length (nodes root)) b few blank → Grows 0 (nodes root) blank (laid 0 root blank) (inner root)
+      from-this x = laid-grows 0 root blank (omega (arith, x .rows-length, nodes-le root)) (omega (arith, x .parts-length))
 
   pub table-is : IsTable rels root (tableOf (laid 0 root blank) root)
   table-is = record {

@@ -8,7 +8,7 @@
 --     SharedOut, shares-out, shares-back       a `&κ mut [T]` is lent as a `&κ′ [T]`, and comes back at the same list
 -- Assumes `Given`.
 use mathlib.Core.Path.{_≡_, refl, sym, subst}
-use Prim.Native.Nat.{ℕ, zero, suc, _<_}
+use Prim.Native.Nat.{ℕ, zero, suc}
 use mathlib.Core.List.{List, [], _∷_}
 use lib.ListN.{length, replicate, length-replicate}
 use lib.Dec.{T, lit<}

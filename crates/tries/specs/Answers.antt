@@ -12,11 +12,11 @@ use Rattle.definitions.specs.Tries.{Try as Record, tried, readyToTry, triedFrom
 use Rattle.tries.specs.declared.Try.{Try}
 use Rattle.tries.specs.declared.Begun.{Begun}
 use Rattle.tries.specs.Recorded.{recorded, records, verdictOf, answerOf, answered}
-use Rattle.tries.specs.Begun.{BegunBy, Ready, Serves}
+use Rattle.tries.specs.Begun.{BegunBy, ReadyToTry, Serves}
 use Rattle.tries.specs.Each.{answer, upTo, all}
 
 -- what the walk over the records asks
-pub begun-asks : (x : Result (Opens (Unit {0}))) (many : ℕ) (old : List ℕ) (c : Begun) (w mid : List ℕ) → BegunBy x many old c w mid → (c .many ≤ many) × (0 < c .many → Ready w mid (c .words))
+pub begun-asks : (x : Result (Opens (Unit {0}))) (many : ℕ) (old : List ℕ) (c : Begun) (w mid : List ℕ) → BegunBy x many old c w mid → (c .many ≤ many) × (0 < c .many → ReadyToTry w mid (c .words))
 unfolding BegunBy
 begun-asks (refused k place) many old c w mid h = (omega (arith, h .none), λ l. absurd (omega (arith, l, h .none)))
 begun-asks (accepted a) many old c w mid h = (omega (arith, h .all), λ l. h .ready)
@@ -37,13 +37,13 @@ pub outcome : (L : CaseLimits) (question site steps old : List ℕ) (es : List T
     → (record { number = c .number; place = c .place } ≡ answerOf (tryLists L question site steps (records es) old .answer))
     × ((records ys ≡ tryLists L question site steps (records es) old .tries) × (mid ≡ tryLists L question site steps (records es) old .state))
 unfolding tryLists triedFrom answerOf replyNumber replyPlace BegunBy
-outcome L question site steps old es c w mid ys begun ends = go (readyToTry L question site (length old)) begun
+outcome L question site steps old es c w mid ys begun ends = from-this (readyToTry L question site (length old)) begun
   where
-    go : (x : Result (Opens (Unit {0}))) → BegunBy x (length es) old c w mid
+    from-this : (x : Result (Opens (Unit {0}))) → BegunBy x (length es) old c w mid
         → (record { number = c .number; place = c .place } ≡ answerOf (triedFrom x steps (records es) old .answer))
         × ((records ys ≡ triedFrom x steps (records es) old .tries) × (mid ≡ triedFrom x steps (records es) old .state))
-    go (refused k place) h = ((λ i. record { number = h .number i; place = h .where-it-is i }), (ap records (ends .1 (h .none)), h .state))
-    go (accepted a) h = (
+    from-this (refused k place) h = ((λ i. record { number = h .number i; place = h .where-it-is i }), (ap records (ends .1 (h .none)), h .state))
+    from-this (accepted a) h = (
       (λ i. record { number = h .number i; place = h .no-place i }),
       (ap records (ends .0 (a .problem) (h .serves) ∙ ap (λ (k : ℕ). upTo (answer (a .problem) steps) k es) (h .all) ∙ all (answer (a .problem) steps) es) ∙ all-tried (a .problem) steps es, h .state),
     )

@@ -12,7 +12,7 @@ use Rattle.decode.specs.Decoded.{Grounded}
 use Rattle.tries.specs.declared.Begun.{Begun}
 
 -- the table is some problem's, and the first words of the state are there
-pub record Ready (w state : List ℕ) (words : ℕ) : Type 0 where
+pub record ReadyToTry (w state : List ℕ) (words : ℕ) : Type 0 where
   pub grounded : Grounded w
   pub there : words ≤ length state
   pub few : words ≤ 16384
@@ -35,7 +35,7 @@ pub record Tryable (p : Problem) (many : ℕ) (old : List ℕ) (r : Begun) (w ne
   pub no-place : r .place ≡ 0
   pub all : r .many ≡ many
   pub state : new ≡ written (stateWords p (initial p)) old
-  pub ready : Ready w new (r .words)
+  pub ready : ReadyToTry w new (r .words)
   pub serves : Serves p w new (r .words)
 
 unfoldable pub BegunBy : Result (Opens (Unit {0})) → (many : ℕ) (old : List ℕ) → Begun → (w new : List ℕ) → Type 0

@@ -29,7 +29,7 @@ use Rattle.asking.specs.Known.{case-over, grounds, tabled, table-is, atoms-few,
 use Rattle.tries.specs.declared.Begun.{Begun}
 use Rattle.definitions.specs.Tries.{readyToTry, tryList}
 use Rattle.tries.specs.Recorded.{verdictOf}
-use Rattle.tries.specs.Begun.{BegunBy, Ready, Serves}
+use Rattle.tries.specs.Begun.{BegunBy, ReadyToTry, Serves}
 
 -- ---- a case begins
 append-none : (l : List ℕ) → l ++ [] ≡ l
@@ -105,7 +105,7 @@ module _ (L : CaseLimits) (question site old : List ℕ) (many : ℕ) (r : Front
           })
 
 -- ---- one list
-module _ (w state old copied : List ℕ) (words : ℕ) (ready : Ready w state words) (c : copied ≡ written (take words state) old) where
+module _ (w state old copied : List ℕ) (words : ℕ) (ready : ReadyToTry w state words) (c : copied ≡ written (take words state) old) where
   -- the copy begins with the state's words
   same : take words copied ≡ take words state
   unfolding written

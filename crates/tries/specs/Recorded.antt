@@ -7,7 +7,7 @@ use Rattle.definitions.specs.Outcome.{replyNumber, replyPlace}
 use Rattle.definitions.specs.Tries.{Try as Record}
 use Rattle.tries.specs.declared.Try.{Try}
 use Rattle.tries.specs.declared.Verdict.{Verdict}
-use Rattle.tries.specs.declared.Answer.{Answer}
+use Rattle.tries.specs.declared.CallReply.{CallReply}
 
 -- the records of a table
 unfoldable pub recorded : Try → Record
@@ -20,12 +20,12 @@ records ts = map recorded ts
 unfoldable pub verdictOf : Result ℕ → Verdict
 verdictOf r = record { number = replyNumber r; place = replyPlace r }
 
-unfoldable pub answerOf : Result ℕ → Answer
+unfoldable pub answerOf : Result ℕ → CallReply
 answerOf r = record { number = replyNumber r; place = replyPlace r }
 
-pub answer-told : (x : Result ℕ) (r : Answer) → r ≡ answerOf x → (r .number ≡ replyNumber x) × (r .place ≡ replyPlace x)
+pub answer-told : (x : Result ℕ) (r : CallReply) → r ≡ answerOf x → (r .number ≡ replyNumber x) × (r .place ≡ replyPlace x)
 unfolding answerOf
-answer-told x r e = (ap (λ (a : Answer). a .number) e, ap (λ (a : Answer). a .place) e)
+answer-told x r e = (ap (λ (a : CallReply). a .number) e, ap (λ (a : CallReply). a .place) e)
 
 -- a record with its reply; its list stays
 unfoldable pub answered : Try → Verdict → Try

@@ -14,7 +14,7 @@ ghost use Rattle.ground.specs.Lines.{tableLength};
 ghost use Rattle.runs.specs.Ended.{ended};
 ghost use Rattle.definitions.specs.Tries.{tryList, readyToTry, tryLists};
 ghost use Rattle.tries.specs.Recorded.{records, verdictOf, answerOf};
-ghost use Rattle.tries.specs.Begun.{BegunBy, Ready, Serves};
+ghost use Rattle.tries.specs.Begun.{BegunBy, ReadyToTry, Serves};
 ghost use Rattle.tries.specs.Each.{upTo, answer};
 use runs::End;
 
@@ -34,7 +34,7 @@ pub struct Verdict {
 }
 
 // The reply to the call itself: a refusal's number and place, or 0 and 0.
-pub struct Answer {
+pub struct CallReply {
     pub number: u32,
     pub place: usize,
 }
@@ -170,7 +170,7 @@ fn run_copy(
     words: usize,
     steps: &[u32],
 ) -> Verdict
-    requires { ⌜ Ready (now table) (now state) words × (words ≤ «length-of» (now copied)) ⌝ }
+    requires { ⌜ ReadyToTry (now table) (now state) words × (words ≤ «length-of» (now copied)) ⌝ }
     ensures { λ r. ⌜ ((p : Problem) → Serves p (now (table .entry)) (now (state .entry)) words → r ≡ verdictOf (run p (now (steps .entry)) .answer)) ⌝ }
 {
     ground::copy(copied, state, words);
@@ -187,7 +187,7 @@ pub fn try_list(
     first: u32,
     length: u32,
 ) -> Verdict
-    requires { ⌜ Ready (now table) (now state) words ⌝ }
+    requires { ⌜ ReadyToTry (now table) (now state) words ⌝ }
     ensures { λ r. ⌜ ((p : Problem) → Serves p (now (table .entry)) (now (state .entry)) words → r ≡ verdictOf (tryList p (now (steps .entry)) first length)) ⌝ }
 {
     if STEPS < length {
@@ -226,7 +226,7 @@ fn try_each(
     steps: &[u32],
     tries: &mut [Try],
 )
-    requires { ⌜ (many ≤ «length-of» (now tries)) × (0 < many → Ready (now table) (now state) words) ⌝ }
+    requires { ⌜ (many ≤ «length-of» (now tries)) × (0 < many → ReadyToTry (now table) (now state) words) ⌝ }
     ensures { λ _. ⌜ ((p : Problem) → Serves p (now (table .entry)) (now (state .entry)) words → now (tries .exit) ≡ upTo (answer p (now (steps .entry))) many (now (tries .entry)))
         × (many ≡ 0 → now (tries .exit) ≡ now (tries .entry)) ⌝ }
 {
@@ -247,7 +247,7 @@ pub fn try_lists(
     steps: &[u32],
     tries: &mut [Try],
     state: &mut [u64],
-) -> Answer
+) -> CallReply
     ensures { λ r. ⌜ r ≡ answerOf (tryLists usual (now (question .entry)) (now (site .entry)) (now (steps .entry)) (records (now (tries .entry))) (now (state .entry)) .answer) ⌝ }
     ensures { λ r. ⌜ records (now (tries .exit)) ≡ tryLists usual (now (question .entry)) (now (site .entry)) (now (steps .entry)) (records (now (tries .entry))) (now (state .entry)) .tries ⌝ }
     ensures { λ r. ⌜ now (state .exit) ≡ tryLists usual (now (question .entry)) (now (site .entry)) (now (steps .entry)) (records (now (tries .entry))) (now (state .entry)) .state ⌝ }
@@ -256,7 +256,7 @@ pub fn try_lists(
     let many = tries.len();
     let c = begin(question, site, many, &mut table, state);
     try_each(&table, state, c.words, c.many, steps, tries);
-    Answer {
+    CallReply {
         number: c.number,
         place: c.place,
     }

@@ -6,7 +6,7 @@
 // site, the steps, and a first index and a length for each list. A number has four bytes, the least first.
 ghost use Prim.Native.Nat.{_+_, _*_, _≤_, _<_};
 ghost use lib.ListN.{length};
-ghost use Rattle.tries.specs.Begun.{Ready};
+ghost use Rattle.tries.specs.Begun.{ReadyToTry};
 use tries::Begun;
 use tries::Verdict;
 
@@ -77,7 +77,7 @@ fn show_kept(lists: &[u8]) {
 
 // The records after their lists were tried.
 fn show_tried(table: &[usize], state: &[u64], words: usize, steps: &[u32], lists: &[u8])
-    requires { ⌜ Ready (now table) (now state) words ⌝ }
+    requires { ⌜ ReadyToTry (now table) (now state) words ⌝ }
 {
     let mut i = 0;
     while i < lists.len() / 8 {
@@ -114,7 +114,7 @@ fn take_steps(s: &[u8], steps: &mut [u32]) {
 
 // How the case began, its records, and the state.
 fn show_case(table: &[usize], state: &[u64], c: Begun, steps: &[u32], lists: &[u8])
-    requires { ⌜ (0 < c .many → Ready (now table) (now state) (c .words)) ⌝ }
+    requires { ⌜ (0 < c .many → ReadyToTry (now table) (now state) (c .words)) ⌝ }
 {
     io::write_all(1, b"=");
     show(c.number as u64);

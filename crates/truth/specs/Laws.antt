@@ -1,6 +1,6 @@
 -- A node's truth as a search that may be left early.
 use mathlib.Core.Path.{_≡_, refl, sym, ap, ap₂, subst, _∙_, fun-ext}
-use mathlib.Core.Bool.{Bool, true, false, not, _&&_, _||_}
+use mathlib.Core.Bool.{Bool, true, false, not, _||_}
 use mathlib.Core.List.{List, [], _∷_, map}
 use Prim.Native.Nat.{ℕ, zero, suc, _+_, _-_, _*_, _/_, _%_, _^_, _≤_, _<_}
 use native.Mathlib.Omega.{arith}
@@ -16,6 +16,7 @@ use Rattle.definitions.specs.Truth.{Case}
 use Rattle.definitions.specs.Tree.{Tree, Part}
 use Rattle.definitions.specs.Actions.{Values, withValue}
 use Rattle.definitions.specs.Built.{treeHolds}
+use Rattle.laws.specs.Lists.{any-yes, any-no, any-end, any-start}
 use Rattle.bits.specs.Table.{bit}
 use Rattle.rows.specs.Values.{valueIn, Within, Most}
 use Rattle.rows.specs.Laws.{set-value}
@@ -23,24 +24,10 @@ use Rattle.ground.specs.Lines.{partNumber, membersIn}
 use Rattle.ground.specs.NeedLaws.{value-times, within-most}
 use Rattle.ground.specs.Of.{noPart}
 use Rattle.ground.specs.declared.PartLine.{PartLine}
-use Rattle.truth.specs.Lines.{linesLength, nodeIn, partIn, lineIn, partPlace, literalAt, leafAt, agree, elementIn, valueOf, valuesOf, fixedIn, known, laterOf, decided, joined, bound, Sound}
+use Rattle.truth.specs.Lines.{linesLength, nodeIn, partIn, lineIn, partPlace, literalAt, leafAt, agree, elementIn, valueOf, valuesOf, fixedIn, known, laterOf, decided, joined, bound, SoundLines}
 use Rattle.truth.specs.Says.{nodeOf, noValues, PartSays, Says, Asked, truthBy, cellOf, underOf, partsIn, AllTurns, AllParts, IsCell, IsNode, Under, Still, Passed}
 use Rattle.truth.specs.declared.NodeAt.{NodeAt}
 use Rattle.truth.specs.declared.PartAt.{PartAt}
-
--- ---- a run of numbers, gone through from the front
-module _ (g : ℕ → Bool) (k i : ℕ) where
-  any-yes : i < k → g i ≡ true → any g (from i (k - i)) ≡ true
-  unfolding any from
-  any-yes h e = let m : k - i ≡ suc (k - suc i) = omega arith in rw (m, e)
-
-  any-no : i < k → g i ≡ false → any g (from i (k - i)) ≡ any g (from (i + 1) (k - (i + 1)))
-  unfolding any from
-  any-no h e = let m : k - i ≡ suc (k - suc i) = omega arith in rw (m, e, add-one)
-
-  any-end : k ≤ i → any g (from i (k - i)) ≡ false
-  unfolding any from
-  any-end h = let m : k - i ≡ 0 = omega arith in rw m
 
 any-map : {A : Type 0} (g : A → Bool) (f : ℕ → A) (l : List ℕ) → any g (map f l) ≡ any (λ i. g (f i)) l
 unfolding any
@@ -52,11 +39,11 @@ any-from : (g : ℕ → Bool) (k a i : ℕ) → i < k → g (a + i) ≡ true →
 unfolding any from
 any-from g zero a i h e = absurd (omega arith)
 any-from g (suc k) a zero h e = rw (ap g (sym (add-zero a)) ∙ e) refl
-any-from g (suc k) a (suc i) h e = let q : suc a + i ≡ a + suc i = omega arith in rw (any-from g k (suc a) i (omega arith) (ap g q ∙ e)) (go (g a))
+any-from g (suc k) a (suc i) h e = let q : suc a + i ≡ a + suc i = omega arith in rw (any-from g k (suc a) i (omega arith) (ap g q ∙ e)) (by-test (g a))
   where
-    go : (b : Bool) → (b || true) ≡ true
-    go true = refl
-    go false = refl
+    by-test : (b : Bool) → (b || true) ≡ true
+    by-test true = refl
+    by-test false = refl
 
 any-below : (g : ℕ → Bool) (k i : ℕ) → i < k → g i ≡ true → any g (below k) ≡ true
 unfolding below
@@ -67,16 +54,12 @@ unfolding any
 any-never g [] h = refl
 any-never g (x ∷ l) h = rw (h x) (any-never g l h)
 
-any-start : (g : ℕ → Bool) (k : ℕ) → any g (below k) ≡ any g (from 0 (k - 0))
-unfolding below
-any-start g k = let m : k ≡ k - 0 = omega arith in ap (λ (x : ℕ). any g (from 0 x)) m
-
 any-turns : (g : ℕ → Bool) (w : List ℕ) (range k : ℕ) → any g (membersIn w range k) ≡ any (λ y. g (elementIn w range y)) (from 0 (k - 0))
 unfolding membersIn
 any-turns g w range k = any-map g (elementIn w range) (below k) ∙ any-start (λ y. g (elementIn w range y)) k
 
 -- ---- what sound lines say of one
-module _ (n : ℕ) (w : List ℕ) (sound : Sound n w) (v : ℕ) (l : v < 64) (x : NodeAt) (line : x ≡ nodeIn w v) where
+module _ (n : ℕ) (w : List ℕ) (sound : SoundLines n w) (v : ℕ) (l : v < 64) (x : NodeAt) (line : x ≡ nodeIn w v) where
   pub level-small : x .level < 4
   level-small = rw line (sound .node v l .level)
 
@@ -123,19 +106,19 @@ agree-not false false h = sym h
 -- ---- values that differ at one level alone
 pub same-value : (e : Values) (d : ℕ) → e ≡ withValue e d (e d)
 unfolding withValue
-same-value e d = fun-ext (λ l. go l (eqb l d) refl)
+same-value e d = fun-ext (λ l. by-number l (eqb l d) refl)
   where
-    go : (l : ℕ) (b : Bool) → eqb l d ≡ b → e l ≡ (if b then e d else e l)
-    go l true h = ap e (eqb-true l d h)
-    go l false h = refl
+    by-number : (l : ℕ) (b : Bool) → eqb l d ≡ b → e l ≡ (if b then e d else e l)
+    by-number l true h = ap e (eqb-true l d h)
+    by-number l false h = refl
 
 with-other : (e θ : Values) (d y z : ℕ) → θ ≡ withValue e d y → withValue θ d z ≡ withValue e d z
 unfolding withValue
-with-other e θ d y z are = ap (λ (u : Values). withValue u d z) are ∙ fun-ext (λ l. go l (eqb l d))
+with-other e θ d y z are = ap (λ (u : Values). withValue u d z) are ∙ fun-ext (λ l. by-number l (eqb l d))
   where
-    go : (l : ℕ) (b : Bool) → (if b then z else if b then y else e l) ≡ (if b then z else e l)
-    go l true = refl
-    go l false = refl
+    by-number : (l : ℕ) (b : Bool) → (if b then z else if b then y else e l) ≡ (if b then z else e l)
+    by-number l true = refl
+    by-number l false = refl
 
 -- ---- what is known of fixed parts
 pub known-fixed : (fixed : Bool) (i seen : ℕ) → fixed ≡ true → ltb i seen ≡ known fixed i seen
@@ -164,18 +147,18 @@ later-first a b h = rw (le-ltb a b h) refl
 
 pub later-over : (a b k : ℕ) → k ≡ laterOf a b → (a ≤ k) × (b ≤ k)
 unfolding laterOf
-later-over a b k e = go (ltb a b) refl e
+later-over a b k e = by-test (ltb a b) refl e
   where
-    go : (t : Bool) → ltb a b ≡ t → k ≡ (if t then b else a) → (a ≤ k) × (b ≤ k)
-    go true h q = let l : a < b = ltb-true a b h in (omega arith, omega arith)
-    go false h q = let l : b ≤ a = ltb-false a b h in (omega arith, omega arith)
+    by-test : (t : Bool) → ltb a b ≡ t → k ≡ (if t then b else a) → (a ≤ k) × (b ≤ k)
+    by-test true h q = let l : a < b = ltb-true a b h in (omega arith, omega arith)
+    by-test false h q = let l : b ≤ a = ltb-false a b h in (omega arith, omega arith)
 
 later-new : (i seen j : ℕ) → i ≤ seen → j < laterOf seen (i + 1) → (j < seen → ⊥) → j ≡ i
 unfolding laterOf
-later-new i seen j h l q = go (ltb seen (i + 1)) l
+later-new i seen j h l q = by-test (ltb seen (i + 1)) l
   where
-    go : (t : Bool) → j < (if t then i + 1 else seen) → j ≡ i
-    go true k = let o : seen ≤ j = not-less in omega arith
+    by-test : (t : Bool) → j < (if t then i + 1 else seen) → j ≡ i
+    by-test true k = let o : seen ≤ j = not-less in omega arith
       where
         not-less : seen ≤ j
         not-less = pick (decLt j seen)
@@ -183,7 +166,7 @@ later-new i seen j h l q = go (ltb seen (i + 1)) l
             pick : Dec (j < seen) → seen ≤ j
             pick (yes z) = absurd (q z)
             pick (no z) = omega arith
-    go false k = absurd (q k)
+    by-test false k = absurd (q k)
 
 pub fixed-at : (w : List ℕ) (i level : ℕ) → level < 4 → eqb (getD w (448 + 7 * i + 3 + level) 0) 0 ≡ fixedIn w i level
 unfolding fixedIn lineIn
@@ -222,16 +205,16 @@ module _ (n : ℕ) (w facts picks : List ℕ) (v : ℕ) where
 
       pub passed-next : Still n w facts picks v level first many → (b r : Bool) → i ≤ seen → i < many → IsCell n w facts picks v θ i b → r ≡ agree b joins → r ≡ false → (k : ℕ) → k ≡ laterOf seen (i + 1)
           → Passed n w facts picks v level first many joins θ k
-      passed-next still b r q l k a f m g c F root h j o x z = go (decLt j seen)
+      passed-next still b r q l k a f m g c F root h j o x z = from-this (decLt j seen)
         where
           at-i : j ≡ i → cellOf c F (partsIn n w facts picks v h) (withValue θ level z) j ≡ not joins
           at-i d =
               ap (cellOf c F (partsIn n w facts picks v h) (withValue θ level z)) d ∙ still c F root h i l (ap (λ (u : ℕ). fixedIn w (first + u) level) (sym d) ∙ x) θ z (θ level)
               ∙ ap (λ (u : Values). cellOf c F (partsIn n w facts picks v h) u i) (sym (same-value θ level)) ∙ sym (k c F root h) ∙ agree-not b joins (sym a ∙ f)
 
-          go : Dec (j < seen) → cellOf c F (partsIn n w facts picks v h) (withValue θ level z) j ≡ not joins
-          go (yes s) = p c F root h j s x z
-          go (no s) = at-i (later-new i seen j q (rw g at o) s)
+          from-this : Dec (j < seen) → cellOf c F (partsIn n w facts picks v h) (withValue θ level z) j ≡ not joins
+          from-this (yes s) = p c F root h j s x z
+          from-this (no s) = at-i (later-new i seen j q (rw g at o) s)
 
   pub turns-start : (x : NodeAt) (e : Values) → x ≡ nodeIn w v → AllTurns n w facts picks v (x .kind) (x .level) (x .many) (eqb (x .join) 1) (eqb (x .kind) 1) e (elementIn w (x .range)) (x .count) 0
   unfolding truthBy bound underOf cellOf
@@ -403,14 +386,14 @@ values-are env kind level element y values s e = s y ∙ ap (withValue (valueIn 
 
 pub value-small : (n kind element old y : ℕ) → y ≡ valueOf kind element old → element < n → old < n → y < n
 unfolding valueOf
-value-small n kind element old y e l o = go (ltb kind 2) e
+value-small n kind element old y e l o = by-test (ltb kind 2) e
   where
-    go : (b : Bool) → y ≡ (if b then element else old) → y < n
-    go true a = omega arith
-    go false a = omega arith
+    by-test : (b : Bool) → y ≡ (if b then element else old) → y < n
+    by-test true a = omega arith
+    by-test false a = omega arith
 
 -- ---- a literal's line
-module _ (n : ℕ) (w : List ℕ) (sound : Sound n w) where
+module _ (n : ℕ) (w : List ℕ) (sound : SoundLines n w) where
   entries : (a b c d : ℕ) → Most (getD w a 0 ∷ getD w b 0 ∷ getD w c 0 ∷ getD w d 0 ∷ []) (2 ^ 32)
   entries a b c d zero = sound .entry a
   entries a b c d (suc zero) = sound .entry b
@@ -448,7 +431,7 @@ module _ (c : Case) (F : List Tuple) (root : Tree) (n : ℕ) (w facts picks : Li
   unfolding valueIn
   root-leaf b t m k = k ∙ top .literal t (valueIn env) m ∙ ap (λ (z : Values). treeHolds c F z root) are
 
-pub root-small : (n : ℕ) (w : List ℕ) → Sound n w → (q : PartAt) → q ≡ partIn w 64 → q .tag ≡ 0 → q .which < 64
+pub root-small : (n : ℕ) (w : List ℕ) → SoundLines n w → (q : PartAt) → q ≡ partIn w 64 → q .tag ≡ 0 → q .which < 64
 root-small n w sound q e t = rw e (sound .root (rw e at t))
 
 pub quotient-small : (k n : ℕ) → k ≤ 2 ^ 48 → k / n ≤ 2 ^ 48

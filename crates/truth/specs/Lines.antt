@@ -1,6 +1,6 @@
 -- The lines of nodes and parts, and what is read off them.
 use mathlib.Core.Path.{_≡_}
-use mathlib.Core.Bool.{Bool, true, false, not, _||_}
+use mathlib.Core.Bool.{Bool, true, false, not}
 use mathlib.Core.List.{List, [], _∷_}
 use Prim.Native.Nat.{ℕ, _+_, _*_, _/_, _%_, _^_, _≤_, _<_}
 use lib.Dec.{eqb, ltb}
@@ -108,7 +108,7 @@ pub record NodeSound (n : ℕ) (w : List ℕ) (v : ℕ) (x : NodeAt) : Type 0 wh
   pub element : (i : ℕ) → i < x .count → elementIn w (x .range) i < n
   pub rises : (i : ℕ) → i < x .many → partIn w (x .first + i) .tag ≡ 0 → (v < partIn w (x .first + i) .which) × (partIn w (x .first + i) .which < 64)
 
-pub record Sound (n : ℕ) (w : List ℕ) : Type 0 where
+pub record SoundLines (n : ℕ) (w : List ℕ) : Type 0 where
   pub whole : length w ≡ linesLength
   pub some : 0 < n
   pub size : n ≤ 64

@@ -9,7 +9,7 @@ ghost use Rattle.definitions.specs.Truth.{Case};
 ghost use Rattle.definitions.specs.Tree.{Tree};
 ghost use Rattle.definitions.specs.Built.{treeHolds};
 ghost use Rattle.rows.specs.Values.{valueIn, Within};
-ghost use Rattle.truth.specs.Lines.{linesLength, nodeIn, partIn, lineIn, literalAt, leafAt, valueOf, agree, fixedIn, known, laterOf, Sound};
+ghost use Rattle.truth.specs.Lines.{linesLength, nodeIn, partIn, lineIn, literalAt, leafAt, valueOf, agree, fixedIn, known, laterOf, SoundLines};
 ghost use Rattle.truth.specs.Says.{Says, Asked, nodeOf, noValues};
 
 // The numbers of a node's line and of a part's.
@@ -148,7 +148,7 @@ fn leaf_holds(
     q: PartAt,
     env: [usize; 4],
 ) -> bool
-    requires { ⌜ Sound n (now lines) × (i < 65) × Within n env ⌝ }
+    requires { ⌜ SoundLines n (now lines) × (i < 65) × Within n env ⌝ }
     ensures { λ b. ⌜ b ≡ leafAt (now (facts .entry)) (now (picks .entry)) n (valueIn env) q (lineIn (now (lines .entry)) i) ⌝ }
 {
     let line = line_at(lines, i);
@@ -208,7 +208,7 @@ pub fn node_holds(
     v: usize,
     env: [usize; 4],
 ) -> bool
-    requires { ⌜ Sound n (now lines) × (v < 64) × Within n env ⌝ }
+    requires { ⌜ SoundLines n (now lines) × (v < 64) × Within n env ⌝ }
     ensures { λ r. ⌜ ((c : Case) (F : List Tuple) (root : Tree) → Asked c F root n (now (lines .entry)) (now (facts .entry)) (now (picks .entry)) v
         → r ≡ treeHolds c F (valueIn env) (nodeOf root v)) ⌝ }
 {
@@ -266,7 +266,7 @@ pub fn node_holds(
 
 // Whether the rule is true.
 pub fn rule_holds(lines: &[usize], facts: &[u64], picks: &[u64], n: usize) -> bool
-    requires { ⌜ Sound n (now lines) ⌝ }
+    requires { ⌜ SoundLines n (now lines) ⌝ }
     ensures { λ r. ⌜ ((c : Case) (F : List Tuple) (root : Tree) → Says c F root n (now (lines .entry)) (now (facts .entry)) (now (picks .entry))
         → r ≡ treeHolds c F noValues root) ⌝ }
 {

@@ -59,11 +59,11 @@ module _ (rs : List Relation) (first n : ℕ) (ls : List D.Label) (ts : List Tup
 -- what was looked up is what is used
 used-is : (rs : List Relation) (first lo : ℕ) (name : List ℕ) (k : ℕ) (o : Option ℕ) → counted lo (position (matches name false k) rs) ≡ o → D.used rs (5 + lo) name k ≡ option o none (λ i. some (5 + i))
 unfolding D.used counted matches option
-used-is rs first lo name k o e = rw (← e) (go (position (λ (r : Relation). same (r .name) name && eqb (r .arity) k) rs))
+used-is rs first lo name k o e = rw (← e) (by-option (position (λ (r : Relation). same (r .name) name && eqb (r .arity) k) rs))
   where
-    go : (u : Option ℕ) → option u none (λ i. some (5 + lo + i)) ≡ option (option u none (λ i. some (lo + i))) none (λ i. some (5 + i))
-    go none = refl
-    go (some i) = let z : 5 + lo + i ≡ 5 + (lo + i) = omega arith in ap (λ (m : ℕ). some m) z
+    by-option : (u : Option ℕ) → option u none (λ i. some (5 + lo + i)) ≡ option (option u none (λ i. some (lo + i))) none (λ i. some (5 + i))
+    by-option none = refl
+    by-option (some i) = let z : 5 + lo + i ≡ 5 + (lo + i) = omega arith in ap (λ (m : ℕ). some m) z
 
 match-arity : (q : List ℕ) (g : Signature) (name : List ℕ) (k i : ℕ) → matches name false k (relationIn q g i) ≡ true → getD (g .arity) i 0 ≡ k
 unfolding matches relationIn
@@ -137,11 +137,11 @@ module _ (q : List ℕ) (g : Signature) (lo m n : ℕ) (ls : List D.Label) (name
 module _ (q : List ℕ) (g : Signature) (lo m n : ℕ) (ls : List D.Label) (name : List ℕ) (es : List D.Element) (old new : List ℕ) (r : Mark) (w : Spotted q g lo m n ls name es r) where
   pub add-fault : (k : ℕ) → r ≡ Fault k → Added q g lo m n ls name es old new k
   unfolding Added Spotted Adds
-  add-fault k p ts at v b = go k (subst (λ (r : Mark). Spotted q g lo m n ls name es r) p w .0) (subst (λ (r : Mark). Spotted q g lo m n ls name es r) p w .1 ts at)
+  add-fault k p ts at v b = by-number k (subst (λ (r : Mark). Spotted q g lo m n ls name es r) p w .0) (subst (λ (r : Mark). Spotted q g lo m n ls name es r) p w .1 ts at)
     where
-      go : (k : ℕ) → 1 ≤ k → D.addTuple (relationsFrom q g lo m) (5 + lo) n ls ts at name es ≡ refused k at → Adds q g lo m n ls name es ts at new k
-      go zero h e = absurd (omega arith)
-      go (suc k) h e = e
+      by-number : (k : ℕ) → 1 ≤ k → D.addTuple (relationsFrom q g lo m) (5 + lo) n ls ts at name es ≡ refused k at → Adds q g lo m n ls name es ts at new k
+      by-number zero h e = absurd (omega arith)
+      by-number (suc k) h e = e
 
   module _ (b : ℕ) (p : r ≡ Bit b) where
     there : Stands q g lo m n ls name es b

@@ -49,15 +49,15 @@ module _ (g : Signature) (n lo : ℕ) where
         omega (arith, row-bound t v)
 
     same-relation : (t u : Tuple) → Valid g n lo m t → Valid g n lo m u → bitOf g n lo t ≡ bitOf g n lo u → t .relation - (5 + lo) ≡ u .relation - (5 + lo)
-    same-relation t u v w e = go (decLt (t .relation - (5 + lo)) (u .relation - (5 + lo))) (decLt (u .relation - (5 + lo)) (t .relation - (5 + lo)))
+    same-relation t u v w e = from-this (decLt (t .relation - (5 + lo)) (u .relation - (5 + lo))) (decLt (u .relation - (5 + lo)) (t .relation - (5 + lo)))
       where
         less : (a b : ℕ) → a < b → a ≡ b → ⊥
         less a b h p = omega arith
 
-        go : Dec (t .relation - (5 + lo) < u .relation - (5 + lo)) → Dec (u .relation - (5 + lo) < t .relation - (5 + lo)) → t .relation - (5 + lo) ≡ u .relation - (5 + lo)
-        go (yes h) d = absurd (less (bitOf g n lo t) (bitOf g n lo u) (apart t u v h) e)
-        go (no h) (yes k) = absurd (less (bitOf g n lo u) (bitOf g n lo t) (apart u t w k) (sym e))
-        go (no h) (no k) = omega arith
+        from-this : Dec (t .relation - (5 + lo) < u .relation - (5 + lo)) → Dec (u .relation - (5 + lo) < t .relation - (5 + lo)) → t .relation - (5 + lo) ≡ u .relation - (5 + lo)
+        from-this (yes h) d = absurd (less (bitOf g n lo t) (bitOf g n lo u) (apart t u v h) e)
+        from-this (no h) (yes k) = absurd (less (bitOf g n lo u) (bitOf g n lo t) (apart u t w k) (sym e))
+        from-this (no h) (no k) = omega arith
 
     same-bit : (t u : Tuple) → Valid g n lo m t → Valid g n lo m u → bitOf g n lo t ≡ bitOf g n lo u → (t .relation ≡ u .relation) × (t .places ≡ u .places)
     unfolding Valid bitOf
@@ -71,11 +71,11 @@ module _ (g : Signature) (n lo : ℕ) where
 
 module _ (g : Signature) (n lo m : ℕ) where
   bit-test : (t u : Tuple) → Valid g n lo m t → Valid g n lo m u → eqb (bitOf g n lo u) (bitOf g n lo t) ≡ sameTuple t u
-  bit-test t u v w = go (sameTuple t u) refl
+  bit-test t u v w = by-test (sameTuple t u) refl
     where
-      go : (b : Bool) → sameTuple t u ≡ b → eqb (bitOf g n lo u) (bitOf g n lo t) ≡ b
-      go true p = eq-eqb (bitOf g n lo u) (bitOf g n lo t) (ap (bitOf g n lo) (sym (sameTuple-eq t u (T-of p))))
-      go false p = ne-eqb (bitOf g n lo u) (bitOf g n lo t) (λ e. clash (same-bit g n lo m t u v w (sym e)))
+      by-test : (b : Bool) → sameTuple t u ≡ b → eqb (bitOf g n lo u) (bitOf g n lo t) ≡ b
+      by-test true p = eq-eqb (bitOf g n lo u) (bitOf g n lo t) (ap (bitOf g n lo) (sym (sameTuple-eq t u (T-of p))))
+      by-test false p = ne-eqb (bitOf g n lo u) (bitOf g n lo t) (λ e. clash (same-bit g n lo m t u v w (sym e)))
         where
           clash : (t .relation ≡ u .relation) × (t .places ≡ u .places) → ⊥
           clash h =
@@ -104,19 +104,19 @@ or-true false = refl
 any-snoc : (p : Tuple → Bool) (ts : List Tuple) (t : Tuple) → any p (ts ++ (t ∷ [])) ≡ (any p ts || p t)
 unfolding any
 any-snoc p [] t = or-false (p t)
-any-snoc p (u ∷ us) t = go (p u) (any-snoc p us t)
+any-snoc p (u ∷ us) t = by-test (p u) (any-snoc p us t)
   where
-    go : (b : Bool) → any p (us ++ (t ∷ [])) ≡ (any p us || p t) → (b || any p (us ++ (t ∷ []))) ≡ ((b || any p us) || p t)
-    go true e = refl
-    go false e = e
+    by-test : (b : Bool) → any p (us ++ (t ∷ [])) ≡ (any p us || p t) → (b || any p (us ++ (t ∷ []))) ≡ ((b || any p us) || p t)
+    by-test true e = refl
+    by-test false e = e
 
 pub marks-put : (place : Tuple → ℕ) (ts : List Tuple) (t : Tuple) → put (marks place ts) (place t) true ≡ marks place (ts ++ (t ∷ []))
 unfolding marks put
-marks-put place ts t = fun-ext (λ i. go i (ℕ-discrete i (place t)))
+marks-put place ts t = fun-ext (λ i. by-number i (ℕ-discrete i (place t)))
   where
-    go : (i : ℕ) → Dec (i ≡ place t) → cond (eqb i (place t)) true (any (λ (u : Tuple). eqb (place u) i) ts) ≡ any (λ (u : Tuple). eqb (place u) i) (ts ++ (t ∷ []))
-    go i (yes e) = rw (eq-eqb i (place t) e) (sym (any-snoc (λ (u : Tuple). eqb (place u) i) ts t ∙ rw (eq-eqb (place t) i (sym e)) (or-true (any (λ (u : Tuple). eqb (place u) i) ts))))
-    go i (no h) = rw (ne-eqb i (place t) h) (sym (any-snoc (λ (u : Tuple). eqb (place u) i) ts t ∙ rw (ne-eqb (place t) i (λ e. h (sym e))) (or-false (any (λ (u : Tuple). eqb (place u) i) ts))))
+    by-number : (i : ℕ) → Dec (i ≡ place t) → cond (eqb i (place t)) true (any (λ (u : Tuple). eqb (place u) i) ts) ≡ any (λ (u : Tuple). eqb (place u) i) (ts ++ (t ∷ []))
+    by-number i (yes e) = rw (eq-eqb i (place t) e) (sym (any-snoc (λ (u : Tuple). eqb (place u) i) ts t ∙ rw (eq-eqb (place t) i (sym e)) (or-true (any (λ (u : Tuple). eqb (place u) i) ts))))
+    by-number i (no h) = rw (ne-eqb i (place t) h) (sym (any-snoc (λ (u : Tuple). eqb (place u) i) ts t ∙ rw (ne-eqb (place t) i (λ e. h (sym e))) (or-false (any (λ (u : Tuple). eqb (place u) i) ts))))
 
 pub none-marked : (place : Tuple → ℕ) → (λ (i : ℕ). false) ≡ marks place []
 unfolding marks any

@@ -1,5 +1,5 @@
 -- One member more: its type, its element, and the words that then say it.
-use Prim.Native.Nat.{ℕ, suc, _+_, _*_, _<_, _≤_}
+use Prim.Native.Nat.{ℕ, _+_, _*_, _<_, _≤_}
 use mathlib.Core.Path.{_≡_, refl, sym, ap, ap₂, subst, _∙_}
 use mathlib.Core.Bool.{Bool, true, false, cond, _&&_, _||_, or-false, or-true, and-false}
 use mathlib.Core.List.{List, [], _∷_, _++_}
@@ -14,16 +14,15 @@ use Rattle.definitions.specs.Refusal.{refused, accepted, _>>=_, refuseIf, given
 use Rattle.definitions.specs.Formula.{typeNumber}
 use Rattle.definitions.specs.Sheets as D
 use Rattle.bits.specs.Table.{bit, put}
-use Rattle.laws.specs.Booleans.{T-of}
+use Rattle.laws.specs.Booleans.{T-of, or-assoc}
 use Rattle.laws.specs.Labels.{LabelsFit, means-small}
-use Rattle.laws.specs.Members.{MembersFit}
 use Rattle.laws.specs.Reader.{mem-snoc}
 use Rattle.text.specs.Spans.{placeOf}
 use Rattle.text.specs.declared.Found.{Found}
 use Rattle.text.specs.declared.Found.the-variants.{At, Nowhere}
 use Rattle.names.proofs.Laws.{found-some, found-none, position-some}
 use Rattle.tuples.specs.Labels.{meant}
-use Rattle.tuples.specs.Members.{MembersAre, memberDraft, MemberAdds, MemberAdded}
+use Rattle.tuples.specs.Members.{memberDraft, MemberAdds, MemberAdded}
 
 -- ---- what is said after it
 
@@ -31,28 +30,24 @@ is-snoc : (ms : List D.Member) (j x k y : ℕ) → D.isMember (ms ++ (record { t
 unfolding D.isMember any
 is-snoc [] j x k y = or-false (eqb j k && eqb x y)
 is-snoc (m ∷ ms) j x k y = ap (λ (b : Bool). (eqb (m .type) k && eqb (m .element) y) || b) (is-snoc ms j x k y) ∙ sym (or-assoc (eqb (m .type) k && eqb (m .element) y) (D.isMember ms k y) (eqb j k && eqb x y))
-  where
-    or-assoc : (a b c : Bool) → ((a || b) || c) ≡ (a || (b || c))
-    or-assoc true b c = refl
-    or-assoc false b c = refl
 
 -- the bit of an element of a type is no other's
 same-bit : (j x k y : ℕ) → x < 64 → y < 64 → eqb (64 * k + y) (64 * j + x) ≡ (eqb j k && eqb x y)
-same-bit j x k y h l = go (ℕ-discrete j k) (ℕ-discrete x y)
+same-bit j x k y h l = from-this (ℕ-discrete j k) (ℕ-discrete x y)
   where
-    go : Dec (j ≡ k) → Dec (x ≡ y) → eqb (64 * k + y) (64 * j + x) ≡ (eqb j k && eqb x y)
-    go (yes a) (yes b) = eq-eqb (64 * k + y) (64 * j + x) (omega arith) ∙ sym (ap₂ _&&_ (eq-eqb j k a) (eq-eqb x y b))
-    go (yes a) (no b) = ne-eqb (64 * k + y) (64 * j + x) (λ e. b (omega arith)) ∙ sym (ap (λ (c : Bool). eqb j k && c) (ne-eqb x y b) ∙ and-false (eqb j k))
-    go (no a) _ = ne-eqb (64 * k + y) (64 * j + x) (λ e. a (omega arith)) ∙ sym (ap (λ (c : Bool). c && eqb x y) (ne-eqb j k a))
+    from-this : Dec (j ≡ k) → Dec (x ≡ y) → eqb (64 * k + y) (64 * j + x) ≡ (eqb j k && eqb x y)
+    from-this (yes a) (yes b) = eq-eqb (64 * k + y) (64 * j + x) (omega arith) ∙ sym (ap₂ _&&_ (eq-eqb j k a) (eq-eqb x y b))
+    from-this (yes a) (no b) = ne-eqb (64 * k + y) (64 * j + x) (λ e. b (omega arith)) ∙ sym (ap (λ (c : Bool). eqb j k && c) (ne-eqb x y b) ∙ and-false (eqb j k))
+    from-this (no a) _ = ne-eqb (64 * k + y) (64 * j + x) (λ e. a (omega arith)) ∙ sym (ap (λ (c : Bool). c && eqb x y) (ne-eqb j k a))
 
 said : (p : ℕ → Bool) (ms : List D.Member) (j x k y : ℕ) → x < 64 → y < 64 → p (64 * k + y) ≡ D.isMember ms k y
     → put p (64 * j + x) true (64 * k + y) ≡ D.isMember (ms ++ (record { type = j; element = x } ∷ [])) k y
 unfolding put
-said p ms j x k y h l e = ap₂ (λ (b c : Bool). cond b true c) (same-bit j x k y h l) e ∙ go (eqb j k && eqb x y) (D.isMember ms k y) ∙ sym (is-snoc ms j x k y)
+said p ms j x k y h l e = ap₂ (λ (b c : Bool). cond b true c) (same-bit j x k y h l) e ∙ by-test (eqb j k && eqb x y) (D.isMember ms k y) ∙ sym (is-snoc ms j x k y)
   where
-    go : (b c : Bool) → cond b true c ≡ (c || b)
-    go true c = sym (or-true c)
-    go false c = sym (or-false c)
+    by-test : (b c : Bool) → cond b true c ≡ (c || b)
+    by-test true c = sym (or-true c)
+    by-test false c = sym (or-false c)
 
 -- ---- the line by its tests
 
@@ -84,11 +79,11 @@ module _ (types : List (List ℕ)) (n : ℕ) (ls : List D.Label) (name : List �
 
 meant-none : (n : ℕ) (ls : List D.Label) → LabelsFit n ls → (e : D.Element) → D.isInRange n e ≡ true → n ≤ meant n (D.elementOf ls e) → D.elementOf ls e ≡ none
 unfolding meant option
-meant-none n ls F e h l = go (D.elementOf ls e) refl l
+meant-none n ls F e h l = by-option (D.elementOf ls e) refl l
   where
-    go : (o : Option ℕ) → D.elementOf ls e ≡ o → n ≤ option o n (λ x. x) → D.elementOf ls e ≡ none
-    go none q l = q
-    go (some x) q l = let z : x < n = ltb→lt x n (means-small n ls F e x (T-of h) q) in absurd (omega arith)
+    by-option : (o : Option ℕ) → D.elementOf ls e ≡ o → n ≤ option o n (λ x. x) → D.elementOf ls e ≡ none
+    by-option none q l = q
+    by-option (some x) q l = let z : x < n = ltb→lt x n (means-small n ls F e x (T-of h) q) in absurd (omega arith)
 
 meant-some : (n : ℕ) (o : Option ℕ) (x : ℕ) → x ≡ meant n o → x < n → o ≡ some x
 unfolding meant option

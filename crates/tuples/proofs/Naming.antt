@@ -2,9 +2,9 @@
 use Prim.Native.Nat.{ℕ, zero, suc, _+_, _-_, _*_, _≤_, _<_}
 use mathlib.Core.Path.{_≡_, refl, sym, ap, ap₂, subst, _∙_}
 use mathlib.Core.Logic.{⊎-elim, inl, inr}
-use mathlib.Core.Bool.{Bool, true, false, not, _&&_, and-true}
+use mathlib.Core.Bool.{Bool, true, false, not, and-true}
 use mathlib.Core.Option.{Option, none, some}
-use mathlib.Core.List.{List, [], _∷_, _++_, map, List·Memᴰ}
+use mathlib.Core.List.{List, [], _∷_, _++_, map}
 use native.Mathlib.Decide.{ℕ-discrete, decLt}
 use native.Mathlib.Omega.{arith}
 use lib.Dec.{T, eqb, ltb, not-T}
@@ -15,10 +15,10 @@ use Rattle.definitions.specs.Lists.{if_then_else_, all, same, option, isEmpty}
 use Rattle.definitions.specs.Text.{split, isRelationName}
 use Rattle.definitions.specs.Refusal.{refused, accepted, _>>=_, refuseIf, given}
 use Rattle.definitions.specs.Sheets as D
-use Rattle.laws.specs.Booleans.{T-of, T-true, T-false}
+use Rattle.laws.specs.Booleans.{T-of, T-true, T-false, and-both}
 use Rattle.laws.specs.Labels.{LabelsFit, name-at, element-at, name-found, element-found, one-snoc, one-to-one, taken-at, taken-by, mean-small, option-parts}
 use Rattle.laws.specs.Reader.{mem-snoc}
-use Rattle.laws.specs.Lists.{none-some, snoc-cases, some-eq}
+use Rattle.laws.specs.Lists.{none-some, some-eq}
 use Rattle.laws.specs.Tuples.{same-eq, same-refl}
 use Rattle.records.specs.Entries.{Fielded, codesOf, elementBy, elementsBy, listOf}
 use Rattle.records.specs.declared.Places.{Places}
@@ -27,10 +27,6 @@ use Rattle.text.specs.Spans.{indexOf}
 use Rattle.text.proofs.Laws.{pieces-at, pieces-whole, split-some}
 use Rattle.tuples.specs.Labels.{spanned, LabelsAre, meant, values, isNumber, LabelAdds, LabelAdded}
 use Rattle.tuples.specs.Marks.{areBelow}
-
-both : (a b : Bool) → (a && b) ≡ true → (a ≡ true) × (b ≡ true)
-both true b p = (refl, p)
-both false b p = let z : _≡_ {A = ℕ} 0 1 = cc in absurd (omega arith)
 
 -- ---- a name among spans
 
@@ -56,11 +52,11 @@ module _ (site words name : List ℕ) where
   module _ (x : ℕ) (b : NotBefore site words name x) where
     not-here : (spanned site (getD words (2 * x) 0) (getD words (2 * x + 1) 0) ≡ some name → ⊥) → NotBefore site words name (x + 1)
     unfolding NotBefore
-    not-here n y h = go (ℕ-discrete y x)
+    not-here n y h = from-this (ℕ-discrete y x)
       where
-        go : Dec (y ≡ x) → spanned site (getD words (2 * y) 0) (getD words (2 * y + 1) 0) ≡ some name → ⊥
-        go (yes e) = subst (λ (z : ℕ). spanned site (getD words (2 * z) 0) (getD words (2 * z + 1) 0) ≡ some name → ⊥) (sym e) n
-        go (no e) = b y (omega (arith, e))
+        from-this : Dec (y ≡ x) → spanned site (getD words (2 * y) 0) (getD words (2 * y + 1) 0) ≡ some name → ⊥
+        from-this (yes e) = subst (λ (z : ℕ). spanned site (getD words (2 * z) 0) (getD words (2 * z + 1) 0) ≡ some name → ⊥) (sym e) n
+        from-this (no e) = b y (omega (arith, e))
 
     pub other-length : getD words (2 * x + 1) 0 ≤ length site → (getD words (2 * x + 1) 0 - getD words (2 * x) 0 ≡ length name → ⊥) → NotBefore site words name (x + 1)
     other-length h n = not-here (λ q. n (sym (length-slice (getD words (2 * x) 0) (getD words (2 * x + 1) 0) site h) ∙ ap length (span-is site (getD words (2 * x) 0) (getD words (2 * x + 1) 0) name q)))
@@ -80,34 +76,34 @@ module _ (site words : List ℕ) (n : ℕ) (ls : List D.Label) (L : LabelsAre si
 
   pub found-nowhere : NotBefore site words name n → n ≡ meant n (D.elementNamed ls name)
   unfolding NotBefore meant option
-  found-nowhere b = go (D.elementNamed ls name) refl
+  found-nowhere b = by-option (D.elementNamed ls name) refl
     where
-      go : (o : Option ℕ) → D.elementNamed ls name ≡ o → n ≡ option o n (λ x. x)
-      go none e = refl
-      go (some x) e =
+      by-option : (o : Option ℕ) → D.elementNamed ls name ≡ o → n ≡ option o n (λ x. x)
+      by-option none e = refl
+      by-option (some x) e =
           let (l, m, p, q) = element-at ls name x e in
           absurd (b x (subst (λ (y : ℕ). y < n) p (L .fit .small l m)) (sym (L .says x) ∙ one-to-one ls (L .fit .one) x name .1 e))
 
   pub found-empty : length name ≡ 0 → n ≡ meant n (D.elementNamed ls name)
   unfolding meant option isRelationName
-  found-empty z = go (D.elementNamed ls name) refl
+  found-empty z = by-option (D.elementNamed ls name) refl
     where
       unnamed : (w : List ℕ) → length w ≡ 0 → T (isRelationName w) → ⊥
       unnamed [] z t = t
       unnamed (b ∷ w) z t = omega arith
 
-      go : (o : Option ℕ) → D.elementNamed ls name ≡ o → n ≡ option o n (λ x. x)
-      go none e = refl
-      go (some x) e = let (l, m, p, q) = element-at ls name x e in absurd (unnamed (l .name) (ap length q ∙ z) (L .fit .formed l m))
+      by-option : (o : Option ℕ) → D.elementNamed ls name ≡ o → n ≡ option o n (λ x. x)
+      by-option none e = refl
+      by-option (some x) e = let (l, m, p, q) = element-at ls name x e in absurd (unnamed (l .name) (ap length q ∙ z) (L .fit .formed l m))
 
 -- an element, or n
 pub meant-few : (n : ℕ) (ls : List D.Label) → LabelsFit n ls → (name : List ℕ) → meant n (D.elementNamed ls name) ≤ n
 unfolding meant option
-meant-few n ls F name = go (D.elementNamed ls name) refl
+meant-few n ls F name = by-option (D.elementNamed ls name) refl
   where
-    go : (o : Option ℕ) → D.elementNamed ls name ≡ o → option o n (λ x. x) ≤ n
-    go none q = omega arith
-    go (some x) q = let (l, m, a, b) = element-at ls name x q in omega (arith, F .small l m, a)
+    by-option : (o : Option ℕ) → D.elementNamed ls name ≡ o → option o n (λ x. x) ≤ n
+    by-option none q = omega arith
+    by-option (some x) q = let (l, m, a, b) = element-at ls name x q in omega (arith, F .small l m, a)
 
 -- ---- fields
 
@@ -152,7 +148,7 @@ numbers-mean n ls [] [] h e = refl
 numbers-mean n ls [] (k ∷ ks) h e = absurd (omega arith)
 numbers-mean n ls (f ∷ fs) [] h e = absurd (omega arith)
 numbers-mean n ls (f ∷ fs) (k ∷ ks) h e =
-    let (a, b) = both (not (eqb k 10000000)) (all isNumber ks) e in
+    let (a, b) = and-both (not (eqb k 10000000)) (all isNumber ks) e in
     ap₂ _∷_ (number-means f k n (eqb-false k 10000000 (not-true (eqb k 10000000) a)) ls) (numbers-mean n ls fs ks (omega arith) b)
 
 module _ (p : Places) where
@@ -189,19 +185,19 @@ module _ (p : Places) where
 
 module _ (s : List ℕ) (a e : ℕ) (h : a ≤ e) (k : e ≤ length s) where
   pub one-field : length (split 9 (slice a e s)) ≡ 1 → split 9 (slice a e s) ≡ slice a e s ∷ []
-  one-field c = go (decLt (a + indexOf 9 (slice a e s)) e)
+  one-field c = from-this (decLt (a + indexOf 9 (slice a e s)) e)
     where
-      go : Dec (a + indexOf 9 (slice a e s) < e) → split 9 (slice a e s) ≡ slice a e s ∷ []
-      go (yes l) = let v = ap length (pieces-at 9 a e s h k _ refl l) in absurd (omega (arith, v, c, split-some 9 (slice (a + indexOf 9 (slice a e s) + 1) e s)))
-      go (no l) = pieces-whole 9 a e s h k _ refl (omega arith)
+      from-this : Dec (a + indexOf 9 (slice a e s) < e) → split 9 (slice a e s) ≡ slice a e s ∷ []
+      from-this (yes l) = let v = ap length (pieces-at 9 a e s h k _ refl l) in absurd (omega (arith, v, c, split-some 9 (slice (a + indexOf 9 (slice a e s) + 1) e s)))
+      from-this (no l) = pieces-whole 9 a e s h k _ refl (omega arith)
 
   module _ (t : ℕ) (q : t ≡ a + indexOf 9 (slice a e s)) (c : 2 ≤ length (split 9 (slice a e s))) where
     pub tab-inside : (a ≤ t) × (t < e)
-    tab-inside = (omega arith, go (decLt t e))
+    tab-inside = (omega arith, from-this (decLt t e))
       where
-        go : Dec (t < e) → t < e
-        go (yes l) = l
-        go (no l) = let v = ap length (pieces-whole 9 a e s h k t q (omega arith)) in absurd (omega (arith, v, c))
+        from-this : Dec (t < e) → t < e
+        from-this (yes l) = l
+        from-this (no l) = let v = ap length (pieces-whole 9 a e s h k t q (omega arith)) in absurd (omega (arith, v, c))
 
     pub first-field : split 9 (slice a e s) ≡ slice a t s ∷ split 9 (slice (t + 1) e s)
     first-field = pieces-at 9 a e s h k t q (tab-inside .1)
@@ -212,11 +208,11 @@ module _ (s : List ℕ) (a e : ℕ) (h : a ≤ e) (k : e ≤ length s) where
 module _ (s : List ℕ) (a e : ℕ) (p : Places) (w : Fielded s a e p) (n : ℕ) (ls : List D.Label) where
   pub values-none : p ≡ Unread → codesOf Unread ≡ values n ls (listOf s a e p)
   unfolding codesOf listOf values elementsBy
-  values-none r = rw r (go (split 9 (slice a e s)))
+  values-none r = rw r (by-list (split 9 (slice a e s)))
     where
-      go : (fs : List (List ℕ)) → [] ≡ map (λ x. meant n (D.elementOf ls x)) (elementsBy fs [])
-      go [] = refl
-      go (f ∷ fs) = refl
+      by-list : (fs : List (List ℕ)) → [] ≡ map (λ x. meant n (D.elementOf ls x)) (elementsBy fs [])
+      by-list [] = refl
+      by-list (f ∷ fs) = refl
 
   pub values-1 : (x u : ℕ) → p ≡ One x → u ≡ meant n (D.elementOf ls (elementBy (slice a e s) x)) → codesOf (One u) ≡ values n ls (listOf s a e p)
   unfolding codesOf listOf values elementsBy
@@ -305,7 +301,9 @@ module _ (n : ℕ) (p : Places) where
     unfit-2 h = subst (λ (p : Places). Fit n (codesOf p) false) (sym e) (unfit-cons n x (y ∷ []) h)
 
   module _ (x y z : ℕ) (e : p ≡ Three x y z) where
-    pub fit-3 : (b : Bool) → ((f : List ℕ) → true ≡ D.isInRange n (elementBy f x)) → ((f : List ℕ) → true ≡ D.isInRange n (elementBy f y)) → ((f : List ℕ) → b ≡ D.isInRange n (elementBy f z)) → (fs : List (List ℕ)) → length fs ≡ length (codesOf p) → b ≡ all (D.isInRange n) (elementsBy fs (codesOf p))
+    pub fit-3 : (b : Bool) → ((f : List ℕ) → true ≡ D.isInRange n (elementBy f x)) → ((f : List ℕ) → true ≡ D.isInRange n (elementBy f y))
+        → ((f : List ℕ) → b ≡ D.isInRange n (elementBy f z)) → (fs : List (List ℕ)) → length fs ≡ length (codesOf p) → b
+        ≡ all (D.isInRange n) (elementsBy fs (codesOf p))
     unfolding Fit codesOf
     fit-3 b h k l = subst (λ (p : Places). Fit n (codesOf p) b) (sym e) (fit-cons n x (y ∷ z ∷ []) b h (fit-cons n y (z ∷ []) b k (fit-last n z b l)))
 
@@ -345,17 +343,17 @@ module _ (n : ℕ) (ls : List D.Label) where
   one-in : (e : D.Element) → ltb (meant n (D.elementOf ls e)) n ≡ true → (D.isInRange n e ≡ true) × (D.elementOf ls e ≡ some (meant n (D.elementOf ls e)))
   unfolding D.elementOf D.isInRange meant option
   one-in (D.numbered x) h = (h, refl)
-  one-in (D.named f) h = (refl, go (D.elementNamed ls f) h)
+  one-in (D.named f) h = (refl, by-option (D.elementNamed ls f) h)
     where
-      go : (o : Option ℕ) → ltb (option o n (λ x. x)) n ≡ true → o ≡ some (option o n (λ x. x))
-      go none k = absurd (omega (arith, ltb-true n n k))
-      go (some x) k = refl
+      by-option : (o : Option ℕ) → ltb (option o n (λ x. x)) n ≡ true → o ≡ some (option o n (λ x. x))
+      by-option none k = absurd (omega (arith, ltb-true n n k))
+      by-option (some x) k = refl
 
   pub values-in : (es : List D.Element) → areBelow n (values n ls es) ≡ true → (all (D.isInRange n) es ≡ true) × (D.elementsOf ls es ≡ some (values n ls es))
   unfolding areBelow values all D.elementsOf option
   values-in [] h = (refl, refl)
   values-in (e ∷ es) h =
-      let (a, b) = both (ltb (meant n (D.elementOf ls e)) n) (all (λ x. ltb x n) (values n ls es)) h in
+      let (a, b) = and-both (ltb (meant n (D.elementOf ls e)) n) (all (λ x. ltb x n) (values n ls es)) h in
       let (c, d) = one-in e a in
       let (f, g) = values-in es b in
       (rw (c, f) refl, consed (D.elementOf ls e) (D.elementsOf ls es) d g)
@@ -365,11 +363,11 @@ module _ (n : ℕ) (ls : List D.Label) where
 
   pub values-out : LabelsFit n ls → (es : List D.Element) → areBelow n (values n ls es) ≡ false → all (D.isInRange n) es ≡ true → D.elementsOf ls es ≡ none
   unfolding areBelow
-  values-out F es h r = go (D.elementsOf ls es) refl
+  values-out F es h r = by-option (D.elementsOf ls es) refl
     where
-      go : (o : Option (List ℕ)) → D.elementsOf ls es ≡ o → o ≡ none
-      go none e = refl
-      go (some xs) e =
+      by-option : (o : Option (List ℕ)) → D.elementsOf ls es ≡ o → o ≡ none
+      by-option none e = refl
+      by-option (some xs) e =
           let t : all (λ x. ltb x n) xs ≡ true = T-true _ (mean-small n ls F es xs (T-of r) e) in
           let u : all (λ x. ltb x n) (values n ls es) ≡ all (λ x. ltb x n) xs = ap (all (λ x. ltb x n)) (values-are n ls es xs e) in
           let z : _≡_ {A = ℕ} 0 1 = cc in
@@ -409,11 +407,11 @@ other-name (l ∷ ls) k y h = rw (other-name ls k y h) refl
 own-name : (ls : List D.Label) (k : D.Label) → D.nameOf ls (k .element) ≡ none → D.nameOf (ls ++ (k ∷ [])) (k .element) ≡ some (k .name)
 unfolding D.nameOf
 own-name [] k h = rw (eq-eqb (k .element) (k .element) refl) refl
-own-name (l ∷ ls) k h = go (eqb (l .element) (k .element)) h (own-name ls k)
+own-name (l ∷ ls) k h = by-test (eqb (l .element) (k .element)) h (own-name ls k)
   where
-    go : (b : Bool) → (if b then some (l .name) else D.nameOf ls (k .element)) ≡ none → (D.nameOf ls (k .element) ≡ none → D.nameOf (ls ++ (k ∷ [])) (k .element) ≡ some (k .name)) → (if b then some (l .name) else D.nameOf (ls ++ (k ∷ [])) (k .element)) ≡ some (k .name)
-    go true q r = absurd (none-some (sym q))
-    go false q r = r q
+    by-test : (b : Bool) → (if b then some (l .name) else D.nameOf ls (k .element)) ≡ none → (D.nameOf ls (k .element) ≡ none → D.nameOf (ls ++ (k ∷ [])) (k .element) ≡ some (k .name)) → (if b then some (l .name) else D.nameOf (ls ++ (k ∷ [])) (k .element)) ≡ some (k .name)
+    by-test true q r = absurd (none-some (sym q))
+    by-test false q r = r q
 
 -- neither the element nor the name is a label's
 is-free : (n : ℕ) (ls : List D.Label) → LabelsFit n ls → (x : ℕ) (name : List ℕ) → D.nameOf ls x ≡ none → D.elementNamed ls name ≡ none → D.isTaken ls x name ≡ false
@@ -424,11 +422,11 @@ is-free n ls F x name a b = T-false (D.isTaken ls x name) (λ t.
 module _ (site : List ℕ) (n : ℕ) (w : List ℕ) (k : ℕ) (name old new : List ℕ) where
   pub label-by-name : k ≡ 10000000 → LabelAdded site n (elementBy w k) name old new 18
   unfolding LabelAdded LabelAdds D.elementOf D.isInRange
-  label-by-name e ls at L = subst (λ (x : D.Element). D.addLabel (site-draft n ls at x name) at x name ≡ refused 18 at) (sym (by-name w k e)) (go (D.elementNamed ls w) refl)
+  label-by-name e ls at L = subst (λ (x : D.Element). D.addLabel (site-draft n ls at x name) at x name ≡ refused 18 at) (sym (by-name w k e)) (by-option (D.elementNamed ls w) refl)
     where
-      go : (o : Option ℕ) → D.elementNamed ls w ≡ o → D.addLabel (site-draft n ls at (D.named w) name) at (D.named w) name ≡ refused 18 at
-      go none q = label-nobody n ls at (D.named w) name refl q
-      go (some x) q = let (l, m, a, b) = element-at ls w x q in label-taken n ls at (D.named w) name refl x q (T-true _ (taken-by ls l x name m (inl a)))
+      by-option : (o : Option ℕ) → D.elementNamed ls w ≡ o → D.addLabel (site-draft n ls at (D.named w) name) at (D.named w) name ≡ refused 18 at
+      by-option none q = label-nobody n ls at (D.named w) name refl q
+      by-option (some x) q = let (l, m, a, b) = element-at ls w x q in label-taken n ls at (D.named w) name refl x q (T-true _ (taken-by ls l x name m (inl a)))
 
   module _ (e : k ≡ 10000000 → ⊥) where
     number-is : (P : D.Element → Type 0) → P (D.numbered k) → P (elementBy w k)
@@ -455,11 +453,11 @@ module _ (site : List ℕ) (n : ℕ) (w : List ℕ) (k : ℕ) (name old new : Li
 
       pub label-used : ((ls : List D.Label) → LabelsAre site old n ls → meant n (D.elementNamed ls name) < n) → LabelAdded site n (elementBy w k) name old new 18
       unfolding LabelAdded LabelAdds meant option
-      label-used u ls at L = go (D.elementNamed ls name) refl (u ls L)
+      label-used u ls at L = by-option (D.elementNamed ls name) refl (u ls L)
         where
-          go : (o : Option ℕ) → D.elementNamed ls name ≡ o → option o n (λ x. x) < n → D.addLabel (site-draft n ls at (elementBy w k) name) at (elementBy w k) name ≡ refused 18 at
-          go none q l = absurd (omega arith)
-          go (some x) q l = let (l₁, m, a, b) = element-at ls name x q in taken ls at (T-true _ (taken-by ls l₁ k name m (inr b)))
+          by-option : (o : Option ℕ) → D.elementNamed ls name ≡ o → option o n (λ x. x) < n → D.addLabel (site-draft n ls at (elementBy w k) name) at (elementBy w k) name ≡ refused 18 at
+          by-option none q l = absurd (omega arith)
+          by-option (some x) q l = let (l₁, m, a, b) = element-at ls name x q in taken ls at (T-true _ (taken-by ls l₁ k name m (inr b)))
 
 -- the words after it
 module _ (site words : List ℕ) (n : ℕ) (ls : List D.Label) (L : LabelsAre site words n ls) (x a e : ℕ) (h : x < n) (few : n ≤ 64) (in-site : e ≤ length site) (formed : T (isRelationName (slice a e site)))
@@ -519,13 +517,13 @@ pub label-new : (site : List ℕ) (n : ℕ) (w : List ℕ) (x a e : ℕ) (old : 
     → LabelAdded site n (elementBy w x) (slice a e site) old (set (set old (2 * x) a) (2 * x + 1) e) 0
 unfolding LabelAdded LabelAdds D.elementOf D.isInRange meant option spanned
 label-new site n w x a e old d h few in-site formed k u ls at L =
-    let free = go (D.elementNamed ls (slice a e site)) refl (u ls L) in (
+    let free = by-option (D.elementNamed ls (slice a e site)) refl (u ls L) in (
       record { element = x; name = slice a e site },
       number-is site n w x (slice a e site) old old d (λ y. D.addLabel (site-draft n ls at y (slice a e site)) at y (slice a e site) ≡ accepted (record { sized = some n; labels = ls ++ (record { element = x; name = slice a e site } ∷ []); members = []; facts = [] }))
           (label-added n ls at (D.numbered x) (slice a e site) (lt-ltb x n h) x refl (is-free n ls (L .fit) x (slice a e site) (L .says x ∙ ap (spanned site (getD old (2 * x) 0)) k) free)),
       label-words site old n ls L x a e h few in-site (T-of formed) k free,
     )
   where
-    go : (o : Option ℕ) → D.elementNamed ls (slice a e site) ≡ o → n ≤ option o n (λ x. x) → D.elementNamed ls (slice a e site) ≡ none
-    go none q l = q
-    go (some y) q l = let (j, m, p, r) = element-at ls (slice a e site) y q in absurd (omega (arith, L .fit .small j m, p))
+    by-option : (o : Option ℕ) → D.elementNamed ls (slice a e site) ≡ o → n ≤ option o n (λ x. x) → D.elementNamed ls (slice a e site) ≡ none
+    by-option none q l = q
+    by-option (some y) q l = let (j, m, p, r) = element-at ls (slice a e site) y q in absurd (omega (arith, L .fit .small j m, p))

@@ -1,5 +1,5 @@
 -- Rows of elements, one place at a time and for any number of places; the powers of at most 64 elements.
-use Prim.Native.Nat.{ℕ, suc, _+_, _-_, _*_, _^_, _≤_, _<_}
+use Prim.Native.Nat.{ℕ, suc, _+_, _*_, _^_, _≤_, _<_}
 use mathlib.Core.Path.{_≡_, refl, sym, ap₂, subst, _∙_}
 use mathlib.Core.Bool.{true, _&&_, and-true, and-false, and-assoc}
 use mathlib.Core.List.{List, [], _∷_, _++_}
@@ -28,15 +28,15 @@ row-lt n xs p = R.row-lt n xs (T-of p)
 
 pub row-same : (n : ℕ) (xs ys : List ℕ) → areBelow n xs ≡ true → areBelow n ys ≡ true → length xs ≡ length ys → rowOf n xs ≡ rowOf n ys → xs ≡ ys
 unfolding areBelow
-row-same n xs ys p q l e = go (decLt 0 n)
+row-same n xs ys p q l e = from-this (decLt 0 n)
   where
     none : (zs : List ℕ) → all (λ x. ltb x n) zs ≡ true → n ≡ 0 → zs ≡ []
     none [] r z = refl
     none (y ∷ zs) r z = absurd (omega (arith, R.below-cons n y zs (T-of r) .0))
 
-    go : Dec (0 < n) → xs ≡ ys
-    go (yes h) = sym (R.places-row n xs h (T-of p)) ∙ ap₂ (placesOf n) l e ∙ R.places-row n ys h (T-of q)
-    go (no h) = none xs p (omega arith) ∙ sym (none ys q (omega arith))
+    from-this : Dec (0 < n) → xs ≡ ys
+    from-this (yes h) = sym (R.places-row n xs h (T-of p)) ∙ ap₂ (placesOf n) l e ∙ R.places-row n ys h (T-of q)
+    from-this (no h) = none xs p (omega arith) ∙ sym (none ys q (omega arith))
 
 -- ---- one place more
 

@@ -88,7 +88,7 @@ module _ (g : Signature) (n lo m : ℕ) where
 
     not-spare : (i row : ℕ) → n ^ getD (g .arity) (lo + i) 0 ≤ row → row < 64 * wordsFor (n ^ getD (g .arity) (lo + i) 0) → bitOf g n lo t ≡ 64 * firstWord g n lo i + row → ⊥
     unfolding Valid bitOf
-    not-spare i row h l e = go (decLt (t .relation - (5 + lo)) i) (decLt i (t .relation - (5 + lo)))
+    not-spare i row h l e = from-this (decLt (t .relation - (5 + lo)) i) (decLt i (t .relation - (5 + lo)))
       where
         own : (j : ℕ) → t .relation - (5 + lo) ≡ j → n ^ getD (g .arity) (lo + j) 0 ≤ row → bitOf g n lo t ≡ 64 * firstWord g n lo j + row → ⊥
         own j p h e = same-one h e
@@ -101,15 +101,15 @@ module _ (g : Signature) (n lo m : ℕ) where
             same-one : n ^ getD (g .arity) (lo + j) 0 ≤ row → bitOf g n lo t ≡ 64 * firstWord g n lo j + row → ⊥
             same-one h e = let q : firstWord g n lo (t .relation - (5 + lo)) ≡ firstWord g n lo j = ap (firstWord g n lo) p in omega (arith, lt-power, q)
 
-        go : Dec (t .relation - (5 + lo) < i) → Dec (i < t .relation - (5 + lo)) → ⊥
-        go (yes p) d = omega (arith, its-words i p)
-        go (no p) (yes q) =
+        from-this : Dec (t .relation - (5 + lo) < i) → Dec (i < t .relation - (5 + lo)) → ⊥
+        from-this (yes p) d = omega (arith, its-words i p)
+        from-this (no p) (yes q) =
             let d : ℕ = t .relation - (5 + lo) - suc i in
             let z : suc i + d ≡ t .relation - (5 + lo) = omega arith in
             let y : firstWord g n lo i + wordsFor (n ^ getD (g .arity) (lo + i) 0) ≤ firstWord g n lo (t .relation - (5 + lo))
             = subst (λ (x : ℕ). firstWord g n lo i + wordsFor (n ^ getD (g .arity) (lo + i) 0) ≤ firstWord g n lo x) z (words-apart g n lo i d) in
             omega arith
-        go (no p) (no q) = own i (omega arith) h e
+        from-this (no p) (no q) = own i (omega arith) h e
 
   module _ (ts : List Tuple) (w : AllValid g n lo m ts) where
     pub mark-spare : (i row : ℕ) → n ^ getD (g .arity) (lo + i) 0 ≤ row → row < 64 * wordsFor (n ^ getD (g .arity) (lo + i) 0) → marks (bitOf g n lo) ts (64 * firstWord g n lo i + row) ≡ false
@@ -139,12 +139,12 @@ module _ (g : Signature) (n lo m : ℕ) (h : 0 < n) (ts : List Tuple) (w : AllVa
   own-words : (i : ℕ) → i < m
       → words (λ row. ltb row (n ^ getD (g .arity) (lo + i) 0) && isAmong (tupleAt g n lo m i row) ts) (wordsFor (n ^ getD (g .arity) (lo + i) 0))
       ≡ words (λ row. marks (bitOf g n lo) ts (64 * firstWord g n lo i + row)) (wordsFor (n ^ getD (g .arity) (lo + i) 0))
-  own-words i l = words-same _ _ (wordsFor (n ^ getD (g .arity) (lo + i) 0)) (λ row k. go row k (decLt row (n ^ getD (g .arity) (lo + i) 0)))
+  own-words i l = words-same _ _ (wordsFor (n ^ getD (g .arity) (lo + i) 0)) (λ row k. by-number row k (decLt row (n ^ getD (g .arity) (lo + i) 0)))
     where
-      go : (row : ℕ) → row < 64 * wordsFor (n ^ getD (g .arity) (lo + i) 0) → Dec (row < n ^ getD (g .arity) (lo + i) 0)
+      by-number : (row : ℕ) → row < 64 * wordsFor (n ^ getD (g .arity) (lo + i) 0) → Dec (row < n ^ getD (g .arity) (lo + i) 0)
           → (ltb row (n ^ getD (g .arity) (lo + i) 0) && isAmong (tupleAt g n lo m i row) ts) ≡ marks (bitOf g n lo) ts (64 * firstWord g n lo i + row)
-      go row k (yes q) = rw (lt-ltb row (n ^ getD (g .arity) (lo + i) 0) q) (sym (mark-bit g n lo m ts w i row h l q))
-      go row k (no q) = rw (le-ltb row (n ^ getD (g .arity) (lo + i) 0) (omega arith)) (sym (mark-spare g n lo m ts w i row (omega arith) k))
+      by-number row k (yes q) = rw (lt-ltb row (n ^ getD (g .arity) (lo + i) 0) q) (sym (mark-bit g n lo m ts w i row h l q))
+      by-number row k (no q) = rw (le-ltb row (n ^ getD (g .arity) (lo + i) 0) (omega arith)) (sym (mark-spare g n lo m ts w i row (omega arith) k))
 
 -- picks: the table's first words are theirs
 module _ (g : Signature) (lo m : ℕ) (p : Problem) (h : 0 < p .size) (ts : List Tuple) (w : AllValid g (p .size) lo m ts)

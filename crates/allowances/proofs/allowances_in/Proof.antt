@@ -4,11 +4,7 @@ use Rattle.definitions.specs.Limits.{usual}
 use Rattle.sheets.specs.Opening.{case-read}
 use Rattle.allowances.specs.Allows.{allows-refused}
 use borrow.Author.Needs.{needs}
-use Rattle.allowances.proofs.allowances_in.Statement.{statement}
 use Rattle.allowances.proofs.allowances_in.Tie as tie
-
-returns : tie.Need-returns
-returns c = allows-refused _ _ _ _ _ _ (c .before .before .before .before .read-case .ensures usual refl) (c .if1 .taken)
 
 of-case-requires : tie.Need-of-case-requires
 of-case-requires c κs =
@@ -20,14 +16,7 @@ returns-2 c =
     let read = c .before .before .before .before .before .before .before .before .read-case .ensures usual refl in
     c .before .before .of-case .ensures _ _ read (c .before .before .before .before .if1 .left)
 
-pub allowances-in-spec : {M : Type 1} → statement M
-allowances-in-spec =
-    tie.close
-    (tie.spec
-    (λ c κs. search needs)
-    (λ c. search needs)
-    returns
-    of-case-requires
-    (λ c. search needs)
-    (λ c. search needs)
-    returns-2)
+pub allowances-in-spec : {M : Type 1} → Rattle.allowances.proofs.allowances_in.Statement.statement M
+allowances-in-spec = tie.close (tie.spec (λ c κs. search needs) (λ c. search needs)
+    (λ c. allows-refused _ _ _ _ _ _ (c .before .before .before .before .read-case .ensures usual refl) (c .if1 .taken)) of-case-requires
+    (λ c. search needs) (λ c. search needs) returns-2)

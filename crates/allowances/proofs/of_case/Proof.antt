@@ -12,42 +12,38 @@ use Rattle.laws.specs.Grounded.{good}
 use Rattle.grounding.specs.Grounds.{declared, rule-fine, inputs}
 use Rattle.allowances.specs.Allows.{allows-over, allows-short, allows-written}
 use borrow.Author.Needs.{needs}
-use Rattle.allowances.proofs.of_case.Statement.{statement}
 use Rattle.allowances.proofs.of_case.Tie as tie
 
 ranges-of-requires : tie.Need-ranges-of-requires
 ranges-of-requires c κs = let h = c .before .before .before .before .before .before .pre .holds in (h .some-elements, h .few-elements, h .sound .types-le, omega (arith, h .sound .types-le, h .members-are .room))
 
-relations-of-requires : tie.Need-relations-of-requires
-relations-of-requires c κs = declared _ _ _ _ (c .before .before .before .before .before .before .before .pre .holds)
-
-nodes-of-requires : tie.Need-nodes-of-requires
-nodes-of-requires c κs = rule-fine _ _ _ _ (c .before .before .before .before .before .before .before .before .pre .holds)
-
 of-tables-requires : tie.Need-of-tables-requires
-of-tables-requires c κs = let h = c .before .before .before .before .before .before .before .before .before .pre .holds in (h .some-elements, h .few-elements, c .before .relations-of .ensures .0, c .nodes-of .ensures .fits, c .before .before .ranges-of .ensures .0)
+of-tables-requires c κs =
+    let s = c .before .before .before .before .before .before .before .before .before in
+    let h = s .pre .holds in (h .some-elements, h .few-elements, c .before .relations-of .ensures .0, c .nodes-of .ensures .fits, c .before .before .ranges-of .ensures .0)
 
 returns : tie.Need-returns
 returns c = λ site facts read z.
     let over = sym (c .if1 .taken) ∙ c .before .too-many .ensures in
-    allows-over usual _ site _ _ facts read z _ (λ x h. c .before .before .of-tables .ensures (problemOf x) _ _ (c .before .before .before .before .before .ranges-of .ensures .1) (inputs _ _ x facts h _ _ (c .before .before .before .before .relations-of .ensures .1) (c .before .before .before .nodes-of .ensures))) over
+    allows-over usual _ site _ _ facts read z _ (λ x h. c .before .before .of-tables .ensures (problemOf x) _ _
+    (c .before .before .before .before .before .ranges-of .ensures .1)
+    (inputs _ _ x facts h _ _ (c .before .before .before .before .relations-of .ensures .1) (c .before .before .before .nodes-of .ensures))) over
 
 returns-2 : tie.Need-returns-2
 returns-2 c = λ site facts read z.
     let within = sym (c .before .if1 .left) ∙ c .before .before .too-many .ensures in
-    allows-short usual _ site _ _ facts read z _ (λ x h. c .before .before .before .of-tables .ensures (problemOf x) _ _ (c .before .before .before .before .before .before .ranges-of .ensures .1) (inputs _ _ x facts h _ _ (c .before .before .before .before .before .relations-of .ensures .1) (c .before .before .before .before .nodes-of .ensures))) (omega arith) within (c .if2 .taken)
+    allows-short usual _ site _ _ facts read z _ (λ x h. c .before .before .before .of-tables .ensures (problemOf x) _ _
+    (c .before .before .before .before .before .before .ranges-of .ensures .1)
+    (inputs _ _ x facts h _ _ (c .before .before .before .before .before .relations-of .ensures .1)
+    (c .before .before .before .before .nodes-of .ensures))) (omega arith) within (c .if2 .taken)
 
 add-write : tie.Need-add-write
 add-write c = omega (arith, c .before .before .before .before .before .before .before .before .before .before .before .before .before .before .pre .holds .sound .rels-le)
 
-slice-aggregate-write : tie.Need-slice-aggregate-write
-slice-aggregate-write c = sym (length-take-le _ _ (omega arith))
-
 write-requires : tie.Need-write-requires
 write-requires c κs =
     let s = c .before .before .before .before .before .before .before .before .before .before .before .before .before .before .before in
-    let l = length-take-le (s .args .o .sig .chosen) (s .args .out .now) (omega arith) in
-    let h = s .pre .holds in
+    let l = length-take-le (s .args .o .sig .chosen) (s .args .out .now) (omega arith) in let h = s .pre .holds in
     (h .some-elements, omega (arith, h .few-elements), c .before .before .before .before .before .before .nodes-of .ensures .fits, omega (arith, l, h .sound .rels-le, h .sound .chosen-le))
 
 returns-3 : tie.Need-returns-3
@@ -62,21 +58,9 @@ returns-3 c = λ site facts read z.
     allows-written usual _ site _ _ facts read z _ (λ x h. counts (problemOf x) _ _ (c .before .before .before .before .before .before .before .before .before .before .before .ranges-of .ensures .1) (inputs _ _ x facts h _ _ rels nodes)) (omega arith) within (omega arith) _ _
     (λ x A h. writes (problemOf x) _ _ _ (good x A) (inputs _ _ x facts h _ _ rels nodes) ∙ ap (λ (k : ℕ). map (allowance (problemOf x)) (from (5 + s .args .o .sig .rels) k)) l) refl
 
-pub of-case-spec : {M : Type 1} → statement M
-of-case-spec =
-    tie.close
-    (tie.spec
-    (λ c. search needs)
-    ranges-of-requires
-    relations-of-requires
-    nodes-of-requires
-    of-tables-requires
-    (λ c κs. search needs)
-    returns
-    returns-2
-    add-write
-    (λ c. search needs)
-    slice-aggregate-write
-    write-requires
-    (λ c. search needs)
-    returns-3)
+pub of-case-spec : {M : Type 1} → Rattle.allowances.proofs.of_case.Statement.statement M
+of-case-spec = tie.close (tie.spec (λ c. search needs) ranges-of-requires
+    (λ c κs. declared _ _ _ _ (c .before .before .before .before .before .before .before .pre .holds))
+    (λ c κs. rule-fine _ _ _ _ (c .before .before .before .before .before .before .before .before .pre .holds)) of-tables-requires
+    (λ c κs. search needs) returns returns-2 add-write (λ c. search needs) (λ c. sym (length-take-le _ _ (omega arith))) write-requires
+    (λ c. search needs) returns-3)

@@ -2,21 +2,13 @@
 use Rattle.asking.specs.Fronts.{filed-alone}
 use Rattle.sheets.proofs.Loops.{no-label-words}
 use borrow.Author.Needs.{needs}
-use Rattle.asking.proofs.open_case.Statement.{statement}
 use Rattle.asking.proofs.open_case.Tie as tie
 
 open-filed-requires : tie.Need-open-filed-requires
-open-filed-requires c κs = (c .before .before .before .before .before .before .before .pre .0, ((c .before .before .before .before .before .before .before .pre .1 .0 .0, no-label-words, c .before .before .before .before .before .before .before .pre .1 .0 .1), c .before .before .before .before .before .before .before .pre .1 .1))
+open-filed-requires c κs =
+    let s = c .before .before .before .before .before .before .before in
+    (s .pre .0, ((s .pre .1 .0 .0, no-label-words, s .pre .1 .0 .1), s .pre .1 .1))
 
-returns : tie.Need-returns
-returns c = filed-alone _ _ _ _ _ _ _ (c .before .before .before .before .before .open-filed .ensures)
-
-pub open-case-spec : {M : Type 1} → statement M
-open-case-spec =
-    tie.close
-    (tie.spec
-    (λ c. search needs)
-    open-filed-requires
-    (λ c. search needs)
-    (λ c. search needs)
-    returns)
+pub open-case-spec : {M : Type 1} → Rattle.asking.proofs.open_case.Statement.statement M
+open-case-spec = tie.close (tie.spec (λ c. search needs) open-filed-requires (λ c. search needs) (λ c. search needs)
+    (λ c. filed-alone _ _ _ _ _ _ _ (c .before .before .before .before .before .open-filed .ensures)))

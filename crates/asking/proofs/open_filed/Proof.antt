@@ -3,11 +3,11 @@ use mathlib.Core.Path.{refl}
 use Rattle.asking.specs.Fronts.{limits, fronts-refused, fronts-read}
 use Rattle.sheets.specs.Opening.{filed-read}
 use borrow.Author.Needs.{needs}
-use Rattle.asking.proofs.open_filed.Statement.{statement}
 use Rattle.asking.proofs.open_filed.Tie as tie
 
 read-filed-requires : tie.Need-read-filed-requires
-read-filed-requires c κs = (c .before .before .before .before .before .before .before .pre .0 .0, c .before .before .before .before .before .before .before .pre .1 .0 .0, c .before .before .before .before .before .before .before .pre .1 .0 .1, c .before .before .before .before .before .before .before .pre .1 .0 .2)
+read-filed-requires c κs =
+    let s = c .before .before .before .before .before .before .before in (s .pre .0 .0, s .pre .1 .0 .0, s .pre .1 .0 .1, s .pre .1 .0 .2)
 
 returns : tie.Need-returns
 returns c =
@@ -24,20 +24,11 @@ ground-case-requires c κs =
 
 returns-2 : tie.Need-returns-2
 returns-2 c =
+    let read-filed = c .before .before .before .before .before .before .before .before .before .read-filed in
     let s = c .before .before .before .before .before .before .before .before .before .before .before .before .before .before .before .before .before in
     let L = limits (s .args .most) (s .args .most-atoms) (s .args .most-actions) in
-    fronts-read L (s .pre .0 .0) _ _ _ _ _ (c .before .before .before .before .before .before .before .before .before .read-filed .ensures L refl) (c .before .before .before .before .if1 .left) _ _ (λ x h. c .before .before .ground-case .ensures L x _ refl refl h) _ refl
+    fronts-read L (s .pre .0 .0) _ _ _ _ _ (read-filed .ensures L refl) (c .before .before .before .before .if1 .left) _ _ (λ x h. c .before .before .ground-case .ensures L x _ refl refl h) _ refl
 
-pub open-filed-spec : {M : Type 1} → statement M
-open-filed-spec =
-    tie.close
-    (tie.spec
-    read-filed-requires
-    (λ c. search needs)
-    (λ c. search needs)
-    returns
-    ground-case-requires
-    (λ c. search needs)
-    (λ c. search needs)
-    (λ c. search needs)
-    returns-2)
+pub open-filed-spec : {M : Type 1} → Rattle.asking.proofs.open_filed.Statement.statement M
+open-filed-spec = tie.close (tie.spec read-filed-requires (λ c. search needs) (λ c. search needs) returns ground-case-requires (λ c. search needs)
+    (λ c. search needs) (λ c. search needs) returns-2)

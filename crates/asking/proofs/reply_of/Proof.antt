@@ -3,7 +3,6 @@ use mathlib.Core.Path.{sym, ap}
 use Rattle.runs.specs.Ended.{ended}
 use Rattle.asking.specs.Replies.{resultOf}
 use borrow.Author.Needs.{needs}
-use Rattle.asking.proofs.reply_of.Statement.{statement}
 use Rattle.asking.proofs.reply_of.Tie as tie
 
 returns : tie.Need-returns
@@ -22,15 +21,6 @@ returns-4 : tie.Need-returns-4
 unfolding resultOf ended
 returns-4 c = sym (ap ended (c .before .e4 .given .1))
 
-pub reply-of-spec : {M : Type 1} → statement M
-reply-of-spec =
-    tie.close
-    (tie.spec
-    (λ c. search needs)
-    (λ c. search needs)
-    (λ c. search needs)
-    (λ c. search needs)
-    returns
-    returns-2
-    returns-3
+pub reply-of-spec : {M : Type 1} → Rattle.asking.proofs.reply_of.Statement.statement M
+reply-of-spec = tie.close (tie.spec (λ c. search needs) (λ c. search needs) (λ c. search needs) (λ c. search needs) returns returns-2 returns-3
     returns-4)

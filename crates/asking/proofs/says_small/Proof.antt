@@ -2,7 +2,6 @@
 use mathlib.Core.Path.{sym, ap}
 use borrow.Author.Needs.{needs}
 use Rattle.asking.specs.Rooms.{saysSmall}
-use Rattle.asking.proofs.says_small.Statement.{statement}
 use Rattle.asking.proofs.says_small.Tie as tie
 
 returns : tie.Need-returns
@@ -49,29 +48,7 @@ returns-11 : tie.Need-returns-11
 unfolding saysSmall
 returns-11 c = sym (ap saysSmall (c .enum-told10 .given .1))
 
-pub says-small-spec : {M : Type 1} → statement M
-says-small-spec =
-    tie.close
-    (tie.spec
-    (λ c. search needs)
-    (λ c. search needs)
-    (λ c. search needs)
-    (λ c. search needs)
-    (λ c. search needs)
-    (λ c. search needs)
-    (λ c. search needs)
-    (λ c. search needs)
-    (λ c. search needs)
-    (λ c. search needs)
-    (λ c. search needs)
-    returns
-    returns-2
-    returns-3
-    returns-4
-    returns-5
-    returns-6
-    returns-7
-    returns-8
-    returns-9
-    returns-10
-    returns-11)
+pub says-small-spec : {M : Type 1} → Rattle.asking.proofs.says_small.Statement.statement M
+says-small-spec = tie.close (tie.spec (λ c. search needs) (λ c. search needs) (λ c. search needs) (λ c. search needs) (λ c. search needs)
+    (λ c. search needs) (λ c. search needs) (λ c. search needs) (λ c. search needs) (λ c. search needs) (λ c. search needs) returns returns-2
+    returns-3 returns-4 returns-5 returns-6 returns-7 returns-8 returns-9 returns-10 returns-11)

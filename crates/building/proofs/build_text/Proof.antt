@@ -2,27 +2,10 @@
 use Rattle.sheets.proofs.Loops.{zeros-clear}
 use Rattle.asking.specs.Rooms.{many-room}
 use borrow.Author.Needs.{needs}
-use Rattle.building.proofs.build_text.Statement.{statement}
 use Rattle.building.proofs.build_text.Tie as tie
 
-build-text-in-requires : tie.Need-build-text-in-requires
-build-text-in-requires c κs = (c .before .before .before .before .is-small .ensures (c .before .before .before .if1 .taken), zeros-clear 512)
-
-build-text-in-requires-2 : tie.Need-build-text-in-requires-2
-build-text-in-requires-2 c κs = (many-room _, zeros-clear 32768)
-
-pub build-text-spec : {M : Type 1} → statement M
-build-text-spec =
-    tie.close
-    (tie.spec
-    (λ c κs. search needs)
-    (λ c. search needs)
-    build-text-in-requires
-    (λ c. search needs)
-    (λ c. search needs)
-    (λ c. search needs)
-    (λ c. search needs)
-    build-text-in-requires-2
-    (λ c. search needs)
-    (λ c. search needs)
+pub build-text-spec : {M : Type 1} → Rattle.building.proofs.build_text.Statement.statement M
+build-text-spec = tie.close (tie.spec (λ c κs. search needs) (λ c. search needs)
+    (λ c κs. (c .before .before .before .before .is-small .ensures (c .before .before .before .if1 .taken), zeros-clear 512)) (λ c. search needs)
+    (λ c. search needs) (λ c. search needs) (λ c. search needs) (λ c κs. (many-room _, zeros-clear 32768)) (λ c. search needs) (λ c. search needs)
     (λ c. search needs))

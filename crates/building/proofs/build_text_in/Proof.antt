@@ -8,57 +8,30 @@ use Rattle.asking.specs.Fronts.{front-ready, filed-alone}
 use Rattle.asking.specs.Elements.{few-picks, many-picks}
 use Rattle.building.specs.Calls.{call-case, few-atoms, few-elements, picks-asked, labels-said}
 use borrow.Author.Needs.{needs}
-use Rattle.building.proofs.build_text_in.Statement.{statement}
 use Rattle.building.proofs.build_text_in.Tie as tie
-
-open-filed-requires : tie.Need-open-filed-requires
-open-filed-requires c κs = ((omega arith, omega arith, omega arith), ((c .before .before .before .before .before .before .before .before .before .pre .0, no-label-words, c .before .before .before .before .before .before .before .before .before .pre .1), (search needs, most-zeros tableLength 0)))
-
-returns : tie.Need-returns
-returns c = call-case usual _ _ _ _ _ (filed-alone _ _ _ _ _ _ _ (c .before .before .before .before .before .before .open-filed .ensures)) _ _ _ (c .if1 .taken)
 
 build-listed-requires : tie.Need-build-listed-requires
 build-listed-requires c κs =
-    let filed = c .before .before .before .before .before .before .before .before .before .before .before .before .before .before .before .open-filed .ensures in
-    let opens = filed-alone _ _ _ _ _ _ _ filed in
-    let z = c .before .before .before .before .before .before .before .before .before .if1 .left in
-    ((front-ready usual _ _ _ _ _ opens (omega arith) (omega arith) z, few-atoms usual _ _ _ _ _ opens z, labels-said usual _ _ _ _ _ _ filed z), (picks-asked usual _ _ _ _ _ opens z 16 256 (c .before .before .before .before .before .before .if2 .taken) few-picks, zeros-clear 256))
-
-returns-2 : tie.Need-returns-2
-returns-2 c = c .before .before .before .before .before .build-listed .ensures usual (c .before .before .before .before .before .before .before .before .before .before .before .before .before .before .before .before .before .before .before .before .before .open-filed .ensures) (c .before .before .before .before .before .before .before .before .before .before .before .before .before .before .before .if1 .left) (omega arith)
+    let o = c .before .before .before .before .before .before .before .before .before in let z = o .if1 .left in
+    let filed = o .before .before .before .before .before .before .open-filed .ensures in let opens = filed-alone _ _ _ _ _ _ _ filed in (
+      (front-ready usual _ _ _ _ _ opens (omega arith) (omega arith) z, few-atoms usual _ _ _ _ _ opens z, labels-said usual _ _ _ _ _ _ filed z),
+      (picks-asked usual _ _ _ _ _ opens z 16 256 (c .before .before .before .before .before .before .if2 .taken) few-picks, zeros-clear 256),
+    )
 
 build-listed-requires-2 : tie.Need-build-listed-requires-2
 build-listed-requires-2 c κs =
-    let filed = c .before .before .before .before .before .before .before .before .before .before .before .before .before .before .before .open-filed .ensures in
-    let opens = filed-alone _ _ _ _ _ _ _ filed in
-    let z = c .before .before .before .before .before .before .before .before .before .if1 .left in
-    ((front-ready usual _ _ _ _ _ opens (omega arith) (omega arith) z, few-atoms usual _ _ _ _ _ opens z, labels-said usual _ _ _ _ _ _ filed z), (picks-asked usual _ _ _ _ _ opens z 64 16384 (few-elements usual _ _ _ _ _ opens z) many-picks, zeros-clear 16384))
+    let o = c .before .before .before .before .before .before .before .before .before in let z = o .if1 .left in
+    let filed = o .before .before .before .before .before .before .open-filed .ensures in let opens = filed-alone _ _ _ _ _ _ _ filed in (
+      (front-ready usual _ _ _ _ _ opens (omega arith) (omega arith) z, few-atoms usual _ _ _ _ _ opens z, labels-said usual _ _ _ _ _ _ filed z),
+      (picks-asked usual _ _ _ _ _ opens z 64 16384 (few-elements usual _ _ _ _ _ opens z) many-picks, zeros-clear 16384),
+    )
 
-returns-3 : tie.Need-returns-3
-returns-3 c = c .before .before .before .before .before .build-listed2 .ensures usual (c .before .before .before .before .before .before .before .before .before .before .before .before .before .before .before .before .before .before .before .before .before .open-filed .ensures) (c .before .before .before .before .before .before .before .before .before .before .before .before .before .before .before .if1 .left) (omega arith)
-
-pub build-text-in-spec : {M : Type 1} → statement M
-build-text-in-spec =
-    tie.close
-    (tie.spec
+pub build-text-in-spec : {M : Type 1} → Rattle.building.proofs.build_text_in.Statement.statement M
+build-text-in-spec = tie.close (tie.spec (λ c. search needs) (λ c. search needs)
+    (λ c κs. let p = c .before .before .before .before .before .before .before .before .before .pre in ((omega arith, omega arith, omega arith), ((p .0, no-label-words, p .1), (search needs, most-zeros tableLength 0))))
     (λ c. search needs)
-    (λ c. search needs)
-    open-filed-requires
-    (λ c. search needs)
-    returns
-    (λ c. search needs)
-    (λ c. search needs)
-    (λ c. search needs)
-    build-listed-requires
-    (λ c. search needs)
-    (λ c. search needs)
-    (λ c. search needs)
-    returns-2
-    (λ c. search needs)
-    (λ c. search needs)
-    (λ c. search needs)
-    build-listed-requires-2
-    (λ c. search needs)
-    (λ c. search needs)
-    (λ c. search needs)
-    returns-3)
+    (λ c. call-case usual _ _ _ _ _ (filed-alone _ _ _ _ _ _ _ (c .before .before .before .before .before .before .open-filed .ensures)) _ _ _ (c .if1 .taken))
+    (λ c. search needs) (λ c. search needs) (λ c. search needs) build-listed-requires (λ c. search needs) (λ c. search needs) (λ c. search needs)
+    (λ c. let b = c .before .before .before .before .before in let o = b .before .before .before .before .before .before .before .before .before .before in b .build-listed .ensures usual (o .before .before .before .before .before .before .open-filed .ensures) (o .if1 .left) (omega arith))
+    (λ c. search needs) (λ c. search needs) (λ c. search needs) build-listed-requires-2 (λ c. search needs) (λ c. search needs) (λ c. search needs)
+    (λ c. let b = c .before .before .before .before .before in let o = b .before .before .before .before .before .before .before .before .before .before in b .build-listed2 .ensures usual (o .before .before .before .before .before .before .open-filed .ensures) (o .if1 .left) (omega arith)))

@@ -3,20 +3,8 @@ use mathlib.Core.Path.{sym}
 use native.Mathlib.Omega.{arith}
 use lib.Seq.{length-take-le}
 use borrow.Author.Needs.{needs}
-use Rattle.calls_main.proofs.check_text.Statement.{statement}
 use Rattle.calls_main.proofs.check_text.Tie as tie
 
-slice-aggregate-check-text : tie.Need-slice-aggregate-check-text
-slice-aggregate-check-text c = sym (length-take-le _ _ (omega arith))
-
-pub check-text-spec : {M : Type 1} → statement M
-check-text-spec =
-    tie.close
-    (tie.spec
-    (λ c. search needs)
-    (λ c. search needs)
-    slice-aggregate-check-text
-    (λ c κs. search needs)
-    (λ c κs. search needs)
-    (λ c. search needs)
-    (λ c. search needs))
+pub check-text-spec : {M : Type 1} → Rattle.calls_main.proofs.check_text.Statement.statement M
+check-text-spec = tie.close (tie.spec (λ c. search needs) (λ c. search needs) (λ c. sym (length-take-le _ _ (omega arith))) (λ c κs. search needs)
+    (λ c κs. search needs) (λ c. search needs) (λ c. search needs))

@@ -2,7 +2,6 @@
 use Prim.Native.Nat.{_-_, _≤_}
 use lib.ListN.{length}
 use borrow.Author.Needs.{needs}
-use Rattle.calls_main.proofs.decimal.Statement.{statement}
 use Rattle.calls_main.proofs.decimal.Tie as tie
 
 abbrev Inv-loop : tie.InvT-loop
@@ -11,23 +10,7 @@ Inv-loop w v₀ i₀ v i = i ≤ length w
 abbrev μ-loop : tie.MeasureT-loop
 μ-loop w v₀ i₀ v i = length w - i
 
-pub decimal-spec : {M : Type 1} → statement M
-decimal-spec =
-    tie.close
-    (tie.spec
-    Inv-loop
-    μ-loop
-    (λ c. search needs)
-    (λ c. search needs)
-    (λ c. search needs)
-    (λ c. search needs)
-    (λ c. search needs)
-    (λ c. search needs)
-    (λ c. search needs)
-    (λ c. search needs)
-    (λ c. search needs)
-    (λ c. search needs)
-    (λ c. search needs)
-    (λ c. search needs)
-    (λ c. search needs)
-    (λ c. search needs))
+pub decimal-spec : {M : Type 1} → Rattle.calls_main.proofs.decimal.Statement.statement M
+decimal-spec = tie.close (tie.spec Inv-loop μ-loop (λ c. search needs) (λ c. search needs) (λ c. search needs) (λ c. search needs) (λ c. search needs)
+    (λ c. search needs) (λ c. search needs) (λ c. search needs) (λ c. search needs) (λ c. search needs) (λ c. search needs) (λ c. search needs)
+    (λ c. search needs) (λ c. search needs))

@@ -3,7 +3,6 @@ use Prim.Native.Nat.{_≤_}
 use native.Mathlib.Omega.{arith}
 use lib.ListN.{length}
 use borrow.Author.Needs.{needs}
-use Rattle.calls_main.proofs.front.Statement.{statement}
 use Rattle.calls_main.proofs.front.Tie as tie
 
 abbrev Inv-loop : tie.InvT-loop
@@ -12,18 +11,6 @@ Inv-loop w n₀ n = n ≤ length w
 abbrev μ-loop : tie.MeasureT-loop
 μ-loop w n₀ n = n
 
-pub front-spec : {M : Type 1} → statement M
-front-spec =
-    tie.close
-    (tie.spec
-    Inv-loop
-    μ-loop
-    (λ c. omega arith)
-    (λ c. omega arith)
-    (λ c. search needs)
-    (λ c. search needs)
-    (λ c. search needs)
-    (λ c. omega arith)
-    (λ c. omega arith)
-    (λ c. omega arith)
-    (λ c. search needs))
+pub front-spec : {M : Type 1} → Rattle.calls_main.proofs.front.Statement.statement M
+front-spec = tie.close (tie.spec Inv-loop μ-loop (λ c. omega arith) (λ c. omega arith) (λ c. search needs) (λ c. search needs) (λ c. search needs)
+    (λ c. omega arith) (λ c. omega arith) (λ c. omega arith) (λ c. search needs))

@@ -4,14 +4,7 @@ use Rattle.layout.specs.LaidLaws.{most-zeros}
 use Rattle.ground.specs.Lines.{tableLength}
 use Rattle.cases.specs.Asked.{asked-case, asked-over, asked-table, asked-none, asked-known}
 use borrow.Author.Needs.{needs}
-use Rattle.cases.proofs.action_in.Statement.{statement}
 use Rattle.cases.proofs.action_in.Tie as tie
-
-open-case-requires : tie.Need-open-case-requires
-open-case-requires c κs = ((omega arith, omega arith, omega arith), (c .before .before .before .before .before .pre, (search needs, most-zeros tableLength 0)))
-
-returns : tie.Need-returns
-returns c = asked-case _ _ _ _ _ _ _ (c .before .before .before .before .before .open-case .ensures) (c .if1 .taken)
 
 returns-2 : tie.Need-returns-2
 returns-2 c = asked-over _ _ _ _ _ _ _ (c .before .before .before .before .before .before .before .open-case .ensures) (c .before .before .if1 .left) (c .if2 .taken)
@@ -31,19 +24,8 @@ returns-4 c =
     let opens = c .before .before .before .before .before .before .before .before .before .open-case .ensures in
     asked-none _ _ _ _ _ _ _ opens (c .before .before .before .before .if1 .left) (c .before .before .if2 .left) (c .if3 .left)
 
-pub action-in-spec : {M : Type 1} → statement M
-action-in-spec =
-    tie.close
-    (tie.spec
-    (λ c. search needs)
-    open-case-requires
-    (λ c. search needs)
-    returns
-    (λ c. search needs)
-    returns-2
-    (λ c. search needs)
-    action-at-requires
-    (λ c. search needs)
-    returns-3
-    (λ c. search needs)
-    returns-4)
+pub action-in-spec : {M : Type 1} → Rattle.cases.proofs.action_in.Statement.statement M
+action-in-spec = tie.close (tie.spec (λ c. search needs)
+    (λ c κs. ((omega arith, omega arith, omega arith), (c .before .before .before .before .before .pre, (search needs, most-zeros tableLength 0))))
+    (λ c. search needs) (λ c. asked-case _ _ _ _ _ _ _ (c .before .before .before .before .before .open-case .ensures) (c .if1 .taken))
+    (λ c. search needs) returns-2 (λ c. search needs) action-at-requires (λ c. search needs) returns-3 (λ c. search needs) returns-4)

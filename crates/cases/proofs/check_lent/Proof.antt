@@ -2,25 +2,9 @@
 use Rattle.sheets.proofs.Loops.{zeros-clear}
 use Rattle.asking.specs.Rooms.{many-room}
 use borrow.Author.Needs.{needs}
-use Rattle.cases.proofs.check_lent.Statement.{statement}
 use Rattle.cases.proofs.check_lent.Tie as tie
 
-check-lent-in-requires : tie.Need-check-lent-in-requires
-check-lent-in-requires c κs = (c .before .before .before .is-small .ensures (c .before .before .if1 .taken), zeros-clear 512)
-
-check-lent-in-requires-2 : tie.Need-check-lent-in-requires-2
-check-lent-in-requires-2 c κs = (many-room _, zeros-clear 32768)
-
-pub check-lent-spec : {M : Type 1} → statement M
-check-lent-spec =
-    tie.close
-    (tie.spec
-    (λ c κs. search needs)
-    (λ c. search needs)
-    check-lent-in-requires
-    (λ c. search needs)
-    (λ c. search needs)
-    (λ c. search needs)
-    check-lent-in-requires-2
-    (λ c. search needs)
-    (λ c. search needs))
+pub check-lent-spec : {M : Type 1} → Rattle.cases.proofs.check_lent.Statement.statement M
+check-lent-spec = tie.close (tie.spec (λ c κs. search needs) (λ c. search needs)
+    (λ c κs. (c .before .before .before .is-small .ensures (c .before .before .if1 .taken), zeros-clear 512)) (λ c. search needs) (λ c. search needs)
+    (λ c. search needs) (λ c κs. (many-room _, zeros-clear 32768)) (λ c. search needs) (λ c. search needs))

@@ -6,14 +6,10 @@ use Rattle.asking.specs.Fronts.{front-ready}
 use Rattle.asking.specs.Replies.{lent-many, lent-few}
 use Rattle.cases.specs.Replies.{call-case, call-steps}
 use borrow.Author.Needs.{needs}
-use Rattle.cases.proofs.check_lent_in.Statement.{statement}
 use Rattle.cases.proofs.check_lent_in.Tie as tie
 
 open-case-requires : tie.Need-open-case-requires
 open-case-requires c κs = ((omega arith, omega arith, omega arith), (c .before .before .before .before .before .before .before .pre, (search needs, most-zeros tableLength 0)))
-
-returns : tie.Need-returns
-returns c = call-case _ _ _ _ _ _ _ _ (c .before .before .before .before .before .open-case .ensures) (c .if1 .taken)
 
 returns-2 : tie.Need-returns-2
 returns-2 c = call-steps _ _ _ _ _ _ _ _ (c .before .before .before .before .before .before .open-case .ensures) (c .before .if1 .left) _ _ (lent-many _ (omega arith))
@@ -28,18 +24,7 @@ returns-3 c =
     let opens = c .before .before .before .before .before .before .before .before .before .before .before .before .open-case .ensures in
     c .before .before .check-steps .ensures _ _ _ _ opens (c .before .before .before .before .before .before .before .if1 .left) (lent-few _ (omega arith))
 
-pub check-lent-in-spec : {M : Type 1} → statement M
-check-lent-in-spec =
-    tie.close
-    (tie.spec
-    (λ c. search needs)
-    open-case-requires
-    (λ c. search needs)
-    returns
-    (λ c. search needs)
-    returns-2
-    (λ c. search needs)
-    check-steps-requires
-    (λ c. search needs)
-    (λ c. search needs)
-    returns-3)
+pub check-lent-in-spec : {M : Type 1} → Rattle.cases.proofs.check_lent_in.Statement.statement M
+check-lent-in-spec = tie.close (tie.spec (λ c. search needs) open-case-requires (λ c. search needs)
+    (λ c. call-case _ _ _ _ _ _ _ _ (c .before .before .before .before .before .open-case .ensures) (c .if1 .taken)) (λ c. search needs) returns-2
+    (λ c. search needs) check-steps-requires (λ c. search needs) (λ c. search needs) returns-3)

@@ -6,7 +6,6 @@ use lib.Seq.{length-take-le}
 use Rattle.asking.specs.Replies.{text-refused, text-taken, text-room}
 use Rattle.cases.specs.Replies.{call-steps}
 use borrow.Author.Needs.{needs}
-use Rattle.cases.proofs.check_listed.Statement.{statement}
 use Rattle.cases.proofs.check_listed.Tie as tie
 
 slice-reshare-prefix-check-steps : tie.Need-slice-reshare-prefix-check-steps
@@ -28,18 +27,6 @@ returns-2 c =
     let done = c .before .before .before .before .before .before .a2 .given .1 in
     λ L q s opens z. c .before .before .check-steps .ensures L q s _ opens z (text-taken _ _ _ _ (read .0) done _ (read .1 _ done))
 
-pub check-listed-spec : {M : Type 1} → statement M
-check-listed-spec =
-    tie.close
-    (tie.spec
-    (λ c κs. search needs)
-    (λ c. search needs)
-    (λ c. search needs)
-    slice-reshare-prefix-check-steps
-    slice-aggregate-check-steps
-    (λ c κs. search needs)
-    (λ c. search needs)
-    returns
-    (λ c. search needs)
-    (λ c. search needs)
-    returns-2)
+pub check-listed-spec : {M : Type 1} → Rattle.cases.proofs.check_listed.Statement.statement M
+check-listed-spec = tie.close (tie.spec (λ c κs. search needs) (λ c. search needs) (λ c. search needs) slice-reshare-prefix-check-steps
+    slice-aggregate-check-steps (λ c κs. search needs) (λ c. search needs) returns (λ c. search needs) (λ c. search needs) returns-2)

@@ -2,25 +2,10 @@
 use native.Mathlib.Omega.{arith}
 use Rattle.sheets.proofs.Loops.{zeros-clear}
 use borrow.Author.Needs.{needs}
-use Rattle.cases.proofs.check_text.Statement.{statement}
 use Rattle.cases.proofs.check_text.Tie as tie
 
-check-text-with-requires : tie.Need-check-text-with-requires
-check-text-with-requires c κs = ((c .before .before .before .before .is-small .ensures (c .before .before .before .if2 .taken), zeros-clear 512), λ few. omega arith)
-
-pub check-text-spec : {M : Type 1} → statement M
-check-text-spec =
-    tie.close
-    (tie.spec
-    (λ c κs. search needs)
-    (λ c. search needs)
-    (λ c. search needs)
-    check-text-with-requires
-    (λ c. search needs)
-    (λ c. search needs)
-    (λ c κs. search needs)
-    (λ c. search needs)
-    (λ c. search needs)
-    (λ c κs. search needs)
-    (λ c. search needs)
+pub check-text-spec : {M : Type 1} → Rattle.cases.proofs.check_text.Statement.statement M
+check-text-spec = tie.close (tie.spec (λ c κs. search needs) (λ c. search needs) (λ c. search needs)
+    (λ c κs. ((c .before .before .before .before .is-small .ensures (c .before .before .before .if2 .taken), zeros-clear 512), λ few. omega arith))
+    (λ c. search needs) (λ c. search needs) (λ c κs. search needs) (λ c. search needs) (λ c. search needs) (λ c κs. search needs) (λ c. search needs)
     (λ c. search needs))

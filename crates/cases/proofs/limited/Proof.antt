@@ -3,14 +3,8 @@ use mathlib.Core.Path.{sym, _∙_}
 use Rattle.definitions.specs.Limits.{usual}
 use Rattle.cases.specs.Sizings.{sizes-over, sizes-within}
 use borrow.Author.Needs.{needs}
-use Rattle.cases.proofs.limited.Statement.{statement}
 use Rattle.cases.proofs.limited.Tie as tie
 
-returns : tie.Need-returns
-returns c = sizes-over usual _ (sym (c .if1 .taken) ∙ c .before .too-many .ensures)
-
-returns-2 : tie.Need-returns-2
-returns-2 c = sizes-within usual _ (sym (c .if1 .left) ∙ c .before .too-many .ensures)
-
-pub limited-spec : {M : Type 1} → statement M
-limited-spec = tie.close (tie.spec (λ c κs. search needs) returns returns-2)
+pub limited-spec : {M : Type 1} → Rattle.cases.proofs.limited.Statement.statement M
+limited-spec = tie.close (tie.spec (λ c κs. search needs) (λ c. sizes-over usual _ (sym (c .if1 .taken) ∙ c .before .too-many .ensures))
+    (λ c. sizes-within usual _ (sym (c .if1 .left) ∙ c .before .too-many .ensures)))

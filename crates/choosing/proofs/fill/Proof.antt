@@ -4,7 +4,6 @@ use Rattle.tree.specs.Tables.{Fits}
 use Rattle.layout.specs.Laid.{Inputs}
 use Rattle.choosing.specs.Bare.{bare, none-fits, bare-inputs, bare-starts}
 use borrow.Author.Needs.{needs}
-use Rattle.choosing.proofs.fill.Statement.{statement}
 use Rattle.choosing.proofs.fill.Tie as tie
 
 fill-requires : tie.Need-fill-requires
@@ -14,9 +13,8 @@ fill-requires c κs =
 
 returns : tie.Need-returns
 returns c =
-    let a = c .before .before .before .before .before .before .before .args in
-    let f = c .before .before .fill .ensures .1 in
+    let a = c .before .before .before .before .before .before .before .args in let f = c .before .before .fill .ensures .1 in
     (f .fits, λ p t some i s. f .is (bare p) (subst (Inputs (bare p) (a .n) (a .members .now) (a .types) (a .g)) (sym (c .before .before .before .before .no-nodes .ensures)) (bare-inputs p (a .n) (a .members .now) (a .types) (a .g) t some i)) (bare-starts p (a .l) s))
 
-pub fill-spec : {M : Type 1} → statement M
+pub fill-spec : {M : Type 1} → Rattle.choosing.proofs.fill.Statement.statement M
 fill-spec = tie.close (tie.spec (λ c κs. search needs) fill-requires (λ c. search needs) returns)

@@ -2,23 +2,9 @@
 use Rattle.sheets.proofs.Loops.{zeros-clear}
 use Rattle.asking.specs.Rooms.{many-room}
 use borrow.Author.Needs.{needs}
-use Rattle.counting.proofs.tally.Statement.{statement}
 use Rattle.counting.proofs.tally.Tie as tie
 
-tally-in-requires : tie.Need-tally-in-requires
-tally-in-requires c κs = (c .before .before .is-small .ensures (c .before .if1 .taken), zeros-clear 512)
-
-tally-in-requires-2 : tie.Need-tally-in-requires-2
-tally-in-requires-2 c κs = (many-room _, zeros-clear 32768)
-
-pub tally-spec : {M : Type 1} → statement M
-tally-spec =
-    tie.close
-    (tie.spec
-    (λ c κs. search needs)
-    (λ c. search needs)
-    tally-in-requires
-    (λ c. search needs)
-    (λ c. search needs)
-    tally-in-requires-2
-    (λ c. search needs))
+pub tally-spec : {M : Type 1} → Rattle.counting.proofs.tally.Statement.statement M
+tally-spec = tie.close (tie.spec (λ c κs. search needs) (λ c. search needs)
+    (λ c κs. (c .before .before .is-small .ensures (c .before .if1 .taken), zeros-clear 512)) (λ c. search needs) (λ c. search needs)
+    (λ c κs. (many-room _, zeros-clear 32768)) (λ c. search needs))

@@ -4,11 +4,7 @@ use Rattle.definitions.specs.Limits.{usual}
 use Rattle.sheets.specs.Opening.{case-read}
 use Rattle.counting.specs.Counts.{tally-refused, tally-counted}
 use borrow.Author.Needs.{needs}
-use Rattle.counting.proofs.tally_in.Statement.{statement}
 use Rattle.counting.proofs.tally_in.Tie as tie
-
-returns : tie.Need-returns
-returns c = tally-refused _ _ _ _ _ (c .before .before .before .before .read-case .ensures usual refl) (c .if1 .taken)
 
 of-case-requires : tie.Need-of-case-requires
 of-case-requires c κs =
@@ -18,13 +14,7 @@ of-case-requires c κs =
 returns-2 : tie.Need-returns-2
 returns-2 c = tally-counted _ _ _ _ _ (c .before .before .before .before .before .read-case .ensures usual refl) (c .before .if1 .left) _ (c .of-case .ensures)
 
-pub tally-in-spec : {M : Type 1} → statement M
-tally-in-spec =
-    tie.close
-    (tie.spec
-    (λ c κs. search needs)
-    (λ c. search needs)
-    returns
-    of-case-requires
-    (λ c. search needs)
-    returns-2)
+pub tally-in-spec : {M : Type 1} → Rattle.counting.proofs.tally_in.Statement.statement M
+tally-in-spec = tie.close (tie.spec (λ c κs. search needs) (λ c. search needs)
+    (λ c. tally-refused _ _ _ _ _ (c .before .before .before .before .read-case .ensures usual refl) (c .if1 .taken)) of-case-requires
+    (λ c. search needs) returns-2)

@@ -1,26 +1,16 @@
 -- `decode::action_at` meets its contract.
-use Prim.Native.Nat.{_+_, _-_, _*_}
+use Prim.Native.Nat.{_+_, _-_, _*_, _<_}
 use mathlib.Core.Path.{_≡_, sym, _∙_, subst}
 use mathlib.Core.Bool.{false}
 use native.Mathlib.Omega.{arith}
 use borrow.Author.Needs.{needs}
 use lib.ListN.{getD}
-use Prim.Native.Nat.{_<_}
 use Rattle.ground.specs.Lines.{relationPlace, nodePlace, RangeFits, PlacesFit}
 use Rattle.ground.specs.Numbers.{isWhole, ActFits}
 use Rattle.ground.specs.NeedLaws.{set-row-small}
 use Rattle.ground.specs.declared.Act.{Act}
 use Rattle.decode.specs.Found.{sets-begin, acts-begin, found-pair, found-set, found-begin, found-proof, found-counted, found-goal, found-none, proof-fits}
-use borrow.Author.Needs.{needs}
-use Rattle.decode.proofs.action_at.Statement.{statement}
 use Rattle.decode.proofs.action_at.Tie as tie
-use Rattle.decode.proofs.action_at.Reads as reads
-use Rattle.decode.proofs.action_at.Lts as lts
-use Rattle.decode.proofs.proof_of.Reads as proof-of-reads
-use Rattle.ground.proofs.node_line.Reads as node-line-reads
-use Rattle.ground.proofs.relation_line.Reads as relation-line-reads
-use Rattle.ground.proofs.set_row.Reads as set-row-reads
-use Rattle.rows.proofs.locate.Reads as locate-reads
 
 locate-requires : tie.Need-locate-requires
 locate-requires c κs =
@@ -33,19 +23,14 @@ relation-line-requires c κs = let s = c .before .before .before .before .before
 -- the ranges of the relation's places are in the table, and its offset is that of one of its set actions
 in-places : (c : tie.After-relation-line) → PlacesFit (c .before .before .before .before .before .before .before .before .before .args .table .now) (c .relation-line .result)
 in-places c =
-    let s = c .before .before .before .before .before .before .before .before .before in
-    let l = c .before .before .locate in
+    let s = c .before .before .before .before .before .before .before .before .before in let l = c .before .before .locate in
     subst (PlacesFit (s .args .table .now)) (sym (c .relation-line .ensures)) (s .pre .fits .places (l .result) (omega (arith, l .ensures .0, s .pre .fits .relations)))
 
 among : (c : tie.After-relation-line) → let s = c .before .before .before .before .before .before .before .before .before in
     isWhole (c .relation-line .result) ≡ false → s .args .k - getD (s .args .table .now) (relationPlace (c .before .before .locate .result)) 0 < c .relation-line .result .«first_count» * c .relation-line .result .«second_count»
 among c =
-    let s = c .before .before .before .before .before .before .before .before .before in
-    let l = c .before .before .locate in
+    let s = c .before .before .before .before .before .before .before .before .before in let l = c .before .before .locate in
     found-pair (s .pre .problem) (s .args .table .now) (s .pre .is) (s .args .k) (l .result) (l .ensures .0) (l .ensures .1) (l .ensures .2) (c .relation-line .result) (c .relation-line .ensures)
-
-set-row-requires : tie.Need-set-row-requires
-set-row-requires c κs = (c .before .before .before .before .before .before .before .before .before .pre .fits, in-places c, among c)
 
 returns : tie.Need-returns
 returns c =
@@ -70,8 +55,7 @@ locate-requires-2 c κs =
 
 proof-of-requires : tie.Need-proof-of-requires
 proof-of-requires c κs =
-    let s = c .before .before .before .before .before .before .before .before .before .before .before in
-    let l = c .before .before .locate2 in
+    let s = c .before .before .before .before .before .before .before .before .before .before .before in let l = c .before .before .locate2 in
     let q = found-counted (s .pre .problem) (s .args .table .now) (s .pre .is) (s .args .k) (l .result) (l .ensures .0) (l .ensures .1) (l .ensures .2) (c .node-line .result) (c .node-line .ensures) in
     let f = subst (RangeFits (s .args .table .now)) (sym (c .node-line .ensures)) (s .pre .fits .range (l .result) (omega (arith, l .ensures .0, s .pre .fits .nodes))) in
     (s .pre .fits .whole, f .inside, q .count, q .many)
@@ -96,38 +80,10 @@ returns-4 c = let s = c .before .before .before .before .before .before .before 
 returns-5 : tie.Need-returns-5
 returns-5 c = let s = c .before .before .before .before .before .before .before .before .before in (tt, λ p is. found-none p (s .args .table .now) is (s .args .k) (omega (arith, c .before .if3 .left, c .if4 .left)))
 
-pub action-at-spec : {M : Type 1} → statement M
-action-at-spec =
-    tie.close
-    (tie.spec
-    (λ c. search needs)
-    (λ c. search needs)
-    (λ c. search needs)
-    (λ c. search needs)
-    (λ c. search needs)
-    (λ c. search needs)
-    (λ c. search needs)
-    (λ c. search needs)
-    (λ c. search needs)
-    (λ c. search needs)
-    locate-requires
-    (λ c. search needs)
-    (λ c. search needs)
-    (λ c. search needs)
-    (λ c. search needs)
-    (λ c. search needs)
-    relation-line-requires
-    set-row-requires
-    returns
-    returns-2
-    locate-requires-2
-    (λ c. search needs)
-    (λ c. search needs)
-    (λ c. search needs)
-    (λ c. search needs)
-    (λ c. search needs)
-    (λ c κs. search needs)
-    proof-of-requires
-    returns-3
-    returns-4
-    returns-5)
+pub action-at-spec : {M : Type 1} → Rattle.decode.proofs.action_at.Statement.statement M
+action-at-spec = tie.close (tie.spec (λ c. search needs) (λ c. search needs) (λ c. search needs) (λ c. search needs) (λ c. search needs)
+    (λ c. search needs) (λ c. search needs) (λ c. search needs) (λ c. search needs) (λ c. search needs) locate-requires (λ c. search needs)
+    (λ c. search needs) (λ c. search needs) (λ c. search needs) (λ c. search needs) relation-line-requires
+    (λ c κs. (c .before .before .before .before .before .before .before .before .before .pre .fits, in-places c, among c)) returns returns-2
+    locate-requires-2 (λ c. search needs) (λ c. search needs) (λ c. search needs) (λ c. search needs) (λ c. search needs) (λ c κs. search needs)
+    proof-of-requires returns-3 returns-4 returns-5)

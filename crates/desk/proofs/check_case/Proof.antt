@@ -7,114 +7,60 @@ use Rattle.plans.specs.Starts.{front-fits}
 use Rattle.desk.specs.Known.{own, few-atoms}
 use Rattle.desk.specs.Checked.{picks-fit, done-reportable, reply-over, reply-done, reply-unknown, reply-early, reply-short}
 use borrow.Author.Needs.{needs}
-use Rattle.desk.proofs.check_case.Statement.{statement}
 use Rattle.desk.proofs.check_case.Tie as tie
 
-returns : tie.Need-returns
-returns c = λ text t. reply-over _ _ _ _ _ _ (c .before .before .before .before .before .before .before .before .before .before .before .before .before .pre .0) _ _ t _ _ _ (c .before .before .before .before .if1 .taken) (c .before .before .refuse .ensures)
+-- where the case is known to be within its limits, and before
+abbrev start : tie.Else1 → tie.Start
+start o = o .before .before .before .before .before .before .before .before .before
 
-add-words : tie.Need-add-words
-add-words c = omega (arith, few-atoms _ _ _ _ _ _ (c .before .before .before .before .before .before .before .before .before .before .pre .0) (c .before .if1 .left))
+-- the state has room for the atoms, before the run and after it
+room : tie.Need-array-borrow-prefix-state
+room c = omega (arith, few-atoms _ _ _ _ _ _ (start (c .before) .pre .0) (c .before .if1 .left))
 
-array-borrow-prefix-state : tie.Need-array-borrow-prefix-state
-array-borrow-prefix-state c = omega (arith, few-atoms _ _ _ _ _ _ (c .before .before .before .before .before .before .before .before .before .before .pre .0) (c .before .if1 .left))
+lent : tie.Need-slice-aggregate-start-and-run
+lent c = sym (length-take-le _ _ (omega (arith, room (c .before))))
 
-slice-aggregate-start-and-run : tie.Need-slice-aggregate-start-and-run
-slice-aggregate-start-and-run c = sym (length-take-le _ _ (omega (arith, few-atoms _ _ _ _ _ _ (c .before .before .before .before .before .before .before .before .before .before .before .pre .0) (c .before .before .if1 .left))))
-
-start-and-run-requires : tie.Need-start-and-run-requires
-start-and-run-requires c κs =
-    let K = c .before .before .before .before .before .before .before .before .before .before .before .pre .0 in
-    let v = c .before .before .if1 .left in
-    (table-is own _ _ _ (K .held .grounded) v, words-fit own _ _ _ (K .held .grounded) v _ (sym (length-take-le _ _ (omega (arith, few-atoms _ _ _ _ _ _ K v)))))
-
-array-share-prefix-state : tie.Need-array-share-prefix-state
-array-share-prefix-state c =
-    let x = c .before .before .before .start-and-run in
-    let h = few-atoms _ _ _ _ _ _ (c .before .before .before .before .before .before .before .before .before .before .before .before .before .before .before .pre .0) (c .before .before .before .before .before .before .if1 .left) in
-    front-fits _ _ (x .last .1 .1 .1 .0) (x .kept .1 .1 .1 .0) (omega (arith, h))
-
-slice-aggregate-copy-picks : tie.Need-slice-aggregate-copy-picks
-slice-aggregate-copy-picks c =
-    let x = c .before .before .before .before .start-and-run in
-    let h = few-atoms _ _ _ _ _ _ (c .before .before .before .before .before .before .before .before .before .before .before .before .before .before .before .before .pre .0) (c .before .before .before .before .before .before .before .if1 .left) in
-    sym (length-take-le _ _ (front-fits _ _ (x .last .1 .1 .1 .0) (x .kept .1 .1 .1 .0) (omega (arith, h))))
-
-copy-picks-requires : tie.Need-copy-picks-requires
-copy-picks-requires c κs =
-    let K = c .before .before .before .before .before .before .before .before .before .before .before .before .before .before .before .before .before .pre .0 in
-    let v = c .before .before .before .before .before .before .before .before .if1 .left in
-    (tabled own _ _ _ (K .held .grounded) v .fits, picks-fit _ _ _ _ _ _ K v)
+left : tie.Need-array-share-prefix-state
+left c =
+    let r = c .before .before .before in let o = r .before .before .before in let x = r .start-and-run in
+    front-fits _ _ (x .last .1 .1 .1 .0) (x .kept .1 .1 .1 .0) (omega (arith, few-atoms _ _ _ _ _ _ (start o .pre .0) (o .if1 .left)))
 
 report-requires : tie.Need-report-requires
 report-requires c κs =
-    let s = c .before .before .before .before .before .before .before .before .before .before .before .before .before .before .before .before .before .before .before .before .before in
-    let v = c .before .before .before .before .before .before .before .before .before .before .before .before .if1 .left in
-    let h = few-atoms _ _ _ _ _ _ (s .pre .0) v in
-    let x = c .before .before .before .before .before .before .before .before .before .start-and-run .ensures in
-    let p = c .before .before .before .copy-picks .ensures in
-    (done-reportable _ _ _ _ _ _ (s .pre .0) _ v _ _ _ (sym (length-take-le _ _ (omega arith))) x _ (c .before .before .before .before .before .before .enum-told .given .1) _ _ _ p (s .pre .1) (omega arith), s .pre .2)
+    let e = c .before .before .before .before .before .before in let r = e .before .before .before in let o = r .before .before .before in let p = start o .pre in
+    let k = c .before .before .before .copy-picks .ensures in
+    (done-reportable _ _ _ _ _ _ (p .0) _ (o .if1 .left) _ _ _ (lent (r .before)) (r .start-and-run .ensures) _ (e .enum-told .given .1) _ _ _ k (p .1) (omega arith), p .2)
 
 returns-2 : tie.Need-returns-2
-returns-2 c =
-    let K = c .before .before .before .before .before .before .before .before .before .before .before .before .before .before .before .before .before .before .before .before .before .before .before .before .pre .0 in
-    let v = c .before .before .before .before .before .before .before .before .before .before .before .before .before .before .before .if1 .left in
-    let h = few-atoms _ _ _ _ _ _ K v in
-    let x = c .before .before .before .before .before .before .before .before .before .before .before .before .start-and-run .ensures in
-    let p = c .before .before .before .before .before .before .copy-picks .ensures in
-    λ text t.
-    reply-done _ _ _ _ _ _ K _ v _ _ _ (sym (length-take-le _ _ (omega arith))) x _ t _ _ _ _ (c .before .before .before .before .before .before .before .before .before .enum-told .given .1) _ _ _ p (c .before .before .report .ensures)
+returns-2 c text t =
+    let e = c .before .before .before .before .before .before .before .before .before in let r = e .before .before .before in let o = r .before .before .before in
+    reply-done _ _ _ _ _ _ (start o .pre .0) _ (o .if1 .left) _ _ _ (lent (r .before)) (r .start-and-run .ensures) _ t _ _ _ _ (e .enum-told .given .1) _ _ _
+    (c .before .before .before .before .before .before .copy-picks .ensures) (c .before .before .report .ensures)
 
 returns-3 : tie.Need-returns-3
-returns-3 c =
-    let K = c .before .before .before .before .before .before .before .before .before .before .before .before .before .before .before .before .before .before .before .before .pre .0 in
-    let v = c .before .before .before .before .before .before .before .before .before .before .before .if1 .left in
-    let h = few-atoms _ _ _ _ _ _ K v in
-    λ text t. reply-unknown _ _ _ _ _ _ K _ v _ _ _ (sym (length-take-le _ _ (omega arith))) (c .before .before .before .before .before .before .before .before .start-and-run .ensures) _ t _ _ _ _ (c .before .before .before .before .before .e .given .1) (c .before .before .refuse2 .ensures)
+returns-3 c text t =
+    let r = c .before .before .before .before .before .before .before .before in let o = r .before .before .before in
+    reply-unknown _ _ _ _ _ _ (start o .pre .0) _ (o .if1 .left) _ _ _ (lent (r .before)) (r .start-and-run .ensures) _ t _ _ _ _
+    (c .before .before .before .before .before .e .given .1) (c .before .before .refuse2 .ensures)
 
 returns-4 : tie.Need-returns-4
-returns-4 c =
-    let K = c .before .before .before .before .before .before .before .before .before .before .before .before .before .before .before .before .before .before .before .before .pre .0 in
-    let v = c .before .before .before .before .before .before .before .before .before .before .before .if1 .left in
-    let h = few-atoms _ _ _ _ _ _ K v in
-    λ text t. reply-early _ _ _ _ _ _ K _ v _ _ _ (sym (length-take-le _ _ (omega arith))) (c .before .before .before .before .before .before .before .before .start-and-run .ensures) _ t _ _ _ _ (c .before .before .before .before .before .e2 .given .1) (c .before .before .refuse3 .ensures)
+returns-4 c text t =
+    let r = c .before .before .before .before .before .before .before .before in let o = r .before .before .before in
+    reply-early _ _ _ _ _ _ (start o .pre .0) _ (o .if1 .left) _ _ _ (lent (r .before)) (r .start-and-run .ensures) _ t _ _ _ _
+    (c .before .before .before .before .before .e2 .given .1) (c .before .before .refuse3 .ensures)
 
 returns-5 : tie.Need-returns-5
-returns-5 c =
-    let K = c .before .before .before .before .before .before .before .before .before .before .before .before .before .before .before .before .before .before .before .before .pre .0 in
-    let v = c .before .before .before .before .before .before .before .before .before .before .before .if1 .left in
-    let h = few-atoms _ _ _ _ _ _ K v in
-    λ text t. reply-short _ _ _ _ _ _ K _ v _ _ _ (sym (length-take-le _ _ (omega arith))) (c .before .before .before .before .before .before .before .before .start-and-run .ensures) _ t _ _ _ _ (c .before .before .before .before .before .e3 .given .1) (c .before .before .refuse4 .ensures)
+returns-5 c text t =
+    let r = c .before .before .before .before .before .before .before .before in let o = r .before .before .before in
+    reply-short _ _ _ _ _ _ (start o .pre .0) _ (o .if1 .left) _ _ _ (lent (r .before)) (r .start-and-run .ensures) _ t _ _ _ _
+    (c .before .before .before .before .before .e3 .given .1) (c .before .before .refuse4 .ensures)
 
-pub check-case-spec : {M : Type 1} → statement M
-check-case-spec =
-    tie.close
-    (tie.spec
-    (λ c κs. search needs)
-    (λ c. search needs)
-    returns
-    add-words
-    array-borrow-prefix-state
-    slice-aggregate-start-and-run
-    start-and-run-requires
-    (λ c. search needs)
-    array-share-prefix-state
-    slice-aggregate-copy-picks
-    (λ c. search needs)
-    copy-picks-requires
-    (λ c. search needs)
-    report-requires
-    (λ c. search needs)
-    (λ c κs. search needs)
-    (λ c. search needs)
-    (λ c κs. search needs)
-    (λ c. search needs)
-    (λ c κs. search needs)
-    (λ c. search needs)
-    returns-2
-    (λ c. search needs)
-    returns-3
-    (λ c. search needs)
-    returns-4
-    (λ c. search needs)
-    returns-5)
+pub check-case-spec : {M : Type 1} → Rattle.desk.proofs.check_case.Statement.statement M
+check-case-spec = tie.close (tie.spec (λ c κs. search needs) (λ c. search needs)
+    (λ c text t. let i = c .before .before .before .before in reply-over _ _ _ _ _ _ (i .before .before .before .before .before .before .before .before .before .pre .0) _ _ t _ _ _ (i .if1 .taken) (c .before .before .refuse .ensures))
+    (λ c. omega (arith, room c)) room lent
+    (λ c κs. let o = c .before .before in let g = start o .pre .0 .held .grounded in (table-is own _ _ _ g (o .if1 .left), words-fit own _ _ _ g (o .if1 .left) _ (lent c)))
+    (λ c. search needs) left (λ c. sym (length-take-le _ _ (left (c .before)))) (λ c. search needs)
+    (λ c κs. let o = c .before .before .before .before .before .before .before .before in let k = start o .pre .0 in (tabled own _ _ _ (k .held .grounded) (o .if1 .left) .fits, picks-fit _ _ _ _ _ _ k (o .if1 .left)))
+    (λ c. search needs) report-requires (λ c. search needs) (λ c κs. search needs) (λ c. search needs) (λ c κs. search needs) (λ c. search needs)
+    (λ c κs. search needs) (λ c. search needs) returns-2 (λ c. search needs) returns-3 (λ c. search needs) returns-4 (λ c. search needs) returns-5)

@@ -4,7 +4,6 @@ use mathlib.Core.Path.{_≡_, refl, _∙_}
 use native.Mathlib.Omega.{arith}
 use lib.ListN.{length}
 use Rattle.io.proofs.Counting.{counts}
-use Rattle.desk_main.proofs.read_input.Statement.{statement}
 use Rattle.desk_main.proofs.read_input.Tie as tie
 
 abbrev Inv-loop : tie.InvT-loop
@@ -12,15 +11,6 @@ Inv-loop input₀ at₀ input at = (length input ≡ length input₀) × (at ≤
 
 abbrev μ-loop : tie.MeasureT-loop
 μ-loop input₀ at₀ input at = length input - at
-
-loop-holds : tie.Need-loop-holds Inv-loop μ-loop
-loop-holds c = (refl, omega arith)
-
-same-length : tie.Need-same-length Inv-loop μ-loop
-same-length c = c .before .before .before .read-more .kept .0 ∙ c .before .before .before .before .before .before .loop .inv .0
-
-returns : tie.Need-returns Inv-loop μ-loop
-returns c = counts _ _ (omega (arith, c .before .before .before .read-more .ensures .1, c .before .before .before .read-more .kept .0))
 
 same-length-2 : tie.Need-same-length-2 Inv-loop μ-loop
 same-length-2 c = c .before .before .before .before .before .read-more .kept .0 ∙ c .before .before .before .before .before .before .before .before .loop .inv .0
@@ -34,25 +24,8 @@ loop-less c = omega (arith, c .before .before .before .before .before .read-more
 loop-again : tie.Need-loop-again Inv-loop μ-loop
 loop-again c = (c .before .before .before .before .before .read-more .kept .0 ∙ c .before .before .before .before .before .before .before .before .loop .inv .0, omega (arith, c .before .before .before .before .before .read-more .ensures .1))
 
-same-length-3 : tie.Need-same-length-3 Inv-loop μ-loop
-same-length-3 c = c .before .loop .inv .0
-
-returns-3 : tie.Need-returns-3 Inv-loop μ-loop
-returns-3 c = counts _ _ (omega arith)
-
-pub read-input-spec : {M : Type 1} → statement M
-read-input-spec =
-    tie.close
-    (tie.spec
-    Inv-loop
-    μ-loop
-    loop-holds
-    (λ c κs. omega arith)
-    same-length
-    returns
-    same-length-2
-    returns-2
-    loop-less
-    loop-again
-    same-length-3
-    returns-3)
+pub read-input-spec : {M : Type 1} → Rattle.desk_main.proofs.read_input.Statement.statement M
+read-input-spec = tie.close (tie.spec Inv-loop μ-loop (λ c. (refl, omega arith)) (λ c κs. omega arith)
+    (λ c. c .before .before .before .read-more .kept .0 ∙ c .before .before .before .before .before .before .loop .inv .0)
+    (λ c. counts _ _ (omega (arith, c .before .before .before .read-more .ensures .1, c .before .before .before .read-more .kept .0))) same-length-2
+    returns-2 loop-less loop-again (λ c. c .before .loop .inv .0) (λ c. counts _ _ (omega arith)))

@@ -8,7 +8,6 @@ use Rattle.bits.specs.Table.{bit, paste}
 use Rattle.bits.proofs.Laws.{paste-zero}
 use Rattle.ground.specs.ChangeLaws.{put-raise}
 use Rattle.initial.specs.RowLaws.{range-step}
-use Rattle.initial.proofs.put_free.Statement.{statement}
 use Rattle.initial.proofs.put_free.Tie as tie
 
 abbrev Inv-loop : tie.InvT-loop
@@ -17,41 +16,12 @@ Inv-loop state₀ from count k₀ state k = (k ≤ count) × (length state ≡ l
 abbrev μ-loop : tie.MeasureT-loop
 μ-loop state₀ from count k₀ state k = count - k
 
-loop-holds : tie.Need-loop-holds Inv-loop μ-loop
-loop-holds c =
-    let start = c .before in
-    (omega arith, refl, λ h. paste-zero (bit (start .args .state .now)) (start .args .from) (λ i. true) 0)
-
 loop-again : tie.Need-loop-again Inv-loop μ-loop
 loop-again c =
-    let start = c .before .before .before .before .before .before .before in
-    let l = c .before .before .before .before .before .loop in
-    let wrote = c .before .before .raise in (
-      omega arith,
-      wrote .kept .0 ∙ l .inv .1,
-      λ h.
-          range-step (bit (start .args .state .now)) (start .args .from) (λ i. true) (l .k) (l .inv .2 h) (wrote .ensures (omega (arith, l .inv .1)) ∙ sym (put-raise _ _)) refl,
-    )
+    let l = c .before .before .before .before .before .loop in let w = c .before .before .raise in
+    (omega arith, w .kept .0 ∙ l .inv .1, λ h. range-step _ _ _ _ (l .inv .2 h) (w .ensures (omega (arith, l .inv .1)) ∙ sym (put-raise _ _)) refl)
 
-same-length : tie.Need-same-length Inv-loop μ-loop
-same-length c = c .before .loop .inv .1
-
-returns : tie.Need-returns Inv-loop μ-loop
-returns c =
-    let l = c .before .loop in
-    λ h. let e : l .k ≡ c .before .before .before .args .count = omega arith in rw e at (l .inv .2 h)
-
-pub put-free-spec : {M : Type 1} → statement M
-put-free-spec =
-    tie.close
-    (tie.spec
-    Inv-loop
-    μ-loop
-    loop-holds
-    (λ c. search needs)
-    (λ c κs. search needs)
-    (λ c. search needs)
-    (λ c. search needs)
-    loop-again
-    same-length
-    returns)
+pub put-free-spec : {M : Type 1} → Rattle.initial.proofs.put_free.Statement.statement M
+put-free-spec = tie.close (tie.spec Inv-loop μ-loop (λ c. (omega arith, refl, λ h. paste-zero _ _ _ 0)) (λ c. search needs) (λ c κs. search needs)
+    (λ c. search needs) (λ c. search needs) loop-again (λ c. c .before .loop .inv .1)
+    (λ c h. let l = c .before .loop in let e : l .k ≡ c .before .before .before .args .count = omega arith in rw e at (l .inv .2 h)))

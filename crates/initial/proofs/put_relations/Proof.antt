@@ -1,79 +1,35 @@
 use borrow.Author.Needs.{needs}
-use Prim.Native.Nat.{ℕ, _+_, _-_, _≤_}
-use mathlib.Core.Path.{_≡_, refl, sym, ap₂, subst, _∙_}
+use Prim.Native.Nat.{_+_, _-_, _≤_}
+use mathlib.Core.Path.{_≡_, refl, ap₂, _∙_}
 use native.Mathlib.Omega.{arith}
 use lib.ListN.{length}
 use Rattle.bits.specs.Table.{bit}
 use Rattle.ground.specs.Lines.{relationsIn}
-use Rattle.initial.specs.Rows.{firstIn, relationsPut, RelationRoom, Room}
+use Rattle.initial.specs.Rows.{firstIn, relationsPut, Room}
 use Rattle.initial.specs.RowLaws.{relations-none, relations-step, first-none, first-step, first-few}
-use Rattle.initial.proofs.put_relations.Statement.{statement}
 use Rattle.initial.proofs.put_relations.Tie as tie
 
 abbrev Inv-loop : tie.InvT-loop
-Inv-loop state₀ facts table count first₀ r₀ state first r = (r ≤ count) × (length state ≡ length state₀) × (first ≡ firstIn table r) × (Room table (length state₀) → bit state ≡ relationsPut facts table r (bit state₀))
+Inv-loop state₀ facts table count first₀ r₀ state first r =
+    (r ≤ count) × (length state ≡ length state₀) × (first ≡ firstIn table r) × (Room table (length state₀) → bit state ≡ relationsPut facts table r (bit state₀))
 
 abbrev μ-loop : tie.MeasureT-loop
 μ-loop state₀ facts table count first₀ r₀ state first r = count - r
 
-shared-slice-read-count : tie.Need-shared-slice-read-count Inv-loop μ-loop
-shared-slice-read-count c = omega (arith, c .before .before .before .before .pre .whole)
-
-loop-holds : tie.Need-loop-holds Inv-loop μ-loop
-loop-holds c =
-    let start = c .before .before .before .before in
-    (omega arith, refl, first-none (start .args .table .now), λ h. relations-none (start .args .facts .now) (start .args .table .now) (bit (start .args .state .now)))
-
-put-relation-requires : tie.Need-put-relation-requires Inv-loop μ-loop
-put-relation-requires c κs =
-    let start = c .before .before .before .before .before .before .before in
-    let l = c .before .before .loop in
-    (start .pre, omega (arith, start .pre .relations), omega (arith, start .pre .relations, l .inv .2, first-few (start .args .table .now) (start .pre) (l .r)))
-
-words-requires : tie.Need-words-requires Inv-loop μ-loop
-words-requires c κs =
-    let start = c .before .before .before .before .before .before .before .before .before .before in
-    (start .pre, omega (arith, start .pre .relations))
-
 add-first : tie.Need-add-first Inv-loop μ-loop
 add-first c =
-    let start = c .before .before .before .before .before .before .before .before .before .before .before in
-    let l = c .before .before .before .before .before .before .loop in
-    omega (arith, start .pre .relations, l .inv .2, c .words .ensures, first-step (start .args .table .now) (l .r), first-few (start .args .table .now) (start .pre) (l .r + 1))
+    let l = c .before .before .before .before .before .before in let s = l .before .before .before .before .before in let r = l .loop .r in
+    omega (arith, s .pre .relations, l .loop .inv .2, c .words .ensures, first-step (s .args .table .now) r, first-few _ (s .pre) (r + 1))
 
 loop-again : tie.Need-loop-again Inv-loop μ-loop
 loop-again c =
-    let start = c .before .before .before .before .before .before .before .before .before .before .before in
-    let l = c .before .before .before .before .before .before .loop in (
-      omega arith,
-      c .before .before .before .put-relation .kept .0 ∙ l .inv .1,
-      ap₂ _+_ (l .inv .2) (c .words .ensures) ∙ first-step (start .args .table .now) (l .r),
-      λ h.
-          relations-step (start .args .facts .now) (start .args .table .now) (l .r) (l .first) (bit (start .args .state .now)) (l .inv .2) (l .inv .3 h)
-          (c .before .before .before .put-relation .ensures (subst (λ (k : ℕ). RelationRoom (start .args .table .now) k (l .r)) (sym (l .inv .1)) (h (l .r) (omega arith)))),
-    )
+    let i = c .before .before .before .before .before .before .loop .inv in let put = c .before .before .before .put-relation in
+    (omega arith, put .kept .0 ∙ i .1, ap₂ _+_ (i .2) (c .words .ensures) ∙ first-step _ _, λ h. relations-step _ _ _ _ _ (i .2) (i .3 h) (put .ensures (rw (i .1) (h _ (omega arith)))))
 
-same-length : tie.Need-same-length Inv-loop μ-loop
-same-length c = c .before .loop .inv .1
-
-returns : tie.Need-returns Inv-loop μ-loop
-returns c =
-    let l = c .before .loop in
-    λ h. let e : l .r ≡ relationsIn (c .before .before .before .before .before .before .args .table .now) = omega arith in rw e at (l .inv .3 h)
-
-pub put-relations-spec : {M : Type 1} → statement M
-put-relations-spec =
-    tie.close
-    (tie.spec
-    Inv-loop
-    μ-loop
-    shared-slice-read-count
-    loop-holds
-    put-relation-requires
-    words-requires
-    add-first
-    (λ c. search needs)
-    (λ c. search needs)
-    loop-again
-    same-length
-    returns)
+pub put-relations-spec : {M : Type 1} → Rattle.initial.proofs.put_relations.Statement.statement M
+put-relations-spec = tie.close (tie.spec Inv-loop μ-loop (λ c. omega (arith, c .before .before .before .before .pre .whole))
+    (λ c. (omega arith, refl, first-none _, λ h. relations-none _ _ _))
+    (λ c κs. let l = c .before .before in let p = l .before .before .before .before .before .pre in (p, omega (arith, p .relations), omega (arith, p .relations, l .loop .inv .2, first-few _ p (l .loop .r))))
+    (λ c κs. let p = c .before .before .before .before .before .before .before .before .before .before .pre in (p, omega (arith, p .relations)))
+    add-first (λ c. search needs) (λ c. search needs) loop-again (λ c. c .before .loop .inv .1)
+    (λ c h. let l = c .before in let e : l .loop .r ≡ relationsIn (l .before .before .before .before .before .args .table .now) = omega arith in rw e at (l .loop .inv .3 h)))

@@ -1,51 +1,37 @@
 -- `layout::lay_out` meets its contract.
-use Prim.Native.Nat.{_+_}
+use Prim.Native.Nat.{_+_, _^_, _≤_, _<_}
 use native.Mathlib.Omega.{arith}
 use borrow.Author.Needs.{needs}
 use Rattle.layout.specs.LaidLaws.{rel-bound, set-bound, pick-bound, node-bound, act-bound}
 use Rattle.layout.specs.StartsAre.{laid, nodes-low}
-use borrow.Author.Needs.{needs}
-use Rattle.layout.proofs.lay_out.Statement.{statement}
 use Rattle.layout.proofs.lay_out.Tie as tie
-use Rattle.layout.proofs.lay_out.Reads as reads
-use Rattle.layout.proofs.lay_out.Lts as lts
-use Rattle.layout.proofs.node_starts.Reads as node-starts-reads
-use Rattle.layout.proofs.relation_starts.Reads as relation-starts-reads
-use Rattle.layout.proofs.too_many.Reads as too-many-reads
 
-add-first : tie.Need-add-first
-add-first c = omega (arith, c .before .relation-starts .ensures .set-is, set-bound (c .before .before .args .n) (c .before .before .args .g) (c .before .before .pre .1) (c .before .before .pre .2) (c .before .before .args .ranges .count) (c .before .before .pre .6 .count) (c .before .before .args .g .count), c .before .before .pre .2 .count)
+-- what the relations have is few, and what the nodes have
+low : (c : tie.After-relation-starts) → let r = c .relation-starts .result in (r .at ≤ 2 ^ 30) × (r .sets < 2 ^ 30) × (r .picks ≤ 2 ^ 30)
+low c =
+    let s = c .before in let r = c .relation-starts .ensures in let a = rel-bound _ _ (s .pre .1) (s .pre .2) (s .args .g .count) in
+    let b = set-bound _ _ (s .pre .1) (s .pre .2) (s .args .ranges .count) (s .pre .6 .count) (s .args .g .count) in let d = pick-bound _ _ (s .pre .1) (s .pre .2) (s .args .g .count) in
+    (omega (arith, r .at-is, s .pre .2 .count), omega (arith, r .set-is, s .pre .2 .count), omega (arith, r .picks-are, s .pre .2 .count))
 
-node-starts-requires : tie.Need-node-starts-requires
-node-starts-requires c κs = (c .before .before .pre .0, c .before .before .pre .1, c .before .before .pre .3, omega (arith, c .before .relation-starts .ensures .at-is, rel-bound (c .before .before .args .n) (c .before .before .args .g) (c .before .before .pre .1) (c .before .before .pre .2) (c .before .before .args .g .count), c .before .before .pre .2 .count), omega (arith, c .before .relation-starts .ensures .set-is, set-bound (c .before .before .args .n) (c .before .before .args .g) (c .before .before .pre .1) (c .before .before .pre .2) (c .before .before .args .ranges .count) (c .before .before .pre .6 .count) (c .before .before .args .g .count), c .before .before .pre .2 .count), c .before .before .pre .6)
-
-add-actions : tie.Need-add-actions
-add-actions c = omega (arith, c .before .before .before .relation-starts .ensures .set-is, set-bound (c .before .before .before .before .args .n) (c .before .before .before .before .args .g) (c .before .before .before .before .pre .1) (c .before .before .before .before .pre .2) (c .before .before .before .before .args .ranges .count) (c .before .before .before .before .pre .6 .count) (c .before .before .before .before .args .g .count), c .before .before .before .before .pre .2 .count, c .before .node-starts .ensures .act-is, act-bound (c .before .before .before .before .args .n) (c .before .before .before .before .args .ranges .count) (c .before .before .before .before .args .t) (c .before .before .before .relation-starts .result .at) (c .before .before .before .relation-starts .result .sets + 1) (c .before .before .before .before .pre .1) (c .before .before .before .before .pre .6 .count) (c .before .before .before .before .pre .3) (c .before .before .before .before .args .t .count), c .before .before .before .before .pre .3 .few)
+high : (c : tie.After-node-starts) → let r = c .node-starts .result in (r .at ≤ 2 ^ 40) × (r .acts ≤ 2 ^ 40)
+high c =
+    let r = c .before .before in let s = r .before in let e = c .node-starts .ensures in let q = low r in
+    let a = node-bound _ (s .args .ranges .count) _ (r .relation-starts .result .at) (r .relation-starts .result .sets + 1) (s .pre .1) (s .pre .6 .count) (s .pre .3) (s .args .t .count) in
+    let b = act-bound _ (s .args .ranges .count) _ (r .relation-starts .result .at) (r .relation-starts .result .sets + 1) (s .pre .1) (s .pre .6 .count) (s .pre .3) (s .args .t .count) in
+    (omega (arith, e .at-is, s .pre .3 .few), omega (arith, e .act-is, s .pre .3 .few))
 
 sub-bound : tie.Need-sub-bound
-sub-bound c = nodes-low (c .before .before .before .before .before .args .n) (c .before .before .before .before .before .args .ranges .count) (c .before .before .before .before .relation-starts .result .at) (c .before .before .before .before .relation-starts .result .sets + 1) (c .before .before .before .before .before .args .t .count) (c .before .before .before .before .before .args .t) (c .before .before .node-starts .result .node) (c .before .before .node-starts .result .act) (c .before .before .node-starts .result .at) (c .before .before .node-starts .result .acts) (c .before .before .node-starts .ensures)
-
-add-bound : tie.Need-add-bound
-add-bound c = omega (arith, c .before .before .before .before .before .relation-starts .ensures .at-is, rel-bound (c .before .before .before .before .before .before .args .n) (c .before .before .before .before .before .before .args .g) (c .before .before .before .before .before .before .pre .1) (c .before .before .before .before .before .before .pre .2) (c .before .before .before .before .before .before .args .g .count), c .before .before .before .before .before .before .pre .2 .count, c .before .before .before .node-starts .ensures .at-is, node-bound (c .before .before .before .before .before .before .args .n) (c .before .before .before .before .before .before .args .ranges .count) (c .before .before .before .before .before .before .args .t) (c .before .before .before .before .before .relation-starts .result .at) (c .before .before .before .before .before .relation-starts .result .sets + 1) (c .before .before .before .before .before .before .pre .1) (c .before .before .before .before .before .before .pre .6 .count) (c .before .before .before .before .before .before .pre .3) (c .before .before .before .before .before .before .args .t .count), c .before .before .before .before .before .before .pre .3 .few, c .before .before .before .before .before .relation-starts .ensures .picks-are, pick-bound (c .before .before .before .before .before .before .args .n) (c .before .before .before .before .before .before .args .g) (c .before .before .before .before .before .before .pre .1) (c .before .before .before .before .before .before .pre .2) (c .before .before .before .before .before .before .args .g .count))
-
-add-bound-2 : tie.Need-add-bound-2
-add-bound-2 c = omega (arith, c .before .before .before .before .before .relation-starts .ensures .at-is, rel-bound (c .before .before .before .before .before .before .args .n) (c .before .before .before .before .before .before .args .g) (c .before .before .before .before .before .before .pre .1) (c .before .before .before .before .before .before .pre .2) (c .before .before .before .before .before .before .args .g .count), c .before .before .before .before .before .before .pre .2 .count, c .before .before .before .node-starts .ensures .at-is, node-bound (c .before .before .before .before .before .before .args .n) (c .before .before .before .before .before .before .args .ranges .count) (c .before .before .before .before .before .before .args .t) (c .before .before .before .before .before .relation-starts .result .at) (c .before .before .before .before .before .relation-starts .result .sets + 1) (c .before .before .before .before .before .before .pre .1) (c .before .before .before .before .before .before .pre .6 .count) (c .before .before .before .before .before .before .pre .3) (c .before .before .before .before .before .before .args .t .count), c .before .before .before .before .before .before .pre .3 .few, c .before .before .before .before .before .relation-starts .ensures .picks-are, pick-bound (c .before .before .before .before .before .before .args .n) (c .before .before .before .before .before .before .args .g) (c .before .before .before .before .before .before .pre .1) (c .before .before .before .before .before .before .pre .2) (c .before .before .before .before .before .before .args .g .count))
+sub-bound c = nodes-low _ _ _ _ _ _ (c .before .before .node-starts .result .node) _ _ (c .before .before .node-starts .result .acts) (c .before .before .node-starts .ensures)
 
 returns : tie.Need-returns
 returns c =
-    let known = c .before .before .before .before .before .before .before .before .before .before .before .before .before .pre in
-    λ p w k ra is. laid _ p w k _ _ _ ra is (known .3) _ _ _ _ _ _ _ _ _ _ _ _ (c .before .before .before .before .before .before .before .before .before .before .before .before .relation-starts .ensures) (c .before .before .before .before .before .before .before .before .before .before .node-starts .ensures) _ _ (known .4) (known .5) (c .before .before .before .before .before .before .too-many .ensures)
+    let v = c .before .before .before .before .before .before .before .before .before .before in let q = v .before .before .before .pre in
+    λ p w k ra is. laid _ p w k _ _ _ ra is (q .3) _ _ _ _ _ _ _ _ _ _ _ _ (v .before .before .relation-starts .ensures) (v .node-starts .ensures) _ _ (q .4) (q .5)
+    (c .before .before .before .before .before .before .too-many .ensures)
 
-pub lay-out-spec : {M : Type 1} → statement M
-lay-out-spec =
-    tie.close
-    (tie.spec
-    (λ c κs. search needs)
-    add-first
-    node-starts-requires
-    add-actions
-    sub-bound
-    add-bound
-    add-bound-2
-    (λ c κs. search needs)
-    returns)
+pub lay-out-spec : {M : Type 1} → Rattle.layout.proofs.lay_out.Statement.statement M
+lay-out-spec = tie.close (tie.spec (λ c κs. search needs) (λ c. omega (arith, low (c .before)))
+    (λ c κs. let s = c .before .before in let q = low (c .before) in (s .pre .0, s .pre .1, s .pre .3, omega arith, omega arith, s .pre .6))
+    (λ c. omega (arith, high (c .before))) sub-bound
+    (λ c. omega (arith, low (c .before .before .before .before .before), high (c .before .before .before)))
+    (λ c. omega (arith, low (c .before .before .before .before .before), high (c .before .before .before))) (λ c κs. search needs) returns)

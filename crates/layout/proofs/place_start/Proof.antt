@@ -4,10 +4,7 @@ use native.Mathlib.Omega.{arith}
 use borrow.Author.Tests.{lt-ltb, le-ltb}
 use Rattle.layout.specs.Filled.{placeStart}
 use borrow.Author.Needs.{needs}
-use Rattle.layout.proofs.place_start.Statement.{statement}
 use Rattle.layout.proofs.place_start.Tie as tie
-use Rattle.layout.proofs.place_start.Reads as reads
-use Rattle.layout.proofs.place_start.Lts as lts
 
 returns : tie.Need-returns
 unfolding placeStart
@@ -17,5 +14,5 @@ returns-2 : tie.Need-returns-2
 unfolding placeStart
 returns-2 c = rw (le-ltb (c .before .args .kind) 2 (omega arith)) refl
 
-pub place-start-spec : {M : Type 1} → statement M
+pub place-start-spec : {M : Type 1} → Rattle.layout.proofs.place_start.Statement.statement M
 place-start-spec = tie.close (tie.spec returns (λ c. search needs) (λ c. search needs) returns-2)

@@ -3,10 +3,7 @@ use mathlib.Core.Path.{refl}
 use native.Mathlib.Omega.{arith}
 use borrow.Author.Tests.{lt-ltb, le-ltb}
 use Rattle.layout.specs.Filled.{rangeCount}
-use Rattle.layout.proofs.range_count.Statement.{statement}
 use Rattle.layout.proofs.range_count.Tie as tie
-use Rattle.layout.proofs.range_count.Reads as reads
-use Rattle.layout.proofs.range_count.Lts as lts
 
 returns : tie.Need-returns
 unfolding rangeCount
@@ -16,5 +13,5 @@ returns-2 : tie.Need-returns-2
 unfolding rangeCount
 returns-2 c = (rw (le-ltb (c .before .args .kind) 2 (omega arith)) refl, omega arith)
 
-pub range-count-spec : {M : Type 1} → statement M
+pub range-count-spec : {M : Type 1} → Rattle.layout.proofs.range_count.Statement.statement M
 range-count-spec = tie.close (tie.spec returns returns-2)

@@ -3,10 +3,7 @@ use mathlib.Core.Path.{refl}
 use native.Mathlib.Omega.{arith}
 use borrow.Author.Tests.{lt-ltb, le-ltb}
 use Rattle.layout.specs.Filled.{rangeStart}
-use Rattle.layout.proofs.range_start.Statement.{statement}
 use Rattle.layout.proofs.range_start.Tie as tie
-use Rattle.layout.proofs.range_start.Reads as reads
-use Rattle.layout.proofs.range_start.Lts as lts
 
 returns : tie.Need-returns
 unfolding rangeStart
@@ -16,5 +13,5 @@ returns-2 : tie.Need-returns-2
 unfolding rangeStart
 returns-2 c = (rw (le-ltb (c .before .args .kind) 2 (omega arith)) refl, omega arith)
 
-pub range-start-spec : {M : Type 1} → statement M
+pub range-start-spec : {M : Type 1} → Rattle.layout.proofs.range_start.Statement.statement M
 range-start-spec = tie.close (tie.spec (λ c. omega (arith, c .before .pre)) (λ c. omega (arith, c .before .pre)) returns returns-2)

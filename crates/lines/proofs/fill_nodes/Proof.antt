@@ -12,7 +12,6 @@ use Rattle.layout.specs.SpliceLaws.{tab-none}
 use Rattle.layout.specs.TurnLaws.{one-more}
 use Rattle.lines.specs.Lined.{nodeOf}
 use Rattle.lines.specs.Numbers.{nodeNumbers, nodeLines, node-turn}
-use Rattle.lines.proofs.fill_nodes.Statement.{statement}
 use Rattle.lines.proofs.fill_nodes.Tie as tie
 
 abbrev Inv-loop : tie.InvT-loop
@@ -32,54 +31,30 @@ few c = omega (arith, c .loop-test .taken, c .before .before .before .pre .2 .fe
 sort-small : (c : tie.After-wide Inv-loop μ-loop) → c .wide .result < 9
 sort-small c = omega (arith, c .wide .ensures .0, c .before .before .before .before .before .pre .2 .nodes .node (c .before .before .before .loop .v) .sort)
 
-node-line-requires : tie.Need-node-line-requires Inv-loop μ-loop
-node-line-requires c κs = (c .before .before .before .before .before .before .pre .1 .count _, c .before .before .before .before .before .before .pre .2)
-
-mul-store : tie.Need-mul-store Inv-loop μ-loop
-mul-store c = omega (arith, few (c .before .before .before .before .before))
-
 store-requires : tie.Need-store-requires Inv-loop μ-loop
 store-requires c κs = omega (arith, few (c .before .before .before .before .before .before), c .before .before .before .before .before .before .before .before .before .pre .0, c .before .before .before .before .before .before .before .loop .inv .1)
 
-add-v : tie.Need-add-v Inv-loop μ-loop
-add-v c = omega (arith, few (c .before .before .before .before .before .before .before .before .before))
-
-loop-less : tie.Need-loop-less Inv-loop μ-loop
-loop-less c = omega (arith, c .before .before .before .before .before .before .before .before .before .loop-test .taken)
-
 loop-again : tie.Need-loop-again Inv-loop μ-loop
 loop-again c =
-    let s = c .before .before .before .before .before .before .before .before .before .before .before .before in
-    let l = c .before .before .before .before .before .before .before .before .before .before .loop in
+    let at-loop-test = c .before .before .before .before .before .before .before .before .before in let l2 = at-loop-test .before in
+    let s = l2 .before .before in
+    let l = l2 .loop in
     let e = c .before .before .before .before .before .node-line .ensures in
     let q = e .0 ∙ ap (λ (σ : ℕ). nodeNumbers (nodeOf (getD (s .args .t4 .count) σ 0) (s .args .t3) (getD (s .args .t3 .rows) (l .v) noNode))) (c .before .before .before .before .before .before .before .wide .ensures .0) in (
-      omega (arith, c .before .before .before .before .before .before .before .before .before .loop-test .taken),
+      omega (arith, at-loop-test .loop-test .taken),
       c .before .before .store .kept .0 ∙ l .inv .1,
-      node-turn (s .args .t4 .count) (s .args .t3) (l .lines) (s .args .lines .now) (c .before .before .store .last .0) (l .v) _ (s .pre .0) (few (c .before .before .before .before .before .before .before .before .before)) q (l .inv .2) (c .before .before .store .ensures),
+      node-turn (s .args .t4 .count) (s .args .t3) (l .lines) (s .args .lines .now) (c .before .before .store .last .0) (l .v) _ (s .pre .0) (few (at-loop-test)) q (l .inv .2) (c .before .before .store .ensures),
       one-more (λ (u : ℕ). Most (nodeLines (s .args .t4 .count) (s .args .t3) u) (2 ^ 32)) (l .v) (l .inv .3) (subst (λ (xs : List ℕ). Most xs (2 ^ 32)) q (e .1)),
     )
 
 returns : tie.Need-returns Inv-loop μ-loop
 returns c = let e : c .before .loop .v ≡ c .before .before .before .args .t3 .count = omega arith in (rw e at (c .before .loop .inv .2), λ u h. c .before .loop .inv .3 u (omega arith))
 
-pub fill-nodes-spec : {M : Type 1} → statement M
-fill-nodes-spec =
-    tie.close
-    (tie.spec
-    Inv-loop
-    μ-loop
-    loop-holds
-    (λ c. omega (arith, few c))
-    (λ c. omega (arith, few c))
-    (λ c κs. search needs)
-    (λ c. omega (arith, sort-small c))
-    (λ c. omega (arith, sort-small c))
-    node-line-requires
-    mul-store
-    (λ c. search needs)
-    store-requires
-    add-v
-    loop-less
-    loop-again
-    (λ c. search needs)
+pub fill-nodes-spec : {M : Type 1} → Rattle.lines.proofs.fill_nodes.Statement.statement M
+fill-nodes-spec = tie.close (tie.spec Inv-loop μ-loop loop-holds (λ c. omega (arith, few c)) (λ c. omega (arith, few c)) (λ c κs. search needs)
+    (λ c. omega (arith, sort-small c)) (λ c. omega (arith, sort-small c))
+    (λ c κs. (c .before .before .before .before .before .before .pre .1 .count _, c .before .before .before .before .before .before .pre .2))
+    (λ c. omega (arith, few (c .before .before .before .before .before))) (λ c. search needs) store-requires
+    (λ c. omega (arith, few (c .before .before .before .before .before .before .before .before .before)))
+    (λ c. omega (arith, c .before .before .before .before .before .before .before .before .before .loop-test .taken)) loop-again (λ c. search needs)
     returns)

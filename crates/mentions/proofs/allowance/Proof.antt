@@ -9,7 +9,6 @@ use Rattle.layout.specs.Laid.{nodeWidth}
 use Rattle.layout.specs.LaidLaws.{node-width-le, pow-fits, size-most}
 use Rattle.mentions.specs.Marks.{hits, marksAfter, atomsAfter, rowWidth}
 use Rattle.mentions.specs.MarkLaws.{which-small, hits-none, hits-next, marks-first, marks-next, atoms-first, atoms-next, atoms-bound, counted-le, allowed}
-use Rattle.mentions.proofs.allowance.Statement.{statement}
 use Rattle.mentions.proofs.allowance.Tie as tie
 
 abbrev Inv-parts : tie.InvT-parts
@@ -40,8 +39,7 @@ rows-are c = let s = c .before .before .before .before .before .before .before .
 
 rows-small : (c : tie.After-power Inv-parts μ-parts Inv-nodes μ-nodes) → c .power .result ≤ 64 ^ 4
 rows-small c =
-    let s = c .before .before .before .before .before .before .before .before in
-    let b = s .before .before in
+    let s = c .before .before .before .before .before .before .before .before in let b = s .before .before in
     size-most (b .args .n) (getD (b .args .t2 .rows) (node s) noNode .width) (c .power .result) (rows-are c) (b .pre .1) (b .pre .2 .nodes .node (node s) .width)
 
 row-width : (c : tie.After-node-width Inv-parts μ-parts Inv-nodes μ-nodes) → let s = c .before .before .before .before .before .before .before .before .before in c .node-width .result ≡ rowWidth (s .before .before .args .n) (s .before .before .args .t2) (node s)
@@ -53,35 +51,10 @@ width-small c =
     let w = node-width-le (s .before .before .args .n) (c .before .power .result) (c .before .before .before .wide4 .result) (s .before .before .pre .1) (rows-small (c .before)) in
     omega (arith, c .node-width .ensures)
 
-nodes-holds : tie.Need-nodes-holds Inv-parts μ-parts Inv-nodes μ-nodes
-nodes-holds c = (omega arith, marks-first (c .args .t2) (c .args .r), atoms-first (c .args .n) (c .args .t2) (c .args .r))
-
-add-done : tie.Need-add-done Inv-parts μ-parts Inv-nodes μ-nodes
-add-done c = omega (arith, c .before .before .pre .2 .few)
-
-mul-row : tie.Need-mul-row Inv-parts μ-parts Inv-nodes μ-nodes
-mul-row c = omega (arith, c .before .before .pre .2 .few)
-
-element-copy-out-row : tie.Need-element-copy-out-row Inv-parts μ-parts Inv-nodes μ-nodes
-element-copy-out-row c = omega (arith, c .before .before .pre .2 .few)
-
-parts-holds : tie.Need-parts-holds Inv-parts μ-parts Inv-nodes μ-nodes
-parts-holds c = (omega arith, hits-none _ _ _ _)
-
-add-q : tie.Need-add-q Inv-parts μ-parts Inv-nodes μ-nodes
-add-q c = omega (arith, part-there c)
-
-mul-q : tie.Need-mul-q Inv-parts μ-parts Inv-nodes μ-nodes
-mul-q c = omega (arith, part-there c)
-
-element-copy-out-q : tie.Need-element-copy-out-q Inv-parts μ-parts Inv-nodes μ-nodes
-element-copy-out-q c = omega (arith, part-there c)
-
 array-read-marked : tie.Need-array-read-marked Inv-parts μ-parts Inv-nodes μ-nodes
-array-read-marked c = omega (arith, c .wide3 .ensures .0, which-small _ (c .before .before .before .before .before .before .before .before .before .pre .2 .parts .part (c .before .before .before .before .before .wide .result + c .before .before .before .parts .k)))
-
-add-k : tie.Need-add-k Inv-parts μ-parts Inv-nodes μ-nodes
-add-k c = omega (arith, part-there (c .before .before .before))
+array-read-marked c =
+    let s = c .before .before .before .before .before .before .before .before .before in
+    omega (arith, c .wide3 .ensures .0, which-small _ (s .pre .2 .parts .part (c .before .before .before .before .before .wide .result + c .before .before .before .parts .k)))
 
 parts-again : tie.Need-parts-again Inv-parts μ-parts Inv-nodes μ-nodes
 parts-again c =
@@ -92,17 +65,10 @@ parts-again c =
           (u .parts .k) (c .before .wide3 .result) (u .parts .hit) (c .found .result) (u .parts .inv .1) (c .before .wide3 .ensures .0) (c .found .ensures),
     )
 
-array-write-marks : tie.Need-array-write-marks Inv-parts μ-parts Inv-nodes μ-nodes
-array-write-marks c = omega (arith, c .before .before .before .before .before .before .before .pre .2 .few)
-
 power-requires : tie.Need-power-requires Inv-parts μ-parts Inv-nodes μ-nodes
 power-requires c κs =
-    let s = c .before .before .before .before .before .before .before .before .before in
-    let w = c .wide5 .ensures .0 in
+    let s = c .before .before .before .before .before .before .before .before .before in let w = c .wide5 .ensures .0 in
     (s .pre .0, pow-fits (s .args .n) (c .wide5 .result) (s .pre .1) (omega (arith, w, s .pre .2 .nodes .node (node (c .before .before .before .before .before .before .before)) .width)))
-
-node-width-requires : tie.Need-node-width-requires Inv-parts μ-parts Inv-nodes μ-nodes
-node-width-requires c κs = (c .before .before .before .before .before .before .before .before .before .before .pre .1, rows-small c)
 
 add-total : tie.Need-add-total Inv-parts μ-parts Inv-nodes μ-nodes
 add-total c =
@@ -139,38 +105,13 @@ returns c = λ p w k g G is.
     let e : c .before .nodes .done ≡ c .before .before .args .t2 .count = omega (arith, c .before .nodes .inv .0) in
     c .before .nodes .inv .2 ∙ ap (atomsAfter (c .before .before .args .n) (c .before .before .args .t2) (c .before .before .args .r)) e ∙ allowed (c .before .before .args .n) (c .before .before .args .t2) (c .before .before .args .r) (c .before .before .pre .2) p w k g G is
 
-pub allowance-spec : {M : Type 1} → statement M
-allowance-spec =
-    tie.close
-    (tie.spec
-    Inv-parts
-    μ-parts
-    Inv-nodes
-    μ-nodes
-    nodes-holds
-    add-done
-    (λ c. omega arith)
-    mul-row
-    element-copy-out-row
-    (λ c κs. search needs)
-    (λ c κs. search needs)
-    parts-holds
-    add-q
-    mul-q
-    element-copy-out-q
-    (λ c κs. search needs)
-    array-read-marked
-    (λ c κs. search needs)
-    add-k
-    (λ c. omega arith)
-    parts-again
-    array-write-marks
-    (λ c κs. search needs)
-    (λ c κs. search needs)
-    power-requires
-    node-width-requires
-    (λ c κs. search needs)
-    add-total
-    (λ c. omega arith)
-    nodes-again
-    returns)
+pub allowance-spec : {M : Type 1} → Rattle.mentions.proofs.allowance.Statement.statement M
+allowance-spec = tie.close (tie.spec Inv-parts μ-parts Inv-nodes μ-nodes
+    (λ c. (omega arith, marks-first (c .args .t2) (c .args .r), atoms-first (c .args .n) (c .args .t2) (c .args .r)))
+    (λ c. omega (arith, c .before .before .pre .2 .few)) (λ c. omega arith) (λ c. omega (arith, c .before .before .pre .2 .few))
+    (λ c. omega (arith, c .before .before .pre .2 .few)) (λ c κs. search needs) (λ c κs. search needs) (λ c. (omega arith, hits-none _ _ _ _))
+    (λ c. omega (arith, part-there c)) (λ c. omega (arith, part-there c)) (λ c. omega (arith, part-there c)) (λ c κs. search needs) array-read-marked
+    (λ c κs. search needs) (λ c. omega (arith, part-there (c .before .before .before))) (λ c. omega arith) parts-again
+    (λ c. omega (arith, c .before .before .before .before .before .before .before .pre .2 .few)) (λ c κs. search needs) (λ c κs. search needs)
+    power-requires (λ c κs. (c .before .before .before .before .before .before .before .before .before .before .pre .1, rows-small c))
+    (λ c κs. search needs) add-total (λ c. omega arith) nodes-again returns)

@@ -2,7 +2,6 @@
 use native.Mathlib.Omega.{arith}
 use Rattle.mentions.specs.MarkLaws.{found-literal, found-node}
 use borrow.Author.Needs.{needs}
-use Rattle.mentions.proofs.found.Statement.{statement}
 use Rattle.mentions.proofs.found.Tie as tie
 
 returns-2 : tie.Need-returns-2
@@ -11,5 +10,5 @@ returns-2 c = found-literal (c .before .before .args .before) (c .before .before
 returns-3 : tie.Need-returns-3
 returns-3 c = found-node (c .before .before .args .before) (c .before .before .args .tag) (c .before .before .args .which) (c .before .before .args .marked) (c .before .before .args .r) (c .before .if1 .left) (omega arith)
 
-pub found-spec : {M : Type 1} → statement M
+pub found-spec : {M : Type 1} → Rattle.mentions.proofs.found.Statement.statement M
 found-spec = tie.close (tie.spec (λ c. search needs) returns-2 returns-3)

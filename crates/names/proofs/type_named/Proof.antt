@@ -4,11 +4,7 @@ use native.Mathlib.Omega.{arith}
 use borrow.Author.Needs.{needs}
 use Rattle.names.specs.Signatures.{builtInTable}
 use Rattle.names.proofs.Laws.{type-found, type-missed, look-found}
-use Rattle.names.proofs.type_named.Statement.{statement}
 use Rattle.names.proofs.type_named.Tie as tie
-
-sub-t11 : tie.Need-sub-t11
-sub-t11 c = omega (arith, look-found _ _ _ _ _ _ _ (c .before .f .given .1) (c .before .before .before .lookup .ensures builtInTable) .0)
 
 returns : tie.Need-returns
 returns c =
@@ -20,5 +16,7 @@ returns-2 c =
     let a = c .before .before .before .before .before .before .before .args in
     type-missed (a .q .now) builtInTable (a .from .now) (a .to .now) (a .from .now) (a .k) (slice (a .a) (a .e) (a .s .now)) _ (c .before .before .lookup .ensures builtInTable) (c .enum-told .given .1)
 
-pub type-named-spec : {M : Type 1} → statement M
-type-named-spec = tie.close (tie.spec (λ c κs. search needs) (λ c. search needs) sub-t11 (λ c. search needs) returns returns-2)
+pub type-named-spec : {M : Type 1} → Rattle.names.proofs.type_named.Statement.statement M
+type-named-spec = tie.close (tie.spec (λ c κs. search needs) (λ c. search needs)
+    (λ c. omega (arith, look-found _ _ _ _ _ _ _ (c .before .f .given .1) (c .before .before .before .lookup .ensures builtInTable) .0))
+    (λ c. search needs) returns returns-2)

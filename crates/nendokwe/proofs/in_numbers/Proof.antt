@@ -2,7 +2,6 @@
 use mathlib.Core.Path.{sym, ap, _∙_}
 use Rattle.nendokwe.specs.Told.{detailsOf}
 use borrow.Author.Needs.{needs}
-use Rattle.nendokwe.proofs.in_numbers.Statement.{statement}
 use Rattle.nendokwe.proofs.in_numbers.Tie as tie
 
 returns : tie.Need-returns
@@ -37,29 +36,7 @@ returns-8 : tie.Need-returns-8
 unfolding detailsOf
 returns-8 c = c .bare3 .ensures ∙ sym (ap detailsOf (c .before .enum-told3 .given .1))
 
-pub in-numbers-spec : {M : Type 1} → statement M
-in-numbers-spec =
-    tie.close
-    (tie.spec
-    (λ c. search needs)
-    (λ c. search needs)
-    (λ c. search needs)
-    (λ c κs. search needs)
-    (λ c. search needs)
-    (λ c κs. search needs)
-    (λ c. search needs)
-    (λ c κs. search needs)
-    (λ c. search needs)
-    (λ c κs. search needs)
-    (λ c. search needs)
-    (λ c κs. search needs)
-    (λ c. search needs)
-    (λ c κs. search needs)
-    returns
-    returns-2
-    returns-3
-    returns-4
-    returns-5
-    returns-6
-    returns-7
-    returns-8)
+pub in-numbers-spec : {M : Type 1} → Rattle.nendokwe.proofs.in_numbers.Statement.statement M
+in-numbers-spec = tie.close (tie.spec (λ c. search needs) (λ c. search needs) (λ c. search needs) (λ c κs. search needs) (λ c. search needs)
+    (λ c κs. search needs) (λ c. search needs) (λ c κs. search needs) (λ c. search needs) (λ c κs. search needs) (λ c. search needs)
+    (λ c κs. search needs) (λ c. search needs) (λ c κs. search needs) returns returns-2 returns-3 returns-4 returns-5 returns-6 returns-7 returns-8)

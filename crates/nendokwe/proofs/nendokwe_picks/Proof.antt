@@ -2,12 +2,12 @@
 use mathlib.Core.Path.{ap, _∙_}
 use Rattle.definitions.specs.Outcome.{replyNumber, replyPlace}
 use borrow.Author.Needs.{needs}
-use Rattle.nendokwe.proofs.nendokwe_picks.Statement.{statement}
 use Rattle.nendokwe.proofs.nendokwe_picks.Tie as tie
 
 returns : tie.Need-returns
-returns c = (c .tell .ensures .0 ∙ ap replyNumber (c .before .before .before .before .before .before .before .picks-lent .ensures .0), (c .tell .ensures .1 ∙ ap replyPlace (c .before .before .before .before .before .before .before .picks-lent .ensures .0), c .before .before .before .before .before .before .before .picks-lent .ensures .1))
+returns c =
+    let picks-lent = c .before .before .before .before .before .before .before .picks-lent in
+    (c .tell .ensures .0 ∙ ap replyNumber (picks-lent .ensures .0), (c .tell .ensures .1 ∙ ap replyPlace (picks-lent .ensures .0), picks-lent .ensures .1))
 
-pub nendokwe-picks-spec : {M : Type 1} → statement M
-nendokwe-picks-spec =
-    tie.close (tie.spec (λ c κs. search needs) (λ c κs. search needs) (λ c. search needs) (λ c. search needs) returns)
+pub nendokwe-picks-spec : {M : Type 1} → Rattle.nendokwe.proofs.nendokwe_picks.Statement.statement M
+nendokwe-picks-spec = tie.close (tie.spec (λ c κs. search needs) (λ c κs. search needs) (λ c. search needs) (λ c. search needs) returns)

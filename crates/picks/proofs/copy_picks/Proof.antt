@@ -6,65 +6,60 @@ use borrow.Author.Needs.{needs}
 use lib.ListN.{length}
 use lib.Seq.{sets}
 use Rattle.bits.specs.Table.{bit}
-use Rattle.ground.specs.Lines.{relationsIn}
+use Rattle.ground.specs.Lines.{relationsIn, tableLength}
 use Rattle.picks.specs.WordLaws.{words-few}
 use Rattle.picks.specs.Copies.{countFrom, picksIn, wordsFrom}
 use Rattle.picks.specs.CopyLaws.{count-start, count-next, copy-start, copy-next, copy-end, copied}
-use Rattle.picks.proofs.copy_picks.Statement.{statement}
 use Rattle.picks.proofs.copy_picks.Tie as tie
 
 abbrev Inv-loop : tie.InvT-loop
-Inv-loop table state picks₀ word₀ r₀ picks word r = (r ≤ relationsIn table) × (length picks ≡ length picks₀) × (word + countFrom table r (relationsIn table - r) ≡ picksIn table) × (sets picks₀ 0 (wordsFrom (bit state) table 0 (relationsIn table)) ≡ sets picks word (wordsFrom (bit state) table r (relationsIn table - r)))
+Inv-loop table state picks₀ word₀ r₀ picks word r =
+    (r ≤ relationsIn table) × (length picks ≡ length picks₀) × (word + countFrom table r (relationsIn table - r) ≡ picksIn table)
+    × (sets picks₀ 0 (wordsFrom (bit state) table 0 (relationsIn table)) ≡ sets picks word (wordsFrom (bit state) table r (relationsIn table - r)))
+    × (relationsIn table ≤ 17) × (length table ≡ tableLength)
 
 abbrev μ-loop : tie.MeasureT-loop
 μ-loop table state picks₀ word₀ r₀ picks word r = relationsIn table - r
 
-loop-holds : tie.Need-loop-holds Inv-loop μ-loop
-loop-holds c = (omega arith, refl, count-start (c .before .before .before .args .table .now), copy-start (c .before .before .before .args .table .now) (bit (c .before .before .before .args .state .now)) (c .before .before .before .args .picks .now) (relationsIn (c .before .before .before .args .table .now)))
-
-shared-slice-read-if1 : tie.Need-shared-slice-read-if1 Inv-loop μ-loop
-shared-slice-read-if1 c = omega (arith, c .before .before .before .before .before .pre .0 .whole)
-
-relation-line-requires : tie.Need-relation-line-requires Inv-loop μ-loop
-relation-line-requires c κs = (c .before .before .before .before .before .before .pre .0 .whole, omega (arith, c .before .before .before .before .before .before .pre .0 .relations))
-
 copy-relation-requires : tie.Need-copy-relation-requires Inv-loop μ-loop
-copy-relation-requires c κs = let f = words-few _ _ (c .before .before .before .before .before .before .before .before .pre .0) (c .before .relation-line .result) (c .before .relation-line .ensures) in (f .1, f .2, omega (arith, c .before .before .before .before .before .before .before .before .pre .1, c .before .before .before .before .loop .inv .1, c .before .before .before .before .loop .inv .2, count-next (c .before .before .before .before .before .before .before .before .args .table .now) (c .before .before .before .before .loop .r) _ (c .before .before .before .before .loop .word) (c .before .relation-line .result) (c .before .relation-line .ensures) (c .before .before .if1 .taken)))
+copy-relation-requires c κs =
+    let l = c .before .before .before .before in let s = l .before .before .before .before in let f = words-few _ _ (s .pre .0) _ (c .before .relation-line .ensures) in
+    (f .1, f .2, omega (arith, s .pre .1, l .loop .inv .1, l .loop .inv .2, count-next _ _ _ (l .loop .word) _ (c .before .relation-line .ensures) (c .before .before .if1 .taken)))
 
 words-in-requires : tie.Need-words-in-requires Inv-loop μ-loop
-words-in-requires c κs = words-few _ _ (c .before .before .before .before .before .before .before .before .before .before .before .pre .0) (c .before .before .before .before .relation-line .result) (c .before .before .before .before .relation-line .ensures) .2
+words-in-requires c κs =
+    let relation-line = c .before .before .before .before .relation-line in let s = c .before .before .before .before .before .before .before .before .before .before .before in
+    words-few _ _ (s .pre .0) _ (relation-line .ensures) .2
 
 add-word : tie.Need-add-word Inv-loop μ-loop
-add-word c = omega (arith, c .words-in .ensures, c .before .before .before .before .before .before .before .before .before .before .before .before .pre .1, c .before .before .before .before .before .before .before .before .loop .inv .2, count-next (c .before .before .before .before .before .before .before .before .before .before .before .before .args .table .now) (c .before .before .before .before .before .before .before .before .loop .r) _ (c .before .before .before .before .before .before .before .before .loop .word) (c .before .before .before .before .before .relation-line .result) (c .before .before .before .before .before .relation-line .ensures) (c .before .before .before .before .before .before .if1 .taken))
-
-add-r : tie.Need-add-r Inv-loop μ-loop
-add-r c = omega (arith, c .before .before .before .before .before .before .before .before .before .before .before .before .pre .0 .relations)
+add-word c =
+    let relation-line = c .before .before .before .before .before .relation-line in let l = c .before .before .before .before .before .before .before .before in
+    let s = l .before .before .before .before in
+    omega (
+      arith,
+      c .words-in .ensures,
+      s .pre .1,
+      l .loop .inv .2,
+      count-next _ _ _ (l .loop .word) _ (relation-line .ensures)
+          (c .before .before .before .before .before .before .if1 .taken),
+    )
 
 loop-again : tie.Need-loop-again Inv-loop μ-loop
-loop-again c = (
-  omega arith,
-  c .before .before .before .copy-relation .kept .1 .1 .0 ∙ c .before .before .before .before .before .before .before .before .loop .inv .1,
-  omega (arith, c .before .before .before .before .before .before .before .before .loop .inv .2, c .words-in .ensures, count-next (c .before .before .before .before .before .before .before .before .before .before .before .before .args .table .now) (c .before .before .before .before .before .before .before .before .loop .r) _ (c .before .before .before .before .before .before .before .before .loop .word) (c .before .before .before .before .before .relation-line .result) (c .before .before .before .before .before .relation-line .ensures) (c .before .before .before .before .before .before .if1 .taken)),
-  c .before .before .before .before .before .before .before .before .loop .inv .3 ∙ copy-next (c .before .before .before .before .before .before .before .before .before .before .before .before .args .table .now) (bit (c .before .before .before .before .before .before .before .before .before .before .before .before .args .state .now)) (c .before .before .before .before .before .before .before .before .loop .r) (relationsIn (c .before .before .before .before .before .before .before .before .before .before .before .before .args .table .now)) (c .before .before .before .before .before .before .before .before .loop .word) (c .words-in .result) (c .before .before .before .before .before .relation-line .result) (c .before .before .before .before .before .before .before .before .loop .picks) _ (c .before .before .before .before .before .relation-line .ensures) (c .before .before .before .before .before .before .if1 .taken) (c .before .before .before .copy-relation .ensures) (c .words-in .ensures),
-)
+loop-again c =
+    let copy-relation = c .before .before .before .copy-relation in let relation-line = c .before .before .before .before .before .relation-line in
+    let if1 = c .before .before .before .before .before .before .if1 in let l = c .before .before .before .before .before .before .before .before in (
+      omega arith,
+      copy-relation .kept .1 .1 .0 ∙ l .loop .inv .1,
+      omega (arith, l .loop .inv .2, c .words-in .ensures, count-next _ _ _ (l .loop .word) _ (relation-line .ensures) (if1 .taken)),
+      l .loop .inv .3 ∙ copy-next _ _ _ _ _ _ _ _ _ (relation-line .ensures) (if1 .taken) (copy-relation .ensures) (c .words-in .ensures),
+      l .loop .inv .4,
+      l .loop .inv .5,
+    )
 
 returns : tie.Need-returns Inv-loop μ-loop
-returns c = copied _ _ _ _ (c .before .before .before .before .before .before .pre .1) (sym (c .before .before .loop .inv .3 ∙ copy-end (c .before .before .before .before .before .before .args .table .now) (bit (c .before .before .before .before .before .before .args .state .now)) (c .before .before .loop .r) (relationsIn (c .before .before .before .before .before .before .args .table .now)) (c .before .before .loop .word) (c .before .before .loop .picks) (omega arith)))
+returns c = let s = c .before .before .before .before .before .before in copied _ _ _ _ (s .pre .1) (sym (c .before .before .loop .inv .3 ∙ copy-end _ _ _ _ _ _ (omega arith)))
 
-pub copy-picks-spec : {M : Type 1} → statement M
-copy-picks-spec =
-    tie.close
-    (tie.spec
-    Inv-loop
-    μ-loop
-    loop-holds
-    shared-slice-read-if1
-    relation-line-requires
-    copy-relation-requires
-    words-in-requires
-    add-word
-    add-r
-    (λ c. omega arith)
-    loop-again
-    (λ c. search needs)
-    returns)
+pub copy-picks-spec : {M : Type 1} → Rattle.picks.proofs.copy_picks.Statement.statement M
+copy-picks-spec = tie.close (tie.spec Inv-loop μ-loop (λ c. (omega arith, refl, count-start _, copy-start _ _ _ _, search needs, search needs))
+    (λ c. omega arith) (λ c κs. search needs) copy-relation-requires words-in-requires add-word (λ c. omega arith) (λ c. omega arith) loop-again
+    (λ c. search needs) returns)

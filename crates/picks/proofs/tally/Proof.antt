@@ -5,7 +5,6 @@ use native.Mathlib.Nat.{mul-le-mul}
 use borrow.Author.Needs.{needs}
 use Rattle.bits.specs.Table.{bit, count}
 use Rattle.picks.specs.TestLaws.{count-none, count-next, count-le, num-le}
-use Rattle.picks.proofs.tally.Statement.{statement}
 use Rattle.picks.proofs.tally.Tie as tie
 
 abbrev Inv-loop : tie.InvT-loop
@@ -14,36 +13,21 @@ Inv-loop picks start stride n sum₀ i₀ sum i = (i ≤ n) × (sum ≡ count (�
 abbrev μ-loop : tie.MeasureT-loop
 μ-loop picks start stride n sum₀ i₀ sum i = n - i
 
-loop-holds : tie.Need-loop-holds Inv-loop μ-loop
-loop-holds c = (omega arith, count-none (λ (y : ℕ). bit (c .before .args .picks .now) (c .before .args .start + y * c .before .args .stride)))
-
-mul-digit : tie.Need-mul-digit Inv-loop μ-loop
-mul-digit c = let i : c .before .loop .i ≤ 64 = omega arith in omega (arith, mul-le-mul i (c .before .before .before .pre .1))
-
-add-digit : tie.Need-add-digit Inv-loop μ-loop
-add-digit c = let i : c .before .loop .i ≤ 64 = omega arith in omega (arith, mul-le-mul i (c .before .before .before .pre .1))
-
 add-sum : tie.Need-add-sum Inv-loop μ-loop
-add-sum c = omega (arith, c .before .before .loop .inv .1, count-le (λ (y : ℕ). bit (c .before .before .before .before .args .picks .now) (c .before .before .before .before .args .start + y * c .before .before .before .before .args .stride)) (c .before .before .loop .i), c .digit .ensures, num-le (bit (c .before .before .before .before .args .picks .now) (c .before .before .before .before .args .start + c .before .before .loop .i * c .before .before .before .before .args .stride)))
+add-sum c =
+    let s = c .before .before .before .before in
+    omega (
+      arith,
+      c .before .before .loop .inv .1,
+      count-le (λ (y : ℕ). bit (s .args .picks .now) (s .args .start + y * s .args .stride)) (c .before .before .loop .i),
+      c .digit .ensures,
+      num-le (bit (s .args .picks .now) (s .args .start + c .before .before .loop .i * s .args .stride)),
+    )
 
-loop-again : tie.Need-loop-again Inv-loop μ-loop
-loop-again c = (omega arith, count-next (λ (y : ℕ). bit (c .before .before .before .before .args .picks .now) (c .before .before .before .before .args .start + y * c .before .before .before .before .args .stride)) (c .before .before .loop .i) (c .before .before .loop .sum) (c .digit .result) (c .before .before .loop .inv .1) (c .digit .ensures))
-
-returns : tie.Need-returns Inv-loop μ-loop
-returns c = let e : c .before .loop .i ≡ c .before .before .before .args .n = omega arith in rw e at (c .before .loop .inv .1)
-
-pub tally-spec : {M : Type 1} → statement M
-tally-spec =
-    tie.close
-    (tie.spec
-    Inv-loop
-    μ-loop
-    loop-holds
-    mul-digit
-    add-digit
-    (λ c κs. search needs)
-    add-sum
-    (λ c. search needs)
-    (λ c. search needs)
-    loop-again
-    returns)
+pub tally-spec : {M : Type 1} → Rattle.picks.proofs.tally.Statement.statement M
+tally-spec = tie.close (tie.spec Inv-loop μ-loop (λ c. (omega arith, count-none (λ (y : ℕ). bit _ _)))
+    (λ c. let i : c .before .loop .i ≤ 64 = omega arith in omega (arith, mul-le-mul i (c .before .before .before .pre .1)))
+    (λ c. let i : c .before .loop .i ≤ 64 = omega arith in omega (arith, mul-le-mul i (c .before .before .before .pre .1))) (λ c κs. search needs)
+    add-sum (λ c. search needs) (λ c. search needs)
+    (λ c. (omega arith, count-next (λ (y : ℕ). bit _ _) _ _ _ (c .before .before .loop .inv .1) (c .digit .ensures)))
+    (λ c. let e : c .before .loop .i ≡ c .before .before .before .args .n = omega arith in rw e at (c .before .loop .inv .1)))

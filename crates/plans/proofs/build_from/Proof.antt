@@ -5,21 +5,16 @@ use mathlib.Core.Path.{sym, _∙_}
 use lib.Seq.{length-take-le}
 use Rattle.plans.specs.Starts.{words-enough, started, front-fits, front-short}
 use borrow.Author.Needs.{needs}
-use Rattle.plans.proofs.build_from.Statement.{statement}
 use Rattle.plans.proofs.build_from.Tie as tie
 
-slice-aggregate-initial-state : tie.Need-slice-aggregate-initial-state
-slice-aggregate-initial-state c = sym (length-take-le _ _ (c .before .before .before .before .before .before .before .pre .1))
-
 initial-state-requires : tie.Need-initial-state-requires
-initial-state-requires c κs =
-    let p = c .before .before .before .before .before .before .before .pre in
-    (p .0 .0, words-enough _ _ _ (p .0 .1) (sym (length-take-le _ _ (p .1))))
+initial-state-requires c κs = let p = c .before .before .before .before .before .before .before .pre in (p .0 .0, words-enough _ _ _ (p .0 .1) (sym (length-take-le _ _ (p .1))))
 
 slice-aggregate-build : tie.Need-slice-aggregate-build
 slice-aggregate-build c =
     let begun = c .before .before .before .before .before .initial-state in
-    sym (length-take-le _ _ (front-fits _ _ (begun .last .1 .1 .0) (begun .kept .1 .1 .0) (c .before .before .before .before .before .before .before .before .before .before .before .before .before .pre .1)))
+    sym (length-take-le _ _ (front-fits _ _ (begun .last .1 .1 .0) (begun .kept .1 .1 .0)
+    (c .before .before .before .before .before .before .before .before .before .before .before .before .before .pre .1)))
 
 build-requires : tie.Need-build-requires
 build-requires c κs =
@@ -28,22 +23,13 @@ build-requires c κs =
 
 returns : tie.Need-returns
 returns c =
-    let p = c .before .before .before .before .before .before .before .before .before .before .before .before .before .before .before .before .before .before .pre in
-    let begun = c .before .before .before .before .before .before .before .before .before .before .initial-state in
-    λ x F G. c .before .before .before .before .build .ensures x F (G .case) (G .picks) (G .is) (G .picked) (G .atoms-are) (G .few) (started x F _ _ _ _ _ G (p .0 .1) _ _ _ (begun .ensures) (length-take-le _ _ (p .1)) (begun .kept .1 .1 .0 ∙ length-take-le _ _ (p .1))) (G .steps-room)
+    let initial-state = c .before .before .before .before .before .before .before .before .before .before .initial-state in
+    let s = c .before .before .before .before .before .before .before .before .before .before .before .before .before .before .before .before .before .before in let p = s .pre in
+    let begun = initial-state in
+    λ x F G. c .before .before .before .before .build .ensures x F (G .case) (G .picks) (G .is) (G .picked) (G .atoms-are) (G .few)
+    (started x F _ _ _ _ _ G (p .0 .1) _ _ _ (begun .ensures) (length-take-le _ _ (p .1)) (begun .kept .1 .1 .0 ∙ length-take-le _ _ (p .1))) (G .steps-room)
 
-pub build-from-spec : {M : Type 1} → statement M
-build-from-spec =
-    tie.close
-    (tie.spec
-    (λ c. search needs)
-    (λ c. search needs)
-    slice-aggregate-initial-state
-    initial-state-requires
-    (λ c. search needs)
-    slice-aggregate-build
-    build-requires
-    (λ c. search needs)
-    (λ c. search needs)
-    (λ c. search needs)
-    returns)
+pub build-from-spec : {M : Type 1} → Rattle.plans.proofs.build_from.Statement.statement M
+build-from-spec = tie.close (tie.spec (λ c. search needs) (λ c. search needs)
+    (λ c. sym (length-take-le _ _ (c .before .before .before .before .before .before .before .pre .1))) initial-state-requires (λ c. search needs)
+    slice-aggregate-build build-requires (λ c. search needs) (λ c. search needs) (λ c. search needs) returns)

@@ -4,56 +4,30 @@ use mathlib.Core.Path.{sym, _∙_}
 use lib.Seq.{length-take-le}
 use Rattle.plans.specs.Twice.{twice-false, twice-steps}
 use borrow.Author.Needs.{needs}
-use Rattle.plans.proofs.follow_twice.Statement.{statement}
 use Rattle.plans.proofs.follow_twice.Tie as tie
-
-slice-aggregate-start-and-follow : tie.Need-slice-aggregate-start-and-follow
-slice-aggregate-start-and-follow c = sym (length-take-le _ _ (search needs))
-
-start-and-follow-requires : tie.Need-start-and-follow-requires
-start-and-follow-requires c κs =
-    let p = c .before .before .before .before .before .before .before .pre in
-    (p .0, p .1, p .2, length-take-le _ _ (search needs))
-
-slice-aggregate-start-and-follow-3 : tie.Need-slice-aggregate-start-and-follow-3
-slice-aggregate-start-and-follow-3 c = sym (length-take-le _ _ (c .before .before .before .before .before .before .before .before .before .before .before .before .before .pre .3))
 
 start-and-follow-requires-2 : tie.Need-start-and-follow-requires-2
 start-and-follow-requires-2 c κs =
-    let p = c .before .before .before .before .before .before .before .before .before .before .before .before .before .before .pre in
-    (p .0, p .1, p .2, length-take-le _ _ (p .3))
+    let p = c .before .before .before .before .before .before .before .before .before .before .before .before .before .before .pre in (p .0, p .1, p .2, length-take-le _ _ (p .3))
 
 returns : tie.Need-returns
 returns c =
-    let a = c .before .before .before .before .before .before .before .before .before .before .before .before .before .before .before .before .before .before .before .args in
     let p = c .before .before .before .before .before .before .before .before .before .before .before .before .before .before .before .before .before .before .before .pre in
     let once = c .before .before .before .before .before .before .before .before .before .before .before .start-and-follow in
     let again = c .before .before .before .before .start-and-follow2 in
-    λ x F G n. twice-steps x F _ _ _ _ (a .state .now) _ G n
-    _ _ _ (once .ensures x F _ G) (once .last .1 .0) (once .kept .1 .0) (c .before .before .before .before .before .before .before .if1 .taken)
-    _ _ _ _ (again .ensures x F _ G) (λ j. omega (arith, c .before .before .slice-known4 .given j)) (again .kept .0 ∙ length-take-le _ _ (p .3))
+    λ x F G n. twice-steps x F _ _ _ _ _ _ G n _ _ _ (once .ensures x F _ G) (once .last .1 .0) (once .kept .1 .0)
+    (c .before .before .before .before .before .before .before .if1 .taken) _ _ _ _ (again .ensures x F _ G) (λ j. omega (arith, c .before .before .slice-known4 .given j))
+    (again .kept .0 ∙ length-take-le _ _ (p .3))
 
 returns-2 : tie.Need-returns-2
 returns-2 c =
     let once = c .before .before .before .before .start-and-follow in
-    λ x F G n. twice-false x F _ _ _ _ _ _ G n
-    _ _ _ (once .ensures x F _ G) (once .last .1 .0) (once .kept .1 .0) (c .if1 .left)
+    λ x F G n. twice-false x F _ _ _ _ _ _ G n _ _ _ (once .ensures x F _ G) (once .last .1 .0) (once .kept .1 .0) (c .if1 .left)
 
-pub follow-twice-spec : {M : Type 1} → statement M
-follow-twice-spec =
-    tie.close
-    (tie.spec
+pub follow-twice-spec : {M : Type 1} → Rattle.plans.proofs.follow_twice.Statement.statement M
+follow-twice-spec = tie.close (tie.spec (λ c. search needs) (λ c. search needs) (λ c. sym (length-take-le _ _ (search needs))) (λ c. search needs)
     (λ c. search needs)
+    (λ c κs. let p = c .before .before .before .before .before .before .before .pre in (p .0, p .1, p .2, length-take-le _ _ (search needs)))
     (λ c. search needs)
-    slice-aggregate-start-and-follow
-    (λ c. search needs)
-    (λ c. search needs)
-    start-and-follow-requires
-    (λ c. search needs)
-    slice-aggregate-start-and-follow-3
-    start-and-follow-requires-2
-    (λ c. search needs)
-    (λ c. search needs)
-    returns
-    (λ c. search needs)
-    returns-2)
+    (λ c. sym (length-take-le _ _ (c .before .before .before .before .before .before .before .before .before .before .before .before .before .pre .3)))
+    start-and-follow-requires-2 (λ c. search needs) (λ c. search needs) returns (λ c. search needs) returns-2)

@@ -1,36 +1,29 @@
-use Prim.Native.Nat.{ℕ, _+_}
+use Prim.Native.Nat.{ℕ}
 use native.Mathlib.Omega.{arith}
 use Rattle.bits.specs.Table.{bit}
-use Rattle.proving.specs.Following.{out}
 use Rattle.plans.specs.SetLaws.{relation-yes, relation-no}
 use borrow.Author.Needs.{needs}
-use Rattle.plans.proofs.set_relation.Statement.{statement}
 use Rattle.plans.proofs.set_relation.Tie as tie
 
-returns : tie.Need-returns
-returns c =
-    let a = c .before .before .before .before .before .before .args in
-    (omega arith, λ p R l e. relation-no p (a .table .now) (R .is) (a .relation) l (a .line) e (λ (i : ℕ). bit (a .picks .now) (a .start + i)) (out (bit (a .state .now)) (a .steps .now) (a .at)) (omega arith))
-
 set-count-requires : tie.Need-set-count-requires
-set-count-requires c κs = let s = c .before .before .before .before .before .before .before .pre in (s .4, omega (arith, s .2 .firsts .inside), omega (arith, s .2 .seconds .inside), c .is-whole .ensures)
+set-count-requires c κs =
+    let s = c .before .before .before .before .before .before .before .pre in
+    (s .4, omega (arith, s .2 .firsts .inside), omega (arith, s .2 .seconds .inside), c .is-whole .ensures)
 
 set-rows-requires : tie.Need-set-rows-requires
 set-rows-requires c κs =
-    let s = c .before .before .before .before .before .before .before .before .before .before .pre in
-    let count = c .before .before .set-count .ensures in
+    let s = c .before .before .before .before .before .before .before .before .before .before .pre in let count = c .before .before .set-count .ensures in
     ((s .0, s .1, s .2, s .3, s .5, s .6), (c .before .before .before .is-whole .ensures, count .1, count .2))
 
 returns-2 : tie.Need-returns-2
 returns-2 c =
-    let a = c .before .before .before .before .before .before .before .before .before .before .before .before .before .before .before .args in
-    let count = c .before .before .before .before .before .before .before .set-count in
-    let taken = c .before .before .before .before .set-rows in (
+    let count = c .before .before .before .before .before .before .before .set-count in let taken = c .before .before .before .before .set-rows in (
       omega (arith, taken .ensures .0, count .ensures .1),
-      λ p R l e. relation-yes p (a .table .now) (R .is) (a .relation) l (a .line) e (λ (i : ℕ). bit (a .picks .now) (a .start + i)) (out (bit (a .state .now)) (a .steps .now) (a .at)) _ (count .result) (omega arith) (c .before .before .before .before .before .before .before .before .before .before .before .before .before .before .before .pre .2) (count .ensures .0) (λ n. taken .ensures .1 p R l e n),
+      λ p R l e. relation-yes p _ (R .is) _ l _ e (λ (i : ℕ). bit _ _) _ _ _ (omega arith)
+          (c .before .before .before .before .before .before .before .before .before .before .before .before .before .before .before .pre .2) (count .ensures .0)
+          (λ n. taken .ensures .1 p R l e n),
     )
 
-pub set-relation-spec : {M : Type 1} → statement M
-set-relation-spec =
-    tie.close
-    (tie.spec returns (λ c κs. search needs) set-count-requires set-rows-requires (λ c. search needs) (λ c. search needs) returns-2)
+pub set-relation-spec : {M : Type 1} → Rattle.plans.proofs.set_relation.Statement.statement M
+set-relation-spec = tie.close (tie.spec (λ c. (omega arith, λ p R l e. relation-no p _ (R .is) _ l _ e (λ (i : ℕ). bit _ _) _ (omega arith)))
+    (λ c κs. search needs) set-count-requires set-rows-requires (λ c. search needs) (λ c. search needs) returns-2)

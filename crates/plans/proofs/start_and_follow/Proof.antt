@@ -5,13 +5,7 @@ use Rattle.definitions.specs.Atoms.{problemOf}
 use Rattle.plans.specs.Starts.{words-enough}
 use Rattle.plans.specs.Twice.{follows-start}
 use borrow.Author.Needs.{needs}
-use Rattle.plans.proofs.start_and_follow.Statement.{statement}
 use Rattle.plans.proofs.start_and_follow.Tie as tie
-
-initial-state-requires : tie.Need-initial-state-requires
-initial-state-requires c κs =
-    let p = c .before .before .before .before .before .before .pre in
-    (p .0, words-enough _ _ _ (p .1) (sym (p .3)))
 
 returns : tie.Need-returns
 returns c =
@@ -20,6 +14,7 @@ returns c =
     λ x F room G. follows-start x F _ _ _ _ room G (p .1) _ _ (begun .ensures) (p .3) _ _ _
     (c .before .before .before .before .follow .ensures (problemOf x) (record { is = G .is; room = omega (arith, G .atoms-are, begun .kept .1 .1 .0); few = G .few }) (G .atoms-are))
 
-pub start-and-follow-spec : {M : Type 1} → statement M
-start-and-follow-spec =
-    tie.close (tie.spec initial-state-requires (λ c κs. search needs) (λ c. search needs) (λ c. search needs) returns)
+pub start-and-follow-spec : {M : Type 1} → Rattle.plans.proofs.start_and_follow.Statement.statement M
+start-and-follow-spec = tie.close (tie.spec
+    (λ c κs. let p = c .before .before .before .before .before .before .pre in (p .0, words-enough _ _ _ (p .1) (sym (p .3)))) (λ c κs. search needs)
+    (λ c. search needs) (λ c. search needs) returns)

@@ -24,117 +24,32 @@ decimal-at t = and 1 decimal-kinds.ps (is 1 decimal-kinds.ps μ-decimal t) decim
 abbrev decimal-below : ℕ → In 1 decimal-kinds.ps
 decimal-below t = and 1 decimal-kinds.ps (falls 1 decimal-kinds.ps _<_ μ-decimal t) decimal.Pre
 
-decimal-add-byte : (t : ℕ) → decimal-lts.Need-add-byte (
-  byte-reads.Asked,
-  byte-reads.Learnt,
-  decimal-below t,
-  decimal.Post,
-) (decimal-at t) decimal.Post
-decimal-add-byte t c = omega arith
+-- what each knows of those that it calls
+abbrev decimal-claims : ℕ → decimal-lts.Claims
+decimal-claims t = (byte-reads.Asked, byte-reads.Learnt, decimal-below t, decimal.Post)
 
-decimal-cast-byte : (t : ℕ) → decimal-lts.Need-cast-byte (
-  byte-reads.Asked,
-  byte-reads.Learnt,
-  decimal-below t,
-  decimal.Post,
-) (decimal-at t) decimal.Post
-decimal-cast-byte t c = omega arith
-
-decimal-byte-requires : (t : ℕ) → decimal-lts.Need-byte-requires (
-  byte-reads.Asked,
-  byte-reads.Learnt,
-  decimal-below t,
-  decimal.Post,
-) (decimal-at t) decimal.Post
+decimal-byte-requires : (t : ℕ) → decimal-lts.Need-byte-requires (decimal-claims t) (decimal-at t) decimal.Post
 decimal-byte-requires t c κs = let S = c .before .before .before in omega (arith, room-for (_ ∷ []) [] (begin (S .args .out .now) (decimal-small (S .args .k) (omega arith)) (S .pre .1)))
 
-decimal-same-length : (t : ℕ) → decimal-lts.Need-same-length (
-  byte-reads.Asked,
-  byte-reads.Learnt,
-  decimal-below t,
-  decimal.Post,
-) (decimal-at t) decimal.Post
-decimal-same-length t c = search needs
-
-decimal-returns : (t : ℕ) → decimal-lts.Need-returns (
-  byte-reads.Asked,
-  byte-reads.Learnt,
-  decimal-below t,
-  decimal.Post,
-) (decimal-at t) decimal.Post
+decimal-returns : (t : ℕ) → decimal-lts.Need-returns (decimal-claims t) (decimal-at t) decimal.Post
 decimal-returns t c = let S = c .before .before .before .before .before .before in finish (_ ∷ []) (begin (S .args .out .now) (decimal-small (S .args .k) (omega arith)) (S .pre .1)) (c .before .before .byte .ensures)
 
-decimal-decimal-requires : (t : ℕ) → decimal-lts.Need-decimal-requires (
-  byte-reads.Asked,
-  byte-reads.Learnt,
-  decimal-below t,
-  decimal.Post,
-) (decimal-at t) decimal.Post
-decimal-decimal-requires t c κs = let S = c .before .before .before in (omega (arith, S .pre .0), room-for (decimalOf (S .args .k / 10)) ((S .args .k % 10 + 48) ∷ []) (begin (S .args .out .now) (decimal-large (S .args .k) (omega arith) (S .fits .k .fits)) (S .pre .1)))
+decimal-decimal-requires : (t : ℕ) → decimal-lts.Need-decimal-requires (decimal-claims t) (decimal-at t) decimal.Post
+decimal-decimal-requires t c κs =
+    let S = c .before .before .before in
+    (omega (arith, S .pre .0), room-for (decimalOf (S .args .k / 10)) ((S .args .k % 10 + 48) ∷ []) (begin (S .args .out .now) (decimal-large (S .args .k) (omega arith) (S .fits .k .fits)) (S .pre .1)))
 
-decimal-add-byte-2 : (t : ℕ) → decimal-lts.Need-add-byte-2 (
-  byte-reads.Asked,
-  byte-reads.Learnt,
-  decimal-below t,
-  decimal.Post,
-) (decimal-at t) decimal.Post
-decimal-add-byte-2 t c = omega arith
-
-decimal-cast-byte-2 : (t : ℕ) → decimal-lts.Need-cast-byte-2 (
-  byte-reads.Asked,
-  byte-reads.Learnt,
-  decimal-below t,
-  decimal.Post,
-) (decimal-at t) decimal.Post
-decimal-cast-byte-2 t c = omega arith
-
-decimal-byte-requires-2 : (t : ℕ) → decimal-lts.Need-byte-requires-2 (
-  byte-reads.Asked,
-  byte-reads.Learnt,
-  decimal-below t,
-  decimal.Post,
-) (decimal-at t) decimal.Post
+decimal-byte-requires-2 : (t : ℕ) → decimal-lts.Need-byte-requires-2 (decimal-claims t) (decimal-at t) decimal.Post
 decimal-byte-requires-2 t c κs =
-    let D = c .before .before .before in
-    let S = D .before .before .before .before in
+    let D = c .before .before .before in let S = D .before .before .before .before in
     omega (arith, room-for (_ ∷ []) [] (then (decimalOf (S .args .k / 10)) ((S .args .k % 10 + 48) ∷ []) (begin (S .args .out .now) (decimal-large (S .args .k) (omega arith) (S .fits .k .fits)) (S .pre .1)) (D .decimal .ensures)))
 
-decimal-same-length-2 : (t : ℕ) → decimal-lts.Need-same-length-2 (
-  byte-reads.Asked,
-  byte-reads.Learnt,
-  decimal-below t,
-  decimal.Post,
-) (decimal-at t) decimal.Post
-decimal-same-length-2 t c = search needs
-
-decimal-returns-2 : (t : ℕ) → decimal-lts.Need-returns-2 (
-  byte-reads.Asked,
-  byte-reads.Learnt,
-  decimal-below t,
-  decimal.Post,
-) (decimal-at t) decimal.Post
+decimal-returns-2 : (t : ℕ) → decimal-lts.Need-returns-2 (decimal-claims t) (decimal-at t) decimal.Post
 decimal-returns-2 t c =
-    let D = c .before .before .before .before .before .before in
-    let S = D .before .before .before .before in
+    let D = c .before .before .before .before .before .before in let S = D .before .before .before .before in
     finish (_ ∷ []) (then (decimalOf (S .args .k / 10)) ((S .args .k % 10 + 48) ∷ []) (begin (S .args .out .now) (decimal-large (S .args .k) (omega arith) (S .fits .k .fits)) (S .pre .1)) (D .decimal .ensures)) (c .before .before .byte2 .ensures)
 
 pub +decimal-spec : {M : Type 1} → statement M
-+decimal-spec = close μ-decimal λ t. decimal-lts.spec (
-  byte-reads.Asked,
-  byte-reads.Learnt,
-  decimal-below t,
-  decimal.Post,
-)
-    (decimal-at t)
-    decimal.Post
-    (decimal-add-byte t)
-    (decimal-cast-byte t)
-    (decimal-byte-requires t)
-    (decimal-same-length t)
-    (decimal-returns t)
-    (decimal-decimal-requires t)
-    (decimal-add-byte-2 t)
-    (decimal-cast-byte-2 t)
-    (decimal-byte-requires-2 t)
-    (decimal-same-length-2 t)
-    (decimal-returns-2 t)
++decimal-spec = close μ-decimal λ t. decimal-lts.spec (decimal-claims t) (decimal-at t) decimal.Post (λ c. omega arith) (λ c. omega arith)
+    (decimal-byte-requires t) (λ c. search needs) (decimal-returns t) (decimal-decimal-requires t) (λ c. omega arith) (λ c. omega arith)
+    (decimal-byte-requires-2 t) (λ c. search needs) (decimal-returns-2 t)

@@ -4,29 +4,25 @@ use native.Mathlib.Omega.{arith}
 use borrow.Author.Needs.{needs}
 use Rattle.printing.specs.Printed.{begin, room-for, next as then, finish}
 use Rattle.printing.specs.Lines.{field, count-is}
-use Rattle.printing.proofs.count_line.Statement.{statement}
 use Rattle.printing.proofs.count_line.Tie as tie
 
 text-requires : tie.Need-text-requires
 text-requires c κs =
-    let S = c .before .before .before .before in
-    let l0 = begin (S .args .out .now) (count-is (S .args .name .now) (S .args .k)) (S .pre) in
+    let S = c .before .before .before .before in let l0 = begin (S .args .out .now) (count-is (S .args .name .now) (S .args .k)) (S .pre) in
     room-for (99 ∷ 111 ∷ 117 ∷ 110 ∷ 116 ∷ 9 ∷ []) _ l0
 
 text-requires-2 : tie.Need-text-requires-2
 text-requires-2 c κs =
     let S = c .before .before .before .before .before .before .before .before in
     let l0 = begin (S .args .out .now) (count-is (S .args .name .now) (S .args .k)) (S .pre) in
-    let l1 = then (99 ∷ 111 ∷ 117 ∷ 110 ∷ 116 ∷ 9 ∷ []) _ l0 (c .before .before .before .text .ensures) in
-    room-for (S .args .name .now) _ l1
+    let l1 = then (99 ∷ 111 ∷ 117 ∷ 110 ∷ 116 ∷ 9 ∷ []) _ l0 (c .before .before .before .text .ensures) in room-for (S .args .name .now) _ l1
 
 field-requires : tie.Need-field-requires
 field-requires c κs =
     let S = c .before .before .before .before .before .before .before .before .before .before .before .before in
     let l0 = begin (S .args .out .now) (count-is (S .args .name .now) (S .args .k)) (S .pre) in
     let l1 = then (99 ∷ 111 ∷ 117 ∷ 110 ∷ 116 ∷ 9 ∷ []) _ l0 (c .before .before .before .before .before .before .before .text .ensures) in
-    let l2 = then (S .args .name .now) _ l1 (c .before .before .before .text2 .ensures) in
-    room-for (field (S .args .k)) _ l2
+    let l2 = then (S .args .name .now) _ l1 (c .before .before .before .text2 .ensures) in room-for (field (S .args .k)) _ l2
 
 byte-requires : tie.Need-byte-requires
 byte-requires c κs =
@@ -34,8 +30,7 @@ byte-requires c κs =
     let l0 = begin (S .args .out .now) (count-is (S .args .name .now) (S .args .k)) (S .pre) in
     let l1 = then (99 ∷ 111 ∷ 117 ∷ 110 ∷ 116 ∷ 9 ∷ []) _ l0 (c .before .before .before .before .before .before .before .before .before .before .before .text .ensures) in
     let l2 = then (S .args .name .now) _ l1 (c .before .before .before .before .before .before .before .text2 .ensures) in
-    let l3 = then (field (S .args .k)) _ l2 (c .before .before .before .field .ensures) in
-    omega (arith, room-for (10 ∷ []) _ l3)
+    let l3 = then (field (S .args .k)) _ l2 (c .before .before .before .field .ensures) in omega (arith, room-for (10 ∷ []) _ l3)
 
 returns : tie.Need-returns
 returns c =
@@ -46,5 +41,5 @@ returns c =
     let l3 = then (field (S .args .k)) _ l2 (c .before .before .before .before .before .before .field .ensures) in
     finish _ l3 (c .before .before .byte .ensures)
 
-pub count-line-spec : {M : Type 1} → statement M
+pub count-line-spec : {M : Type 1} → Rattle.printing.proofs.count_line.Statement.statement M
 count-line-spec = tie.close (tie.spec (λ c. search needs) text-requires text-requires-2 field-requires byte-requires (λ c. search needs) returns)

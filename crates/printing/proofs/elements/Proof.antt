@@ -6,7 +6,6 @@ use native.Mathlib.Nat.{one-le-pow, mod-lt}
 use Rattle.definitions.specs.Atoms.{placesOf}
 use Rattle.printing.specs.Printed.{Left, begin, recut, room-for, next as then, finished, left-length}
 use Rattle.printing.specs.Lines.{element, elements, fewer, next-place, no-places, narrower}
-use Rattle.printing.proofs.elements.Statement.{statement}
 use Rattle.printing.proofs.elements.Tie as tie
 
 abbrev Inv-loop : tie.InvT-loop
@@ -14,9 +13,6 @@ Inv-loop out₀ at site labels n arity tuples row width₀ left₀ next₀ out w
 
 abbrev μ-loop : tie.MeasureT-loop
 μ-loop out₀ at site labels n arity tuples row width₀ left₀ next₀ out width left next = left
-
-loop-holds : tie.Need-loop-holds Inv-loop μ-loop
-loop-holds c = (c .before .before .before .pre .2, begin _ refl (c .before .before .before .pre .3))
 
 div-element : tie.Need-div-element Inv-loop μ-loop
 div-element c =
@@ -34,30 +30,14 @@ element-requires c κs =
 
 loop-again : tie.Need-loop-again Inv-loop μ-loop
 loop-again c =
-    let a = c .before .before .before .before .before .before .before .before .before .args in
-    let l = c .before .before .before .before .before .loop in
-    let w = narrower (a .n) (l .left) (l .width) (omega arith) (omega arith) (l .inv .0) in
+    let s = c .before .before .before .before .before .before .before .before .before in let a = s .args in
+    let l = c .before .before .before .before .before .loop in let w = narrower (a .n) (l .left) (l .width) (omega arith) (omega arith) (l .inv .0) in
     (w, then (element (a .site .now) (a .labels .now) (a .row / (a .n ^ (l .left - 1)) % a .n)) _ (recut (next-place (a .site .now) (a .labels .now) (a .n) (l .left) (a .row) (omega arith)) (l .inv .1)) (rw w at (c .before .before .element .ensures)))
-
-same-length : tie.Need-same-length Inv-loop μ-loop
-same-length c = left-length (c .before .loop .inv .1)
 
 returns : tie.Need-returns Inv-loop μ-loop
 returns c = let a = c .before .before .before .before .before .args in finished (recut (no-places (a .site .now) (a .labels .now) (a .n) (c .before .loop .left) (a .row) (omega arith)) (c .before .loop .inv .1))
 
-pub elements-spec : {M : Type 1} → statement M
-elements-spec =
-    tie.close
-    (tie.spec
-    Inv-loop
-    μ-loop
-    loop-holds
-    (λ c. omega arith)
-    div-element
-    (λ c. omega arith)
-    element-requires
-    (λ c. omega arith)
-    (λ c. omega arith)
-    loop-again
-    same-length
-    returns)
+pub elements-spec : {M : Type 1} → Rattle.printing.proofs.elements.Statement.statement M
+elements-spec = tie.close (tie.spec Inv-loop μ-loop (λ c. (c .before .before .before .pre .2, begin _ refl (c .before .before .before .pre .3)))
+    (λ c. omega arith) div-element (λ c. omega arith) element-requires (λ c. omega arith) (λ c. omega arith) loop-again
+    (λ c. left-length (c .before .loop .inv .1)) returns)

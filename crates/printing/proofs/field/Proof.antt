@@ -4,21 +4,16 @@ use native.Mathlib.Omega.{arith}
 use borrow.Author.Needs.{needs}
 use Rattle.printing.specs.Printed.{begin, room-for, next as then, finish}
 use Rattle.printing.specs.Lines.{field-is}
-use Rattle.printing.proofs.field.Statement.{statement}
 use Rattle.printing.proofs.field.Tie as tie
 
 byte-requires : tie.Need-byte-requires
 byte-requires c κs =
-    let S = c .before .before in
-    let l0 = begin (S .args .out .now) (field-is (S .args .k)) (S .pre) in
-    omega (arith, room-for (9 ∷ []) _ l0)
+    let S = c .before .before in let l0 = begin (S .args .out .now) (field-is (S .args .k)) (S .pre) in omega (arith, room-for (9 ∷ []) _ l0)
 
 decimal-requires : tie.Need-decimal-requires
 decimal-requires c κs =
-    let S = c .before .before .before .before .before .before in
-    let l0 = begin (S .args .out .now) (field-is (S .args .k)) (S .pre) in
-    let l1 = then (9 ∷ []) _ l0 (c .before .before .before .byte .ensures) in
-    l1 .room
+    let S = c .before .before .before .before .before .before in let l0 = begin (S .args .out .now) (field-is (S .args .k)) (S .pre) in
+    let l1 = then (9 ∷ []) _ l0 (c .before .before .before .byte .ensures) in l1 .room
 
 returns : tie.Need-returns
 returns c =
@@ -27,5 +22,5 @@ returns c =
     let l1 = then (9 ∷ []) _ l0 (c .before .before .before .before .before .before .byte .ensures) in
     finish _ l1 (c .before .before .decimal .ensures)
 
-pub field-spec : {M : Type 1} → statement M
+pub field-spec : {M : Type 1} → Rattle.printing.proofs.field.Statement.statement M
 field-spec = tie.close (tie.spec byte-requires decimal-requires (λ c. search needs) returns)

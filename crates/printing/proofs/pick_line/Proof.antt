@@ -5,7 +5,6 @@ use Rattle.definitions.specs.Atoms.{placesOf}
 use Rattle.printing.specs.Printed.{begin, room-for, next as then, finish}
 use Rattle.printing.specs.Lines.{elements, pick-is}
 use borrow.Author.Needs.{needs}
-use Rattle.printing.proofs.pick_line.Statement.{statement}
 use Rattle.printing.proofs.pick_line.Tie as tie
 
 text-requires : tie.Need-text-requires
@@ -18,8 +17,7 @@ text-requires-2 : tie.Need-text-requires-2
 text-requires-2 c κs =
     let S = c .before .before .before .before .before .before .before .before .before .before in
     let l0 = begin (S .args .out .now) (pick-is (S .args .site .now) (S .args .labels .now) (S .args .name .now) (placesOf (S .args .n) (S .args .arity) (S .args .row))) (S .pre .3) in
-    let l1 = then (112 ∷ 105 ∷ 99 ∷ 107 ∷ 9 ∷ []) _ l0 (c .before .before .before .text .ensures) in
-    room-for (S .args .name .now) _ l1
+    let l1 = then (112 ∷ 105 ∷ 99 ∷ 107 ∷ 9 ∷ []) _ l0 (c .before .before .before .text .ensures) in room-for (S .args .name .now) _ l1
 
 elements-requires : tie.Need-elements-requires
 elements-requires c κs =
@@ -47,14 +45,5 @@ returns c =
     let l3 = then (elements (S .args .site .now) (S .args .labels .now) (placesOf (S .args .n) (S .args .arity) (S .args .row))) _ l2 (c .before .before .before .before .before .before .elements .ensures) in
     finish _ l3 (c .before .before .byte .ensures)
 
-pub pick-line-spec : {M : Type 1} → statement M
-pick-line-spec =
-    tie.close
-    (tie.spec
-    (λ c. search needs)
-    text-requires
-    text-requires-2
-    elements-requires
-    byte-requires
-    (λ c. search needs)
-    returns)
+pub pick-line-spec : {M : Type 1} → Rattle.printing.proofs.pick_line.Statement.statement M
+pick-line-spec = tie.close (tie.spec (λ c. search needs) text-requires text-requires-2 elements-requires byte-requires (λ c. search needs) returns)

@@ -7,7 +7,6 @@ use borrow.Author.Needs.{needs}
 use lib.ListN.{length, drop}
 use Rattle.printing.specs.Printed.{Left, begin, recut, room-for, next as then, finished, left-length}
 use Rattle.printing.specs.Lines.{next-byte, no-byte}
-use Rattle.printing.proofs.text.Statement.{statement}
 use Rattle.printing.proofs.text.Tie as tie
 
 abbrev Inv-loop : tie.InvT-loop
@@ -15,9 +14,6 @@ Inv-loop out₀ at s i₀ next₀ out i next = (i ≤ length s) × Left s out₀
 
 abbrev μ-loop : tie.MeasureT-loop
 μ-loop out₀ at s i₀ next₀ out i next = length s - i
-
-loop-holds : tie.Need-loop-holds Inv-loop μ-loop
-loop-holds c = (omega arith, begin _ refl (c .before .before .pre))
 
 byte-requires : tie.Need-byte-requires Inv-loop μ-loop
 byte-requires c κs =
@@ -29,13 +25,7 @@ loop-again c =
     let L = c .before .before .before .before .before .before in
     (omega arith, then (_ ∷ []) _ (recut (next-byte (L .before .before .before .args .s .now) (L .loop .i) (omega arith)) (L .loop .inv .1)) (c .before .before .byte .ensures))
 
-same-length : tie.Need-same-length Inv-loop μ-loop
-same-length c = left-length (c .before .loop .inv .1)
-
-returns : tie.Need-returns Inv-loop μ-loop
-returns c =
-    let L = c .before in
-    finished (recut (no-byte (L .before .before .before .args .s .now) (L .loop .i) (omega arith)) (L .loop .inv .1))
-
-pub text-spec : {M : Type 1} → statement M
-text-spec = tie.close (tie.spec Inv-loop μ-loop loop-holds (λ c. search needs) byte-requires (λ c. search needs) (λ c. omega arith) loop-again same-length returns)
+pub text-spec : {M : Type 1} → Rattle.printing.proofs.text.Statement.statement M
+text-spec = tie.close (tie.spec Inv-loop μ-loop (λ c. (omega arith, begin _ refl (c .before .before .pre))) (λ c. search needs) byte-requires
+    (λ c. search needs) (λ c. omega arith) loop-again (λ c. left-length (c .before .loop .inv .1))
+    (λ c. let L = c .before in finished (recut (no-byte (L .before .before .before .args .s .now) (L .loop .i) (omega arith)) (L .loop .inv .1))))

@@ -2,21 +2,18 @@
 use mathlib.Core.Path.{sym, _∙_}
 use borrow.Author.Needs.{needs}
 use Rattle.question.proofs.Judging.{name-malformed, name-declared, name-new}
-use Rattle.question.proofs.name_fault.Statement.{statement}
 use Rattle.question.proofs.name_fault.Tie as tie
 
 returns : tie.Need-returns
-returns c =
+returns c g l =
     let t = c .before .before .before .before in
-    λ g l. name-declared _ g _ (sym (t .before .is-relation-name .ensures) ∙ t .if1 .taken) (sym (c .before .is-declared .ensures g l) ∙ c .if2 .taken)
+    name-declared _ g _ (sym (t .before .is-relation-name .ensures) ∙ t .if1 .taken) (sym (c .before .is-declared .ensures g l) ∙ c .if2 .taken)
 
 returns-2 : tie.Need-returns-2
-returns-2 c =
+returns-2 c g l =
     let t = c .before .before .before .before in
-    λ g l. name-new _ g _ (sym (t .before .is-relation-name .ensures) ∙ t .if1 .taken) (sym (c .before .is-declared .ensures g l) ∙ c .if2 .left)
+    name-new _ g _ (sym (t .before .is-relation-name .ensures) ∙ t .if1 .taken) (sym (c .before .is-declared .ensures g l) ∙ c .if2 .left)
 
-returns-3 : tie.Need-returns-3
-returns-3 c = λ g l. name-malformed _ g _ (sym (c .before .is-relation-name .ensures) ∙ c .if1 .left)
-
-pub name-fault-spec : {M : Type 1} → statement M
-name-fault-spec = tie.close (tie.spec (λ c κs. search needs) (λ c κs. search needs) returns returns-2 returns-3)
+pub name-fault-spec : {M : Type 1} → Rattle.question.proofs.name_fault.Statement.statement M
+name-fault-spec = tie.close (tie.spec (λ c κs. search needs) (λ c κs. search needs) returns returns-2
+    (λ c g l. name-malformed _ g _ (sym (c .before .is-relation-name .ensures) ∙ c .if1 .left)))

@@ -1,12 +1,9 @@
 -- `question::no_relations` meets its contract.
 use mathlib.Core.Path.{refl}
 use Rattle.question.specs.Drafts.{noSignature}
-use Rattle.question.proofs.no_relations.Statement.{statement}
 use Rattle.question.proofs.no_relations.Tie as tie
 
-returns : tie.Need-returns
+pub no-relations-spec : {M : Type 1} → Rattle.question.proofs.no_relations.Statement.statement M
 unfolding noSignature
-returns c = refl
-
-pub no-relations-spec : {M : Type 1} → statement M
-no-relations-spec = tie.close (tie.spec returns)
+no-relations-spec =
+    tie.close (tie.spec (λ c. refl))

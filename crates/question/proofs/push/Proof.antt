@@ -1,27 +1,11 @@
 -- `question::push` meets its contract.
-use Prim.Native.Nat.{_-_}
 use mathlib.Core.Path.{refl}
 use borrow.Author.Needs.{needs}
 use Rattle.question.specs.Drafts.{pushed}
-use Rattle.question.proofs.push.Statement.{statement}
 use Rattle.question.proofs.push.Tie as tie
 
-returns : tie.Need-returns
+pub push-spec : {M : Type 1} → Rattle.question.proofs.push.Statement.statement M
 unfolding pushed
-returns c = refl
-
-pub push-spec : {M : Type 1} → statement M
 push-spec =
-    tie.close
-    (tie.spec
-    (λ c. search needs)
-    (λ c. search needs)
-    (λ c. search needs)
-    (λ c. search needs)
-    (λ c. search needs)
-    (λ c. search needs)
-    (λ c. search needs)
-    (λ c. search needs)
-    (λ c. search needs)
-    (λ c. search needs)
-    returns)
+    tie.close (tie.spec (λ c. search needs) (λ c. search needs) (λ c. search needs) (λ c. search needs) (λ c. search needs) (λ c. search needs)
+    (λ c. search needs) (λ c. search needs) (λ c. search needs) (λ c. search needs) (λ c. refl))

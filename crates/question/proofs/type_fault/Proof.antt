@@ -2,21 +2,18 @@
 use mathlib.Core.Path.{sym, _∙_}
 use borrow.Author.Needs.{needs}
 use Rattle.question.proofs.Judging.{type-malformed, type-twice, type-new}
-use Rattle.question.proofs.type_fault.Statement.{statement}
 use Rattle.question.proofs.type_fault.Tie as tie
 
 returns : tie.Need-returns
 returns c =
-    let t = c .before .before in
-    type-twice _ _ (sym (t .before .before .before .before .is-relation-name .ensures) ∙ t .before .before .before .if1 .taken) _ (t .type-named .ensures) _ (c .enum-told .given .1)
+    let t = c .before .before in let n = t .before .before .before in
+    type-twice _ _ (sym (n .before .is-relation-name .ensures) ∙ n .if1 .taken) _ (t .type-named .ensures) _ (c .enum-told .given .1)
 
 returns-2 : tie.Need-returns-2
 returns-2 c =
-    let t = c .before .before in
-    type-new _ _ (sym (t .before .before .before .before .is-relation-name .ensures) ∙ t .before .before .before .if1 .taken) _ (t .type-named .ensures) (c .enum-told2 .given .1)
+    let t = c .before .before in let n = t .before .before .before in
+    type-new _ _ (sym (n .before .is-relation-name .ensures) ∙ n .if1 .taken) _ (t .type-named .ensures) (c .enum-told2 .given .1)
 
-returns-3 : tie.Need-returns-3
-returns-3 c = type-malformed _ _ (sym (c .before .is-relation-name .ensures) ∙ c .if1 .left)
-
-pub type-fault-spec : {M : Type 1} → statement M
-type-fault-spec = tie.close (tie.spec (λ c κs. search needs) (λ c κs. search needs) (λ c. search needs) (λ c. search needs) returns returns-2 returns-3)
+pub type-fault-spec : {M : Type 1} → Rattle.question.proofs.type_fault.Statement.statement M
+type-fault-spec = tie.close (tie.spec (λ c κs. search needs) (λ c κs. search needs) (λ c. search needs) (λ c. search needs) returns returns-2
+    (λ c. type-malformed _ _ (sym (c .before .is-relation-name .ensures) ∙ c .if1 .left)))

@@ -7,7 +7,6 @@ use Rattle.definitions.specs.Atoms.{wordsFor}
 use Rattle.sheets.specs.Opening.{filed-read}
 use Rattle.sheets.proofs.Loops.{no-label-words, zeros-clear}
 use Rattle.sheets.proofs.Turns.{picks-room, upTo}
-use Rattle.readers_main.proofs.read_picks.Statement.{statement}
 use Rattle.readers_main.proofs.read_picks.Tie as tie
 
 read-filed-requires : tie.Need-read-filed-requires
@@ -21,19 +20,6 @@ picks-requires c κs =
     let p = pow-le-pow-left (h .few-elements) 3 in
     ((h .sound, h .few-elements, picks-room _ _ (h .sound) _ 16384 (omega (arith, p)), zeros-clear 16384), (f .labels, l))
 
-pub read-picks-spec : {M : Type 1} → statement M
-read-picks-spec =
-    tie.close
-    (tie.spec
-    (λ c. search needs)
-    (λ c. search needs)
-    read-filed-requires
-    (λ c. search needs)
-    (λ c κs. search needs)
-    (λ c. search needs)
-    (λ c. search needs)
-    (λ c. search needs)
-    picks-requires
-    (λ c. search needs)
-    (λ c κs. search needs)
-    (λ c. search needs))
+pub read-picks-spec : {M : Type 1} → Rattle.readers_main.proofs.read_picks.Statement.statement M
+read-picks-spec = tie.close (tie.spec (λ c. search needs) (λ c. search needs) read-filed-requires (λ c. search needs) (λ c κs. search needs)
+    (λ c. search needs) (λ c. search needs) (λ c. search needs) picks-requires (λ c. search needs) (λ c κs. search needs) (λ c. search needs))

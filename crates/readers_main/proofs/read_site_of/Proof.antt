@@ -6,7 +6,6 @@ use Rattle.definitions.specs.Atoms.{wordsFor}
 use Rattle.question.proofs.Ending.{question-sound}
 use Rattle.sheets.proofs.Loops.{no-label-words, no-member-words, zeros-clear}
 use Rattle.sheets.proofs.Turns.{facts-room}
-use Rattle.readers_main.proofs.read_site_of.Statement.{statement}
 use Rattle.readers_main.proofs.read_site_of.Tie as tie
 
 site-requires : tie.Need-site-requires
@@ -15,15 +14,6 @@ site-requires c κs =
     let sound = question-sound _ _ (c .before .before .before .before .question .ensures) in
     (sound, omega arith, λ k next r l. let e = pow-le-pow-left l 3 in facts-room _ _ sound k 32768 (omega (arith, e)), no-label-words, no-member-words, zeros-clear 32768)
 
-pub read-site-of-spec : {M : Type 1} → statement M
-read-site-of-spec =
-    tie.close
-    (tie.spec
-    (λ c κs. search needs)
-    (λ c. search needs)
-    (λ c. search needs)
-    (λ c. search needs)
-    site-requires
-    (λ c. search needs)
-    (λ c κs. search needs)
-    (λ c. search needs))
+pub read-site-of-spec : {M : Type 1} → Rattle.readers_main.proofs.read_site_of.Statement.statement M
+read-site-of-spec = tie.close (tie.spec (λ c κs. search needs) (λ c. search needs) (λ c. search needs) (λ c. search needs) site-requires
+    (λ c. search needs) (λ c κs. search needs) (λ c. search needs))

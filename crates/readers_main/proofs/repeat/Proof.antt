@@ -4,7 +4,6 @@ use mathlib.Core.Path.{_≡_, refl, _∙_}
 use native.Mathlib.Omega.{arith}
 use borrow.Author.Needs.{needs}
 use lib.ListN.{length, length-set}
-use Rattle.readers_main.proofs.repeat.Statement.{statement}
 use Rattle.readers_main.proofs.repeat.Tie as tie
 
 abbrev Inv-loop : tie.InvT-loop
@@ -13,20 +12,7 @@ Inv-loop out₀ line i₀ out i = (i ≤ length out₀) × (length out ≡ lengt
 abbrev μ-loop : tie.MeasureT-loop
 μ-loop out₀ line i₀ out i = length out₀ - i
 
-loop-again : tie.Need-loop-again Inv-loop μ-loop
-loop-again c = (omega arith, length-set (c .before .loop .out) (c .before .loop .i) _ ∙ c .before .loop .inv .1)
-
-pub repeat-spec : {M : Type 1} → statement M
-repeat-spec =
-    tie.close
-    (tie.spec
-    Inv-loop
-    μ-loop
-    (λ c. (omega arith, refl))
-    (λ c. search needs)
-    (λ c. search needs)
-    (λ c. omega arith)
-    (λ c. omega arith)
-    loop-again
-    (λ c. search needs)
+pub repeat-spec : {M : Type 1} → Rattle.readers_main.proofs.repeat.Statement.statement M
+repeat-spec = tie.close (tie.spec Inv-loop μ-loop (λ c. (omega arith, refl)) (λ c. search needs) (λ c. search needs) (λ c. omega arith)
+    (λ c. omega arith) (λ c. (omega arith, length-set (c .before .loop .out) (c .before .loop .i) _ ∙ c .before .loop .inv .1)) (λ c. search needs)
     (λ c. search needs))

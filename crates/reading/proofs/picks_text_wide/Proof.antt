@@ -2,27 +2,10 @@
 use Rattle.sheets.proofs.Loops.{zeros-clear}
 use Rattle.asking.specs.Rooms.{many-room}
 use borrow.Author.Needs.{needs}
-use Rattle.reading.proofs.picks_text_wide.Statement.{statement}
 use Rattle.reading.proofs.picks_text_wide.Tie as tie
 
-picks-text-in-requires : tie.Need-picks-text-in-requires
-picks-text-in-requires c κs = (c .before .before .before .before .is-small .ensures (c .before .before .before .if1 .taken), zeros-clear 512)
-
-picks-text-in-requires-2 : tie.Need-picks-text-in-requires-2
-picks-text-in-requires-2 c κs = (many-room _, zeros-clear 32768)
-
-pub picks-text-wide-spec : {M : Type 1} → statement M
-picks-text-wide-spec =
-    tie.close
-    (tie.spec
-    (λ c κs. search needs)
-    (λ c. search needs)
-    picks-text-in-requires
-    (λ c. search needs)
-    (λ c. search needs)
-    (λ c. search needs)
-    (λ c. search needs)
-    picks-text-in-requires-2
-    (λ c. search needs)
-    (λ c. search needs)
+pub picks-text-wide-spec : {M : Type 1} → Rattle.reading.proofs.picks_text_wide.Statement.statement M
+picks-text-wide-spec = tie.close (tie.spec (λ c κs. search needs) (λ c. search needs)
+    (λ c κs. (c .before .before .before .before .is-small .ensures (c .before .before .before .if1 .taken), zeros-clear 512)) (λ c. search needs)
+    (λ c. search needs) (λ c. search needs) (λ c. search needs) (λ c κs. (many-room _, zeros-clear 32768)) (λ c. search needs) (λ c. search needs)
     (λ c. search needs))

@@ -6,20 +6,17 @@ use lib.Seq.{length-take-le}
 use Rattle.asking.specs.Replies.{text-refused, text-taken, text-room}
 use Rattle.reading.specs.Reads.{call-steps}
 use borrow.Author.Needs.{needs}
-use Rattle.reading.proofs.read_listed.Statement.{statement}
 use Rattle.reading.proofs.read_listed.Tie as tie
 
 slice-reshare-prefix-read-steps : tie.Need-slice-reshare-prefix-read-steps
 slice-reshare-prefix-read-steps c =
-    let at-list = c .before .before .before .before in
-    let at-steps = at-list .before in
+    let at-list = c .before .before .before .before in let at-steps = at-list .before in
     let s = at-steps .before .before .before .before .before .before .before .before in
     omega (arith, at-list .list .given, text-room _ [] _ _ _ (at-steps .steps .ensures .0) (c .before .a2 .given .1) (s .pre .1))
 
 slice-aggregate-read-steps : tie.Need-slice-aggregate-read-steps
 slice-aggregate-read-steps c =
-    let at-list = c .before .before .before .before .before in
-    let at-steps = at-list .before in
+    let at-list = c .before .before .before .before .before in let at-steps = at-list .before in
     let s = at-steps .before .before .before .before .before .before .before .before in
     sym (length-take-le _ _ (omega (arith, at-list .list .given, text-room _ [] _ _ _ (at-steps .steps .ensures .0) (c .before .before .a2 .given .1) (s .pre .1))))
 
@@ -30,24 +27,11 @@ returns c =
 
 returns-2 : tie.Need-returns-2
 returns-2 c =
-    let at-read-steps = c .before .before .before .before in
-    let at-a2 = at-read-steps .before .before .before .before .before in
+    let at-read-steps = c .before .before .before .before in let at-a2 = at-read-steps .before .before .before .before .before in
     let at-steps = at-a2 .before .before .before .before in
     at-read-steps .read-steps .ensures _ (text-taken _ _ _ _ (at-steps .steps .ensures .0) (at-a2 .a2 .given .1) _ (at-steps .steps .ensures .1 _ (at-a2 .a2 .given .1)))
 
-pub read-listed-spec : {M : Type 1} → statement M
-read-listed-spec =
-    tie.close
-    (tie.spec
-    (λ c κs. search needs)
-    (λ c. search needs)
-    (λ c. search needs)
-    slice-reshare-prefix-read-steps
-    slice-aggregate-read-steps
-    (λ c κs. search needs)
-    (λ c. search needs)
-    returns
-    (λ c. search needs)
-    (λ c. search needs)
-    (λ c. search needs)
+pub read-listed-spec : {M : Type 1} → Rattle.reading.proofs.read_listed.Statement.statement M
+read-listed-spec = tie.close (tie.spec (λ c κs. search needs) (λ c. search needs) (λ c. search needs) slice-reshare-prefix-read-steps
+    slice-aggregate-read-steps (λ c κs. search needs) (λ c. search needs) returns (λ c. search needs) (λ c. search needs) (λ c. search needs)
     returns-2)

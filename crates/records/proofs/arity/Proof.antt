@@ -5,22 +5,11 @@ use borrow.Author.Needs.{needs}
 use Rattle.text.specs.Spans.{numOf}
 use Rattle.records.proofs.Made.{arity-of, arity-no}
 use Rattle.records.proofs.Fields.{num-is, num-bad, arity-bad, arity-low, arity-high, arity-good}
-use Rattle.records.proofs.arity.Statement.{statement}
 use Rattle.records.proofs.arity.Tie as tie
 
-returns : tie.Need-returns
-returns c = (sym (ap numOf (arity-low _ _ (num-is _ _ _ (c .before .before .n .given .1) (c .before .before .before .before .number .ensures)) (omega arith))), arity-no)
-
-returns-2 : tie.Need-returns-2
-returns-2 c = (sym (ap numOf (arity-high _ _ (num-is _ _ _ (c .before .before .before .n .given .1) (c .before .before .before .before .before .number .ensures)) (omega arith) (omega arith))), arity-no)
-
-returns-3 : tie.Need-returns-3
-returns-3 c = (sym (ap numOf (arity-bad _ (num-bad _ _ (c .enum-told .given .1) (c .before .before .number .ensures)))), arity-no)
-
-returns-4 : tie.Need-returns-4
-returns-4 c = (sym (ap numOf (arity-good _ _ (num-is _ _ _ (c .before .before .before .n .given .1) (c .before .before .before .before .before .number .ensures)) (omega arith) (omega arith))), arity-of _ (omega arith) (omega arith))
-
-pub arity-spec : {M : Type 1} → statement M
-arity-spec =
-    tie.close
-    (tie.spec (λ c κs. search needs) (λ c. search needs) (λ c. search needs) returns returns-2 returns-3 returns-4)
+pub arity-spec : {M : Type 1} → Rattle.records.proofs.arity.Statement.statement M
+arity-spec = tie.close (tie.spec (λ c κs. search needs) (λ c. search needs) (λ c. search needs)
+    (λ c. (sym (ap numOf (arity-low _ _ (num-is _ _ _ (c .before .before .n .given .1) (c .before .before .before .before .number .ensures)) (omega arith))), arity-no))
+    (λ c. (sym (ap numOf (arity-high _ _ (num-is _ _ _ (c .before .before .before .n .given .1) (c .before .before .before .before .before .number .ensures)) (omega arith) (omega arith))), arity-no))
+    (λ c. (sym (ap numOf (arity-bad _ (num-bad _ _ (c .enum-told .given .1) (c .before .before .number .ensures)))), arity-no))
+    (λ c. (sym (ap numOf (arity-good _ _ (num-is _ _ _ (c .before .before .before .n .given .1) (c .before .before .before .before .before .number .ensures)) (omega arith) (omega arith))), arity-of _ (omega arith) (omega arith))))

@@ -1,24 +1,11 @@
 -- `records::last` meets its contract.
 use native.Mathlib.Omega.{arith}
 use borrow.Author.Needs.{needs}
-use Rattle.text.proofs.Laws.{end-within}
 use Rattle.records.proofs.Fields.{num-is, num-bad, last-bad, last-over, last-good}
-use Rattle.records.proofs.last.Statement.{statement}
 use Rattle.records.proofs.last.Tie as tie
+use Rattle.records.proofs.Tabs.{found}
 
-element-requires : tie.Need-element-requires
-element-requires c κs = omega (arith, c .find .ensures, end-within 9 (c .before .before .args .a) (c .before .before .args .e) (c .before .before .args .s .now) (omega arith) (omega arith))
-
-returns : tie.Need-returns
-returns c = last-over (c .before .before .before .before .before .before .before .args .s .now) (c .before .before .before .before .before .before .before .args .a) (c .before .before .before .before .before .before .before .args .e) (omega arith) (omega arith) (c .before .before .before .before .before .find .result) (c .before .before .before .before .before .find .ensures) (c .before .before .before .before .before .before .before .args .x) (c .before .before .before .before .before .before .before .args .y) (omega arith)
-
-returns-2 : tie.Need-returns-2
-returns-2 c = last-bad (c .before .before .before .before .before .args .s .now) (c .before .before .before .before .before .args .a) (c .before .before .before .before .before .args .e) (omega arith) (omega arith) (c .before .before .before .find .result) (c .before .before .before .find .ensures) (c .before .before .before .before .before .args .x) (c .before .before .before .before .before .args .y) (num-bad _ _ (c .enum-told .given .1) (c .before .before .element .ensures))
-
-returns-3 : tie.Need-returns-3
-returns-3 c = last-good (c .before .before .before .before .before .before .before .args .s .now) (c .before .before .before .before .before .before .before .args .a) (c .before .before .before .before .before .before .before .args .e) (omega arith) (omega arith) (c .before .before .before .before .before .find .result) (c .before .before .before .before .before .find .ensures) (c .before .before .before .before .before .before .before .args .x) (c .before .before .before .before .before .before .before .args .y) _ (num-is _ _ _ (c .before .before .n .given .1) (c .before .before .before .before .element .ensures)) (omega arith)
-
-pub last-spec : {M : Type 1} → statement M
-last-spec =
-    tie.close
-    (tie.spec (λ c κs. search needs) element-requires (λ c. search needs) (λ c. search needs) returns returns-2 returns-3)
+pub last-spec : {M : Type 1} → Rattle.records.proofs.last.Statement.statement M
+last-spec = tie.close (tie.spec (λ c κs. search needs) (λ c κs. omega (arith, found _ _ _ _ _ (c .before .before .pre) (c .find .ensures)))
+    (λ c. search needs) (λ c. search needs) (λ c. search (needs, last-over)) (λ c. search (needs, last-bad, num-bad))
+    (λ c. search (needs, last-good, num-is)))

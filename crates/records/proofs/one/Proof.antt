@@ -2,14 +2,8 @@
 use native.Mathlib.Omega.{arith}
 use borrow.Author.Needs.{needs}
 use Rattle.records.proofs.Fields.{one-yes, one-no}
-use Rattle.records.proofs.one.Statement.{statement}
 use Rattle.records.proofs.one.Tie as tie
 
-returns : tie.Need-returns
-returns c = one-no (c .before .before .before .args .a) (c .before .before .before .args .e) (c .before .before .before .args .s .now) (omega arith) (omega arith) (c .before .find .result) (c .before .find .ensures) (omega arith)
-
-returns-2 : tie.Need-returns-2
-returns-2 c = one-yes (c .before .before .before .args .a) (c .before .before .before .args .e) (c .before .before .before .args .s .now) (omega arith) (omega arith) (c .before .find .result) (c .before .find .ensures) (omega arith)
-
-pub one-spec : {M : Type 1} → statement M
-one-spec = tie.close (tie.spec (λ c κs. search needs) returns returns-2)
+pub one-spec : {M : Type 1} → Rattle.records.proofs.one.Statement.statement M
+one-spec = tie.close (tie.spec (λ c κs. search needs) (λ c. one-no _ _ _ (omega arith) (omega arith) _ (c .before .find .ensures) (omega arith))
+    (λ c. one-yes _ _ _ (omega arith) (omega arith) _ (c .before .find .ensures) (omega arith)))

@@ -3,7 +3,6 @@ use Prim.Native.Nat.{_-_, _≤_}
 use native.Mathlib.Omega.{arith}
 use Rattle.printing.specs.Printed.{Left, begin, recut, room-for, next as then, finished, left-length}
 use Rattle.reporting.specs.Report.{countAt, counts, textsFrom, counts-all, next-text, no-text}
-use Rattle.reporting.proofs.counts.Statement.{statement}
 use Rattle.reporting.proofs.counts.Tie as tie
 
 abbrev Inv-loop : tie.InvT-loop
@@ -17,36 +16,20 @@ loop-holds c = let a = c .before .before .before .args in (omega arith, begin _ 
 
 count-requires : tie.Need-count-requires Inv-loop μ-loop
 count-requires c κs =
-    let a = c .before .before .before .before .before .before .args in
-    let p = c .before .before .before .before .before .before .pre in
+    let s = c .before .before .before .before .before .before in let a = s .args in let p = s .pre in
     (p .0, p .1, p .2, omega arith, p .3, room-for (countAt (a .q .now) (a .g) (a .n) (a .words .now) (c .before .before .loop .j)) _ (recut (next-text (countAt (a .q .now) (a .g) (a .n) (a .words .now)) (c .before .before .loop .j) (a .g .chosen) (omega arith)) (c .before .before .loop .inv .1)))
-
-add-j : tie.Need-add-j Inv-loop μ-loop
-add-j c = omega (arith, c .before .before .before .before .before .before .before .before .before .pre .0 .chosen-le)
 
 loop-again : tie.Need-loop-again Inv-loop μ-loop
 loop-again c =
-    let a = c .before .before .before .before .before .before .before .before .before .args in
-    (omega arith, then (countAt (a .q .now) (a .g) (a .n) (a .words .now) (c .before .before .before .before .before .loop .j)) _ (recut (next-text (countAt (a .q .now) (a .g) (a .n) (a .words .now)) (c .before .before .before .before .before .loop .j) (a .g .chosen) (omega arith)) (c .before .before .before .before .before .loop .inv .1)) (c .before .before .count .ensures))
-
-same-length : tie.Need-same-length Inv-loop μ-loop
-same-length c = left-length (c .before .loop .inv .1)
+    let l = c .before .before .before .before .before in let s = l .before .before .before .before in let a = s .args in
+    (omega arith, then (countAt (a .q .now) (a .g) (a .n) (a .words .now) (l .loop .j)) _ (recut (next-text (countAt (a .q .now) (a .g) (a .n) (a .words .now)) (l .loop .j) (a .g .chosen) (omega arith)) (l .loop .inv .1)) (c .before .before .count .ensures))
 
 returns : tie.Need-returns Inv-loop μ-loop
 returns c =
     let a = c .before .before .before .before .before .args in
     finished (recut (no-text (countAt (a .q .now) (a .g) (a .n) (a .words .now)) (c .before .loop .j) (a .g .chosen) (omega arith)) (c .before .loop .inv .1))
 
-pub counts-spec : {M : Type 1} → statement M
-counts-spec =
-    tie.close
-    (tie.spec
-    Inv-loop
-    μ-loop
-    loop-holds
-    count-requires
-    add-j
-    (λ c. omega arith)
-    loop-again
-    same-length
-    returns)
+pub counts-spec : {M : Type 1} → Rattle.reporting.proofs.counts.Statement.statement M
+counts-spec = tie.close (tie.spec Inv-loop μ-loop loop-holds count-requires
+    (λ c. omega (arith, c .before .before .before .before .before .before .before .before .before .pre .0 .chosen-le)) (λ c. omega arith) loop-again
+    (λ c. left-length (c .before .loop .inv .1)) returns)

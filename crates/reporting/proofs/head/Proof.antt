@@ -5,7 +5,6 @@ use Rattle.printing.specs.Printed.{begin, room-for, next as then, finish}
 use Rattle.printing.specs.Lines.{saidBy}
 use Rattle.reporting.specs.Report.{counts as countsOf, head-is}
 use borrow.Author.Needs.{needs}
-use Rattle.reporting.proofs.head.Statement.{statement}
 use Rattle.reporting.proofs.head.Tie as tie
 
 sizes-line-requires : tie.Need-sizes-line-requires
@@ -40,6 +39,5 @@ returns c =
     let l2 = then (countsOf (a .q .now) (a .g) (a .n) (a .words .now)) _ l1 (c .before .before .before .before .before .before .counts .ensures) in
     finish _ l2 (c .before .before .picks .ensures)
 
-pub head-spec : {M : Type 1} → statement M
-head-spec =
-    tie.close (tie.spec sizes-line-requires counts-requires picks-requires (λ c. search needs) returns)
+pub head-spec : {M : Type 1} → Rattle.reporting.proofs.head.Statement.statement M
+head-spec = tie.close (tie.spec sizes-line-requires counts-requires picks-requires (λ c. search needs) returns)

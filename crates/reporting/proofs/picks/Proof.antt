@@ -4,7 +4,6 @@ use native.Mathlib.Omega.{arith}
 use Rattle.printing.specs.Printed.{Left, begin, recut, room-for, next as then, finished, left-length}
 use Rattle.printing.specs.Lines.{saidBy}
 use Rattle.reporting.specs.Report.{picksAt, picks, textsFrom, picks-all, next-text, no-text}
-use Rattle.reporting.proofs.picks.Statement.{statement}
 use Rattle.reporting.proofs.picks.Tie as tie
 
 abbrev Inv-loop : tie.InvT-loop
@@ -18,36 +17,34 @@ loop-holds c = let a = c .before .before .before .before .before .args in (omega
 
 picked-requires : tie.Need-picked-requires Inv-loop μ-loop
 picked-requires c κs =
-    let a = c .before .before .before .before .before .before .before .before .args in
-    let p = c .before .before .before .before .before .before .before .before .pre in
-    (p .0, p .1, p .2, p .3, omega arith, p .4, room-for (picksAt (saidBy (a .site .now) (a .labels .now)) (a .q .now) (a .g) (a .n) (a .words .now) (c .before .before .loop .j)) _ (recut (next-text (picksAt (saidBy (a .site .now) (a .labels .now)) (a .q .now) (a .g) (a .n) (a .words .now)) (c .before .before .loop .j) (a .g .chosen) (omega arith)) (c .before .before .loop .inv .1)))
-
-add-j : tie.Need-add-j Inv-loop μ-loop
-add-j c = omega (arith, c .before .before .before .before .before .before .before .before .before .before .before .pre .0 .chosen-le)
+    let s = c .before .before .before .before .before .before .before .before in let a = s .args in let p = s .pre in (
+      p .0,
+      p .1,
+      p .2,
+      p .3,
+      omega arith,
+      p .4,
+      room-for
+          (picksAt (saidBy (a .site .now) (a .labels .now)) (a .q .now) (a .g) (a .n) (a .words .now) (c .before .before .loop .j)) _
+          (recut (next-text (picksAt (saidBy (a .site .now) (a .labels .now)) (a .q .now) (a .g) (a .n) (a .words .now)) (c .before .before .loop .j)
+          (a .g .chosen) (omega arith)) (c .before .before .loop .inv .1)),
+    )
 
 loop-again : tie.Need-loop-again Inv-loop μ-loop
 loop-again c =
-    let a = c .before .before .before .before .before .before .before .before .before .before .before .args in
-    (omega arith, then (picksAt (saidBy (a .site .now) (a .labels .now)) (a .q .now) (a .g) (a .n) (a .words .now) (c .before .before .before .before .before .loop .j)) _ (recut (next-text (picksAt (saidBy (a .site .now) (a .labels .now)) (a .q .now) (a .g) (a .n) (a .words .now)) (c .before .before .before .before .before .loop .j) (a .g .chosen) (omega arith)) (c .before .before .before .before .before .loop .inv .1)) (c .before .before .picked .ensures))
-
-same-length : tie.Need-same-length Inv-loop μ-loop
-same-length c = left-length (c .before .loop .inv .1)
+    let l = c .before .before .before .before .before in let s = l .before .before .before .before .before .before in let a = s .args in (
+      omega arith,
+      then (picksAt (saidBy (a .site .now) (a .labels .now)) (a .q .now) (a .g) (a .n) (a .words .now) (l .loop .j)) _
+          (recut (next-text (picksAt (saidBy (a .site .now) (a .labels .now)) (a .q .now) (a .g) (a .n) (a .words .now)) (l .loop .j) (a .g .chosen)
+          (omega arith)) (l .loop .inv .1)) (c .before .before .picked .ensures),
+    )
 
 returns : tie.Need-returns Inv-loop μ-loop
 returns c =
     let a = c .before .before .before .before .before .before .before .args in
     finished (recut (no-text (picksAt (saidBy (a .site .now) (a .labels .now)) (a .q .now) (a .g) (a .n) (a .words .now)) (c .before .loop .j) (a .g .chosen) (omega arith)) (c .before .loop .inv .1))
 
-pub picks-spec : {M : Type 1} → statement M
-picks-spec =
-    tie.close
-    (tie.spec
-    Inv-loop
-    μ-loop
-    loop-holds
-    picked-requires
-    add-j
-    (λ c. omega arith)
-    loop-again
-    same-length
-    returns)
+pub picks-spec : {M : Type 1} → Rattle.reporting.proofs.picks.Statement.statement M
+picks-spec = tie.close (tie.spec Inv-loop μ-loop loop-holds picked-requires
+    (λ c. omega (arith, c .before .before .before .before .before .before .before .before .before .before .before .pre .0 .chosen-le))
+    (λ c. omega arith) loop-again (λ c. left-length (c .before .loop .inv .1)) returns)

@@ -8,7 +8,6 @@ use Rattle.definitions.specs.Text.{lines}
 use Rattle.definitions.specs.Desk.{afterRule}
 use Rattle.records.specs.Lines.{linesAt}
 use Rattle.reporting.specs.Cutting.{lines-start, rule-here, rule-later, no-rule}
-use Rattle.reporting.proofs.question_end.Statement.{statement}
 use Rattle.reporting.proofs.question_end.Tie as tie
 
 abbrev Inv-loop : tie.InvT-loop
@@ -17,41 +16,25 @@ Inv-loop s n at₀ t5 at = (at ≤ length s) × (afterRule (length s) (lines s) 
 abbrev μ-loop : tie.MeasureT-loop
 μ-loop s n at₀ t5 at = length s - at
 
-loop-holds : tie.Need-loop-holds Inv-loop μ-loop
-loop-holds c = let a = c .before .args in (omega arith, ap (afterRule (length (a .s .now))) (lines-start (a .s .now)))
-
-is-record-requires : tie.Need-is-record-requires Inv-loop μ-loop
-is-record-requires c κs = (c .before .line .ensures .begins, c .before .line .ensures .ends)
-
 returns : tie.Need-returns Inv-loop μ-loop
 returns c =
+    let line = c .before .before .before .line in let l = c .before .before .before .before .before in
     let s = c .before .before .before .before .before .before .before .args .s .now in
-    sym (ap (λ k. min k (length s)) (c .before .before .before .before .before .loop .inv .1) ∙ rule-here s (c .before .before .before .before .before .loop .at) (c .before .before .before .line .result .end) (c .before .before .before .line .result .next) (c .before .before .before .line .ensures) (sym (c .before .is-record .ensures) ∙ c .if1 .taken))
-
-loop-less : tie.Need-loop-less Inv-loop μ-loop
-loop-less c = omega (arith, c .before .before .before .line .ensures .further, c .before .before .before .line .ensures .within)
+    sym (ap (λ k. min k (length s)) (l .loop .inv .1) ∙ rule-here s (l .loop .at) (line .result .end) (line .result .next) (line .ensures) (sym (c .before .is-record .ensures) ∙ c .if1 .taken))
 
 loop-again : tie.Need-loop-again Inv-loop μ-loop
 loop-again c =
+    let line = c .before .before .before .line in let l = c .before .before .before .before .before in
     let s = c .before .before .before .before .before .before .before .args .s .now in
-    (c .before .before .before .line .ensures .within, c .before .before .before .before .before .loop .inv .1 ∙ rule-later s (c .before .before .before .before .before .loop .at) (c .before .before .before .line .result .end) (c .before .before .before .line .result .next) (c .before .before .before .line .ensures) (sym (c .before .is-record .ensures) ∙ c .if1 .left))
+    (line .ensures .within, l .loop .inv .1 ∙ rule-later s (l .loop .at) (line .result .end) (line .result .next) (line .ensures) (sym (c .before .is-record .ensures) ∙ c .if1 .left))
 
 returns-2 : tie.Need-returns-2 Inv-loop μ-loop
 returns-2 c =
     let s = c .before .before .before .args .s .now in
     sym (ap (λ k. min k (length s)) (c .before .loop .inv .1) ∙ no-rule s (c .before .loop .at) (omega arith))
 
-pub question-end-spec : {M : Type 1} → statement M
-question-end-spec =
-    tie.close
-    (tie.spec
-    Inv-loop
-    μ-loop
-    loop-holds
-    (λ c κs. omega arith)
-    (λ c. search needs)
-    is-record-requires
-    returns
-    loop-less
-    loop-again
-    returns-2)
+pub question-end-spec : {M : Type 1} → Rattle.reporting.proofs.question_end.Statement.statement M
+question-end-spec = tie.close (tie.spec Inv-loop μ-loop
+    (λ c. let a = c .before .args in (omega arith, ap (afterRule (length (a .s .now))) (lines-start (a .s .now)))) (λ c κs. omega arith)
+    (λ c. search needs) (λ c κs. (c .before .line .ensures .begins, c .before .line .ensures .ends)) returns
+    (λ c. omega (arith, c .before .before .before .line .ensures .further, c .before .before .before .line .ensures .within)) loop-again returns-2)

@@ -4,7 +4,6 @@ use native.Mathlib.Omega.{arith}
 use Rattle.printing.specs.Printed.{Left, begin, recut, room-for, next as then, finished, left-length}
 use Rattle.printing.specs.Lines.{saidBy}
 use Rattle.reporting.specs.Report.{rowLine, rowLines, textsFrom, row-lines, next-text, no-text}
-use Rattle.reporting.proofs.row_lines.Statement.{statement}
 use Rattle.reporting.proofs.row_lines.Tie as tie
 
 abbrev Inv-loop : tie.InvT-loop
@@ -14,38 +13,39 @@ abbrev μ-loop : tie.MeasureT-loop
 μ-loop out₀ at words first name site labels n arity rows row₀ next₀ out row next = rows - row
 
 loop-holds : tie.Need-loop-holds Inv-loop μ-loop
-loop-holds c = let a = c .before .before .before .before .before .args in (omega arith, begin _ (row-lines (saidBy (a .site .now) (a .labels .now)) (a .words .now) (a .first) (a .name .now) (a .n) (a .arity)) (c .before .before .before .before .before .pre .5))
+loop-holds c =
+    let s = c .before .before .before .before .before in
+    let a = s .args in (omega arith, begin _ (row-lines (saidBy (a .site .now) (a .labels .now)) (a .words .now) (a .first) (a .name .now) (a .n) (a .arity)) (s .pre .5))
 
 row-line-requires : tie.Need-row-line-requires Inv-loop μ-loop
 row-line-requires c κs =
-    let a = c .before .before .before .before .before .before .before .before .args in
-    let p = c .before .before .before .before .before .before .before .before .pre in
-    (p .0, p .1, p .2, omega (arith, p .3), omega (arith, p .4), room-for (rowLine (saidBy (a .site .now) (a .labels .now)) (a .words .now) (a .first) (a .name .now) (a .n) (a .arity) (c .before .before .loop .row)) _ (recut (next-text (rowLine (saidBy (a .site .now) (a .labels .now)) (a .words .now) (a .first) (a .name .now) (a .n) (a .arity)) (c .before .before .loop .row) (a .n ^ a .arity) (omega (arith, p .2))) (c .before .before .loop .inv .1)))
+    let s = c .before .before .before .before .before .before .before .before in let a = s .args in let p = s .pre in (
+      p .0,
+      p .1,
+      p .2,
+      omega (arith, p .3),
+      omega (arith, p .4),
+      room-for
+          (rowLine (saidBy (a .site .now) (a .labels .now)) (a .words .now) (a .first) (a .name .now) (a .n) (a .arity) (c .before .before .loop .row)) _
+          (recut (next-text (rowLine (saidBy (a .site .now) (a .labels .now)) (a .words .now) (a .first) (a .name .now) (a .n) (a .arity))
+          (c .before .before .loop .row) (a .n ^ a .arity) (omega (arith, p .2))) (c .before .before .loop .inv .1)),
+    )
 
 loop-again : tie.Need-loop-again Inv-loop μ-loop
 loop-again c =
-    let a = c .before .before .before .before .before .before .before .before .before .before .before .args in
-    let p = c .before .before .before .before .before .before .before .before .before .before .before .pre in
-    (omega arith, then (rowLine (saidBy (a .site .now) (a .labels .now)) (a .words .now) (a .first) (a .name .now) (a .n) (a .arity) (c .before .before .before .before .before .loop .row)) _ (recut (next-text (rowLine (saidBy (a .site .now) (a .labels .now)) (a .words .now) (a .first) (a .name .now) (a .n) (a .arity)) (c .before .before .before .before .before .loop .row) (a .n ^ a .arity) (omega (arith, p .2))) (c .before .before .before .before .before .loop .inv .1)) (c .before .before .row-line .ensures))
-
-same-length : tie.Need-same-length Inv-loop μ-loop
-same-length c = left-length (c .before .loop .inv .1)
+    let l = c .before .before .before .before .before in let s = l .before .before .before .before .before .before in let a = s .args in
+    let p = s .pre in (
+      omega arith,
+      then (rowLine (saidBy (a .site .now) (a .labels .now)) (a .words .now) (a .first) (a .name .now) (a .n) (a .arity) (l .loop .row)) _
+          (recut (next-text (rowLine (saidBy (a .site .now) (a .labels .now)) (a .words .now) (a .first) (a .name .now) (a .n) (a .arity)) (l .loop .row)
+          (a .n ^ a .arity) (omega (arith, p .2))) (l .loop .inv .1)) (c .before .before .row-line .ensures),
+    )
 
 returns : tie.Need-returns Inv-loop μ-loop
 returns c =
-    let a = c .before .before .before .before .before .before .before .args in
-    finished (recut (no-text (rowLine (saidBy (a .site .now) (a .labels .now)) (a .words .now) (a .first) (a .name .now) (a .n) (a .arity)) (c .before .loop .row) (a .n ^ a .arity) (omega (arith, c .before .before .before .before .before .before .before .pre .2))) (c .before .loop .inv .1))
+    let s = c .before .before .before .before .before .before .before in let a = s .args in
+    finished (recut (no-text (rowLine (saidBy (a .site .now) (a .labels .now)) (a .words .now) (a .first) (a .name .now) (a .n) (a .arity)) (c .before .loop .row) (a .n ^ a .arity) (omega (arith, s .pre .2))) (c .before .loop .inv .1))
 
-pub row-lines-spec : {M : Type 1} → statement M
-row-lines-spec =
-    tie.close
-    (tie.spec
-    Inv-loop
-    μ-loop
-    loop-holds
-    row-line-requires
-    (λ c. omega arith)
-    (λ c. omega arith)
-    loop-again
-    same-length
-    returns)
+pub row-lines-spec : {M : Type 1} → Rattle.reporting.proofs.row_lines.Statement.statement M
+row-lines-spec = tie.close (tie.spec Inv-loop μ-loop loop-holds row-line-requires (λ c. omega arith) (λ c. omega arith) loop-again
+    (λ c. left-length (c .before .loop .inv .1)) returns)

@@ -4,19 +4,12 @@ use native.Mathlib.Omega.{arith}
 use Rattle.definitions.specs.Desk.{startsWithStep}
 use Rattle.reporting.specs.Cutting.{lines-start, starts-is, no-start}
 use borrow.Author.Needs.{needs}
-use Rattle.reporting.proofs.starts_with_step.Statement.{statement}
 use Rattle.reporting.proofs.starts_with_step.Tie as tie
-
-returns : tie.Need-returns
-returns c = let s = c .before .before .args .s .now in sym (ap startsWithStep (lines-start s) ∙ no-start s 0 (omega arith))
-
-is-record-requires : tie.Need-is-record-requires
-is-record-requires c κs = (c .before .line .ensures .begins, c .before .line .ensures .ends)
 
 returns-2 : tie.Need-returns-2
 returns-2 c = let s = c .before .before .before .before .before .args .s .now in c .is-record .ensures ∙ sym (ap startsWithStep (lines-start s) ∙ starts-is s 0 (c .before .before .line .result .end) (c .before .before .line .result .next) (c .before .before .line .ensures))
 
-pub starts-with-step-spec : {M : Type 1} → statement M
-starts-with-step-spec =
-    tie.close
-    (tie.spec returns (λ c κs. omega arith) (λ c. search needs) is-record-requires returns-2)
+pub starts-with-step-spec : {M : Type 1} → Rattle.reporting.proofs.starts_with_step.Statement.statement M
+starts-with-step-spec = tie.close (tie.spec
+    (λ c. let s = c .before .before .args .s .now in sym (ap startsWithStep (lines-start s) ∙ no-start s 0 (omega arith))) (λ c κs. omega arith)
+    (λ c. search needs) (λ c κs. (c .before .line .ensures .begins, c .before .line .ensures .ends)) returns-2)

@@ -2,12 +2,11 @@
 use mathlib.Core.Path.{refl}
 use Rattle.tree.specs.Postorder.{pad}
 use borrow.Author.Needs.{needs}
-use Rattle.rewriting.proofs.join_row.Statement.{statement}
 use Rattle.rewriting.proofs.join_row.Tie as tie
 
 returns : tie.Need-returns
 unfolding pad
 returns c = refl
 
-pub join-row-spec : {M : Type 1} → statement M
+pub join-row-spec : {M : Type 1} → Rattle.rewriting.proofs.join_row.Statement.statement M
 join-row-spec = tie.close (tie.spec (λ c. search needs) (λ c. search needs) returns)

@@ -2,12 +2,11 @@
 use mathlib.Core.Path.{refl}
 use Rattle.tree.specs.Postorder.{pad}
 use borrow.Author.Needs.{needs}
-use Rattle.rewriting.proofs.pair_row.Statement.{statement}
 use Rattle.rewriting.proofs.pair_row.Tie as tie
 
 returns : tie.Need-returns
 unfolding pad
 returns c = refl
 
-pub pair-row-spec : {M : Type 1} → statement M
+pub pair-row-spec : {M : Type 1} → Rattle.rewriting.proofs.pair_row.Statement.statement M
 pair-row-spec = tie.close (tie.spec (λ c. search needs) returns)

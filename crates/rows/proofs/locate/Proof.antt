@@ -5,10 +5,7 @@ use native.Mathlib.Omega.{arith}
 use borrow.Author.Needs.{needs}
 use lib.ListN.{length, getD}
 use Rattle.rows.specs.Laws.{stride-le, locate-start}
-use Rattle.rows.proofs.locate.Statement.{statement}
 use Rattle.rows.proofs.locate.Tie as tie
-use Rattle.rows.proofs.locate.Reads as reads
-use Rattle.rows.proofs.locate.Lts as lts
 
 abbrev Inv-loop : tie.InvT-loop
 Inv-loop table at stride count k low₀ high₀ low high = (low < high) × (high ≤ count) × (getD table (at + stride * low) 0 ≤ k) × (k < getD table (at + stride * high) 0)
@@ -18,8 +15,7 @@ abbrev μ-loop : tie.MeasureT-loop
 
 in-range : (c : tie.In-loop Inv-loop μ-loop) → c .before .before .args .at + c .before .before .args .stride * (c .before .loop .low + (c .before .loop .high - c .before .loop .low) / 2) < length (c .before .before .args .table .now)
 in-range c =
-    let L = c .before .loop in
-    let s = c .before .before in
+    let L = c .before .loop in let s = c .before .before in
     omega (arith, stride-le (s .args .stride) (L .low + (L .high - L .low) / 2) (s .args .count) (omega arith), s .pre .0)
 
 loop-holds : tie.Need-loop-holds Inv-loop μ-loop
@@ -27,45 +23,12 @@ loop-holds c =
     let q = locate-start (c .args .table .now) (c .args .at) (c .args .stride) (c .args .count) (c .args .k) (c .pre .1) (c .pre .2) in
     (q .0, omega arith, q .1, c .pre .2)
 
-mul-if1 : tie.Need-mul-if1 Inv-loop μ-loop
-mul-if1 c = omega (arith, in-range c)
-
-add-if1 : tie.Need-add-if1 Inv-loop μ-loop
-add-if1 c = omega (arith, in-range c)
-
-mul-if1-2 : tie.Need-mul-if1-2 Inv-loop μ-loop
-mul-if1-2 c = omega (arith, in-range c)
-
-shared-slice-read-if1 : tie.Need-shared-slice-read-if1 Inv-loop μ-loop
-shared-slice-read-if1 c = omega (arith, in-range (c .before))
-
-loop-again : tie.Need-loop-again Inv-loop μ-loop
-loop-again c = (omega arith, omega arith, c .before .before .before .loop .inv .2, c .if1 .taken)
-
-loop-again-2 : tie.Need-loop-again-2 Inv-loop μ-loop
-loop-again-2 c = (omega arith, c .before .before .before .loop .inv .1, c .if1 .left, c .before .before .before .loop .inv .3)
-
 returns : tie.Need-returns Inv-loop μ-loop
 returns c =
-    let e : c .before .loop .low + 1 ≡ c .before .loop .high = omega arith in
-    (omega arith, c .before .loop .inv .2, rw e (c .before .loop .inv .3))
+    let e : c .before .loop .low + 1 ≡ c .before .loop .high = omega arith in (omega arith, c .before .loop .inv .2, rw e (c .before .loop .inv .3))
 
-pub locate-spec : {M : Type 1} → statement M
-locate-spec =
-    tie.close
-    (tie.spec
-    Inv-loop
-    μ-loop
-    loop-holds
-    (λ c. search needs)
-    (λ c. search needs)
-    (λ c. search needs)
-    mul-if1
-    add-if1
-    mul-if1-2
-    shared-slice-read-if1
-    (λ c. omega arith)
-    loop-again
-    (λ c. omega arith)
-    loop-again-2
-    returns)
+pub locate-spec : {M : Type 1} → Rattle.rows.proofs.locate.Statement.statement M
+locate-spec = tie.close (tie.spec Inv-loop μ-loop loop-holds (λ c. search needs) (λ c. search needs) (λ c. search needs)
+    (λ c. omega (arith, in-range c)) (λ c. omega (arith, in-range c)) (λ c. omega (arith, in-range c)) (λ c. omega (arith, in-range (c .before)))
+    (λ c. omega arith) (λ c. (omega arith, omega arith, c .before .before .before .loop .inv .2, c .if1 .taken)) (λ c. omega arith)
+    (λ c. (omega arith, c .before .before .before .loop .inv .1, c .if1 .left, c .before .before .before .loop .inv .3)) returns)

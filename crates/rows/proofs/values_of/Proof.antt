@@ -9,10 +9,7 @@ use Rattle.definitions.specs.Atoms.{placesOf}
 use Rattle.definitions.specs.Actions.{valuesIn}
 use Rattle.rows.specs.Values.{valueIn, Within}
 use Rattle.rows.specs.Laws.{values-none, rest-none, values-next, values-all, within-zeros, within-set}
-use Rattle.rows.proofs.values_of.Statement.{statement}
 use Rattle.rows.proofs.values_of.Tie as tie
-use Rattle.rows.proofs.values_of.Reads as reads
-use Rattle.rows.proofs.values_of.Lts as lts
 
 abbrev Inv-loop : tie.InvT-loop
 Inv-loop n width row levels out₀ rest₀ i₀ out rest i = (i ≤ width) × (length out ≡ length out₀) × (rest ≡ row / n ^ (width - i)) × (valueIn out ≡ valuesIn (drop i (take width levels)) (placesOf n (width - i) row)) × Within n out
@@ -23,17 +20,9 @@ abbrev μ-loop : tie.MeasureT-loop
 loop-holds : tie.Need-loop-holds Inv-loop μ-loop
 loop-holds c = (omega arith, refl, rest-none (c .args .n) (c .args .row) (c .args .width), values-none (c .args .n) (c .args .row) (c .args .width) (c .args .t2), within-zeros (c .args .n) (omega arith))
 
-mul-out-2 : tie.Need-mul-out-2 Inv-loop μ-loop
-mul-out-2 c = omega (arith, c .before .before .pre .1 (c .before .loop .i - 1))
-
-array-write-out : tie.Need-array-write-out Inv-loop μ-loop
-array-write-out c = omega (arith, c .before .before .pre .1 (c .before .loop .i - 1))
-
 loop-again : tie.Need-loop-again Inv-loop μ-loop
 loop-again c =
-    let s = c .before .before in
-    let l = c .before .loop in
-    let len : length (s .args .t2) ≡ 4 = search needs in
+    let s = c .before .before in let l = c .before .loop in let len : length (s .args .t2) ≡ 4 = search needs in
     let t = values-next (s .args .n) (s .args .width) (l .i) (s .args .row) (l .rest) (l .out) (s .args .t2) (omega arith) (omega arith) (omega arith) (omega (arith, s .pre .1 (l .i - 1))) (l .inv .2) (l .inv .3) in
     (omega arith, simp length-set (l .inv .1), t .1, t .0, within-set (s .args .n) (l .out) _ _ (mod-lt (l .rest) (omega arith)) (l .inv .4))
 
@@ -42,20 +31,7 @@ returns c =
     let s = c .before .before in
     (values-all (s .args .n) (s .args .width) (c .before .loop .i) (s .args .row) (c .before .loop .out) (s .args .t2) (c .loop-test .left) (c .before .loop .inv .3), c .before .loop .inv .4)
 
-pub values-of-spec : {M : Type 1} → statement M
-values-of-spec =
-    tie.close
-    (tie.spec
-    Inv-loop
-    μ-loop
-    loop-holds
-    (λ c. search needs)
-    (λ c. search needs)
-    (λ c. search needs)
-    (λ c. search needs)
-    mul-out-2
-    array-write-out
-    (λ c. search needs)
-    (λ c. search needs)
-    loop-again
-    returns)
+pub values-of-spec : {M : Type 1} → Rattle.rows.proofs.values_of.Statement.statement M
+values-of-spec = tie.close (tie.spec Inv-loop μ-loop loop-holds (λ c. search needs) (λ c. search needs) (λ c. search needs) (λ c. search needs)
+    (λ c. omega (arith, c .before .before .pre .1 (c .before .loop .i - 1))) (λ c. omega (arith, c .before .before .pre .1 (c .before .loop .i - 1)))
+    (λ c. search needs) (λ c. search needs) loop-again returns)

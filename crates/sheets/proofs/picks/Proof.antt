@@ -1,24 +1,10 @@
 -- `sheets::picks` meets its contract. Where the picks are refused the table is cleared again.
 use borrow.Author.Needs.{needs}
 use Rattle.sheets.proofs.Loops.{picks-kept, picks-cleared, all-cleared}
-use Rattle.sheets.proofs.picks.Statement.{statement}
 use Rattle.sheets.proofs.picks.Tie as tie
 
-returns : tie.Need-returns
-returns c = λ ls K. picks-kept _ _ _ _ _ _ (c .before .r .given .1) (c .before .before .before .before .before .picks-lines .ensures ls K)
-
-returns-2 : tie.Need-returns-2
-returns-2 c = λ ls K. picks-cleared _ _ _ _ _ _ _ _ (c .before .before .before .before .before .r2 .given .1) (c .before .before .before .before .before .before .before .before .before .picks-lines .ensures ls K) (all-cleared _ _ (c .before .before .fill .ensures .1))
-
-pub picks-spec : {M : Type 1} → statement M
-picks-spec =
-    tie.close
-    (tie.spec
-    (λ c κs. search needs)
+pub picks-spec : {M : Type 1} → Rattle.sheets.proofs.picks.Statement.statement M
+picks-spec = tie.close (tie.spec (λ c κs. search needs) (λ c. search needs) (λ c. search needs) (λ c κs. search needs) (λ c. search needs)
+    (λ c. λ ls K. picks-kept _ _ _ _ _ _ (c .before .r .given .1) (c .before .before .before .before .before .picks-lines .ensures ls K))
     (λ c. search needs)
-    (λ c. search needs)
-    (λ c κs. search needs)
-    (λ c. search needs)
-    returns
-    (λ c. search needs)
-    returns-2)
+    (λ c. λ ls K. picks-cleared _ _ _ _ _ _ _ _ (c .before .before .before .before .before .r2 .given .1) (c .before .before .before .before .before .before .before .before .before .picks-lines .ensures ls K) (all-cleared _ _ (c .before .before .fill .ensures .1))))

@@ -3,11 +3,8 @@ use mathlib.Core.Path.{sym}
 use native.Mathlib.Omega.{arith}
 use lib.Seq.{set-out}
 use borrow.Author.Needs.{needs}
-use Rattle.sheets.proofs.put.Statement.{statement}
 use Rattle.sheets.proofs.put.Tie as tie
 
-returns-2 : tie.Need-returns-2
-returns-2 c = sym (set-out _ _ _ (omega arith))
-
-pub put-spec : {M : Type 1} → statement M
-put-spec = tie.close (tie.spec (λ c. search needs) (λ c. search needs) (λ c. search needs) (λ c. search needs) returns-2)
+pub put-spec : {M : Type 1} → Rattle.sheets.proofs.put.Statement.statement M
+put-spec = tie.close (tie.spec (λ c. search needs) (λ c. search needs) (λ c. search needs) (λ c. search needs)
+    (λ c. sym (set-out _ _ _ (omega arith))))

@@ -3,23 +3,9 @@ use mathlib.Core.Path.{sym, _∙_}
 use native.Mathlib.Omega.{arith}
 use Rattle.sheets.proofs.Loops.{end-none, end-each, end-missing}
 use borrow.Author.Needs.{needs}
-use Rattle.sheets.proofs.site_end.Statement.{statement}
 use Rattle.sheets.proofs.site_end.Tie as tie
 
-returns : tie.Need-returns
-returns c = λ ms M. end-none (c .before .before .args .n) _ _ (c .if1 .taken)
-
-returns-2 : tie.Need-returns-2
-returns-2 c = λ ms M. end-each (c .before .before .before .before .args .n) _ _ (c .before .before .if1 .left) (sym (c .before .all-have-members .ensures (c .before .before .before .before .args .n) ms (omega arith) M) ∙ c .if2 .taken)
-
-returns-3 : tie.Need-returns-3
-returns-3 c = λ ms M. end-missing (c .before .before .before .before .args .n) _ _ (c .before .before .if1 .left) (sym (c .before .all-have-members .ensures (c .before .before .before .before .args .n) ms (omega arith) M) ∙ c .if2 .left)
-
-pub site-end-spec : {M : Type 1} → statement M
-site-end-spec =
-    tie.close
-    (tie.spec
-    returns
-    (λ c κs. search needs)
-    returns-2
-    returns-3)
+pub site-end-spec : {M : Type 1} → Rattle.sheets.proofs.site_end.Statement.statement M
+site-end-spec = tie.close (tie.spec (λ c. λ ms M. end-none (c .before .before .args .n) _ _ (c .if1 .taken)) (λ c κs. search needs)
+    (λ c. λ ms M. end-each _ _ _ (c .before .before .if1 .left) (sym (c .before .all-have-members .ensures _ ms (omega arith) M) ∙ c .if2 .taken))
+    (λ c. λ ms M. end-missing _ _ _ (c .before .before .if1 .left) (sym (c .before .all-have-members .ensures _ ms (omega arith) M) ∙ c .if2 .left)))

@@ -1,7 +1,6 @@
 -- `sizes_main::run_all` is safe and ends: the measure is the number of turns that are left. Assumes nothing.
 use native.Mathlib.Omega.{arith}
 use borrow.Author.Needs.{needs}
-use Rattle.sizes_main.proofs.run_all.Statement.{statement}
 use Rattle.sizes_main.proofs.run_all.Tie as tie
 
 abbrev Inv-loop : tie.InvT-loop
@@ -10,16 +9,6 @@ Inv-loop s at₀ left₀ at left = Unit {0}
 abbrev μ-loop : tie.MeasureT-loop
 μ-loop s at₀ left₀ at left = left
 
-pub run-all-spec : {M : Type 1} → statement M
-run-all-spec =
-    tie.close
-    (tie.spec
-    Inv-loop
-    μ-loop
-    (λ c. tt)
-    (λ c. search needs)
-    (λ c κs. omega arith)
-    (λ c. omega arith)
-    (λ c. omega arith)
-    (λ c. tt)
+pub run-all-spec : {M : Type 1} → Rattle.sizes_main.proofs.run_all.Statement.statement M
+run-all-spec = tie.close (tie.spec Inv-loop μ-loop (λ c. tt) (λ c. search needs) (λ c κs. omega arith) (λ c. omega arith) (λ c. omega arith) (λ c. tt)
     (λ c. search needs))

@@ -3,11 +3,8 @@ use mathlib.Core.Path.{sym}
 use native.Mathlib.Omega.{arith}
 use lib.Seq.{length-take-le}
 use borrow.Author.Needs.{needs}
-use Rattle.sizes_main.proofs.run_allowances.Statement.{statement}
 use Rattle.sizes_main.proofs.run_allowances.Tie as tie
 
-slice-aggregate-run-lent : tie.Need-slice-aggregate-run-lent
-slice-aggregate-run-lent c = sym (length-take-le _ _ (omega arith))
-
-pub run-allowances-spec : {M : Type 1} → statement M
-run-allowances-spec = tie.close (tie.spec (λ c. search needs) (λ c. search needs) slice-aggregate-run-lent (λ c κs. search needs) (λ c. search needs))
+pub run-allowances-spec : {M : Type 1} → Rattle.sizes_main.proofs.run_allowances.Statement.statement M
+run-allowances-spec = tie.close (tie.spec (λ c. search needs) (λ c. search needs) (λ c. sym (length-take-le _ _ (omega arith))) (λ c κs. search needs)
+    (λ c. search needs))

@@ -10,7 +10,6 @@ use Rattle.layout.specs.Laid.{nodeWidth, choicesAt}
 use Rattle.layout.specs.LaidLaws.{choices-at, acts-le, node-width-le, pow-fits, size-most}
 use Rattle.tally.specs.Sums.{NodesSummed}
 use Rattle.tally.specs.SumLaws.{nodes-first, nodes-next, node-counts}
-use Rattle.tally.proofs.of_nodes.Statement.{statement}
 use Rattle.tally.proofs.of_nodes.Tie as tie
 
 abbrev Inv-loop : tie.InvT-loop
@@ -33,8 +32,7 @@ rows-are c = c .power .ensures ∙ ap (λ (k : ℕ). c .before .before .before .
 
 rows-small : (c : tie.After-power Inv-loop μ-loop) → c .power .result ≤ 64 ^ 4
 rows-small c =
-    let s = c .before .before .before .before .before .before in
-    let v = c .before .before .before .before .before .loop .nodes in
+    let s = c .before .before .before .before .before .before in let v = c .before .before .before .before .before .loop .nodes in
     size-most (s .args .n) (row (c .before .before .before .before) .width) (c .power .result) (rows-are c) (s .pre .1) (s .pre .2 .nodes .node v .width)
 
 -- how many atoms it has
@@ -53,40 +51,23 @@ sort-small : (c : tie.After-wide3 Inv-loop μ-loop) → c .wide3 .result < 9
 sort-small c = omega (arith, c .wide3 .ensures .0, c .before .before .before .before .before .before .before .before .pre .2 .nodes .node (c .before .before .before .before .before .before .before .loop .nodes) .sort)
 
 -- how many actions it has at each of these, and in all
-row-choices : (c : tie.After-choices Inv-loop μ-loop) → c .choices .result ≡ choicesAt (c .before .before .before .before .before .before .before .before .before .before .before .args .t2 .count) (c .before .before .before .before .before .before .before .before .before .before .before .args .t3) (c .before .before .before .before .before .before .before .before .before .before .loop .nodes)
-row-choices c = c .choices .ensures ∙ choices-at (c .before .before .before .before .before .before .before .before .before .before .before .args .t2 .count) (c .before .before .before .wide3 .ensures .0) (c .before .before .before .before .before .before .before .wide .ensures .0) (c .before .wide4 .ensures .0)
+row-choices : (c : tie.After-choices Inv-loop μ-loop) → c .choices .result
+    ≡ choicesAt (c .before .before .before .before .before .before .before .before .before .before .before .args .t2 .count)
+    (c .before .before .before .before .before .before .before .before .before .before .before .args .t3)
+    (c .before .before .before .before .before .before .before .before .before .before .loop .nodes)
+row-choices c =
+    let s = c .before .before .before .before .before .before .before .before .before .before .before in
+    c .choices .ensures ∙ choices-at (s .args .t2 .count) (c .before .before .before .wide3 .ensures .0) (c .before .before .before .before .before .before .before .wide .ensures .0) (c .before .wide4 .ensures .0)
 
 acts-small : (c : tie.After-choices Inv-loop μ-loop) → c .before .before .before .before .before .power .result * c .choices .result ≤ 64 ^ 4 * 64
 acts-small c =
-    let s = c .before .before .before .before .before .before .before .before .before .before .before in
-    acts-le (s .args .n) (s .args .t2 .count) (s .args .t3) 0 0 (s .pre .1) (s .pre .3 .count) (s .pre .2) (c .before .before .before .before .before .before .before .before .before .before .loop .nodes) (c .before .before .before .before .before .power .result) (c .choices .result) (rows-are (c .before .before .before .before .before)) (row-choices c)
-
-loop-holds : tie.Need-loop-holds Inv-loop μ-loop
-loop-holds c = (omega arith, nodes-first (c .args .n) (c .args .t2 .count) (c .args .t3))
-
-mul-row : tie.Need-mul-row Inv-loop μ-loop
-mul-row c = omega (arith, c .before .before .pre .2 .few)
-
-element-copy-out-row : tie.Need-element-copy-out-row Inv-loop μ-loop
-element-copy-out-row c = omega (arith, c .before .before .pre .2 .few)
+    let at-power = c .before .before .before .before .before in let l = at-power .before .before .before .before .before in let s = l .before in
+    acts-le (s .args .n) (s .args .t2 .count) (s .args .t3) 0 0 (s .pre .1) (s .pre .3 .count) (s .pre .2) (l .loop .nodes) (at-power .power .result) (c .choices .result) (rows-are (at-power)) (row-choices c)
 
 power-requires : tie.Need-power-requires Inv-loop μ-loop
 power-requires c κs =
-    let s = c .before .before .before .before .before in
-    let w = c .wide2 .ensures .0 in
+    let s = c .before .before .before .before .before in let w = c .wide2 .ensures .0 in
     (s .pre .0, pow-fits (s .args .n) (c .wide2 .result) (s .pre .1) (omega (arith, w, s .pre .2 .nodes .node (c .before .before .before .before .loop .nodes) .width)))
-
-node-width-requires : tie.Need-node-width-requires Inv-loop μ-loop
-node-width-requires c κs = (c .before .before .before .before .before .before .pre .1, rows-small c)
-
-add-atoms : tie.Need-add-atoms Inv-loop μ-loop
-add-atoms c = omega (arith, counts-small (c .before .before .before .before .before .before) .0, width-small c)
-
-mul-actions : tie.Need-mul-actions Inv-loop μ-loop
-mul-actions c = omega (arith, acts-small c)
-
-add-actions : tie.Need-add-actions Inv-loop μ-loop
-add-actions c = omega (arith, counts-small (c .before .before .before .before .before .before .before .before .before .before) .1, acts-small c)
 
 -- one node more is still one of 64
 few : (c : tie.After-choices Inv-loop μ-loop) → c .before .before .before .before .before .before .before .before .before .before .loop .nodes < 64
@@ -94,38 +75,26 @@ few c = omega (arith, c .before .before .before .before .before .before .before 
 
 loop-again : tie.Need-loop-again Inv-loop μ-loop
 loop-again c =
-    let s = c .before .before .before .before .before .before .before .before .before .before .before in
-    let u = c .before .before .before .before .before .before .before .before .before .before in (
-      omega (arith, c .before .before .before .before .before .before .before .before .before .loop-test .taken),
-      nodes-next (s .args .n) (s .args .t2 .count) (s .args .t3) (u .loop .nodes) (u .loop .atoms) (u .loop .actions) (c .before .before .before .before .before .power .result) (c .before .before .before .before .node-width .result) (c .choices .result)
-          (rows-are (c .before .before .before .before .before)) (row-width (c .before .before .before .before)) (row-choices c) (u .loop .inv .1),
+    let at-node-width = c .before .before .before .before in let at-power = at-node-width .before in
+    let loop-test = at-power .before .before .before .before .loop-test in let u = at-power .before .before .before .before .before in
+    let s = u .before in (
+      omega (arith, loop-test .taken),
+      nodes-next (s .args .n) (s .args .t2 .count) (s .args .t3) (u .loop .nodes) (u .loop .atoms) (u .loop .actions) (at-power .power .result) (at-node-width .node-width .result) (c .choices .result)
+          (rows-are (at-power)) (row-width (at-node-width)) (row-choices c) (u .loop .inv .1),
     )
 
 returns : tie.Need-returns Inv-loop μ-loop
-returns c = let e : c .before .loop .nodes ≡ c .before .before .args .t3 .count = omega arith in subst (λ (x : ℕ). NodesSummed (c .before .before .args .n) (c .before .before .args .t2 .count) (c .before .before .args .t3) x (c .before .loop .nodes) (c .before .loop .atoms) (c .before .loop .actions)) e (c .before .loop .inv .1)
+returns c =
+    let e : c .before .loop .nodes ≡ c .before .before .args .t3 .count = omega arith in
+    subst (λ (x : ℕ). NodesSummed (c .before .before .args .n) (c .before .before .args .t2 .count) (c .before .before .args .t3) x
+    (c .before .loop .nodes) (c .before .loop .atoms) (c .before .loop .actions)) e (c .before .loop .inv .1)
 
-pub of-nodes-spec : {M : Type 1} → statement M
-of-nodes-spec =
-    tie.close
-    (tie.spec
-    Inv-loop
-    μ-loop
-    loop-holds
-    mul-row
-    element-copy-out-row
-    (λ c κs. search needs)
-    (λ c κs. search needs)
-    power-requires
-    node-width-requires
-    add-atoms
-    (λ c κs. search needs)
-    (λ c. omega (arith, sort-small c))
-    (λ c. omega (arith, sort-small c))
-    (λ c κs. search needs)
-    (λ c κs. search needs)
-    mul-actions
-    add-actions
-    (λ c. omega (arith, few c))
-    (λ c. omega (arith, few c))
-    loop-again
-    returns)
+pub of-nodes-spec : {M : Type 1} → Rattle.tally.proofs.of_nodes.Statement.statement M
+of-nodes-spec = tie.close (tie.spec Inv-loop μ-loop (λ c. (omega arith, nodes-first (c .args .n) (c .args .t2 .count) (c .args .t3)))
+    (λ c. omega (arith, c .before .before .pre .2 .few)) (λ c. omega (arith, c .before .before .pre .2 .few)) (λ c κs. search needs)
+    (λ c κs. search needs) power-requires (λ c κs. (c .before .before .before .before .before .before .pre .1, rows-small c))
+    (λ c. omega (arith, counts-small (c .before .before .before .before .before .before) .0, width-small c)) (λ c κs. search needs)
+    (λ c. omega (arith, sort-small c)) (λ c. omega (arith, sort-small c)) (λ c κs. search needs) (λ c κs. search needs)
+    (λ c. omega (arith, acts-small c))
+    (λ c. omega (arith, counts-small (c .before .before .before .before .before .before .before .before .before .before) .1, acts-small c))
+    (λ c. omega (arith, few c)) (λ c. omega (arith, few c)) loop-again returns)

@@ -8,14 +8,7 @@ use Rattle.layout.specs.Laid.{firstsAt, secondsAt}
 use Rattle.layout.specs.LaidLaws.{pow-fits, size-most, width-le, set-width-le, most-width-le}
 use Rattle.tally.specs.Sums.{RelationsSummed}
 use Rattle.tally.specs.SumLaws.{relations-first, relations-next, relation-counts}
-use Rattle.tally.proofs.of_relations.Statement.{statement}
 use Rattle.tally.proofs.of_relations.Tie as tie
-use Rattle.tally.proofs.of_relations.Reads as reads
-use Rattle.tally.proofs.of_relations.Lts as lts
-use Rattle.layout.proofs.most_width.Reads as most-width-reads
-use Rattle.layout.proofs.relation_width.Reads as relation-width-reads
-use Rattle.layout.proofs.set_width.Reads as set-width-reads
-use Rattle.rows.proofs.power.Reads as power-reads
 
 abbrev Inv-loop : tie.InvT-loop
 Inv-loop n ranges g atoms₀ sets₀ picks₀ i₀ atoms sets picks i = (i ≤ g .count) × RelationsSummed n (ranges .count) g i atoms sets picks
@@ -31,18 +24,18 @@ counts-small c =
 
 size-small : (c : tie.After-power Inv-loop μ-loop) → c .power .result ≤ 64 ^ 4
 size-small c =
-    let s = c .before .before .before .before .before in
-    let i = c .before .before .before .before .loop .i in
+    let s = c .before .before .before .before .before in let i = c .before .before .before .before .loop .i in
     size-most (s .args .n) (getD (s .args .t3 .arity) i 0) (c .power .result) (c .power .ensures) (s .pre .1) (s .pre .2 .arity i)
 
-loop-holds : tie.Need-loop-holds Inv-loop μ-loop
-loop-holds c = (omega arith, relations-first (c .args .n) (c .args .t2 .count) (c .args .t3))
-
 power-requires : tie.Need-power-requires Inv-loop μ-loop
-power-requires c κs = (c .before .before .before .before .pre .0, pow-fits (c .before .before .before .before .args .n) (getD (c .before .before .before .before .args .t3 .arity) (c .before .before .before .loop .i) 0) (c .before .before .before .before .pre .1) (c .before .before .before .before .pre .2 .arity (c .before .before .before .loop .i)))
+power-requires c κs =
+    let l = c .before .before .before in let s = l .before in
+    (s .pre .0, pow-fits (s .args .n) (getD (s .args .t3 .arity) (l .loop .i) 0) (s .pre .1) (s .pre .2 .arity (l .loop .i)))
 
 add-atoms : tie.Need-add-atoms Inv-loop μ-loop
-add-atoms c = omega (arith, counts-small (c .before .before .before .before .before) .0, c .relation-width .ensures, width-le (c .before .before .before .before .before .before .args .n) (c .before .power .result) (getD (c .before .before .before .before .before .before .args .t3 .kind) (c .before .before .before .before .before .loop .i) 0) (c .before .before .before .before .before .before .pre .1) (size-small (c .before)) .1)
+add-atoms c =
+    let l = c .before .before .before .before .before in let s = l .before in
+    omega (arith, counts-small (l) .0, c .relation-width .ensures, width-le (s .args .n) (c .before .power .result) (getD (s .args .t3 .kind) (l .loop .i) 0) (s .pre .1) (size-small (c .before)) .1)
 
 mul-seconds-2 : tie.Need-mul-seconds-2 Inv-loop μ-loop
 mul-seconds-2 c = omega (arith, c .before .before .before .before .before .before .before .before .before .pre .2 .seconds (c .before .before .before .before .before .before .before .before .loop .i))
@@ -51,15 +44,24 @@ element-copy-out-seconds-2 : tie.Need-element-copy-out-seconds-2 Inv-loop μ-loo
 element-copy-out-seconds-2 c = omega (arith, c .before .before .before .before .before .before .before .before .before .pre .2 .seconds (c .before .before .before .before .before .before .before .before .loop .i))
 
 set-width-requires : tie.Need-set-width-requires Inv-loop μ-loop
-set-width-requires c κs = ((c .before .before .before .before .before .before .before .before .before .before .pre .3 .count (getD (c .before .before .before .before .before .before .before .before .before .before .args .t3 .firsts) (c .before .before .before .before .before .before .before .before .before .loop .i) 0)), (c .before .before .before .before .before .before .before .before .before .before .pre .3 .count (getD (c .before .before .before .before .before .before .before .before .before .before .args .t3 .seconds) (c .before .before .before .before .before .before .before .before .before .loop .i) 0)))
+set-width-requires c κs =
+    let l = c .before .before .before .before .before .before .before .before .before in let s = l .before in
+    ((s .pre .3 .count (getD (s .args .t3 .firsts) (l .loop .i) 0)), (s .pre .3 .count (getD (s .args .t3 .seconds) (l .loop .i) 0)))
 
 add-sets : tie.Need-add-sets Inv-loop μ-loop
 add-sets c =
-    let q = set-width-le (c .before .before .before .before .before .before .power .result) (firstsAt (c .before .before .before .before .before .before .before .before .before .before .before .args .t2 .count) (c .before .before .before .before .before .before .before .before .before .before .before .args .t3) (c .before .before .before .before .before .before .before .before .before .before .loop .i)) (secondsAt (c .before .before .before .before .before .before .before .before .before .before .before .args .t2 .count) (c .before .before .before .before .before .before .before .before .before .before .before .args .t3) (c .before .before .before .before .before .before .before .before .before .before .loop .i)) (getD (c .before .before .before .before .before .before .before .before .before .before .before .args .t3 .kind) (c .before .before .before .before .before .before .before .before .before .before .loop .i) 0) (size-small (c .before .before .before .before .before .before)) (c .before .before .before .before .before .before .before .before .before .before .before .pre .3 .count (getD (c .before .before .before .before .before .before .before .before .before .before .before .args .t3 .firsts) (c .before .before .before .before .before .before .before .before .before .before .loop .i) 0)) (c .before .before .before .before .before .before .before .before .before .before .before .pre .3 .count (getD (c .before .before .before .before .before .before .before .before .before .before .before .args .t3 .seconds) (c .before .before .before .before .before .before .before .before .before .before .loop .i) 0)) in
-    omega (arith, counts-small (c .before .before .before .before .before .before .before .before .before .before) .1, c .set-width .ensures, q)
+    let at-power = c .before .before .before .before .before .before in let l = at-power .before .before .before .before in let s = l .before in
+    let q =
+    set-width-le (at-power .power .result) (firstsAt (s .args .t2 .count) (s .args .t3) (l .loop .i))
+    (secondsAt (s .args .t2 .count) (s .args .t3) (l .loop .i)) (getD (s .args .t3 .kind) (l .loop .i) 0) (size-small (at-power))
+    (s .pre .3 .count (getD (s .args .t3 .firsts) (l .loop .i) 0)) (s .pre .3 .count (getD (s .args .t3 .seconds) (l .loop .i) 0)) in
+    omega (arith, counts-small (l) .1, c .set-width .ensures, q)
 
 add-picks : tie.Need-add-picks Inv-loop μ-loop
-add-picks c = omega (arith, counts-small (c .before .before .before .before .before .before .before .before .before .before .before) .2, c .most-width .ensures, most-width-le (c .before .before .before .before .before .before .before .before .before .before .before .before .args .n) (c .before .before .before .before .before .before .before .power .result) (getD (c .before .before .before .before .before .before .before .before .before .before .before .before .args .t3 .kind) (c .before .before .before .before .before .before .before .before .before .before .before .loop .i) 0) (c .before .before .before .before .before .before .before .before .before .before .before .before .pre .1) (size-small (c .before .before .before .before .before .before .before)))
+add-picks c =
+    let at-power = c .before .before .before .before .before .before .before in let l = at-power .before .before .before .before in
+    let s = l .before in
+    omega (arith, counts-small (l) .2, c .most-width .ensures, most-width-le (s .args .n) (at-power .power .result) (getD (s .args .t3 .kind) (l .loop .i) 0) (s .pre .1) (size-small (at-power)))
 
 loop-again : tie.Need-loop-again Inv-loop μ-loop
 loop-again c =
@@ -72,38 +74,21 @@ loop-again c =
 
 returns : tie.Need-returns Inv-loop μ-loop
 returns c =
-    let s = c .before .before .args in
-    let k = c .before .loop in
-    let e : k .i ≡ s .t3 .count = omega arith in
+    let s = c .before .before .args in let k = c .before .loop in let e : k .i ≡ s .t3 .count = omega arith in
     subst (λ (x : ℕ). RelationsSummed (s .n) (s .t2 .count) (s .t3) x (k .atoms) (k .sets) (k .picks)) e (k .inv .1)
 
-pub of-relations-spec : {M : Type 1} → statement M
-of-relations-spec =
-    tie.close
-    (tie.spec
-    Inv-loop
-    μ-loop
-    loop-holds
-    (λ c. omega (arith, c .before .before .pre .2 .count))
-    (λ c. omega (arith, c .before .before .pre .2 .count))
-    (λ c. omega (arith, c .before .before .before .pre .2 .count))
-    (λ c. omega (arith, c .before .before .before .pre .2 .count))
-    power-requires
-    (λ c κs. (c .before .before .before .before .before .pre .1, size-small c))
-    add-atoms
+pub of-relations-spec : {M : Type 1} → Rattle.tally.proofs.of_relations.Statement.statement M
+of-relations-spec = tie.close (tie.spec Inv-loop μ-loop (λ c. (omega arith, relations-first (c .args .n) (c .args .t2 .count) (c .args .t3)))
+    (λ c. omega (arith, c .before .before .pre .2 .count)) (λ c. omega (arith, c .before .before .pre .2 .count))
+    (λ c. omega (arith, c .before .before .before .pre .2 .count)) (λ c. omega (arith, c .before .before .before .pre .2 .count)) power-requires
+    (λ c κs. (c .before .before .before .before .before .pre .1, size-small c)) add-atoms
     (λ c. omega (arith, c .before .before .before .before .before .before .pre .2 .count))
     (λ c. omega (arith, c .before .before .before .before .before .before .pre .2 .count))
     (λ c. omega (arith, c .before .before .before .before .before .before .before .pre .2 .firsts (c .before .before .before .before .before .before .loop .i)))
     (λ c. omega (arith, c .before .before .before .before .before .before .before .pre .2 .firsts (c .before .before .before .before .before .before .loop .i)))
     (λ c. omega (arith, c .before .before .before .before .before .before .before .before .pre .2 .count))
-    (λ c. omega (arith, c .before .before .before .before .before .before .before .before .pre .2 .count))
-    mul-seconds-2
-    element-copy-out-seconds-2
-    set-width-requires
-    add-sets
-    (λ c κs. search needs)
-    add-picks
+    (λ c. omega (arith, c .before .before .before .before .before .before .before .before .pre .2 .count)) mul-seconds-2 element-copy-out-seconds-2
+    set-width-requires add-sets (λ c κs. search needs) add-picks
     (λ c. omega (arith, c .before .before .before .before .before .before .before .before .before .before .before .before .pre .2 .count))
-    (λ c. omega (arith, c .before .before .before .before .before .before .before .before .before .before .before .before .pre .2 .count))
-    loop-again
+    (λ c. omega (arith, c .before .before .before .before .before .before .before .before .before .before .before .before .pre .2 .count)) loop-again
     returns)

@@ -3,7 +3,6 @@ use Prim.Native.Nat.{_≤_, _^_}
 use native.Mathlib.Omega.{arith}
 use Rattle.tally.specs.SumLaws.{relation-counts, node-counts, tallied}
 use borrow.Author.Needs.{needs}
-use Rattle.tally.proofs.of_tables.Statement.{statement}
 use Rattle.tally.proofs.of_tables.Tie as tie
 
 -- the sums that are added
@@ -13,18 +12,6 @@ before-small c = let s = c .before .before in relation-counts (s .args .n) (s .p
 nodes-small : (c : tie.After-of-nodes) → let w = c .of-nodes .result in (w .atoms ≤ 2 ^ 36) × (w .actions ≤ 2 ^ 36)
 nodes-small c = let s = c .before .before in node-counts (s .args .n) (s .pre .1) (s .args .ranges .count) (s .args .t) (s .pre .4 .count) (s .pre .3) (s .args .t .count) _ _ _ (omega arith) (c .of-nodes .ensures)
 
-add-atoms : tie.Need-add-atoms
-add-atoms c = omega (arith, before-small (c .before .before) .0, nodes-small (c .before .before) .0)
-
-add-actions : tie.Need-add-actions
-add-actions c = omega (arith, before-small (c .before .before .before) .1)
-
-add-actions-2 : tie.Need-add-actions-2
-add-actions-2 c = omega (arith, nodes-small (c .before .before .before .before) .1)
-
-add-actions-3 : tie.Need-add-actions-3
-add-actions-3 c = omega (arith, before-small (c .before .before .before .before) .1, nodes-small (c .before .before .before .before) .1)
-
 add-bound : tie.Need-add-bound
 add-bound c = omega (arith, before-small (c .before .before .before .before .before .before) .2, nodes-small (c .before .before .before .before .before .before) .0)
 
@@ -32,20 +19,13 @@ add-bound-2 : tie.Need-add-bound-2
 add-bound-2 c = omega (arith, before-small (c .before .before .before .before .before .before) .2, nodes-small (c .before .before .before .before .before .before) .0)
 
 returns : tie.Need-returns
-returns c = λ p w k ra is.
-    let s = c .before .before .before .before .before .before .before .before in
+returns c =
+    let s = c .before .before .before .before .before .before .before .before in λ p w k ra is.
     tallied (s .args .n) p w k (s .args .ranges) (s .args .g) (s .args .t) ra is (s .pre .3) _ _ _ _ _ _ (c .before .before .before .before .before .before .before .of-relations .ensures) (c .before .before .before .before .before .before .of-nodes .ensures)
 
-pub of-tables-spec : {M : Type 1} → statement M
-of-tables-spec =
-    tie.close
-    (tie.spec
-    (λ c κs. search needs)
-    (λ c κs. search needs)
-    add-atoms
-    add-actions
-    add-actions-2
-    add-actions-3
-    add-bound
-    add-bound-2
-    returns)
+pub of-tables-spec : {M : Type 1} → Rattle.tally.proofs.of_tables.Statement.statement M
+of-tables-spec = tie.close (tie.spec (λ c κs. search needs) (λ c κs. search needs)
+    (λ c. omega (arith, before-small (c .before .before) .0, nodes-small (c .before .before) .0))
+    (λ c. omega (arith, before-small (c .before .before .before) .1)) (λ c. omega (arith, nodes-small (c .before .before .before .before) .1))
+    (λ c. omega (arith, before-small (c .before .before .before .before) .1, nodes-small (c .before .before .before .before) .1)) add-bound
+    add-bound-2 returns)

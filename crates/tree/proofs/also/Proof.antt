@@ -5,7 +5,6 @@ use Prim.Native.Nat.{_-_}
 use native.Mathlib.Omega.{arith}
 use borrow.Author.Needs.{needs}
 use Rattle.tree.proofs.Laws.{Marked, mark-start, mark-end, mark-yes, mark-no}
-use Rattle.tree.proofs.also.Statement.{statement}
 use Rattle.tree.proofs.also.Tie as tie
 
 abbrev Inv-loop : tie.InvT-loop
@@ -14,37 +13,16 @@ Inv-loop p r₀ width i₀ r i = Marked (r₀ .at) (r .at) (p .width) (p .levels
 abbrev μ-loop : tie.MeasureT-loop
 μ-loop p r₀ width i₀ r i = 4 - i
 
-loop-holds : tie.Need-loop-holds Inv-loop μ-loop
-loop-holds c = mark-start _ _ _ (search needs)
-
-returns : tie.Need-returns Inv-loop μ-loop
-returns c = mark-end _ _ _ _ (search needs) _ (c .before .before .loop .inv) (inl (omega (arith, c .if1 .taken, c .before .before .before .wide .ensures .0)))
-
-element-write-r : tie.Need-element-write-r Inv-loop μ-loop
-element-write-r c = omega (arith, c .before .before .before .before .before .loop .inv .marks-length)
-
 loop-again : tie.Need-loop-again Inv-loop μ-loop
-loop-again c = ⊎-elim
-    (λ w. mark-yes _ _ _ _ (search needs) _ (c .before .before .before .before .before .loop .inv) (omega arith) (λ e. c .before .before .before .if1 .left (omega (arith, c .before .before .before .before .before .before .wide .ensures .0))) (c .before .wide2 .result) (c .before .wide2 .ensures .0) _ (w .0 .taken) (ap (λ m. m .at) (w .1)))
-    (λ w. mark-no _ _ _ _ (search needs) _ (c .before .before .before .before .before .loop .inv) (omega arith) (λ e. c .before .before .before .if1 .left (omega (arith, c .before .before .before .before .before .before .wide .ensures .0))) (c .before .wide2 .result) (c .before .wide2 .ensures .0) _ (omega (arith, w .0 .left)) (ap (λ m. m .at) (w .1)))
-    (c .if2 .came)
+loop-again c =
+    let w = c .before .wide2 in let t = c .before .before .before in let l = t .before .before in ⊎-elim
+    (λ x. mark-yes _ _ _ _ (search needs) _ (l .loop .inv) (omega arith) (λ e. t .if1 .left (omega (arith, l .before .wide .ensures .0))) _
+    (w .ensures .0) _ (x .0 .taken) (ap (λ m. m .at) (x .1)))
+    (λ x. mark-no _ _ _ _ (search needs) _ (l .loop .inv) (omega arith) (λ e. t .if1 .left (omega (arith, l .before .wide .ensures .0))) _
+    (w .ensures .0) _ (omega (arith, x .0 .left)) (ap (λ m. m .at) (x .1))) (c .if2 .came)
 
-returns-2 : tie.Need-returns-2 Inv-loop μ-loop
-returns-2 c = mark-end _ _ _ _ (search needs) _ (c .before .loop .inv) (inr (omega arith))
-
-pub also-spec : {M : Type 1} → statement M
-also-spec =
-    tie.close
-    (tie.spec
-    Inv-loop
-    μ-loop
-    (λ c κs. search needs)
-    loop-holds
-    returns
-    (λ c. search needs)
-    (λ c κs. search needs)
-    element-write-r
-    (λ c. omega arith)
-    (λ c. omega arith)
-    loop-again
-    returns-2)
+pub also-spec : {M : Type 1} → Rattle.tree.proofs.also.Statement.statement M
+also-spec = tie.close (tie.spec Inv-loop μ-loop (λ c κs. search needs) (λ c. mark-start _ _ _ (search needs))
+    (λ c. mark-end _ _ _ _ (search needs) _ (c .before .before .loop .inv) (inl (omega (arith, c .if1 .taken, c .before .before .before .wide .ensures .0))))
+    (λ c. search needs) (λ c κs. search needs) (λ c. omega (arith, c .before .before .before .before .before .loop .inv .marks-length))
+    (λ c. omega arith) (λ c. omega arith) loop-again (λ c. mark-end _ _ _ _ (search needs) _ (c .before .loop .inv) (inr (omega arith))))

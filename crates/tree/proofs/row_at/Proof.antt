@@ -2,31 +2,13 @@
 use mathlib.Core.Path.{refl}
 use Rattle.tree.specs.Postorder.{rowAt}
 use borrow.Author.Needs.{needs}
-use Rattle.tree.proofs.row_at.Statement.{statement}
 use Rattle.tree.proofs.row_at.Tie as tie
 
 returns : tie.Need-returns
 unfolding rowAt
 returns c = refl
 
-pub row-at-spec : {M : Type 1} → statement M
-row-at-spec =
-    tie.close
-    (tie.spec
-    (λ c. search needs)
-    (λ c. search needs)
-    (λ c. search needs)
-    (λ c. search needs)
-    (λ c. search needs)
-    (λ c. search needs)
-    (λ c. search needs)
-    (λ c. search needs)
-    (λ c. search needs)
-    (λ c. search needs)
-    (λ c. search needs)
-    (λ c. search needs)
-    (λ c. search needs)
-    (λ c. search needs)
-    (λ c. search needs)
-    (λ c. search needs)
-    returns)
+pub row-at-spec : {M : Type 1} → Rattle.tree.proofs.row_at.Statement.statement M
+row-at-spec = tie.close (tie.spec (λ c. search needs) (λ c. search needs) (λ c. search needs) (λ c. search needs) (λ c. search needs)
+    (λ c. search needs) (λ c. search needs) (λ c. search needs) (λ c. search needs) (λ c. search needs) (λ c. search needs) (λ c. search needs)
+    (λ c. search needs) (λ c. search needs) (λ c. search needs) (λ c. search needs) returns)

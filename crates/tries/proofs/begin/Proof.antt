@@ -2,27 +2,14 @@
 use Rattle.sheets.proofs.Loops.{zeros-clear}
 use Rattle.asking.specs.Rooms.{many-room}
 use borrow.Author.Needs.{needs}
-use Rattle.tries.proofs.begin.Statement.{statement}
 use Rattle.tries.proofs.begin.Tie as tie
 
 begin-in-requires : tie.Need-begin-in-requires
-begin-in-requires c κs = ((c .before .before .before .before .is-small .ensures (c .before .before .before .if1 .taken), zeros-clear 512), c .before .before .before .before .before .before .before .before .before .pre)
+begin-in-requires c κs =
+    let small = c .before .before .before .before in ((small .is-small .ensures (c .before .before .before .if1 .taken), zeros-clear 512), small .before .before .before .before .before .pre)
 
-begin-in-requires-2 : tie.Need-begin-in-requires-2
-begin-in-requires-2 c κs = ((many-room _, zeros-clear 32768), c .before .before .before .before .before .before .before .before .before .pre)
-
-pub begin-spec : {M : Type 1} → statement M
-begin-spec =
-    tie.close
-    (tie.spec
-    (λ c κs. search needs)
-    (λ c. search needs)
-    begin-in-requires
-    (λ c. search needs)
-    (λ c. search needs)
-    (λ c. search needs)
-    (λ c. search needs)
-    begin-in-requires-2
-    (λ c. search needs)
-    (λ c. search needs)
-    (λ c. search needs))
+pub begin-spec : {M : Type 1} → Rattle.tries.proofs.begin.Statement.statement M
+begin-spec = tie.close (tie.spec (λ c κs. search needs) (λ c. search needs) begin-in-requires (λ c. search needs) (λ c. search needs)
+    (λ c. search needs) (λ c. search needs)
+    (λ c κs. ((many-room _, zeros-clear 32768), c .before .before .before .before .before .before .before .before .before .pre)) (λ c. search needs)
+    (λ c. search needs) (λ c. search needs))

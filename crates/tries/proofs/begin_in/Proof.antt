@@ -4,7 +4,6 @@ use native.Mathlib.Omega.{arith}
 use lib.Seq.{length-take-le}
 use Rattle.tries.specs.Laws.{begun-case, begun-over, begun-short, begun-atoms, begun-fits, begun-ready}
 use borrow.Author.Needs.{needs}
-use Rattle.tries.proofs.begin_in.Statement.{statement}
 use Rattle.tries.proofs.begin_in.Tie as tie
 
 returns : tie.Need-returns
@@ -28,10 +27,8 @@ returns-3 : tie.Need-returns-3
 returns-3 c =
     let a = c .before .before .before .before .before .before .before .before .before .before .before .before .before .before .before .before .before .before .before .args in
     let opens = c .before .before .before .before .before .before .before .before .before .before .before .open-case .ensures in
-    begun-short _ _ _ (a .state .now) (a .many) _ _ _ opens (c .before .before .before .before .before .if1 .left) (c .before .before .before .if2 .left) (c .before .if3 .taken) _ (c .not-begun3 .ensures)
-
-slice-aggregate-initial-state : tie.Need-slice-aggregate-initial-state
-slice-aggregate-initial-state c = sym (length-take-le _ _ (omega arith))
+    begun-short _ _ _ (a .state .now) (a .many) _ _ _ opens (c .before .before .before .before .before .if1 .left)
+    (c .before .before .before .if2 .left) (c .before .if3 .taken) _ (c .not-begun3 .ensures)
 
 initial-state-requires : tie.Need-initial-state-requires
 initial-state-requires c κs =
@@ -41,33 +38,13 @@ initial-state-requires c κs =
 
 returns-4 : tie.Need-returns-4
 returns-4 c =
-    let a = c .before .before .before .before .before .before .before .before .before .before .before .before .before .before .before .before .before .before .before .before .before .before .before .before .args in
-    let opens = c .before .before .before .before .before .before .before .before .before .before .before .before .before .before .before .before .open-case .ensures in
-    let none = c .before .before .before .before .before .before .before .before .before .before .if1 .left in
-    begun-ready _ _ _ (a .state .now) (a .many) _ _ _ opens none (c .before .before .before .before .before .before .before .before .if2 .left) (omega arith) (omega arith) _ _ (c .before .before .initial-state .ensures) refl
+    let at-if2 = c .before .before .before .before .before .before .before .before in let at-opens = at-if2 .before .before .before .before .before .before .before .before in
+    let a = at-opens .before .before .before .before .before .before .before .before .args in
+    begun-ready _ _ _ (a .state .now) (a .many) _ _ _ (at-opens .open-case .ensures) (at-if2 .before .before .if1 .left) (at-if2 .if2 .left)
+    (omega arith) (omega arith) _ _ (c .before .before .initial-state .ensures) refl
 
-pub begin-in-spec : {M : Type 1} → statement M
-begin-in-spec =
-    tie.close
-    (tie.spec
-    (λ c κs. search needs)
-    (λ c κs. search needs)
-    (λ c. search needs)
-    (λ c. search needs)
-    returns
-    (λ c κs. search needs)
-    (λ c. search needs)
-    (λ c. search needs)
-    returns-2
-    add-words
-    (λ c κs. search needs)
-    (λ c. search needs)
-    (λ c. search needs)
-    returns-3
-    (λ c. search needs)
-    slice-aggregate-initial-state
-    initial-state-requires
-    (λ c. search needs)
-    (λ c. search needs)
-    (λ c. search needs)
-    returns-4)
+pub begin-in-spec : {M : Type 1} → Rattle.tries.proofs.begin_in.Statement.statement M
+begin-in-spec = tie.close (tie.spec (λ c κs. search needs) (λ c κs. search needs) (λ c. search needs) (λ c. search needs) returns
+    (λ c κs. search needs) (λ c. search needs) (λ c. search needs) returns-2 add-words (λ c κs. search needs) (λ c. search needs) (λ c. search needs)
+    returns-3 (λ c. search needs) (λ c. sym (length-take-le _ _ (omega arith))) initial-state-requires (λ c. search needs) (λ c. search needs)
+    (λ c. search needs) returns-4)

@@ -2,7 +2,6 @@
 use mathlib.Core.Path.{_∙_}
 use Rattle.tries.specs.Laws.{list-there, copy-ran}
 use borrow.Author.Needs.{needs}
-use Rattle.tries.proofs.run_copy.Statement.{statement}
 use Rattle.tries.proofs.run_copy.Tie as tie
 
 slice-aggregate-run : tie.Need-slice-aggregate-run
@@ -12,18 +11,10 @@ slice-aggregate-run c =
 
 returns : tie.Need-returns
 returns c =
-    let at-copy = c .before .before .before .before .before .before .before in
-    let start = at-copy .before .before .before .before .before .before in
-    λ p serves. c .verdict-of .ensures ∙ copy-ran _ _ _ (at-copy .copy .last .0) _ (start .pre .0) (at-copy .copy .ensures .0) p serves _ _ (λ x i r. (c .before .before .before .run .ensures x i r .0, tt))
+    let at-copy = c .before .before .before .before .before .before .before in let start = at-copy .before .before .before .before .before .before in
+    λ p serves. c .verdict-of .ensures ∙ copy-ran _ _ _ (at-copy .copy .last .0) _ (start .pre .0) (at-copy .copy .ensures .0) p serves _ _
+    (λ x i r. (c .before .before .before .run .ensures x i r .0, tt))
 
-pub run-copy-spec : {M : Type 1} → statement M
-run-copy-spec =
-    tie.close
-    (tie.spec
-    (λ c κs. search needs)
-    (λ c. search needs)
-    slice-aggregate-run
-    (λ c κs. search needs)
-    (λ c κs. search needs)
-    (λ c. search needs)
-    returns)
+pub run-copy-spec : {M : Type 1} → Rattle.tries.proofs.run_copy.Statement.statement M
+run-copy-spec = tie.close (tie.spec (λ c κs. search needs) (λ c. search needs) slice-aggregate-run (λ c κs. search needs) (λ c κs. search needs)
+    (λ c. search needs) returns)

@@ -5,7 +5,6 @@ use Rattle.runs.specs.declared.End.{End}
 use Rattle.runs.specs.Ended.{ended}
 use Rattle.tries.specs.Recorded.{verdictOf}
 use borrow.Author.Needs.{needs}
-use Rattle.tries.proofs.verdict_of.Statement.{statement}
 use Rattle.tries.proofs.verdict_of.Tie as tie
 
 returns : tie.Need-returns
@@ -24,15 +23,6 @@ returns-4 : tie.Need-returns-4
 unfolding verdictOf replyNumber replyPlace ended
 returns-4 c = sym (ap (λ (e : End). verdictOf (ended e)) (c .before .e4 .given .1))
 
-pub verdict-of-spec : {M : Type 1} → statement M
-verdict-of-spec =
-    tie.close
-    (tie.spec
-    (λ c. search needs)
-    (λ c. search needs)
-    (λ c. search needs)
-    (λ c. search needs)
-    returns
-    returns-2
-    returns-3
+pub verdict-of-spec : {M : Type 1} → Rattle.tries.proofs.verdict_of.Statement.statement M
+verdict-of-spec = tie.close (tie.spec (λ c. search needs) (λ c. search needs) (λ c. search needs) (λ c. search needs) returns returns-2 returns-3
     returns-4)

@@ -5,24 +5,10 @@ use Rattle.ground.specs.Lines.{tableLength}
 use Rattle.layout.specs.LaidLaws.{most-zeros}
 use Rattle.tries.specs.Answers.{begun-asks}
 use borrow.Author.Needs.{needs}
-use Rattle.tries_main.proofs.run_lists.Statement.{statement}
 use Rattle.tries_main.proofs.run_lists.Tie as tie
 
-begin-requires : tie.Need-begin-requires
-begin-requires c κs = (length-replicate {A = ℕ} tableLength 0, most-zeros tableLength 0)
-
-show-case-requires : tie.Need-show-case-requires
-show-case-requires c κs = begun-asks _ 1 _ _ _ _ (c .before .before .before .before .before .before .begin .ensures) .1
-
-pub run-lists-spec : {M : Type 1} → statement M
-run-lists-spec =
-    tie.close
-    (tie.spec
-    (λ c κs. search needs)
-    (λ c. search needs)
-    begin-requires
-    (λ c. search needs)
-    show-case-requires
-    (λ c. search needs)
-    (λ c. search needs)
+pub run-lists-spec : {M : Type 1} → Rattle.tries_main.proofs.run_lists.Statement.statement M
+run-lists-spec = tie.close (tie.spec (λ c κs. search needs) (λ c. search needs)
+    (λ c κs. (length-replicate {A = ℕ} tableLength 0, most-zeros tableLength 0)) (λ c. search needs)
+    (λ c κs. begun-asks _ 1 _ _ _ _ (c .before .before .before .before .before .before .begin .ensures) .1) (λ c. search needs) (λ c. search needs)
     (λ c. search needs))

@@ -3,7 +3,6 @@ use Prim.Native.Nat.{_-_, _/_, _≤_}
 use native.Mathlib.Omega.{arith}
 use borrow.Author.Needs.{needs}
 use lib.ListN.{length}
-use Rattle.tries_main.proofs.show_tried.Statement.{statement}
 use Rattle.tries_main.proofs.show_tried.Tie as tie
 
 abbrev Inv-loop : tie.InvT-loop
@@ -12,21 +11,7 @@ Inv-loop table state words steps lists i₀ i = i ≤ length lists / 8
 abbrev μ-loop : tie.MeasureT-loop
 μ-loop table state words steps lists i₀ i = length lists / 8 - i
 
-pub show-tried-spec : {M : Type 1} → statement M
-show-tried-spec =
-    tie.close
-    (tie.spec
-    Inv-loop
-    μ-loop
-    (λ c. omega arith)
-    (λ c. omega arith)
-    (λ c κs. search needs)
-    (λ c. omega arith)
-    (λ c. omega arith)
-    (λ c κs. search needs)
-    (λ c κs. search needs)
-    (λ c κs. search needs)
-    (λ c. omega arith)
-    (λ c. omega arith)
-    (λ c. omega arith)
+pub show-tried-spec : {M : Type 1} → Rattle.tries_main.proofs.show_tried.Statement.statement M
+show-tried-spec = tie.close (tie.spec Inv-loop μ-loop (λ c. omega arith) (λ c. omega arith) (λ c κs. search needs) (λ c. omega arith)
+    (λ c. omega arith) (λ c κs. search needs) (λ c κs. search needs) (λ c κs. search needs) (λ c. omega arith) (λ c. omega arith) (λ c. omega arith)
     (λ c. search needs))

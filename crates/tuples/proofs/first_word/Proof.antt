@@ -3,15 +3,12 @@ use borrow.Author.Needs.{needs}
 use mathlib.Core.Path.{_≡_}
 use native.Mathlib.Omega.{arith}
 use lib.ListN.{length}
-use borrow.Author.Needs.{needs}
-use Rattle.tuples.proofs.first_word.Statement.{statement}
 use Rattle.tuples.proofs.first_word.Tie as tie
 
 word-of-requires : tie.Need-word-of-requires
-word-of-requires c κs = let e : length (c .before .before .args .g .arity) ≡ 12 = search needs in (omega arith, omega arith, omega arith, omega (arith, e), c .before .before .pre .3)
+word-of-requires c κs = let e : length (c .before .before .args .g .arity) ≡ 12 = search needs in
+    (omega arith, omega arith, omega arith, omega (arith, e), c .before .before .pre .3)
 
-returns : tie.Need-returns
-returns c = (c .word-of .ensures .0 (c .before .before .before .args .g) (c .before .before .before .args .g .from) (c .before .before .before .args .g .to), c .word-of .ensures .1)
-
-pub first-word-spec : {M : Type 1} → statement M
-first-word-spec = tie.close (tie.spec (λ c. search needs) word-of-requires returns)
+pub first-word-spec : {M : Type 1} → Rattle.tuples.proofs.first_word.Statement.statement M
+first-word-spec = tie.close (tie.spec (λ c. search needs) word-of-requires
+    (λ c. (c .word-of .ensures .0 (c .before .before .before .args .g) _ _, c .word-of .ensures .1)))

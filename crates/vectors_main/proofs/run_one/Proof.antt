@@ -3,27 +3,9 @@ use mathlib.Core.Path.{sym}
 use native.Mathlib.Omega.{arith}
 use lib.Seq.{length-take-le}
 use borrow.Author.Needs.{needs}
-use Rattle.vectors_main.proofs.run_one.Statement.{statement}
 use Rattle.vectors_main.proofs.run_one.Tie as tie
 
-slice-aggregate-run : tie.Need-slice-aggregate-run
-slice-aggregate-run c = sym (length-take-le 4 (c .before .before .before .before .before .read-full .last .1 .0) (omega arith))
-
-slice-aggregate-run-2 : tie.Need-slice-aggregate-run-2
-slice-aggregate-run-2 c = sym (length-take-le _ _ (omega arith))
-
-pub run-one-spec : {M : Type 1} → statement M
-run-one-spec =
-    tie.close
-    (tie.spec
-    (λ c. search needs)
-    (λ c κs. search needs)
-    (λ c. search needs)
-    (λ c κs. search needs)
-    (λ c. search needs)
-    (λ c. search needs)
-    slice-aggregate-run
-    (λ c. search needs)
-    slice-aggregate-run-2
-    (λ c κs. search needs)
-    (λ c. search needs))
+pub run-one-spec : {M : Type 1} → Rattle.vectors_main.proofs.run_one.Statement.statement M
+run-one-spec = tie.close (tie.spec (λ c. search needs) (λ c κs. search needs) (λ c. search needs) (λ c κs. search needs) (λ c. search needs)
+    (λ c. search needs) (λ c. sym (length-take-le 4 (c .before .before .before .before .before .read-full .last .1 .0) (omega arith)))
+    (λ c. search needs) (λ c. sym (length-take-le _ _ (omega arith))) (λ c κs. search needs) (λ c. search needs))
