@@ -1,6 +1,8 @@
 -- Document 01, "Case sheets", as executable definitions. A text is the list of its bytes. A reader who believes these has nothing
--- else to believe; `Drawer`, `Cases` and `Whole` prove that they give the cases written there, and `Writing` that reading a rule's
+-- else to believe; the tables of `Table` prove that they give the cases written there, and `laws`, `Writing`, that reading a rule's
 -- formula is the inverse of writing it.
+-- At the top: limits, lists, refusals. `Sheet/`, `Problem/` and `Reply/` are what has to be believed, in the order of the document;
+-- `Table/` has cases, and nothing there has to be.
 --
 --   Limits, Lists                  every limit by name; plain functions on lists
 --   "The sheets"                   Text, Relations, Formula, Sheets (Parsing reads a formula, and need not be believed)
@@ -22,36 +24,8 @@
 --   job 14, one card               Allowance; AllowanceCases has cases
 pub mod Limits
 pub mod Lists
-pub mod Text
 pub mod Refusal
-pub mod Relations
-pub mod Formula
-pub mod Parsing
-pub mod Writing
-pub mod Sheets
-pub mod Truth
-pub mod Tree
-pub mod Atoms
-pub mod Actions
-pub mod Strips
-pub mod Built
-pub mod Outcome
-pub mod Demand
-pub mod Desk
-pub mod Rewritten
-pub mod Untyped
-pub mod Tally
-pub mod Tries
-pub mod Judgement
-pub mod Allowance
-pub mod Opened
-pub mod Drawer
-pub mod Cases
-pub mod Whole
-pub mod LabelCases
-pub mod TypeCases
-pub mod KindCases
-pub mod TallyCases
-pub mod TriesDrawn
-pub mod JudgementCases
-pub mod AllowanceCases
+pub mod Sheet
+pub mod Problem
+pub mod Reply
+pub mod Table

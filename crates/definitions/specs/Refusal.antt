@@ -26,7 +26,7 @@ use mathlib.Core.List.{List, [], _∷_}
 use lib.ListN.{length}
 use lib.Dec.{ltb}
 use Rattle.definitions.specs.Limits.{textLimit}
-use Rattle.definitions.specs.Text.{Line, lines}
+use Rattle.definitions.specs.Sheet.Text.{Line, lines}
 
 pub data Result (A : Type 0) : Type 0 where
   refused : (number place : ℕ) → Result A

@@ -56,8 +56,8 @@ fn main() {
         return;
     }
     let count = got.count;
-    let mut out = [0u8; desk::ROOM];
-    let length = desk::reply(&input[..count], &mut out);
+    let mut out = [0u8; call_desk::ROOM];
+    let length = call_desk::reply(&input[..count], &mut out);
     if io::write_all(libc::STDOUT_FILENO, &out[..length]) {
         return;
     }

@@ -4,10 +4,10 @@ use mathlib.Core.Path.{_≡_}
 use mathlib.Core.List.{List}
 use Rattle.definitions.specs.Limits.{CaseLimits}
 use Rattle.definitions.specs.Refusal.{Result, refused, accepted}
-use Rattle.definitions.specs.Sheets.{Label}
-use Rattle.definitions.specs.Truth.{Case}
-use Rattle.definitions.specs.Atoms.{Problem}
-use Rattle.definitions.specs.Outcome.{CaseRead, readFiled, readCase, ground, Ready, asked}
+use Rattle.definitions.specs.Sheet.Sheets.{Label}
+use Rattle.definitions.specs.Problem.Truth.{Case}
+use Rattle.definitions.specs.Problem.Atoms.{Problem}
+use Rattle.definitions.specs.Reply.Outcome.{CaseRead, readFiled, readCase, ground, Ready, asked}
 use Rattle.laws.specs.Asked
 
 module _ {A : Type 0} (L : CaseLimits) (question site : List ℕ) (third : CaseRead → Result A) (early late : Case → Result (Unit {0})) (rooms : Problem → Result (Unit {0})) where

@@ -4,10 +4,10 @@ use mathlib.Core.Path.{_≡_, refl, sym, subst, _∙_}
 use mathlib.Core.List.{List}
 use Rattle.definitions.specs.Limits.{CaseLimits}
 use Rattle.definitions.specs.Refusal.{Result, refused, accepted, _>>=_}
-use Rattle.definitions.specs.Sheets.{Label}
-use Rattle.definitions.specs.Truth.{Case}
-use Rattle.definitions.specs.Atoms.{Problem}
-use Rattle.definitions.specs.Outcome.{CaseRead, readFiled, readCase, ground, readProblem, Ready, asked, nothing}
+use Rattle.definitions.specs.Sheet.Sheets.{Label}
+use Rattle.definitions.specs.Problem.Truth.{Case}
+use Rattle.definitions.specs.Problem.Atoms.{Problem}
+use Rattle.definitions.specs.Reply.Outcome.{CaseRead, readFiled, readCase, ground, readProblem, Ready, asked, nothing}
 use Rattle.laws.specs.Results.{accepted-eq, bind-parts, refused-accepted}
 
 -- where nothing is tested, nothing is refused

@@ -11,7 +11,7 @@ use lib.Dec.{ltb}
 use lib.ListN.{length, getD, take}
 use borrow.Author.Tests.{lt-ltb, le-ltb, ltb-true, ltb-false}
 use Rattle.definitions.specs.Lists.{if_then_else_, flatMap, mapFrom}
-use Rattle.definitions.specs.Atoms.{Block, itemAt, countOf}
+use Rattle.definitions.specs.Problem.Atoms.{Block, itemAt, countOf}
 use Rattle.laws.specs.Lists.{none-some, some-eq}
 
 pub count-nil : (A : Type 0) → countOf {A = A} [] ≡ 0

@@ -7,7 +7,7 @@ use native.Mathlib.Nat.{zero-add}
 use native.Mathlib.Numerals.{add-one}
 use lib.ListN.{length, getD, set, take, drop}
 use lib.Seq.{paste, paste-suc, length-take-le}
-use Rattle.definitions.specs.Outcome.{written}
+use Rattle.definitions.specs.Reply.Outcome.{written}
 
 pub copy-next : (d s x : List ℕ) (i : ℕ) → i < length d → i < length s → x ≡ paste d 0 s i → set x i (getD s i 0) ≡ paste d 0 s (i + 1)
 copy-next d s x i h k e =

@@ -12,7 +12,7 @@ use lib.ListN.{length, length-append}
 use lib.Seq.{append-snoc}
 use borrow.Author.Tests.{le-leb, lt-leb, leb-true, leb-false, ne-eqb}
 use Rattle.definitions.specs.Lists.{if_then_else_, all}
-use Rattle.definitions.specs.Text.{isBetween, isDigit, decimalValue, noLeadingZero, number, decimalIn, decimal}
+use Rattle.definitions.specs.Sheet.Text.{isBetween, isDigit, decimalValue, noLeadingZero, number, decimalIn, decimal}
 use Rattle.laws.specs.Booleans.{T-and-l, T-and-r, T-of, T-true, and-T, neq}
 use Rattle.laws.specs.Lists.{none-some, some-eq}
 

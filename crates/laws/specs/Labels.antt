@@ -8,9 +8,9 @@ use mathlib.Core.List.{List, [], _∷_, _++_, map, List·Memᴰ, List·Memᴰ·h
 use lib.Dec.{T, eqb, ltb, eqb→eq, eqb-refl, lt→ltb, T-not, not-T}
 use lib.ListN.{length}
 use Rattle.definitions.specs.Lists.{if_then_else_, all, same, isEmpty, option}
-use Rattle.definitions.specs.Text.{isRelationName}
+use Rattle.definitions.specs.Sheet.Text.{isRelationName}
 use Rattle.definitions.specs.Refusal.{refused, accepted, _>>=_, refuseIf, given}
-use Rattle.definitions.specs.Sheets.{Element, numbered, named, Label, elementNamed, nameOf, elementOf, elementsOf, isInRange, SiteDraft, isTaken, addLabel}
+use Rattle.definitions.specs.Sheet.Sheets.{Element, numbered, named, Label, elementNamed, nameOf, elementOf, elementsOf, isInRange, SiteDraft, isTaken, addLabel}
 use Rattle.laws.specs.Booleans.{and-T, T-and-l, T-and-r, T-false, T-of, T-or, T-true, or-l, or-r}
 use Rattle.laws.specs.Lists.{any-at, any-of, none-some, snoc-cases, some-eq}
 use Rattle.laws.specs.Tuples.{same-eq, same-refl}

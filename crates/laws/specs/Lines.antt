@@ -9,9 +9,9 @@ use lib.Dec.{T, eqb, leb, leb→le, eqb→eq, T-not, not-T}
 use lib.ListN.{length}
 use borrow.Author.Tests.{eq-eqb}
 use Rattle.definitions.specs.Lists.{if_then_else_, all, isEmpty, flatMap}
-use Rattle.definitions.specs.Text.{onFirst, split, Line, linesFrom, isBetween, isDigit, isCapital, isRelationName}
+use Rattle.definitions.specs.Sheet.Text.{onFirst, split, Line, linesFrom, isBetween, isDigit, isCapital, isRelationName}
 use Rattle.definitions.specs.Refusal.{Result, accepted, _>>=_, readLines}
-use Rattle.definitions.specs.Desk.{printLine}
+use Rattle.definitions.specs.Reply.Desk.{printLine}
 use Rattle.laws.specs.Booleans.{T-and-l, T-and-r, T-false, T-or, and-T}
 use Rattle.laws.specs.Lists.{all-at, all-of}
 

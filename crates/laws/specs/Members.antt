@@ -12,9 +12,9 @@ use lib.Dec.{T, eqb, leb, ltb, eqb→eq, eqb-refl, ltb→lt, lt→ltb, leb→le,
 use lib.ListN.{length, getD}
 use borrow.Author.Tests.{eq-eqb, lt-ltb, ltb-true, ltb-false}
 use Rattle.definitions.specs.Lists.{if_then_else_, all, any, filter, option, from, below, last, isIn, rank, upTo, before, greatest}
-use Rattle.definitions.specs.Sheets.{Member, isMember, hasMember}
-use Rattle.definitions.specs.Truth.{Case, membersOf}
-use Rattle.definitions.specs.Built.{least}
+use Rattle.definitions.specs.Sheet.Sheets.{Member, isMember, hasMember}
+use Rattle.definitions.specs.Problem.Truth.{Case, membersOf}
+use Rattle.definitions.specs.Problem.Built.{least}
 use Rattle.laws.specs.Booleans.{T-and-l, T-and-r, and-T, T-of, T-true, T-ext}
 use Rattle.laws.specs.Lists.{none-some, some-eq, below-lt, mem-below, getD-below, from-mem, mem-filter, filter-mem, all-at, all-of, any-at, any-of, getD-mem, mem-getD, map-mem, length-below}
 use Rattle.laws.specs.Positions.{place, position-place, place-lt, place-holds, least-place}

@@ -13,12 +13,12 @@ use lib.Dec.{T}
 use lib.ListN.{length, getD, take}
 use lib.Seq.{take-all}
 use Rattle.definitions.specs.Lists.{if_then_else_, flatMap, mapFrom, rank}
-use Rattle.definitions.specs.Relations.{Kind, static, plain, Fun, PFun, Inj, PInj, isChosen, isFunction, isInjective, Relation, fixed}
-use Rattle.definitions.specs.Tree.{Tree, Trees, leaf, forallNode, existsNode, andNode, orNode, howMany, nodeSort}
-use Rattle.definitions.specs.Atoms.{Block, itemAt, countOf, Problem, relationAt, nodeAt, tuplesOf, rowsOf, nodeWidth, Atom, guess, proof, goal, tuple}
-use Rattle.definitions.specs.Atoms.{notTuple, freeDomain, freeRange, holdsNode, relationBlocks, relationsBlocks, nodesBlocks, atomBlocks, atoms}
-use Rattle.definitions.specs.Atoms.{nodeAtoms, relationStart, nodeStart, atomNumber}
-use Rattle.definitions.specs.Actions.{Action, set, beginProof, proveAnd, proveOr, proveExists, proveForall, proveGoal, choices, proveNode, setRows, setsOf, setBlocks, proofsOf, proofBlocks, actionBlocks, actions, actionAt, setStart, proofStart, proofNumber, rangeAt, actionNumber}
+use Rattle.definitions.specs.Sheet.Relations.{Kind, static, plain, Fun, PFun, Inj, PInj, isChosen, isFunction, isInjective, Relation, fixed}
+use Rattle.definitions.specs.Problem.Tree.{Tree, Trees, leaf, forallNode, existsNode, andNode, orNode, howMany, nodeSort}
+use Rattle.definitions.specs.Problem.Atoms.{Block, itemAt, countOf, Problem, relationAt, nodeAt, tuplesOf, rowsOf, nodeWidth, Atom, guess, proof, goal, tuple}
+use Rattle.definitions.specs.Problem.Atoms.{notTuple, freeDomain, freeRange, holdsNode, relationBlocks, relationsBlocks, nodesBlocks, atomBlocks, atoms}
+use Rattle.definitions.specs.Problem.Atoms.{nodeAtoms, relationStart, nodeStart, atomNumber}
+use Rattle.definitions.specs.Problem.Actions.{Action, set, beginProof, proveAnd, proveOr, proveExists, proveForall, proveGoal, choices, proveNode, setRows, setsOf, setBlocks, proofsOf, proofBlocks, actionBlocks, actions, actionAt, setStart, proofStart, proofNumber, rangeAt, actionNumber}
 use Rattle.laws.specs.Booleans.{T-true}
 use Rattle.laws.specs.Lists.{some-eq, getD-mem}
 use Rattle.laws.specs.Repeats.{Once}

@@ -9,7 +9,7 @@ use native.Mathlib.Omega.{arith}
 use lib.Dec.{T}
 use lib.ListN.{length, getD}
 use Rattle.definitions.specs.Lists.{if_then_else_, all, any, option, position}
-use Rattle.definitions.specs.Built.{least}
+use Rattle.definitions.specs.Problem.Built.{least}
 use Rattle.laws.specs.Booleans.{T-or, or-l, or-r, T-of, T-true, T-false}
 use Rattle.laws.specs.Lists.{none-some, some-eq}
 

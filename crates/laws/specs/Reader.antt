@@ -10,22 +10,22 @@ use lib.Dec.{T, ltb, leb, eqb, ltb→lt, nltb→le, eqb→eq, leb→le, nleb→l
 use lib.ListN.{length, getD, length-append}
 use Rattle.definitions.specs.Limits.{CaseLimits}
 use Rattle.definitions.specs.Lists.{if_then_else_, all, any, same, isEmpty, option, position, below}
-use Rattle.definitions.specs.Text.{Line, fields, isBetween, isRelationName, number, lines, bytes}
+use Rattle.definitions.specs.Sheet.Text.{Line, fields, isBetween, isRelationName, number, lines, bytes}
 use Rattle.definitions.specs.Refusal.{Result, refused, accepted, _>>=_, refuseIf, given, readLines, readText}
 use Rattle.definitions.specs.Limits.{textLimit}
-use Rattle.definitions.specs.Relations.{Kind, static, plain, Fun, PFun, Inj, PInj, isChosen, isFunction, Relation, fixed, Tuple, isAmong, areDistinct, builtIn, isDeclared}
-use Rattle.definitions.specs.Formula.{allForms, nesting, isKnown, isScoped, isTyped, typeNumber, sortNamed, isType}
-use Rattle.definitions.specs.Parsing.{readFormula}
-use Rattle.definitions.specs.Sheets
+use Rattle.definitions.specs.Sheet.Relations.{Kind, static, plain, Fun, PFun, Inj, PInj, isChosen, isFunction, Relation, fixed, Tuple, isAmong, areDistinct, builtIn, isDeclared}
+use Rattle.definitions.specs.Sheet.Formula.{allForms, nesting, isKnown, isScoped, isTyped, typeNumber, sortNamed, isType}
+use Rattle.definitions.specs.Sheet.Parsing.{readFormula}
+use Rattle.definitions.specs.Sheet.Sheets
 use Sheets.{Element, Entry, rel, type, choose, rule, size, label, member, fact, pick, step, arityOf, element, elements, labelOf, memberOf, kindNamed}
 use Sheets.{chooseOf, withOne, withTwo, withElements, entry, entryOf, Rule, Draft, Question, relations, isRuled, isNewName, addRel, addType}
 use Sheets.{placeSort, addChoose, addRule, addToQuestion, questionLine, readQuestion, relationsOf, firstRel, used, Label, elementOf, elementsOf}
 use Sheets.{isInRange, addTuple, Member, isMember, hasMember, SiteDraft, Site, Labelled, addSize, isTaken, addLabel, addMember, addFact, addToSite}
 use Sheets.{siteLine, readSite, addToPicks, picksLine, readPicks}
-use Rattle.definitions.specs.Truth.{Case, membersOf}
-use Rattle.definitions.specs.Atoms.{Problem, problemOf, atoms}
-use Rattle.definitions.specs.Actions.{actions}
-use Rattle.definitions.specs.Outcome.{CaseRead, readFiled, readCase, ground, readProblem}
+use Rattle.definitions.specs.Problem.Truth.{Case, membersOf}
+use Rattle.definitions.specs.Problem.Atoms.{Problem, problemOf, atoms}
+use Rattle.definitions.specs.Problem.Actions.{actions}
+use Rattle.definitions.specs.Reply.Outcome.{CaseRead, readFiled, readCase, ground, readProblem}
 use Rattle.laws.specs.Booleans.{T-and-l, T-and-r, T-of, T-or, not-not-T, not-or-l, not-or-r, or-l, or-r}
 use Rattle.laws.specs.Tuples.{distinct-snoc, same-eq, same-refl}
 use Rattle.laws.specs.Lists.{all-at, any-of, mem-below}

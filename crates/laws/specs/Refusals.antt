@@ -9,23 +9,23 @@ use lib.Dec.{ltb}
 use lib.ListN.{length}
 use Rattle.definitions.specs.Limits.{CaseLimits, textLimit}
 use Rattle.definitions.specs.Lists.{if_then_else_, all, any, option, isIn}
-use Rattle.definitions.specs.Text.{Line, lines}
+use Rattle.definitions.specs.Sheet.Text.{Line, lines}
 use Rattle.definitions.specs.Refusal.{Result, refused, accepted, _>>=_, refuseIf, given, readLines, readText, caseNumbers, readyNumbers, runNumbers, picksNumbers}
-use Rattle.definitions.specs.Relations.{Relation, Tuple}
-use Rattle.definitions.specs.Sheets.{Element, Entry, rel, type, choose, rule, size, label, member, fact, pick, step, entryOf, Draft, addRel, addType}
-use Rattle.definitions.specs.Sheets.{addChoose, addRule, addToQuestion, questionLine, readQuestion, firstRel, Label, addTuple, SiteDraft, addSize}
-use Rattle.definitions.specs.Sheets.{addLabel, addMember, addFact, addToSite, siteLine, readSite, addToPicks, picksLine, readPicks, addToSteps}
-use Rattle.definitions.specs.Sheets.{stepsLine, readSteps}
-use Rattle.definitions.specs.Truth.{Case, firstOfOtherKind}
-use Rattle.definitions.specs.Atoms.{Problem, goal, atomNumber, State, initial}
-use Rattle.definitions.specs.Actions.{Action, actionAt}
-use Rattle.definitions.specs.Strips.{mayTake, after, runFrom, run}
-use Rattle.definitions.specs.Built.{chosenNumbers, bound}
-use Rattle.definitions.specs.Judgement.{judge}
-use Rattle.definitions.specs.Outcome.{CaseRead, readFiled, readCase, ground, readProblem, Ready, asked, nothing, satisfying, roomFor, sizes, action}
-use Rattle.definitions.specs.Outcome.{stateLength, picksLength, ThirdInput, asText, asNumbers, takeSteps, textPicks, picksRoom, spareWord, spareRefusal}
-use Rattle.definitions.specs.Outcome.{takePicks, readyToRun, checkedFrom, checkSteps, picksReadFrom, picksFromSteps, kindRefusal, Plan, plan}
-use Rattle.definitions.specs.Outcome.{builtFrom, buildSteps}
+use Rattle.definitions.specs.Sheet.Relations.{Relation, Tuple}
+use Rattle.definitions.specs.Sheet.Sheets.{Element, Entry, rel, type, choose, rule, size, label, member, fact, pick, step, entryOf, Draft, addRel, addType}
+use Rattle.definitions.specs.Sheet.Sheets.{addChoose, addRule, addToQuestion, questionLine, readQuestion, firstRel, Label, addTuple, SiteDraft, addSize}
+use Rattle.definitions.specs.Sheet.Sheets.{addLabel, addMember, addFact, addToSite, siteLine, readSite, addToPicks, picksLine, readPicks, addToSteps}
+use Rattle.definitions.specs.Sheet.Sheets.{stepsLine, readSteps}
+use Rattle.definitions.specs.Problem.Truth.{Case, firstOfOtherKind}
+use Rattle.definitions.specs.Problem.Atoms.{Problem, goal, atomNumber, State, initial}
+use Rattle.definitions.specs.Problem.Actions.{Action, actionAt}
+use Rattle.definitions.specs.Problem.Strips.{mayTake, after, runFrom, run}
+use Rattle.definitions.specs.Problem.Built.{chosenNumbers, bound}
+use Rattle.definitions.specs.Reply.Judgement.{judge}
+use Rattle.definitions.specs.Reply.Outcome.{CaseRead, readFiled, readCase, ground, readProblem, Ready, asked, nothing, satisfying, roomFor, sizes, action}
+use Rattle.definitions.specs.Reply.Outcome.{stateLength, picksLength, ThirdInput, asText, asNumbers, takeSteps, textPicks, picksRoom, spareWord, spareRefusal}
+use Rattle.definitions.specs.Reply.Outcome.{takePicks, readyToRun, checkedFrom, checkSteps, picksReadFrom, picksFromSteps, kindRefusal, Plan, plan}
+use Rattle.definitions.specs.Reply.Outcome.{builtFrom, buildSteps}
 use Rattle.laws.specs.Booleans.{T-of, T-true}
 use Rattle.laws.specs.Lists.{all-at}
 use Rattle.laws.specs.Members.{in-mem}

@@ -8,7 +8,7 @@ use native.Mathlib.Omega.{arith}
 use lib.Dec.{T, T-not, not-T}
 use lib.ListN.{length}
 use Rattle.definitions.specs.Lists.{if_then_else_, filter, flatMap, from, below}
-use Rattle.definitions.specs.Relations.{Tuple, isAmong, areDistinct}
+use Rattle.definitions.specs.Sheet.Relations.{Tuple, isAmong, areDistinct}
 use Rattle.laws.specs.Booleans.{and-T, T-and-l, T-and-r, T-of}
 use Rattle.laws.specs.Lists.{filter-mem, from-mem, map-mem, flat-mem}
 use Rattle.laws.specs.Tuples.{among-mem, mem-among}

@@ -4,7 +4,7 @@ use mathlib.Core.Path.{_≡_, refl, ap, subst}
 use mathlib.Core.Bool.{Bool, true, false}
 use mathlib.Core.Option.{Option, none, some}
 use Rattle.definitions.specs.Refusal.{Result, refused, accepted, _>>=_, refuseIf, given}
-use Rattle.definitions.specs.Demand.{isAccepted}
+use Rattle.definitions.specs.Reply.Demand.{isAccepted}
 use Rattle.laws.specs.Booleans.{T-of}
 
 pub refused-accepted : {A : Type 0} {k place : ℕ} {a : A} → refused k place ≡ accepted a → ⊥

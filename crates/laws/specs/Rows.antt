@@ -8,7 +8,7 @@ use lib.Arith.{digits-lt, digits-div}
 use lib.Dec.{T, ltb, ltb→lt, lt→ltb}
 use lib.ListN.{length}
 use Rattle.definitions.specs.Lists.{all}
-use Rattle.definitions.specs.Atoms.{rowOf, placesOf}
+use Rattle.definitions.specs.Problem.Atoms.{rowOf, placesOf}
 use Rattle.laws.specs.Booleans.{and-T, T-and-l, T-and-r}
 
 -- every place is an element

@@ -11,9 +11,9 @@ use lib.Dec.{T, ltb}
 use lib.ListN.{length, getD, length-map}
 use borrow.Author.Tests.{ltb-true, ltb-false}
 use Rattle.definitions.specs.Lists.{if_then_else_, filter, below, isIn, rank}
-use Rattle.definitions.specs.Relations.{Kind, static, plain, Fun, PFun, Inj, PInj, isChosen, isFunction, Relation}
-use Rattle.definitions.specs.Atoms.{tuplesOf}
-use Rattle.definitions.specs.Actions.{isSettable, setRows, setsOf}
+use Rattle.definitions.specs.Sheet.Relations.{Kind, static, plain, Fun, PFun, Inj, PInj, isChosen, isFunction, Relation}
+use Rattle.definitions.specs.Problem.Atoms.{tuplesOf}
+use Rattle.definitions.specs.Problem.Actions.{isSettable, setRows, setsOf}
 use Rattle.laws.specs.Booleans.{T-and-l, T-and-r, T-of, and-T}
 use Rattle.laws.specs.Lists.{below-lt, mem-below, length-below, getD-below, filter-mem, mem-filter, getD-mem, getD-map, map-mem, mem-map}
 use Rattle.laws.specs.Repeats.{Once, filter-le}

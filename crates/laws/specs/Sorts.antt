@@ -10,10 +10,10 @@ use lib.Dec.{ltb}
 use lib.ListN.{length, getD, List·getD-eq-default}
 use borrow.Author.Tests.{ltb-true, ltb-false}
 use Rattle.definitions.specs.Lists.{if_then_else_, option}
-use Rattle.definitions.specs.Relations.{Relation, isTotal}
-use Rattle.definitions.specs.Formula.{Quantified, Formula, Formulas, literal, negation, implication, conjunction, disjunction, exists, forall, nil, cons, variablesOf, sortNamed, sortOf}
-use Rattle.definitions.specs.Sheets.{Question, relationsOf, firstChosen}
-use Rattle.definitions.specs.Tree.{Tree, Trees, leaf, forallNode, existsNode, andNode, orNode, end, _then_, nest, leafOf, asIs, negated, allAsIs, allNegated, totalities, joined, treeOf, nodes, nodesAll, nodeSort}
+use Rattle.definitions.specs.Sheet.Relations.{Relation, isTotal}
+use Rattle.definitions.specs.Sheet.Formula.{Quantified, Formula, Formulas, literal, negation, implication, conjunction, disjunction, exists, forall, nil, cons, variablesOf, sortNamed, sortOf}
+use Rattle.definitions.specs.Sheet.Sheets.{Question, relationsOf, firstChosen}
+use Rattle.definitions.specs.Problem.Tree.{Tree, Trees, leaf, forallNode, existsNode, andNode, orNode, end, _then_, nest, leafOf, asIs, negated, allAsIs, allNegated, totalities, joined, treeOf, nodes, nodesAll, nodeSort}
 use Rattle.laws.specs.Lists.{getD-mem}
 use Rattle.laws.specs.Reader.{SortsFit, sort-named}
 

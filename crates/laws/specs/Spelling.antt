@@ -9,9 +9,9 @@ use native.Mathlib.Omega.{arith}
 use lib.Dec.{T, ltb, leb, eqb, ltb→lt, leb→le}
 use lib.ListN.{length}
 use Rattle.definitions.specs.Lists.{if_then_else_, all, option}
-use Rattle.definitions.specs.Text.{decimal, decimalIn, number, isBetween, isDigit, isCapital, isRelationName}
-use Rattle.definitions.specs.Sheets.{Element, numbered, named, element, elements, Label, nameOf, elementOf, elementsOf, isInRange}
-use Rattle.definitions.specs.Desk.{said}
+use Rattle.definitions.specs.Sheet.Text.{decimal, decimalIn, number, isBetween, isDigit, isCapital, isRelationName}
+use Rattle.definitions.specs.Sheet.Sheets.{Element, numbered, named, element, elements, Label, nameOf, elementOf, elementsOf, isInRange}
+use Rattle.definitions.specs.Reply.Desk.{said}
 use Rattle.laws.specs.Booleans.{and-T, T-and-l, T-and-r, T-false, T-of, T-true}
 use Rattle.laws.specs.Lists.{none-some, some-eq}
 use Rattle.laws.specs.Labels.{LabelsFit, name-at, one-to-one, option-parts}

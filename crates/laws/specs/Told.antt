@@ -10,14 +10,14 @@ use lib.ListN.{length, getD}
 use borrow.Author.Tests.{eqb-true, ltb-false, not-false}
 use Rattle.definitions.specs.Limits.{textLimit}
 use Rattle.definitions.specs.Lists.{if_then_else_, all, same, option, flatMap, position, isEmpty}
-use Rattle.definitions.specs.Text.{bytes, decimal, number, onFirst, split, Line, lines, linesFrom, fields, isBetween, isRelationName}
+use Rattle.definitions.specs.Sheet.Text.{bytes, decimal, number, onFirst, split, Line, lines, linesFrom, fields, isBetween, isRelationName}
 use Rattle.definitions.specs.Refusal.{Result, accepted, refuseIf, given, readLines, readText}
-use Rattle.definitions.specs.Relations.{Kind, plain, Relation, Tuple, isAmong}
-use Rattle.definitions.specs.Sheets.{Element, Entry, rel, type, choose, rule, size, label, member, fact, pick, step, arityOf, kindNamed, chooseOf}
-use Rattle.definitions.specs.Sheets.{element, elements, labelOf, memberOf, withOne, withTwo, withElements, entry, entryOf, Label, elementsOf}
-use Rattle.definitions.specs.Sheets.{isInRange, used, addTuple, addToPicks, picksLine, readPicks, addToSteps, stepsLine, readSteps}
-use Rattle.definitions.specs.Desk.{printLine, stepLine}
-use Rattle.definitions.specs.Demand.{isAccepted}
+use Rattle.definitions.specs.Sheet.Relations.{Kind, plain, Relation, Tuple, isAmong}
+use Rattle.definitions.specs.Sheet.Sheets.{Element, Entry, rel, type, choose, rule, size, label, member, fact, pick, step, arityOf, kindNamed, chooseOf}
+use Rattle.definitions.specs.Sheet.Sheets.{element, elements, labelOf, memberOf, withOne, withTwo, withElements, entry, entryOf, Label, elementsOf}
+use Rattle.definitions.specs.Sheet.Sheets.{isInRange, used, addTuple, addToPicks, picksLine, readPicks, addToSteps, stepsLine, readSteps}
+use Rattle.definitions.specs.Reply.Desk.{printLine, stepLine}
+use Rattle.definitions.specs.Reply.Demand.{isAccepted}
 use Rattle.laws.specs.Booleans.{T-and-l, T-of}
 use Rattle.laws.specs.Results.{accepted-eq, bind-parts, given-some, not-refused, refused-accepted}
 use Rattle.laws.specs.Lists.{none-some, some-eq}

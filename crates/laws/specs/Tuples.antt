@@ -6,7 +6,7 @@ use mathlib.Core.Bool.{not}
 use mathlib.Core.List.{List, [], _∷_, _++_, List·Memᴰ, List·Memᴰ·head, List·Memᴰ·tail, List·Memᴰ·not-nil, List·Memᴰ·cases-cons, List·Memᴰ·append-cases, List·Memᴰ·eq-of-singleton}
 use lib.Dec.{T, eqb, eqb→eq, eqb-refl, T-not, not-T}
 use Rattle.definitions.specs.Lists.{any, same}
-use Rattle.definitions.specs.Relations.{Tuple, sameTuple, isAmong, areDistinct}
+use Rattle.definitions.specs.Sheet.Relations.{Tuple, sameTuple, isAmong, areDistinct}
 use Rattle.laws.specs.Booleans.{and-T, T-and-l, T-and-r, T-or, or-l, or-r}
 
 pub same-eq : (xs ys : List ℕ) → T (same xs ys) → xs ≡ ys

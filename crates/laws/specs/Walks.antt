@@ -10,14 +10,14 @@ use lib.ListN.{length, length-append, length-map}
 use Rattle.definitions.specs.Lists.{mapFrom, from, below, sum}
 use Rattle.definitions.specs.Limits.{CaseLimits}
 use Rattle.definitions.specs.Refusal.{Result, refused, accepted, _>>=_, refuseIf}
-use Rattle.definitions.specs.Truth.{Case}
-use Rattle.definitions.specs.Tree.{Tree, Trees, leaf, forallNode, existsNode, andNode, orNode, end, _then_, Part, isForall, nodes, nodesAll, treeOf}
-use Rattle.definitions.specs.Atoms.{Problem, problemOf, problemWith, Block, countOf, rowsOf, nodeWidth, relationsBlocks, nodesBlocks, atomBlocks, atoms, nodeAtoms}
-use Rattle.definitions.specs.Actions.{Action, beginProof, proveGoal, choices, proofsOf, setBlocks, proofBlocks, actionBlocks, actions}
-use Rattle.definitions.specs.Built.{mostPicks, bound}
-use Rattle.definitions.specs.Sheets.{Label}
-use Rattle.definitions.specs.Outcome.{Sizes, sizesOf, CaseRead, readFiled, readCase, ground, sizes, Ready, asked, nothing}
-use Rattle.definitions.specs.Tally.{noWalk, thenWalk, visit, walk, walkAll, walked, Tally, tallyOf, tally}
+use Rattle.definitions.specs.Problem.Truth.{Case}
+use Rattle.definitions.specs.Problem.Tree.{Tree, Trees, leaf, forallNode, existsNode, andNode, orNode, end, _then_, Part, isForall, nodes, nodesAll, treeOf}
+use Rattle.definitions.specs.Problem.Atoms.{Problem, problemOf, problemWith, Block, countOf, rowsOf, nodeWidth, relationsBlocks, nodesBlocks, atomBlocks, atoms, nodeAtoms}
+use Rattle.definitions.specs.Problem.Actions.{Action, beginProof, proveGoal, choices, proofsOf, setBlocks, proofBlocks, actionBlocks, actions}
+use Rattle.definitions.specs.Problem.Built.{mostPicks, bound}
+use Rattle.definitions.specs.Sheet.Sheets.{Label}
+use Rattle.definitions.specs.Reply.Outcome.{Sizes, sizesOf, CaseRead, readFiled, readCase, ground, sizes, Ready, asked, nothing}
+use Rattle.definitions.specs.Reply.Tally.{noWalk, thenWalk, visit, walk, walkAll, walked, Tally, tallyOf, tally}
 use Rattle.laws.specs.Lists.{from-append}
 use Rattle.laws.specs.Blocks.{count-append}
 

@@ -9,8 +9,8 @@ use lib.Dec.{eqb}
 use lib.ListN.{length, List·getD-append}
 use lib.Seq.{getD-append-add}
 use Rattle.definitions.specs.Lists.{if_then_else_, from, below}
-use Rattle.definitions.specs.Atoms.{Problem, atoms, State, wordsFor, bitsFrom, stateWords}
-use Rattle.definitions.specs.Outcome.{bitOf, stateLength}
+use Rattle.definitions.specs.Problem.Atoms.{Problem, atoms, State, wordsFor, bitsFrom, stateWords}
+use Rattle.definitions.specs.Reply.Outcome.{bitOf, stateLength}
 use Rattle.bits.specs.Table.{digit, bit, num, word, words}
 use Rattle.bits.proofs.Laws.{bit-words, length-words}
 

@@ -7,20 +7,20 @@ use lib.ListN.{length}
 use lib.Seq.{length-slice}
 use native.Mathlib.Omega.{arith}
 use Rattle.definitions.specs.Refusal.{Result, refused, accepted, _>>=_}
-use Rattle.definitions.specs.Actions.{Action, actionKind, actionSubject, actionRow, actionChoice}
-use Rattle.definitions.specs.Sheets.{Question, readQuestion}
-use Rattle.definitions.specs.Outcome.{Sizes, spanOf, rulePart, replyNumber, refusalPlace, told}
-use Rattle.question.specs.declared.Asked.{Asked as Read}
-use Rattle.question.specs.Drafts.{QuestionRead, refusedWith}
-use Rattle.ground.specs.declared.Act.{Act}
-use Rattle.ground.specs.declared.Act.the-variants.{Set, Begin, And, Or, Exists, Forall, Goal, Nothing}
-use Rattle.cases.specs.declared.Counts.{Counts}
-use Rattle.cases.specs.declared.Sizing.{Sizing}
-use Rattle.cases.specs.declared.Sizing.the-variants.{Sized, Refused as Unsized}
-use Rattle.cases.specs.Replies.{sizingOf}
-use Rattle.cases.specs.declared.Asked.{Asked}
-use Rattle.cases.specs.declared.Asked.the-variants.{Action as Known, Refused as Unknown}
-use Rattle.cases.specs.Asked.{heard, actionOf, found}
+use Rattle.definitions.specs.Problem.Actions.{Action, actionKind, actionSubject, actionRow, actionChoice}
+use Rattle.definitions.specs.Sheet.Sheets.{Question, readQuestion}
+use Rattle.definitions.specs.Reply.Outcome.{Sizes, spanOf, rulePart, replyNumber, refusalPlace, told}
+use Rattle.read_question.specs.declared.Asked.{Asked as Read}
+use Rattle.read_question.specs.Drafts.{QuestionRead, refusedWith}
+use Rattle.problem_table.specs.declared.Act.{Act}
+use Rattle.problem_table.specs.declared.Act.the-variants.{Set, Begin, And, Or, Exists, Forall, Goal, Nothing}
+use Rattle.call_sizes.specs.declared.Counts.{Counts}
+use Rattle.call_sizes.specs.declared.Sizing.{Sizing}
+use Rattle.call_sizes.specs.declared.Sizing.the-variants.{Sized, Refused as Unsized}
+use Rattle.call_sizes.specs.Answers.{sizingOf}
+use Rattle.call_action.specs.declared.Asked.{Asked}
+use Rattle.call_action.specs.declared.Asked.the-variants.{Action as Known, Refused as Unknown}
+use Rattle.call_action.specs.Asked.{heard, actionOf, found}
 use Rattle.nendokwe.specs.declared.Details.{Details}
 
 -- the code's action in numbers; one that is none has a kind of its own

@@ -3,22 +3,22 @@
 // What a refusal leaves as it was is left: sizes and an action's details are written only where there are some.
 ghost use mathlib.Core.Path.{_≡_};
 ghost use lib.ListN.{length};
-ghost use Rattle.definitions.specs.Desk.{desk};
+ghost use Rattle.definitions.specs.Reply.Desk.{desk};
 ghost use Rattle.definitions.specs.Limits.{usual};
-ghost use Rattle.definitions.specs.Actions.{actionKind, actionSubject, actionRow, actionChoice};
-ghost use Rattle.definitions.specs.Outcome.{asText, asNumbers, sizes as «sizes-of», action as «action-of», rulePart, checkSteps, picksFromSteps, buildSteps, written, replyNumber, replyPlace, refusalPlace, told};
-ghost use Rattle.asking.specs.Replies.{resultOf};
+ghost use Rattle.definitions.specs.Problem.Actions.{actionKind, actionSubject, actionRow, actionChoice};
+ghost use Rattle.definitions.specs.Reply.Outcome.{asText, asNumbers, sizes as «sizes-of», action as «action-of», rulePart, checkSteps, picksFromSteps, buildSteps, written, replyNumber, replyPlace, refusalPlace, told};
+ghost use Rattle.open_case.specs.Replies.{resultOf};
 ghost use Rattle.nendokwe.specs.Told.{detailsOf};
-ghost use Rattle.definitions.specs.Allowance.{allowances as «allowances-of»};
-ghost use Rattle.definitions.specs.Judgement.{judge};
-ghost use Rattle.definitions.specs.Tries.{tryLists};
-ghost use Rattle.tries.specs.Recorded.{records};
-use asking::Reply;
-use cases::Asked;
-use cases::Sizing;
-use ground::Act;
-use ground::ChoiceAct;
-use tries::Try;
+ghost use Rattle.definitions.specs.Reply.Allowance.{allowances as «allowances-of»};
+ghost use Rattle.definitions.specs.Reply.Judgement.{judge};
+ghost use Rattle.definitions.specs.Reply.Tries.{tryLists};
+ghost use Rattle.call_tries.specs.Recorded.{records};
+use call_action::Asked;
+use call_sizes::Sizing;
+use call_tries::Try;
+use open_case::Reply;
+use problem_table::Act;
+use problem_table::ChoiceAct;
 
 // A reply as number and place.
 fn tell(r: Reply, number: &mut u32, place: &mut usize)
@@ -43,7 +43,7 @@ pub extern "C" fn nendokwe_rule(question: &[u8], start: &mut usize, length: &mut
     ensures { λ _. ⌜ now (start .exit) ≡ rulePart (now (question .entry)) .start ⌝ }
     ensures { λ _. ⌜ now (length .exit) ≡ rulePart (now (question .entry)) .len ⌝ }
 {
-    let q = question::question(question);
+    let q = read_question::question(question);
     let part = q.rule;
     *start = part.from;
     *length = part.to - part.from;
@@ -68,7 +68,7 @@ pub extern "C" fn nendokwe_sizes(
     ensures { λ _. ⌜ now (actions .exit) ≡ told (λ s. s .actionCount) («sizes-of» usual (now (question .entry)) (now (site .entry))) (now (actions .entry)) ⌝ }
     ensures { λ _. ⌜ now (bound .exit) ≡ told (λ s. s .stepBound) («sizes-of» usual (now (question .entry)) (now (site .entry))) (now (bound .entry)) ⌝ }
 {
-    let r = cases::sizes(question, site);
+    let r = call_sizes::sizes(question, site);
     match r {
         Sizing::Sized(s) => {
             *number = 0;
@@ -164,7 +164,7 @@ pub extern "C" fn nendokwe_action(
     ensures { λ _. ⌜ now (row .exit) ≡ told actionRow («action-of» usual (now (question .entry)) (now (site .entry)) k) (now (row .entry)) ⌝ }
     ensures { λ _. ⌜ now (choice .exit) ≡ told actionChoice («action-of» usual (now (question .entry)) (now (site .entry)) k) (now (choice .entry)) ⌝ }
 {
-    let r = cases::action(question, site, k);
+    let r = call_action::action(question, site, k);
     match r {
         Asked::Action(a) => {
             let d = in_numbers(a);
@@ -196,7 +196,7 @@ pub extern "C" fn nendokwe_check_text(
     ensures { λ _. ⌜ now (place .exit) ≡ replyPlace (checkSteps usual (now (question .entry)) (now (site .entry)) (asText (now (steps .entry))) (now (state .entry)) .answer) ⌝ }
     ensures { λ _. ⌜ now (state .exit) ≡ checkSteps usual (now (question .entry)) (now (site .entry)) (asText (now (steps .entry))) (now (state .entry)) .state ⌝ }
 {
-    let r = cases::check_text(question, site, steps, state);
+    let r = call_check::check_text(question, site, steps, state);
     tell(r, number, place);
 }
 
@@ -214,7 +214,7 @@ pub extern "C" fn nendokwe_check(
     ensures { λ _. ⌜ now (place .exit) ≡ replyPlace (checkSteps usual (now (question .entry)) (now (site .entry)) (asNumbers (now (steps .entry))) (now (state .entry)) .answer) ⌝ }
     ensures { λ _. ⌜ now (state .exit) ≡ checkSteps usual (now (question .entry)) (now (site .entry)) (asNumbers (now (steps .entry))) (now (state .entry)) .state ⌝ }
 {
-    let r = cases::check_lent(question, site, steps, state);
+    let r = call_check::check_lent(question, site, steps, state);
     tell(r, number, place);
 }
 
@@ -234,7 +234,7 @@ pub extern "C" fn nendokwe_picks_text(
     ensures { λ _. ⌜ now (picks .exit) ≡ picksFromSteps usual (now (question .entry)) (now (site .entry)) (asText (now (steps .entry))) (now (picks .entry)) (now (state .entry)) .picks ⌝ }
     ensures { λ _. ⌜ now (state .exit) ≡ picksFromSteps usual (now (question .entry)) (now (site .entry)) (asText (now (steps .entry))) (now (picks .entry)) (now (state .entry)) .state ⌝ }
 {
-    let r = reading::picks_text(question, site, steps, picks, state);
+    let r = call_read::picks_text(question, site, steps, picks, state);
     tell(r, number, place);
 }
 
@@ -254,7 +254,7 @@ pub extern "C" fn nendokwe_picks(
     ensures { λ _. ⌜ now (picks .exit) ≡ picksFromSteps usual (now (question .entry)) (now (site .entry)) (asNumbers (now (steps .entry))) (now (picks .entry)) (now (state .entry)) .picks ⌝ }
     ensures { λ _. ⌜ now (state .exit) ≡ picksFromSteps usual (now (question .entry)) (now (site .entry)) (asNumbers (now (steps .entry))) (now (picks .entry)) (now (state .entry)) .state ⌝ }
 {
-    let r = reading::picks_lent(question, site, steps, picks, state);
+    let r = call_read::picks_lent(question, site, steps, picks, state);
     tell(r, number, place);
 }
 
@@ -274,7 +274,7 @@ pub extern "C" fn nendokwe_build_text(
     ensures { λ _. ⌜ now (state .exit) ≡ buildSteps usual (now (question .entry)) (now (site .entry)) (asText (now (picks .entry))) (now (state .entry)) (now (steps .entry)) .state ⌝ }
     ensures { λ _. ⌜ now (steps .exit) ≡ buildSteps usual (now (question .entry)) (now (site .entry)) (asText (now (picks .entry))) (now (state .entry)) (now (steps .entry)) .steps ⌝ }
 {
-    let r = building::build_text(question, site, picks, state, steps);
+    let r = call_build::build_text(question, site, picks, state, steps);
     tell(r, number, place);
 }
 
@@ -294,7 +294,7 @@ pub extern "C" fn nendokwe_build(
     ensures { λ _. ⌜ now (state .exit) ≡ buildSteps usual (now (question .entry)) (now (site .entry)) (asNumbers (now (picks .entry))) (now (state .entry)) (now (steps .entry)) .state ⌝ }
     ensures { λ _. ⌜ now (steps .exit) ≡ buildSteps usual (now (question .entry)) (now (site .entry)) (asNumbers (now (picks .entry))) (now (state .entry)) (now (steps .entry)) .steps ⌝ }
 {
-    let r = building::build_lent(question, site, picks, state, steps);
+    let r = call_build::build_lent(question, site, picks, state, steps);
     tell(r, number, place);
 }
 
@@ -310,7 +310,7 @@ pub extern "C" fn nendokwe_judge_text(
     ensures { λ _. ⌜ now (number .exit) ≡ replyNumber (judge usual (now (question .entry)) (now (site .entry)) (asText (now (picks .entry)))) ⌝ }
     ensures { λ _. ⌜ now (place .exit) ≡ replyPlace (judge usual (now (question .entry)) (now (site .entry)) (asText (now (picks .entry)))) ⌝ }
 {
-    let r = judging::judge_text(question, site, picks);
+    let r = call_judge::judge_text(question, site, picks);
     tell(r, number, place);
 }
 
@@ -326,7 +326,7 @@ pub extern "C" fn nendokwe_judge(
     ensures { λ _. ⌜ now (number .exit) ≡ replyNumber (judge usual (now (question .entry)) (now (site .entry)) (asNumbers (now (picks .entry)))) ⌝ }
     ensures { λ _. ⌜ now (place .exit) ≡ replyPlace (judge usual (now (question .entry)) (now (site .entry)) (asNumbers (now (picks .entry)))) ⌝ }
 {
-    let r = judging::judge_lent(question, site, picks);
+    let r = call_judge::judge_lent(question, site, picks);
     tell(r, number, place);
 }
 
@@ -343,7 +343,7 @@ pub extern "C" fn nendokwe_allowances(
     ensures { λ _. ⌜ now (place .exit) ≡ replyPlace («allowances-of» usual (now (question .entry)) (now (site .entry)) (now (allowances .entry)) .answer) ⌝ }
     ensures { λ _. ⌜ now (allowances .exit) ≡ «allowances-of» usual (now (question .entry)) (now (site .entry)) (now (allowances .entry)) .allowances ⌝ }
 {
-    let r = allowances::allowances(question, site, allowances);
+    let r = call_allowance::allowances(question, site, allowances);
     tell(r, number, place);
 }
 
@@ -365,16 +365,16 @@ pub extern "C" fn nendokwe_tries(
     ensures { λ _. ⌜ records (now (tries .exit)) ≡ tryLists usual (now (question .entry)) (now (site .entry)) (now (steps .entry)) (records (now (tries .entry))) (now (state .entry)) .tries ⌝ }
     ensures { λ _. ⌜ now (state .exit) ≡ tryLists usual (now (question .entry)) (now (site .entry)) (now (steps .entry)) (records (now (tries .entry))) (now (state .entry)) .state ⌝ }
 {
-    let r = tries::try_lists(question, site, steps, tries, state);
+    let r = call_tries::try_lists(question, site, steps, tries, state);
     *number = r.number;
     *place = r.place;
 }
 
 // What the desk program prints for an input, and how many bytes that is. The 573,952 that are lent are always enough.
 #[no_mangle]
-pub extern "C" fn nendokwe_desk(input: &[u8], out: &mut [u8; desk::ROOM]) -> usize
+pub extern "C" fn nendokwe_desk(input: &[u8], out: &mut [u8; call_desk::ROOM]) -> usize
     ensures { λ r. ⌜ r ≡ length (desk (now (input .entry))) ⌝ }
     ensures { λ r. ⌜ now (out .exit) ≡ written (desk (now (input .entry))) (now (out .entry)) ⌝ }
 {
-    desk::reply(input, out)
+    call_desk::reply(input, out)
 }

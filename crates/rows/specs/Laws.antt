@@ -12,9 +12,9 @@ use lib.Dec.{eqb}
 use lib.ListN.{length, getD, take, drop, set, length-append, length-map, List·getD-map}
 use lib.Seq.{take-suc, drop-cons, getD-take, getD-set-same, getD-set-other, set-out, length-take-le}
 use Rattle.definitions.specs.Lists.{if_then_else_}
-use Rattle.definitions.specs.Atoms.{rowOf, placesOf}
-use Rattle.definitions.specs.Actions.{Values, valuesIn, withValue}
-use Rattle.tree.specs.Tables.{Levels}
+use Rattle.definitions.specs.Problem.Atoms.{rowOf, placesOf}
+use Rattle.definitions.specs.Problem.Actions.{Values, valuesIn, withValue}
+use Rattle.rule_nodes.specs.Tables.{Levels}
 use Rattle.rows.specs.Values.{valueIn, Within, Most, weightOf, weighed}
 
 -- ---- powers

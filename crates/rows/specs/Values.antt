@@ -4,7 +4,7 @@ use Prim.Native.Nat.{ℕ, _+_, _*_, _^_, _≤_, _<_}
 use lib.Dec.{eqb}
 use lib.ListN.{length, getD}
 use Rattle.definitions.specs.Lists.{if_then_else_}
-use Rattle.definitions.specs.Actions.{Values}
+use Rattle.definitions.specs.Problem.Actions.{Values}
 
 unfoldable pub valueIn : List ℕ → Values
 valueIn xs l = getD xs l 0

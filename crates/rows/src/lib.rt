@@ -3,9 +3,9 @@ ghost use mathlib.Core.Path.{_≡_};
 ghost use mathlib.Core.List.{map};
 ghost use Prim.Native.Nat.{ℕ, _+_, _*_, _^_, _<_, _≤_};
 ghost use lib.ListN.{take, getD, length};
-ghost use Rattle.definitions.specs.Atoms.{placesOf};
-ghost use Rattle.definitions.specs.Actions.{valuesIn};
-ghost use Rattle.tree.specs.Tables.{Levels};
+ghost use Rattle.definitions.specs.Problem.Atoms.{placesOf};
+ghost use Rattle.definitions.specs.Problem.Actions.{valuesIn};
+ghost use Rattle.rule_nodes.specs.Tables.{Levels};
 ghost use Rattle.rows.specs.Values.{valueIn, Within, Most, weightOf};
 
 // n to the power k.

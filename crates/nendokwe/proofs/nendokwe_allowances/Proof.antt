@@ -1,6 +1,6 @@
--- `nendokwe::nendokwe_allowances` meets its contract: what `allowances::allowances` returned is told. Assumes nothing.
+-- `nendokwe::nendokwe_allowances` meets its contract: what `call_allowance::allowances` returned is told. Assumes nothing.
 use mathlib.Core.Path.{ap, _∙_}
-use Rattle.definitions.specs.Outcome.{replyNumber, replyPlace}
+use Rattle.definitions.specs.Reply.Outcome.{replyNumber, replyPlace}
 use borrow.Author.Needs.{needs}
 use Rattle.nendokwe.proofs.nendokwe_allowances.Tie as tie
 

@@ -1,6 +1,6 @@
--- `nendokwe::nendokwe_check_text` meets its contract: what `cases::check_text` returned is told. Assumes nothing.
+-- `nendokwe::nendokwe_check_text` meets its contract: what `call_check::check_text` returned is told. Assumes nothing.
 use mathlib.Core.Path.{ap, _∙_}
-use Rattle.definitions.specs.Outcome.{replyNumber, replyPlace}
+use Rattle.definitions.specs.Reply.Outcome.{replyNumber, replyPlace}
 use borrow.Author.Needs.{needs}
 use Rattle.nendokwe.proofs.nendokwe_check_text.Tie as tie
 

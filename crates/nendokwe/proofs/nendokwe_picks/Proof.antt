@@ -1,6 +1,6 @@
--- `nendokwe::nendokwe_picks` meets its contract: what `reading::picks_lent` returned is told. Assumes nothing.
+-- `nendokwe::nendokwe_picks` meets its contract: what `call_read::picks_lent` returned is told. Assumes nothing.
 use mathlib.Core.Path.{ap, _∙_}
-use Rattle.definitions.specs.Outcome.{replyNumber, replyPlace}
+use Rattle.definitions.specs.Reply.Outcome.{replyNumber, replyPlace}
 use borrow.Author.Needs.{needs}
 use Rattle.nendokwe.proofs.nendokwe_picks.Tie as tie
 

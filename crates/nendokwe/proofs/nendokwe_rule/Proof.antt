@@ -1,5 +1,5 @@
 -- `nendokwe::nendokwe_rule` meets its contract: where the question says that its rule lies. Assumes nothing.
-use Rattle.question.proofs.Ending.{part-in}
+use Rattle.read_question.proofs.Ending.{part-in}
 use Rattle.nendokwe.specs.Told.{rule-told}
 use borrow.Author.Needs.{needs}
 use Rattle.nendokwe.proofs.nendokwe_rule.Tie as tie

@@ -1,5 +1,5 @@
 -- `nendokwe::nendokwe_tries` meets its contract: a walk of its MIR, by hand, since it holds a slice of structs. The records and the state
--- are lent again to `tries::try_lists`; number and place of what it returned are written. It has no branch and no loop. All that the proof
+-- are lent again to `call_tries::try_lists`; number and place of what it returned are written. It has no branch and no loop. All that the proof
 -- knows of the callee is that it meets its contract. Assumes nothing.
 use mathlib.Core.Path.{_≡_, refl}
 use Prim.Native.Nat.{ℕ, _<_, _^_}
@@ -34,20 +34,20 @@ use denote.Triple.Statement.{Triple}
 use denote.Triple.Table.{entered, cited}
 use denote.Triple.Walked.{Stays, stay-slice as stays, stay-none-slice as seen, stay-ref, walkOf, goes-slice, goes-none-slice, goes-ref, ends-at, walked, walk-meets}
 use denote.Exit.{yes}
-use Rattle.tries.specs.declared.Try.{Try}
-use Rattle.tries.specs.declared.CallReply.{CallReply}
+use Rattle.call_tries.specs.declared.Try.{Try}
+use Rattle.call_tries.specs.declared.CallReply.{CallReply}
 use Rattle.definitions.specs.Limits.{usual}
-use Rattle.definitions.specs.Tries.{Tried, tryLists}
-use Rattle.tries.specs.Recorded.{records, answerOf, answer-told}
-use Rattle.tries.proofs.Walk.{slot, locals, ends, bare, holds, handed, enters, leaves, bundle, behind, spreads, hands, copies, past, ends-with, relends, comes-home, var, member, start, pair, sets, lands-as, asks, shared, lent, val, under, fits-slice, fits-int}
-use Rattle.tries.proofs.Lent.{told, told-too, says-all}
-use Rattle.tries.proofs.Try as E
-use Rattle.tries.proofs.CallReply as R
-use Rattle.tries.proofs.CallReply.Laws as R′
-use Rattle.tries.proofs.try_lists as call
-use Rattle.tries.proofs.try_lists.Symbol as call-def
-use Rattle.tries.proofs.try_lists.Symbol.{name as #tries·try-lists}
-use Rattle.tries.proofs.try_lists.Met as call-thm
+use Rattle.definitions.specs.Reply.Tries.{Tried, tryLists}
+use Rattle.call_tries.specs.Recorded.{records, answerOf, answer-told}
+use Rattle.call_tries.proofs.Walk.{slot, locals, ends, bare, holds, handed, enters, leaves, bundle, behind, spreads, hands, copies, past, ends-with, relends, comes-home, var, member, start, pair, sets, lands-as, asks, shared, lent, val, under, fits-slice, fits-int}
+use Rattle.call_tries.proofs.Lent.{told, told-too, says-all}
+use Rattle.call_tries.proofs.Try as E
+use Rattle.call_tries.proofs.CallReply as R
+use Rattle.call_tries.proofs.CallReply.Laws as R′
+use Rattle.call_tries.proofs.try_lists as call
+use Rattle.call_tries.proofs.try_lists.Symbol as call-def
+use Rattle.call_tries.proofs.try_lists.Symbol.{name as #call-tries·try-lists}
+use Rattle.call_tries.proofs.try_lists.Met as call-thm
 use Rattle.nendokwe.proofs.nendokwe_tries.Key.{name as #nendokwe·nendokwe-tries}
 use Rattle.nendokwe.proofs.nendokwe_tries as f
 use Rattle.nendokwe.proofs.nendokwe_tries.Statement as stated
@@ -66,7 +66,7 @@ abbrev rec : Ty
 rec = pointee (E.the-row .written)
 
 module _ {M : Type 1} (𝓤 : URA M) (H : Heap 𝓤) (A : Atoms 𝓤) (W : Given 𝓤 H A) (at-mem : Memory → SProp 𝓤) (run : Routine → Fun 𝓤) (𝓣 : Tables 𝓤 H)
-    (known : Triple 𝓤 (𝓣 .C #tries·try-lists) (tripleOf 𝓤 H A call.signature (call.spec 𝓤 H A at-mem run))) where
+    (known : Triple 𝓤 (𝓣 .C #call-tries·try-lists) (tripleOf 𝓤 H A call.signature (call.spec 𝓤 H A at-mem run))) where
   module _ (κ₀ κ₁ κ₂ κ₃ κ₄ κ₅ κ₆ : Lft) (q₀ q₁ q₂ q₃ q₄ q₅ q₆ : Share) (x₀ x₁ x₂ : RefT (List ℕ)) (x₃ : RefT (List Try)) (x₄ : RefT (List ℕ)) (x₅ x₆ : RefT ℕ)
       (g₀ : Room u8 (length (x₀ .now))) (g₁ : Room u8 (length (x₁ .now))) (g₂ : Room u32 (length (x₂ .now))) (g₃ : Room E.the-row (length (x₃ .now))) (g₄ : Room u64
       (length (x₄ .now))) where
@@ -179,5 +179,5 @@ nendokwe-tries-spec 𝓤 H 𝓜 𝓖 𝓡 =
     entered 𝓤 H (tripleOf 𝓤 H (𝓖 .A) f.signature (f.spec 𝓤 H (𝓖 .A) (𝓜 .mem) (𝓡 .run)))
     (tables 𝓤 H 𝓜 𝓡 code.env .C) (tables 𝓤 H 𝓜 𝓡 code.env .Λ) #nendokwe·nendokwe-tries code.function (code.unfolded 𝓤 H 𝓜 𝓡)
     (meets 𝓤 H (𝓖 .A) (givenOf 𝓤 H 𝓜 𝓖) (𝓜 .mem) (𝓡 .run) (tablesOf 𝓤 H 𝓜 (tables 𝓤 H 𝓜 𝓡 code.env))
-    (cited 𝓤 H (tripleOf 𝓤 H (𝓖 .A) call.signature (call.spec 𝓤 H (𝓖 .A) (𝓜 .mem) (𝓡 .run))) 𝓜 𝓡 code.env #tries·try-lists call-def.routine code.calls-tries·try-lists
+    (cited 𝓤 H (tripleOf 𝓤 H (𝓖 .A) call.signature (call.spec 𝓤 H (𝓖 .A) (𝓜 .mem) (𝓡 .run))) 𝓜 𝓡 code.env #call-tries·try-lists call-def.routine code.calls-call-tries·try-lists
     (call-thm.met 𝓤 H 𝓜 𝓖 𝓡)))

@@ -1,7 +1,7 @@
 -- `nendokwe::tell` meets its contract: a reply as number and place. Assumes nothing.
 use mathlib.Core.Path.{sym, ap}
-use Rattle.definitions.specs.Outcome.{replyNumber, replyPlace}
-use Rattle.asking.specs.Replies.{resultOf}
+use Rattle.definitions.specs.Reply.Outcome.{replyNumber, replyPlace}
+use Rattle.open_case.specs.Replies.{resultOf}
 use borrow.Author.Needs.{needs}
 use Rattle.nendokwe.proofs.tell.Tie as tie
 

@@ -5,8 +5,8 @@ use native.Mathlib.Omega.{arith}
 use native.Mathlib.Nat.{mod-lt}
 use borrow.Author.Needs.{needs}
 use lib.ListN.{length, take, drop, length-set}
-use Rattle.definitions.specs.Atoms.{placesOf}
-use Rattle.definitions.specs.Actions.{valuesIn}
+use Rattle.definitions.specs.Problem.Atoms.{placesOf}
+use Rattle.definitions.specs.Problem.Actions.{valuesIn}
 use Rattle.rows.specs.Values.{valueIn, Within}
 use Rattle.rows.specs.Laws.{values-none, rest-none, values-next, values-all, within-zeros, within-set}
 use Rattle.rows.proofs.values_of.Tie as tie

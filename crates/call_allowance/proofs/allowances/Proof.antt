@@ -1,0 +1,10 @@
+-- `call_allowance::allowances` meets its contract: the words that it lends for the facts are enough, and clear. Assumes nothing.
+use Rattle.read_sheets.proofs.Loops.{zeros-clear}
+use Rattle.open_case.specs.Rooms.{many-room}
+use borrow.Author.Needs.{needs}
+use Rattle.call_allowance.proofs.allowances.Tie as tie
+
+pub allowances-spec : {M : Type 1} → Rattle.call_allowance.proofs.allowances.Statement.statement M
+allowances-spec = tie.close (tie.spec (λ c κs. search needs) (λ c. search needs)
+    (λ c κs. (c .before .before .before .is-small .ensures (c .before .before .if1 .taken), zeros-clear 512)) (λ c. search needs) (λ c. search needs)
+    (λ c. search needs) (λ c κs. (many-room _, zeros-clear 32768)) (λ c. search needs) (λ c. search needs))

@@ -1,2 +1,0 @@
--- Words of this crate's contracts, and their laws.
-pub mod Counts

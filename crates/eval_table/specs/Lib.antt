@@ -1,0 +1,11 @@
+-- The lines of `eval_rule`, filled from a node table.
+--   Lined       the numbers of each line
+--   Numbers     the same as lists, and the laws of each function
+--   Blocks      a node with the join under it, and its truth
+--   Literals    a literal by its bit
+--   Told        that the lines say what `eval_rule` asks
+pub mod Lined
+pub mod Numbers
+pub mod Blocks
+pub mod Literals
+pub mod Told

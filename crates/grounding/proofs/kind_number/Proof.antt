@@ -1,8 +1,0 @@
--- `grounding::kind_number` meets its contract.
-use native.Mathlib.Omega.{arith}
-use Rattle.grounding.specs.NumberedLaws.{kind-small, kind-last}
-use Rattle.grounding.proofs.kind_number.Tie as tie
-
-pub kind-number-spec : {M : Type 1} → Rattle.grounding.proofs.kind_number.Statement.statement M
-kind-number-spec = tie.close (tie.spec (λ c. (kind-small (c .before .args .k) (omega arith), omega arith))
-    (λ c. (kind-last (c .before .args .k) (omega arith), omega arith)))

@@ -1,8 +1,0 @@
--- `layout::most_width` meets its contract.
-use native.Mathlib.Omega.{arith}
-use Rattle.layout.specs.LaidLaws.{most-none, most-all, most-one}
-use Rattle.layout.proofs.most_width.Tie as tie
-
-pub most-width-spec : {M : Type 1} → Rattle.layout.proofs.most_width.Statement.statement M
-most-width-spec = tie.close (tie.spec (λ c. most-none _ _ _ (omega arith)) (λ c. most-all _ _ _ (omega arith))
-    (λ c. most-one _ _ _ (λ e. omega arith) (λ e. omega arith)))

@@ -1,0 +1,44 @@
+-- What a case means, and what its steps prove: laws that the demands, and the code that builds and judges, rest on.
+--   Meaning            the tree means what the rule as written means
+--   Parts              trees: free levels, nodes by preorder number
+--   Means              what each atom means in the proof phase; the nodes' actions keep to it
+--   Valid              actions need, add and remove atoms of the problem only; a step on atoms
+--   Sound              steps that reach the goal set picks that solve the case
+--   Grounded           an accepted case's problem has what the laws ask of one
+--   Kinds              the declared kinds as tested and as said
+--   Picks              picks in the words of the definitions
+--   Pairs              picks as relation and row, in the order of the atoms
+--   Does               the proof phase of the built steps
+--   Complete           the built steps reach the goal and are read as the picks
+--   Count              how many they are, and that the bound is not passed
+--   Lent               picks as words
+--   Building           what building answers
+--   Few                how many picks and steps a sheet can hold
+-- What steps leave in a state, for the code that builds and that reads picks:
+--   Changes            what a step changes, as an equation on atoms
+--   HeldTuples         after steps, the tuples that hold are the picks read from them
+--   Deciding           what an action's needs say where the later nodes are decided
+--   Planning           the built steps found by what may be taken alone
+--   BuiltState         so the steps and the state of building, and 17
+--   KindRows           16 as a test of rows
+pub mod Meaning
+pub mod Parts
+pub mod Means
+pub mod Valid
+pub mod Sound
+pub mod Grounded
+pub mod Kinds
+pub mod Picks
+pub mod Pairs
+pub mod Does
+pub mod Complete
+pub mod Count
+pub mod Lent
+pub mod Building
+pub mod Few
+pub mod Changes
+pub mod HeldTuples
+pub mod Deciding
+pub mod Planning
+pub mod BuiltState
+pub mod KindRows

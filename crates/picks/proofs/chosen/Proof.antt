@@ -1,6 +1,0 @@
-use native.Mathlib.Omega.{arith}
-use Rattle.picks.specs.TestLaws.{chosen-none, chosen-one}
-use Rattle.picks.proofs.chosen.Tie as tie
-
-pub chosen-spec : {M : Type 1} → Rattle.picks.proofs.chosen.Statement.statement M
-chosen-spec = tie.close (tie.spec (λ c. chosen-none _ (omega arith)) (λ c. chosen-one _ (omega arith)))

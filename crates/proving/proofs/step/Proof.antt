@@ -1,8 +1,0 @@
--- `proving::step` meets its contract.
-use Rattle.proving.specs.FollowLaws.{step-one}
-use borrow.Author.Needs.{needs}
-use Rattle.proving.proofs.step.Tie as tie
-
-pub step-spec : {M : Type 1} → Rattle.proving.proofs.step.Statement.statement M
-step-spec = tie.close (tie.spec (λ c κs. search needs) (λ c κs. search needs) (λ c. search needs) (λ c. search needs) (λ c. search needs)
-    (λ c. search (needs, step-one)))

@@ -1,0 +1,73 @@
+-- What is written for each relation, by the table of a grounded problem. A state is spoken of by the predicate of its bits.
+use mathlib.Core.Path.{_≡_}
+use mathlib.Core.Bool.{Bool, true, false}
+use mathlib.Core.List.{List}
+use Prim.Native.Nat.{ℕ, zero, suc, _+_, _-_, _*_, _/_, _%_, _≤_, _<_}
+use lib.Dec.{ltb, eqb}
+use Rattle.definitions.specs.Lists.{if_then_else_}
+use Rattle.definitions.specs.Sheet.Relations.{builtInHolds}
+use Rattle.definitions.specs.Problem.Atoms.{wordsFor}
+use Rattle.bits.specs.Table.{bit, put, paste}
+use Rattle.problem_table.specs.Lines.{sizeIn, relationsIn, nodesIn, relationLine, nodeLine}
+use Rattle.problem_table.specs.declared.RelationLine.{RelationLine}
+use Rattle.step_start.specs.declared.Pair.{Pair}
+
+-- where the atoms end
+abbrev pub atomsIn : List ℕ → ℕ
+atomsIn w = nodeLine w (nodesIn w) .atoms
+
+-- the two places of a row over n elements
+pub record PairOf (n row : ℕ) (p : Pair) : Type 0 where
+  pub is : row ≡ p .x * n + p .y
+  pub below : p .y < n
+
+-- whether a tuple holds while nothing is picked: a built-in one by its two places or its one, one of a `rel` by its bit among the
+-- facts, whose words begin with word `first` of f, and none of a `choose`
+unfoldable pub holdsAt : List ℕ → (n r kind first row : ℕ) → Bool
+holdsAt f n r kind first row =
+    if ltb r 3 then builtInHolds n r (row / n) (row % n)
+    else if ltb r 5 then builtInHolds n r row 0
+    else if eqb kind 0 then bit f (64 * first + row)
+    else false
+
+-- how many tuples and how many free atoms a relation has
+unfoldable pub rowsIn : RelationLine → ℕ
+rowsIn k = k .nots - k .tuples
+
+unfoldable pub freeIn : (n kind : ℕ) → ℕ
+freeIn n kind = if ltb kind 2 then 0 else if ltb kind 4 then n else 2 * n
+
+-- of a tuple and its not-tuple, the one that holds
+unfoldable pub holdingAt : List ℕ → (n r : ℕ) → RelationLine → (first row : ℕ) → ℕ
+holdingAt f n r k first row = if holdsAt f n r (k .kind) first row then k .tuples + row else k .nots + row
+
+-- the state s, but of a relation's first c tuples each or its not-tuple is set
+unfoldable pub tuplesPut : List ℕ → (n r : ℕ) → RelationLine → (first c : ℕ) → (ℕ → Bool) → ℕ → Bool
+tuplesPut f n r k first zero s = s
+tuplesPut f n r k first (suc c) s = put (tuplesPut f n r k first c s) (holdingAt f n r k first c) true
+
+-- a state in which all atoms of a relation are as they begin
+unfoldable pub relationPut : List ℕ → List ℕ → (r first : ℕ) → (ℕ → Bool) → ℕ → Bool
+relationPut f w r first s =
+    paste (tuplesPut f (sizeIn w) r (relationLine w r) first (rowsIn (relationLine w r)) s) (relationLine w r .free) (λ i. true) 0 (freeIn (sizeIn w) (relationLine w r .kind))
+
+-- how many words of facts a relation has, and the first of them
+unfoldable pub wordsIn : List ℕ → ℕ → ℕ
+wordsIn w r = if ltb r 5 then 0 else wordsFor (rowsIn (relationLine w r))
+
+unfoldable pub firstIn : List ℕ → ℕ → ℕ
+firstIn w zero = 0
+firstIn w (suc r) = firstIn w r + wordsIn w r
+
+-- the atoms of the first r relations
+unfoldable pub relationsPut : List ℕ → List ℕ → ℕ → (ℕ → Bool) → ℕ → Bool
+relationsPut f w zero s = s
+relationsPut f w (suc r) s = relationPut f w r (firstIn w r) (relationsPut f w r s)
+
+-- so many words have room for a relation's atoms, and for those of all
+pub record RelationRoom (w : List ℕ) (len r : ℕ) : Type 0 where
+  pub tuples : relationLine w r .nots + rowsIn (relationLine w r) ≤ 64 * len
+  pub free : relationLine w r .free + freeIn (sizeIn w) (relationLine w r .kind) ≤ 64 * len
+
+abbrev pub Room : List ℕ → ℕ → Type 0
+Room w len = (r : ℕ) → r < relationsIn w → RelationRoom w len r

@@ -1,0 +1,10 @@
+-- `test_calls::built` meets its contract: what is lent is as long as the room.
+use mathlib.Core.Path.{sym}
+use native.Mathlib.Omega.{arith}
+use lib.Seq.{length-take-le}
+use borrow.Author.Needs.{needs}
+use Rattle.test_calls.proofs.built.Tie as tie
+
+pub built-spec : {M : Type 1} → Rattle.test_calls.proofs.built.Statement.statement M
+built-spec = tie.close (tie.spec (λ c. search needs) (λ c. search needs) (λ c κs. search needs) (λ c. search needs) (λ c κs. search needs)
+    (λ c. search needs) (λ c. sym (length-take-le _ _ (omega arith))) (λ c κs. search needs) (λ c. search needs))

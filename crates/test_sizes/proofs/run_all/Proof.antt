@@ -1,0 +1,14 @@
+-- `test_sizes::run_all` is safe and ends: the measure is the number of turns that are left. Assumes nothing.
+use native.Mathlib.Omega.{arith}
+use borrow.Author.Needs.{needs}
+use Rattle.test_sizes.proofs.run_all.Tie as tie
+
+abbrev Inv-loop : tie.InvT-loop
+Inv-loop s at₀ left₀ at left = Unit {0}
+
+abbrev μ-loop : tie.MeasureT-loop
+μ-loop s at₀ left₀ at left = left
+
+pub run-all-spec : {M : Type 1} → Rattle.test_sizes.proofs.run_all.Statement.statement M
+run-all-spec = tie.close (tie.spec Inv-loop μ-loop (λ c. tt) (λ c. search needs) (λ c κs. omega arith) (λ c. omega arith) (λ c. omega arith) (λ c. tt)
+    (λ c. search needs))

@@ -1,6 +1,0 @@
--- `node_tag` meets its contract.
-use Rattle.tree.proofs.Laws.{tag-forall, tag-other}
-use Rattle.tree.proofs.node_tag.Tie as tie
-
-pub node-tag-spec : {M : Type 1} → Rattle.tree.proofs.node_tag.Statement.statement M
-node-tag-spec = tie.close (tie.spec (λ c. tag-forall (c .before .args .kind) (c .if1 .taken)) (λ c. tag-other (c .before .args .kind) (c .if1 .left)))
