@@ -1,22 +1,24 @@
 #!/usr/bin/env python3
-"""pack.py SCRIPT ..: writes the calls of scripts of vectors behind the own part of stdin, and the answers they require behind those of stdout.
+"""pack.py VECTORS: writes stdin, data/inputs, stdout and index.tsv beside this file from a folder of vectors.
 
-The own part of stdin ends before the line MARK. Taken are the calls that this program makes, in blocks that need nothing that has not
-landed, where each buffer is no longer than its own, and is written out and not named by its digest. Of a script given as SCRIPT:WORD only blocks that need WORD are
-taken, and of all calls under one comment with the same number in their answers the first. So the program is held to the vectors and not
-to itself.
+VECTORS/jobs/jobNN.txt are scripts, whose answers stand behind each call; VECTORS/desk and VECTORS/jobs/deskNN have inputs of the desk program
+with their outputs. Taken are the calls and inputs that need nothing that has not landed; left out are calls that this program does not
+make, and answers that tell a buffer by its digest only. stdin has the own part of the script first, up to the line MARK, whose answers
+in stdout stay. So the program is held to the vectors and not to itself.
 """
 import pathlib
 import sys
 
 MARK = "# What follows is written by pack.py, from scripts of vectors."
-LANDED = {"-", "big", "labels", "types", "kinds"}  # what the answers of a block may rest on
+LANDED = {"-", "big", "labels", "types", "kinds"}  # what an answer may rest on
 SHEETS = ("question", "site", "text")
-# The names of calls in scripts of vectors, here, and in the answers.
-NAMES = {"sizes": ("sizes", "sizes"), "check_text": ("check_text", "check"), "check": ("check_lent", "check"),
-         "picks_text": ("picks_text", "picks"), "picks": ("picks_lent", "picks"),
-         "build_text": ("build_text", "build"), "build": ("build_lent", "build")}
-ROOMS = {"picks": 4, "state": 400}  # how many words this program has, of which the first are lent
+NUMBERS = ("lent", "lists")
+CALLS = {"sizes", "tally", "action", "allowances", "find", "monotone", "check_text", "picks_text", "build_text", "judge_text", "page_text",
+         "check", "picks", "build", "judge", "page", "tries"}
+STEPS = {"check", "picks", "page", "tries"}  # the calls on lent steps
+ROOMS = {"state": 1024, "picks": 64, "steps": 8192, "lent": 512, "lists": 512}  # as many words and numbers the program has
+JOBS = ("01", "03", "04", "05", "06", "07", "08", "09", "10", "13", "14")  # whose scripts and desk inputs are taken
+LATER = {"0342"}  # of the first desk folder: its `type` line was no record then, and stands in the wrong place now
 
 
 def sheet(lines):
@@ -28,81 +30,77 @@ def own_calls(lines):
     for line in lines:
         if line in SHEETS:
             sheet(lines)
-        elif line and line.split()[0] not in ("#", "lent"):
+        elif line and line.split()[0] not in ("#", *NUMBERS):
             calls += 1
     return calls
 
 
-def words(buffer, entries):
-    """A buffer as the program writes it: all of its words, the sevens at its end counted; of the steps one more than is lent."""
-    if buffer == "steps":
-        return [buffer, *entries, "7"]
-    entries = entries + ["7"] * (ROOMS[buffer] - len(entries))
-    front = len(entries)
-    while front and entries[front - 1] == "7":
-        front -= 1
-    return [buffer, *entries[:front], *([f"7*{len(entries) - front}"] if front < len(entries) else [])]
+def fits(call, required, settings):
+    """Whether an answer tells all that its buffers hold, and the program has room for them and for what is lent, steps of 32 bits."""
+    counts, name = {}, ""
+    for word in required.split()[1:]:
+        name = word if word.isalpha() else name
+        counts[name] = counts.get(name, -1) + 1
+    held = all(counts.get(name, 0) <= room for name, room in ROOMS.items())
+    lent = {k: [int(n) for n in settings.get(k, [""])[0].split()[1:]] for k in NUMBERS}
+    narrow = call not in STEPS or all(n < 2**32 for n in lent["lent"])
+    return "sha256" not in required and held and narrow and all(len(lent[k]) <= ROOMS[k] for k in NUMBERS)
 
 
-def buffers(required):
-    """The buffers of a required answer, with their entries."""
-    found = [("", [])]
-    for word in required[2:].split()[2:]:
-        if word.isalpha():
-            found.append((word, []))
-        else:
-            found[-1][1].append(word)
-    return found[1:]
-
-
-def fits(required):
-    """Whether the program has such buffers, and an answer tells all that they hold."""
-    return "sha256" not in required and all(len(entries) <= ROOMS.get(buffer, 64) for buffer, entries in buffers(required))
-
-
-def answer(name, required):
-    """A required answer as the program writes it."""
-    number, place, *rest = required[2:].split()
-    if name == "sizes":
-        return " ".join([name, "ok", *rest] if number == "0" else [name, number, place])
-    told = [name, "ok", place] if number == "0" else [name, number, place]
-    return " ".join(told + [word for buffer, entries in buffers(required) for word in words(buffer, entries)])
-
-
-def packed(lines, feature):
+def packed(lines):
     """The lines of a script that are taken, and the answers; what is set goes before the first call that is taken after it."""
-    taken, answers, needs, about, seen, settings = [], [], "-", "", set(), {}
+    taken, answers, needs, standing, fresh = [], [], "-", {}, []
     for line in lines:
         word = line.split(" ")[0]
         if line.startswith("# needs "):
             needs = line[8:]
-        elif word == "#":
-            about = line
-        elif line in SHEETS or word == "lent":
-            settings[word] = [line, *(sheet(lines) if line in SHEETS else [])]
-        elif word in NAMES and LANDED.issuperset(needs.split()):
+        elif line in SHEETS or word in NUMBERS:
+            standing[word] = [line, *(sheet(lines) if line in SHEETS else [])]
+            fresh = [w for w in fresh if w != word] + [word]
+        elif word in CALLS and LANDED.issuperset(needs.split()):
             required = next(lines)
-            case = (about, word, required.split(" ")[1])
-            if not fits(required) or feature and (feature not in needs.split() or case in seen):
-                continue
-            seen.add(case)
-            taken += [part for setting in settings.values() for part in setting] + [line.replace(word, NAMES[word][0], 1)]
-            answers.append(answer(NAMES[word][1], required))
-            settings = {}
+            if fits(word, required, standing):
+                taken += [part for w in fresh for part in standing[w]] + [line]
+                answers.append(required)
+                fresh = []
     return taken, answers
 
 
-if len(sys.argv) < 2:
+def desk(folder, letter, rows_left_out):
+    """The inputs of a folder behind their headers, the outputs behind their names, and the rows of its index."""
+    inputs, outputs, index = b"", b"", ""
+    heads, *rows = (line.split("\t") for line in (folder / "index.tsv").read_text().splitlines())
+    for row in rows:
+        if "needs" in heads and not LANDED.issuperset(row[heads.index("needs")].split()) or row[0] in rows_left_out:
+            continue
+        case = folder / (row[0] + ".in")
+        text, name = case.read_bytes(), letter + row[0][len(letter):]
+        assert len(name) == 4 and len(text) < 100000, case
+        inputs += name.encode() + b"\t%05d\n" % len(text) + text
+        outputs += name.encode() + b"\n" + case.with_suffix(".out").read_bytes()
+        index += "\t".join([name, *row[1:]]) + "\n"
+    return inputs, outputs, index
+
+
+if len(sys.argv) != 2:
     sys.exit(__doc__)
-here = pathlib.Path(__file__).parent
-own = (here / "stdin").read_text().split("\n" + MARK + "\n")[0].rstrip("\n").split("\n")
-answers = (here / "stdout").read_text().split("\n")[: own_calls(own)]
-own += ["", MARK]
-for script in sys.argv[1:]:
-    path, _, feature = script.partition(":")
-    more, required = packed(iter(pathlib.Path(path).read_text().split("\n")), feature)
-    own, answers = own + more, answers + required
-text = "\n".join(own) + "\n"
-assert len(text) < 131072
+here, vectors = pathlib.Path(__file__).parent, pathlib.Path(sys.argv[1])
+script = (here / "stdin").read_text().split("\n" + MARK + "\n")[0].rstrip("\n").split("\n")
+answers = (here / "stdout").read_bytes().split(b"\n")[: own_calls(script)]
+script += ["", MARK]
+for job in JOBS:
+    more, required = packed(iter((vectors / "jobs" / f"job{job}.txt").read_text().split("\n")))
+    script, answers = script + more, answers + [line.encode() for line in required]
+inputs, outputs, index = desk(vectors / "desk", "", LATER)
+for letter, job in zip("abcdefgh", [job for job in JOBS if (vectors / "jobs" / f"desk{job}").is_dir()]):
+    more = desk(vectors / "jobs" / f"desk{job}", letter, ())
+    inputs, outputs, index = inputs + more[0], outputs + more[1], index + more[2]
+text = "\n".join(script) + "\n"
+assert len(text) < 1048576
+(here / "data").mkdir(exist_ok=True)
+(here / "data" / "inputs").write_bytes(inputs)
 (here / "stdin").write_text(text)
-(here / "stdout").write_text("\n".join(answers) + "\n")
+(here / "stdout").write_bytes(b"\n".join(answers) + b"\n" + outputs)
+heads = (vectors / "desk" / "index.tsv").read_text().splitlines()[0]
+(here / "index.tsv").write_text(heads + "\n" + index)
+print(len(answers), "calls,", outputs.count(b"\n") and index.count("\n"), "desk inputs,", len(text), "bytes of script")

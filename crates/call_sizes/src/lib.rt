@@ -21,7 +21,7 @@ use problem_sizes::Tally;
 use read_sheets::Opened;
 
 // The tally of a case that was read.
-pub fn of_case(question: &[u8], o: Opened) -> Tally
+fn of_case(question: &[u8], o: Opened) -> Tally
     requires { ⌜ Read (now question) o ⌝ }
     ensures { λ r. ⌜ ((c : Case) (facts : ℕ → Bool) → Holds (now (question .entry)) c o facts → «Tallied-as» (problemOf c) r) ⌝ }
 {

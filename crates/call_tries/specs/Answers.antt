@@ -1,8 +1,7 @@
--- The whole call: what the lists need of a case that was begun, and from its parts to the call's outcome. Assumes nothing.
-use Prim.Native.Nat.{ℕ, _≤_, _<_}
+-- The whole call: from its parts to the call's outcome. Assumes nothing.
+use Prim.Native.Nat.{ℕ}
 use mathlib.Core.Path.{_≡_, refl, ap, _∙_}
 use mathlib.Core.List.{List, [], _∷_, map}
-use native.Mathlib.Omega.{arith}
 use lib.ListN.{length}
 use Rattle.definitions.specs.Limits.{CaseLimits}
 use Rattle.definitions.specs.Refusal.{Result, refused, accepted}
@@ -10,16 +9,11 @@ use Rattle.definitions.specs.Problem.Atoms.{Problem}
 use Rattle.definitions.specs.Reply.Outcome.{replyNumber, replyPlace, Ready as Opens}
 use Rattle.definitions.specs.Reply.Tries.{Try as Record, tried, readyToTry, triedFrom, tryLists}
 use Rattle.call_tries.specs.declared.Try.{Try}
-use Rattle.call_tries.specs.declared.Begun.{Begun}
-use Rattle.call_tries.specs.Recorded.{recorded, records, verdictOf, answerOf, answered}
-use Rattle.call_tries.specs.Begun.{BegunBy, ReadyToTry, Serves}
+use Rattle.open_tries.specs.declared.Begun.{Begun}
+use Rattle.open_tries.specs.Verdicts.{verdictOf}
+use Rattle.call_tries.specs.Recorded.{recorded, records, answerOf, answered}
+use Rattle.open_tries.specs.Begun.{BegunBy, Serves}
 use Rattle.call_tries.specs.Each.{answer, upTo, all}
-
--- what the walk over the records asks
-pub begun-asks : (x : Result (Opens (Unit {0}))) (many : ℕ) (old : List ℕ) (c : Begun) (w mid : List ℕ) → BegunBy x many old c w mid → (c .many ≤ many) × (0 < c .many → ReadyToTry w mid (c .words))
-unfolding BegunBy
-begun-asks (refused k place) many old c w mid h = (omega (arith, h .none), λ l. absurd (omega (arith, l, h .none)))
-begun-asks (accepted a) many old c w mid h = (omega (arith, h .all), λ l. h .ready)
 
 -- what it ends with
 abbrev pub Ends : (tab state : List ℕ) (c : Begun) (steps : List ℕ) (es ys : List Try) → Type 0

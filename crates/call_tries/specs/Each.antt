@@ -6,9 +6,10 @@ use mathlib.Core.List.{List, [], _∷_, map}
 use lib.ListN.{length, getD, set}
 use Rattle.definitions.specs.Problem.Atoms.{Problem}
 use Rattle.call_tries.specs.declared.Try.{Try}
-use Rattle.call_tries.specs.declared.Verdict.{Verdict}
+use Rattle.open_tries.specs.declared.Verdict.{Verdict}
 use Rattle.definitions.specs.Reply.Tries.{tryList}
-use Rattle.call_tries.specs.Recorded.{answered, verdictOf}
+use Rattle.open_tries.specs.Verdicts.{verdictOf}
+use Rattle.call_tries.specs.Recorded.{answered}
 
 unfoldable pub answer : Problem → List ℕ → Try → Try
 answer p steps e = answered e (verdictOf (tryList p steps (e .first) (e .length)))

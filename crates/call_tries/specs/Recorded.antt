@@ -1,4 +1,4 @@
--- The code's record, verdict and answer in the words of the definitions.
+-- The code's record and answer in the words of the definitions.
 use Prim.Native.Nat.{ℕ}
 use mathlib.Core.Path.{_≡_, ap}
 use mathlib.Core.List.{List, map}
@@ -6,7 +6,7 @@ use Rattle.definitions.specs.Refusal.{Result}
 use Rattle.definitions.specs.Reply.Outcome.{replyNumber, replyPlace}
 use Rattle.definitions.specs.Reply.Tries.{Try as Record}
 use Rattle.call_tries.specs.declared.Try.{Try}
-use Rattle.call_tries.specs.declared.Verdict.{Verdict}
+use Rattle.open_tries.specs.declared.Verdict.{Verdict}
 use Rattle.call_tries.specs.declared.CallReply.{CallReply}
 
 -- the records of a table
@@ -16,10 +16,7 @@ recorded t = record { first = t .first; len = t .length; number = t .number; pla
 unfoldable pub records : List Try → List Record
 records ts = map recorded ts
 
--- the reply to a list, and the call's own
-unfoldable pub verdictOf : Result ℕ → Verdict
-verdictOf r = record { number = replyNumber r; place = replyPlace r }
-
+-- the call's own reply
 unfoldable pub answerOf : Result ℕ → CallReply
 answerOf r = record { number = replyNumber r; place = replyPlace r }
 

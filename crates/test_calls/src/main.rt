@@ -1,32 +1,60 @@
-// Makes the public calls that the script on standard input asks for, and writes each reply with the buffers that were lent. A buffer
-// begins as sevens and is written whole, so that a word that should have stayed shows; sevens at its end are only counted, as in ` 7*12`.
+// The public calls, driven by a script: makes each call that the script on standard input asks for, and writes its reply with the
+// buffers that were lent. Then it runs the desk program's reply on the inputs that are packed in data/inputs. The file `stdout` has what
+// the vectors require (pack.py makes all three), so that the program is held to the vectors and not to itself.
 //
-// The script's lines, words a space apart and numbers in decimal:
+// The script's lines, words a space apart and numbers in decimal; a number that is missing is 0:
 //
 //     # ..                      a comment; an empty line is one too
 //     question                  the lines that follow, up to a line with a full stop alone, are the question of the calls below
 //     site                      the same, the site
 //     text                      the same, the steps or the picks that are sent as a text
-//     lent N N ..               these numbers are the steps or the picks that are lent to the calls below, at most 200
-//     sizes                     the sizes
-//     action K                  the action of the number K
-//     check_text STATE          checks the text's steps: of 400 words the first STATE are lent for the state
-//     check_lent STATE          checks the lent steps
-//     picks_text PICKS STATE    reads the picks of the text's steps: of 4 words the first PICKS are lent
-//     picks_lent PICKS STATE    reads the picks of the lent steps
-//     build_text STATE STEPS    builds the steps of the text's picks: of 200 steps the first STEPS are lent
-//     build_lent STATE STEPS    builds the steps of the lent picks
+//     lent N N ..               these numbers are the steps or the picks that are lent to the calls below
+//     lists F L F L ..          where each list of steps begins among the lent ones, and its length
 //
-// Of the steps that were built one more than was lent is written. Any other line ends the run, and is written, with all that follows it,
-// under a word that says so. A script has 131,072 bytes at the most; what follows them is not read.
+//     sizes                     the sizes
+//     tally                     nodes, atoms and actions, over the limits or not
+//     action K                  the action of the number K
+//     allowances ROOM           how far one pick moves the built steps
+//     find PICKS                the least picks that meet the rule
+//     monotone                  whether all tuples picked meet a rule that only ever wants more
+//     check_text STATE          checks the text's steps
+//     picks_text PICKS STATE    reads the picks of the text's steps
+//     build_text STATE STEPS    builds the steps of the text's picks
+//     judge_text                whether the rule is true of the text's picks
+//     page_text PAGE STATE OUT  a page of the text's steps on paper
+//     check STATE, picks PICKS STATE, build STATE STEPS, judge, page PAGE STATE OUT
+//                               the same of what is lent
+//     tries STATE               tries each list of lent steps
+//
+// Numbers after a call are the lengths of the buffers that it is lent, but for K and PAGE. A buffer begins as sevens and is written whole; of
+// bytes those of a page as text, a bar for a line's end, and where it is refused in hexadecimal, or as `kept`. An answer is a line: an equals sign, the reply's number and place (0 and what success tells), then what the call handed out and its buffers, each under
+// its name. Any other line ends the run, and is written, with all that follows it, under a word that says so.
 ghost use Prim.Native.Nat.{_≤_, _<_};
 ghost use lib.ListN.{length};
+ghost use Rattle.open_tries.specs.Begun.{ReadyToTry};
 use call_action::Asked;
 use call_sizes::Sizing;
+use call_sizes::Tallied;
 use open_case::Reply;
+use open_tries::Begun;
+use open_tries::Verdict;
 use problem_table::Act;
 use problem_table::ChoiceAct;
 use read_text::Found;
+
+// A script has no more bytes; what follows them is not read.
+const SCRIPT: usize = 1048576;
+
+// As many words, steps and numbers a call is lent at the most.
+const STATE: usize = 1024;
+
+const PICKS: usize = 64;
+
+const STEPS: usize = 8192;
+
+const NUMBERS: usize = 512;
+
+const PAGE: usize = 8192;
 
 // A number of the script, or none.
 enum Value {
@@ -34,137 +62,181 @@ enum Value {
     Bad,
 }
 
-// The texts as spans of the script, how many numbers are lent, and the text whose lines are being read, from `from` on: 1 for the
-// question, 2 for the site, 3 for steps or picks, 0 for none, 4 once a line was none of a script.
+// A part of the script.
+struct Span {
+    from: usize,
+    to: usize,
+}
+
+// The numbers behind a call's word, 0 where there are fewer.
+struct Given {
+    a: usize,
+    b: usize,
+    c: usize,
+}
+
+// What stands for the calls below, and the text whose lines are being read, from `from` on: 1 for the question, 2 for the site, 3 for steps
+// or picks, 0 for none, 4 once a line was none of a script.
 struct Script {
     open: u32,
     from: usize,
-    question: usize,
-    question_end: usize,
-    site: usize,
-    site_end: usize,
-    text: usize,
-    text_end: usize,
-    lent: usize,
-    lent_end: usize,
+    question: Span,
+    site: Span,
+    text: Span,
+    lent: Span,
+    lists: Span,
 }
 
+// ---- what is written
+
 // A number after a space.
-fn number(n: u64) {
+fn show(n: u64) {
     io::write_all(1, b" ");
     io::print_decimal(1, n);
 }
 
-// A reply: `ok` and a count, or a refusal's number and place.
-fn reply(what: &[u8], r: Reply) {
-    io::write_all(1, what);
+// The head of an answer.
+fn show_two(number: u32, place: usize) {
+    io::write_all(1, b"=");
+    show(number as u64);
+    show(place as u64);
+}
+
+fn show_reply(r: Reply) {
     match r {
-        Reply::Accepted(count) => {
-            io::write_all(1, b" ok");
-            number(count as u64);
-        }
-        Reply::Refused(k, place) => {
-            number(k as u64);
-            number(place as u64);
-        }
+        Reply::Accepted(count) => show_two(0, count),
+        Reply::Refused(k, place) => show_two(k, place),
     }
-}
-
-// So many sevens.
-fn sevens(k: usize) {
-    if k == 0 {
-        return;
-    }
-    io::write_all(1, b" 7*");
-    io::print_decimal(1, k as u64);
-}
-
-// How many words there are in front of the sevens at the end.
-fn front(w: &[u64]) -> usize
-    ensures { λ r. ⌜ r ≤ length (now (w .entry)) ⌝ }
-{
-    let mut n = w.len();
-    while 0 < n {
-        if w[n - 1] != 7 {
-            return n;
-        }
-        n -= 1;
-    }
-    n
 }
 
 // Words after the name of their buffer.
-fn words(what: &[u8], w: &[u64]) {
+fn show_words(what: &[u8], w: &[u64]) {
     io::write_all(1, what);
-    let n = front(w);
     let mut i = 0;
-    while i < n {
-        number(w[i]);
+    while i < w.len() {
+        show(w[i]);
         i += 1;
     }
-    sevens(w.len() - n);
 }
 
-// One step.
-fn step(k: u32) {
-    number(k as u64);
+fn show_step(k: u32) {
+    show(k as u64);
 }
 
 // Steps after their name.
-fn steps(w: &[u32]) {
+fn show_steps(w: &[u32]) {
     io::write_all(1, b" steps");
     let mut i = 0;
     while i < w.len() {
-        step(w[i]);
+        show_step(w[i]);
         i += 1;
     }
 }
 
-// The sizes of a case.
-fn sizes(question: &[u8], site: &[u8]) {
-    io::write_all(1, b"sizes");
-    match call_sizes::sizes(question, site) {
-        Sizing::Sized(s) => {
-            io::write_all(1, b" ok");
-            number(s.elements as u64);
-            number(s.atoms as u64);
-            number(s.actions as u64);
-            number(s.bound as u64);
+// A page's bytes, a bar for the end of a line.
+fn show_lines(out: &[u8]) {
+    let mut from = 0;
+    while from < out.len() {
+        let end = read_text::find(out, from, out.len(), 10);
+        let line = Span { from, to: end };
+        io::write_all(1, part(out, line));
+        io::write_all(1, b"|");
+        if out.len() <= end {
+            return;
         }
-        Sizing::Refused(k, place) => {
-            number(k as u64);
-            number(place as u64);
+        from = end + 1;
+    }
+}
+
+fn show_half(k: u8) {
+    if k < 10 {
+        let digit = [48 + k];
+        io::write_all(1, &digit);
+        return;
+    }
+    let letter = [87 + k % 16];
+    io::write_all(1, &letter);
+}
+
+fn show_byte(k: u8) {
+    show_half(k / 16);
+    show_half(k % 16);
+}
+
+fn show_hex(out: &[u8]) {
+    let mut i = 0;
+    while i < out.len() {
+        show_byte(out[i]);
+        i += 1;
+    }
+}
+
+// Whether all bytes are sevens, as they began.
+fn are_sevens(out: &[u8]) -> bool {
+    let mut i = 0;
+    while i < out.len() {
+        if out[i] != 7 {
+            return false;
         }
+        i += 1;
+    }
+    true
+}
+
+// The bytes of a page that was refused.
+fn show_refused(out: &[u8]) {
+    if out.len() <= 64 {
+        show_hex(out);
+        return;
+    }
+    if are_sevens(out) {
+        io::write_all(1, b"kept");
+        return;
+    }
+    io::write_all(1, b"changed");
+}
+
+// The bytes that were lent for a page.
+fn show_out(r: Reply, out: &[u8]) {
+    io::write_all(1, b" out");
+    if out.len() == 0 {
+        return;
+    }
+    io::write_all(1, b" ");
+    match r {
+        Reply::Accepted(_) => show_lines(out),
+        Reply::Refused(_, _) => show_refused(out),
     }
 }
 
 // A kind of action with a choice, and its numbers.
-fn chosen(kind: &[u8], a: ChoiceAct) {
+fn show_choice(kind: &[u8], a: ChoiceAct) {
     io::write_all(1, kind);
-    number(a.node as u64);
-    number(a.row as u64);
-    number(a.choice as u64);
+    show(a.node as u64);
+    show(a.row as u64);
+    show(a.choice as u64);
 }
 
 // An action's kind and its numbers.
-fn details(a: Act) {
+fn show_action(a: Act) {
+    show_two(0, 0);
     match a {
         Act::Set(x) => {
             io::write_all(1, b" set");
-            number(x.relation as u64);
-            number(x.row as u64);
+            show(x.relation as u64);
+            show(x.row as u64);
         }
         Act::Begin => {
             io::write_all(1, b" begin");
         }
         Act::And(x) => {
             io::write_all(1, b" and");
-            number(x.node as u64);
-            number(x.row as u64);
+            show(x.node as u64);
+            show(x.row as u64);
         }
-        Act::Or(x) => chosen(b" or", x),
-        Act::Exists(x) => chosen(b" exists", x),
-        Act::Forall(x) => chosen(b" forall", x),
+        Act::Or(x) => show_choice(b" or", x),
+        Act::Exists(x) => show_choice(b" exists", x),
+        Act::Forall(x) => show_choice(b" forall", x),
         Act::Goal => {
             io::write_all(1, b" goal");
         }
@@ -174,171 +246,374 @@ fn details(a: Act) {
     }
 }
 
-// The action of a number.
-fn action(question: &[u8], site: &[u8], k: usize) {
-    io::write_all(1, b"action");
-    match call_action::action(question, site, k) {
-        Asked::Action(a) => details(a),
-        Asked::Refused(fault, place) => {
-            number(fault as u64);
-            number(place as u64);
+// ---- calls on a case alone
+
+fn sizes(question: &[u8], site: &[u8]) -> bool {
+    match call_sizes::sizes(question, site) {
+        Sizing::Sized(s) => {
+            show_two(0, 0);
+            show(s.elements as u64);
+            show(s.atoms as u64);
+            show(s.actions as u64);
+            show(s.bound as u64);
+        }
+        Sizing::Refused(k, place) => {
+            show_two(k, place);
+            io::write_all(1, b" 7 7 7 7");
         }
     }
-}
-
-// What checking gave.
-fn checked(r: Reply, state: &[u64]) {
-    reply(b"check", r);
-    words(b" state", state);
-}
-
-// What reading picks gave.
-fn read(r: Reply, picks: &[u64], state: &[u64]) {
-    reply(b"picks", r);
-    words(b" picks", picks);
-    words(b" state", state);
-}
-
-// What building gives: the state, and the steps with one more.
-fn built(r: Reply, state: &[u64], list: &[u32], steps_room: usize) {
-    if list.len() <= steps_room {
-        return;
-    }
-    reply(b"build", r);
-    words(b" state", state);
-    steps(&list[..steps_room + 1]);
-}
-
-// Checks with the first words of the state lent.
-fn check_text(question: &[u8], site: &[u8], text: &[u8], state: &mut [u64], room: usize) -> bool {
-    if state.len() < room {
-        return false;
-    }
-    let r = call_check::check_text(question, site, text, &mut state[..room]);
-    checked(r, state);
     true
 }
 
-// Checks lent steps.
-fn check_lent(question: &[u8], site: &[u8], list: &[u32], state: &mut [u64], room: usize) -> bool {
-    if state.len() < room {
-        return false;
+fn tally(question: &[u8], site: &[u8]) -> bool {
+    match call_sizes::tally(question, site) {
+        Tallied::Counted(t) => {
+            io::write_all(1, b"=");
+            show(t.nodes as u64);
+            show(t.atoms as u64);
+            show(t.actions as u64);
+        }
+        Tallied::Refused(k, place) => show_two(k, place),
     }
-    let r = call_check::check_lent(question, site, list, &mut state[..room]);
-    checked(r, state);
     true
 }
 
-// Picks from the steps of a text, with the first words of both buffers lent.
-fn picks_text(
+fn action(question: &[u8], site: &[u8], k: usize) -> bool {
+    match call_action::action(question, site, k) {
+        Asked::Action(a) => show_action(a),
+        Asked::Refused(fault, place) => show_two(fault, place),
+    }
+    true
+}
+
+fn allowances_into(question: &[u8], site: &[u8], words: &mut [u64]) {
+    let r = call_allowance::allowances(question, site, words);
+    show_reply(r);
+    show_words(b" allowances", words);
+}
+
+fn allowances(question: &[u8], site: &[u8], room: usize) -> bool {
+    let mut words = [7u64; PICKS];
+    if PICKS < room {
+        return false;
+    }
+    allowances_into(question, site, &mut words[..room]);
+    true
+}
+
+fn find_into(question: &[u8], site: &[u8], picks: &mut [u64]) {
+    let r = call_find::find(question, site, picks);
+    show_reply(r);
+    show_words(b" picks", picks);
+}
+
+fn find(question: &[u8], site: &[u8], many: usize) -> bool {
+    let mut picks = [7u64; PICKS];
+    if PICKS < many {
+        return false;
+    }
+    find_into(question, site, &mut picks[..many]);
+    true
+}
+
+fn monotone(question: &[u8], site: &[u8]) -> bool {
+    let r = call_monotone::monotone(question, site);
+    show_reply(r);
+    true
+}
+
+// ---- calls on a text of steps or picks
+
+fn check_text_into(question: &[u8], site: &[u8], text: &[u8], state: &mut [u64]) {
+    let r = call_check::check_text(question, site, text, state);
+    show_reply(r);
+    show_words(b" state", state);
+}
+
+fn check_text(question: &[u8], site: &[u8], text: &[u8], room: usize) -> bool {
+    let mut state = [7u64; STATE];
+    if STATE < room {
+        return false;
+    }
+    check_text_into(question, site, text, &mut state[..room]);
+    true
+}
+
+fn picks_text_into(
     question: &[u8],
     site: &[u8],
     text: &[u8],
     picks: &mut [u64],
-    picks_room: usize,
     state: &mut [u64],
-    room: usize,
-) -> bool {
-    if picks.len() < picks_room {
+) {
+    let r = call_read::picks_text(question, site, text, picks, state);
+    show_reply(r);
+    show_words(b" picks", picks);
+    show_words(b" state", state);
+}
+
+fn picks_text(question: &[u8], site: &[u8], text: &[u8], many: usize, room: usize) -> bool {
+    let mut picks = [7u64; PICKS];
+    let mut state = [7u64; STATE];
+    if PICKS < many {
         return false;
     }
-    if state.len() < room {
+    if STATE < room {
         return false;
     }
-    let r = call_read::picks_text(
-        question,
-        site,
-        text,
-        &mut picks[..picks_room],
-        &mut state[..room],
-    );
-    read(r, picks, state);
+    picks_text_into(question, site, text, &mut picks[..many], &mut state[..room]);
     true
 }
 
-// Picks from lent steps.
-fn picks_lent(
+fn build_text_into(
+    question: &[u8],
+    site: &[u8],
+    text: &[u8],
+    state: &mut [u64],
+    steps: &mut [u32],
+) {
+    let r = call_build::build_text(question, site, text, state, steps);
+    show_reply(r);
+    show_words(b" state", state);
+    show_steps(steps);
+}
+
+fn build_text(question: &[u8], site: &[u8], text: &[u8], room: usize, many: usize) -> bool {
+    let mut state = [7u64; STATE];
+    let mut steps = [7u32; STEPS];
+    if STATE < room {
+        return false;
+    }
+    if STEPS < many {
+        return false;
+    }
+    build_text_into(question, site, text, &mut state[..room], &mut steps[..many]);
+    true
+}
+
+fn judge_text(question: &[u8], site: &[u8], text: &[u8]) -> bool {
+    let r = call_judge::judge_text(question, site, text);
+    show_reply(r);
+    true
+}
+
+fn page_text_into(
+    question: &[u8],
+    site: &[u8],
+    text: &[u8],
+    page: usize,
+    state: &mut [u64],
+    out: &mut [u8],
+) {
+    let r = call_page::page_text(question, site, text, page, state, out);
+    show_reply(r);
+    show_words(b" state", state);
+    show_out(r, out);
+}
+
+fn page_text(
+    question: &[u8],
+    site: &[u8],
+    text: &[u8],
+    page: usize,
+    room: usize,
+    bytes: usize,
+) -> bool {
+    let mut state = [7u64; STATE];
+    let mut out = [7u8; PAGE];
+    if STATE < room {
+        return false;
+    }
+    if PAGE < bytes {
+        return false;
+    }
+    page_text_into(
+        question,
+        site,
+        text,
+        page,
+        &mut state[..room],
+        &mut out[..bytes],
+    );
+    true
+}
+
+// ---- calls on lent steps and picks
+
+fn check_into(question: &[u8], site: &[u8], list: &[u32], state: &mut [u64]) {
+    let r = call_check::check_lent(question, site, list, state);
+    show_reply(r);
+    show_words(b" state", state);
+}
+
+fn check(question: &[u8], site: &[u8], list: &[u32], room: usize) -> bool {
+    let mut state = [7u64; STATE];
+    if STATE < room {
+        return false;
+    }
+    check_into(question, site, list, &mut state[..room]);
+    true
+}
+
+fn picks_into(question: &[u8], site: &[u8], list: &[u32], picks: &mut [u64], state: &mut [u64]) {
+    let r = call_read::picks_lent(question, site, list, picks, state);
+    show_reply(r);
+    show_words(b" picks", picks);
+    show_words(b" state", state);
+}
+
+fn picks(question: &[u8], site: &[u8], list: &[u32], many: usize, room: usize) -> bool {
+    let mut picks = [7u64; PICKS];
+    let mut state = [7u64; STATE];
+    if PICKS < many {
+        return false;
+    }
+    if STATE < room {
+        return false;
+    }
+    picks_into(question, site, list, &mut picks[..many], &mut state[..room]);
+    true
+}
+
+fn build_into(question: &[u8], site: &[u8], lent: &[u64], state: &mut [u64], steps: &mut [u32]) {
+    let r = call_build::build_lent(question, site, lent, state, steps);
+    show_reply(r);
+    show_words(b" state", state);
+    show_steps(steps);
+}
+
+fn build(question: &[u8], site: &[u8], lent: &[u64], room: usize, many: usize) -> bool {
+    let mut state = [7u64; STATE];
+    let mut steps = [7u32; STEPS];
+    if STATE < room {
+        return false;
+    }
+    if STEPS < many {
+        return false;
+    }
+    build_into(question, site, lent, &mut state[..room], &mut steps[..many]);
+    true
+}
+
+fn judge(question: &[u8], site: &[u8], picks: &[u64]) -> bool {
+    let r = call_judge::judge_lent(question, site, picks);
+    show_reply(r);
+    true
+}
+
+fn page_into(
     question: &[u8],
     site: &[u8],
     list: &[u32],
-    picks: &mut [u64],
-    picks_room: usize,
+    page: usize,
     state: &mut [u64],
+    out: &mut [u8],
+) {
+    let r = call_page::page_lent(question, site, list, page, state, out);
+    show_reply(r);
+    show_words(b" state", state);
+    show_out(r, out);
+}
+
+fn page(
+    question: &[u8],
+    site: &[u8],
+    list: &[u32],
+    page: usize,
     room: usize,
+    bytes: usize,
 ) -> bool {
-    if picks.len() < picks_room {
+    let mut state = [7u64; STATE];
+    let mut out = [7u8; PAGE];
+    if STATE < room {
         return false;
     }
-    if state.len() < room {
+    if PAGE < bytes {
         return false;
     }
-    let r = call_read::picks_lent(
+    page_into(
         question,
         site,
         list,
-        &mut picks[..picks_room],
+        page,
         &mut state[..room],
+        &mut out[..bytes],
     );
-    read(r, picks, state);
     true
 }
 
-// Steps from the picks of a text, with the first words and the first steps lent.
-fn build_text(
-    question: &[u8],
-    site: &[u8],
-    text: &[u8],
-    state: &mut [u64],
-    room: usize,
-    list: &mut [u32],
-    steps_room: usize,
-) -> bool {
-    if state.len() < room {
+// ---- many lists of steps: what `call_tries::try_lists` does, but for the walk over lent records, which a program could lend only from
+// a function that is itself walked by hand
+
+fn show_try(first: u32, count: u32, v: Verdict) {
+    show(first as u64);
+    show(count as u64);
+    show(v.number as u64);
+    show(v.place);
+}
+
+// The records as they were: number and place are 7.
+fn show_kept(lists: &[u32]) {
+    let mut i = 0;
+    while i < lists.len() / 2 {
+        let v = Verdict {
+            number: 7,
+            place: 7,
+        };
+        show_try(lists[2 * i], lists[2 * i + 1], v);
+        i += 1;
+    }
+}
+
+// The records after their lists were tried.
+fn show_tried(table: &[usize], state: &[u64], words: usize, steps: &[u32], lists: &[u32])
+    requires { ⌜ ReadyToTry (now table) (now state) words ⌝ }
+{
+    let mut i = 0;
+    while i < lists.len() / 2 {
+        let first = lists[2 * i];
+        let count = lists[2 * i + 1];
+        let v = open_tries::try_list(table, state, words, steps, first, count);
+        show_try(first, count, v);
+        i += 1;
+    }
+}
+
+// How the case began, its records, and the state.
+fn show_lists(table: &[usize], state: &[u64], c: Begun, steps: &[u32], lists: &[u32])
+    requires { ⌜ (0 < c .many → ReadyToTry (now table) (now state) (c .words)) ⌝ }
+{
+    show_two(c.number, c.place);
+    io::write_all(1, b" tries");
+    if 0 < c.many {
+        show_tried(table, state, c.words, steps, lists);
+    } else {
+        show_kept(lists);
+    }
+    show_words(b" state", state);
+}
+
+fn try_lists(question: &[u8], site: &[u8], steps: &[u32], lists: &[u32], state: &mut [u64]) {
+    let mut table = [0usize; problem_table::TABLE];
+    let c = open_tries::begin(question, site, 1, &mut table, state);
+    show_lists(&table, state, c, steps, lists);
+}
+
+fn tries(question: &[u8], site: &[u8], steps: &[u32], lists: &[u32], room: usize) -> bool {
+    let mut state = [7u64; STATE];
+    if STATE < room {
         return false;
     }
-    if list.len() <= steps_room {
-        return false;
-    }
-    let r = call_build::build_text(
-        question,
-        site,
-        text,
-        &mut state[..room],
-        &mut list[..steps_room],
-    );
-    built(r, state, list, steps_room);
+    try_lists(question, site, steps, lists, &mut state[..room]);
     true
 }
 
-// Steps from lent picks.
-fn build_lent(
-    question: &[u8],
-    site: &[u8],
-    picks: &[u64],
-    state: &mut [u64],
-    room: usize,
-    list: &mut [u32],
-    steps_room: usize,
-) -> bool {
-    if state.len() < room {
-        return false;
-    }
-    if list.len() <= steps_room {
-        return false;
-    }
-    let r = call_build::build_lent(
-        question,
-        site,
-        picks,
-        &mut state[..room],
-        &mut list[..steps_room],
-    );
-    built(r, state, list, steps_room);
-    true
-}
+// ---- the script
 
-// The part of a text from `from` up to `to`, nothing where they do not lie in it.
-fn part(s: &[u8], from: usize, to: usize) -> &[u8] {
+// The part of a text that a span names, nothing where it does not lie in it.
+fn part(s: &[u8], p: Span) -> &[u8] {
+    let from = p.from;
+    let to = p.to;
     if s.len() < to {
         return &s[..0];
     }
@@ -373,13 +648,17 @@ fn decimal(w: &[u8]) -> Value {
     Value::Is(v)
 }
 
-// Puts the numbers of a line from place `at` on, each after a space, into `out`, and gives how many they are.
+// Puts the numbers of a line from place `from` on, each after a space, into `out`, and gives how many they are.
 fn numbers(line: &[u8], from: usize, out: &mut [u64]) -> Found {
     let mut at = from;
     let mut n = 0;
     while at < line.len() {
         let end = read_text::find(line, at + 1, line.len(), 32);
-        let v = decimal(part(line, at + 1, end));
+        let p = Span {
+            from: at + 1,
+            to: end,
+        };
+        let v = decimal(part(line, p));
         match v {
             Value::Bad => return Found::Nowhere,
             Value::Is(k) => {
@@ -412,94 +691,203 @@ fn narrow(from: &[u64], out: &mut [u32]) -> bool {
     true
 }
 
-// The calls on lent steps, with up to two lengths.
-fn call_on_steps(
-    question: &[u8],
-    site: &[u8],
-    lent: &[u64],
-    list: &mut [u32],
-    name: u32,
-    a: usize,
-    b: usize,
-) -> bool {
-    let mut picks = [7u64; 4];
-    let mut state = [7u64; 400];
-    let n = lent.len();
-    if list.len() < n {
-        return false;
+// Makes the call that the first w bytes of a line name, if it is one on a case alone.
+fn call_on_case(line: &[u8], w: usize, question: &[u8], site: &[u8], n: Given) -> bool {
+    if read_text::word(line, 0, w, b"sizes") {
+        return sizes(question, site);
     }
-    if narrow(lent, list) {
-        if name == 8 {
-            return check_lent(question, site, &list[..n], &mut state, a);
-        }
-        return picks_lent(question, site, &list[..n], &mut picks, a, &mut state, b);
+    if read_text::word(line, 0, w, b"tally") {
+        return tally(question, site);
+    }
+    if read_text::word(line, 0, w, b"action") {
+        return action(question, site, n.a);
+    }
+    if read_text::word(line, 0, w, b"allowances") {
+        return allowances(question, site, n.a);
+    }
+    if read_text::word(line, 0, w, b"find") {
+        return find(question, site, n.a);
+    }
+    if read_text::word(line, 0, w, b"monotone") {
+        return monotone(question, site);
     }
     false
 }
 
-// The calls on a text, with up to two lengths.
-fn call_on_text(question: &[u8], site: &[u8], text: &[u8], name: u32, a: usize, b: usize) -> bool {
-    let mut picks = [7u64; 4];
-    let mut state = [7u64; 400];
-    let mut list = [7u32; 201];
-    if name == 7 {
-        return check_text(question, site, text, &mut state, a);
-    }
-    if name == 9 {
-        return picks_text(question, site, text, &mut picks, a, &mut state, b);
-    }
-    build_text(question, site, text, &mut state, a, &mut list, b)
-}
-
-// The call on lent picks, with two lengths.
-fn call_on_picks(question: &[u8], site: &[u8], lent: &[u64], a: usize, b: usize) -> bool {
-    let mut state = [7u64; 400];
-    let mut list = [7u32; 201];
-    build_lent(question, site, lent, &mut state, a, &mut list, b)
-}
-
-// How many numbers follow a call's name.
-fn wanted(name: u32) -> usize {
-    if name == 5 {
-        return 0;
-    }
-    if name < 9 {
-        return 1;
-    }
-    2
-}
-
-// The number of the call that a word names, which ends at w; 0 where it names none.
-fn call_name(line: &[u8], w: usize) -> u32 {
-    if read_text::word(line, 0, w, b"sizes") {
-        return 5;
-    }
-    if read_text::word(line, 0, w, b"action") {
-        return 6;
-    }
+// The same for calls on a text, with up to two numbers.
+fn call_on_text(
+    line: &[u8],
+    w: usize,
+    question: &[u8],
+    site: &[u8],
+    text: &[u8],
+    n: Given,
+) -> bool {
     if read_text::word(line, 0, w, b"check_text") {
-        return 7;
-    }
-    if read_text::word(line, 0, w, b"check_lent") {
-        return 8;
+        return check_text(question, site, text, n.a);
     }
     if read_text::word(line, 0, w, b"picks_text") {
-        return 9;
-    }
-    if read_text::word(line, 0, w, b"picks_lent") {
-        return 10;
+        return picks_text(question, site, text, n.a, n.b);
     }
     if read_text::word(line, 0, w, b"build_text") {
-        return 11;
+        return build_text(question, site, text, n.a, n.b);
     }
-    if read_text::word(line, 0, w, b"build_lent") {
-        return 12;
+    if read_text::word(line, 0, w, b"judge_text") {
+        return judge_text(question, site, text);
     }
-    0
+    if read_text::word(line, 0, w, b"page_text") {
+        return page_text(question, site, text, n.a, n.b, n.c);
+    }
+    false
 }
 
-// The number of a line's first word, which ends at w: 0 where it is none of a script, 13 for a comment.
-fn name(line: &[u8], w: usize) -> u32 {
+// The same for calls on lent picks.
+fn call_on_picks(
+    line: &[u8],
+    w: usize,
+    question: &[u8],
+    site: &[u8],
+    lent: &[u64],
+    n: Given,
+) -> bool {
+    if read_text::word(line, 0, w, b"build") {
+        return build(question, site, lent, n.a, n.b);
+    }
+    if read_text::word(line, 0, w, b"judge") {
+        return judge(question, site, lent);
+    }
+    false
+}
+
+// The same for calls on lent steps, and lists of them.
+fn call_on_steps(
+    line: &[u8],
+    w: usize,
+    question: &[u8],
+    site: &[u8],
+    steps: &[u32],
+    lists: &[u32],
+    n: Given,
+) -> bool {
+    if read_text::word(line, 0, w, b"check") {
+        return check(question, site, steps, n.a);
+    }
+    if read_text::word(line, 0, w, b"picks") {
+        return picks(question, site, steps, n.a, n.b);
+    }
+    if read_text::word(line, 0, w, b"tries") {
+        return tries(question, site, steps, lists, n.a);
+    }
+    if read_text::word(line, 0, w, b"page") {
+        return page(question, site, steps, n.a, n.b, n.c);
+    }
+    false
+}
+
+// Makes the call of a line with what is lent as numbers.
+fn make_lent(
+    line: &[u8],
+    w: usize,
+    question: &[u8],
+    site: &[u8],
+    lent: &[u64],
+    lists: &[u64],
+    given: Given,
+) -> bool {
+    if call_on_picks(line, w, question, site, lent, given) {
+        return true;
+    }
+    let mut steps = [0u32; NUMBERS];
+    let mut pairs = [0u32; NUMBERS];
+    let count = lent.len();
+    let m = lists.len();
+    if NUMBERS < count {
+        return false;
+    }
+    if NUMBERS < m {
+        return false;
+    }
+    if !narrow(lent, &mut steps) {
+        return false;
+    }
+    if !narrow(lists, &mut pairs) {
+        return false;
+    }
+    call_on_steps(line, w, question, site, &steps[..count], &pairs[..m], given)
+}
+
+// Reads what is lent off the script, and makes the call of a line.
+fn make_with(
+    s: &[u8],
+    t: Script,
+    line: &[u8],
+    w: usize,
+    question: &[u8],
+    site: &[u8],
+    given: Given,
+) -> bool {
+    let mut lent = [0u64; NUMBERS];
+    let mut lists = [0u64; NUMBERS];
+    let Found::At(n) = numbers(part(s, t.lent), 0, &mut lent) else {
+        return false;
+    };
+    let Found::At(m) = numbers(part(s, t.lists), 0, &mut lists) else {
+        return false;
+    };
+    if NUMBERS < n {
+        return false;
+    }
+    if NUMBERS < m {
+        return false;
+    }
+    make_lent(line, w, question, site, &lent[..n], &lists[..m], given)
+}
+
+// Makes the call of a line, whose first word ends at w.
+fn make(s: &[u8], t: Script, line: &[u8], w: usize) -> bool {
+    let mut read = [0u64; 4];
+    let Found::At(_) = numbers(line, w, &mut read) else {
+        return false;
+    };
+    let given = Given {
+        a: read[0] as usize,
+        b: read[1] as usize,
+        c: read[2] as usize,
+    };
+    let question = part(s, t.question);
+    let site = part(s, t.site);
+    if call_on_case(line, w, question, site, given) {
+        return true;
+    }
+    if call_on_text(line, w, question, site, part(s, t.text), given) {
+        return true;
+    }
+    make_with(s, t, line, w, question, site, given)
+}
+
+// A line below `question`, `site` or `text`.
+fn read_on(line: &[u8], at: usize, mut t: Script) -> Script {
+    if read_text::word(line, 0, line.len(), b".") {
+        let sheet = Span {
+            from: t.from,
+            to: at,
+        };
+        if t.open == 1 {
+            t.question = sheet;
+        }
+        if t.open == 2 {
+            t.site = sheet;
+        }
+        if t.open == 3 {
+            t.text = sheet;
+        }
+        t.open = 0;
+    }
+    t
+}
+
+// The number of the text that a word of w bytes begins, 0 where it begins none.
+fn sheet_named(line: &[u8], w: usize) -> u32 {
     if read_text::word(line, 0, w, b"question") {
         return 1;
     }
@@ -509,143 +897,50 @@ fn name(line: &[u8], w: usize) -> u32 {
     if read_text::word(line, 0, w, b"text") {
         return 3;
     }
-    if read_text::word(line, 0, w, b"lent") {
-        return 4;
-    }
-    if read_text::word(line, 0, w, b"#") {
-        return 13;
-    }
+    0
+}
+
+// Whether a line says nothing: it is empty, or a comment.
+fn says_nothing(line: &[u8], w: usize) -> bool {
     if w == 0 {
-        return 13;
-    }
-    call_name(line, w)
-}
-
-// Makes the call of a line, whose numbers go to `lengths`, and those that are lent to `lent`.
-fn make(
-    s: &[u8],
-    t: Script,
-    line: &[u8],
-    w: usize,
-    name: u32,
-    lengths: &mut [u64],
-    lent: &mut [u64],
-) -> bool {
-    let n = numbers(line, w, lengths);
-    let Found::At(count) = n else {
-        return false;
-    };
-    if count != wanted(name) {
-        return false;
-    }
-    let m = numbers(part(s, t.lent, t.lent_end), 0, lent);
-    let Found::At(given) = m else {
-        return false;
-    };
-    if lent.len() < given {
-        return false;
-    }
-    if lengths.len() < 2 {
-        return false;
-    }
-    let question = part(s, t.question, t.question_end);
-    let site = part(s, t.site, t.site_end);
-    let text = part(s, t.text, t.text_end);
-    call(
-        question,
-        site,
-        text,
-        &lent[..given],
-        name,
-        lengths[0] as usize,
-        lengths[1] as usize,
-    )
-}
-
-// The call of a number, with up to two numbers.
-fn call(
-    question: &[u8],
-    site: &[u8],
-    text: &[u8],
-    lent: &[u64],
-    name: u32,
-    a: usize,
-    b: usize,
-) -> bool {
-    if name == 5 {
-        sizes(question, site);
         return true;
     }
-    if name == 6 {
-        action(question, site, a);
-        return true;
-    }
-    if name == 7 {
-        return call_on_text(question, site, text, name, a, b);
-    }
-    if name == 9 {
-        return call_on_text(question, site, text, name, a, b);
-    }
-    if name == 11 {
-        return call_on_text(question, site, text, name, a, b);
-    }
-    if name == 12 {
-        return call_on_picks(question, site, lent, a, b);
-    }
-    let mut list = [0u32; 200];
-    call_on_steps(question, site, lent, &mut list, name, a, b)
+    read_text::word(line, 0, w, b"#")
 }
 
-// A line below `question`, `site` or `text`.
-fn read_on(line: &[u8], at: usize, mut t: Script) -> Script {
-    if read_text::word(line, 0, line.len(), b".") {
-        if t.open == 1 {
-            t.question = t.from;
-            t.question_end = at;
-        }
-        if t.open == 2 {
-            t.site = t.from;
-            t.site_end = at;
-        }
-        if t.open == 3 {
-            t.text = t.from;
-            t.text_end = at;
-        }
-        t.open = 0;
-    }
-    t
-}
-
-// A line of a script.
-fn turn(s: &[u8], at: usize, end: usize, mut t: Script) -> Script
+// A line outside of texts.
+fn follow(s: &[u8], at: usize, end: usize, mut t: Script) -> Script
     requires { ⌜ (at ≤ end) × (end < length (now s)) ⌝ }
 {
-    let line = part(s, at, end);
-    if t.open != 0 {
-        return read_on(line, at, t);
-    }
+    let here = Span { from: at, to: end };
+    let line = part(s, here);
     let w = read_text::find(line, 0, line.len(), 32);
-    let k = name(line, w);
-    if k == 13 {
+    if says_nothing(line, w) {
         return t;
     }
-    if k == 4 {
-        t.lent = at + 4;
-        t.lent_end = end;
-        return t;
-    }
-    if k == 0 {
-        t.open = 4;
-        return t;
-    }
-    if k < 4 {
-        t.open = k;
+    let sheet = sheet_named(line, w);
+    if sheet != 0 {
+        t.open = sheet;
         t.from = end + 1;
         return t;
     }
-    let mut lengths = [0u64; 2];
-    let mut lent = [0u64; 200];
-    if make(s, t, line, w, k, &mut lengths, &mut lent) {
+    if read_text::word(line, 0, w, b"lent") {
+        let lent = Span {
+            from: at + 4,
+            to: end,
+        };
+        t.lent = lent;
+        return t;
+    }
+    if read_text::word(line, 0, w, b"lists") {
+        let lists = Span {
+            from: at + 5,
+            to: end,
+        };
+        t.lists = lists;
+        return t;
+    }
+    if make(s, t, line, w) {
         io::write_all(1, b"\n");
         return t;
     }
@@ -653,19 +948,28 @@ fn turn(s: &[u8], at: usize, end: usize, mut t: Script) -> Script
     t
 }
 
+// A line of a script.
+fn turn(s: &[u8], at: usize, end: usize, t: Script) -> Script
+    requires { ⌜ (at ≤ end) × (end < length (now s)) ⌝ }
+{
+    if t.open == 0 {
+        return follow(s, at, end, t);
+    }
+    let here = Span { from: at, to: end };
+    read_on(part(s, here), at, t)
+}
+
 // Follows a script, and gives where a line stands that is none.
 fn run(s: &[u8]) -> Found {
+    let nothing = Span { from: 0, to: 0 };
     let mut t = Script {
         open: 0,
         from: 0,
-        question: 0,
-        question_end: 0,
-        site: 0,
-        site_end: 0,
-        text: 0,
-        text_end: 0,
-        lent: 0,
-        lent_end: 0,
+        question: nothing,
+        site: nothing,
+        text: nothing,
+        lent: nothing,
+        lists: nothing,
     };
     let mut at = 0;
     while at < s.len() {
@@ -685,16 +989,104 @@ fn run(s: &[u8]) -> Found {
     Found::At(t.from)
 }
 
-// Runs the script.
-fn main() {
-    let mut script = [0u8; 131072];
-    let count = io::read_full(0, &mut script);
+// Reads the script, follows it, and writes what is none of it.
+fn follow_input(script: &mut [u8]) {
+    let count = io::read_full(0, script);
+    if script.len() < count {
+        return;
+    }
     let r = run(&script[..count]);
     match r {
         Found::Nowhere => {}
         Found::At(at) => {
+            let rest = Span {
+                from: at,
+                to: count,
+            };
             io::write_all(1, b"This is no line of a script: ");
-            io::write_all(1, part(&script, at, count));
+            io::write_all(1, part(script, rest));
         }
     }
+}
+
+// An array so long is lent whole, and only here as a slice.
+fn run_script(script: &mut [u8; SCRIPT]) {
+    follow_input(script);
+}
+
+// ---- the desk program's inputs
+
+// A decimal digit; 0 for any other byte.
+fn digit(b: u8) -> usize
+    ensures { λ r. ⌜ r ≤ 9 ⌝ }
+{
+    if b < 48 {
+        return 0;
+    }
+    if 57 < b {
+        return 0;
+    }
+    (b - 48) as usize
+}
+
+// The length in a header.
+fn length_in(head: [u8; 11]) -> usize {
+    let low = digit(head[7]) * 100 + digit(head[8]) * 10 + digit(head[9]);
+    digit(head[5]) * 10000 + digit(head[6]) * 1000 + low
+}
+
+// Writes an input's name and reply.
+fn write_desk(name: &[u8], input: &[u8]) {
+    let mut out = [0u8; call_desk::ROOM];
+    let length = call_desk::reply(input, &mut out);
+    io::write_all(1, name);
+    io::write_all(1, b"\n");
+    io::write_all(1, &out[..length]);
+}
+
+// Reads an input that has as many bytes as `input`, writes its reply, and tells whether it was there.
+fn desk(fd: i32, name: &[u8], input: &mut [u8]) -> bool {
+    if io::read_full(fd, input) < input.len() {
+        return false;
+    }
+    write_desk(name, input);
+    true
+}
+
+// Reads one header (a name of four bytes, a tab, five digits for the length of the input, a line's end) and its input, and tells whether
+// there was one.
+fn run_input(fd: i32) -> bool {
+    let mut head = [0u8; 11];
+    if io::read_full(fd, &mut head) < 11 {
+        return false;
+    }
+    let count = length_in(head);
+    let mut input = [0u8; 100000];
+    if 100000 < count {
+        return false;
+    }
+    desk(fd, &head[..4], &mut input[..count])
+}
+
+// A proved loop has to end: there are no more than 10,000 names of four digits.
+fn run_inputs(fd: i32) {
+    let mut left: usize = 10000;
+    while 0 < left {
+        if !run_input(fd) {
+            return;
+        }
+        left -= 1;
+    }
+}
+
+fn main() {
+    let mut script = [0u8; SCRIPT];
+    run_script(&mut script);
+    let fd = os::open_read(b"inputs");
+    if fd < 0 {
+        os::fail(b"inputs");
+        return;
+    }
+    run_inputs(fd);
+    libc::close(fd);
 }

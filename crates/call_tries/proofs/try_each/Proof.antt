@@ -49,21 +49,22 @@ use denote.Triple.Walked.{says, needs, Stays, stay-none, stay-slice, stay-none-s
 use denote.Exit.{yes}
 use Rattle.definitions.specs.Problem.Atoms.{Problem}
 use Rattle.call_tries.specs.declared.Try.{Try}
-use Rattle.call_tries.specs.declared.Verdict.{Verdict}
+use Rattle.open_tries.specs.declared.Verdict.{Verdict}
 use Rattle.definitions.specs.Reply.Tries.{tryList}
-use Rattle.call_tries.specs.Recorded.{verdictOf, answered}
-use Rattle.call_tries.specs.Begun.{ReadyToTry, Serves}
+use Rattle.call_tries.specs.Recorded.{answered}
+use Rattle.open_tries.specs.Verdicts.{verdictOf}
+use Rattle.open_tries.specs.Begun.{ReadyToTry, Serves}
 use Rattle.call_tries.specs.Each.{answer, upTo, rest, rest-start, rest-answered, rest-end}
 use Rattle.call_tries.proofs.Lent.{told}
 use Rattle.call_tries.proofs.Walk.{slot, locals, ends, bare, holds, handed, enters, leaves, bundle, behind, spreads, hands, copies, past, var, member, sets, lands-as, asks, shared, lent, val, fits-slice, fits-int}
 use Rattle.call_tries.proofs.Try as E
 use Rattle.call_tries.proofs.Try.Laws as E′
-use Rattle.call_tries.proofs.Verdict as R
-use Rattle.call_tries.proofs.Verdict.Laws as R′
-use Rattle.call_tries.proofs.try_list as check
-use Rattle.call_tries.proofs.try_list.Symbol as check-def
-use Rattle.call_tries.proofs.try_list.Symbol.{name as #call-tries·try-list}
-use Rattle.call_tries.proofs.try_list.Met as check-thm
+use Rattle.open_tries.proofs.Verdict as R
+use Rattle.open_tries.proofs.Verdict.Laws as R′
+use Rattle.open_tries.proofs.try_list as check
+use Rattle.open_tries.proofs.try_list.Symbol as check-def
+use Rattle.open_tries.proofs.try_list.Symbol.{name as #open-tries·try-list}
+use Rattle.open_tries.proofs.try_list.Met as check-thm
 use Rattle.call_tries.proofs.try_each.Key.{name as #call-tries·try-each}
 use Rattle.call_tries.proofs.try_each as f
 use Rattle.call_tries.proofs.try_each.Statement as stated
@@ -98,7 +99,7 @@ answered-fits e r vs is is′ =
     LL.owes E.the-type E′.the-laws (answered e r) (fe .0, (fe .1 .0, (fr .0, (fr .1 .0, tt))))
 
 module _ {M : Type 1} (𝓤 : URA M) (H : Heap 𝓤) (A : Atoms 𝓤) (W : Given 𝓤 H A) (at-mem : Memory → SProp 𝓤) (run : Routine → Fun 𝓤) (𝓣 : Tables 𝓤 H)
-    (known : Triple 𝓤 (𝓣 .C #call-tries·try-list) (tripleOf 𝓤 H A check.signature (check.spec 𝓤 H A at-mem run))) where
+    (known : Triple 𝓤 (𝓣 .C #open-tries·try-list) (tripleOf 𝓤 H A check.signature (check.spec 𝓤 H A at-mem run))) where
   abbrev C : Calls 𝓤 H
   C = 𝓣 .C
 
@@ -308,5 +309,5 @@ try-each-spec 𝓤 H 𝓜 𝓖 𝓡 =
     entered 𝓤 H (tripleOf 𝓤 H (𝓖 .A) f.signature (f.spec 𝓤 H (𝓖 .A) (𝓜 .mem) (𝓡 .run)))
     (tables 𝓤 H 𝓜 𝓡 code.env .C) (tables 𝓤 H 𝓜 𝓡 code.env .Λ) #call-tries·try-each code.function (code.unfolded 𝓤 H 𝓜 𝓡)
     (meets 𝓤 H (𝓖 .A) (givenOf 𝓤 H 𝓜 𝓖) (𝓜 .mem) (𝓡 .run) (tablesOf 𝓤 H 𝓜 (tables 𝓤 H 𝓜 𝓡 code.env))
-    (cited 𝓤 H (tripleOf 𝓤 H (𝓖 .A) check.signature (check.spec 𝓤 H (𝓖 .A) (𝓜 .mem) (𝓡 .run))) 𝓜 𝓡 code.env #call-tries·try-list check-def.routine code.calls-call-tries·try-list
+    (cited 𝓤 H (tripleOf 𝓤 H (𝓖 .A) check.signature (check.spec 𝓤 H (𝓖 .A) (𝓜 .mem) (𝓡 .run))) 𝓜 𝓡 code.env #open-tries·try-list check-def.routine code.calls-open-tries·try-list
     (check-thm.met 𝓤 H 𝓜 𝓖 𝓡)))

@@ -45,22 +45,22 @@ use Rattle.problem_table.specs.Lines.{tableLength}
 use Rattle.problem_layout.specs.LaidLaws.{most-zeros}
 use Rattle.call_tries.specs.declared.Try.{Try}
 use Rattle.call_tries.specs.declared.CallReply.{CallReply}
-use Rattle.call_tries.specs.declared.Begun.{Begun}
+use Rattle.open_tries.specs.declared.Begun.{Begun}
 use Rattle.definitions.specs.Limits.{usual}
 use Rattle.definitions.specs.Reply.Tries.{readyToTry}
-use Rattle.call_tries.specs.Begun.{BegunBy}
-use Rattle.call_tries.specs.Answers.{Ends, begun-asks, outcome}
+use Rattle.open_tries.specs.Begun.{BegunBy, begun-asks}
+use Rattle.call_tries.specs.Answers.{Ends, outcome}
 use Rattle.call_tries.proofs.Walk.{slot, locals, ends, bare, holds, handed, enters, leaves, bundle, behind, spreads, hands, copies, past, ends-with, relends, comes-home, var, member, start, pair, sets, lands-as, asks, shared, lent, val, under, fits-slice, fits-int}
 use Rattle.call_tries.proofs.Lent.{told as told-one, told-too, says-all, big-lit, zeros-typed, zeros-lie, array-room, lends-array, shares-array, array-back, SharedOut, shares-out, shares-back}
 use Rattle.call_tries.proofs.Try as E
 use Rattle.call_tries.proofs.CallReply as R
 use Rattle.call_tries.proofs.CallReply.Laws as R′
-use Rattle.call_tries.proofs.Begun as B
-use Rattle.call_tries.proofs.Begun.Laws as B′
-use Rattle.call_tries.proofs.begin as begin
-use Rattle.call_tries.proofs.begin.Symbol as begin-def
-use Rattle.call_tries.proofs.begin.Symbol.{name as #call-tries·begin}
-use Rattle.call_tries.proofs.begin.Met as begin-thm
+use Rattle.open_tries.proofs.Begun as B
+use Rattle.open_tries.proofs.Begun.Laws as B′
+use Rattle.open_tries.proofs.begin as begin
+use Rattle.open_tries.proofs.begin.Symbol as begin-def
+use Rattle.open_tries.proofs.begin.Symbol.{name as #open-tries·begin}
+use Rattle.open_tries.proofs.begin.Met as begin-thm
 use Rattle.call_tries.proofs.try_each as each
 use Rattle.call_tries.proofs.try_each.Symbol as each-def
 use Rattle.call_tries.proofs.try_each.Symbol.{name as #call-tries·try-each}
@@ -92,7 +92,7 @@ told-fits : (r : Begun) → Is B.the-row r (B′.lowered r ∷ []) → Is R.the-
 told-fits r is = let h = LL.owed B.the-type B′.the-laws r _ is in LL.owes R.the-type R′.the-laws (told r) (h .0, (h .1 .0, tt))
 
 module _ {M : Type 1} (𝓤 : URA M) (H : Heap 𝓤) (A : Atoms 𝓤) (W : Given 𝓤 H A) (at-mem : Memory → SProp 𝓤) (run : Routine → Fun 𝓤) (𝓣 : Tables 𝓤 H)
-    (known-begin : Triple 𝓤 (𝓣 .C #call-tries·begin) (tripleOf 𝓤 H A begin.signature (begin.spec 𝓤 H A at-mem run)))
+    (known-begin : Triple 𝓤 (𝓣 .C #open-tries·begin) (tripleOf 𝓤 H A begin.signature (begin.spec 𝓤 H A at-mem run)))
     (known-each : Triple 𝓤 (𝓣 .C #call-tries·try-each) (tripleOf 𝓤 H A each.signature (each.spec 𝓤 H A at-mem run))) where
   abbrev fm : FmC 𝓤 H (W .laws) (𝓣 .C)
   fm = fmOf 𝓤 H (W .laws) 𝓣
@@ -285,7 +285,7 @@ try-lists-spec 𝓤 H 𝓜 𝓖 𝓡 =
     entered 𝓤 H (tripleOf 𝓤 H (𝓖 .A) f.signature (f.spec 𝓤 H (𝓖 .A) (𝓜 .mem) (𝓡 .run)))
     (tables 𝓤 H 𝓜 𝓡 code.env .C) (tables 𝓤 H 𝓜 𝓡 code.env .Λ) #call-tries·try-lists code.function (code.unfolded 𝓤 H 𝓜 𝓡)
     (meets 𝓤 H (𝓖 .A) (givenOf 𝓤 H 𝓜 𝓖) (𝓜 .mem) (𝓡 .run) (tablesOf 𝓤 H 𝓜 (tables 𝓤 H 𝓜 𝓡 code.env))
-    (cited 𝓤 H (tripleOf 𝓤 H (𝓖 .A) begin.signature (begin.spec 𝓤 H (𝓖 .A) (𝓜 .mem) (𝓡 .run))) 𝓜 𝓡 code.env #call-tries·begin begin-def.routine code.calls-call-tries·begin
+    (cited 𝓤 H (tripleOf 𝓤 H (𝓖 .A) begin.signature (begin.spec 𝓤 H (𝓖 .A) (𝓜 .mem) (𝓡 .run))) 𝓜 𝓡 code.env #open-tries·begin begin-def.routine code.calls-open-tries·begin
     (begin-thm.met 𝓤 H 𝓜 𝓖 𝓡))
     (cited 𝓤 H (tripleOf 𝓤 H (𝓖 .A) each.signature (each.spec 𝓤 H (𝓖 .A) (𝓜 .mem) (𝓡 .run))) 𝓜 𝓡 code.env #call-tries·try-each each-def.routine code.calls-call-tries·try-each
     (each-thm.met 𝓤 H 𝓜 𝓖 𝓡)))

@@ -1,4 +1,4 @@
--- `test_calls::picks_text` meets its contract: what is lent is as long as the room.
+-- `test_calls::picks_text` runs safely.
 use mathlib.Core.Path.{sym}
 use native.Mathlib.Omega.{arith}
 use lib.Seq.{length-take-le}
@@ -6,6 +6,4 @@ use borrow.Author.Needs.{needs}
 use Rattle.test_calls.proofs.picks_text.Tie as tie
 
 pub picks-text-spec : {M : Type 1} → Rattle.test_calls.proofs.picks_text.Statement.statement M
-picks-text-spec = tie.close (tie.spec (λ c. search needs) (λ c. search needs) (λ c. search needs) (λ c. sym (length-take-le _ _ (omega arith)))
-    (λ c. search needs) (λ c. sym (length-take-le _ _ (omega arith))) (λ c κs. search needs) (λ c κs. search needs) (λ c. search needs)
-    (λ c. search needs) (λ c. search needs))
+picks-text-spec = tie.close (tie.spec (λ c. search needs) (λ c. search needs) (λ c. search needs) (λ c. sym (length-take-le _ _ (omega arith))) (λ c. search needs) (λ c. sym (length-take-le _ _ (omega arith))) (λ c κs. search needs) (λ c. search needs))

@@ -1,0 +1,4 @@
+-- Words of this crate's contracts.
+pub mod Verdicts
+pub mod Begun
+pub mod Laws
