@@ -31,7 +31,7 @@ use Rattle.meaning.specs.Complete.{built-are, built-takes}
 use Rattle.meaning.specs.Changes.{sort, whose, which, sameAtom, after-at, free-sort, stays}
 use Rattle.meaning.specs.HeldTuples.{same-tuple, tuple-step}
 use Rattle.meaning.specs.Deciding.{isProofAtom, says, Knows, may-told, part-told}
-use Rattle.meaning.specs.Planning.{taken, taken-append, provedSteps, proved-are, nodesFrom}
+use Rattle.meaning.specs.Planning.{taken, taken-append, provedSteps, proved-are, nodesFrom, NoNode, nodes-keep, known-same}
 
 module _ (p : Problem) (G : Good p) where
   -- ---- set actions, seen on not-tuples and nodes
@@ -172,10 +172,10 @@ module _ (p : Problem) (G : Good p) where
     all-decided : (w row : ℕ) → nodesFrom p G F zero w row ≡ true
     all-decided w row = T-true (leb zero w) (le→leb zero w (omega arith))
 
-    -- the goal may be proved exactly if the root is true
-    goal-may : mayTake p s₃ proveGoal ≡ treeHolds (p .source) F (λ _. zero) (p .root)
+    -- in a state that knows all nodes the goal may be proved exactly if the root is true
+    goal-may : (s : State) → Knows p F (nodesFrom p G F zero) s → mayTake p s proveGoal ≡ treeHolds (p .source) F (λ _. zero) (p .root)
     unfolding needs all IsAction
-    goal-may = may-told p G F (nodesFrom p G F zero) s₃ (proved .1) proveGoal tt
+    goal-may s known = may-told p G F (nodesFrom p G F zero) s known proveGoal tt
         (λ x m. subst (λ (y : Atom). T (isProofAtom y) × (says p F (nodesFrom p G F zero) y ≡ means p F y)) (sym (List·Memᴰ·eq-of-singleton m)) (part-told p G F (nodesFrom p G F zero) zero (p .root) (λ _. zero) (all-decided zero)))
         ∙ and-true (means p F (partAtom (p .size) (p .range) (λ _. zero) zero (p .root))) ∙ means-at p G F zero (p .root) (λ _. zero) (G .root-here) (λ l. G .element)
 
@@ -212,9 +212,26 @@ module _ (c : Case) (A : Accepted c) (F : List Tuple) (picks : arePicks c F ≡ 
   pub built-steps : builtActions (problemOf c) F ≡ setSteps (problemOf c) F ++ (beginProof ∷ (provedSteps (problemOf c) begun (length (problemOf c .nodeList)) ++ (proveGoal ∷ [])))
   built-steps = steps-are p (good c A) F of-kinds
 
-  -- 17
+  -- where the proof phase starts no node is decided
+  pub begun-known : Knows (problemOf c) F (nodesFrom (problemOf c) (good c A) F (length (problemOf c .nodeList))) begun
+  begun-known = start-known p (good c A) F of-kinds
+
+  -- 17, in any state that knows all nodes; in the one in which the proof phase ends
+  pub goal-told : (s : State) → Knows (problemOf c) F (nodesFrom (problemOf c) (good c A) F zero) s → mayTake (problemOf c) s proveGoal ≡ ruleIsTrue c F
+  goal-told s known = goal-may p (good c A) F of-kinds s known ∙ root-means c A F
+
+  ended-known : Knows (problemOf c) F (nodesFrom (problemOf c) (good c A) F zero) ended
+  ended-known = proved p (good c A) F of-kinds .1
+
   pub rule-may : mayTake (problemOf c) ended proveGoal ≡ ruleIsTrue c F
-  rule-may = goal-may p (good c A) F of-kinds ∙ root-means c A F
+  rule-may = goal-told ended ended-known
+
+  -- a state that knows all nodes and is else as the proof phase starts is the one in which it ends
+  pub state-ended : (s : State) → Knows (problemOf c) F (nodesFrom (problemOf c) (good c A) F zero) s → ((i : ℕ) → NoNode (problemOf c) (good c A) F i → s i ≡ begun i) → s ≡ ended
+  state-ended s known kept = known-same p (good c A) F begun s ended known ended-known kept (nodes-keep p (good c A) F (length (p .nodeList)) begun (omega arith) begun-known)
+
+  pub proved-steps : provedSteps (problemOf c) begun (length (problemOf c .nodeList)) ≡ nodeSteps (problemOf c) F zero (problemOf c .nodeList)
+  proved-steps = proved p (good c A) F of-kinds .0 ∙ ap (nodeSteps p F zero) (take-length (p .nodeList))
 
   pub built-state : ruleIsTrue c F ≡ true → run (problemOf c) (builtSteps (problemOf c) F) .state ≡ after (problemOf c) ended proveGoal
   built-state t = state-left p (good c A) F of-kinds (T-of (root-means c A F ∙ t))

@@ -155,6 +155,15 @@ module _ (p : Problem) (G : Good p) (F : List Tuple) (D : Decided) where
             means-at p G F (suc v) u (withValue (valuesAt (p .size) (forallNode d σ u) row) d x) (under-forall p v d σ u (here-as p G v (forallNode d σ u) l e))
             (bnd-with (p .size) _ d x (values-bnd p G (forallNode d σ u) row) (G .ranged σ .small x m))
 
+        -- in such a state its bit tells whether the part is so
+        pub under-may : (x : ℕ) → row < rowsOf (p .size) (forallNode d σ u) → List·Memᴰ x (p .range σ) → s (atomNumber p (underAtom (p .size) (p .range) v (forallNode d σ u) row x)) ≡ at x
+        unfolding IsAction needs forallNeeds
+        under-may x h m =
+            K (underAtom (p .size) (p .range) v (forallNode d σ u) row x)
+            (needs-valid p G (proveForall v row x) (l, subst (λ (t : Tree). row < rowsOf (p .size) t) (sym e) h, (d, σ, u, e, m)) (underAtom (p .size) (p .range) v (forallNode d σ u) row x)
+            (subst (λ (t : Tree). List·Memᴰ (underAtom (p .size) (p .range) v (forallNode d σ u) row x) (proof ∷ forallNeeds (p .size) (p .range) v t row x)) (sym e) (List·Memᴰ·tail (List·Memᴰ·head refl))))
+            (under-told x .0) ∙ under-told x .1 ∙ under-means x m
+
         -- the atoms at the element before z
         abbrev ownAt : Option ℕ → List Atom
         ownAt o = option o [] (λ y. holdsNode v (row * p .size + y) ∷ [])

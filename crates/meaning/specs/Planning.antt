@@ -3,27 +3,27 @@
 use Prim.Native.Nat.{ℕ, zero, suc, _+_, _*_, _/_, _%_, _<_, _≤_}
 use mathlib.Core.Path.{_≡_, refl, sym, ap, ap₂, subst, _∙_, fun-ext}
 use mathlib.Core.Logic.{_⊎_, inl, inr, ⊎-elim}
-use mathlib.Core.Bool.{Bool, true, false, _&&_, _||_, or-false}
+use mathlib.Core.Bool.{Bool, true, false, not, _&&_, _||_, or-false}
 use mathlib.Core.Option.{Option, none, some}
 use mathlib.Core.List.{List, [], _∷_, _++_, map, append-assoc, append-nil, List·Memᴰ}
 use native.Mathlib.Omega.{arith}
 use native.Mathlib.Nat.{add-zero, zero-add, div-lt-iff-lt-mul, div-add-mod'}
-use lib.Dec.{T, ltb, leb, eqb, ltb→lt, lt→ltb, leb→le, le→leb, eqb→eq}
-use borrow.Author.Tests.{eq-eqb}
+use lib.Dec.{T, ltb, leb, eqb, ltb→lt, lt→ltb, nltb→le, leb→le, le→leb, eqb→eq}
+use borrow.Author.Tests.{eq-eqb, ne-eqb}
 use lib.ListN.{length, getD, take}
 use lib.Seq.{take-suc, length-take-le}
 use Rattle.definitions.specs.Lists.{if_then_else_, all, any, filter, option, position, from, below, isIn, rank, upTo}
 use Rattle.definitions.specs.Sheet.Relations.{Tuple}
 use Rattle.definitions.specs.Problem.Tree.{Tree, Trees, leaf, forallNode, existsNode, andNode, orNode, end, _then_, nodes, Part, partsFrom, parts, howMany, isForall, nodeSort}
-use Rattle.definitions.specs.Problem.Atoms.{Problem, nodeAt, rowsOf, nodeWidth, Atom, guess, proof, goal, tuple, notTuple, freeDomain, freeRange, holdsNode, atomNumber, State}
+use Rattle.definitions.specs.Problem.Atoms.{Problem, nodeAt, rowsOf, nodeWidth, Atom, guess, proof, goal, tuple, notTuple, freeDomain, freeRange, holdsNode, atomNumber, atoms, State}
 use Rattle.definitions.specs.Problem.Actions.{Action, proveAnd, proveOr, proveExists, proveForall, choices, proveNode, withValue, valuesAt, adds, removes}
 use Rattle.definitions.specs.Problem.Strips.{mayTake, after}
 use Rattle.definitions.specs.Problem.Built.{treeHolds, isTrueAt, least, stepFor, trueRows, nodeSteps}
-use Rattle.laws.specs.Booleans.{and-T, T-and-l, T-and-r, T-or, or-l, or-r, T-of, T-true, T-ext, lt-split}
+use Rattle.laws.specs.Booleans.{and-T, T-and-l, T-and-r, T-or, or-l, or-r, T-of, T-true, T-ext, T-dec, lt-split}
 use Rattle.laws.specs.Lists.{getD-mem}
 use Rattle.laws.specs.Members.{in-mem, select-rank, least-in}
 use Rattle.laws.specs.Positions.{place, position-place, place-lt, least-place, position-none}
-use Rattle.laws.specs.Numbers.{IsAtom, IsAction, noNode}
+use Rattle.laws.specs.Numbers.{IsAtom, IsAction, noNode, atom-injective, atom-some, atom-is, atom-number, atom-below}
 use Rattle.meaning.specs.Means.{Good, means}
 use Rattle.meaning.specs.Does.{some-any}
 use Rattle.meaning.specs.Changes.{sort, whose, which, sameAtom, after-at, stays}
@@ -313,7 +313,7 @@ module _ (p : Problem) (G : Good p) (F : List Tuple) where
   says-same D E h (freeRange r y) w = refl
   says-same D E h (holdsNode v row) w = ap (λ (b : Bool). b && isTrueAt p F (nodeAt p v) row) (h v row w)
 
-  node-known : (v : ℕ) (s : State) → Knows p F (rowsTo v (nodeWidth (p .size) (nodeAt p v))) s → Knows p F (nodesFrom v) s
+  pub node-known : (v : ℕ) (s : State) → Knows p F (rowsTo v (nodeWidth (p .size) (nodeAt p v))) s → Knows p F (nodesFrom v) s
   unfolding IsAtom
   node-known v s K x a q = K x a q ∙ says-same (rowsTo v (nodeWidth (p .size) (nodeAt p v))) (nodesFrom v) (λ w row h. T-ext _ _
       (λ t. le→leb v w (⊎-elim (λ b. omega (arith, b)) (λ b. omega (arith, b .0)) (rows-at v (nodeWidth (p .size) (nodeAt p v)) w row t)))
@@ -322,7 +322,7 @@ module _ (p : Problem) (G : Good p) (F : List Tuple) where
       le-cases : (a b : ℕ) → a ≤ b → (a < b) ⊎ (a ≡ b)
       le-cases a b h = lt-split a b (omega arith)
 
-  known-node : (v : ℕ) (s : State) → Knows p F (nodesFrom (suc v)) s → Knows p F (rowsTo v zero) s
+  pub known-node : (v : ℕ) (s : State) → Knows p F (nodesFrom (suc v)) s → Knows p F (rowsTo v zero) s
   known-node v s K x a q = K x a q ∙ says-same (nodesFrom (suc v)) (rowsTo v zero) (λ w row h. T-ext _ _
       (λ t. rows-of v zero w row (inl (leb→le (suc v) w t)))
       (λ t. le→leb (suc v) w (⊎-elim (λ b. b) (λ b. absurd (omega (arith, b .1))) (rows-at v zero w row t)))) x a
@@ -335,7 +335,7 @@ module _ (p : Problem) (G : Good p) (F : List Tuple) where
       ap (λ (l : List Action). l ++ map (stepFor p F a u) (trueRows p F u)) (steps-snoc ts (suc a) t ∙ ap (λ (n : ℕ). map (stepFor p F n t) (trueRows p F t) ++ nodeSteps p F (suc a) ts) i)
       ∙ append-assoc (map (stepFor p F (a + suc (length ts)) t) (trueRows p F t)) (nodeSteps p F (suc a) ts) (map (stepFor p F a u) (trueRows p F u))
 
-  steps-next : (v : ℕ) → v < length (p .nodeList)
+  pub steps-next : (v : ℕ) → v < length (p .nodeList)
       → nodeSteps p F zero (take (suc v) (p .nodeList)) ≡ map (stepFor p F v (nodeAt p v)) (filter (isTrueAt p F (nodeAt p v)) (from zero (nodeWidth (p .size) (nodeAt p v)))) ++ nodeSteps p F zero (take v (p .nodeList))
   unfolding trueRows below nodeAt
   steps-next v l =
@@ -354,3 +354,75 @@ module _ (p : Problem) (G : Good p) (F : List Tuple) where
         ap₂ _++_ (r .0) (q .0) ∙ sym (steps-next v (omega arith)),
         subst (Knows p F (nodesFrom zero)) (sym (taken-append p (rowSteps p v s zero (nodeWidth (p .size) (nodeAt p v))) (provedSteps p (taken p s (rowSteps p v s zero (nodeWidth (p .size) (nodeAt p v)))) v) s)) (q .1),
       )
+
+  -- ---- what the steps leave as it is: every number that is no node atom's
+  abbrev pub NoNode : ℕ → Type 0
+  NoNode i = (w row : ℕ) → IsAtom p (holdsNode w row) → i ≡ atomNumber p (holdsNode w row) → ⊥
+
+  step-keeps : (v j : ℕ) (s : State) → v < length (p .nodeList) → j < nodeWidth (p .size) (nodeAt p v) → T (isTrueAt p F (nodeAt p v) j) → (i : ℕ) → NoNode i → after p s (stepFor p F v (nodeAt p v) j) i ≡ s i
+  unfolding after any IsAtom
+  step-keeps v j s l h t i o =
+      let a = step-adds v (nodeAt p v) j t in
+      rw (a .0, a .1, ne-eqb i (atomNumber p (holdsNode v j)) (o v j (l, h))) (kept (s i))
+    where
+      kept : (b : Bool) → ((b && true) || (false || false)) ≡ b
+      kept true = refl
+      kept false = refl
+
+  keep-next : (v k j : ℕ) (s : State) (b : Bool) → isTrueAt p F (nodeAt p v) j ≡ b → (o : Option Action) → o ≡ when b (stepFor p F v (nodeAt p v) j) → v < length (p .nodeList) → j < nodeWidth (p .size) (nodeAt p v)
+      → Knows p F (rowsTo v j) s → (i : ℕ) → NoNode i → ((s′ : State) → Knows p F (rowsTo v (suc j)) s′ → taken p s′ (rowSteps p v s′ (suc j) k) i ≡ s′ i)
+      → taken p s (option o (rowSteps p v s (suc j) k) (λ a. a ∷ rowSteps p v (after p s a) (suc j) k)) i ≡ s i
+  unfolding taken option when
+  keep-next v k j s true t o e l h K i q r = rw e (r (after p s (stepFor p F v (nodeAt p v) j)) (more-known v j s l h (T-of t) K) ∙ step-keeps v j s l h (T-of t) i q)
+  keep-next v k j s false t o e l h K i q r = rw e (r s (same-known v j s t K))
+
+  rows-keep : (v : ℕ) → v < length (p .nodeList) → (k j : ℕ) (s : State) → j + k ≤ nodeWidth (p .size) (nodeAt p v) → Knows p F (rowsTo v j) s → (i : ℕ) → NoNode i → taken p s (rowSteps p v s j k) i ≡ s i
+  unfolding rowSteps taken
+  rows-keep v l zero j s h K i o = refl
+  rows-keep v l (suc k) j s h K i o =
+      keep-next v k j s (isTrueAt p F (nodeAt p v) j) refl (stepNow p s v (nodeAt p v) j)
+      (step-now (rowsTo v j) s K v l (rows-later v j) (nodeAt p v) refl j (omega arith) (rows-own v j)) l (omega arith) K i o (λ s′ K′. rows-keep v l k (suc j) s′ (omega arith) K′ i o)
+
+  pub nodes-keep : (v : ℕ) (s : State) → v ≤ length (p .nodeList) → Knows p F (nodesFrom v) s → (i : ℕ) → NoNode i → taken p s (provedSteps p s v) i ≡ s i
+  unfolding provedSteps taken
+  nodes-keep zero s h K i o = refl
+  nodes-keep (suc v) s h K i o =
+      let l : List Action = rowSteps p v s zero (nodeWidth (p .size) (nodeAt p v)) in
+      let r = rows-are v (omega arith) (nodeWidth (p .size) (nodeAt p v)) zero s (omega arith) (known-node v s K) in
+      let K′ = node-known v (taken p s l) (subst (λ (m : ℕ). Knows p F (rowsTo v m) (taken p s l)) (zero-add (nodeWidth (p .size) (nodeAt p v))) (r .1)) in
+      ap (λ (t : State). t i) (taken-append p l (provedSteps p (taken p s l) v) s) ∙ nodes-keep v (taken p s l) (omega arith) K′ i o
+      ∙ rows-keep v (omega arith) (nodeWidth (p .size) (nodeAt p v)) zero s (omega arith) (known-node v s K) i o
+
+  -- a node's atom is of the last sort
+  abbrev ofNode : Atom → Bool
+  ofNode x = eqb (sort x) (sort (holdsNode zero zero))
+
+  -- so two states that know all nodes and have left every other number are one
+  pub known-same : (s s′ s″ : State) → Knows p F (nodesFrom zero) s′ → Knows p F (nodesFrom zero) s″ → ((i : ℕ) → NoNode i → s′ i ≡ s i) → ((i : ℕ) → NoNode i → s″ i ≡ s i) → s′ ≡ s″
+  unfolding IsAtom isProofAtom sort
+  known-same s s′ s″ K K′ f g = fun-ext by-number
+    where
+      no-node : {a : Atom} {v row : ℕ} → a ≡ holdsNode v row → T (not (ofNode a)) → ⊥
+      no-node e t = subst (λ (x : Atom). T (not (ofNode x))) e t
+
+      by-atom : (i : ℕ) (a : Atom) → IsAtom p a → atomNumber p a ≡ i → ((v row : ℕ) → a ≡ holdsNode v row → ⊥) → s′ i ≡ s″ i
+      by-atom i a w e o = let n : NoNode i = λ v row b q. o v row (atom-injective p a (holdsNode v row) w b (e ∙ q)) in f i n ∙ sym (g i n)
+
+      by-kind : (i : ℕ) (a : Atom) → IsAtom p a → atomNumber p a ≡ i → s′ i ≡ s″ i
+      by-kind i (holdsNode v row) w e = subst (λ (n : ℕ). s′ n ≡ s″ n) e (K (holdsNode v row) w tt ∙ sym (K′ (holdsNode v row) w tt))
+      by-kind i guess w e = by-atom i guess w e (λ v row q. no-node q tt)
+      by-kind i proof w e = by-atom i proof w e (λ v row q. no-node q tt)
+      by-kind i goal w e = by-atom i goal w e (λ v row q. no-node q tt)
+      by-kind i (tuple r x) w e = by-atom i (tuple r x) w e (λ v row q. no-node q tt)
+      by-kind i (notTuple r x) w e = by-atom i (notTuple r x) w e (λ v row q. no-node q tt)
+      by-kind i (freeDomain r x) w e = by-atom i (freeDomain r x) w e (λ v row q. no-node q tt)
+      by-kind i (freeRange r x) w e = by-atom i (freeRange r x) w e (λ v row q. no-node q tt)
+
+      by-number : (i : ℕ) → s′ i ≡ s″ i
+      by-number i = ⊎-elim
+          (λ h. let a = atom-some p i h in by-kind i (a .0) (atom-is p i (a .0) (a .1)) (atom-number p i (a .0) (a .1)))
+          (λ h. let n : NoNode i = λ v row b q. omega (arith, atom-below p (holdsNode v row) b, q, h) in f i n ∙ sym (g i n))
+          (low-or-high i (atoms p))
+        where
+          low-or-high : (a b : ℕ) → (a < b) ⊎ (b ≤ a)
+          low-or-high a b = ⊎-elim (λ t. inl (ltb→lt a b t)) (λ t. inr (nltb→le a b t)) (T-dec (ltb a b))

@@ -50,10 +50,10 @@ saidBy site labels x = spelled site x (getD labels (2 * x) 0) (getD labels (2 * 
 -- there are words for n elements, and the spans lie in the text
 pub record Spans (site labels : List ℕ) (n : ℕ) : Type 0 where
   pub room : 2 * n ≤ length labels
-  pub in-text : (x : ℕ) → (getD labels (2 * x) 0 ≤ getD labels (2 * x + 1) 0) × (getD labels (2 * x + 1) 0 ≤ length site)
+  pub in-text : (x : ℕ) → x < n → (getD labels (2 * x) 0 ≤ getD labels (2 * x + 1) 0) × (getD labels (2 * x + 1) 0 ≤ length site)
 
 pub fewer : {site labels : List ℕ} {m n : ℕ} → Spans site labels n → m ≤ n → Spans site labels m
-fewer S h = record { room = omega (arith, S .room); in-text = S .in-text }
+fewer S h = record { room = omega (arith, S .room); in-text = λ x l. S .in-text x (omega arith) }
 
 -- an element as a field after another; several
 unfoldable pub element : List ℕ → List ℕ → ℕ → List ℕ
@@ -71,8 +71,8 @@ module _ (site labels : List ℕ) (x from to : ℕ) (a : from ≡ getD labels (2
   unfolding element saidBy
   its-element = rw (a, e)
 
-  pub its-span : (n : ℕ) → Spans site labels n → (from ≤ to) × (to ≤ length site)
-  its-span n S = rw (a, e) (S .in-text x)
+  pub its-span : (n : ℕ) → Spans site labels n → x < n → (from ≤ to) × (to ≤ length site)
+  its-span n S l = rw (a, e) (S .in-text x l)
 
   pub numbered : to ≡ 0 → element site labels x ≡ (9 ∷ []) ++ decimal x
   unfolding spelled

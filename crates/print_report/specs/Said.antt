@@ -25,7 +25,7 @@ module _ (site labels : List ℕ) (n : ℕ) (ls : List Label) (L : LabelsAre sit
       by-number x from (suc to) = refl
 
   pub spans : n ≤ 64 → Spans site labels n
-  spans h = record { room = omega (arith, L .room); in-text = L .in-text }
+  spans h = record { room = omega (arith, L .room); in-text = λ x l. L .in-text x (omega arith) }
 
 pub said-short : (n : ℕ) (ls : List Label) → LabelsFit n ls → (x : ℕ) → x < 16 → length (said ls x) ≤ 12
 unfolding said option

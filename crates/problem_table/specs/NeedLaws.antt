@@ -8,7 +8,7 @@ use native.Mathlib.Nat.{mul-le-mul}
 use native.Mathlib.Omega.{arith}
 use borrow.Author.Tests.{lt-ltb, le-ltb, ltb-true, ne-eqb}
 use lib.Dec.{ltb, eqb}
-use lib.ListN.{length, getD, take, set, length-map}
+use lib.ListN.{length, getD, take, length-map}
 use Rattle.definitions.specs.Lists.{if_then_else_, all, option, filter, from, below, last, before}
 use Rattle.definitions.specs.Problem.Atoms.{placesOf}
 use Rattle.definitions.specs.Problem.Actions.{Values, valuesIn, withValue}
@@ -16,7 +16,7 @@ use Rattle.laws.specs.Lists.{length-below, getD-below}
 use Rattle.laws.specs.Members.{before-least, before-below}
 use Rattle.laws.specs.SetRows.{row-below}
 use Rattle.rows.specs.Values.{valueIn, Most, Within}
-use Rattle.rows.specs.Laws.{value-zeros, set-value}
+use Rattle.rows.specs.Laws.{value-zeros}
 use Rattle.problem_table.specs.Lines.{relationPlace, nodePlace, partPlace, rangesPlace, sizeIn, relationLine, nodeLine, partLine, partNumber, partAt, membersIn, rangeIn, tableLength, NodeFits, RangeFits, PlacesFit, Fits}
 use Rattle.problem_table.specs.Numbers.{isWhole, setRow, pairRow, freeNumbers, setNeeds, rowValues, underAt, andNeeds, orNeeds, existsNeeds, ownBefore, forallNeeds, goalNeeds, needNumbers, ActFits}
 use Rattle.problem_table.specs.declared.RelationLine.{RelationLine}
@@ -224,9 +224,11 @@ module _ (s : ℕ → Bool) (n : ℕ) (t : List ℕ) (v : NodeLine) (row : ℕ) 
   unfolding orNeeds
   or-part i b q a = all-yes s 1 _ b q (a ∙ ap (λ (f : Values). s (partAt t f (v .first + i))) e ∙ all-one s (partAt t (rowValues n v row) (v .first + i)))
 
-  pub under-is : (x : ℕ) → v .level < length env → partAt t (valueIn (set env (v .level) x)) (v .first) ≡ underAt n t v row x
-  unfolding underAt
-  under-is x h = ap (λ (f : Values). partAt t f (v .first)) (set-value env (v .level) x h ∙ ap (λ (f : Values). withValue f (v .level) x) e)
+-- the part under a quantifier, where the values have its own level too
+pub under-with : (n : ℕ) (t : List ℕ) (v : NodeLine) (row x : ℕ) (env : List ℕ) → valueIn env ≡ withValue (valuesIn (take (v .width) (v .levels)) (placesOf n (v .width) row)) (v .level) x
+    → partAt t (valueIn env) (v .first) ≡ underAt n t v row x
+unfolding underAt rowValues
+under-with n t v row x env e = ap (λ (f : Values). partAt t f (v .first)) e
 
 module _ (s : ℕ → Bool) (n : ℕ) (t : List ℕ) (v : NodeLine) (row : ℕ) where
   pub and-no : s 1 ≡ false → false ≡ all s (andNeeds n t v row)

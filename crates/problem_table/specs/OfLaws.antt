@@ -126,7 +126,7 @@ module _ (p : Problem) (w : List ℕ) (is : Is p w) where
       ap₂ (λ (e : Values) (m : ℕ). partAt w (withValue e m y) (x .first)) (n .values row) (n .level ∙ l)
       ∙ one-part (withValue (valuesAt (p .size) u row) d y) (x .first) (suc v) t (subst (λ (j : ℕ). IsPart p (partLine w j) (suc v) t) (add-zero (x .first)) a)
 
-  under-at : (v : ℕ) (u : Tree) (x : NodeLine) → IsNode p w v u x → nodeKind u < 2 → (row y : ℕ) → underAt (p .size) w x row y ≡ atomNumber p (underAtom (p .size) (p .range) v u row y)
+  pub under-at : (v : ℕ) (u : Tree) (x : NodeLine) → IsNode p w v u x → nodeKind u < 2 → (row y : ℕ) → underAt (p .size) w x row y ≡ atomNumber p (underAtom (p .size) (p .range) v u row y)
   unfolding underAtom nodeKind nodeLevel parts
   under-at v (leaf q r ls) x n k row y = absurd (omega arith)
   under-at v (forallNode d σ t) x n k row y = under-with v d y t (forallNode d σ t) x row n refl refl

@@ -313,8 +313,7 @@ pub fn under_holds(
 {
     let levels = v.levels;
     let level = v.level;
-    let mut env = rows::values_of(n, levels, v.width, row);
-    env[level] = x;
+    let env = rows::values_with(n, levels, v.width, row, level, x);
     part_holds(state, table, v.first, env)
 }
 

@@ -10,7 +10,7 @@ ghost use Rattle.definitions.specs.Lists.{same, any as anyOf, position};
 ghost use Rattle.definitions.specs.Sheet.Relations.{numberOf, isDeclared};
 ghost use Rattle.definitions.specs.Sheet.Formula.{typeNumber};
 ghost use Rattle.read_text.specs.Spans.{placeOf};
-ghost use Rattle.read_names.specs.Signatures.{relationsFrom, typesIn, allOf, withArrays, lentOf, Lent, matches, hasArity, counted, HasArity, HasKind, HasFirsts, HasSeconds};
+ghost use Rattle.read_names.specs.Signatures.{relationsFrom, typesIn, allOf, withArrays, lentOf, Lent, matches, hasArity, counted};
 use read_text::Found;
 
 // How many relations a question declares at the most.
@@ -197,52 +197,4 @@ pub fn type_named(
         Found::At(i) => Found::At(i - DECLARED),
         Found::Nowhere => Found::Nowhere,
     }
-}
-
-// The arity of relation r.
-pub fn arity(g: Signature, r: usize) -> usize
-    requires { ⌜ (r < 5 + (g .rels + g .chosen)) × (g .rels + g .chosen ≤ 12) ⌝ }
-    ensures { λ k. ⌜ HasArity g r k ⌝ }
-{
-    if r < 5 {
-        return ARITIES[r];
-    }
-    let i = r - 5;
-    g.arity[i]
-}
-
-// The kind of relation r by its number; 0 is static.
-pub fn kind(g: Signature, r: usize) -> u32
-    requires { ⌜ (r < 5 + (g .rels + g .chosen)) × (g .rels + g .chosen ≤ 12) ⌝ }
-    ensures { λ k. ⌜ HasKind g r k ⌝ }
-{
-    if r < 5 {
-        return 0;
-    }
-    let i = r - 5;
-    g.kind[i]
-}
-
-// The sort of the first place of relation r; 0 where it is given no types.
-pub fn firsts(g: Signature, r: usize) -> u8
-    requires { ⌜ (r < 5 + (g .rels + g .chosen)) × (g .rels + g .chosen ≤ 12) ⌝ }
-    ensures { λ t. ⌜ HasFirsts g r t ⌝ }
-{
-    if r < 5 {
-        return 0;
-    }
-    let i = r - 5;
-    g.firsts[i]
-}
-
-// The same of the second place.
-pub fn seconds(g: Signature, r: usize) -> u8
-    requires { ⌜ (r < 5 + (g .rels + g .chosen)) × (g .rels + g .chosen ≤ 12) ⌝ }
-    ensures { λ t. ⌜ HasSeconds g r t ⌝ }
-{
-    if r < 5 {
-        return 0;
-    }
-    let i = r - 5;
-    g.seconds[i]
 }

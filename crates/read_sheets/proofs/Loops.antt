@@ -54,7 +54,8 @@ unfolding D.nameOf spanned
 none-labelled s words z = record {
   room = z .room;
   says = λ x. ap (spanned s (getD words (2 * x) 0)) (sym (z .zeros (2 * x + 1)));
-  in-text = λ x. rw (z .zeros (2 * x), z .zeros (2 * x + 1)) (omega arith, omega arith);
+  in-text = λ x _. rw (z .zeros (2 * x), z .zeros (2 * x + 1)) (omega arith, omega arith);
+  past = λ x _. z .zeros (2 * x + 1);
   fit = no-labels 0;
 }
 
@@ -315,8 +316,8 @@ unfolding bit
 zeros-clear k = fun-ext (λ i. ap (λ (w : ℕ). digit w (i % 64)) (zeros-at k (i / 64)) ∙ digit-of-zero (i % 64))
 
 -- words for labels, as they are lent
-pub no-label-words : NoLabels (replicate 128 0)
-no-label-words = record { room = refl; zeros = zeros-at 128 }
+pub no-label-words : NoLabels (replicate 384 0)
+no-label-words = record { room = refl; zeros = zeros-at 384 }
 
 pub no-member-words : NoMembers (replicate 8 0)
 no-member-words = record { room = refl; none-set = zeros-clear 8 }

@@ -119,6 +119,7 @@ labels-more s words n m ls K h = record {
   room = K .room;
   says = K .says;
   in-text = K .in-text;
+  past = K .past;
   fit = record { small = λ l i. omega (arith, K .fit .small l i, h); formed = K .fit .formed; one = K .fit .one };
 }
 

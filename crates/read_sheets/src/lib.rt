@@ -36,8 +36,8 @@ pub const MANY: usize = 9362;
 pub const LONG: usize = 7 * MANY;
 
 // How many numbers hold the labels of a site's elements: two for each of 64, the span of its label in the site's text, both 0 where
-// it has none.
-pub const LABELS: usize = 128;
+// it has none; and 256 for hints where a name stands.
+pub const LABELS: usize = 384;
 
 // A site's size, a count of picks or of steps; or a refusal's number and place.
 pub enum Answer {

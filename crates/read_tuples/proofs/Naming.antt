@@ -24,7 +24,7 @@ use Rattle.read_line.specs.Entries.{Fielded, codesOf, elementBy, elementsBy, li
 use Rattle.read_line.specs.declared.Places.{Places}
 use Rattle.read_line.specs.declared.Places.the-variants.{Unread, One, Two, Three}
 use Rattle.read_text.specs.Spans.{indexOf}
-use Rattle.read_text.proofs.Laws.{pieces-at, pieces-whole, split-some}
+use Rattle.read_text.proofs.Laws.{in-text, span-at, pieces-at, pieces-whole, split-some}
 use Rattle.read_tuples.specs.Labels.{spanned, LabelsAre, meant, values, isNumber, LabelAdds, LabelAdded}
 use Rattle.read_tuples.specs.Marks.{areBelow}
 
@@ -66,6 +66,15 @@ module _ (site words name : List ℕ) where
       where
         clash : {c : Bool} → c ≡ true → c ≡ false → ⊥
         clash p q = let z : _≡_ {A = ℕ} 0 1 = cc in omega arith
+
+-- two spans of which one byte differs are not the same
+pub other-byte : (s : List ℕ) (a e : ℕ) (t : List ℕ) (b f i : ℕ) → i < length (slice a e s) → i < length (slice b f t) → (getD s (a + i) 0 ≡ getD t (b + i) 0 → ⊥) → false ≡ same (slice a e s) (slice b f t)
+other-byte s a e t b f i h k n = by-test (same (slice a e s) (slice b f t)) refl
+  where
+    by-test : (c : Bool) → same (slice a e s) (slice b f t) ≡ c → false ≡ c
+    by-test true q =
+        absurd (n (sym (span-at a e s i (in-text a e s i h .0)) ∙ ap (λ (w : List ℕ). getD w i 0) (same-eq (slice a e s) (slice b f t) (T-of q)) ∙ span-at b f t i (in-text b f t i k .0)))
+    by-test false q = refl
 
 -- ---- the labels that the words say
 
@@ -490,7 +499,8 @@ module _ (site words : List ℕ) (n : ℕ) (ls : List D.Label) (L : LabelsAre si
   label-words = record {
     room = length-set (set words (2 * x) a) (2 * x + 1) e ∙ length-set words (2 * x) a ∙ L .room;
     says = λ y. names y (ℕ-discrete y x);
-    in-text = λ y. spans y (ℕ-discrete y x);
+    in-text = λ y j. spans y j (ℕ-discrete y x);
+    past = λ y j. still (2 * y + 1) (λ r. omega (arith, r)) (λ r. omega (arith, r)) ∙ L .past y j;
     fit = record {
       small = mem-snoc (λ (l : D.Label). l .element < n) ls l (L .fit .small) h;
       formed = mem-snoc (λ (l : D.Label). T (isRelationName (l .name))) ls l (L .fit .formed) formed;
@@ -508,9 +518,9 @@ module _ (site words : List ℕ) (n : ℕ) (ls : List D.Label) (L : LabelsAre si
       names y (yes q) = subst (λ (z : ℕ). D.nameOf (ls ++ (l ∷ [])) z ≡ spanned site (getD next (2 * z) 0) (getD next (2 * z + 1) 0)) (sym q) (own-name ls l nameless ∙ sym (is-span site a e (slice a e site) (not-empty .0) refl) ∙ sym (ap₂ (spanned site) its-from its-to))
       names y (no q) = other-name ls l y q ∙ L .says y ∙ sym (ap₂ (spanned site) (still (2 * y) (λ r. q (omega (arith, r))) (λ r. omega (arith, r))) (still (2 * y + 1) (λ r. omega (arith, r)) (λ r. q (omega (arith, r)))))
 
-      spans : (y : ℕ) → Dec (y ≡ x) → (getD next (2 * y) 0 ≤ getD next (2 * y + 1) 0) × (getD next (2 * y + 1) 0 ≤ length site)
-      spans y (yes q) = subst (λ (z : ℕ). (getD next (2 * z) 0 ≤ getD next (2 * z + 1) 0) × (getD next (2 * z + 1) 0 ≤ length site)) (sym q) (rw (its-from, its-to) (not-empty .1, in-site))
-      spans y (no q) = rw (still (2 * y) (λ r. q (omega (arith, r))) (λ r. omega (arith, r)), still (2 * y + 1) (λ r. omega (arith, r)) (λ r. q (omega (arith, r)))) (L .in-text y)
+      spans : (y : ℕ) → y < 64 → Dec (y ≡ x) → (getD next (2 * y) 0 ≤ getD next (2 * y + 1) 0) × (getD next (2 * y + 1) 0 ≤ length site)
+      spans y j (yes q) = subst (λ (z : ℕ). (getD next (2 * z) 0 ≤ getD next (2 * z + 1) 0) × (getD next (2 * z + 1) 0 ≤ length site)) (sym q) (rw (its-from, its-to) (not-empty .1, in-site))
+      spans y j (no q) = rw (still (2 * y) (λ r. q (omega (arith, r))) (λ r. omega (arith, r)), still (2 * y + 1) (λ r. omega (arith, r)) (λ r. q (omega (arith, r)))) (L .in-text y j)
 
 pub label-new : (site : List ℕ) (n : ℕ) (w : List ℕ) (x a e : ℕ) (old : List ℕ) → (x ≡ 10000000 → ⊥) → x < n → n ≤ 64 → e ≤ length site → isRelationName (slice a e site) ≡ true → getD old (2 * x + 1) 0 ≡ 0
     → ((ls : List D.Label) → LabelsAre site old n ls → n ≤ meant n (D.elementNamed ls (slice a e site)))
@@ -527,3 +537,40 @@ label-new site n w x a e old d h few in-site formed k u ls at L =
     by-option : (o : Option ℕ) → D.elementNamed ls (slice a e site) ≡ o → n ≤ option o n (λ x. x) → D.elementNamed ls (slice a e site) ≡ none
     by-option none q l = q
     by-option (some y) q l = let (j, m, p, r) = element-at ls (slice a e site) y q in absurd (omega (arith, L .fit .small j m, p))
+
+-- ---- a hint: no span changes
+module _ (site words : List ℕ) (n : ℕ) (ls : List D.Label) (L : LabelsAre site words n ls) (p x : ℕ) where
+  abbrev hinted : List ℕ
+  hinted = set words (128 + 2 * p) x
+
+  before-hints : (j : ℕ) → j < 128 → getD hinted j 0 ≡ getD words j 0
+  before-hints j l = getD-set-other words (128 + 2 * p) j x 0 (λ q. omega (arith, q))
+
+  beside-hints : (y : ℕ) → getD hinted (2 * y + 1) 0 ≡ getD words (2 * y + 1) 0
+  beside-hints y = getD-set-other words (128 + 2 * p) (2 * y + 1) x 0 (λ q. omega (arith, q))
+
+  -- where a span ends at 0 its start does not matter
+  no-span : (s : List ℕ) (a b e : ℕ) → e ≡ 0 → spanned s a e ≡ spanned s b e
+  unfolding spanned
+  no-span s a b zero q = refl
+  no-span s a b (suc e) q = absurd (omega arith)
+
+  pub hint-kept : LabelsAre site hinted n ls
+  hint-kept = record {
+    room = length-set words (128 + 2 * p) x ∙ L .room;
+    says = λ y. L .says y ∙ span y (decLt y 64);
+    in-text = λ y l. rw (before-hints (2 * y) (omega arith), beside-hints y) (L .in-text y l);
+    past = λ y l. beside-hints y ∙ L .past y l;
+    fit = L .fit;
+  }
+    where
+      span : (y : ℕ) → Dec (y < 64) → spanned site (getD words (2 * y) 0) (getD words (2 * y + 1) 0) ≡ spanned site (getD hinted (2 * y) 0) (getD hinted (2 * y + 1) 0)
+      span y (yes l) = sym (ap₂ (spanned site) (before-hints (2 * y) (omega arith)) (beside-hints y))
+      span y (no l) = no-span site (getD words (2 * y) 0) (getD hinted (2 * y) 0) (getD words (2 * y + 1) 0) (L .past y (omega arith)) ∙ ap (spanned site (getD hinted (2 * y) 0)) (sym (beside-hints y))
+
+pub added-hinted : (site : List ℕ) (n : ℕ) (e : D.Element) (name old mid new : List ℕ) (x : ℕ) → LabelAdded site n e name old mid 0
+    → ((p : ℕ) × (p < 128) × (new ≡ set mid (128 + 2 * p) x)) → LabelAdded site n e name old new 0
+unfolding LabelAdded LabelAdds
+added-hinted site n e name old mid new x A (p, l, q) ls at L =
+    let (k, r, M) = A ls at L in
+    (k, r, subst (λ (w : List ℕ). LabelsAre site w n (ls ++ (k ∷ []))) (sym q) (hint-kept site mid n (ls ++ (k ∷ [])) M p x))

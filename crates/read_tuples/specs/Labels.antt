@@ -1,5 +1,6 @@
--- The labels of a site's elements as numbers: two for each of 64 elements, the span of its label in the site's text.
-use Prim.Native.Nat.{ℕ, zero, suc, _+_, _*_, _≤_}
+-- The labels of a site's elements as numbers: two for each of 64 elements, the span of its label in the site's text. Of the 256 after
+-- them every second one is a hint, some element or 0, of which nothing is promised; the others are 0, so that nobody has a label there.
+use Prim.Native.Nat.{ℕ, zero, suc, _+_, _*_, _≤_, _<_}
 use mathlib.Core.Path.{_≡_}
 use mathlib.Core.Bool.{Bool, not}
 use mathlib.Core.List.{List, [], _∷_, _++_, map}
@@ -19,14 +20,15 @@ spanned site a (suc e) = some (slice a (suc e) site)
 
 -- the words say these labels of n elements
 pub record LabelsAre (site words : List ℕ) (n : ℕ) (ls : List Label) : Type 0 where
-  pub room : length words ≡ 128
+  pub room : length words ≡ 384
   pub says : (x : ℕ) → nameOf ls x ≡ spanned site (getD words (2 * x) 0) (getD words (2 * x + 1) 0)
-  pub in-text : (x : ℕ) → (getD words (2 * x) 0 ≤ getD words (2 * x + 1) 0) × (getD words (2 * x + 1) 0 ≤ length site)
+  pub in-text : (x : ℕ) → x < 64 → (getD words (2 * x) 0 ≤ getD words (2 * x + 1) 0) × (getD words (2 * x + 1) 0 ≤ length site)
+  pub past : (x : ℕ) → 64 ≤ x → getD words (2 * x + 1) 0 ≡ 0
   pub fit : LabelsFit n ls
 
 -- words that say none, before a site is read
 pub record NoLabels (words : List ℕ) : Type 0 where
-  pub room : length words ≡ 128
+  pub room : length words ≡ 384
   pub zeros : (i : ℕ) → getD words i 0 ≡ 0
 
 -- an element, or n where there is none; what fields mean so

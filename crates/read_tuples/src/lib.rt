@@ -4,9 +4,9 @@ ghost use mathlib.Core.Path.{_≡_};
 ghost use mathlib.Core.List.{List, _∷_, [], _++_};
 ghost use mathlib.Core.Bool.{true};
 ghost use Prim.Native.Nat.{ℕ, _+_, _-_, _*_, _^_, _≤_, _<_};
-ghost use lib.ListN.{length, getD};
+ghost use lib.ListN.{length, getD, set};
 ghost use lib.Seq.{slice};
-ghost use Rattle.definitions.specs.Lists.{all};
+ghost use Rattle.definitions.specs.Lists.{all, same as «sameText»};
 ghost use Rattle.definitions.specs.Sheet.Text.{isRelationName};
 ghost use Rattle.definitions.specs.Sheet.Sheets.{Label, elementNamed, elementOf, isInRange};
 ghost use Rattle.read_line.specs.Entries.{Fielded, codesOf, elementBy, elementsBy, listOf};
@@ -24,9 +24,96 @@ enum Mark {
     Fault(u32),
 }
 
+// A number below 128 for the name from a to e of s.
+fn slot(s: &[u8], a: usize, e: usize) -> usize
+    ensures { λ r. ⌜ r < 128 ⌝ }
+{
+    let count = read_text::span_length(s, a, e);
+    let mut h: usize = 0;
+    let mut i: usize = 0;
+    while i < count {
+        h = (h * 33 + wide(s[a + i])) % 1048576;
+        i += 1;
+    }
+    h * 40503 / 512 % 128
+}
+
+fn wide(b: u8) -> usize
+    ensures { λ r. ⌜ r < 256 ⌝ }
+{
+    b as usize
+}
+
+// Whether x is an element whose label is the name from a to e of s.
+fn has_name(s: &[u8], a: usize, e: usize, n: usize, site: &[u8], labels: &[usize], x: usize) -> bool
+    requires { ⌜ (n ≤ 64) × (length (now labels) ≡ 384) ⌝ }
+    ensures { λ r. ⌜ (r ≡ true → (ls : List Label) → LabelsAre (now (site .entry)) (now (labels .entry)) n ls → x ≡ meant n (elementNamed ls (slice a e (now (s .entry))))) ⌝ }
+{
+    if x < n {
+        let to = labels[2 * x + 1];
+        if 0 < to {
+            return read_text::same_span(site, labels[2 * x], to, s, a, e);
+        }
+    }
+    false
+}
+
 // The element whose label is the name from a to e of s, or n. The spans of `labels` are those of the labels of 64 elements in the
-// site's text, two numbers an element, both 0 where it has none.
+// site's text, two numbers an element, both 0 where it has none. What a hint says is tested, and behind the hints stands `scan`.
 fn element_named(s: &[u8], a: usize, e: usize, n: usize, site: &[u8], labels: &[usize]) -> usize
+    requires { ⌜ (n ≤ 64) × ((ls : List Label) × LabelsAre (now site) (now labels) n ls) ⌝ }
+    ensures { λ r. ⌜ ((ls : List Label) → LabelsAre (now (site .entry)) (now (labels .entry)) n ls → r ≡ meant n (elementNamed ls (slice a e (now (s .entry))))) ⌝ }
+{
+    let first = slot(s, a, e);
+    let mut k: usize = 0;
+    while k < 8 {
+        let x = labels[128 + 2 * ((first + k) % 128)];
+        if has_name(s, a, e, n, site, labels, x) {
+            return x;
+        }
+        k += 1;
+    }
+    scan(s, a, e, n, site, labels)
+}
+
+// Of eight slots from `first` on the first that holds no hint, or the last.
+fn free_slot(labels: &[usize], first: usize) -> usize
+    requires { ⌜ (length (now labels) ≡ 384) × (first < 128) ⌝ }
+    ensures { λ r. ⌜ r < 128 ⌝ }
+{
+    let mut k: usize = 0;
+    while k < 7 {
+        if labels[128 + 2 * ((first + k) % 128)] == 0 {
+            return (first + k) % 128;
+        }
+        k += 1;
+    }
+    (first + 7) % 128
+}
+
+// A hint where element x stands, whose name has the slot `first`. (The hint 0 is none; `scan` begins with element 0.)
+fn hint(labels: &mut [usize], first: usize, x: usize)
+    requires { ⌜ (length (now labels) ≡ 384) × (first < 128) ⌝ }
+    ensures { λ u. ⌜ ((p : ℕ) × (p < 128) × (now (labels .exit) ≡ set (now (labels .entry)) (128 + 2 * p) x)) ⌝ }
+{
+    let p = free_slot(labels, first);
+    labels[128 + 2 * p] = x;
+}
+
+// Two spans of `count` bytes hold the same ones. Labels often begin alike, so the last byte is looked at first.
+fn alike(site: &[u8], from: usize, to: usize, s: &[u8], a: usize, e: usize, count: usize) -> bool
+    requires { ⌜ (0 < count) × (count ≡ length (slice from to (now site))) × (count ≡ length (slice a e (now s))) ⌝ }
+    ensures { λ r. ⌜ r ≡ «sameText» (slice from to (now (site .entry))) (slice a e (now (s .entry))) ⌝ }
+{
+    let last = count - 1;
+    if site[from + last] != s[a + last] {
+        return false;
+    }
+    read_text::same_span(site, from, to, s, a, e)
+}
+
+// The same, by going through the elements.
+fn scan(s: &[u8], a: usize, e: usize, n: usize, site: &[u8], labels: &[usize]) -> usize
     requires { ⌜ (n ≤ 64) × ((ls : List Label) × LabelsAre (now site) (now labels) n ls) ⌝ }
     ensures { λ r. ⌜ ((ls : List Label) → LabelsAre (now (site .entry)) (now (labels .entry)) n ls → r ≡ meant n (elementNamed ls (slice a e (now (s .entry))))) ⌝ }
 {
@@ -39,7 +126,7 @@ fn element_named(s: &[u8], a: usize, e: usize, n: usize, site: &[u8], labels: &[
         let from = labels[2 * x];
         let to = labels[2 * x + 1];
         if to - from == wanted {
-            if read_text::same_span(site, from, to, s, a, e) {
+            if alike(site, from, to, s, a, e, wanted) {
                 return x;
             }
         }
@@ -361,6 +448,8 @@ pub fn label(s: &[u8], k: u32, a: usize, t: usize, e: usize, n: usize, labels: &
     }
     labels[2 * x] = t + 1;
     labels[2 * x + 1] = e;
+    let first = slot(s, t + 1, e);
+    hint(labels, first, x);
     0
 }
 

@@ -4,7 +4,7 @@ ghost use mathlib.Core.List.{map};
 ghost use Prim.Native.Nat.{ℕ, _+_, _*_, _^_, _<_, _≤_};
 ghost use lib.ListN.{take, getD, length};
 ghost use Rattle.definitions.specs.Problem.Atoms.{placesOf};
-ghost use Rattle.definitions.specs.Problem.Actions.{valuesIn};
+ghost use Rattle.definitions.specs.Problem.Actions.{valuesIn, withValue};
 ghost use Rattle.rule_nodes.specs.Tables.{Levels};
 ghost use Rattle.rows.specs.Values.{valueIn, Within, Most, weightOf};
 
@@ -36,6 +36,32 @@ pub fn values_of(n: usize, levels: [usize; 4], width: usize, row: usize) -> [usi
         out[levels[i]] = rest % n;
         rest = rest / n;
     }
+    out
+}
+
+// The same with x at one level. (Written here and not by the caller: an array that was written by numbers and is then copied whole stalls
+// the processor.)
+pub fn values_with(
+    n: usize,
+    levels: [usize; 4],
+    width: usize,
+    row: usize,
+    level: usize,
+    x: usize,
+) -> [usize; 4]
+    requires { ⌜ (0 < n) × (width ≤ 4) × (level < 4) × (x < n) ⌝ }
+    requires { ⌜ Levels levels ⌝ }
+    ensures { λ r. ⌜ (valueIn r ≡ withValue (valuesIn (take width levels) (placesOf n width row)) level x) × Within n r ⌝ }
+{
+    let mut out = [0usize; 4];
+    let mut rest = row;
+    let mut i = width;
+    while 0 < i {
+        i -= 1;
+        out[levels[i]] = rest % n;
+        rest = rest / n;
+    }
+    out[level] = x;
     out
 }
 

@@ -61,7 +61,7 @@ module _ (c : Case) (A : Accepted c) (F : List Tuple) (picks : arePicks c F ≡ 
   front = setSteps (problemOf c) F ++ (beginProof ∷ provedSteps (problemOf c) s₂ (length (problemOf c .nodeList)))
 
   -- each pick has a set action, since it is of its kind
-  settable : (r row : ℕ) → r < length (problemOf c .relations) → T (isChosen (relationAt (problemOf c) r .kind)) → row < tuplesOf (problemOf c .size) (relationAt (problemOf c) r) → T (isPicked (problemOf c) F r row)
+  pub settable : (r row : ℕ) → r < length (problemOf c .relations) → T (isChosen (relationAt (problemOf c) r .kind)) → row < tuplesOf (problemOf c .size) (relationAt (problemOf c) r) → T (isPicked (problemOf c) F r row)
       → IsAction (problemOf c) (set r row)
   unfolding isPicked IsPair
   settable r row l t h m = pair-action (problemOf c) (good c A) F (tested-kinds c A F (picks-inside c A F (T-of picks)) (T-of kinds)) (r, row) (l, t, h) (among-mem _ F m)

@@ -6,9 +6,10 @@
 --   Answers      what building gives, in the words of the definitions
 --   BuiltLaws    so the state, the steps and the count are theirs
 --   EndLaws      the way from part to part, and what is lent out, as the code has it
---   BuildLaws    what `build` finds, as what the definitions give
---   Starts       the initial state, and what is built from it
---   Twice        the way followed twice, first with no steps lent, gives the same
+--   BuildLaws    what the test of the kinds found, as what the definitions give
+--   Starts       what is asked of a case and its picks
+--   Lending      the way followed in what is lent
+--   Holding      whether the rule is true of the picks
 pub mod Setting
 pub mod SetLaws
 pub mod Following
@@ -18,4 +19,5 @@ pub mod BuiltLaws
 pub mod EndLaws
 pub mod BuildLaws
 pub mod Starts
-pub mod Twice
+pub mod Lending
+pub mod Holding

@@ -1,22 +1,20 @@
 -- Building from the initial state: what is asked of a case and its picks, and what is given then.
 use Prim.Native.Nat.{ℕ, _+_, _/_, _^_, _≤_}
 use native.Mathlib.Omega.{arith}
-use mathlib.Core.Path.{_≡_, sym, ap, subst, _∙_}
+use mathlib.Core.Path.{_≡_, sym, subst, _∙_}
 use mathlib.Core.Bool.{true}
 use mathlib.Core.List.{List, _++_}
 use lib.ListN.{length, take, drop, length-take}
-use lib.Seq.{take-append-seam, length-front}
+use lib.Seq.{length-front}
 use Rattle.definitions.specs.Sheet.Relations.{Tuple}
 use Rattle.definitions.specs.Problem.Truth.{Case, arePicks}
-use Rattle.definitions.specs.Problem.Atoms.{problemOf, initial, atoms, wordsFor}
+use Rattle.definitions.specs.Problem.Atoms.{problemOf, atoms, wordsFor}
 use Rattle.definitions.specs.Problem.Actions.{actions}
 use Rattle.definitions.specs.Problem.Built.{bound}
-use Rattle.definitions.specs.Reply.Outcome.{stateLength}
 use Rattle.laws.specs.Reader.{Accepted}
-use Rattle.bits.specs.Table.{bit}
 use Rattle.problem_table.specs.Of.{Is}
 use Rattle.step_start.specs.Rows.{atomsIn}
-use Rattle.step_start.specs.Initial.{FactsIn, Begun}
+use Rattle.step_start.specs.Initial.{FactsIn}
 use Rattle.step_picks.specs.Words.{PicksAre}
 
 -- a table, the facts, the picks and room for the steps are those of a case and of picks of it
@@ -34,14 +32,6 @@ pub record Prepared (c : Case) (F : List Tuple) (table facts words : List ℕ) (
 pub words-enough : (w : List ℕ) (count k : ℕ) → atomsIn w ≡ count → (count + 63) / 64 ≡ k → wordsFor (atomsIn w) ≤ k
 unfolding wordsFor
 words-enough w count k e q = subst (λ (x : ℕ). (x + 63) / 64 ≤ k) (sym e) (omega arith)
-
--- the words lent for it are just those that are needed: exactly the initial atoms are set in them
-pub started : (c : Case) (F : List Tuple) (table facts words : List ℕ) (count room : ℕ) → Prepared c F table facts words count room → atomsIn table ≡ count
-    → (old new rest : List ℕ) → Begun table facts old new → length old ≡ (count + 63) / 64 → length new ≡ (count + 63) / 64 → bit (take ((count + 63) / 64) (new ++ rest)) ≡ initial (problemOf c)
-unfolding Begun stateLength wordsFor
-started c F table facts words count room G e old new rest begun lo ln =
-    ap bit (ap (λ (k : ℕ). take k (new ++ rest)) (sym ln) ∙ take-append-seam new rest)
-    ∙ begun (problemOf c) (G .is) (e ∙ G .atoms-are) (G .facts-in) .exact (lo ∙ ap (λ (k : ℕ). (k + 63) / 64) (G .atoms-are))
 
 -- a table whose front was lent and came back is as long as before
 pub front-fits : (k : ℕ) (t new : List ℕ) → length new ≡ length (take k t) → k ≤ length t → k ≤ length (new ++ drop k t)

@@ -80,7 +80,7 @@ module _ (p : Problem) where
   rows-follow v zero j o = refl
   rows-follow v (suc k) j o = row-follow v j k o (stepNow p (o .state) v (nodeAt p v) j) (λ o′. rows-follow v k (suc j) o′)
 
-  nodes-follow : (v : ℕ) (o : Out) → provedNodes p o v ≡ follow p o (provedSteps p (o .state) v)
+  pub nodes-follow : (v : ℕ) (o : Out) → provedNodes p o v ≡ follow p o (provedSteps p (o .state) v)
   unfolding provedNodes provedSteps follow
   nodes-follow zero o = refl
   nodes-follow (suc v) o =

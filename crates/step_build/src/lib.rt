@@ -1,30 +1,28 @@
 // Steps built from picks: 16 where the picks are not of the declared kinds, 17 where the rule is false of them; else the picks are
-// set in the order of the atoms, the proof begins, every true node atom is proved, and the goal is. All is decided before anything
-// lent is written.
+// set in the order of the atoms, the proof begins, every true node atom is proved, and the goal is. Truth is decided by words in a
+// scratch state before anything lent is written.
 ghost use mathlib.Core.Path.{_≡_};
 ghost use mathlib.Core.Bool.{true, false};
 ghost use Prim.Native.Nat.{ℕ, _+_, _/_, _^_, _<_, _≤_, _*_};
 ghost use mathlib.Core.Option.{none};
 ghost use mathlib.Core.List.{List};
-ghost use lib.ListN.{length, take};
+ghost use lib.ListN.{length};
 ghost use Rattle.definitions.specs.Sheet.Relations.{Tuple};
-ghost use Rattle.definitions.specs.Problem.Truth.{Case, arePicks, firstOfOtherKind};
-ghost use Rattle.definitions.specs.Problem.Atoms.{Problem, problemOf, initial as «initial-of», atoms as «atoms-of», relationAt};
-ghost use Rattle.definitions.specs.Problem.Actions.{set, setsOf, actions, actionNumber};
-ghost use Rattle.definitions.specs.Problem.Built.{bound};
-ghost use Rattle.definitions.specs.Reply.Outcome.{written};
-ghost use Rattle.laws.specs.Reader.{Accepted};
+ghost use Rattle.definitions.specs.Problem.Truth.{Case, firstOfOtherKind};
+ghost use Rattle.definitions.specs.Problem.Atoms.{Problem, problemOf, initial as «initial-of», relationAt};
+ghost use Rattle.definitions.specs.Problem.Actions.{set, setsOf, actionNumber};
 ghost use Rattle.laws.specs.Numbers.{IsAction};
 ghost use Rattle.bits.specs.Table.{bit};
 ghost use Rattle.problem_table.specs.Lines.{Fits, PlacesFit, relationLine};
 ghost use Rattle.problem_table.specs.Numbers.{isWhole, setRow as «row-of»};
-ghost use Rattle.problem_table.specs.Of.{Is};
 ghost use Rattle.step_start.specs.Rows.{atomsIn};
-ghost use Rattle.step_picks.specs.Words.{rowsIn, PicksAre};
+ghost use Rattle.step_picks.specs.Words.{rowsIn};
 ghost use Rattle.step_prove.specs.Following.{ReadyToFollow, out};
 ghost use Rattle.step_build.specs.Following.{Follows};
-ghost use Rattle.step_build.specs.Answers.{Gives, Asked};
+ghost use Rattle.step_build.specs.Answers.{Gives};
 ghost use Rattle.step_build.specs.Starts.{Prepared};
+ghost use Rattle.step_build.specs.Holding.{Holds, Ends};
+ghost use Rattle.meaning.specs.Means.{Good};
 ghost use Rattle.step_build.specs.Setting.{setRow, setRows, setRelation, setRelations, setCount};
 
 // A tuple is set by the action of this number, if it is picked.
@@ -163,37 +161,28 @@ pub fn set_picks(state: &mut [u64], steps: &mut [u32], table: &[usize], picks: &
     k
 }
 
-// Most problems are small: FEW words hold a state of SMALL atoms, and built steps are fewer than atoms. For them no large buffer is
-// cleared.
+// The words of a state at the most, those of 1,048,576 atoms; and of those that most problems have, for which no large buffer is cleared.
 const FEW: usize = 16;
 
 const SMALL: usize = 64 * FEW;
 
-// Up to LARGE atoms, of which WORDS words hold a state, the steps are kept until the rule is known to be true.
 const WORDS: usize = 1024;
 
 const LARGE: usize = 65536;
 
-// The words of a state at the most: those of 1,048,576 atoms.
 const MOST: usize = 16384;
 
-// Whether the goal was proved, and how many steps were taken.
-pub struct Followed {
-    pub holds: bool,
-    pub count: usize,
-}
-
-// The built steps are taken in the state, and written, up to the goal if it may be proved.
+// The built steps are taken in the state, and written; `told` knows the truth of all nodes, and becomes the state before the goal.
 fn follow(
+    told: &[u64],
     state: &mut [u64],
     steps: &mut [u32],
     table: &[usize],
-    atoms: usize,
     picks: &[u64],
-) -> Followed
-    requires { ⌜ Fits (now table) × (atoms ≤ 2 ^ 32) ⌝ }
-    ensures { λ r. ⌜ ((p : Problem) → ReadyToFollow p (now (table .entry)) (length (now (state .entry))) → atoms ≡ «atoms-of» p
-        → Follows p (rowsIn p (now (picks .entry))) (out (bit (now (state .entry))) (now (steps .entry)) 0) (out (bit (now (state .exit))) (now (steps .exit)) (r .count)) (r .holds)) ⌝ }
+) -> usize
+    requires { ⌜ Fits (now table) × (length (now told) ≡ length (now state)) ⌝ }
+    ensures { λ r. ⌜ ((p : Problem) (G : Good p) (F : List Tuple) → ReadyToFollow p (now (table .entry)) (length (now (state .entry))) → Ends p G F (now (table .entry)) (rowsIn p (now (picks .entry))) (bit (now (told .entry))) (out (bit (now (state .entry))) (now (steps .entry)) 0)
+        → Follows p (rowsIn p (now (picks .entry))) (out (bit (now (state .entry))) (now (steps .entry)) 0) (out (bit (now (state .exit))) (now (steps .exit)) r) true) ⌝ }
 {
     let relations = table[1];
     let nodes = table[2];
@@ -208,39 +197,35 @@ fn follow(
         problem_table::Act::Begin,
         first.sets,
     );
-    let proved = step_prove::prove_nodes(state, steps, begun, table, atoms);
-    if problem_table::may_take(state, table, problem_table::Act::Goal) {
-        let count = step_prove::step(
-            state,
-            steps,
-            proved,
-            table,
-            problem_table::Act::Goal,
-            last.acts,
-        );
-        return Followed { holds: true, count };
-    }
-    Followed {
-        holds: false,
-        count: proved,
-    }
+    let proved = step_write::write_nodes(told, steps, begun, table, nodes);
+    let words = told.len();
+    problem_table::copy(state, told, words);
+    step_prove::step(
+        state,
+        steps,
+        proved,
+        table,
+        problem_table::Act::Goal,
+        last.acts,
+    )
 }
 
-// The first k steps of src become those of dst, where both have as many.
-fn copy_steps(dst: &mut [u32], src: &[u32], k: usize)
-    ensures { λ r. ⌜ (k ≤ length (now (dst .entry)) → k ≤ length (now (src .entry)) → now (dst .exit) ≡ written (take k (now (src .entry))) (now (dst .entry))) ⌝ }
+// The same from the initial state on.
+fn start_and_follow(
+    told: &[u64],
+    state: &mut [u64],
+    steps: &mut [u32],
+    table: &[usize],
+    facts: &[u64],
+    atoms: usize,
+    picks: &[u64],
+) -> usize
+    requires { ⌜ Fits (now table) × (atomsIn (now table) ≡ atoms) × (length (now state) ≡ (atoms + 63) / 64) × (length (now told) ≡ (atoms + 63) / 64) ⌝ }
+    ensures { λ r. ⌜ ((c : Case) (F : List Tuple) (room : ℕ) (P : Prepared c F (now (table .entry)) (now (facts .entry)) (now (picks .entry)) atoms room) → none ≡ firstOfOtherKind c F → Holds c F (P .case) true (bit (now (told .entry)))
+        → Follows (problemOf c) (rowsIn (problemOf c) (now (picks .entry))) (out («initial-of» (problemOf c)) (now (steps .entry)) 0) (out (bit (now (state .exit))) (now (steps .exit)) r) true) ⌝ }
 {
-    if dst.len() < k {
-        return;
-    }
-    if src.len() < k {
-        return;
-    }
-    let mut i: usize = 0;
-    while i < k {
-        dst[i] = src[i];
-        i += 1;
-    }
+    step_start::initial_state(table, facts, state);
+    follow(told, state, steps, table, picks)
 }
 
 // What building gives: how many steps, the index of the first `choose` of which the picks are not, or that the rule is false.
@@ -250,99 +235,64 @@ pub enum PlanAnswer {
     RuleFalse,
 }
 
-// Steps from picks of the declared kinds. They are taken in a scratch copy of the state and written to `made`; if the goal was proved,
-// both are copied to what is lent.
+// Whether the rule is true of picks of the declared kinds: they are set in the initial state, the proof begins, and the atoms of all
+// nodes are filled in.
+fn rule_holds(left: &mut [u64], table: &[usize], facts: &[u64], atoms: usize, picks: &[u64]) -> bool
+    requires { ⌜ Fits (now table) × (atomsIn (now table) ≡ atoms) × (length (now left) ≡ (atoms + 63) / 64) ⌝ }
+    ensures { λ r. ⌜ ((c : Case) (F : List Tuple) (room : ℕ) (P : Prepared c F (now (table .entry)) (now (facts .entry)) (now (picks .entry)) atoms room) → none ≡ firstOfOtherKind c F → Holds c F (P .case) r (bit (now (left .exit)))) ⌝ }
+{
+    step_start::initial_state(table, facts, left);
+    // no step is kept
+    let mut none = [0u32; 1];
+    set_picks(left, &mut none, table, picks);
+    problem_table::take(left, table, problem_table::Act::Begin);
+    step_truth::fill_nodes(left, table, 0, table[2]);
+    problem_table::may_take(left, table, problem_table::Act::Goal)
+}
+
+// Steps from picks of the declared kinds. Truth is decided in scratch words; only if the rule is true is what is lent written.
 fn build_in(
-    made: &mut [u32],
+    left: &mut [u64],
     state: &mut [u64],
     steps: &mut [u32],
-    start: &[u64],
     table: &[usize],
+    facts: &[u64],
     atoms: usize,
     picks: &[u64],
 ) -> PlanAnswer
-    requires { ⌜ Fits (now table) × (atoms ≤ 2 ^ 16) × (length (now start) ≤ 1024) × ((atoms + 63) / 64 ≤ length (now state)) × (atoms ≤ length (now made)) ⌝ }
-    ensures { λ r. ⌜ ((c : Case) (F : List Tuple) → Asked c F (now (table .entry)) (now (picks .entry)) (bit (now (start .entry))) atoms (length (now (steps .entry)))
+    requires { ⌜ Fits (now table) × (atomsIn (now table) ≡ atoms) × (atoms ≤ 2 ^ 20) × ((atoms + 63) / 64 ≤ length (now state)) ⌝ }
+    requires { ⌜ length (now left) ≡ (atoms + 63) / 64 ⌝ }
+    ensures { λ r. ⌜ ((c : Case) (F : List Tuple) → Prepared c F (now (table .entry)) (now (facts .entry)) (now (picks .entry)) atoms (length (now (steps .entry))) → none ≡ firstOfOtherKind c F
         → Gives c (problemOf c) F (now (state .entry)) (now (steps .entry)) r (now (state .exit)) (now (steps .exit))) ⌝ }
 {
-    let mut left = [0u64; WORDS];
-    let k = start.len();
-    problem_table::copy(&mut left, start, k);
-    let f = follow(&mut left, made, table, atoms, picks);
-    if f.holds {
+    if rule_holds(left, table, facts, atoms, picks) {
         let words = (atoms + 63) / 64;
-        problem_table::copy(state, &left, words);
-        copy_steps(steps, made, f.count);
-        return PlanAnswer::Steps(f.count);
+        let count = start_and_follow(left, &mut state[..words], steps, table, facts, atoms, picks);
+        return PlanAnswer::Steps(count);
     }
     PlanAnswer::RuleFalse
 }
 
-// The same for a small problem.
+// The same with scratch of its own, for up to SMALL atoms.
 fn build_small(
     state: &mut [u64],
     steps: &mut [u32],
-    start: &[u64],
     table: &[usize],
+    facts: &[u64],
     atoms: usize,
     picks: &[u64],
 ) -> PlanAnswer
-    requires { ⌜ Fits (now table) × (atoms ≤ 1024) × (length (now start) ≤ 1024) × ((atoms + 63) / 64 ≤ length (now state)) ⌝ }
-    ensures { λ r. ⌜ ((c : Case) (F : List Tuple) → Asked c F (now (table .entry)) (now (picks .entry)) (bit (now (start .entry))) atoms (length (now (steps .entry)))
+    requires { ⌜ Fits (now table) × (atomsIn (now table) ≡ atoms) × (atoms ≤ 1024) × ((atoms + 63) / 64 ≤ length (now state)) ⌝ }
+    ensures { λ r. ⌜ ((c : Case) (F : List Tuple) → Prepared c F (now (table .entry)) (now (facts .entry)) (now (picks .entry)) atoms (length (now (steps .entry))) → none ≡ firstOfOtherKind c F
         → Gives c (problemOf c) F (now (state .entry)) (now (steps .entry)) r (now (state .exit)) (now (steps .exit))) ⌝ }
 {
-    let mut made = [0u32; SMALL];
-    build_in(&mut made, state, steps, start, table, atoms, picks)
+    let words = (atoms + 63) / 64;
+    let mut left = [0u64; FEW];
+    build_in(&mut left[..words], state, steps, table, facts, atoms, picks)
 }
 
 // The same for up to LARGE atoms.
 fn build_large(
-    state: &mut [u64],
-    steps: &mut [u32],
-    start: &[u64],
-    table: &[usize],
-    atoms: usize,
-    picks: &[u64],
-) -> PlanAnswer
-    requires { ⌜ Fits (now table) × (atoms ≤ 2 ^ 16) × (length (now start) ≤ 1024) × ((atoms + 63) / 64 ≤ length (now state)) ⌝ }
-    ensures { λ r. ⌜ ((c : Case) (F : List Tuple) → Asked c F (now (table .entry)) (now (picks .entry)) (bit (now (start .entry))) atoms (length (now (steps .entry)))
-        → Gives c (problemOf c) F (now (state .entry)) (now (steps .entry)) r (now (state .exit)) (now (steps .exit))) ⌝ }
-{
-    let mut made = [0u32; LARGE];
-    build_in(&mut made, state, steps, start, table, atoms, picks)
-}
-
-// The steps built from picks and the state that they leave, from the initial state `start` on.
-fn build(
-    state: &mut [u64],
-    steps: &mut [u32],
-    start: &[u64],
-    table: &[usize],
-    atoms: usize,
-    picks: &[u64],
-) -> PlanAnswer
-    requires { ⌜ Fits (now table) × (atoms ≤ 2 ^ 16) × (length (now start) ≤ 1024) × ((atoms + 63) / 64 ≤ length (now state)) ⌝ }
-    ensures { λ r. ⌜ ((c : Case) (F : List Tuple) → Accepted c → arePicks c F ≡ true → Is (problemOf c) (now (table .entry)) → PicksAre (problemOf c) (now (picks .entry)) F
-        → atoms ≡ «atoms-of» (problemOf c) → actions (problemOf c) ≤ 2 ^ 32 → bit (now (start .entry)) ≡ «initial-of» (problemOf c) → bound (problemOf c) ≤ length (now (steps .entry))
-        → Gives c (problemOf c) F (now (state .entry)) (now (steps .entry)) r (now (state .exit)) (now (steps .exit))) ⌝ }
-{
-    let kinds = step_picks::test_kinds(table, picks);
-    match kinds {
-        step_picks::Kinds::Broken(i) => {
-            return PlanAnswer::OtherKind(i);
-        }
-        step_picks::Kinds::Kept => {
-            if atoms <= SMALL {
-                return build_small(state, steps, start, table, atoms, picks);
-            }
-            return build_large(state, steps, start, table, atoms, picks);
-        }
-    }
-}
-
-// The steps built from picks and the state that they leave, from the initial state on, which is written to words of its own.
-fn build_from(
-    start: &mut [u64],
     state: &mut [u64],
     steps: &mut [u32],
     table: &[usize],
@@ -351,35 +301,16 @@ fn build_from(
     picks: &[u64],
 ) -> PlanAnswer
     requires { ⌜ Fits (now table) × (atomsIn (now table) ≡ atoms) × (atoms ≤ 2 ^ 16) × ((atoms + 63) / 64 ≤ length (now state)) ⌝ }
-    requires { ⌜ (atoms + 63) / 64 ≤ length (now start) ⌝ }
-    ensures { λ r. ⌜ ((c : Case) (F : List Tuple) → Prepared c F (now (table .entry)) (now (facts .entry)) (now (picks .entry)) atoms (length (now (steps .entry)))
+    ensures { λ r. ⌜ ((c : Case) (F : List Tuple) → Prepared c F (now (table .entry)) (now (facts .entry)) (now (picks .entry)) atoms (length (now (steps .entry))) → none ≡ firstOfOtherKind c F
         → Gives c (problemOf c) F (now (state .entry)) (now (steps .entry)) r (now (state .exit)) (now (steps .exit))) ⌝ }
 {
     let words = (atoms + 63) / 64;
-    step_start::initial_state(table, facts, &mut start[..words]);
-    build(state, steps, &start[..words], table, atoms, picks)
+    let mut left = [0u64; WORDS];
+    build_in(&mut left[..words], state, steps, table, facts, atoms, picks)
 }
 
-// The initial state is written to just the words that it needs; from it the built steps are taken.
-fn start_and_follow(
-    state: &mut [u64],
-    steps: &mut [u32],
-    table: &[usize],
-    facts: &[u64],
-    atoms: usize,
-    picks: &[u64],
-) -> Followed
-    requires { ⌜ Fits (now table) × (atomsIn (now table) ≡ atoms) × (atoms ≤ 2 ^ 20) × (length (now state) ≡ (atoms + 63) / 64) ⌝ }
-    ensures { λ r. ⌜ ((c : Case) (F : List Tuple) (room : ℕ) → Prepared c F (now (table .entry)) (now (facts .entry)) (now (picks .entry)) atoms room
-        → Follows (problemOf c) (rowsIn (problemOf c) (now (picks .entry))) (out («initial-of» (problemOf c)) (now (steps .entry)) 0) (out (bit (now (state .exit))) (now (steps .exit)) (r .count)) (r .holds)) ⌝ }
-{
-    step_start::initial_state(table, facts, state);
-    follow(state, steps, table, atoms, picks)
-}
-
-// Steps from picks of the declared kinds, which would be too many to be kept: the way is followed once in a scratch state with no room
-// for steps, which tells whether the rule is true; if it is, a second time in what is lent.
-fn follow_twice(
+// The same for any number of atoms.
+fn build_most(
     state: &mut [u64],
     steps: &mut [u32],
     table: &[usize],
@@ -393,23 +324,33 @@ fn follow_twice(
 {
     let words = (atoms + 63) / 64;
     let mut left = [0u64; MOST];
-    let once = start_and_follow(
-        &mut left[..words],
-        &mut steps[..0],
-        table,
-        facts,
-        atoms,
-        picks,
-    );
-    if once.holds {
-        let again = start_and_follow(&mut state[..words], steps, table, facts, atoms, picks);
-        return PlanAnswer::Steps(again.count);
-    }
-    PlanAnswer::RuleFalse
+    build_in(&mut left[..words], state, steps, table, facts, atoms, picks)
 }
 
-// The steps built from picks and the state that they leave, of a problem of more than LARGE atoms.
-fn build_twice(
+// By the number of atoms.
+fn build(
+    state: &mut [u64],
+    steps: &mut [u32],
+    table: &[usize],
+    facts: &[u64],
+    atoms: usize,
+    picks: &[u64],
+) -> PlanAnswer
+    requires { ⌜ Fits (now table) × (atomsIn (now table) ≡ atoms) × (atoms ≤ 2 ^ 20) × ((atoms + 63) / 64 ≤ length (now state)) ⌝ }
+    ensures { λ r. ⌜ ((c : Case) (F : List Tuple) → Prepared c F (now (table .entry)) (now (facts .entry)) (now (picks .entry)) atoms (length (now (steps .entry))) → none ≡ firstOfOtherKind c F
+        → Gives c (problemOf c) F (now (state .entry)) (now (steps .entry)) r (now (state .exit)) (now (steps .exit))) ⌝ }
+{
+    if atoms <= SMALL {
+        return build_small(state, steps, table, facts, atoms, picks);
+    }
+    if atoms <= LARGE {
+        return build_large(state, steps, table, facts, atoms, picks);
+    }
+    build_most(state, steps, table, facts, atoms, picks)
+}
+
+// The steps built from picks and the state that they leave, from the initial state on.
+pub fn start_and_build(
     state: &mut [u64],
     steps: &mut [u32],
     table: &[usize],
@@ -427,31 +368,7 @@ fn build_twice(
             return PlanAnswer::OtherKind(i);
         }
         step_picks::Kinds::Kept => {
-            return follow_twice(state, steps, table, facts, atoms, picks);
+            return build(state, steps, table, facts, atoms, picks);
         }
     }
-}
-
-// The steps built from picks and the state that they leave, from the initial state on; for a small problem few words are cleared.
-pub fn start_and_build(
-    state: &mut [u64],
-    steps: &mut [u32],
-    table: &[usize],
-    facts: &[u64],
-    atoms: usize,
-    picks: &[u64],
-) -> PlanAnswer
-    requires { ⌜ Fits (now table) × (atomsIn (now table) ≡ atoms) × (atoms ≤ 2 ^ 20) × ((atoms + 63) / 64 ≤ length (now state)) ⌝ }
-    ensures { λ r. ⌜ ((c : Case) (F : List Tuple) → Prepared c F (now (table .entry)) (now (facts .entry)) (now (picks .entry)) atoms (length (now (steps .entry)))
-        → Gives c (problemOf c) F (now (state .entry)) (now (steps .entry)) r (now (state .exit)) (now (steps .exit))) ⌝ }
-{
-    if atoms <= SMALL {
-        let mut few = [0u64; FEW];
-        return build_from(&mut few, state, steps, table, facts, atoms, picks);
-    }
-    if atoms <= LARGE {
-        let mut start = [0u64; WORDS];
-        return build_from(&mut start, state, steps, table, facts, atoms, picks);
-    }
-    build_twice(state, steps, table, facts, atoms, picks)
 }

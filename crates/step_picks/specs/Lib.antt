@@ -3,7 +3,6 @@
 --   Tests, TestLaws    the declared kinds by the table
 --   KindLaws           that they are those of the definitions: 16
 --   Copies             the picks' words by the lines of a table, and what copying them from a state leaves
---   Cuts               a word cut out of two by shifts and a mask
 --   CopyLaws           the words of the lines are those of the picks
 --   Spare              spare bits of lent picks
 --   Picked             words that hold picks, read from a text or lent
@@ -14,7 +13,6 @@ pub mod Tests
 pub mod TestLaws
 pub mod KindLaws
 pub mod Copies
-pub mod Cuts
 pub mod CopyLaws
 pub mod Spare
 pub mod Picked

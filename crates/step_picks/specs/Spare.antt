@@ -30,7 +30,7 @@ use Rattle.problem_table.specs.Of.{Is}
 use Rattle.problem_table.specs.declared.RelationLine.{RelationLine}
 use Rattle.step_picks.specs.Words.{wordsIn}
 use Rattle.step_picks.specs.WordLaws.{is-chosen, is-static, tuples-are}
-use Rattle.step_picks.specs.Cuts.{right-digit}
+use Rattle.bits.proofs.Shifts.{right-digit}
 use Rattle.step_picks.specs.declared.Spare.{Spare}
 use Rattle.step_picks.specs.declared.Spare.the-variants.{Clear, Word}
 

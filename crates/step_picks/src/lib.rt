@@ -3,14 +3,13 @@
 ghost use mathlib.Core.Path.{_≡_};
 ghost use mathlib.Core.Bool.{not, _&&_};
 ghost use Prim.Native.Nat.{_+_, _-_, _*_, _^_, _<_, _≤_};
-ghost use lib.Dec.{ltb};
-ghost use lib.ListN.{length, getD};
+ghost use lib.ListN.{length};
 ghost use lib.Seq.{sets};
 ghost use Rattle.definitions.specs.Lists.{any, position, below, isIn};
 ghost use Rattle.definitions.specs.Problem.Atoms.{Problem};
 ghost use Rattle.definitions.specs.Problem.Built.{chosenNumbers};
 ghost use Rattle.definitions.specs.Reply.Outcome.{picksLength, spareWord};
-ghost use Rattle.bits.specs.Table.{bit, num, count as «count-of», word as «word-of»};
+ghost use Rattle.bits.specs.Table.{bit, num, count as «count-of»};
 ghost use Rattle.problem_table.specs.Lines.{tableLength, sizeIn, membersIn, PlacesFit, Fits};
 ghost use Rattle.problem_table.specs.Of.{Is};
 ghost use Rattle.meaning.specs.KindRows.{isCrowded, isStray};
@@ -225,31 +224,6 @@ pub fn test_kinds(table: &[usize], picks: &[u64]) -> Kinds
     Kinds::Kept
 }
 
-// Word j; past the end all bits are 0.
-fn word_at(words: &[u64], j: usize) -> u64
-    ensures { λ r. ⌜ r ≡ getD (now (words .entry)) j 0 ⌝ }
-{
-    if j < words.len() {
-        return words[j];
-    }
-    0
-}
-
-// The n bits from bit i on as a word, or 64 of them where n is more. (A relation's tuples may start anywhere in a word of the state.)
-fn cut(words: &[u64], i: usize, n: usize) -> u64
-    ensures { λ r. ⌜ r ≡ «word-of» (λ k. ltb k n && bit (now (words .entry)) (i + k)) 64 ⌝ }
-{
-    let shift = i % 64;
-    let low = word_at(words, i / 64) >> shift;
-    // in two shifts, since there is none by 64
-    let high = word_at(words, i / 64 + 1) << 1 << (63 - shift);
-    let all = low | high;
-    if n < 64 {
-        return all & ((1 << n) - 1);
-    }
-    all
-}
-
 // The tuples of a `choose` that hold, written from word `word` on; of another relation nothing is written.
 fn copy_relation(state: &[u64], line: RelationLine, picks: &mut [u64], word: usize)
     requires { ⌜ (line .tuples ≤ 2 ^ 32) × (line .nots ≤ 2 ^ 32) × (word + wordsIn line ≤ length (now picks)) ⌝ }
@@ -259,7 +233,7 @@ fn copy_relation(state: &[u64], line: RelationLine, picks: &mut [u64], word: usi
     let tuples = tuples_in(line);
     let mut j: usize = 0;
     while j < count {
-        picks[word + j] = cut(state, line.tuples + 64 * j, tuples - 64 * j);
+        picks[word + j] = bits::cut(state, line.tuples + 64 * j, tuples - 64 * j);
         j += 1;
     }
 }
@@ -315,7 +289,7 @@ fn has_spare(picks: &[u64], word: usize, line: RelationLine) -> bool
     if used == 0 {
         return false;
     }
-    0 < word_at(picks, word + tuples / 64) >> used
+    0 < bits::word_at(picks, word + tuples / 64) >> used
 }
 
 // The first word of lent picks that has a spare bit set.

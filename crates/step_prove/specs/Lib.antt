@@ -1,8 +1,8 @@
--- The proof phase of building.
+-- What building by words asks of a row.
 --   Tries, TryLaws           the actions for an atom by the table's numbers, and the first that passes
 --   NeedLaws                 what each of them needs, once the values of the row are known
 --   TurnLaws                 from one row of a node to the next, without division
---   RowLaws, MarkLaws        that it is the first that may be taken, and that its atom and its number are all it changes
+--   RowLaws                  that it is the first that may be taken
 --   Following, FollowLaws    the builder's progress: state, lent steps and count
 pub mod Tries
 pub mod TryLaws
@@ -11,4 +11,3 @@ pub mod TurnLaws
 pub mod Following
 pub mod FollowLaws
 pub mod RowLaws
-pub mod MarkLaws

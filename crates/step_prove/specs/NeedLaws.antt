@@ -4,22 +4,21 @@ use mathlib.Core.Path.{_≡_, refl, sym, ap, _∙_}
 use mathlib.Core.Bool.{Bool, true, false}
 use mathlib.Core.List.{List, map}
 use native.Mathlib.Omega.{arith}
-use native.Mathlib.Nat.{add-zero, zero-mul, mul-le-mul}
+use native.Mathlib.Nat.{zero-mul, mul-le-mul}
 use lib.Dec.{eqb}
-use borrow.Author.Tests.{eq-eqb, ne-eqb, eqb-true, eqb-false}
-use lib.ListN.{length, getD, set}
-use Rattle.definitions.specs.Lists.{if_then_else_, all, option, from, before}
+use borrow.Author.Tests.{eq-eqb, ne-eqb}
+use lib.ListN.{getD, set}
+use Rattle.definitions.specs.Lists.{if_then_else_, all, from}
 use Rattle.definitions.specs.Problem.Actions.{Values, withValue}
 use Rattle.rows.specs.Values.{valueIn, Most}
-use Rattle.rows.specs.Laws.{set-value, within-set}
-use Rattle.laws.specs.Members.{Ascending, before-first, before-next}
+use Rattle.rows.specs.Laws.{within-set}
 use Rattle.problem_table.specs.Lines.{sizeIn, nodeLine, partLine, partNumber, partAt, rangeIn}
 use Rattle.problem_table.specs.Numbers.{rowValues, underAt, andNeeds, orNeeds, existsNeeds, forallNeeds, needNumbers}
-use Rattle.problem_table.specs.NeedLaws.{and-parts, or-part, exists-under, forall-not, forall-first, forall-next, value-times, members-length, member-at}
+use Rattle.problem_table.specs.NeedLaws.{and-parts, or-part, exists-under, value-times, members-length, member-at}
 use Rattle.problem_table.specs.declared.NodeLine.{NodeLine}
 use Rattle.problem_table.specs.declared.PartLine.{PartLine}
 use Rattle.problem_table.specs.declared.Act.the-variants.{And, Or, Exists, Forall}
-use Rattle.step_prove.specs.Tries.{actBy, needBy, chained, firstFrom, firstAt, firstBy}
+use Rattle.step_prove.specs.Tries.{actBy, needBy, firstFrom, firstAt, firstBy}
 use Rattle.step_prove.specs.TryLaws.{way-exists, way-and, way-or, first-same, first-only}
 
 -- ---- by the node's line
@@ -42,10 +41,6 @@ module _ (s : ℕ → Bool) (n : ℕ) (w : List ℕ) (v : NodeLine) (row : ℕ) 
 
   abbrev member : ℕ → ℕ
   member i = getD (rangeIn w v) i 0
-
-  pass-forall : v .kind ≡ 0 → (i : ℕ) → passes i ≡ all s (forallNeeds n w v row (member i))
-  unfolding needBy
-  pass-forall e i = rw (eq-eqb (v .kind) 0 e)
 
   pass-exists : v .kind ≡ 1 → (i : ℕ) → passes i ≡ all s (existsNeeds n w v row (member i))
   unfolding needBy
@@ -78,36 +73,6 @@ module _ (s : ℕ → Bool) (n : ℕ) (w : List ℕ) (v : NodeLine) (row : ℕ) 
         ∙ exists-under s n w v row (member (0 + i)) _ o (ap s (sym (under (member (0 + i))))) ∙ sym (pass-exists h (0 + i)) ∙ ap passes (sym d))
         ∙ ap (firstFrom (λ i. passes (0 + i)) 0) (sym (members-length w (v .range) (v .count))) ∙ ap (firstAt s n w v) (way-exists n (v .kind) (v .many) (rangeIn w v) row h)
 
-    -- a `forall`: the part at the i-th member, and its own atom at the member before
-    module _ (up : Ascending (rangeIn w v)) (i : ℕ) (l : i < length (rangeIn w v)) where
-      none-prior : i ≡ 0 → 0 ≡ option (before (rangeIn w v) (member i)) 0 suc
-      unfolding option
-      none-prior e = rw (before-first (rangeIn w v) up i e) refl
-
-      some-prior : 0 < i → suc (member (i - 1)) ≡ option (before (rangeIn w v) (member i)) 0 suc
-      unfolding option
-      some-prior h = rw (before-next (rangeIn w v) up i h l) refl
-
-      chain-is : (prior : ℕ) (b : Bool) → s 1 ≡ true → (0 < i → prior ≡ v .atoms + (row * n + member (i - 1))) → b ≡ chained s (start + member i * stride) i prior → b ≡ all s (forallNeeds n w v row (member i))
-      unfolding chained
-      chain-is prior b o f q = q ∙ by-tests (s (start + member i * stride)) refl (eqb i 0) refl
-        where
-          at-member : (c : Bool) → s (start + member i * stride) ≡ c → s (underAt n w v row (member i)) ≡ c
-          at-member c t = ap s (under (member i)) ∙ t
-
-          by-tests : (c : Bool) → s (start + member i * stride) ≡ c → (d : Bool) → eqb i 0 ≡ d → (if c then (if d then true else s prior) else false) ≡ all s (forallNeeds n w v row (member i))
-          by-tests false t d u = forall-not s n w v row (member i) o (at-member false t)
-          by-tests true t true u = forall-first s n w v row (member i) 0 (none-prior (eqb-true i 0 u)) refl o (at-member true t)
-          by-tests true t false u =
-              let p = eqb-false i 0 u in
-              let h : 0 < i = omega arith in
-              let e : member (i - 1) ≡ suc (member (i - 1)) - 1 = omega arith in
-              forall-next s n w v row (member i) (suc (member (i - 1))) _ (some-prior h) (omega arith) o (at-member true t) (ap s (f h ∙ ap (λ (x : ℕ). v .atoms + (row * n + x)) e))
-
-      pub chain-tried : (prior : ℕ) (b : Bool) → v .kind ≡ 0 → s 1 ≡ true → (0 < i → prior ≡ v .atoms + (row * n + member (i - 1))) → b ≡ chained s (start + member i * stride) i prior
-          → firstFrom (λ i. b) 0 1 ≡ firstAt s n w v (record { row = row; base = i; tries = 1; choices = length (rangeIn w v) })
-      chain-tried prior b h o f a = first-only (λ k. passes (i + k)) b 1 refl (ap passes (add-zero i) ∙ pass-forall h i ∙ sym (chain-is prior b o f a))
-
 -- ---- a part's atom grows with the element by the level's weight
 part-along : (e : Values) (q : PartLine) (d x : ℕ) → d < 4 → partNumber (withValue e d x) q ≡ partNumber (withValue e d 0) q + x * valueIn (q .weights) d
 unfolding partNumber withValue
@@ -117,11 +82,25 @@ part-along e q (suc (suc zero)) x h = omega (arith, zero-mul (valueIn (q .weight
 part-along e q (suc (suc (suc zero))) x h = omega (arith, zero-mul (valueIn (q .weights) 3))
 part-along e q (suc (suc (suc (suc d)))) x h = absurd (omega arith)
 
-pub along-is : (w env : List ℕ) (i d start : ℕ) (q : PartLine) → q ≡ partLine w i → d < 4 → d < length env → start ≡ partNumber (valueIn (set env d 0)) q
-    → (x : ℕ) → partAt w (withValue (valueIn env) d x) i ≡ start + x * getD (q .weights) d 0
+-- .. from what it is without that level
+with-own : (e : Values) (q : PartLine) (d : ℕ) → d < 4 → partNumber (withValue e d (e d)) q ≡ partNumber e q
+unfolding partNumber withValue
+with-own e q zero h = refl
+with-own e q (suc zero) h = refl
+with-own e q (suc (suc zero)) h = refl
+with-own e q (suc (suc (suc zero))) h = refl
+with-own e q (suc (suc (suc (suc d)))) h = absurd (omega arith)
+
+pub along-less : (env : List ℕ) (d start : ℕ) (q : PartLine) → d < 4 → start ≡ partNumber (valueIn env) q → getD env d 0 * getD (q .weights) d 0 ≤ start
+unfolding valueIn
+along-less env d start q h e = omega (arith, with-own (valueIn env) q d h, part-along (valueIn env) q d (getD env d 0) h)
+
+pub along-is : (w env : List ℕ) (i d start : ℕ) (q : PartLine) → q ≡ partLine w i → d < 4 → start ≡ partNumber (valueIn env) q
+    → (x : ℕ) → partAt w (withValue (valueIn env) d x) i ≡ start - getD env d 0 * getD (q .weights) d 0 + x * getD (q .weights) d 0
 unfolding partAt valueIn
-along-is w env i d start q e h k o x = ap (partNumber (withValue (valueIn env) d x)) (sym e) ∙ part-along (valueIn env) q d x h
-    ∙ ap (λ (a : ℕ). a + x * valueIn (q .weights) d) (sym (o ∙ ap (λ (f : Values). partNumber f q) (set-value env d 0 k)))
+along-is w env i d start q e h o x =
+    let a : start - getD env d 0 * getD (q .weights) d 0 ≡ partNumber (withValue (valueIn env) d 0) q = omega (arith, with-own (valueIn env) q d h, part-along (valueIn env) q d (getD env d 0) h) in
+    ap (partNumber (withValue (valueIn env) d x)) (sym e) ∙ part-along (valueIn env) q d x h ∙ ap (λ (y : ℕ). y + x * getD (q .weights) d 0) (sym a)
 
 -- the values are those of the row
 pub under-along : (n : ℕ) (w : List ℕ) (v : NodeLine) (row start stride : ℕ) (env : List ℕ) → valueIn env ≡ rowValues n v row → ((x : ℕ) → partAt w (withValue (valueIn env) (v .level) x) (v .first) ≡ start + x * stride)
@@ -135,20 +114,6 @@ part-most q env a b c = omega (arith, small 0, small 1, small 2, small 3)
   where
     small : (l : ℕ) → getD env l 0 * getD (q .weights) l 0 ≤ 64 * 2 ^ 32
     small l = value-times (getD env l 0) (getD (q .weights) l 0) (c l) (b l)
-
--- ---- one of the chained tests at a time
-module _ (s : ℕ → Bool) (part i prior : ℕ) where
-  pub chain-no : s part ≡ false → false ≡ chained s part i prior
-  unfolding chained
-  chain-no e = rw e
-
-  pub chain-first : s part ≡ true → i ≡ 0 → true ≡ chained s part i prior
-  unfolding chained
-  chain-first e o = rw (e, eq-eqb i 0 o)
-
-  pub chain-next : (b : Bool) → s part ≡ true → 0 < i → b ≡ s prior → b ≡ chained s part i prior
-  unfolding chained
-  chain-next b e h q = q ∙ rw (e, ne-eqb i 0 (λ o. omega arith))
 
 pub most-set : (env : List ℕ) (d x : ℕ) → x ≤ 64 → Most env 64 → Most (set env d x) 64
 most-set env d x h m l = omega (arith, within-set 65 env d x (omega arith) (λ i. omega (arith, m i)) l)

@@ -214,13 +214,6 @@ module _ (p : Problem) (w : List ℕ) (is : Is p w) (v : ℕ) (l : v < length (p
       row-lost = subst₂ (λ (x : NodeLine) (y : Way). (r : ℕ) → First x y r → y .tries ≤ r → stepNow p s v (nodeAt p v) j ≡ none) (sym ex) (sym way-here) lost-here
 
 -- ---- a `forall` has no action at an element out of its range
-pub row-out : (p : Problem) (s : State) (v j : ℕ) (t : Tree) → nodeKind t ≡ 0 → isIn (j % p .size) (p .range (nodeSort t)) ≡ false → stepNow p s v t j ≡ none
-unfolding stepNow tries isForall nodeKind nodeSort below from position option
-row-out p s v j (leaf q r ls) k e = absurd (omega arith)
-row-out p s v j (forallNode d σ t) k e = rw e
-row-out p s v j (existsNode d σ t) k e = absurd (omega arith)
-row-out p s v j (andNode ts) k e = absurd (omega arith)
-row-out p s v j (orNode ts) k e = absurd (omega arith)
 
 -- ---- what keeps numbers in range
 pub acts-small : (w : List ℕ) (node : ℕ) → Fits w → (x : NodeLine) → x ≡ nodeLine w node → x .acts ≤ 2 ^ 32

@@ -9,14 +9,10 @@ use native.Mathlib.Numerals.{add-one}
 use lib.Dec.{eqb}
 use borrow.Author.Tests.{eq-eqb, ne-eqb}
 use lib.ListN.{length}
-use Rattle.definitions.specs.Lists.{if_then_else_, isIn, rank}
+use Rattle.definitions.specs.Lists.{if_then_else_}
 use Rattle.step_prove.specs.Tries.{FlatAt, wayBy, firstFrom}
 
 module _ (n kind many : ℕ) (ms : List ℕ) (j : ℕ) where
-  pub way-forall : kind ≡ 0 → record { row = j / n; base = rank ms (j % n); tries = if isIn (j % n) ms then 1 else zero; choices = length ms } ≡ wayBy n kind many ms j
-  unfolding wayBy
-  way-forall e = rw (eq-eqb kind 0 e)
-
   pub way-exists : kind ≡ 1 → record { row = j; base = 0; tries = length ms; choices = length ms } ≡ wayBy n kind many ms j
   unfolding wayBy
   way-exists e = rw (ne-eqb kind 0 (λ z. omega arith), eq-eqb kind 1 e)
@@ -66,11 +62,3 @@ first-same f g (suc k) a h =
 pub first-only : (f : ℕ → Bool) (b : Bool) (k : ℕ) → k ≡ 1 → f 0 ≡ b → firstFrom (λ i. b) 0 1 ≡ firstFrom f 0 k
 unfolding firstFrom
 first-only f b k o e = rw (o, e)
-
-pub only-yes : (b : Bool) → b ≡ true → 0 ≡ firstFrom (λ i. b) 0 1
-unfolding firstFrom
-only-yes b e = rw e
-
-pub only-no : (b : Bool) → b ≡ false → 1 ≡ firstFrom (λ i. b) 0 1
-unfolding firstFrom
-only-no b e = rw e

@@ -200,3 +200,13 @@ acts-on first q c a q′ e o = rw o (omega (arith, add-mul q 1 c, one-mul c))
 
 pub acts-low : (q c n j : ℕ) → c ≤ n → j ≡ q * n → q * c ≤ j
 acts-low q c n j h e = let o : q ≤ q = omega arith in omega (arith, mul-le-mul o h)
+
+-- ---- the atoms of a `forall` are whole rows: a multiple that another does not reach within one row is at most that one
+
+-- ---- the atoms of a `forall` are whole rows: a multiple that another does not reach within one row is at most that one
+pub whole-end : (q m n : ℕ) → m * n < q * n + n → m * n ≤ q * n
+whole-end q m n h = by-test (ltb q m) refl
+  where
+    by-test : (b : Bool) → ltb q m ≡ b → m * n ≤ q * n
+    by-test true e = let l = ltb-true q m e in let k : q + 1 ≤ m = omega arith in let o : n ≤ n = omega arith in absurd (omega (arith, mul-le-mul k o, add-mul q 1 n, one-mul n))
+    by-test false e = let l = ltb-false q m e in let o : n ≤ n = omega arith in mul-le-mul l o

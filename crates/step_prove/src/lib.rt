@@ -1,11 +1,11 @@
-// The proof phase: every true node atom is proved by the first action that may be taken, later nodes first; a step is taken in the
-// state and its number written to the lent steps.
+// What building asks of one row of a node: the values of its variables, where its parts lie along a variable, and which of its actions is
+// the first that may be taken.
 ghost use mathlib.Core.Path.{_≡_};
 ghost use mathlib.Core.Bool.{true};
 ghost use mathlib.Core.List.{List, [], _∷_};
 ghost use Prim.Native.Nat.{ℕ, _+_, _-_, _*_, _/_, _%_, _^_, _<_, _≤_};
 ghost use lib.ListN.{length, getD, take, set as «set-at»};
-ghost use Rattle.definitions.specs.Problem.Atoms.{Problem, placesOf, nodeAt, nodeWidth, atoms as «atoms-of»};
+ghost use Rattle.definitions.specs.Problem.Atoms.{Problem, placesOf, atoms as «atoms-of»};
 ghost use Rattle.definitions.specs.Problem.Actions.{Action, actionNumber, valuesIn, withValue};
 ghost use Rattle.laws.specs.Numbers.{IsAction};
 ghost use Rattle.bits.specs.Table.{bit};
@@ -13,10 +13,10 @@ ghost use Rattle.rows.specs.Values.{valueIn, Within, Most};
 ghost use Rattle.rule_nodes.specs.Tables.{Levels};
 ghost use Rattle.problem_table.specs.Lines.{tableLength, sizeIn, partAt, NodeFits, RangeFits, Fits};
 ghost use Rattle.problem_table.specs.declared.NodeLine.{NodeLine};
-ghost use Rattle.problem_table.specs.Numbers.{underAt, ActFits, changed};
+ghost use Rattle.problem_table.specs.Numbers.{underAt, ActFits};
 ghost use Rattle.problem_table.specs.Of.{said};
-ghost use Rattle.step_prove.specs.Tries.{wayBy, wayAt, chained, firstFrom, firstBy, Digits, Rest};
-ghost use Rattle.step_prove.specs.Following.{ReadyToFollow, NodeOf, Chain, Goes, out, one, provedRow, provedRows, provedNodes};
+ghost use Rattle.step_prove.specs.Tries.{wayBy, firstFrom, firstBy, Digits, Rest};
+ghost use Rattle.step_prove.specs.Following.{ReadyToFollow, out, one};
 
 // Where an element takes a part: its atom's number at element 0, and by how much that grows with the element.
 pub struct Elements {
@@ -25,7 +25,7 @@ pub struct Elements {
 }
 
 // How far b is past a; 0 where it is not.
-fn gap(a: usize, b: usize) -> usize
+pub fn gap(a: usize, b: usize) -> usize
     ensures { λ r. ⌜ r ≡ b - a ⌝ }
 {
     if a < b {
@@ -35,7 +35,7 @@ fn gap(a: usize, b: usize) -> usize
 }
 
 // Entry `at` becomes k, where there is such an entry.
-fn put(steps: &mut [u32], at: usize, k: usize)
+pub fn put(steps: &mut [u32], at: usize, k: usize)
     ensures { λ r. ⌜ (k < 2 ^ 32 → now (steps .exit) ≡ «set-at» (now (steps .entry)) at k) ⌝ }
 {
     if at < steps.len() {
@@ -44,19 +44,17 @@ fn put(steps: &mut [u32], at: usize, k: usize)
 }
 
 // The atoms of a part along the elements of a level, the other values as they are.
-fn along(table: &[usize], part: usize, level: usize, env: [usize; 4]) -> Elements
+pub fn along(table: &[usize], part: usize, level: usize, env: [usize; 4]) -> Elements
     requires { ⌜ Fits (now table) × (part < 65) × (level < 4) × Most env 64 ⌝ }
     ensures { λ r. ⌜ (r .start ≤ 2 ^ 42) × (r .stride ≤ 2 ^ 32) × ((x : ℕ) → partAt (now (table .entry)) (withValue (valueIn env) level x) part ≡ r .start + x * r .stride) ⌝ }
 {
     let q = problem_table::part_line(table, part);
     let weights = q.weights;
-    let mut values = env;
-    values[level] = 0;
-    let start = problem_table::part_number(q, values);
-    Elements {
-        start,
-        stride: weights[level],
-    }
+    let stride = weights[level];
+    // what the level's own value adds is taken off again, since a copy of the values without it would stall
+    let own = env[level] * stride;
+    let start = problem_table::part_number(q, env) - own;
+    Elements { start, stride }
 }
 
 // The first of `count` members of a range whose bit is set: that of element 0 is `start`, and they are `stride` apart; `count` where
@@ -98,20 +96,6 @@ fn first_part(state: &[u64], table: &[usize], first: usize, tries: usize, env: [
     i
 }
 
-// Whether the part of a `forall` holds at the i-th member of its range, and unless that is the first, the atom `prior` does: "true up
-// to the member before".
-fn chain_holds(state: &[u64], part: usize, i: usize, prior: usize) -> bool
-    ensures { λ r. ⌜ r ≡ chained (bit (now (state .entry))) part i prior ⌝ }
-{
-    if problem_table::test(state, part) {
-        if i == 0 {
-            return true;
-        }
-        return problem_table::test(state, prior);
-    }
-    false
-}
-
 // The first of one try.
 fn only_try(holds: bool) -> usize
     ensures { λ r. ⌜ r ≡ firstFrom (λ i. holds) 0 1 ⌝ }
@@ -124,7 +108,7 @@ fn only_try(holds: bool) -> usize
 
 // The values of the first `width` of the levels, by level. All four places are written, the last first, since a loop over them would
 // cost a tenth of building; those past the width are 0, and what they write a place before them writes again.
-fn spread(levels: [usize; 4], width: usize, digits: &[usize]) -> [usize; 4]
+pub fn spread(levels: [usize; 4], width: usize, digits: &[usize]) -> [usize; 4]
     requires { ⌜ (width ≤ 4) × Levels levels × (length (now digits) ≡ 4) × Most (now digits) 64 × Rest width (now digits) ⌝ }
     ensures { λ r. ⌜ Most r 64 × ((n row : ℕ) → Digits n width row (now (digits .entry)) → valueIn r ≡ valuesIn (take width levels) (placesOf n width row)) ⌝ }
 {
@@ -137,7 +121,7 @@ fn spread(levels: [usize; 4], width: usize, digits: &[usize]) -> [usize; 4]
 }
 
 // How many actions a row of an `exists`, `and` or `or` has.
-fn tries(kind: usize, many: usize, count: usize) -> usize
+pub fn tries(kind: usize, many: usize, count: usize) -> usize
     requires { ⌜ (0 < kind) × (many ≤ 2 ^ 11) × (count ≤ 2 ^ 11) ⌝ }
     ensures { λ r. ⌜ (r ≤ 2 ^ 11) × ((n : ℕ) (ms : List ℕ) (j : ℕ) → length ms ≡ count → (r ≡ wayBy n kind many ms j .tries) × (r ≡ wayBy n kind many ms j .choices)) ⌝ }
 {
@@ -151,7 +135,7 @@ fn tries(kind: usize, many: usize, count: usize) -> usize
 }
 
 // The first action of a row of an `exists`, `and` or `or` whose needs all hold; their count where there is none.
-fn first_try(
+pub fn first_try(
     state: &[u64],
     n: usize,
     table: &[usize],
@@ -192,42 +176,8 @@ pub fn step(
     at + 1
 }
 
-// An atom is set and the number of its action written.
-fn mark(state: &mut [u64], steps: &mut [u32], at: usize, atom: usize, action: usize) -> usize
-    requires { ⌜ at < 2 ^ 40 ⌝ }
-    ensures { λ r. ⌜ (r ≡ at + 1) × (atom / 64 < length (now (state .entry)) → bit (now (state .exit)) ≡ changed (bit (now (state .entry))) [] (atom ∷ [])) × (action < 2 ^ 32 → now (steps .exit) ≡ «set-at» (now (steps .entry)) at action) ⌝ }
-{
-    problem_table::raise(state, atom);
-    put(steps, at, action);
-    at + 1
-}
-
-// The atom of a row of an `exists`, `and` or `or` is proved, if one of its `tries` actions may be taken.
-fn prove_row(
-    state: &mut [u64],
-    steps: &mut [u32],
-    at: usize,
-    table: &[usize],
-    v: problem_table::NodeLine,
-    tries: usize,
-    digits: &[usize],
-    row: usize,
-) -> usize
-    requires { ⌜ Fits (now table) × NodeFits v × (v .acts ≤ 2 ^ 32) × (v .atoms ≤ 2 ^ 32) × (row ≤ 2 ^ 32) × (at < 2 ^ 40) × (0 < v .kind) × (tries ≤ 2 ^ 11) × (length (now digits) ≡ 4) × Within (sizeIn (now table)) (now digits) × Rest (v .width) (now digits) × RangeFits (now table) v ⌝ }
-    ensures { λ r. ⌜ (r ≤ at + 1) × ((p : Problem) (node : ℕ) → NodeOf p (now (table .entry)) (length (now (state .entry))) node v
-        → (tries ≡ wayAt (now (table .entry)) v row .tries) × (tries ≡ wayAt (now (table .entry)) v row .choices)
-        → Digits (sizeIn (now (table .entry))) (v .width) row (now (digits .entry)) → row < nodeWidth (p .size) (nodeAt p node) → bit (now (state .entry)) 1 ≡ true
-        → Goes (provedRow p node (out (bit (now (state .entry))) (now (steps .entry)) at) row) (bit (now (state .exit))) (now (steps .exit)) r) ⌝ }
-{
-    let i = first_try(state, table[0], table, v, digits);
-    if i < tries {
-        return mark(state, steps, at, v.atoms + row, v.acts + row * tries + i);
-    }
-    at
-}
-
 // The digits of the next row.
-fn advance(n: usize, width: usize, digits: &mut [usize])
+pub fn advance(n: usize, width: usize, digits: &mut [usize])
     requires { ⌜ (n ≤ 64) × (width ≤ 4) × (length (now digits) ≡ 4) × Within n (now digits) × Rest width (now digits) ⌝ }
     ensures { λ r. ⌜ Within n (now (digits .exit)) × Rest width (now (digits .exit)) × ((row : ℕ) → Digits n width row (now (digits .entry)) → Digits n width (row + 1) (now (digits .exit))) ⌝ }
 {
@@ -244,7 +194,7 @@ fn advance(n: usize, width: usize, digits: &mut [usize])
 }
 
 // The part under a quantifier in a row.
-fn under_at(table: &[usize], v: problem_table::NodeLine, digits: &[usize]) -> Elements
+pub fn under_at(table: &[usize], v: problem_table::NodeLine, digits: &[usize]) -> Elements
     requires { ⌜ Fits (now table) × NodeFits v × (length (now digits) ≡ 4) × Within (sizeIn (now table)) (now digits) × Rest (v .width) (now digits) ⌝ }
     ensures { λ r. ⌜ (r .start ≤ 2 ^ 42) × (r .stride ≤ 2 ^ 32) × ((row : ℕ) → Digits (sizeIn (now (table .entry))) (v .width) row (now (digits .entry)) → v .kind < 2 → (x : ℕ) → underAt (sizeIn (now (table .entry))) (now (table .entry)) v row x ≡ r .start + x * r .stride) ⌝ }
 {
@@ -257,157 +207,4 @@ fn under_at(table: &[usize], v: problem_table::NodeLine, digits: &[usize]) -> El
         start: 0,
         stride: 0,
     }
-}
-
-// One atom of a `forall`, "true up to the i-th member" of its range, is proved, if its part holds and unless that is the first, the
-// atom `prior` does.
-fn prove_link(
-    state: &mut [u64],
-    steps: &mut [u32],
-    at: usize,
-    part: usize,
-    i: usize,
-    prior: usize,
-    own: usize,
-    number: usize,
-) -> usize
-    requires { ⌜ at < 2 ^ 40 ⌝ }
-    ensures { λ r. ⌜ (r ≤ at + 1) × ((p : Problem) (w : List ℕ) (node : ℕ) (v : NodeLine) (row j action : ℕ) (under : Elements) → Chain p w (length (now (state .entry))) node v row j action under → i < v .count
-        → part ≡ under .start + getD w (v .range + i) 0 * under .stride → (0 < i → prior ≡ v .atoms + (j + getD w (v .range + (i - 1)) 0)) → own ≡ v .atoms + (j + getD w (v .range + i) 0) → number ≡ action + i → bit (now (state .entry)) 1 ≡ true
-        → Goes (provedRow p node (out (bit (now (state .entry))) (now (steps .entry)) at) (j + getD w (v .range + i) 0)) (bit (now (state .exit))) (now (steps .exit)) r) ⌝ }
-{
-    if chain_holds(state, part, i, prior) {
-        return mark(state, steps, at, own, number);
-    }
-    at
-}
-
-// The atoms of a `forall` in one row, whose atoms start at j and whose actions at `action`: member after member of its range.
-fn prove_chain(
-    state: &mut [u64],
-    steps: &mut [u32],
-    at: usize,
-    table: &[usize],
-    v: problem_table::NodeLine,
-    under: Elements,
-    j: usize,
-    action: usize,
-) -> usize
-    requires { ⌜ Fits (now table) × RangeFits (now table) v × (v .count ≤ 64) × (v .atoms ≤ 2 ^ 32) × (j ≤ 2 ^ 32) × (action ≤ 2 ^ 40) × (at + 64 ≤ 2 ^ 40) × (under .start ≤ 2 ^ 42) × (under .stride ≤ 2 ^ 32) ⌝ }
-    ensures { λ r. ⌜ (r ≤ at + v .count) × ((p : Problem) (node row : ℕ) → Chain p (now (table .entry)) (length (now (state .entry))) node v row j action under → bit (now (state .entry)) 1 ≡ true
-        → Goes (provedRows p node (out (bit (now (state .entry))) (now (steps .entry)) at) j (sizeIn (now (table .entry)))) (bit (now (state .exit))) (now (steps .exit)) r) ⌝ }
-{
-    let mut k = at;
-    let mut prior: usize = 0;
-    let mut i: usize = 0;
-    while i < v.count {
-        let z = table[v.range + i];
-        let part = under.start + z * under.stride;
-        let own = v.atoms + (j + z);
-        k = prove_link(state, steps, k, part, i, prior, own, action + i);
-        prior = own;
-        i += 1;
-    }
-    k
-}
-
-// The atoms of a `forall`, row by row. A range of more than n members is no problem's, and nothing is proved for it.
-fn prove_chains(
-    state: &mut [u64],
-    steps: &mut [u32],
-    at: usize,
-    table: &[usize],
-    v: problem_table::NodeLine,
-    width: usize,
-) -> usize
-    requires { ⌜ Fits (now table) × NodeFits v × (v .acts ≤ 2 ^ 32) × (v .atoms ≤ 2 ^ 32) × (v .kind ≡ 0) × (width ≤ 2 ^ 32) × (at < 2 ^ 39) × RangeFits (now table) v ⌝ }
-    ensures { λ r. ⌜ (r ≤ at + width) × ((p : Problem) (node : ℕ) → NodeOf p (now (table .entry)) (length (now (state .entry))) node v → width ≡ nodeWidth (p .size) (nodeAt p node) → bit (now (state .entry)) 1 ≡ true
-        → Goes (provedRows p node (out (bit (now (state .entry))) (now (steps .entry)) at) 0 width) (bit (now (state .exit))) (now (steps .exit)) r) ⌝ }
-{
-    let n = table[0];
-    if n < v.count {
-        return at;
-    }
-    let mut digits = [0usize; 4];
-    let mut k = at;
-    let mut j: usize = 0;
-    let mut action = v.acts;
-    while j + n <= width {
-        let under = under_at(table, v, &digits);
-        k = prove_chain(state, steps, k, table, v, under, j, action);
-        advance(n, v.width, &mut digits);
-        j += n;
-        action += v.count;
-    }
-    k
-}
-
-// The atoms of an `exists`, `and` or `or`, a row each.
-fn prove_rows(
-    state: &mut [u64],
-    steps: &mut [u32],
-    at: usize,
-    table: &[usize],
-    v: problem_table::NodeLine,
-    width: usize,
-) -> usize
-    requires { ⌜ Fits (now table) × NodeFits v × (v .acts ≤ 2 ^ 32) × (v .atoms ≤ 2 ^ 32) × (0 < v .kind) × (width ≤ 2 ^ 32) × (at < 2 ^ 39) × RangeFits (now table) v ⌝ }
-    ensures { λ r. ⌜ (r ≤ at + width) × ((p : Problem) (node : ℕ) → NodeOf p (now (table .entry)) (length (now (state .entry))) node v → width ≡ nodeWidth (p .size) (nodeAt p node) → bit (now (state .entry)) 1 ≡ true
-        → Goes (provedRows p node (out (bit (now (state .entry))) (now (steps .entry)) at) 0 width) (bit (now (state .exit))) (now (steps .exit)) r) ⌝ }
-{
-    let n = table[0];
-    let m = tries(v.kind, v.many, v.count);
-    let mut digits = [0usize; 4];
-    let mut k = at;
-    let mut row: usize = 0;
-    while row < width {
-        k = prove_row(state, steps, k, table, v, m, &digits, row);
-        advance(n, v.width, &mut digits);
-        row += 1;
-    }
-    k
-}
-
-// The atoms of a node, in order.
-fn prove_node(
-    state: &mut [u64],
-    steps: &mut [u32],
-    at: usize,
-    table: &[usize],
-    node: usize,
-    width: usize,
-) -> usize
-    requires { ⌜ Fits (now table) × (node < 64) × (width ≤ 2 ^ 32) × (at < 2 ^ 39) ⌝ }
-    ensures { λ r. ⌜ (r ≤ at + width) × ((p : Problem) → ReadyToFollow p (now (table .entry)) (length (now (state .entry))) → node < length (p .nodeList) → width ≡ nodeWidth (p .size) (nodeAt p node) → bit (now (state .entry)) 1 ≡ true
-        → Goes (provedRows p node (out (bit (now (state .entry))) (now (steps .entry)) at) 0 width) (bit (now (state .exit))) (now (steps .exit)) r) ⌝ }
-{
-    let v = problem_table::node_line(table, node);
-    if v.kind == 0 {
-        return prove_chains(state, steps, at, table, v, width);
-    }
-    prove_rows(state, steps, at, table, v, width)
-}
-
-// The atoms of all nodes, later nodes first; `atoms` is where the last one's end.
-pub fn prove_nodes(
-    state: &mut [u64],
-    steps: &mut [u32],
-    at: usize,
-    table: &[usize],
-    atoms: usize,
-) -> usize
-    requires { ⌜ Fits (now table) × (atoms ≤ 2 ^ 32) × (at ≤ 2 ^ 37) ⌝ }
-    ensures { λ r. ⌜ (r ≤ at + 64 * 2 ^ 32) × ((p : Problem) → ReadyToFollow p (now (table .entry)) (length (now (state .entry))) → atoms ≡ «atoms-of» p → bit (now (state .entry)) 1 ≡ true
-        → provedNodes p (out (bit (now (state .entry))) (now (steps .entry)) at) (length (p .nodeList)) ≡ out (bit (now (state .exit))) (now (steps .exit)) r) ⌝ }
-{
-    let mut k = at;
-    let mut end = atoms;
-    let mut v = table[2];
-    while 0 < v {
-        v -= 1;
-        let line = problem_table::node_line(table, v);
-        k = prove_node(state, steps, k, table, v, gap(line.atoms, end));
-        end = line.atoms;
-    }
-    k
 }

@@ -254,9 +254,8 @@ module _ (p : Problem) (w f : List ℕ) (fits : Fits w) (is : Is p w) (F : Facts
           rows-is r l,
           free-is r l,
           a,
-          tuples-both f (sizeIn w) r (relationLine w r) (factWord p r) (over old m (cut (initial p) (relationStart p r))) (tuplesOf (p .size) (relationAt p r)) (omega (arith, is .relation r l .tuples, is .relation r l .nots))
-              (λ i h. clear (relationLine w r .tuples + i) (omega (arith, is .relation r l .tuples)) (omega (arith, is .relation r l .tuples)))
-              (λ i h. clear (relationLine w r .nots + i) (omega (arith, is .relation r l .nots)) (omega (arith, is .relation r l .nots))),
+          tuples-both f (sizeIn w) r (relationLine w r) (factWord p r) (tuplesOf (p .size) (relationAt p r)) (over old m (cut (initial p) (relationStart p r)))
+              (λ i h. clear (relationLine w r .tuples + i) (omega (arith, is .relation r l .tuples)) (omega (arith, is .relation r l .tuples))),
         )
         (cut-three old m (initial p) (relationStart p r) (tuplesOf (p .size) (relationAt p r)) (freeIn (p .size) (kindNumber (relationAt p r .kind)))
         (relationLine w r .tuples) (relationLine w r .nots) (relationLine w r .free) (holdsAt f (sizeIn w) r (relationLine w r .kind) (factWord p r)) _

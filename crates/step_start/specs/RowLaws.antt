@@ -3,33 +3,28 @@ use mathlib.Core.Path.{_≡_, refl, sym, ap, ap₂, subst, _∙_, fun-ext}
 use mathlib.Core.Bool.{Bool, true, false, cond, not, _&&_}
 use mathlib.Core.List.{List}
 use mathlib.Core.Logic.{_≢_}
-use Prim.Native.Nat.{ℕ, zero, suc, _+_, _-_, _*_, _/_, _%_, _≤_, _<_}
-use native.Mathlib.Nat.{zero-add}
+use Prim.Native.Nat.{ℕ, zero, suc, _+_, _-_, _*_, _/_, _%_, _^_, _≤_, _<_, min}
+use native.Mathlib.Nat.{zero-add, zero-mul, one-mul, add-mul}
 use native.Mathlib.Numerals.{add-one}
-use native.Mathlib.Decide.{ℕ-discrete}
+use native.Mathlib.Decide.{ℕ-discrete, decLt}
 use native.Mathlib.Omega.{arith}
-use borrow.Author.Tests.{lt-ltb, le-ltb, ne-eqb}
+use borrow.Author.Tests.{lt-ltb, le-ltb, eq-eqb, ne-eqb}
 use lib.Arith.{digits-div, digits-mod}
 use lib.Dec.{eqb, leb, ltb}
+use lib.Pow.{pow-pos, pow-mono}
 use lib.ListN.{getD}
 use Rattle.definitions.specs.Lists.{if_then_else_}
 use Rattle.definitions.specs.Sheet.Relations.{builtInHolds}
 use Rattle.definitions.specs.Problem.Atoms.{wordsFor}
-use Rattle.bits.specs.Table.{bit, put, paste}
-use Rattle.bits.proofs.Laws.{put-same, put-other, paste-out, paste-zero, paste-step}
+use Rattle.bits.specs.Table.{digit, bit, paste, turned}
+use Rattle.bits.proofs.Laws.{eqb-same, paste-zero}
+use Rattle.bits.proofs.Digit.{digit-not}
+use Rattle.bits.proofs.Shifts.{mask-digit}
+use Rattle.bits.proofs.Stores.{paste-clear}
 use Rattle.problem_table.specs.Lines.{relationPlace, nodePlace, sizeIn, nodesIn, relationLine, nodeLine, Fits}
 use Rattle.problem_table.specs.declared.NodeLine.{NodeLine}
 use Rattle.problem_table.specs.declared.RelationLine.{RelationLine}
-use Rattle.step_start.specs.declared.Pair.{Pair}
-use Rattle.step_start.specs.Rows.{PairOf, atomsIn, holdsAt, holdingAt, rowsIn, freeIn, tuplesPut, relationPut, wordsIn, firstIn, relationsPut, RelationRoom}
-
--- ---- the two places of a row
-module _ (n row : ℕ) (p : Pair) (h : PairOf n row p) where
-  pub pair-high : p .x ≡ row / n
-  pair-high = sym (ap (λ (i : ℕ). i / n) (h .is) ∙ digits-div (p .x) (h .below))
-
-  pub pair-low : p .y ≡ row % n
-  pair-low = sym (ap (λ (i : ℕ). i % n) (h .is) ∙ digits-mod (p .x) (h .below))
+use Rattle.step_start.specs.Rows.{atomsIn, holdsAt, builtInAt, rowsIn, freeIn, heldPut, tuplesPut, relationPut, wordsIn, firstIn, relationsPut, RelationRoom}
 
 -- ---- built-in relations
 module _ (n r x y : ℕ) where
@@ -84,9 +79,9 @@ pub rows-le : (k : RelationLine) → rowsIn k ≤ k .nots
 unfolding rowsIn
 rows-le k = omega arith
 
-pub row-in : (k : RelationLine) (row : ℕ) → row < rowsIn k → k .tuples + row < k .nots
+pub rows-some : (k : RelationLine) → 0 < rowsIn k → k .tuples + rowsIn k ≡ k .nots
 unfolding rowsIn
-row-in k row h = omega arith
+rows-some k h = omega arith
 
 pub rows-few : (w : List ℕ) → Fits w → (r : ℕ) → rowsIn (relationLine w r) ≤ 4294967296
 unfolding rowsIn relationLine
@@ -114,87 +109,149 @@ module _ (n kind : ℕ) where
   unfolding freeIn
   free-two h = let l : 2 ≤ kind = omega arith in rw (le-ltb kind 2 l, le-ltb kind 4 h) refl
 
--- ---- of a tuple and its not-tuple, the one that holds
-module _ (f : List ℕ) (n r : ℕ) (k : RelationLine) (first row : ℕ) where
-  pub is-tuple : holdsAt f n r (k .kind) first row ≡ true → k .tuples + row ≡ holdingAt f n r k first row
-  unfolding holdingAt
-  is-tuple e = rw e refl
+-- ---- the n rows of a built-in relation from row x * n on, a digit each
+module _ (n r row x y : ℕ) (e : row ≡ x * n) (l : y < n) where
+  pair-at : r < 3 → builtInHolds n r x y ≡ builtInAt n r (row + y)
+  unfolding builtInAt
+  pair-at h =
+      rw (lt-ltb r 3 h)
+      (ap₂ (builtInHolds n r) (sym (ap (λ (i : ℕ). (i + y) / n) e ∙ digits-div x l)) (sym (ap (λ (i : ℕ). (i + y) % n) e ∙ digits-mod x l)))
 
-  pub is-not : holdsAt f n r (k .kind) first row ≡ false → k .nots + row ≡ holdingAt f n r k first row
-  unfolding holdingAt
-  is-not e = rw e refl
+  one-at : 3 ≤ r → builtInHolds n r (row + y) 0 ≡ builtInAt n r (row + y)
+  unfolding builtInAt
+  one-at h = rw (le-ltb r 3 h) refl
 
-  pub holding-in : row < rowsIn k → holdingAt f n r k first row < k .nots + rowsIn k
-  unfolding holdingAt
-  holding-in l = by-test (holdsAt f n r (k .kind) first row)
+  -- the rows past the first n
+  later : 0 < x → n ≤ row
+  later h = let q : x ≡ 1 + (x - 1) = omega arith in omega (arith, e, ap (λ (i : ℕ). i * n) q, add-mul 1 (x - 1) n, one-mul n)
+
+  start : x ≡ 0 → row ≡ 0
+  start q = omega (arith, e, ap (λ (i : ℕ). i * n) q, zero-mul n)
+
+  pub word-eq : {d : Bool} → r ≡ 0 → d ≡ eqb y x → d ≡ builtInAt n r (row + y)
+  word-eq q h = h ∙ eqb-same y x x y (λ z. sym z) (λ z. sym z) ∙ is-eq n r x y q ∙ pair-at (omega arith)
+
+  pub word-lt : (m c : ℕ) → r ≡ 1 → n ≤ 64 → c ≡ min (x + 1) 64 → m ≡ 2 ^ c - 1 → digit ((2 ^ 64 - 1) - m) y ≡ builtInAt n r (row + y)
+  word-lt m c q few ec em =
+      digit-not 64 m y (omega (arith, pow-pos c, pow-mono {i = c} {j = 64} (omega arith))) (omega arith) ∙ ap (λ (i : ℕ). not (digit i y)) em ∙ ap not (mask-digit c y) ∙ by-number (decLt x y)
+      ∙ is-lt n r x y q ∙ pair-at (omega arith)
     where
-      by-test : (b : Bool) → (if b then k .tuples + row else k .nots + row) < k .nots + rowsIn k
-      by-test true = omega (arith, row-in k row l)
-      by-test false = omega arith
+      by-number : Dec (x < y) → not (ltb y c) ≡ ltb x y
+      by-number (yes h) = ap not (le-ltb y c (omega arith)) ∙ sym (lt-ltb x y h)
+      by-number (no h) = ap not (lt-ltb y c (omega arith)) ∙ sym (le-ltb x y (omega arith))
 
--- ---- a bit written beside a range, and two ranges written side by side
-put-paste : (s : ℕ → Bool) (to k i : ℕ) (g : ℕ → Bool) (b : Bool) → ((to ≤ i) × (i < to + k) → ⊥) → put (paste s to g 0 k) i b ≡ paste (put s i b) to g 0 k
+  pub word-suc : {d : Bool} → r ≡ 2 → d ≡ eqb y (x + 1) → d ≡ builtInAt n r (row + y)
+  word-suc q h = h ∙ is-suc n r x y q ∙ pair-at (omega arith)
+
+  pub word-zero : {d : Bool} → r ≡ 3 → d ≡ eqb y row → d ≡ builtInAt n r (row + y)
+  word-zero q h = h ∙ eqb-same y row (row + y) 0 (λ z. zero-only (decLt 0 x) z) (λ z. omega arith) ∙ is-zero n r (row + y) 0 q ∙ one-at (omega arith)
+    where
+      zero-only : Dec (0 < x) → y ≡ row → row + y ≡ 0
+      zero-only (yes g) z = absurd (omega (arith, later g))
+      zero-only (no g) z = omega (arith, start (omega arith))
+
+  pub word-max : {d : Bool} → r ≡ 4 → d ≡ eqb y (row + (n - 1)) → d ≡ builtInAt n r (row + y)
+  word-max q h = h ∙ eqb-same y (row + (n - 1)) (row + y + 1) n (λ z. omega arith) (λ z. last-only (decLt 0 x) z) ∙ is-max n r (row + y) 0 q ∙ one-at (omega arith)
+    where
+      last-only : Dec (0 < x) → row + y + 1 ≡ n → y ≡ row + (n - 1)
+      last-only (yes g) z = absurd (omega (arith, later g))
+      last-only (no g) z = omega (arith, start (omega arith))
+
+pub next-row : (x n : ℕ) → x * n + n ≡ (x + 1) * n
+next-row x n = omega (arith, add-mul x 1 n, one-mul n)
+
+built-is : (f : List ℕ) (n r kind first row : ℕ) → r < 5 → builtInAt n r row ≡ holdsAt f n r kind first row
+unfolding builtInAt
+built-is f n r kind first row h = by-number (decLt r 3)
+  where
+    by-number : Dec (r < 3) → builtInAt n r row ≡ holdsAt f n r kind first row
+    by-number (yes l) = rw (lt-ltb r 3 l) (is-pair f n r kind first row l)
+    by-number (no l) = let k : 3 ≤ r = omega arith in rw (le-ltb r 3 k) (is-one f n r kind first row k h)
+
+-- ---- the tuples and not-tuples of a relation
+turned-not : (b : Bool) → turned true b ≡ not b
+unfolding turned
+turned-not b = refl
+
+turned-same : (b : Bool) → turned false b ≡ b
+unfolding turned
+turned-same b = refl
+
+paste-from : (s : ℕ → Bool) (to : ℕ) (q : ℕ → Bool) (from c : ℕ) → paste s to q from c ≡ paste s to (λ i. q (from + i)) 0 c
 unfolding paste
-put-paste s to k i g b out = fun-ext (λ j. by-number j (ℕ-discrete j i))
-  where
-    by-number : (j : ℕ) → Dec (j ≡ i) → put (paste s to g 0 k) i b j ≡ paste (put s i b) to g 0 k j
-    by-number j (yes e) =
-        ap (put (paste s to g 0 k) i b) e ∙ put-same (paste s to g 0 k) i b ∙ sym (put-same s i b) ∙ ap (put s i b) (sym e)
-        ∙ sym (paste-out (put s i b) to g 0 k j (λ q. out (omega (arith, q .0), omega (arith, q .1))))
-    by-number j (no n) = put-other (paste s to g 0 k) i b j n ∙ ap (λ (x : Bool). cond (leb to j && ltb j (to + k)) (g (0 + (j - to))) x) (sym (put-other s i b j n))
+paste-from s to q from c = fun-ext (λ j. ap (λ (i : ℕ). cond (leb to j && ltb j (to + c)) (q (from + i)) (s j)) (sym (zero-add (j - to))))
 
--- one more bit of a range that is written from its start
-pub range-step : (s : ℕ → Bool) (to : ℕ) (g : ℕ → Bool) (k : ℕ) {d d′ : ℕ → Bool} {b : Bool} → d ≡ paste s to g 0 k → d′ ≡ put d (to + k) b → b ≡ g k → d′ ≡ paste s to g 0 (k + 1)
-range-step s to g k e e′ h = paste-step s to g 0 k e e′ (h ∙ ap g (sym (zero-add k)))
-
--- clearing a clear bit changes nothing
-put-clear : (s : ℕ → Bool) (i : ℕ) → s i ≡ false → put s i false ≡ s
-put-clear s i e = fun-ext (λ j. by-number j (ℕ-discrete j i))
-  where
-    by-number : (j : ℕ) → Dec (j ≡ i) → put s i false j ≡ s j
-    by-number j (yes q) = ap (put s i false) q ∙ put-same s i false ∙ sym e ∙ ap s (sym q)
-    by-number j (no q) = put-other s i false j q
-
--- of two clear bits one is set: both are written
-one-of : (s : ℕ → Bool) (i j : ℕ) (b : Bool) → j ≢ i → s i ≡ false → s j ≡ false → put s (if b then i else j) true ≡ put (put s i b) j (not b)
-one-of s i j true n ei ej = sym (put-clear (put s i true) j (put-other s i true j n ∙ ej))
-one-of s i j false n ei ej = ap (λ (z : ℕ → Bool). put z j true) (sym (put-clear s i ei))
-
-module _ (f : List ℕ) (n r : ℕ) (k : RelationLine) (first : ℕ) (s : ℕ → Bool) where
+module _ (f : List ℕ) (n r : ℕ) (k : RelationLine) (first c : ℕ) (s : ℕ → Bool) where
   abbrev g : ℕ → Bool
   g = holdsAt f n r (k .kind) first
 
   abbrev h : ℕ → Bool
   h = λ row. not (holdsAt f n r (k .kind) first row)
 
-  abbrev both : ℕ → ℕ → Bool
-  both c = paste (paste s (k .tuples) g 0 c) (k .nots) h 0 c
+  -- both ranges are written
+  held-built : r < 5 → heldPut f n r k first c s ≡ paste s (k .tuples) g 0 c
+  unfolding heldPut
+  held-built l = rw (lt-ltb r 5 l) refl
 
-  pub tuples-none : s ≡ tuplesPut f n r k first 0 s
+  held-facts : 5 ≤ r → k .kind ≡ 0 → heldPut f n r k first c s ≡ paste s (k .tuples) g 0 c
+  unfolding heldPut
+  held-facts l e = rw (le-ltb r 5 l, eq-eqb (k .kind) 0 e) refl
+
+  held-chosen : 5 ≤ r → k .kind ≢ 0 → heldPut f n r k first c s ≡ s
+  unfolding heldPut
+  held-chosen l e = rw (le-ltb r 5 l, ne-eqb (k .kind) 0 e) refl
+
+  both-put : {q q′ d d′ : ℕ → Bool} → heldPut f n r k first c s ≡ paste s (k .tuples) g 0 c → q ≡ g → q′ ≡ h
+      → d ≡ paste s (k .tuples) q 0 c → d′ ≡ paste d (k .nots) q′ 0 c → d′ ≡ tuplesPut f n r k first c s
   unfolding tuplesPut
-  tuples-none = refl
+  both-put is e e′ a b =
+      b ∙ ap₂ (λ (z y : ℕ → Bool). paste z (k .nots) y 0 c) (a ∙ ap (λ (y : ℕ → Bool). paste s (k .tuples) y 0 c) e ∙ sym is) e′
 
-  pub tuples-step : (c : ℕ) {d d′ : ℕ → Bool} {i : ℕ} → d ≡ tuplesPut f n r k first c s → i ≡ holdingAt f n r k first c → d′ ≡ put d i true → d′ ≡ tuplesPut f n r k first (c + 1) s
+  pub tuples-none : c ≡ 0 → s ≡ tuplesPut f n r k first c s
   unfolding tuplesPut
-  tuples-step c e ei e′ = rw (add-one c) (e′ ∙ ap₂ (λ (z : ℕ → Bool) (x : ℕ). put z x true) e ei)
+  tuples-none e = nothing (decLt r 5) (ℕ-discrete (k .kind) 0) ∙ ap (paste (heldPut f n r k first c s) (k .nots) h 0) (sym e) ∙ refl
+    where
+      nothing : Dec (r < 5) → Dec (k .kind ≡ 0) → s ≡ paste (heldPut f n r k first c s) (k .nots) h 0 0
+      nothing (yes l) d = empty ∙ ap (λ (z : ℕ → Bool). paste z (k .nots) h 0 0) (sym (held-built l))
+        where
+          empty : s ≡ paste (paste s (k .tuples) g 0 c) (k .nots) h 0 0
+          empty = paste-zero s (k .tuples) g 0 ∙ ap (paste s (k .tuples) g 0) (sym e) ∙ paste-zero (paste s (k .tuples) g 0 c) (k .nots) h 0
+      nothing (no l) (yes d) = empty ∙ ap (λ (z : ℕ → Bool). paste z (k .nots) h 0 0) (sym (held-facts (omega arith) d))
+        where
+          empty : s ≡ paste (paste s (k .tuples) g 0 c) (k .nots) h 0 0
+          empty = paste-zero s (k .tuples) g 0 ∙ ap (paste s (k .tuples) g 0) (sym e) ∙ paste-zero (paste s (k .tuples) g 0 c) (k .nots) h 0
+      nothing (no l) (no d) = paste-zero s (k .nots) h 0 ∙ ap (λ (z : ℕ → Bool). paste z (k .nots) h 0 0) (sym (held-chosen (omega arith) d))
 
-  -- where both ranges were clear, they are written
-  both-step : (c : ℕ) → k .tuples + suc c ≤ k .nots → s (k .tuples + c) ≡ false → s (k .nots + c) ≡ false → put (both c) (holdingAt f n r k first c) true ≡ both (suc c)
-  unfolding holdingAt
-  both-step c l et en =
-      let t : both c (k .tuples + c) ≡ false = paste-out (paste s (k .tuples) g 0 c) (k .nots) h 0 c (k .tuples + c) (λ q. omega (arith, q .0)) ∙ paste-out s (k .tuples) g 0 c (k .tuples + c) (λ q. omega (arith, q .1)) ∙ et in
-      let o : both c (k .nots + c) ≡ false = paste-out (paste s (k .tuples) g 0 c) (k .nots) h 0 c (k .nots + c) (λ q. omega (arith, q .1)) ∙ paste-out s (k .tuples) g 0 c (k .nots + c) (λ q. omega (arith, q .1)) ∙ en in
-      let a = one-of (both c) (k .tuples + c) (k .nots + c) (g c) (λ q. omega arith) t o in
-      let b = put-paste (paste s (k .tuples) g 0 c) (k .nots) c (k .tuples + c) h (g c) (λ q. omega (arith, q .0)) in
-      let d = range-step s (k .tuples) g c refl refl refl in
-      rw (sym (add-one c)) (range-step (paste s (k .tuples) g 0 (c + 1)) (k .nots) h c (b ∙ ap (λ (z : ℕ → Bool). paste z (k .nots) h 0 c) d) a refl)
+  pub tuples-built : r < 5 → {d d′ : ℕ → Bool} → d ≡ paste s (k .tuples) (λ i. turned false (builtInAt n r i)) 0 c
+      → d′ ≡ paste d (k .nots) (λ i. turned true (builtInAt n r i)) 0 c → d′ ≡ tuplesPut f n r k first c s
+  tuples-built l a b =
+      both-put (held-built l) (fun-ext (λ i. turned-same (builtInAt n r i) ∙ built-is f n r (k .kind) first i l))
+      (fun-ext (λ i. turned-not (builtInAt n r i) ∙ ap not (built-is f n r (k .kind) first i l))) a b
 
-  pub tuples-both : (c : ℕ) → k .tuples + c ≤ k .nots → ((i : ℕ) → i < c → s (k .tuples + i) ≡ false) → ((i : ℕ) → i < c → s (k .nots + i) ≡ false) → tuplesPut f n r k first c s ≡ both c
+  pub tuples-facts : 5 ≤ r → k .kind ≡ 0 → {d d′ : ℕ → Bool} → d ≡ paste s (k .tuples) (λ i. turned false (bit f i)) (64 * first) c
+      → d′ ≡ paste d (k .nots) (λ i. turned true (bit f i)) (64 * first) c → d′ ≡ tuplesPut f n r k first c s
+  tuples-facts l e a b =
+      both-put (held-facts l e) (fun-ext (λ i. turned-same (bit f (64 * first + i)) ∙ is-fact f n r (k .kind) first i l e))
+      (fun-ext (λ i. turned-not (bit f (64 * first + i)) ∙ ap not (is-fact f n r (k .kind) first i l e)))
+      (a ∙ paste-from s (k .tuples) (λ i. turned false (bit f i)) (64 * first) c) (b ∙ paste-from _ (k .nots) (λ i. turned true (bit f i)) (64 * first) c)
+
+  pub tuples-chosen : 5 ≤ r → k .kind ≢ 0 → {d : ℕ → Bool} → d ≡ paste s (k .nots) (λ i. true) 0 c → d ≡ tuplesPut f n r k first c s
   unfolding tuplesPut
-  tuples-both zero l et en = paste-zero s (k .tuples) g 0 ∙ paste-zero (paste s (k .tuples) g 0 0) (k .nots) h 0
-  tuples-both (suc c) l et en =
-      ap (λ (z : ℕ → Bool). put z (holdingAt f n r k first c) true) (tuples-both c (omega arith) (λ i q. et i (omega arith)) (λ i q. en i (omega arith)))
-      ∙ both-step c l (et c (omega arith)) (en c (omega arith))
+  tuples-chosen l e a =
+      a ∙ ap₂ (λ (z y : ℕ → Bool). paste z (k .nots) y 0 c) (sym (held-chosen l e)) (fun-ext (λ i. ap not (is-unpicked f n r (k .kind) first i l e)))
+
+  pub tuples-count : (m : ℕ) → c ≡ m → {d : ℕ → Bool} → d ≡ tuplesPut f n r k first c s → d ≡ tuplesPut f n r k first m s
+  tuples-count m e a = a ∙ ap (λ (x : ℕ). tuplesPut f n r k first x s) e
+
+  -- where the tuples' range was clear, both are written of a `choose` too
+  pub tuples-both : ((i : ℕ) → i < c → s (k .tuples + i) ≡ false) → tuplesPut f n r k first c s ≡ paste (paste s (k .tuples) g 0 c) (k .nots) h 0 c
+  unfolding tuplesPut
+  tuples-both clear = ap (λ (z : ℕ → Bool). paste z (k .nots) h 0 c) (held (decLt r 5) (ℕ-discrete (k .kind) 0))
+    where
+      held : Dec (r < 5) → Dec (k .kind ≡ 0) → heldPut f n r k first c s ≡ paste s (k .tuples) g 0 c
+      held (yes l) d = held-built l
+      held (no l) (yes d) = held-facts (omega arith) d
+      held (no l) (no d) = held-chosen (omega arith) d ∙ paste-clear s (k .tuples) c g (λ i u. clear i u ∙ is-unpicked f n r (k .kind) first i (omega arith) d)
 
 -- ---- a relation, and all of them
 pub line-few : (w : List ℕ) → Fits w → (r : ℕ) (k : RelationLine) → k ≡ relationLine w r → (k .tuples ≤ 4294967296) × (k .nots ≤ 4294967296) × (k .free ≤ 4294967296)

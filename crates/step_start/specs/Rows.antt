@@ -1,25 +1,18 @@
 -- What is written for each relation, by the table of a grounded problem. A state is spoken of by the predicate of its bits.
-use mathlib.Core.Path.{_≡_}
-use mathlib.Core.Bool.{Bool, true, false}
+use mathlib.Core.Bool.{Bool, true, false, not}
 use mathlib.Core.List.{List}
 use Prim.Native.Nat.{ℕ, zero, suc, _+_, _-_, _*_, _/_, _%_, _≤_, _<_}
 use lib.Dec.{ltb, eqb}
 use Rattle.definitions.specs.Lists.{if_then_else_}
 use Rattle.definitions.specs.Sheet.Relations.{builtInHolds}
 use Rattle.definitions.specs.Problem.Atoms.{wordsFor}
-use Rattle.bits.specs.Table.{bit, put, paste}
+use Rattle.bits.specs.Table.{bit, paste}
 use Rattle.problem_table.specs.Lines.{sizeIn, relationsIn, nodesIn, relationLine, nodeLine}
 use Rattle.problem_table.specs.declared.RelationLine.{RelationLine}
-use Rattle.step_start.specs.declared.Pair.{Pair}
 
 -- where the atoms end
 abbrev pub atomsIn : List ℕ → ℕ
 atomsIn w = nodeLine w (nodesIn w) .atoms
-
--- the two places of a row over n elements
-pub record PairOf (n row : ℕ) (p : Pair) : Type 0 where
-  pub is : row ≡ p .x * n + p .y
-  pub below : p .y < n
 
 -- whether a tuple holds while nothing is picked: a built-in one by its two places or its one, one of a `rel` by its bit among the
 -- facts, whose words begin with word `first` of f, and none of a `choose`
@@ -30,6 +23,10 @@ holdsAt f n r kind first row =
     else if eqb kind 0 then bit f (64 * first + row)
     else false
 
+-- what a built-in relation says of a row
+unfoldable pub builtInAt : (n r row : ℕ) → Bool
+builtInAt n r row = if ltb r 3 then builtInHolds n r (row / n) (row % n) else builtInHolds n r row 0
+
 -- how many tuples and how many free atoms a relation has
 unfoldable pub rowsIn : RelationLine → ℕ
 rowsIn k = k .nots - k .tuples
@@ -37,14 +34,16 @@ rowsIn k = k .nots - k .tuples
 unfoldable pub freeIn : (n kind : ℕ) → ℕ
 freeIn n kind = if ltb kind 2 then 0 else if ltb kind 4 then n else 2 * n
 
--- of a tuple and its not-tuple, the one that holds
-unfoldable pub holdingAt : List ℕ → (n r : ℕ) → RelationLine → (first row : ℕ) → ℕ
-holdingAt f n r k first row = if holdsAt f n r (k .kind) first row then k .tuples + row else k .nots + row
+-- the state s, but a relation's first c tuples are as they hold while nothing is picked; those of a `choose` stay
+unfoldable pub heldPut : List ℕ → (n r : ℕ) → RelationLine → (first c : ℕ) → (ℕ → Bool) → ℕ → Bool
+heldPut f n r k first c s =
+    if ltb r 5 then paste s (k .tuples) (holdsAt f n r (k .kind) first) 0 c
+    else if eqb (k .kind) 0 then paste s (k .tuples) (holdsAt f n r (k .kind) first) 0 c
+    else s
 
--- the state s, but of a relation's first c tuples each or its not-tuple is set
+-- and its first c not-tuples are their opposites
 unfoldable pub tuplesPut : List ℕ → (n r : ℕ) → RelationLine → (first c : ℕ) → (ℕ → Bool) → ℕ → Bool
-tuplesPut f n r k first zero s = s
-tuplesPut f n r k first (suc c) s = put (tuplesPut f n r k first c s) (holdingAt f n r k first c) true
+tuplesPut f n r k first c s = paste (heldPut f n r k first c s) (k .nots) (λ row. not (holdsAt f n r (k .kind) first row)) 0 c
 
 -- a state in which all atoms of a relation are as they begin
 unfoldable pub relationPut : List ℕ → List ℕ → (r first : ℕ) → (ℕ → Bool) → ℕ → Bool

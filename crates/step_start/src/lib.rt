@@ -1,97 +1,33 @@
 // The initial state of a grounded problem, written into a lent table of words.
 ghost use mathlib.Core.Path.{_≡_};
-ghost use mathlib.Core.Bool.{true};
 ghost use Prim.Native.Nat.{ℕ, _+_, _*_, _^_, _<_, _≤_};
 ghost use lib.ListN.{length};
-ghost use Rattle.definitions.specs.Sheet.Relations.{builtInHolds};
 ghost use Rattle.definitions.specs.Problem.Atoms.{wordsFor};
-ghost use Rattle.bits.specs.Table.{bit, paste};
+ghost use Rattle.bits.specs.Table.{digit, bit, paste, turned};
 ghost use Rattle.problem_table.specs.Lines.{relationsIn, Fits};
-ghost use Rattle.step_start.specs.Rows.{PairOf, holdsAt, holdingAt, rowsIn, freeIn, tuplesPut, relationPut, RelationRoom, wordsIn, relationsPut, Room, atomsIn};
+ghost use Rattle.step_start.specs.Rows.{builtInAt, rowsIn, freeIn, tuplesPut, relationPut, RelationRoom, wordsIn, relationsPut, Room, atomsIn};
 ghost use Rattle.step_start.specs.Initial.{Begun};
 use problem_table::RelationLine;
 
-// The two places of a row, which is x times n and y.
-struct Pair {
-    x: usize,
-    y: usize,
-}
-
-// The places of the next row.
-fn next(p: Pair, n: usize) -> Pair
-    requires { ⌜ (p .x ≤ 2 ^ 32) × (p .y < n) ⌝ }
-    ensures { λ q. ⌜ ((row : ℕ) → PairOf n row p → PairOf n (row + 1) q) ⌝ }
-{
-    let y = p.y + 1;
-    if y == n {
-        return Pair { x: p.x + 1, y: 0 };
-    }
-    Pair { x: p.x, y }
-}
-
-// What a built-in relation says of x, and of y where it has two places.
-fn built_in_holds(n: usize, r: usize, x: usize, y: usize) -> bool
-    requires { ⌜ (r < 5) × (x ≤ 2 ^ 32) × (y ≤ 2 ^ 32) ⌝ }
-    ensures { λ b. ⌜ b ≡ builtInHolds n r x y ⌝ }
+// What a built-in relation says of the n rows from row `row` on, which are those of x where it has two places. With one place only
+// the first n rows are an element's: in later words the bit stands past the n that count.
+fn built_in_word(n: usize, r: usize, x: usize, row: usize) -> u64
+    requires { ⌜ (r < 5) × (row ≡ x * n) × (n ≤ 64) × (0 < n) × (x ≤ 2 ^ 32) × (row ≤ 2 ^ 32) ⌝ }
+    ensures { λ w. ⌜ ((y : ℕ) → y < n → digit w y ≡ builtInAt n r (row + y)) ⌝ }
 {
     if r == 0 {
-        return x == y;
+        return bits::single(x);
     }
     if r == 1 {
-        return x < y;
+        return !bits::mask(bits::least(x + 1, 64));
     }
     if r == 2 {
-        return y == x + 1;
+        return bits::single(x + 1);
     }
     if r == 3 {
-        return x == 0;
+        return bits::single(row);
     }
-    x + 1 == n
-}
-
-// Whether a tuple holds while nothing is picked: a built-in one by its meaning, one of a `rel` by its bit among the facts, whose
-// words begin with word `first`, and none of a `choose`. The row comes with its two places, since dividing takes long.
-fn tuple_holds(
-    facts: &[u64],
-    n: usize,
-    r: usize,
-    kind: usize,
-    first: usize,
-    row: usize,
-    p: Pair,
-) -> bool
-    requires { ⌜ PairOf n row p × (first ≤ 2 ^ 32) × (row ≤ 2 ^ 32) ⌝ }
-    ensures { λ b. ⌜ b ≡ holdsAt (now (facts .entry)) n r kind first row ⌝ }
-{
-    if r < 3 {
-        return built_in_holds(n, r, p.x, p.y);
-    }
-    if r < 5 {
-        return built_in_holds(n, r, row, 0);
-    }
-    if kind == 0 {
-        return problem_table::test(facts, 64 * first + row);
-    }
-    false
-}
-
-// Of a tuple and its not-tuple, the number of the one that holds.
-fn holding(
-    facts: &[u64],
-    n: usize,
-    r: usize,
-    k: RelationLine,
-    first: usize,
-    row: usize,
-    p: Pair,
-) -> usize
-    requires { ⌜ PairOf n row p × (first ≤ 2 ^ 32) × (k .tuples ≤ 2 ^ 32) × (k .nots ≤ 2 ^ 32) × (row ≤ 2 ^ 32) ⌝ }
-    ensures { λ i. ⌜ i ≡ holdingAt (now (facts .entry)) n r k first row ⌝ }
-{
-    if tuple_holds(facts, n, r, k.kind, first, row, p) {
-        return k.tuples + row;
-    }
-    k.nots + row
+    bits::single(row + (n - 1))
 }
 
 // How many tuples a relation has.
@@ -118,33 +54,49 @@ fn free(n: usize, kind: usize) -> usize
     2 * n
 }
 
-// Of each tuple of a relation, it or its not-tuple holds; the state was clear, so that one bit says both.
+// The `count` bits from bit `to` on become what a built-in relation says of its rows, or the opposites.
+fn put_built_in(state: &mut [u64], to: usize, count: usize, n: usize, r: usize, flip: bool)
+    requires { ⌜ (r < 5) × (n ≤ 64) × (0 < n) × (to ≤ 2 ^ 32) × (count ≤ 2 ^ 32) ⌝ }
+    ensures { λ u. ⌜ (to + count ≤ 64 * length (now (state .entry))
+        → bit (now (state .exit)) ≡ paste (bit (now (state .entry))) to (λ i. turned flip (builtInAt n r i)) 0 count) ⌝ }
+{
+    let mut row: usize = 0;
+    let mut x: usize = 0;
+    while row < count {
+        let c = bits::least(n, count - row);
+        bits::store(
+            state,
+            to + row,
+            c,
+            bits::turn(built_in_word(n, r, x, row), flip),
+        );
+        row += c;
+        x += 1;
+    }
+}
+
+// Of each tuple of a relation, it or its not-tuple holds while nothing is picked: a built-in one by its meaning, one of a `rel` by its
+// bit among the facts, whose words begin with word `first`, and none of a `choose`, whose tuples' bits are clear already.
 fn put_tuples(state: &mut [u64], facts: &[u64], n: usize, r: usize, k: RelationLine, first: usize)
-    requires { ⌜ (0 < n) × (first ≤ 2 ^ 32) × (k .tuples ≤ 2 ^ 32) × (k .nots ≤ 2 ^ 32) ⌝ }
+    requires { ⌜ (0 < n) × (n ≤ 64) × (first ≤ 2 ^ 32) × (k .tuples ≤ 2 ^ 32) × (k .nots ≤ 2 ^ 32) ⌝ }
     ensures { λ u. ⌜ (k .nots + rowsIn k ≤ 64 * length (now (state .entry))
         → bit (now (state .exit)) ≡ tuplesPut (now (facts .entry)) n r k first (rowsIn k) (bit (now (state .entry)))) ⌝ }
 {
     let count = rows(k);
-    let mut row: usize = 0;
-    let mut p = Pair { x: 0, y: 0 };
-    while row < count {
-        problem_table::raise(state, holding(facts, n, r, k, first, row, p));
-        p = next(p, n);
-        row += 1;
+    if count == 0 {
+        return;
     }
-}
-
-// The `count` bits from bit `from` on are set.
-fn put_free(state: &mut [u64], from: usize, count: usize)
-    requires { ⌜ (from ≤ 2 ^ 32) × (count ≤ 2 ^ 32) ⌝ }
-    ensures { λ u. ⌜ (from + count ≤ 64 * length (now (state .entry))
-        → bit (now (state .exit)) ≡ paste (bit (now (state .entry))) from (λ i. true) 0 count) ⌝ }
-{
-    let mut k: usize = 0;
-    while k < count {
-        problem_table::raise(state, from + k);
-        k += 1;
+    if r < 5 {
+        put_built_in(state, k.tuples, count, n, r, false);
+        put_built_in(state, k.nots, count, n, r, true);
+        return;
     }
+    if k.kind == 0 {
+        bits::copy(state, k.tuples, facts, 64 * first, count, false);
+        bits::copy(state, k.nots, facts, 64 * first, count, true);
+        return;
+    }
+    bits::set_range(state, k.nots, count);
 }
 
 // The atoms of a relation.
@@ -157,7 +109,7 @@ fn put_relation(state: &mut [u64], facts: &[u64], table: &[usize], r: usize, fir
     let k = problem_table::relation_line(table, r);
     put_tuples(state, facts, n, r, k, first);
     let count = free(n, k.kind);
-    put_free(state, k.free, count);
+    bits::set_range(state, k.free, count);
 }
 
 // How many words of facts a relation has; a built-in one has none.

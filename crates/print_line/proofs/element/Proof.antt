@@ -28,17 +28,17 @@ returns c =
 sub-text : tie.Need-sub-text
 sub-text c =
     let S = c .before .before .before .before .before .before .before .before .before .before in
-    its-span (S .args .site .now) (S .args .labels .now) (S .args .x) _ _ (c .before .before .label .ensures .0) (c .before .before .label .ensures .1) _ (S .pre .0) .0
+    its-span (S .args .site .now) (S .args .labels .now) (S .args .x) _ _ (c .before .before .label .ensures .0) (c .before .before .label .ensures .1) _ (S .pre .0) (omega arith) .0
 
 part-text-start : tie.Need-part-text-start
 part-text-start c =
     let S = c .before .before .before .before .before .before .before .before .before .before in
-    its-span (S .args .site .now) (S .args .labels .now) (S .args .x) _ _ (c .before .before .label .ensures .0) (c .before .before .label .ensures .1) _ (S .pre .0) .0
+    its-span (S .args .site .now) (S .args .labels .now) (S .args .x) _ _ (c .before .before .label .ensures .0) (c .before .before .label .ensures .1) _ (S .pre .0) (omega arith) .0
 
 part-text-end : tie.Need-part-text-end
 part-text-end c =
     let S = c .before .before .before .before .before .before .before .before .before .before in
-    its-span (S .args .site .now) (S .args .labels .now) (S .args .x) _ _ (c .before .before .label .ensures .0) (c .before .before .label .ensures .1) _ (S .pre .0) .1
+    its-span (S .args .site .now) (S .args .labels .now) (S .args .x) _ _ (c .before .before .label .ensures .0) (c .before .before .label .ensures .1) _ (S .pre .0) (omega arith) .1
 
 text-requires : tie.Need-text-requires
 text-requires c κs =

@@ -1,43 +1,47 @@
--- `read_tuples::element_named` meets its contract. None of the elements before x has the name, and labels are one to one.
+-- `read_tuples::element_named`: what a hint says is tested, and behind it stands the scan. Assumes nothing.
 use Prim.Native.Nat.{_-_, _≤_}
-use mathlib.Core.Path.{_≡_, sym, _∙_}
-use mathlib.Core.Logic.{⊎-elim}
 use native.Mathlib.Omega.{arith}
-use lib.Seq.{slice}
 use borrow.Author.Needs.{needs}
-use Rattle.read_tuples.proofs.Naming.{NotBefore, not-yet, other-length, other-bytes, found-here, found-nowhere, found-empty}
 use Rattle.read_tuples.proofs.element_named.Tie as tie
 
 abbrev Inv-loop : tie.InvT-loop
-Inv-loop s a e n site labels wanted x₀ x = (x ≤ n) × NotBefore site labels (slice a e s) x
+Inv-loop s a e n site labels first k₀ k = k ≤ 8
 
 abbrev μ-loop : tie.MeasureT-loop
-μ-loop s a e n site labels wanted x₀ x = n - x
+μ-loop s a e n site labels first k₀ k = 8 - k
+
+add-x : tie.Need-add-x Inv-loop μ-loop
+add-x c = omega (arith, c .before .before .slot .ensures)
+
+shared-slice-read-x : tie.Need-shared-slice-read-x Inv-loop μ-loop
+shared-slice-read-x c = omega (arith, c .before .before .before .before .before .before .before .pre .1 .1 .room)
+
+has-name-requires : tie.Need-has-name-requires Inv-loop μ-loop
+has-name-requires c κs = (c .before .before .before .before .before .before .before .pre .0, c .before .before .before .before .before .before .before .pre .1 .1 .room)
+
+returns : tie.Need-returns Inv-loop μ-loop
+returns c = λ ls L. c .before .has-name .ensures (c .if1 .taken) ls L
 
 returns-2 : tie.Need-returns-2 Inv-loop μ-loop
-returns-2 c = λ ls L.
-    found-here _ _ _ ls L _ (c .before .before .before .before .before .before .loop .x) (omega (arith, c .before .before .if2 .taken))
-    (sym (c .before .same-span .ensures) ∙ c .if3 .taken)
-
-loop-again : tie.Need-loop-again Inv-loop μ-loop
-loop-again c =
-    let l = c .before .before .before .before .loop in
-    let here = c .before .before .before .before .before .before .before .before .before .before .pre .1 .1 .in-text (l .x) .1 in
-    let length = c .before .before .before .before .before .before .span-length .ensures in (
-      omega arith,
-      ⊎-elim (λ w. other-bytes _ _ _ (l .x) (l .inv .1) (sym (w .1 .ensures) ∙ w .2 .left))
-          (λ w. other-length _ _ _ (l .x) (l .inv .1) here (λ q. w .left (q ∙ sym length))) (c .if2 .came),
-    )
-
-returns-3 : tie.Need-returns-3 Inv-loop μ-loop
-returns-3 c = λ ls L. found-nowhere _ _ _ ls L _
-    (let e : c .before .loop .x ≡ c .before .before .before .before .before .before .before .args .n = omega arith in rw e at (c .before .loop .inv .1))
+returns-2 c = c .scan .ensures
 
 pub element-named-spec : {M : Type 1} → Rattle.read_tuples.proofs.element_named.Statement.statement M
-element-named-spec = tie.close (tie.spec Inv-loop μ-loop (λ c κs. search needs)
-    (λ c. λ ls L. found-empty _ _ (c .before .before .before .before .before .args .n) ls L _ (sym (c .before .span-length .ensures) ∙ c .if1 .taken))
-    (λ c. (omega arith, not-yet _ _ _)) (λ c. omega (arith, c .before .loop .inv .0)) (λ c. omega arith)
-    (λ c. omega (arith, c .before .before .before .before .before .before .before .before .pre .1 .1 .room)) (λ c. omega arith) (λ c. omega arith)
-    (λ c. omega arith) (λ c. omega (arith, c .before .before .before .before .before .before .before .before .before .pre .1 .1 .room))
-    (λ c. c .before .before .before .before .before .before .before .before .before .pre .1 .1 .in-text (c .before .before .before .loop .x) .0)
-    (λ c κs. search needs) returns-2 (λ c. omega arith) (λ c. omega arith) loop-again returns-3)
+element-named-spec =
+    tie.close
+    (tie.spec
+    Inv-loop
+    μ-loop
+    (λ c κs. search needs)
+    (λ c. omega arith)
+    add-x
+    (λ c. omega arith)
+    (λ c. omega arith)
+    (λ c. omega arith)
+    shared-slice-read-x
+    has-name-requires
+    returns
+    (λ c. omega arith)
+    (λ c. omega arith)
+    (λ c. omega arith)
+    (λ c κs. search needs)
+    returns-2)

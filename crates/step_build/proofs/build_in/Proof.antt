@@ -1,33 +1,70 @@
--- The way is followed in a scratch copy of the state, with the steps kept; both are copied to what is lent if the goal was proved.
-use mathlib.Core.Path.{_≡_}
 use native.Mathlib.Omega.{arith}
-use lib.ListN.{length}
-use Rattle.definitions.specs.Problem.Atoms.{problemOf}
-use Rattle.step_prove.specs.Following.{out}
-use Rattle.step_build.specs.EndLaws.{from-fresh, words-some}
-use Rattle.step_build.specs.BuildLaws.{build-false, build-steps}
+use mathlib.Core.Path.{sym, _∙_}
+use lib.Seq.{length-take-le}
+use Rattle.step_build.specs.Lending.{lent-false, lent-steps}
+use Rattle.step_build.specs.Holding.{as-true}
 use borrow.Author.Needs.{needs}
+use Rattle.step_build.proofs.build_in.Statement.{statement}
 use Rattle.step_build.proofs.build_in.Tie as tie
 
+-- src/lib.rt:268:8
+rule-holds-requires : tie.Need-rule-holds-requires
+rule-holds-requires c κs = search needs
+
+-- src/lib.rt:269:22
+add-words : tie.Need-add-words
+add-words c = search needs
+
+-- src/lib.rt:270:44
+slice-relend-prefix-start-and-follow : tie.Need-slice-relend-prefix-start-and-follow
+slice-relend-prefix-start-and-follow c = search needs
+
+-- src/lib.rt:270:44
+slice-aggregate-start-and-follow : tie.Need-slice-aggregate-start-and-follow
+slice-aggregate-start-and-follow c = sym (length-take-le _ _ (c .before .before .before .before .before .before .before .before .before .before .before .before .before .pre .0 .3))
+
+-- src/lib.rt:270:13
+start-and-follow-requires : tie.Need-start-and-follow-requires
+start-and-follow-requires c κs = let q = c .before .before .before .before .before .before .before .before .before .before .before .before .before .before .pre in (q .0 .0, q .0 .1, length-take-le _ _ (q .0 .3), c .before .before .before .before .before .before .rule-holds .kept .0 ∙ q .1)
+
+-- src/lib.rt:271:9
+same-length : tie.Need-same-length
+same-length c = search needs
+
+-- src/lib.rt:271:9
+same-length-2 : tie.Need-same-length-2
+same-length-2 c = search needs
+
+-- src/lib.rt:271:9
+same-length-3 : tie.Need-same-length-3
+same-length-3 c = search needs
+
+-- src/lib.rt:271:9
 returns : tie.Need-returns
-returns c =
-    let w = c .before .before .before .before .before .before .before .copy2 in
-    let f = c .before .before .before .before .before .before .before .before .before .before .before .before .before .before in
-    let copy = f .before .before .before .before .copy in let s = f .before .before .before .before .before .before .before .before .before .before .before .before in λ x F a.
-    let n : length (copy .last .0) ≡ 1024 = search needs in
-    let follow = f .follow .ensures (problemOf x) (record { is = a .is; room = omega (arith, a .atoms-are); few = a .few }) (a .atoms-are) in
-    build-steps x F _ _ _ _ _ _ a _ _ _ _ _ (c .before .before .before .before .before .before .before .before .before .before .if1 .taken)
-    (from-fresh _ _ _ _ 1024 _ (out _ _ _) _ (copy .ensures .0) follow) (omega arith) (w .ensures .1 (words-some (problemOf x) _ (a .atoms-are))) (omega (arith, f .follow .kept .0)) _ _
-    (w .ensures .0) (c .before .before .copy-steps .ensures)
+returns c = let q = c .before .before .before .before .before .before .before .before .before .before .before .before .before .before .before .before .before .before .before .pre in let h = c .before .before .before .before .before .before .before .before .before .before .before .rule-holds in let f = c .before .before .before .before .start-and-follow in
+    λ x F G n. lent-steps x F _ _ _ _ _ _ G n _ (h .ensures x F _ G n .told) (c .before .before .before .before .before .before .before .before .if1 .taken) _ _ _ _ (f .ensures x F _ G n (as-true (c .before .before .before .before .before .before .before .before .if1 .taken) (h .ensures x F _ G n))) (λ j. omega (arith, c .before .before .slice-known5 .given j, c .slice-known6 .given j))
+    (f .kept .1 .0 ∙ length-take-le _ _ (q .0 .3))
 
+-- src/lib.rt:254:1
+same-length-4 : tie.Need-same-length-4
+same-length-4 c = search needs
+
+-- src/lib.rt:254:1
 returns-2 : tie.Need-returns-2
-returns-2 c =
-    let f = c .before .before .before .before in let copy = f .before .before .before .before .copy in
-    let s = f .before .before .before .before .before .before .before .before .before .before .before .before in λ x F a. let n : length (copy .last .0) ≡ 1024 = search needs in
-    let follow = f .follow .ensures (problemOf x) (record { is = a .is; room = omega (arith, a .atoms-are); few = a .few }) (a .atoms-are) in
-    build-false x F _ _ _ _ _ _ a _ _ _ (c .if1 .left) (from-fresh _ _ _ _ 1024 _ (out _ _ _) _ (copy .ensures .0) follow)
+returns-2 c = let h = c .before .before .before .rule-holds in λ x F G n. lent-false x F _ _ _ _ _ _ G n _ (h .ensures x F _ G n .told) (c .if1 .left)
 
-pub build-in-spec : {M : Type 1} → Rattle.step_build.proofs.build_in.Statement.statement M
-build-in-spec = tie.close (tie.spec (λ c. search needs) (λ c κs. search needs) (λ c. search needs) (λ c κs. search needs) (λ c. search needs)
-    (λ c. search needs) (λ c κs. search needs) (λ c κs. search needs) (λ c. search needs) (λ c. search needs) (λ c. search needs) returns
-    (λ c. search needs) returns-2)
+pub build-in-spec : {M : Type 1} → statement M
+build-in-spec =
+    tie.close
+    (tie.spec
+    rule-holds-requires
+    add-words
+    slice-relend-prefix-start-and-follow
+    slice-aggregate-start-and-follow
+    start-and-follow-requires
+    same-length
+    same-length-2
+    same-length-3
+    returns
+    same-length-4
+    returns-2)

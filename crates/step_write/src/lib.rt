@@ -1,0 +1,179 @@
+// The steps of the nodes, read off a state that knows the truth of all their atoms: a step for each true atom, later nodes first, its
+// number written to the lent steps.
+ghost use mathlib.Core.Path.{_≡_};
+ghost use mathlib.Core.List.{List};
+ghost use Prim.Native.Nat.{ℕ, zero, _+_, _-_, _*_, _^_, _<_, _≤_};
+ghost use lib.ListN.{length, set as «set-at»};
+ghost use Rattle.definitions.specs.Lists.{from};
+ghost use Rattle.definitions.specs.Sheet.Relations.{Tuple};
+ghost use Rattle.definitions.specs.Problem.Atoms.{Problem, nodeStart};
+ghost use Rattle.meaning.specs.Means.{Good};
+ghost use Rattle.bits.specs.Table.{bit};
+ghost use Rattle.rows.specs.Values.{Within};
+ghost use Rattle.problem_table.specs.Lines.{sizeIn, nodeLine, NodeFits, RangeFits, Fits};
+ghost use Rattle.step_prove.specs.Tries.{wayAt, Digits, Rest};
+ghost use Rattle.step_write.specs.Steps.{Readable, Reading, Wrote, rowNumbers, nodeNumbers, linkNumbers};
+
+// The step of one atom of an `exists`, `and` or `or`, if that is true: the first of its `tries` actions whose needs all hold.
+fn write_row(
+    state: &[u64],
+    steps: &mut [u32],
+    at: usize,
+    table: &[usize],
+    v: problem_table::NodeLine,
+    tries: usize,
+    digits: &[usize],
+    row: usize,
+) -> usize
+    requires { ⌜ Fits (now table) × NodeFits v × (v .acts ≤ 2 ^ 32) × (v .atoms ≤ 2 ^ 32) × (row ≤ 2 ^ 32) × (at < 2 ^ 40) × (0 < v .kind) × (tries ≤ 2 ^ 11) × (length (now digits) ≡ 4) × Within (sizeIn (now table)) (now digits) × Rest (v .width) (now digits) × RangeFits (now table) v ⌝ }
+    ensures { λ r. ⌜ (r ≤ at + 1) × ((p : Problem) (G : Good p) (F : List Tuple) (node width : ℕ) → Reading p G F (now (table .entry)) node v width (bit (now (state .entry)))
+        → (tries ≡ wayAt (now (table .entry)) v row .tries) × (tries ≡ wayAt (now (table .entry)) v row .choices)
+        → Digits (sizeIn (now (table .entry))) (v .width) row (now (digits .entry)) → row < width
+        → Wrote (now (steps .entry)) at (rowNumbers p F node (from row 1)) (now (steps .exit)) r) ⌝ }
+{
+    if problem_table::test(state, v.atoms + row) {
+        let i = step_prove::first_try(state, table[0], table, v, digits);
+        if i < tries {
+            step_prove::put(steps, at, v.acts + row * tries + i);
+            return at + 1;
+        }
+    }
+    at
+}
+
+// The steps of an `exists`, `and` or `or`.
+fn write_rows(
+    state: &[u64],
+    steps: &mut [u32],
+    at: usize,
+    table: &[usize],
+    v: problem_table::NodeLine,
+    width: usize,
+) -> usize
+    requires { ⌜ Fits (now table) × NodeFits v × (v .acts ≤ 2 ^ 32) × (v .atoms ≤ 2 ^ 32) × (0 < v .kind) × (width ≤ 2 ^ 32) × (at < 2 ^ 39) × RangeFits (now table) v ⌝ }
+    ensures { λ r. ⌜ (r ≤ at + width) × ((p : Problem) (G : Good p) (F : List Tuple) (node : ℕ) → Reading p G F (now (table .entry)) node v width (bit (now (state .entry)))
+        → Wrote (now (steps .entry)) at (rowNumbers p F node (from zero width)) (now (steps .exit)) r) ⌝ }
+{
+    let n = table[0];
+    let m = step_prove::tries(v.kind, v.many, v.count);
+    let mut digits = [0usize; 4];
+    let mut k = at;
+    let mut row: usize = 0;
+    while row < width {
+        k = write_row(state, steps, k, table, v, m, &digits, row);
+        step_prove::advance(n, v.width, &mut digits);
+        row += 1;
+    }
+    k
+}
+
+// The step of one atom of a `forall`, if that is true.
+fn write_link(state: &[u64], steps: &mut [u32], at: usize, own: usize, number: usize) -> usize
+    requires { ⌜ at < 2 ^ 40 ⌝ }
+    ensures { λ r. ⌜ (r ≤ at + 1) × (number < 2 ^ 32 → Wrote (now (steps .entry)) at (linkNumbers (bit (now (state .entry)) own) number) (now (steps .exit)) r) ⌝ }
+{
+    if problem_table::test(state, own) {
+        step_prove::put(steps, at, number);
+        return at + 1;
+    }
+    at
+}
+
+// The steps of a row of a `forall`, whose atoms start at j and whose actions at `action`: member after member of its range.
+fn write_chain(
+    state: &[u64],
+    steps: &mut [u32],
+    at: usize,
+    table: &[usize],
+    v: problem_table::NodeLine,
+    j: usize,
+    action: usize,
+) -> usize
+    requires { ⌜ Fits (now table) × RangeFits (now table) v × (v .count ≤ 64) × (v .atoms ≤ 2 ^ 32) × (j ≤ 2 ^ 32) × (action ≤ 2 ^ 40) × (at + 64 ≤ 2 ^ 40) ⌝ }
+    ensures { λ r. ⌜ (r ≤ at + v .count) × ((p : Problem) (G : Good p) (F : List Tuple) (node width row : ℕ) → Reading p G F (now (table .entry)) node v width (bit (now (state .entry))) → v .kind ≡ 0
+        → j ≡ row * sizeIn (now (table .entry)) → action ≡ v .acts + row * v .count → j + sizeIn (now (table .entry)) ≤ width
+        → Wrote (now (steps .entry)) at (rowNumbers p F node (from j (sizeIn (now (table .entry))))) (now (steps .exit)) r) ⌝ }
+{
+    let mut k = at;
+    let mut i: usize = 0;
+    while i < v.count {
+        let z = table[v.range + i];
+        k = write_link(state, steps, k, v.atoms + (j + z), action + i);
+        i += 1;
+    }
+    k
+}
+
+// The steps of a `forall`. A range of more than n members is no problem's, and nothing is written for it.
+fn write_chains(
+    state: &[u64],
+    steps: &mut [u32],
+    at: usize,
+    table: &[usize],
+    v: problem_table::NodeLine,
+    width: usize,
+) -> usize
+    requires { ⌜ Fits (now table) × NodeFits v × (v .acts ≤ 2 ^ 32) × (v .atoms ≤ 2 ^ 32) × (v .kind ≡ 0) × (width ≤ 2 ^ 32) × (at < 2 ^ 39) × RangeFits (now table) v ⌝ }
+    ensures { λ r. ⌜ (r ≤ at + width) × ((p : Problem) (G : Good p) (F : List Tuple) (node : ℕ) → Reading p G F (now (table .entry)) node v width (bit (now (state .entry)))
+        → Wrote (now (steps .entry)) at (rowNumbers p F node (from zero width)) (now (steps .exit)) r) ⌝ }
+{
+    let n = table[0];
+    if n < v.count {
+        return at;
+    }
+    let mut k = at;
+    let mut j: usize = 0;
+    let mut action = v.acts;
+    while j + n <= width {
+        k = write_chain(state, steps, k, table, v, j, action);
+        j += n;
+        action += v.count;
+    }
+    k
+}
+
+// The steps of a node.
+fn write_node(
+    state: &[u64],
+    steps: &mut [u32],
+    at: usize,
+    table: &[usize],
+    node: usize,
+    width: usize,
+) -> usize
+    requires { ⌜ Fits (now table) × (node < 64) × (width ≤ 2 ^ 32) × (at < 2 ^ 39) ⌝ }
+    ensures { λ r. ⌜ (r ≤ at + width) × ((p : Problem) (G : Good p) (F : List Tuple) → Reading p G F (now (table .entry)) node (nodeLine (now (table .entry)) node) width (bit (now (state .entry)))
+        → Wrote (now (steps .entry)) at (rowNumbers p F node (from zero width)) (now (steps .exit)) r) ⌝ }
+{
+    let v = problem_table::node_line(table, node);
+    if v.kind == 0 {
+        return write_chains(state, steps, at, table, v, width);
+    }
+    write_rows(state, steps, at, table, v, width)
+}
+
+// The steps of the nodes before `past`, the last of them first.
+pub fn write_nodes(
+    state: &[u64],
+    steps: &mut [u32],
+    at: usize,
+    table: &[usize],
+    past: usize,
+) -> usize
+    requires { ⌜ Fits (now table) × (past ≤ 64) × (at ≤ 2 ^ 37) ⌝ }
+    ensures { λ r. ⌜ (r ≤ at + 64 * 2 ^ 32) × ((p : Problem) (G : Good p) (F : List Tuple) → Readable p G F (now (table .entry)) (bit (now (state .entry))) → past ≤ length (p .nodeList) → nodeLine (now (table .entry)) past .atoms ≡ nodeStart p past
+        → Wrote (now (steps .entry)) at (nodeNumbers p F past) (now (steps .exit)) r) ⌝ }
+{
+    let last = problem_table::node_line(table, past);
+    let mut end = last.atoms;
+    let mut k = at;
+    let mut v = past;
+    while 0 < v {
+        v -= 1;
+        let line = problem_table::node_line(table, v);
+        let width = step_prove::gap(line.atoms, end);
+        k = write_node(state, steps, k, table, v, width);
+        end = line.atoms;
+    }
+    k
+}
