@@ -1,8 +1,8 @@
 /* The calls of libnendokwe.a (`rt staticlib nendokwe`), for C on x86-64.
  *
  * A text or a buffer goes over as a pointer and a length: bytes for texts, 64-bit words for picks and states, 32-bit entries for steps.
- * What is only read is const. Buffers must not overlap each other, nor `number`, `place` or any other result; a length of 0 may go with
- * any pointer that is not null.
+ * What is only read is const. Buffers must not overlap each other, nor `number`, `place` or any other result; with a length of 0 any
+ * pointer will do, a null pointer too.
  *
  * Every call answers whatever is handed over. It writes a refusal's number to *number and its place to *place, or 0 and the count named
  * at the call. docs/GUIDE.md says what the numbers mean. A buffer that is too short is 12, and the place is the length that is needed; a
@@ -30,7 +30,9 @@ void nendokwe_sizes(const uint8_t *question, size_t question_length, const uint8
                     uint32_t *number, size_t *place, size_t *elements, size_t *atoms, size_t *actions, size_t *bound);
 
 /* The action of number k: kind 0 set, 1 begin-proof, 2 and, 3 or, 4 exists, 5 forall, 6 prove-goal; its relation or node; its row; the
- * part or element that is chosen. 13 and k where there is none. Success is 0 and 0; a refusal leaves the four as they were. */
+ * part or element that is chosen. Relations are numbered from 0: EQ, LT, SUC, ZERO, MAX, then those of the `rel` lines, then those of
+ * the `choose` lines, each in order; so the first `choose` is 5 and the number of `rel` lines. 13 and k where there is none. Success is 0
+ * and 0; a refusal leaves the four as they were. */
 void nendokwe_action(const uint8_t *question, size_t question_length, const uint8_t *site, size_t site_length, size_t k,
                      uint32_t *number, size_t *place, uint32_t *kind, size_t *subject, size_t *row, size_t *choice);
 
@@ -60,7 +62,9 @@ void nendokwe_build(const uint8_t *question, size_t question_length, const uint8
                     uint32_t *steps, size_t steps_length, uint32_t *number, size_t *place);
 
 /* Says whether the rule is true of picks, as a text or as words, and writes nothing: a yes is 0 and 0, a no or any other refusal is what
- * building answers with buffers that are long enough. */
+ * building answers with buffers that are long enough. Values are tried until the rule is decided, and nothing is kept for later: at worst,
+ * with four quantifiers over 64 elements, these are 16,777,216 turns with some 50 tests each, which takes seconds. A server that takes
+ * rules from strangers limits the elements, or the time of a call. */
 void nendokwe_judge_text(const uint8_t *question, size_t question_length, const uint8_t *site, size_t site_length,
                          const uint8_t *picks, size_t picks_length, uint32_t *number, size_t *place);
 void nendokwe_judge(const uint8_t *question, size_t question_length, const uint8_t *site, size_t site_length,
@@ -74,7 +78,8 @@ void nendokwe_allowances(const uint8_t *question, size_t question_length, const 
 
 /* Many step lists of one case: a record says where its list begins among the steps and how long it is, and gets the number and place of
  * a check of that list alone (1 over the step limit; 12 and the sum where it is not all lent). Success is 0 and 0, and the initial state
- * is left; a refused case leaves records and state as they were. */
+ * is left; a refused case leaves records and state as they were. Lists may overlap, so the call's time goes by the sum of their lengths,
+ * whatever is lent: a server caps that sum. */
 typedef struct nendokwe_try {
     uint32_t first;
     uint32_t length;

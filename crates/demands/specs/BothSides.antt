@@ -3,26 +3,28 @@ use Prim.Native.Nat.{ℕ, zero, suc, _+_, _-_, _<_, _≤_}
 use mathlib.Core.Path.{_≡_, refl, sym, ap, ap₂, _∙_}
 use mathlib.Core.Logic.{_↔_}
 use mathlib.Core.Bool.{true, false, not, _&&_, _||_}
-use mathlib.Core.Option.{some}
+use mathlib.Core.Option.{Option, none, some}
 use mathlib.Core.List.{List, [], _∷_, _++_, map, List·Memᴰ}
 use native.Mathlib.Omega.{arith}
 use lib.Dec.{T, leb}
 use lib.ListN.{length, getD}
 use borrow.Author.Tests.{eq-eqb, eqb-true, lt-ltb, ltb-true, not-false}
 use Rattle.definitions.specs.Limits.{CaseLimits, chooseLimit}
-use Rattle.definitions.specs.Lists.{all, any}
-use Rattle.definitions.specs.Sheet.Text.{bytes}
+use Rattle.definitions.specs.Lists.{all, any, option}
+use Rattle.definitions.specs.Sheet.Text.{bytes, decimal}
 use Rattle.definitions.specs.Sheet.Relations.{Kind, static, plain, Fun, PFun, Inj, PInj, isChosen, isFunction, isInjective, isTotal, Relation, Tuple, isAmong, builtIn, builtInHolds}
 use Rattle.definitions.specs.Sheet.Formula.{typeNumber, isType}
-use Rattle.definitions.specs.Sheet.Sheets.{Draft, isRuled, isNewName, placeSort, addChoose, firstChosen}
+use Rattle.definitions.specs.Sheet.Sheets.{Draft, isRuled, isNewName, placeSort, addChoose, firstChosen, Label, nameOf}
 use Rattle.definitions.specs.Problem.Truth.{Case, holds, membersOf, first, second, isOfKind, isTotalIn, ruleIsTrue}
 use Rattle.definitions.specs.Problem.Tree.{treeOf}
 use Rattle.definitions.specs.Problem.Built.{treeHolds}
 use Rattle.definitions.specs.Refusal.{accepted, refuseIf}
 use Rattle.definitions.specs.Reply.Outcome.{readCase}
+use Rattle.definitions.specs.Reply.Desk.{said}
 use Rattle.laws.specs.Booleans.{T-and-l, T-and-r, T-of, T-true, not-unequal}
 use Rattle.laws.specs.Lists.{all-at, all-of, any-at, any-of}
 use Rattle.laws.specs.Results.{accepted-eq, bind-parts, not-refused}
+use Rattle.laws.specs.Labels.{name-at}
 use Rattle.meaning.specs.Grounded
 use Rattle.laws.specs.Reader.{Accepted, case-fits, gives-if}
 use Rattle.meaning.specs.Meaning.{tree-means}
@@ -151,3 +153,12 @@ module _ (L : CaseLimits) (few : L .elements ≤ 64) (question site : List ℕ) 
   -- the tree that is grounded means what the rule as written means, totalities included
   pub tree-truth : treeHolds c picks (λ _. zero) (treeOf (c .question)) ≡ ruleIsTrue c picks
   tree-truth = tree-means c picks A
+
+-- ---- an element that has no label is printed by its number
+pub said-unnamed : (labels : List Label) (x : ℕ) → ((l : Label) → List·Memᴰ l labels → l .element ≡ x → ⊥) → said labels x ≡ decimal x
+unfolding said option
+said-unnamed labels x h = by-name (nameOf labels x) refl
+  where
+    by-name : (o : Option (List ℕ)) → nameOf labels x ≡ o → option o (decimal x) (λ name. name) ≡ decimal x
+    by-name none e = refl
+    by-name (some name) e = let (l, m, a, b) = name-at labels x name e in absurd (h l m a)

@@ -116,15 +116,15 @@ module _ (labels : List Label) (l : Line) where
   unfolding lineInNumbers isRecord fieldsInNumbers same
   pick-line name gs q = rw q refl
 
-size-entry : (n : ℕ) → n < 10 ^ 7 → entry (bytes "size" ∷ decimal n ∷ []) ≡ some (size n)
+pub size-entry : (n : ℕ) → n < 10 ^ 7 → entry (bytes "size" ∷ decimal n ∷ []) ≡ some (size n)
 unfolding entry same withOne option
 size-entry n h = rw (number-decimal n h) refl
 
-member-entry : (name f : List ℕ) (e : Element) → element f ≡ some e → entry (bytes "member" ∷ name ∷ f ∷ []) ≡ some (member name e)
+pub member-entry : (name f : List ℕ) (e : Element) → element f ≡ some e → entry (bytes "member" ∷ name ∷ f ∷ []) ≡ some (member name e)
 unfolding entry same withTwo memberOf option
 member-entry name f e q = rw q refl
 
-fact-entry : (name : List ℕ) (gs : List (List ℕ)) (es : List Element) → elements gs ≡ some es → 1 ≤ length gs → length gs ≤ 3 → entry (bytes "fact" ∷ name ∷ gs) ≡ some (fact name es)
+pub fact-entry : (name : List ℕ) (gs : List (List ℕ)) (es : List Element) → elements gs ≡ some es → 1 ≤ length gs → length gs ≤ 3 → entry (bytes "fact" ∷ name ∷ gs) ≡ some (fact name es)
 unfolding entry same withElements option isBetween
 fact-entry name gs es e a b = rw (le-leb 1 (length gs) a, le-leb (length gs) 3 b, e) refl
 

@@ -37,6 +37,10 @@ pub mod SameReplies
 pub mod Ranges
 pub mod NoTypes
 pub mod TypedKinds
+pub mod NodeActions
+pub mod AnyOrder
+pub mod AtomsStay
+pub mod OutsideTypes
 pub mod Buffers
 pub mod Filed
 pub mod Short

@@ -16,8 +16,9 @@ use Rattle.definitions.specs.Problem.Truth.{Case}
 use Rattle.definitions.specs.Problem.Tree.{Tree, leaf, forallNode, existsNode, andNode, orNode, treeOf, nodes, occurs, free, isForall}
 use Rattle.definitions.specs.Problem.Atoms.{problemOf, problemWith, nodeAt, tuplesOf, rowsOf, nodeWidth, countOf, holdsNode, nodesBlocks, nodeAtoms}
 use Rattle.definitions.specs.Problem.Built.{mostPicks, bound, pickExponent, nodeExponent, boundExponents, polynomial, boundPolynomial}
+use Rattle.meaning.specs.Shown.{four-free}
 use Rattle.laws.specs.Lists.{flat-mem, length-below, map-mem, mem-below, mem-getD}
-use Rattle.laws.specs.Repeats.{filter-le, filter-lt}
+use Rattle.laws.specs.Repeats.{filter-lt}
 use Rattle.laws.specs.Numbers.{noNode}
 use Rattle.laws.specs.Reader.{Accepted}
 use Rattle.meaning.specs.Parts.{Within}
@@ -72,10 +73,6 @@ bound-value c =
     omega arith
 
 -- ---- the degree
-four-free : (t : Tree) → length (free t) ≤ 4
-unfolding free
-four-free t = let a = filter-le (λ l. occurs l t) (below 4) in let b = length-below 4 in omega arith
-
 -- a quantifier's own level is not free in it
 bound-level : (d σ : ℕ) (t : Tree) → d < 4 → length (free (forallNode d σ t)) < 4
 unfolding free occurs

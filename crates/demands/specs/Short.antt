@@ -7,11 +7,11 @@ use mathlib.Core.List.{List, [], _∷_, map}
 use native.Mathlib.Omega.{arith}
 use lib.Dec.{ltb}
 use lib.ListN.{length, take, drop}
-use borrow.Author.Tests.{lt-ltb, ltb-false}
+use borrow.Author.Tests.{le-ltb, lt-ltb, ltb-false}
 use Rattle.definitions.specs.Limits.{early, textLimit, stepLimit, deskBytes, deskSteps, deskWords}
 use Rattle.definitions.specs.Lists.{if_then_else_, sum}
 use Rattle.definitions.specs.Sheet.Text.{Line, lines}
-use Rattle.definitions.specs.Refusal.{Result, refused, accepted, _>>=_, refuseIf, readText}
+use Rattle.definitions.specs.Refusal.{Result, refused, accepted, _>>=_, refuseIf, readLines, readText}
 use Rattle.definitions.specs.Sheet.Sheets.{readSteps}
 use Rattle.definitions.specs.Problem.Atoms.{Problem, problemOf}
 use Rattle.definitions.specs.Problem.Built.{chosenNumbers, pickedRows}
@@ -31,6 +31,15 @@ text-long line s text h = let e : ltb textLimit (length text) ≡ true = lt-ltb 
 pub lent-many : (ks : List ℕ) → stepLimit < length ks → takeSteps (asNumbers ks) ≡ refused 1 zero
 unfolding takeSteps refuseIf _>>=_
 lent-many ks h = let e : ltb stepLimit (length ks) ≡ true = lt-ltb stepLimit (length ks) h in rw e refl
+
+-- what is within a smaller limit is read by it just so
+pub text-kept : {S : Type 0} (line : S → Line → Result S) (s : S) (limit : ℕ) → limit ≤ textLimit → (text : List ℕ) → length text ≤ limit → readText line s text ≡ (refuseIf (ltb limit (length text)) 1 zero >>= λ _. readLines line s (lines text))
+unfolding readText
+text-kept line s limit h text l = rw (le-ltb textLimit (length text) (omega arith), le-ltb limit (length text) l) refl
+
+pub steps-kept : (limit : ℕ) → limit ≤ stepLimit → (steps : List ℕ) → length steps ≤ limit → takeSteps (asNumbers steps) ≡ (refuseIf (ltb limit (length steps)) 1 zero >>= λ _. accepted steps)
+unfolding takeSteps
+steps-kept limit h steps l = rw (le-ltb stepLimit (length steps) (omega arith), le-ltb limit (length steps) l) refl
 
 -- a sheet is part of the input
 taken : (k : ℕ) (l : List ℕ) → length (take k l) ≤ length l

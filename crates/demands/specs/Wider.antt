@@ -17,7 +17,7 @@ use Rattle.definitions.specs.Sheet.Sheets.{Entry, rel, type, choose, rule, size
 use Rattle.definitions.specs.Problem.Truth.{Case}
 use Rattle.definitions.specs.Problem.Atoms.{Problem, problemOf, atoms}
 use Rattle.definitions.specs.Problem.Actions.{actions}
-use Rattle.definitions.specs.Reply.Outcome.{CaseRead, readFiled, ground, readProblem, asked}
+use Rattle.definitions.specs.Reply.Outcome.{CaseRead, readFiled, readCase, ground, readProblem, asked}
 use Rattle.laws.specs.Writing.{and-l, and-r}
 use Rattle.laws.specs.Booleans.{or-both}
 use Rattle.laws.specs.Results.{refused-accepted, bind-parts, not-refused}
@@ -81,6 +81,10 @@ module _ (L M : CaseLimits) (w : Wider L M) where
       let (x, a, b) = bind-parts (readQuestion question) _ r q in
       let (y, e, f) = bind-parts (readSite L (x .rels) (x .types) site) _ r b in
       rw (a, site-wider (x .rels) (x .types) site y e) f
+
+  pub case-wider : (question site : List ℕ) (c : Case) → readCase L question site ≡ accepted c → readCase M question site ≡ accepted c
+  unfolding readCase _>>=_
+  case-wider question site c q = let (r, a, b) = bind-parts (readFiled L question site) _ c q in rw (filed-wider question site r a) b
 
   pub ground-wider : (c : Case) (p : Problem) → ground L c ≡ accepted p → ground M c ≡ accepted p
   unfolding ground refuseIf _>>=_

@@ -89,7 +89,7 @@ unfolding entry same withElements option isBetween
 pick-entry name gs es e a b = rw (le-leb 1 (length gs) a, le-leb (length gs) 3 b, e) refl
 
 -- names that are apart: a later name is not that of an earlier relation
-apart-right : (ks ls : List Relation) → Apart (ks ++ ls) → Apart ls
+pub apart-right : (ks ls : List Relation) → Apart (ks ++ ls) → Apart ls
 unfolding Apart
 apart-right [] ls a = a
 apart-right (k ∷ ks) ls a = apart-right ks ls (a .1)
@@ -103,7 +103,7 @@ apart-at (k ∷ ks) zero (suc i) a h l = T-false (same (k .name) (getD ks i noRe
     (subst (λ (x : List ℕ). T (same x (k .name))) (same-eq (k .name) (getD ks i noRelation .name) t) (same-refl (k .name)))))
 apart-at (k ∷ ks) (suc j) (suc i) a h l = apart-at ks j i (a .1) (omega arith) (omega arith)
 
-used-at : (ks : List Relation) (first i : ℕ) → Apart ks → i < length ks → used ks first (getD ks i noRelation .name) (getD ks i noRelation .arity) ≡ some (first + i)
+pub used-at : (ks : List Relation) (first i : ℕ) → Apart ks → i < length ks → used ks first (getD ks i noRelation .name) (getD ks i noRelation .arity) ≡ some (first + i)
 unfolding used option
 used-at ks first i a l = rw (position-at (λ (r : Relation). same (r .name) (getD ks i noRelation .name) && eqb (r .arity) (getD ks i noRelation .arity)) ks noRelation i l
     (T-true (same (getD ks i noRelation .name) (getD ks i noRelation .name) && eqb (getD ks i noRelation .arity) (getD ks i noRelation .arity))

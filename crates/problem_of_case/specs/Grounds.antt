@@ -26,7 +26,9 @@ use Rattle.definitions.specs.Problem.Tree.{treeOf}
 use Rattle.definitions.specs.Problem.Atoms.{Problem, problemOf, problemWith, relationAt, atoms}
 use Rattle.definitions.specs.Problem.Actions.{actions}
 use Rattle.definitions.specs.Problem.Built.{bound}
-use Rattle.definitions.specs.Reply.Outcome.{ground}
+use Rattle.definitions.specs.Reply.Outcome.{ground, sizesOf}
+use Rattle.definitions.specs.Reply.Tally.{Tally as TallyOf}
+use Rattle.laws.specs.Walks.{tally-is}
 use Rattle.read_names.specs.Signatures.{typesOf, chosenOf, allOf}
 use Rattle.read_names.proofs.Laws.{length-names}
 use Rattle.rule_nodes.specs.Tables.{IsTable}
@@ -37,6 +39,8 @@ use native.Mathlib.Omega.{arith}
 use Rattle.problem_layout.specs.declared.Relations.{Relations}
 use Rattle.problem_layout.specs.declared.Made.{Made}
 use Rattle.problem_layout.specs.Laid.{rangeBy, Inputs, Laid}
+use Rattle.problem_sizes.specs.declared.Tally.{Tally}
+use Rattle.problem_sizes.specs.Sums.{Tallied}
 use Rattle.problem_of_case.specs.Numbered.{Numbered, Declared, noRelation}
 use Rattle.read_sheets.specs.declared.Opened.{Opened}
 use Rattle.read_sheets.specs.Opening.{Holds}
@@ -157,14 +161,23 @@ module _ (s : List ℕ) (o : Opened) (c : Case) (facts : ℕ → Bool) (h : Hold
       tree = subst (λ (k : ℕ). IsTable k (treeOf (c .question)) t) (ap length relations-are ∙ sym (m .count s)) (table .is (c .question) is-question);
     }
 
--- laid out by the limits' own numbers
-pub laid-by : (L : CaseLimits) (a b : ℕ) (p : Problem) (m : Made) → L .atoms ≡ a → L .actions ≡ b → Laid a b p m → Laid (L .atoms) (L .actions) p m
-laid-by L a b p m e f l = rw (e, f) l
+-- what the walk counted are the problem's atoms, actions and bound
+pub counts-are : (c : Case) (t : Tally) → Tallied (problemOf c) t → (t .atoms ≡ atoms (problemOf c)) × (t .actions ≡ actions (problemOf c)) × (t .bound ≡ bound (problemOf c))
+unfolding sizesOf
+counts-are c t h = (h .atoms-are ∙ ap (λ (x : TallyOf). x .sizes .atomCount) (tally-is c), h .actions-are ∙ ap (λ (x : TallyOf). x .sizes .actionCount) (tally-is c), h .bound-is ∙ ap (λ (x : TallyOf). x .sizes .stepBound) (tally-is c))
 
-pub grounds-over : (L : CaseLimits) (c : Case) (m : Made) (r : Sized) (w : List ℕ) → Laid (L .atoms) (L .actions) (problemOf c) m → m .over ≡ true → r .over ≡ true → GroundsTo (ground L c) r w
-unfolding ground refuseIf _>>=_ GroundsTo
-grounds-over L c m r w l e o = let q : (ltb (L .atoms) (atoms (problemOf c)) || ltb (L .actions) (actions (problemOf c))) ≡ true = sym (l .over-is) ∙ e in rw q (record { over = o; number = refl; no-place = refl })
+-- whether they are too many, by the limits' own numbers
+too-many-is : (a b : ℕ) (c : Case) (t : Tally) (e : Bool) → Tallied (problemOf c) t → e ≡ (ltb a (t .atoms) || ltb b (t .actions)) → e ≡ (ltb a (atoms (problemOf c)) || ltb b (actions (problemOf c)))
+too-many-is a b c t e h q = let (x, y, z) = counts-are c t h in q ∙ ap₂ (λ (i j : ℕ). ltb a i || ltb b j) x y
 
-pub grounds-within : (L : CaseLimits) (c : Case) (m : Made) (r : Sized) (w : List ℕ) → Laid (L .atoms) (L .actions) (problemOf c) m → m .over ≡ false → Tabled (problemOf c) r w → GroundsTo (ground L c) r w
+pub grounds-over : (L : CaseLimits) (a b : ℕ) (c : Case) (t : Tally) (e : Bool) (r : Sized) (w : List ℕ) → L .atoms ≡ a → L .actions ≡ b → Tallied (problemOf c) t → e ≡ (ltb a (t .atoms) || ltb b (t .actions)) → e ≡ true → r .over ≡ true → GroundsTo (ground L c) r w
 unfolding ground refuseIf _>>=_ GroundsTo
-grounds-within L c m r w l e t = let q : (ltb (L .atoms) (atoms (problemOf c)) || ltb (L .actions) (actions (problemOf c))) ≡ false = sym (l .over-is) ∙ e in rw q t
+grounds-over L a b c t e r w i j h q f o = let s : (ltb a (atoms (problemOf c)) || ltb b (actions (problemOf c))) ≡ true = sym (too-many-is a b c t e h q) ∙ f in rw (i, j, s) (record { over = o; number = refl; no-place = refl })
+
+pub grounds-within : (L : CaseLimits) (a b : ℕ) (c : Case) (t : Tally) (e : Bool) (r : Sized) (w : List ℕ) → L .atoms ≡ a → L .actions ≡ b → Tallied (problemOf c) t → e ≡ (ltb a (t .atoms) || ltb b (t .actions)) → e ≡ false → Tabled (problemOf c) r w → GroundsTo (ground L c) r w
+unfolding ground refuseIf _>>=_ GroundsTo
+grounds-within L a b c t e r w i j h q f tabled = let s : (ltb a (atoms (problemOf c)) || ltb b (actions (problemOf c))) ≡ false = sym (too-many-is a b c t e h q) ∙ f in rw (i, j, s) tabled
+
+-- then the layout is within the limits too
+pub laid-within : (a b : ℕ) (c : Case) (t : Tally) (e : Bool) (m : Made) → Laid a b (problemOf c) m → Tallied (problemOf c) t → e ≡ (ltb a (t .atoms) || ltb b (t .actions)) → e ≡ false → m .over ≡ false
+laid-within a b c t e m l h q f = l .over-is ∙ sym (too-many-is a b c t e h q) ∙ f

@@ -4,7 +4,7 @@ use mathlib.Core.List.{List, []}
 use Prim.Native.Nat.{ℕ, zero, _+_, _≤_, _<_}
 use lib.ListN.{length, getD}
 use Rattle.definitions.specs.Sheet.Relations.{Relation, static}
-use Rattle.read_names.specs.Signatures.{allOf}
+use Rattle.read_names.specs.Signatures.{allOf, HasFirsts, HasSeconds}
 use Rattle.read_names.specs.declared.Signature.{Signature}
 use Rattle.problem_table.specs.Of.{kindNumber}
 use Rattle.problem_layout.specs.declared.Relations.{Relations}
@@ -26,3 +26,7 @@ pub record Numbered (g : Signature) (r : Relations) : Type 0 where
   pub kind : (q : List ℕ) (i : ℕ) → i < r .count → getD (r .kind) i 0 ≡ kindNumber (getD (allOf q g) i noRelation .kind)
   pub firsts : (q : List ℕ) (i : ℕ) → i < r .count → getD (r .firsts) i 0 ≡ getD (allOf q g) i noRelation .firsts
   pub seconds : (q : List ℕ) (i : ℕ) → i < r .count → getD (r .seconds) i 0 ≡ getD (allOf q g) i noRelation .seconds
+
+-- t is the sort of a place of relation r, whichever of the two places `sorts` are of
+unfoldable pub SortAt : List ℕ → ℕ → ℕ → Type 0
+SortAt sorts r t = (g : Signature) → r < 5 + (g .rels + g .chosen) → (g .firsts ≡ sorts → HasFirsts g r t) × (g .seconds ≡ sorts → HasSeconds g r t)

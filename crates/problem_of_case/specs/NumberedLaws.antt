@@ -10,12 +10,12 @@ use Rattle.definitions.specs.Sheet.Relations.{builtIn}
 use Rattle.read_text.specs.Spans.{kindOf}
 use Rattle.read_names.specs.Signatures.{allOf, relationsFrom, HasArity, HasKind, HasFirsts, HasSeconds}
 use Rattle.read_names.specs.declared.Signature.{Signature}
-use Rattle.read_names.proofs.Laws.{all-are, length-relations, arity-built-in, arity-declared, firsts-built-in, firsts-declared, seconds-built-in, seconds-declared}
+use Rattle.read_names.proofs.Laws.{all-are, length-relations, arity-built-in, arity-declared, kind-declared, firsts-built-in, firsts-declared, seconds-built-in, seconds-declared}
 use Rattle.rows.specs.Values.{Most}
 use Rattle.problem_table.specs.Of.{kindNumber}
 use Rattle.problem_layout.specs.Laid.{RelationsFit}
 use Rattle.problem_layout.specs.LaidLaws.{most-zeros}
-use Rattle.problem_of_case.specs.Numbered.{Declared, noRelation, Numbered}
+use Rattle.problem_of_case.specs.Numbered.{Declared, noRelation, Numbered, SortAt}
 
 -- ---- kinds
 pub kind-small : (k : ℕ) → k < 5 → k ≡ kindNumber (kindOf k)
@@ -62,6 +62,39 @@ arity-small g r a d h q = from-this (decLt r 5)
     from-this : Dec (r < 5) → a ≤ 4
     from-this (yes k) = rw (same-arity g r a _ q (arity-built-in g r k)) (built-small r)
     from-this (no k) = rw (same-arity g r a _ q (arity-declared g r (omega arith) h)) (d .arity (r - 5) (omega arith))
+
+-- ---- one relation, by the arrays of a signature
+pub two-places : (g : Signature) (r : ℕ) → r < 3 → HasArity g r 2
+two-places g zero h = arity-built-in g 0 (omega arith)
+two-places g (suc zero) h = arity-built-in g 1 (omega arith)
+two-places g (suc (suc zero)) h = arity-built-in g 2 (omega arith)
+two-places g (suc (suc (suc r))) h = absurd (omega arith)
+
+pub one-place : (g : Signature) (r : ℕ) → 3 ≤ r → r < 5 → HasArity g r 1
+one-place g zero l h = absurd (omega arith)
+one-place g (suc zero) l h = absurd (omega arith)
+one-place g (suc (suc zero)) l h = absurd (omega arith)
+one-place g (suc (suc (suc zero))) l h = arity-built-in g 3 (omega arith)
+one-place g (suc (suc (suc (suc zero)))) l h = arity-built-in g 4 (omega arith)
+one-place g (suc (suc (suc (suc (suc r))))) l h = absurd (omega arith)
+
+module _ (r : ℕ) (l : 5 ≤ r) where
+  pub arity-of : (xs : List ℕ) (g : Signature) → g .arity ≡ xs → r < 5 + (g .rels + g .chosen) → HasArity g r (getD xs (r - 5) 0)
+  arity-of xs g e h = subst (λ (ys : List ℕ). HasArity g r (getD ys (r - 5) 0)) e (arity-declared g r l h)
+
+  pub kind-of : (xs : List ℕ) (g : Signature) → g .kind ≡ xs → r < 5 + (g .rels + g .chosen) → HasKind g r (getD xs (r - 5) 0)
+  kind-of xs g e h = subst (λ (ys : List ℕ). HasKind g r (getD ys (r - 5) 0)) e (kind-declared g r l h)
+
+  pub sort-of : (xs : List ℕ) → SortAt xs r (getD xs (r - 5) 0)
+  unfolding SortAt
+  sort-of xs g h = (
+    (λ e. subst (λ (ys : List ℕ). HasFirsts g r (getD ys (r - 5) 0)) e (firsts-declared g r l h)),
+    (λ e. subst (λ (ys : List ℕ). HasSeconds g r (getD ys (r - 5) 0)) e (seconds-declared g r l h)),
+  )
+
+pub sort-built-in : (xs : List ℕ) (r : ℕ) → r < 5 → SortAt xs r 0
+unfolding SortAt
+sort-built-in xs r l g h = ((λ e. firsts-built-in g r l), (λ e. seconds-built-in g r l))
 
 -- ---- sorts
 module _ (g : Signature) (r a : ℕ) (d : Declared g) (h : r < 5 + (g .rels + g .chosen)) where
@@ -147,6 +180,27 @@ upto-next g i a k x y z xs ys us vs la lk lf ls ha sa hk ex sx hy sy hz sz u = r
   firsts-most = most-set us i y 8 sy (u .firsts-most);
   seconds-most = most-set vs i z 8 sz (u .seconds-most);
 }
+
+-- the same of every signature that has these arrays
+unfoldable pub Filled : (count : ℕ) (arities kinds firsts seconds : List ℕ) (i : ℕ) (xs ys us vs : List ℕ) → Type 0
+Filled count arities kinds firsts seconds i xs ys us vs =
+    (g : Signature) → Declared g → 5 + (g .rels + g .chosen) ≡ count → g .arity ≡ arities → g .kind ≡ kinds → g .firsts ≡ firsts → g .seconds ≡ seconds → Upto g i xs ys us vs
+
+pub filled-start : (count : ℕ) (arities kinds firsts seconds : List ℕ) → Filled count arities kinds firsts seconds 0 (replicate 17 0) (replicate 17 0) (replicate 17 0) (replicate 17 0)
+unfolding Filled
+filled-start count arities kinds firsts seconds g d n a b e f = upto-start g
+
+module _ (count : ℕ) (arities kinds firsts seconds : List ℕ) (i : ℕ) (xs ys us vs : List ℕ) (h : i < count) (la : i < length xs) (lk : i < length ys) (lf : i < length us) (ls : i < length vs) where
+  pub filled-next : (a k x y z : ℕ) → ((g : Signature) → g .arity ≡ arities → i < 5 + (g .rels + g .chosen) → HasArity g i a)
+      → ((g : Signature) → g .kind ≡ kinds → i < 5 + (g .rels + g .chosen) → HasKind g i k) → (x ≡ kindNumber (kindOf k)) × (x ≤ 5) → SortAt firsts i y → SortAt seconds i z
+      → Filled count arities kinds firsts seconds i xs ys us vs → Filled count arities kinds firsts seconds (i + 1) (set xs i a) (set ys i x) (set us i y) (set vs i z)
+  unfolding Filled SortAt
+  filled-next a k x y z ha hk ex hy hz u g d n ea ek ef es =
+      let below : i < 5 + (g .rels + g .chosen) = omega arith in
+      let arity : HasArity g i a = ha g ea below in
+      let first : HasFirsts g i y = hy g below .0 ef in
+      let second : HasSeconds g i z = hz g below .1 es in
+      upto-next g i a k x y z xs ys us vs la lk lf ls arity (arity-small g i a d below arity) (hk g ek below) (ex .0) (ex .1) first (firsts-small g i y d below first) second (seconds-small g i z d below second) (u g d n ea ek ef es)
 
 pub numbered : (g : Signature) (i : ℕ) (xs ys us vs : List ℕ) → Declared g → i ≡ 5 + (g .rels + g .chosen) → Upto g i xs ys us vs
     → RelationsFit (record { count = 5 + (g .rels + g .chosen); arity = xs; kind = ys; firsts = us; seconds = vs }) × Numbered g (record { count = 5 + (g .rels + g .chosen); arity = xs; kind = ys; firsts = us; seconds = vs })

@@ -1,7 +1,7 @@
 // From a case that was read to the table of its numbered problem, or refusal 11. The relations are numbered on the way: the built-in
 // ones first, then those declared.
 ghost use mathlib.Core.Path.{_≡_};
-ghost use Prim.Native.Nat.{ℕ, _≤_};
+ghost use Prim.Native.Nat.{ℕ, _+_, _≤_, _<_};
 ghost use mathlib.Core.Bool.{Bool};
 ghost use lib.ListN.{length};
 ghost use Rattle.definitions.specs.Problem.Truth.{Case};
@@ -14,7 +14,8 @@ ghost use Rattle.read_text.specs.Spans.{kindOf};
 ghost use Rattle.problem_table.specs.Of.{kindNumber};
 ghost use Rattle.definitions.specs.Limits.{CaseLimits};
 ghost use Rattle.problem_layout.specs.Laid.{RelationsFit, numberLimit};
-ghost use Rattle.problem_of_case.specs.Numbered.{Declared, Numbered};
+ghost use Rattle.read_names.specs.Signatures.{HasArity, HasKind};
+ghost use Rattle.problem_of_case.specs.Numbered.{Declared, Numbered, SortAt};
 use problem_layout::Relations;
 use read_names::Signature;
 use read_sheets::Opened;
@@ -29,6 +30,47 @@ fn kind_number(k: u32) -> usize
     5
 }
 
+// What is declared is lent below array by array: handed over with each relation, the signature would be copied as often.
+
+// The arity of relation r, by the arities of those that are declared.
+fn arity_at(arities: &[usize; read_names::DECLARED], r: usize) -> usize
+    requires { ⌜ r < 17 ⌝ }
+    ensures { λ k. ⌜ ((g : Signature) → g .arity ≡ now (arities .entry) → r < 5 + (g .rels + g .chosen) → HasArity g r k) ⌝ }
+{
+    if r < 3 {
+        return 2;
+    }
+    if r < 5 {
+        return 1;
+    }
+    let i = r - 5;
+    arities[i]
+}
+
+// Its kind by its number; 0 is static.
+fn kind_at(kinds: &[u32; read_names::DECLARED], r: usize) -> u32
+    requires { ⌜ r < 17 ⌝ }
+    ensures { λ k. ⌜ ((g : Signature) → g .kind ≡ now (kinds .entry) → r < 5 + (g .rels + g .chosen) → HasKind g r k) ⌝ }
+{
+    if r < 5 {
+        return 0;
+    }
+    let i = r - 5;
+    kinds[i]
+}
+
+// The sort of one of its places, by those of that place; 0 where it is given no types.
+fn sort_at(sorts: &[u8; read_names::DECLARED], r: usize) -> u8
+    requires { ⌜ r < 17 ⌝ }
+    ensures { λ k. ⌜ SortAt (now (sorts .entry)) r k ⌝ }
+{
+    if r < 5 {
+        return 0;
+    }
+    let i = r - 5;
+    sorts[i]
+}
+
 // Arity and kind of each relation, and the sorts of its places.
 pub fn relations_of(g: Signature) -> Relations
     requires { ⌜ Declared g ⌝ }
@@ -39,14 +81,16 @@ pub fn relations_of(g: Signature) -> Relations
     let mut kind = [0usize; problem_layout::RELATIONS];
     let mut firsts = [0usize; problem_layout::RELATIONS];
     let mut seconds = [0usize; problem_layout::RELATIONS];
+    let arities = g.arity;
+    let kinds = g.kind;
+    let first_sorts = g.firsts;
+    let second_sorts = g.seconds;
     let mut r: usize = 0;
     while r < count {
-        let a = read_names::arity(g, r);
-        let k = read_names::kind(g, r);
-        arity[r] = a;
-        kind[r] = kind_number(k);
-        firsts[r] = rule_nodes::wide(read_names::firsts(g, r));
-        seconds[r] = rule_nodes::wide(read_names::seconds(g, r));
+        arity[r] = arity_at(&arities, r);
+        kind[r] = kind_number(kind_at(&kinds, r));
+        firsts[r] = rule_nodes::wide(sort_at(&first_sorts, r));
+        seconds[r] = rule_nodes::wide(sort_at(&second_sorts, r));
         r += 1;
     }
     Relations {
@@ -66,7 +110,8 @@ pub struct Sized {
     pub bound: usize,
 }
 
-// Fills the lent table of zeros, unless there are more atoms or actions than there may be.
+// Fills the lent table of zeros, unless there are more atoms or actions than there may be. One walk of the node table counts both, and
+// the bound; the layout only says where each one's numbers start.
 pub fn ground_case(
     question: &[u8],
     o: Opened,
@@ -86,21 +131,22 @@ pub fn ground_case(
     let ranges = problem_layout::ranges_of(n, sig.types, &members);
     let g = relations_of(sig);
     let t = rule_rewrite::nodes_of(question, rule.from, rule.to, sig);
-    let m = problem_layout::lay_out(n, ranges, g, t, most_atoms, most_actions);
-    if m.over {
+    let counted = problem_sizes::of_tables(n, ranges, g, t);
+    if problem_layout::too_many(counted.atoms, counted.actions, most_atoms, most_actions) {
         return Sized {
             over: true,
-            atoms: m.atoms,
-            actions: m.actions,
-            bound: m.bound,
+            atoms: counted.atoms,
+            actions: counted.actions,
+            bound: counted.bound,
         };
     }
+    let m = problem_layout::lay_out(n, ranges, g, t, most_atoms, most_actions);
     let l = m.layout;
     problem_layout::fill(table, n, sig.types, &members, ranges, g, t, l);
     Sized {
         over: false,
-        atoms: m.atoms,
-        actions: m.actions,
-        bound: m.bound,
+        atoms: counted.atoms,
+        actions: counted.actions,
+        bound: counted.bound,
     }
 }

@@ -65,6 +65,12 @@ table =
     ∷ refuses oneQ "size\t65\n" [] 9 0
     ∷ refuses unusedQ "size\t5\n" (7 ∷ []) 12 2
     ∷ refuses oneQ oneS [] 12 1
+    -- (one atom over the limit)
+    ∷ refuses "rel\tR\t3\nrel\tQ\t3\nrel\tP\t2\nrel\tO\t2\nrel\tN\t1\nrel\tM\t1\nchoose\tT\t1\nrule\t(and (and (forall (?a) (and (forall (?b) (and (P ?a ?b)))))))\n" "size\t63\n" [] 11 0
+    -- all atoms of a node count, those outside a type too; a totality with types
+    ∷ allows "type\tSPOT\nchoose\tT\t1\nrule\t(forall (?x:SPOT) (T ?x))\n" "size\t5\nmember\tSPOT\t3\nmember\tSPOT\t1\n" (7 ∷ []) (6 ∷ [])
+    ∷ allows "type\tA\ntype\tB\nchoose\tR\t2\nrule\t(forall (?x:A ?y:B) (R ?x ?y))\n" "size\t3\nmember\tB\t2\nmember\tA\t1\nmember\tB\t0\n" (7 ∷ []) (13 ∷ [])
+    ∷ allows "type\tDOOR\ntype\tGROUP\nchoose\tG\tFun\tDOOR\tGROUP\nrule\t(forall (?x) (EQ ?x ?x))\n" "size\t5\nmember\tDOOR\t3\nmember\tDOOR\t0\nmember\tGROUP\t4\nmember\tGROUP\t1\nmember\tGROUP\t3\n" (7 ∷ []) (12 ∷ [])
     -- one pick more, and the allowance itself more steps
     ∷ moves unusedQ "size\t2\n" "pick\tT\t0\npick\tT\t1\n" "pick\tT\t0\npick\tT\t1\npick\tF\t0\t1\n" 1 1 1
     -- where the rule has the relation its root does too, and the root's atoms are true of both: one less than the allowance is all

@@ -23,6 +23,28 @@ ruleQ rule = "choose\tT\t1\nrule\t" <> rule <> "\n"
 unfoldable pub nots : ℕ → String → String
 nots k f = Drawer.repeat k "(not " <> f <> Drawer.repeat k ")"
 
+-- k times `and` around a formula
+unfoldable pub ands : ℕ → String → String
+ands k f = Drawer.repeat k "(and " <> f <> Drawer.repeat k ")"
+
+-- questions and whole inputs near a limit, one `and` for an atom or an action
+unfoldable pub atomsQ : ℕ → String
+atomsQ k = "rel\tR\t3\nrel\tQ\t3\nrel\tP\t2\nrel\tO\t2\nrel\tN\t1\nrel\tM\t1\n" <> ruleQ (ands k "(forall (?a) (and (forall (?b) (and (P ?a ?b)))))")
+
+unfoldable pub actionsQ : ℕ → String
+actionsQ k = "choose\tT\t1\nchoose\tU\t1\nchoose\tV\t1\nchoose\tW\t1\nrule\t" <> ands k ("(forall (?a ?b) " <> ands 24 ("(forall (?c) (or" <> Drawer.repeat 6 " (T ?a) (U ?b) (V ?c)" <> "))") <> ")") <> "\n"
+
+unfoldable pub deskAtoms : ℕ → String
+deskAtoms k =
+    "rel\tR\t3\nrel\tP\t2\nrel\tO\t2\nrel\tL\t2\nrel\tA\t1\nrel\tB\t1\nrel\tC\t1\nrel\tE\t1\n"
+    <> ruleQ (ands k ("(forall (?a ?b) " <> ands 2 ("(forall (?c) " <> ands 12 "(R ?a ?b ?c)" <> ")") <> ")")) <> "size\t16\n"
+
+unfoldable pub deskActions : ℕ → String
+deskActions k = ruleQ (ands k ("(forall (?a ?b) " <> ands 9 ("(forall (?c) " <> ands 2 "(forall (?d) (or (LT ?a ?b) (LT ?c ?d) (LT ?a ?c) (LT ?b ?d) (T ?d)))" <> ")") <> ")")) <> "size\t12\n"
+
+unfoldable pub deskBound : ℕ → String
+deskBound k = "choose\tT\t1\nchoose\tU\t1\nchoose\tV\t3\nchoose\tW\t3\nrule\t" <> ands k ("(forall (?a) " <> ands 3 ("(forall (?b) " <> ands 5 "(V ?a ?b ?b)" <> ")") <> ")") <> "\nsize\t15\n"
+
 unfoldable pub own : List Drawer.Claim
 own =
     -- numbers: at most 7 digits, without leading zeros
@@ -215,6 +237,20 @@ own =
     -- the desk keeps the limits of document 01
     ∷ Drawer.prints (Drawer.oneQ <> "size\t17\n") "no\t9\t0\n"
     ∷ Drawer.prints (ruleQ "(forall (?a ?b ?c ?d) (or (LT ?a ?b) (LT ?c ?d)))" <> "size\t16\n") "no\t11\t0\n"
+    ∷ Drawer.prints (Drawer.oneQ <> "size\t17\nstep\t0\n") "no\t9\t0\n"
+    -- 1,048,576 atoms and one more; 4,194,304 actions and one more
+    ∷ Drawer.sizesAre (atomsQ 1) "size\t63\n" 63 1048576 8130 8130
+    ∷ Drawer.refuses (atomsQ 2) "size\t63\n" 11 0
+    ∷ Drawer.sizesAre (actionsQ 2) "size\t60\n" 60 544385 4194304 522304
+    ∷ Drawer.refuses (actionsQ 3) "size\t60\n" 11 0
+    -- 65,536 atoms and 131,072 actions at the desk, and one more (12 comes after 11)
+    ∷ Drawer.prints (deskAtoms 13) "no\t12\t54063\n"
+    ∷ Drawer.prints (deskAtoms 14) "no\t11\t0\n"
+    ∷ Drawer.prints (deskActions 6) "no\t12\t48128\n"
+    ∷ Drawer.prints (deskActions 7) "no\t11\t0\n"
+    -- a bound of 8,192 steps there, and of 8,193
+    ∷ Drawer.prints (deskBound 0) "no\t17\t0\n"
+    ∷ Drawer.prints (deskBound 1) "no\t12\t8193\n"
     -- a bound of 8,482 steps there
     ∷ Drawer.prints (ruleQ "(forall (?a ?b ?c) (or (LT ?a ?b) (T ?c)))" <> "size\t16\n") "no\t12\t8482\n"
     -- the state that building leaves: the sheet's 47 atoms
@@ -230,7 +266,7 @@ own =
     ∷ []
 
 pub own-are-so : all Drawer.isSo own ≡ true
-unfolding everything Drawer.isSo Drawer.claims Drawer.repeat Drawer.sheetQ Drawer.sheetS Drawer.oneQ Drawer.oneS Drawer.injQ Drawer.injS Drawer.pairQ own chosenQ ruleQ nots
+unfolding everything Drawer.isSo Drawer.claims Drawer.repeat Drawer.sheetQ Drawer.sheetS Drawer.oneQ Drawer.oneS Drawer.injQ Drawer.injS Drawer.pairQ own ands atomsQ actionsQ deskAtoms deskActions deskBound chosenQ ruleQ nots
 own-are-so = refl
 
 -- a reply in the paper's numbers: a refusal is its number and place, success 0 and the step count

@@ -31,6 +31,22 @@ isSo row = replies (judge usual (bytes (row .question)) (bytes (row .site)) (row
 unfoldable pub bothQ : String
 bothQ = "choose\tT\t1\nchoose\tF\tPFun\nrule\t(exists (?x) (T ?x))\n"
 
+-- a site with labels; types; a kind with types
+unfoldable pub labelsS : String
+labelsS = "size\t2\nlabel\t1\tYARD\nlabel\t0\tLOBBY\nfact\tD\tLOBBY\n"
+
+unfoldable pub spotQ : String
+spotQ = "type\tSPOT\nchoose\tT\t1\nrule\t(forall (?x:SPOT) (T ?x))\n"
+
+unfoldable pub spotS : String
+spotS = "size\t5\nmember\tSPOT\t3\nmember\tSPOT\t1\n"
+
+unfoldable pub groupQ : String
+groupQ = "type\tDOOR\ntype\tGROUP\nchoose\tG\tFun\tDOOR\tGROUP\nrule\t(forall (?x) (EQ ?x ?x))\n"
+
+unfoldable pub groupS : String
+groupS = "size\t5\nmember\tDOOR\t3\nmember\tDOOR\t0\nmember\tGROUP\t4\nmember\tGROUP\t1\nmember\tGROUP\t3\n"
+
 unfoldable pub rows : List Row
 rows =
     -- yes, from a text and from words; no is 17
@@ -54,8 +70,17 @@ rows =
     -- the question first, then the site
     ∷ judged "x\n" "x\n" (asText (bytes "x\n")) 2 0
     ∷ judged Drawer.oneQ "size\t0\n" (asText (bytes "x\n")) 9 0
+    -- labels; types; a kind with types: 16 for a pick outside, 17 where a member of the first has no second
+    ∷ judged Drawer.sheetQ labelsS (asText (bytes "pick\tT\tYARD\n")) 0 0
+    ∷ judged Drawer.sheetQ labelsS (asText (bytes "pick\tT\tLOBBY\n")) 17 0
+    ∷ judged Drawer.sheetQ labelsS (asText (bytes "pick\tT\tGATE\n")) 18 0
+    ∷ judged spotQ spotS (asText (bytes "pick\tT\t1\npick\tT\t3\n")) 0 0
+    ∷ judged spotQ spotS (asNumbers (21 ∷ [])) 17 0
+    ∷ judged groupQ groupS (asText (bytes "pick\tG\t3\t1\npick\tG\t0\t4\n")) 0 0
+    ∷ judged groupQ groupS (asText (bytes "pick\tG\t3\t1\npick\tG\t0\t2\n")) 16 0
+    ∷ judged groupQ groupS (asText (bytes "pick\tG\t3\t1\n")) 17 0
     ∷ []
 
 pub rows-are-so : all isSo rows ≡ true
-unfolding everything judge judged isSo rows replies bothQ funQ twoQ overQ twoS sixtyFourS Drawer.oneQ Drawer.oneS
+unfolding everything judge judged isSo rows labelsS spotQ spotS groupQ groupS Drawer.sheetQ replies bothQ funQ twoQ overQ twoS sixtyFourS Drawer.oneQ Drawer.oneS
 rows-are-so = refl

@@ -1,5 +1,6 @@
 -- Cases of our own for function kinds with types (document 02, job 5), as a table with one theorem for the whole.
 use mathlib.Core.Path.{_≡_, refl}
+use Prim.Native.Nat.{ℕ}
 use Prim.Native.String.{String, _++_ as _<>_}
 use mathlib.Core.Bool.{true}
 use mathlib.Core.List.{List, [], _∷_}
@@ -53,6 +54,9 @@ oneQ = "type\tA\nchoose\tF\tInj\tA\tA\nrule\t(exists (?x:A) (F ?x ?x))\n"
 
 unfoldable pub gateS : String
 gateS = "size\t5\nlabel\t0\tGATE\nlabel\t4\tSTAFF\nmember\tDOOR\tGATE\nmember\tGROUP\tSTAFF\nmember\tGROUP\t0\n"
+
+unfoldable pub formsQ : ℕ → String
+formsQ k = typesL <> "choose\tG\tFun\tDOOR\tGROUP\nrule\t(forall (?x) " <> Drawer.repeat k "(not " <> "(EQ ?x ?x)" <> Drawer.repeat k ")" <> ")\n"
 
 unfoldable pub kinds : List Claim
 kinds =
@@ -168,8 +172,13 @@ kinds =
     "sizes\t5\t244\t21\t23\ncount\tG\t1\npick\tG\tGATE\tSTAFF\nstep\t1\nstep\t2\nstep\t11\nstep\t9\nstep\t4\nstep\t5\nstep\t6\nstep\t7\nstep\t8\nstep\t3\nstep\t20\nok\t11\n"
     ∷ prints (groupQ <> gateS <> "pick\tG\tSTAFF\tGATE\n") "no\t16\t0\n"
     ∷ prints (typesL <> "choose\tG\tFun\tDOOR\tNO\n" <> anyR <> groupS) "no\t19\t21\n"
+    -- a totality with types is three forms, as without
+    ∷ passes (formsQ 58) "size\t2\nmember\tDOOR\t0\nmember\tGROUP\t1\n"
+    ∷ refuses (formsQ 59) "" 6 45
+    -- the last of four `choose` lines with types
+    ∷ sizesAre (typesL <> "choose\tA\t1\nchoose\tB\t1\nchoose\tC\t1\nchoose\tG\tPInj\tGROUP\tDOOR\n" <> anyR) groupS 5 268 28 27
     ∷ []
 
 pub kinds-are-so : all Drawer.isSo kinds ≡ true
-unfolding everything Drawer.isSo Drawer.claims kinds typesL anyR groupQ freeQ partQ injQ pinjQ rowQ groupS threeQ falseQ outQ oneQ gateS
+unfolding everything Drawer.isSo Drawer.claims Drawer.repeat kinds formsQ typesL anyR groupQ freeQ partQ injQ pinjQ rowQ groupS threeQ falseQ outQ oneQ gateS
 kinds-are-so = refl

@@ -22,6 +22,9 @@ firstS = "size\t2\nlabel\t0\tLOBBY\n"
 unfoldable pub bothS : String
 bothS = "size\t2\nlabel\t1\tYARD\nlabel\t0\tLOBBY\nfact\tD\tLOBBY\n"
 
+unfoldable pub manyS : String
+manyS = "size\t17\nlabel\t0\tL0\nlabel\t1\tL1\nlabel\t2\tL2\nlabel\t3\tL3\nlabel\t4\tL4\nlabel\t5\tL5\nlabel\t6\tL6\nlabel\t7\tL7\nlabel\t8\tL8\nlabel\t9\tL9\nlabel\t10\tL10\nlabel\t11\tL11\nlabel\t12\tL12\nlabel\t13\tL13\nlabel\t14\tL14\nlabel\t15\tL15\nlabel\t16\tL16\n"
+
 unfoldable pub labelled : List Claim
 labelled =
     -- a `label` line has two fields, an element and a name
@@ -108,10 +111,16 @@ labelled =
     ∷ buildRefused Drawer.sheetQ firstS "label\t1\tyard\n" 2 0
     ∷ prints (Drawer.oneQ <> "size\t1\nstep\t0\nlabel\t0\tLOBBY\n") "no\t3\t7\n"
     ∷ prints (Drawer.oneQ <> "size\t1\nstep\t0\nlabel\t0\n") "no\t2\t7\n"
+    -- more labels than there may be elements at the desk
+    ∷ passes Drawer.sheetQ (manyS <> "fact\tD\tL16\n")
+    ∷ refuses Drawer.sheetQ (manyS <> "fact\tD\tL16\nfact\tD\t16\n") 10 220
+    ∷ prints
+    "rel\tD\t1\nchoose\tT\t1\nrule\t(exists (?y) (T ?y))\nsize\t6\nlabel\t5\tFIVE\npick\tT\tFIVE\n"
+    "sizes\t6\t268\t14\t9\ncount\tT\t1\npick\tT\tFIVE\nstep\t5\nstep\t6\nstep\t12\nstep\t13\nok\t4\n"
     ∷ []
 
 pub labelled-are-so : all Drawer.isSo labelled ≡ true
-unfolding everything Drawer.isSo Drawer.claims Drawer.sheetQ Drawer.oneQ Drawer.pairQ labelled edgeQ twoS firstS bothS
+unfolding everything Drawer.isSo Drawer.claims Drawer.sheetQ Drawer.oneQ Drawer.pairQ labelled manyS edgeQ twoS firstS bothS
 labelled-are-so = refl
 
 -- a site and picks rewritten with numbers; what is no element stays, though it is called as a label is

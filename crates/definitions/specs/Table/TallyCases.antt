@@ -52,6 +52,10 @@ table =
     ∷ visits wideQ "size\t2\n" (0 ∷ 1 ∷ 2 ∷ 3 ∷ 4 ∷ 5 ∷ 6 ∷ 7 ∷ [])
     -- over both limits, and counted all the same; an `or` has an action for each part
     ∷ counts wideQ "size\t64\n" 8 84177347 168038530 84152450
+    -- a first part of more nodes than one; types, and a kind with types
+    ∷ visits "choose\tT\t1\nrule\t(and (forall (?x) (or (T ?x))) (exists (?x) (T ?x)))\n" "size\t2\n" (0 ∷ 1 ∷ 2 ∷ 3 ∷ [])
+    ∷ counts "type\tA\ntype\tB\nchoose\tR\t2\nrule\t(forall (?x:A ?y:B) (R ?x ?y))\n" "size\t3\nmember\tB\t2\nmember\tA\t1\nmember\tB\t0\n" 2 99 18 23
+    ∷ counts "type\tDOOR\ntype\tGROUP\nchoose\tG\tFun\tDOOR\tGROUP\nrule\t(forall (?x) (EQ ?x ?x))\n" "size\t5\nmember\tDOOR\t3\nmember\tDOOR\t0\nmember\tGROUP\t4\nmember\tGROUP\t1\nmember\tGROUP\t3\n" 4 244 31 23
     ∷ refuses "choose\tT\t1\n" "" 3 11
     ∷ refuses oneQ "size\t65\n" 9 0
     ∷ []

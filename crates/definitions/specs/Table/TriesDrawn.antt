@@ -63,6 +63,18 @@ rows =
     ∷ one (0 ∷ 1 ∷ 2 ∷ 3 ∷ []) (list 0 2 ∷ list 2 2 ∷ []) (7 ∷ []) (0 ∷ 2 ∷ 15 ∷ 2 ∷ 2 ∷ 2 ∷ 14 ∷ 0 ∷ []) (19273 ∷ [])
     -- no lists, and no steps
     ∷ one [] [] (7 ∷ 7 ∷ []) [] (19273 ∷ 7 ∷ [])
+    -- a case with types: its steps, the chain in another order, a number past the last action
+    ∷ record {
+      question = "type\tSPOT\nchoose\tT\t1\nrule\t(forall (?x:SPOT) (T ?x))\n";
+      site = "size\t5\nmember\tSPOT\t3\nmember\tSPOT\t1\n";
+      steps = 1 ∷ 3 ∷ 5 ∷ 6 ∷ 7 ∷ 8 ∷ 1 ∷ 3 ∷ 5 ∷ 7 ∷ 9 ∷ [];
+      lists = list 0 6 ∷ list 0 5 ∷ list 6 4 ∷ list 10 1 ∷ list 10 2 ∷ [];
+      state = 7 ∷ 7 ∷ 7 ∷ 7 ∷ [];
+      number = 0;
+      place = 0;
+      after = 0 ∷ 6 ∷ 0 ∷ 6 ∷ 0 ∷ 5 ∷ 15 ∷ 5 ∷ 6 ∷ 4 ∷ 14 ∷ 3 ∷ 10 ∷ 1 ∷ 13 ∷ 0 ∷ 10 ∷ 2 ∷ 12 ∷ 12 ∷ [];
+      left = 8345098623681331721 ∷ 292805984782926092 ∷ 34919971821182845 ∷ 7 ∷ [];
+    }
     -- no room for the state; a question, a site and atoms that are refused
     ∷ refusedCase oneQ oneS [] 12 1
     ∷ refusedCase "choose\tT\t1\n" oneS (7 ∷ []) 3 11

@@ -41,6 +41,9 @@ ruleT = "choose\tT\t1\nrule\t(forall (?x) (T ?x))\n"
 unfoldable pub gateS : String
 gateS = "size\t5\nlabel\t1\tGATE\nmember\tSPOT\tGATE\n"
 
+unfoldable pub spotR : String → String
+spotR rule = "type\tSPOT\nchoose\tT\t1\nrule\t" <> rule <> "\n"
+
 unfoldable pub typed : List Claim
 typed =
     -- the type of elements 1 and 3 of 5 misses 0, 4 and what is between: atoms as without types, actions at members only; the chain begins at
@@ -162,10 +165,27 @@ typed =
     (spotQ <> gateS <> "pick\tT\tGATE\n")
     "sizes\t5\t188\t8\t12\ncount\tT\t1\npick\tT\tGATE\nstep\t1\nstep\t5\nstep\t6\nstep\t7\nok\t4\n"
     ∷ prints (spotQ <> "size\t5\nstep\t5\n") "no\t19\t0\n"
+    -- an undeclared type is found in both parts of `implies`, in a later part of `and` and `or`, and under `not`
+    ∷ refuses "type\tSPOT\nchoose\tT\t1\nrule\t(forall (?x) (implies (exists (?y:NO) (T ?y)) (T ?x)))\n" "" 19 21
+    ∷ refuses "type\tSPOT\nchoose\tT\t1\nrule\t(forall (?x) (implies (T ?x) (exists (?y:NO) (T ?y))))\n" "" 19 21
+    ∷ refuses "type\tSPOT\nchoose\tT\t1\nrule\t(forall (?x) (and (T ?x) (exists (?y:NO) (T ?y))))\n" "" 19 21
+    ∷ refuses "type\tSPOT\nchoose\tT\t1\nrule\t(forall (?x) (or (T ?x) (exists (?y:NO) (T ?y))))\n" "" 19 21
+    ∷ refuses "type\tSPOT\nchoose\tT\t1\nrule\t(not (exists (?y:NO) (T ?y)))\n" "" 19 21
+    -- a typed variable is one form, and nests once
+    ∷ passes (spotR ("(forall (?x:SPOT) " <> Drawer.repeat 62 "(not " <> "(T ?x)" <> Drawer.repeat 62 ")" <> ")")) "size\t1\nmember\tSPOT\t0\n"
+    ∷ refuses (spotR ("(forall (?x:SPOT) " <> Drawer.repeat 63 "(not " <> "(T ?x)" <> Drawer.repeat 63 ")" <> ")")) "" 6 21
+    ∷ passes (spotR "(forall (?a:SPOT ?b:SPOT) (exists (?c:SPOT ?d:SPOT) (T ?d)))") "size\t1\nmember\tSPOT\t0\n"
+    -- 10 and 19 for a type that is not the first; a `member` line where there is no type; a `type` line in picks and in steps
+    ∷ refuses nestQ (nestS <> "member\tB\t2\n") 10 40
+    ∷ refuses "type\tA\ntype\tB\ntype\tB\n" "" 19 14
+    ∷ refuses ruleT "size\t2\nmember\tA\t0\n" 19 7
+    ∷ buildRefused spotQ fiveS "type\tA\n" 3 0
+    ∷ sizesAre spotQ "size\t17\nmember\tSPOT\t0\nmember\tSPOT\t1\nmember\tSPOT\t2\nmember\tSPOT\t3\nmember\tSPOT\t4\nmember\tSPOT\t5\nmember\tSPOT\t6\nmember\tSPOT\t7\nmember\tSPOT\t8\nmember\tSPOT\t9\nmember\tSPOT\t10\nmember\tSPOT\t11\nmember\tSPOT\t12\nmember\tSPOT\t13\nmember\tSPOT\t14\nmember\tSPOT\t15\nmember\tSPOT\t16\n" 17 1856 36 36
+    ∷ prints (Drawer.oneQ <> "size\t1\nstep\t0\ntype\tA\n") "no\t3\t7\n"
     ∷ []
 
 pub typed-are-so : all Drawer.isSo typed ≡ true
-unfolding everything Drawer.isSo Drawer.claims Drawer.oneQ typed spotQ someQ fiveS nestQ nestS mixedQ eightT ruleT gateS
+unfolding everything Drawer.isSo Drawer.claims Drawer.repeat Drawer.oneQ typed spotR spotQ someQ fiveS nestQ nestS mixedQ eightT ruleT gateS
 typed-are-so = refl
 
 -- a site rewritten with numbers: a `member` line keeps its type, though a label is called as it is
