@@ -6,7 +6,8 @@
  *
  * Every call answers whatever is handed over. It writes a refusal's number to *number and its place to *place, or 0 and the count named
  * at the call. docs/GUIDE.md says what the numbers mean. A buffer that is too short is 12, and the place is the length that is needed; a
- * refused call leaves every buffer as it was, except that 13, 14 and 15 leave the state before the step that failed (15: the last one).
+ * refused call leaves every buffer as it was, except that 13, 14 and 15 leave the state before the step that failed (15, and 13 for a
+ * page: the last one).
  * Words and entries past what is written stay as they were. With 1.5 MiB of stack every call answers.
  *
  * A text has at most 1,048,576 bytes, a list 1,048,576 steps, a case 64 elements, 1,048,576 atoms and 4,194,304 actions. The desk program
@@ -89,6 +90,17 @@ typedef struct nendokwe_try {
 void nendokwe_tries(const uint8_t *question, size_t question_length, const uint8_t *site, size_t site_length,
                     const uint32_t *steps, size_t steps_length, nendokwe_try *tries, size_t tries_length,
                     uint64_t *state, size_t state_length, uint32_t *number, size_t *place);
+
+/* One page of the proof on paper, of steps as a text or as numbers: 60 lines of 72 columns and byte 10. Pages are counted from 1. The
+ * steps are checked first, and the state is left as a check leaves it; then 13 and the page asked for where there is no such page. The
+ * page needs NENDOKWE_PAGE bytes; success is 0 and that number. */
+#define NENDOKWE_PAGE 4380
+void nendokwe_page_text(const uint8_t *question, size_t question_length, const uint8_t *site, size_t site_length,
+                        const uint8_t *steps, size_t steps_length, size_t page, uint64_t *state, size_t state_length,
+                        uint8_t *out, size_t out_length, uint32_t *number, size_t *place);
+void nendokwe_page(const uint8_t *question, size_t question_length, const uint8_t *site, size_t site_length,
+                   const uint32_t *steps, size_t steps_length, size_t page, uint64_t *state, size_t state_length,
+                   uint8_t *out, size_t out_length, uint32_t *number, size_t *place);
 
 /* The desk program's reply to an input, to a buffer of exactly NENDOKWE_REPLY bytes; returns how many bytes it has. */
 #define NENDOKWE_REPLY 573952

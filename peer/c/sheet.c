@@ -1,4 +1,4 @@
-/* The sheet of the desk program through the C header: sizes, built steps, a check of them, the picks read back, allowances, two lists in one call. */
+/* The sheet of the desk program through the C header: sizes, built steps, a check of them, the picks read back, allowances, two lists in one call, a page. */
 #include "../../include/nendokwe.h"
 
 #include <stdio.h>
@@ -46,5 +46,12 @@ int main(void) {
     nendokwe_tries(TEXT(QUESTION), TEXT(SITE), steps, count, tries, 2, state, 1, &number, &place);
     printf("tries %u %zu: %u %llu, %u %llu\n", number, place, tries[0].number, (unsigned long long)tries[0].place,
            tries[1].number, (unsigned long long)tries[1].place);
+
+    static uint8_t page[NENDOKWE_PAGE];
+    nendokwe_page(TEXT(QUESTION), TEXT(SITE), steps, count, 1, state, 1, page, NENDOKWE_PAGE, &number, &place);
+    printf("page %u %zu:\n%.*s", number, place, (int)(73 * count), (const char *)page);
+    nendokwe_page_text(TEXT(QUESTION), TEXT(SITE), TEXT("step\t1\nstep\t2\nstep\t5\nstep\t8\nstep\t3\nstep\t4\nstep\t9\n"), 2, state, 1,
+                       page, NENDOKWE_PAGE, &number, &place);
+    printf("page 2: %u %zu\n", number, place);
     return 0;
 }

@@ -93,7 +93,7 @@ pub fn action_number(
     Ok(Problem::new(&question, &structure, &USUAL)?.number(action))
 }
 
-fn lent_steps(steps: &[u32]) -> Result<&[u32], Refusal> {
+pub(crate) fn lent_steps(steps: &[u32]) -> Result<&[u32], Refusal> {
     if steps.len() > limits::STEPS {
         return Err(Refusal::new(cause::TOO_LONG, 0));
     }

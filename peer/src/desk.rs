@@ -16,9 +16,9 @@ pub const INPUT_LIMIT: usize = 16_384;
 const STEP_ROOM: usize = 8_192;
 
 /// The three sheets of one case; the last holds picks or steps.
-struct Sheets<'t> {
-    question: &'t [u8],
-    site: &'t [u8],
+pub(crate) struct Sheets<'t> {
+    pub question: &'t [u8],
+    pub site: &'t [u8],
     record: &'t [u8],
     planned: bool,
 }
@@ -42,7 +42,7 @@ fn answer(input: &[u8]) -> Result<Vec<u8>, Refusal> {
 }
 
 /// Parts the input by its lines' first fields alone.
-fn split(input: &[u8]) -> Sheets<'_> {
+pub(crate) fn split(input: &[u8]) -> Sheets<'_> {
     let mut all = lines(input);
     let rule = all.find(|line| line.word() == b"rule");
     let question_end =

@@ -113,6 +113,16 @@ pub fn deep(n: usize) -> Sample {
     filed(question, site, picks)
 }
 
+/// The same case with a label of twelve bytes for each element.
+pub fn labelled(sample: &Sample) -> Sample {
+    let site = String::from_utf8_lossy(&sample.site);
+    let (size, facts) = site.split_once('\n').expect("a site's first line");
+    let n: usize = size.split('\t').nth(1).and_then(|n| n.parse().ok()).expect("its size");
+    let labels: String =
+        (0..n).map(|element| format!("label\t{element}\tELEMENT_{element:04}\n")).collect();
+    Sample { site: format!("{size}\n{labels}{facts}").into_bytes(), ..sample.clone() }
+}
+
 /// Four nested quantifiers that have one witness, the last of all.
 pub fn last(n: usize) -> Sample {
     let question = format!("rel\tD\t2\nchoose\tT\t2\nrule\t{LAST_RULE}\n");

@@ -23,6 +23,7 @@ pub mod measures;
 pub mod naming;
 #[cfg(feature = "ours")]
 pub mod ours;
+pub mod paper;
 pub mod plans;
 pub mod records;
 pub mod sample;
@@ -44,5 +45,6 @@ pub use desk::desk;
 pub use ground::{Action, Prove, Set};
 pub use judging::{judge, judge_text};
 pub use measures::{allowances, tally, Tally};
+pub use paper::{page, page_text};
 pub use text::{Refusal, Reply};
 pub use tries::{tries, Try};

@@ -76,6 +76,16 @@ mod foreign {
             steps: *const u32, steps_len: usize, tries: *mut Try, tries_len: usize,
             state: *mut u64, state_len: usize, number: &mut u32, place: &mut u64,
         );
+        pub fn nendokwe_page_text(
+            question: *const u8, question_len: usize, site: *const u8, site_len: usize,
+            steps: *const u8, steps_len: usize, page: u64, state: *mut u64, state_len: usize,
+            out: *mut u8, out_len: usize, number: &mut u32, place: &mut u64,
+        );
+        pub fn nendokwe_page(
+            question: *const u8, question_len: usize, site: *const u8, site_len: usize,
+            steps: *const u32, steps_len: usize, page: u64, state: *mut u64, state_len: usize,
+            out: *mut u8, out_len: usize, number: &mut u32, place: &mut u64,
+        );
         pub fn nendokwe_desk(input: *const u8, input_len: usize, out: *mut u8) -> usize;
     }
 }
@@ -287,6 +297,36 @@ impl Calls for Ours {
         unsafe {
             foreign::nendokwe_allowances(
                 case[0].as_ptr(), case[0].len(), case[1].as_ptr(), case[1].len(),
+                out.as_mut_ptr(), out.len(), &mut number, &mut place,
+            );
+        }
+        reply(number, place)
+    }
+
+    fn page_text(
+        &self, case: [&[u8]; 2], steps: &[u8], page: u64, state: &mut [u64], out: &mut [u8],
+    ) -> Reply {
+        let (mut number, mut place) = (u32::MAX, UNSET);
+        // Safety: as for `picks_text`.
+        unsafe {
+            foreign::nendokwe_page_text(
+                case[0].as_ptr(), case[0].len(), case[1].as_ptr(), case[1].len(),
+                steps.as_ptr(), steps.len(), page, state.as_mut_ptr(), state.len(),
+                out.as_mut_ptr(), out.len(), &mut number, &mut place,
+            );
+        }
+        reply(number, place)
+    }
+
+    fn page(
+        &self, case: [&[u8]; 2], steps: &[u32], page: u64, state: &mut [u64], out: &mut [u8],
+    ) -> Reply {
+        let (mut number, mut place) = (u32::MAX, UNSET);
+        // Safety: as for `picks_text`.
+        unsafe {
+            foreign::nendokwe_page(
+                case[0].as_ptr(), case[0].len(), case[1].as_ptr(), case[1].len(),
+                steps.as_ptr(), steps.len(), page, state.as_mut_ptr(), state.len(),
                 out.as_mut_ptr(), out.len(), &mut number, &mut place,
             );
         }

@@ -57,6 +57,16 @@ fn written<T: Display>(name: &str, entries: &[T]) -> String {
     }
 }
 
+/// The bytes of a refused call's buffer, or whether a long one is as it was.
+fn left(out: &[u8]) -> String {
+    match out.len() {
+        0 => " out".into(),
+        1..=PRINTED => out.iter().fold(" out ".into(), |text, byte| format!("{text}{byte:02x}")),
+        _ if out.iter().all(|&byte| byte == 7) => " out kept".into(),
+        _ => format!(" out sha256:{}", sha256(out)),
+    }
+}
+
 fn replied(reply: Reply) -> String {
     let (number, place) = numbers(reply);
     format!("= {number} {place}")
@@ -94,6 +104,7 @@ impl Script {
             "judge" => replied(program.judge(case, &self.lent)),
             "judge_text" => replied(program.judge_text(case, &self.text)),
             "tries" => self.tried(program, room(0)),
+            "page" | "page_text" => self.paged(program, call, rooms),
             "allowances" => {
                 let mut out = vec![7; room(0)];
                 replied(program.allowances(case, &mut out)) + &written("allowances", &out)
@@ -125,6 +136,21 @@ impl Script {
             _ => program.build_text(self.case(), &self.text, &mut state, &mut steps),
         };
         replied(reply) + &written("state", &state) + &written("steps", &steps)
+    }
+
+    /// A page; its number stands before the lengths of the buffers.
+    fn paged(&self, program: &impl Calls, call: &str, rooms: &[usize]) -> String {
+        let &[page, words, room] = rooms else { return "three numbers are wanted".into() };
+        let (mut state, mut out, page) = (vec![7; words], vec![7; room], page as u64);
+        let reply = match call {
+            "page" => program.page(self.case(), &self.steps(), page, &mut state, &mut out),
+            _ => program.page_text(self.case(), &self.text, page, &mut state, &mut out),
+        };
+        let written_out = match reply {
+            Reply::Accepted(_) => format!(" out sha256:{}", sha256(&out)),
+            Reply::Refused(_) => left(&out),
+        };
+        replied(reply) + &written("state", &state) + &written_out
     }
 
     fn tried(&self, program: &impl Calls, words: usize) -> String {

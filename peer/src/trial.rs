@@ -2,6 +2,7 @@
 //! lent word can be held against each other.
 
 use crate::cases::{self, Sizes};
+use crate::paper::PAGE_BYTES;
 use crate::sample::{desk_input, Random, Sample};
 use crate::text::{Refusal, Reply};
 use crate::tries::Try;
@@ -37,6 +38,22 @@ pub trait Calls {
     fn judge_text(&self, case: [&[u8]; 2], picks: &[u8]) -> Reply;
     fn judge(&self, case: [&[u8]; 2], picks: &[u64]) -> Reply;
     fn allowances(&self, case: [&[u8]; 2], out: &mut [u64]) -> Reply;
+    fn page_text(
+        &self,
+        case: [&[u8]; 2],
+        steps: &[u8],
+        page: u64,
+        state: &mut [u64],
+        out: &mut [u8],
+    ) -> Reply;
+    fn page(
+        &self,
+        case: [&[u8]; 2],
+        steps: &[u32],
+        page: u64,
+        state: &mut [u64],
+        out: &mut [u8],
+    ) -> Reply;
     fn desk(&self, input: &[u8]) -> Vec<u8>;
 }
 
@@ -128,6 +145,28 @@ impl Calls for Peer {
         crate::measures::allowances(case[0], case[1], out)
     }
 
+    fn page_text(
+        &self,
+        case: [&[u8]; 2],
+        steps: &[u8],
+        page: u64,
+        state: &mut [u64],
+        out: &mut [u8],
+    ) -> Reply {
+        crate::paper::page_text(case[0], case[1], steps, page, state, out)
+    }
+
+    fn page(
+        &self,
+        case: [&[u8]; 2],
+        steps: &[u32],
+        page: u64,
+        state: &mut [u64],
+        out: &mut [u8],
+    ) -> Reply {
+        crate::paper::page(case[0], case[1], steps, page, state, out)
+    }
+
     fn desk(&self, input: &[u8]) -> Vec<u8> {
         crate::desk::desk(input)
     }
@@ -160,11 +199,13 @@ pub enum Call {
     Judge,
     Tries,
     Allowances,
+    PageText,
+    Page,
     DeskPicks,
     DeskSteps,
 }
 
-pub const CALLS: [Call; 15] = [
+pub const CALLS: [Call; 17] = [
     Call::Sizes,
     Call::Rule,
     Call::Action,
@@ -178,6 +219,8 @@ pub const CALLS: [Call; 15] = [
     Call::Judge,
     Call::Tries,
     Call::Allowances,
+    Call::PageText,
+    Call::Page,
     Call::DeskPicks,
     Call::DeskSteps,
 ];
@@ -194,6 +237,7 @@ pub struct Outcome {
     pub picks: Vec<u64>,
     pub state: Vec<u64>,
     pub steps: Vec<u32>,
+    /// What the desk prints, or a page's buffer.
     pub printed: Vec<u8>,
 }
 
@@ -242,6 +286,13 @@ fn tried(program: &impl Calls, sample: &Sample, state: &mut [u64], into: &mut Ve
     reply
 }
 
+/// A page number that is one of a few, and bytes about the needed length, by the lengths of the other buffers.
+fn page_asked(rooms: Rooms) -> (u64, usize) {
+    let short = rooms[2] % 7 == 0;
+    let length = if short { rooms[2] % PAGE_BYTES } else { PAGE_BYTES + rooms[2] % 3 };
+    ((rooms[0] + rooms[2] + 1) as u64 % 5, length)
+}
+
 /// Makes one call, with buffers of these lengths.
 pub fn run(program: &impl Calls, call: Call, sample: &Sample, rooms: Rooms) -> Outcome {
     let mut outcome = Outcome::fresh(rooms);
@@ -270,6 +321,15 @@ pub fn run(program: &impl Calls, call: Call, sample: &Sample, rooms: Rooms) -> O
         Call::JudgeText => program.judge_text(case, &sample.picks),
         Call::Judge => program.judge(case, &lent),
         Call::Tries => tried(program, sample, state, &mut outcome.found),
+        Call::PageText | Call::Page => {
+            let (page, length) = page_asked(rooms);
+            outcome.printed = vec![FILL as u8; length + GUARD];
+            let out = &mut outcome.printed[..length];
+            match call {
+                Call::Page => program.page(case, &sample.lent_steps, page, state, out),
+                _ => program.page_text(case, &sample.steps, page, state, out),
+            }
+        }
         // The picks' buffer serves for the allowances.
         Call::Allowances => program.allowances(case, picks),
         Call::DeskPicks | Call::DeskSteps => {

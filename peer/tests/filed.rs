@@ -1,5 +1,7 @@
-//! Every filed case gives the output filed with it.
+//! Every filed case gives the output filed with it, and its paper where that is filed.
 
+use peer::paper::pages;
+use peer::trial::Peer;
 use std::fs;
 use std::path::Path;
 
@@ -13,6 +15,9 @@ fn filed_cases() {
             let input = fs::read(&path).expect("a case");
             let output = fs::read(path.with_extension("out")).expect("its output");
             assert_eq!(peer::desk(&input), output, "{}", path.display());
+            if let Ok(paper) = fs::read(path.with_extension("paper")) {
+                assert_eq!(pages(&Peer, &input), paper, "{}", path.display());
+            }
             cases += 1;
         }
     }

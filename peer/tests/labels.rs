@@ -181,7 +181,13 @@ fn names_give_the_same_problem() {
                 let printed = String::from_utf8(wanted.printed).unwrap();
                 wanted.printed = renamed(&printed, &names, || true).into();
             }
-            assert_eq!(run(&Peer, call, &sample, rooms), wanted, "seed {seed}, {call:?}");
+            let given = run(&Peer, call, &sample, rooms);
+            if matches!(call, Call::PageText | Call::Page) {
+                // A page prints the names, which may take more lines and so more pages; its steps are the same.
+                assert_eq!(given.state, wanted.state, "seed {seed}, {call:?}");
+                continue;
+            }
+            assert_eq!(given, wanted, "seed {seed}, {call:?}");
         }
     }
     assert!(named > 3_000, "{named} with labels");

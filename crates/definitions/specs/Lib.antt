@@ -21,6 +21,7 @@
 --   job 5, kinds with types        Sheets (the `choose` line), Truth (kinds, totality), Actions.setRows; KindCases has cases
 --   job 6, yes or no               Judgement; JudgementCases has cases
 --   job 8, twenty tries            Tries; TriesDrawn has cases
+--   job 9, on paper                Page; PageCases has cases
 --   job 14, one card               Allowance; AllowanceCases has cases
 pub mod Limits
 pub mod Lists

@@ -8,3 +8,4 @@ pub mod Tally
 pub mod Tries
 pub mod Judgement
 pub mod Allowance
+pub mod Page

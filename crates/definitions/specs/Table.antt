@@ -10,3 +10,4 @@ pub mod TallyCases
 pub mod TriesDrawn
 pub mod JudgementCases
 pub mod AllowanceCases
+pub mod PageCases

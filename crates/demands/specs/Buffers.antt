@@ -37,13 +37,13 @@ unfolding roomFor
 has-room needed room u e = ltb-false room needed (not-refused (ltb room needed) 12 needed u e)
 
 -- a number of a run is none of those before it
-run-or-ready : (k : ℕ) → In runNumbers k → In readyNumbers k → ⊥
+pub run-or-ready : (k : ℕ) → In runNumbers k → In readyNumbers k → ⊥
 unfolding isIn any all
 run-or-ready k h e = T-not (isIn k readyNumbers) (all-at (λ j. not (isIn j readyNumbers)) runNumbers tt k (in-mem k runNumbers (T-of h))) (T-of e)
 
 module _ (L : CaseLimits) (question site : List ℕ) where
   -- ---- checking
-  ready-room : (given : ThirdInput) (rooms : Problem → Result (Unit {0})) (r : Ready (List ℕ)) → readyToRun L question site given rooms ≡ accepted r → rooms (r .problem) ≡ accepted tt
+  pub ready-room : (given : ThirdInput) (rooms : Problem → Result (Unit {0})) (r : Ready (List ℕ)) → readyToRun L question site given rooms ≡ accepted r → rooms (r .problem) ≡ accepted tt
   unfolding readyToRun
   ready-room given rooms r e = Asked.parts L question site (λ _. takeSteps given) nothing nothing rooms r e .has-room
 

@@ -21,6 +21,7 @@
 --   Judging      judging answers as building does with room enough
 --   Trying       many step lists of one case, each as if checked alone
 --   OnePick      one pick more or less: how far the built steps move
+--   Paper        steps on paper: nothing is cut or lost; what a page call replies and leaves
 pub mod Demands
 pub mod BothSides
 pub mod Instance
@@ -47,3 +48,4 @@ pub mod Short
 pub mod Judging
 pub mod Trying
 pub mod OnePick
+pub mod Paper

@@ -1,4 +1,5 @@
--- Reading a number is the inverse of writing it: `number` takes exactly what `decimal` gives for numbers of at most 7 digits.
+-- Reading a number is the inverse of writing it: `number` takes exactly what `decimal` gives for numbers of at most 7 digits; and how long
+-- numbers are.
 use Prim.Native.Nat.{ℕ, zero, suc, _+_, _-_, _*_, _/_, _%_, _^_, _≤_, _<_}
 use mathlib.Core.Path.{_≡_, refl, sym, ap, ap₂, subst, _∙_}
 use mathlib.Core.Bool.{Bool, true, false, not, _&&_}
@@ -177,3 +178,22 @@ decimal-number t n e = by-test (all isDigit t && noLeadingZero t && leb (length 
         let w = written-from t (T-and-l (all isDigit t) _ a) (T-and-r (all isDigit t) _ a) (leb→le (length t) 7 (T-and-r (all isDigit t && noLeadingZero t) _ (T-of q))) in
         subst (λ (k : ℕ). (t ≡ decimal k) × (k < 10 ^ 7)) (some-eq h) w
     by-test false q h = absurd (none-some h)
+
+-- ---- how long a number is
+-- a number below a power of ten has no more digits than that
+short : (f n k : ℕ) → k < 10 ^ suc n → length (decimalIn f k) ≤ suc n
+unfolding decimalIn
+short zero n k h = omega arith
+short (suc f) n k h = by-number n (leb k 9) refl (λ m. short f m (k / 10)) h
+  where
+    by-number : (n : ℕ) (b : Bool) → leb k 9 ≡ b → ((m : ℕ) → k / 10 < 10 ^ suc m → length (decimalIn f (k / 10)) ≤ suc m) → k < 10 ^ suc n → length (decimalIn (suc f) k) ≤ suc n
+    by-number n true e ih l = rw (one-digit f k (leb-true k 9 e)) (omega arith)
+    by-number zero false e ih l = let s = leb-false k 9 e in absurd (omega (arith, pow-suc 10 0, pow-zero 10))
+    by-number (suc n) false e ih l =
+        let s = leb-false k 9 e in
+        let i = ih n (omega (arith, pow-suc 10 (suc n))) in
+        rw (more-digits f k s, length-append (decimalIn f (k / 10)) ((k % 10 + 48) ∷ [])) (omega arith)
+
+pub decimal-length : (n k : ℕ) → k < 10 ^ suc n → length (decimal k) ≤ suc n
+unfolding decimal
+decimal-length n k h = short 20 n k h

@@ -21,6 +21,7 @@
 --   Decimals           numbers written and read
 --   Lines, Spelling    lines and fields of a text; elements written by number or by label
 --   Told               what a sheet that was read tells of its text
+--   Pages              lines and pages of steps: how long they are, and what they hold
 --   Refusals           which numbers each call refuses with
 --   Long               how long the lines of steps are
 --   Writing            reading a rule's formula is the inverse of writing it
@@ -47,6 +48,7 @@ pub mod Decimals
 pub mod Lines
 pub mod Spelling
 pub mod Told
+pub mod Pages
 pub mod Refusals
 pub mod Long
 pub mod Writing

@@ -138,3 +138,9 @@ pub weaken-lines : {A : Type 0} (R Q : A → List (List ℕ) → Type 0) (s : Li
 unfolding LineByLine
 weaken-lines R Q [] text f h = h
 weaken-lines R Q (a ∷ s) text f (fs, r, (rest, e, h)) = (fs, f a fs (List·Memᴰ·head refl) r, (rest, e, weaken-lines R Q s rest (λ b gs m. f b gs (List·Memᴰ·tail m)) h))
+
+-- ---- a name is short
+pub name-short : (name : List ℕ) → T (isRelationName name) → length name ≤ 12
+unfolding isRelationName
+name-short [] t = absurd t
+name-short (b ∷ bs) t = leb→le (length (b ∷ bs)) 12 (T-and-r (isCapital b && all (λ c. isCapital c || isDigit c || eqb c 95) bs) (leb (length (b ∷ bs)) 12) t)

@@ -21,6 +21,7 @@ use Rattle.definitions.specs.Problem.Atoms.{Problem, goal, atomNumber, State, i
 use Rattle.definitions.specs.Problem.Actions.{Action, actionAt}
 use Rattle.definitions.specs.Problem.Strips.{mayTake, after, runFrom, run}
 use Rattle.definitions.specs.Problem.Built.{chosenNumbers, bound}
+use Rattle.definitions.specs.Reply.Page.{pageBytes, pageOf, laid, pagedFrom, pageRooms, layPage}
 use Rattle.definitions.specs.Reply.Judgement.{judge}
 use Rattle.definitions.specs.Reply.Outcome.{CaseRead, readFiled, readCase, ground, readProblem, Ready, asked, nothing, satisfying, roomFor, sizes, action}
 use Rattle.definitions.specs.Reply.Outcome.{stateLength, picksLength, ThirdInput, asText, asNumbers, takeSteps, textPicks, picksRoom, spareWord, spareRefusal}
@@ -318,6 +319,16 @@ module _ (L : CaseLimits) (question site : List ℕ) where
       from-this : (m : Result (Ready (List ℕ))) → Refuses Early m → Refuses Checks (picksReadFrom m picks state .answer)
       from-this (refused j at) h = refused-by Checks ℕ j at (early-checks j (told Early (refused j at) j at refl h))
       from-this (accepted r) h = run-checks r
+
+  -- the same of pages: 12 has one buffer more, and 13 one cause more
+  pub page-refuse : (steps : ThirdInput) (m : ℕ) (state page : List ℕ) (k place : ℕ) → layPage L question site steps m state page .answer ≡ refused k place → In (readyNumbers ++ runNumbers) k
+  unfolding layPage pagedFrom laid pageOf pageRooms isIn any
+  page-refuse steps m state page k place e = told Checks _ k place e
+      (from-this _ (ready-by steps (pageRooms (length state) (length page)) (λ p. bind-by Early _ _ (room-by (stateLength p) (length state)) (λ _. room-by pageBytes (length page)))))
+    where
+      from-this : (x : Result (Ready (List ℕ))) → Refuses Early x → Refuses Checks (pagedFrom x m state page .answer)
+      from-this (refused j at) h = refused-by Checks ℕ j at (early-checks j (told Early (refused j at) j at refl h))
+      from-this (accepted r) h = bind-by Checks _ _ (bind-by Checks _ _ (run-checks r) (λ _. bind-by Checks _ _ (if-by Checks _ 13 m refl) (λ _. accepted-by Checks _))) (λ _. accepted-by Checks _)
 
   -- ---- picks, built from and judged
   abbrev Builds : ℕ → Type 0

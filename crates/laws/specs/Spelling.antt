@@ -15,8 +15,8 @@ use Rattle.definitions.specs.Reply.Desk.{said}
 use Rattle.laws.specs.Booleans.{and-T, T-and-l, T-and-r, T-false, T-of, T-true}
 use Rattle.laws.specs.Lists.{none-some, some-eq}
 use Rattle.laws.specs.Labels.{LabelsFit, name-at, one-to-one, option-parts}
-use Rattle.laws.specs.Decimals.{decimal-number, digits-of, number-decimal}
-use Rattle.laws.specs.Lines.{Without, AllWithout, digits-without, name-without}
+use Rattle.laws.specs.Decimals.{decimal-length, decimal-number, digits-of, number-decimal}
+use Rattle.laws.specs.Lines.{Without, AllWithout, digits-without, name-short, name-without}
 
 -- a field spells an element; fields spell elements, one by one
 unfoldable pub Spells : List Label → ℕ → List ℕ → Type 0
@@ -150,3 +150,12 @@ spelled-plain [] [] s = refl
 spelled-plain [] (f ∷ fs) s = absurd s
 spelled-plain (x ∷ xs) [] s = absurd s
 spelled-plain (x ∷ xs) (f ∷ fs) s = ap₂ _∷_ (⊎-elim (λ q. q ∙ sym (said-plain x)) (λ q. absurd (none-some q)) (s .0)) (spelled-plain xs fs (s .1))
+
+-- ---- an element as it is printed is short
+pub said-short : (n : ℕ) (ls : List Label) → LabelsFit n ls → (x : ℕ) → x < 64 → length (said ls x) ≤ 12
+unfolding said option
+said-short n ls L x h = by-option (nameOf ls x) refl
+  where
+    by-option : (o : Option (List ℕ)) → nameOf ls x ≡ o → length (option o (decimal x) (λ name. name)) ≤ 12
+    by-option none e = omega (arith, decimal-length 1 x (omega arith))
+    by-option (some name) e = let (l, m, a, b) = name-at ls x name e in subst (λ (t : List ℕ). length t ≤ 12) b (name-short (l .name) (L .formed l m))

@@ -14,6 +14,7 @@
 --   Lent               picks as words
 --   Building           what building answers
 --   Few                how many picks and steps a sheet can hold
+--   Shown              what an accepted case shows on them is short
 -- What steps leave in a state, for the code that builds and that reads picks:
 --   Changes            what a step changes, as an equation on atoms
 --   HeldTuples         after steps, the tuples that hold are the picks read from them
@@ -36,6 +37,7 @@ pub mod Count
 pub mod Lent
 pub mod Building
 pub mod Few
+pub mod Shown
 pub mod Changes
 pub mod HeldTuples
 pub mod Deciding

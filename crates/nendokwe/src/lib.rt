@@ -11,6 +11,7 @@ ghost use Rattle.open_case.specs.Replies.{resultOf};
 ghost use Rattle.nendokwe.specs.Told.{detailsOf};
 ghost use Rattle.definitions.specs.Reply.Allowance.{allowances as «allowances-of»};
 ghost use Rattle.definitions.specs.Reply.Judgement.{judge};
+ghost use Rattle.definitions.specs.Reply.Page.{layPage};
 ghost use Rattle.definitions.specs.Reply.Tries.{tryLists};
 ghost use Rattle.call_tries.specs.Recorded.{records};
 use call_action::Asked;
@@ -377,4 +378,46 @@ pub extern "C" fn nendokwe_desk(input: &[u8], out: &mut [u8; call_desk::ROOM]) -
     ensures { λ r. ⌜ now (out .exit) ≡ written (desk (now (input .entry))) (now (out .entry)) ⌝ }
 {
     call_desk::reply(input, out)
+}
+
+// Lays out a page of steps that are handed over as a text: 0 and the bytes of the page, or a refusal.
+#[no_mangle]
+pub extern "C" fn nendokwe_page_text(
+    question: &[u8],
+    site: &[u8],
+    steps: &[u8],
+    page: usize,
+    state: &mut [u64],
+    out: &mut [u8],
+    number: &mut u32,
+    place: &mut usize,
+)
+    ensures { λ _. ⌜ now (number .exit) ≡ replyNumber (layPage usual (now (question .entry)) (now (site .entry)) (asText (now (steps .entry))) page (now (state .entry)) (now (out .entry)) .answer) ⌝ }
+    ensures { λ _. ⌜ now (place .exit) ≡ replyPlace (layPage usual (now (question .entry)) (now (site .entry)) (asText (now (steps .entry))) page (now (state .entry)) (now (out .entry)) .answer) ⌝ }
+    ensures { λ _. ⌜ now (state .exit) ≡ layPage usual (now (question .entry)) (now (site .entry)) (asText (now (steps .entry))) page (now (state .entry)) (now (out .entry)) .state ⌝ }
+    ensures { λ _. ⌜ now (out .exit) ≡ layPage usual (now (question .entry)) (now (site .entry)) (asText (now (steps .entry))) page (now (state .entry)) (now (out .entry)) .page ⌝ }
+{
+    let r = call_page::page_text(question, site, steps, page, state, out);
+    tell(r, number, place);
+}
+
+// The same for steps that are lent as numbers.
+#[no_mangle]
+pub extern "C" fn nendokwe_page(
+    question: &[u8],
+    site: &[u8],
+    steps: &[u32],
+    page: usize,
+    state: &mut [u64],
+    out: &mut [u8],
+    number: &mut u32,
+    place: &mut usize,
+)
+    ensures { λ _. ⌜ now (number .exit) ≡ replyNumber (layPage usual (now (question .entry)) (now (site .entry)) (asNumbers (now (steps .entry))) page (now (state .entry)) (now (out .entry)) .answer) ⌝ }
+    ensures { λ _. ⌜ now (place .exit) ≡ replyPlace (layPage usual (now (question .entry)) (now (site .entry)) (asNumbers (now (steps .entry))) page (now (state .entry)) (now (out .entry)) .answer) ⌝ }
+    ensures { λ _. ⌜ now (state .exit) ≡ layPage usual (now (question .entry)) (now (site .entry)) (asNumbers (now (steps .entry))) page (now (state .entry)) (now (out .entry)) .state ⌝ }
+    ensures { λ _. ⌜ now (out .exit) ≡ layPage usual (now (question .entry)) (now (site .entry)) (asNumbers (now (steps .entry))) page (now (state .entry)) (now (out .entry)) .page ⌝ }
+{
+    let r = call_page::page_lent(question, site, steps, page, state, out);
+    tell(r, number, place);
 }

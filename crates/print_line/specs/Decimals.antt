@@ -1,4 +1,4 @@
--- Numbers in decimal: their last digit, how long they are, and that `number` reads what `decimal` writes. Assumes nothing.
+-- Numbers in decimal: their last digit. Assumes nothing.
 use Prim.Native.Nat.{ℕ, zero, suc, _+_, _/_, _%_, _^_, _≤_, _<_}
 use mathlib.Core.Path.{_≡_, refl, sym, _∙_}
 use mathlib.Core.Bool.{Bool, true, false}
@@ -6,7 +6,6 @@ use mathlib.Core.List.{[], _∷_, _++_}
 use native.Mathlib.Nat.{pow-suc, pow-zero}
 use native.Mathlib.Omega.{arith}
 use lib.Dec.{leb}
-use lib.ListN.{length, length-append}
 use borrow.Author.Tests.{leb-true, leb-false}
 use Rattle.definitions.specs.Sheet.Text.{decimalIn, decimal}
 use Rattle.laws.specs.Decimals.{one-digit, more-digits}
@@ -29,21 +28,3 @@ decimal-small k h = one-digit 19 k h
 pub decimal-large : (k : ℕ) → 9 < k → k < 2 ^ 64 → decimal k ≡ decimal (k / 10) ++ ((k % 10 + 48) ∷ [])
 unfolding decimal
 decimal-large k h l = more-digits 19 k h ∙ rw (deeper 18 (k / 10) (omega arith))
-
--- a number below a power of ten has no more digits than that
-short : (f n k : ℕ) → k < 10 ^ suc n → length (decimalIn f k) ≤ suc n
-unfolding decimalIn
-short zero n k h = omega arith
-short (suc f) n k h = by-number n (leb k 9) refl (λ m. short f m (k / 10)) h
-  where
-    by-number : (n : ℕ) (b : Bool) → leb k 9 ≡ b → ((m : ℕ) → k / 10 < 10 ^ suc m → length (decimalIn f (k / 10)) ≤ suc m) → k < 10 ^ suc n → length (decimalIn (suc f) k) ≤ suc n
-    by-number n true e ih l = rw (one-digit f k (leb-true k 9 e)) (omega arith)
-    by-number zero false e ih l = let s = leb-false k 9 e in absurd (omega (arith, pow-suc 10 0, pow-zero 10))
-    by-number (suc n) false e ih l =
-        let s = leb-false k 9 e in
-        let i = ih n (omega (arith, pow-suc 10 (suc n))) in
-        rw (more-digits f k s, length-append (decimalIn f (k / 10)) ((k % 10 + 48) ∷ [])) (omega arith)
-
-pub decimal-length : (n k : ℕ) → k < 10 ^ suc n → length (decimal k) ≤ suc n
-unfolding decimal
-decimal-length n k h = short 20 n k h

@@ -25,7 +25,7 @@ pub print-is : (old : List ℕ) (at : ℕ) (text : List ℕ) → at + length tex
 unfolding print
 print-is old at text h = sets-eq text old at h ∙ append-assoc (take at old) text (drop (at + length text) old)
 
-print-length : (old : List ℕ) (at : ℕ) (text : List ℕ) → length (print old at text) ≡ length old
+pub print-length : (old : List ℕ) (at : ℕ) (text : List ℕ) → length (print old at text) ≡ length old
 unfolding print
 print-length old at text = length-sets old at text
 
@@ -34,7 +34,7 @@ unfolding print
 print-none old at = refl
 
 -- a text in two parts is printed in two goes
-print-parts : (x y old : List ℕ) (at : ℕ) → print old at (x ++ y) ≡ print (print old at x) (at + length x) y
+pub print-parts : (x y old : List ℕ) (at : ℕ) → print old at (x ++ y) ≡ print (print old at x) (at + length x) y
 unfolding print
 print-parts [] y old at = rw (add-zero at)
 print-parts (b ∷ x) y old at = print-parts x y (set old at b) (suc at) ∙ ap (λ (i : ℕ). sets (sets (set old at b) (suc at) x) i y) (omega arith)

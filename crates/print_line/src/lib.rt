@@ -98,13 +98,13 @@ pub fn count_line(out: &mut [u8], at: usize, name: &[u8], k: usize) -> usize
 }
 
 // Where a part of a text stands.
-struct Span {
-    from: usize,
-    to: usize,
+pub struct Span {
+    pub from: usize,
+    pub to: usize,
 }
 
 // Where the label of element x stands in the site's text; it ends at 0 where there is none.
-fn label(labels: &[usize], x: usize) -> Span
+pub fn label(labels: &[usize], x: usize) -> Span
     requires { ⌜ 2 * x + 1 < length (now labels) ⌝ }
     ensures { λ r. ⌜ (r .from ≡ getD (now (labels .entry)) (2 * x) 0) × (r .to ≡ getD (now (labels .entry)) (2 * x + 1) 0) ⌝ }
 {

@@ -27,7 +27,7 @@ use Rattle.print_report.specs.Cutting.{CutAt}
 use Rattle.print_report.specs.Report.{nameAt, counts, picks, headOf}
 use Rattle.print_report.specs.Agrees.{Agrees, its-name, its-arity, counts-agree, picks-agree-all}
 use Rattle.print_report.specs.Short.{sizes-short, pick-short, flat-most, sum-most, counts-short}
-use Rattle.print_report.specs.Said.{said-short}
+use Rattle.laws.specs.Spelling.{said-short}
 
 -- ---- which answer
 
@@ -79,7 +79,7 @@ module _ (ls : List Label) (p : Problem) (F : List Tuple) (q : List ℕ) (g : Si
   unfolding pickLine
   line-short j row h =
       let a = its-arity p F q g n words A j h in
-      pick-short (said ls) (said-short n ls L) _ (p .size) (relationAt p (5 + (g .rels + j)) .arity) row (rw (its-name p F q g n words A j h) (named j h))
+      pick-short (said ls) (λ x l. said-short n ls L x (omega arith)) _ (p .size) (relationAt p (5 + (g .rels + j)) .arity) row (rw (its-name p F q g n words A j h) (named j h))
       (omega (arith, A .size)) (omega (arith, A .size)) (omega (arith, s .arities (g .rels + j) (omega arith)))
 
   rows-short : (j : ℕ) → j < g .chosen → length (flatMap (pickLine ls p (5 + g .rels + j)) (pickedRows p F (5 + g .rels + j))) ≤ 57 * length (pickedRows p F (5 + g .rels + j))

@@ -17,7 +17,7 @@ use Rattle.laws.specs.Reader.{Accepted}
 use Rattle.print_report.specs.Report.{nameAt}
 use Rattle.print_line.specs.Lines.{part-is}
 use Rattle.print_report.specs.Agrees.{noRelation}
-use Rattle.print_report.specs.Short.{name-short}
+use Rattle.laws.specs.Lines.{name-short}
 
 all-relations : (c : Case) → problemOf c .relations ≡ relations (c .question .rels) (c .question .chosen)
 unfolding problemOf problemWith relationsOf

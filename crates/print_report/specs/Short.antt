@@ -6,21 +6,20 @@ use mathlib.Core.Bool.{Bool, true, false, _&&_, _||_}
 use mathlib.Core.List.{List, [], _∷_, _++_, map}
 use native.Mathlib.Nat.{add-zero, add-comm, suc-mul, mul-suc, mul-add, mod-lt}
 use native.Mathlib.Omega.{arith}
-use lib.Dec.{T, eqb, leb, leb→le}
+use lib.Dec.{leb, leb→le}
 use lib.ListN.{length, getD, length-append}
-use Rattle.definitions.specs.Lists.{if_then_else_, all, flatMap, from, below, sum}
-use Rattle.definitions.specs.Sheet.Text.{bytes, isCapital, isDigit, isRelationName, decimalIn, decimal}
+use Rattle.definitions.specs.Lists.{if_then_else_, flatMap, from, below, sum}
+use Rattle.definitions.specs.Sheet.Text.{bytes, decimalIn, decimal}
 use Rattle.definitions.specs.Problem.Atoms.{placesOf}
 use Rattle.definitions.specs.Reply.Outcome.{Sizes}
 use Rattle.definitions.specs.Reply.Desk.{printLine, sizesLine, stepLine}
-use Rattle.laws.specs.Booleans.{T-and-r}
+use Rattle.laws.specs.Decimals.{decimal-length}
 use Rattle.read_names.specs.declared.Signature.{Signature}
 use Rattle.read_names.specs.Signatures.{SoundSignature}
-use Rattle.print_line.specs.Decimals.{decimal-length}
 use Rattle.print_line.specs.Lines.{field, no-is, ok-is, step-is, sizes-is, count-is}
 use Rattle.print_report.specs.Report.{nameAt, countAt, counts}
 
--- ---- numbers and names
+-- ---- numbers
 
 digits-most : (f k : ℕ) → length (decimalIn f k) ≤ f
 unfolding decimalIn
@@ -38,11 +37,6 @@ field-most k = let h = digits-most 20 k in omega arith
 field-short : (n k : ℕ) → k < 10 ^ suc n → length (field k) ≤ suc (suc n)
 unfolding field
 field-short n k h = let l = decimal-length n k h in omega arith
-
-pub name-short : (name : List ℕ) → T (isRelationName name) → length name ≤ 12
-unfolding isRelationName
-name-short [] t = absurd t
-name-short (b ∷ bs) t = leb→le (length (b ∷ bs)) 12 (T-and-r (isCapital b && all (λ c. isCapital c || isDigit c || eqb c 95) bs) (leb (length (b ∷ bs)) 12) t)
 
 -- ---- lines
 

@@ -667,11 +667,16 @@ module _ (p : Problem) (ws : List ℕ) (types : ℕ) (ranges : Ranges) (g : Rela
         seconds = λ f. place-is (getD (g .kind) r 0) (getD (g .seconds) r 0) (secondsAt (ranges .count) g r) _ _ (relationAt p r .seconds) (two f) (inputs .placed r b .1) (places .2) (places .3) (inputs .seconds r b) (seconds-count p ws types g t inputs ranges ra r b);
       }
 
+  -- the levels of a line are the row's, wherever the node stands
+  levels-of : (v : ℕ) (u : Tree) (x : NodeRow) (ps : List PartRow) → IsRow v u x ps → x .width ≤ 4 → take (x .width) (lineFrom 0 0 0 0 x .levels) ≡ free u
+  levels-of v u x ps i h =
+      let a : length (take (x .width) (x .levels)) ≡ x .width = ap length (i .levels) ∙ sym (i .width) in
+      four-take (x .width) (x .levels) h (taken (x .width) (x .levels) a) ∙ i .levels
+
   values-of : (v row act node range count : ℕ) (u : Tree) (x : NodeRow) (ps : List PartRow) → IsRow v u x ps → x .width ≤ 4 → rowValues (p .size) (lineFrom act node range count x) row ≡ valuesAt (p .size) u row
   unfolding rowValues valuesAt
   values-of v row act node range count u x ps i h =
-      let a : length (take (x .width) (x .levels)) ≡ x .width = ap length (i .levels) ∙ sym (i .width) in
-      ap₂ (λ (ls : List ℕ) (k : ℕ). valuesIn ls (placesOf (p .size) k row)) (four-take (x .width) (x .levels) h (taken (x .width) (x .levels) a) ∙ i .levels) (i .width)
+      ap₂ (λ (ls : List ℕ) (k : ℕ). valuesIn ls (placesOf (p .size) k row)) (levels-of v u x ps i h) (i .width)
 
   range-of : (kind act node sort count : ℕ) (x : NodeRow) (σ : ℕ) → kind < 2 → σ ≤ types → sort ≡ σ → count ≡ length (p .range σ) → rangeIn W (lineFrom act node (rangeStart kind sort) (rangeCount count kind) x) ≡ p .range σ
   unfolding rangeStart rangeCount
@@ -692,6 +697,8 @@ module _ (p : Problem) (ws : List ℕ) (types : ℕ) (ranges : Ranges) (g : Rela
         atoms = starts .node v (omega arith);
         kind = i .kind;
         level = i .level;
+        width = i .width;
+        levels = levels-of v (nodeAt p v) x (t .parts) i (ft .nodes .node v .width);
         values = λ row. values-of v row _ _ _ _ (nodeAt p v) x (t .parts) i (ft .nodes .node v .width);
         many = m;
         range = λ q. range-of (x .kind) (getD (l .act) v 0) (getD (l .node) v 0) (x .sort) (countAt (ranges .count) t v) x (nodeSort (nodeAt p v)) (subst (λ (k : ℕ). k < 2) (sym (i .kind)) q)

@@ -5,9 +5,9 @@ use mathlib.Core.Option.{Option, none, some}
 use mathlib.Core.List.{List, []}
 use Prim.Native.Nat.{ℕ, _+_, _*_, _≤_, _<_}
 use lib.Dec.{T}
-use lib.ListN.{length, getD}
+use lib.ListN.{length, getD, take}
 use Rattle.definitions.specs.Sheet.Relations.{Kind, static, plain, Fun, PFun, Inj, PInj, isFunction}
-use Rattle.definitions.specs.Problem.Tree.{Tree, leaf, Part, parts, nodeSort}
+use Rattle.definitions.specs.Problem.Tree.{Tree, leaf, Part, parts, nodeSort, free}
 use Rattle.definitions.specs.Problem.Atoms.{Problem, relationAt, nodeAt, relationStart, nodeStart, tuplesOf, atomNumber}
 use Rattle.definitions.specs.Problem.Actions.{Action, set, beginProof, proveAnd, proveOr, proveExists, proveForall, proveGoal, setStart, proofStart, Values, valuesAt, partAtom}
 use Rattle.laws.specs.Members.{IsRange}
@@ -49,6 +49,8 @@ pub record IsNode (p : Problem) (w : List ℕ) (v : ℕ) (u : Tree) (x : NodeLin
   pub atoms : x .atoms ≡ nodeStart p v
   pub kind : x .kind ≡ nodeKind u
   pub level : x .level ≡ nodeLevel u
+  pub width : x .width ≡ length (free u)
+  pub levels : take (x .width) (x .levels) ≡ free u
   pub values : (row : ℕ) → rowValues (p .size) x row ≡ valuesAt (p .size) u row
   pub many : x .many ≡ length (parts v u)
   pub range : nodeKind u < 2 → rangeIn w x ≡ p .range (nodeSort u)

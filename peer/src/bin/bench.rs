@@ -7,6 +7,7 @@ use peer::large::{
     padded, path, round, sorted_zones, wide_facts, zones,
 };
 use peer::limits::{STEPS, TEXT};
+use peer::paper::PAGE_BYTES;
 use peer::sample::{needs, sound, Random, Sample};
 use peer::trial::{Calls, Other, Peer, LINKED};
 use peer::typing::typed;
@@ -25,6 +26,8 @@ enum Work {
     CheckLent,
     CheckText,
     Picks,
+    /// The last page of lent steps that take a line each.
+    LastPage,
     /// Build from text, check and read the picks, each on a small case.
     Small,
 }
@@ -40,6 +43,7 @@ struct Buffers {
     picks: Vec<u64>,
     state: Vec<u64>,
     steps: Vec<u32>,
+    page: Vec<u8>,
 }
 
 impl Job {
@@ -48,7 +52,7 @@ impl Job {
     }
 
     fn run(&self, program: &impl Calls, buffers: &mut Buffers) -> u64 {
-        let Buffers { picks, state, steps } = buffers;
+        let Buffers { picks, state, steps, page } = buffers;
         let mut accepted = 0;
         for sample in &self.samples {
             let case = [&sample.question[..], &sample.site[..]];
@@ -61,6 +65,10 @@ impl Job {
                 Work::CheckLent => program.check(case, &sample.lent_steps, state),
                 Work::CheckText => program.check_text(case, &sample.steps, state),
                 Work::Picks => program.picks(case, &sample.lent_steps, picks, state),
+                Work::LastPage => {
+                    let last = sample.lent_steps.len().div_ceil(59) as u64;
+                    program.page(case, &sample.lent_steps, last, state, page)
+                }
                 Work::Small => {
                     black_box(program.build_text(case, &sample.picks, state, steps));
                     black_box(program.check_text(case, &sample.steps, state));
@@ -213,6 +221,8 @@ fn growing_jobs() -> Vec<(usize, Job)> {
     for steps in [16_384, 65_536, 1_000_000, STEPS] {
         jobs.push((steps, Job::new("lent steps", Work::CheckLent, &padded(&plan, steps))));
     }
+    let longest = padded(&plan, STEPS);
+    jobs.push((STEPS, Job::new("lent steps: the last page", Work::LastPage, &longest)));
     jobs
 }
 
@@ -288,8 +298,12 @@ fn print_growth(rounds: u32, buffers: &mut Buffers) {
 
 fn main() {
     let rounds = std::env::args().nth(1).and_then(|text| text.parse().ok()).unwrap_or(30);
-    let mut buffers =
-        Buffers { picks: vec![0; 16_384], state: vec![0; 16_384], steps: vec![0; STEPS] };
+    let mut buffers = Buffers {
+        picks: vec![0; 16_384],
+        state: vec![0; 16_384],
+        steps: vec![0; STEPS],
+        page: vec![0; PAGE_BYTES],
+    };
     if !LINKED {
         println!("The library is not linked: the peer is timed against itself.");
     }

@@ -48,6 +48,19 @@ fn judges(call: Call) -> bool {
     matches!(call, Call::JudgeText | Call::Judge)
 }
 
+fn pages(call: Call) -> bool {
+    matches!(call, Call::PageText | Call::Page)
+}
+
+/// Whether a page call left its bytes alone, but for those of the page.
+fn page_kept(outcome: &Outcome) -> bool {
+    let written = match outcome.reply {
+        Reply::Accepted(bytes) => bytes as usize,
+        Reply::Refused(_) => 0,
+    };
+    outcome.printed[written..].iter().all(|&byte| byte == FILL as u8)
+}
+
 /// How many entries the allowances of a case have.
 fn chosen(sample: &Sample) -> usize {
     sample.question.split(|&byte| byte == b'\n').filter(|line| line.starts_with(b"choose")).count()
@@ -123,7 +136,8 @@ fn sane(sample: &Sample, call: Call, rooms: Rooms, outcome: &Outcome) -> bool {
         Call::Build => round_trip(sample, outcome, needs),
         _ => !judges(call) || as_built(sample, call, rooms, outcome),
     };
-    kept(sample, outcome, call, needs) && known(outcome, call) && whole
+    let printed = !pages(call) || page_kept(outcome);
+    kept(sample, outcome, call, needs) && known(outcome, call) && whole && printed
 }
 
 fn main() -> ExitCode {

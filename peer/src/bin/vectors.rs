@@ -2,10 +2,11 @@
 //!
 //!     vectors DIRECTORY|SCRIPT ..
 //!
-//! A directory has desk inputs `NAME.in` (or `NAME.case`) and each one's whole output `NAME.out`, and perhaps
-//! an `index.tsv` with a column `needs`. A script has calls with the answers they require. What rests on
+//! A directory has desk inputs `NAME.in` (or `NAME.case`) and each one's whole output `NAME.out`, for some the
+//! pages of its steps `NAME.paper`, and perhaps an `index.tsv` with a column `needs`. A script has calls with the answers they require. What rests on
 //! something that is not here is left out, and counted.
 
+use peer::paper::pages;
 use peer::script::{self, landed, Told};
 use peer::trial::{Calls, Other, Peer, LINKED};
 use std::collections::HashMap;
@@ -35,6 +36,14 @@ fn needs(directory: &Path) -> HashMap<String, String> {
     rows.map(|mut row: Vec<String>| (row.remove(0), row.remove(column - 1))).collect()
 }
 
+/// Holds what a program printed to what it has to print.
+fn hold(told: &mut Told, what: String, printed: Vec<u8>, required: &[u8]) {
+    if printed != required {
+        let texts = [&printed, required].map(|text| text.escape_ascii().to_string());
+        told.differences.push([what, texts[0].clone(), texts[1].clone()]);
+    }
+}
+
 fn desk(directory: &Path) -> io::Result<Told> {
     let (needs, mut told) = (needs(directory), Told::default());
     for path in inputs(directory)? {
@@ -46,14 +55,11 @@ fn desk(directory: &Path) -> io::Result<Told> {
         let (input, required) = (fs::read(&path)?, fs::read(path.with_extension("out"))?);
         told.calls += 1;
         for (whose, printed) in [("peer", Peer.desk(&input)), ("other", Other.desk(&input))] {
-            if printed != required {
-                let texts = [printed, required.clone()].map(|text| text.escape_ascii().to_string());
-                told.differences.push([
-                    format!("{name}, {whose}"),
-                    texts[0].clone(),
-                    texts[1].clone(),
-                ]);
-            }
+            hold(&mut told, format!("{name}, {whose}"), printed, &required);
+        }
+        let Ok(paper) = fs::read(path.with_extension("paper")) else { continue };
+        for (whose, printed) in [("peer", pages(&Peer, &input)), ("other", pages(&Other, &input))] {
+            hold(&mut told, format!("{name} on paper, {whose}"), printed, &paper);
         }
     }
     Ok(told)

@@ -19,6 +19,7 @@ use Rattle.definitions.specs.Reply.Rewritten
 use Rattle.definitions.specs.Reply.Tries
 use Rattle.definitions.specs.Reply.Tally
 use Rattle.definitions.specs.Reply.Allowance
+use Rattle.definitions.specs.Reply.Page
 
 unfoldable pub everything : Unit {0}
 unfolding Lists.all Lists.any Lists.filter Lists.flatMap Lists.mapFrom Lists.option Lists.position Lists.from Lists.below Lists.last Lists.isIn Lists.rank Lists.upTo Lists.before Lists.greatest Lists.sum Lists.same Lists.isEmpty
@@ -60,4 +61,7 @@ unfolding Lists.all Lists.any Lists.filter Lists.flatMap Lists.mapFrom Lists.opt
     Tries.tryList Tries.tried Tries.readyToTry Tries.triedFrom Tries.tryLists
     Tally.noWalk Tally.thenWalk Tally.visit Tally.walk Tally.walked Tally.tallyOf Tally.tally
     Allowance.mentions Allowance.allowance Allowance.allowancesOf Allowance.allowedFrom Allowance.allowances
+    Page.spaces Page.left Page.right Page.kindWord Page.subjectWord Page.freeValues Page.shownElements Page.partWord Page.units Page.packed Page.stepHead
+    Page.headed Page.stepLines Page.linesOf Page.blankLine Page.endedLine Page.pages Page.pageLines Page.pageText Page.pageOf Page.laid Page.pageIfLaid
+    Page.pagedFrom Page.pageRooms Page.layPage
 everything = tt
