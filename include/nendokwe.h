@@ -32,8 +32,8 @@ void nendokwe_sizes(const uint8_t *question, size_t question_length, const uint8
 
 /* The action of number k: kind 0 set, 1 begin-proof, 2 and, 3 or, 4 exists, 5 forall, 6 prove-goal; its relation or node; its row; the
  * part or element that is chosen. Relations are numbered from 0: EQ, LT, SUC, ZERO, MAX, then those of the `rel` lines, then those of
- * the `choose` lines, each in order; so the first `choose` is 5 and the number of `rel` lines. 13 and k where there is none. Success is 0
- * and 0; a refusal leaves the four as they were. */
+ * the `choose` lines, each in order; so the first `choose` has number 5 and one more for each `rel` line. 13 and k where there is none.
+ * Success is 0 and 0; a refusal leaves the four as they were. */
 void nendokwe_action(const uint8_t *question, size_t question_length, const uint8_t *site, size_t site_length, size_t k,
                      uint32_t *number, size_t *place, uint32_t *kind, size_t *subject, size_t *row, size_t *choice);
 
@@ -101,6 +101,17 @@ void nendokwe_page_text(const uint8_t *question, size_t question_length, const u
 void nendokwe_page(const uint8_t *question, size_t question_length, const uint8_t *site, size_t site_length,
                    const uint32_t *steps, size_t steps_length, size_t page, uint64_t *state, size_t state_length,
                    uint8_t *out, size_t out_length, uint32_t *number, size_t *place);
+
+/* The least picks of the declared kinds that make the rule true, for a site without a planner: all tuples of the `choose` lines, in their
+ * order and in row order, are read as a binary number, the first the most significant. At most 20 tuples (else 20); 21 says that no
+ * picks of the declared kinds make the rule true. The buffer is that of lent picks; success is 0 and 0, any refusal leaves it. */
+void nendokwe_find(const uint8_t *question, size_t question_length, const uint8_t *site, size_t site_length,
+                   uint64_t *picks, size_t picks_length, uint32_t *number, size_t *place);
+
+/* Whether some picks make the rule true, for rules that only ever want more: each `choose` plain and, once negation is pushed inward, none
+ * negated (else 24). All tuples picked are tried, and nothing is written: a yes is 0 and 0, 21 says that no picks will do. */
+void nendokwe_monotone(const uint8_t *question, size_t question_length, const uint8_t *site, size_t site_length,
+                       uint32_t *number, size_t *place);
 
 /* The desk program's reply to an input, to a buffer of exactly NENDOKWE_REPLY bytes; returns how many bytes it has. */
 #define NENDOKWE_REPLY 573952

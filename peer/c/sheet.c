@@ -1,4 +1,5 @@
-/* The sheet of the desk program through the C header: sizes, built steps, a check of them, the picks read back, allowances, two lists in one call, a page. */
+/* The sheet of the desk program through the C header: sizes, built steps, a check of them, the picks read back, allowances, the least picks,
+ * two lists in one call, a page. */
 #include "../../include/nendokwe.h"
 
 #include <stdio.h>
@@ -41,6 +42,13 @@ int main(void) {
     uint64_t allowances[2] = {7, 7};
     nendokwe_allowances(TEXT(QUESTION), TEXT(SITE), allowances, 2, &number, &place);
     printf("allowances %u %zu: %llu %llu\n", number, place, (unsigned long long)allowances[0], (unsigned long long)allowances[1]);
+
+    uint64_t found[1] = {7};
+    nendokwe_find(TEXT(QUESTION), TEXT(SITE), found, 1, &number, &place);
+    printf("find %u %zu: %llu\n", number, place, (unsigned long long)found[0]);
+
+    nendokwe_monotone(TEXT(QUESTION), TEXT(SITE), &number, &place);
+    printf("monotone %u %zu\n", number, place);
 
     nendokwe_try tries[2] = {{0, 7, 0, 0}, {0, 6, 0, 0}};
     nendokwe_tries(TEXT(QUESTION), TEXT(SITE), steps, count, tries, 2, state, 1, &number, &place);

@@ -41,7 +41,8 @@ fn verdict(question: &Question, structure: &Structure, picks: &Tables) -> Result
         return Err(Refusal::new(cause::KIND_BROKEN, choose));
     }
     let chosen = question.signature.chosen().start;
-    let search = Search { tree: &question.tree, n: structure.n, structure, picks, chosen };
+    let search =
+        Search { tree: &question.tree, n: structure.n, structure, picks, sure: picks, chosen };
     if !search.node(0, &mut [0; NESTING_LIMIT]) {
         return Err(Refusal::new(cause::RULE_FALSE, 0));
     }
@@ -51,17 +52,22 @@ fn verdict(question: &Question, structure: &Structure, picks: &Tables) -> Result
 /// The values of the variables in range, by depth.
 type Values = [usize; NESTING_LIMIT];
 
-struct Search<'c> {
-    tree: &'c Tree,
-    n: usize,
-    structure: &'c Structure,
-    picks: &'c Tables,
+/// A rule's truth by picks; where some are open, by those that may be picked and
+/// those that are.
+pub(crate) struct Search<'c> {
+    pub(crate) tree: &'c Tree,
+    pub(crate) n: usize,
+    pub(crate) structure: &'c Structure,
+    /// For a tuple that is asked for.
+    pub(crate) picks: &'c Tables,
+    /// For one that must not be there.
+    pub(crate) sure: &'c Tables,
     /// The number of the first chosen relation.
-    chosen: usize,
+    pub(crate) chosen: usize,
 }
 
 impl Search<'_> {
-    fn node(&self, number: usize, values: &mut Values) -> bool {
+    pub(crate) fn node(&self, number: usize, values: &mut Values) -> bool {
         let node = &self.tree.nodes[number];
         let parts = &self.tree.parts[node.parts.clone()];
         let mut at = |element| {
@@ -117,7 +123,8 @@ impl Search<'_> {
         let places = &literal.places[..literal.arity];
         let row = places.iter().fold(0, |row, &depth| row * self.n + values[depth]);
         let words = match literal.relation.checked_sub(self.chosen) {
-            Some(choose) => self.picks.relation(choose),
+            Some(choose) if literal.positive => self.picks.relation(choose),
+            Some(choose) => self.sure.relation(choose),
             None => self.structure.tables.relation(literal.relation),
         };
         (words[row / 64] >> (row % 64) & 1 == 1) == literal.positive

@@ -13,6 +13,7 @@ pub mod cases;
 pub mod desk;
 pub mod digest;
 pub mod edges;
+pub mod finding;
 pub mod formula;
 pub mod ground;
 pub mod judging;
@@ -28,6 +29,7 @@ pub mod plans;
 pub mod records;
 pub mod sample;
 pub mod script;
+pub mod searches;
 pub mod sheets;
 pub mod text;
 pub mod texts;
@@ -42,6 +44,7 @@ pub use cases::{
     sizes, Sizes,
 };
 pub use desk::desk;
+pub use finding::{find, monotone};
 pub use ground::{Action, Prove, Set};
 pub use judging::{judge, judge_text};
 pub use measures::{allowances, tally, Tally};

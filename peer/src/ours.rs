@@ -71,6 +71,14 @@ mod foreign {
             question: *const u8, question_len: usize, site: *const u8, site_len: usize,
             allowances: *mut u64, allowances_len: usize, number: &mut u32, place: &mut u64,
         );
+        pub fn nendokwe_find(
+            question: *const u8, question_len: usize, site: *const u8, site_len: usize,
+            picks: *mut u64, picks_len: usize, number: &mut u32, place: &mut u64,
+        );
+        pub fn nendokwe_monotone(
+            question: *const u8, question_len: usize, site: *const u8, site_len: usize,
+            number: &mut u32, place: &mut u64,
+        );
         pub fn nendokwe_tries(
             question: *const u8, question_len: usize, site: *const u8, site_len: usize,
             steps: *const u32, steps_len: usize, tries: *mut Try, tries_len: usize,
@@ -328,6 +336,30 @@ impl Calls for Ours {
                 case[0].as_ptr(), case[0].len(), case[1].as_ptr(), case[1].len(),
                 steps.as_ptr(), steps.len(), page, state.as_mut_ptr(), state.len(),
                 out.as_mut_ptr(), out.len(), &mut number, &mut place,
+            );
+        }
+        reply(number, place)
+    }
+
+    fn find(&self, case: [&[u8]; 2], picks: &mut [u64]) -> Reply {
+        let (mut number, mut place) = (u32::MAX, UNSET);
+        // Safety: as for `check_text`.
+        unsafe {
+            foreign::nendokwe_find(
+                case[0].as_ptr(), case[0].len(), case[1].as_ptr(), case[1].len(),
+                picks.as_mut_ptr(), picks.len(), &mut number, &mut place,
+            );
+        }
+        reply(number, place)
+    }
+
+    fn monotone(&self, case: [&[u8]; 2]) -> Reply {
+        let (mut number, mut place) = (u32::MAX, UNSET);
+        // Safety: as for `sizes`.
+        unsafe {
+            foreign::nendokwe_monotone(
+                case[0].as_ptr(), case[0].len(), case[1].as_ptr(), case[1].len(),
+                &mut number, &mut place,
             );
         }
         reply(number, place)

@@ -105,6 +105,11 @@ impl Script {
             "judge_text" => replied(program.judge_text(case, &self.text)),
             "tries" => self.tried(program, room(0)),
             "page" | "page_text" => self.paged(program, call, rooms),
+            "monotone" => replied(program.monotone(case)),
+            "find" => {
+                let mut picks = vec![7; room(0)];
+                replied(program.find(case, &mut picks)) + &written("picks", &picks)
+            }
             "allowances" => {
                 let mut out = vec![7; room(0)];
                 replied(program.allowances(case, &mut out)) + &written("allowances", &out)

@@ -196,11 +196,15 @@ impl Tables {
     }
 
     /// Adds a tuple; false if it was there before.
-    fn insert(&mut self, index: usize, row: usize) -> bool {
+    pub(crate) fn insert(&mut self, index: usize, row: usize) -> bool {
         let word = &mut self.words[self.starts[index] + row / 64];
         let fresh = *word >> (row % 64) & 1 == 0;
         *word |= 1 << (row % 64);
         fresh
+    }
+
+    pub(crate) fn remove(&mut self, index: usize, row: usize) {
+        self.words[self.starts[index] + row / 64] &= !(1 << (row % 64));
     }
 }
 

@@ -23,6 +23,9 @@ pub mod cause {
     pub const RULE_FALSE: u32 = 17;
     pub const LABEL: u32 = 18;
     pub const TYPE: u32 = 19;
+    pub const TOO_MANY_CELLS: u32 = 20;
+    pub const NO_PICKS: u32 = 21;
+    pub const NOT_MONOTONE: u32 = 24;
 }
 
 /// Why a call did nothing: the cause's number and where it was found.

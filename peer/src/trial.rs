@@ -54,6 +54,8 @@ pub trait Calls {
         state: &mut [u64],
         out: &mut [u8],
     ) -> Reply;
+    fn find(&self, case: [&[u8]; 2], picks: &mut [u64]) -> Reply;
+    fn monotone(&self, case: [&[u8]; 2]) -> Reply;
     fn desk(&self, input: &[u8]) -> Vec<u8>;
 }
 
@@ -167,6 +169,14 @@ impl Calls for Peer {
         crate::paper::page(case[0], case[1], steps, page, state, out)
     }
 
+    fn find(&self, case: [&[u8]; 2], picks: &mut [u64]) -> Reply {
+        crate::finding::find(case[0], case[1], picks)
+    }
+
+    fn monotone(&self, case: [&[u8]; 2]) -> Reply {
+        crate::finding::monotone(case[0], case[1])
+    }
+
     fn desk(&self, input: &[u8]) -> Vec<u8> {
         crate::desk::desk(input)
     }
@@ -201,11 +211,13 @@ pub enum Call {
     Allowances,
     PageText,
     Page,
+    Find,
+    Monotone,
     DeskPicks,
     DeskSteps,
 }
 
-pub const CALLS: [Call; 17] = [
+pub const CALLS: [Call; 19] = [
     Call::Sizes,
     Call::Rule,
     Call::Action,
@@ -221,6 +233,8 @@ pub const CALLS: [Call; 17] = [
     Call::Allowances,
     Call::PageText,
     Call::Page,
+    Call::Find,
+    Call::Monotone,
     Call::DeskPicks,
     Call::DeskSteps,
 ];
@@ -237,8 +251,9 @@ pub struct Outcome {
     pub picks: Vec<u64>,
     pub state: Vec<u64>,
     pub steps: Vec<u32>,
-    /// What the desk prints, or a page's buffer.
     pub printed: Vec<u8>,
+    /// The bytes lent for a page.
+    pub page: Vec<u8>,
 }
 
 /// What buffers hold before a call.
@@ -253,6 +268,7 @@ impl Outcome {
             state: vec![FILL; rooms[1] + GUARD],
             steps: vec![FILL as u32; rooms[2] + GUARD],
             printed: Vec::new(),
+            page: Vec::new(),
         }
     }
 }
@@ -323,8 +339,8 @@ pub fn run(program: &impl Calls, call: Call, sample: &Sample, rooms: Rooms) -> O
         Call::Tries => tried(program, sample, state, &mut outcome.found),
         Call::PageText | Call::Page => {
             let (page, length) = page_asked(rooms);
-            outcome.printed = vec![FILL as u8; length + GUARD];
-            let out = &mut outcome.printed[..length];
+            outcome.page = vec![FILL as u8; length + GUARD];
+            let out = &mut outcome.page[..length];
             match call {
                 Call::Page => program.page(case, &sample.lent_steps, page, state, out),
                 _ => program.page_text(case, &sample.steps, page, state, out),
@@ -332,6 +348,8 @@ pub fn run(program: &impl Calls, call: Call, sample: &Sample, rooms: Rooms) -> O
         }
         // The picks' buffer serves for the allowances.
         Call::Allowances => program.allowances(case, picks),
+        Call::Find => program.find(case, picks),
+        Call::Monotone => program.monotone(case),
         Call::DeskPicks | Call::DeskSteps => {
             let input = desk_input(sample, call == Call::DeskSteps);
             outcome.printed = program.desk(&input);

@@ -20,8 +20,10 @@
 --                                  has cases
 --   job 5, kinds with types        Sheets (the `choose` line), Truth (kinds, totality), Actions.setRows; KindCases has cases
 --   job 6, yes or no               Judgement; JudgementCases has cases
+--   job 7, the groups found        Finding; FindingCases has cases
 --   job 8, twenty tries            Tries; TriesDrawn has cases
 --   job 9, on paper                Page; PageCases has cases
+--   job 13, rules that want more   Monotone; MonotoneCases has cases
 --   job 14, one card               Allowance; AllowanceCases has cases
 pub mod Limits
 pub mod Lists

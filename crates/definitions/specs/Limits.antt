@@ -58,6 +58,10 @@ early = record { elements = 16; atoms = 65536; actions = 131072 }
 abbrev pub stepLimit : ℕ
 stepLimit = 1048576
 
+-- document 02, job 7: cells that are searched
+abbrev pub cellLimit : ℕ
+cellLimit = 20
+
 -- "The desk program": bytes it reads, steps it has space for, words of its state (enough for all the atoms of an early case)
 abbrev pub deskBytes : ℕ
 deskBytes = 16384

@@ -19,6 +19,9 @@
 --   18  just after 9: Sheets.addLabel, Sheets.addMember, Sheets.addTuple
 --   19  a type, just after 8: Sheets.addType, Sheets.addChoose, Formula.isTyped in the rule, Sheets.addMember; one without members,
 --       at the end of the site: Sheets.readSite
+--   20  Finding.leastPicks
+--   21  Finding.leastPicks, Monotone.monotone
+--   24  Monotone.monotone
 use Prim.Native.Nat.{ℕ, zero}
 use mathlib.Core.Bool.{Bool, true, false}
 use mathlib.Core.Option.{Option, none, some}
@@ -58,7 +61,7 @@ unfoldable pub readText : {S : Type 0} → (S → Line → Result S) → S → L
 readText line s text = refuseIf (ltb textLimit (length text)) 1 zero >>= λ _. readLines line s (lines text)
 
 -- ---- the numbers that a call may refuse with: where no problem is made of the texts; or a lent buffer is too short; steps that are
--- taken one by one; picks that are handed over
+-- taken one by one; picks that are handed over; picks that are looked for; rules that only want more
 abbrev pub caseNumbers : List ℕ
 caseNumbers = 1 ∷ 2 ∷ 3 ∷ 4 ∷ 5 ∷ 6 ∷ 7 ∷ 8 ∷ 9 ∷ 10 ∷ 11 ∷ 18 ∷ 19 ∷ []
 
@@ -70,3 +73,9 @@ runNumbers = 13 ∷ 14 ∷ 15 ∷ []
 
 abbrev pub picksNumbers : List ℕ
 picksNumbers = 10 ∷ 16 ∷ 17 ∷ []
+
+abbrev pub findNumbers : List ℕ
+findNumbers = 20 ∷ 21 ∷ []
+
+abbrev pub monotoneNumbers : List ℕ
+monotoneNumbers = 24 ∷ 21 ∷ []

@@ -7,5 +7,7 @@ pub mod Untyped
 pub mod Tally
 pub mod Tries
 pub mod Judgement
+pub mod Finding
+pub mod Monotone
 pub mod Allowance
 pub mod Page

@@ -9,5 +9,7 @@ pub mod KindCases
 pub mod TallyCases
 pub mod TriesDrawn
 pub mod JudgementCases
+pub mod FindingCases
+pub mod MonotoneCases
 pub mod AllowanceCases
 pub mod PageCases

@@ -86,7 +86,7 @@ module _ (L : CaseLimits) (question site : List ℕ) (given : ThirdInput) where
       by-ready (accepted r) q a = (r, told rooms k r q a, rw a refl)
 
 -- ---- the same picks have the same words
-same-among : (P Q : List Tuple) → areSamePicks P Q ≡ true → (t : Tuple) → isAmong t P ≡ isAmong t Q
+pub same-among : (P Q : List Tuple) → areSamePicks P Q ≡ true → (t : Tuple) → isAmong t P ≡ isAmong t Q
 unfolding areSamePicks
 same-among P Q e t = T-ext (isAmong t P) (isAmong t Q)
     (λ h. all-at (λ u. isAmong u Q) P (T-and-l (all (λ u. isAmong u Q) P) _ (T-of e)) t (among-mem t P h))

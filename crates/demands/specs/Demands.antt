@@ -1,95 +1,109 @@
 -- The theorems, about document 01's definitions alone: demands 2 and 3, what holds numbering, texts and lent words together, and what
--- of demand 1 is about definitions.
+-- of demand 1 is about definitions. Here are those about document 01; each job of document 02 has a file of its own in `Demands/`.
 -- A word of document 01 stands here under the name that `definitions` gives it; the proofs are in the other modules.
+-- Here:
+--       accepted-case, accepted-checks
 --    1  existence
 --    2  acceptance, lent-steps, checking, checking-accepts
 --    3  soundness, tuples-set, reading; whenever-checked, whenever-read
---    4  text-picks, lent-picks, taken-picks; building, refused-16, refused-17, built-exactly; whenever-built, built-accepted, built-same, built-read
+--    4  text-picks, lent-picks, taken-picks; building, refused-16, refused-17, built-exactly; whenever-built, order-kinds, order-rule, order-steps, order-built,
+--       built-accepted, built-same, built-read
 --    5  count, at-most
 --    6  polynomial, degree
 --    7  strips-1, never-twice
 --    8  atom-number, atoms-numbered, atoms-used, action-number, actions-numbered; state-bit, state-spare, words-taken, words-written;
---       picks-texts, picks-said, picks-unlabelled, picks-printed, number-texts, steps-texts
+--       picks-texts, picks-said, picks-unlabelled, picks-printed; question-texts, site-texts, case-texts, number-texts, steps-texts
 --    9  sizes-refuse, action-refuse, check-refuse, read-refuse, build-refuse; check-length, read-length, build-length
 --   10  desk-records, desk-picks
---   11  trying, tries-alone, tries-outside, tries-accepts, tries-place; tries-refuse, tries-length
---   12  one-pick, one-pick-built, allowances-are, allowances-refuse, allowances-length
+-- In `Demands/`, by job:
+--   Labels, job 1
+--   16  labels-one-to-one, labels-are, said-label, said-number, said-pick; rewritten-case, rewritten-problem, rewritten-sizes,
+--       rewritten-tally, rewritten-action, rewritten-check,
+--       rewritten-read, rewritten-build, rewritten-judgement, rewritten-tries, rewritten-allowances, rewritten-found,
+--       rewritten-monotone; rewritten-picks, rewritten-build-text, rewritten-judgement-text
+--   Tally, job 3
 --   13  visited-are, visited-once, tallied, sizes-tallied
---   14  judging
---   15  kept-problem, kept-sizes, kept-action, kept-check, kept-read, kept-build, kept-judgement, kept-tries, kept-allowances;
---       grown, long-text, many-steps, desk-limits, desk-steps
---   16  labels-one-to-one, labels-are; rewritten-case, rewritten-problem, rewritten-sizes, rewritten-action, rewritten-check,
---       rewritten-read, rewritten-build, rewritten-judgement, rewritten-tries, rewritten-allowances; rewritten-picks,
---       rewritten-build-text, rewritten-judgement-text
---   17  rule-texts, rule-once; rule-typed, types-are, members-are, each-member, range-is, range-ascends; untyped-atom, untyped-atoms,
+--   Types, job 4
+--   17  rule-texts, rule-once; rule-typed, types-are, members-are, each-member, range-is, range-ascends; exists-actions,
+--       forall-actions, forall-least, forall-next, outside-false, atoms-stay, count-stays; untyped-atom, untyped-atoms,
 --       untyped-action, untyped-actions, untyped-needs, untyped-adds, untyped-removes, untyped-initial, untyped-bound, untyped-run;
 --       plain-rule, plain-case, plain-range
+--   Kinds, job 5
 --   18  kind-sorts, place-range, kinds-are, first-is, settable, set-counts
---   19  paper-uncut, paper-units, paper-lines, paper-page, paper-pages; paper-before, paper-run, paper-none, paper-laid, paper-checked,
---       paper-refuse, paper-bytes, paper-length
-use Prim.Native.Nat.{ℕ, zero, suc, _+_, _-_, _*_, _/_, _%_, _^_, _<_, _≤_}
-use mathlib.Core.Path.{_≡_, refl, sym, ap, subst, subst₂, _∙_}
+--   Judgement, job 6
+--   14  judging, judge-refuse
+--   Finding, job 7
+--   20  cells-are, numbered-picks, has-number, one-number; found-least, finds, finds-none, finds-many, finds-short, found-steps, found-judged;
+--       find-refuse, find-length
+--   Tries, job 8
+--   11  trying, tries-alone, tries-outside, tries-accepts, tries-place; tries-refuse, tries-length
+--   Page, job 9
+--   19  paper-uncut, paper-units, paper-lines, paper-page, paper-pages, paper-head, paper-number; paper-before, paper-run, paper-none,
+--       paper-laid, paper-checked, paper-refuse, paper-bytes, paper-length
+--   Larger, job 10
+--   15  kept-problem, kept-sizes, kept-action, kept-check, kept-read, kept-build, kept-judgement, kept-tries, kept-allowances,
+--       kept-page, kept-found, kept-monotone, kept-tally, kept-text, kept-steps; grown, limits-are, long-text, many-steps, desk-limits, desk-steps
+--   Monotone, job 13
+--   21  all-or-none, wants-some, wants-none, wants-else, wanted-steps; monotone-refuse
+--   Allowance, job 14
+--   12  one-pick, one-pick-built, allowances-are, allowances-refuse, allowances-length
+pub mod Labels
+pub mod Tally
+pub mod Types
+pub mod Kinds
+pub mod Judgement
+pub mod Finding
+pub mod Tries
+pub mod Page
+pub mod Larger
+pub mod Monotone
+pub mod Allowance
+use Prim.Native.Nat.{ℕ, zero, _+_, _*_, _^_, _<_, _≤_}
+use mathlib.Core.Path.{_≡_, refl, sym, ap, ap₂, subst, subst₂, _∙_}
 use mathlib.Core.Logic.{_⊎_, ⊎-elim, _↔_}
-use mathlib.Core.Bool.{Bool, true, false, not, _&&_, _||_}
-use mathlib.Core.Option.{none, some}
+use mathlib.Core.Bool.{Bool, true, false, not, _&&_}
+use mathlib.Core.Option.{Option, none, some}
 use mathlib.Core.List.{List, [], _∷_, _++_, map, List·Memᴰ}
 use native.Mathlib.Omega.{arith}
 use lib.Dec.{ltb}
-use lib.ListN.{length, getD, take, drop, replicate, length-append}
+use lib.ListN.{length, getD, take, length-append}
 use borrow.Author.Tests.{le-ltb}
-use Rattle.definitions.specs.Limits.{CaseLimits, usual, early, stepLimit, textLimit, typeLimit, bracketLimit, deskBytes}
-use Rattle.definitions.specs.Lists.{if_then_else_, flatMap, below, isIn, sum}
-use Rattle.definitions.specs.Sheet.Text.{bytes, number, decimal, isBetween, isRelationName, Line}
-use Rattle.definitions.specs.Reply.Rewritten.{inNumbers}
-use Rattle.definitions.specs.Reply.Desk.{said, stepLine, pickLine, sheets, answer}
-use Rattle.definitions.specs.Refusal.{Result, refused, accepted, _>>=_, refuseIf, caseNumbers, readyNumbers, runNumbers, picksNumbers, given, readText}
-use Rattle.definitions.specs.Sheet.Relations.{Relation, Tuple, isAmong, isChosen, isFunction}
-use Rattle.definitions.specs.Sheet.Formula.{Quantified, Formula, write, WellFormed, typeNumber, hasType, isTyped}
-use Rattle.definitions.specs.Sheet.Parsing.{readFormula}
-use Rattle.laws.specs.Writing
-use Rattle.definitions.specs.Reply.Untyped.{usesNoTypes, untyped}
-use Rattle.definitions.specs.Sheet.Sheets.{Question, Member, hasMember, Label, elementNamed, nameOf, readQuestion, readPicks, firstChosen, readSteps}
-use Rattle.definitions.specs.Problem.Truth.{Case, membersOf, rangeOf, arePicks, areOfKinds, firstOfOtherKind, ruleIsTrue}
-use Rattle.definitions.specs.Problem.Atoms.{Problem, problemOf, Block, countOf, Atom, itemAt, atomBlocks, atoms, atomNumber, relationAt, tuplesOf, placesOf, initial, stateWords, rowOf}
-use Rattle.definitions.specs.Problem.Actions.{Action, set, actionAt, actionBlocks, actions, setStart, actionNumber, needs, adds, removes}
+use Rattle.definitions.specs.Limits.{CaseLimits, early, stepLimit, textLimit}
+use Rattle.definitions.specs.Lists.{flatMap, isIn, sum}
+use Rattle.definitions.specs.Sheet.Text.{bytes, number, decimal}
+use Rattle.definitions.specs.Reply.Desk.{stepLine, pickLine, sheets, answer}
+use Rattle.definitions.specs.Refusal.{Result, refused, accepted, _>>=_, refuseIf, caseNumbers, readyNumbers, runNumbers, picksNumbers}
+use Rattle.definitions.specs.Sheet.Relations.{Tuple, isAmong}
+use Rattle.definitions.specs.Sheet.Sheets.{Question, Label, Labelled, readQuestion, readSite, readPicks, firstChosen, readSteps}
+use Rattle.definitions.specs.Problem.Truth.{Case, arePicks, areOfKinds, firstOfOtherKind, ruleIsTrue}
+use Rattle.definitions.specs.Problem.Atoms.{Problem, problemOf, Atom, itemAt, atomBlocks, atoms, atomNumber, relationAt, placesOf, stateWords, rowOf}
+use Rattle.definitions.specs.Problem.Actions.{Action, set, actionAt, actions, actionNumber, needs, adds, removes}
 use Rattle.definitions.specs.Problem.Strips.{reachesGoal, run, picksOf}
 use Rattle.definitions.specs.Problem.Built.{chosenNumbers, builtSteps, builtCount, bound, boundExponents, boundPolynomial, pickedRows}
-use Rattle.definitions.specs.Reply.Outcome.{replyNumber, replyPlace, sizes, action, CaseRead, readFiled, readCase, ground, readProblem, asked, nothing}
+use Rattle.definitions.specs.Reply.Outcome.{sizes, action, CaseRead, readFiled, readCase, ground, readProblem, asked, nothing}
 use Rattle.definitions.specs.Reply.Outcome.{roomFor, stateLength, written, picksLength, pickWords, bitOf, lentPicks, spareWord, ThirdInput, asText, asNumbers}
 use Rattle.definitions.specs.Reply.Outcome.{takeSteps, textPicks, picksRoom, takePicks, readyToRun, Checked, checkedFrom, checkSteps, picksIfAccepted}
-use Rattle.definitions.specs.Reply.Outcome.{picksReadFrom, picksFromSteps, kindRefusal, Plan, plan, StepsBuilt, builtFrom, buildSteps, Ready, PicksRead, sizesOf}
-use Rattle.definitions.specs.Reply.Outcome.{satisfying}
-use Rattle.definitions.specs.Problem.Tree.{Part, nodes, treeOf}
-use Rattle.definitions.specs.Reply.Tally.{walked, tally}
-use Rattle.definitions.specs.Reply.Allowance.{allowance, allowancesOf, allowedFrom, allowances}
+use Rattle.definitions.specs.Reply.Outcome.{picksReadFrom, picksFromSteps, kindRefusal, Plan, plan, StepsBuilt, builtFrom, buildSteps, Ready, PicksRead}
 use Rattle.definitions.specs.Reply.Demand.{isAccepted, caseIsAccepted, stepsAreAccepted, areSamePicks}
-use Rattle.definitions.specs.Reply.Tries.{Try, tried, tryLists, readyToTry, triedFrom}
-use Rattle.definitions.specs.Reply.Judgement.{judge, forget}
-use Rattle.definitions.specs.Reply.Page.{shownElements, partWord, units, linesOf, blankLine, pages, pageLines, pageText, pageRooms, layPage}
 use Rattle.laws.specs.Numbers
 use Rattle.laws.specs.Words
-use Rattle.laws.specs.Walks
-use Rattle.laws.specs.Members.{Ascending, ascending-once}
-use Rattle.laws.specs.Repeats.{Once}
-use Rattle.laws.specs.Booleans.{T-of, T-true}
+use Rattle.laws.specs.Members.{ascending-once}
+use Rattle.laws.specs.Booleans.{T-of}
 use Rattle.laws.specs.Results.{accepted-eq, accepted-is, is-accepted}
 use Rattle.laws.specs.Blocks.{item-lt}
-use Rattle.laws.specs.Numbers.{noRelation, IsAction, IsAtom}
+use Rattle.laws.specs.Numbers.{IsAction, IsAtom}
 use Rattle.laws.specs.Words.{words-for}
 use Rattle.laws.specs.Asked
 use Rattle.meaning.specs.Count
 use Rattle.laws.specs.Reader
-use Reader.{Accepted, FiledFits, filed-fits, case-fits, gives-if}
+use Reader.{Accepted, FiledFits, filed-fits, gives-if}
 use Rattle.meaning.specs.Grounded.{good}
 use Rattle.meaning.specs.Valid.{needs-valid, adds-valid, removes-valid}
 use Rattle.meaning.specs.Pairs
-use Rattle.laws.specs.Pages
-use Pages.{joined, commas}
-use Rattle.meaning.specs.Shown
-use Rattle.demands.specs.Paper
 use Rattle.demands.specs.Between
 use Rattle.demands.specs.Strips1
 use Rattle.demands.specs.Accepting
+use Rattle.demands.specs.AnyOrder
 use Rattle.demands.specs.Answered
 use Rattle.demands.specs.Polynomial
 use Rattle.meaning.specs.Lent
@@ -103,19 +117,12 @@ use Rattle.laws.specs.Decimals
 use Rattle.laws.specs.Told
 use Told.{TupleLine}
 use Rattle.laws.specs.Lines.{LineByLine}
-use Rattle.laws.specs.Labels
-use Labels.{LabelsFit}
+use Rattle.laws.specs.Labels.{LabelsFit}
 use Rattle.demands.specs.Written
-use Rattle.demands.specs.Trying
-use Rattle.demands.specs.Judging
-use Rattle.demands.specs.OnePick
-use Rattle.demands.specs.Wider
-use Rattle.demands.specs.InNumbers
-use Rattle.demands.specs.SameReplies
-use Rattle.demands.specs.Ranges
-use Rattle.demands.specs.NoTypes
-use Rattle.demands.specs.BothSides.{Keeps}
-use Rattle.demands.specs.TypedKinds
+use Rattle.demands.specs.SiteTexts
+use SiteTexts.{SiteLine, siteItems, SiteIs}
+use Rattle.demands.specs.QuestionTexts
+use QuestionTexts.{QuestionLine, questionItems, QuestionIs}
 
 -- A question and a site are accepted exactly if a case is read from them, with its labels, and its problem is within the limits.
 pub accepted-case : (L : CaseLimits) (question site : List ℕ)
@@ -306,6 +313,36 @@ module _ (L : CaseLimits) (few : L .elements ≤ 64) (lendable : L .atoms ≤ st
       let l : b .steps ≡ builtSteps p (b .picks) = t .steps ∙ ap (λ (y : Problem). builtSteps y (b .picks)) same in
       (b .picks, f, taken-picks given (b .picks) f, subst (λ (x : Case). areOfKinds x (b .picks) ≡ true) same-case (t .kinds), subst (λ (x : Case). ruleIsTrue x (b .picks) ≡ true) same-case (t .rule), n ∙ ap length l, w ∙ ap (λ (x : List ℕ). written x steps) l)
 
+  -- Picks are a set: the same tuples in another order are of the declared kinds alike, by 16 the same first `choose` of which they are not,
+  -- make the rule true alike, and give the same built steps;
+  pub order-kinds : (P Q : List Tuple) → areSamePicks P Q ≡ true → (areOfKinds c P ≡ areOfKinds c Q) × (firstOfOtherKind c P ≡ firstOfOtherKind c Q)
+  order-kinds P Q e = (AnyOrder.same-kinds c P Q e, AnyOrder.same-first c P Q e)
+
+  pub order-rule : (P Q : List Tuple) → areSamePicks P Q ≡ true → ruleIsTrue c P ≡ ruleIsTrue c Q
+  order-rule P Q e = AnyOrder.same-rule c A P Q e
+
+  pub order-steps : (P Q : List Tuple) → areSamePicks P Q ≡ true → builtSteps p P ≡ builtSteps p Q
+  order-steps P Q e = AnyOrder.same-steps p P Q e
+
+  -- so building from them, whichever way they are handed over, answers the same and leaves the same.
+  pub order-built : (given other : ThirdInput) (P Q : List Tuple) → taken given ≡ accepted P → taken other ≡ accepted Q → areSamePicks P Q ≡ true
+      → (state steps : List ℕ) → stateLength p ≤ length state → bound p ≤ length steps → buildSteps L question site given state steps ≡ buildSteps L question site other state steps
+  unfolding buildSteps builtFrom kindRefusal refuseIf _>>=_
+  order-built given other P Q f g e state steps h k =
+      ap (λ (r : Result Plan). builtFrom r state steps) (plans given P f state steps h k)
+      ∙ ap₂ (λ (o : Option ℕ) (b : Bool). left o b P (builtSteps p P)) (AnyOrder.same-first c P Q e) (AnyOrder.same-rule c A P Q e)
+      ∙ ap (left (firstOfOtherKind c Q) (ruleIsTrue c Q) P) (AnyOrder.same-steps p P Q e)
+      ∙ no-picks (firstOfOtherKind c Q) (ruleIsTrue c Q)
+      ∙ sym (ap (λ (r : Result Plan). builtFrom r state steps) (plans other Q g state steps h k))
+    where
+      left : Option ℕ → Bool → List Tuple → List ℕ → StepsBuilt
+      left o b F ss = builtFrom (kindRefusal o >>= λ _. refuseIf (not b) 17 zero >>= λ _. accepted (record { labels = labels; problem = p; picks = F; steps = ss })) state steps
+
+      no-picks : (o : Option ℕ) (b : Bool) → left o b P (builtSteps p Q) ≡ left o b Q (builtSteps p Q)
+      no-picks none true = refl
+      no-picks none false = refl
+      no-picks (some i) b = refl
+
   -- (they are few enough to be lent)
   built-few : (picks : List Tuple) → arePicks c picks ≡ true → areOfKinds c picks ≡ true → length (builtSteps p picks) ≤ stepLimit
   built-few picks a k =
@@ -441,67 +478,24 @@ module _ (L : CaseLimits) (few : L .elements ≤ 64) (lendable : L .atoms ≤ st
       → (again : List Tuple) × (readPicks (c .question .chosen) (firstChosen (c .question)) (c .site .size) labels (flatMap (λ r. flatMap (pickLine labels p r) (pickedRows p picks r)) (chosenNumbers p)) ≡ accepted again) × (areSamePicks again picks ≡ true)
   picks-printed = rw same-problem (λ picks a h. (map (Pairs.tupleOf (problemOf c)) (Pairs.pairs (problemOf c) picks), Written.printed-back c A labels K picks (T-of a) h, Between.in-order c A picks a))
 
-  -- ---- 11, many step lists of one case, in one call: it answers 0 and place 0, every record gets its list's reply, and the initial
-  -- state is left;
-  pub trying : (steps : List ℕ) (tries : List Try) (state : List ℕ) → stateLength p ≤ length state
-      → tryLists L question site steps tries state ≡ record { answer = accepted 0; tries = map (tried p steps) tries; state = written (stateWords p (initial p)) state }
-  trying steps tries state room = Trying.trying L question site p is-problem state room steps tries
+-- ---- A text is read as a question exactly if line by line it spells its relations, its types, what it chooses and its rule, in this
+-- order (`QuestionLine`), the rule standing where its line says, and no test is broken (`QuestionIs`);
+pub question-texts : (text : List ℕ) (q : Question)
+    → (readQuestion text ≡ accepted q) ↔ (LineByLine (QuestionLine (q .types)) (questionItems q) text × (length text ≤ textLimit) × (q .rule .at + length (q .rule .text) + 1 ≡ length text) × QuestionIs q)
+question-texts = QuestionTexts.question-texts
 
-  -- a record keeps its list, and one within the lent steps gets what a check of that list alone answers, as if it were lent by itself;
-  pub tries-alone : (steps : List ℕ) (t : Try) (state : List ℕ) → stateLength p ≤ length state → t .first + t .len ≤ length steps
-      → let alone = checkSteps L question site (asNumbers (take (t .len) (drop (t .first) steps))) state .answer in
-      tried p steps t ≡ record { first = t .first; len = t .len; number = replyNumber alone; place = replyPlace alone }
-  unfolding tried
-  tries-alone steps t state room h = ap (λ (r : Result ℕ). record { first = t .first; len = t .len; number = replyNumber r; place = replyPlace r }) (Trying.alone L question site p is-problem state room steps (t .first) (t .len) h)
+-- and, for limits of at most 64 elements and a question that is read, as a site exactly if line by line it spells its size, its labels, its
+-- members and its facts, in this order (`SiteLine`: an element by its number or its label), and no test is broken (`SiteIs`).
+pub site-texts : (L : CaseLimits) → L .elements ≤ 64 → (question : List ℕ) (q : Question) → readQuestion question ≡ accepted q → (text : List ℕ) (s : Labelled)
+    → (readSite L (q .rels) (q .types) text ≡ accepted s) ↔ (LineByLine (SiteLine (q .rels) (q .types) (s .labels)) (siteItems s) text × (length text ≤ textLimit) × SiteIs L (q .rels) (q .types) s)
+site-texts L few question q e text s = SiteTexts.site-texts L few (q .rels) (q .types) (QuestionTexts.declared-of q (QuestionTexts.question-told question q e .2)) text s
 
-  -- any other is 1 or 12;
-  pub tries-outside : (steps : List ℕ) (t : Try) → length steps < t .first + t .len
-      → tried p steps t ≡ record { first = t .first; len = t .len; number = if ltb stepLimit (t .len) then 1 else 12; place = if ltb stepLimit (t .len) then 0 else t .first + t .len }
-  tries-outside steps t h = Trying.outside p steps t h
+-- Two texts are read as a case exactly if these two readings are.
+pub case-texts : (L : CaseLimits) (question site : List ℕ) (q : Question) (s : Labelled)
+    → (readFiled L question site ≡ accepted (record { case = record { question = q; site = s .site }; labels = s .labels })) ↔ ((readQuestion question ≡ accepted q) × (readSite L (q .rels) (q .types) site ≡ accepted s))
+case-texts = QuestionTexts.filed-texts
 
-  -- so a record has 0 exactly if its list is short enough, lies within the lent steps and reaches the goal, and then its place is the
-  -- length of the list.
-  pub tries-accepts : (steps : List ℕ) (t : Try) → (tried p steps t .number ≡ 0) ↔ ((t .len ≤ stepLimit) × (t .first + t .len ≤ length steps) × (reachesGoal p (take (t .len) (drop (t .first) steps)) ≡ true))
-  unfolding tried
-  tries-accepts steps t = Trying.accepts p steps (t .first) (t .len)
-
-  pub tries-place : (steps : List ℕ) (t : Try) → tried p steps t .number ≡ 0 → tried p steps t .place ≡ t .len
-  unfolding tried
-  tries-place steps t e = Trying.place-is p steps (t .first) (t .len) e
-
-  -- ---- 12, document 02, job 14. Of picks P and Q, of the declared kinds, where Q has the tuples of P and one more: the numbers of the
-  -- steps built from them differ by at most the allowance of that tuple's relation.
-  pub one-pick : (P Q : List Tuple) (more : Tuple) → arePicks c P ≡ true → areOfKinds c P ≡ true → arePicks c Q ≡ true → areOfKinds c Q ≡ true → isAmong more P ≡ false → areSamePicks Q (more ∷ P) ≡ true
-      → (length (builtSteps p Q) ≤ length (builtSteps p P) + allowance p (more .relation)) × (length (builtSteps p P) ≤ length (builtSteps p Q) + allowance p (more .relation))
-  one-pick P Q more a k b l new is =
-      let (f, g) = OnePick.count-moves-both p c P Q more a b new is in
-      let m = counts P a k .0 in
-      let n = counts Q b l .0 in
-      (omega (arith, f), omega (arith, g))
-
-  -- So whenever the building call builds steps before and after such a pick is added, or before and after it is dropped, its two
-  -- counts differ by at most that.
-  pub one-pick-built : (before after : ThirdInput) (state₁ steps₁ state₂ steps₂ : List ℕ) (m n : ℕ) (P Q : List Tuple) (more : Tuple)
-      → buildSteps L question site before state₁ steps₁ .answer ≡ accepted m → buildSteps L question site after state₂ steps₂ .answer ≡ accepted n
-      → taken before ≡ accepted P → taken after ≡ accepted Q → isAmong more P ≡ false → areSamePicks Q (more ∷ P) ≡ true
-      → (n ≤ m + allowance p (more .relation)) × (m ≤ n + allowance p (more .relation))
-  one-pick-built before after state₁ steps₁ state₂ steps₂ m n P Q more em en tP tQ new is =
-      let (P′, t, a, k, x, i, y) = whenever-built before state₁ steps₁ m em in
-      let (Q′, u, b, l, z, j, w) = whenever-built after state₂ steps₂ n en in
-      let eP : P′ ≡ P = accepted-eq P′ P (sym t ∙ tP) in
-      let eQ : Q′ ≡ Q = accepted-eq Q′ Q (sym u ∙ tQ) in
-      let (f, g) = one-pick P Q more (subst (λ (F : List Tuple). arePicks c F ≡ true) eP a) (subst (λ (F : List Tuple). areOfKinds c F ≡ true) eP k)
-      (subst (λ (F : List Tuple). arePicks c F ≡ true) eQ b) (subst (λ (F : List Tuple). areOfKinds c F ≡ true) eQ l) new is in
-      let r : m ≡ length (builtSteps p P) = i ∙ ap (λ (F : List Tuple). length (builtSteps p F)) eP in
-      let s : n ≡ length (builtSteps p Q) = j ∙ ap (λ (F : List Tuple). length (builtSteps p F)) eQ in
-      (omega (arith, f), omega (arith, g))
-
-  -- The call that tells them writes the allowance of every `choose`, in order, at the front of its buffer.
-  pub allowances-are : (old : List ℕ) → length (chosenNumbers p) ≤ length old → allowances L question site old ≡ record { answer = accepted 0; allowances = written (map (allowance p) (chosenNumbers p)) old }
-  unfolding allowances allowedFrom allowancesOf asked nothing roomFor refuseIf _>>=_
-  allowances-are old h = let e : ltb (length old) (length (chosenNumbers p)) ≡ false = le-ltb (length old) (length (chosenNumbers p)) h in rw (is-filed, grounds, e) refl
-
--- ---- A text is read as a number exactly if it is what is written for it and has at most 7 digits; and as steps exactly if it is what
+-- A text is read as a number exactly if it is what is written for it and has at most 7 digits; and as steps exactly if it is what
 -- the desk program writes for them. So every step list within the limits has a text, and one text only.
 pub number-texts : (text : List ℕ) (n : ℕ) → (number text ≡ some n) ↔ ((text ≡ decimal n) × (n < 10 ^ 7))
 number-texts text n = (λ e. Decimals.decimal-number text n e, λ h. ap number (h .0) ∙ Decimals.number-decimal n (h .1))
@@ -545,31 +539,6 @@ module _ (L : CaseLimits) (question site : List ℕ) where
   pub build-length : L .elements ≤ 64 → (picks : ThirdInput) (state steps : List ℕ) → (length (buildSteps L question site picks state steps .state) ≡ length state) × (length (buildSteps L question site picks state steps .steps) ≡ length steps)
   build-length few picks state steps = Buffers.build-length L question site picks state steps few
 
-  -- ---- 14, document 02, job 6. Judging answers as building does, but for the count of steps: exactly so where the state and the steps have
-  -- room for the problem, if one is read; where none is, whatever is lent.
-  pub judging : (picks : ThirdInput) (state steps : List ℕ) → ((p : Problem) → readProblem L question site ≡ accepted p → (stateLength p ≤ length state) × (bound p ≤ length steps))
-      → judge L question site picks ≡ forget (buildSteps L question site picks state steps .answer)
-  judging picks state steps rooms = Judging.alike L question site picks state steps rooms
-
-  -- So its numbers are those of building.
-  pub judge-refuse : (picks : ThirdInput) (k place : ℕ) → judge L question site picks ≡ refused k place → isIn k (readyNumbers ++ picksNumbers) ≡ true
-  judge-refuse picks k place e = Refusals.judge-refuse L question site picks k place e
-
-  -- Many step lists: every refusal of the call leaves the records and the state's buffer as they were.
-  pub tries-refuse : (steps : List ℕ) (tries : List Try) (state : List ℕ) (k place : ℕ) → tryLists L question site steps tries state .answer ≡ refused k place
-      → (isIn k readyNumbers ≡ true) × (tryLists L question site steps tries state .tries ≡ tries) × (tryLists L question site steps tries state .state ≡ state)
-  tries-refuse steps tries state k place e = Trying.tries-refuse L question site steps tries state k place e
-
-  pub tries-length : (steps : List ℕ) (tries : List Try) (state : List ℕ) → (length (tryLists L question site steps tries state .tries) ≡ length tries) × (length (tryLists L question site steps tries state .state) ≡ length state)
-  tries-length steps tries state = Trying.tries-length L question site steps tries state
-
-  -- Allowances: every refusal leaves the buffer as it was.
-  pub allowances-refuse : (old : List ℕ) (k place : ℕ) → allowances L question site old .answer ≡ refused k place → (isIn k readyNumbers ≡ true) × (allowances L question site old .allowances ≡ old)
-  allowances-refuse old k place e = OnePick.allowances-refuse L question site old k place e
-
-  pub allowances-length : (old : List ℕ) → length (allowances L question site old .allowances) ≡ length old
-  allowances-length old = OnePick.allowances-length L question site old
-
 -- ---- 10, the desk program: unless it refuses, what it prints (`Desk.report`) are the two records of one case: picks of the declared
 -- kinds of which the rule is true, and steps that reach the goal and are read as the same tuples.
 pub desk-records : (input : List ℕ) (b : Plan) → answer input ≡ accepted b
@@ -581,331 +550,3 @@ desk-records input b e = let (c, rc, rg, h) = Filed.desk-filed input b e in let 
 -- It never prints more than 2,340 `pick` lines: a line of picks or of steps has at least 7 bytes.
 pub desk-picks : (input : List ℕ) (b : Plan) → answer input ≡ accepted b → (length (b .picks) ≤ 2340) × (sum (map (λ r. length (pickedRows (b .problem) (b .picks) r)) (chosenNumbers (b .problem))) ≤ 2340)
 desk-picks input b e = Short.desk-picks input b e
-
--- ---- 13, document 02, job 3: for every case that is read, be it over the limits of 11 or not, one walk of its tree visits its nodes,
--- each once and in preorder, and what it counts are the numbers of nodes, atoms and actions, and the bound.
-module _ (L : CaseLimits) (question site : List ℕ) (c : Case) (is-case : readCase L question site ≡ accepted c) where
-  pub visited-are : map (λ (q : Part). q .tree) (walked (problemOf c) .visited) ≡ nodes (treeOf (c .question))
-  visited-are = Walks.visited-are c
-
-  pub visited-once : map (λ (q : Part). q .node) (walked (problemOf c) .visited) ≡ below (length (nodes (treeOf (c .question))))
-  visited-once = Walks.visited-once c
-
-  pub tallied : tally L question site ≡ accepted (record { nodeCount = length (nodes (treeOf (c .question))); sizes = sizesOf (problemOf c) })
-  unfolding tally _>>=_
-  tallied = rw is-case (ap accepted (Walks.tally-is c))
-
--- The sizes call answers those counts, or 11 where there are more atoms or actions than the limits allow.
-pub sizes-tallied : (L : CaseLimits) (question site : List ℕ)
-    → sizes L question site ≡ (tally L question site >>= λ t. refuseIf (ltb (L .atoms) (t .sizes .atomCount) || ltb (L .actions) (t .sizes .actionCount)) 11 0 >>= λ _. accepted (t .sizes))
-sizes-tallied L question site = Walks.sizes-tally L question site
-
--- ---- 15, limits: a case that is accepted is the same problem by larger limits, and each call answers about it as before.
-module _ (L M : CaseLimits) (larger : Wider.Wider L M) (question site : List ℕ) (p : Problem) (is-problem : readProblem L question site ≡ accepted p) where
-  pub kept-problem : readProblem M question site ≡ accepted p
-  kept-problem = Wider.problem-wider L M larger question site p is-problem
-
-  pub kept-sizes : sizes L question site ≡ sizes M question site
-  unfolding sizes
-  kept-sizes = ap (λ (r : Result (Ready (Unit {0}))). r >>= λ x. accepted (sizesOf (x .problem))) (Wider.asked-wider L M larger question site p is-problem nothing nothing nothing nothing)
-
-  pub kept-action : (k : ℕ) → action L question site k ≡ action M question site k
-  unfolding action
-  kept-action k = ap (λ (r : Result (Ready (Unit {0}))). r >>= λ x. given (actionAt (x .problem) k) 13 k) (Wider.asked-wider L M larger question site p is-problem nothing nothing nothing nothing)
-
-  pub kept-check : (steps : ThirdInput) (state : List ℕ) → checkSteps L question site steps state ≡ checkSteps M question site steps state
-  unfolding checkSteps readyToRun
-  kept-check steps state = ap (λ (r : Result (Ready (List ℕ))). checkedFrom r state) (Wider.asked-wider L M larger question site p is-problem (λ _. takeSteps steps) nothing nothing _)
-
-  pub kept-read : (steps : ThirdInput) (picks state : List ℕ) → picksFromSteps L question site steps picks state ≡ picksFromSteps M question site steps picks state
-  unfolding picksFromSteps readyToRun
-  kept-read steps picks state = ap (λ (r : Result (Ready (List ℕ))). picksReadFrom r picks state) (Wider.asked-wider L M larger question site p is-problem (λ _. takeSteps steps) nothing nothing _)
-
-  pub kept-build : (picks : ThirdInput) (state steps : List ℕ) → buildSteps L question site picks state steps ≡ buildSteps M question site picks state steps
-  unfolding buildSteps plan
-  kept-build picks state steps = ap
-      (λ (r : Result (Ready (List Tuple))). builtFrom (r >>= λ x. satisfying (x .case) (x .problem) picks (x .third) >>= λ F. accepted (record { labels = x .labels; problem = x .problem; picks = F; steps = builtSteps (x .problem) F })) state steps)
-      (Wider.asked-wider L M larger question site p is-problem (λ c. textPicks (c .case) (c .labels) picks) nothing nothing _)
-
-  pub kept-judgement : (picks : ThirdInput) → judge L question site picks ≡ judge M question site picks
-  unfolding judge
-  kept-judgement picks = ap (λ (r : Result (Ready (List Tuple))). r >>= λ x. satisfying (x .case) (x .problem) picks (x .third) >>= λ _. accepted zero) (Wider.asked-wider L M larger question site p is-problem (λ c. textPicks (c .case) (c .labels) picks) nothing nothing _)
-
-  pub kept-tries : (steps : List ℕ) (tries : List Try) (state : List ℕ) → tryLists L question site steps tries state ≡ tryLists M question site steps tries state
-  unfolding tryLists readyToTry
-  kept-tries steps tries state = ap (λ (r : Result (Ready (Unit {0}))). triedFrom r steps tries state) (Wider.asked-wider L M larger question site p is-problem nothing nothing nothing _)
-
-  pub kept-allowances : (old : List ℕ) → allowances L question site old ≡ allowances M question site old
-  unfolding allowances
-  kept-allowances old = ap (λ (r : Result (Ready (Unit {0}))). allowedFrom r old) (Wider.asked-wider L M larger question site p is-problem nothing nothing nothing _)
-
--- Document 02, job 10: so every case of document 01 is the same problem by the limits that are usual now, and is answered as before.
-pub grown : Wider.Wider early usual
-grown = record { elements = omega arith; atoms = omega arith; actions = omega arith }
-
--- One byte more than a text may have, or one lent step more, is 1.
-pub long-text : {S : Type 0} (line : S → Line → Result S) (s : S) (text : List ℕ) → textLimit < length text → readText line s text ≡ refused 1 0
-long-text line s text h = Short.text-long line s text h
-
-pub many-steps : (steps : List ℕ) → stepLimit < length steps → takeSteps (asNumbers steps) ≡ refused 1 0
-many-steps steps h = Short.lent-many steps h
-
--- The desk program meets neither: no sheet of an input that it reads, and no list of steps on one, is longer than that input.
-pub desk-limits : (input : List ℕ) → length input ≤ deskBytes → (length (sheets input .question) ≤ deskBytes) × (length (sheets input .site) ≤ deskBytes) × (length (sheets input .rest) ≤ deskBytes)
-desk-limits input h = Short.sheets-short input deskBytes h
-
-pub desk-steps : (input steps : List ℕ) → length input ≤ deskBytes → readSteps (sheets input .rest) ≡ accepted steps → length steps ≤ deskBytes
-desk-steps input steps h e = let (q, s, r) = Short.sheets-short input deskBytes h in omega (arith, r, Short.steps-fewer (sheets input .rest) steps e)
-
--- ---- 16, document 02, job 1. For every limits of at most 64 elements, and every question and site that a case is read from: c is the
--- case, with its labels. They are one to one: an element has a name exactly if the name means that element;
-module _ (L : CaseLimits) (few : L .elements ≤ 64) (question site : List ℕ) (c : Case) (labels : List Label) (is-filed : readFiled L question site ≡ accepted (record { case = c; labels = labels })) where
-  fits : FiledFits (record { case = c; labels = labels })
-  fits = gives-if FiledFits (readFiled L question site) (record { case = c; labels = labels }) is-filed (filed-fits L few question site)
-
-  pub labels-one-to-one : (x : ℕ) (name : List ℕ) → (nameOf labels x ≡ some name) ↔ (elementNamed labels name ≡ some x)
-  labels-one-to-one x name = Labels.one-to-one labels (fits .labels-fit .one) x name
-
-  -- each is the name of an element of the site, in the form of a relation's name, and is found from either side.
-  pub labels-are : (l : Label) → List·Memᴰ l labels
-      → (l .element < c .site .size) × (isRelationName (l .name) ≡ true) × (nameOf labels (l .element) ≡ some (l .name)) × (elementNamed labels (l .name) ≡ some (l .element))
-  labels-are l m = let K = fits .labels-fit in (K .small l m, T-true (isRelationName (l .name)) (K .formed l m), Labels.name-found labels l (K .one) m, Labels.element-found labels l (K .one) m)
-
-  -- Picks rewritten with numbers, where that stays within the text limit, are the same picks without labels.
-  pub rewritten-picks : (text : List ℕ) (picks : List Tuple) → readPicks (c .question .chosen) (firstChosen (c .question)) (c .site .size) labels text ≡ accepted picks → length (inNumbers labels text) ≤ textLimit
-      → readPicks (c .question .chosen) (firstChosen (c .question)) (c .site .size) [] (inNumbers labels text) ≡ accepted picks
-  rewritten-picks text picks e l = InNumbers.picks-in-numbers c (fits .case-fits) labels (fits .labels-fit) picks text e l
-
-  -- The site rewritten so is read as the same case, and has no labels;
-  module _ (within : length (inNumbers labels site) ≤ textLimit) where
-    pub rewritten-case : readFiled L question (inNumbers labels site) ≡ accepted (record { case = c; labels = [] })
-    rewritten-case = InNumbers.filed-in-numbers L few question site (record { case = c; labels = labels }) is-filed within
-
-    -- so the problem is the same, with the same numbers for its steps, and every call replies the same.
-    pub rewritten-problem : readProblem L question (inNumbers labels site) ≡ readProblem L question site
-    rewritten-problem = SameReplies.same-problem L question site (inNumbers labels site) (record { case = c; labels = labels }) [] is-filed rewritten-case
-
-    pub rewritten-sizes : sizes L question (inNumbers labels site) ≡ sizes L question site
-    rewritten-sizes = SameReplies.same-sizes L question site (inNumbers labels site) (record { case = c; labels = labels }) [] is-filed rewritten-case
-
-    pub rewritten-action : (k : ℕ) → action L question (inNumbers labels site) k ≡ action L question site k
-    rewritten-action = SameReplies.same-action L question site (inNumbers labels site) (record { case = c; labels = labels }) [] is-filed rewritten-case
-
-    pub rewritten-check : (steps : ThirdInput) (state : List ℕ) → checkSteps L question (inNumbers labels site) steps state ≡ checkSteps L question site steps state
-    rewritten-check = SameReplies.same-check L question site (inNumbers labels site) (record { case = c; labels = labels }) [] is-filed rewritten-case
-
-    pub rewritten-read : (steps : ThirdInput) (picks state : List ℕ) → picksFromSteps L question (inNumbers labels site) steps picks state ≡ picksFromSteps L question site steps picks state
-    rewritten-read = SameReplies.same-read L question site (inNumbers labels site) (record { case = c; labels = labels }) [] is-filed rewritten-case
-
-    pub rewritten-tries : (steps : List ℕ) (tries : List Try) (state : List ℕ) → tryLists L question (inNumbers labels site) steps tries state ≡ tryLists L question site steps tries state
-    rewritten-tries = SameReplies.same-tries L question site (inNumbers labels site) (record { case = c; labels = labels }) [] is-filed rewritten-case
-
-    pub rewritten-allowances : (old : List ℕ) → allowances L question (inNumbers labels site) old ≡ allowances L question site old
-    rewritten-allowances = SameReplies.same-allowances L question site (inNumbers labels site) (record { case = c; labels = labels }) [] is-filed rewritten-case
-
-    -- Building and judging: from lent picks,
-    pub rewritten-build : (words state steps : List ℕ) → buildSteps L question (inNumbers labels site) (asNumbers words) state steps ≡ buildSteps L question site (asNumbers words) state steps
-    rewritten-build = SameReplies.same-build-words L question site (inNumbers labels site) (record { case = c; labels = labels }) [] is-filed rewritten-case
-
-    pub rewritten-judgement : (words : List ℕ) → judge L question (inNumbers labels site) (asNumbers words) ≡ judge L question site (asNumbers words)
-    rewritten-judgement = SameReplies.same-judge-words L question site (inNumbers labels site) (record { case = c; labels = labels }) [] is-filed rewritten-case
-
-    -- and from a text of picks that is rewritten too.
-    module _ (text : List ℕ) (picks : List Tuple) (is-read : readPicks (c .question .chosen) (firstChosen (c .question)) (c .site .size) labels text ≡ accepted picks) (short : length (inNumbers labels text) ≤ textLimit) where
-      pub rewritten-build-text : (state steps : List ℕ) → buildSteps L question (inNumbers labels site) (asText (inNumbers labels text)) state steps ≡ buildSteps L question site (asText text) state steps
-      unfolding textPicks
-      rewritten-build-text = SameReplies.same-build-text L question site (inNumbers labels site) (record { case = c; labels = labels }) [] is-filed rewritten-case text (inNumbers labels text) picks is-read (rewritten-picks text picks is-read short)
-
-      pub rewritten-judgement-text : judge L question (inNumbers labels site) (asText (inNumbers labels text)) ≡ judge L question site (asText text)
-      unfolding textPicks
-      rewritten-judgement-text = SameReplies.same-judge-text L question site (inNumbers labels site) (record { case = c; labels = labels }) [] is-filed rewritten-case text (inNumbers labels text) picks is-read (rewritten-picks text picks is-read short)
-
--- ---- 17, document 02, job 4. A rule's text is read as a formula exactly if it is the writing of it, which has the types of its
--- variables; and no text is the writing of two.
-pub rule-texts : (text : List ℕ) (f : Formula) → (readFormula text ≡ some f) ↔ (WellFormed bracketLimit f × (text ≡ write f))
-rule-texts text f = Writing.accepted-texts text f
-
-pub rule-once : (f g : Formula) → WellFormed bracketLimit f → WellFormed bracketLimit g → write f ≡ write g → f ≡ g
-rule-once f g hf hg e = Writing.one-formula bracketLimit f g hf hg e
-
--- For every limits of at most 64 elements, and every question and site that a case c is read from:
-module _ (L : CaseLimits) (few : L .elements ≤ 64) (question site : List ℕ) (c : Case) (is-case : readCase L question site ≡ accepted c) where
-  fits-case : Accepted c
-  fits-case = gives-if Accepted (readCase L question site) c is-case (case-fits L few question site)
-
-  -- every type in the rule is declared;
-  pub rule-typed : isTyped (c .question .types) (c .question .rule .formula) ≡ true
-  rule-typed = T-true _ (fits-case .question-fits .rule-fits .typed)
-
-  -- there are few types, each in the form of a relation's name, and none is declared twice;
-  pub types-are : (length (c .question .types) ≤ typeLimit) × ((t : List ℕ) → List·Memᴰ t (c .question .types) → isRelationName t ≡ true) × Once (c .question .types)
-  types-are = let F = fits-case .question-fits .types-fit in (F .few, λ t m. T-true _ (F .named t m), F .once)
-
-  -- each `member` line is of one of them and of an element, and no type is without one.
-  pub members-are : (m : Member) → List·Memᴰ m (c .site .members) → (m .type < length (c .question .types)) × (m .element < c .site .size)
-  members-are m i = let F = fits-case .site-fits .members-fit in (F .typed m i, F .small m i)
-
-  pub each-member : (k : ℕ) → k < length (c .question .types) → hasMember (c .site .members) k ≡ true
-  each-member k h = T-true _ (fits-case .site-fits .each-type k h)
-
-  -- What a variable ranges over: an element is in its range exactly if it is below n, and the variable has no type or a `member` line
-  -- of its type has the element.
-  pub range-is : (q : Quantified) → hasType (c .question .types) q ≡ true → (x : ℕ)
-      → List·Memᴰ x (rangeOf c q)
-      ↔ ((x < c .site .size) × ((q .type ≡ none) ⊎ ((name : List ℕ) × (q .type ≡ some name) × ((m : Member) × List·Memᴰ m (c .site .members) × (typeNumber (c .question .types) name ≡ some (m .type)) × (m .element ≡ x)))))
-  range-is q h x = Ranges.range-is c x q (T-of h)
-
-  -- It ascends, and is not empty.
-  pub range-ascends : (q : Quantified) → Ascending (rangeOf c q) × (0 < length (rangeOf c q))
-  unfolding rangeOf
-  range-ascends q = let R = Reader.accepted-range c fits-case _ in (R .ascends, R .some-member)
-
-  -- Without `type` lines no variable of the rule and no kind has a type, nothing is left out by leaving out types, and there is one range, all
-  -- elements.
-  pub plain-rule : c .question .types ≡ [] → usesNoTypes (c .question) ≡ true
-  plain-rule e = T-true _ (NoTypes.no-types-rule c fits-case e)
-
-  pub plain-case : c .question .types ≡ [] → untyped c ≡ c
-  plain-case e = NoTypes.no-types-case c fits-case e
-
-  pub plain-range : c .question .types ≡ [] → (s : ℕ) → membersOf c s ≡ below (c .site .size)
-  plain-range e s = NoTypes.no-types-range c e s
-
--- A rule without types, and kinds without them, give the problem of document 01, number for number, whatever types and members there are:
--- the same as the case without its `type` and `member` lines. For every number the same atom, and the same action,
-module _ (c : Case) (no-types : usesNoTypes (c .question) ≡ true) where
-  pub untyped-atom : (i : ℕ) → itemAt (atomBlocks (problemOf c)) i ≡ itemAt (atomBlocks (problemOf (untyped c))) i
-  untyped-atom i = ap (λ (bs : List (Block Atom)). itemAt bs i) (NoTypes.for-untyped c (T-of no-types) (λ p q. atomBlocks p ≡ atomBlocks q) (NoTypes.atoms-same c))
-
-  pub untyped-atoms : atoms (problemOf c) ≡ atoms (problemOf (untyped c))
-  unfolding atoms
-  untyped-atoms = ap countOf (NoTypes.for-untyped c (T-of no-types) (λ p q. atomBlocks p ≡ atomBlocks q) (NoTypes.atoms-same c))
-
-  pub untyped-action : (k : ℕ) → actionAt (problemOf c) k ≡ actionAt (problemOf (untyped c)) k
-  untyped-action k = NoTypes.for-untyped c (T-of no-types) (λ p q. actionAt p k ≡ actionAt q k) (λ t h u. NoTypes.action-same c t h u k)
-
-  pub untyped-actions : actions (problemOf c) ≡ actions (problemOf (untyped c))
-  unfolding actions
-  untyped-actions = ap countOf (NoTypes.for-untyped c (T-of no-types) (λ p q. actionBlocks p ≡ actionBlocks q) (NoTypes.actions-same c))
-
-  -- which needs, adds and removes the same;
-  pub untyped-needs : (a : Action) → needs (problemOf c) a ≡ needs (problemOf (untyped c)) a
-  untyped-needs a = NoTypes.for-untyped c (T-of no-types) (λ p q. needs p a ≡ needs q a) (λ t h u. NoTypes.needs-same c t h u a)
-
-  pub untyped-adds : (a : Action) → adds (problemOf c) a ≡ adds (problemOf (untyped c)) a
-  untyped-adds a = NoTypes.for-untyped c (T-of no-types) (λ p q. adds p a ≡ adds q a) (λ t h u. NoTypes.adds-same c t h u a)
-
-  pub untyped-removes : (a : Action) → removes (problemOf c) a ≡ removes (problemOf (untyped c)) a
-  untyped-removes a = NoTypes.for-untyped c (T-of no-types) (λ p q. removes p a ≡ removes q a) (λ t h u. NoTypes.removes-same c t h u a)
-
-  -- the same atoms initially, and the same bound.
-  pub untyped-initial : initial (problemOf c) ≡ initial (problemOf (untyped c))
-  untyped-initial = NoTypes.for-untyped c (T-of no-types) (λ p q. initial p ≡ initial q) (NoTypes.initial-same c)
-
-  pub untyped-bound : bound (problemOf c) ≡ bound (problemOf (untyped c))
-  untyped-bound = NoTypes.for-untyped c (T-of no-types) (λ p q. bound p ≡ bound q) (NoTypes.bound-same c)
-
-  -- So every list of steps gets the same answer and leaves the same state.
-  pub untyped-run : (steps : List ℕ) → run (problemOf c) steps ≡ run (problemOf (untyped c)) steps
-  untyped-run steps = NoTypes.for-untyped c (T-of no-types) (λ p q. run p steps ≡ run q steps) (λ t h u. NoTypes.run-same c t h u steps)
-
--- ---- 18, document 02, job 5. For every limits of at most 64 elements, and every question and site that a case c is read from:
-module _ (L : CaseLimits) (few : L .elements ≤ 64) (question site : List ℕ) (c : Case) (is-case : readCase L question site ≡ accepted c) where
-  fits-kinds : Accepted c
-  fits-kinds = gives-if Accepted (readCase L question site) c is-case (case-fits L few question site)
-
-  -- the sorts of a `choose`'s places are of declared types, and those of one that is of no function kind are 0;
-  pub kind-sorts : (k : Relation) → List·Memᴰ k (c .question .chosen)
-      → (k .firsts ≤ length (c .question .types)) × (k .seconds ≤ length (c .question .types)) × (isFunction (k .kind) ≡ false → (k .firsts ≡ 0) × (k .seconds ≡ 0))
-  kind-sorts k m = let F = fits-kinds .question-fits .chosen-sorted k m in (F .firsts-few, F .seconds-few, F .no-sorts)
-
-  -- by such a sort a place has all elements, where it is 0, and otherwise those of the `member` lines of the type.
-  pub place-range : (s : ℕ) → s ≤ length (c .question .types) → (x : ℕ)
-      → List·Memᴰ x (membersOf c s) ↔ ((x < c .site .size) × ((s ≡ 0) ⊎ ((m : Member) × List·Memᴰ m (c .site .members) × (s ≡ suc (m .type)) × (m .element ≡ x))))
-  place-range s h x = Ranges.place-range c x s h
-
-  -- Picks are of the declared kinds exactly if they keep to the kind of each `choose`: a function kind has no first place with two
-  -- seconds, an injective one no second with two firsts, and a function kind no pick whose first or second place is outside its type.
-  pub kinds-are : (picks : List Tuple)
-      → (areOfKinds c picks ≡ true)
-      ↔ ((j : ℕ) → j < length (c .question .chosen) → Keeps c picks (firstChosen (c .question) + j) (getD (c .question .chosen) j noRelation))
-  kinds-are = TypedKinds.kinds-are c
-
-  -- The index that 16 has is that of the first `choose` to which they do not keep.
-  pub first-is : (picks : List Tuple) (i : ℕ) → firstOfOtherKind c picks ≡ some i
-      → (i < length (c .question .chosen)) × (Keeps c picks (firstChosen (c .question) + i) (getD (c .question .chosen) i noRelation) → ⊥)
-      × ((j : ℕ) → j < i → Keeps c picks (firstChosen (c .question) + j) (getD (c .question .chosen) j noRelation))
-  first-is = TypedKinds.first-is c
-
-  -- A tuple of a `choose` has a set action exactly if it is not outside these types,
-  pub settable : (r row : ℕ)
-      → ((k : ℕ) × (actionAt (problemOf c) k ≡ some (set r row)))
-      ↔ ((r < length (problemOf c .relations)) × (isChosen (relationAt (problemOf c) r .kind) ≡ true) × (row < tuplesOf (problemOf c .size) (relationAt (problemOf c) r))
-      × (isFunction (relationAt (problemOf c) r .kind) ≡ true → List·Memᴰ (row / problemOf c .size) (membersOf c (relationAt (problemOf c) r .firsts)) × List·Memᴰ (row % problemOf c .size) (membersOf c (relationAt (problemOf c) r .seconds))))
-  settable = TypedKinds.settable c fits-kinds
-
-  -- so a function kind has as many as there are pairs of members, and any other `choose` one for each tuple.
-  pub set-counts : (r : ℕ) → r < length (problemOf c .relations)
-      → setStart (problemOf c) (suc r) ≡ setStart (problemOf c) r
-      + (if isFunction (relationAt (problemOf c) r .kind) then length (membersOf c (relationAt (problemOf c) r .firsts)) * length (membersOf c (relationAt (problemOf c) r .seconds))
-      else if isChosen (relationAt (problemOf c) r .kind) then tuplesOf (problemOf c .size) (relationAt (problemOf c) r) else zero)
-  set-counts = TypedKinds.set-counts c fits-kinds
-
--- ---- 19, document 02, job 9. A step's lines have its head beside the first, and beside all of them, in order, its units: none is cut, and
--- none is lost. (`lines-are` and `units-are` say so.)
-pub paper-uncut : (labels : List Label) (p : Problem) (i k : ℕ) (a : Action) → Paper.Uncut labels p i k a
-paper-uncut = Paper.uncut
-
--- What the units hold are the action's elements as they are printed, parted by commas, and its part.
-pub paper-units : (labels : List Label) (p : Problem) (a : Action) → joined (units labels (partWord a) (shownElements p a)) ≡ commas (map (said labels) (shownElements p a)) ++ partWord a
-paper-units labels p a = Pages.units-joined labels (partWord a) (shownElements p a)
-
--- A page has the 59 lines of its place, and blank ones where there are fewer; all pages together have all lines of all steps, in order.
-pub paper-page : (lines : List (List ℕ)) (m : ℕ) → pageLines lines m ≡ take 59 (drop (59 * m) lines) ++ replicate (59 - length (drop (59 * m) lines)) blankLine
-paper-page = Pages.page-lines-are
-
-pub paper-pages : (lines : List (List ℕ)) → flatMap (λ m. take 59 (drop (59 * m) lines)) (below (pages lines)) ≡ lines
-paper-pages = Pages.pages-together
-
--- Whatever is handed over: where something is refused before the steps run, nothing is written.
-module _ (L : CaseLimits) (question site : List ℕ) (steps : ThirdInput) (m : ℕ) (state page : List ℕ) where
-  pub paper-before : (k place : ℕ) → readyToRun L question site steps (pageRooms (length state) (length page)) ≡ refused k place → layPage L question site steps m state page ≡ record { answer = refused k place; state = state; page = page }
-  paper-before = Paper.before L question site steps m state page
-
-  -- Otherwise the state left is that of the run. A step that is refused, and then a page that is not there, are told, and no page is written;
-  module _ (r : Ready (List ℕ)) (is-ready : readyToRun L question site steps (pageRooms (length state) (length page)) ≡ accepted r) where
-    pub paper-run : (k place : ℕ) → run (r .problem) (r .third) .answer ≡ refused k place
-        → layPage L question site steps m state page ≡ record { answer = refused k place; state = written (stateWords (r .problem) (run (r .problem) (r .third) .state)) state; page = page }
-    paper-run = Paper.in-run L question site steps m state page r is-ready
-
-    pub paper-none : (n : ℕ) → run (r .problem) (r .third) .answer ≡ accepted n → isBetween 1 (pages (linesOf (r .labels) (r .problem) (r .third))) m ≡ false
-        → layPage L question site steps m state page ≡ record { answer = refused 13 m; state = written (stateWords (r .problem) (run (r .problem) (r .third) .state)) state; page = page }
-    paper-none = Paper.no-page L question site steps m state page r is-ready
-
-    -- and a page that is there is written.
-    pub paper-laid : (n : ℕ) → run (r .problem) (r .third) .answer ≡ accepted n → isBetween 1 (pages (linesOf (r .labels) (r .problem) (r .third))) m ≡ true
-        → layPage L question site steps m state page ≡ record { answer = accepted (length (pageText (linesOf (r .labels) (r .problem) (r .third)) (m - 1))); state = written (stateWords (r .problem) (run (r .problem) (r .third) .state)) state; page = written (pageText (linesOf (r .labels) (r .problem) (r .third)) (m - 1)) page }
-    paper-laid = Paper.a-page L question site steps m state page r is-ready
-
-  -- With room for a page the state left is that of checking the same steps, and what checking refuses is refused so.
-  pub paper-checked : 4380 ≤ length page
-      → (layPage L question site steps m state page .state ≡ checkSteps L question site steps state .state)
-      × ((k place : ℕ) → checkSteps L question site steps state .answer ≡ refused k place → layPage L question site steps m state page .answer ≡ refused k place)
-  paper-checked h = (Paper.state-checked L question site steps m state page h, Paper.refusal-checked L question site steps m state page h)
-
-  -- Its numbers are those of checking; every refusal leaves the page's buffer as it was, and one before the steps run the state's too.
-  pub paper-refuse : (k place : ℕ) → layPage L question site steps m state page .answer ≡ refused k place
-      → (isIn k (readyNumbers ++ runNumbers) ≡ true) × (layPage L question site steps m state page .page ≡ page) × (isIn k readyNumbers ≡ true → layPage L question site steps m state page .state ≡ state)
-  paper-refuse k place e = let (f, g) = Paper.page-leaves L question site steps m state page k place e in (Refusals.page-refuse L question site steps m state page k place e, f, g)
-
--- By the usual limits every line has 72 columns and every page 4,380 bytes, and both buffers keep their length.
-module _ (question site : List ℕ) (steps : ThirdInput) where
-  pub paper-lines : (rooms : Problem → Result (Unit {0})) (r : Ready (List ℕ)) → readyToRun usual question site steps rooms ≡ accepted r
-      → (line : List ℕ) → List·Memᴰ line (linesOf (r .labels) (r .problem) (r .third)) → length line ≡ 72
-  paper-lines rooms r e = Shown.ready-lines question site steps rooms r e
-
-  pub paper-bytes : (m : ℕ) (state page : List ℕ) (n : ℕ) → layPage usual question site steps m state page .answer ≡ accepted n → n ≡ 4380
-  paper-bytes = Paper.page-bytes question site steps
-
-  pub paper-length : (m : ℕ) (state page : List ℕ) → (length (layPage usual question site steps m state page .state) ≡ length state) × (length (layPage usual question site steps m state page .page) ≡ length page)
-  paper-length = Paper.page-length question site steps

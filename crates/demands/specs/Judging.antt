@@ -1,17 +1,22 @@
 -- Judging answers as building does with room enough.
-use Prim.Native.Nat.{ℕ, _≤_}
+use Prim.Native.Nat.{ℕ, zero, _≤_}
 use mathlib.Core.Path.{_≡_, refl}
+use mathlib.Core.Bool.{true}
 use mathlib.Core.List.{List}
 use lib.ListN.{length}
 use borrow.Author.Tests.{le-ltb}
 use Rattle.definitions.specs.Limits.{CaseLimits}
 use Rattle.definitions.specs.Refusal.{Result, refused, accepted, _>>=_, refuseIf}
 use Rattle.definitions.specs.Sheet.Relations.{Tuple}
+use Rattle.definitions.specs.Sheet.Sheets.{Label}
+use Rattle.definitions.specs.Problem.Truth.{Case, areOfKinds, ruleIsTrue}
 use Rattle.definitions.specs.Problem.Atoms.{Problem}
 use Rattle.definitions.specs.Problem.Built.{bound}
-use Rattle.definitions.specs.Reply.Outcome.{CaseRead, readFiled, ground, readProblem, asked, nothing, roomFor, stateLength, ThirdInput, textPicks, picksRoom, satisfying, plan, builtFrom, buildSteps}
+use Rattle.definitions.specs.Reply.Outcome.{CaseRead, readFiled, ground, readProblem, asked, nothing, roomFor, stateLength, ThirdInput, textPicks, picksRoom, takePicks, kindRefusal, satisfying, plan, builtFrom, buildSteps}
 use Rattle.definitions.specs.Reply.Judgement.{judge, forget}
+use Rattle.laws.specs.Results.{bind-parts}
 use Rattle.laws.specs.Asked.{filed-case, problem-from}
+use Rattle.meaning.specs.Building.{picksGiven, kinds-hold}
 
 -- the state and the steps have room for the problem, where one is read
 abbrev pub RoomEnough : CaseLimits → (question site state steps : List ℕ) → Type 0
@@ -58,3 +63,15 @@ module _ (L : CaseLimits) (question site : List ℕ) (picks : ThirdInput) (state
 
   pub alike : Alike
   alike = cases (readFiled L question site) refl
+
+-- picks of the declared kinds of which the rule is true are judged with a yes
+pub judged-yes : (L : CaseLimits) (question site : List ℕ) (g : ThirdInput) (c : Case) (labels : List Label) (p : Problem) (F : List Tuple)
+    → readFiled L question site ≡ accepted (record { case = c; labels = labels }) → ground L c ≡ accepted p → picksGiven c labels p g ≡ accepted F → areOfKinds c F ≡ true → ruleIsTrue c F ≡ true → judge L question site g ≡ accepted zero
+unfolding judge satisfying asked nothing kindRefusal refuseIf _>>=_
+judged-yes L question site g c labels p F e h t k r =
+    let (read, a, x) = bind-parts (textPicks c labels g) _ F t in
+    let (u, b, y) = bind-parts (picksRoom p g) _ F x in
+    from-parts read a u b y
+  where
+    from-parts : (read : List Tuple) → textPicks c labels g ≡ accepted read → (u : Unit {0}) → picksRoom p g ≡ accepted u → takePicks p g read ≡ accepted F → judge L question site g ≡ accepted zero
+    from-parts read a u b y = rw (e, a, h, b, y, kinds-hold c F k, r) refl

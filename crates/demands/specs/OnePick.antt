@@ -10,7 +10,7 @@ use borrow.Author.Tests.{eqb-false}
 use lib.Dec.{T, eqb}
 use lib.ListN.{length, length-map}
 use Rattle.definitions.specs.Limits.{CaseLimits}
-use Rattle.definitions.specs.Lists.{if_then_else_, all, any, filter, below, upTo, isIn, sum}
+use Rattle.definitions.specs.Lists.{if_then_else_, all, filter, below, upTo, isIn, sum}
 use Rattle.definitions.specs.Refusal.{Result, refused, accepted, readyNumbers}
 use Rattle.definitions.specs.Sheet.Relations.{Tuple, isAmong}
 use Rattle.definitions.specs.Problem.Truth.{Case, holds, membersOf, arePicks}
@@ -26,22 +26,11 @@ use Rattle.laws.specs.Lists.{all-at, filter-same, length-below}
 use Rattle.laws.specs.Tuples.{among-mem, mem-among}
 use Rattle.laws.specs.Repeats.{Once, distinct-once, filter-le, pigeon}
 use Rattle.laws.specs.Results.{refused-accepted, refused-number}
+use Rattle.laws.specs.Valued.{all-same, any-same}
 use Rattle.meaning.specs.Picks.{picks-distinct}
 use Rattle.laws.specs.Asked
 use Rattle.laws.specs.Refusals.{In, Refuses, Early, told, asked-by, nothing-by, room-by}
 use Rattle.demands.specs.Buffers.{written-length, has-room}
-
--- tests that agree everywhere
-module _ {A : Type 0} (f g : A → Bool) (h : (x : A) → f x ≡ g x) where
-  all-same : (l : List A) → all f l ≡ all g l
-  unfolding all
-  all-same [] = refl
-  all-same (x ∷ l) = ap₂ _&&_ (h x) (all-same l)
-
-  any-same : (l : List A) → any f l ≡ any g l
-  unfolding any
-  any-same [] = refl
-  any-same (x ∷ l) = ap₂ _||_ (h x) (any-same l)
 
 -- ---- picks that agree on every relation but r
 abbrev Elsewhere : ℕ → List Tuple → List Tuple → Type 0

@@ -1,22 +1,25 @@
 -- Two sites that are read as one case, whatever labels each has: every call replies the same.
 use Prim.Native.Nat.{ℕ, zero}
 use mathlib.Core.Path.{_≡_, refl, sym, ap, _∙_}
+use mathlib.Core.Bool.{not}
 use mathlib.Core.List.{List}
 use lib.ListN.{length}
 use Rattle.definitions.specs.Limits.{CaseLimits}
-use Rattle.definitions.specs.Refusal.{Result, refused, accepted, _>>=_, given}
+use Rattle.definitions.specs.Refusal.{Result, refused, accepted, _>>=_, refuseIf, given}
 use Rattle.definitions.specs.Sheet.Relations.{Tuple}
 use Rattle.definitions.specs.Sheet.Sheets.{Label}
-use Rattle.definitions.specs.Problem.Truth.{Case}
+use Rattle.definitions.specs.Problem.Truth.{Case, ruleIsTrue}
 use Rattle.definitions.specs.Problem.Atoms.{Problem}
 use Rattle.definitions.specs.Problem.Actions.{actionAt}
 use Rattle.definitions.specs.Problem.Built.{builtSteps, bound}
-use Rattle.definitions.specs.Reply.Outcome.{CaseRead, readFiled, readCase, ground, readProblem, Ready, asked, nothing, roomFor, stateLength, sizesOf, sizes}
+use Rattle.definitions.specs.Reply.Outcome.{CaseRead, readFiled, readCase, ground, readProblem, Ready, asked, nothing, roomFor, stateLength, pickWords, sizesOf, sizes}
 use Rattle.definitions.specs.Reply.Outcome.{action, ThirdInput, asText, asNumbers, takeSteps, textPicks, picksRoom, takePicks, readyToRun, checkedFrom}
 use Rattle.definitions.specs.Reply.Outcome.{checkSteps, picksReadFrom, picksFromSteps, satisfying, Plan, plan, builtFrom, buildSteps}
 use Rattle.definitions.specs.Reply.Tally.{tally}
 use Rattle.definitions.specs.Reply.Judgement.{judge}
 use Rattle.definitions.specs.Reply.Tries.{Try, readyToTry, triedFrom, tryLists}
+use Rattle.definitions.specs.Reply.Finding.{cells, leastPicks, foundWords, foundFrom, find}
+use Rattle.definitions.specs.Reply.Monotone.{onlyWantsMore, monotone}
 use Rattle.definitions.specs.Reply.Allowance.{allowedFrom, allowances}
 
 -- an answer of `asked` with other labels
@@ -91,6 +94,14 @@ module _ (L : CaseLimits) (question site other : List ℕ) (r : CaseRead) (label
   pub same-allowances : (old : List ℕ) → allowances L question other old ≡ allowances L question site old
   unfolding allowances allowedFrom nothing
   same-allowances old = same-by nothing nothing _ _ refl (λ p. refl) (λ x. allowedFrom x old) (λ x. refl)
+
+  pub same-found : (old : List ℕ) → find L question other old ≡ find L question site old
+  unfolding find foundWords foundFrom nothing _>>=_
+  same-found old = same-by nothing nothing _ _ refl (λ p. refl) (λ x. foundFrom (x >>= λ y. leastPicks (y .case) (cells (y .problem)) >>= λ F. accepted (pickWords (y .problem) F)) old) (λ x. refl)
+
+  pub same-monotone : monotone L question other ≡ monotone L question site
+  unfolding monotone nothing _>>=_
+  same-monotone = same-by nothing nothing nothing nothing refl (λ p. refl) (λ x. x >>= λ y. refuseIf (not (onlyWantsMore (y .case .question))) 24 zero >>= λ _. refuseIf (not (ruleIsTrue (y .case) (cells (y .problem)))) 21 zero >>= λ _. accepted zero) (λ x. refl)
 
   -- what is handed over as picks, to each of the two: read and taken alike
   module _ (g g′ : ThirdInput) (t : textPicks (r .case) (r .labels) g ≡ textPicks (r .case) labels g′) (m : (p : Problem) → picksRoom p g ≡ picksRoom p g′) (k : (p : Problem) (F : List Tuple) → takePicks p g F ≡ takePicks p g′ F) where

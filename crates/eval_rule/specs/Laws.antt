@@ -11,11 +11,9 @@ use borrow.Author.Tests.{lt-ltb, le-ltb, ne-eqb, eqb-true, ltb-true, ltb-false}
 use lib.Dec.{eqb, ltb}
 use lib.ListN.{length, getD, set}
 use Rattle.definitions.specs.Lists.{if_then_else_, any, from, below}
-use Rattle.definitions.specs.Sheet.Relations.{Tuple, builtInHolds}
-use Rattle.definitions.specs.Problem.Truth.{Case}
+use Rattle.definitions.specs.Sheet.Relations.{builtInHolds}
 use Rattle.definitions.specs.Problem.Tree.{Tree, Part}
 use Rattle.definitions.specs.Problem.Actions.{Values, withValue}
-use Rattle.definitions.specs.Problem.Built.{treeHolds}
 use Rattle.laws.specs.Lists.{any-yes, any-no, any-end, any-start}
 use Rattle.bits.specs.Table.{bit}
 use Rattle.rows.specs.Values.{valueIn, Within, Most}
@@ -25,7 +23,7 @@ use Rattle.problem_table.specs.NeedLaws.{value-times, within-most}
 use Rattle.problem_table.specs.Of.{noPart}
 use Rattle.problem_table.specs.declared.PartLine.{PartLine}
 use Rattle.eval_rule.specs.Lines.{linesLength, nodeIn, partIn, lineIn, partPlace, literalAt, leafAt, agree, elementIn, valueOf, valuesOf, fixedIn, known, laterOf, decided, joined, bound, SoundLines}
-use Rattle.eval_rule.specs.Says.{nodeOf, noValues, PartSays, Says, Asked, truthBy, cellOf, underOf, partsIn, AllTurns, AllParts, IsCell, IsNode, Under, Still, Passed}
+use Rattle.eval_rule.specs.Says.{Truth, Leaf, nodeOf, noValues, PartSays, Says, Asked, truthBy, cellOf, underOf, partsIn, AllTurns, AllParts, IsCell, IsNode, Under, Still, Passed}
 use Rattle.eval_rule.specs.declared.NodeAt.{NodeAt}
 use Rattle.eval_rule.specs.declared.PartAt.{PartAt}
 
@@ -112,7 +110,7 @@ same-value e d = fun-ext (λ l. by-number l (eqb l d) refl)
     by-number l true h = ap e (eqb-true l d h)
     by-number l false h = refl
 
-with-other : (e θ : Values) (d y z : ℕ) → θ ≡ withValue e d y → withValue θ d z ≡ withValue e d z
+pub with-other : (e θ : Values) (d y z : ℕ) → θ ≡ withValue e d y → withValue θ d z ≡ withValue e d z
 unfolding withValue
 with-other e θ d y z are = ap (λ (u : Values). withValue u d z) are ∙ fun-ext (λ l. by-number l (eqb l d))
   where
@@ -177,136 +175,136 @@ fixed-at w i (suc (suc (suc zero))) h = let e : 448 + 7 * i + 3 + 3 ≡ 448 + 7 
 fixed-at w i (suc (suc (suc (suc l)))) h = absurd (omega arith)
 
 -- one part that decides an element is enough
-under-at : (c : Case) (F : List Tuple) (ps : List Part) (kind level many : ℕ) (joins sought : Bool) (θ : Values) (i : ℕ) → i < many → agree (cellOf c F ps θ i) joins ≡ true
-    → underOf c F ps kind level many joins sought θ ≡ joins
+pub under-at : (H : Truth) (ps : List Part) (kind level many : ℕ) (joins sought : Bool) (θ : Values) (i : ℕ) → i < many → agree (cellOf H ps θ i) joins ≡ true
+    → underOf H ps kind level many joins sought θ ≡ joins
 unfolding underOf joined decided
-under-at c F ps kind level many joins sought θ i l e = ap (decided joins) (any-below (λ j. agree (cellOf c F ps θ j) joins) many i l e)
+under-at H ps kind level many joins sought θ i l e = ap (decided joins) (any-below (λ j. agree (cellOf H ps θ j) joins) many i l e)
 
-module _ (n : ℕ) (w facts picks : List ℕ) (v : ℕ) where
-  pub still-is : (x : NodeAt) → x ≡ nodeIn w v → Still n w facts picks v (x .level) (x .first) (x .many)
+module _ (n : ℕ) (w : List ℕ) (leaf : Leaf) (v : ℕ) where
+  pub still-is : (x : NodeAt) → x ≡ nodeIn w v → Still n w leaf v (x .level) (x .first) (x .many)
   unfolding cellOf
-  still-is x line c F root h i l f e y z = rw line (h .says .node v (h .inside) .still i (rw line at l) (rw line at f) e y z)
+  still-is x line H root h i l f e y z = rw line (h .says .node v (h .inside) .still i (rw line at l) (rw line at f) e y z)
 
   module _ (level first many : ℕ) (joins : Bool) where
-    pub passed-none : (e : Values) → Passed n w facts picks v level first many joins e 0
-    passed-none e c F root h j l f y = absurd (omega arith)
+    pub passed-none : (e : Values) → Passed n w leaf v level first many joins e 0
+    passed-none e H root h j l f y = absurd (omega arith)
 
     -- what stands at the level does not matter
-    pub passed-over : (e θ : Values) (y seen : ℕ) → θ ≡ withValue e level y → Passed n w facts picks v level first many joins e seen → Passed n w facts picks v level first many joins θ seen
-    passed-over e θ y seen are p c F root h j l f z = ap (λ (u : Values). cellOf c F (partsIn n w facts picks v h) u j) (with-other e θ level y z are) ∙ p c F root h j l f z
+    pub passed-over : (e θ : Values) (y seen : ℕ) → θ ≡ withValue e level y → Passed n w leaf v level first many joins e seen → Passed n w leaf v level first many joins θ seen
+    passed-over e θ y seen are p H root h j l f z = ap (λ (u : Values). cellOf H (partsIn n w leaf v h) u j) (with-other e θ level y z are) ∙ p H root h j l f z
 
-    pub passed-back : (e θ : Values) (y seen : ℕ) → θ ≡ withValue e level y → Passed n w facts picks v level first many joins θ seen → Passed n w facts picks v level first many joins e seen
-    passed-back e θ y seen are p c F root h j l f z = ap (λ (u : Values). cellOf c F (partsIn n w facts picks v h) u j) (sym (with-other e θ level y z are)) ∙ p c F root h j l f z
+    pub passed-back : (e θ : Values) (y seen : ℕ) → θ ≡ withValue e level y → Passed n w leaf v level first many joins θ seen → Passed n w leaf v level first many joins e seen
+    passed-back e θ y seen are p H root h j l f z = ap (λ (u : Values). cellOf H (partsIn n w leaf v h) u j) (sym (with-other e θ level y z are)) ∙ p H root h j l f z
 
-    module _ (θ : Values) (seen : ℕ) (p : Passed n w facts picks v level first many joins θ seen) (i : ℕ) where
+    module _ (θ : Values) (seen : ℕ) (p : Passed n w leaf v level first many joins θ seen) (i : ℕ) where
       -- a part that is known decides nothing
-      pub cell-known : i < seen → fixedIn w (first + i) level ≡ true → (b : Bool) → b ≡ not joins → IsCell n w facts picks v θ i b
-      cell-known l f b q c F root h = q ∙ sym (ap (λ (z : Values). cellOf c F (partsIn n w facts picks v h) z i) (same-value θ level) ∙ p c F root h i l f (θ level))
+      pub cell-known : i < seen → fixedIn w (first + i) level ≡ true → (b : Bool) → b ≡ not joins → IsCell n w leaf v θ i b
+      cell-known l f b q H root h = q ∙ sym (ap (λ (z : Values). cellOf H (partsIn n w leaf v h) z i) (same-value θ level) ∙ p H root h i l f (θ level))
 
-      pub passed-next : Still n w facts picks v level first many → (b r : Bool) → i ≤ seen → i < many → IsCell n w facts picks v θ i b → r ≡ agree b joins → r ≡ false → (k : ℕ) → k ≡ laterOf seen (i + 1)
-          → Passed n w facts picks v level first many joins θ k
-      passed-next still b r q l k a f m g c F root h j o x z = from-this (decLt j seen)
+      pub passed-next : Still n w leaf v level first many → (b r : Bool) → i ≤ seen → i < many → IsCell n w leaf v θ i b → r ≡ agree b joins → r ≡ false → (k : ℕ) → k ≡ laterOf seen (i + 1)
+          → Passed n w leaf v level first many joins θ k
+      passed-next still b r q l k a f m g H root h j o x z = from-this (decLt j seen)
         where
-          at-i : j ≡ i → cellOf c F (partsIn n w facts picks v h) (withValue θ level z) j ≡ not joins
+          at-i : j ≡ i → cellOf H (partsIn n w leaf v h) (withValue θ level z) j ≡ not joins
           at-i d =
-              ap (cellOf c F (partsIn n w facts picks v h) (withValue θ level z)) d ∙ still c F root h i l (ap (λ (u : ℕ). fixedIn w (first + u) level) (sym d) ∙ x) θ z (θ level)
-              ∙ ap (λ (u : Values). cellOf c F (partsIn n w facts picks v h) u i) (sym (same-value θ level)) ∙ sym (k c F root h) ∙ agree-not b joins (sym a ∙ f)
+              ap (cellOf H (partsIn n w leaf v h) (withValue θ level z)) d ∙ still H root h i l (ap (λ (u : ℕ). fixedIn w (first + u) level) (sym d) ∙ x) θ z (θ level)
+              ∙ ap (λ (u : Values). cellOf H (partsIn n w leaf v h) u i) (sym (same-value θ level)) ∙ sym (k H root h) ∙ agree-not b joins (sym a ∙ f)
 
-          from-this : Dec (j < seen) → cellOf c F (partsIn n w facts picks v h) (withValue θ level z) j ≡ not joins
-          from-this (yes s) = p c F root h j s x z
+          from-this : Dec (j < seen) → cellOf H (partsIn n w leaf v h) (withValue θ level z) j ≡ not joins
+          from-this (yes s) = p H root h j s x z
           from-this (no s) = at-i (later-new i seen j q (rw g at o) s)
 
-  pub turns-start : (x : NodeAt) (e : Values) → x ≡ nodeIn w v → AllTurns n w facts picks v (x .kind) (x .level) (x .many) (eqb (x .join) 1) (eqb (x .kind) 1) e (elementIn w (x .range)) (x .count) 0
+  pub turns-start : (x : NodeAt) (e : Values) → x ≡ nodeIn w v → AllTurns n w leaf v (x .kind) (x .level) (x .many) (eqb (x .join) 1) (eqb (x .kind) 1) e (elementIn w (x .range)) (x .count) 0
   unfolding truthBy bound underOf cellOf
-  turns-start x e line c F root h =
+  turns-start x e line H root h =
       let s = h .says .node v (h .inside) in
-      s .truth e ∙ ap (λ (y : NodeAt). truthBy c F root n w facts picks y e (s .parts)) (sym line)
+      s .truth e ∙ ap (λ (y : NodeAt). truthBy H root n w leaf y e (s .parts)) (sym line)
       ∙ ap (decided (eqb (x .kind) 1)) (any-turns _ w (x .range) (x .count))
 
   module _ (kind level many : ℕ) (joins sought : Bool) where
-    pub parts-start : (θ : Values) → AllParts n w facts picks v kind level many joins sought θ 0
+    pub parts-start : (θ : Values) → AllParts n w leaf v kind level many joins sought θ 0
     unfolding underOf joined
-    parts-start θ c F root h = ap (decided joins) (any-start _ many)
+    parts-start θ H root h = ap (decided joins) (any-start _ many)
 
-    module _ (θ : Values) (i : ℕ) (p : AllParts n w facts picks v kind level many joins sought θ i) where
-      pub parts-next : (b r : Bool) → i < many → IsCell n w facts picks v θ i b → r ≡ agree b joins → r ≡ false → AllParts n w facts picks v kind level many joins sought θ (i + 1)
-      parts-next b r l k a f c F root h =
-          p c F root h ∙ ap (decided joins) (any-no (λ j. agree (cellOf c F (partsIn n w facts picks v h) θ j) joins) many i l (ap (λ (z : Bool). agree z joins) (sym (k c F root h)) ∙ sym a ∙ f))
+    module _ (θ : Values) (i : ℕ) (p : AllParts n w leaf v kind level many joins sought θ i) where
+      pub parts-next : (b r : Bool) → i < many → IsCell n w leaf v θ i b → r ≡ agree b joins → r ≡ false → AllParts n w leaf v kind level many joins sought θ (i + 1)
+      parts-next b r l k a f H root h =
+          p H root h ∙ ap (decided joins) (any-no (λ j. agree (cellOf H (partsIn n w leaf v h) θ j) joins) many i l (ap (λ (z : Bool). agree z joins) (sym (k H root h)) ∙ sym a ∙ f))
 
       -- what an element gives: what its parts are joined by where one decides it, else the other
-      under-hit : (b r : Bool) → i < many → IsCell n w facts picks v θ i b → r ≡ agree b joins → r ≡ true → Under n w facts picks v kind level many joins sought θ joins
+      under-hit : (b r : Bool) → i < many → IsCell n w leaf v θ i b → r ≡ agree b joins → r ≡ true → Under n w leaf v kind level many joins sought θ joins
       unfolding decided
-      under-hit b r l k a f c F root h =
-          p c F root h ∙ ap (decided joins) (any-yes (λ j. agree (cellOf c F (partsIn n w facts picks v h) θ j) joins) many i l (ap (λ (z : Bool). agree z joins) (sym (k c F root h)) ∙ sym a ∙ f))
+      under-hit b r l k a f H root h =
+          p H root h ∙ ap (decided joins) (any-yes (λ j. agree (cellOf H (partsIn n w leaf v h) θ j) joins) many i l (ap (λ (z : Bool). agree z joins) (sym (k H root h)) ∙ sym a ∙ f))
 
-      under-none : many ≤ i → Under n w facts picks v kind level many joins sought θ (not joins)
+      under-none : many ≤ i → Under n w leaf v kind level many joins sought θ (not joins)
       unfolding decided
-      under-none l c F root h = p c F root h ∙ ap (decided joins) (any-end (λ j. agree (cellOf c F (partsIn n w facts picks v h) θ j) joins) many i l)
+      under-none l H root h = p H root h ∙ ap (decided joins) (any-end (λ j. agree (cellOf H (partsIn n w leaf v h) θ j) joins) many i l)
 
-    module _ (e : Values) (element : ℕ → ℕ) (turns turn : ℕ) (t : AllTurns n w facts picks v kind level many joins sought e element turns turn) where
-      pub ends : (answer : Bool) → turns ≤ turn → answer ≡ not sought → IsNode n w facts picks v e answer
+    module _ (e : Values) (element : ℕ → ℕ) (turns turn : ℕ) (t : AllTurns n w leaf v kind level many joins sought e element turns turn) where
+      pub ends : (answer : Bool) → turns ≤ turn → answer ≡ not sought → IsNode n w leaf v e answer
       unfolding decided
-      ends answer l a c F root h = a ∙ sym (t c F root h ∙ ap (decided sought) (any-end (λ y. agree (underOf c F (partsIn n w facts picks v h) kind level many joins sought (valuesOf kind level e (element y))) sought) turns turn l))
+      ends answer l a H root h = a ∙ sym (t H root h ∙ ap (decided sought) (any-end (λ y. agree (underOf H (partsIn n w leaf v h) kind level many joins sought (valuesOf kind level e (element y))) sought) turns turn l))
 
       -- a fixed part that decides one element decides all
-      pub fixed-ends : (first : ℕ) → Still n w facts picks v level first many → (θ : Values) (y : ℕ) → θ ≡ withValue e level y → (i : ℕ) → i < many → fixedIn w (first + i) level ≡ true
-          → (b r : Bool) → IsCell n w facts picks v θ i b → r ≡ agree b joins → r ≡ true → (decisive : Bool) → decisive ≡ agree joins sought → decisive ≡ false → (answer : Bool) → answer ≡ not sought → IsNode n w facts picks v e answer
+      pub fixed-ends : (first : ℕ) → Still n w leaf v level first many → (θ : Values) (y : ℕ) → θ ≡ withValue e level y → (i : ℕ) → i < many → fixedIn w (first + i) level ≡ true
+          → (b r : Bool) → IsCell n w leaf v θ i b → r ≡ agree b joins → r ≡ true → (decisive : Bool) → decisive ≡ agree joins sought → decisive ≡ false → (answer : Bool) → answer ≡ not sought → IsNode n w leaf v e answer
       unfolding decided
-      fixed-ends first still θ y are i l x b r k a f decisive d g answer q c F root h =
-          q ∙ sym (t c F root h ∙ ap (decided sought) (any-never _ (from turn (turns - turn)) (λ u.
-          ap (λ (z : Bool). agree z sought) (under-at c F (partsIn n w facts picks v h) kind level many joins sought (valuesOf kind level e (element u)) i l (hit u)) ∙ sym d ∙ g)))
+      fixed-ends first still θ y are i l x b r k a f decisive d g answer q H root h =
+          q ∙ sym (t H root h ∙ ap (decided sought) (any-never _ (from turn (turns - turn)) (λ u.
+          ap (λ (z : Bool). agree z sought) (under-at H (partsIn n w leaf v h) kind level many joins sought (valuesOf kind level e (element u)) i l (hit u)) ∙ sym d ∙ g)))
         where
-          hit : (u : ℕ) → agree (cellOf c F (partsIn n w facts picks v h) (valuesOf kind level e (element u)) i) joins ≡ true
+          hit : (u : ℕ) → agree (cellOf H (partsIn n w leaf v h) (valuesOf kind level e (element u)) i) joins ≡ true
           hit u =
               ap (λ (z : Bool). agree z joins)
-              (still c F root h i l x e (valueOf kind (element u) (e level)) y ∙ ap (λ (z : Values). cellOf c F (partsIn n w facts picks v h) z i) (sym are) ∙ sym (k c F root h))
+              (still H root h i l x e (valueOf kind (element u) (e level)) y ∙ ap (λ (z : Values). cellOf H (partsIn n w leaf v h) z i) (sym are) ∙ sym (k H root h))
               ∙ sym a ∙ f
 
       module _ (l : turn < turns) (θ : Values) (are : θ ≡ valuesOf kind level e (element turn)) where
-        gives : (b : Bool) → Under n w facts picks v kind level many joins sought θ b → (c : Case) (F : List Tuple) (root : Tree) (h : Asked c F root n w facts picks v)
-            → agree (underOf c F (partsIn n w facts picks v h) kind level many joins sought (valuesOf kind level e (element turn))) sought ≡ agree b sought
-        gives b k c F root h = ap (λ (z : Bool). agree z sought) (ap (underOf c F (partsIn n w facts picks v h) kind level many joins sought) (sym are) ∙ k c F root h)
+        gives : (b : Bool) → Under n w leaf v kind level many joins sought θ b → (H : Truth) (root : Tree) (h : Asked H root n w leaf v)
+            → agree (underOf H (partsIn n w leaf v h) kind level many joins sought (valuesOf kind level e (element turn))) sought ≡ agree b sought
+        gives b k H root h = ap (λ (z : Bool). agree z sought) (ap (underOf H (partsIn n w leaf v h) kind level many joins sought) (sym are) ∙ k H root h)
 
         -- the next element, where this one does not decide the node; and where it does
-        turns-next : (b : Bool) → Under n w facts picks v kind level many joins sought θ b → agree b sought ≡ false → AllTurns n w facts picks v kind level many joins sought e element turns (turn + 1)
-        turns-next b k a c F root h =
-            t c F root h ∙ ap (decided sought) (any-no (λ y. agree (underOf c F (partsIn n w facts picks v h) kind level many joins sought (valuesOf kind level e (element y))) sought) turns turn l (gives b k c F root h ∙ a))
+        turns-next : (b : Bool) → Under n w leaf v kind level many joins sought θ b → agree b sought ≡ false → AllTurns n w leaf v kind level many joins sought e element turns (turn + 1)
+        turns-next b k a H root h =
+            t H root h ∙ ap (decided sought) (any-no (λ y. agree (underOf H (partsIn n w leaf v h) kind level many joins sought (valuesOf kind level e (element y))) sought) turns turn l (gives b k H root h ∙ a))
 
-        hits : (b : Bool) → Under n w facts picks v kind level many joins sought θ b → agree b sought ≡ true → IsNode n w facts picks v e sought
+        hits : (b : Bool) → Under n w leaf v kind level many joins sought θ b → agree b sought ≡ true → IsNode n w leaf v e sought
         unfolding decided
-        hits b k a c F root h =
-            sym (t c F root h ∙ ap (decided sought) (any-yes (λ y. agree (underOf c F (partsIn n w facts picks v h) kind level many joins sought (valuesOf kind level e (element y))) sought) turns turn l (gives b k c F root h ∙ a)))
+        hits b k a H root h =
+            sym (t H root h ∙ ap (decided sought) (any-yes (λ y. agree (underOf H (partsIn n w leaf v h) kind level many joins sought (valuesOf kind level e (element y))) sought) turns turn l (gives b k H root h ∙ a)))
 
         -- ---- the four ways on: a part decides the element, or none does; and that decides the node, or does not
-        module _ (i : ℕ) (p : AllParts n w facts picks v kind level many joins sought θ i) (decisive : Bool) (d : decisive ≡ agree joins sought) where
-          pub part-ends : (b r : Bool) → i < many → IsCell n w facts picks v θ i b → r ≡ agree b joins → r ≡ true → decisive ≡ true → IsNode n w facts picks v e sought
+        module _ (i : ℕ) (p : AllParts n w leaf v kind level many joins sought θ i) (decisive : Bool) (d : decisive ≡ agree joins sought) where
+          pub part-ends : (b r : Bool) → i < many → IsCell n w leaf v θ i b → r ≡ agree b joins → r ≡ true → decisive ≡ true → IsNode n w leaf v e sought
           part-ends b r m k a f y = hits joins (under-hit θ i p b r m k a f) (sym d ∙ y)
 
-          pub part-goes : (b r : Bool) → i < many → IsCell n w facts picks v θ i b → r ≡ agree b joins → r ≡ true → decisive ≡ false → AllTurns n w facts picks v kind level many joins sought e element turns (turn + 1)
+          pub part-goes : (b r : Bool) → i < many → IsCell n w leaf v θ i b → r ≡ agree b joins → r ≡ true → decisive ≡ false → AllTurns n w leaf v kind level many joins sought e element turns (turn + 1)
           part-goes b r m k a f y = turns-next joins (under-hit θ i p b r m k a f) (sym d ∙ y)
 
-          pub none-goes : many ≤ i → decisive ≡ true → AllTurns n w facts picks v kind level many joins sought e element turns (turn + 1)
+          pub none-goes : many ≤ i → decisive ≡ true → AllTurns n w leaf v kind level many joins sought e element turns (turn + 1)
           none-goes m y = turns-next (not joins) (under-none θ i p m) (agree-on joins sought (sym d ∙ y))
 
-          pub none-ends : many ≤ i → decisive ≡ false → IsNode n w facts picks v e sought
+          pub none-ends : many ≤ i → decisive ≡ false → IsNode n w leaf v e sought
           none-ends m y = hits (not joins) (under-none θ i p m) (agree-off joins sought (sym d ∙ y))
 
   -- ---- a part
   module _ (x : NodeAt) (line : x ≡ nodeIn w v) (i : ℕ) (inside : i < x .many) (q : PartAt) (part : q ≡ partIn w (x .first + i)) (values : List ℕ) where
-    says-part : (c : Case) (F : List Tuple) (root : Tree) (h : Asked c F root n w facts picks v)
-        → PartSays c F root n w facts picks q (lineIn w (x .first + i)) (getD (partsIn n w facts picks v h) i noPart .node) (getD (partsIn n w facts picks v h) i noPart .tree)
-    says-part c F root h = rw (part, line) (h .says .node v (h .inside) .part i (rw line at inside))
+    says-part : (H : Truth) (root : Tree) (h : Asked H root n w leaf v)
+        → PartSays H root n w leaf q (lineIn w (x .first + i)) (getD (partsIn n w leaf v h) i noPart .node) (getD (partsIn n w leaf v h) i noPart .tree)
+    says-part H root h = rw (part, line) (h .says .node v (h .inside) .part i (rw line at inside))
 
-    pub cell-node : (b : Bool) → q .tag ≡ 0 → ((c : Case) (F : List Tuple) (root : Tree) → Asked c F root n w facts picks (q .which) → b ≡ treeHolds c F (valueIn values) (nodeOf root (q .which)))
-        → IsCell n w facts picks v (valueIn values) i b
+    pub cell-node : (b : Bool) → q .tag ≡ 0 → ((H : Truth) (root : Tree) → Asked H root n w leaf (q .which) → b ≡ H (valueIn values) (nodeOf root (q .which)))
+        → IsCell n w leaf v (valueIn values) i b
     unfolding cellOf
-    cell-node b t k c F root h =
-        let s = says-part c F root h .node t in
-        k c F root (record { says = h .says; inside = rw (s .0) (s .1) }) ∙ ap (treeHolds c F (valueIn values)) (ap (nodeOf root) (s .0) ∙ s .2)
+    cell-node b t k H root h =
+        let s = says-part H root h .node t in
+        k H root (record { says = h .says; inside = rw (s .0) (s .1) }) ∙ ap (H (valueIn values)) (ap (nodeOf root) (s .0) ∙ s .2)
 
-    pub cell-leaf : (b : Bool) → (q .tag ≡ 0 → ⊥) → Within n values → b ≡ leafAt facts picks n (valueIn values) q (lineIn w (x .first + i)) → IsCell n w facts picks v (valueIn values) i b
+    pub cell-leaf : (b : Bool) → (q .tag ≡ 0 → ⊥) → Within n values → b ≡ leaf (valueIn values) q (lineIn w (x .first + i)) → IsCell n w leaf v (valueIn values) i b
     unfolding cellOf valueIn
-    cell-leaf b t m k c F root h = k ∙ says-part c F root h .literal t (valueIn values) m
+    cell-leaf b t m k H root h = k ∙ says-part H root h .literal t (valueIn values) m
 
 -- ---- functions of one line
 module _ (facts picks : List ℕ) (n which k : ℕ) where
@@ -418,18 +416,18 @@ unfolding leafAt
 leaf-is facts picks n e q line other k b r l f g h = h ∙ ap (λ (z : Bool). agree z (eqb (q .tag) 1)) (g ∙ ap (literalAt facts picks n (q .which)) (f ∙ ap (partNumber e) l))
 
 -- ---- the root
-module _ (c : Case) (F : List Tuple) (root : Tree) (n : ℕ) (w facts picks : List ℕ) (says : Says c F root n w facts picks) (q : PartAt) (part : q ≡ partIn w 64) (env : List ℕ) (are : valueIn env ≡ noValues) where
-  top : PartSays c F root n w facts picks q (lineIn w 64) 0 root
+module _ (H : Truth) (root : Tree) (n : ℕ) (w : List ℕ) (leaf : Leaf) (says : Says H root n w leaf) (q : PartAt) (part : q ≡ partIn w 64) (env : List ℕ) (are : valueIn env ≡ noValues) where
+  top : PartSays H root n w leaf q (lineIn w 64) 0 root
   top = rw part (says .top)
 
-  pub root-node : (b : Bool) → q .tag ≡ 0 → (Asked c F root n w facts picks (q .which) → b ≡ treeHolds c F (valueIn env) (nodeOf root (q .which))) → b ≡ treeHolds c F noValues root
+  pub root-node : (b : Bool) → q .tag ≡ 0 → (Asked H root n w leaf (q .which) → b ≡ H (valueIn env) (nodeOf root (q .which))) → b ≡ H noValues root
   root-node b t k =
       let s = top .node t in
-      k (record { says = says; inside = rw (s .0) (s .1) }) ∙ ap₂ (treeHolds c F) are (ap (nodeOf root) (s .0) ∙ s .2)
+      k (record { says = says; inside = rw (s .0) (s .1) }) ∙ ap₂ (H) are (ap (nodeOf root) (s .0) ∙ s .2)
 
-  pub root-leaf : (b : Bool) → (q .tag ≡ 0 → ⊥) → Within n env → b ≡ leafAt facts picks n (valueIn env) q (lineIn w 64) → b ≡ treeHolds c F noValues root
+  pub root-leaf : (b : Bool) → (q .tag ≡ 0 → ⊥) → Within n env → b ≡ leaf (valueIn env) q (lineIn w 64) → b ≡ H noValues root
   unfolding valueIn
-  root-leaf b t m k = k ∙ top .literal t (valueIn env) m ∙ ap (λ (z : Values). treeHolds c F z root) are
+  root-leaf b t m k = k ∙ top .literal t (valueIn env) m ∙ ap (λ (z : Values). H z root) are
 
 pub root-small : (n : ℕ) (w : List ℕ) → SoundLines n w → (q : PartAt) → q ≡ partIn w 64 → q .tag ≡ 0 → q .which < 64
 root-small n w sound q e t = rw e (sound .root (rw e at t))

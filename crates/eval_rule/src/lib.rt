@@ -1,16 +1,13 @@
 // Whether the rule is true of picks: each node is searched element by element and part by part, and left at the first witness or the
 // first failure. Nothing is written; facts and picks are lent as bits.
 ghost use mathlib.Core.Path.{_≡_};
-ghost use mathlib.Core.List.{List};
 ghost use Prim.Native.Nat.{_+_, _*_, _^_, _<_, _≤_};
 ghost use lib.ListN.{length, getD};
-ghost use Rattle.definitions.specs.Sheet.Relations.{Tuple, builtInHolds};
-ghost use Rattle.definitions.specs.Problem.Truth.{Case};
+ghost use Rattle.definitions.specs.Sheet.Relations.{builtInHolds};
 ghost use Rattle.definitions.specs.Problem.Tree.{Tree};
-ghost use Rattle.definitions.specs.Problem.Built.{treeHolds};
 ghost use Rattle.rows.specs.Values.{valueIn, Within};
 ghost use Rattle.eval_rule.specs.Lines.{linesLength, nodeIn, partIn, lineIn, literalAt, leafAt, valueOf, agree, fixedIn, known, laterOf, SoundLines};
-ghost use Rattle.eval_rule.specs.Says.{Says, Asked, nodeOf, noValues};
+ghost use Rattle.eval_rule.specs.Says.{Truth, Says, Asked, nodeOf, noValues};
 
 // The numbers of a node's line and of a part's.
 pub const NODE_LINE: usize = 7;
@@ -50,7 +47,7 @@ pub struct PartAt {
 }
 
 // The line of a node.
-fn node_at(lines: &[usize], v: usize) -> NodeAt
+pub fn node_at(lines: &[usize], v: usize) -> NodeAt
     requires { ⌜ (length (now lines) ≡ linesLength) × (v < 64) ⌝ }
     ensures { λ x. ⌜ x ≡ nodeIn (now (lines .entry)) v ⌝ }
 {
@@ -67,7 +64,7 @@ fn node_at(lines: &[usize], v: usize) -> NodeAt
 }
 
 // What a part is.
-fn part_at(lines: &[usize], i: usize) -> PartAt
+pub fn part_at(lines: &[usize], i: usize) -> PartAt
     requires { ⌜ (length (now lines) ≡ linesLength) × (i < 65) ⌝ }
     ensures { λ x. ⌜ x ≡ partIn (now (lines .entry)) i ⌝ }
 {
@@ -79,7 +76,7 @@ fn part_at(lines: &[usize], i: usize) -> PartAt
 }
 
 // Where a literal's tuples start, and by how much a tuple's number grows with the value of each level.
-fn line_at(lines: &[usize], i: usize) -> problem_table::PartLine
+pub fn line_at(lines: &[usize], i: usize) -> problem_table::PartLine
     requires { ⌜ (length (now lines) ≡ linesLength) × (i < 65) ⌝ }
     ensures { λ x. ⌜ x ≡ lineIn (now (lines .entry)) i ⌝ }
 {
@@ -139,7 +136,7 @@ fn agrees(a: bool, b: bool) -> bool
 }
 
 // Whether a literal holds at the values of levels.
-fn leaf_holds(
+pub fn leaf_holds(
     lines: &[usize],
     facts: &[u64],
     picks: &[u64],
@@ -158,7 +155,7 @@ fn leaf_holds(
 }
 
 // What stands at a node's level in a turn: under a quantifier the element at a place, else what stood there.
-fn value_at(lines: &[usize], kind: usize, place: usize, old: usize) -> usize
+pub fn value_at(lines: &[usize], kind: usize, place: usize, old: usize) -> usize
     requires { ⌜ place < length (now lines) ⌝ }
     ensures { λ r. ⌜ r ≡ valueOf kind (getD (now (lines .entry)) place 0) old ⌝ }
 {
@@ -169,7 +166,7 @@ fn value_at(lines: &[usize], kind: usize, place: usize, old: usize) -> usize
 }
 
 // Whether a part is the same at every value of a level.
-fn is_fixed(lines: &[usize], i: usize, level: usize) -> bool
+pub fn is_fixed(lines: &[usize], i: usize, level: usize) -> bool
     requires { ⌜ (length (now lines) ≡ linesLength) × (i < 65) × (level < 4) ⌝ }
     ensures { λ r. ⌜ r ≡ fixedIn (now (lines .entry)) i level ⌝ }
 {
@@ -209,8 +206,8 @@ pub fn node_holds(
     env: [usize; 4],
 ) -> bool
     requires { ⌜ SoundLines n (now lines) × (v < 64) × Within n env ⌝ }
-    ensures { λ r. ⌜ ((c : Case) (F : List Tuple) (root : Tree) → Asked c F root n (now (lines .entry)) (now (facts .entry)) (now (picks .entry)) v
-        → r ≡ treeHolds c F (valueIn env) (nodeOf root v)) ⌝ }
+    ensures { λ r. ⌜ ((H : Truth) (root : Tree) → Asked H root n (now (lines .entry)) (leafAt (now (facts .entry)) (now (picks .entry)) n) v
+        → r ≡ H (valueIn env) (nodeOf root v)) ⌝ }
 {
     let x = node_at(lines, v);
     let kind = x.kind;
@@ -267,8 +264,8 @@ pub fn node_holds(
 // Whether the rule is true.
 pub fn rule_holds(lines: &[usize], facts: &[u64], picks: &[u64], n: usize) -> bool
     requires { ⌜ SoundLines n (now lines) ⌝ }
-    ensures { λ r. ⌜ ((c : Case) (F : List Tuple) (root : Tree) → Says c F root n (now (lines .entry)) (now (facts .entry)) (now (picks .entry))
-        → r ≡ treeHolds c F noValues root) ⌝ }
+    ensures { λ r. ⌜ ((H : Truth) (root : Tree) → Says H root n (now (lines .entry)) (leafAt (now (facts .entry)) (now (picks .entry)) n)
+        → r ≡ H noValues root) ⌝ }
 {
     let env = [0usize; 4];
     let q = part_at(lines, 64);

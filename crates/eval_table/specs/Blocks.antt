@@ -9,12 +9,11 @@ use lib.Dec.{T, eqb}
 use lib.ListN.{length, getD}
 use borrow.Author.Tests.{eqb-true}
 use Rattle.definitions.specs.Lists.{if_then_else_, all, any, from, below}
-use Rattle.definitions.specs.Sheet.Relations.{Tuple}
 use Rattle.definitions.specs.Problem.Truth.{Case, membersOf}
 use Rattle.definitions.specs.Problem.Tree.{Tree, Trees, leaf, forallNode, existsNode, andNode, orNode, end, _then_, Part, partsFrom, nodes, occurs}
 use Rattle.definitions.specs.Problem.Actions.{Values, withValue}
-use Rattle.definitions.specs.Problem.Built.{treeHolds, treesHold, someHolds}
-use Rattle.meaning.specs.Parts.{holds-same}
+use Rattle.laws.specs.Valued.{Literals, treeBy, treesBy, someBy}
+use Rattle.meaning.specs.Parts.{by-same}
 use Rattle.problem_table.specs.Of.{noPart}
 use Rattle.eval_rule.specs.Lines.{agree, valueOf, valuesOf, decided, joined, bound}
 use Rattle.eval_rule.specs.Laws.{same-value}
@@ -129,34 +128,34 @@ any-alike g h a [] l = absurd (omega arith)
 any-alike g h a (x ∷ []) l = or-no (g x) ∙ h x a
 any-alike g h a (x ∷ y ∷ xs) l = ap₂ _||_ (h x a) (any-alike g h a (y ∷ xs) (omega arith)) ∙ or-same (g a)
 
-module _ (c : Case) (F : List Tuple) where
+module _ (c : Case) (lit : Literals) where
   abbrev cells : Values → List Part → ℕ → Bool
-  cells e ps i = treeHolds c F e (getD ps i noPart .tree)
+  cells e ps i = treeBy c lit e (getD ps i noPart .tree)
 
-  trees-not : (e : Values) (ts : Trees) (k : ℕ) → treesHold c F e ts ≡ not (any (λ (q : Part). agree (treeHolds c F e (q .tree)) false) (partsFrom k ts))
-  unfolding treesHold partsFrom any
+  trees-not : (e : Values) (ts : Trees) (k : ℕ) → treesBy c lit e ts ≡ not (any (λ (q : Part). agree (treeBy c lit e (q .tree)) false) (partsFrom k ts))
+  unfolding treesBy partsFrom any
   trees-not e end k = refl
-  trees-not e (t then ts) k = and-step (treeHolds c F e t) (treesHold c F e ts) _ (trees-not e ts (k + length (nodes t)))
+  trees-not e (t then ts) k = and-step (treeBy c lit e t) (treesBy c lit e ts) _ (trees-not e ts (k + length (nodes t)))
 
-  some-tree : (e : Values) (ts : Trees) (k : ℕ) → someHolds c F e ts ≡ any (λ (q : Part). agree (treeHolds c F e (q .tree)) true) (partsFrom k ts)
-  unfolding someHolds partsFrom any
+  some-tree : (e : Values) (ts : Trees) (k : ℕ) → someBy c lit e ts ≡ any (λ (q : Part). agree (treeBy c lit e (q .tree)) true) (partsFrom k ts)
+  unfolding someBy partsFrom any
   some-tree e end k = refl
-  some-tree e (t then ts) k = or-step (treeHolds c F e t) (someHolds c F e ts) _ (some-tree e ts (k + length (nodes t)))
+  some-tree e (t then ts) k = or-step (treeBy c lit e t) (someBy c lit e ts) _ (some-tree e ts (k + length (nodes t)))
 
-  all-joined : (e : Values) (ts : Trees) (k : ℕ) → treesHold c F e ts ≡ joined false (cells e (partsFrom k ts)) (length (partsFrom k ts))
+  all-joined : (e : Values) (ts : Trees) (k : ℕ) → treesBy c lit e ts ≡ joined false (cells e (partsFrom k ts)) (length (partsFrom k ts))
   unfolding joined
-  all-joined e ts k = trees-not e ts k ∙ ap not (sym (any-index (λ (q : Part). agree (treeHolds c F e (q .tree)) false) (partsFrom k ts) noPart)) ∙ not-decided _
+  all-joined e ts k = trees-not e ts k ∙ ap not (sym (any-index (λ (q : Part). agree (treeBy c lit e (q .tree)) false) (partsFrom k ts) noPart)) ∙ not-decided _
 
-  some-joined : (e : Values) (ts : Trees) (k : ℕ) → someHolds c F e ts ≡ joined true (cells e (partsFrom k ts)) (length (partsFrom k ts))
+  some-joined : (e : Values) (ts : Trees) (k : ℕ) → someBy c lit e ts ≡ joined true (cells e (partsFrom k ts)) (length (partsFrom k ts))
   unfolding joined
-  some-joined e ts k = some-tree e ts k ∙ sym (any-index (λ (q : Part). agree (treeHolds c F e (q .tree)) true) (partsFrom k ts) noPart) ∙ is-decided _
+  some-joined e ts k = some-tree e ts k ∙ sym (any-index (λ (q : Part). agree (treeBy c lit e (q .tree)) true) (partsFrom k ts) noPart) ∙ is-decided _
 
   -- a tree by the parts joined in it
-  under-truth : (k : ℕ) (e : Values) (t : Tree) → treeHolds c F e t ≡ joined (eqb (joinOf t) 1) (cells e (under k t)) (length (under k t))
-  unfolding under joinOf joined any from below treeHolds
-  under-truth k e (leaf q r ls) = one-or (treeHolds c F e (leaf q r ls))
-  under-truth k e (forallNode d σ t) = one-or (treeHolds c F e (forallNode d σ t))
-  under-truth k e (existsNode d σ t) = one-or (treeHolds c F e (existsNode d σ t))
+  under-truth : (k : ℕ) (e : Values) (t : Tree) → treeBy c lit e t ≡ joined (eqb (joinOf t) 1) (cells e (under k t)) (length (under k t))
+  unfolding under joinOf joined any from below treeBy
+  under-truth k e (leaf q r ls) = one-or (treeBy c lit e (leaf q r ls))
+  under-truth k e (forallNode d σ t) = one-or (treeBy c lit e (forallNode d σ t))
+  under-truth k e (existsNode d σ t) = one-or (treeBy c lit e (existsNode d σ t))
   under-truth k e (andNode ts) = all-joined e ts (suc k)
   under-truth k e (orNode ts) = some-joined e ts (suc k)
 
@@ -189,29 +188,29 @@ module _ (c : Case) (F : List Tuple) where
   any-one b (x ∷ y ∷ xs) h = absurd (omega arith)
 
   -- what does not depend on a level is the same at each of its values
-  pub alike : (t : Tree) (e : Values) (d x y : ℕ) → occurs d t ≡ false → treeHolds c F (withValue e d x) t ≡ treeHolds c F (withValue e d y) t
+  pub alike : (t : Tree) (e : Values) (d x y : ℕ) → occurs d t ≡ false → treeBy c lit (withValue e d x) t ≡ treeBy c lit (withValue e d y) t
   unfolding withValue
-  alike t e d x y h = holds-same c F t (withValue e d x) (withValue e d y) (λ l q. by-number l q (eqb l d) refl)
+  alike t e d x y h = by-same c lit t (withValue e d x) (withValue e d y) (λ l q. by-number l q (eqb l d) refl)
     where
       by-number : (l : ℕ) → T (occurs l t) → (b : Bool) → eqb l d ≡ b → (if b then x else e l) ≡ (if b then y else e l)
       by-number l q true k = absurd (subst T (ap (λ (z : ℕ). occurs z t) (eqb-true l d k) ∙ h) q)
       by-number l q false k = refl
 
   served : (sought : Bool) (e : Values) (d σ : ℕ) (t : Tree) (xs : List ℕ) → Serves d σ t xs
-      → any (λ x. agree (treeHolds c F (withValue e d x) t) sought) (membersOf c σ) ≡ any (λ x. agree (treeHolds c F (withValue e d x) t) sought) xs
+      → any (λ x. agree (treeBy c lit (withValue e d x) t) sought) (membersOf c σ) ≡ any (λ x. agree (treeBy c lit (withValue e d x) t) sought) xs
   served sought e d σ t xs (inl h) = ap (any _) (sym h)
   served sought e d σ t xs (inr h) =
-      let a : (x y : ℕ) → agree (treeHolds c F (withValue e d x) t) sought ≡ agree (treeHolds c F (withValue e d y) t) sought = λ x y. ap (λ (b : Bool). agree b sought) (alike t e d x y (h .0)) in
+      let a : (x y : ℕ) → agree (treeBy c lit (withValue e d x) t) sought ≡ agree (treeBy c lit (withValue e d y) t) sought = λ x y. ap (λ (b : Bool). agree b sought) (alike t e d x y (h .0)) in
       any-alike _ a 0 (membersOf c σ) (h .2) ∙ sym (any-alike _ a 0 xs (h .1))
 
-  pub block-truth : (v : ℕ) (e : Values) (u : Tree) (xs : List ℕ) → GoesOver u xs → treeHolds c F e u ≡ blockTruth v e u xs
-  unfolding blockKind blockLevel blockJoin blockParts bound valueOf treeHolds GoesOver
+  pub block-truth : (v : ℕ) (e : Values) (u : Tree) (xs : List ℕ) → GoesOver u xs → treeBy c lit e u ≡ blockTruth v e u xs
+  unfolding blockKind blockLevel blockJoin blockParts bound valueOf treeBy GoesOver
   block-truth v e (leaf q r ls) xs h = absurd h
   block-truth v e (forallNode d σ t) xs h =
-      every-is (λ x. treeHolds c F (withValue e d x) t) (membersOf c σ) ∙ not-decided _ ∙ ap (decided false) (served false e d σ t xs h)
+      every-is (λ x. treeBy c lit (withValue e d x) t) (membersOf c σ) ∙ not-decided _ ∙ ap (decided false) (served false e d σ t xs h)
       ∙ ap (λ (f : ℕ → Bool). decided false (any (λ x. agree (f x) false) xs)) (fun-ext (λ x. under-truth (suc v) (withValue e d x) t))
   block-truth v e (existsNode d σ t) xs h =
-      some-is (λ x. treeHolds c F (withValue e d x) t) (membersOf c σ) ∙ is-decided _ ∙ ap (decided true) (served true e d σ t xs h)
+      some-is (λ x. treeBy c lit (withValue e d x) t) (membersOf c σ) ∙ is-decided _ ∙ ap (decided true) (served true e d σ t xs h)
       ∙ ap (λ (f : ℕ → Bool). decided true (any (λ x. agree (f x) true) xs)) (fun-ext (λ x. under-truth (suc v) (withValue e d x) t))
   block-truth v e (andNode ts) xs h =
       all-joined e ts (suc v) ∙ ap (λ (θ : Values). joined false (cells θ (partsFrom (suc v) ts)) (length (partsFrom (suc v) ts))) (same-value e 0) ∙ one-turn false _

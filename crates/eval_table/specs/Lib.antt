@@ -3,9 +3,11 @@
 --   Numbers     the same as lists, and the laws of each function
 --   Blocks      a node with the join under it, and its truth
 --   Literals    a literal by its bit
---   Told        that the lines say what `eval_rule` asks
+--   Worded      words of sixty-four valuations
+--   Told        that the lines say what `eval_rule` and `eval_valuations` ask
 pub mod Lined
 pub mod Numbers
 pub mod Blocks
 pub mod Literals
+pub mod Worded
 pub mod Told

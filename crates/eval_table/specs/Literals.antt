@@ -11,7 +11,7 @@ use lib.Dec.{T, eqb, ltb}
 use lib.ListN.{length, getD}
 use Rattle.definitions.specs.Lists.{if_then_else_}
 use Rattle.definitions.specs.Sheet.Relations.{Kind, static, plain, Fun, PFun, Inj, PInj, Relation, Tuple, isAmong, isChosen, builtInHolds}
-use Rattle.definitions.specs.Problem.Truth.{Case, holds, arePicks}
+use Rattle.definitions.specs.Problem.Truth.{Case, holds}
 use Rattle.definitions.specs.Problem.Atoms.{Problem, problemOf, problemWith, relationAt, tuplesOf, rowOf, placesOf, tupleHolds, wordsFor}
 use Rattle.definitions.specs.Problem.Built.{isPicked}
 use Rattle.definitions.specs.Reply.Outcome.{relationWords}
@@ -66,9 +66,8 @@ one-place n (x ∷ y ∷ xs) h = absurd (omega arith)
 two-places : (n : ℕ) (xs : List ℕ) → 0 < n → Below n xs → length xs ≡ 2 → xs ≡ rowOf n xs / n ∷ rowOf n xs % n ∷ []
 two-places n xs s b e = sym (places-row n xs s b) ∙ ap (λ (k : ℕ). placesOf n k (rowOf n xs)) e ∙ pair-places n (rowOf n xs) s (subst (λ (k : ℕ). rowOf n xs < n ^ k) e (row-lt n xs b)) .0
 
-module _ (c : Case) (A : Accepted c) (F : List Tuple) (pk : arePicks c F ≡ true) (n : ℕ) (ws : List ℕ) (types : ℕ) (g : Relations) (t : Nodes)
-    (inputs : Inputs (problemOf c) n ws types g t) (facts : List ℕ) (fi : FactsIn (problemOf c) facts) (picks : List ℕ)
-    (pa : PicksAre (problemOf c) picks F) where
+module _ (c : Case) (A : Accepted c) (F : List Tuple) (n : ℕ) (ws : List ℕ) (types : ℕ) (g : Relations) (t : Nodes)
+    (inputs : Inputs (problemOf c) n ws types g t) (facts : List ℕ) (fi : FactsIn (problemOf c) facts) (picks : List ℕ) where
   abbrev p : Problem
   p = problemOf c
 
@@ -103,7 +102,7 @@ module _ (c : Case) (A : Accepted c) (F : List Tuple) (pk : arePicks c F ≡ tru
     inside : r < length (p .relations)
     inside = omega (arith, inputs .count)
 
-    row-small : row < tuplesOf (p .size) (relationAt p r)
+    pub row-small : row < tuplesOf (p .size) (relationAt p r)
     unfolding tuplesOf
     row-small = subst (λ (m : ℕ). row < m ^ relationAt p r .arity) (inputs .size) (subst (λ (k : ℕ). row < n ^ k) long (row-lt n xs b))
 
@@ -138,25 +137,41 @@ module _ (c : Case) (A : Accepted c) (F : List Tuple) (pk : arePicks c F ≡ tru
         ∙ rel-literal c [] r xs h low
         ∙ sym (rel-literal c F r xs h low)
 
-    of-pick : 5 ≤ r → T (isChosen (relationAt p r .kind)) → literalAt facts picks n 6 (64 * chooseSum n g r + row) ≡ holds c F r xs
+    -- a chosen one is its pick, whatever the picks
+    chosen-picked : T (isChosen (relationAt p r .kind)) → (P : List Tuple) → isPicked p P r row ≡ holds c P r xs
     unfolding isPicked problemOf problemWith
-    of-pick h k =
-        sym (is-pick facts picks n 6 (64 * chooseSum n g r + row) (omega arith) (λ e. omega arith))
-        ∙ ap (λ (z : ℕ). bit picks (64 * z + row)) (choose-sum r (omega arith))
-        ∙ pa r row inside k row-small
-        ∙ ap (λ (ys : List ℕ). isAmong (record { relation = r; places = ys }) F) places-are
-        ∙ sym (choose-literal c F r xs (good c A .high-chosen r k))
+    chosen-picked k P = ap (λ (ys : List ℕ). isAmong (record { relation = r; places = ys }) P) places-are ∙ sym (choose-literal c P r xs (good c A .high-chosen r k))
 
-    pub literal-is : literalAt facts picks n (sourceOf r (getD (g .kind) r 0)) (bitOf n g r + row) ≡ holds c F r xs
+    abbrev source : ℕ
+    source = sourceOf r (getD (g .kind) r 0)
+
+    kind-zero : eqb (getD (g .kind) r 0) 0 ≡ not (isChosen (relationAt p r .kind))
+    kind-zero = ap (λ (k : ℕ). eqb k 0) (inputs .kind r l) ∙ kind-chosen (relationAt p r .kind)
+
+    -- what stands among the built-in ones and the facts, by its truth; what is chosen, by its place among the picks
+    pub data Stands : Type 0 where
+      fixed-literal : source < 6 → literalAt facts picks n source (bitOf n g r + row) ≡ holds c F r xs → Stands
+      chosen-literal : source ≡ 6 → T (isChosen (relationAt p r .kind)) → bitOf n g r + row ≡ 64 * wordStart p r + row → ((P : List Tuple) → isPicked p P r row ≡ holds c P r xs) → Stands
+
+    pub stands : Stands
     unfolding sourceOf firstBit
-    literal-is = by-test (ltb r 5) refl
+    stands = by-test (ltb r 5) refl
       where
-        listed : 5 ≤ r → literalAt facts picks n (if eqb (getD (g .kind) r 0) 0 then 5 else 6) ((if eqb (getD (g .kind) r 0) 0 then 64 * factSum n g r else 64 * chooseSum n g r) + row) ≡ holds c F r xs
-        listed h = ⊎-elim
-            (λ e. let z : eqb (getD (g .kind) r 0) 0 ≡ true = ap (λ (k : ℕ). eqb k 0) (inputs .kind r l) ∙ kind-chosen (relationAt p r .kind) ∙ ap (λ (k : Kind). not (isChosen k)) e ∙ static-not in rw z (of-fact h e))
-            (λ k. let z : eqb (getD (g .kind) r 0) 0 ≡ false = ap (λ (k : ℕ). eqb k 0) (inputs .kind r l) ∙ kind-chosen (relationAt p r .kind) ∙ ap not (T-true (isChosen (relationAt p r .kind)) k) in rw z (of-pick h k))
+        by-test : (t : Bool) → ltb r 5 ≡ t → Stands
+        by-test true e =
+            let h : r < 5 = ltb-true r 5 e in
+            fixed-literal (rw e (omega arith)) (rw e (ap (literalAt facts picks n r) (zero-add row) ∙ built-in h))
+        by-test false e =
+            let h : 5 ≤ r = ltb-false r 5 e in
+            ⊎-elim
+            (λ s. let z : eqb (getD (g .kind) r 0) 0 ≡ true = kind-zero ∙ ap (λ (k : Kind). not (isChosen k)) s ∙ static-not in fixed-literal (rw (e, z) (omega arith)) (rw (e, z) (of-fact h s)))
+            (λ k. let z : eqb (getD (g .kind) r 0) 0 ≡ false = kind-zero ∙ ap not (T-true (isChosen (relationAt p r .kind)) k) in
+            chosen-literal (rw (e, z) refl) k (rw (e, z) (ap (λ (x : ℕ). 64 * x + row) (choose-sum r (omega arith)))) (chosen-picked k))
             (static-or (relationAt p r .kind))
 
-        by-test : (t : Bool) → ltb r 5 ≡ t → literalAt facts picks n (if t then r else if eqb (getD (g .kind) r 0) 0 then 5 else 6) ((if t then zero else if eqb (getD (g .kind) r 0) 0 then 64 * factSum n g r else 64 * chooseSum n g r) + row) ≡ holds c F r xs
-        by-test true e = ap (literalAt facts picks n r) (zero-add row) ∙ built-in (ltb-true r 5 e)
-        by-test false e = listed (ltb-false r 5 e)
+    pub literal-is : PicksAre p picks F → literalAt facts picks n source (bitOf n g r + row) ≡ holds c F r xs
+    literal-is pa = by-place stands
+      where
+        by-place : Stands → literalAt facts picks n source (bitOf n g r + row) ≡ holds c F r xs
+        by-place (fixed-literal s e) = e
+        by-place (chosen-literal s k b e) = ap₂ (literalAt facts picks n) s b ∙ sym (is-pick facts picks n 6 (64 * wordStart p r + row) (omega arith) (λ e. omega arith)) ∙ pa r row inside k row-small ∙ e F

@@ -16,13 +16,13 @@ use Rattle.laws.specs.Lists.{all-at, getD-mem, mem-below, mem-filter, filter-me
 use Rattle.laws.specs.Members.{in-mem, mem-in, range-few}
 use Rattle.laws.specs.Sorts.{Sorted}
 use Rattle.definitions.specs.Sheet.Relations.{Tuple}
-use Rattle.definitions.specs.Problem.Truth.{Case, holds, arePicks, ruleIsTrue}
+use Rattle.definitions.specs.Problem.Truth.{Case, holds, ruleIsTrue}
 use Rattle.definitions.specs.Problem.Tree.{Tree, Trees, leaf, forallNode, existsNode, andNode, orNode, end, _then_, Part, parts, partsFrom, nodes, nodesAll, nodeSort, occurs, free}
 use Rattle.definitions.specs.Problem.Atoms.{Problem, problemOf, problemWith, relationAt, nodeAt, rowOf}
 use Rattle.definitions.specs.Problem.Actions.{Values}
-use Rattle.definitions.specs.Problem.Built.{treeHolds}
 use Rattle.laws.specs.Reader.{Accepted}
 use Rattle.meaning.specs.Grounded.{good}
+use Rattle.laws.specs.Valued.{Literals, treeBy, byPicks, by-holds}
 use Rattle.meaning.specs.Meaning.{tree-means}
 use Rattle.meaning.specs.Means.{here-at}
 use Rattle.meaning.specs.Parts.{Bnd, bnd-map, Fits, IsNode as NotLeaf, Here, HereAll, under-forall, under-exists, parts-and, parts-or, head-here, tail-here, node-at}
@@ -46,12 +46,16 @@ use Rattle.problem_layout.specs.RangeLaws.{map-places}
 use Rattle.step_start.specs.Initial.{FactsIn}
 use Rattle.step_picks.specs.Words.{PicksAre}
 use Rattle.eval_rule.specs.Lines.{rangePlace, nodeIn, partIn, lineIn, literalAt, leafAt, agree, fixedIn, NodeSound, SoundLines}
-use Rattle.eval_rule.specs.Says.{nodeOf as nodeOfTree, noValues, truthBy, PartSays, NodeSays, Says}
+use Rattle.eval_rule.specs.Says.{Leaf, nodeOf as nodeOfTree, noValues, truthBy, PartSays, NodeSays, Says}
 use Rattle.eval_rule.specs.declared.NodeAt.{NodeAt}
 use Rattle.eval_rule.specs.declared.PartAt.{PartAt}
 use Rattle.eval_table.specs.Lined.{sourceOf, bitOf, partOf, lineOf, turnsOf, ownLine, blockLine, nodeOf, Lined}
 use Rattle.eval_table.specs.Blocks.{under, joinOf, blockParts, blockKind, blockLevel, blockJoin, Serves, GoesOver, alike, block-truth}
-use Rattle.eval_table.specs.Literals.{literal-is}
+use Rattle.eval_valuations.specs.Words.{leafIn}
+use Rattle.eval_valuations.specs.Laws.{leaf-fixed, leaf-pos, leaf-neg, agree-true, agree-false}
+use Rattle.bits.specs.Table.{digit}
+use Rattle.eval_table.specs.Worded.{WordsAre}
+use Rattle.eval_table.specs.Literals.{literal-is, Stands, fixed-literal, chosen-literal, stands, row-small}
 
 -- ---- the head of one part among those of a node
 heads-at : (ps : List PartRow) (m : ℕ) (qs : List Part) → map headIn (take m ps) ≡ map headOf qs → (i : ℕ) → i < length qs → headIn (getD ps i noRow) ≡ headOf (getD qs i noPart)
@@ -471,14 +475,87 @@ module _ (c : Case) (A : Accepted c) (n : ℕ) (ws : List ℕ) (types : ℕ) (ra
         by-number v l true e = node-sound v (ltb-true v (t .count) e)
         by-number v l false e = rest-sound v (ltb-false v (t .count) e) l
 
-  -- ---- what the lines say
-  module _ (F : List Tuple) (pk : arePicks c F ≡ true) (facts : List ℕ) (fi : FactsIn (problemOf c) facts) (picks : List ℕ) (pa : PicksAre (problemOf c) picks F) where
+  -- ---- what the lines say, where a valuation of the literals is read off their lines
+  abbrev pub Reads : Literals → Leaf → Type 0
+  Reads lit read = (b : Bool) (q : PartRow) (r : ℕ) (ls : List ℕ) (e : Values) → PartFits q → q .tag ≡ (if b then 0 else 1) → q .which ≡ r → take (q .width) (q .levels) ≡ ls
+      → (r < length (p .relations)) × (length ls ≡ relationAt p r .arity) → Bnd n e → read e (partOf g q) (lineOf n g q) ≡ lit b r (map e ls)
+
+  module _ (lit : Literals) (read : Leaf) (reads : Reads lit read) where
+    literal-says : (q : PartRow) (k : ℕ) (s : Tree) → PartFits q → headIn q ≡ headFrom k s → Here p k s → (partOf g q .tag ≡ 0 → ⊥) → (e : Values) → Bnd n e → read e (partOf g q) (lineOf n g q) ≡ treeBy c lit e s
+    unfolding headFrom treeBy Fits
+    literal-says q k (leaf true r ls) f h here z e b =
+        reads true q r ls e f (ap (λ (x : Head). x .tag) h) (ap (λ (x : Head). x .which) h) (ap (λ (x : Head). x .levels) h) (here .fits) b
+    literal-says q k (leaf false r ls) f h here z e b =
+        reads false q r ls e f (ap (λ (x : Head). x .tag) h) (ap (λ (x : Head). x .which) h) (ap (λ (x : Head). x .levels) h) (here .fits) b
+    literal-says q k (forallNode d σ s) f h here z e b = let a : q .tag ≡ 2 = ap (λ (x : Head). x .tag) h in absurd (z (ap (λ (x : PartAt). x .tag) (is-node g q (omega arith))))
+    literal-says q k (existsNode d σ s) f h here z e b = let a : q .tag ≡ 3 = ap (λ (x : Head). x .tag) h in absurd (z (ap (λ (x : PartAt). x .tag) (is-node g q (omega arith))))
+    literal-says q k (andNode ts) f h here z e b = let a : q .tag ≡ 3 = ap (λ (x : Head). x .tag) h in absurd (z (ap (λ (x : PartAt). x .tag) (is-node g q (omega arith))))
+    literal-says q k (orNode ts) f h here z e b = let a : q .tag ≡ 3 = ap (λ (x : Head). x .tag) h in absurd (z (ap (λ (x : PartAt). x .tag) (is-node g q (omega arith))))
+
+    module _ (w : List ℕ) (lined : Lined n ws types (ranges .count) g t w) where
+      part-says : (q : PartRow) (k : ℕ) (s : Tree) → PartFits q → headIn q ≡ headFrom k s → Here p k s → PartSays (treeBy c lit) (p .root) n w read (partOf g q) (lineOf n g q) k s
+      unfolding problemOf problemWith nodeAt nodeOfTree
+      part-says q k s f h here = record { node = λ z. tag-node q k s h here z; literal = λ z e b. literal-says q k s f h here z e b }
+
+      -- what stands in the lines as a range is the problem's
+      range-is : (σ : ℕ) → σ ≤ types → membersIn w (rangePlace σ) (length (p .range σ)) ≡ p .range σ
+      unfolding membersIn
+      range-is σ h = rw (inputs .ranges σ h) (map-places (λ i. getD w (rangePlace σ + i) 0) (rangeBy n ws σ) (λ i q. lined .range σ i h q))
+
+      serves : (d σ : ℕ) (s : Tree) → σ ≤ types → Serves c lit d σ s (membersIn w (rangePlace σ) (if occurs d s then length (p .range σ) else 1))
+      unfolding problemOf problemWith
+      serves d σ s h = by-test (occurs d s) refl
+        where
+          by-test : (b : Bool) → occurs d s ≡ b → Serves c lit d σ s (membersIn w (rangePlace σ) (if b then length (p .range σ) else 1))
+          by-test true k = inl (range-is σ h)
+          by-test false k = inr (k, omega (arith, members-length w (rangePlace σ) 1), inputs .ranged σ .some-member)
+
+      goes-over : (u : Tree) → Sorted types u → nodeKind u < 4 → GoesOver c lit u (membersIn w (rangePlace (nodeSort u)) (blockTurns (p .range) u))
+      unfolding GoesOver blockTurns nodeKind nodeSort Sorted
+      goes-over (leaf q r ls) o h = absurd (omega arith)
+      goes-over (forallNode d σ s) o h = serves d σ s (o .0)
+      goes-over (existsNode d σ s) o h = serves d σ s (o .0)
+      goes-over (andNode ts) o h = members-length w (rangePlace 0) 1
+      goes-over (orNode ts) o h = members-length w (rangePlace 0) 1
+
+      truth-by : (v : ℕ) (u : Tree) (x : NodeAt) (e : Values) → Sorted types u → nodeKind u < 4 → IsBlock (p .range) t v u x → treeBy c lit e u ≡ truthBy (treeBy c lit) (p .root) n w read x e (blockParts v u)
+      unfolding truthBy
+      truth-by v u x e o h b = rw (b .kind, b .level, b .join, b .many, b .range, b .count) (block-truth c lit v e u (membersIn w (rangePlace (nodeSort u)) (blockTurns (p .range) u)) (goes-over u o h))
+
+      node-says : (v : ℕ) → v < length (p .nodeList) → NodeSays (treeBy c lit) (p .root) n w read (nodeAt p v) (nodeIn w v)
+      node-says v l =
+          let b = block-is v l in
+          rw (lined .node v (omega (arith, count-is p n ws types g t inputs ft))) (record {
+            parts = blockParts v (nodeAt p v);
+            part = λ i h.
+                let j : lineAt v .first + i < t .placed = omega (arith, b .fits) in
+                let k : i < length (blockParts v (nodeAt p v)) = rw (b .many) at h in
+                let e = lined .part (lineAt v .first + i) j in
+                rw (e .0, e .1) (part-says (getD (t .parts) (lineAt v .first + i) noRow) _ _ (ft .parts .part (lineAt v .first + i)) (b .head i k) (here-of v l i k .0));
+            still = λ i h f e y z.
+                let j : lineAt v .first + i < t .placed = omega (arith, b .fits) in
+                let k : i < length (blockParts v (nodeAt p v)) = rw (b .many) at h in
+                let q = getD (t .parts) (lineAt v .first + i) noRow in
+                alike c lit (getD (blockParts v (nodeAt p v)) i noPart .tree) e (lineAt v .level) y z
+                (fixed-free n g w (lineAt v .first + i) _ (lineAt v .level) q _ (omega (arith, inputs .size, good c A .element)) (b .low) (lined .part _ j .1) (b .head i k) f);
+            truth = λ e. truth-by v (nodeAt p v) (lineAt v) e (node-sort p ws types g t sized v (omega (arith, count-is p n ws types g t inputs ft))) (kind-is v l) b;
+          })
+
+      pub says-by : Says (treeBy c lit) (p .root) n w read
+      unfolding problemOf problemWith nodeAt nodeOfTree
+      says-by = record {
+        node = λ v l. node-says v l;
+        top = rw (lined .top .0, lined .top .1) (part-says (t .root) 0 (p .root) (ft .root) (inputs .tree .top) (good c A .root-here));
+      }
+
+  -- ---- by picks, whose bits are lent
+  module _ (F : List Tuple) (facts : List ℕ) (fi : FactsIn (problemOf c) facts) (picks : List ℕ) (pa : PicksAre (problemOf c) picks F) where
     literal-of : (q : PartRow) (r : ℕ) (ls : List ℕ) (e : Values) → PartFits q → q .tag < 2 → q .which ≡ r → take (q .width) (q .levels) ≡ ls → (r < length (p .relations)) × (length ls ≡ relationAt p r .arity) → Bnd n e
         → literalAt facts picks n (partOf g q .which) (partNumber e (lineOf n g q)) ≡ holds c F r (map e ls)
     literal-of q r ls e f h a b m bnd =
         ap₂ (literalAt facts picks n) (ap (λ (x : PartAt). x .which) (is-literal g q h) ∙ ap (λ (x : ℕ). sourceOf x (getD (g .kind) x 0)) a)
         (its-number g q n e f h ∙ ap₂ (λ (x : ℕ) (ys : List ℕ). bitOf n g x + rowOf n (map e ys)) a b)
-        ∙ literal-is c A F pk n ws types g t inputs facts fi picks pa r (map e ls) (omega (arith, m .0, inputs .count)) (length-map ls e ∙ m .1) (bnd-map n e ls bnd)
+        ∙ literal-is c A F n ws types g t inputs facts fi picks r (map e ls) (omega (arith, m .0, inputs .count)) (length-map ls e ∙ m .1) (bnd-map n e ls bnd) pa
 
     leaf-of : (q : PartRow) (e : Values) (b : Bool) → q .tag ≡ 0 → literalAt facts picks n (partOf g q .which) (partNumber e (lineOf n g q)) ≡ b → leafAt facts picks n e (partOf g q) (lineOf n g q) ≡ b
     unfolding leafAt agree
@@ -496,75 +573,61 @@ module _ (c : Case) (A : Accepted c) (n : ℕ) (ws : List ℕ) (types : ℕ) (ra
         by-test true = refl
         by-test false = refl
 
-    literal-says : (q : PartRow) (k : ℕ) (s : Tree) → PartFits q → headIn q ≡ headFrom k s → Here p k s → (partOf g q .tag ≡ 0 → ⊥) → (e : Values) → Bnd n e → leafAt facts picks n e (partOf g q) (lineOf n g q) ≡ treeHolds c F e s
-    unfolding headFrom treeHolds Fits
-    literal-says q k (leaf true r ls) f h here z e b =
-        let a : q .tag ≡ 0 = ap (λ (x : Head). x .tag) h in
-        leaf-of q e (holds c F r (map e ls)) a (literal-of q r ls e f (omega arith) (ap (λ (x : Head). x .which) h) (ap (λ (x : Head). x .levels) h) (here .fits) b)
-    literal-says q k (leaf false r ls) f h here z e b =
-        let a : q .tag ≡ 1 = ap (λ (x : Head). x .tag) h in
-        not-leaf-of q e (holds c F r (map e ls)) a (literal-of q r ls e f (omega arith) (ap (λ (x : Head). x .which) h) (ap (λ (x : Head). x .levels) h) (here .fits) b)
-    literal-says q k (forallNode d σ s) f h here z e b = let a : q .tag ≡ 2 = ap (λ (x : Head). x .tag) h in absurd (z (ap (λ (x : PartAt). x .tag) (is-node g q (omega arith))))
-    literal-says q k (existsNode d σ s) f h here z e b = let a : q .tag ≡ 3 = ap (λ (x : Head). x .tag) h in absurd (z (ap (λ (x : PartAt). x .tag) (is-node g q (omega arith))))
-    literal-says q k (andNode ts) f h here z e b = let a : q .tag ≡ 3 = ap (λ (x : Head). x .tag) h in absurd (z (ap (λ (x : PartAt). x .tag) (is-node g q (omega arith))))
-    literal-says q k (orNode ts) f h here z e b = let a : q .tag ≡ 3 = ap (λ (x : Head). x .tag) h in absurd (z (ap (λ (x : PartAt). x .tag) (is-node g q (omega arith))))
+    picks-read : Reads (byPicks c F F) (leafAt facts picks n)
+    unfolding byPicks
+    picks-read true q r ls e f a h k m b = leaf-of q e (holds c F r (map e ls)) a (literal-of q r ls e f (omega arith) h k m b)
+    picks-read false q r ls e f a h k m b = not-leaf-of q e (holds c F r (map e ls)) a (literal-of q r ls e f (omega arith) h k m b)
 
-    module _ (w : List ℕ) (lined : Lined n ws types (ranges .count) g t w) where
-      part-says : (q : PartRow) (k : ℕ) (s : Tree) → PartFits q → headIn q ≡ headFrom k s → Here p k s → PartSays c F (p .root) n w facts picks (partOf g q) (lineOf n g q) k s
-      unfolding problemOf problemWith nodeAt nodeOfTree
-      part-says q k s f h here = record { node = λ z. tag-node q k s h here z; literal = λ z e b. literal-says q k s f h here z e b }
+    pub says : (w : List ℕ) → Lined n ws types (ranges .count) g t w → Says (treeBy c (byPicks c F F)) (p .root) n w (leafAt facts picks n)
+    says w lined = says-by (byPicks c F F) (leafAt facts picks n) picks-read w lined
 
-      -- what stands in the lines as a range is the problem's
-      range-is : (σ : ℕ) → σ ≤ types → membersIn w (rangePlace σ) (length (p .range σ)) ≡ p .range σ
-      unfolding membersIn
-      range-is σ h = rw (inputs .ranges σ h) (map-places (λ i. getD w (rangePlace σ + i) 0) (rangeBy n ws σ) (λ i q. lined .range σ i h q))
+  -- ---- by words of sixty-four valuations: in one of them the words say what may, and what must, be picked
+  module _ (may must : List Tuple) (facts : List ℕ) (fi : FactsIn (problemOf c) facts) (pos neg : List ℕ) (j : ℕ) (l : j < 64) (wa : WordsAre (problemOf c) pos neg j may must) where
+    words-read : Reads (byPicks c may must) (leafIn facts pos neg n j)
+    unfolding byPicks
+    words-read b q r ls e f a h k m bnd = by-sign b a
+      where
+        tag-small : (b : Bool) → q .tag ≡ (if b then 0 else 1) → q .tag < 2
+        tag-small true a = omega arith
+        tag-small false a = omega arith
 
-      serves : (d σ : ℕ) (s : Tree) → σ ≤ types → Serves c F d σ s (membersIn w (rangePlace σ) (if occurs d s then length (p .range σ) else 1))
-      unfolding problemOf problemWith
-      serves d σ s h = by-test (occurs d s) refl
-        where
-          by-test : (b : Bool) → occurs d s ≡ b → Serves c F d σ s (membersIn w (rangePlace σ) (if b then length (p .range σ) else 1))
-          by-test true k = inl (range-is σ h)
-          by-test false k = inr (k, omega (arith, members-length w (rangePlace σ) 1), inputs .ranged σ .some-member)
+        inside : r < g .count
+        inside = omega (arith, m .0, inputs .count)
 
-      goes-over : (u : Tree) → Sorted types u → nodeKind u < 4 → GoesOver c F u (membersIn w (rangePlace (nodeSort u)) (blockTurns (p .range) u))
-      unfolding GoesOver blockTurns nodeKind nodeSort Sorted
-      goes-over (leaf q r ls) o h = absurd (omega arith)
-      goes-over (forallNode d σ s) o h = serves d σ s (o .0)
-      goes-over (existsNode d σ s) o h = serves d σ s (o .0)
-      goes-over (andNode ts) o h = members-length w (rangePlace 0) 1
-      goes-over (orNode ts) o h = members-length w (rangePlace 0) 1
+        long : length (map e ls) ≡ relationAt p r .arity
+        long = length-map ls e ∙ m .1
 
-      truth-by : (v : ℕ) (u : Tree) (x : NodeAt) (e : Values) → Sorted types u → nodeKind u < 4 → IsBlock (p .range) t v u x → treeHolds c F e u ≡ truthBy c F (p .root) n w facts picks x e (blockParts v u)
-      unfolding truthBy
-      truth-by v u x e o h b = rw (b .kind, b .level, b .join, b .many, b .range, b .count) (block-truth c F v e u (membersIn w (rangePlace (nodeSort u)) (blockTurns (p .range) u)) (goes-over u o h))
+        row : ℕ
+        row = rowOf n (map e ls)
 
-      node-says : (v : ℕ) → v < length (p .nodeList) → NodeSays c F (p .root) n w facts picks (nodeAt p v) (nodeIn w v)
-      node-says v l =
-          let b = block-is v l in
-          rw (lined .node v (omega (arith, count-is p n ws types g t inputs ft))) (record {
-            parts = blockParts v (nodeAt p v);
-            part = λ i h.
-                let j : lineAt v .first + i < t .placed = omega (arith, b .fits) in
-                let k : i < length (blockParts v (nodeAt p v)) = rw (b .many) at h in
-                let e = lined .part (lineAt v .first + i) j in
-                rw (e .0, e .1) (part-says (getD (t .parts) (lineAt v .first + i) noRow) _ _ (ft .parts .part (lineAt v .first + i)) (b .head i k) (here-of v l i k .0));
-            still = λ i h f e y z.
-                let j : lineAt v .first + i < t .placed = omega (arith, b .fits) in
-                let k : i < length (blockParts v (nodeAt p v)) = rw (b .many) at h in
-                let q = getD (t .parts) (lineAt v .first + i) noRow in
-                alike c F (getD (blockParts v (nodeAt p v)) i noPart .tree) e (lineAt v .level) y z
-                (fixed-free n g w (lineAt v .first + i) _ (lineAt v .level) q _ (omega (arith, inputs .size, good c A .element)) (b .low) (lined .part _ j .1) (b .head i k) f);
-            truth = λ e. truth-by v (nodeAt p v) (lineAt v) e (node-sort p ws types g t sized v (omega (arith, count-is p n ws types g t inputs ft))) (kind-is v l) b;
-          })
+        which-is : (b : Bool) → q .tag ≡ (if b then 0 else 1) → partOf g q .which ≡ sourceOf r (getD (g .kind) r 0)
+        which-is b a = ap (λ (x : PartAt). x .which) (is-literal g q (tag-small b a)) ∙ ap (λ (x : ℕ). sourceOf x (getD (g .kind) x 0)) h
 
-      pub says : Says c F (p .root) n w facts picks
-      unfolding problemOf problemWith nodeAt nodeOfTree
-      says = record {
-        node = λ v l. node-says v l;
-        top = rw (lined .top .0, lined .top .1) (part-says (t .root) 0 (p .root) (ft .root) (inputs .tree .top) (good c A .root-here));
-      }
+        number-is : (b : Bool) → q .tag ≡ (if b then 0 else 1) → partNumber e (lineOf n g q) ≡ bitOf n g r + row
+        number-is b a = its-number g q n e f (tag-small b a) ∙ ap₂ (λ (x : ℕ) (ys : List ℕ). bitOf n g x + rowOf n (map e ys)) h k
 
-pub rule-is : (c : Case) (F : List Tuple) (r : Bool) → Accepted c → r ≡ treeHolds c F noValues (problemOf c .root) → r ≡ ruleIsTrue c F
+        tag-is : (b : Bool) → q .tag ≡ (if b then 0 else 1) → eqb (partOf g q .tag) 1 ≡ b
+        tag-is b a = ap (λ (x : PartAt). eqb (x .tag) 1) (is-literal g q (tag-small b a)) ∙ ap (λ (x : ℕ). eqb (suc x) 1) a ∙ by-test b
+          where
+            by-test : (b : Bool) → eqb (suc (if b then 0 else 1)) 1 ≡ b
+            by-test true = refl
+            by-test false = refl
+
+        tuple-says : Stands c A may n ws types g t inputs facts fi facts r (map e ls) inside long (bnd-map n e ls bnd) → q .tag ≡ 0 → leafIn facts pos neg n j e (partOf g q) (lineOf n g q) ≡ holds c may r (map e ls)
+        tuple-says (fixed-literal s v) a = leaf-fixed facts pos neg n e (partOf g q) (lineOf n g q) j l true _ (subst (λ (x : ℕ). x < 6) (sym (which-is true a)) s) (ap₂ (literalAt facts facts n) (which-is true a) (number-is true a) ∙ v) (tag-is true a) ∙ agree-true _
+        tuple-says (chosen-literal s k′ o v) a = leaf-pos facts pos neg n e (partOf g q) (lineOf n g q) j (which-is true a ∙ s) (tag-is true a) ∙ ap (λ (x : ℕ). digit (getD pos x 0) j) (number-is true a ∙ o) ∙ wa r row (m .0) k′ (row-small c A may n ws types g t inputs facts fi facts r (map e ls) inside long (bnd-map n e ls bnd)) .0 ∙ v may
+
+        not-says : Stands c A must n ws types g t inputs facts fi facts r (map e ls) inside long (bnd-map n e ls bnd) → q .tag ≡ 1 → leafIn facts pos neg n j e (partOf g q) (lineOf n g q) ≡ not (holds c must r (map e ls))
+        not-says (fixed-literal s v) a = leaf-fixed facts pos neg n e (partOf g q) (lineOf n g q) j l false _ (subst (λ (x : ℕ). x < 6) (sym (which-is false a)) s) (ap₂ (literalAt facts facts n) (which-is false a) (number-is false a) ∙ v) (tag-is false a) ∙ agree-false _
+        not-says (chosen-literal s k′ o v) a = leaf-neg facts pos neg n e (partOf g q) (lineOf n g q) j (which-is false a ∙ s) (tag-is false a) ∙ ap (λ (x : ℕ). digit (getD neg x 0) j) (number-is false a ∙ o) ∙ wa r row (m .0) k′ (row-small c A must n ws types g t inputs facts fi facts r (map e ls) inside long (bnd-map n e ls bnd)) .1 ∙ ap not (v must)
+
+        by-sign : (b : Bool) → q .tag ≡ (if b then 0 else 1) → leafIn facts pos neg n j e (partOf g q) (lineOf n g q) ≡ byPicks c may must b r (map e ls)
+        by-sign true a = tuple-says (stands c A may n ws types g t inputs facts fi facts r (map e ls) inside long (bnd-map n e ls bnd)) a
+        by-sign false a = not-says (stands c A must n ws types g t inputs facts fi facts r (map e ls) inside long (bnd-map n e ls bnd)) a
+
+    pub says-words : (w : List ℕ) → Lined n ws types (ranges .count) g t w → Says (treeBy c (byPicks c may must)) (p .root) n w (leafIn facts pos neg n j)
+    says-words w lined = says-by (byPicks c may must) (leafIn facts pos neg n j) words-read w lined
+
+pub rule-is : (c : Case) (F : List Tuple) (r : Bool) → Accepted c → r ≡ treeBy c (byPicks c F F) noValues (problemOf c .root) → r ≡ ruleIsTrue c F
 unfolding problemOf problemWith
-rule-is c F r A e = e ∙ tree-means c F A
+rule-is c F r A e = e ∙ by-holds c F noValues (problemOf c .root) ∙ tree-means c F A

@@ -7,7 +7,10 @@ ghost use lib.ListN.{length};
 ghost use Rattle.definitions.specs.Sheet.Relations.{Tuple};
 ghost use Rattle.definitions.specs.Problem.Truth.{Case, arePicks, ruleIsTrue};
 ghost use Rattle.definitions.specs.Problem.Atoms.{problemOf};
+ghost use Rattle.definitions.specs.Problem.Tree.{treeOf};
+ghost use Rattle.bits.specs.Table.{digit};
 ghost use Rattle.laws.specs.Reader.{Accepted};
+ghost use Rattle.laws.specs.Valued.{treeBy, byPicks};
 ghost use Rattle.rule_nodes.specs.Tables.{PartFits, Fits};
 ghost use Rattle.rows.specs.Values.{Most};
 ghost use Rattle.problem_layout.specs.Laid.{RangesFit, RelationsFit};
@@ -15,7 +18,9 @@ ghost use Rattle.problem_layout.specs.Filled.{splice, tab};
 ghost use Rattle.step_start.specs.Initial.{FactsIn};
 ghost use Rattle.step_picks.specs.Words.{PicksAre};
 ghost use Rattle.eval_rule.specs.Lines.{rangePlace, linesLength};
+ghost use Rattle.eval_rule.specs.Says.{noValues};
 ghost use Rattle.eval_table.specs.Lined.{sourceOf, firstBit, factWords, chooseWords, turnsOf, ownLine, blockLine, nodeOf, Lined};
+ghost use Rattle.eval_table.specs.Worded.{WordsAre};
 ghost use Rattle.eval_table.specs.Numbers.{nodeNumbers, partNumbers, partList, nodeLines, partLines, Bits, LinesOf, OfCase};
 use problem_layout::Ranges;
 use problem_layout::Relations;
@@ -258,4 +263,15 @@ pub fn rule_is_true(lines: &[usize], facts: &[u64], picks: &[u64], n: usize) -> 
         → r ≡ ruleIsTrue c F) ⌝ }
 {
     eval_rule::rule_holds(lines, facts, picks, n)
+}
+
+// The same for sixty-four valuations at once: digit j is the rule's truth by what may be picked, for the tuples that it asks for, and by
+// what must be, for their not-tuples. Where the two are one, that is its truth of these picks; else, where it is false, it is false of all
+// picks between them.
+pub fn true_words(lines: &[usize], facts: &[u64], pos: &[u64], neg: &[u64], n: usize) -> u64
+    requires { ⌜ OfCase n (now lines) ⌝ }
+    ensures { λ r. ⌜ ((c : Case) (may must : List Tuple) (j : ℕ) → j < 64 → Accepted c → LinesOf c n (now (lines .entry)) → FactsIn (problemOf c) (now (facts .entry)) → WordsAre (problemOf c) (now (pos .entry)) (now (neg .entry)) j may must
+        → digit r j ≡ treeBy c (byPicks c may must) noValues (treeOf (c .question))) ⌝ }
+{
+    eval_valuations::rule_words(lines, facts, pos, neg, n)
 }

@@ -18,6 +18,7 @@
 --   Labels             labels are one to one; what element fields mean by them
 --   Reader             what an accepted question and site have
 --   Sorts              a node's sort is 0 or that of a declared type
+--   Valued             truth of a tree by a valuation of its literals
 --   Decimals           numbers written and read
 --   Lines, Spelling    lines and fields of a text; elements written by number or by label
 --   Told               what a sheet that was read tells of its text
@@ -44,6 +45,7 @@ pub mod Alone
 pub mod Labels
 pub mod Reader
 pub mod Sorts
+pub mod Valued
 pub mod Decimals
 pub mod Lines
 pub mod Spelling

@@ -10,7 +10,7 @@ use lib.ListN.{length}
 use Rattle.definitions.specs.Limits.{CaseLimits, textLimit}
 use Rattle.definitions.specs.Lists.{if_then_else_, all, any, option, isIn}
 use Rattle.definitions.specs.Sheet.Text.{Line, lines}
-use Rattle.definitions.specs.Refusal.{Result, refused, accepted, _>>=_, refuseIf, given, readLines, readText, caseNumbers, readyNumbers, runNumbers, picksNumbers}
+use Rattle.definitions.specs.Refusal.{Result, refused, accepted, _>>=_, refuseIf, given, readLines, readText, caseNumbers, readyNumbers, runNumbers, picksNumbers, findNumbers, monotoneNumbers}
 use Rattle.definitions.specs.Sheet.Relations.{Relation, Tuple}
 use Rattle.definitions.specs.Sheet.Sheets.{Element, Entry, rel, type, choose, rule, size, label, member, fact, pick, step, entryOf, Draft, addRel, addType}
 use Rattle.definitions.specs.Sheet.Sheets.{addChoose, addRule, addToQuestion, questionLine, readQuestion, firstRel, Label, addTuple, SiteDraft, addSize}
@@ -23,6 +23,8 @@ use Rattle.definitions.specs.Problem.Strips.{mayTake, after, runFrom, run}
 use Rattle.definitions.specs.Problem.Built.{chosenNumbers, bound}
 use Rattle.definitions.specs.Reply.Page.{pageBytes, pageOf, laid, pagedFrom, pageRooms, layPage}
 use Rattle.definitions.specs.Reply.Judgement.{judge}
+use Rattle.definitions.specs.Reply.Finding.{leastPicks, foundWords}
+use Rattle.definitions.specs.Reply.Monotone.{monotone}
 use Rattle.definitions.specs.Reply.Outcome.{CaseRead, readFiled, readCase, ground, readProblem, Ready, asked, nothing, satisfying, roomFor, sizes, action}
 use Rattle.definitions.specs.Reply.Outcome.{stateLength, picksLength, ThirdInput, asText, asNumbers, takeSteps, textPicks, picksRoom, spareWord, spareRefusal}
 use Rattle.definitions.specs.Reply.Outcome.{takePicks, readyToRun, checkedFrom, checkSteps, picksReadFrom, picksFromSteps, kindRefusal, Plan, plan}
@@ -380,3 +382,23 @@ module _ (L : CaseLimits) (question site : List ℕ) where
   unfolding judge
   judge-refuse picks k place e = told Builds _ k place e (bind-by Builds _ _ (early-by _ (asked-by L question site (λ c. textPicks (c .case) (c .labels) picks) _ (λ c. picks-by (c .case) (c .labels) picks) (λ p. picks-room p picks)))
       (λ r. bind-by Builds _ _ (satisfying-by (r .case) (r .problem) picks (r .third)) (λ F. accepted-by Builds _)))
+
+-- finding, and asking whether any picks do
+module _ (L : CaseLimits) (question site : List ℕ) where
+  abbrev Finds : ℕ → Type 0
+  Finds = In (readyNumbers ++ findNumbers)
+
+  pub words-refuse : (room k place : ℕ) → foundWords L question site room ≡ refused k place → In (readyNumbers ++ findNumbers) k
+  unfolding foundWords leastPicks isIn any all
+  words-refuse room k place e = told Finds _ k place e
+      (bind-by Finds _ _ (weaken (among readyNumbers (readyNumbers ++ findNumbers) refl) _ (asked-by L question site nothing _ nothing-by (λ p. room-by (picksLength p) room)))
+      (λ r. bind-by Finds _ _ (bind-by Finds _ _ (if-by Finds _ 20 zero refl) (λ _. bind-by Finds _ _ (given-by Finds _ 21 zero refl) (λ m. accepted-by Finds _))) (λ F. accepted-by Finds _)))
+
+  abbrev Wants : ℕ → Type 0
+  Wants = In (caseNumbers ++ monotoneNumbers)
+
+  pub monotone-refuse : (k place : ℕ) → monotone L question site ≡ refused k place → In (caseNumbers ++ monotoneNumbers) k
+  unfolding monotone isIn any all
+  monotone-refuse k place e = told Wants _ k place e
+      (bind-by Wants _ _ (weaken (among caseNumbers (caseNumbers ++ monotoneNumbers) refl) _ (alone-by L question site nothing nothing-by))
+      (λ r. bind-by Wants _ _ (if-by Wants _ 24 zero refl) (λ _. bind-by Wants _ _ (if-by Wants _ 21 zero refl) (λ _. accepted-by Wants _))))

@@ -6,8 +6,10 @@
 --   Sound              steps that reach the goal set picks that solve the case
 --   Grounded           an accepted case's problem has what the laws ask of one
 --   Kinds              the declared kinds as tested and as said
+--   Grows              more literals, more picks: what stays true; fewer picks keep to the kinds
 --   Picks              picks in the words of the definitions
 --   Pairs              picks as relation and row, in the order of the atoms
+--   Cells              all tuples of the `choose` relations, and the numbers of sets of them
 --   Does               the proof phase of the built steps
 --   Complete           the built steps reach the goal and are read as the picks
 --   Count              how many they are, and that the bound is not passed
@@ -29,8 +31,10 @@ pub mod Valid
 pub mod Sound
 pub mod Grounded
 pub mod Kinds
+pub mod Grows
 pub mod Picks
 pub mod Pairs
+pub mod Cells
 pub mod Does
 pub mod Complete
 pub mod Count

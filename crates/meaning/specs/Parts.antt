@@ -12,14 +12,15 @@ use lib.Seq.{getD-append-add}
 use borrow.Author.Tests.{eq-eqb, eqb-true, eqb-false, ltb-true, ltb-false}
 use Rattle.definitions.specs.Lists.{if_then_else_, all, any, below}
 use Rattle.definitions.specs.Sheet.Relations.{Tuple}
-use Rattle.definitions.specs.Problem.Truth.{Case, holds, membersOf}
+use Rattle.definitions.specs.Problem.Truth.{Case, membersOf}
 use Rattle.definitions.specs.Problem.Tree.{Tree, Trees, leaf, forallNode, existsNode, andNode, orNode, end, _then_, nodes, nodesAll, occurs, occursIn, free}
 use Rattle.definitions.specs.Problem.Atoms.{Problem, relationAt, nodeAt}
 use Rattle.definitions.specs.Problem.Actions.{Values, valuesIn, withValue}
-use Rattle.definitions.specs.Problem.Built.{treeHolds, treesHold, someHolds}
+use Rattle.definitions.specs.Problem.Built.{treeHolds}
 use Rattle.laws.specs.Booleans.{T-and-l, T-and-r, T-of, T-or, and-T, or-l, or-r}
 use Rattle.laws.specs.Lists.{all-at, any-at, mem-below, mem-filter}
 use Rattle.laws.specs.Numbers.{noNode}
+use Rattle.laws.specs.Valued.{Literals, treeBy, treesBy, someBy, byPicks, by-holds}
 
 -- ---- every level that a quantifier binds or a literal names is below 4
 unfoldable mutual
@@ -65,25 +66,27 @@ with-sames f e θ d x h l q = by-test (eqb l d) refl
     by-test true k = refl
     by-test false k = h l (and-T (not (eqb l d)) (f l) (subst (λ (b : Bool). T (not b)) (sym k) tt) q)
 
-module _ (c : Case) (picks : List Tuple) where
+module _ (c : Case) (lit : Literals) where
   mutual
-    unfolding occurs occursIn treeHolds treesHold someHolds
+    unfolding occurs occursIn treeBy
 
-    pub holds-same : (t : Tree) (e θ : Values) → Same (λ l. occurs l t) e θ → treeHolds c picks e t ≡ treeHolds c picks θ t
-    holds-same (leaf true r ls) e θ h = ap (holds c picks r) (map-same ls e θ h)
-    holds-same (leaf false r ls) e θ h = ap (λ (xs : List ℕ). not (holds c picks r xs)) (map-same ls e θ h)
-    holds-same (forallNode d σ t) e θ h = ap (λ (f : ℕ → Bool). all f (membersOf c σ)) (fun-ext (λ x. holds-same t (withValue e d x) (withValue θ d x) (with-sames (λ l. occurs l t) e θ d x h)))
-    holds-same (existsNode d σ t) e θ h = ap (λ (f : ℕ → Bool). any f (membersOf c σ)) (fun-ext (λ x. holds-same t (withValue e d x) (withValue θ d x) (with-sames (λ l. occurs l t) e θ d x h)))
-    holds-same (andNode ts) e θ h = all-same ts e θ h
-    holds-same (orNode ts) e θ h = any-same ts e θ h
+    pub by-same : (t : Tree) (e θ : Values) → Same (λ l. occurs l t) e θ → treeBy c lit e t ≡ treeBy c lit θ t
+    by-same (leaf b r ls) e θ h = ap (lit b r) (map-same ls e θ h)
+    by-same (forallNode d σ t) e θ h = ap (λ (f : ℕ → Bool). all f (membersOf c σ)) (fun-ext (λ x. by-same t (withValue e d x) (withValue θ d x) (with-sames (λ l. occurs l t) e θ d x h)))
+    by-same (existsNode d σ t) e θ h = ap (λ (f : ℕ → Bool). any f (membersOf c σ)) (fun-ext (λ x. by-same t (withValue e d x) (withValue θ d x) (with-sames (λ l. occurs l t) e θ d x h)))
+    by-same (andNode ts) e θ h = all-same ts e θ h
+    by-same (orNode ts) e θ h = any-same ts e θ h
 
-    all-same : (ts : Trees) (e θ : Values) → Same (λ l. occursIn l ts) e θ → treesHold c picks e ts ≡ treesHold c picks θ ts
+    all-same : (ts : Trees) (e θ : Values) → Same (λ l. occursIn l ts) e θ → treesBy c lit e ts ≡ treesBy c lit θ ts
     all-same end e θ h = refl
-    all-same (t then ts) e θ h = ap₂ _&&_ (holds-same t e θ (λ l q. h l (or-l (occurs l t) _ q))) (all-same ts e θ (λ l q. h l (or-r (occurs l t) _ q)))
+    all-same (t then ts) e θ h = ap₂ _&&_ (by-same t e θ (λ l q. h l (or-l (occurs l t) _ q))) (all-same ts e θ (λ l q. h l (or-r (occurs l t) _ q)))
 
-    any-same : (ts : Trees) (e θ : Values) → Same (λ l. occursIn l ts) e θ → someHolds c picks e ts ≡ someHolds c picks θ ts
+    any-same : (ts : Trees) (e θ : Values) → Same (λ l. occursIn l ts) e θ → someBy c lit e ts ≡ someBy c lit θ ts
     any-same end e θ h = refl
-    any-same (t then ts) e θ h = ap₂ _||_ (holds-same t e θ (λ l q. h l (or-l (occurs l t) _ q))) (any-same ts e θ (λ l q. h l (or-r (occurs l t) _ q)))
+    any-same (t then ts) e θ h = ap₂ _||_ (by-same t e θ (λ l q. h l (or-l (occurs l t) _ q))) (any-same ts e θ (λ l q. h l (or-r (occurs l t) _ q)))
+
+pub holds-same : (c : Case) (picks : List Tuple) (t : Tree) (e θ : Values) → Same (λ l. occurs l t) e θ → treeHolds c picks e t ≡ treeHolds c picks θ t
+holds-same c picks t e θ h = sym (by-holds c picks e t) ∙ by-same c (byPicks c picks picks) t e θ h ∙ by-holds c picks θ t
 
 -- the values rebuilt from a node's row agree with those that it came from
 values-back : (ls : List ℕ) (e : Values) (l : ℕ) → List·Memᴰ l ls → valuesIn ls (map e ls) l ≡ e l

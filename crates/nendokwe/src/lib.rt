@@ -11,6 +11,8 @@ ghost use Rattle.open_case.specs.Replies.{resultOf};
 ghost use Rattle.nendokwe.specs.Told.{detailsOf};
 ghost use Rattle.definitions.specs.Reply.Allowance.{allowances as «allowances-of»};
 ghost use Rattle.definitions.specs.Reply.Judgement.{judge};
+ghost use Rattle.definitions.specs.Reply.Finding.{find as «find-of»};
+ghost use Rattle.definitions.specs.Reply.Monotone.{monotone as «monotone-of»};
 ghost use Rattle.definitions.specs.Reply.Page.{layPage};
 ghost use Rattle.definitions.specs.Reply.Tries.{tryLists};
 ghost use Rattle.call_tries.specs.Recorded.{records};
@@ -419,5 +421,38 @@ pub extern "C" fn nendokwe_page(
     ensures { λ _. ⌜ now (out .exit) ≡ layPage usual (now (question .entry)) (now (site .entry)) (asNumbers (now (steps .entry))) page (now (state .entry)) (now (out .entry)) .page ⌝ }
 {
     let r = call_page::page_lent(question, site, steps, page, state, out);
+    tell(r, number, place);
+}
+
+// The least picks of the declared kinds that make the rule true, cells read as a binary number, the first the most significant: 0 and 0,
+// or a refusal, which leaves the buffer.
+#[no_mangle]
+pub extern "C" fn nendokwe_find(
+    question: &[u8],
+    site: &[u8],
+    picks: &mut [u64],
+    number: &mut u32,
+    place: &mut usize,
+)
+    ensures { λ _. ⌜ now (number .exit) ≡ replyNumber («find-of» usual (now (question .entry)) (now (site .entry)) (now (picks .entry)) .answer) ⌝ }
+    ensures { λ _. ⌜ now (place .exit) ≡ replyPlace («find-of» usual (now (question .entry)) (now (site .entry)) (now (picks .entry)) .answer) ⌝ }
+    ensures { λ _. ⌜ now (picks .exit) ≡ «find-of» usual (now (question .entry)) (now (site .entry)) (now (picks .entry)) .picks ⌝ }
+{
+    let r = call_find::find(question, site, picks);
+    tell(r, number, place);
+}
+
+// Whether some picks make a rule true that only ever wants more: 0 and 0, or a refusal.
+#[no_mangle]
+pub extern "C" fn nendokwe_monotone(
+    question: &[u8],
+    site: &[u8],
+    number: &mut u32,
+    place: &mut usize,
+)
+    ensures { λ _. ⌜ now (number .exit) ≡ replyNumber («monotone-of» usual (now (question .entry)) (now (site .entry))) ⌝ }
+    ensures { λ _. ⌜ now (place .exit) ≡ replyPlace («monotone-of» usual (now (question .entry)) (now (site .entry))) ⌝ }
+{
+    let r = call_monotone::monotone(question, site);
     tell(r, number, place);
 }

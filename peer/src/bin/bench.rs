@@ -3,12 +3,13 @@
 //!     bench [ROUNDS] [WORD]      all jobs, or those whose names have the word
 
 use peer::large::{
-    broken_deep, broken_path, deep, facts, kind_zones, last, long_text, named_facts, named_picks,
-    padded, path, round, sorted_zones, wide_facts, zones,
+    broken_deep, broken_path, deep, facts, kind_zones, labelled, last, long_text, named_facts,
+    named_picks, padded, path, round, sorted_zones, wide_facts, zones,
 };
 use peer::limits::{STEPS, TEXT};
 use peer::paper::PAGE_BYTES;
 use peer::sample::{needs, sound, Random, Sample};
+use peer::searches::searches;
 use peer::trial::{Calls, Other, Peer, LINKED};
 use peer::typing::typed;
 use peer::Reply;
@@ -26,8 +27,9 @@ enum Work {
     CheckLent,
     CheckText,
     Picks,
-    /// The last page of lent steps that take a line each.
-    LastPage,
+    /// A page of the lent steps.
+    Page(u64),
+    Find,
     /// Build from text, check and read the picks, each on a small case.
     Small,
 }
@@ -65,10 +67,8 @@ impl Job {
                 Work::CheckLent => program.check(case, &sample.lent_steps, state),
                 Work::CheckText => program.check_text(case, &sample.steps, state),
                 Work::Picks => program.picks(case, &sample.lent_steps, picks, state),
-                Work::LastPage => {
-                    let last = sample.lent_steps.len().div_ceil(59) as u64;
-                    program.page(case, &sample.lent_steps, last, state, page)
-                }
+                Work::Page(number) => program.page(case, &sample.lent_steps, number, state, page),
+                Work::Find => program.find(case, picks),
                 Work::Small => {
                     black_box(program.build_text(case, &sample.picks, state, steps));
                     black_box(program.check_text(case, &sample.steps, state));
@@ -200,6 +200,26 @@ fn wide_jobs() -> Vec<Job> {
     jobs
 }
 
+/// The number of the last page of a plan's lent steps.
+fn last_page(sample: &Sample) -> u64 {
+    let case = [&sample.question[..], &sample.site[..]];
+    let (mut state, mut page) = (vec![0; 16_384], vec![0; PAGE_BYTES]);
+    let mut there = |number: u64| {
+        let reply = Peer.page(case, &sample.lent_steps, number, &mut state, &mut page);
+        matches!(reply, Reply::Accepted(_))
+    };
+    let (mut last, mut past) = (1, 6 * sample.lent_steps.len() as u64);
+    while past - last > 1 {
+        let middle = (last + past) / 2;
+        if there(middle) {
+            last = middle;
+        } else {
+            past = middle;
+        }
+    }
+    last
+}
+
 /// Three sizes of each, so that what a byte or a step costs can be seen not to grow.
 fn growing_jobs() -> Vec<(usize, Job)> {
     // Short, so that lists of every length have the same steps over and over.
@@ -221,8 +241,11 @@ fn growing_jobs() -> Vec<(usize, Job)> {
     for steps in [16_384, 65_536, 1_000_000, STEPS] {
         jobs.push((steps, Job::new("lent steps", Work::CheckLent, &padded(&plan, steps))));
     }
-    let longest = padded(&plan, STEPS);
-    jobs.push((STEPS, Job::new("lent steps: the last page", Work::LastPage, &longest)));
+    for (name, plan) in [("last page", plan.clone()), ("last page by label", labelled(&plan))] {
+        let plan = padded(&plan, STEPS);
+        let page = Work::Page(last_page(&plan));
+        jobs.push((STEPS, Job::new(&format!("lent steps: the {name}"), page, &plan)));
+    }
     jobs
 }
 
@@ -315,6 +338,11 @@ fn main() {
     for job in all.filter(|job| wanted(&job.name)) {
         let [peer, other] = job.time(rounds, &mut buffers);
         println!("{:<56} {peer:>11.1} {other:>11.1} {:>7.2}", job.name, other / peer);
+    }
+    // A search is dear: few rounds are enough.
+    for (name, sample) in searches().into_iter().filter(|(name, _)| wanted(name)) {
+        let [peer, other] = Job::new(name, Work::Find, &sample).time(rounds.min(3), &mut buffers);
+        println!("{name:<56} {peer:>11.1} {other:>11.1} {:>7.2}", other / peer);
     }
     print_growth(rounds, &mut buffers);
     print_judgements(rounds, &mut buffers);

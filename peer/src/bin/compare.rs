@@ -9,7 +9,7 @@ use peer::Reply;
 use std::process::ExitCode;
 
 /// How often each refusal number came up, success being 0.
-type Tally = [u64; 20];
+type Tally = [u64; 25];
 
 /// Differences that are shown in full.
 const SHOWN: u64 = 3;

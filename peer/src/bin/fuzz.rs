@@ -5,7 +5,9 @@
 
 use peer::naming::drawn;
 use peer::sample::{damage, needs, Random, Sample};
-use peer::trial::{argument, rooms, run, Call, Other, Outcome, Peer, Rooms, CALLS, FILL, LINKED};
+use peer::trial::{
+    argument, rooms, run, Call, Calls, Other, Outcome, Peer, Rooms, CALLS, FILL, LINKED,
+};
 use peer::Reply;
 use std::process::ExitCode;
 
@@ -58,7 +60,7 @@ fn page_kept(outcome: &Outcome) -> bool {
         Reply::Accepted(bytes) => bytes as usize,
         Reply::Refused(_) => 0,
     };
-    outcome.printed[written..].iter().all(|&byte| byte == FILL as u8)
+    outcome.page[written..].iter().all(|&byte| byte == FILL as u8)
 }
 
 /// How many entries the allowances of a case have.
@@ -76,6 +78,8 @@ fn kept(sample: &Sample, outcome: &Outcome, call: Call, needs: Option<Rooms>) ->
         Reply::Accepted(_) if matches!(call, Call::Sizes | Call::Rule | Call::Action) => (0, 0, 0),
         Reply::Accepted(_) if judges(call) => (0, 0, 0),
         Reply::Accepted(_) if call == Call::Allowances => (chosen(sample), 0, 0),
+        Reply::Accepted(_) if call == Call::Monotone => (0, 0, 0),
+        Reply::Accepted(_) if call == Call::Find => (picks, 0, 0),
         Reply::Accepted(_) if reads_picks => (picks, state, 0),
         Reply::Accepted(count) if builds => (0, state, count as usize),
         Reply::Accepted(_) => (0, state, 0),
@@ -97,6 +101,8 @@ fn known(outcome: &Outcome, call: Call) -> bool {
     match call {
         Call::Sizes => matches!(refusal.number, 1..=11 | 18..=19),
         Call::Action => matches!(refusal.number, 1..=11 | 13 | 18..=19),
+        Call::Find => matches!(refusal.number, 1..=12 | 18..=21),
+        Call::Monotone => matches!(refusal.number, 1..=11 | 18..=19 | 21 | 24),
         Call::Tries | Call::Allowances => matches!(refusal.number, 1..=12 | 18..=19),
         Call::BuildText | Call::Build => matches!(refusal.number, 1..=12 | 16..=19),
         Call::JudgeText | Call::Judge => matches!(refusal.number, 1..=12 | 16..=19),
@@ -127,6 +133,13 @@ fn as_built(sample: &Sample, call: Call, rooms: Rooms, outcome: &Outcome) -> boo
     }
 }
 
+/// Whether picks that were found are judged with a yes.
+fn judged(sample: &Sample, outcome: &Outcome, needs: Option<Rooms>) -> bool {
+    let (Reply::Accepted(_), Some(needs)) = (outcome.reply, needs) else { return true };
+    let case = [&sample.question[..], &sample.site[..]];
+    Other.judge(case, &outcome.picks[..needs[0]]) == Reply::Accepted(0)
+}
+
 fn sane(sample: &Sample, call: Call, rooms: Rooms, outcome: &Outcome) -> bool {
     if matches!(call, Call::DeskPicks | Call::DeskSteps) {
         return outcome.printed.last() == Some(&b'\n');
@@ -134,6 +147,7 @@ fn sane(sample: &Sample, call: Call, rooms: Rooms, outcome: &Outcome) -> bool {
     let needs = needs(sample);
     let whole = match call {
         Call::Build => round_trip(sample, outcome, needs),
+        Call::Find => judged(sample, outcome, needs),
         _ => !judges(call) || as_built(sample, call, rooms, outcome),
     };
     let printed = !pages(call) || page_kept(outcome);

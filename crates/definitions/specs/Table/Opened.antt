@@ -18,6 +18,8 @@ use Rattle.definitions.specs.Reply.Desk
 use Rattle.definitions.specs.Reply.Rewritten
 use Rattle.definitions.specs.Reply.Tries
 use Rattle.definitions.specs.Reply.Tally
+use Rattle.definitions.specs.Reply.Finding
+use Rattle.definitions.specs.Reply.Monotone
 use Rattle.definitions.specs.Reply.Allowance
 use Rattle.definitions.specs.Reply.Page
 
@@ -60,6 +62,8 @@ unfolding Lists.all Lists.any Lists.filter Lists.flatMap Lists.mapFrom Lists.opt
     Rewritten.fieldInNumbers Rewritten.fieldsInNumbers Rewritten.lineInNumbers Rewritten.inNumbers
     Tries.tryList Tries.tried Tries.readyToTry Tries.triedFrom Tries.tryLists
     Tally.noWalk Tally.thenWalk Tally.visit Tally.walk Tally.walked Tally.tallyOf Tally.tally
+    Finding.cellsOf Finding.cells Finding.numbered Finding.meets Finding.leastNumber Finding.leastPicks Finding.foundWords Finding.foundFrom Finding.find
+    Monotone.wantsMore Monotone.onlyWantsMore Monotone.monotone
     Allowance.mentions Allowance.allowance Allowance.allowancesOf Allowance.allowedFrom Allowance.allowances
     Page.spaces Page.left Page.right Page.kindWord Page.subjectWord Page.freeValues Page.shownElements Page.partWord Page.units Page.packed Page.stepHead
     Page.headed Page.stepLines Page.linesOf Page.blankLine Page.endedLine Page.pages Page.pageLines Page.pageText Page.pageOf Page.laid Page.pageIfLaid

@@ -10,7 +10,7 @@ use lib.Dec.{eqb}
 use lib.ListN.{length, set}
 use Rattle.rows.specs.Values.{valueIn, Within}
 use Rattle.rows.specs.Laws.{within-set}
-use Rattle.eval_rule.specs.Lines.{linesLength, elementIn, valueOf}
+use Rattle.eval_rule.specs.Lines.{linesLength, leafAt, elementIn, valueOf}
 use Rattle.eval_rule.specs.Says.{AllTurns, AllParts, IsCell, Passed}
 use Rattle.eval_rule.specs.Laws.{level-small, parts-small, range-inside, element-small, rises, Steady, steady-start, steady-next, values-are}
 use Rattle.eval_rule.specs.Laws.{value-small, turns-start, parts-start, parts-next, none-gone, one-gone, ends, part-ends, part-goes, none-goes}
@@ -66,8 +66,8 @@ claims t = (
 
 abbrev Inv-parts : lts.InvT-parts
 Inv-parts lines facts picks n v kind level first many range turns sought joins decisive old values answer₀ left seen₀ turn i₀ answer seen i =
-    (i ≤ many) × (i ≤ seen) × (answer ≡ not sought) × AllParts n lines facts picks v kind level many joins sought (valueIn values) i
-    × Passed n lines facts picks v level first many joins (valueIn values) seen
+    (i ≤ many) × (i ≤ seen) × (answer ≡ not sought) × AllParts n lines (leafAt facts picks n) v kind level many joins sought (valueIn values) i
+    × Passed n lines (leafAt facts picks n) v level first many joins (valueIn values) seen
 
 abbrev μ-parts : lts.MeasureT-parts
 μ-parts lines facts picks n v kind level first many range turns sought joins decisive old values answer₀ left seen₀ turn i₀ answer seen i =
@@ -76,8 +76,8 @@ abbrev μ-parts : lts.MeasureT-parts
 abbrev Inv-elements : lts.InvT-elements
 Inv-elements lines facts picks n v kind level first many range turns sought joins decisive old values₀ answer₀ left₀ seen₀ values answer left seen =
     (left ≤ turns) × (answer ≡ not sought) × Steady values₀ level values × Within n values
-    × AllTurns n lines facts picks v kind level many joins sought (valueIn values₀) (elementIn lines range) turns (turns - left)
-    × Passed n lines facts picks v level first many joins (valueIn values₀) seen
+    × AllTurns n lines (leafAt facts picks n) v kind level many joins sought (valueIn values₀) (elementIn lines range) turns (turns - left)
+    × Passed n lines (leafAt facts picks n) v level first many joins (valueIn values₀) seen
 
 abbrev μ-elements : lts.MeasureT-elements
 μ-elements lines facts picks n v kind level first many range turns sought joins decisive old values₀ answer₀ left₀ seen₀ values answer left seen =
@@ -98,11 +98,11 @@ elements-holds t c =
       refl,
       steady-start (a .t6) (x .result .level) (omega (arith, len, level-small _ _ (s .pre .1 .0) _ (s .pre .1 .1) _ (x .ensures))),
       s .pre .1 .2,
-      none-gone (AllTurns (a .n) (a .lines .now) (a .facts .now) (a .picks .now) (a .v)
+      none-gone (AllTurns (a .n) (a .lines .now) (leafAt (a .facts .now) (a .picks .now) (a .n)) (a .v)
           (x .result .kind) (x .result .level) (x .result .many) (eqb (x .result .join) 1) (eqb (x .result .kind) 1)
           (valueIn (a .t6)) (elementIn (a .lines .now) (x .result .range)) (x .result .count)) (x .result .count)
-          (turns-start (a .n) (a .lines .now) (a .facts .now) (a .picks .now) (a .v) (x .result) (valueIn (a .t6)) (x .ensures)),
-      passed-none (a .n) (a .lines .now) (a .facts .now) (a .picks .now) (a .v) (x .result .level) (x .result .first) (x .result .many) (eqb (x .result .join) 1)
+          (turns-start (a .n) (a .lines .now) (leafAt (a .facts .now) (a .picks .now) (a .n)) (a .v) (x .result) (valueIn (a .t6)) (x .ensures)),
+      passed-none (a .n) (a .lines .now) (leafAt (a .facts .now) (a .picks .now) (a .n)) (a .v) (x .result .level) (x .result .first) (x .result .many) (eqb (x .result .join) 1)
           (valueIn (a .t6)),
     )
 
@@ -117,10 +117,10 @@ parts-holds t c =
       omega arith,
       omega arith,
       e .inv .1,
-      parts-start (a .n) (a .lines .now) (a .facts .now) (a .picks .now) (a .v)
+      parts-start (a .n) (a .lines .now) (leafAt (a .facts .now) (a .picks .now) (a .n)) (a .v)
           (x .result .kind) (x .result .level) (x .result .many) (eqb (x .result .join) 1) (eqb (x .result .kind) 1)
           (valueIn (set (e .values) (x .result .level) (u .result))),
-      passed-over _ _ _ _ _ (x .result .level) (x .result .first) (x .result .many) (eqb (x .result .join) 1) (valueIn (a .t6)) (valueIn (set (e .values) (x .result
+      passed-over _ _ _ _ (x .result .level) (x .result .first) (x .result .many) (eqb (x .result .join) 1) (valueIn (a .t6)) (valueIn (set (e .values) (x .result
           .level) (u .result))) _
           (e .seen) (values-are (a .t6) _ _ _ _ (e .values) (e .inv .2) (u .ensures)) (e .inv .5),
     )
@@ -184,7 +184,7 @@ cell : (t : ℕ) (c : lts.Joined1 (claims t)
     let x = c .before .before .before .before .before .before .before .before .before .before .before .node-at in
     let e = c .before .before .before .before .before .before .before .before .elements in let u = c .before .before .before .before .before .before .value-at in
     let o = c .before .before .before .before .before .parts in
-    IsCell (a .n) (a .lines .now) (a .facts .now) (a .picks .now) (a .v) (valueIn (set (e .values) (x .result .level) (u .result))) (o .i) (c .if1 .b)
+    IsCell (a .n) (a .lines .now) (leafAt (a .facts .now) (a .picks .now) (a .n)) (a .v) (valueIn (set (e .values) (x .result .level) (u .result))) (o .i) (c .if1 .b)
 cell t c =
     let parts-test = c .before .before .before .before .parts-test in let e = c .before .before .before .before .before .before .before .before .elements in
     let x = c .before .before .before .before .before .before .before .before .before .before .before .node-at in
@@ -193,13 +193,13 @@ cell t c =
     let o = c .before .before .before .before .before .parts in let f = c .before .before .before .is-fixed in let q = c .before .before .part-at in
     let k = c .before .is-known in ⊎-elim
     (λ w. let z = known-is (f .result) (o .i) (o .seen) (k .result) (k .ensures) (w .0 .taken) in
-    cell-known (a .n) (a .lines .now) (a .facts .now) (a .picks .now) (a .v) (x .result .level) (x .result .first) (x .result .many) (eqb (x .result .join) 1)
+    cell-known (a .n) (a .lines .now) (leafAt (a .facts .now) (a .picks .now) (a .n)) (a .v) (x .result .level) (x .result .first) (x .result .many) (eqb (x .result .join) 1)
     (valueIn (set (e .values) (x .result .level) (u .result))) (o .seen) (o .inv .4) (o .i) (z .1) (sym (f .ensures) ∙ z .0) (c .if1 .b) (w .1))
     (⊎-elim
-    (λ w. cell-node (a .n) (a .lines .now) (a .facts .now) (a .picks .now) (a .v) (x .result) (x .ensures) (o .i) (omega (arith, parts-test .taken)) (q .result) (q
+    (λ w. cell-node (a .n) (a .lines .now) (leafAt (a .facts .now) (a .picks .now) (a .n)) (a .v) (x .result) (x .ensures) (o .i) (omega (arith, parts-test .taken)) (q .result) (q
     .ensures)
-    (set (e .values) (x .result .level) (u .result)) (c .if1 .b) (w .2 .taken) (λ g F root h. w .4 ∙ w .3 .ensures g F root h))
-    (λ w. cell-leaf (a .n) (a .lines .now) (a .facts .now) (a .picks .now) (a .v) (x .result) (x .ensures) (o .i) (omega (arith, parts-test .taken)) (q .result) (q
+    (set (e .values) (x .result .level) (u .result)) (c .if1 .b) (w .2 .taken) (λ H root h. w .4 ∙ w .3 .ensures H root h))
+    (λ w. cell-leaf (a .n) (a .lines .now) (leafAt (a .facts .now) (a .picks .now) (a .n)) (a .v) (x .result) (x .ensures) (o .i) (omega (arith, parts-test .taken)) (q .result) (q
     .ensures)
     (set (e .values) (x .result .level) (u .result)) (c .if1 .b) (w .2 .left)
     (within-set (a .n) (e .values) (x .result .level) (u .result)
@@ -226,15 +226,15 @@ elements-again t c =
           (value-small _ _ _ _ _ (u .ensures)
           (element-small _ _ (s .pre .1 .0) _ (s .pre .1 .1) _ (x .ensures) (x .result .count - e .left) (omega (arith, elements-test .taken, e .inv .0))) (s .pre
           .1 .2 (x .result .level))) (e .inv .3),
-      one-gone (AllTurns (a .n) (a .lines .now) (a .facts .now) (a .picks .now) (a .v)
+      one-gone (AllTurns (a .n) (a .lines .now) (leafAt (a .facts .now) (a .picks .now) (a .n)) (a .v)
           (x .result .kind) (x .result .level) (x .result .many) (eqb (x .result .join) 1) (eqb (x .result .kind) 1)
           (valueIn (a .t6)) (elementIn (a .lines .now) (x .result .range)) (x .result .count)) (x .result .count) (e .left) (omega (arith, elements-test .taken)) (e
           .inv .0)
-          (part-goes _ _ _ _ _ _ _ _ _ _ _ _ _ _ (e .inv .4) (omega (arith, elements-test .taken, e .inv .0))
+          (part-goes _ _ _ _ _ _ _ _ _ _ _ _ _ (e .inv .4) (omega (arith, elements-test .taken, e .inv .0))
           (valueIn (set (e .values) (x .result .level) (u .result))) (values-are (a .t6) _ _ _ _ (e .values) (e .inv .2) (u .ensures))
           (o .i) (o .inv .3) (d .result) (d .ensures)
           (at-if1 .if1 .b) (r .result) (omega (arith, parts-test .taken)) (cell t (at-if1)) (r .ensures) (c .before .before .if3 .taken) (c .before .if4 .left)),
-      passed-back _ _ _ _ _ (x .result .level) (x .result .first) (x .result .many) (eqb (x .result .join) 1) (valueIn (a .t6)) (valueIn (set (e .values) (x .result
+      passed-back _ _ _ _ (x .result .level) (x .result .first) (x .result .many) (eqb (x .result .join) 1) (valueIn (a .t6)) (valueIn (set (e .values) (x .result
           .level) (u .result))) _
           (o .seen) (values-are (a .t6) _ _ _ _ (e .values) (e .inv .2) (u .ensures)) (o .inv .4),
     )
@@ -250,13 +250,13 @@ parts-again t c =
       omega (arith, parts-test .taken),
       later-over (o .seen) (o .i + 1) (l .result) (l .ensures) .1,
       o .inv .2,
-      parts-next (a .n) (a .lines .now) (a .facts .now) (a .picks .now) (a .v)
+      parts-next (a .n) (a .lines .now) (leafAt (a .facts .now) (a .picks .now) (a .n)) (a .v)
           (x .result .kind) (x .result .level) (x .result .many) (eqb (x .result .join) 1) (eqb (x .result .kind) 1)
           (valueIn (set (e .values) (x .result .level) (u .result))) (o .i) (o .inv .3)
           (at-if1 .if1 .b) (r .result) (omega (arith, parts-test .taken)) (cell t (at-if1)) (r .ensures) (c .before .if3 .left),
-      passed-next (a .n) (a .lines .now) (a .facts .now) (a .picks .now) (a .v) (x .result .level) (x .result .first) (x .result .many)
+      passed-next (a .n) (a .lines .now) (leafAt (a .facts .now) (a .picks .now) (a .n)) (a .v) (x .result .level) (x .result .first) (x .result .many)
           (eqb (x .result .join) 1) (valueIn (set (e .values) (x .result .level) (u .result))) (o .seen) (o .inv .4) (o .i)
-          (still-is (a .n) (a .lines .now) (a .facts .now) (a .picks .now) (a .v) (x .result) (x .ensures))
+          (still-is (a .n) (a .lines .now) (leafAt (a .facts .now) (a .picks .now) (a .n)) (a .v) (x .result) (x .ensures))
           (at-if1 .if1 .b) (r .result) (o .inv .1) (omega (arith, parts-test .taken)) (cell t (at-if1)) (r .ensures) (c .before .if3 .left) (l .result) (l .ensures),
     )
 
@@ -273,15 +273,15 @@ elements-again-2 t c =
           (value-small _ _ _ _ _ (u .ensures)
           (element-small _ _ (s .pre .1 .0) _ (s .pre .1 .1) _ (x .ensures) (x .result .count - e .left) (omega (arith, elements-test .taken, e .inv .0))) (s .pre
           .1 .2 (x .result .level))) (e .inv .3),
-      one-gone (AllTurns (a .n) (a .lines .now) (a .facts .now) (a .picks .now) (a .v)
+      one-gone (AllTurns (a .n) (a .lines .now) (leafAt (a .facts .now) (a .picks .now) (a .n)) (a .v)
           (x .result .kind) (x .result .level) (x .result .many) (eqb (x .result .join) 1) (eqb (x .result .kind) 1)
           (valueIn (a .t6)) (elementIn (a .lines .now) (x .result .range)) (x .result .count)) (x .result .count) (e .left) (omega (arith, elements-test .taken)) (e
           .inv .0)
-          (none-goes _ _ _ _ _ _ _ _ _ _ _ _ _ _ (e .inv .4) (omega (arith, elements-test .taken, e .inv .0))
+          (none-goes _ _ _ _ _ _ _ _ _ _ _ _ _ (e .inv .4) (omega (arith, elements-test .taken, e .inv .0))
           (valueIn (set (e .values) (x .result .level) (u .result))) (values-are (a .t6) _ _ _ _ (e .values) (e .inv .2) (u .ensures))
           (o .i) (o .inv .3) (d .result) (d .ensures)
           (omega arith) (c .if6 .taken)),
-      passed-back _ _ _ _ _ (x .result .level) (x .result .first) (x .result .many) (eqb (x .result .join) 1) (valueIn (a .t6)) (valueIn (set (e .values) (x .result
+      passed-back _ _ _ _ (x .result .level) (x .result .first) (x .result .many) (eqb (x .result .join) 1) (valueIn (a .t6)) (valueIn (set (e .values) (x .result
           .level) (u .result))) _
           (o .seen) (values-are (a .t6) _ _ _ _ (e .values) (e .inv .2) (u .ensures)) (o .inv .4),
     )
@@ -290,7 +290,7 @@ returns : (t : ℕ) → lts.Need-returns (claims t) (at-first t) node-holds.Post
 returns t c =
     let s = c .before .before .before .before .before .before .before .before in
     let x = c .before .before .before .before .node-at in let e = c .before .elements in
-    ends _ _ _ _ _ _ _ _ _ _ _ _ _ _ (e .inv .4) (e .answer) (omega arith) (e .inv .1)
+    ends _ _ _ _ _ _ _ _ _ _ _ _ _ (e .inv .4) (e .answer) (omega arith) (e .inv .1)
 
 returns-2 : (t : ℕ) → lts.Need-returns-2 (claims t) (at-first t) node-holds.Post Inv-parts μ-parts Inv-elements μ-elements
 returns-2 t c =
@@ -301,7 +301,7 @@ returns-2 t c =
     let d = at-if1 .before .before .before .before .before .before .before .before .before .agrees in
     let x = at-if1 .before .before .before .before .before .before .before .before .before .before .before .node-at in
     let s = at-if1 .before .before .before .before .before .before .before .before .before .before .before .before .before .before .before in
-    let a = s .args in let r = c .before .before .agrees2 in part-ends _ _ _ _ _ _ _ _ _ _ _ _ _ _ (e .inv .4) (omega (arith, elements-test .taken, e .inv .0))
+    let a = s .args in let r = c .before .before .agrees2 in part-ends _ _ _ _ _ _ _ _ _ _ _ _ _ (e .inv .4) (omega (arith, elements-test .taken, e .inv .0))
     (valueIn (set (e .values) (x .result .level) (u .result))) (values-are (a .t6) _ _ _ _ (e .values) (e .inv .2) (u .ensures))
     (o .i) (o .inv .3) (d .result) (d .ensures)
     (at-if1 .if1 .b) (r .result) (omega (arith, c .before .before .before .before .before .before .before .parts-test .taken)) (cell t (at-if1)) (r .ensures) (c
@@ -316,7 +316,7 @@ returns-3 t c =
     let x = at-if1 .before .before .before .before .before .before .before .before .before .before .before .node-at in
     let s = at-if1 .before .before .before .before .before .before .before .before .before .before .before .before .before .before .before in
     let a = s .args in let f = c .before .before .before .before .before .before .before .is-fixed in let r = c .before .before .before .agrees2 in
-    fixed-ends _ _ _ _ _ _ _ _ _ _ _ _ _ _ (e .inv .4) (x .result .first) (still-is (a .n) (a .lines .now) (a .facts .now) (a .picks .now) (a .v) (x .result) (x
+    fixed-ends _ _ _ _ _ _ _ _ _ _ _ _ _ (e .inv .4) (x .result .first) (still-is (a .n) (a .lines .now) (leafAt (a .facts .now) (a .picks .now) (a .n)) (a .v) (x .result) (x
     .ensures))
     (valueIn (set (e .values) (x .result .level) (u .result)))
     (valueOf (x .result .kind) (elementIn (a .lines .now) (x .result .range) (x .result .count - e .left)) (valueIn (a .t6) (x .result .level)))
@@ -331,7 +331,7 @@ returns-4 t c =
     let a = s .args in let x = c .before .before .before .before .before .before .before .before .node-at in
     let d = c .before .before .before .before .before .before .agrees in let e = c .before .before .before .before .before .elements in
     let u = c .before .before .before .value-at in let o = c .before .before .parts in
-    none-ends _ _ _ _ _ _ _ _ _ _ _ _ _ _ (e .inv .4) (omega (arith, c .before .before .before .before .elements-test .taken, e .inv .0))
+    none-ends _ _ _ _ _ _ _ _ _ _ _ _ _ (e .inv .4) (omega (arith, c .before .before .before .before .elements-test .taken, e .inv .0))
     (valueIn (set (e .values) (x .result .level) (u .result))) (values-are (a .t6) _ _ _ _ (e .values) (e .inv .2) (u .ensures))
     (o .i) (o .inv .3) (d .result) (d .ensures)
     (omega arith) (c .if6 .left)

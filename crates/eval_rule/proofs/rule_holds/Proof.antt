@@ -1,5 +1,6 @@
 use native.Mathlib.Omega.{arith}
 use Rattle.rows.specs.Laws.{within-zeros, value-zeros}
+use Rattle.eval_rule.specs.Lines.{leafAt}
 use Rattle.eval_rule.specs.Laws.{root-node, root-leaf, root-small}
 use borrow.Author.Needs.{needs}
 use Rattle.eval_rule.proofs.rule_holds.Tie as tie
@@ -12,8 +13,8 @@ node-holds-requires c κs =
 returns : tie.Need-returns
 returns c =
     let part-at = c .before .before .before .part-at in let s = c .before .before .before .before .before .before .before in
-    λ d F root h. root-node d F root (s .args .n) (s .args .lines .now) (s .args .facts .now) (s .args .picks .now) h (part-at .result) (part-at .ensures) _
-    value-zeros (c .node-holds .result) (c .before .if1 .taken) (c .node-holds .ensures d F root)
+    λ H root h. root-node H root (s .args .n) (s .args .lines .now) (leafAt (s .args .facts .now) (s .args .picks .now) (s .args .n)) h (part-at .result) (part-at .ensures) _
+    value-zeros (c .node-holds .result) (c .before .if1 .taken) (c .node-holds .ensures H root)
 
 leaf-holds-requires : tie.Need-leaf-holds-requires
 leaf-holds-requires c κs = (c .before .before .before .before .before .before .pre, omega arith, within-zeros (c .before .before .before .before .before .before .args .n) (c .before .before .before .before .before .before .pre .some))
@@ -21,7 +22,7 @@ leaf-holds-requires c κs = (c .before .before .before .before .before .before .
 returns-2 : tie.Need-returns-2
 returns-2 c =
     let part-at = c .before .before .before .part-at in let s = c .before .before .before .before .before .before .before in
-    λ d F root h. root-leaf d F root (s .args .n) (s .args .lines .now) (s .args .facts .now) (s .args .picks .now) h (part-at .result) (part-at .ensures) _
+    λ H root h. root-leaf H root (s .args .n) (s .args .lines .now) (leafAt (s .args .facts .now) (s .args .picks .now) (s .args .n)) h (part-at .result) (part-at .ensures) _
     value-zeros (c .leaf-holds .result) (c .before .if1 .left) (within-zeros (s .args .n) (s .pre .some)) (c .leaf-holds .ensures)
 
 pub rule-holds-spec : {M : Type 1} → Rattle.eval_rule.proofs.rule_holds.Statement.statement M

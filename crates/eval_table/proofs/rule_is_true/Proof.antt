@@ -1,4 +1,5 @@
 use Rattle.definitions.specs.Problem.Atoms.{problemOf}
+use Rattle.laws.specs.Valued.{treeBy, byPicks}
 use Rattle.eval_table.specs.Told.{sound, says, rule-is}
 use Rattle.eval_table.proofs.rule_is_true.Tie as tie
 
@@ -10,8 +11,8 @@ rule-holds-requires c κs =
 returns : tie.Need-returns
 returns c =
     let a = c .before .before .before .before .args in
-    λ d F A pk o fi pa. rule-is d F (c .rule-holds .result) A (c .rule-holds .ensures d F (problemOf d .root)
-    (says d A (a .n) (o .members) (o .types) (o .ranges) (o .relations) (o .nodes) (o .counted) (o .inputs) (o .fits) F pk (a .facts .now) fi (a .picks .now) pa (a .lines .now) (o .lined)))
+    λ d F A pk o fi pa. rule-is d F (c .rule-holds .result) A (c .rule-holds .ensures (treeBy d (byPicks d F F)) (problemOf d .root)
+    (says d A (a .n) (o .members) (o .types) (o .ranges) (o .relations) (o .nodes) (o .counted) (o .inputs) (o .fits) F (a .facts .now) fi (a .picks .now) pa (a .lines .now) (o .lined)))
 
 pub rule-is-true-spec : {M : Type 1} → Rattle.eval_table.proofs.rule_is_true.Statement.statement M
 rule-is-true-spec = tie.close (tie.spec rule-holds-requires returns)
