@@ -10,7 +10,8 @@
  * page: the last one).
  * Words and entries past what is written stay as they were. With 1.5 MiB of stack every call answers.
  *
- * A text has at most 1,048,576 bytes, a list 1,048,576 steps, a case 64 elements, 1,048,576 atoms and 4,194,304 actions. The desk program
+ * A text has at most 1,048,576 bytes, a list 1,048,576 steps, a case 64 elements, 1,048,576 atoms and 4,194,304 actions; the relation of an
+ * `every` line 8 tuples, and no more than 1,048,576 steps may be built of such a case (23). The desk program
  * keeps to 16,384 bytes, 16 elements, 65,536 atoms, 131,072 actions and 8,192 built steps.
  */
 #ifndef NENDOKWE_H
@@ -30,9 +31,10 @@ void nendokwe_rule(const uint8_t *question, size_t question_length, size_t *star
 void nendokwe_sizes(const uint8_t *question, size_t question_length, const uint8_t *site, size_t site_length,
                     uint32_t *number, size_t *place, size_t *elements, size_t *atoms, size_t *actions, size_t *bound);
 
-/* The action of number k: kind 0 set, 1 begin-proof, 2 and, 3 or, 4 exists, 5 forall, 6 prove-goal; its relation or node; its row; the
- * part or element that is chosen. Relations are numbered from 0: EQ, LT, SUC, ZERO, MAX, then those of the `rel` lines, then those of
- * the `choose` lines, each in order; so the first `choose` has number 5 and one more for each `rel` line. 13 and k where there is none.
+/* The action of number k: kind 0 set, 1 begin-proof, 2 and, 3 or, 4 exists, 5 forall, 6 prove-goal, and with an `every` line 7 round-end
+ * (in the place of 6), 8 mark-in, 9 mark-out; its relation or node; its row; the part or element that is chosen. Relations are numbered from 0: EQ, LT, SUC, ZERO, MAX, then those of the `rel` lines, then those of
+ * the `choose` lines, each in order, then that of an `every` line; so the first `choose` has number 5 and one more for each `rel` line. 13
+ * and k where there is none.
  * Success is 0 and 0; a refusal leaves the four as they were. */
 void nendokwe_action(const uint8_t *question, size_t question_length, const uint8_t *site, size_t site_length, size_t k,
                      uint32_t *number, size_t *place, uint32_t *kind, size_t *subject, size_t *row, size_t *choice);

@@ -10,14 +10,14 @@ import pathlib
 import sys
 
 MARK = "# What follows is written by pack.py, from scripts of vectors."
-LANDED = {"-", "big", "labels", "types", "kinds"}  # what an answer may rest on
+LANDED = {"-", "big", "labels", "types", "kinds", "every"}  # what an answer may rest on
 SHEETS = ("question", "site", "text")
 NUMBERS = ("lent", "lists")
 CALLS = {"sizes", "tally", "action", "allowances", "find", "monotone", "check_text", "picks_text", "build_text", "judge_text", "page_text",
          "check", "picks", "build", "judge", "page", "tries"}
 STEPS = {"check", "picks", "page", "tries"}  # the calls on lent steps
 ROOMS = {"state": 1024, "picks": 64, "steps": 8192, "lent": 512, "lists": 512}  # as many words and numbers the program has
-JOBS = ("01", "03", "04", "05", "06", "07", "08", "09", "10", "13", "14")  # whose scripts and desk inputs are taken
+JOBS = ("01", "03", "04", "05", "06", "07", "08", "09", "10", "12", "13", "14")  # whose scripts and desk inputs are taken
 LATER = {"0342"}  # of the first desk folder: its `type` line was no record then, and stands in the wrong place now
 
 

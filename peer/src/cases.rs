@@ -57,12 +57,13 @@ pub fn action(question: &[u8], site: &[u8], number: u64) -> Result<Action, Refus
 }
 
 /// The action of this number in numbers: its kind (set, begin-proof, `and`, `or`,
-/// `exists`, `forall`, prove-goal, from 0), its relation or node, its row, and its
-/// part, element or z.
+/// `exists`, `forall`, prove-goal, round-end, mark-in, mark-out, from 0), its relation or
+/// node, its row, and its part, element or z.
 pub fn action_details(question: &[u8], site: &[u8], number: u64) -> Result<[u64; 4], Refusal> {
     let found = action(question, site, number)?;
     let (question, structure) = case(question, site, &USUAL)?;
     let problem = Problem::new(&question, &structure, &USUAL)?;
+    let every = question.signature.every().unwrap_or(0) as u32;
     let details = match found {
         Action::Set(set) => {
             let relation = question.signature.chosen().start as u32 + set.choose;
@@ -79,6 +80,9 @@ pub fn action_details(question: &[u8], site: &[u8], number: u64) -> Result<[u64;
             [kind, prove.node, prove.row, prove.choice]
         }
         Action::ProveGoal => [6, 0, 0, 0],
+        Action::RoundEnd => [7, 0, 0, 0],
+        Action::MarkIn(row) => [8, every, row, 0],
+        Action::MarkOut(row) => [9, every, row, 0],
     };
     Ok(details.map(u64::from))
 }

@@ -76,6 +76,28 @@ fn picked(sample: Sample, n: usize, pairs: bool, pick: impl Fn(usize, usize) -> 
     Sample { picks: picks.into(), ..sample }
 }
 
+/// The same with an `every` line of this arity, which the rule does not name.
+fn for_every(sample: Sample, arity: usize) -> Sample {
+    let question = String::from_utf8_lossy(&sample.question);
+    let question = question.replace("rule\t", &format!("every\tLOST\t{arity}\nrule\t"));
+    Sample { question: question.into_bytes(), ..sample }
+}
+
+/// 256 rounds that all need nearly 4,096 steps, with so many `and` over all.
+pub(crate) fn many_rounds(ands: usize) -> Sample {
+    let sample = case(8, &[], &[3], &chain(&[ands, 5, 6, 6], "(T ?a ?b ?c)"));
+    let each = |e: usize, f: usize| {
+        (0..8).map(|g| format!("pick\tT\t{e}\t{f}\t{g}\n")).collect::<String>()
+    };
+    for_every(picked(sample, 8, true, each), 1)
+}
+
+/// 32 rounds, as many steps as a case at the desk may be bounded by.
+fn desk_rounds(ands: usize) -> Sample {
+    let rule = chain(&[ands, 0, 0, 0, 1], "(and (T ?a ?b ?c) (U ?b ?c ?d))");
+    for_every(case(5, &[], &[3, 3, 1], &rule), 1)
+}
+
 fn each(n: usize) -> Sample {
     let sample = case(n, &[], &[1], "(forall (?y) (T ?y))");
     picked(sample, n, false, |_, e| format!("pick\tT\t{e}\n"))
@@ -492,9 +514,50 @@ fn desk() -> Vec<Edge> {
     ]
 }
 
+/// 23: more than eight tuples, a bound above the limit of steps, or a call that takes no such case.
+fn rounds() -> Vec<Edge> {
+    use Call::*;
+    let room = [8, 87, 1_048_321];
+    vec![
+        edge(
+            "a bound of 1,048,321 steps in 256 rounds",
+            || planned(many_rounds(4)),
+            &[
+                (Sizes, NONE, "0 0 8 5551 4614 1048321"),
+                (BuildText, room, "0 1046783"),
+                (Build, room, "0 1046783"),
+                (Build, [8, 87, 1_048_320], "12 1048321"),
+                (Check, room, "0 1046783"),
+                (Picks, room, "0 1046783"),
+                (JudgeText, NONE, "0 0"),
+                (Action, [0, 0, 4_597], "0 0 7 0 0 0"),
+                (Action, [0, 0, 4_605], "0 0 8 6 7 0"),
+                (Action, [0, 0, 4_606], "0 0 9 6 0 0"),
+                (Action, [0, 0, 4_614], "13 4614"),
+                (Find, NONE, "23 0"),
+                (Allowances, NONE, "23 0"),
+                (Monotone, NONE, "24 0"),
+            ],
+        ),
+        refused("a bound of 1,048,577 steps in 256 rounds", || many_rounds(5), "23 0"),
+        refused("9 tuples of one element each", || for_every(each(9), 1), "23 0"),
+        refused("9 tuples of two elements each", || for_every(each(3), 2), "23 0"),
+        edge(
+            "a bound of 65,536 steps at the desk",
+            || desk_rounds(4),
+            &[(DeskPicks, NONE, "no 12 65536")],
+        ),
+        edge(
+            "a bound of 65,568 steps at the desk",
+            || desk_rounds(5),
+            &[(DeskPicks, NONE, "no 23 0")],
+        ),
+    ]
+}
+
 /// Every limit, at it and past it.
 pub fn edges() -> Vec<Edge> {
     let forms = [elements(), labels(), types(), kinds(), bytes()];
-    let sizes = [steps(), atoms(), actions(), kinds_of_many_actions(), desk()];
+    let sizes = [steps(), atoms(), actions(), kinds_of_many_actions(), rounds(), desk()];
     forms.into_iter().chain(sizes).flatten().collect()
 }

@@ -7,7 +7,7 @@
 use crate::cases::{case, room};
 use crate::judging::Search;
 use crate::limits::USUAL;
-use crate::measures::within_limits;
+use crate::measures::{within_limits, without_every};
 use crate::plans::broken_kind;
 use crate::sheets::{pick_words, Question, Structure, Tables};
 use crate::text::{cause, Refusal, Reply};
@@ -24,6 +24,7 @@ pub fn find(question: &[u8], site: &[u8], picks: &mut [u64]) -> Reply {
 fn find_with(question: &[u8], site: &[u8], picks: &mut [u64]) -> Result<usize, Refusal> {
     let (question, structure) = case(question, site, &USUAL)?;
     within_limits(&question, &structure)?;
+    without_every(&question)?;
     room(picks.len(), pick_words(&question.signature, structure.n))?;
     let cells = cells(&question, &structure)?;
     let chosen = question.signature.chosen_relations();
@@ -89,7 +90,8 @@ impl Finder<'_> {
             structure: self.structure,
             picks: &self.open,
             sure: &self.sure,
-            chosen: self.question.signature.chosen().start,
+            chosen: self.question.signature.chosen(),
+            value: 0,
         };
         broken_kind(&self.question.signature, self.structure, &self.sure).is_none()
             && search.node(0, &mut [0; NESTING_LIMIT])
@@ -108,7 +110,8 @@ fn monotone_with(question: &[u8], site: &[u8]) -> Result<usize, Refusal> {
     let chosen = question.signature.chosen_relations();
     let first = question.signature.chosen().start;
     let negated = |part: &Part| matches!(part, Part::Literal(literal) if literal.relation >= first && !literal.positive);
-    if chosen.iter().any(|relation| relation.kind.is_function())
+    if question.signature.every().is_some()
+        || chosen.iter().any(|relation| relation.kind.is_function())
         || question.tree.parts.iter().any(negated)
     {
         return Err(Refusal::new(cause::NOT_MONOTONE, 0));
@@ -121,7 +124,8 @@ fn monotone_with(question: &[u8], site: &[u8]) -> Result<usize, Refusal> {
         structure: &structure,
         picks: &all,
         sure: &all,
-        chosen: first,
+        chosen: question.signature.chosen(),
+        value: 0,
     };
     if !search.node(0, &mut [0; NESTING_LIMIT]) {
         return Err(Refusal::new(cause::NO_PICKS, 0));

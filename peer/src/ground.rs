@@ -38,9 +38,14 @@ pub enum Action {
     BeginProof,
     Prove(Prove),
     ProveGoal,
+    /// Ends a round, in the place of prove-goal where there is an `every` line.
+    RoundEnd,
+    /// Puts the tuple of this row into the relation of the `every` line, or takes it out.
+    MarkIn(u32),
+    MarkOut(u32),
 }
 
-/// Where a relation's atoms lie: tuples, not-tuples, free-domain, free-range.
+/// Where a relation's atoms lie: tuples, not-tuples, free-domain, free-range; or tuples, not-tuples, marks.
 #[derive(Clone, Copy, Debug)]
 struct RelationAtoms<'c> {
     kind: Kind,
@@ -81,6 +86,10 @@ impl RelationAtoms<'_> {
 
     fn free_range(&self, element: u32, n: u32) -> u32 {
         self.free_domain(n) + element
+    }
+
+    fn mark(&self, row: u32) -> u32 {
+        self.first + 2 * self.tuples + row
     }
 
     /// How many atoms there are in all.
@@ -179,8 +188,11 @@ pub struct Problem<'c> {
     by_n: Divisor,
     pub atoms: u32,
     pub begin_proof: u32,
-    pub prove_goal: u32,
+    /// The number of prove-goal, or of the round's end.
+    pub finish: u32,
     pub bound: u32,
+    /// Where the nodes' atoms end.
+    node_end: u32,
 }
 
 impl<'c> Problem<'c> {
@@ -200,18 +212,31 @@ impl<'c> Problem<'c> {
             by_n: Divisor::new(structure.n as u32),
             atoms: GOAL + 1,
             begin_proof: 0,
-            prove_goal: 0,
-            bound: 2,
+            finish: 0,
+            bound: 0,
+            node_end: 0,
         };
-        problem.lay_relations();
-        problem.lay_nodes(&question.tree);
+        let picks = problem.lay_relations();
+        let node_atoms = problem.lay_nodes(&question.tree);
+        problem.lay_every();
         limits.admit(problem.atoms.into(), problem.actions().into())?;
+        problem.bound = limits.bound(picks + 1, node_atoms + 1, problem.every_tuples().into())?;
         problem.lay_parts(&question.tree);
         Ok(problem)
     }
 
     pub fn actions(&self) -> u32 {
-        self.prove_goal + 1
+        self.finish + 1 + 2 * self.every_tuples()
+    }
+
+    /// Where the atoms of the `every` line's relation lie.
+    fn every(&self) -> Option<&RelationAtoms<'c>> {
+        self.question.signature.every().map(|number| &self.relations[number])
+    }
+
+    /// How many tuples that relation has; none without such a line.
+    pub fn every_tuples(&self) -> u32 {
+        self.every().map_or(0, |every| every.tuples)
     }
 
     /// How many words a state takes.
@@ -219,24 +244,28 @@ impl<'c> Problem<'c> {
         self.atoms.div_ceil(64) as usize
     }
 
-    fn lay_relations(&mut self) {
-        let chosen = self.question.signature.chosen();
-        for (number, relation) in self.question.signature.relations.iter().enumerate() {
+    /// Also counts how many picks there can be.
+    fn lay_relations(&mut self) -> u64 {
+        let (chosen, mut picks) = (self.question.signature.chosen(), 0);
+        let relations = &self.question.signature.relations[..chosen.end];
+        for (number, relation) in relations.iter().enumerate() {
             let tuples = self.n.pow(relation.arity() as u32);
             let typed = relation.sorts.iter().any(Option::is_some);
             let places = typed.then(|| relation.sorts.map(|sort| self.structure.extent(sort)));
             let (kind, first, sets) = (relation.kind, self.atoms, self.begin_proof);
             if chosen.contains(&number) {
                 self.begin_proof += self.structure.sets(relation) as u32;
-                self.bound += if kind.is_function() { self.n } else { tuples };
+                picks += u64::from(if kind.is_function() { self.n } else { tuples });
             }
             self.relations.push(RelationAtoms { kind, first, tuples, sets, places });
             self.atoms += self.relations[number].count(self.n);
         }
+        picks
     }
 
-    fn lay_nodes(&mut self, tree: &Tree) {
-        let mut action = self.begin_proof + 1;
+    /// Also counts the nodes' atoms.
+    fn lay_nodes(&mut self, tree: &Tree) -> u64 {
+        let (first, mut action) = (self.atoms, self.begin_proof + 1);
         for node in &tree.nodes {
             let rows = self.n.pow(node.free.count_ones());
             let members = self.structure.members(node.sort);
@@ -262,10 +291,21 @@ impl<'c> Problem<'c> {
                 by_fan: Divisor::new(fan),
             });
             self.atoms += rows * width;
-            self.bound += rows * width;
             action += rows * fan;
         }
-        self.prove_goal = action;
+        self.finish = action;
+        self.node_end = self.atoms;
+        u64::from(self.node_end - first)
+    }
+
+    /// The relation of an `every` line comes after the nodes.
+    fn lay_every(&mut self) {
+        let Some(number) = self.question.signature.every() else { return };
+        let relation = &self.question.signature.relations[number];
+        let tuples = self.n.pow(relation.arity() as u32);
+        let (kind, first, sets) = (relation.kind, self.atoms, self.begin_proof);
+        self.relations.push(RelationAtoms { kind, first, tuples, sets, places: None });
+        self.atoms += 3 * tuples;
     }
 
     fn lay_parts(&mut self, tree: &Tree) {
@@ -318,14 +358,26 @@ impl<'c> Problem<'c> {
         if number == self.begin_proof {
             return Some(Action::BeginProof);
         }
-        if number < self.prove_goal {
+        if number < self.finish {
             let node = self.nodes.partition_point(|node| node.first_action <= number) - 1;
             let NodeAtoms { first_action, by_fan, members, .. } = self.nodes[node];
             let (row, place) = by_fan.split(number - first_action);
             let choice = members.map_or(place, |members| members.nth(place));
             return Some(Action::Prove(Prove { node: node as u32, row, choice }));
         }
-        (number == self.prove_goal).then_some(Action::ProveGoal)
+        self.last_action(number - self.finish)
+    }
+
+    /// What comes after the nodes' actions: the end, then all mark-in, then all mark-out.
+    fn last_action(&self, place: u32) -> Option<Action> {
+        let tuples = self.every_tuples();
+        match place {
+            0 if tuples == 0 => Some(Action::ProveGoal),
+            0 => Some(Action::RoundEnd),
+            _ if place <= tuples => Some(Action::MarkIn(place - 1)),
+            _ if place <= 2 * tuples => Some(Action::MarkOut(place - 1 - tuples)),
+            _ => None,
+        }
     }
 
     /// The number of an action, if the problem has it.
@@ -346,7 +398,13 @@ impl<'c> Problem<'c> {
                 let there = *row < node.rows && place < node.fan;
                 there.then(|| node.first_action + row * node.fan + place)
             }
-            Action::ProveGoal => Some(self.prove_goal),
+            Action::ProveGoal => (self.every_tuples() == 0).then_some(self.finish),
+            Action::RoundEnd => (self.every_tuples() > 0).then_some(self.finish),
+            Action::MarkIn(row) => (*row < self.every_tuples()).then(|| self.finish + 1 + row),
+            Action::MarkOut(row) => {
+                let tuples = self.every_tuples();
+                (*row < tuples).then(|| self.finish + 1 + tuples + row)
+            }
         }
     }
 
@@ -373,10 +431,13 @@ impl<'c> Problem<'c> {
             write_bits(state, relation.first, relation.tuples, |word| bits[word]);
             write_bits(state, relation.not_tuple(0), relation.tuples, |word| !bits[word]);
         }
-        for relation in &self.relations[given..] {
+        for relation in &self.relations[self.question.signature.chosen()] {
             let end = relation.first + relation.count(self.n);
             let first = relation.not_tuple(0);
             write_bits(state, first, end - first, |_| u64::MAX);
+        }
+        if let Some(every) = self.every() {
+            write_bits(state, every.not_tuple(0), every.tuples, |_| u64::MAX);
         }
     }
 
@@ -401,7 +462,43 @@ impl<'c> Problem<'c> {
                 }
                 may
             }
+            Action::RoundEnd => self.take_round_end(state),
+            Action::MarkIn(row) => self.take_mark(row, true, state),
+            Action::MarkOut(row) => self.take_mark(row, false, state),
         }
+    }
+
+    /// Nothing that was proved stays, and the first tuple is marked.
+    #[inline(never)]
+    fn take_round_end(&self, state: &mut [u64]) -> bool {
+        let Some(every) = self.every() else { return false };
+        let may = holds(state, self.root());
+        if may {
+            remove(state, PROOF);
+            (self.nodes[0].first_atom..self.node_end).for_each(|atom| remove(state, atom));
+            add(state, every.mark(0));
+        }
+        may
+    }
+
+    /// Counts on: a tuple that is out goes in and the proof returns, one that is in goes out and the mark moves on.
+    #[inline(never)]
+    fn take_mark(&self, row: u32, goes_in: bool, state: &mut [u64]) -> bool {
+        let Some(every) = self.every() else { return false };
+        let (tuple, not_tuple, mark) = (every.tuple(row), every.not_tuple(row), every.mark(row));
+        let (before, after) = if goes_in { (not_tuple, tuple) } else { (tuple, not_tuple) };
+        let may = holds(state, mark) && holds(state, before);
+        if may {
+            remove(state, mark);
+            remove(state, before);
+            add(state, after);
+            match (goes_in, row + 1 < every.tuples) {
+                (true, _) => add(state, PROOF),
+                (false, true) => add(state, every.mark(row + 1)),
+                (false, false) => add(state, GOAL),
+            }
+        }
+        may
     }
 
     fn take_set(&self, Set { choose, row }: Set, state: &mut [u64]) -> bool {

@@ -9,6 +9,7 @@ use crate::plans::broken_kind;
 use crate::sheets::{self, pick_words, Question, Structure, Tables};
 use crate::text::{cause, Refusal, Reply};
 use crate::tree::{Literal, Node, Part, Shape, Tree, NESTING_LIMIT};
+use std::ops::Range;
 
 /// Judges a sheet of picks.
 pub fn judge_text(question: &[u8], site: &[u8], picks: &[u8]) -> Reply {
@@ -40,10 +41,14 @@ fn verdict(question: &Question, structure: &Structure, picks: &Tables) -> Result
     if let Some(choose) = broken_kind(&question.signature, structure, picks) {
         return Err(Refusal::new(cause::KIND_BROKEN, choose));
     }
-    let chosen = question.signature.chosen().start;
-    let search =
-        Search { tree: &question.tree, n: structure.n, structure, picks, sure: picks, chosen };
-    if !search.node(0, &mut [0; NESTING_LIMIT]) {
+    let every = question.signature.every().map(|number| question.signature.relations[number]);
+    let tuples = every.map_or(0, |every| structure.n.pow(every.arity() as u32));
+    let holds = |value: usize| {
+        let (tree, n, chosen) = (&question.tree, structure.n, question.signature.chosen());
+        Search { tree, n, structure, picks, sure: picks, chosen, value }
+            .node(0, &mut [0; NESTING_LIMIT])
+    };
+    if !(0..1 << tuples).all(holds) {
         return Err(Refusal::new(cause::RULE_FALSE, 0));
     }
     Ok(0)
@@ -62,8 +67,10 @@ pub(crate) struct Search<'c> {
     pub(crate) picks: &'c Tables,
     /// For one that must not be there.
     pub(crate) sure: &'c Tables,
-    /// The number of the first chosen relation.
-    pub(crate) chosen: usize,
+    /// The numbers of the chosen relations.
+    pub(crate) chosen: Range<usize>,
+    /// The tuples of the `every` line's relation, a bit for each.
+    pub(crate) value: usize,
 }
 
 impl Search<'_> {
@@ -122,7 +129,10 @@ impl Search<'_> {
     fn literal(&self, literal: &Literal, values: &Values) -> bool {
         let places = &literal.places[..literal.arity];
         let row = places.iter().fold(0, |row, &depth| row * self.n + values[depth]);
-        let words = match literal.relation.checked_sub(self.chosen) {
+        if literal.relation == self.chosen.end {
+            return (self.value >> row & 1 == 1) == literal.positive;
+        }
+        let words = match literal.relation.checked_sub(self.chosen.start) {
             Some(choose) if literal.positive => self.picks.relation(choose),
             Some(choose) => self.sure.relation(choose),
             None => self.structure.tables.relation(literal.relation),

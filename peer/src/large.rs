@@ -11,6 +11,8 @@ const PATH_RULE: &str = "(forall (?x) (implies (not (MAX ?x)) (exists (?u ?y ?z)
 (and (E ?y ?z) (F ?x ?y) (SUC ?x ?u) (F ?u ?z)))))";
 const DEEP_RULE: &str = "(forall (?a ?b ?c ?d) (or (D ?a ?b) (T ?c ?d)))";
 const LAST_RULE: &str = "(exists (?a ?b ?c ?d) (and (D ?a ?b) (T ?c ?d)))";
+const LOST_RULE: &str = "(or (exists (?a ?b) (and (LT ?a ?b) (LOST ?a) (LOST ?b))) \
+(forall (?d) (exists (?c) (and (T ?d ?c) (not (LOST ?c))))))";
 const ZONES_RULE: &str = "(and (forall (?x ?g) (implies (F ?x ?g) (GROUP ?g))) (forall (?x ?y) \
 (implies (DOOR ?x ?y) (not (exists (?g) (and (F ?x ?g) (F ?y ?g)))))))";
 const ROUND_RULE: &str = "(forall (?x ?u) (implies (SUC ?x ?u) (forall (?y) (implies (F ?x ?y) \
@@ -111,6 +113,35 @@ pub fn deep(n: usize) -> Sample {
     }
     let question = format!("rel\tD\t2\nchoose\tT\t2\nrule\t{DEEP_RULE}\n");
     filed(question, site, picks)
+}
+
+/// Eight cards, each door opened by two of them: whichever single card is lost, every door still opens. 256 rounds.
+pub fn lost_cards() -> Sample {
+    let question = format!("choose\tT\t2\nevery\tLOST\t1\nrule\t{LOST_RULE}\n");
+    let picks = (0..8)
+        .map(|door| format!("pick\tT\t{door}\t{door}\npick\tT\t{door}\t{}\n", (door + 3) % 8));
+    filed(question, "size\t8\n".into(), picks.collect())
+}
+
+/// A relation of three places over 64 elements, of which few tuples are picked.
+pub fn triples() -> Sample {
+    let question = "choose\tT\t3\nrule\t(forall (?x) (exists (?y) (T ?x ?y ?x)))\n";
+    let picks = (0..64).map(|x| format!("pick\tT\t{x}\t{}\t{x}\n", x * 5 % 64));
+    filed(question.into(), "size\t64\n".into(), picks.collect())
+}
+
+/// So many elements, and no fact: what a call costs before anything is done.
+pub fn bare(n: usize) -> Sample {
+    let question = "choose\tT\t1\nrule\t(exists (?x) (T ?x))\n";
+    filed(question.into(), format!("size\t{n}\n"), "pick\tT\t0\n".into())
+}
+
+/// A chain of `and`s under four quantifiers that speaks of two of their variables only, so that an evaluator asks it again and again.
+pub fn slow_to_judge() -> Sample {
+    let chain = format!("{}(not (E ?c ?d)){}", "(and ".repeat(52), ")".repeat(52));
+    let rule =
+        format!("(forall (?a ?b ?c) (and (EQ ?a ?a) (EQ ?b ?b) (EQ ?c ?c) (forall (?d) {chain})))");
+    filed(format!("rel\tE\t2\nchoose\tT\t1\nrule\t{rule}\n"), "size\t64\n".into(), String::new())
 }
 
 /// The same case with a label of twelve bytes for each element.

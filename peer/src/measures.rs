@@ -4,8 +4,8 @@
 use crate::cases::{case, room};
 use crate::ground::Problem;
 use crate::limits::USUAL;
-use crate::sheets::{Question, Structure};
-use crate::text::{Refusal, Reply};
+use crate::sheets::{Question, Relation, Structure};
+use crate::text::{cause, Refusal, Reply};
 use crate::tree::{Part, Shape, Tree};
 
 /// How many nodes, atoms and actions there are.
@@ -25,7 +25,23 @@ pub fn tally(question: &[u8], site: &[u8]) -> Result<Tally, Refusal> {
 /// Refuses a case that has too many atoms or actions.
 pub(crate) fn within_limits(question: &Question, structure: &Structure) -> Result<(), Refusal> {
     let Tally { atoms, actions, .. } = tally_of(question, structure);
-    USUAL.admit(atoms, actions)
+    USUAL.admit(atoms, actions)?;
+    let (signature, n) = (&question.signature, structure.n as u64);
+    let Some(every) = signature.every() else { return Ok(()) };
+    let tuples = |relation: &Relation| n.pow(relation.arity() as u32);
+    let most = |relation: &Relation| if relation.kind.is_function() { n } else { tuples(relation) };
+    let picks: u64 = signature.chosen_relations().iter().map(most).sum();
+    let mut nodes = Tally { nodes: 0, atoms: 0, actions: 0 };
+    visit(&question.tree, 0, structure, &mut nodes);
+    USUAL.bound(picks + 1, nodes.atoms + 1, tuples(&signature.relations[every])).map(|_| ())
+}
+
+/// For the calls that take no `every` line.
+pub(crate) fn without_every(question: &Question) -> Result<(), Refusal> {
+    match question.signature.every() {
+        Some(_) => Err(Refusal::new(cause::EVERY, 0)),
+        None => Ok(()),
+    }
 }
 
 fn tally_of(question: &Question, structure: &Structure) -> Tally {
@@ -33,6 +49,11 @@ fn tally_of(question: &Question, structure: &Structure) -> Tally {
     let mut tally = Tally { nodes: 0, atoms: 3, actions: 2 };
     for (number, relation) in question.signature.relations.iter().enumerate() {
         let tuples = n.pow(relation.arity() as u32);
+        if question.signature.every() == Some(number) {
+            tally.atoms += 3 * tuples;
+            tally.actions += 2 * tuples;
+            continue;
+        }
         let places =
             u64::from(relation.kind.is_function()) + u64::from(relation.kind.is_injective());
         tally.atoms += 2 * tuples + places * n;
@@ -76,6 +97,7 @@ pub fn allowances(question: &[u8], site: &[u8], out: &mut [u64]) -> Reply {
 fn allowances_with(question: &[u8], site: &[u8], out: &mut [u64]) -> Result<usize, Refusal> {
     let (question, structure) = case(question, site, &USUAL)?;
     let problem = Problem::new(&question, &structure, &USUAL)?;
+    without_every(&question)?;
     let chosen = question.signature.chosen();
     room(out.len(), chosen.len())?;
     for (entry, relation) in out.iter_mut().zip(chosen) {

@@ -6,7 +6,7 @@ use crate::desk::split;
 use crate::ground::{Action, Problem};
 use crate::limits::USUAL;
 use crate::plans::follow;
-use crate::sheets::{self, Structure};
+use crate::sheets::{self, Relation, Signature, Structure};
 use crate::text::{cause, Refusal, Reply};
 use crate::tree::Shape;
 use crate::trial::Calls;
@@ -88,6 +88,11 @@ fn words(structure: &Structure) -> Vec<String> {
     (0..structure.n as u32).map(word).collect()
 }
 
+/// The relation of an `every` line, where there is one.
+fn last<'s>(signature: &'s Signature) -> &'s Relation<'s> {
+    &signature.relations[signature.relations.len() - 1]
+}
+
 /// An action as it is printed, but for its number.
 struct Shown {
     kind: &'static str,
@@ -121,14 +126,11 @@ impl<'p> Paper<'p> {
     }
 
     fn shown(&self, action: Action) -> Shown {
+        let signature = &self.problem.question().signature;
         let bare = |kind| Shown { kind, subject: String::new(), elements: vec![], part: "".into() };
         match action {
             Action::Set(set) => {
-                let signature = &self.problem.question().signature;
-                let relation = &signature.chosen_relations()[set.choose as usize];
-                let subject = String::from_utf8_lossy(relation.name).into();
-                let elements = self.places(relation.arity(), set.row);
-                Shown { subject, elements, ..bare("set") }
+                self.tuple("set", &signature.chosen_relations()[set.choose as usize], set.row)
             }
             Action::BeginProof => bare("begin-proof"),
             Action::Prove(prove) => {
@@ -147,7 +149,16 @@ impl<'p> Paper<'p> {
                 Shown { kind, subject: prove.node.to_string(), elements, part }
             }
             Action::ProveGoal => bare("prove-goal"),
+            Action::RoundEnd => bare("round-end"),
+            Action::MarkIn(row) => self.tuple("mark-in", last(signature), row),
+            Action::MarkOut(row) => self.tuple("mark-out", last(signature), row),
         }
+    }
+
+    /// An action on one tuple.
+    fn tuple(&self, kind: &'static str, relation: &Relation, row: u32) -> Shown {
+        let subject = String::from_utf8_lossy(relation.name).into();
+        Shown { kind, subject, elements: self.places(relation.arity(), row), part: "".into() }
     }
 
     /// The elements, each with what stands right after it; the part alone where there are none.
@@ -188,10 +199,9 @@ impl<'p> Paper<'p> {
     /// How many lines an action takes: one, unless its elements are long.
     fn count(&self, action: Action) -> usize {
         match action {
-            Action::Set(_) | Action::Prove(_) if self.named => {
-                self.columns(&self.shown(action)).len()
-            }
-            _ => 1,
+            Action::BeginProof | Action::ProveGoal | Action::RoundEnd => 1,
+            _ if !self.named => 1,
+            _ => self.columns(&self.shown(action)).len(),
         }
     }
 

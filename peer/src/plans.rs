@@ -55,17 +55,35 @@ pub fn build<'p>(problem: &'p Problem, picks: &Tables) -> Result<Plan<'p>, Refus
     plan.set_picks(picks);
     plan.act(problem.begin_proof);
     debug_assert!(holds(&plan.state, PROOF));
-    for node in problem.nodes.iter().rev() {
-        plan.prove(node);
+    for value in 0..1 << problem.every_tuples() {
+        plan.round(value)?;
     }
-    if !holds(&plan.state, problem.root()) {
-        return Err(Refusal::new(cause::RULE_FALSE, 0));
-    }
-    plan.act(problem.prove_goal);
     Ok(plan)
 }
 
 impl Plan<'_> {
+    /// Proves the rule beside one value of the `every` line's relation, then counts on.
+    fn round(&mut self, value: u32) -> Result<(), Refusal> {
+        for node in self.problem.nodes.iter().rev() {
+            self.prove(node);
+        }
+        if !holds(&self.state, self.problem.root()) {
+            return Err(Refusal::new(cause::RULE_FALSE, 0));
+        }
+        self.act(self.problem.finish);
+        let outs = value.trailing_ones();
+        (0..outs).for_each(|row| self.mark(Action::MarkOut(row)));
+        if outs < self.problem.every_tuples() {
+            self.mark(Action::MarkIn(outs));
+        }
+        Ok(())
+    }
+
+    fn mark(&mut self, mark: Action) {
+        let step = self.problem.number(&mark);
+        step.into_iter().for_each(|step| self.act(step));
+    }
+
     fn set_picks(&mut self, picks: &Tables) {
         for choose in 0..self.problem.question().signature.chosen().len() {
             for row in rows(picks.relation(choose)) {

@@ -1,4 +1,4 @@
-//! The ten kinds of line. A line's own form is judged here, in whatever
+//! The eleven kinds of line. A line's own form is judged here, in whatever
 //! sheet it stands; the sheets then judge what the form lets through.
 
 use crate::labels::{Element, Name};
@@ -62,6 +62,7 @@ pub enum Record<'t> {
     Rel { name: &'t [u8], arity: usize },
     Type { name: &'t [u8] },
     Choose(Choose<'t>),
+    Every { name: &'t [u8], arity: usize },
     Rule { formula: &'t [u8] },
     Size { n: u32 },
     Label { element: Element, name: Name },
@@ -85,6 +86,10 @@ fn well_formed(bytes: &[u8]) -> Option<Record<'_>> {
         b"step" => Record::Step { action: number(fields.next()?)? },
         b"rel" => Record::Rel { name: fields.next()?, arity: arity(fields.next()?)? },
         b"choose" => return choose(fields).map(Record::Choose),
+        b"every" => Record::Every {
+            name: fields.next()?,
+            arity: arity(fields.next()?).filter(|&arity| arity < 3)?,
+        },
         b"rule" => Record::Rule { formula: fields.next()? },
         b"size" => Record::Size { n: number(fields.next()?)? },
         b"label" => {

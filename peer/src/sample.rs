@@ -71,7 +71,9 @@ struct Declared {
 pub fn sound(random: &mut Random) -> Sample {
     let rels = declare(random, 0, "");
     let chosen = declare(random, 1, "C");
-    let rule = Rule::new(random, &rels, &chosen).text;
+    let n = size(random);
+    let every = every(random, n);
+    let rule = Rule::new(random, &rels, &chosen, every.as_ref()).text;
     let mut question = String::new();
     for Declared { name, kind } in &rels {
         question += &format!("rel\t{name}\t{}\n", kind.arity());
@@ -79,8 +81,10 @@ pub fn sound(random: &mut Random) -> Sample {
     for Declared { name, kind } in &chosen {
         question += &format!("choose\t{name}\t{}\n", kind_field(*kind));
     }
+    if let Some(Declared { name, kind }) = &every {
+        question += &format!("every\t{name}\t{}\n", kind.arity());
+    }
     question += &format!("rule\t{rule}\n");
-    let n = size(random);
     let mut site = format!("size\t{n}\n");
     let density = random.within(0, 4);
     for rel in &rels {
@@ -121,7 +125,19 @@ fn declare(random: &mut Random, least: usize, prefix: &str) -> Vec<Declared> {
     declared
 }
 
-/// Never a C in front, so that the chosen names differ from the given ones.
+/// In one case of three a relation for every value of which the rule must be true: mostly one with few tuples.
+fn every(random: &mut Random, n: usize) -> Option<Declared> {
+    let arity = match n {
+        _ if !random.once_in(3) => return None,
+        1..=2 => random.within(1, 2),
+        3..=8 if !random.once_in(20) => 1,
+        _ if random.once_in(4) => random.within(1, 2),
+        _ => return None,
+    };
+    Some(Declared { name: format!("V{}", relation_name(random)), kind: Kind::Plain(arity) })
+}
+
+/// Never a C or a V in front, so that the names differ from one sort of line to the next.
 fn relation_name(random: &mut Random) -> String {
     let known = ["R", "E", "T", "F", "AND", "NOT", "GOAL", "EXISTS", "D2", "R_", "SUCC", "T9_X"];
     if random.once_in(6) {
@@ -163,10 +179,15 @@ struct Rule<'a> {
 }
 
 impl<'a> Rule<'a> {
-    fn new(random: &'a mut Random, rels: &'a [Declared], chosen: &'a [Declared]) -> Self {
+    fn new(
+        random: &'a mut Random,
+        rels: &'a [Declared],
+        chosen: &'a [Declared],
+        every: Option<&'a Declared>,
+    ) -> Self {
         let mut relations = vec![("EQ", 2), ("LT", 2), ("SUC", 2), ("ZERO", 1), ("MAX", 1)];
         // Declared relations stand more often than the built-in ones.
-        for declared in rels.iter().chain(chosen).chain(chosen) {
+        for declared in rels.iter().chain(chosen).chain(chosen).chain(every).chain(every) {
             relations.push((&declared.name, declared.kind.arity()));
         }
         let forms = if random.once_in(20) { random.within(50, 62) } else { random.within(3, 24) };
@@ -291,7 +312,8 @@ pub(crate) fn fill_records(random: &mut Random, sample: &mut Sample) {
     let reply = build(&sample.question, &sample.site, picks, &mut state, &mut steps);
     if let Reply::Accepted(count) = reply {
         steps.truncate(count as usize);
-        if steps.len() < 400 && random.once_in(3) {
+        // Rounds have to keep their order.
+        if steps.len() < 400 && problem.every_tuples() == 0 && random.once_in(3) {
             steps = reorder(random, &problem, &steps);
         }
         vary(random, &mut steps, problem.actions() as usize);
@@ -351,15 +373,15 @@ fn vary(random: &mut Random, steps: &mut Vec<u32>, actions: usize) {
 
 /// What a damaged word may become.
 #[rustfmt::skip]
-const WORDS: [&str; 46] = [
+const WORDS: [&str; 47] = [
     "(", ")", ") ", " (", "and", "or", "not", "implies", "exists", "forall", "?x", "?y", "?z",
     "?abcdefgh", "?X", "?x:DOOR", "?x:NOPE", "?x:", "EQ", "LT", "ZERO", "R", "T", "CT", "0", "1", "2", "3", "4", "16", "17",
-    "64", "65", "01", "", "LOBBY", "lobby", "CORRIDOR_001", "CORRIDOR_0001", "Fun", "PInj", "(and (ZERO ?x))", "(not (not (EQ ?x ?x)))", "rel", "pick", "\t",
+    "64", "65", "01", "", "LOBBY", "lobby", "CORRIDOR_001", "CORRIDOR_0001", "Fun", "PInj", "(and (ZERO ?x))", "(not (not (EQ ?x ?x)))", "rel", "pick", "every", "\t",
 ];
 
 /// Lines that are wrong in most places, if not in all.
 #[rustfmt::skip]
-const ODD_LINES: [&str; 38] = [
+const ODD_LINES: [&str; 47] = [
     "rel\tEQ\t2\n", "rel\tR\t4\n", "rel\tr\t1\n", "rel\tABCDEFGHIJKLM\t1\n", "rel\tW\t1\n",
     "choose\tW\tfun\n", "choose\tW\tInj\n", "choose\tW\t0\n", "rule\n", "rule\t\n", "rule\t(T)\n",
     "size\t64\n", "size\t65\n", "size\t17\n", "size\t0\n", "size\t3\n", "size\t03\n", "fact\tT\n", "fact\tR\t0\t0\t0\t0\n",
@@ -367,6 +389,8 @@ const ODD_LINES: [&str; 38] = [
     "step\t1\n", "step\t9999999\n", "\t\n", "end\n",
     "label\t0\tLOBBY\n", "label\t1\tEQ\n", "label\t0\tlobby\n", "label\t65\tLOBBY\n", "label\tLOBBY\tT\n",
     "label\tLOBBY\t0\n", "label\t0\n", "label\t00\tA\n", "fact\tR\tLOBBY\n", "pick\tCT\tLOBBY\t65\n",
+    "every\tW\t1\n", "every\tW\t2\n", "every\tW\t3\n", "every\tW\t0\n", "every\tEQ\t1\n", "every\tCT\t1\n", "every\tw\t1\n",
+    "every\tW\n", "every\tW\t1\tDOOR\n",
 ];
 
 /// What may stand for an element, or as a label, and seldom should.

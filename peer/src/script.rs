@@ -17,7 +17,7 @@ use crate::tries::Try;
 use std::fmt::Display;
 
 /// What a block may rest on.
-const LANDED: [&str; 5] = ["-", "big", "labels", "types", "kinds"];
+const LANDED: [&str; 6] = ["-", "big", "labels", "types", "kinds", "every"];
 
 /// Longer buffers are named by their digest.
 const PRINTED: usize = 64;

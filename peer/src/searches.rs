@@ -67,3 +67,14 @@ pub fn searches() -> Vec<(&'static str, Sample)> {
         ("find: a bare contradiction (none)", question(&plain, NEVER, 20, &[])),
     ]
 }
+
+/// Rules that only ever want more, each with its name: one that some picks meet, one that none do.
+pub fn wanting() -> Vec<(&'static str, Sample)> {
+    let plain = ["rel E 2", "choose T 1"];
+    let cover = "(forall (?x) (or (T ?x) (exists (?y) (and (E ?x ?y) (T ?y)))))";
+    let never = "(exists (?x) (and (T ?x) (LT ?x ?x)))";
+    vec![
+        ("a cover of a graph of 20", question(&plain, cover, 20, &graph(2))),
+        ("no picks of 20 will do", question(&plain, never, 20, &graph(2))),
+    ]
+}

@@ -41,18 +41,20 @@ pub const BUILT_IN: [Relation<'static>; 5] = [
     Relation::new(b"MAX", Kind::Plain(1)),
 ];
 
-/// All relations by number: built in, then `rel`, then `choose`; and the types by theirs.
+/// All relations by number: built in, then `rel`, then `choose`, then `every`; and the types by theirs.
 #[derive(Clone, Debug)]
 pub struct Signature<'t> {
     pub relations: Vec<Relation<'t>>,
     pub types: Vec<&'t [u8]>,
     first_chosen: usize,
+    /// Whether the last relation is that of an `every` line.
+    has_every: bool,
 }
 
 impl<'t> Signature<'t> {
     fn new() -> Self {
         let (relations, types) = (BUILT_IN.to_vec(), Vec::new());
-        Signature { relations, types, first_chosen: BUILT_IN.len() }
+        Signature { relations, types, first_chosen: BUILT_IN.len(), has_every: false }
     }
 
     pub fn find(&self, name: &[u8]) -> Option<usize> {
@@ -70,11 +72,16 @@ impl<'t> Signature<'t> {
 
     /// Relation numbers of the `choose` lines.
     pub fn chosen(&self) -> Range<usize> {
-        self.first_chosen..self.relations.len()
+        self.first_chosen..self.relations.len() - usize::from(self.has_every)
+    }
+
+    /// The number of the relation of the `every` line.
+    pub fn every(&self) -> Option<usize> {
+        self.has_every.then(|| self.relations.len() - 1)
     }
 
     pub fn chosen_relations(&self) -> &[Relation<'t>] {
-        &self.relations[self.first_chosen..]
+        &self.relations[self.chosen()]
     }
 
     /// Relation numbers of the kinds that must be total.
@@ -91,7 +98,11 @@ impl<'t> Signature<'t> {
     }
 
     fn takes_choose(&self) -> bool {
-        self.chosen().len() < CHOOSE_LIMIT
+        self.chosen().len() < CHOOSE_LIMIT && !self.has_every
+    }
+
+    fn takes_every(&self) -> bool {
+        !self.chosen().is_empty() && !self.has_every
     }
 
     fn admit_name(&self, line: &Line, name: &[u8]) -> Result<(), Refusal> {
@@ -118,6 +129,13 @@ impl<'t> Signature<'t> {
             }
         }
         self.relations.push(relation);
+        Ok(())
+    }
+
+    fn declare_every(&mut self, line: &Line, name: &'t [u8], arity: usize) -> Result<(), Refusal> {
+        self.admit_name(line, name)?;
+        self.relations.push(Relation::new(name, Kind::Plain(arity)));
+        self.has_every = true;
         Ok(())
     }
 
@@ -156,6 +174,9 @@ pub fn question(text: &[u8]) -> Result<Question<'_>, Refusal> {
             }
             (Record::Choose(choose), None) if signature.takes_choose() => {
                 signature.declare_choose(&line, &choose)?;
+            }
+            (Record::Every { name, arity }, None) if signature.takes_every() => {
+                signature.declare_every(&line, name, arity)?;
             }
             (Record::Rule { formula }, None) if !signature.chosen().is_empty() => {
                 let tree = rule_tree(formula, &signature).map_err(|number| line.refuse(number))?;

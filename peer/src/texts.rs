@@ -1,8 +1,9 @@
 //! Texts that are as long or as deep as they may be, and cases with the largest tables and plans.
 
+use crate::edges::many_rounds;
 use crate::large::{
-    deep, facts, kind_zones, long_text, named_facts, named_picks, padded, round, sorted_zones,
-    wide_facts, wide_picks, zones,
+    deep, facts, kind_zones, long_text, named_facts, named_picks, padded, planned, round,
+    sorted_zones, wide_facts, wide_picks, zones,
 };
 use crate::limits;
 use crate::sample::Sample;
@@ -178,6 +179,7 @@ fn wide_cases(bytes: usize) -> Vec<Text> {
         ("zones of an airport as a type".into(), Box::new(sorted_zones)),
         ("zones of an airport by a typed kind".into(), Box::new(kind_zones)),
         ("a round of an airport".into(), Box::new(round)),
+        ("256 rounds of an `every` line".into(), Box::new(|| planned(many_rounds(4)))),
     ]
 }
 

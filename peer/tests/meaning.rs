@@ -92,6 +92,22 @@ fn is_of(members: &Tuples, name: Option<&String>, element: &str) -> bool {
     name.is_none_or(|name| members.contains(&vec![name.clone(), element.to_string()]))
 }
 
+/// Every set of tuples of the `every` line's relation; only the empty one where there is no such line.
+fn values(sample: &Sample, n: usize) -> Vec<Tuples> {
+    let mut values = vec![Tuples::new()];
+    for every in fields(&sample.question, "every") {
+        for row in 0..n.pow(every[1].parse().unwrap()) {
+            let places = if every[1] == "1" { vec![row] } else { vec![row / n, row % n] };
+            let mut tuple = vec![every[0].clone()];
+            tuple.extend(places.iter().map(usize::to_string));
+            let with = |value: &Tuples| value.iter().chain([&tuple]).cloned().collect();
+            let more: Vec<Tuples> = values.iter().map(with).collect();
+            values.extend(more);
+        }
+    }
+    values
+}
+
 /// The refusal the picks deserve by kind, totality and rule, if any.
 fn expected(sample: &Sample) -> Option<Refusal> {
     let n: usize = fields(&sample.site, "size")[0][0].parse().unwrap();
@@ -122,17 +138,21 @@ fn expected(sample: &Sample) -> Option<Refusal> {
     let rule = fields(&sample.question, "rule")[0][0].clone();
     let formula = parse(rule.as_bytes()).expect("a formula");
     let facts = fields(&sample.site, "fact");
-    let tuples = facts.into_iter().chain(picks).collect();
-    let model = Model { n, members, tuples, formula: &formula };
-    let met = total && model.truth(0, &mut Vec::new());
+    let tuples: Tuples = facts.into_iter().chain(picks).collect();
+    let mut model = Model { n, members, tuples: Tuples::new(), formula: &formula };
+    let met = values(sample, n).into_iter().all(|value| {
+        model.tuples = tuples.iter().chain(&value).cloned().collect();
+        model.truth(0, &mut Vec::new())
+    });
+    let met = total && met;
     (!met).then_some(Refusal { number: 17, place: 0 })
 }
 
 #[test]
 fn building_is_truth() {
     let (mut built, mut refused) = (0, 0);
-    // The same of cases with a typed kind.
-    let mut kinds = [0, 0];
+    // The same of cases with a typed kind, and of those with an `every` line.
+    let (mut kinds, mut rounds) = ([0, 0], [0, 0]);
     for seed in 0..6_000 {
         let random = &mut Random::new(seed << 20);
         let mut sample = sound(random);
@@ -153,10 +173,14 @@ fn building_is_truth() {
         if fields(&sample.question, "choose").iter().any(|choose| choose.len() == 4) {
             kinds[usize::from(accepted)] += 1;
         }
+        if !fields(&sample.question, "every").is_empty() {
+            rounds[usize::from(accepted)] += 1;
+        }
         plan_is_sound(&sample, picks, state.len());
     }
     assert!(built > 1_000 && refused > 1_000, "{built} built, {refused} refused");
     assert!(kinds.iter().all(|&cases| cases > 300), "with typed kinds {kinds:?}");
+    assert!(rounds.iter().all(|&cases| cases > 300), "with an `every` line {rounds:?}");
 }
 
 /// Whatever plan is accepted, its picks are of their kinds and meet the rule.

@@ -1,7 +1,6 @@
 -- An action asked for by its number: the code's enum as the definitions' action, and the three answers.
 use Prim.Native.Nat.{ℕ, _<_, _≤_}
 use mathlib.Core.Path.{_≡_, refl, sym, ap, _∙_}
-use mathlib.Core.Bool.{true, false}
 use mathlib.Core.Option.{Option, none, some}
 use mathlib.Core.List.{List}
 use native.Mathlib.Omega.{arith}
@@ -9,11 +8,11 @@ use Rattle.definitions.specs.Limits.{CaseLimits}
 use Rattle.definitions.specs.Refusal.{Result, refused, accepted, _>>=_, given}
 use Rattle.definitions.specs.Problem.Truth.{Case}
 use Rattle.definitions.specs.Problem.Atoms.{Problem, problemOf}
-use Rattle.definitions.specs.Problem.Actions.{Action, set, beginProof, proveAnd, proveOr, proveExists, proveForall, proveGoal, actions, actionAt}
+use Rattle.definitions.specs.Problem.Actions.{Action, set, beginProof, proveAnd, proveOr, proveExists, proveForall, proveGoal, roundEnd, markIn, markOut, actions, actionAt}
 use Rattle.definitions.specs.Reply.Outcome
 use Rattle.laws.specs.Numbers.{action-some, action-below}
 use Rattle.problem_table.specs.declared.Act.{Act}
-use Rattle.problem_table.specs.declared.Act.the-variants.{Set, Begin, And, Or, Exists, Forall, Goal, Nothing}
+use Rattle.problem_table.specs.declared.Act.the-variants.{Set, Begin, And, Or, Exists, Forall, Goal, RoundEnd, MarkIn, MarkOut, Nothing}
 use Rattle.problem_table.specs.Of.{Is, said, actOf}
 use Rattle.problem_action.specs.Decoded.{Grounded}
 use Rattle.laws.specs.Asked as Order
@@ -34,6 +33,9 @@ heard (Or a) = some (proveOr (a .node) (a .row) (a .choice))
 heard (Exists a) = some (proveExists (a .node) (a .row) (a .choice))
 heard (Forall a) = some (proveForall (a .node) (a .row) (a .choice))
 heard Goal = some proveGoal
+heard RoundEnd = some roundEnd
+heard (MarkIn a) = some (markIn (a .relation) (a .row))
+heard (MarkOut a) = some (markOut (a .relation) (a .row))
 heard Nothing = none
 
 unfoldable pub actionOf : Asked → Result (Option Action)
@@ -52,6 +54,9 @@ heard-said (proveOr v row i) = refl
 heard-said (proveExists v row x) = refl
 heard-said (proveForall v row z) = refl
 heard-said proveGoal = refl
+heard-said roundEnd = refl
+heard-said (markIn r row) = refl
+heard-said (markOut r row) = refl
 
 module _ (L : CaseLimits) (question site : List ℕ) (k : ℕ) (r : Front) (facts table : List ℕ) (opens : Fronted L question site r facts table) where
   abbrev asks : Result (Option Action)
@@ -69,12 +74,12 @@ module _ (L : CaseLimits) (question site : List ℕ) (k : ℕ) (r : Front) (fact
     abbrev its : (c : Case) × (Outcome.readCase L question site ≡ accepted c) × Held L question c r facts table
     its = front-held L question site r facts table opens z
 
-    pub asked-over : r .m .over ≡ true → actionOf (Refused 11 0) ≡ asks
+    pub asked-over : (r .m .refusal ≡ 0 → ⊥) → actionOf (Refused (r .m .refusal) 0) ≡ asks
     asked-over t =
         let (c, e, h) = its in
-        refused-with 11 0 (Alone.limits-refused L question site _ _ _ _ c e tt (λ _. Order.untested _) (Order.untested c) 11 0 (case-over L c _ _ (h .grounded) t))
+        refused-with _ _ (Alone.limits-refused L question site _ _ _ _ c e tt (λ _. Order.untested _) (Order.untested c) _ _ (case-over L c _ _ (h .grounded) t))
 
-    module _ (f : r .m .over ≡ false) where
+    module _ (f : r .m .refusal ≡ 0) where
       abbrev p : Problem
       p = problemOf (its .0)
 

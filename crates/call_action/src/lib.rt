@@ -19,21 +19,13 @@ fn action_in(question: &[u8], site: &[u8], k: usize, facts: &mut [u64]) -> Asked
     ensures { λ r. ⌜ actionOf r ≡ found («action-of» usual (now (question .entry)) (now (site .entry)) k) ⌝ }
 {
     let mut table = [0usize; problem_table::TABLE];
-    let f = open_case::open_case(
-        question,
-        site,
-        open_case::ELEMENTS,
-        open_case::ATOMS,
-        open_case::ACTIONS,
-        facts,
-        &mut table,
-    );
+    let f = open_case::open_case(question, site, facts, &mut table);
     if f.fault != 0 {
         return Asked::Refused(f.fault, f.place);
     }
     let m = f.m;
-    if m.over {
-        return Asked::Refused(11, 0);
+    if m.refusal != 0 {
+        return Asked::Refused(m.refusal, 0);
     }
     if k < m.actions {
         let a = problem_action::action_at(&table, k);

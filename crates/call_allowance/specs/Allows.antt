@@ -1,36 +1,30 @@
 -- What the call answers and leaves, by the definitions, and one law for each place where it ends; the words as they are written.
 use Prim.Native.Nat.{ℕ, zero, suc, _+_, _<_, _≤_}
-use mathlib.Core.Path.{_≡_, refl, sym, ap, ap₂, _∙_}
-use mathlib.Core.Bool.{Bool, true, false, _||_}
+use mathlib.Core.Path.{_≡_, refl, sym, ap, _∙_}
+use mathlib.Core.Bool.{Bool, true, false}
 use mathlib.Core.List.{List, _++_, map}
 use native.Mathlib.Decide.{ℕ-discrete}
 use native.Mathlib.Nat.{add-zero}
 use native.Mathlib.Omega.{arith}
-use lib.Dec.{ltb}
 use lib.ListN.{length, getD, set, drop, length-map}
 use lib.Seq.{ext-getD, getD-set-same, getD-set-other}
 use Rattle.definitions.specs.Limits.{CaseLimits}
-use Rattle.definitions.specs.Lists.{from}
+use Rattle.definitions.specs.Lists.{isSome, from}
 use Rattle.definitions.specs.Refusal.{Result, refused, accepted, _>>=_, refuseIf}
 use Rattle.definitions.specs.Problem.Truth.{Case}
-use Rattle.definitions.specs.Problem.Atoms.{Problem, problemOf, atoms}
-use Rattle.definitions.specs.Problem.Actions.{actions}
+use Rattle.definitions.specs.Problem.Atoms.{Problem, problemOf}
 use Rattle.definitions.specs.Problem.Built.{chosenNumbers}
-use Rattle.definitions.specs.Reply.Outcome.{readCase, ground, asked, nothing, roomFor, sizesOf, written}
-use Rattle.definitions.specs.Reply.Tally.{Tally as Tallies}
+use Rattle.definitions.specs.Reply.Outcome.{readCase, ground, withoutEvery, asked, nothing, roomFor, written}
 use Rattle.definitions.specs.Reply.Allowance
 use Rattle.laws.specs.Asked
 use Rattle.laws.specs.Alone
 use Rattle.laws.specs.Lists.{length-from}
-use Rattle.laws.specs.Walks.{tally-is}
 use Rattle.laws.specs.Reader.{Accepted as Accepts, gives-if, case-fits}
 use Rattle.meaning.specs.Means.{Good}
 use Rattle.rule_nodes.specs.declared.Nodes.{Nodes}
 use Rattle.problem_table.specs.NeedLaws.{getD-map}
 use Rattle.problem_layout.specs.declared.Relations.{Relations}
 use Rattle.problem_layout.specs.Laid.{Inputs}
-use Rattle.problem_sizes.specs.declared.Tally.{Tally}
-use Rattle.problem_sizes.specs.Sums.{Tallied}
 use Rattle.read_sheets.specs.declared.Opened.{Opened}
 use Rattle.read_sheets.specs.Opening.{Holds, CaseRead, case-refused, case-read}
 use Rattle.open_case.specs.declared.Reply.{Reply}
@@ -48,71 +42,66 @@ module _ (L : CaseLimits) (question site old : List ℕ) (o : Opened) (facts : �
   abbrev rooms : Problem → Result (Unit {0})
   rooms p = roomFor (length (chosenNumbers p)) (length old)
 
-  refused-with : (k place : ℕ) → asked L question site nothing nothing nothing rooms ≡ refused k place → Allows L question site old (Refused k place) old
+  refused-with : (k place : ℕ) → asked L question site nothing nothing withoutEvery rooms ≡ refused k place → Allows L question site old (Refused k place) old
   unfolding Allowance.allowances Allowance.allowedFrom resultOf
   refused-with k place e = (rw e refl, rw e refl)
 
   pub allows-refused : (o .fault ≡ 0 → ⊥) → Allows L question site old (Refused (o .fault) (o .place)) old
-  allows-refused z = refused-with _ _ (Asked.case-refused L question site nothing nothing nothing rooms _ _ (case-refused L question site o facts read z))
+  allows-refused z = refused-with _ _ (Asked.case-refused L question site nothing nothing withoutEvery rooms _ _ (case-refused L question site o facts read z))
 
-  module _ (z : o .fault ≡ 0) (t : Tally) (tallied : (c : Case) → Holds question c o facts → Tallied (problemOf c) t) where
+  module _ (z : o .fault ≡ 0) where
     -- the case that was read
-    abbrev its : (c : Case) × (readCase L question site ≡ accepted c) × Holds question c o facts
+    abbrev pub its : (c : Case) × (readCase L question site ≡ accepted c) × Holds question c o facts
     its = case-read L question site o facts read z
 
     abbrev p : Problem
     p = problemOf (its .0)
 
-    abbrev over : Bool
-    over = ltb (L .atoms) (t .atoms) || ltb (L .actions) (t .actions)
+    pub allows-over : (k : ℕ) → ground L (its .0) ≡ refused k 0 → Allows L question site old (Refused k 0) old
+    allows-over k e = refused-with k 0 (Alone.limits-refused L question site nothing nothing withoutEvery rooms (its .0) (its .1) tt (λ _. Asked.untested _) (Asked.untested (its .0)) k 0 e)
 
-    over-is : over ≡ (ltb (L .atoms) (atoms p) || ltb (L .actions) (actions p))
-    unfolding sizesOf
-    over-is =
-        let e = tally-is (its .0) in
-        let is = tallied (its .0) (its .2) in
-        ap₂ (λ (x y : ℕ). ltb (L .atoms) x || ltb (L .actions) y) (is .atoms-are ∙ ap (λ (x : Tallies). x .sizes .atomCount) e) (is .actions-are ∙ ap (λ (x : Tallies). x .sizes .actionCount) e)
+    module _ (grounded : ground L (its .0) ≡ accepted p) (every : Bool) (told : every ≡ isSome (its .0 .question .every)) where
+      tested : withoutEvery (its .0) ≡ refuseIf every 23 0
+      unfolding withoutEvery
+      tested = ap (λ (b : Bool). refuseIf b 23 0) (sym told)
 
-    grounds : (b : Bool) → b ≡ over → ground L (its .0) ≡ (refuseIf b 11 zero >>= λ _. accepted p)
-    unfolding ground
-    grounds b e = ap (λ (x : Bool). refuseIf x 11 zero >>= λ _. accepted p) (sym (e ∙ over-is))
+      pub allows-every : every ≡ true → Allows L question site old (Refused 23 0) old
+      unfolding refuseIf
+      allows-every e =
+          let (labels, f) = Asked.case-filed L question site (its .0) (its .1) in
+          let late : withoutEvery (its .0) ≡ refused 23 0 = tested ∙ ap (λ (b : Bool). refuseIf b 23 0) e in
+          refused-with 23 0 (Asked.late-refused L question site nothing nothing withoutEvery rooms _ f tt (Asked.untested _) (Asked.untested (its .0)) p grounded 23 0 late)
 
-    pub allows-over : true ≡ over → Allows L question site old (Refused 11 0) old
-    unfolding refuseIf _>>=_
-    allows-over e =
-        let (c, a, h) = its in
-        refused-with 11 0 (Alone.limits-refused L question site nothing nothing nothing rooms c a tt (λ _. Asked.untested _) (Asked.untested c) 11 0 (grounds true e))
+      module _ (few : L .elements ≤ 64) (alone : every ≡ false) where
+        late : withoutEvery (its .0) ≡ accepted tt
+        unfolding refuseIf
+        late = tested ∙ ap (λ (b : Bool). refuseIf b 23 0) alone
 
-    module _ (few : L .elements ≤ 64) (within : false ≡ over) where
-      accepts : Accepts (its .0)
-      accepts = gives-if Accepts (readCase L question site) (its .0) (its .1) (case-fits L few question site)
+        accepts : Accepts (its .0)
+        accepts = gives-if Accepts (readCase L question site) (its .0) (its .1) (case-fits L few question site)
 
-      numbers : chosenNumbers p ≡ from (5 + o .sig .rels) (o .sig .chosen)
-      numbers = chosen-numbers question (its .0) accepts o facts (its .2)
+        numbers : chosenNumbers p ≡ from (5 + o .sig .rels) (o .sig .chosen)
+        numbers = chosen-numbers question (its .0) accepts o facts (its .2)
 
-      many : length (chosenNumbers p) ≡ o .sig .chosen
-      many = ap length numbers ∙ length-from (5 + o .sig .rels) (o .sig .chosen)
+        many : length (chosenNumbers p) ≡ o .sig .chosen
+        many = ap length numbers ∙ length-from (5 + o .sig .rels) (o .sig .chosen)
 
-      grounded : ground L (its .0) ≡ accepted p
-      unfolding refuseIf _>>=_
-      grounded = grounds false within
+        pub allows-short : length old < o .sig .chosen → Allows L question site old (Refused 12 (o .sig .chosen)) old
+        allows-short l =
+            let (c, a, h) = its in
+            let short : rooms p ≡ refused 12 (o .sig .chosen) = ap (λ (k : ℕ). roomFor k (length old)) many ∙ room-short (o .sig .chosen) (length old) l in
+            refused-with 12 _ (Alone.room-refused L question site nothing nothing withoutEvery rooms c a tt (λ _. Asked.untested _) (Asked.untested c) p grounded late 12 _ short)
 
-      pub allows-short : length old < o .sig .chosen → Allows L question site old (Refused 12 (o .sig .chosen)) old
-      allows-short l =
-          let (c, a, h) = its in
-          let short : rooms p ≡ refused 12 (o .sig .chosen) = ap (λ (k : ℕ). roomFor k (length old)) many ∙ room-short (o .sig .chosen) (length old) l in
-          refused-with 12 _ (Alone.room-refused L question site nothing nothing nothing rooms c a tt (λ _. Asked.untested _) (Asked.untested c) p grounded (Asked.untested c) 12 _ short)
-
-      pub allows-written : o .sig .chosen ≤ length old → (part new : List ℕ) → ((c : Case) → Accepts c → Holds question c o facts → part ≡ map (Allowance.allowance (problemOf c)) (from (5 + o .sig .rels) (o .sig .chosen)))
-          → new ≡ part ++ drop (o .sig .chosen) old → Allows L question site old (Accepted 0) new
-      unfolding written Allowance.allowances Allowance.allowedFrom Allowance.allowancesOf resultOf
-      allows-written l part new e n =
-          let (c, a, h) = its in
-          let f = Allowance.allowance p in
-          let there : rooms p ≡ accepted tt = ap (λ (k : ℕ). roomFor k (length old)) many ∙ room-there (o .sig .chosen) (length old) l in
-          let g = Alone.ready L question site nothing nothing nothing rooms c a tt (λ _. Asked.untested _) (Asked.untested c) p grounded (Asked.untested c) there in
-          let b : length (map f (chosenNumbers p)) ≡ o .sig .chosen = length-map (chosenNumbers p) f ∙ many in
-          (rw g refl, rw (g, b) (n ∙ ap (λ (x : List ℕ). x ++ drop (o .sig .chosen) old) (e c accepts h ∙ ap (map f) (sym numbers))))
+        pub allows-written : o .sig .chosen ≤ length old → (part new : List ℕ) → ((c : Case) → Accepts c → Holds question c o facts → part ≡ map (Allowance.allowance (problemOf c)) (from (5 + o .sig .rels) (o .sig .chosen)))
+            → new ≡ part ++ drop (o .sig .chosen) old → Allows L question site old (Accepted 0) new
+        unfolding written Allowance.allowances Allowance.allowedFrom Allowance.allowancesOf resultOf
+        allows-written l part new e n =
+            let (c, a, h) = its in
+            let f = Allowance.allowance p in
+            let there : rooms p ≡ accepted tt = ap (λ (k : ℕ). roomFor k (length old)) many ∙ room-there (o .sig .chosen) (length old) l in
+            let g = Alone.ready L question site nothing nothing withoutEvery rooms c a tt (λ _. Asked.untested _) (Asked.untested c) p grounded late there in
+            let b : length (map f (chosenNumbers p)) ≡ o .sig .chosen = length-map (chosenNumbers p) f ∙ many in
+            (rw g refl, rw (g, b) (n ∙ ap (λ (x : List ℕ). x ++ drop (o .sig .chosen) old) (e c accepts h ∙ ap (map f) (sym numbers))))
 
 -- ---- the words written one by one: the first k are the allowances of the relations from `first` on
 abbrev pub Shown : ℕ → Nodes → ℕ → ℕ → List ℕ → Type 0

@@ -35,7 +35,7 @@ fn write(n: usize, t: rule_nodes::Nodes, first: usize, out: &mut [u64])
     }
 }
 
-// Of a case that was read: 11, 12, then the numbers.
+// Of a case that was read: 11, 23 of any case with an `every` line, 12, then the numbers.
 fn of_case(question: &[u8], o: Opened, out: &mut [u64]) -> Reply
     requires { ⌜ Read (now question) o ⌝ }
     ensures { λ r. ⌜ ((site : List ℕ) (facts : ℕ → Bool) → CaseRead (now (question .entry)) (readCase usual (now (question .entry)) site) o facts → o .fault ≡ 0
@@ -49,8 +49,12 @@ fn of_case(question: &[u8], o: Opened, out: &mut [u64]) -> Reply
     let g = problem_of_case::relations_of(sig);
     let t = rule_rewrite::nodes_of(question, rule.from, rule.to, sig);
     let m = problem_sizes::of_tables(n, ranges, g, t);
-    if problem_layout::too_many(m.atoms, m.actions, open_case::ATOMS, open_case::ACTIONS) {
-        return Reply::Refused(11, 0);
+    let k = problem_sizes::refusal(m, open_case::usual_limits());
+    if k != 0 {
+        return Reply::Refused(k, 0);
+    }
+    if m.every {
+        return Reply::Refused(23, 0);
     }
     let count = sig.chosen;
     if out.len() < count {

@@ -1,7 +1,6 @@
 -- What the calls that build steps answer and leave: one law for each place where a call can end.
 use Prim.Native.Nat.{ℕ, zero, _+_, _/_, _^_, _≤_, _<_}
 use mathlib.Core.Path.{_≡_, refl, sym, ap, subst, _∙_}
-use mathlib.Core.Bool.{true, false}
 use mathlib.Core.Option.{none}
 use mathlib.Core.List.{List}
 use native.Mathlib.Omega.{arith}
@@ -29,7 +28,7 @@ use Rattle.open_case.specs.declared.Front.{Front}
 use Rattle.open_case.specs.declared.Reply.{Reply}
 use Rattle.open_case.specs.declared.Reply.the-variants.{Refused}
 use Rattle.open_case.specs.Fronts.{Held, Filed}
-use Rattle.open_case.specs.Known.{facts-held, case-over, grounds, tabled, actions-few, words-are, room-short, room-there}
+use Rattle.open_case.specs.Known.{facts-held, case-over, grounds, tabled, actions-few, tuples-few, words-are, room-short, room-there}
 use Rattle.open_case.specs.Replies.{resultOf}
 
 -- the answer of a call, and what the lent state and steps hold then
@@ -71,11 +70,11 @@ module _ (L : CaseLimits) (question site : List ℕ) (picks : Outcome.ThirdInput
     abbrev p : Problem
     p = problemOf c
 
-    pub builds-over : f .m .over ≡ true → Answers L question site picks state steps (Refused 11 0) state steps
+    pub builds-over : (f .m .refusal ≡ 0 → ⊥) → Answers L question site picks state steps (Refused (f .m .refusal) 0) state steps
     unfolding resultOf
-    builds-over o = ends 11 0 (Order.limits-refused L question site _ _ _ _ x read given (handed .is-read) (Order.untested c) 11 0 (case-over L c (f .m) table (h .grounded) o)) (Refused 11 0) refl
+    builds-over o = ends _ _ (Order.limits-refused L question site _ _ _ _ x read given (handed .is-read) (Order.untested c) _ _ (case-over L c (f .m) table (h .grounded) o)) (Refused (f .m .refusal) 0) refl
 
-    module _ (o : f .m .over ≡ false) where
+    module _ (o : f .m .refusal ≡ 0) where
       abbrev its : Tabled p (f .m) table
       its = tabled L c (f .m) table (h .grounded) o
 
@@ -142,6 +141,7 @@ module _ (L : CaseLimits) (question site : List ℕ) (picks : Outcome.ThirdInput
                       picked = front-picks p F (take k words) (ap (λ (x : ℕ). take x (take k words)) (sym q) ∙ take-all k (take k words) (front-short k k words (omega arith)) ∙ ap (λ (x : ℕ). take x words) q ∙ front);
                       atoms-are = its .atoms-are;
                       few = omega (arith, actions-few L c (f .m) table (h .grounded) o, few);
+                      few-tuples = tuples-few L c (f .m) table (h .grounded) o;
                       steps-room = subst (λ (x : ℕ). x ≤ length steps) (its .bound-is) steps-room;
                     }
 

@@ -1,7 +1,6 @@
 -- What the calls answer and leave, by what was opened: the case is refused, the picks' text is, or steps are built from words.
 use Prim.Native.Nat.{ℕ, _+_, _*_, _^_, _≤_}
 use mathlib.Core.Path.{_≡_, refl, sym, subst, _∙_}
-use mathlib.Core.Bool.{false}
 use mathlib.Core.List.{List}
 use lib.ListN.{length}
 use Rattle.definitions.specs.Limits.{CaseLimits}
@@ -36,7 +35,7 @@ module _ (L : CaseLimits) (question site : List ℕ) (f : Front) (facts table : 
 
   module _ (z : f .fault ≡ 0) where
     -- so many atoms at the most
-    pub few-atoms : f .m .over ≡ false → f .m .atoms ≤ L .atoms
+    pub few-atoms : f .m .refusal ≡ 0 → f .m .atoms ≤ L .atoms
     few-atoms o = let (c, e, h) = front-held L question site f facts table front z in atoms-few L c (f .m) table (h .grounded) o
 
     -- words for the picks of every text

@@ -40,12 +40,12 @@ fn build_picks(
     steps: &mut [u32],
 ) -> Reply
     requires { ⌜ ((q : List ℕ) × ReadyFront q f (now facts) (now table)) ⌝ }
-    requires { ⌜ (f .m .over ≡ false → f .m .atoms ≤ 2 ^ 20) ⌝ }
+    requires { ⌜ (f .m .refusal ≡ 0 → f .m .atoms ≤ 2 ^ 20) ⌝ }
     ensures { λ r. ⌜ FromWords f (now (facts .entry)) (now (table .entry)) (now (picks .entry)) (now (state .entry)) (now (steps .entry)) r (now (state .exit)) (now (steps .exit)) ⌝ }
 {
     let m = f.m;
-    if m.over {
-        return Reply::Refused(11, 0);
+    if m.refusal != 0 {
+        return Reply::Refused(m.refusal, 0);
     }
     let held = step_picks::picks_length(table);
     if picks.len() < held {
@@ -89,7 +89,7 @@ fn build_listed(
     state: &mut [u64],
     steps: &mut [u32],
 ) -> Reply
-    requires { ⌜ ReadyFront (now question) f (now facts) (now table) × (f .m .over ≡ false → f .m .atoms ≤ 2 ^ 20) × ((ls : List Label) × LabelsAre (now site) (now labels) (f .o .n) ls) ⌝ }
+    requires { ⌜ ReadyFront (now question) f (now facts) (now table) × (f .m .refusal ≡ 0 → f .m .atoms ≤ 2 ^ 20) × ((ls : List Label) × LabelsAre (now site) (now labels) (f .o .n) ls) ⌝ }
     requires { ⌜ PicksRoom (f .o .sig) (f .o .n) (length (now words)) × (bit (now words) ≡ λ i. false) ⌝ }
     ensures { λ r. ⌜ FromText (now (question .entry)) (now (site .entry)) f (now (labels .entry)) (now (facts .entry)) (now (table .entry)) (now (picks .entry)) (now (state .entry)) (now (steps .entry)) r (now (state .exit)) (now (steps .exit)) ⌝ }
 {
@@ -116,16 +116,7 @@ fn build_text_in(
 {
     let mut labels = [0usize; read_sheets::LABELS];
     let mut table = [0usize; problem_table::TABLE];
-    let f = open_case::open_filed(
-        question,
-        site,
-        open_case::ELEMENTS,
-        open_case::ATOMS,
-        open_case::ACTIONS,
-        &mut labels,
-        facts,
-        &mut table,
-    );
+    let f = open_case::open_usual(question, site, &mut labels, facts, &mut table);
     if f.fault != 0 {
         return Reply::Refused(f.fault, f.place);
     }
@@ -193,15 +184,7 @@ fn build_lent_in(
     ensures { λ r. ⌜ Answers usual (now (question .entry)) (now (site .entry)) (asNumbers (now (picks .entry))) (now (state .entry)) (now (steps .entry)) r (now (state .exit)) (now (steps .exit)) ⌝ }
 {
     let mut table = [0usize; problem_table::TABLE];
-    let f = open_case::open_case(
-        question,
-        site,
-        open_case::ELEMENTS,
-        open_case::ATOMS,
-        open_case::ACTIONS,
-        facts,
-        &mut table,
-    );
+    let f = open_case::open_case(question, site, facts, &mut table);
     if f.fault != 0 {
         return Reply::Refused(f.fault, f.place);
     }

@@ -1,7 +1,6 @@
 -- What the calls that check steps answer and leave, one law for each place where such a call ends.
 use Prim.Native.Nat.{ℕ, _+_, _/_, _≤_, _<_}
 use mathlib.Core.Path.{_≡_, refl, sym, ap, subst, _∙_}
-use mathlib.Core.Bool.{true, false}
 use mathlib.Core.List.{List, _++_}
 use lib.ListN.{length, take, drop}
 use lib.Seq.{length-take-le}
@@ -57,12 +56,12 @@ module _ (L : CaseLimits) (question site : List ℕ) (given : Outcome.ThirdInput
     call-steps k place t = refused-with k place (Alone.third-refused L question site third _ _ rooms (its .0) (its .1) k place (λ _. t))
 
     module _ (ks : List ℕ) (t : Outcome.takeSteps given ≡ accepted ks) where
-      pub call-over : f .m .over ≡ true → Answers (Refused 11 0) old
+      pub call-over : (f .m .refusal ≡ 0 → ⊥) → Answers (Refused (f .m .refusal) 0) old
       call-over o =
           let (c, e, h) = its in
-          refused-with 11 0 (Alone.limits-refused L question site third _ _ rooms c e ks (λ _. t) (Asked.untested c) 11 0 (case-over L c _ _ (h .grounded) o))
+          refused-with _ _ (Alone.limits-refused L question site third _ _ rooms c e ks (λ _. t) (Asked.untested c) _ _ (case-over L c _ _ (h .grounded) o))
 
-      module _ (o : f .m .over ≡ false) where
+      module _ (o : f .m .refusal ≡ 0) where
         abbrev words : ℕ
         words = (f .m .atoms + 63) / 64
 

@@ -24,8 +24,8 @@ fn check_steps(f: Front, facts: &[u64], table: &[usize], steps: &[u32], state: &
         → takeSteps given ≡ accepted (now (steps .entry)) → Checked L question site given (now (state .entry)) r (now (state .exit))) ⌝ }
 {
     let m = f.m;
-    if m.over {
-        return Reply::Refused(11, 0);
+    if m.refusal != 0 {
+        return Reply::Refused(m.refusal, 0);
     }
     let words = (m.atoms + 63) / 64;
     if state.len() < words {
@@ -70,15 +70,7 @@ fn check_text_with(
     ensures { λ r. ⌜ Checked usual (now (question .entry)) (now (site .entry)) (asText (now (steps .entry))) (now (state .entry)) r (now (state .exit)) ⌝ }
 {
     let mut table = [0usize; problem_table::TABLE];
-    let f = open_case::open_case(
-        question,
-        site,
-        open_case::ELEMENTS,
-        open_case::ATOMS,
-        open_case::ACTIONS,
-        facts,
-        &mut table,
-    );
+    let f = open_case::open_case(question, site, facts, &mut table);
     if f.fault != 0 {
         return Reply::Refused(f.fault, f.place);
     }
@@ -116,15 +108,7 @@ fn check_lent_in(
     ensures { λ r. ⌜ Checked usual (now (question .entry)) (now (site .entry)) (asNumbers (now (steps .entry))) (now (state .entry)) r (now (state .exit)) ⌝ }
 {
     let mut table = [0usize; problem_table::TABLE];
-    let f = open_case::open_case(
-        question,
-        site,
-        open_case::ELEMENTS,
-        open_case::ATOMS,
-        open_case::ACTIONS,
-        facts,
-        &mut table,
-    );
+    let f = open_case::open_case(question, site, facts, &mut table);
     if f.fault != 0 {
         return Reply::Refused(f.fault, f.place);
     }

@@ -1,7 +1,6 @@
 -- A third sheet of steps: the order of refusals, the run, and the report. Assumes nothing.
 use Prim.Native.Nat.{ℕ, _+_, _/_, _≤_}
 use mathlib.Core.Path.{_≡_, refl, sym, ap, subst₂, _∙_}
-use mathlib.Core.Bool.{true, false}
 use mathlib.Core.List.{List, _++_}
 use native.Mathlib.Omega.{arith}
 use lib.ListN.{length, take}
@@ -85,15 +84,15 @@ module _ (q site : List ℕ) (f : Front) (labels facts w : List ℕ) (K : Known 
   text-fault text k place t = steps-refused q site text (K .filed) (K .is-read) k place t
 
   -- the picks fit the words that they are copied to
-  pub picks-fit : f .m .over ≡ false → picksIn w ≤ 256
+  pub picks-fit : f .m .refusal ≡ 0 → picksIn w ≤ 256
   picks-fit v =
       let t = tabled own (K .filed .case) (f .m) w (K .held .grounded) v in
       omega (arith, picks-in (problemOf (K .filed .case)) w (t .is), text-fits q (K .filed .case) (K .held .accepts) (f .o) (bit facts) (K .held .holds) 256 (picks-roomy q site f labels facts w K 256 (omega arith)))
 
-  pub reply-over : (text ks : List ℕ) → takeSteps (asText text) ≡ accepted ks → (old new : List ℕ) (r : ℕ) → f .m .over ≡ true → Replies (printed (refused 11 0)) old new r → Replies (printed (checkedPlan q site text)) old new r
-  reply-over text ks t old new r v h = answer-as _ _ old new r (checked-over q site text (K .filed) (K .is-read) ks t 11 0 (case-over own (K .filed .case) (f .m) w (K .held .grounded) v)) h
+  pub reply-over : (text ks : List ℕ) → takeSteps (asText text) ≡ accepted ks → (old new : List ℕ) (r : ℕ) → (f .m .refusal ≡ 0 → ⊥) → Replies (printed (refused (f .m .refusal) 0)) old new r → Replies (printed (checkedPlan q site text)) old new r
+  reply-over text ks t old new r v h = answer-as _ _ old new r (checked-over q site text (K .filed) (K .is-read) ks t _ _ (case-over own (K .filed .case) (f .m) w (K .held .grounded) v)) h
 
-  module _ (ks : List ℕ) (v : f .m .over ≡ false) (part left : List ℕ) (e : End) (l : (f .m .atoms + 63) / 64 ≡ length part) (runs : Runs w facts ks part e left) where
+  module _ (ks : List ℕ) (v : f .m .refusal ≡ 0) (part left : List ℕ) (e : End) (l : (f .m .atoms + 63) / 64 ≡ length part) (runs : Runs w facts ks part e left) where
     abbrev p : Problem
     p = problemOf (K .filed .case)
 

@@ -1,7 +1,6 @@
 -- A case that was read: what its signature says of its problem, its labels, and its problem by the table. Assumes nothing.
 use Prim.Native.Nat.{ℕ, _*_, _≤_}
 use mathlib.Core.Path.{_≡_, refl, sym, subst, _∙_}
-use mathlib.Core.Bool.{false}
 use mathlib.Core.List.{List, _++_}
 use native.Mathlib.Nat.{pow-le-pow-left}
 use native.Mathlib.Omega.{arith}
@@ -72,11 +71,11 @@ module _ (q site : List ℕ) (f : Front) (labels facts table : List ℕ) (K : Kn
   front-agrees F words rest e =
       let h = K .held .holds in
       subst (Agrees (problemOf c) F q (f .o .sig) (f .o .n)) (sym e)
-      (words-agree (problemOf c) F q (f .o .sig) (f .o .n) (sym (elements-are q c (f .o) (bit facts) h)) (its-relations q (f .o .sig) c (h .rels) (h .chosen))
+      (words-agree (problemOf c) F q (f .o .sig) (f .o .n) (h .sound .every-le) (sym (elements-are q c (f .o) (bit facts) h)) (its-relations q (f .o .sig) c (h .rels) (h .chosen) (h .every))
       (chosen-numbers q c (K .held .accepts) (f .o) (bit facts) h) rest)
 
   -- the report of a plan, by the tables of its problem
-  pub report-as : (F : List Tuple) (ks words : List ℕ) → Agrees (problemOf c) F q (f .o .sig) (f .o .n) words → f .m .over ≡ false
+  pub report-as : (F : List Tuple) (ks words : List ℕ) → Agrees (problemOf c) F q (f .o .sig) (f .o .n) words → f .m .refusal ≡ 0
       → (x : Result Plan) → x ≡ accepted (record { labels = K .filed .labels; problem = problemOf c; picks = F; steps = ks }) → printed x ≡ reportOf q site f labels words ks
   unfolding reportOf
   report-as F ks words A v x e =
@@ -103,8 +102,8 @@ module _ (q site : List ℕ) (f : Front) (labels facts table : List ℕ) (K : Kn
 
   -- ---- its problem: the program's state has room for the atoms
 
-  pub few-atoms : f .m .over ≡ false → f .m .atoms ≤ 65536
+  pub few-atoms : f .m .refusal ≡ 0 → f .m .atoms ≤ 65536
   few-atoms v = atoms-few own c (f .m) table (K .held .grounded) v
 
-  pub state-fits : f .m .over ≡ false → stateLength (problemOf c) ≤ 1024
+  pub state-fits : f .m .refusal ≡ 0 → stateLength (problemOf c) ≤ 1024
   state-fits v = let e = words-are own c (f .m) table (K .held .grounded) v in let h = few-atoms v in omega arith

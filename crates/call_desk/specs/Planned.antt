@@ -31,7 +31,7 @@ use Rattle.step_build.specs.Answers.{planned, answered, Gives}
 use Rattle.step_build.specs.Starts.{Prepared}
 use Rattle.read_sheets.specs.declared.Opened.{Opened}
 use Rattle.open_case.specs.declared.Front.{Front}
-use Rattle.open_case.specs.Known.{facts-held, case-over, grounds, tabled, actions-few, room-short, room-there}
+use Rattle.open_case.specs.Known.{facts-held, case-over, grounds, tabled, actions-few, tuples-few, room-short, room-there}
 use Rattle.step_picks.specs.Picked.{text-read, text-are, text-front, text-picked}
 use Rattle.print_report.specs.Agrees.{Agrees}
 use Rattle.call_desk.specs.Replied.{Replies, answer-as, text-as, Reportable, reportOf}
@@ -153,7 +153,7 @@ module _ (q site : List ℕ) (f : Front) (labels facts w words : List ℕ) (ok :
     roomy : PicksRoom (f .o .sig) (f .o .n) (length words)
     roomy = picks-roomy q site f labels facts w K (length words) enough
 
-    prepared : f .m .over ≡ false → f .m .bound ≤ 8192 → (room : ℕ) → 8192 ≤ room → Prepared c F w facts words (f .m .atoms) room
+    prepared : f .m .refusal ≡ 0 → f .m .bound ≤ 8192 → (room : ℕ) → 8192 ≤ room → Prepared c F w facts words (f .m .atoms) room
     prepared v l room h =
         let t = tabled own c (f .m) w (K .held .grounded) v in
         record {
@@ -164,6 +164,7 @@ module _ (q site : List ℕ) (f : Front) (labels facts w words : List ℕ) (ok :
           picked = text-picked q c (K .held .accepts) (f .o) (bit facts) (K .held .holds) (K .filed .labels) fit text F (P .read) words ok roomy (P .held);
           atoms-are = t .atoms-are;
           few = omega (arith, actions-few own c (f .m) w (K .held .grounded) v);
+          few-tuples = tuples-few own c (f .m) w (K .held .grounded) v;
           steps-room = omega (arith, t .bound-is);
         }
 
@@ -183,10 +184,10 @@ module _ (q site : List ℕ) (f : Front) (labels facts w words : List ℕ) (ok :
       abbrev p : Problem
       p = problemOf c
 
-      pub reply-over : f .m .over ≡ true → Replies (printed (refused 11 0)) old new r → Replies (printed (plan own q site (asText text) 1024 8192)) old new r
-      reply-over v h = answer-as _ _ old new r (planned-over q site text (K .filed) (K .is-read) F (P .read) 11 0 (case-over own c (f .m) w (K .held .grounded) v)) h
+      pub reply-over : (f .m .refusal ≡ 0 → ⊥) → Replies (printed (refused (f .m .refusal) 0)) old new r → Replies (printed (plan own q site (asText text) 1024 8192)) old new r
+      reply-over v h = answer-as _ _ old new r (planned-over q site text (K .filed) (K .is-read) F (P .read) _ _ (case-over own c (f .m) w (K .held .grounded) v)) h
 
-      module _ (v : f .m .over ≡ false) where
+      module _ (v : f .m .refusal ≡ 0) where
         its-problem : ground own c ≡ accepted p
         its-problem = grounds own c (f .m) w (K .held .grounded) v
 
@@ -224,7 +225,7 @@ module _ (q site : List ℕ) (f : Front) (labels facts w words : List ℕ) (ok :
 
   module _ (I : IsPicked q site f labels facts w words) where
     -- the steps built fit the lent ones
-    pub built-fit : f .m .over ≡ false → f .m .bound ≤ 8192 → (state steps : List ℕ) (a : PlanAnswer) (state′ steps′ : List ℕ) → Building state steps a state′ steps′ → 8192 ≤ length steps
+    pub built-fit : f .m .refusal ≡ 0 → f .m .bound ≤ 8192 → (state steps : List ℕ) (a : PlanAnswer) (state′ steps′ : List ℕ) → Building state steps a state′ steps′ → 8192 ≤ length steps
         → (n : ℕ) → a ≡ Steps n → n ≤ length steps′
     built-fit v l state steps a state′ steps′ b room n e =
         let K = I .known in

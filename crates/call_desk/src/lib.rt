@@ -1,5 +1,6 @@
 // The desk program's reply (document 01, "The desk program"): every byte that it prints, for every input.
 ghost use mathlib.Core.Path.{_≡_};
+ghost use mathlib.Core.Bool.{false};
 ghost use mathlib.Core.List.{List};
 ghost use Prim.Native.Nat.{ℕ, _≤_};
 ghost use lib.ListN.{length};
@@ -8,10 +9,17 @@ ghost use Rattle.definitions.specs.Refusal.{refused, accepted};
 ghost use Rattle.definitions.specs.Sheet.Relations.{Tuple};
 ghost use Rattle.definitions.specs.Reply.Outcome.{written, asText, takeSteps, plan};
 ghost use Rattle.definitions.specs.Reply.Desk.{printed, checkedPlan, desk as «desk-of»};
+ghost use Rattle.rows.specs.Values.{Most};
+ghost use Rattle.bits.specs.Table.{bit};
+ghost use Rattle.problem_table.specs.Lines.{tableLength};
+ghost use Rattle.read_tuples.specs.Labels.{NoLabels};
+ghost use Rattle.read_sheets.specs.Reading.{FactsRoom};
+ghost use Rattle.open_case.specs.Fronts.{Filed};
 ghost use Rattle.call_desk.specs.Replied.{Replies, Reportable, reportOf};
 ghost use Rattle.call_desk.specs.Known.{Known};
 ghost use Rattle.call_desk.specs.Planned.{Picked, IsPicked};
 ghost use Rattle.call_desk.specs.Whole.{Front};
+use problem_sizes::Limits;
 use read_sheets::Answer;
 use step_run::End;
 
@@ -19,12 +27,14 @@ use step_run::End;
 // lines have 16, and the other lines have less than 512 together.
 pub const ROOM: usize = 573952;
 
-// The most elements, atoms and actions of a case that the program takes.
+// The most elements, atoms and actions of a case that the program takes, and the largest bound where it has an `every` line.
 const ELEMENTS: usize = 16;
 
 const ATOMS: usize = 65536;
 
 const ACTIONS: usize = 131072;
+
+const STEPS: usize = 65536;
 
 // Words for the facts of every such case, for its picks and for its state.
 const FACTS: usize = 512;
@@ -39,6 +49,26 @@ fn refuse(out: &mut [u8], number: u32, place: usize) -> usize
     ensures { λ r. ⌜ Replies (printed (refused number place)) (now (out .entry)) (now (out .exit)) r ⌝ }
 {
     print_line::no_line(out, 0, number as usize, place)
+}
+
+// Opens a case by the program's own limits.
+fn open_early(
+    question: &[u8],
+    site: &[u8],
+    labels: &mut [usize],
+    facts: &mut [u64],
+    table: &mut [usize],
+) -> open_case::Front
+    requires { ⌜ FactsRoom (now site) 16 (length (now facts)) × NoLabels (now labels) × (bit (now facts) ≡ λ i. false) ⌝ }
+    requires { ⌜ (length (now table) ≡ tableLength) × Most (now table) 0 ⌝ }
+    ensures { λ r. ⌜ Filed early (now (question .entry)) (now (site .entry)) r (now (labels .exit)) (now (facts .exit)) (now (table .exit)) ⌝ }
+{
+    let limits = Limits {
+        atoms: ATOMS,
+        actions: ACTIONS,
+        steps: STEPS,
+    };
+    open_case::open_filed(question, site, ELEMENTS, limits, labels, facts, table)
 }
 
 // The report of a plan: the sizes, counts and picks, a line for each step, and how many steps there are.
@@ -74,7 +104,7 @@ fn report(
     print_line::ok_line(out, listed, count)
 }
 
-// Steps of a case that was read: 11, then the steps one by one, and the picks that they set.
+// Steps of a case that was read: 11 or 23, then the steps one by one, and the picks that they set.
 fn check_case(
     out: &mut [u8],
     question: &[u8],
@@ -90,8 +120,8 @@ fn check_case(
         → Replies (printed (checkedPlan (now (question .entry)) (now (site .entry)) text)) (now (out .entry)) (now (out .exit)) r) ⌝ }
 {
     let m = f.m;
-    if m.over {
-        return refuse(out, 11, 0);
+    if m.refusal != 0 {
+        return refuse(out, m.refusal, 0);
     }
     let words = (m.atoms + 63) / 64;
     let mut state = [0u64; WORDS];
@@ -116,16 +146,7 @@ fn check(out: &mut [u8], question: &[u8], site: &[u8], text: &[u8]) -> usize
     let mut labels = [0usize; read_sheets::LABELS];
     let mut facts = [0u64; FACTS];
     let mut table = [0usize; problem_table::TABLE];
-    let f = open_case::open_filed(
-        question,
-        site,
-        ELEMENTS,
-        ATOMS,
-        ACTIONS,
-        &mut labels,
-        &mut facts,
-        &mut table,
-    );
+    let f = open_early(question, site, &mut labels, &mut facts, &mut table);
     if f.fault != 0 {
         return refuse(out, f.fault, f.place);
     }
@@ -146,7 +167,7 @@ fn check(out: &mut [u8], question: &[u8], site: &[u8], text: &[u8]) -> usize
     }
 }
 
-// Picks of a case that was read: 11, 12, and the steps built from them.
+// Picks of a case that was read: 11 or 23, 12, and the steps built from them.
 fn build_case(
     out: &mut [u8],
     question: &[u8],
@@ -163,8 +184,8 @@ fn build_case(
         → Replies (printed (plan early (now (question .entry)) (now (site .entry)) (asText text) 1024 8192)) (now (out .entry)) (now (out .exit)) r) ⌝ }
 {
     let m = f.m;
-    if m.over {
-        return refuse(out, 11, 0);
+    if m.refusal != 0 {
+        return refuse(out, m.refusal, 0);
     }
     if 8192 < m.bound {
         return refuse(out, 12, m.bound);
@@ -189,16 +210,7 @@ fn build(out: &mut [u8], question: &[u8], site: &[u8], text: &[u8]) -> usize
     let mut labels = [0usize; read_sheets::LABELS];
     let mut facts = [0u64; FACTS];
     let mut table = [0usize; problem_table::TABLE];
-    let f = open_case::open_filed(
-        question,
-        site,
-        ELEMENTS,
-        ATOMS,
-        ACTIONS,
-        &mut labels,
-        &mut facts,
-        &mut table,
-    );
+    let f = open_early(question, site, &mut labels, &mut facts, &mut table);
     if f.fault != 0 {
         return refuse(out, f.fault, f.place);
     }

@@ -1,7 +1,7 @@
 -- What the call answers and leaves, by the definitions, and one law for each place where it ends.
 use Prim.Native.Nat.{ℕ, _≤_, _<_}
 use mathlib.Core.Path.{_≡_, refl, sym, ap, _∙_}
-use mathlib.Core.Bool.{Bool, true, false, _||_}
+use mathlib.Core.Bool.{Bool, true, false}
 use mathlib.Core.Option.{none, some}
 use mathlib.Core.List.{List}
 use native.Mathlib.Omega.{arith}
@@ -9,19 +9,17 @@ use borrow.Author.Tests.{lt-ltb, le-ltb}
 use lib.Dec.{ltb}
 use lib.ListN.{length, take}
 use Rattle.definitions.specs.Limits.{CaseLimits, cellLimit}
+use Rattle.definitions.specs.Lists.{isSome}
 use Rattle.definitions.specs.Refusal.{Result, refused, accepted, _>>=_, refuseIf, given}
 use Rattle.definitions.specs.Sheet.Relations.{builtIn}
 use Rattle.definitions.specs.Sheet.Sheets.{relationsOf, relations}
 use Rattle.definitions.specs.Problem.Truth.{Case}
-use Rattle.definitions.specs.Problem.Atoms.{Problem, problemOf, problemWith, atoms}
-use Rattle.definitions.specs.Problem.Actions.{actions}
-use Rattle.definitions.specs.Reply.Outcome.{readCase, ground, asked, nothing, roomFor, picksLength, pickWords, written}
+use Rattle.definitions.specs.Problem.Atoms.{Problem, problemOf, problemWith}
+use Rattle.definitions.specs.Reply.Outcome.{readCase, ground, withoutEvery, asked, nothing, roomFor, picksLength, pickWords, written}
 use Rattle.definitions.specs.Reply.Finding.{numbered, leastNumber, leastPicks, foundWords, foundFrom}
 use Rattle.laws.specs.Asked
 use Rattle.laws.specs.Alone
 use Rattle.laws.specs.Reader.{Accepted, gives-if, case-fits}
-use Rattle.problem_layout.specs.declared.Made.{Made}
-use Rattle.problem_layout.specs.Laid.{Laid}
 use Rattle.read_sheets.specs.declared.Opened.{Opened}
 use Rattle.read_sheets.specs.Opening.{Holds, CaseRead, case-refused, case-read}
 use Rattle.open_case.specs.declared.Reply.{Reply}
@@ -83,12 +81,12 @@ module _ (L : CaseLimits) (question site old : List ℕ) (o : Opened) (facts : �
   abbrev rooms : Problem → Result (Unit {0})
   rooms p = roomFor (picksLength p) (length old)
 
-  refused-with : (k place : ℕ) → asked L question site nothing nothing nothing rooms ≡ refused k place → Answers (foundWords L question site (length old)) old (Refused k place) old
+  refused-with : (k place : ℕ) → asked L question site nothing nothing withoutEvery rooms ≡ refused k place → Answers (foundWords L question site (length old)) old (Refused k place) old
   unfolding foundWords foundFrom resultOf _>>=_
   refused-with k place e = (rw e refl, rw e refl)
 
   pub ends-case : (o .fault ≡ 0 → ⊥) → Answers (foundWords L question site (length old)) old (Refused (o .fault) (o .place)) old
-  ends-case z = refused-with _ _ (Asked.case-refused L question site nothing nothing nothing rooms _ _ (case-refused L question site o facts read z))
+  ends-case z = refused-with _ _ (Asked.case-refused L question site nothing nothing withoutEvery rooms _ _ (case-refused L question site o facts read z))
 
   module _ (z : o .fault ≡ 0) where
     -- the case that was read
@@ -98,28 +96,36 @@ module _ (L : CaseLimits) (question site old : List ℕ) (o : Opened) (facts : �
     abbrev p : Problem
     p = problemOf (its .0)
 
-    module _ (m : Made) (l : Laid (L .atoms) (L .actions) p m) where
-      pub ends-over : m .over ≡ true → Answers (foundWords L question site (length old)) old (Refused 11 0) old
-      unfolding ground refuseIf _>>=_
-      ends-over over =
-          let q : (ltb (L .atoms) (atoms p) || ltb (L .actions) (actions p)) ≡ true = sym (l .over-is) ∙ over in
-          refused-with 11 0 (Alone.limits-refused L question site nothing nothing nothing rooms (its .0) (its .1) tt (λ _. Asked.untested _) (Asked.untested (its .0)) 11 0 (rw q refl))
+    pub ends-over : (k : ℕ) → ground L (its .0) ≡ refused k 0 → Answers (foundWords L question site (length old)) old (Refused k 0) old
+    ends-over k e = refused-with k 0 (Alone.limits-refused L question site nothing nothing withoutEvery rooms (its .0) (its .1) tt (λ _. Asked.untested _) (Asked.untested (its .0)) k 0 e)
 
-      module _ (under : m .over ≡ false) (held : ℕ) (e : held ≡ picksLength p) where
-        grounded : ground L (its .0) ≡ accepted p
-        unfolding ground refuseIf _>>=_
-        grounded = let q : (ltb (L .atoms) (atoms p) || ltb (L .actions) (actions p)) ≡ false = sym (l .over-is) ∙ under in rw q refl
+    module _ (grounded : ground L (its .0) ≡ accepted p) (every : Bool) (told : every ≡ isSome (its .0 .question .every)) where
+      tested : withoutEvery (its .0) ≡ refuseIf every 23 0
+      unfolding withoutEvery
+      tested = ap (λ (b : Bool). refuseIf b 23 0) (sym told)
+
+      pub ends-every : every ≡ true → Answers (foundWords L question site (length old)) old (Refused 23 0) old
+      unfolding refuseIf
+      ends-every e =
+          let (labels, f) = Asked.case-filed L question site (its .0) (its .1) in
+          let late : withoutEvery (its .0) ≡ refused 23 0 = tested ∙ ap (λ (b : Bool). refuseIf b 23 0) e in
+          refused-with 23 0 (Asked.late-refused L question site nothing nothing withoutEvery rooms _ f tt (Asked.untested _) (Asked.untested (its .0)) p grounded 23 0 late)
+
+      module _ (alone : every ≡ false) (held : ℕ) (e : held ≡ picksLength p) where
+        late : withoutEvery (its .0) ≡ accepted tt
+        unfolding refuseIf
+        late = tested ∙ ap (λ (b : Bool). refuseIf b 23 0) alone
 
         pub ends-short : length old < held → Answers (foundWords L question site (length old)) old (Refused 12 held) old
         ends-short h =
             let short : rooms p ≡ refused 12 held = ap (λ (k : ℕ). roomFor k (length old)) (sym e) ∙ room-short held (length old) h in
-            refused-with 12 held (Alone.room-refused L question site nothing nothing nothing rooms (its .0) (its .1) tt (λ _. Asked.untested _) (Asked.untested (its .0)) p grounded (Asked.untested (its .0)) 12 held short)
+            refused-with 12 held (Alone.room-refused L question site nothing nothing withoutEvery rooms (its .0) (its .1) tt (λ _. Asked.untested _) (Asked.untested (its .0)) p grounded late 12 held short)
 
         pub ends-found : held ≤ length old → (r : Reply) (new : List ℕ) → Answers (leastWords (its .0)) old r new → Answers (foundWords L question site (length old)) old r new
         unfolding foundWords leastWords _>>=_
         ends-found h r new a =
             let there : rooms p ≡ accepted tt = ap (λ (k : ℕ). roomFor k (length old)) (sym e) ∙ room-there held (length old) h in
-            let g = Alone.ready L question site nothing nothing nothing rooms (its .0) (its .1) tt (λ _. Asked.untested _) (Asked.untested (its .0)) p grounded (Asked.untested (its .0)) there in
+            let g = Alone.ready L question site nothing nothing withoutEvery rooms (its .0) (its .1) tt (λ _. Asked.untested _) (Asked.untested (its .0)) p grounded late there in
             rw g a
 
     pub accepted-in : L .elements ≤ 64 → AcceptedIn question o facts

@@ -49,7 +49,7 @@ fn search(
     }
 }
 
-// Of a case that was read: 11, 12, then what is found.
+// Of a case that was read: 11, 23 of any case with an `every` line, 12, then what is found.
 fn find_case(question: &[u8], o: Opened, facts: &[u64], picks: &mut [u64]) -> Reply
     requires { ⌜ AcceptedIn (now question) o (bit (now facts)) ⌝ }
     ensures { λ r. ⌜ ((site : List ℕ) → CaseRead (now (question .entry)) (readCase usual (now (question .entry)) site) o (bit (now (facts .entry))) → o .fault ≡ 0
@@ -63,19 +63,23 @@ fn find_case(question: &[u8], o: Opened, facts: &[u64], picks: &mut [u64]) -> Re
     let ranges = problem_layout::ranges_of(n, types, &members);
     let g = problem_of_case::relations_of(sig);
     let t = rule_rewrite::nodes_of(question, rule.from, rule.to, sig);
-    let m = problem_layout::lay_out(n, ranges, g, t, open_case::ATOMS, open_case::ACTIONS);
-    if m.over {
-        return Reply::Refused(11, 0);
+    let m = problem_sizes::of_tables(n, ranges, g, t);
+    let k = problem_sizes::refusal(m, open_case::usual_limits());
+    if k != 0 {
+        return Reply::Refused(k, 0);
+    }
+    if m.every {
+        return Reply::Refused(23, 0);
     }
     let mut table = [0usize; problem_table::TABLE];
-    let l = m.layout;
+    let l = problem_layout::lay_out(n, ranges, g, t);
     problem_relations::fill(&mut table, n, types, &members, ranges, g, l);
     let held = step_picks::picks_length(&table);
     if picks.len() < held {
         return Reply::Refused(12, held);
     }
     let mut lines = [0usize; eval_rule::LINES];
-    eval_table::fill(&mut lines, n, types, &members, ranges, g, t);
+    eval_table::fill(&mut lines, n, types, &members, ranges, g, t, 0);
     search(&table, &lines, facts, n, held, picks)
 }
 

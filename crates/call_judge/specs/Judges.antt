@@ -1,20 +1,20 @@
 -- Judging from words: the order of refusals after the texts, one law for each place where it can end.
-use Prim.Native.Nat.{ℕ, zero, _≤_, _<_}
+use Prim.Native.Nat.{ℕ, zero, _+_, _^_, _≤_, _<_}
 use mathlib.Core.Path.{_≡_, refl, sym, ap, subst, _∙_}
-use mathlib.Core.Bool.{Bool, true, false, _||_}
+use mathlib.Core.Bool.{Bool, true, false}
 use mathlib.Core.Option.{none, some}
-use mathlib.Core.List.{List}
+use mathlib.Core.List.{List, _++_}
 use native.Mathlib.Omega.{arith}
-use lib.Dec.{ltb}
+use native.Mathlib.Decide.{decLt}
+use lib.Pow.{pow-mono}
 use lib.ListN.{length}
 use Rattle.definitions.specs.Limits.{CaseLimits, usual}
 use Rattle.definitions.specs.Lists.{position}
 use Rattle.definitions.specs.Refusal.{Result, refused, accepted, _>>=_, refuseIf}
 use Rattle.definitions.specs.Sheet.Relations.{Tuple, builtIn}
 use Rattle.definitions.specs.Sheet.Sheets.{relationsOf, relations}
-use Rattle.definitions.specs.Problem.Truth.{Case, arePicks, ruleIsTrue, firstOfOtherKind}
-use Rattle.definitions.specs.Problem.Atoms.{Problem, problemOf, problemWith, atoms}
-use Rattle.definitions.specs.Problem.Actions.{actions}
+use Rattle.definitions.specs.Problem.Truth.{Case, arePicks, everyTuples, values, everyValue, ruleHolds, ruleIsTrue, firstOfOtherKind}
+use Rattle.definitions.specs.Problem.Atoms.{Problem, problemOf, problemWith}
 use Rattle.definitions.specs.Problem.Built.{chosenNumbers}
 use Rattle.definitions.specs.Reply.Outcome.{CaseRead, readFiled, ground, Ready, asked, nothing, ThirdInput, asText, picksRoom, textPicks, takePicks, picksLength, spareWord, kindRefusal, satisfying}
 use Rattle.definitions.specs.Reply.Judgement.{judge}
@@ -25,9 +25,8 @@ use Rattle.rule_nodes.specs.Tables.{Fits}
 use Rattle.rule_nodes.specs.declared.Nodes.{Nodes}
 use Rattle.problem_table.specs.Of.{Is}
 use Rattle.problem_layout.specs.declared.Relations.{Relations}
-use Rattle.problem_layout.specs.declared.Made.{Made}
 use Rattle.problem_layout.specs.declared.Ranges.{Ranges}
-use Rattle.problem_layout.specs.Laid.{RangesFit, RangesAre, Inputs, Laid}
+use Rattle.problem_layout.specs.Laid.{RangesFit, RangesAre, Inputs}
 use Rattle.step_start.specs.Initial.{FactsIn}
 use Rattle.step_picks.specs.declared.Kinds.{Kinds}
 use Rattle.step_picks.specs.declared.Kinds.the-variants.{Kept, Broken}
@@ -74,14 +73,22 @@ pub record SomeCase (n : ℕ) (w : List ℕ) (types : ℕ) (g : Relations) (t : 
   pub accepted-case : Accepted case
   pub inputs : Inputs (problemOf case) n w types g t
 
--- relations, nodes, table, facts and words are those of a case and its picks
-pub record Asks (c : Case) (F : List Tuple) (n : ℕ) (w : List ℕ) (types : ℕ) (g : Relations) (t : Nodes) (table facts words : List ℕ) : Type 0 where
+-- relations, nodes, facts and words are those of a case and its picks
+pub record Judged (c : Case) (F : List Tuple) (n : ℕ) (w : List ℕ) (types : ℕ) (g : Relations) (t : Nodes) (facts words : List ℕ) : Type 0 where
   pub accepted-case : Accepted c
   pub picks : arePicks c F ≡ true
   pub inputs : Inputs (problemOf c) n w types g t
-  pub is : Is (bare (problemOf c)) table
   pub facts-in : FactsIn (problemOf c) facts
   pub picked : PicksAre (problemOf c) words F
+
+-- ... and this is whether the rule holds of them, beside a value
+abbrev pub HoldsWith : ℕ → List ℕ → ℕ → Relations → Nodes → (facts words : List ℕ) → ℕ → Bool → Type 0
+HoldsWith n w types g t facts words value r = (c : Case) (F : List Tuple) → Judged c F n w types g t facts words → r ≡ ruleHolds c (F ++ everyValue c value)
+
+-- the table is too
+pub record Asks (c : Case) (F : List Tuple) (n : ℕ) (w : List ℕ) (types : ℕ) (g : Relations) (t : Nodes) (table facts words : List ℕ) : Type 0 where
+  pub judged : Judged c F n w types g t facts words
+  pub is : Is (bare (problemOf c)) table
 
 -- what is promised of judging words: they have 64 bits each, and whatever case and picks they are of, this is answered
 pub record FromWords (question : List ℕ) (o : Opened) (facts : ℕ → Bool) (words : List ℕ) (r : Reply) : Type 0 where
@@ -94,14 +101,33 @@ abbrev pub FromText : (question site : List ℕ) → Opened → List ℕ → (�
 FromText question site o labels facts text r = FiledRead question site (readFiled usual question site) o labels facts → o .fault ≡ 0 → resultOf r ≡ judge usual question site (asText text)
 
 -- ---- lines of a case
-pub lines-of : (c : Case) (n : ℕ) (ms : List ℕ) (types : ℕ) (ranges : Ranges) (g : Relations) (t : Nodes) (w : List ℕ) → Ranged n types ms ranges → Fits t → Inputs (problemOf c) n ms types g t → Lined n ms types (ranges .count) g t w → LinesOf c n w
-lines-of c n ms types ranges g t w R f i l = record { relations = g; nodes = t; some = R .some; size = R .few; members = ms; types = types; ranges = ranges; counted = R .are; inputs = i; fits = f; lined = l }
+pub lines-of : (c : Case) (n : ℕ) (ms : List ℕ) (types : ℕ) (ranges : Ranges) (g : Relations) (t : Nodes) (w : List ℕ) → Ranged n types ms ranges → Fits t → Inputs (problemOf c) n ms types g t → (value : ℕ) → Lined n value ms types (ranges .count) g t w → LinesOf c n value w
+lines-of c n ms types ranges g t w R f i value l = record { relations = g; nodes = t; some = R .some; size = R .few; members = ms; types = types; ranges = ranges; counted = R .are; inputs = i; fits = f; lined = l }
+
+-- ---- value by value: those before it have been tried
+abbrev pub Tried : ℕ → List ℕ → ℕ → Relations → Nodes → (facts words : List ℕ) → ℕ → Type 0
+Tried n w types g t facts words value = (c : Case) (F : List Tuple) → Judged c F n w types g t facts words → (k : ℕ) → k < value → ruleHolds c (F ++ everyValue c k) ≡ true
+
+pub tried-next : (n : ℕ) (w : List ℕ) (types : ℕ) (g : Relations) (t : Nodes) (facts words : List ℕ) (value : ℕ) (b : Bool) → HoldsWith n w types g t facts words value b → b ≡ true → Tried n w types g t facts words value
+    → Tried n w types g t facts words (value + 1)
+tried-next n w types g t facts words value b h e s c F j k l = from-this (decLt k value)
+  where
+    from-this : Dec (k < value) → ruleHolds c (F ++ everyValue c k) ≡ true
+    from-this (yes q) = s c F j k q
+    from-this (no q) = let z : k ≡ value = omega arith in rw z (sym (h c F j) ∙ e)
+
+pub values-are : (c : Case) (k : ℕ) → k ≡ everyTuples c → 2 ^ k ≡ values c
+unfolding values
+values-are c k e = ap (λ (x : ℕ). 2 ^ x) e
+
+pub few-values : (k : ℕ) → k ≤ 8 → 2 ^ k ≤ 256
+few-values k h = pow-mono {i = k} {j = 8} h
 
 -- ---- 16, 17, yes
 module _ (c : Case) (F : List Tuple) (n : ℕ) (ms : List ℕ) (types : ℕ) (g : Relations) (t : Nodes) (table facts words : List ℕ) (asks : Asks c F n ms types g t table facts words) (k : Kinds)
     (e : toldKinds k ≡ position (brokenAt (bare (problemOf c)) (rowsIn (bare (problemOf c)) words)) (chosenNumbers (bare (problemOf c)))) where
   kinds-told : toldKinds k ≡ firstOfOtherKind c F
-  kinds-told = e ∙ kinds-same (problemOf c) words ∙ kinds-are c (asks .accepted-case) F (asks .picks) words (asks .picked)
+  kinds-told = e ∙ kinds-same (problemOf c) words ∙ kinds-are c (asks .judged .accepted-case) F (asks .judged .picks) words (asks .judged .picked)
 
   pub decides-kind : (i : ℕ) → k ≡ Broken i → resultOf (Refused 16 i) ≡ verdict c F
   unfolding resultOf verdict decided satisfying takePicks kindRefusal toldKinds _>>=_
@@ -134,25 +160,19 @@ module _ (L : CaseLimits) (question site : List ℕ) (picks : ThirdInput) where
   unfolding judge _>>=_
   ends k place e r q = q ∙ rw e refl
 
-  -- from words, by how the case is laid out
-  module _ (x : CaseRead) (read : readFiled L question site ≡ accepted x) (words : List ℕ) (given F : List Tuple) (handed : Handed (x .case) (x .labels) picks words given F) (m : Made) (l : Laid (L .atoms) (L .actions) (problemOf (x .case)) m) where
+  -- from words, by whether the limits refuse the case
+  module _ (x : CaseRead) (read : readFiled L question site ≡ accepted x) (words : List ℕ) (given F : List Tuple) (handed : Handed (x .case) (x .labels) picks words given F) where
     abbrev c : Case
     c = x .case
 
     abbrev p : Problem
     p = problemOf c
 
-    pub ends-over : m .over ≡ true → resultOf (Refused 11 0) ≡ judge L question site picks
-    unfolding resultOf ground refuseIf _>>=_
-    ends-over o =
-        let q : (ltb (L .atoms) (atoms p) || ltb (L .actions) (actions p)) ≡ true = sym (l .over-is) ∙ o in
-        ends 11 0 (Order.limits-refused L question site _ _ _ _ x read given (handed .is-read) (Order.untested c) 11 0 (rw q refl)) (Refused 11 0) refl
+    pub ends-over : (k : ℕ) → ground L c ≡ refused k 0 → resultOf (Refused k 0) ≡ judge L question site picks
+    unfolding resultOf
+    ends-over k e = ends k 0 (Order.limits-refused L question site _ _ _ _ x read given (handed .is-read) (Order.untested c) k 0 e) (Refused k 0) refl
 
-    module _ (o : m .over ≡ false) where
-      grounded : ground L c ≡ accepted p
-      unfolding ground refuseIf _>>=_
-      grounded = let q : (ltb (L .atoms) (atoms p) || ltb (L .actions) (actions p)) ≡ false = sym (l .over-is) ∙ o in rw q refl
-
+    module _ (grounded : ground L c ≡ accepted p) where
       module _ (k : ℕ) (q : k ≡ picksLength p) where
         pub ends-short : length words < k → resultOf (Refused 12 k) ≡ judge L question site picks
         unfolding resultOf
@@ -186,4 +206,4 @@ module _ (L : CaseLimits) (question site : List ℕ) (picks : ThirdInput) where
                 → Inputs p n ms types g t → Is (bare p) table → Asks c F n ms types g t table facts words
             asks-of o′ facts h A n ms types g t table i is =
                 let (a, front) = handed .held (subst (λ (x : ℕ). x ≤ length words) q room) clear in
-                record { accepted-case = A; picks = a; inputs = i; is = is; facts-in = facts-held question c o′ facts h; picked = front-picks p F words front }
+                record { judged = record { accepted-case = A; picks = a; inputs = i; facts-in = facts-held question c o′ facts h; picked = front-picks p F words front }; is = is }

@@ -3,26 +3,22 @@
 ghost use mathlib.Core.Path.{_≡_};
 ghost use mathlib.Core.Bool.{true, false};
 ghost use mathlib.Core.List.{List};
-ghost use Prim.Native.Nat.{_<_, _≤_};
+ghost use Prim.Native.Nat.{_^_, _<_, _≤_};
 ghost use lib.ListN.{length};
 ghost use Rattle.definitions.specs.Limits.{usual};
 ghost use Rattle.definitions.specs.Sheet.Relations.{Tuple};
 ghost use Rattle.definitions.specs.Sheet.Sheets.{Label};
-ghost use Rattle.definitions.specs.Problem.Truth.{Case, arePicks, ruleIsTrue};
-ghost use Rattle.definitions.specs.Problem.Atoms.{problemOf};
+ghost use Rattle.definitions.specs.Problem.Truth.{Case, values, ruleIsTrue};
 ghost use Rattle.definitions.specs.Reply.Outcome.{asText, asNumbers};
 ghost use Rattle.definitions.specs.Reply.Judgement.{judge};
-ghost use Rattle.laws.specs.Reader.{Accepted as «Accepted-case»};
 ghost use Rattle.bits.specs.Table.{bit};
 ghost use Rattle.rule_nodes.specs.Tables.{Fits as «Tree-fits»};
 ghost use Rattle.problem_table.specs.Lines.{Fits};
-ghost use Rattle.problem_layout.specs.Laid.{RelationsFit, Inputs};
-ghost use Rattle.step_start.specs.Initial.{FactsIn};
+ghost use Rattle.problem_layout.specs.Laid.{RelationsFit};
 ghost use Rattle.read_tuples.specs.Labels.{LabelsAre};
 ghost use Rattle.read_sheets.specs.Reading.{FactsRoom, PicksRoom};
-ghost use Rattle.step_picks.specs.Words.{PicksAre};
 ghost use Rattle.open_case.specs.Replies.{resultOf};
-ghost use Rattle.call_judge.specs.Judges.{verdict, AcceptedIn, Ranged, SomeCase, Asks, FromWords, FromText};
+ghost use Rattle.call_judge.specs.Judges.{verdict, AcceptedIn, Ranged, SomeCase, Judged, HoldsWith, Asks, FromWords, FromText};
 use open_case::Reply;
 use problem_layout::Ranges;
 use problem_layout::Relations;
@@ -30,7 +26,28 @@ use read_sheets::Answer;
 use read_sheets::Opened;
 use rule_nodes::Nodes;
 
-// Whether the rule is true of picks: its lines are filled, then evaluated.
+// Whether the rule holds of picks and one value of the `every` relation: its lines are filled for that value, then evaluated.
+fn holds_with(
+    n: usize,
+    types: usize,
+    members: &[u64],
+    ranges: Ranges,
+    g: Relations,
+    t: Nodes,
+    facts: &[u64],
+    picks: &[u64],
+    value: usize,
+) -> bool
+    requires { ⌜ Ranged n types (now members) ranges × RelationsFit g × «Tree-fits» t × SomeCase n (now members) types g t × (value < 256) ⌝ }
+    ensures { λ r. ⌜ HoldsWith n (now (members .entry)) types g t (now (facts .entry)) (now (picks .entry)) value r ⌝ }
+{
+    let mut lines = [0usize; eval_rule::LINES];
+    eval_table::fill(&mut lines, n, types, members, ranges, g, t, value);
+    eval_table::rule_is_true(&lines, facts, picks, n)
+}
+
+// Whether the rule is true of picks: it holds with every one of the values, of which there are so many (one without an `every` line). The
+// first with which it does not is the last that is tried.
 fn is_true(
     n: usize,
     types: usize,
@@ -40,14 +57,28 @@ fn is_true(
     t: Nodes,
     facts: &[u64],
     picks: &[u64],
+    count: usize,
 ) -> bool
-    requires { ⌜ Ranged n types (now members) ranges × RelationsFit g × «Tree-fits» t × SomeCase n (now members) types g t ⌝ }
-    ensures { λ r. ⌜ ((c : Case) (F : List Tuple) → «Accepted-case» c → arePicks c F ≡ true → Inputs (problemOf c) n (now (members .entry)) types g t → FactsIn (problemOf c) (now (facts .entry)) → PicksAre (problemOf c) (now (picks .entry)) F
-        → r ≡ ruleIsTrue c F) ⌝ }
+    requires { ⌜ Ranged n types (now members) ranges × RelationsFit g × «Tree-fits» t × SomeCase n (now members) types g t × (count ≤ 256) ⌝ }
+    ensures { λ r. ⌜ ((c : Case) (F : List Tuple) → Judged c F n (now (members .entry)) types g t (now (facts .entry)) (now (picks .entry)) → count ≡ values c → r ≡ ruleIsTrue c F) ⌝ }
 {
-    let mut lines = [0usize; eval_rule::LINES];
-    eval_table::fill(&mut lines, n, types, members, ranges, g, t);
-    eval_table::rule_is_true(&lines, facts, picks, n)
+    let mut value: usize = 0;
+    while value < count {
+        let b = holds_with(n, types, members, ranges, g, t, facts, picks, value);
+        if !b {
+            return false;
+        }
+        value += 1;
+    }
+    true
+}
+
+// How many values a relation of so many tuples has.
+fn values_of(tuples: usize) -> usize
+    requires { ⌜ tuples ≤ 8 ⌝ }
+    ensures { λ r. ⌜ (r ≡ 2 ^ tuples) × (r ≤ 256) ⌝ }
+{
+    rows::power(2, tuples)
 }
 
 // 16, then 17, then yes.
@@ -61,15 +92,16 @@ fn decide(
     t: Nodes,
     facts: &[u64],
     picks: &[u64],
+    count: usize,
 ) -> Reply
-    requires { ⌜ Fits (now table) × Ranged n types (now members) ranges × RelationsFit g × «Tree-fits» t × SomeCase n (now members) types g t ⌝ }
-    ensures { λ r. ⌜ ((c : Case) (F : List Tuple) → Asks c F n (now (members .entry)) types g t (now (table .entry)) (now (facts .entry)) (now (picks .entry)) → resultOf r ≡ verdict c F) ⌝ }
+    requires { ⌜ Fits (now table) × Ranged n types (now members) ranges × RelationsFit g × «Tree-fits» t × SomeCase n (now members) types g t × (count ≤ 256) ⌝ }
+    ensures { λ r. ⌜ ((c : Case) (F : List Tuple) → Asks c F n (now (members .entry)) types g t (now (table .entry)) (now (facts .entry)) (now (picks .entry)) → count ≡ values c → resultOf r ≡ verdict c F) ⌝ }
 {
     let kinds = step_picks::test_kinds(table, picks);
     match kinds {
         step_picks::Kinds::Broken(i) => Reply::Refused(16, i),
         step_picks::Kinds::Kept => {
-            if is_true(n, types, members, ranges, g, t, facts, picks) {
+            if is_true(n, types, members, ranges, g, t, facts, picks, count) {
                 return Reply::Accepted(0);
             }
             Reply::Refused(17, 0)
@@ -77,7 +109,7 @@ fn decide(
     }
 }
 
-// Of a case that was read, from picks that stand in words: 11, 12, 10, then what is decided. Words past the needed length are not
+// Of a case that was read, from picks that stand in words: 11, 23, 12, 10, then what is decided. Words past the needed length are not
 // looked at. (Picks read from a text have words enough, and no spare bit.)
 fn judge_case(question: &[u8], o: Opened, facts: &[u64], picks: &[u64]) -> Reply
     requires { ⌜ AcceptedIn (now question) o (bit (now facts)) ⌝ }
@@ -91,12 +123,14 @@ fn judge_case(question: &[u8], o: Opened, facts: &[u64], picks: &[u64]) -> Reply
     let ranges = problem_layout::ranges_of(n, types, &members);
     let g = problem_of_case::relations_of(sig);
     let t = rule_rewrite::nodes_of(question, rule.from, rule.to, sig);
-    let m = problem_layout::lay_out(n, ranges, g, t, open_case::ATOMS, open_case::ACTIONS);
-    if m.over {
-        return Reply::Refused(11, 0);
+    let m = problem_sizes::of_tables(n, ranges, g, t);
+    let k = problem_sizes::refusal(m, open_case::usual_limits());
+    if k != 0 {
+        return Reply::Refused(k, 0);
     }
+    let count = values_of(m.tuples);
     let mut table = [0usize; problem_table::TABLE];
-    let l = m.layout;
+    let l = problem_layout::lay_out(n, ranges, g, t);
     problem_relations::fill(&mut table, n, types, &members, ranges, g, l);
     let held = step_picks::picks_length(&table);
     if picks.len() < held {
@@ -106,7 +140,18 @@ fn judge_case(question: &[u8], o: Opened, facts: &[u64], picks: &[u64]) -> Reply
     match s {
         step_picks::Spare::Word(j) => Reply::Refused(10, j),
         step_picks::Spare::Clear => {
-            decide(&table, n, types, &members, ranges, g, t, facts, picks)
+            decide(
+                &table,
+                n,
+                types,
+                &members,
+                ranges,
+                g,
+                t,
+                facts,
+                picks,
+                count,
+            )
         }
     }
 }

@@ -1,10 +1,9 @@
 -- What the call answers, by the definitions: one law for each place where it ends.
 use Prim.Native.Nat.{ℕ, zero, _+_, _≤_}
-use mathlib.Core.Path.{_≡_, refl, sym, ap, ap₂, _∙_}
-use mathlib.Core.Bool.{Bool, true, false, not, _&&_, _||_}
+use mathlib.Core.Path.{_≡_, refl, sym, ap, _∙_}
+use mathlib.Core.Bool.{Bool, true, false, not}
 use mathlib.Core.List.{List}
 use native.Mathlib.Omega.{arith}
-use lib.Dec.{ltb}
 use lib.ListN.{length}
 use Rattle.definitions.specs.Limits.{CaseLimits}
 use Rattle.definitions.specs.Lists.{all, any, below}
@@ -13,15 +12,12 @@ use Rattle.definitions.specs.Sheet.Sheets.{firstChosen}
 use Rattle.definitions.specs.Problem.Tree.{Tree, treeOf}
 use Rattle.definitions.specs.Refusal.{refused, accepted, _>>=_, refuseIf}
 use Rattle.definitions.specs.Problem.Truth.{Case, ruleIsTrue}
-use Rattle.definitions.specs.Problem.Atoms.{Problem, problemOf, problemWith, atoms}
-use Rattle.definitions.specs.Problem.Actions.{actions}
-use Rattle.definitions.specs.Reply.Outcome.{readCase, ground, asked, nothing, sizesOf}
-use Rattle.definitions.specs.Reply.Tally.{Tally as Tallies}
+use Rattle.definitions.specs.Problem.Atoms.{Problem, problemOf, problemWith}
+use Rattle.definitions.specs.Reply.Outcome.{readCase, ground, asked, nothing}
 use Rattle.definitions.specs.Reply.Finding.{cells}
 use Rattle.definitions.specs.Reply.Monotone.{wantsMore, onlyWantsMore, monotone}
 use Rattle.laws.specs.Asked
 use Rattle.laws.specs.Alone
-use Rattle.laws.specs.Walks.{tally-is}
 use Rattle.laws.specs.Reader.{Accepted, gives-if, case-fits}
 use Rattle.meaning.specs.Grounded.{first-chosen, count-relations}
 use Rattle.read_names.specs.Signatures.{chosenOf, relsOf}
@@ -31,8 +27,6 @@ use Rattle.rule_nodes.specs.declared.Nodes.{Nodes}
 use Rattle.problem_layout.specs.declared.Relations.{Relations}
 use Rattle.problem_layout.specs.Laid.{Inputs}
 use Rattle.call_monotone.specs.Wants.{kindAt, kinds-are}
-use Rattle.problem_sizes.specs.declared.Tally.{Tally}
-use Rattle.problem_sizes.specs.Sums.{Tallied}
 use Rattle.read_sheets.specs.declared.Opened.{Opened}
 use Rattle.read_sheets.specs.Opening.{Holds, CaseRead, case-refused, case-read}
 use Rattle.open_case.specs.declared.Reply.{Reply}
@@ -64,47 +58,28 @@ module _ (L : CaseLimits) (question site : List ℕ) (o : Opened) (facts : ℕ �
     pub accepted-in : L .elements ≤ 64 → AcceptedIn question o facts
     accepted-in few = record { case = its .0; accepted-case = gives-if Accepted (readCase L question site) (its .0) (its .1) (case-fits L few question site); holds = its .2 }
 
-    module _ (t : Tally) (tallied : Tallied p t) where
-      abbrev over : Bool
-      over = ltb (L .atoms) (t .atoms) || ltb (L .actions) (t .actions)
+    pub ends-over : (k : ℕ) → ground L (its .0) ≡ refused k 0 → resultOf (Refused k 0) ≡ monotone L question site
+    ends-over k e = refused-with k 0 (Alone.limits-refused L question site nothing nothing nothing nothing (its .0) (its .1) tt (λ _. Asked.untested _) (Asked.untested (its .0)) k 0 e)
 
-      over-is : over ≡ (ltb (L .atoms) (atoms p) || ltb (L .actions) (actions p))
-      unfolding sizesOf
-      over-is =
-          let e = tally-is (its .0) in
-          ap₂ (λ (x y : ℕ). ltb (L .atoms) x || ltb (L .actions) y) (tallied .atoms-are ∙ ap (λ (x : Tallies). x .sizes .atomCount) e) (tallied .actions-are ∙ ap (λ (x : Tallies). x .sizes .actionCount) e)
+    module _ (grounded : ground L (its .0) ≡ accepted p) where
+      then-is : monotone L question site ≡ (refuseIf (not (onlyWantsMore (its .0 .question))) 24 zero >>= λ _. refuseIf (not (ruleIsTrue (its .0) (cells p))) 21 zero >>= λ _. accepted zero)
+      unfolding monotone _>>=_
+      then-is =
+          let g = Alone.ready L question site nothing nothing nothing nothing (its .0) (its .1) tt (λ _. Asked.untested _) (Asked.untested (its .0)) p grounded (Asked.untested (its .0)) (Asked.untested p) in
+          rw g refl
 
-      grounds : (b : Bool) → b ≡ over → ground L (its .0) ≡ (refuseIf b 11 zero >>= λ _. accepted p)
-      unfolding ground
-      grounds b e = ap (λ (x : Bool). refuseIf x 11 zero >>= λ _. accepted p) (sym (e ∙ over-is))
+      pub ends-else : onlyWantsMore (its .0 .question) ≡ false → resultOf (Refused 24 0) ≡ monotone L question site
+      unfolding refuseIf resultOf _>>=_
+      ends-else e = sym (then-is ∙ rw e refl)
 
-      pub ends-over : true ≡ over → resultOf (Refused 11 0) ≡ monotone L question site
-      unfolding refuseIf _>>=_
-      ends-over e = refused-with 11 0 (Alone.limits-refused L question site nothing nothing nothing nothing (its .0) (its .1) tt (λ _. Asked.untested _) (Asked.untested (its .0)) 11 0 (grounds true e))
-
-      module _ (within : false ≡ over) where
-        grounded : ground L (its .0) ≡ accepted p
-        unfolding refuseIf _>>=_
-        grounded = grounds false within
-
-        then-is : monotone L question site ≡ (refuseIf (not (onlyWantsMore (its .0 .question))) 24 zero >>= λ _. refuseIf (not (ruleIsTrue (its .0) (cells p))) 21 zero >>= λ _. accepted zero)
-        unfolding monotone _>>=_
-        then-is =
-            let g = Alone.ready L question site nothing nothing nothing nothing (its .0) (its .1) tt (λ _. Asked.untested _) (Asked.untested (its .0)) p grounded (Asked.untested (its .0)) (Asked.untested p) in
-            rw g refl
-
-        pub ends-else : onlyWantsMore (its .0 .question) ≡ false → resultOf (Refused 24 0) ≡ monotone L question site
+      module _ (e : onlyWantsMore (its .0 .question) ≡ true) (b : Bool) (is : b ≡ ruleIsTrue (its .0) (cells p)) where
+        pub ends-yes : b ≡ true → resultOf (Yes 0) ≡ monotone L question site
         unfolding refuseIf resultOf _>>=_
-        ends-else e = sym (then-is ∙ rw e refl)
+        ends-yes t = let q : ruleIsTrue (its .0) (cells p) ≡ true = sym is ∙ t in sym (then-is ∙ rw (e, q) refl)
 
-        module _ (e : onlyWantsMore (its .0 .question) ≡ true) (b : Bool) (is : b ≡ ruleIsTrue (its .0) (cells p)) where
-          pub ends-yes : b ≡ true → resultOf (Yes 0) ≡ monotone L question site
-          unfolding refuseIf resultOf _>>=_
-          ends-yes t = let q : ruleIsTrue (its .0) (cells p) ≡ true = sym is ∙ t in sym (then-is ∙ rw (e, q) refl)
-
-          pub ends-no : b ≡ false → resultOf (Refused 21 0) ≡ monotone L question site
-          unfolding refuseIf resultOf _>>=_
-          ends-no t = let q : ruleIsTrue (its .0) (cells p) ≡ false = sym is ∙ t in sym (then-is ∙ rw (e, q) refl)
+        pub ends-no : b ≡ false → resultOf (Refused 21 0) ≡ monotone L question site
+        unfolding refuseIf resultOf _>>=_
+        ends-no t = let q : ruleIsTrue (its .0) (cells p) ≡ false = sym is ∙ t in sym (then-is ∙ rw (e, q) refl)
 
 -- ---- the profile of a case that was read
 module _ (s : List ℕ) (c : Case) (A : Accepted c) (o : Opened) (facts : ℕ → Bool) (h : Holds s c o facts) where

@@ -1,4 +1,4 @@
--- The profile by the node table: no part of a node is a not-tuple of a `choose`, and no `choose` is of a function kind.
+-- The profile by the node table: there is no `every` line, no part of a node is a not-tuple of a `choose`, and no `choose` is of a function kind.
 use Prim.Native.Nat.{ℕ, suc, _+_, _≤_, _<_}
 use mathlib.Core.Path.{_≡_, refl, sym, ap, ap₂, subst, _∙_}
 use mathlib.Core.Bool.{Bool, true, false, not, _&&_, _||_}
@@ -8,8 +8,8 @@ use borrow.Author.Tests.{eq-eqb, ne-eqb}
 use lib.Dec.{T, eqb, ltb}
 use lib.ListN.{length, getD, take, drop, length-drop}
 use lib.Seq.{getD-take, getD-drop, length-take-le}
-use Rattle.definitions.specs.Lists.{if_then_else_, all, any, below}
-use Rattle.definitions.specs.Sheet.Relations.{Relation, Kind, static, plain, Fun, PFun, Inj, PInj, isFunction}
+use Rattle.definitions.specs.Lists.{if_then_else_, isSome, all, any, below}
+use Rattle.definitions.specs.Sheet.Relations.{Relation, Kind, static, plain, Fun, PFun, Inj, PInj, universal, isChosen, isFunction}
 use Rattle.definitions.specs.Sheet.Sheets.{Question, firstChosen}
 use Rattle.definitions.specs.Problem.Truth.{Case}
 use Rattle.definitions.specs.Problem.Tree.{Tree, Trees, leaf, forallNode, existsNode, andNode, orNode, end, _then_, parts, partsFrom, nodes, nodesAll, treeOf}
@@ -19,7 +19,7 @@ use Rattle.laws.specs.Booleans.{T-ext, T-of, not-and, or-assoc}
 use Rattle.laws.specs.Lists.{any-at, any-of, below-lt, mem-below, getD-mem, mem-getD}
 use Rattle.laws.specs.Numbers.{noRelation}
 use Rattle.laws.specs.Reader.{Accepted}
-use Rattle.meaning.specs.Grounded.{chosen-at}
+use Rattle.meaning.specs.Grounded.{chosen-at, chosen-is}
 use Rattle.rule_nodes.specs.Tables.{Head, headFrom, headOf, headIn, noPart, noNode, IsNode, IsTable, Fits}
 use Rattle.rule_nodes.specs.declared.NodeRow.{NodeRow}
 use Rattle.rule_nodes.specs.declared.PartRow.{PartRow}
@@ -172,14 +172,15 @@ module _ (first : ℕ) where
   row-of t v at many x e a m r q b z = sym (ap₂ (λ (i k : ℕ). any (partAt t i) (below k)) (a ∙ ap (λ (y : NodeRow). y .first) e) (m ∙ ap (λ (y : NodeRow). y .many) e)) ∙ sym q ∙ z
 
 -- ---- kinds
-kind-is : (k : Kind) → ltb 1 (kindNumber k) ≡ isFunction k
-unfolding kindNumber isFunction
-kind-is static = refl
-kind-is plain = refl
-kind-is Fun = refl
-kind-is PFun = refl
-kind-is Inj = refl
-kind-is PInj = refl
+kind-is : (k : Kind) → T (isChosen k) → ltb 1 (kindNumber k) ≡ isFunction k
+unfolding kindNumber isFunction isChosen
+kind-is static t = absurd t
+kind-is plain t = refl
+kind-is Fun t = refl
+kind-is PFun t = refl
+kind-is Inj t = refl
+kind-is PInj t = refl
+kind-is universal t = absurd t
 
 all-none : {A : Type 0} (f : A → Bool) (l : List A) → not (all (λ x. not (f x)) l) ≡ any f l
 unfolding all any
@@ -198,33 +199,53 @@ pub kinds-are : (c : Case) → Accepted c → (kinds : List ℕ) (first chosen :
     → ((i : ℕ) → i < chosen → getD kinds (first + i) 0 ≡ kindNumber (relationAt (problemOf c) (first + i) .kind)) → any (kindAt kinds first) (below chosen) ≡ not (all (λ (k : Relation). not (isFunction (k .kind))) (c .question .chosen))
 kinds-are c A kinds first chosen e k is =
     any-same (kindAt kinds first) (λ i. isFunction (getD (c .question .chosen) i noRelation .kind)) chosen (λ i h.
-    ap (ltb 1) (is i h) ∙ kind-is (relationAt (problemOf c) (first + i) .kind) ∙ ap (λ (r : Relation). isFunction (r .kind)) (ap (λ (x : ℕ). relationAt (problemOf c) (x + i)) e ∙ chosen-at c A i))
+    let l : i < length (c .question .chosen) = omega arith in
+    let there = ap (λ (x : ℕ). relationAt (problemOf c) (x + i)) e in
+    ap (ltb 1) (is i h) ∙ kind-is (relationAt (problemOf c) (first + i) .kind) (subst (λ (r : Relation). T (isChosen (r .kind))) (sym there) (chosen-is c A i l .1)) ∙ ap (λ (r : Relation). isFunction (r .kind)) (there ∙ chosen-at c A i l))
     ∙ any-index (λ (r : Relation). isFunction (r .kind)) noRelation (c .question .chosen) chosen k ∙ sym (all-none (λ (r : Relation). isFunction (r .kind)) (c .question .chosen))
 
 -- ---- the profile, by what was looked for and not found
-module _ (q : Question) (b d : Bool) (kinds : b ≡ not (all (λ (k : Relation). not (isFunction (k .kind))) (q .chosen))) (tree : d ≡ not (wantsMore (firstChosen q) (treeOf q))) where
-  pub else-kinds : b ≡ true → onlyWantsMore q ≡ false
-  unfolding onlyWantsMore
-  else-kinds e = by-test (all (λ (k : Relation). not (isFunction (k .kind))) (q .chosen)) (sym kinds ∙ e)
-    where
-      by-test : (a : Bool) → not a ≡ true → (a && wantsMore (firstChosen q) (treeOf q)) ≡ false
-      by-test true z = absurd (T-of z)
-      by-test false z = refl
+module _ (q : Question) (every : Bool) (told : every ≡ isSome (q .every)) where
+  abbrev Plain : Bool
+  Plain = all (λ (k : Relation). not (isFunction (k .kind))) (q .chosen)
 
-  pub else-tree : d ≡ true → onlyWantsMore q ≡ false
-  unfolding onlyWantsMore
-  else-tree e = by-test (all (λ (k : Relation). not (isFunction (k .kind))) (q .chosen)) (wantsMore (firstChosen q) (treeOf q)) (sym tree ∙ e)
-    where
-      by-test : (a w : Bool) → not w ≡ true → (a && w) ≡ false
-      by-test a true z = absurd (T-of z)
-      by-test true false z = refl
-      by-test false false z = refl
+  abbrev More : Bool
+  More = wantsMore (firstChosen q) (treeOf q)
 
-  pub profile : b ≡ false → d ≡ false → onlyWantsMore q ≡ true
+  pub else-every : every ≡ true → onlyWantsMore q ≡ false
   unfolding onlyWantsMore
-  profile e f = by-test (all (λ (k : Relation). not (isFunction (k .kind))) (q .chosen)) (wantsMore (firstChosen q) (treeOf q)) (sym kinds ∙ e) (sym tree ∙ f)
+  else-every e = by-test (isSome (q .every)) (sym told ∙ e)
     where
-      by-test : (a w : Bool) → not a ≡ false → not w ≡ false → (a && w) ≡ true
-      by-test true true y z = refl
-      by-test true false y z = absurd (T-of (sym z))
-      by-test false w y z = absurd (T-of (sym y))
+      by-test : (a : Bool) → a ≡ true → (not a && Plain && More) ≡ false
+      by-test true z = refl
+      by-test false z = absurd (T-of z)
+
+  module _ (b : Bool) (kinds : b ≡ not Plain) where
+    pub else-kinds : b ≡ true → onlyWantsMore q ≡ false
+    unfolding onlyWantsMore
+    else-kinds e = by-test (not (isSome (q .every))) Plain (sym kinds ∙ e)
+      where
+        by-test : (a b : Bool) → not b ≡ true → (a && b && More) ≡ false
+        by-test a true z = absurd (T-of z)
+        by-test true false z = refl
+        by-test false false z = refl
+
+    module _ (d : Bool) (tree : d ≡ not More) where
+      pub else-tree : d ≡ true → onlyWantsMore q ≡ false
+      unfolding onlyWantsMore
+      else-tree e = by-test (not (isSome (q .every)) && Plain) More (sym tree ∙ e)
+        where
+          by-test : (a w : Bool) → not w ≡ true → (a && w) ≡ false
+          by-test a true z = absurd (T-of z)
+          by-test true false z = refl
+          by-test false false z = refl
+
+      pub profile : every ≡ false → b ≡ false → d ≡ false → onlyWantsMore q ≡ true
+      unfolding onlyWantsMore
+      profile a e f = by-test (isSome (q .every)) Plain More (sym told ∙ a) (sym kinds ∙ e) (sym tree ∙ f)
+        where
+          by-test : (a b w : Bool) → a ≡ false → not b ≡ false → not w ≡ false → (not a && b && w) ≡ true
+          by-test true b w x y z = absurd (T-of (sym x))
+          by-test false true true x y z = refl
+          by-test false true false x y z = absurd (T-of (sym z))
+          by-test false false w x y z = absurd (T-of (sym y))

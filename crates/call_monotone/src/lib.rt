@@ -78,7 +78,7 @@ fn tree_refuses(t: Nodes, first: usize) -> bool
 
 // Whether one of `count` relations from number `first` on is of a function kind.
 fn some_function(g: Relations, first: usize, count: usize) -> bool
-    requires { ⌜ RelationsFit g × (first + count ≤ 17) ⌝ }
+    requires { ⌜ RelationsFit g × (first + count ≤ 18) ⌝ }
     ensures { λ r. ⌜ r ≡ any (kindAt (g .kind) first) (below count) ⌝ }
 {
     let mut i: usize = 0;
@@ -91,7 +91,7 @@ fn some_function(g: Relations, first: usize, count: usize) -> bool
     false
 }
 
-// Of a case that was read: 11, 24, 21, then yes.
+// Of a case that was read: 11, 23, 24, which any case with an `every` line is, 21, then yes.
 fn monotone_case(question: &[u8], o: Opened, facts: &[u64], all: &[u64]) -> Reply
     requires { ⌜ AcceptedIn (now question) o (bit (now facts)) ⌝ }
     ensures { λ r. ⌜ ((site : List ℕ) → CaseRead (now (question .entry)) (readCase usual (now (question .entry)) site) o (bit (now (facts .entry))) → o .fault ≡ 0
@@ -107,8 +107,12 @@ fn monotone_case(question: &[u8], o: Opened, facts: &[u64], all: &[u64]) -> Repl
     let g = problem_of_case::relations_of(sig);
     let t = rule_rewrite::nodes_of(question, rule.from, rule.to, sig);
     let m = problem_sizes::of_tables(n, ranges, g, t);
-    if problem_layout::too_many(m.atoms, m.actions, open_case::ATOMS, open_case::ACTIONS) {
-        return Reply::Refused(11, 0);
+    let k = problem_sizes::refusal(m, open_case::usual_limits());
+    if k != 0 {
+        return Reply::Refused(k, 0);
+    }
+    if m.every {
+        return Reply::Refused(24, 0);
     }
     let first = 5 + sig.rels;
     if some_function(g, first, sig.chosen) {
@@ -118,7 +122,7 @@ fn monotone_case(question: &[u8], o: Opened, facts: &[u64], all: &[u64]) -> Repl
         return Reply::Refused(24, 0);
     }
     let mut lines = [0usize; eval_rule::LINES];
-    eval_table::fill(&mut lines, n, types, &members, ranges, g, t);
+    eval_table::fill(&mut lines, n, types, &members, ranges, g, t, 0);
     if eval_table::rule_is_true(&lines, facts, all, n) {
         return Reply::Accepted(0);
     }

@@ -16,7 +16,7 @@ use Rattle.definitions.specs.Refusal.{accepted}
 use Rattle.definitions.specs.Sheet.Sheets.{Label}
 use Rattle.definitions.specs.Problem.Tree.{free}
 use Rattle.definitions.specs.Problem.Atoms.{Problem, State, initial, relationAt, nodeAt, placesOf}
-use Rattle.definitions.specs.Problem.Actions.{Action, set, beginProof, proveAnd, proveOr, proveExists, proveForall, proveGoal, actionAt}
+use Rattle.definitions.specs.Problem.Actions.{Action, set, beginProof, proveAnd, proveOr, proveExists, proveForall, proveGoal, roundEnd, markIn, markOut, actionAt}
 use Rattle.definitions.specs.Problem.Strips.{runFrom, run, after}
 use Rattle.definitions.specs.Reply.Desk.{said}
 use Rattle.definitions.specs.Reply.Page.{freeValues, shownElements, partWord, units, packed, stepHead, stepLines}
@@ -101,6 +101,9 @@ module _ (p : Problem) (G : Good p) (ls : List Label) (two : (x : ℕ) → x < p
   elements-two (proveExists w row y) v x m = more-two w row y (v .2 .1) (v .2 .4) x m
   elements-two (proveForall w row y) v x m = more-two w row y (v .2 .1) (v .2 .4) x m
   elements-two proveGoal v x m = absurd (List·Memᴰ·not-nil m)
+  elements-two roundEnd v x m = absurd (List·Memᴰ·not-nil m)
+  elements-two (markIn r row) v x m = places-two (relationAt p r .arity) row x m
+  elements-two (markOut r row) v x m = places-two (relationAt p r .arity) row x m
 
   commas-two : (xs : List ℕ) → ((x : ℕ) → List·Memᴰ x xs → length (said ls x) ≤ 2) → length (commas (map (said ls) xs)) ≤ 3 * length xs
   unfolding commas
@@ -120,6 +123,9 @@ module _ (p : Problem) (G : Good p) (ls : List Label) (two : (x : ℕ) → x < p
   fits k (proveExists w row x) S = omega (arith, S .few)
   fits k (proveForall w row x) S = omega (arith, S .few)
   fits k proveGoal S = omega arith
+  fits k roundEnd S = omega arith
+  fits k (markIn r row) S = omega (arith, S .few)
+  fits k (markOut r row) S = omega (arith, S .few)
 
   step-one : (i k : ℕ) (a : Action) → actionAt p k ≡ some a → Shown ls p k a → length (stepLines ls p i k a) ≡ 1
   unfolding stepLines

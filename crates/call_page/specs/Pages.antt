@@ -64,7 +64,7 @@ pub record Printable (question site labels table : List ℕ) (g : Signature) : T
 -- they are those of a problem and its labels, of which the steps have few pages
 pub record Paper (question site labels table : List ℕ) (g : Signature) (steps : List ℕ) (p : Problem) (ls : List Label) : Type 0 where
   pub is : Is p table
-  pub named : (names : List ℕ) → Named (g .from) (g .to) (g .arity) (g .rels + g .chosen) names → NamesAre p question names
+  pub named : (names : List ℕ) → Named (g .from) (g .to) (g .arity) (g .rels + g .chosen + g .every) names → NamesAre p question names
   pub says : saidBy site labels ≡ said ls
   pub shown : (j : ℕ) (a : Action) → actionAt p j ≡ some a → Shown ls p j a
   pub good : Good p
@@ -138,7 +138,7 @@ module _ (question site labels table : List ℕ) (g : Signature) (steps : List �
   page-beyond h p ls W P t = no-page (linesOf ls p steps) m (inr (omega (arith, P .few-pages))) old
 
   -- by where its first line was found
-  module _ (names : List ℕ) (N : Named (g .from) (g .to) (g .arity) (g .rels + g .chosen) names) (first index line : ℕ) (find : FoundBy site labels names table steps first index line) (h : 0 < m) (f : first ≡ 59 * (m - 1)) where
+  module _ (names : List ℕ) (N : Named (g .from) (g .to) (g .arity) (g .rels + g .chosen + g .every) names) (first index line : ℕ) (find : FoundBy site labels names table steps first index line) (h : 0 < m) (f : first ≡ 59 * (m - 1)) where
     found : (p : Problem) (ls : List Label) → Printable question site labels table g → Paper question site labels table g steps p ls → Taken p steps → Finds ls p steps first index line
     unfolding FoundBy
     found p ls W P t =
@@ -238,13 +238,13 @@ module _ (question site : List ℕ) (f : Front) (labels facts table : List ℕ) 
     unfolding resultOf readyToRun
     call-steps given m state page k place t = let (x, e, h, l) = its in refused-with given m state page k place (Order.third-refused usual question site _ _ _ _ x e k place t) (Refused k place) refl
 
-    pub call-over : f .m .over ≡ true → (given : ThirdInput) (m : ℕ) (state page steps : List ℕ) → takeSteps given ≡ accepted steps → Paged question site given m state page (Refused 11 0) state page
+    pub call-over : (f .m .refusal ≡ 0 → ⊥) → (given : ThirdInput) (m : ℕ) (state page steps : List ℕ) → takeSteps given ≡ accepted steps → Paged question site given m state page (Refused (f .m .refusal) 0) state page
     unfolding resultOf readyToRun
     call-over o given m state page steps t =
         let (x, e, h, l) = its in
-        refused-with given m state page 11 0 (Order.limits-refused usual question site _ _ _ _ x e steps t (Order.untested (x .case)) 11 0 (case-over usual (x .case) (f .m) table (h .grounded) o)) (Refused 11 0) refl
+        refused-with given m state page _ _ (Order.limits-refused usual question site _ _ _ _ x e steps t (Order.untested (x .case)) _ _ (case-over usual (x .case) (f .m) table (h .grounded) o)) (Refused (f .m .refusal) 0) refl
 
-    module _ (o : f .m .over ≡ false) where
+    module _ (o : f .m .refusal ≡ 0) where
       abbrev p : Problem
       p = problemOf (its .0 .case)
 
@@ -310,7 +310,7 @@ module _ (question site : List ℕ) (f : Front) (labels facts table : List ℕ) 
                 let (x, e, h, l) = its in
                 record {
                   is = table-of .is;
-                  named = λ names N. names-are question (f .o .sig) names (h .holds .sound) N (x .case) (h .accepts) (h .holds .rels) (h .holds .chosen);
+                  named = λ names N. names-are question (f .o .sig) names (h .holds .sound) N (x .case) (h .accepts) (h .holds .rels) (h .holds .chosen) (h .holds .every);
                   says = said-so site labels (f .o .n) (x .labels) l;
                   shown = ready-shown question site given (pageRooms (length state) (length page)) ready is-ready;
                   good = good (x .case) (h .accepts);

@@ -164,8 +164,8 @@ fn page_steps(
         → Paged (now (question .entry)) (now (site .entry)) given page (now (state .entry)) (now (out .entry)) r (now (state .exit)) (now (out .exit))) ⌝ }
 {
     let m = f.m;
-    if m.over {
-        return Reply::Refused(11, 0);
+    if m.refusal != 0 {
+        return Reply::Refused(m.refusal, 0);
     }
     let words = (m.atoms + 63) / 64;
     if state.len() < words {
@@ -243,16 +243,7 @@ fn page_text_with(
 {
     let mut labels = [0usize; read_sheets::LABELS];
     let mut table = [0usize; problem_table::TABLE];
-    let f = open_case::open_filed(
-        question,
-        site,
-        open_case::ELEMENTS,
-        open_case::ATOMS,
-        open_case::ACTIONS,
-        &mut labels,
-        facts,
-        &mut table,
-    );
+    let f = open_case::open_usual(question, site, &mut labels, facts, &mut table);
     if f.fault != 0 {
         return Reply::Refused(f.fault, f.place);
     }
@@ -351,16 +342,7 @@ fn page_lent_in(
 {
     let mut labels = [0usize; read_sheets::LABELS];
     let mut table = [0usize; problem_table::TABLE];
-    let f = open_case::open_filed(
-        question,
-        site,
-        open_case::ELEMENTS,
-        open_case::ATOMS,
-        open_case::ACTIONS,
-        &mut labels,
-        facts,
-        &mut table,
-    );
+    let f = open_case::open_usual(question, site, &mut labels, facts, &mut table);
     if f.fault != 0 {
         return Reply::Refused(f.fault, f.place);
     }

@@ -1,7 +1,6 @@
 -- What reading picks from steps answers and leaves: of a problem, and of the texts.
 use Prim.Native.Nat.{ℕ, _+_, _/_, _≤_, _<_}
 use mathlib.Core.Path.{_≡_, refl, sym, ap, ap₂, subst, _∙_}
-use mathlib.Core.Bool.{true, false}
 use mathlib.Core.List.{List, _++_}
 use lib.ListN.{length, drop}
 use Rattle.definitions.specs.Limits.{CaseLimits}
@@ -103,13 +102,13 @@ module _ (given : Outcome.ThirdInput) (picks state : List ℕ) (f : Front) (fact
     call-steps k place t = let (c, e, h) = front-held L question site f facts table front z in refused-with k place (Alone.third-refused L question site _ _ _ _ c e k place (λ _. t)) (Refused k place) refl
 
     module _ (steps : List ℕ) (t : Outcome.takeSteps given ≡ accepted steps) where
-      pub call-over : f .m .over ≡ true → Is-read (Refused 11 0) picks state
+      pub call-over : (f .m .refusal ≡ 0 → ⊥) → Is-read (Refused (f .m .refusal) 0) picks state
       unfolding resultOf
       call-over o =
           let (c, e, h) = front-held L question site f facts table front z in
-          refused-with 11 0 (Alone.limits-refused L question site _ _ _ _ c e steps (λ _. t) (Order.untested c) 11 0 (case-over L c (f .m) table (h .grounded) o)) (Refused 11 0) refl
+          refused-with _ _ (Alone.limits-refused L question site _ _ _ _ c e steps (λ _. t) (Order.untested c) _ _ (case-over L c (f .m) table (h .grounded) o)) (Refused (f .m .refusal) 0) refl
 
-      module _ (o : f .m .over ≡ false) where
+      module _ (o : f .m .refusal ≡ 0) where
         abbrev its : (c : Case) × (Outcome.readCase L question site ≡ accepted c) × Held L question c f facts table
         its = front-held L question site f facts table front z
 

@@ -56,8 +56,8 @@ fn read_steps(
     ensures { λ r. ⌜ Reads f (now (facts .entry)) (now (table .entry)) (now (steps .entry)) (now (picks .entry)) (now (state .entry)) r (now (picks .exit)) (now (state .exit)) ⌝ }
 {
     let m = f.m;
-    if m.over {
-        return Reply::Refused(11, 0);
+    if m.refusal != 0 {
+        return Reply::Refused(m.refusal, 0);
     }
     let needed = step_picks::picks_length(table);
     if picks.len() < needed {
@@ -106,15 +106,7 @@ fn picks_text_with(
     ensures { λ r. ⌜ PicksRead usual (now (question .entry)) (now (site .entry)) (asText (now (steps .entry))) (now (picks .entry)) (now (state .entry)) r (now (picks .exit)) (now (state .exit)) ⌝ }
 {
     let mut table = [0usize; problem_table::TABLE];
-    let f = open_case::open_case(
-        question,
-        site,
-        open_case::ELEMENTS,
-        open_case::ATOMS,
-        open_case::ACTIONS,
-        facts,
-        &mut table,
-    );
+    let f = open_case::open_case(question, site, facts, &mut table);
     if f.fault != 0 {
         return Reply::Refused(f.fault, f.place);
     }
@@ -196,15 +188,7 @@ fn picks_lent_in(
     ensures { λ r. ⌜ PicksRead usual (now (question .entry)) (now (site .entry)) (asNumbers (now (steps .entry))) (now (picks .entry)) (now (state .entry)) r (now (picks .exit)) (now (state .exit)) ⌝ }
 {
     let mut table = [0usize; problem_table::TABLE];
-    let f = open_case::open_case(
-        question,
-        site,
-        open_case::ELEMENTS,
-        open_case::ATOMS,
-        open_case::ACTIONS,
-        facts,
-        &mut table,
-    );
+    let f = open_case::open_case(question, site, facts, &mut table);
     if f.fault != 0 {
         return Reply::Refused(f.fault, f.place);
     }

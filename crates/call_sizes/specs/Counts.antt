@@ -17,7 +17,7 @@ use Rattle.call_sizes.specs.declared.Tallied.{Tallied}
 use Rattle.call_sizes.specs.declared.Tallied.the-variants.{Counted, Refused}
 
 unfoldable pub tallyIn : Counts → Tally.Tally
-tallyIn t = record { nodeCount = t .nodes; sizes = record { elements = t .elements; atomCount = t .atoms; actionCount = t .actions; stepBound = t .bound } }
+tallyIn t = record { nodeCount = t .nodes; hasEvery = t .every; tuples = t .tuples; sizes = record { elements = t .elements; atomCount = t .atoms; actionCount = t .actions; stepBound = t .bound } }
 
 unfoldable pub talliedOf : Tallied → Result Tally.Tally
 talliedOf (Counted t) = accepted (tallyIn t)
@@ -25,7 +25,7 @@ talliedOf (Refused k place) = refused k place
 
 pub tally-in : (p : Problem) (t : Counts) → Tallies p t → tallyIn t ≡ Tally.tallyOf p
 unfolding tallyIn
-tally-in p t h = rw (h .nodes-are, h .elements-are, h .atoms-are, h .actions-are, h .bound-is) refl
+tally-in p t h = rw (h .nodes-are, h .every-is, h .tuples-are, h .elements-are, h .atoms-are, h .actions-are, h .bound-is) refl
 
 module _ (L : CaseLimits) (question site : List ℕ) (o : Opened) (facts : ℕ → Bool) (read : CaseRead question (readCase L question site) o facts) where
   pub tally-refused : (o .fault ≡ 0 → ⊥) → talliedOf (Refused (o .fault) (o .place)) ≡ Tally.tally L question site

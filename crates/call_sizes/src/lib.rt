@@ -1,4 +1,4 @@
-// The tally of a case: of one that was read, and of two texts. The limits of 11 are not asked. Then the public call for the sizes,
+// The tally of a case: of one that was read, and of two texts. The limits of 11 and 23 are not asked. Then the public call for the sizes,
 // which asks them, and nothing of its caller.
 ghost use mathlib.Core.Path.{_≡_};
 ghost use mathlib.Core.Bool.{Bool, false};
@@ -82,8 +82,9 @@ pub enum Sizing {
 fn limited(t: problem_sizes::Tally) -> Sizing
     ensures { λ r. ⌜ sizingOf r ≡ within usual (tallyIn t) ⌝ }
 {
-    if problem_layout::too_many(t.atoms, t.actions, open_case::ATOMS, open_case::ACTIONS) {
-        return Sizing::Refused(11, 0);
+    let k = problem_sizes::refusal(t, open_case::usual_limits());
+    if k != 0 {
+        return Sizing::Refused(k, 0);
     }
     Sizing::Sized(Counts {
         elements: t.elements,

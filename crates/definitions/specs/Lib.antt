@@ -5,7 +5,7 @@
 -- `Table/` has cases, and nothing there has to be.
 --
 --   Limits, Lists                  every limit by name; plain functions on lists
---   "The sheets"                   Text, Relations, Formula, Sheets (Parsing reads a formula, and need not be believed)
+--   "The sheets"                   Text, Relations, Rows (their tuples numbered), Formula, Sheets (Parsing reads a formula, and need not be believed)
 --   "From rule to tree"            Formula (what is counted), Tree
 --   "Atoms"                        Atoms
 --   "Actions"                      Actions, Strips (taking steps), Built (built steps, the bound)
@@ -23,6 +23,8 @@
 --   job 7, the groups found        Finding; FindingCases has cases
 --   job 8, twenty tries            Tries; TriesDrawn has cases
 --   job 9, on paper                Page; PageCases has cases
+--   job 12, every set              Sheets (the `every` line), Truth (its values), Atoms, Actions and Built (rounds), Outcome.ground (23); EveryCases
+--                                  has cases
 --   job 13, rules that want more   Monotone; MonotoneCases has cases
 --   job 14, one card               Allowance; AllowanceCases has cases
 pub mod Limits

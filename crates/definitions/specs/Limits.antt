@@ -30,6 +30,13 @@ chooseLimit = 4
 abbrev pub listLimit : ℕ
 listLimit = 4
 
+-- of an `every` line (document 02, job 12): its arity, and the tuples of its relation
+abbrev pub everyArityLimit : ℕ
+everyArityLimit = 2
+
+abbrev pub everyLimit : ℕ
+everyLimit = 8
+
 abbrev pub bracketLimit : ℕ
 bracketLimit = 128
 
@@ -40,19 +47,20 @@ formLimit = 64
 abbrev pub nestingLimit : ℕ
 nestingLimit = 4
 
--- "The sheets", "Atoms", "Actions": how many elements, atoms and actions a case may have. What is read and grounded takes these as one
--- record, so that one caller may have others than another.
+-- "The sheets", "Atoms", "Actions": how many elements, atoms and actions a case may have, and, where it has an `every` line, what its bound
+-- may be. What is read and grounded takes these as one record, so that one caller may have others than another.
 pub record CaseLimits : Type 0 where
   pub elements : ℕ
   pub atoms : ℕ
   pub actions : ℕ
+  pub steps : ℕ
 
 abbrev pub usual : CaseLimits
-usual = record { elements = 64; atoms = 1048576; actions = 4194304 }
+usual = record { elements = 64; atoms = 1048576; actions = 4194304; steps = 1048576 }
 
 -- the limits of document 01, which the desk program keeps
 abbrev pub early : CaseLimits
-early = record { elements = 16; atoms = 65536; actions = 131072 }
+early = record { elements = 16; atoms = 65536; actions = 131072; steps = 65536 }
 
 -- "Refusal sheet": steps handed over
 abbrev pub stepLimit : ℕ

@@ -38,6 +38,15 @@ module _ {A B : Type 0} where
   option none b f = b
   option (some a) b f = f a
 
+-- whether there is something, and it alone as a list
+unfoldable pub isSome : {A : Type 0} → Option A → Bool
+isSome none = false
+isSome (some a) = true
+
+unfoldable pub listed : {A : Type 0} → Option A → List A
+listed none = []
+listed (some a) = a ∷ []
+
 -- the index of the first element that passes the test
 unfoldable pub position : {A : Type 0} → (A → Bool) → List A → Option ℕ
 position p [] = none

@@ -1,7 +1,7 @@
 -- Document 01, "Refusal sheet": an answer is a value, or a refusal with its number and place. Where each number is tested:
 --    1  `readText` here; too many lent steps: Outcome.takeSteps; the desk program's bytes: Desk.answer
 --    2  Sheets.entryOf
---    3  Sheets.addRel, addType, addChoose, addRule, addSize, addLabel, addMember, addFact; another sheet's record: addToQuestion,
+--    3  Sheets.addRel, addType, addChoose, addEvery, addRule, addSize, addLabel, addMember, addFact; another sheet's record: addToQuestion,
 --       addToSite, addToPicks, addToSteps; missing: readQuestion, readSite
 --    4  Sheets.isNewName, and a type's: Sheets.addType
 --    5  Parsing.readFormula
@@ -21,6 +21,7 @@
 --       at the end of the site: Sheets.readSite
 --   20  Finding.leastPicks
 --   21  Finding.leastPicks, Monotone.monotone
+--   23  an `every` line, just after 11: Outcome.ground; where no such case is taken: Outcome.withoutEvery
 --   24  Monotone.monotone
 use Prim.Native.Nat.{ℕ, zero}
 use mathlib.Core.Bool.{Bool, true, false}
@@ -63,7 +64,7 @@ readText line s text = refuseIf (ltb textLimit (length text)) 1 zero >>= λ _. r
 -- ---- the numbers that a call may refuse with: where no problem is made of the texts; or a lent buffer is too short; steps that are
 -- taken one by one; picks that are handed over; picks that are looked for; rules that only want more
 abbrev pub caseNumbers : List ℕ
-caseNumbers = 1 ∷ 2 ∷ 3 ∷ 4 ∷ 5 ∷ 6 ∷ 7 ∷ 8 ∷ 9 ∷ 10 ∷ 11 ∷ 18 ∷ 19 ∷ []
+caseNumbers = 1 ∷ 2 ∷ 3 ∷ 4 ∷ 5 ∷ 6 ∷ 7 ∷ 8 ∷ 9 ∷ 10 ∷ 11 ∷ 18 ∷ 19 ∷ 23 ∷ []
 
 abbrev pub readyNumbers : List ℕ
 readyNumbers = 12 ∷ caseNumbers

@@ -6,6 +6,7 @@ pub mod Whole
 pub mod LabelCases
 pub mod TypeCases
 pub mod KindCases
+pub mod EveryCases
 pub mod TallyCases
 pub mod TriesDrawn
 pub mod JudgementCases

@@ -7,17 +7,18 @@ use mathlib.Core.List.{List, [], _∷_, _++_, map}
 use lib.ListN.{getD}
 use lib.Dec.{eqb}
 use Rattle.definitions.specs.Lists.{all, any, below, upTo, isIn, flatMap, position}
-use Rattle.definitions.specs.Sheet.Relations.{Relation, Tuple, isAmong, isFunction, isInjective}
-use Rattle.definitions.specs.Problem.Truth.{Case, holds, membersOf, eachChosen, two, first, second, isInside, isOfKind, areOfKinds, firstOfOtherKind, ruleIsTrue}
+use Rattle.definitions.specs.Sheet.Relations.{Relation, Tuple, sameTuple, isAmong, isFunction, isInjective}
+use Rattle.definitions.specs.Problem.Truth.{Case, holds, membersOf, eachChosen, two, first, second, isInside, isOfKind, areOfKinds, firstOfOtherKind, values, everyValue, ruleHolds, ruleIsTrue}
 use Rattle.definitions.specs.Problem.Tree.{Tree, Trees, leaf, forallNode, existsNode, andNode, orNode, end, _then_, Part, parts, treeOf}
 use Rattle.definitions.specs.Problem.Atoms.{Problem, nodeWidth, tuplesOf, relationAt}
-use Rattle.definitions.specs.Problem.Actions.{Action, set, beginProof, proveExists, proveOr, proveGoal, actionNumber, Values, withValue, valuesAt}
-use Rattle.definitions.specs.Problem.Built.{treeHolds, treesHold, someHolds, isTrueAt, least, stepFor, trueRows, nodeSteps, chosenNumbers, isPicked, pickedRows, setSteps, builtActions, builtSteps}
+use Rattle.definitions.specs.Problem.Actions.{Action, set, beginProof, proveExists, proveOr, finish, actionNumber, Values, withValue, valuesAt}
+use Rattle.definitions.specs.Problem.Built.{treeHolds, treesHold, someHolds, isTrueAt, least, stepFor, trueRows, nodeSteps, chosenNumbers, isPicked, pickedRows, setSteps, marksAfter, roundSteps, builtActions, builtSteps}
 use Rattle.definitions.specs.Reply.Demand.{areSamePicks}
 use Rattle.laws.specs.Booleans.{T-of, T-true, T-ext}
 use Rattle.laws.specs.Lists.{any-at, any-of, filter-same}
 use Rattle.laws.specs.Tuples.{among-mem, mem-among}
 use Rattle.laws.specs.Reader.{Accepted}
+use Rattle.meaning.specs.Changes.{any-append}
 use Rattle.meaning.specs.Meaning.{tree-means}
 use Rattle.demands.specs.Answered.{same-among}
 
@@ -92,10 +93,6 @@ module _ (P Q : List Tuple) (same : (t : Tuple) → isAmong t P ≡ isAmong t Q)
     unfolding setSteps
     sets-same = ap (λ (f : ℕ → List ℕ). flatMap (λ r. map (set r) (f r)) (chosenNumbers p)) (fun-ext picked-same)
 
-    steps-same : builtSteps p P ≡ builtSteps p Q
-    unfolding builtSteps builtActions
-    steps-same = ap₂ (λ (a b : List Action). map (actionNumber p) (a ++ (beginProof ∷ (b ++ (proveGoal ∷ []))))) sets-same (proofs-same zero (p .nodeList))
-
   any-among : (f : Tuple → Bool) → any f P ≡ any f Q
   any-among f = T-ext (any f P) (any f Q)
       (λ h. let (t, m, q) = any-at f P h in any-of f Q t (among-mem t Q (T-of (sym (same t) ∙ T-true _ (mem-among t P m)))) q)
@@ -112,9 +109,24 @@ module _ (P Q : List Tuple) (same : (t : Tuple) → isAmong t P ≡ isAmong t Q)
       (ap₂ (λ (x y : Bool). not (isFunction (k .kind) && x) && not (isInjective (k .kind) && y)) (two-same r first second) (two-same r second first))
       (any-among (λ (t : Tuple). eqb (t .relation) r && not (isInside c k t)))))
 
+-- with the same tuples beside them they still are the same
+pub same-beside : (P Q W : List Tuple) → ((t : Tuple) → isAmong t P ≡ isAmong t Q) → (t : Tuple) → isAmong t (P ++ W) ≡ isAmong t (Q ++ W)
+unfolding isAmong
+same-beside P Q W h t = any-append (sameTuple t) P W ∙ ap (λ (b : Bool). b || any (sameTuple t) W) (h t) ∙ sym (any-append (sameTuple t) Q W)
+
+-- so each round of the built steps is the same
+steps-same : (p : Problem) (P Q : List Tuple) → ((t : Tuple) → isAmong t P ≡ isAmong t Q) → builtSteps p P ≡ builtSteps p Q
+unfolding builtSteps builtActions roundSteps
+steps-same p P Q same = ap₂ (λ (l : List Action) (f : ℕ → List Action). map (actionNumber p) (l ++ (beginProof ∷ flatMap f (below (values (p .source)))))) (sets-same P Q same p)
+    (fun-ext (λ k. ap (λ (l : List Action). l ++ (finish p ∷ marksAfter p k)) (proofs-same _ _ (same-beside P Q (everyValue (p .source) k) same) p zero (p .nodeList))))
+
+-- and the rule holds of both or of neither
+pub holds-same : (c : Case) → Accepted c → (P Q : List Tuple) → ((t : Tuple) → isAmong t P ≡ isAmong t Q) → ruleHolds c P ≡ ruleHolds c Q
+holds-same c A P Q same = sym (tree-means c P A) ∙ tree-same P Q same c (λ _. zero) (treeOf (c .question)) ∙ tree-means c Q A
+
 -- "their order doesn't count": the same tuples give the same built steps,
 pub same-steps : (p : Problem) (P Q : List Tuple) → areSamePicks P Q ≡ true → builtSteps p P ≡ builtSteps p Q
-same-steps p P Q e = steps-same P Q (same-among P Q e) p
+same-steps p P Q e = steps-same p P Q (same-among P Q e)
 
 -- are of the declared kinds alike,
 pub same-kinds : (c : Case) (P Q : List Tuple) → areSamePicks P Q ≡ true → areOfKinds c P ≡ areOfKinds c Q
@@ -128,4 +140,5 @@ same-first c P Q e = ap (λ (f : ℕ → Relation → Bool). position not (eachC
 
 -- and make the rule true alike.
 pub same-rule : (c : Case) → Accepted c → (P Q : List Tuple) → areSamePicks P Q ≡ true → ruleIsTrue c P ≡ ruleIsTrue c Q
-same-rule c A P Q e = sym (tree-means c P A) ∙ tree-same P Q (same-among P Q e) c (λ _. zero) (treeOf (c .question)) ∙ tree-means c Q A
+unfolding ruleIsTrue
+same-rule c A P Q e = ap (λ (f : ℕ → Bool). all f (below (values c))) (fun-ext (λ k. holds-same c A _ _ (same-beside P Q (everyValue c k) (same-among P Q e))))

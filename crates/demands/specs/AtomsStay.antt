@@ -7,13 +7,13 @@ use mathlib.Core.List.{List, [], _∷_, _++_, map, append-assoc}
 use lib.Dec.{eqb}
 use lib.ListN.{length}
 use Rattle.definitions.specs.Limits.{nestingLimit}
-use Rattle.definitions.specs.Lists.{if_then_else_, option, same, position, filter, flatMap, mapFrom, below}
+use Rattle.definitions.specs.Lists.{if_then_else_, option, listed, same, position, filter, flatMap, mapFrom, below}
 use Rattle.definitions.specs.Sheet.Relations.{Relation, builtIn, isTotal, numberOf}
 use Rattle.definitions.specs.Sheet.Formula.{Quantified, Formula, Formulas, literal, negation, implication, conjunction, disjunction, exists, forall, nil, cons, variablesOf, sortOf}
 use Rattle.definitions.specs.Sheet.Sheets.{relations, relationsOf, firstChosen}
 use Rattle.definitions.specs.Problem.Truth.{Case}
 use Rattle.definitions.specs.Problem.Tree.{Tree, Trees, leaf, forallNode, existsNode, andNode, orNode, end, _then_, nest, leafOf, asIs, negated, allAsIs, allNegated, totalities, joined, treeOf, nodes, nodesAll, isForall, occurs, occursIn, free}
-use Rattle.definitions.specs.Problem.Atoms.{Block, Atom, guess, proof, goal, holdsNode, problemOf, problemWith, rowsOf, tuplesOf, nodeWidth, relationBlocks, relationsBlocks, nodesBlocks, atomBlocks}
+use Rattle.definitions.specs.Problem.Atoms.{Block, Atom, guess, proof, goal, holdsNode, problemOf, problemWith, rowsOf, tuplesOf, firstTuples, lastTuples, nodeWidth, relationBlocks, relationsBlocks, nodesBlocks, lastBlocks, lastsBlocks, atomBlocks}
 
 -- the tree with every variable over all elements
 unfoldable mutual
@@ -109,16 +109,20 @@ unfoldable pub plainCase : Case → Case
 plainCase c =
     let q = c .question in
     record {
-      question = record { rels = q .rels; types = []; chosen = map plainChoice (q .chosen); rule = record { at = q .rule .at; text = q .rule .text; formula = plainFormula (q .rule .formula) } };
+      question = record { rels = q .rels; types = []; chosen = map plainChoice (q .chosen); every = q .every; rule = record { at = q .rule .at; text = q .rule .text; formula = plainFormula (q .rule .formula) } };
       site = record { size = c .site .size; members = []; facts = c .site .facts };
     }
 
 -- its tree is the bare one
-number-same : (js bs : List Relation) (r : List ℕ) → numberOf (js ++ map plainChoice bs) r ≡ numberOf (js ++ bs) r
+number-same : (bs ls : List Relation) (r : List ℕ) → numberOf (map plainChoice bs ++ ls) r ≡ numberOf (bs ++ ls) r
 unfolding numberOf position plainChoice
-number-same [] [] r = refl
-number-same [] (b ∷ bs) r = ap (λ (o : Option ℕ). if same (b .name) r then some zero else option o none (λ k. some (suc k))) (number-same [] bs r)
-number-same (a ∷ js) bs r = ap (λ (o : Option ℕ). if same (a .name) r then some zero else option o none (λ k. some (suc k))) (number-same js bs r)
+number-same [] ls r = refl
+number-same (b ∷ bs) ls r = ap (λ (o : Option ℕ). if same (b .name) r then some zero else option o none (λ k. some (suc k))) (number-same bs ls r)
+
+number-after : (js ks ls : List Relation) (r : List ℕ) → numberOf ks r ≡ numberOf ls r → numberOf (js ++ ks) r ≡ numberOf (js ++ ls) r
+unfolding numberOf position
+number-after [] ks ls r e = e
+number-after (j ∷ js) ks ls r e = ap (λ (o : Option ℕ). if same (j .name) r then some zero else option o none (λ k. some (suc k))) (number-after js ks ls r e)
 
 nest-bare : (quantifier : ℕ → ℕ → Tree → Tree) → ((d s : ℕ) (t : Tree) → bare (quantifier d s t) ≡ quantifier d 0 (bare t)) → (types : List (List ℕ)) (qs : List Quantified) (d : ℕ) (t : Tree)
     → nest quantifier d (map (sortOf []) (map plainVariable qs)) (bare t) ≡ bare (nest quantifier d (map (sortOf types) qs) t)
@@ -139,21 +143,20 @@ unfolding variablesOf plainVariable
 variables-same [] = refl
 variables-same (q ∷ qs) = ap (λ (l : List (List ℕ)). q .variable ∷ l) (variables-same qs)
 
-number-stays : (js rs ks : List Relation) (r : List ℕ) → numberOf (js ++ (rs ++ map plainChoice ks)) r ≡ numberOf (js ++ (rs ++ ks)) r
-unfolding numberOf position plainChoice
-number-stays [] rs ks r = number-same rs ks r
-number-stays (a ∷ js) rs ks r = ap (λ (o : Option ℕ). if same (a .name) r then some zero else option o none (λ k. some (suc k))) (number-stays js rs ks r)
-
-module _ (rs ks : List Relation) (types : List (List ℕ)) where
+module _ (rs ks : List Relation) (last : Option Relation) (types : List (List ℕ)) where
   abbrev named : List Relation
-  named = relations rs ks
+  named = relations rs ks last
 
   abbrev plain : List Relation
-  plain = relations rs (map plainChoice ks)
+  plain = relations rs (map plainChoice ks) last
+
+  number-stays : (r : List ℕ) → numberOf plain r ≡ numberOf named r
+  unfolding relations
+  number-stays r = number-after builtIn (rs ++ (map plainChoice ks ++ listed last)) (rs ++ (ks ++ listed last)) r (number-after rs (map plainChoice ks ++ listed last) (ks ++ listed last) r (number-same ks (listed last) r))
 
   leaf-bare : (b : Bool) (scope : List (List ℕ)) (r : List ℕ) (vs : List (List ℕ)) → leafOf b plain scope r vs ≡ bare (leafOf b named scope r vs)
-  unfolding leafOf bare relations
-  leaf-bare b scope r vs = ap (λ (o : Option ℕ). leaf b (option o zero (λ k. k)) (map (λ v. option (position (same v) scope) zero (λ k. k)) vs)) (number-stays builtIn rs ks r)
+  unfolding leafOf bare
+  leaf-bare b scope r vs = ap (λ (o : Option ℕ). leaf b (option o zero (λ k. k)) (map (λ v. option (position (same v) scope) zero (λ k. k)) vs)) (number-stays r)
 
   mutual
     unfolding asIs bare plainFormula
@@ -212,23 +215,33 @@ tree-bare : (c : Case) → treeOf (plainCase c .question) ≡ bare (treeOf (c .q
 unfolding treeOf plainCase relationsOf firstChosen
 tree-bare c =
     let q = c .question in
-    ap₂ joined (as-bare (q .rels) (q .chosen) (q .types) (q .rule .formula) []) (totals-bare (firstChosen q) (q .chosen))
+    ap₂ joined (as-bare (q .rels) (q .chosen) (q .every) (q .types) (q .rule .formula) []) (totals-bare (firstChosen q) (q .chosen))
     ∙ joined-bare (asIs (relationsOf q) (q .types) [] (q .rule .formula)) (totalities (firstChosen q) (q .chosen))
 
-relation-blocks : (n r : ℕ) (ks : List Relation) → mapFrom (relationBlocks n) r (map plainChoice ks) ≡ mapFrom (relationBlocks n) r ks
-unfolding mapFrom relationBlocks plainChoice tuplesOf
-relation-blocks n r [] = refl
-relation-blocks n r (k ∷ ks) = ap (λ (l : List (List (Block Atom))). relationBlocks n r k ∷ l) (relation-blocks n (suc r) ks)
+-- blocks of relations that are made of a relation's arity and kind alone
+module _ (blocks : ℕ → Relation → List (Block Atom)) (blind : (r : ℕ) (k : Relation) → blocks r (plainChoice k) ≡ blocks r k) where
+  of-choices : (r : ℕ) (ks ls : List Relation) → mapFrom blocks r (map plainChoice ks ++ ls) ≡ mapFrom blocks r (ks ++ ls)
+  unfolding mapFrom
+  of-choices r [] ls = refl
+  of-choices r (k ∷ ks) ls = ap₂ (λ (b : List (Block Atom)) (l : List (List (Block Atom))). b ∷ l) (blind r k) (of-choices (suc r) ks ls)
 
-after-blocks : (n r : ℕ) (js ks : List Relation) → mapFrom (relationBlocks n) r (js ++ map plainChoice ks) ≡ mapFrom (relationBlocks n) r (js ++ ks)
-unfolding mapFrom
-after-blocks n r [] ks = relation-blocks n r ks
-after-blocks n r (a ∷ js) ks = ap (λ (l : List (List (Block Atom))). relationBlocks n r a ∷ l) (after-blocks n (suc r) js ks)
+  of-all : (r : ℕ) (js ks ls : List Relation) → mapFrom blocks r (js ++ (map plainChoice ks ++ ls)) ≡ mapFrom blocks r (js ++ (ks ++ ls))
+  unfolding mapFrom
+  of-all r [] ks ls = of-choices r ks ls
+  of-all r (j ∷ js) ks ls = ap (λ (l : List (List (Block Atom))). blocks r j ∷ l) (of-all (suc r) js ks ls)
 
-relations-same : (n : ℕ) (rs ks : List Relation) → relationsBlocks n (relations rs (map plainChoice ks)) ≡ relationsBlocks n (relations rs ks)
-unfolding relationsBlocks relations
-relations-same n rs ks = ap (flatMap (λ (bs : List (Block Atom)). bs))
-    (ap (mapFrom (relationBlocks n) zero) (sym (append-assoc builtIn rs (map plainChoice ks))) ∙ after-blocks n zero (builtIn ++ rs) ks ∙ ap (mapFrom (relationBlocks n) zero) (append-assoc builtIn rs ks))
+  of-relations : (rs ks : List Relation) (last : Option Relation) → flatMap (λ (bs : List (Block Atom)). bs) (mapFrom blocks zero (relations rs (map plainChoice ks) last)) ≡ flatMap (λ (bs : List (Block Atom)). bs) (mapFrom blocks zero (relations rs ks last))
+  unfolding relations
+  of-relations rs ks last = ap (flatMap (λ (bs : List (Block Atom)). bs))
+      (ap (mapFrom blocks zero) (sym (append-assoc builtIn rs (map plainChoice ks ++ listed last))) ∙ of-all zero (builtIn ++ rs) ks (listed last) ∙ ap (mapFrom blocks zero) (append-assoc builtIn rs (ks ++ listed last)))
+
+relations-same : (n : ℕ) (rs ks : List Relation) (last : Option Relation) → relationsBlocks n (relations rs (map plainChoice ks) last) ≡ relationsBlocks n (relations rs ks last)
+unfolding relationsBlocks relationBlocks plainChoice firstTuples tuplesOf
+relations-same n rs ks last = of-relations (relationBlocks n) (λ r k. refl) rs ks last
+
+lasts-same : (n : ℕ) (rs ks : List Relation) (last : Option Relation) → lastsBlocks n (relations rs (map plainChoice ks) last) ≡ lastsBlocks n (relations rs ks last)
+unfolding lastsBlocks lastBlocks plainChoice lastTuples tuplesOf
+lasts-same n rs ks last = of-relations (lastBlocks n) (λ r k. refl) rs ks last
 
 nodes-stay : (n : ℕ) (t : Tree) → nodesBlocks n (nodes (bare t)) ≡ nodesBlocks n (nodes t)
 unfolding nodesBlocks
@@ -240,5 +253,5 @@ unfolding problemOf problemWith atomBlocks relationsOf plainCase
 atoms-stay c =
     let q = c .question in
     ap₂ (λ (l m : List (Block Atom)). record { width = 1; item = λ _. guess } ∷ record { width = 1; item = λ _. proof } ∷ record { width = 1; item = λ _. goal } ∷ (l ++ m))
-    (sym (relations-same (c .site .size) (q .rels) (q .chosen)))
-    (sym (ap (λ (t : Tree). nodesBlocks (c .site .size) (nodes t)) (tree-bare c) ∙ nodes-stay (c .site .size) (treeOf q)))
+    (sym (relations-same (c .site .size) (q .rels) (q .chosen) (q .every)))
+    (ap₂ _++_ (sym (ap (λ (t : Tree). nodesBlocks (c .site .size) (nodes t)) (tree-bare c) ∙ nodes-stay (c .site .size) (treeOf q))) (sym (lasts-same (c .site .size) (q .rels) (q .chosen) (q .every))))

@@ -8,8 +8,8 @@ use mathlib.Core.List.{List, [], map, List·Memᴰ, List·Memᴰ·head, List·Me
 use Rattle.definitions.specs.Lists.{all, option}
 use Rattle.definitions.specs.Sheet.Relations.{Tuple, isAmong}
 use Rattle.definitions.specs.Problem.Truth.{Case, arePicks, areOfKinds, ruleIsTrue}
-use Rattle.definitions.specs.Problem.Atoms.{Problem, problemOf}
-use Rattle.definitions.specs.Problem.Actions.{Action, set, beginProof, proveAnd, proveOr, proveExists, proveForall, proveGoal, actionAt}
+use Rattle.definitions.specs.Problem.Atoms.{Problem, problemOf, problemWith}
+use Rattle.definitions.specs.Problem.Actions.{Action, set, beginProof, proveAnd, proveOr, proveExists, proveForall, proveGoal, roundEnd, markIn, markOut, actionAt}
 use Rattle.definitions.specs.Problem.Strips.{reachesGoal, pickOf, picksOf}
 use Rattle.definitions.specs.Problem.Built.{builtSteps}
 use Rattle.definitions.specs.Reply.Demand.{areSamePicks}
@@ -19,7 +19,7 @@ use Rattle.laws.specs.Tuples.{among-mem, mem-among}
 use Rattle.laws.specs.Reader.{Accepted}
 use Rattle.meaning.specs.Sound.{tupleAt, OfKinds, sound}
 use Rattle.meaning.specs.Grounded.{good}
-use Rattle.meaning.specs.Kinds.{tested-kinds, root-means, steps-sound}
+use Rattle.meaning.specs.Kinds.{tested-kinds, rule-everywhere, steps-sound}
 use Rattle.meaning.specs.Pairs.{tupleOf, pairs, picked-in, in-picked}
 use Rattle.meaning.specs.Complete.{complete, read-built}
 use Rattle.meaning.specs.Picks.{picks-inside, inside-picks}
@@ -35,6 +35,9 @@ module _ (p : Problem) where
   pick-set (proveExists v row x) t m = absurd (List·Memᴰ·not-nil m)
   pick-set (proveForall v row z) t m = absurd (List·Memᴰ·not-nil m)
   pick-set proveGoal t m = absurd (List·Memᴰ·not-nil m)
+  pick-set roundEnd t m = absurd (List·Memᴰ·not-nil m)
+  pick-set (markIn r row) t m = absurd (List·Memᴰ·not-nil m)
+  pick-set (markOut r row) t m = absurd (List·Memᴰ·not-nil m)
 
   abbrev at-step : ℕ → List Tuple
   at-step k = option (actionAt p k) [] (pickOf p)
@@ -85,6 +88,7 @@ module _ (c : Case) (A : Accepted c) where
     K = tested-kinds c A F (picks-inside c A F (T-of P)) (T-of k)
 
     pub complete-case : ruleIsTrue c F ≡ true → (reachesGoal p (builtSteps p F) ≡ true) × (areSamePicks (picksOf p (builtSteps p F)) F ≡ true)
+    unfolding problemOf problemWith
     complete-case r =
-        let t = T-of (root-means c A F ∙ r) in
+        let t = rule-everywhere c A F (T-of r) in
         (T-true (reachesGoal p (builtSteps p F)) (complete p (good c A) F K t), ap (λ (l : List Tuple). areSamePicks l F) (read-built p (good c A) F K t) ∙ in-order F P)

@@ -10,12 +10,12 @@ use lib.Dec.{T, leb}
 use lib.ListN.{length, getD}
 use borrow.Author.Tests.{eq-eqb, eqb-true, lt-ltb, ltb-true, not-false}
 use Rattle.definitions.specs.Limits.{CaseLimits, chooseLimit}
-use Rattle.definitions.specs.Lists.{all, any, option}
+use Rattle.definitions.specs.Lists.{all, any, isSome, option}
 use Rattle.definitions.specs.Sheet.Text.{bytes, decimal}
 use Rattle.definitions.specs.Sheet.Relations.{Kind, static, plain, Fun, PFun, Inj, PInj, isChosen, isFunction, isInjective, isTotal, Relation, Tuple, isAmong, builtIn, builtInHolds}
 use Rattle.definitions.specs.Sheet.Formula.{typeNumber, isType}
 use Rattle.definitions.specs.Sheet.Sheets.{Draft, isRuled, isNewName, placeSort, addChoose, firstChosen, Label, nameOf}
-use Rattle.definitions.specs.Problem.Truth.{Case, holds, membersOf, first, second, isOfKind, isTotalIn, ruleIsTrue}
+use Rattle.definitions.specs.Problem.Truth.{Case, holds, membersOf, first, second, isOfKind, isTotalIn, ruleHolds}
 use Rattle.definitions.specs.Problem.Tree.{treeOf}
 use Rattle.definitions.specs.Problem.Built.{treeHolds}
 use Rattle.definitions.specs.Refusal.{accepted, refuseIf}
@@ -110,7 +110,7 @@ pub typed-choose : (d e : Draft) (at : ℕ) (name : List ℕ) (kind : Kind) (t u
     → (i : ℕ) × (j : ℕ) × (typeNumber (d .types) t ≡ some i) × (typeNumber (d .types) u ≡ some j) × (e .chosen ≡ d .chosen ++ (record { name = name; arity = 2; kind = kind; firsts = suc i; seconds = suc j } ∷ []))
 unfolding addChoose placeSort all
 typed-choose d e at name kind t u q =
-    let (a, _, q₁) = bind-parts (refuseIf (isRuled (d .ruled) || leb chooseLimit (length (d .chosen))) 3 at) _ e q in
+    let (a, _, q₁) = bind-parts (refuseIf (isSome (d .every) || isRuled (d .ruled) || leb chooseLimit (length (d .chosen))) 3 at) _ e q in
     let (b, _, q₂) = bind-parts (refuseIf (not (isNewName d name)) 4 at) _ e q₁ in
     let (_, r, q₃) = bind-parts (refuseIf (not (all (isType (d .types)) (t ∷ u ∷ []))) 19 at) _ e q₂ in
     let typed = not-refused (not (all (isType (d .types)) (t ∷ u ∷ []))) 19 at _ r in
@@ -150,8 +150,8 @@ module _ (L : CaseLimits) (few : L .elements ≤ 64) (question site : List ℕ) 
   A : Accepted c
   A = gives-if Accepted (readCase L question site) c is-case (case-fits L few question site)
 
-  -- the tree that is grounded means what the rule as written means, totalities included
-  pub tree-truth : treeHolds c picks (λ _. zero) (treeOf (c .question)) ≡ ruleIsTrue c picks
+  -- the tree that is grounded means what the rule as written means, totalities included, of whatever tuples are given
+  pub tree-truth : treeHolds c picks (λ _. zero) (treeOf (c .question)) ≡ ruleHolds c picks
   tree-truth = tree-means c picks A
 
 -- ---- an element that has no label is printed by its number

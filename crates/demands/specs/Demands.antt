@@ -8,7 +8,7 @@
 --    3  soundness, tuples-set, reading; whenever-checked, whenever-read
 --    4  text-picks, lent-picks, taken-picks; building, refused-16, refused-17, built-exactly; whenever-built, order-kinds, order-rule, order-steps, order-built,
 --       built-accepted, built-same, built-read
---    5  count, at-most
+--    5  count, at-most, count-plain, count-most
 --    6  polynomial, degree
 --    7  strips-1, never-twice
 --    8  atom-number, atoms-numbered, atoms-used, action-number, actions-numbered; state-bit, state-spare, words-taken, words-written;
@@ -33,20 +33,23 @@
 --   Judgement, job 6
 --   14  judging, judge-refuse
 --   Finding, job 7
---   20  cells-are, numbered-picks, has-number, one-number; found-least, finds, finds-none, finds-many, finds-short, found-steps, found-judged;
---       find-refuse, find-length
+--   20  cells-are, numbered-picks, has-number, one-number; found-least, finds, finds-none, finds-many, finds-short, finds-every,
+--       found-steps, found-judged; find-refuse, find-length
 --   Tries, job 8
 --   11  trying, tries-alone, tries-outside, tries-accepts, tries-place; tries-refuse, tries-length
 --   Page, job 9
---   19  paper-uncut, paper-units, paper-lines, paper-page, paper-pages, paper-head, paper-number; paper-before, paper-run, paper-none,
---       paper-laid, paper-checked, paper-refuse, paper-bytes, paper-length
+--   19  paper-uncut, paper-units, paper-bare, paper-marks, paper-lines, paper-page, paper-pages, paper-head, paper-number; paper-before,
+--       paper-run, paper-none, paper-laid, paper-checked, paper-refuse, paper-bytes, paper-length
 --   Larger, job 10
 --   15  kept-problem, kept-sizes, kept-action, kept-check, kept-read, kept-build, kept-judgement, kept-tries, kept-allowances,
 --       kept-page, kept-found, kept-monotone, kept-tally, kept-text, kept-steps; grown, limits-are, long-text, many-steps, desk-limits, desk-steps
+--   Every, job 12
+--   22  every-sets, value-is, rounds, few-values; no-every-relations, no-every-tuple, no-every-not, no-every-atoms, no-every-actions,
+--       no-every-action, no-every-rule, no-every-built, no-every-ground
 --   Monotone, job 13
---   21  all-or-none, wants-some, wants-none, wants-else, wanted-steps; monotone-refuse
+--   21  all-or-none, wants-some, wants-none, wants-else, wants-every, wanted-steps; monotone-refuse
 --   Allowance, job 14
---   12  one-pick, one-pick-built, allowances-are, allowances-refuse, allowances-length
+--   12  one-pick, one-pick-built, allowances-are, allowances-every, allowances-refuse, allowances-length
 pub mod Labels
 pub mod Tally
 pub mod Types
@@ -56,30 +59,31 @@ pub mod Finding
 pub mod Tries
 pub mod Page
 pub mod Larger
+pub mod Every
 pub mod Monotone
 pub mod Allowance
 use Prim.Native.Nat.{ℕ, zero, _+_, _*_, _^_, _<_, _≤_}
 use mathlib.Core.Path.{_≡_, refl, sym, ap, ap₂, subst, subst₂, _∙_}
-use mathlib.Core.Logic.{_⊎_, ⊎-elim, _↔_}
+use mathlib.Core.Logic.{_⊎_, inl, inr, ⊎-elim, _↔_}
 use mathlib.Core.Bool.{Bool, true, false, not, _&&_}
 use mathlib.Core.Option.{Option, none, some}
 use mathlib.Core.List.{List, [], _∷_, _++_, map, List·Memᴰ}
 use native.Mathlib.Omega.{arith}
-use lib.Dec.{ltb}
+use lib.Dec.{T, ltb}
 use lib.ListN.{length, getD, take, length-append}
 use borrow.Author.Tests.{le-ltb}
 use Rattle.definitions.specs.Limits.{CaseLimits, early, stepLimit, textLimit}
-use Rattle.definitions.specs.Lists.{flatMap, isIn, sum}
+use Rattle.definitions.specs.Lists.{isSome, flatMap, isIn, sum}
 use Rattle.definitions.specs.Sheet.Text.{bytes, number, decimal}
 use Rattle.definitions.specs.Reply.Desk.{stepLine, pickLine, sheets, answer}
 use Rattle.definitions.specs.Refusal.{Result, refused, accepted, _>>=_, refuseIf, caseNumbers, readyNumbers, runNumbers, picksNumbers}
 use Rattle.definitions.specs.Sheet.Relations.{Tuple, isAmong}
 use Rattle.definitions.specs.Sheet.Sheets.{Question, Label, Labelled, readQuestion, readSite, readPicks, firstChosen, readSteps}
-use Rattle.definitions.specs.Problem.Truth.{Case, arePicks, areOfKinds, firstOfOtherKind, ruleIsTrue}
-use Rattle.definitions.specs.Problem.Atoms.{Problem, problemOf, Atom, itemAt, atomBlocks, atoms, atomNumber, relationAt, placesOf, stateWords, rowOf}
+use Rattle.definitions.specs.Problem.Truth.{Case, arePicks, areOfKinds, firstOfOtherKind, everyTuples, ruleIsTrue}
+use Rattle.definitions.specs.Problem.Atoms.{Problem, problemOf, problemWith, nodeAtoms, Atom, itemAt, atomBlocks, atoms, atomNumber, relationAt, placesOf, stateWords, rowOf}
 use Rattle.definitions.specs.Problem.Actions.{Action, set, actionAt, actions, actionNumber, needs, adds, removes}
 use Rattle.definitions.specs.Problem.Strips.{reachesGoal, run, picksOf}
-use Rattle.definitions.specs.Problem.Built.{chosenNumbers, builtSteps, builtCount, bound, boundExponents, boundPolynomial, pickedRows}
+use Rattle.definitions.specs.Problem.Built.{chosenNumbers, trueRows, builtSteps, trueAtoms, builtCount, bound, boundExponents, boundPolynomial, pickedRows}
 use Rattle.definitions.specs.Reply.Outcome.{sizes, action, CaseRead, readFiled, readCase, ground, readProblem, asked, nothing}
 use Rattle.definitions.specs.Reply.Outcome.{roomFor, stateLength, written, picksLength, pickWords, bitOf, lentPicks, spareWord, ThirdInput, asText, asNumbers}
 use Rattle.definitions.specs.Reply.Outcome.{takeSteps, textPicks, picksRoom, takePicks, readyToRun, Checked, checkedFrom, checkSteps, picksIfAccepted}
@@ -97,6 +101,7 @@ use Rattle.laws.specs.Asked
 use Rattle.meaning.specs.Count
 use Rattle.laws.specs.Reader
 use Reader.{Accepted, FiledFits, filed-fits, gives-if}
+use Rattle.meaning.specs.Means.{Good}
 use Rattle.meaning.specs.Grounded.{good}
 use Rattle.meaning.specs.Valid.{needs-valid, adds-valid, removes-valid}
 use Rattle.meaning.specs.Pairs
@@ -138,9 +143,9 @@ pub accepted-checks : (L : CaseLimits) (question site : List ℕ)
     → (caseIsAccepted L question site ≡ true) ↔ ((state : List ℕ) (k place : ℕ) → checkSteps L question site (asNumbers []) state .answer ≡ refused k place → isIn k caseNumbers ≡ false)
 accepted-checks L question site = Answered.accepted-checks L question site
 
--- ---- For every limits of at most 64 elements and no more atoms than steps may be handed over, and every question and site that are
--- accepted under them: c is the case read from the two texts, with its labels, and p its numbered problem.
-module _ (L : CaseLimits) (few : L .elements ≤ 64) (lendable : L .atoms ≤ stepLimit) (question site : List ℕ) (c : Case) (labels : List Label) (p : Problem)
+-- ---- For every limits of at most 64 elements, with no more atoms and no larger a bound than steps may be handed over, and every question and
+-- site that are accepted under them: c is the case read from the two texts, with its labels, and p its numbered problem.
+module _ (L : CaseLimits) (few : L .elements ≤ 64) (lendable : L .atoms ≤ stepLimit) (handed : L .steps ≤ stepLimit) (question site : List ℕ) (c : Case) (labels : List Label) (p : Problem)
     (is-filed : readFiled L question site ≡ accepted (record { case = c; labels = labels })) (is-problem : readProblem L question site ≡ accepted p) where
   -- (what the proofs in this module start from; the theorems begin at 1)
   is-case : readCase L question site ≡ accepted c
@@ -161,6 +166,14 @@ module _ (L : CaseLimits) (few : L .elements ≤ 64) (lendable : L .atoms ≤ st
 
   K : LabelsFit (c .site .size) labels
   K = filed .labels-fit
+
+  is-good : Good p
+  is-good = rw same-problem (good c A)
+
+  -- (without an `every` line)
+  alone : c .question .every ≡ none → T (not (isSome (p .source .question .every)))
+  unfolding problemOf problemWith isSome
+  alone e = rw (same-problem, e) tt
 
   sound : (steps : List ℕ) → reachesGoal p steps ≡ true → (arePicks c (picksOf p steps) ≡ true) × (areOfKinds c (picksOf p steps) ≡ true) × (ruleIsTrue c (picksOf p steps) ≡ true)
   sound = rw same-problem (Between.sound-case c A)
@@ -345,11 +358,14 @@ module _ (L : CaseLimits) (few : L .elements ≤ 64) (lendable : L .atoms ≤ st
 
   -- (they are few enough to be lent)
   built-few : (picks : List Tuple) → arePicks c picks ≡ true → areOfKinds c picks ≡ true → length (builtSteps p picks) ≤ stepLimit
-  built-few picks a k =
-      let n = counts picks a k in
-      let b = Count.bound-below p in
-      let f = Reader.acceptance L few question site p is-problem .few-atoms in
-      omega (arith, n .0, n .1)
+  built-few picks a k = let n = counts picks a k in by-test (isSome (p .source .question .every)) refl (n .0) (n .1)
+    where
+      by-test : (b : Bool) → isSome (p .source .question .every) ≡ b → length (builtSteps p picks) ≡ builtCount p picks → builtCount p picks ≤ bound p → length (builtSteps p picks) ≤ stepLimit
+      by-test true e m n = let f = Reader.acceptance L few question site p is-problem .few-steps (T-of e) in omega arith
+      by-test false e m n =
+          let b = Count.bound-below p is-good (T-of (ap not e)) in
+          let f = Reader.acceptance L few question site p is-problem .few-atoms in
+          omega arith
 
   -- The built steps, lent as numbers, are accepted.
   pub built-accepted : (picks : List Tuple) → arePicks c picks ≡ true → areOfKinds c picks ≡ true → ruleIsTrue c picks ≡ true → stepsAreAccepted L question site (asNumbers (builtSteps p picks)) ≡ true
@@ -371,33 +387,47 @@ module _ (L : CaseLimits) (few : L .elements ≤ 64) (lendable : L .atoms ≤ st
       ∙ ap (λ (x : Result ℕ). picksIfAccepted x (pickWords p (picksOf p (builtSteps p picks))) words) (Accepting.run-count p (builtSteps p picks) (T-of goal))
       ∙ ap (λ (x : List ℕ). written x words) (Answered.same-words p (picksOf p (builtSteps p picks)) picks (built-same picks a k r))
 
-  -- ---- 5, count: the built steps are picks + true node atoms + 2, and at most the bound.
+  -- ---- 5, count: the built steps are picks + 1 + what each round has, which is the node atoms that are true with its value, its end, and its
+  -- marks: a mark-in and a mark-out for each value but one. They are at most the bound.
   pub count : (picks : List Tuple) → arePicks c picks ≡ true → areOfKinds c picks ≡ true → length (builtSteps p picks) ≡ builtCount p picks
   count picks a k = counts picks a k .0
 
   pub at-most : (picks : List Tuple) → arePicks c picks ≡ true → areOfKinds c picks ≡ true → builtCount p picks ≤ bound p
   at-most picks a k = counts picks a k .1
 
-  -- ---- 6, polynomial: the bound is a polynomial in the number of elements; the question's text alone fixes its terms, whatever the
-  -- site holds.
-  pub polynomial : (q : Question) → readQuestion question ≡ accepted q → bound p ≡ boundPolynomial q (c .site .size)
-  polynomial q e = value ∙ ap (λ (x : Question). boundPolynomial x (c .site .size)) (accepted-eq (c .question) q (sym (Reader.case-question L question site c is-case) ∙ e))
+  -- Without an `every` line there is one value: picks + true node atoms + 2.
+  pub count-plain : c .question .every ≡ none → (picks : List Tuple) → builtCount p picks ≡ length picks + sum (map (λ t. length (trueRows p picks t)) (p .nodeList)) + 2
+  unfolding trueAtoms
+  count-plain e picks = Count.count-plain p is-good (alone e) picks
+
+  -- With one that has m tuples, and so 2 to the m values: at most picks + 1 + 2^m × (node atoms + m + 1).
+  pub count-most : (picks : List Tuple) → arePicks c picks ≡ true → areOfKinds c picks ≡ true → length (builtSteps p picks) ≤ length picks + 1 + 2 ^ everyTuples c * (nodeAtoms p + everyTuples c + 1)
+  count-most picks a k = let n = counts picks a k .0 in let m = most picks a k in omega arith
+    where
+      most : (picks : List Tuple) → arePicks c picks ≡ true → areOfKinds c picks ≡ true → builtCount p picks ≤ length picks + 1 + 2 ^ everyTuples c * (nodeAtoms p + everyTuples c + 1)
+      most = rw same-problem (Building.count-most c A)
+
+  -- ---- 6, polynomial: without an `every` line the bound is a polynomial in the number of elements; the question's text alone fixes its
+  -- terms, whatever the site holds.
+  pub polynomial : c .question .every ≡ none → (q : Question) → readQuestion question ≡ accepted q → bound p ≡ boundPolynomial q (c .site .size)
+  polynomial plain q e = value ∙ ap (λ (x : Question). boundPolynomial x (c .site .size)) (accepted-eq (c .question) q (sym (Reader.case-question L question site c is-case) ∙ e))
     where
       value : bound p ≡ boundPolynomial (c .question) (c .site .size)
-      value = rw same-problem (Polynomial.bound-value c)
+      value = rw same-problem (Polynomial.bound-value c plain)
 
   -- No exponent is above 4.
   pub degree : (exponent : ℕ) → List·Memᴰ exponent (boundExponents (c .question)) → exponent ≤ 4
   degree exponent m = Polynomial.degree c A exponent m
 
-  -- ---- 7, STRIPS-1: every action that removes something removes a need that no action adds;
-  pub strips-1 : (a : Action) → (removes p a ≡ []) ⊎ ((x : Atom) × List·Memᴰ x (removes p a) × List·Memᴰ x (needs p a) × ((b : Action) → List·Memᴰ x (adds p b) → ⊥))
-  strips-1 a = Strips1.strips-1 p a
+  -- ---- 7, STRIPS-1: without an `every` line every action that removes something removes a need that no action adds;
+  pub strips-1 : c .question .every ≡ none → (k : ℕ) (a : Action) → actionAt p k ≡ some a
+      → (removes p a ≡ []) ⊎ ((x : Atom) × List·Memᴰ x (removes p a) × List·Memᴰ x (needs p a) × ((j : ℕ) (b : Action) → actionAt p j ≡ some b → List·Memᴰ x (adds p b) → ⊥))
+  strips-1 e k a i = ⊎-elim (λ q. inl q) (λ q. let (x, r, n, f) = q in inr (x, r, n, λ j b d m. f b (Numbers.action-is p j b d) m)) (Strips1.strips-1 p is-good (alone e) a (Numbers.action-is p k a i))
 
   -- so it is taken at most once: if an action is taken twice in a run that is accepted or only lacks the goal, it removes nothing.
-  pub never-twice : (k : ℕ) (a : Action) → actionAt p k ≡ some a → (before between after : List ℕ) (n : ℕ)
+  pub never-twice : c .question .every ≡ none → (k : ℕ) (a : Action) → actionAt p k ≡ some a → (before between after : List ℕ) (n : ℕ)
       → (run p (before ++ (k ∷ (between ++ (k ∷ after)))) .answer ≡ accepted n) ⊎ (run p (before ++ (k ∷ (between ++ (k ∷ after)))) .answer ≡ refused 15 n) → removes p a ≡ []
-  never-twice = rw same-problem (Strips1.once-only (problemOf c) (good c A))
+  never-twice e = Strips1.once-only p is-good (alone e)
 
   -- ---- 8, the numbering: a number decodes to the atom whose number it is, exactly the numbers below the count decode, and every
   -- atom that an action needs, adds or removes is among them. The same for actions.
@@ -478,8 +508,8 @@ module _ (L : CaseLimits) (few : L .elements ≤ 64) (lendable : L .atoms ≤ st
       → (again : List Tuple) × (readPicks (c .question .chosen) (firstChosen (c .question)) (c .site .size) labels (flatMap (λ r. flatMap (pickLine labels p r) (pickedRows p picks r)) (chosenNumbers p)) ≡ accepted again) × (areSamePicks again picks ≡ true)
   picks-printed = rw same-problem (λ picks a h. (map (Pairs.tupleOf (problemOf c)) (Pairs.pairs (problemOf c) picks), Written.printed-back c A labels K picks (T-of a) h, Between.in-order c A picks a))
 
--- ---- A text is read as a question exactly if line by line it spells its relations, its types, what it chooses and its rule, in this
--- order (`QuestionLine`), the rule standing where its line says, and no test is broken (`QuestionIs`);
+-- ---- A text is read as a question exactly if line by line it spells its relations, its types, what it chooses, its `every` line and its
+-- rule, in this order (`QuestionLine`), the rule standing where its line says, and no test is broken (`QuestionIs`);
 pub question-texts : (text : List ℕ) (q : Question)
     → (readQuestion text ≡ accepted q) ↔ (LineByLine (QuestionLine (q .types)) (questionItems q) text × (length text ≤ textLimit) × (q .rule .at + length (q .rule .text) + 1 ≡ length text) × QuestionIs q)
 question-texts = QuestionTexts.question-texts

@@ -2,10 +2,10 @@
 -- and what the call then answers and leaves.
 use Prim.Native.Nat.{ℕ, zero, _^_, _<_, _≤_}
 use mathlib.Core.Path.{_≡_, refl, sym, ap, subst, _∙_}
-use mathlib.Core.Logic.{_↔_}
+use mathlib.Core.Logic.{⊎-elim, _↔_}
 use mathlib.Core.Bool.{Bool, true, false, _&&_}
 use mathlib.Core.Option.{Option, none, some}
-use mathlib.Core.List.{List, [], _++_}
+use mathlib.Core.List.{List, [], _++_, List·Memᴰ·append-cases, Memᴰ·append-left, Memᴰ·append-right}
 use native.Mathlib.Omega.{arith}
 use borrow.Author.Tests.{ltb-true, ltb-false}
 use lib.Dec.{T, ltb}
@@ -13,16 +13,16 @@ use lib.ListN.{length}
 use Rattle.definitions.specs.Limits.{CaseLimits, cellLimit}
 use Rattle.definitions.specs.Lists.{all, filter, below}
 use Rattle.definitions.specs.Refusal.{Result, refused, accepted, _>>=_, refuseIf, given, readyNumbers, findNumbers}
-use Rattle.definitions.specs.Sheet.Relations.{Tuple, isAmong}
-use Rattle.definitions.specs.Problem.Truth.{Case, isPick, arePicks, areOfKinds, ruleIsTrue}
+use Rattle.definitions.specs.Sheet.Relations.{Relation, Tuple, isAmong}
+use Rattle.definitions.specs.Problem.Truth.{Case, isPick, arePicks, areOfKinds, values, everyValue, ruleHolds, ruleIsTrue}
 use Rattle.definitions.specs.Problem.Tree.{treeOf}
 use Rattle.definitions.specs.Problem.Atoms.{Problem, problemOf}
 use Rattle.definitions.specs.Sheet.Sheets.{Label}
-use Rattle.definitions.specs.Reply.Outcome.{readFiled, ground, Ready, asked, nothing, roomFor, picksLength, pickWords, written}
+use Rattle.definitions.specs.Reply.Outcome.{withoutEvery, readFiled, ground, Ready, asked, nothing, roomFor, picksLength, pickWords, written}
 use Rattle.definitions.specs.Reply.Demand.{areSamePicks}
 use Rattle.definitions.specs.Reply.Finding.{cells, numbered, meets, leastNumber, leastPicks, foundWords, foundFrom, find, Found}
 use Rattle.laws.specs.Booleans.{T-of, T-true, T-ext, and-T, T-and-l, T-and-r, and-both}
-use Rattle.laws.specs.Lists.{all-at, filter-mem, getD-below, length-below, mem-below, mem-filter, none-any}
+use Rattle.laws.specs.Lists.{all-at, all-of, none-some, filter-mem, getD-below, length-below, mem-below, mem-filter, none-any}
 use Rattle.laws.specs.Positions.{none-position, some-position}
 use Rattle.laws.specs.Results.{accepted-eq, bind-parts, refused-accepted, refused-number}
 use Rattle.laws.specs.Tuples.{among-mem, mem-among}
@@ -38,6 +38,7 @@ use Rattle.meaning.specs.Cells.{cell-inside, inside-cell, cells-once, numberOf,
 use Rattle.laws.specs.Asked
 use Rattle.laws.specs.Refusals.{In, words-refuse}
 use Rattle.demands.specs.Between.{same-picks}
+use Rattle.demands.specs.Every.{untested, tested}
 use Rattle.demands.specs.Answered.{same-among}
 use Rattle.demands.specs.Buffers.{written-length, has-room}
 
@@ -76,8 +77,16 @@ module _ (c : Case) (A : Accepted c) where
   one-number m k lm lk h = numbers-apart (cells p) (cells-once p (good c A)) m k lm lk (same-among (numbered (cells p) m) (numbered (cells p) k) h)
 
   -- ---- the same picks meet the rule alike
+  holds-same : (P Q : List Tuple) → Among P Q → Among Q P → T (ruleHolds c P) → T (ruleHolds c Q)
+  holds-same P Q f g h = subst T (tree-means c Q A) (subst T (by-holds c Q _ (treeOf (c .question))) (may-hold c Q P Q g f _ (treeOf (c .question)) (subst T (sym (tree-means c P A)) h)))
+
+  beside : (P Q W : List Tuple) → Among P Q → Among (P ++ W) (Q ++ W)
+  beside P Q W f t i = ⊎-elim (λ m. Memᴰ·append-left W (f t m)) (λ m. Memᴰ·append-right Q m) (List·Memᴰ·append-cases P i)
+
   rule-same : (P Q : List Tuple) → Among P Q → Among Q P → T (ruleIsTrue c P) → T (ruleIsTrue c Q)
-  rule-same P Q f g h = subst T (tree-means c Q A) (subst T (by-holds c Q _ (treeOf (c .question))) (may-hold c Q P Q g f _ (treeOf (c .question)) (subst T (sym (tree-means c P A)) h)))
+  unfolding ruleIsTrue
+  rule-same P Q f g h = all-of (λ k. ruleHolds c (Q ++ everyValue c k)) (below (values c)) (λ k m.
+      let W = everyValue c k in holds-same (P ++ W) (Q ++ W) (beside P Q W f) (beside Q P W g) (all-at (λ k. ruleHolds c (P ++ everyValue c k)) (below (values c)) h k m))
 
   same-parts : (P Q : List Tuple) → areSamePicks P Q ≡ true → Among P Q × Among Q P
   unfolding areSamePicks
@@ -149,28 +158,36 @@ module _ (c : Case) (A : Accepted c) where
     abbrev left : ℕ → Found
     left k = record { answer = refused k zero; picks = old }
 
-    -- the four ways it can end
+    abbrev Plain : Type 0
+    Plain = c .question .every ≡ none
+
+    -- the five ways it can end
     pub data Ends : Type 0 where
-      short : length old < picksLength p → found ≡ record { answer = refused 12 (picksLength p); picks = old } → Ends
-      many : picksLength p ≤ length old → cellLimit < length (cells p) → found ≡ left 20 → Ends
-      nothing-found : picksLength p ≤ length old → length (cells p) ≤ cellLimit → ((P : List Tuple) → Solves c P → ⊥) → found ≡ left 21 → Ends
-      least-found : picksLength p ≤ length old → length (cells p) ≤ cellLimit → (m : ℕ) → IsLeast m → found ≡ record { answer = accepted zero; picks = written (pickWords p (numbered (cells p) m)) old } → Ends
+      universal : (k : Relation) → c .question .every ≡ some k → found ≡ left 23 → Ends
+      short : Plain → length old < picksLength p → found ≡ record { answer = refused 12 (picksLength p); picks = old } → Ends
+      many : Plain → picksLength p ≤ length old → cellLimit < length (cells p) → found ≡ left 20 → Ends
+      nothing-found : Plain → picksLength p ≤ length old → length (cells p) ≤ cellLimit → ((P : List Tuple) → Solves c P → ⊥) → found ≡ left 21 → Ends
+      least-found : Plain → picksLength p ≤ length old → length (cells p) ≤ cellLimit → (m : ℕ) → IsLeast m → found ≡ record { answer = accepted zero; picks = written (pickWords p (numbered (cells p) m)) old } → Ends
 
     pub ends : Ends
     unfolding find foundWords leastPicks foundFrom asked nothing roomFor refuseIf given _>>=_
-    ends = by-room (ltb (length old) (picksLength p)) refl
+    ends = by-every (c .question .every) refl
       where
-        by-least : ltb (length old) (picksLength p) ≡ false → ltb cellLimit (length (cells p)) ≡ false → (o : Option ℕ) → leastNumber c (cells p) ≡ o → Ends
-        by-least a b none e = nothing-found (ltb-false (length old) (picksLength p) a) (ltb-false cellLimit (length (cells p)) b) (least-none e) (rw (is-filed, grounds, a, b, e) refl)
-        by-least a b (some m) e = least-found (ltb-false (length old) (picksLength p) a) (ltb-false cellLimit (length (cells p)) b) m (least-some m e) (rw (is-filed, grounds, a, b, e) refl)
+        by-least : Plain → ltb (length old) (picksLength p) ≡ false → ltb cellLimit (length (cells p)) ≡ false → (o : Option ℕ) → leastNumber c (cells p) ≡ o → Ends
+        by-least n a b none e = nothing-found n (ltb-false (length old) (picksLength p) a) (ltb-false cellLimit (length (cells p)) b) (least-none e) (rw (is-filed, grounds, untested c n, a, b, e) refl)
+        by-least n a b (some m) e = least-found n (ltb-false (length old) (picksLength p) a) (ltb-false cellLimit (length (cells p)) b) m (least-some m e) (rw (is-filed, grounds, untested c n, a, b, e) refl)
 
-        by-cells : ltb (length old) (picksLength p) ≡ false → (b : Bool) → ltb cellLimit (length (cells p)) ≡ b → Ends
-        by-cells a true b = many (ltb-false (length old) (picksLength p) a) (ltb-true cellLimit (length (cells p)) b) (rw (is-filed, grounds, a, b) refl)
-        by-cells a false b = by-least a b (leastNumber c (cells p)) refl
+        by-cells : Plain → ltb (length old) (picksLength p) ≡ false → (b : Bool) → ltb cellLimit (length (cells p)) ≡ b → Ends
+        by-cells n a true b = many n (ltb-false (length old) (picksLength p) a) (ltb-true cellLimit (length (cells p)) b) (rw (is-filed, grounds, untested c n, a, b) refl)
+        by-cells n a false b = by-least n a b (leastNumber c (cells p)) refl
 
-        by-room : (b : Bool) → ltb (length old) (picksLength p) ≡ b → Ends
-        by-room true a = short (ltb-true (length old) (picksLength p) a) (rw (is-filed, grounds, a) refl)
-        by-room false a = by-cells a (ltb cellLimit (length (cells p))) refl
+        by-room : Plain → (b : Bool) → ltb (length old) (picksLength p) ≡ b → Ends
+        by-room n true a = short n (ltb-true (length old) (picksLength p) a) (rw (is-filed, grounds, untested c n, a) refl)
+        by-room n false a = by-cells n a (ltb cellLimit (length (cells p))) refl
+
+        by-every : (o : Option Relation) → c .question .every ≡ o → Ends
+        by-every none e = by-room e (ltb (length old) (picksLength p)) refl
+        by-every (some k) e = universal k e (rw (is-filed, grounds, tested c k e) refl)
 
     -- an end says the answer, which is one only
     answer-of : {x : Found} → found ≡ x → found .answer ≡ x .answer
@@ -186,75 +203,94 @@ module _ (c : Case) (A : Accepted c) where
     not-refused k place e f g = refused-accepted (sym g ∙ answer-of e ∙ f)
 
     abbrev Searched : Type 0
-    Searched = (picksLength p ≤ length old) × (length (cells p) ≤ cellLimit)
+    Searched = Plain × (picksLength p ≤ length old) × (length (cells p) ≤ cellLimit)
 
     pub finds-least : (k : ℕ) → found .answer ≡ accepted k → (k ≡ zero) × (m : ℕ) × IsLeast m × (found .picks ≡ written (pickWords p (numbered (cells p) m)) old)
     finds-least k = by-end ends
       where
         by-end : Ends → found .answer ≡ accepted k → (k ≡ zero) × (m : ℕ) × IsLeast m × (found .picks ≡ written (pickWords p (numbered (cells p) m)) old)
-        by-end (short h e) a = absurd (not-both 12 (picksLength p) k e refl a)
-        by-end (many h l e) a = absurd (not-both 20 zero k e refl a)
-        by-end (nothing-found h l n e) a = absurd (not-both 21 zero k e refl a)
-        by-end (least-found h l m i e) a = (accepted-eq k zero (sym a ∙ answer-of e), m, i, ap (λ (f : Found). f .picks) e)
+        by-end (universal k′ f e) a = absurd (not-both 23 zero k e refl a)
+        by-end (short u h e) a = absurd (not-both 12 (picksLength p) k e refl a)
+        by-end (many u h l e) a = absurd (not-both 20 zero k e refl a)
+        by-end (nothing-found u h l n e) a = absurd (not-both 21 zero k e refl a)
+        by-end (least-found u h l m i e) a = (accepted-eq k zero (sym a ∙ answer-of e), m, i, ap (λ (f : Found). f .picks) e)
 
     pub finds : (found .answer ≡ accepted zero) ↔ (Searched × ((P : List Tuple) × Solves c P))
     finds = (λ a. by-end ends a, λ h. from-end ends (h .0) (h .1))
       where
         by-end : Ends → found .answer ≡ accepted zero → Searched × ((P : List Tuple) × Solves c P)
-        by-end (short h e) a = absurd (not-both 12 (picksLength p) zero e refl a)
-        by-end (many h l e) a = absurd (not-both 20 zero zero e refl a)
-        by-end (nothing-found h l n e) a = absurd (not-both 21 zero zero e refl a)
-        by-end (least-found h l m i e) a = ((h, l), least-solves m i)
+        by-end (universal k f e) a = absurd (not-both 23 zero zero e refl a)
+        by-end (short u h e) a = absurd (not-both 12 (picksLength p) zero e refl a)
+        by-end (many u h l e) a = absurd (not-both 20 zero zero e refl a)
+        by-end (nothing-found u h l n e) a = absurd (not-both 21 zero zero e refl a)
+        by-end (least-found u h l m i e) a = ((u, h, l), least-solves m i)
 
         from-end : Ends → Searched → (P : List Tuple) × Solves c P → found .answer ≡ accepted zero
-        from-end (short h e) q s = let r = q .0 in absurd (omega arith)
-        from-end (many h l e) q s = let r = q .1 in absurd (omega arith)
-        from-end (nothing-found h l n e) q s = absurd (n (s .0) (s .1))
-        from-end (least-found h l m i e) q s = answer-of e
+        from-end (universal k f e) q s = absurd (none-some (sym (q .0) ∙ f))
+        from-end (short u h e) q s = let r = q .1 in absurd (omega arith)
+        from-end (many u h l e) q s = let r = q .2 in absurd (omega arith)
+        from-end (nothing-found u h l n e) q s = absurd (n (s .0) (s .1))
+        from-end (least-found u h l m i e) q s = answer-of e
 
     pub finds-none : (found .answer ≡ refused 21 zero) ↔ (Searched × ((P : List Tuple) → Solves c P → ⊥))
     finds-none = (λ a. by-end ends a, λ h. from-end ends (h .0) (h .1))
       where
         by-end : Ends → found .answer ≡ refused 21 zero → Searched × ((P : List Tuple) → Solves c P → ⊥)
-        by-end (short h e) a = absurd (never 12 21 (picksLength p) zero (λ n. omega arith) e refl a)
-        by-end (many h l e) a = absurd (never 20 21 zero zero (λ n. omega arith) e refl a)
-        by-end (nothing-found h l n e) a = ((h, l), n)
-        by-end (least-found h l m i e) a = absurd (not-refused 21 zero e refl a)
+        by-end (universal k f e) a = absurd (never 23 21 zero zero (λ n. omega arith) e refl a)
+        by-end (short u h e) a = absurd (never 12 21 (picksLength p) zero (λ n. omega arith) e refl a)
+        by-end (many u h l e) a = absurd (never 20 21 zero zero (λ n. omega arith) e refl a)
+        by-end (nothing-found u h l n e) a = ((u, h, l), n)
+        by-end (least-found u h l m i e) a = absurd (not-refused 21 zero e refl a)
 
         from-end : Ends → Searched → ((P : List Tuple) → Solves c P → ⊥) → found .answer ≡ refused 21 zero
-        from-end (short h e) q s = let r = q .0 in absurd (omega arith)
-        from-end (many h l e) q s = let r = q .1 in absurd (omega arith)
-        from-end (nothing-found h l n e) q s = answer-of e
-        from-end (least-found h l m i e) q s = absurd (s (numbered (cells p) m) (i .solves))
+        from-end (universal k f e) q s = absurd (none-some (sym (q .0) ∙ f))
+        from-end (short u h e) q s = let r = q .1 in absurd (omega arith)
+        from-end (many u h l e) q s = let r = q .2 in absurd (omega arith)
+        from-end (nothing-found u h l n e) q s = answer-of e
+        from-end (least-found u h l m i e) q s = absurd (s (numbered (cells p) m) (i .solves))
 
-    pub finds-many : (found .answer ≡ refused 20 zero) ↔ ((picksLength p ≤ length old) × (cellLimit < length (cells p)))
-    finds-many = (λ a. by-end ends a, λ h. from-end ends (h .0) (h .1))
+    pub finds-many : (found .answer ≡ refused 20 zero) ↔ (Plain × (picksLength p ≤ length old) × (cellLimit < length (cells p)))
+    finds-many = (λ a. by-end ends a, λ h. from-end ends (h .0) (h .1) (h .2))
       where
-        by-end : Ends → found .answer ≡ refused 20 zero → (picksLength p ≤ length old) × (cellLimit < length (cells p))
-        by-end (short h e) a = absurd (never 12 20 (picksLength p) zero (λ n. omega arith) e refl a)
-        by-end (many h l e) a = (h, l)
-        by-end (nothing-found h l n e) a = absurd (never 21 20 zero zero (λ n. omega arith) e refl a)
-        by-end (least-found h l m i e) a = absurd (not-refused 20 zero e refl a)
+        by-end : Ends → found .answer ≡ refused 20 zero → Plain × (picksLength p ≤ length old) × (cellLimit < length (cells p))
+        by-end (universal k f e) a = absurd (never 23 20 zero zero (λ n. omega arith) e refl a)
+        by-end (short u h e) a = absurd (never 12 20 (picksLength p) zero (λ n. omega arith) e refl a)
+        by-end (many u h l e) a = (u, h, l)
+        by-end (nothing-found u h l n e) a = absurd (never 21 20 zero zero (λ n. omega arith) e refl a)
+        by-end (least-found u h l m i e) a = absurd (not-refused 20 zero e refl a)
 
-        from-end : Ends → picksLength p ≤ length old → cellLimit < length (cells p) → found .answer ≡ refused 20 zero
-        from-end (short h e) q s = absurd (omega arith)
-        from-end (many h l e) q s = answer-of e
-        from-end (nothing-found h l n e) q s = absurd (omega arith)
-        from-end (least-found h l m i e) q s = absurd (omega arith)
+        from-end : Ends → Plain → picksLength p ≤ length old → cellLimit < length (cells p) → found .answer ≡ refused 20 zero
+        from-end (universal k f e) v q s = absurd (none-some (sym v ∙ f))
+        from-end (short u h e) v q s = absurd (omega arith)
+        from-end (many u h l e) v q s = answer-of e
+        from-end (nothing-found u h l n e) v q s = absurd (omega arith)
+        from-end (least-found u h l m i e) v q s = absurd (omega arith)
 
-    pub finds-short : length old < picksLength p → found .answer ≡ refused 12 (picksLength p)
-    finds-short h = from-end ends
+    pub finds-short : Plain → length old < picksLength p → found .answer ≡ refused 12 (picksLength p)
+    finds-short v h = from-end ends
       where
         from-end : Ends → found .answer ≡ refused 12 (picksLength p)
-        from-end (short h e) = answer-of e
-        from-end (many r l e) = absurd (omega arith)
-        from-end (nothing-found r l n e) = absurd (omega arith)
-        from-end (least-found r l m i e) = absurd (omega arith)
+        from-end (universal k f e) = absurd (none-some (sym v ∙ f))
+        from-end (short u h e) = answer-of e
+        from-end (many u r l e) = absurd (omega arith)
+        from-end (nothing-found u r l n e) = absurd (omega arith)
+        from-end (least-found u r l m i e) = absurd (omega arith)
+
+    -- with an `every` line it is 23, and nothing is written
+    pub finds-every : (k : Relation) → c .question .every ≡ some k → found ≡ left 23
+    finds-every k f = from-end ends
+      where
+        from-end : Ends → found ≡ left 23
+        from-end (universal j g e) = e
+        from-end (short u h e) = absurd (none-some (sym u ∙ f))
+        from-end (many u r l e) = absurd (none-some (sym u ∙ f))
+        from-end (nothing-found u r l n e) = absurd (none-some (sym u ∙ f))
+        from-end (least-found u r l m i e) = absurd (none-some (sym u ∙ f))
 
 -- ---- the call: a refusal leaves the buffer as it was; its length stays
 module _ (L : CaseLimits) (question site old : List ℕ) where
   abbrev ready : Result (Ready (Unit {0}))
-  ready = asked L question site nothing nothing nothing (λ p. roomFor (picksLength p) (length old))
+  ready = asked L question site nothing nothing withoutEvery (λ p. roomFor (picksLength p) (length old))
 
   pub find-refuse : (k place : ℕ) → find L question site old .answer ≡ refused k place → In (readyNumbers ++ findNumbers) k × (find L question site old .picks ≡ old)
   unfolding find foundFrom
@@ -272,7 +308,7 @@ module _ (L : CaseLimits) (question site old : List ℕ) where
       fits w e =
           let (r, a, f) = bind-parts ready _ w e in
           let (F, b, g) = bind-parts (leastPicks (r .case) (cells (r .problem))) _ w f in
-          let q = has-room (picksLength (r .problem)) (length old) tt (Asked.parts L question site nothing nothing nothing (λ p. roomFor (picksLength p) (length old)) r a .has-room) in
+          let q = has-room (picksLength (r .problem)) (length old) tt (Asked.parts L question site nothing nothing withoutEvery (λ p. roomFor (picksLength p) (length old)) r a .has-room) in
           let l = Lent.pick-words (r .problem) F [] .0 in
           let m = ap length (accepted-eq (pickWords (r .problem) F) w g) in
           omega arith

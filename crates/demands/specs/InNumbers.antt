@@ -15,7 +15,7 @@ use Rattle.definitions.specs.Sheet.Text.{bytes, decimal, onFirst, split, Line, 
 use Rattle.definitions.specs.Refusal.{Result, accepted, _>>=_, refuseIf, given, readLines, readText}
 use Rattle.definitions.specs.Sheet.Relations.{Relation, Tuple}
 use Rattle.definitions.specs.Sheet.Formula.{typeNumber}
-use Rattle.definitions.specs.Sheet.Sheets.{Element, numbered, named, Entry, rel, type, choose, rule, size, label, member, fact, pick, step, element}
+use Rattle.definitions.specs.Sheet.Sheets.{Element, numbered, named, Entry, rel, type, choose, every, rule, size, label, member, fact, pick, step, element}
 use Rattle.definitions.specs.Sheet.Sheets.{elements, memberOf, withOne, withTwo, withElements, entry, entryOf, firstRel, Label, elementOf, elementsOf}
 use Rattle.definitions.specs.Sheet.Sheets.{isInRange, used, addTuple, Question, readQuestion, Member, isMember, hasMember, SiteDraft, Labelled, addSize}
 use Rattle.definitions.specs.Sheet.Sheets.{isTaken, addLabel, addMember, addFact, addToSite, siteLine, readSite, firstChosen, readPicks}
@@ -260,6 +260,7 @@ module _ (L : CaseLimits) (few : L .elements ≤ 64) (rels : List Relation) (typ
   entry-goes labels more d m at w (rel name a) v D p s q = absurd (refused-accepted q)
   entry-goes labels more d m at w (type name) v D p s q = absurd (refused-accepted q)
   entry-goes labels more d m at w (choose name a k names) v D p s q = absurd (refused-accepted q)
+  entry-goes labels more d m at w (every name a) v D p s q = absurd (refused-accepted q)
   entry-goes labels more d m at w (rule f) v D p s q = absurd (refused-accepted q)
   entry-goes labels more d m at w (size n) v D p s q = (
     ([], size-plain L d m at at n (d .sized) q .0 ∙ sym (append-nil (d .labels))),

@@ -35,6 +35,7 @@
 --   Paper        steps on paper: nothing is cut or lost; what a page call replies and leaves
 --   Columns      numbers on paper are read back from their columns
 --   FullPage     a last page that is full
+--   Every        the values of an `every` relation in plain words, and what a case without one keeps
 pub mod Demands
 pub mod BothSides
 pub mod Instance
@@ -69,3 +70,4 @@ pub mod OnePick
 pub mod Paper
 pub mod Columns
 pub mod FullPage
+pub mod Every

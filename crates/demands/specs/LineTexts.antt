@@ -12,7 +12,7 @@ use Rattle.definitions.specs.Lists.{if_then_else_, same, option, isEmpty}
 use Rattle.definitions.specs.Sheet.Text.{bytes, number, split, Line, linesFrom, fields, isBetween, isRelationName}
 use Rattle.definitions.specs.Refusal.{Result, accepted, _>>=_, readLines}
 use Rattle.definitions.specs.Sheet.Relations.{Kind, plain}
-use Rattle.definitions.specs.Sheet.Sheets.{Element, Entry, rel, type, choose, rule, size, label, member, fact, pick, step, arityOf, kindNamed, chooseOf}
+use Rattle.definitions.specs.Sheet.Sheets.{Element, Entry, rel, type, choose, every, rule, size, label, member, fact, pick, step, arityOf, everyArityOf, kindNamed, chooseOf}
 use Rattle.definitions.specs.Sheet.Sheets.{element, elements, labelOf, memberOf, withOne, withTwo, withElements, entry, entryOf}
 use Rattle.definitions.specs.Reply.Desk.{printLine}
 use Rattle.laws.specs.Results.{accepted-eq, bind-parts, given-some}
@@ -110,6 +110,7 @@ unfoldable pub Said : List (List ℕ) → Entry → Type 0
 Said fs (rel name a) = (f : List ℕ) × (fs ≡ bytes "rel" ∷ name ∷ f ∷ []) × (arityOf f ≡ some a)
 Said fs (type name) = fs ≡ bytes "type" ∷ name ∷ []
 Said fs (choose name a k types) = (gs : List (List ℕ)) × (fs ≡ bytes "choose" ∷ gs) × Chosen gs name a k types
+Said fs (every name a) = (f : List ℕ) × (fs ≡ bytes "every" ∷ name ∷ f ∷ []) × (everyArityOf f ≡ some a)
 Said fs (rule f) = fs ≡ bytes "rule" ∷ f ∷ []
 Said fs (size n) = (f : List ℕ) × (fs ≡ bytes "size" ∷ f ∷ []) × (number f ≡ some n)
 Said fs (label x name) = (f : List ℕ) × (fs ≡ bytes "label" ∷ f ∷ name ∷ []) × (element f ≡ some x)
@@ -166,6 +167,11 @@ module _ (w : List ℕ) where
   unfolding Said
   rel-said fs t = two-said w _ fs (λ name f. holds-option (λ a. arityOf f ≡ some a) (Said (w ∷ name ∷ f ∷ [])) (arityOf f) _ (holds-self (arityOf f)) (λ a e. holds-some (Said (w ∷ name ∷ f ∷ [])) (rel name a) (f, headed (bytes "rel") (name ∷ f ∷ []) t, e)))
 
+  every-said : (fs : List (List ℕ)) → T (same w (bytes "every")) → Holds (Said (w ∷ fs)) (withTwo (λ name a. option (everyArityOf a) none (λ k. some (every name k))) fs)
+  unfolding Said
+  every-said fs t = two-said w _ fs (λ name f. holds-option (λ a. everyArityOf f ≡ some a) (Said (w ∷ name ∷ f ∷ [])) (everyArityOf f) _ (holds-self (everyArityOf f))
+      (λ a e. holds-some (Said (w ∷ name ∷ f ∷ [])) (every name a) (f, headed (bytes "every") (name ∷ f ∷ []) t, e)))
+
   type-said : (fs : List (List ℕ)) → T (same w (bytes "type")) → Holds (Said (w ∷ fs)) (withOne (λ f. some (type f)) fs)
   unfolding Said
   type-said fs t = one-said w _ fs (λ f. holds-some (Said (w ∷ f ∷ [])) (type f) (headed (bytes "type") (f ∷ []) t))
@@ -207,6 +213,7 @@ entry-said (w ∷ fs) =
     holds-if (Said (w ∷ fs)) (same w (bytes "rel")) _ _ (rel-said w fs)
     (holds-if (Said (w ∷ fs)) (same w (bytes "type")) _ _ (type-said w fs)
     (holds-if (Said (w ∷ fs)) (same w (bytes "choose")) _ _ (λ t. choose-said w fs (same-eq w (bytes "choose") t))
+    (holds-if (Said (w ∷ fs)) (same w (bytes "every")) _ _ (every-said w fs)
     (holds-if (Said (w ∷ fs)) (same w (bytes "rule")) _ _ (rule-said w fs)
     (holds-if (Said (w ∷ fs)) (same w (bytes "size")) _ _ (size-said w fs)
     (holds-if (Said (w ∷ fs)) (same w (bytes "label")) _ _ (label-said w fs)
@@ -214,7 +221,7 @@ entry-said (w ∷ fs) =
     (holds-if (Said (w ∷ fs)) (same w (bytes "fact")) _ _ (fact-said w fs)
     (holds-if (Said (w ∷ fs)) (same w (bytes "pick")) _ _ (λ t. pick-said w fs)
     (holds-if (Said (w ∷ fs)) (same w (bytes "step")) _ _ (λ t. step-said w fs)
-    (holds-none (Said (w ∷ fs))))))))))))
+    (holds-none (Said (w ∷ fs)))))))))))))
 
 pub line-said : (at : ℕ) (w : List ℕ) (e : Entry) → entryOf (ended at w) ≡ accepted e → Said (split 9 w) e
 unfolding entryOf fields Holds

@@ -4,23 +4,23 @@ use Prim.Native.Nat.{ℕ, zero, suc, _+_, _*_, _/_, _%_, _≤_}
 use mathlib.Core.Path.{_≡_, refl, sym, ap, ap₂, subst, _∙_, fun-ext}
 use mathlib.Core.Bool.{Bool, true, false, not, _&&_, _||_}
 use mathlib.Core.Option.{Option, none, some}
-use mathlib.Core.List.{List, [], _∷_, _++_, map, List·Memᴰ, List·Memᴰ·head, List·Memᴰ·tail, Memᴰ·append-right}
+use mathlib.Core.List.{List, [], _∷_, _++_, map, List·Memᴰ, List·Memᴰ·head, List·Memᴰ·tail, Memᴰ·append-left, Memᴰ·append-right}
 use native.Mathlib.Omega.{arith}
 use lib.Dec.{T, eqb, eqb→eq, ltb}
 use lib.ListN.{length, getD, take, drop}
 use borrow.Author.Tests.{eq-eqb, le-ltb}
-use Rattle.definitions.specs.Lists.{if_then_else_, all, any, option, filter, mapFrom, below, isIn, before}
+use Rattle.definitions.specs.Lists.{if_then_else_, all, any, option, listed, filter, mapFrom, below, isIn, before}
 use Rattle.definitions.specs.Sheet.Relations.{Relation, isChosen, isFunction, builtIn}
 use Rattle.definitions.specs.Sheet.Formula.{Quantified, Formula, Formulas, literal, negation, implication, conjunction, disjunction, exists, forall, nil, cons, variablesOf, sortNamed, sortOf, isType, hasType, isTyped, areTyped}
-use Rattle.definitions.specs.Sheet.Sheets.{Member, isMember, relations, relationsOf, firstChosen}
-use Rattle.definitions.specs.Problem.Truth.{Case, holds, membersOf}
+use Rattle.definitions.specs.Sheet.Sheets.{Member, isMember, relations, relationsOf, firstChosen, everyNumber}
+use Rattle.definitions.specs.Problem.Truth.{Case, holds, membersOf, everyTuples, values}
 use Rattle.definitions.specs.Problem.Tree.{Tree, Trees, leaf, forallNode, existsNode, andNode, orNode, end, _then_, nest, asIs, negated, allAsIs, allNegated, joined, totalities, treeOf, nodes, parts, partsFrom, nodeSort}
 use Rattle.definitions.specs.Problem.Atoms.{Problem, problemWith, problemOf, relationAt, nodeAt, tuplesOf, rowsOf, Block, itemAt, atomBlocks, Atom}
-use Rattle.definitions.specs.Problem.Atoms.{guess, proof, goal, tuple, notTuple, freeDomain, freeRange, holdsNode, atomNumber, relationStart, nodeStart}
+use Rattle.definitions.specs.Problem.Atoms.{guess, proof, goal, tuple, notTuple, freeDomain, freeRange, holdsNode, marked, atomNumber, relationStart, nodeStart, lastStart, tupleStart}
 use Rattle.definitions.specs.Problem.Atoms.{nodeAtoms, tupleHolds, isInitial, State, initial}
-use Rattle.definitions.specs.Problem.Actions.{Action, set, beginProof, proveAnd, proveOr, proveExists, proveForall, proveGoal, choices, proveNode, isSettable}
-use Rattle.definitions.specs.Problem.Actions.{setRows, setsOf, setBlocks, proofsOf, proofBlocks, actionBlocks, actionAt, Values, partAtom, partAtoms}
-use Rattle.definitions.specs.Problem.Actions.{underAtom, forallNeeds, needs, adds, removes}
+use Rattle.definitions.specs.Problem.Actions.{Action, set, beginProof, proveAnd, proveOr, proveExists, proveForall, proveGoal, roundEnd, markIn, markOut, choices, proveNode, isSettable}
+use Rattle.definitions.specs.Problem.Actions.{setRows, setsOf, setBlocks, proofsOf, proofBlocks, finish, markBlocks, actionBlocks, actionAt, Values, partAtom, partAtoms}
+use Rattle.definitions.specs.Problem.Actions.{underAtom, forallNeeds, rootAtom, markOrGoal, needs, adds, removes}
 use Rattle.definitions.specs.Refusal.{refused, accepted}
 use Rattle.definitions.specs.Problem.Strips.{mayTake, after, runFrom, run}
 use Rattle.definitions.specs.Problem.Built.{bound}
@@ -90,7 +90,7 @@ sorts-none k a b = and-T (eqb (k .firsts) 0) _ (T-of (eq-eqb (k .firsts) 0 a)) (
 
 untyped-sorted : (c : Case) → T (all hasNoSorts (relationsOf (c .question))) → Sorted 0 (treeOf (untyped c .question))
 unfolding untyped relationsOf relations
-untyped-sorted c u = tree-sorted (untyped c .question) (λ k m. unsorted-fits 0 k (no-sorts k (all-at hasNoSorts (relationsOf (c .question)) u k (Memᴰ·append-right builtIn (Memᴰ·append-right (c .question .rels) m)))))
+untyped-sorted c u = tree-sorted (untyped c .question) (λ k m. unsorted-fits 0 k (no-sorts k (all-at hasNoSorts (relationsOf (c .question)) u k (Memᴰ·append-right builtIn (Memᴰ·append-right (c .question .rels) (Memᴰ·append-left (listed (c .question .every)) m))))))
 
 -- ---- actions of nodes whose sorts are 0, by ranges that are the same there
 module _ (n : ℕ) (R S : ℕ → List ℕ) (same : R 0 ≡ S 0) where
@@ -198,15 +198,15 @@ module _ (c : Case) (t : Tree) (h : Sorted 0 t) (none-sorted : T (all hasNoSorts
   set-blocks = sets-same (c .site .size) (membersOf c) (membersOf (untyped c)) ranges-same (relationsOf (c .question)) zero none-sorted
 
   pub actions-same : actionBlocks p ≡ actionBlocks q
-  unfolding problemWith actionBlocks untyped relationsOf
-  actions-same = ap₂ (λ (x y : List (Block Action)). x ++ (record { width = 1; item = λ _. beginProof } ∷ (y ++ (record { width = 1; item = λ _. proveGoal } ∷ [])))) set-blocks (proofs-same (c .site .size) (membersOf c) (membersOf (untyped c)) ranges-same (nodes t) (λ u m. nodes-sorted 0 t u h m))
+  unfolding problemWith actionBlocks finish untyped relationsOf
+  actions-same = ap₂ (λ (x y : List (Block Action)). x ++ (record { width = 1; item = λ _. beginProof } ∷ (y ++ (record { width = 1; item = λ _. option (c .question .every) proveGoal (λ _. roundEnd) } ∷ (markBlocks markIn (c .site .size) (relationsOf (c .question)) ++ markBlocks markOut (c .site .size) (relationsOf (c .question))))))) set-blocks (proofs-same (c .site .size) (membersOf c) (membersOf (untyped c)) ranges-same (nodes t) (λ u m. nodes-sorted 0 t u h m))
 
   pub action-same : (k : ℕ) → actionAt p k ≡ actionAt q k
   unfolding actionAt
   action-same k = ap (λ (bs : List (Block Action)). itemAt bs k) actions-same
 
   pub needs-same : (a : Action) → needs p a ≡ needs q a
-  unfolding needs problemWith untyped relationsOf relationAt nodeAt
+  unfolding needs rootAtom problemWith untyped relationsOf relationAt nodeAt
   needs-same (set r row) = refl
   needs-same beginProof = refl
   needs-same (proveAnd v row) = ap (λ (l : List Atom). proof ∷ l) (parts-same (c .site .size) (membersOf c) (membersOf (untyped c)) ranges-same _ v (nodeAt p v) (node-sorted 0 t h v))
@@ -214,9 +214,12 @@ module _ (c : Case) (t : Tree) (h : Sorted 0 t) (none-sorted : T (all hasNoSorts
   needs-same (proveExists v row x) = ap (λ (a : Atom). proof ∷ a ∷ []) (under-same (c .site .size) (membersOf c) (membersOf (untyped c)) ranges-same v (nodeAt p v) row x (node-sorted 0 t h v))
   needs-same (proveForall v row z) = ap (λ (l : List Atom). proof ∷ l) (chain-same (c .site .size) (membersOf c) (membersOf (untyped c)) ranges-same v (nodeAt p v) row z (node-sorted 0 t h v))
   needs-same proveGoal = ap (λ (a : Atom). a ∷ []) (part-same (c .site .size) (membersOf c) (membersOf (untyped c)) ranges-same _ zero t h)
+  needs-same roundEnd = ap (λ (a : Atom). a ∷ []) (part-same (c .site .size) (membersOf c) (membersOf (untyped c)) ranges-same _ zero t h)
+  needs-same (markIn r row) = refl
+  needs-same (markOut r row) = refl
 
   pub adds-same : (a : Action) → adds p a ≡ adds q a
-  unfolding adds problemWith untyped
+  unfolding adds markOrGoal everyNumber firstChosen relationAt problemWith untyped relationsOf
   adds-same (set r row) = refl
   adds-same beginProof = refl
   adds-same (proveAnd v row) = refl
@@ -224,6 +227,9 @@ module _ (c : Case) (t : Tree) (h : Sorted 0 t) (none-sorted : T (all hasNoSorts
   adds-same (proveExists v row x) = refl
   adds-same (proveForall v row z) = refl
   adds-same proveGoal = refl
+  adds-same roundEnd = refl
+  adds-same (markIn r row) = refl
+  adds-same (markOut r row) = refl
 
   pub removes-same : (a : Action) → removes p a ≡ removes q a
   unfolding removes problemWith untyped relationsOf relationAt
@@ -234,6 +240,9 @@ module _ (c : Case) (t : Tree) (h : Sorted 0 t) (none-sorted : T (all hasNoSorts
   removes-same (proveExists v row x) = refl
   removes-same (proveForall v row z) = refl
   removes-same proveGoal = refl
+  removes-same roundEnd = refl
+  removes-same (markIn r row) = refl
+  removes-same (markOut r row) = refl
 
   first-same : (a : Atom) → isInitial p a ≡ isInitial q a
   unfolding isInitial tupleHolds holds firstChosen relationAt problemWith untyped relationsOf
@@ -245,17 +254,18 @@ module _ (c : Case) (t : Tree) (h : Sorted 0 t) (none-sorted : T (all hasNoSorts
   first-same (freeDomain r x) = refl
   first-same (freeRange r x) = refl
   first-same (holdsNode v row) = refl
+  first-same (marked r row) = refl
 
   pub initial-same : initial p ≡ initial q
   unfolding initial
   initial-same = ap₂ {C = State} (λ (bs : List (Block Atom)) (f : Atom → Bool) (i : ℕ). option (itemAt bs i) false f) atoms-same (fun-ext first-same)
 
   pub bound-same : bound p ≡ bound q
-  unfolding bound nodeAtoms problemWith untyped relationsOf
+  unfolding bound values everyTuples nodeAtoms problemWith untyped relationsOf
   bound-same = refl
 
   number-same : (x : Atom) → atomNumber p x ≡ atomNumber q x
-  unfolding atomNumber relationStart nodeStart relationAt problemWith untyped relationsOf
+  unfolding atomNumber tupleStart lastStart relationStart nodeStart relationAt problemWith untyped relationsOf
   number-same guess = refl
   number-same proof = refl
   number-same goal = refl
@@ -264,6 +274,7 @@ module _ (c : Case) (t : Tree) (h : Sorted 0 t) (none-sorted : T (all hasNoSorts
   number-same (freeDomain r x) = refl
   number-same (freeRange r x) = refl
   number-same (holdsNode v row) = refl
+  number-same (marked r row) = refl
 
   may-same : (s : State) (a : Action) → mayTake p s a ≡ mayTake q s a
   unfolding mayTake
@@ -336,7 +347,7 @@ pub no-types-case : (c : Case) → Accepted c → c .question .types ≡ [] → 
 unfolding untyped
 no-types-case c A e =
     ap₂ (λ (ts : List (List ℕ)) (ms : List Member). record {
-      question = record { rels = c .question .rels; types = ts; chosen = c .question .chosen; rule = c .question .rule };
+      question = record { rels = c .question .rels; types = ts; chosen = c .question .chosen; every = c .question .every; rule = c .question .rule };
       site = record
           { size = c .site .size; members = ms; facts = c .site .facts };
     }) (sym e)

@@ -10,15 +10,15 @@ use borrow.Author.Tests.{eqb-false}
 use lib.Dec.{T, eqb}
 use lib.ListN.{length, length-map}
 use Rattle.definitions.specs.Limits.{CaseLimits}
-use Rattle.definitions.specs.Lists.{if_then_else_, all, filter, below, upTo, isIn, sum}
+use Rattle.definitions.specs.Lists.{if_then_else_, isSome, all, filter, below, upTo, isIn, sum}
 use Rattle.definitions.specs.Refusal.{Result, refused, accepted, readyNumbers}
 use Rattle.definitions.specs.Sheet.Relations.{Tuple, isAmong}
 use Rattle.definitions.specs.Problem.Truth.{Case, holds, membersOf, arePicks}
 use Rattle.definitions.specs.Problem.Tree.{Tree, Trees, leaf, forallNode, existsNode, andNode, orNode, end, _then_}
 use Rattle.definitions.specs.Problem.Atoms.{Problem, nodeWidth}
 use Rattle.definitions.specs.Problem.Actions.{Values, withValue, valuesAt}
-use Rattle.definitions.specs.Problem.Built.{treeHolds, treesHold, someHolds, isTrueAt, trueRows, chosenNumbers, builtCount}
-use Rattle.definitions.specs.Reply.Outcome.{Ready, asked, nothing, roomFor}
+use Rattle.definitions.specs.Problem.Built.{treeHolds, treesHold, someHolds, isTrueAt, trueRows, chosenNumbers, trueAtoms, builtCount}
+use Rattle.definitions.specs.Reply.Outcome.{Ready, asked, nothing, withoutEvery, roomFor}
 use Rattle.definitions.specs.Reply.Demand.{areSamePicks}
 use Rattle.definitions.specs.Reply.Allowance.{mentions, mentionsIn, allowance, allowancesOf, allowedFrom, allowances}
 use Rattle.laws.specs.Booleans.{T-and-l, T-and-r, T-of, T-ext, or-both}
@@ -27,9 +27,11 @@ use Rattle.laws.specs.Tuples.{among-mem, mem-among}
 use Rattle.laws.specs.Repeats.{Once, distinct-once, filter-le, pigeon}
 use Rattle.laws.specs.Results.{refused-accepted, refused-number}
 use Rattle.laws.specs.Valued.{all-same, any-same}
+use Rattle.meaning.specs.Means.{Good}
+use Rattle.meaning.specs.Count.{count-plain}
 use Rattle.meaning.specs.Picks.{picks-distinct}
 use Rattle.laws.specs.Asked
-use Rattle.laws.specs.Refusals.{In, Refuses, Early, told, asked-by, nothing-by, room-by}
+use Rattle.laws.specs.Refusals.{In, Refuses, Early, told, tested-by, nothing-by, every-by, room-by}
 use Rattle.demands.specs.Buffers.{written-length, has-room}
 
 -- ---- picks that agree on every relation but r
@@ -90,9 +92,10 @@ module _ (p : Problem) (r : ℕ) (P Q : List Tuple) (same : Elsewhere r P Q) whe
       by-test true e h = let a = rows-most t in omega arith
       by-test false e h = let a = rows-same t e in omega arith
 
-  pub count-moves : length Q ≤ suc (length P) → builtCount p Q ≤ builtCount p P + allowance p r
-  unfolding builtCount allowance
-  count-moves h = let a = true-moves (p .nodeList) in omega arith
+  -- without an `every` line there is one round
+  pub count-moves : (G : Good p) → T (not (isSome (p .source .question .every))) → length Q ≤ suc (length P) → builtCount p Q ≤ builtCount p P + allowance p r
+  unfolding trueAtoms allowance
+  count-moves G n h = let a = true-moves (p .nodeList) in let b = count-plain p G n P in let c = count-plain p G n Q in omega arith
 
 -- ---- Q is P and one tuple more
 module _ (P Q : List Tuple) (t : Tuple) (is : areSamePicks Q (t ∷ P) ≡ true) where
@@ -117,11 +120,11 @@ module _ (P Q : List Tuple) (t : Tuple) (is : areSamePicks Q (t ∷ P) ≡ true)
       omega arith
 
 -- the counts of the built steps, both ways
-pub count-moves-both : (p : Problem) (c : Case) (P Q : List Tuple) (t : Tuple) → arePicks c P ≡ true → arePicks c Q ≡ true → isAmong t P ≡ false → areSamePicks Q (t ∷ P) ≡ true
+pub count-moves-both : (p : Problem) (G : Good p) → T (not (isSome (p .source .question .every))) → (c : Case) (P Q : List Tuple) (t : Tuple) → arePicks c P ≡ true → arePicks c Q ≡ true → isAmong t P ≡ false → areSamePicks Q (t ∷ P) ≡ true
     → (builtCount p Q ≤ builtCount p P + allowance p (t .relation)) × (builtCount p P ≤ builtCount p Q + allowance p (t .relation))
-count-moves-both p c P Q t a b new is =
+count-moves-both p G alone c P Q t a b new is =
     let n = one-more P Q t is (distinct-once P (picks-distinct c P (T-of a))) (distinct-once Q (picks-distinct c Q (T-of b))) new in
-    (count-moves p (t .relation) P Q (elsewhere P Q t is) (omega arith), count-moves p (t .relation) Q P (λ u d. sym (elsewhere P Q t is u d)) (omega arith))
+    (count-moves p (t .relation) P Q (elsewhere P Q t is) G alone (omega arith), count-moves p (t .relation) Q P (λ u d. sym (elsewhere P Q t is u d)) G alone (omega arith))
 
 -- ---- the call: a refusal leaves the buffer as it was; its length stays
 module _ (L : CaseLimits) (question site old : List ℕ) where
@@ -129,11 +132,11 @@ module _ (L : CaseLimits) (question site old : List ℕ) where
   rooms p = roomFor (length (chosenNumbers p)) (length old)
 
   abbrev ready : Result (Ready (Unit {0}))
-  ready = asked L question site nothing nothing nothing rooms
+  ready = asked L question site nothing nothing withoutEvery rooms
 
   pub allowances-refuse : (k place : ℕ) → allowances L question site old .answer ≡ refused k place → In readyNumbers k × (allowances L question site old .allowances ≡ old)
   unfolding allowances allowedFrom
-  allowances-refuse k place e = from-this ready (asked-by L question site nothing rooms nothing-by (λ p. room-by (length (chosenNumbers p)) (length old))) e
+  allowances-refuse k place e = from-this ready (tested-by L question site nothing withoutEvery rooms nothing-by every-by (λ p. room-by (length (chosenNumbers p)) (length old))) e
     where
       from-this : (m : Result (Ready (Unit {0}))) → Refuses Early m → allowedFrom m old .answer ≡ refused k place → In readyNumbers k × (allowedFrom m old .allowances ≡ old)
       from-this (refused j at) h e = (subst (In readyNumbers) (refused-number j k at place e) (told Early (refused j at) j at refl h), refl)
@@ -141,7 +144,7 @@ module _ (L : CaseLimits) (question site old : List ℕ) where
 
   pub allowances-length : length (allowances L question site old .allowances) ≡ length old
   unfolding allowances allowedFrom allowancesOf
-  allowances-length = from-this ready (λ r e. has-room (length (chosenNumbers (r .problem))) (length old) tt (Asked.parts L question site nothing nothing nothing rooms r e .has-room))
+  allowances-length = from-this ready (λ r e. has-room (length (chosenNumbers (r .problem))) (length old) tt (Asked.parts L question site nothing nothing withoutEvery rooms r e .has-room))
     where
       from-this : (m : Result (Ready (Unit {0}))) → ((r : Ready (Unit {0})) → m ≡ accepted r → length (chosenNumbers (r .problem)) ≤ length old) → length (allowedFrom m old .allowances) ≡ length old
       from-this (refused k place) h = refl

@@ -2,20 +2,22 @@
 -- variable's range ever holds.
 use Prim.Native.Nat.{ℕ, zero, suc, _+_, _*_, _%_, _<_}
 use mathlib.Core.Path.{_≡_, refl, sym, ap, ap₂, subst, subst₂, _∙_}
+use mathlib.Core.Logic.{⊎-elim}
 use mathlib.Core.Bool.{Bool, true, false, not, _&&_, _||_}
 use mathlib.Core.Option.{Option, none, some}
-use mathlib.Core.List.{List, [], _∷_, map, List·Memᴰ, List·Memᴰ·eq-of-singleton}
+use mathlib.Core.List.{List, [], _∷_, map, List·Memᴰ, List·Memᴰ·eq-of-singleton, List·Memᴰ·append-cases}
 use native.Mathlib.Omega.{arith}
-use lib.Dec.{eqb}
+use lib.Dec.{eqb, ltb}
 use lib.ListN.{length}
 use lib.Arith.{digits-lt, digits-mod}
 use borrow.Author.Tests.{ne-eqb}
 use Rattle.definitions.specs.Lists.{if_then_else_, any, option}
 use Rattle.definitions.specs.Refusal.{refused}
+use Rattle.definitions.specs.Sheet.Sheets.{everyNumber}
 use Rattle.definitions.specs.Problem.Truth.{Case, membersOf}
 use Rattle.definitions.specs.Problem.Tree.{Tree, leaf, forallNode, existsNode, andNode, orNode, isForall}
-use Rattle.definitions.specs.Problem.Atoms.{Problem, problemOf, problemWith, rowsOf, nodeWidth, nodeAt, Atom, guess, proof, goal, tuple, notTuple, freeDomain, freeRange, holdsNode, atomBlocks, itemAt, atomNumber, State, initial, isInitial}
-use Rattle.definitions.specs.Problem.Actions.{Action, set, beginProof, proveAnd, proveOr, proveExists, proveForall, proveGoal, actionAt, adds, removes}
+use Rattle.definitions.specs.Problem.Atoms.{Problem, problemOf, problemWith, relationAt, tuplesOf, rowsOf, nodeWidth, nodeAt, Atom, guess, proof, goal, tuple, notTuple, freeDomain, freeRange, holdsNode, marked, atomBlocks, itemAt, atomNumber, State, initial, isInitial}
+use Rattle.definitions.specs.Problem.Actions.{Action, set, beginProof, proveAnd, proveOr, proveExists, proveForall, proveGoal, roundEnd, markIn, markOut, markOrGoal, actionAt, adds, removes}
 use Rattle.definitions.specs.Problem.Strips.{mayTake, after, runFrom, run}
 use Rattle.laws.specs.Lists.{any-none, map-mem}
 use Rattle.laws.specs.Numbers.{IsAction, IsAtom, action-is, atom-at}
@@ -35,6 +37,7 @@ nodeOf (notTuple r row) = 0
 nodeOf (freeDomain r x) = 0
 nodeOf (freeRange r x) = 0
 nodeOf (holdsNode v row) = suc v
+nodeOf (marked r row) = 0
 
 abbrev rowIn : Atom → ℕ
 rowIn guess = 0
@@ -45,6 +48,7 @@ rowIn (notTuple r row) = 0
 rowIn (freeDomain r x) = 0
 rowIn (freeRange r x) = 0
 rowIn (holdsNode v row) = row
+rowIn (marked r row) = 0
 
 abbrev kindNo : Tree → ℕ
 kindNo (leaf b r ls) = 0
@@ -82,6 +86,14 @@ module _ (p : Problem) (G : Good p) (v row z d σ : ℕ) (t : Tree) (is : nodeAt
       by-suc : suc v ≡ suc u → v ≡ u
       by-suc e = omega arith
 
+  no-node : (r j : ℕ) → nodeOf (markOrGoal p r j) ≡ 0
+  unfolding markOrGoal
+  no-node r j = by-test (ltb j (tuplesOf (p .size) (relationAt p r)))
+    where
+      by-test : (b : Bool) → nodeOf (if b then marked r j else goal) ≡ 0
+      by-test true = refl
+      by-test false = refl
+
   never-added : (a : Action) → IsAction p a → List·Memᴰ x (adds p a) → ⊥
   unfolding IsAction adds
   never-added (set r k) w m = let e = ap nodeOf (List·Memᴰ·eq-of-singleton m) in absurd (omega (arith, e))
@@ -96,6 +108,10 @@ module _ (p : Problem) (G : Good p) (v row z d σ : ℕ) (t : Tree) (is : nodeAt
       let z-is : z ≡ y = sym (digits-mod row small) ∙ ap (λ (a : Atom). rowIn a % p .size) q ∙ digits-mod k h in
       outside (subst₂ (λ (a b : ℕ). List·Memᴰ a (p .range b)) (sym z-is) (sym s) (w .2 .4))
   never-added proveGoal w m = let e = ap nodeOf (List·Memᴰ·eq-of-singleton m) in absurd (omega (arith, e))
+  never-added roundEnd w m = let e = ap nodeOf (List·Memᴰ·eq-of-singleton m) in let q = no-node (everyNumber (p .source .question)) zero in absurd (omega (arith, e, q))
+  never-added (markIn r k) w m = ⊎-elim (λ q. let e = ap nodeOf (List·Memᴰ·eq-of-singleton q) in absurd (omega (arith, e))) (λ q. let e = ap nodeOf (List·Memᴰ·eq-of-singleton q) in absurd (omega (arith, e))) (List·Memᴰ·append-cases (tuple r k ∷ []) m)
+  never-added (markOut r k) w m = ⊎-elim (λ q. let e = ap nodeOf (List·Memᴰ·eq-of-singleton q) in absurd (omega (arith, e)))
+      (λ q. let e = ap nodeOf (List·Memᴰ·eq-of-singleton q) in let f = no-node r (suc k) in absurd (omega (arith, e, f))) (List·Memᴰ·append-cases (notTuple r k ∷ []) m)
 
   abbrev Off : State → Type 0
   Off s = s i ≡ false

@@ -1,27 +1,34 @@
 -- Steps on paper: what a page call replies and leaves, beside checking the same steps; that nothing on a page is cut or lost.
-use Prim.Native.Nat.{ℕ, _-_, _≤_}
+use Prim.Native.Nat.{ℕ, _-_, _≤_, _<_}
 use mathlib.Core.Path.{_≡_, refl, sym, ap, subst, _∙_, fun-ext}
+use mathlib.Core.Logic.{_⊎_, ⊎-elim}
 use mathlib.Core.Bool.{Bool, true, false, not}
-use mathlib.Core.List.{List, [], _∷_, _++_, map}
+use mathlib.Core.Option.{some}
+use mathlib.Core.List.{List, [], _∷_, _++_, map, append-assoc}
 use native.Mathlib.Omega.{arith}
+use lib.Dec.{T}
 use lib.ListN.{length}
 use borrow.Author.Tests.{le-ltb}
 use Rattle.definitions.specs.Limits.{CaseLimits, usual}
 use Rattle.definitions.specs.Lists.{any, flatMap, isIn}
-use Rattle.definitions.specs.Sheet.Text.{isBetween}
+use Rattle.definitions.specs.Sheet.Text.{decimal, isBetween}
 use Rattle.definitions.specs.Refusal.{Result, refused, accepted, _>>=_, refuseIf, readyNumbers, runNumbers}
+use Rattle.definitions.specs.Sheet.Relations.{Relation, isUniversal}
 use Rattle.definitions.specs.Sheet.Sheets.{Label}
-use Rattle.definitions.specs.Problem.Atoms.{Problem, stateWords}
-use Rattle.definitions.specs.Problem.Actions.{Action}
+use Rattle.definitions.specs.Problem.Truth.{Case}
+use Rattle.definitions.specs.Problem.Atoms.{Problem, problemOf, problemWith, relationAt, placesOf, stateWords}
+use Rattle.definitions.specs.Problem.Actions.{Action, beginProof, proveGoal, roundEnd, markIn, markOut, actionAt}
 use Rattle.definitions.specs.Problem.Strips.{run}
 use Rattle.definitions.specs.Reply.Outcome.{ThirdInput, roomFor, stateLength, written, Ready, readyToRun, checkedFrom, checkSteps}
-use Rattle.definitions.specs.Reply.Desk.{said}
-use Rattle.definitions.specs.Reply.Page.{shownElements, partWord, units, stepHead, headed, stepLines, linesOf, pages, pageText, pageOf, laid, pageIfLaid, pagedFrom, pageRooms, layPage}
+use Rattle.definitions.specs.Reply.Page.{spaces, left, right, kindWord, subjectWord, shownElements, partWord, units, packed, stepHead, headed, stepLines, linesOf, pages, pageText, pageOf, laid, pageIfLaid, pagedFrom, pageRooms, layPage}
 use Rattle.laws.specs.Results.{accepted-eq, bind-parts, refused-accepted, refused-number}
 use Rattle.laws.specs.Words.{state-length}
 use Rattle.laws.specs.Refusals.{In, run-refuses}
 use Rattle.laws.specs.Asked
-use Rattle.laws.specs.Pages.{joined, commas, packed-groups, units-joined}
+use Rattle.laws.specs.Reader.{Accepted}
+use Rattle.laws.specs.Numbers.{IsAction, action-is}
+use Rattle.meaning.specs.Grounded.{good, every-at}
+use Rattle.laws.specs.Pages.{joined, packed-groups}
 use Rattle.meaning.specs.Shown
 use Rattle.demands.specs.Buffers.{written-length, has-room, ready-room, run-or-ready}
 
@@ -39,8 +46,37 @@ module _ (labels : List Label) (p : Problem) (i k : ℕ) (a : Action) where
       let (g, gs, e, f) = packed-groups [] (units labels (partWord a) (shownElements p a)) in
       record { first = g; further = gs; lines-are = ap (headed (stepHead p i k a)) e; units-are = f }
 
-  pub units-are : joined (units labels (partWord a) (shownElements p a)) ≡ commas (map (said labels) (shownElements p a)) ++ partWord a
-  units-are = units-joined labels (partWord a) (shownElements p a)
+-- ---- what has neither subject nor elements is blank from column 29 on
+after-kind : (x y z : List ℕ) → (x ++ (32 ∷ (y ++ (32 ∷ (z ++ (32 ∷ (spaces 12 ++ (32 ∷ [])))))))) ++ spaces 30 ≡ (x ++ (32 ∷ (y ++ (32 ∷ z)))) ++ spaces 44
+unfolding spaces
+after-kind x y z = simp append-assoc refl
+
+pub bare : (labels : List Label) (p : Problem) (i k : ℕ) (a : Action) → (a ≡ beginProof) ⊎ ((a ≡ proveGoal) ⊎ (a ≡ roundEnd))
+    → stepLines labels p i k a ≡ ((right 7 (decimal i) ++ (32 ∷ (right 7 (decimal k) ++ (32 ∷ left 12 (kindWord a))))) ++ spaces 44) ∷ []
+unfolding stepLines stepHead headed units packed left spaces subjectWord shownElements partWord
+bare labels p i k a o = ⊎-elim (λ e. so e refl refl refl) (λ o. ⊎-elim (λ e. so e refl refl refl) (λ e. so e refl refl refl) o) o
+  where
+    so : {b : Action} → a ≡ b → subjectWord p b ≡ [] → shownElements p b ≡ [] → partWord b ≡ [] → stepLines labels p i k a ≡ ((right 7 (decimal i) ++ (32 ∷ (right 7 (decimal k) ++ (32 ∷ left 12 (kindWord a))))) ++ spaces 44) ∷ []
+    so {b} e s x q = rw (e, s, x, q) (ap (λ (l : List ℕ). l ∷ []) (after-kind (right 7 (decimal i)) (right 7 (decimal k)) (left 12 (kindWord b))))
+
+-- ---- a mark shows the name of the `every` line and the places of its tuple
+module _ (c : Case) (fits : Accepted c) (e : Relation) (is-every : c .question .every ≡ some e) where
+  mark-relation : (r : ℕ) → r < length (problemOf c .relations) → T (isUniversal (relationAt (problemOf c) r .kind)) → relationAt (problemOf c) r ≡ e
+  unfolding problemOf problemWith
+  mark-relation r l u = ap (relationAt (problemOf c)) (good c fits .every-one r l u .0) ∙ every-at c fits e is-every .1
+
+  abbrev Shows : ℕ → Action → Type 0
+  Shows row a = (subjectWord (problemOf c) a ≡ e .name) × (shownElements (problemOf c) a ≡ placesOf (c .site .size) (e .arity) row)
+
+  pub mark-shows : (k r row : ℕ) (a : Action) → (a ≡ markIn r row) ⊎ (a ≡ markOut r row) → actionAt (problemOf c) k ≡ some a → Shows row a
+  unfolding IsAction subjectWord shownElements problemOf problemWith
+  mark-shows k r row a o h = ⊎-elim
+      (λ q. subst (Shows row) (sym q) (let v = subst (IsAction (problemOf c)) q (action-is (problemOf c) k a h) in words (mark-relation r (v .0) (v .1))))
+      (λ q. subst (Shows row) (sym q) (let v = subst (IsAction (problemOf c)) q (action-is (problemOf c) k a h) in words (mark-relation r (v .0) (v .1))))
+      o
+    where
+      words : relationAt (problemOf c) r ≡ e → (relationAt (problemOf c) r .name ≡ e .name) × (placesOf (c .site .size) (relationAt (problemOf c) r .arity) row ≡ placesOf (c .site .size) (e .arity) row)
+      words f = (ap (λ (x : Relation). x .name) f, ap (λ (x : Relation). placesOf (c .site .size) (x .arity) row) f)
 
 -- ---- the call, by the cases of its reply
 module _ (L : CaseLimits) (question site : List ℕ) (given : ThirdInput) (m : ℕ) (state page : List ℕ) where

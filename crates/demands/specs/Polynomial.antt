@@ -1,18 +1,19 @@
 -- The bound as a polynomial in the number of elements: its terms are fixed by the question alone, and no exponent is above 4.
 use Prim.Native.Nat.{ℕ, zero, suc, _+_, _*_, _^_, _<_, _≤_}
-use mathlib.Core.Path.{_≡_, refl, sym, ap, subst, _∙_}
+use mathlib.Core.Path.{_≡_, refl, sym, ap, ap₂, subst, _∙_}
 use mathlib.Core.Logic.{⊎-elim}
 use mathlib.Core.Bool.{Bool, true, false}
+use mathlib.Core.Option.{Option, none}
 use mathlib.Core.List.{List, [], _∷_, _++_, map, List·Memᴰ, List·Memᴰ·not-nil, List·Memᴰ·append-cases, List·Memᴰ·eq-of-singleton}
 use native.Mathlib.Omega.{arith}
 use native.Mathlib.Nat.{pow-suc, pow-zero, one-mul}
 use lib.Dec.{eqb}
 use lib.ListN.{length, getD}
 use borrow.Author.Tests.{eq-eqb}
-use Rattle.definitions.specs.Lists.{if_then_else_, flatMap, mapFrom, below, sum}
+use Rattle.definitions.specs.Lists.{if_then_else_, option, flatMap, mapFrom, below, sum}
 use Rattle.definitions.specs.Sheet.Relations.{Relation, isChosen, isFunction}
 use Rattle.definitions.specs.Sheet.Sheets.{relationsOf}
-use Rattle.definitions.specs.Problem.Truth.{Case}
+use Rattle.definitions.specs.Problem.Truth.{Case, everyTuples, values}
 use Rattle.definitions.specs.Problem.Tree.{Tree, leaf, forallNode, existsNode, andNode, orNode, treeOf, nodes, occurs, free, isForall}
 use Rattle.definitions.specs.Problem.Atoms.{problemOf, problemWith, nodeAt, tuplesOf, rowsOf, nodeWidth, countOf, holdsNode, nodesBlocks, nodeAtoms}
 use Rattle.definitions.specs.Problem.Built.{mostPicks, bound, pickExponent, nodeExponent, boundExponents, polynomial, boundPolynomial}
@@ -63,10 +64,18 @@ nodes-value n v (t ∷ ts) = by-test (isForall t) (nodes-value n (suc v) ts)
     by-test true h = let e = pow-suc n (length (free t)) in omega arith
     by-test false h = omega arith
 
--- whatever the site holds, the bound is this polynomial in the number of elements
-pub bound-value : (c : Case) → bound (problemOf c) ≡ boundPolynomial (c .question) (c .site .size)
+-- without an `every` line there are no tuples of it, and one value
+none-tuples : (c : Case) → c .question .every ≡ none → (everyTuples c ≡ 0) × (values c ≡ 1)
+unfolding values everyTuples option
+none-tuples c e = let z = ap (λ (o : Option Relation). option o zero (λ (k : Relation). c .site .size ^ k .arity)) e in (z, ap (λ (x : ℕ). 2 ^ x) z)
+
+-- whatever the site holds, without an `every` line the bound is this polynomial in the number of elements
+pub bound-value : (c : Case) → c .question .every ≡ none → bound (problemOf c) ≡ boundPolynomial (c .question) (c .site .size)
 unfolding bound nodeAtoms nodesBlocks problemOf problemWith boundExponents boundPolynomial
-bound-value c =
+bound-value c e =
+    let (z, v) = none-tuples c e in
+    let H : ℕ = countOf (mapFrom (λ v t. record { width = nodeWidth (c .site .size) t; item = holdsNode v }) zero (nodes (treeOf (c .question)))) in
+    let w : values c * (H + everyTuples c + 1) ≡ 1 * (H + 0 + 1) = ap₂ (λ (x y : ℕ). x * (H + y + 1)) v z in
     let a = picks-value (c .site .size) (relationsOf (c .question)) in
     let b = nodes-value (c .site .size) zero (nodes (treeOf (c .question))) in
     let d = value-append (flatMap pickExponent (relationsOf (c .question))) (map nodeExponent (nodes (treeOf (c .question)))) (c .site .size) in

@@ -1,42 +1,42 @@
--- Which texts are read as a question: those that line by line spell its `rel`, `type` and `choose` lines and its rule, in this order.
+-- Which texts are read as a question: those that line by line spell its `rel`, `type` and `choose` lines, its `every` line and its rule, in this order.
 use Prim.Native.Nat.{ℕ, zero, suc, _+_, _-_, _<_, _≤_}
 use mathlib.Core.Path.{_≡_, refl, sym, ap, ap₂, subst, subst₂, _∙_}
 use mathlib.Core.Logic.{_⊎_, inl, inr, ⊎-elim, _↔_}
 use mathlib.Core.Bool.{Bool, true, false, not, _&&_, _||_}
 use mathlib.Core.Option.{Option, none, some}
-use mathlib.Core.List.{List, [], _∷_, _++_, map, append-assoc, append-nil, List·Memᴰ, List·Memᴰ·head, List·Memᴰ·not-nil, Memᴰ·append-left, Memᴰ·append-right}
+use mathlib.Core.List.{List, [], _∷_, _++_, map, append-assoc, append-nil, nil≢cons, List·Memᴰ, List·Memᴰ·head, List·Memᴰ·not-nil, Memᴰ·append-left, Memᴰ·append-right}
 use native.Mathlib.Omega.{arith}
 use lib.Dec.{T, T-not, not-T, leb, ltb, eqb, leb→le, le→leb, eqb→eq}
 use lib.ListN.{length, length-append, getD, List·getD-append}
 use borrow.Author.Tests.{not-false, leb-false, le-leb, lt-leb, le-ltb, ltb-false}
 use Rattle.definitions.specs.Limits.{CaseLimits, textLimit, relLimit, typeLimit, chooseLimit, bracketLimit, formLimit, nestingLimit}
-use Rattle.definitions.specs.Lists.{if_then_else_, all, any, same, isEmpty, option}
+use Rattle.definitions.specs.Lists.{if_then_else_, all, any, same, isEmpty, option, isSome, listed}
 use Rattle.definitions.specs.Sheet.Text.{bytes, decimal, number, split, lines, linesFrom, isBetween, isDigit, isSmall, isRelationName, isVariable}
 use Rattle.definitions.specs.Refusal.{Result, accepted, _>>=_, refuseIf, given, readLines, readText}
-use Rattle.definitions.specs.Sheet.Relations.{Kind, static, plain, Fun, PFun, Inj, PInj, Relation, fixed, isFunction, builtIn, isDeclared}
+use Rattle.definitions.specs.Sheet.Relations.{Kind, static, plain, Fun, PFun, Inj, PInj, universal, Relation, fixed, varying, isFunction, builtIn, isDeclared}
 use Rattle.definitions.specs.Sheet.Formula.{Quantified, Formula, Formulas, literal, negation, implication, conjunction, disjunction, exists, forall, nil, cons, notWord, impWord}
 use Rattle.definitions.specs.Sheet.Formula.{joinWord, quantWord, ands, ors, somes, everys, writeEach, writeVars, writeTyped, writeMore, writeList}
 use Rattle.definitions.specs.Sheet.Formula.{write, writeAll, writeParts, isQuantified, no-words, a-word, Variables, AllQuantified, WellFormed, AllWellFormed, g-lit, g-neg, g-imp, g-and, g-or, g-exists, g-forall, no-goods, a-good}
 use Rattle.definitions.specs.Sheet.Formula.{allForms, nesting, isKnown, isScoped, isTyped, typeNumber, sortNamed, isType}
 use Rattle.definitions.specs.Sheet.Parsing.{readFormula}
-use Rattle.definitions.specs.Sheet.Sheets.{Entry, rel, type, choose, rule, size, label, member, fact, pick, step, arityOf, kindNamed, chooseOf, withOne, withTwo, entry, entryOf, Rule, Draft, Question, relations, isRuled, isNewName}
-use Rattle.definitions.specs.Sheet.Sheets.{addRel, addType, placeSort, addChoose, addRule, addToQuestion, questionLine, readQuestion, relationsOf, Labelled, readSite}
+use Rattle.definitions.specs.Sheet.Sheets.{Entry, rel, type, choose, every, rule, size, label, member, fact, pick, step, arityOf, everyArityOf, kindNamed, chooseOf, withOne, withTwo, entry, entryOf, Rule, Draft, Question, relations, isRuled, isNewName}
+use Rattle.definitions.specs.Sheet.Sheets.{addRel, addType, placeSort, addChoose, addEvery, addRule, addToQuestion, questionLine, readQuestion, relationsOf, Labelled, readSite}
 use Rattle.definitions.specs.Reply.Outcome.{CaseRead, readFiled}
 use Rattle.definitions.specs.Table.Opened.{everything}
 use Rattle.definitions.specs.Reply.Desk.{printLine}
 use Rattle.laws.specs.Booleans.{T-and-l, T-and-r, T-of, T-or, T-true, T-false, and-T, or-both}
-use Rattle.laws.specs.Lists.{all-at, all-of, any-none, any-at, any-of, getD-mem, none-some, some-eq}
+use Rattle.laws.specs.Lists.{all-at, all-of, any-none, any-of, getD-mem, none-some, some-eq}
 use Rattle.laws.specs.Results.{accepted-eq, bind-parts, given-some, not-refused, refused-accepted}
 use Rattle.laws.specs.Positions.{place, position-place}
 use Rattle.laws.specs.Tuples.{same-eq, same-refl}
 use Rattle.laws.specs.Repeats.{Once, once-middle}
 use Rattle.laws.specs.Decimals.{decimal-number, number-decimal}
 use Rattle.laws.specs.Labels.{option-parts}
-use Rattle.laws.specs.Reader.{Holds, holds-if, position-holds, mem-snoc, Arity, Apart, RelFits, QuestionFits, question-fits, gives-if}
+use Rattle.laws.specs.Reader.{Holds, holds-if, position-holds, mem-snoc, not-some, Arity, Apart, RelFits, EveryFits, QuestionFits, question-fits, gives-if}
 use Rattle.laws.specs.Lines.{Without, AllWithout, name-without, without-append, joined, read-end, LineByLine}
 use Rattle.laws.specs.Told.{open-told, split-back}
 use Rattle.laws.specs.Writing
-use Rattle.demands.specs.Written.{apart-right, decimal-without, entry-joined, print-then, within}
+use Rattle.demands.specs.Written.{apart-left, apart-right, decimal-without, entry-joined, print-then, within}
 use Rattle.demands.specs.LineTexts.{ended, open-ended, Chosen, Said, line-said, lines-told, run-read, or-false}
 use Rattle.demands.specs.SiteTexts.{Declared, empty-is, map-snoc, type-at}
 
@@ -45,6 +45,7 @@ pub data QuestionItem : Type 0 where
   aRel : Relation → QuestionItem
   aType : (name : List ℕ) → QuestionItem
   aChoose : Relation → QuestionItem
+  anEvery : Relation → QuestionItem
   theRule : Rule → QuestionItem
 
 -- the word of a function kind
@@ -55,6 +56,7 @@ kindWord Fun = bytes "Fun"
 kindWord PFun = bytes "PFun"
 kindWord Inj = bytes "Inj"
 kindWord PInj = bytes "PInj"
+kindWord universal = []
 
 -- how a line's fields spell it, by the types: a `choose` line has an arity, or a function kind, or a function kind and two types
 unfoldable pub QuestionLine : List (List ℕ) → QuestionItem → List (List ℕ) → Type 0
@@ -64,17 +66,18 @@ QuestionLine types (aChoose k) fs =
     ((k .kind ≡ plain) × (fs ≡ bytes "choose" ∷ k .name ∷ decimal (k .arity) ∷ []))
     ⊎ (((isFunction (k .kind) ≡ true) × (k .firsts ≡ 0) × (k .seconds ≡ 0) × (fs ≡ bytes "choose" ∷ k .name ∷ kindWord (k .kind) ∷ []))
     ⊎ ((isFunction (k .kind) ≡ true) × (i : ℕ) × (j : ℕ) × (k .firsts ≡ suc i) × (k .seconds ≡ suc j) × (i < length types) × (j < length types) × (fs ≡ bytes "choose" ∷ k .name ∷ kindWord (k .kind) ∷ getD types i [] ∷ getD types j [] ∷ [])))
+QuestionLine types (anEvery k) fs = fs ≡ bytes "every" ∷ k .name ∷ decimal (k .arity) ∷ []
 QuestionLine types (theRule r) fs = fs ≡ bytes "rule" ∷ r .text ∷ []
 
 -- in the order of the sheet
-unfoldable itemsFrom : List Relation → List (List ℕ) → List Relation → Option Rule → List QuestionItem
-itemsFrom rels types chosen ruled = map aRel rels ++ (map aType types ++ (map aChoose chosen ++ option ruled [] (λ r. theRule r ∷ [])))
+unfoldable itemsFrom : List Relation → List (List ℕ) → List Relation → Option Relation → Option Rule → List QuestionItem
+itemsFrom rels types chosen last ruled = map aRel rels ++ (map aType types ++ (map aChoose chosen ++ (map anEvery (listed last) ++ option ruled [] (λ r. theRule r ∷ []))))
 
 abbrev itemsOf : Draft → List QuestionItem
-itemsOf d = itemsFrom (d .rels) (d .types) (d .chosen) (d .ruled)
+itemsOf d = itemsFrom (d .rels) (d .types) (d .chosen) (d .every) (d .ruled)
 
 unfoldable pub questionItems : Question → List QuestionItem
-questionItems q = map aRel (q .rels) ++ (map aType (q .types) ++ (map aChoose (q .chosen) ++ (theRule (q .rule) ∷ [])))
+questionItems q = map aRel (q .rels) ++ (map aType (q .types) ++ (map aChoose (q .chosen) ++ (map anEvery (listed (q .every)) ++ (theRule (q .rule) ∷ []))))
 
 -- what a whole question has to keep to: not too many lines, names of their form, a formula that is well formed and written there, and all
 -- that `QuestionFits` has of relations, types and the rule
@@ -87,24 +90,32 @@ pub record QuestionIs (q : Question) : Type 0 where
   pub fits : QuestionFits q
 
 -- ---- items with one more at the end
-module _ (rels : List Relation) (types : List (List ℕ)) (chosen : List Relation) (ruled : Option Rule) where
-  rel-items : (r : Relation) → types ≡ [] → chosen ≡ [] → ruled ≡ none → itemsFrom (rels ++ (r ∷ [])) types chosen ruled ≡ itemsFrom rels types chosen ruled ++ (aRel r ∷ [])
-  unfolding itemsFrom option
-  rel-items r a b c = rw (a, b, c, map-snoc aRel rels r, append-nil (map aRel rels), append-nil (map aRel rels ++ (aRel r ∷ []))) refl
+-- (an item that stands third, behind nothing more)
+at-third : (k l m : List QuestionItem) (x : QuestionItem) → k ++ (l ++ (m ++ (x ∷ []))) ≡ (k ++ (l ++ m)) ++ (x ∷ [])
+at-third k l m x = ap (λ (i : List QuestionItem). k ++ i) (sym (append-assoc l m (x ∷ []))) ∙ sym (append-assoc k (l ++ m) (x ∷ []))
 
-  type-items : (t : List ℕ) → chosen ≡ [] → ruled ≡ none → itemsFrom rels (types ++ (t ∷ [])) chosen ruled ≡ itemsFrom rels types chosen ruled ++ (aType t ∷ [])
-  unfolding itemsFrom option
-  type-items t b c = rw (b, c, map-snoc aType types t, append-nil (map aType types), append-nil (map aType types ++ (aType t ∷ []))) (sym (append-assoc (map aRel rels) (map aType types) (aType t ∷ [])))
+module _ (rels : List Relation) (types : List (List ℕ)) (chosen : List Relation) (last : Option Relation) (ruled : Option Rule) where
+  rel-items : (r : Relation) → types ≡ [] → chosen ≡ [] → last ≡ none → ruled ≡ none → itemsFrom (rels ++ (r ∷ [])) types chosen last ruled ≡ itemsFrom rels types chosen last ruled ++ (aRel r ∷ [])
+  unfolding itemsFrom option listed
+  rel-items r a b e c = rw (a, b, e, c, map-snoc aRel rels r, append-nil (map aRel rels), append-nil (map aRel rels ++ (aRel r ∷ []))) refl
 
-  choose-items : (k : Relation) → ruled ≡ none → itemsFrom rels types (chosen ++ (k ∷ [])) ruled ≡ itemsFrom rels types chosen ruled ++ (aChoose k ∷ [])
-  unfolding itemsFrom option
-  choose-items k c = rw (c, map-snoc aChoose chosen k, append-nil (map aChoose chosen), append-nil (map aChoose chosen ++ (aChoose k ∷ [])))
-      (ap (λ (l : List QuestionItem). map aRel rels ++ l) (sym (append-assoc (map aType types) (map aChoose chosen) (aChoose k ∷ []))) ∙ sym (append-assoc (map aRel rels) (map aType types ++ map aChoose chosen) (aChoose k ∷ [])))
+  type-items : (t : List ℕ) → chosen ≡ [] → last ≡ none → ruled ≡ none → itemsFrom rels (types ++ (t ∷ [])) chosen last ruled ≡ itemsFrom rels types chosen last ruled ++ (aType t ∷ [])
+  unfolding itemsFrom option listed
+  type-items t b e c = rw (b, e, c, map-snoc aType types t, append-nil (map aType types), append-nil (map aType types ++ (aType t ∷ []))) (sym (append-assoc (map aRel rels) (map aType types) (aType t ∷ [])))
 
-  rule-items : (r : Rule) → ruled ≡ none → itemsFrom rels types chosen (some r) ≡ itemsFrom rels types chosen ruled ++ (theRule r ∷ [])
+  choose-items : (k : Relation) → last ≡ none → ruled ≡ none → itemsFrom rels types (chosen ++ (k ∷ [])) last ruled ≡ itemsFrom rels types chosen last ruled ++ (aChoose k ∷ [])
+  unfolding itemsFrom option listed
+  choose-items k e c = rw (e, c, map-snoc aChoose chosen k, append-nil (map aChoose chosen), append-nil (map aChoose chosen ++ (aChoose k ∷ []))) (at-third (map aRel rels) (map aType types) (map aChoose chosen) (aChoose k))
+
+  every-items : (k : Relation) → last ≡ none → ruled ≡ none → itemsFrom rels types chosen (some k) ruled ≡ itemsFrom rels types chosen last ruled ++ (anEvery k ∷ [])
+  unfolding itemsFrom option listed
+  every-items k e c = rw (e, c, append-nil (map aChoose chosen)) (at-third (map aRel rels) (map aType types) (map aChoose chosen) (anEvery k))
+
+  rule-items : (r : Rule) → ruled ≡ none → itemsFrom rels types chosen last (some r) ≡ itemsFrom rels types chosen last ruled ++ (theRule r ∷ [])
   unfolding itemsFrom option
-  rule-items r c = rw (c, append-nil (map aChoose chosen))
-      (ap (λ (l : List QuestionItem). map aRel rels ++ l) (sym (append-assoc (map aType types) (map aChoose chosen) (theRule r ∷ []))) ∙ sym (append-assoc (map aRel rels) (map aType types ++ map aChoose chosen) (theRule r ∷ [])))
+  rule-items r c = rw (c, append-nil (map anEvery (listed last)))
+      (ap (λ (l : List QuestionItem). map aRel rels ++ (map aType types ++ l)) (sym (append-assoc (map aChoose chosen) (map anEvery (listed last)) (theRule r ∷ [])))
+      ∙ at-third (map aRel rels) (map aType types) (map aChoose chosen ++ map anEvery (listed last)) (theRule r))
 
 -- ---- fields
 arity-read : (f : List ℕ) (a : ℕ) → arityOf f ≡ some a → f ≡ decimal a
@@ -112,6 +123,16 @@ unfolding arityOf
 arity-read f a e =
     let (b, n, q) = option-parts (number f) _ a e in
     decimal-number f b n .0 ∙ ap decimal (by-test (isBetween 1 3 b) b q)
+  where
+    by-test : (t : Bool) (b : ℕ) → (if t then some b else none) ≡ some a → b ≡ a
+    by-test true b q = some-eq q
+    by-test false b q = absurd (none-some q)
+
+every-arity-read : (f : List ℕ) (a : ℕ) → everyArityOf f ≡ some a → f ≡ decimal a
+unfolding everyArityOf
+every-arity-read f a e =
+    let (b, n, q) = option-parts (arityOf f) _ a e in
+    arity-read f b n ∙ ap decimal (by-test (leb b 2) b q)
   where
     by-test : (t : Bool) (b : ℕ) → (if t then some b else none) ≡ some a → b ≡ a
     by-test true b q = some-eq q
@@ -142,8 +163,12 @@ unfolding isRuled
 not-ruled none e = refl
 not-ruled (some r) e = let z : _≡_ {A = ℕ} 0 1 = cc in absurd (omega arith)
 
+is-none : {A : Type 0} (o : Option A) → isSome o ≡ false → o ≡ none
+is-none o e = not-some o (T-of (ap not e))
+
 -- ---- from a question that was read to its lines
 record Inv (d : Draft) : Type 0 where
+  lone : d .chosen ≡ [] → d .every ≡ none
   unruled : d .chosen ≡ [] → d .ruled ≡ none
   rels-few : length (d .rels) ≤ relLimit
   rels-named : (k : Relation) → List·Memᴰ k (d .rels) → T (isRelationName (k .name))
@@ -181,6 +206,7 @@ rel-step d m at name f a fs I s v q =
     let w = sym (accepted-eq _ m q₂) in
     record {
       keeps = subst Inv (sym w) (record {
+        lone = I .lone;
         unruled = I .unruled;
         rels-few = few-snoc (d .rels) (fixed name a) relLimit y;
         rels-named = mem-snoc (λ (k : Relation). T (isRelationName (k .name))) (d .rels) (fixed name a) (I .rels-named) (named-new d at name u₂ r₂);
@@ -190,7 +216,7 @@ rel-step d m at name f a fs I s v q =
       more = [];
       kept = ap (λ (d : Draft). d .types) w ∙ sym (append-nil (d .types));
       item = aRel (fixed name a);
-      grows = ap itemsOf w ∙ rel-items (d .rels) (d .types) (d .chosen) (d .ruled) (fixed name a) no-types no-chosen (I .unruled no-chosen);
+      grows = ap itemsOf w ∙ rel-items (d .rels) (d .types) (d .chosen) (d .every) (d .ruled) (fixed name a) no-types no-chosen (I .lone no-chosen) (I .unruled no-chosen);
       says = s ∙ ap (λ (g : List ℕ). bytes "rel" ∷ name ∷ g ∷ []) (arity-read f a v);
     }
 
@@ -204,11 +230,11 @@ type-step d m at name fs I s q =
     let no-chosen = empty-is (d .chosen) (not-false (isEmpty (d .chosen)) x) in
     let w = sym (accepted-eq _ m q₃) in
     record {
-      keeps = subst Inv (sym w) (record { unruled = I .unruled; rels-few = I .rels-few; rels-named = I .rels-named; chosen-few = I .chosen-few; parsed = I .parsed });
+      keeps = subst Inv (sym w) (record { lone = I .lone; unruled = I .unruled; rels-few = I .rels-few; rels-named = I .rels-named; chosen-few = I .chosen-few; parsed = I .parsed });
       more = name ∷ [];
       kept = ap (λ (d : Draft). d .types) w;
       item = aType name;
-      grows = ap itemsOf w ∙ type-items (d .rels) (d .types) (d .chosen) (d .ruled) name no-chosen (I .unruled no-chosen);
+      grows = ap itemsOf w ∙ type-items (d .rels) (d .types) (d .chosen) (d .every) (d .ruled) name no-chosen (I .lone no-chosen) (I .unruled no-chosen);
       says = s;
     }
 
@@ -245,30 +271,61 @@ chosen-says types name a kind names gs fs s c h = ⊎-elim
 choose-step : (d m : Draft) (at : ℕ) (name : List ℕ) (a : ℕ) (kind : Kind) (names gs fs : List (List ℕ)) → Inv d → fs ≡ bytes "choose" ∷ gs → Chosen gs name a kind names → addChoose d at name a kind names ≡ accepted m → Step d m fs
 unfolding addChoose
 choose-step d m at name a kind names gs fs I s v q =
-    let (u, r, q₁) = bind-parts (refuseIf (isRuled (d .ruled) || leb chooseLimit (length (d .chosen))) 3 at) _ m q in
+    let (u, r, q₁) = bind-parts (refuseIf (isSome (d .every) || isRuled (d .ruled) || leb chooseLimit (length (d .chosen))) 3 at) _ m q in
     let (u₂, r₂, q₂) = bind-parts (refuseIf (not (isNewName d name)) 4 at) _ m q₁ in
     let (u₃, r₃, q₃) = bind-parts (refuseIf (not (all (isType (d .types)) names)) 19 at) _ m q₂ in
-    let (x, y) = or-both (isRuled (d .ruled)) _ (not-refused _ 3 at u r) in
-    let no-rule = not-ruled (d .ruled) x in
+    let (x, y) = or-both (isSome (d .every) || isRuled (d .ruled)) _ (not-refused _ 3 at u r) in
+    let (x₁, x₂) = or-both (isSome (d .every)) _ x in
+    let no-every = is-none (d .every) x₁ in
+    let no-rule = not-ruled (d .ruled) x₂ in
     let w = sym (accepted-eq _ m q₃) in
     let same-types = ap (λ (d : Draft). d .types) w in
     let h = T-of (not-false (all (isType (d .types)) names) (not-refused (not (all (isType (d .types)) names)) 19 at u₃ r₃)) in
     record {
-      keeps = subst Inv (sym w) (record { unruled = λ e. absurd (not-nil (d .chosen) _ e); rels-few = I .rels-few; rels-named = I .rels-named; chosen-few = few-snoc (d .chosen) _ chooseLimit y; parsed = I .parsed });
+      keeps = subst Inv (sym w) (record { lone = λ e. absurd (not-nil (d .chosen) _ e); unruled = λ e. absurd (not-nil (d .chosen) _ e); rels-few = I .rels-few; rels-named = I .rels-named; chosen-few = few-snoc (d .chosen) _ chooseLimit y; parsed = I .parsed });
       more = [];
       kept = same-types ∙ sym (append-nil (d .types));
       item = aChoose (record { name = name; arity = a; kind = kind; firsts = placeSort (d .types) names 0; seconds = placeSort (d .types) names 1 });
-      grows = ap itemsOf w ∙ choose-items (d .rels) (d .types) (d .chosen) (d .ruled) _ no-rule;
+      grows = ap itemsOf w ∙ choose-items (d .rels) (d .types) (d .chosen) (d .every) (d .ruled) _ no-every no-rule;
       says = subst (λ (ts : List (List ℕ)). QuestionLine ts (aChoose (record { name = name; arity = a; kind = kind; firsts = placeSort (d .types) names 0; seconds = placeSort (d .types) names 1 })) fs) (sym same-types) (chosen-says (d .types) name a kind names gs fs s v h);
     }
 
+-- where something is chosen
+not-empty : (l : List Relation) → isEmpty l ≡ false → l ≡ [] → ⊥
+unfolding isEmpty
+not-empty l y e = let z : isEmpty l ≡ true = ap isEmpty e in let k : true ≡ false = sym z ∙ y in subst T k tt
+
+every-step : (d m : Draft) (at : ℕ) (name f : List ℕ) (a : ℕ) (fs : List (List ℕ)) → Inv d → fs ≡ bytes "every" ∷ name ∷ f ∷ [] → everyArityOf f ≡ some a → addEvery d at name a ≡ accepted m → Step d m fs
+unfolding addEvery QuestionLine
+every-step d m at name f a fs I s v q =
+    let (u, r, q₁) = bind-parts (refuseIf (isSome (d .every) || isRuled (d .ruled) || isEmpty (d .chosen)) 3 at) _ m q in
+    let (u₂, r₂, q₂) = bind-parts (refuseIf (not (isNewName d name)) 4 at) _ m q₁ in
+    let (x, y) = or-both (isSome (d .every) || isRuled (d .ruled)) _ (not-refused _ 3 at u r) in
+    let (x₁, x₂) = or-both (isSome (d .every)) _ x in
+    let w = sym (accepted-eq _ m q₂) in
+    record {
+      keeps = subst Inv (sym w) (record {
+        lone = λ e. absurd (not-empty (d .chosen) y e);
+        unruled = I .unruled;
+        rels-few = I .rels-few;
+        rels-named = I .rels-named;
+        chosen-few = I .chosen-few;
+        parsed = I .parsed;
+      });
+      more = [];
+      kept = ap (λ (d : Draft). d .types) w ∙ sym (append-nil (d .types));
+      item = anEvery (varying name a);
+      grows = ap itemsOf w ∙ every-items (d .rels) (d .types) (d .chosen) (d .every) (d .ruled) (varying name a) (is-none (d .every) x₁) (not-ruled (d .ruled) x₂);
+      says = s ∙ ap (λ (g : List ℕ). bytes "every" ∷ name ∷ g ∷ []) (every-arity-read f a v);
+    }
+
 rule-step : (d m : Draft) (at : ℕ) (text : List ℕ) (fs : List (List ℕ)) → Inv d → fs ≡ bytes "rule" ∷ text ∷ [] → addRule d at text ≡ accepted m → Step d m fs
-unfolding addRule QuestionLine isEmpty
+unfolding addRule QuestionLine
 rule-step d m at text fs I s q =
     let (u, r, q₁) = bind-parts (refuseIf (isRuled (d .ruled) || isEmpty (d .chosen)) 3 at) _ m q in
     let (f, r₂, q₂) = bind-parts (given (readFormula text) 5 at) _ m q₁ in
     let (u₃, r₃, q₃) = bind-parts (refuseIf (ltb formLimit (allForms (d .chosen) f) || ltb nestingLimit (nesting f)) 6 at) _ m q₂ in
-    let (u₄, r₄, q₄) = bind-parts (refuseIf (not (isKnown (relations (d .rels) (d .chosen)) f)) 7 at) _ m q₃ in
+    let (u₄, r₄, q₄) = bind-parts (refuseIf (not (isKnown (relations (d .rels) (d .chosen) (d .every)) f)) 7 at) _ m q₃ in
     let (u₅, r₅, q₅) = bind-parts (refuseIf (not (isScoped [] f)) 8 at) _ m q₄ in
     let (u₆, r₆, q₆) = bind-parts (refuseIf (not (isTyped (d .types) f)) 19 at) _ m q₅ in
     let (x, y) = or-both (isRuled (d .ruled)) _ (not-refused _ 3 at u r) in
@@ -276,7 +333,8 @@ rule-step d m at text fs I s q =
     let new : Rule = record { at = at + 5; text = text; formula = f } in
     record {
       keeps = subst Inv (sym w) (record {
-        unruled = λ e. let z : isEmpty (d .chosen) ≡ true = ap isEmpty e in let k : true ≡ false = sym z ∙ y in absurd (subst T k tt);
+        lone = I .lone;
+        unruled = λ e. absurd (not-empty (d .chosen) y e);
         rels-few = I .rels-few;
         rels-named = I .rels-named;
         chosen-few = I .chosen-few;
@@ -285,7 +343,7 @@ rule-step d m at text fs I s q =
       more = [];
       kept = ap (λ (d : Draft). d .types) w ∙ sym (append-nil (d .types));
       item = theRule new;
-      grows = ap itemsOf w ∙ rule-items (d .rels) (d .types) (d .chosen) (d .ruled) new (not-ruled (d .ruled) x);
+      grows = ap itemsOf w ∙ rule-items (d .rels) (d .types) (d .chosen) (d .every) (d .ruled) new (not-ruled (d .ruled) x);
       says = s;
     }
 
@@ -294,6 +352,7 @@ unfolding addToQuestion Said
 entry-step d m at (rel name a) fs I (f, s, v) q = rel-step d m at name f a fs I s v q
 entry-step d m at (type name) fs I s q = type-step d m at name fs I s q
 entry-step d m at (choose name a k names) fs I (gs, s, v) q = choose-step d m at name a k names gs fs I s v q
+entry-step d m at (every name a) fs I (f, s, v) q = every-step d m at name f a fs I s v q
 entry-step d m at (rule f) fs I s q = rule-step d m at f fs I s q
 entry-step d m at (size n) fs I s q = absurd (refused-accepted q)
 entry-step d m at (label x name) fs I s q = absurd (refused-accepted q)
@@ -317,6 +376,7 @@ line-later types more ts e (aChoose k) fs s = ⊎-elim (λ c. inl c) (λ c. inr 
   where
     still : (i : ℕ) → i < length types → getD types i [] ≡ getD ts i []
     still i h = sym (ap (λ (l : List (List ℕ)). getD l i []) e ∙ List·getD-append types more [] i h)
+line-later types more ts e (anEvery k) fs s = s
 line-later types more ts e (theRule r) fs s = s
 
 line-ends : (d : Draft) (at : ℕ) (w : List ℕ) (m : Draft) → questionLine d (open-ended at w) ≡ accepted m → ⊥
@@ -324,10 +384,10 @@ unfolding questionLine
 line-ends d at w m q = let (e, f, g) = bind-parts (entryOf (open-ended at w)) (addToQuestion d at) m q in open-told at w e f
 
 abbrev empty : Draft
-empty = record { rels = []; types = []; chosen = []; ruled = none }
+empty = record { rels = []; types = []; chosen = []; every = none; ruled = none }
 
 pub question-told : (text : List ℕ) (q : Question) → readQuestion text ≡ accepted q → LineByLine (QuestionLine (q .types)) (questionItems q) text × (length text ≤ textLimit) × QuestionIs q
-unfolding readQuestion readText lines questionItems itemsFrom option
+unfolding readQuestion readText lines questionItems itemsFrom option listed
 question-told text q e =
     let (d, a, b) = bind-parts (readText questionLine empty text) _ q e in
     let (u, f, g) = bind-parts (refuseIf (ltb textLimit (length text)) 1 zero) _ d a in
@@ -335,11 +395,11 @@ question-told text q e =
     let W = lines-told questionLine Inv itemsOf (λ d. QuestionLine (d .types))
     (λ d at w m I q. let S = line-step d at w m I q in (S .keeps, (S .item, S .grows, S .says)))
     (λ d at w m I q a fs r. let S = line-step d at w m I q in line-later (d .types) (S .more) (m .types) (S .kept) a fs r)
-    line-ends (split 10 text) empty d zero (record { unruled = λ _. refl; rels-few = omega arith; rels-named = λ k m. absurd (List·Memᴰ·not-nil m); chosen-few = omega arith; parsed = λ r h. absurd (none-some h) }) g in
+    line-ends (split 10 text) empty d zero (record { lone = λ _. refl; unruled = λ _. refl; rels-few = omega arith; rels-named = λ k m. absurd (List·Memᴰ·not-nil m); chosen-few = omega arith; parsed = λ r h. absurd (none-some h) }) g in
     let ruled = given-some (d .ruled) 3 (length text) r z in
     let w = accepted-eq _ q k in
-    let items : W .new ≡ questionItems (record { rels = d .rels; types = d .types; chosen = d .chosen; rule = r }) = sym (W .grows) ∙ ap (itemsFrom (d .rels) (d .types) (d .chosen)) ruled in
-    let told : LineByLine (QuestionLine (d .types)) (questionItems (record { rels = d .rels; types = d .types; chosen = d .chosen; rule = r })) text
+    let items : W .new ≡ questionItems (record { rels = d .rels; types = d .types; chosen = d .chosen; every = d .every; rule = r }) = sym (W .grows) ∙ ap (itemsFrom (d .rels) (d .types) (d .chosen) (d .every)) ruled in
+    let told : LineByLine (QuestionLine (d .types)) (questionItems (record { rels = d .rels; types = d .types; chosen = d .chosen; every = d .every; rule = r })) text
     = subst₂ (λ (l : List QuestionItem) (x : List ℕ). LineByLine (QuestionLine (d .types)) l x) items (split-back 10 text) (W .spelled) in
     let (formed, written) = Writing.accepted-texts (r .text) (r .formula) .0 (W .keeps .parsed r ruled) in (
       subst (λ (x : Question). LineByLine (QuestionLine (x .types)) (questionItems x) text) w told,
@@ -358,6 +418,13 @@ question-told text q e =
 rel-entry : (name : List ℕ) (a : ℕ) → Arity a → entry (bytes "rel" ∷ name ∷ decimal a ∷ []) ≡ some (rel name a)
 unfolding entry same withTwo arityOf option isBetween
 rel-entry name a h = rw (number-decimal a (omega (arith, h .1)), le-leb 1 a (h .0), le-leb a 3 (h .1)) refl
+
+every-entry : (name : List ℕ) (a : ℕ) → (1 ≤ a) × (a ≤ 2) → entry (bytes "every" ∷ name ∷ decimal a ∷ []) ≡ some (every name a)
+unfolding everything
+every-entry name zero h = absurd (omega (arith, h .0))
+every-entry name (suc zero) h = refl
+every-entry name (suc (suc zero)) h = refl
+every-entry name (suc (suc (suc a))) h = absurd (omega (arith, h .1))
 
 type-entry : (name : List ℕ) → entry (bytes "type" ∷ name ∷ []) ≡ some (type name)
 unfolding entry same withOne
@@ -383,6 +450,7 @@ kind-named Fun e = refl
 kind-named PFun e = refl
 kind-named Inj e = refl
 kind-named PInj e = refl
+kind-named universal e = absurd (subst T (sym e) tt)
 
 kind-entry : (name : List ℕ) (k : Kind) → isFunction k ≡ true → entry (bytes "choose" ∷ name ∷ kindWord k ∷ []) ≡ some (choose name 2 k [])
 unfolding entry same chooseOf option
@@ -400,6 +468,7 @@ kind-without Fun = (tt, tt)
 kind-without PFun = (tt, tt)
 kind-without Inj = (tt, tt)
 kind-without PInj = (tt, tt)
+kind-without universal = (tt, tt)
 
 -- ---- the writing of a formula has neither of the bytes that part fields and lines
 abbrev Printed : List ℕ → Type 0
@@ -489,6 +558,12 @@ fixed-is r F =
     ap (λ (k : Kind). record { name = r .name; arity = r .arity; kind = k; firsts = 0; seconds = 0 }) (sym (F .is-static))
     ∙ ap₂ (λ (x y : ℕ). record { name = r .name; arity = r .arity; kind = r .kind; firsts = x; seconds = y }) (sym (F .no-sorts .0)) (sym (F .no-sorts .1))
 
+-- that of an `every` line
+varying-is : (r : Relation) → EveryFits r → varying (r .name) (r .arity) ≡ r
+varying-is r F =
+    ap (λ (k : Kind). record { name = r .name; arity = r .arity; kind = k; firsts = 0; seconds = 0 }) (sym (F .is-universal))
+    ∙ ap₂ (λ (x y : ℕ). record { name = r .name; arity = r .arity; kind = r .kind; firsts = x; seconds = y }) (sym (F .no-sorts .0)) (sym (F .no-sorts .1))
+
 -- a name that no earlier relation has
 apart-middle : (ks : List Relation) (k : Relation) (more : List Relation) → Apart (ks ++ (k ∷ more)) → isDeclared ks (k .name) ≡ false
 unfolding Apart isDeclared any
@@ -497,6 +572,17 @@ apart-middle (j ∷ ks) k more a = or-false (same (j .name) (k .name)) _
     (T-false (same (j .name) (k .name)) (λ t. T-not (isDeclared (ks ++ (k ∷ more)) (j .name)) (a .0)
     (any-of (λ (r : Relation). same (r .name) (j .name)) (ks ++ (k ∷ more)) k (Memᴰ·append-right ks (List·Memᴰ·head refl)) (subst (λ (x : List ℕ). T (same x (j .name))) (same-eq (j .name) (k .name) t) (same-refl (j .name))))))
     (apart-middle ks k more (a .1))
+
+-- a list of at most one
+sole : {A : Type 0} (o : Option A) {k : A} {more : List A} → k ∷ more ≡ listed o → o ≡ some k
+unfolding listed
+sole none e = absurd (nil≢cons (sym e))
+sole (some a) e = ap some (sym (ap (λ l. getD l 0 a) e))
+
+two : {A : Type 0} (o : Option A) (j k : A) (acc more : List A) → j ∷ (acc ++ (k ∷ more)) ≡ listed o → ⊥
+unfolding listed
+two none j k acc more e = nil≢cons (sym e)
+two (some a) j k acc more e = let l = ap length e in let q = length-append acc (k ∷ more) in absurd (omega (arith, l, q))
 
 module _ (q : Question) (I : QuestionIs q) where
   abbrev F : QuestionFits q
@@ -513,20 +599,24 @@ module _ (q : Question) (I : QuestionIs q) where
   few-before acc x more l k e h = let q = ap length e in let r = length-append acc (x ∷ more) in lt-leb k (length acc) (omega arith)
 
   relsAt : List Relation → Draft
-  relsAt rs = record { rels = rs; types = []; chosen = []; ruled = none }
+  relsAt rs = record { rels = rs; types = []; chosen = []; every = none; ruled = none }
 
-  rel-new : (acc : List Relation) (r : Relation) (more : List Relation) → acc ++ (r ∷ more) ≡ q .rels → isDeclared (relations acc []) (r .name) ≡ false
-  unfolding relations relationsOf
-  rel-new acc r more e = apart-middle (builtIn ++ (acc ++ [])) r (more ++ q .chosen) (subst Apart (sym whole) (F .apart))
+  -- (what is declared after the `rel` lines, and after the `choose` lines)
+  abbrev lastly : List Relation
+  lastly = q .chosen ++ listed (q .every)
+
+  rel-new : (acc : List Relation) (r : Relation) (more : List Relation) → acc ++ (r ∷ more) ≡ q .rels → isDeclared (relations acc [] none) (r .name) ≡ false
+  unfolding relations relationsOf listed
+  rel-new acc r more e = apart-middle (builtIn ++ (acc ++ [])) r (more ++ lastly) (subst Apart (sym whole) (F .apart))
     where
-      whole : (builtIn ++ (acc ++ [])) ++ (r ∷ (more ++ q .chosen)) ≡ builtIn ++ (q .rels ++ q .chosen)
-      whole = ap (λ (l : List Relation). (builtIn ++ l) ++ (r ∷ (more ++ q .chosen))) (append-nil acc) ∙ append-assoc builtIn acc (r ∷ (more ++ q .chosen))
-          ∙ ap (λ (l : List Relation). builtIn ++ l) (sym (append-assoc acc (r ∷ more) (q .chosen)) ∙ ap (λ (l : List Relation). l ++ q .chosen) e)
+      whole : (builtIn ++ (acc ++ [])) ++ (r ∷ (more ++ lastly)) ≡ builtIn ++ (q .rels ++ lastly)
+      whole = ap (λ (l : List Relation). (builtIn ++ l) ++ (r ∷ (more ++ lastly))) (append-nil acc) ∙ append-assoc builtIn acc (r ∷ (more ++ lastly))
+          ∙ ap (λ (l : List Relation). builtIn ++ l) (sym (append-assoc acc (r ∷ more) lastly) ∙ ap (λ (l : List Relation). l ++ lastly) e)
 
-  rel-adds : (acc : List Relation) (r : Relation) (at : ℕ) → leb relLimit (length acc) ≡ false → isRelationName (r .name) ≡ true → isDeclared (relations acc []) (r .name) ≡ false → RelFits r
+  rel-adds : (acc : List Relation) (r : Relation) (at : ℕ) → leb relLimit (length acc) ≡ false → isRelationName (r .name) ≡ true → isDeclared (relations acc [] none) (r .name) ≡ false → RelFits r
       → addToQuestion (relsAt acc) at (rel (r .name) (r .arity)) ≡ accepted (relsAt (acc ++ (r ∷ [])))
   unfolding addToQuestion addRel isNewName isEmpty refuseIf _>>=_ relsAt
-  rel-adds acc r at a b c f = rw (a, b, c) (ap (λ (k : Relation). accepted (record { rels = acc ++ (k ∷ []); types = []; chosen = []; ruled = none })) (fixed-is r f))
+  rel-adds acc r at a b c f = rw (a, b, c) (ap (λ (k : Relation). accepted (record { rels = acc ++ (k ∷ []); types = []; chosen = []; every = none; ruled = none })) (fixed-is r f))
 
   rel-read : (acc : List Relation) (r : Relation) (more : List Relation) → acc ++ (r ∷ more) ≡ q .rels → (at : ℕ) (fs : List (List ℕ)) → R (aRel r) fs → (questionLine (relsAt acc) (ended at (joined fs)) ≡ accepted (relsAt (acc ++ (r ∷ [])))) × AllWithout 10 fs
   unfolding QuestionLine AllWithout all
@@ -539,7 +629,7 @@ module _ (q : Question) (I : QuestionIs q) where
       )
 
   typesAt : List (List ℕ) → Draft
-  typesAt ts = record { rels = q .rels; types = ts; chosen = []; ruled = none }
+  typesAt ts = record { rels = q .rels; types = ts; chosen = []; every = none; ruled = none }
 
   type-adds : (acc : List (List ℕ)) (t : List ℕ) (at : ℕ) → leb typeLimit (length acc) ≡ false → isRelationName t ≡ true → isType acc t ≡ false → addToQuestion (typesAt acc) at (type t) ≡ accepted (typesAt (acc ++ (t ∷ [])))
   unfolding addToQuestion addType isEmpty refuseIf _>>=_ typesAt
@@ -556,22 +646,25 @@ module _ (q : Question) (I : QuestionIs q) where
       )
 
   chosenAt : List Relation → Draft
-  chosenAt ks = record { rels = q .rels; types = q .types; chosen = ks; ruled = none }
+  chosenAt ks = record { rels = q .rels; types = q .types; chosen = ks; every = none; ruled = none }
 
-  choose-new : (acc : List Relation) (k : Relation) (more : List Relation) → acc ++ (k ∷ more) ≡ q .chosen → isDeclared (relations (q .rels) acc) (k .name) ≡ false
-  unfolding relations relationsOf
-  choose-new acc k more e = apart-middle (builtIn ++ (q .rels ++ acc)) k more (subst Apart (sym whole) (F .apart))
+  choose-new : (acc : List Relation) (k : Relation) (more : List Relation) → acc ++ (k ∷ more) ≡ q .chosen → isDeclared (relations (q .rels) acc none) (k .name) ≡ false
+  unfolding relations relationsOf listed
+  choose-new acc k more e = apart-middle (builtIn ++ (q .rels ++ (acc ++ []))) k (more ++ listed (q .every)) (subst Apart (sym whole) (F .apart))
     where
-      whole : (builtIn ++ (q .rels ++ acc)) ++ (k ∷ more) ≡ builtIn ++ (q .rels ++ q .chosen)
-      whole = append-assoc builtIn (q .rels ++ acc) (k ∷ more) ∙ ap (λ (l : List Relation). builtIn ++ l) (append-assoc (q .rels) acc (k ∷ more) ∙ ap (λ (l : List Relation). q .rels ++ l) e)
+      whole : (builtIn ++ (q .rels ++ (acc ++ []))) ++ (k ∷ (more ++ listed (q .every))) ≡ builtIn ++ (q .rels ++ lastly)
+      whole = ap (λ (l : List Relation). (builtIn ++ (q .rels ++ l)) ++ (k ∷ (more ++ listed (q .every)))) (append-nil acc)
+          ∙ append-assoc builtIn (q .rels ++ acc) (k ∷ (more ++ listed (q .every)))
+          ∙ ap (λ (l : List Relation). builtIn ++ l) (append-assoc (q .rels) acc (k ∷ (more ++ listed (q .every))))
+          ∙ ap (λ (l : List Relation). builtIn ++ (q .rels ++ l)) (sym (append-assoc acc (k ∷ more) (listed (q .every))) ∙ ap (λ (l : List Relation). l ++ listed (q .every)) e)
 
   abbrev Made : ℕ → Kind → List (List ℕ) → Relation → Relation
   Made a kind names k = record { name = k .name; arity = a; kind = kind; firsts = placeSort (q .types) names 0; seconds = placeSort (q .types) names 1 }
 
-  choose-adds : (acc : List Relation) (k : Relation) (at a : ℕ) (kind : Kind) (names : List (List ℕ)) → leb chooseLimit (length acc) ≡ false → isRelationName (k .name) ≡ true → isDeclared (relations (q .rels) acc) (k .name) ≡ false → all (isType (q .types)) names ≡ true
+  choose-adds : (acc : List Relation) (k : Relation) (at a : ℕ) (kind : Kind) (names : List (List ℕ)) → leb chooseLimit (length acc) ≡ false → isRelationName (k .name) ≡ true → isDeclared (relations (q .rels) acc none) (k .name) ≡ false → all (isType (q .types)) names ≡ true
       → Made a kind names k ≡ k → addToQuestion (chosenAt acc) at (choose (k .name) a kind names) ≡ accepted (chosenAt (acc ++ (k ∷ [])))
-  unfolding addToQuestion addChoose isNewName isRuled refuseIf _>>=_ chosenAt
-  choose-adds acc k at a kind names x y z t e = rw (x, y, z, t) (ap (λ (j : Relation). accepted (record { rels = q .rels; types = q .types; chosen = acc ++ (j ∷ []); ruled = none })) e)
+  unfolding addToQuestion addChoose isNewName isRuled isSome refuseIf _>>=_ chosenAt
+  choose-adds acc k at a kind names x y z t e = rw (x, y, z, t) (ap (λ (j : Relation). accepted (record { rels = q .rels; types = q .types; chosen = acc ++ (j ∷ []); every = none; ruled = none })) e)
 
   -- the relation that a line makes is the one it spells
   made-is : (k : Relation) (a : ℕ) (kind : Kind) (names : List (List ℕ)) → k .arity ≡ a → k .kind ≡ kind → k .firsts ≡ placeSort (q .types) names 0 → k .seconds ≡ placeSort (q .types) names 1 → Made a kind names k ≡ k
@@ -625,30 +718,80 @@ module _ (q : Question) (I : QuestionIs q) where
       ))
       c) s
 
+  -- an `every` line
+  some-chosen : isEmpty (q .chosen) ≡ false
+  some-chosen = T-false (isEmpty (q .chosen)) (T-not (isEmpty (q .chosen)) (F .rule-fits .some-chosen))
+
+  firstOf : List Relation → Option Relation
+  firstOf [] = none
+  firstOf (k ∷ ks) = some k
+
+  first-listed : (o : Option Relation) → firstOf (listed o) ≡ o
+  unfolding listed firstOf
+  first-listed none = refl
+  first-listed (some k) = refl
+
+  everyAt : List Relation → Draft
+  everyAt ks = record { rels = q .rels; types = q .types; chosen = q .chosen; every = firstOf ks; ruled = none }
+
+  every-new : (k : Relation) → q .every ≡ some k → isDeclared (relations (q .rels) (q .chosen) none) (k .name) ≡ false
+  unfolding relations relationsOf listed
+  every-new k e = apart-middle (builtIn ++ (q .rels ++ (q .chosen ++ []))) k [] (subst Apart (sym whole) (F .apart))
+    where
+      whole : (builtIn ++ (q .rels ++ (q .chosen ++ []))) ++ (k ∷ []) ≡ builtIn ++ (q .rels ++ lastly)
+      whole = ap (λ (l : List Relation). (builtIn ++ (q .rels ++ l)) ++ (k ∷ [])) (append-nil (q .chosen)) ∙ append-assoc builtIn (q .rels ++ q .chosen) (k ∷ [])
+          ∙ ap (λ (l : List Relation). builtIn ++ l) (append-assoc (q .rels) (q .chosen) (k ∷ [])) ∙ ap (λ (o : Option Relation). builtIn ++ (q .rels ++ (q .chosen ++ listed o))) (sym e)
+
+  every-adds : (k : Relation) (at : ℕ) → isRelationName (k .name) ≡ true → isDeclared (relations (q .rels) (q .chosen) none) (k .name) ≡ false → EveryFits k
+      → addToQuestion (everyAt []) at (every (k .name) (k .arity)) ≡ accepted (everyAt (k ∷ []))
+  unfolding addToQuestion addEvery isNewName isRuled isSome refuseIf _>>=_ everyAt firstOf
+  every-adds k at y z fit = rw (some-chosen, y, z) (ap (λ (j : Relation). accepted (record { rels = q .rels; types = q .types; chosen = q .chosen; every = some j; ruled = none })) (varying-is k fit))
+
+  every-read : (acc : List Relation) (k : Relation) (more : List Relation) → acc ++ (k ∷ more) ≡ listed (q .every) → (at : ℕ) (fs : List (List ℕ)) → R (anEvery k) fs → (questionLine (everyAt acc) (ended at (joined fs)) ≡ accepted (everyAt (acc ++ (k ∷ [])))) × AllWithout 10 fs
+  unfolding QuestionLine AllWithout all Holds
+  every-read [] k more e at fs s =
+      let is = sole (q .every) e in
+      let fit = subst (Holds EveryFits) is (F .every-fits) in
+      let formed = fit .named in (
+        adds (everyAt []) _ at (bytes "every") (k .name ∷ decimal (k .arity) ∷ []) fs (every (k .name) (k .arity)) s (tt, (name-without 9 (omega arith) (k .name) formed, (decimal-without 9 (omega arith) (k .arity), tt)))
+            (every-entry (k .name) (k .arity) (fit .few)) (every-adds k at (T-true _ formed) (every-new k is) fit),
+        subst (AllWithout 10) (sym s) (tt, (name-without 10 (omega arith) (k .name) formed, (decimal-without 10 (omega arith) (k .arity), tt))),
+      )
+  every-read (j ∷ acc) k more e at fs s = absurd (two (q .every) j k acc more e)
+
   -- the rule's line, at its place
-  rule-adds : (at : ℕ) → addToQuestion (chosenAt (q .chosen)) at (rule (q .rule .text)) ≡ accepted (record { rels = q .rels; types = q .types; chosen = q .chosen; ruled = some (record { at = at + 5; text = q .rule .text; formula = q .rule .formula }) })
-  unfolding addToQuestion addRule isRuled given refuseIf _>>=_ chosenAt
+  declared : Draft
+  declared = record { rels = q .rels; types = q .types; chosen = q .chosen; every = q .every; ruled = none }
+
+  rule-adds : (at : ℕ) → addToQuestion declared at (rule (q .rule .text)) ≡ accepted (record { rels = q .rels; types = q .types; chosen = q .chosen; every = q .every; ruled = some (record { at = at + 5; text = q .rule .text; formula = q .rule .formula }) })
+  unfolding addToQuestion addRule isRuled given refuseIf _>>=_ declared
   rule-adds at =
       let G = F .rule-fits in
-      let some-chosen : isEmpty (q .chosen) ≡ false = T-false (isEmpty (q .chosen)) (T-not (isEmpty (q .chosen)) (G .some-chosen)) in
       let parsed = Writing.accepted-texts (q .rule .text) (q .rule .formula) .1 (I .formed, I .written) in
-      let known = T-true (isKnown (relations (q .rels) (q .chosen)) (q .rule .formula)) (G .known) in
+      let known = T-true (isKnown (relations (q .rels) (q .chosen) (q .every)) (q .rule .formula)) (G .known) in
       let scoped = T-true (isScoped [] (q .rule .formula)) (G .scoped) in
       let typed = T-true (isTyped (q .types) (q .rule .formula)) (G .typed) in
       rw (some-chosen, parsed, le-ltb formLimit (allForms (q .chosen) (q .rule .formula)) (G .few-forms), le-ltb nestingLimit (nesting (q .rule .formula)) (G .nested), known, scoped, typed) refl
 
   abbrev ruledAt : ℕ → Draft
-  ruledAt at = record { rels = q .rels; types = q .types; chosen = q .chosen; ruled = some (record { at = at; text = q .rule .text; formula = q .rule .formula }) }
+  ruledAt at = record { rels = q .rels; types = q .types; chosen = q .chosen; every = q .every; ruled = some (record { at = at; text = q .rule .text; formula = q .rule .formula }) }
 
   lines-back : (text : List ℕ) → LineByLine R (questionItems q) text → q .rule .at + length (q .rule .text) + 1 ≡ length text
-      → readLines questionLine (relsAt []) (linesFrom zero (split 10 text)) ≡ accepted (record { rels = q .rels; types = q .types; chosen = q .chosen; ruled = some (q .rule) })
-  unfolding questionItems LineByLine QuestionLine AllWithout all relsAt typesAt chosenAt printLine _>>=_
+      → readLines questionLine (relsAt []) (linesFrom zero (split 10 text)) ≡ accepted (record { rels = q .rels; types = q .types; chosen = q .chosen; every = q .every; ruled = some (q .rule) })
+  unfolding questionItems LineByLine QuestionLine AllWithout all relsAt typesAt chosenAt everyAt firstOf declared printLine _>>=_
   lines-back text h place =
-      let A = run-read questionLine R aRel relsAt (q .rels) rel-read (q .rels) [] (map aType (q .types) ++ (map aChoose (q .chosen) ++ (theRule (q .rule) ∷ []))) zero text refl h in
-      let B = run-read questionLine R aType typesAt (q .types) type-read (q .types) [] (map aChoose (q .chosen) ++ (theRule (q .rule) ∷ [])) (A .next) (A .rest) refl (A .left) in
-      let C = run-read questionLine R aChoose chosenAt (q .chosen) choose-read (q .chosen) [] (theRule (q .rule) ∷ []) (B .next) (B .rest) refl (B .left) in
-      A .same-reading ∙ B .same-reading ∙ C .same-reading ∙ last (C .next) (C .rest) (omega (arith, A .place, B .place, C .place)) (C .left)
+      let final = theRule (q .rule) ∷ [] in
+      let every-on = map anEvery (listed (q .every)) ++ final in
+      let A = run-read questionLine R aRel relsAt (q .rels) rel-read (q .rels) [] (map aType (q .types) ++ (map aChoose (q .chosen) ++ every-on)) zero text refl h in
+      let B = run-read questionLine R aType typesAt (q .types) type-read (q .types) [] (map aChoose (q .chosen) ++ every-on) (A .next) (A .rest) refl (A .left) in
+      let C = run-read questionLine R aChoose chosenAt (q .chosen) choose-read (q .chosen) [] every-on (B .next) (B .rest) refl (B .left) in
+      let D = run-read questionLine R anEvery everyAt (listed (q .every)) every-read (listed (q .every)) [] final (C .next) (C .rest) refl (C .left) in
+      A .same-reading ∙ B .same-reading ∙ C .same-reading ∙ D .same-reading ∙ ap (λ (d : Draft). readLines questionLine d (linesFrom (D .next) (split 10 (D .rest)))) whole
+      ∙ last (D .next) (D .rest) (omega (arith, A .place, B .place, C .place, D .place)) (D .left)
     where
+      whole : everyAt (listed (q .every)) ≡ declared
+      whole = ap (λ (o : Option Relation). record { rels = q .rels; types = q .types; chosen = q .chosen; every = o; ruled = none }) (first-listed (q .every))
+
       here : (next : ℕ) (rest : List ℕ) (fs : List (List ℕ)) (end : List ℕ) → next + length rest ≡ length text → fs ≡ bytes "rule" ∷ q .rule .text ∷ [] → rest ≡ printLine fs ++ end → end ≡ [] → next + 5 ≡ q .rule .at
       here next rest fs end e s r z =
           let l = ap length (r ∙ ap₂ (λ (x : List (List ℕ)) (y : List ℕ). printLine x ++ y) s z) in
@@ -657,13 +800,13 @@ module _ (q : Question) (I : QuestionIs q) where
           omega (arith, l, m, n)
 
       last : (next : ℕ) (rest : List ℕ) → next + length rest ≡ length text → LineByLine R (theRule (q .rule) ∷ []) rest
-          → readLines questionLine (chosenAt (q .chosen)) (linesFrom next (split 10 rest)) ≡ accepted (record { rels = q .rels; types = q .types; chosen = q .chosen; ruled = some (q .rule) })
+          → readLines questionLine declared (linesFrom next (split 10 rest)) ≡ accepted (record { rels = q .rels; types = q .types; chosen = q .chosen; every = q .every; ruled = some (q .rule) })
       last next rest e (fs, s, (end, r, z)) =
           let w₉ = subst (Without 9) (sym (I .written)) (write-without 9 (omega arith) (q .rule .formula) (I .formed)) in
           let w₁₀ = subst (Without 10) (sym (I .written)) (write-without 10 (omega arith) (q .rule .formula) (I .formed)) in
-          ap (λ (x : List ℕ). readLines questionLine (chosenAt (q .chosen)) (linesFrom next (split 10 x))) r
-          ∙ print-then questionLine (chosenAt (q .chosen)) next fs end (subst (AllWithout 10) (sym s) (tt, (w₁₀, tt)))
-          ∙ ap (λ (x : Result Draft). x >>= λ d. readLines questionLine d (linesFrom (next + length (joined fs) + 1) (split 10 end))) (adds (chosenAt (q .chosen)) _ next (bytes "rule") (q .rule .text ∷ []) fs (rule (q .rule .text)) s (tt, (w₉, tt)) (rule-entry (q .rule .text)) (rule-adds next))
+          ap (λ (x : List ℕ). readLines questionLine declared (linesFrom next (split 10 x))) r
+          ∙ print-then questionLine declared next fs end (subst (AllWithout 10) (sym s) (tt, (w₁₀, tt)))
+          ∙ ap (λ (x : Result Draft). x >>= λ d. readLines questionLine d (linesFrom (next + length (joined fs) + 1) (split 10 end))) (adds declared _ next (bytes "rule") (q .rule .text ∷ []) fs (rule (q .rule .text)) s (tt, (w₉, tt)) (rule-entry (q .rule .text)) (rule-adds next))
           ∙ ap (λ (x : List ℕ). readLines questionLine (ruledAt (next + 5)) (linesFrom (next + length (joined fs) + 1) (split 10 x))) z ∙ read-end questionLine (ruledAt (next + 5)) (next + length (joined fs) + 1)
           ∙ ap (λ (x : ℕ). accepted (ruledAt x)) (here next rest fs end e s r z)
 
@@ -686,11 +829,16 @@ module _ (types : List (List ℕ)) (r s : Rule) (same-text : r .text ≡ s .text
       ((fs, e, (rest, q, g)), omega (arith, k))
 
 abbrev placed : Question → ℕ → Question
-placed q at = record { rels = q .rels; types = q .types; chosen = q .chosen; rule = record { at = at; text = q .rule .text; formula = q .rule .formula } }
+placed q at = record { rels = q .rels; types = q .types; chosen = q .chosen; every = q .every; rule = record { at = at; text = q .rule .text; formula = q .rule .formula } }
 
-items-end : (q : Question) → questionItems q ≡ (map aRel (q .rels) ++ (map aType (q .types) ++ map aChoose (q .chosen))) ++ (theRule (q .rule) ∷ [])
+abbrev before : Question → List QuestionItem
+before q = map aRel (q .rels) ++ (map aType (q .types) ++ (map aChoose (q .chosen) ++ map anEvery (listed (q .every))))
+
+items-end : (q : Question) → questionItems q ≡ before q ++ (theRule (q .rule) ∷ [])
 unfolding questionItems
-items-end q = ap (λ (l : List QuestionItem). map aRel (q .rels) ++ l) (sym (append-assoc (map aType (q .types)) (map aChoose (q .chosen)) (theRule (q .rule) ∷ []))) ∙ sym (append-assoc (map aRel (q .rels)) (map aType (q .types) ++ map aChoose (q .chosen)) (theRule (q .rule) ∷ []))
+items-end q =
+    ap (λ (l : List QuestionItem). map aRel (q .rels) ++ (map aType (q .types) ++ l)) (sym (append-assoc (map aChoose (q .chosen)) (map anEvery (listed (q .every))) (theRule (q .rule) ∷ [])))
+    ∙ at-third (map aRel (q .rels)) (map aType (q .types)) (map aChoose (q .chosen) ++ map anEvery (listed (q .every))) (theRule (q .rule))
 
 placed-is : (q : Question) (at : ℕ) → QuestionIs q → QuestionIs (placed q at)
 unfolding relationsOf
@@ -709,6 +857,7 @@ placed-is q at I =
         chosen-fit = F .chosen-fit;
         chosen-named = F .chosen-named;
         chosen-sorted = F .chosen-sorted;
+        every-fits = F .every-fits;
         apart = F .apart;
         rule-fits = record { scoped = G .scoped; known = G .known; typed = G .typed; nested = G .nested; few-forms = G .few-forms; some-chosen = G .some-chosen };
       };
@@ -721,7 +870,7 @@ question-texts text q = (
   (λ e.
       let (h, l, I) = question-told text q e in
       let at = length text - length (q .rule .text) - 1 in
-      let (g, long) = last-line (q .types) (q .rule) (placed q at .rule) refl (map aRel (q .rels) ++ (map aType (q .types) ++ map aChoose (q .chosen))) text (subst (λ (items : List QuestionItem). LineByLine (QuestionLine (q .types)) items text) (items-end q) h) in
+      let (g, long) = last-line (q .types) (q .rule) (placed q at .rule) refl (before q) text (subst (λ (items : List QuestionItem). LineByLine (QuestionLine (q .types)) items text) (items-end q) h) in
       let place : at + length (q .rule .text) + 1 ≡ length text = omega arith in
       let again = question-back (placed q at) (placed-is q at I) text (subst (λ (items : List QuestionItem). LineByLine (QuestionLine (q .types)) items text) (sym (items-end (placed q at))) g) place l in
       (h, l, ap (λ (x : Question). x .rule .at + length (q .rule .text) + 1) (accepted-eq q (placed q at) (sym e ∙ again)) ∙ place, I)),
@@ -729,20 +878,12 @@ question-texts text q = (
 )
 
 -- ---- so its relations and types are such as a site's lines may name
-apart-left : (ks ls : List Relation) → Apart (ks ++ ls) → Apart ks
-unfolding Apart isDeclared
-apart-left [] ls a = tt
-apart-left (k ∷ ks) ls a = (
-  not-T (isDeclared ks (k .name)) (λ t. T-not (isDeclared (ks ++ ls) (k .name)) (a .0) (let (r, m, e) = any-at (λ (r : Relation). same (r .name) (k .name)) ks t in any-of (λ (r : Relation). same (r .name) (k .name)) (ks ++ ls) r (Memᴰ·append-left ls m) e)),
-  apart-left ks ls (a .1),
-)
-
 pub declared-of : (q : Question) → QuestionIs q → Declared (q .rels) (q .types)
 unfolding relationsOf relations
 declared-of q I = record {
   rels-named = I .rels-named;
   rels-few = λ k m. I .fits .rels-fit k m .few;
-  rels-apart = apart-left (q .rels) (q .chosen) (apart-right builtIn (q .rels ++ q .chosen) (I .fits .apart));
+  rels-apart = apart-left (q .rels) (q .chosen ++ listed (q .every)) (apart-right builtIn (q .rels ++ (q .chosen ++ listed (q .every))) (I .fits .apart));
   types-fit = I .fits .types-fit;
 }
 

@@ -12,7 +12,7 @@ use Rattle.definitions.specs.Problem.Truth.{Case, ruleIsTrue}
 use Rattle.definitions.specs.Problem.Atoms.{Problem}
 use Rattle.definitions.specs.Problem.Actions.{actionAt}
 use Rattle.definitions.specs.Problem.Built.{builtSteps, bound}
-use Rattle.definitions.specs.Reply.Outcome.{CaseRead, readFiled, readCase, ground, readProblem, Ready, asked, nothing, roomFor, stateLength, pickWords, sizesOf, sizes}
+use Rattle.definitions.specs.Reply.Outcome.{withoutEvery, CaseRead, readFiled, readCase, ground, readProblem, Ready, asked, nothing, roomFor, stateLength, pickWords, sizesOf, sizes}
 use Rattle.definitions.specs.Reply.Outcome.{action, ThirdInput, asText, asNumbers, takeSteps, textPicks, picksRoom, takePicks, readyToRun, checkedFrom}
 use Rattle.definitions.specs.Reply.Outcome.{checkSteps, picksReadFrom, picksFromSteps, satisfying, Plan, plan, builtFrom, buildSteps}
 use Rattle.definitions.specs.Reply.Tally.{tally}
@@ -46,7 +46,7 @@ module _ (L : CaseLimits) (question site other : List ℕ) (r : CaseRead) (label
   unfolding tally
   same-tally = rw same-case refl
 
-  module _ {A : Type 0} (third third′ : CaseRead → Result A) (rooms rooms′ : Problem → Result (Unit {0})) (t : third r ≡ third′ (record { case = r .case; labels = labels })) (m : (p : Problem) → rooms p ≡ rooms′ p) where
+  module _ {A : Type 0} (late : Case → Result (Unit {0})) (third third′ : CaseRead → Result A) (rooms rooms′ : Problem → Result (Unit {0})) (t : third r ≡ third′ (record { case = r .case; labels = labels })) (m : (p : Problem) → rooms p ≡ rooms′ p) where
     by-room : (c : Case) (p : Problem) (a : A) (x y : Result (Unit {0})) → x ≡ y → (y >>= λ _. accepted (record { case = c; labels = labels; problem = p; third = a })) ≡ relabelled labels (x >>= λ _. accepted (record { case = c; labels = r .labels; problem = p; third = a }))
     unfolding relabelled _>>=_
     by-room c p a x y e = rw e (by-result y)
@@ -55,53 +55,54 @@ module _ (L : CaseLimits) (question site other : List ℕ) (r : CaseRead) (label
         by-result (refused k place) = refl
         by-result (accepted u) = refl
 
-    asked-same : asked L question other third′ nothing nothing rooms′ ≡ relabelled labels (asked L question site third nothing nothing rooms)
+    asked-same : asked L question other third′ nothing late rooms′ ≡ relabelled labels (asked L question site third nothing late rooms)
     unfolding asked nothing relabelled _>>=_
-    asked-same = rw (here, there, t) (by-result (third′ (record { case = r .case; labels = labels })) (ground L (r .case)))
+    asked-same = rw (here, there, t) (by-result (third′ (record { case = r .case; labels = labels })) (ground L (r .case)) (late (r .case)))
       where
-        by-result : (x : Result A) (g : Result Problem)
-            → (x >>= λ a. g >>= λ p. rooms′ p >>= λ _. accepted (record { case = r .case; labels = labels; problem = p; third = a })) ≡ relabelled labels (x >>= λ a. g >>= λ p. rooms p >>= λ _. accepted (record { case = r .case; labels = r .labels; problem = p; third = a }))
-        by-result (refused k place) g = refl
-        by-result (accepted a) (refused k place) = refl
-        by-result (accepted a) (accepted p) = by-room (r .case) p a (rooms p) (rooms′ p) (m p)
+        by-result : (x : Result A) (g : Result Problem) (l : Result (Unit {0}))
+            → (x >>= λ a. g >>= λ p. l >>= λ _. rooms′ p >>= λ _. accepted (record { case = r .case; labels = labels; problem = p; third = a })) ≡ relabelled labels (x >>= λ a. g >>= λ p. l >>= λ _. rooms p >>= λ _. accepted (record { case = r .case; labels = r .labels; problem = p; third = a }))
+        by-result (refused k place) g l = refl
+        by-result (accepted a) (refused k place) l = refl
+        by-result (accepted a) (accepted p) (refused k place) = refl
+        by-result (accepted a) (accepted p) (accepted u) = by-room (r .case) p a (rooms p) (rooms′ p) (m p)
 
     -- a reply made of it without the labels
     same-by : {B : Type 0} (f : Result (Ready A) → B) → ((x : Ready A) → f (accepted (record { case = x .case; labels = labels; problem = x .problem; third = x .third })) ≡ f (accepted x))
-        → f (asked L question other third′ nothing nothing rooms′) ≡ f (asked L question site third nothing nothing rooms)
-    same-by f h = ap f asked-same ∙ blind labels f h (asked L question site third nothing nothing rooms)
+        → f (asked L question other third′ nothing late rooms′) ≡ f (asked L question site third nothing late rooms)
+    same-by f h = ap f asked-same ∙ blind labels f h (asked L question site third nothing late rooms)
 
   -- ---- the calls
   pub same-sizes : sizes L question other ≡ sizes L question site
   unfolding sizes nothing _>>=_
-  same-sizes = same-by nothing nothing nothing nothing refl (λ p. refl) (λ x. x >>= λ y. accepted (sizesOf (y .problem))) (λ x. refl)
+  same-sizes = same-by nothing nothing nothing nothing nothing refl (λ p. refl) (λ x. x >>= λ y. accepted (sizesOf (y .problem))) (λ x. refl)
 
   pub same-action : (k : ℕ) → action L question other k ≡ action L question site k
   unfolding action nothing _>>=_
-  same-action k = same-by nothing nothing nothing nothing refl (λ p. refl) (λ x. x >>= λ y. given (actionAt (y .problem) k) 13 k) (λ x. refl)
+  same-action k = same-by nothing nothing nothing nothing nothing refl (λ p. refl) (λ x. x >>= λ y. given (actionAt (y .problem) k) 13 k) (λ x. refl)
 
   pub same-check : (steps : ThirdInput) (state : List ℕ) → checkSteps L question other steps state ≡ checkSteps L question site steps state
-  unfolding checkSteps readyToRun checkedFrom
-  same-check steps state = same-by (λ _. takeSteps steps) (λ _. takeSteps steps) _ _ refl (λ p. refl) (λ x. checkedFrom x state) (λ x. refl)
+  unfolding checkSteps readyToRun checkedFrom nothing
+  same-check steps state = same-by nothing (λ _. takeSteps steps) (λ _. takeSteps steps) _ _ refl (λ p. refl) (λ x. checkedFrom x state) (λ x. refl)
 
   pub same-read : (steps : ThirdInput) (picks state : List ℕ) → picksFromSteps L question other steps picks state ≡ picksFromSteps L question site steps picks state
-  unfolding picksFromSteps readyToRun picksReadFrom
-  same-read steps picks state = same-by (λ _. takeSteps steps) (λ _. takeSteps steps) _ _ refl (λ p. refl) (λ x. picksReadFrom x picks state) (λ x. refl)
+  unfolding picksFromSteps readyToRun picksReadFrom nothing
+  same-read steps picks state = same-by nothing (λ _. takeSteps steps) (λ _. takeSteps steps) _ _ refl (λ p. refl) (λ x. picksReadFrom x picks state) (λ x. refl)
 
   pub same-tries : (steps : List ℕ) (tries : List Try) (state : List ℕ) → tryLists L question other steps tries state ≡ tryLists L question site steps tries state
   unfolding tryLists readyToTry triedFrom nothing
-  same-tries steps tries state = same-by nothing nothing _ _ refl (λ p. refl) (λ x. triedFrom x steps tries state) (λ x. refl)
+  same-tries steps tries state = same-by nothing nothing nothing _ _ refl (λ p. refl) (λ x. triedFrom x steps tries state) (λ x. refl)
 
   pub same-allowances : (old : List ℕ) → allowances L question other old ≡ allowances L question site old
   unfolding allowances allowedFrom nothing
-  same-allowances old = same-by nothing nothing _ _ refl (λ p. refl) (λ x. allowedFrom x old) (λ x. refl)
+  same-allowances old = same-by withoutEvery nothing nothing _ _ refl (λ p. refl) (λ x. allowedFrom x old) (λ x. refl)
 
   pub same-found : (old : List ℕ) → find L question other old ≡ find L question site old
   unfolding find foundWords foundFrom nothing _>>=_
-  same-found old = same-by nothing nothing _ _ refl (λ p. refl) (λ x. foundFrom (x >>= λ y. leastPicks (y .case) (cells (y .problem)) >>= λ F. accepted (pickWords (y .problem) F)) old) (λ x. refl)
+  same-found old = same-by withoutEvery nothing nothing _ _ refl (λ p. refl) (λ x. foundFrom (x >>= λ y. leastPicks (y .case) (cells (y .problem)) >>= λ F. accepted (pickWords (y .problem) F)) old) (λ x. refl)
 
   pub same-monotone : monotone L question other ≡ monotone L question site
   unfolding monotone nothing _>>=_
-  same-monotone = same-by nothing nothing nothing nothing refl (λ p. refl) (λ x. x >>= λ y. refuseIf (not (onlyWantsMore (y .case .question))) 24 zero >>= λ _. refuseIf (not (ruleIsTrue (y .case) (cells (y .problem)))) 21 zero >>= λ _. accepted zero) (λ x. refl)
+  same-monotone = same-by nothing nothing nothing nothing nothing refl (λ p. refl) (λ x. x >>= λ y. refuseIf (not (onlyWantsMore (y .case .question))) 24 zero >>= λ _. refuseIf (not (ruleIsTrue (y .case) (cells (y .problem)))) 21 zero >>= λ _. accepted zero) (λ x. refl)
 
   -- what is handed over as picks, to each of the two: read and taken alike
   module _ (g g′ : ThirdInput) (t : textPicks (r .case) (r .labels) g ≡ textPicks (r .case) labels g′) (m : (p : Problem) → picksRoom p g ≡ picksRoom p g′) (k : (p : Problem) (F : List Tuple) → takePicks p g F ≡ takePicks p g′ F) where
@@ -119,7 +120,7 @@ module _ (L : CaseLimits) (question site other : List ℕ) (r : CaseRead) (label
     unfolding buildSteps plan builtFrom _>>=_
     same-build state steps =
         taken (asked L question other picked′ nothing nothing (rooms g′))
-        ∙ same-by picked picked′ (rooms g) (rooms g′) t (λ p. ap (λ (x : Result (Unit {0})). x >>= λ _. roomFor (stateLength p) (length state) >>= λ _. roomFor (bound p) (length steps)) (m p))
+        ∙ same-by nothing picked picked′ (rooms g) (rooms g′) t (λ p. ap (λ (x : Result (Unit {0})). x >>= λ _. roomFor (stateLength p) (length state) >>= λ _. roomFor (bound p) (length steps)) (m p))
         (λ x. builtFrom (x >>= λ y. planned (y .labels) (y .problem) (satisfying (y .case) (y .problem) g (y .third))) state steps)
         (λ y. ends (y .problem) labels (y .labels) (satisfying (y .case) (y .problem) g (y .third)))
       where
@@ -141,7 +142,7 @@ module _ (L : CaseLimits) (question site other : List ℕ) (r : CaseRead) (label
     unfolding judge _>>=_
     same-judge =
         taken (asked L question other picked′ nothing nothing (λ p. picksRoom p g′))
-        ∙ same-by picked picked′ (λ p. picksRoom p g) (λ p. picksRoom p g′) t m (λ x. x >>= λ y. satisfying (y .case) (y .problem) g (y .third) >>= λ _. accepted zero) (λ y. refl)
+        ∙ same-by nothing picked picked′ (λ p. picksRoom p g) (λ p. picksRoom p g′) t m (λ x. x >>= λ y. satisfying (y .case) (y .problem) g (y .third) >>= λ _. accepted zero) (λ y. refl)
       where
         taken : (x : Result (Ready (List Tuple))) → (x >>= λ y. satisfying (y .case) (y .problem) g′ (y .third) >>= λ _. accepted zero) ≡ (x >>= λ y. satisfying (y .case) (y .problem) g (y .third) >>= λ _. accepted zero)
         taken (refused j place) = refl

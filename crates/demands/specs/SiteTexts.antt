@@ -15,7 +15,7 @@ use Rattle.definitions.specs.Sheet.Text.{bytes, decimal, number, split, Line, l
 use Rattle.definitions.specs.Refusal.{Result, accepted, _>>=_, refuseIf, given, readLines, readText}
 use Rattle.definitions.specs.Sheet.Relations.{Relation, Tuple, isAmong}
 use Rattle.definitions.specs.Sheet.Formula.{typeNumber}
-use Rattle.definitions.specs.Sheet.Sheets.{Element, numbered, named, Entry, rel, type, choose, rule, size, label, member, fact, pick, step, element, elements, labelOf, withTwo, entry, entryOf, firstRel, used}
+use Rattle.definitions.specs.Sheet.Sheets.{Element, numbered, named, Entry, rel, type, choose, every, rule, size, label, member, fact, pick, step, element, elements, labelOf, withTwo, entry, entryOf, firstRel, used}
 use Rattle.definitions.specs.Sheet.Sheets.{Label, nameOf, elementOf, isInRange, addTuple, Member, isMember, hasMember, SiteDraft, Labelled, addSize, isTaken, addLabel, addMember, addFact, addToSite, siteLine, readSite}
 use Rattle.laws.specs.Booleans.{T-and-l, T-and-r, T-of, T-or, T-true, T-false, and-T, or-both}
 use Rattle.laws.specs.Lists.{all-of, any-at, any-of, below-lt, getD-mem, none-some, some-eq}
@@ -290,6 +290,7 @@ module _ (L : CaseLimits) (few : L .elements ≤ 64) (rels : List Relation) (typ
   entry-step d m at (rel name a) fs I s q = absurd (refused-accepted q)
   entry-step d m at (type name) fs I s q = absurd (refused-accepted q)
   entry-step d m at (choose name a k names) fs I s q = absurd (refused-accepted q)
+  entry-step d m at (every name a) fs I s q = absurd (refused-accepted q)
   entry-step d m at (rule f) fs I s q = absurd (refused-accepted q)
   entry-step d m at (size n) fs I (f, s, v) q = size-step d m at n f fs (d .sized) I refl s v q
   entry-step d m at (label x name) fs I (f, s, v) q = label-step d m at x f name fs I s v q

@@ -3,29 +3,32 @@ use Prim.Native.Nat.{ℕ, zero}
 use mathlib.Core.Path.{_≡_, refl, sym, subst, _∙_}
 use mathlib.Core.Logic.{_↔_}
 use mathlib.Core.Bool.{Bool, true, false, not, _&&_}
+use mathlib.Core.Option.{none, some}
 use mathlib.Core.List.{List}
 use native.Mathlib.Omega.{arith}
 use lib.Dec.{T}
 use Rattle.definitions.specs.Limits.{CaseLimits}
-use Rattle.definitions.specs.Lists.{all}
+use Rattle.definitions.specs.Lists.{all, isSome}
 use Rattle.definitions.specs.Refusal.{Result, refused, accepted, _>>=_, refuseIf}
 use Rattle.definitions.specs.Sheet.Relations.{Relation, Tuple, isFunction}
 use Rattle.definitions.specs.Sheet.Sheets.{Label}
-use Rattle.definitions.specs.Problem.Truth.{Case, arePicks, areOfKinds, ruleIsTrue}
+use Rattle.definitions.specs.Problem.Truth.{Case, arePicks, areOfKinds, ruleHolds, ruleIsTrue}
 use Rattle.definitions.specs.Problem.Tree.{treeOf}
 use Rattle.definitions.specs.Problem.Atoms.{Problem, problemOf}
 use Rattle.definitions.specs.Reply.Outcome.{readFiled, ground, asked, nothing}
 use Rattle.definitions.specs.Reply.Finding.{cells}
 use Rattle.definitions.specs.Reply.Monotone.{onlyWantsMore, monotone}
-use Rattle.laws.specs.Booleans.{T-of, T-true, T-and-l, T-and-r}
+use Rattle.laws.specs.Booleans.{T-of, T-true, T-false, T-and-l, T-and-r}
+use Rattle.laws.specs.Lists.{none-some}
 use Rattle.laws.specs.Results.{refused-accepted, refused-number}
 use Rattle.laws.specs.Repeats.{once-distinct}
-use Rattle.laws.specs.Reader.{Accepted}
+use Rattle.laws.specs.Reader.{Accepted, not-some}
 use Rattle.meaning.specs.Meaning.{tree-means}
 use Rattle.meaning.specs.Grounded.{good}
 use Rattle.meaning.specs.Grows.{more-holds, plain-kinds}
 use Rattle.meaning.specs.Picks.{picks-inside, inside-picks}
 use Rattle.meaning.specs.Cells.{cell-inside, inside-cell, cells-once}
+use Rattle.demands.specs.Every.{plain-true}
 use Rattle.demands.specs.Finds.{Solves}
 
 module _ (c : Case) (A : Accepted c) where
@@ -34,6 +37,15 @@ module _ (c : Case) (A : Accepted c) where
 
   abbrev Plain : Bool
   Plain = all (λ (k : Relation). not (isFunction (k .kind))) (c .question .chosen)
+
+  -- (what the profile says, part by part)
+  no-every : T (onlyWantsMore (c .question)) → c .question .every ≡ none
+  unfolding onlyWantsMore
+  no-every w = not-some (c .question .every) (T-and-l (not (isSome (c .question .every))) _ (T-and-l (not (isSome (c .question .every)) && Plain) _ w))
+
+  all-plain : T (onlyWantsMore (c .question)) → T Plain
+  unfolding onlyWantsMore
+  all-plain w = T-and-r (not (isSome (c .question .every))) _ (T-and-l (not (isSome (c .question .every)) && Plain) _ w)
 
   -- all tuples are picks
   pub all-picks : arePicks c (cells p) ≡ true
@@ -44,13 +56,14 @@ module _ (c : Case) (A : Accepted c) where
   unfolding onlyWantsMore
   all-do w P s =
       let (a, k, r) = s in
-      T-true (ruleIsTrue c (cells p)) (subst T (tree-means c (cells p) A) (more-holds c P (cells p) (λ t i. inside-cell p (good c A) t (picks-inside c A P (T-of a) t i)) _ (treeOf (c .question)) (T-and-r Plain _ w) (subst T (sym (tree-means c P A)) (T-of r))))
+      let plain = no-every w in
+      plain-true c A plain (cells p) ∙ T-true (ruleHolds c (cells p)) (subst T (tree-means c (cells p) A) (more-holds c P (cells p) (λ t i. inside-cell p (good c A) t (picks-inside c A P (T-of a) t i)) _ (treeOf (c .question))
+      (T-and-r (not (isSome (c .question .every)) && Plain) _ w) (subst T (sym (tree-means c P A)) (T-of (sym (plain-true c A plain P) ∙ r)))))
 
   pub all-or-none : onlyWantsMore (c .question) ≡ true → ((P : List Tuple) × Solves c P) ↔ (ruleIsTrue c (cells p) ≡ true)
-  unfolding onlyWantsMore
   all-or-none w = (
     (λ h. all-do (T-of w) (h .0) (h .1)),
-    (λ r. (cells p, (all-picks, T-true (areOfKinds c (cells p)) (plain-kinds c (cells p) (T-and-l Plain _ (T-of w))), r))),
+    (λ r. (cells p, (all-picks, T-true (areOfKinds c (cells p)) (plain-kinds c (cells p) (all-plain (T-of w))), r))),
   )
 
   -- ---- the call on this case
@@ -117,3 +130,7 @@ module _ (c : Case) (A : Accepted c) where
         from-end (outside w e) v = e
         from-end (none-do w n e) v = absurd (T-of (sym v ∙ w))
         from-end (some-do w t e) v = absurd (T-of (sym v ∙ w))
+
+    -- with an `every` line the case is outside the profile
+    pub wants-every : (k : Relation) → c .question .every ≡ some k → answer ≡ refused 24 zero
+    wants-every k e = wants-else .1 (T-false (onlyWantsMore (c .question)) (λ w. none-some (sym (no-every w) ∙ e)))

@@ -2,7 +2,7 @@
 -- answers the same.
 use Prim.Native.Nat.{ℕ, zero, _≤_}
 use mathlib.Core.Path.{_≡_, refl, _∙_}
-use mathlib.Core.Bool.{true, not, _||_}
+use mathlib.Core.Bool.{Bool, true, false, not, _&&_, _||_}
 use mathlib.Core.Option.{Option, none, some}
 use mathlib.Core.List.{List, [], _∷_}
 use native.Mathlib.Omega.{arith}
@@ -13,11 +13,13 @@ use Rattle.definitions.specs.Limits.{CaseLimits, textLimit}
 use Rattle.definitions.specs.Sheet.Text.{Line, lines, isBetween}
 use Rattle.definitions.specs.Refusal.{Result, accepted, _>>=_, refuseIf, readLines, readText}
 use Rattle.definitions.specs.Sheet.Relations.{Relation}
-use Rattle.definitions.specs.Sheet.Sheets.{Entry, rel, type, choose, rule, size, label, member, fact, pick, step, entryOf, SiteDraft, Labelled, addSize, addToSite, siteLine, readSite, readQuestion}
-use Rattle.definitions.specs.Problem.Truth.{Case}
+use Rattle.definitions.specs.Sheet.Sheets.{Entry, rel, type, choose, every, rule, size, label, member, fact, pick, step, entryOf, SiteDraft, Labelled, addSize, addToSite, siteLine, readSite, readQuestion}
+use Rattle.definitions.specs.Problem.Truth.{Case, everyTuples}
 use Rattle.definitions.specs.Problem.Atoms.{Problem, problemOf, atoms}
+use Rattle.definitions.specs.Lists.{isSome}
+use Rattle.definitions.specs.Problem.Built.{bound}
 use Rattle.definitions.specs.Problem.Actions.{actions}
-use Rattle.definitions.specs.Reply.Outcome.{CaseRead, readFiled, readCase, ground, readProblem, asked}
+use Rattle.definitions.specs.Reply.Outcome.{CaseRead, readFiled, readCase, tooManyValues, ground, readProblem, asked}
 use Rattle.laws.specs.Writing.{and-l, and-r}
 use Rattle.laws.specs.Booleans.{or-both}
 use Rattle.laws.specs.Results.{refused-accepted, bind-parts, not-refused}
@@ -28,6 +30,7 @@ pub record Wider (L M : CaseLimits) : Type 0 where
   pub elements : L .elements ≤ M .elements
   pub atoms : L .atoms ≤ M .atoms
   pub actions : L .actions ≤ M .actions
+  pub steps : L .steps ≤ M .steps
 
 -- a size within the limits is taken
 size-within : (M : CaseLimits) (d : SiteDraft) (at n : ℕ) → leb 1 n ≡ true → leb n (M .elements) ≡ true → addSize M d at n none ≡ accepted (record { sized = some n; labels = d .labels; members = d .members; facts = d .facts })
@@ -49,6 +52,7 @@ module _ (L M : CaseLimits) (w : Wider L M) where
   entry-wider rels types d at (rel name arity) e q = q
   entry-wider rels types d at (type name) e q = q
   entry-wider rels types d at (choose name arity kind names) e q = q
+  entry-wider rels types d at (every name arity) e q = q
   entry-wider rels types d at (rule text) e q = q
   entry-wider rels types d at (size n) e q = size-wider d at n (d .sized) e q
   entry-wider rels types d at (label x name) e q = q
@@ -86,14 +90,26 @@ module _ (L M : CaseLimits) (w : Wider L M) where
   unfolding readCase _>>=_
   case-wider question site c q = let (r, a, b) = bind-parts (readFiled L question site) _ c q in rw (filed-wider question site r a) b
 
+  few-wider : (p : Problem) → tooManyValues L p ≡ false → tooManyValues M p ≡ false
+  unfolding tooManyValues
+  few-wider p e = by-test (isSome (p .source .question .every)) e
+    where
+      by-test : (b : Bool) → (b && (ltb 8 (everyTuples (p .source)) || ltb (L .steps) (bound p))) ≡ false → (b && (ltb 8 (everyTuples (p .source)) || ltb (M .steps) (bound p))) ≡ false
+      by-test true e =
+          let (m, n) = or-both (ltb 8 (everyTuples (p .source))) _ e in
+          let x = ltb-false (L .steps) (bound p) n in
+          rw (m, le-ltb (M .steps) (bound p) (omega (arith, w .steps))) refl
+      by-test false e = refl
+
   pub ground-wider : (c : Case) (p : Problem) → ground L c ≡ accepted p → ground M c ≡ accepted p
   unfolding ground refuseIf _>>=_
   ground-wider c p q =
-      let (u, a, b) = bind-parts (refuseIf (ltb (L .atoms) (atoms (problemOf c)) || ltb (L .actions) (actions (problemOf c))) 11 zero) (λ _. accepted (problemOf c)) p q in
+      let (u, a, b) = bind-parts (refuseIf (ltb (L .atoms) (atoms (problemOf c)) || ltb (L .actions) (actions (problemOf c))) 11 zero) _ p q in
+      let (v, d, e) = bind-parts (refuseIf (tooManyValues L (problemOf c)) 23 zero) _ p b in
       let (m, n) = or-both (ltb (L .atoms) (atoms (problemOf c))) _ (not-refused _ 11 zero u a) in
       let x = ltb-false (L .atoms) (atoms (problemOf c)) m in
       let y = ltb-false (L .actions) (actions (problemOf c)) n in
-      rw (le-ltb (M .atoms) (atoms (problemOf c)) (omega (arith, w .atoms)), le-ltb (M .actions) (actions (problemOf c)) (omega (arith, w .actions))) b
+      rw (le-ltb (M .atoms) (atoms (problemOf c)) (omega (arith, w .atoms)), le-ltb (M .actions) (actions (problemOf c)) (omega (arith, w .actions)), few-wider (problemOf c) (not-refused _ 23 zero v d)) e
 
   pub problem-wider : (question site : List ℕ) (p : Problem) → readProblem L question site ≡ accepted p → readProblem M question site ≡ accepted p
   problem-wider question site p q =

@@ -1,15 +1,16 @@
 -- Sheets of steps and of picks, written as the desk program prints them or in any way that spells them, are read back as they were.
 use Prim.Native.Nat.{ℕ, zero, suc, _+_, _-_, _^_, _≤_, _<_}
 use mathlib.Core.Path.{_≡_, refl, sym, ap, subst, _∙_, fun-ext}
+use mathlib.Core.Logic.{⊎-elim}
 use mathlib.Core.Bool.{Bool, true, false, _&&_}
 use mathlib.Core.Option.{some}
 use mathlib.Core.List.{List, [], _∷_, _++_, map, append-assoc, append-nil, List·Memᴰ, List·Memᴰ·head, List·Memᴰ·tail}
 use native.Mathlib.Omega.{arith}
-use lib.Dec.{T, ltb, eqb, eqb-refl, T-not}
+use lib.Dec.{T, ltb, eqb, eqb-refl, T-not, not-T}
 use lib.ListN.{length, getD}
 use borrow.Author.Tests.{le-ltb, le-leb}
 use Rattle.definitions.specs.Limits.{textLimit}
-use Rattle.definitions.specs.Lists.{all, any, same, option, flatMap}
+use Rattle.definitions.specs.Lists.{all, any, same, option, listed, flatMap}
 use Rattle.definitions.specs.Sheet.Text.{bytes, decimal, decimalIn, isRelationName, Line, lines, linesFrom, split, fields, isBetween}
 use Rattle.definitions.specs.Refusal.{Result, accepted, _>>=_, refuseIf, given, readLines, readText}
 use Rattle.definitions.specs.Sheet.Relations.{Relation, Tuple, isAmong, isDeclared, builtIn}
@@ -18,7 +19,7 @@ use Rattle.definitions.specs.Problem.Truth.{Case, arePicks}
 use Rattle.definitions.specs.Problem.Atoms.{Problem, problemOf, relationAt, rowOf}
 use Rattle.definitions.specs.Problem.Built.{chosenNumbers, pickedRows}
 use Rattle.definitions.specs.Reply.Desk.{printLine, stepLine, said, pickLine}
-use Rattle.laws.specs.Booleans.{T-false, T-of, T-true, and-T}
+use Rattle.laws.specs.Booleans.{T-false, T-of, T-or, T-true, and-T, or-l, or-r}
 use Rattle.laws.specs.Lists.{any-of, flat-flat, flat-map, flat-same, getD-mem}
 use Rattle.laws.specs.Positions.{position-at}
 use Rattle.laws.specs.Tuples.{among-mem, same-eq, same-refl}
@@ -89,6 +90,15 @@ unfolding entry same withElements option isBetween
 pick-entry name gs es e a b = rw (le-leb 1 (length gs) a, le-leb (length gs) 3 b, e) refl
 
 -- names that are apart: a later name is not that of an earlier relation
+pub apart-left : (ks ls : List Relation) → Apart (ks ++ ls) → Apart ks
+unfolding Apart isDeclared any
+apart-left [] ls a = tt
+apart-left (k ∷ ks) ls a = (not-T (isDeclared ks (k .name)) (λ t. T-not (isDeclared (ks ++ ls) (k .name)) (a .0) (more ks t)), apart-left ks ls (a .1))
+  where
+    more : (ks : List Relation) → T (isDeclared ks (k .name)) → T (isDeclared (ks ++ ls) (k .name))
+    more [] t = absurd t
+    more (x ∷ ks) t = ⊎-elim (λ q. or-l (same (x .name) (k .name)) _ q) (λ q. or-r (same (x .name) (k .name)) _ (more ks q)) (T-or (same (x .name) (k .name)) _ t)
+
 pub apart-right : (ks ls : List Relation) → Apart (ks ++ ls) → Apart ls
 unfolding Apart
 apart-right [] ls a = a
@@ -142,14 +152,14 @@ module _ (c : Case) (A : Accepted c) (labels : List Label) (K : LabelsFit (c .si
 
   chosen-apart : Apart chosen
   unfolding relationsOf relations
-  chosen-apart = apart-right (c .question .rels) chosen (apart-right builtIn (c .question .rels ++ chosen) (A .question-fits .apart))
+  chosen-apart = apart-left chosen (listed (c .question .every)) (apart-right (c .question .rels) (chosen ++ listed (c .question .every)) (apart-right builtIn (c .question .rels ++ (chosen ++ listed (c .question .every))) (A .question-fits .apart)))
 
   -- a tuple's line: `pick`, the name of its relation, and fields that spell its places
   abbrev pub PickLine : Tuple → List (List ℕ) → Type 0
   PickLine t fs = TupleLine labels (bytes "pick") (λ u. relationAt (problemOf c) (u .relation) .name) t fs
 
   its-relation : (t : Tuple) (f : Fits t) → relationAt p (t .relation) ≡ getD chosen (f .index) noRelation
-  its-relation t f = ap (relationAt p) (f .numbered) ∙ chosen-at c A (f .index)
+  its-relation t f = ap (relationAt p) (f .numbered) ∙ chosen-at c A (f .index) (f .inside)
 
   pub line-fields : (sep : ℕ) → sep < 48 → Without sep (bytes "pick") → (t : Tuple) (fs : List (List ℕ)) → Fits t → PickLine t fs → AllWithout sep fs
   unfolding AllWithout

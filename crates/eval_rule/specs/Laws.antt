@@ -15,7 +15,8 @@ use Rattle.definitions.specs.Sheet.Relations.{builtInHolds}
 use Rattle.definitions.specs.Problem.Tree.{Tree, Part}
 use Rattle.definitions.specs.Problem.Actions.{Values, withValue}
 use Rattle.laws.specs.Lists.{any-yes, any-no, any-end, any-start}
-use Rattle.bits.specs.Table.{bit}
+use Rattle.bits.specs.Table.{digit, bit}
+use Rattle.bits.proofs.Shifts.{past-digit}
 use Rattle.rows.specs.Values.{valueIn, Within, Most}
 use Rattle.rows.specs.Laws.{set-value}
 use Rattle.problem_table.specs.Lines.{partNumber, membersIn}
@@ -320,9 +321,24 @@ module _ (facts picks : List ℕ) (n which k : ℕ) where
   unfolding literalAt
   is-fact e = rw e refl
 
-  pub is-pick : 5 ≤ which → (which ≡ 5 → ⊥) → bit picks k ≡ literalAt facts picks n which k
+  pub is-pick : which ≡ 6 → bit picks k ≡ literalAt facts picks n which k
   unfolding literalAt
-  is-pick h e = let l : 3 ≤ which = omega arith in rw (le-ltb which 3 l, le-ltb which 5 h, ne-eqb which 5 e) refl
+  is-pick e = rw e refl
+
+  pub is-value : 7 ≤ which → digit (which - 7) k ≡ literalAt facts picks n which k
+  unfolding literalAt
+  is-value h =
+      let l : 3 ≤ which = omega arith in
+      let m : 5 ≤ which = omega arith in
+      rw (le-ltb which 3 l, le-ltb which 5 m, ne-eqb which 5 (λ e. omega arith), ne-eqb which 6 (λ e. omega arith)) refl
+
+-- ---- a digit of a value
+pub digit-within : (value k : ℕ) → eqb (value / 2 ^ k % 2) 1 ≡ digit value k
+unfolding digit
+digit-within value k = refl
+
+pub digit-past : (value k : ℕ) → value < 2 ^ 64 → 64 ≤ k → false ≡ digit value k
+digit-past value k h l = sym (past-digit value 64 k h l)
 
 -- built-in relations
 module _ (n r x y : ℕ) where

@@ -2,13 +2,13 @@
 use mathlib.Core.Path.{_≡_}
 use mathlib.Core.Bool.{Bool, true, false, not}
 use mathlib.Core.List.{List, [], _∷_}
-use Prim.Native.Nat.{ℕ, _+_, _*_, _/_, _%_, _^_, _≤_, _<_}
+use Prim.Native.Nat.{ℕ, _+_, _-_, _*_, _/_, _%_, _^_, _≤_, _<_}
 use lib.Dec.{eqb, ltb}
 use lib.ListN.{length, getD}
 use Rattle.definitions.specs.Lists.{if_then_else_, any, below}
 use Rattle.definitions.specs.Sheet.Relations.{builtInHolds}
 use Rattle.definitions.specs.Problem.Actions.{Values, withValue}
-use Rattle.bits.specs.Table.{bit}
+use Rattle.bits.specs.Table.{digit, bit}
 use Rattle.problem_table.specs.Lines.{partNumber}
 use Rattle.problem_table.specs.declared.PartLine.{PartLine}
 use Rattle.eval_rule.specs.declared.NodeAt.{NodeAt}
@@ -59,7 +59,8 @@ literalAt facts picks n which k =
     if ltb which 3 then builtInHolds n which (k / n) (k % n)
     else if ltb which 5 then builtInHolds n which k 0
     else if eqb which 5 then bit facts k
-    else bit picks k
+    else if eqb which 6 then bit picks k
+    else digit (which - 7) k
 
 unfoldable pub agree : Bool → Bool → Bool
 agree true b = b

@@ -5,6 +5,7 @@ ghost use Prim.Native.Nat.{_+_, _*_, _^_, _<_, _≤_};
 ghost use lib.ListN.{length, getD};
 ghost use Rattle.definitions.specs.Sheet.Relations.{builtInHolds};
 ghost use Rattle.definitions.specs.Problem.Tree.{Tree};
+ghost use Rattle.bits.specs.Table.{digit};
 ghost use Rattle.rows.specs.Values.{valueIn, Within};
 ghost use Rattle.eval_rule.specs.Lines.{linesLength, nodeIn, partIn, lineIn, literalAt, leafAt, valueOf, agree, fixedIn, known, laterOf, SoundLines};
 ghost use Rattle.eval_rule.specs.Says.{Truth, Says, Asked, nodeOf, noValues};
@@ -27,8 +28,8 @@ pub const LINES: usize = 1479;
 
 // A node: its quantifier (0 forall, 1 exists, 2 none) and that one's level; what joins the parts under it (0 and, 1 or); the first of
 // these parts and how many there are; where the elements stand that the quantifier goes over, and how many these are. An `and` or `or`
-// right under a quantifier is one with it, so that its parts are the quantifier's own. Without a quantifier there is one turn, and one
-// will do where the level is not free in the parts.
+// right under a quantifier is one with it, so that its parts are the quantifier's own. A quantifier takes a turn for each element. A node
+// without one takes a single turn, and so does a quantifier whose level is not free in the parts.
 pub struct NodeAt {
     pub kind: usize,
     pub level: usize,
@@ -39,8 +40,8 @@ pub struct NodeAt {
     pub count: usize,
 }
 
-// A part: node `which` (tag 0), or a tuple (1) or not-tuple (2) of a built-in relation (`which` is its number), of a `rel` (5) or of
-// a `choose` (6).
+// A part: node `which` (tag 0), or a tuple (1) or not-tuple (2) of a built-in relation (`which` is its number), of a `rel` (5), of a
+// `choose` (6), or of the `every` relation where that has value `which` - 7: its tuple k is in where digit k of the value is 1.
 pub struct PartAt {
     pub tag: usize,
     pub which: usize,
@@ -108,7 +109,17 @@ fn built_in_holds(n: usize, r: usize, x: usize, y: usize) -> bool
     x + 1 == n
 }
 
-// Whether tuple k holds: a built-in one by its row, another by its bit.
+// Whether digit k of a value is 1; a value has no digit past the 63rd.
+fn value_has(value: usize, k: usize) -> bool
+    ensures { λ b. ⌜ b ≡ digit value k ⌝ }
+{
+    if k < 64 {
+        return (value >> k) % 2 == 1;
+    }
+    false
+}
+
+// Whether tuple k holds: a built-in one by its row, one of a value by its digit, another by its bit.
 fn literal_holds(facts: &[u64], picks: &[u64], n: usize, which: usize, k: usize) -> bool
     requires { ⌜ (0 < n) × (k ≤ 2 ^ 48) ⌝ }
     ensures { λ b. ⌜ b ≡ literalAt (now (facts .entry)) (now (picks .entry)) n which k ⌝ }
@@ -122,7 +133,10 @@ fn literal_holds(facts: &[u64], picks: &[u64], n: usize, which: usize, k: usize)
     if which == 5 {
         return problem_table::test(facts, k);
     }
-    problem_table::test(picks, k)
+    if which == 6 {
+        return problem_table::test(picks, k);
+    }
+    value_has(which - 7, k)
 }
 
 // Whether two answers are the same.

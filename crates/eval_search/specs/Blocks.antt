@@ -4,6 +4,7 @@ use Prim.Native.Nat.{ℕ, _+_, _-_, _*_, _/_, _%_, _^_, _<_}
 use mathlib.Core.Path.{_≡_, refl, sym, ap, ap₂, subst, _∙_}
 use mathlib.Core.Logic.{⊎-elim}
 use mathlib.Core.Bool.{Bool, true, false, _&&_}
+use mathlib.Core.Option.{none}
 use mathlib.Core.List.{List, [], _∷_, List·Memᴰ, List·Memᴰ·head, List·Memᴰ·tail, List·Memᴰ·cases-cons}
 use native.Mathlib.Omega.{arith}
 use native.Mathlib.Nat.{pow-zero}
@@ -21,6 +22,7 @@ use Rattle.laws.specs.Reader.{Accepted}
 use Rattle.laws.specs.Valued.{treeBy, byPicks, by-holds}
 use Rattle.meaning.specs.Meaning.{tree-means}
 use Rattle.meaning.specs.Grows.{Among, may-hold, fewer-kinds}
+use Rattle.eval_table.specs.Everywhere.{plain-true}
 use Rattle.eval_search.specs.Digits.{Under, same-high, none-under, under-all}
 use Rattle.eval_search.specs.Lanes.{restOf}
 
@@ -44,7 +46,8 @@ NoneIn c ts b s = (q : ℕ) → q < 2 ^ s → meets c (numbered ts (b * 2 ^ s + 
 abbrev pub mayHold : Case → List Tuple → (b s : ℕ) → Bool
 mayHold c ts b s = treeBy c (byPicks c (numbered ts (b * 2 ^ s + restOf true s)) (numbered ts (b * 2 ^ s + restOf false s))) (λ _. 0) (treeOf (c .question))
 
-module _ (c : Case) (A : Accepted c) (ts : List Tuple) where
+-- (of a case without an `every` line)
+module _ (c : Case) (A : Accepted c) (plain : c .question .every ≡ none) (ts : List Tuple) where
   module _ (b s : ℕ) where
     least-under : (q : ℕ) → q < 2 ^ s → Among (numbered ts (b * 2 ^ s + restOf false s)) (numbered ts (b * 2 ^ s + q))
     unfolding restOf
@@ -56,7 +59,7 @@ module _ (c : Case) (A : Accepted c) (ts : List Tuple) where
     none-true f q h = T-false _ (λ t. subst T f
         (may-hold c (numbered ts (b * 2 ^ s + restOf false s)) (numbered ts (b * 2 ^ s + q)) (numbered ts (b * 2 ^ s + restOf true s)) (least-under q h)
         (numbered-among ts _ _ (let p = pow-pos s in same-high b s q (2 ^ s - 1) h (omega arith) (under-all s q h))) (λ _. 0) (treeOf (c .question))
-        (subst T (sym (tree-means c (numbered ts (b * 2 ^ s + q)) A)) (T-and-r (areOfKinds c (numbered ts (b * 2 ^ s + q))) _ t))))
+        (subst T (plain-true c A plain (numbered ts (b * 2 ^ s + q)) ∙ sym (tree-means c (numbered ts (b * 2 ^ s + q)) A)) (T-and-r (areOfKinds c (numbered ts (b * 2 ^ s + q))) _ t))))
 
     -- what must be picked breaks a kind: so does each
     pub none-kept : areOfKinds c (numbered ts (b * 2 ^ s)) ≡ false → NoneIn c ts b s
@@ -71,4 +74,4 @@ module _ (c : Case) (A : Accepted c) (ts : List Tuple) where
   exact b =
       let e : b * 2 ^ 0 + (2 ^ 0 - 1) ≡ b = omega (arith, pow-zero 2) in
       let f : b * 2 ^ 0 + 0 ≡ b = omega (arith, pow-zero 2) in
-      ap₂ (λ (x y : ℕ). treeBy c (byPicks c (numbered ts x) (numbered ts y)) (λ _. 0) (treeOf (c .question))) e f ∙ by-holds c (numbered ts b) (λ _. 0) (treeOf (c .question)) ∙ tree-means c (numbered ts b) A
+      ap₂ (λ (x y : ℕ). treeBy c (byPicks c (numbered ts x) (numbered ts y)) (λ _. 0) (treeOf (c .question))) e f ∙ by-holds c (numbered ts b) (λ _. 0) (treeOf (c .question)) ∙ tree-means c (numbered ts b) A ∙ sym (plain-true c A plain (numbered ts b))

@@ -6,8 +6,8 @@ use mathlib.Core.List.{List, [], _∷_, _++_, append-nil}
 use native.Mathlib.Omega.{arith}
 use native.Mathlib.Numerals.{add-one}
 use native.Mathlib.Nat.{add-zero, zero-add}
-use borrow.Author.Tests.{ltb-true, ltb-false, eq-eqb, ne-eqb}
-use lib.Dec.{eqb, ltb}
+use borrow.Author.Tests.{ltb-true, ltb-false}
+use lib.Dec.{ltb}
 use lib.ListN.{length, take, set}
 use lib.Pow.{pow-mono}
 use lib.Seq.{take-set-le, take-suc-set}
@@ -18,11 +18,11 @@ use Rattle.bits.proofs.Digit.{digit-ext, digit-word, word-lt, num-mod}
 use Rattle.bits.proofs.Shifts.{right-digit, past-digit}
 use Rattle.problem_table.specs.Lines.{relationLine, relationPlace, relationsIn, Fits}
 use Rattle.problem_table.specs.declared.RelationLine.{RelationLine}
-use Rattle.step_picks.specs.Words.{wordsIn}
+use Rattle.step_picks.specs.Words.{isOpen, wordsIn}
 use Rattle.step_picks.specs.Copies.{countFrom, picksIn}
 
 unfoldable pub cellsIn : RelationLine → ℕ
-cellsIn x = if eqb (x .kind) 0 then zero else x .nots - x .tuples
+cellsIn x = if isOpen (x .kind) then x .nots - x .tuples else zero
 
 -- of the relations before r
 unfoldable pub cellsTo : List ℕ → ℕ → ℕ
@@ -42,19 +42,19 @@ digitsTo w cells m zero = []
 digitsTo w cells m (suc r) = digitsTo w cells m r ++ words (rowPicked cells m (cellsTo w r) (relationLine w r)) (wordsIn (relationLine w r))
 
 module _ (x : RelationLine) where
-  pub no-cells : x .kind ≡ 0 → 0 ≡ cellsIn x
+  pub no-cells : isOpen (x .kind) ≡ false → 0 ≡ cellsIn x
   unfolding cellsIn
-  no-cells e = rw (eq-eqb (x .kind) 0 e)
+  no-cells e = rw e
 
-  pub some-cells : 0 < x .kind → (k : ℕ) → k ≡ x .nots - x .tuples → k ≡ cellsIn x
+  pub some-cells : isOpen (x .kind) ≡ true → (k : ℕ) → k ≡ x .nots - x .tuples → k ≡ cellsIn x
   unfolding cellsIn
-  some-cells h k e = rw (ne-eqb (x .kind) 0 (λ z. omega arith)) e
+  some-cells h k e = rw h e
 
   pub words-are : wordsIn x ≡ wordsFor (cellsIn x)
   unfolding wordsIn cellsIn wordsFor
-  words-are = by-test (eqb (x .kind) 0)
+  words-are = by-test (isOpen (x .kind))
     where
-      by-test : (b : Bool) → (if b then zero else (x .nots - x .tuples + 63) / 64) ≡ ((if b then zero else x .nots - x .tuples) + 63) / 64
+      by-test : (b : Bool) → (if b then (x .nots - x .tuples + 63) / 64 else zero) ≡ ((if b then x .nots - x .tuples else zero) + 63) / 64
       by-test true = refl
       by-test false = refl
 
@@ -115,9 +115,9 @@ module _ (w : List ℕ) where
 -- the cells of a table are not many
 cells-le : (x : RelationLine) → x .nots ≤ 2 ^ 32 → cellsIn x ≤ 2 ^ 32
 unfolding cellsIn
-cells-le x h = by-test (eqb (x .kind) 0)
+cells-le x h = by-test (isOpen (x .kind))
   where
-    by-test : (b : Bool) → (if b then zero else x .nots - x .tuples) ≤ 2 ^ 32
+    by-test : (b : Bool) → (if b then x .nots - x .tuples else zero) ≤ 2 ^ 32
     by-test true = omega arith
     by-test false = omega arith
 

@@ -40,14 +40,15 @@ unfoldable pub told : Least → Option ℕ
 told Nothing = none
 told (Number m) = some m
 
--- the table is that of a case; the lines and the facts are too
+-- the table is that of a case without an `every` line; the lines and the facts are too
 pub record Sought (c : Case) (table : List ℕ) : Type 0 where
   pub accepted-case : Accepted c
+  pub no-every : c .question .every ≡ none
   pub is : Is (bare (problemOf c)) table
 
 pub record Asks (c : Case) (n : ℕ) (table lines facts : List ℕ) : Type 0 where
   pub sought : Sought c table
-  pub lines-of : LinesOf c n lines
+  pub lines-of : LinesOf c n 0 lines
   pub facts-in : FactsIn (problemOf c) facts
 
 abbrev pub cellsOf : Case → List Tuple
@@ -140,7 +141,7 @@ here-top : (top level : ℕ) → top / 64 ^ (level - level) ≡ top
 here-top top level = let e : level - level ≡ 0 = omega arith in ap (λ (x : ℕ). top / 64 ^ x) e ∙ ap (λ (x : ℕ). top / x) (pow-zero 64) ∙ div-one top
 
 -- ---- what a step adds
-module _ (c : Case) (A : Accepted c) (ts : List Tuple) where
+module _ (c : Case) (A : Accepted c) (plain : c .question .every ≡ none) (ts : List Tuple) where
   -- nothing is known of the levels above the first
   pub kept-none : (top level : ℕ) (kept : List ℕ) → ((i : ℕ) → i ≤ 3 → getD kept i 0 ≡ full) → Kept c ts (level + 1) top level kept
   unfolding spreadOf
@@ -166,8 +167,8 @@ module _ (c : Case) (A : Accepted c) (ts : List Tuple) where
         where
           own : KeptAt c ts (top * 64 + j) level (digit w j)
           own = record {
-            out = λ e. none-true c A ts (top * 64 + j) (6 * level) (sym (is j l) ∙ e);
-            true-of = λ z e. sym (exact c A ts (top * 64 + j)) ∙ ap (λ (x : ℕ). mayHold c ts (top * 64 + j) (6 * x)) (sym z) ∙ sym (is j l) ∙ e;
+            out = λ e. none-true c A plain ts (top * 64 + j) (6 * level) (sym (is j l) ∙ e);
+            true-of = λ z e. sym (exact c A plain ts (top * 64 + j)) ∙ ap (λ (x : ℕ). mayHold c ts (top * 64 + j) (6 * x)) (sym z) ∙ sym (is j l) ∙ e;
           }
       by-level (no e) = subst (λ (x : ℕ). KeptAt c ts (top / 64 ^ (i - level) * 64 + j) i (digit x j)) (sym (getD-set-other kept level i w 0 e)) (above i j (omega arith) b k l)
 
@@ -193,7 +194,7 @@ module _ (c : Case) (A : Accepted c) (ts : List Tuple) where
       broken f = subst (λ (x : ℕ). NoneBelow c ts (x * 2 ^ (6 * level))) (let e : top * 64 + lane + 1 ≡ top * 64 + (lane + 1) = omega arith in e)
           (skip-runs c ts (top * 64 + lane) 0 1 (6 * level) (omega arith)
           (subst (λ (x : ℕ). NoneBelow c ts (x * 2 ^ (6 * level))) (let e : top * 64 + lane ≡ top * 64 + lane + 0 = omega arith in e) passed)
-          (λ j a b. subst (λ (x : ℕ). NoneIn c ts x (6 * level)) (let e : top * 64 + lane ≡ top * 64 + lane + j = omega arith in e) (none-kept c A ts (top * 64 + lane) (6 * level) f)))
+          (λ j a b. subst (λ (x : ℕ). NoneIn c ts x (6 * level)) (let e : top * 64 + lane ≡ top * 64 + lane + j = omega arith in e) (none-kept c A plain ts (top * 64 + lane) (6 * level) f)))
 
       -- a run that is one number
       pub found : level ≡ 0 → areOfKinds c (numbered ts (runStart top lane level)) ≡ true → digit (getD kept level 0) lane ≡ true → meets c (numbered ts (runStart top lane level)) ≡ true
@@ -325,8 +326,8 @@ module _ (s : Spot) (p : Placed s) (h : startOf s < 2 ^ 20) (lane : ℕ) (x : Ne
     };
     falls = λ _. up-falls e;
     searched = λ c a i. record {
-      before = climbed c (a .sought .accepted-case) (cellsOf c) (s .top) (s .lane) lane (s .level) (s .kept) low (x .from-there) (x .most) (i .before) (i .known) (x .out) e;
-      known = climbed-known c (a .sought .accepted-case) (cellsOf c) (s .top) (s .lane) lane (s .level) (s .kept) low (x .from-there) (x .most) (i .before) (i .known) (x .out);
+      before = climbed c (a .sought .accepted-case) (a .sought .no-every) (cellsOf c) (s .top) (s .lane) lane (s .level) (s .kept) low (x .from-there) (x .most) (i .before) (i .known) (x .out) e;
+      known = climbed-known c (a .sought .accepted-case) (a .sought .no-every) (cellsOf c) (s .top) (s .lane) lane (s .level) (s .kept) low (x .from-there) (x .most) (i .before) (i .known) (x .out);
     };
     meant = λ c a i t. absurd (T-of t);
   }
@@ -350,7 +351,7 @@ module _ (s : Spot) (p : Placed s) (h : startOf s < 2 ^ 20) (lane : ℕ) (x : Ne
           let d = phase-le (lane + 1) (s .level) (let q = low in omega arith) in
           omega arith;
       searched = λ c a i. record {
-        before = broken c (a .sought .accepted-case) (cellsOf c) (s .top) (s .lane) lane (s .level) (s .kept) low (x .from-there) (x .most) (i .before) (i .known) (x .out) l (sym (kinds c (a .sought)));
+        before = broken c (a .sought .accepted-case) (a .sought .no-every) (cellsOf c) (s .top) (s .lane) lane (s .level) (s .kept) low (x .from-there) (x .most) (i .before) (i .known) (x .out) l (sym (kinds c (a .sought)));
         known = i .known;
       };
       meant = λ c a i t. absurd (T-of t);
@@ -365,10 +366,10 @@ module _ (s : Spot) (p : Placed s) (h : startOf s < 2 ^ 20) (lane : ℕ) (x : Ne
       placed = record { lanes = x .most; levels = omega arith; done = λ k. absurd (omega arith); near = let r = run-near in omega arith };
       falls = λ f. absurd (T-of (sym f));
       searched = λ c a i. record {
-        before = passed c (a .sought .accepted-case) (cellsOf c) (s .top) (s .lane) lane (s .level) (s .kept) low (x .from-there) (x .most) (i .before) (i .known) (x .out);
+        before = passed c (a .sought .accepted-case) (a .sought .no-every) (cellsOf c) (s .top) (s .lane) lane (s .level) (s .kept) low (x .from-there) (x .most) (i .before) (i .known) (x .out);
         known = i .known;
       };
-      meant = λ c a i t. found c (a .sought .accepted-case) (cellsOf c) (s .top) (s .lane) lane (s .level) (s .kept) low (x .from-there) (x .most) (i .before) (i .known) (x .out) l z (sym (kinds c (a .sought))) (x .is-set l);
+      meant = λ c a i t. found c (a .sought .accepted-case) (a .sought .no-every) (cellsOf c) (s .top) (s .lane) lane (s .level) (s .kept) low (x .from-there) (x .most) (i .before) (i .known) (x .out) l z (sym (kinds c (a .sought))) (x .is-set l);
     }
 
     -- in
@@ -392,8 +393,8 @@ module _ (s : Spot) (p : Placed s) (h : startOf s < 2 ^ 20) (lane : ℕ) (x : Ne
           let g = ap₂ phase (e .lane) (e .level) in
           omega arith;
       searched = λ c a i. e .searched c a
-          (entered c (a .sought .accepted-case) (cellsOf c) (s .top) (s .lane) lane (s .level) (s .kept) low (x .from-there) (x .most) (i .before) (i .known) (x .out) l k)
-          (entered-known c (a .sought .accepted-case) (cellsOf c) (s .top) (s .lane) lane (s .level) (s .kept) low (x .from-there) (x .most) (i .before) (i .known) (x .out) l k);
+          (entered c (a .sought .accepted-case) (a .sought .no-every) (cellsOf c) (s .top) (s .lane) lane (s .level) (s .kept) low (x .from-there) (x .most) (i .before) (i .known) (x .out) l k)
+          (entered-known c (a .sought .accepted-case) (a .sought .no-every) (cellsOf c) (s .top) (s .lane) lane (s .level) (s .kept) low (x .from-there) (x .most) (i .before) (i .known) (x .out) l k);
       meant = λ c a i f. absurd (T-of (sym (e .found) ∙ f));
     }
       where
@@ -405,7 +406,7 @@ pub first-searched : (n : ℕ) (table lines facts : List ℕ) (level : ℕ) (kep
     → (c : Case) → Asks c n table lines facts → Searched c (cellsOf c) t
 first-searched n table lines facts level kept f t e c a = e .searched c a
     (subst (NoneBelow c (cellsOf c)) (let z : 0 ≡ (0 * 64 + 0) * 2 ^ (6 * level) = omega arith in z) (none-yet c (cellsOf c)))
-    (kept-none c (a .sought .accepted-case) (cellsOf c) 0 level kept f)
+    (kept-none c (a .sought .accepted-case) (a .sought .no-every) (cellsOf c) 0 level kept f)
 
 pub first-placed : (n : ℕ) (table lines facts : List ℕ) (level : ℕ) (kept : List ℕ) → level ≤ 3 → (t : Spot) → Entered n table lines facts (record { top = 0; lane = 0; level = level; found = false; kept = kept }) t → Placed t
 first-placed n table lines facts level kept h t e =

@@ -4,8 +4,8 @@ use mathlib.Core.Path.{_≡_, refl, sym, ap, ap₂, subst, _∙_, fun-ext}
 use mathlib.Core.Bool.{Bool, true, false, not, _&&_}
 use mathlib.Core.List.{List, [], _∷_, _++_, append-nil, append-assoc}
 use native.Mathlib.Omega.{arith}
-use borrow.Author.Tests.{eqb-true, eqb-false, ltb-true}
-use lib.Dec.{T, eqb, ltb}
+use borrow.Author.Tests.{ltb-true}
+use lib.Dec.{T, ltb}
 use lib.ListN.{length, getD, take}
 use Rattle.definitions.specs.Lists.{if_then_else_, filter, flatMap, from, below}
 use Rattle.definitions.specs.Sheet.Relations.{Tuple, isChosen}
@@ -21,7 +21,7 @@ use Rattle.meaning.specs.Lent.{words-of}
 use Rattle.problem_table.specs.Lines.{relationsIn, relationLine}
 use Rattle.problem_table.specs.Of.{Is}
 use Rattle.step_picks.specs.Words.{wordStart, wordsIn, PicksAre}
-use Rattle.step_picks.specs.WordLaws.{is-chosen, is-static, tuples-are}
+use Rattle.step_picks.specs.WordLaws.{is-open, tuples-are}
 use Rattle.step_picks.specs.CopyLaws.{picks-in}
 use Rattle.step_picks.specs.Picked.{front-picks}
 use Rattle.problem_relations.specs.Bare.{bare, length-same}
@@ -57,13 +57,7 @@ module _ (p : Problem) (w : List ℕ) (is : Is (bare p) w) where
   -- a line's cells are the relation's
   line-cells : (r : ℕ) → r < length (p .relations) → cellsIn (relationLine w r) ≡ cellCount p r
   unfolding cellsIn cellCount bare relationAt tuplesOf
-  line-cells r l = by-test (eqb (relationLine w r .kind) 0) refl
-    where
-      by-test : (b : Bool) → eqb (relationLine w r .kind) 0 ≡ b → (if b then zero else relationLine w r .nots - relationLine w r .tuples) ≡ (if chosen r then tuplesOf (p .size) (relationAt p r) else zero)
-      by-test true e = rw (is-static (bare p) w is r l (relationLine w r) refl (eqb-true (relationLine w r .kind) 0 e))
-      by-test false e =
-          let h = eqb-false (relationLine w r .kind) 0 e in
-          rw (is-chosen (bare p) w is r l (relationLine w r) refl (omega arith)) (tuples-are (bare p) w is r l (relationLine w r) refl _ refl)
+  line-cells r l = ap₂ (λ (b : Bool) (x : ℕ). if b then x else zero) (is-open (bare p) w is r l (relationLine w r) refl) (tuples-are (bare p) w is r l (relationLine w r) refl _ refl)
 
   line-words : (r : ℕ) → r < length (p .relations) → wordsIn (relationLine w r) ≡ (if chosen r then relationWords p r else zero)
   unfolding relationWords wordsFor cellCount

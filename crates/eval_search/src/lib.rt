@@ -89,14 +89,14 @@ fn fill_rows(words: &mut [u64], at: usize, count: usize, lanes: Lanes, left: usi
     }
 }
 
-// How many cells a relation has.
+// How many cells a relation has: one that is not of a `choose` line has none.
 fn cells_in(line: RelationLine) -> usize
     ensures { λ r. ⌜ r ≡ cellsIn line ⌝ }
 {
-    if line.kind == 0 {
-        return 0;
+    if step_picks::is_chosen(line.kind) {
+        return step_picks::tuples_in(line);
     }
-    step_picks::tuples_in(line)
+    0
 }
 
 // How many cells there are.

@@ -23,7 +23,7 @@ unfoldable pub factWords : (r words : ℕ) → ℕ
 factWords r words = if ltb r 5 then zero else words
 
 unfoldable pub chooseWords : (kind words : ℕ) → ℕ
-chooseWords kind words = if eqb kind 0 then zero else words
+chooseWords kind words = if eqb kind 0 then zero else if eqb kind 6 then zero else words
 
 unfoldable pub factSum : ℕ → Relations → ℕ → ℕ
 factSum n g zero = zero
@@ -33,19 +33,20 @@ unfoldable pub chooseSum : ℕ → Relations → ℕ → ℕ
 chooseSum n g zero = zero
 chooseSum n g (suc r) = chooseSum n g r + chooseWords (getD (g .kind) r 0) (wordsFor (n ^ getD (g .arity) r 0))
 
--- where the tuples of a relation are: a built-in one by its number, a `rel` among facts (5), a `choose` among picks (6); the first bit
-unfoldable pub sourceOf : (r kind : ℕ) → ℕ
-sourceOf r kind = if ltb r 5 then r else if eqb kind 0 then 5 else 6
+-- where the tuples of a relation are: a built-in one by its number, a `rel` among facts (5), a `choose` among picks (6), that of an `every` line
+-- in its value (7 and that); the first bit
+unfoldable pub sourceOf : (value r kind : ℕ) → ℕ
+sourceOf value r kind = if ltb r 5 then r else if eqb kind 0 then 5 else if eqb kind 6 then 7 + value else 6
 
 unfoldable pub firstBit : (r kind facts picks : ℕ) → ℕ
-firstBit r kind facts picks = if ltb r 5 then zero else if eqb kind 0 then 64 * facts else 64 * picks
+firstBit r kind facts picks = if ltb r 5 then zero else if eqb kind 0 then 64 * facts else if eqb kind 6 then zero else 64 * picks
 
 abbrev pub bitOf : ℕ → Relations → ℕ → ℕ
 bitOf n g r = firstBit r (getD (g .kind) r 0) (factSum n g r) (chooseSum n g r)
 
 -- the line of a part
-unfoldable pub partOf : Relations → PartRow → PartAt
-partOf g q = if ltb (q .tag) 2 then record { tag = suc (q .tag); which = sourceOf (q .which) (getD (g .kind) (q .which) 0) } else record { tag = 0; which = q .which }
+unfoldable pub partOf : ℕ → Relations → PartRow → PartAt
+partOf value g q = if ltb (q .tag) 2 then record { tag = suc (q .tag); which = sourceOf value (q .which) (getD (g .kind) (q .which) 0) } else record { tag = 0; which = q .which }
 
 unfoldable pub lineOf : ℕ → Relations → PartRow → PartLine
 lineOf n g q =
@@ -73,13 +74,13 @@ blockLine turns x q y =
 unfoldable pub nodeOf : ℕ → Nodes → NodeRow → NodeAt
 nodeOf count t x = let q = getD (t .parts) (x .first) noPart in blockLine (turnsOf count (x .level) q) x q (getD (t .rows) (q .which) noNode)
 
--- the lines are those of the table, with the ranges of k types and the counts of all sorts; past the last node stand zeros
-pub record Lined (n : ℕ) (members : List ℕ) (k : ℕ) (counts : List ℕ) (g : Relations) (t : Nodes) (w : List ℕ) : Type 0 where
+-- the lines are those of the table, for a value of the `every` relation, with the ranges of k types and the counts of all sorts; past the last node stand zeros
+pub record Lined (n value : ℕ) (members : List ℕ) (k : ℕ) (counts : List ℕ) (g : Relations) (t : Nodes) (w : List ℕ) : Type 0 where
   pub whole : length w ≡ linesLength
   pub entry : (i : ℕ) → getD w i 0 ≤ 2 ^ 32
   pub node : (v : ℕ) → v < t .count → nodeIn w v ≡ nodeOf (countAt counts t v) t (getD (t .rows) v noNode)
   pub rest : (v : ℕ) → t .count ≤ v → v < 64 → nodeIn w v ≡ record { kind = 0; level = 0; join = 0; first = 0; many = 0; range = 0; count = 0 }
-  pub part : (i : ℕ) → i < t .placed → (partIn w i ≡ partOf g (getD (t .parts) i noPart)) × (lineIn w i ≡ lineOf n g (getD (t .parts) i noPart))
-  pub top : (partIn w 64 ≡ partOf g (t .root)) × (lineIn w 64 ≡ lineOf n g (t .root))
+  pub part : (i : ℕ) → i < t .placed → (partIn w i ≡ partOf value g (getD (t .parts) i noPart)) × (lineIn w i ≡ lineOf n g (getD (t .parts) i noPart))
+  pub top : (partIn w 64 ≡ partOf value g (t .root)) × (lineIn w 64 ≡ lineOf n g (t .root))
   pub range : (s i : ℕ) → s ≤ k → i < length (rangeBy n members s) → getD w (rangePlace s + i) 0 ≡ getD (rangeBy n members s) i 0
   pub low : (i : ℕ) → rangesPlace ≤ i → getD w i 0 < n

@@ -8,7 +8,7 @@ use native.Mathlib.Numerals.{add-one}
 use native.Mathlib.Decide.{decLt}
 use borrow.Author.Tests.{lt-ltb, le-ltb, eq-eqb, ne-eqb, ltb-true, ltb-false}
 use lib.Dec.{eqb, ltb}
-use lib.ListN.{length, getD, take, set}
+use lib.ListN.{length, getD, take, set, replicate}
 use lib.Seq.{getD-set-same, getD-set-other}
 use Rattle.definitions.specs.Lists.{if_then_else_, any}
 use Rattle.definitions.specs.Problem.Atoms.{wordsFor, problemOf}
@@ -33,8 +33,8 @@ use Rattle.eval_rule.specs.Lines.{rangesPlace, rangePlace, linesLength, nodeIn,
 use Rattle.eval_rule.specs.declared.NodeAt.{NodeAt}
 use Rattle.eval_table.specs.Lined.{factWords, chooseWords, factSum, chooseSum, sourceOf, firstBit, bitOf, partOf, lineOf, turnsOf, ownLine, blockLine, nodeOf, Lined}
 
--- the lines are those of a case's rule
-pub record LinesOf (c : Case) (n : ℕ) (w : List ℕ) : Type 0 where
+-- the lines are those of a case's rule, for a value of its `every` relation
+pub record LinesOf (c : Case) (n value : ℕ) (w : List ℕ) : Type 0 where
   pub relations : Relations
   pub nodes : Nodes
   pub some : 0 < n
@@ -45,37 +45,38 @@ pub record LinesOf (c : Case) (n : ℕ) (w : List ℕ) : Type 0 where
   pub counted : RangesAre n members types ranges
   pub inputs : Inputs (problemOf c) n members types relations nodes
   pub fits : Fits nodes
-  pub lined : Lined n members types (ranges .count) relations nodes w
+  pub lined : Lined n value members types (ranges .count) relations nodes w
 
 -- ... of some accepted one
 pub record OfCase (n : ℕ) (w : List ℕ) : Type 0 where
   pub case : Case
   pub accepted : Accepted case
-  pub lines : LinesOf case n w
+  pub value : ℕ
+  pub lines : LinesOf case n value w
 
 abbrev pub nodeNumbers : NodeAt → List ℕ
 nodeNumbers x = x .kind ∷ x .level ∷ x .join ∷ x .first ∷ x .many ∷ x .range ∷ x .count ∷ []
 
-unfoldable pub partNumbers : ℕ → (kinds bits : List ℕ) → PartRow → List ℕ
-partNumbers n kinds bits q =
+unfoldable pub partNumbers : (n value : ℕ) → (kinds bits : List ℕ) → PartRow → List ℕ
+partNumbers n value kinds bits q =
     let w = weightOf n (take (q .width) (q .levels)) in
-    if ltb (q .tag) 2 then suc (q .tag) ∷ sourceOf (q .which) (getD kinds (q .which) 0) ∷ getD bits (q .which) 0 ∷ w 0 ∷ w 1 ∷ w 2 ∷ w 3 ∷ []
+    if ltb (q .tag) 2 then suc (q .tag) ∷ sourceOf value (q .which) (getD kinds (q .which) 0) ∷ getD bits (q .which) 0 ∷ w 0 ∷ w 1 ∷ w 2 ∷ w 3 ∷ []
     else 0 ∷ q .which ∷ 0 ∷ w 0 ∷ w 1 ∷ w 2 ∷ w 3 ∷ []
 
 -- the line of a part as a list
-abbrev pub partList : ℕ → Relations → PartRow → List ℕ
-partList n g q =
-    partOf g q .tag ∷ partOf g q .which ∷ lineOf n g q .start ∷ getD (lineOf n g q .weights) 0 0 ∷ getD (lineOf n g q .weights) 1 0 ∷ getD (lineOf n g q .weights) 2 0 ∷ getD (lineOf n g q .weights) 3 0 ∷ []
+abbrev pub partList : (n value : ℕ) → Relations → PartRow → List ℕ
+partList n value g q =
+    partOf value g q .tag ∷ partOf value g q .which ∷ lineOf n g q .start ∷ getD (lineOf n g q .weights) 0 0 ∷ getD (lineOf n g q .weights) 1 0 ∷ getD (lineOf n g q .weights) 2 0 ∷ getD (lineOf n g q .weights) 3 0 ∷ []
 
 abbrev pub nodeLines : List ℕ → Nodes → ℕ → List ℕ
 nodeLines counts t v = nodeNumbers (nodeOf (countAt counts t v) t (getD (t .rows) v noNode))
 
-abbrev pub partLines : ℕ → Relations → Nodes → ℕ → List ℕ
-partLines n g t i = partList n g (getD (t .parts) i noPart)
+abbrev pub partLines : (n value : ℕ) → Relations → Nodes → ℕ → List ℕ
+partLines n value g t i = partList n value g (getD (t .parts) i noPart)
 
 -- the first bit of each relation
 abbrev pub Bits : ℕ → Relations → List ℕ → Type 0
-Bits n g bits = (r : ℕ) → r < 17 → getD bits r 0 ≡ bitOf n g r
+Bits n g bits = (r : ℕ) → r < 18 → getD bits r 0 ≡ bitOf n g r
 
 -- ---- returns
 pub bit-low : (r kind f p : ℕ) → r < 5 → 0 ≡ firstBit r kind f p
@@ -86,9 +87,13 @@ pub bit-fact : (r kind f p : ℕ) → 5 ≤ r → kind ≡ 0 → 64 * f ≡ firs
 unfolding firstBit
 bit-fact r kind f p h e = rw (le-ltb r 5 h, e) refl
 
-pub bit-choose : (r kind f p : ℕ) → 5 ≤ r → (kind ≡ 0 → ⊥) → 64 * p ≡ firstBit r kind f p
+pub bit-every : (r kind f p : ℕ) → 5 ≤ r → kind ≡ 6 → 0 ≡ firstBit r kind f p
 unfolding firstBit
-bit-choose r kind f p h e = rw (le-ltb r 5 h, ne-eqb kind 0 e) refl
+bit-every r kind f p h e = rw (le-ltb r 5 h, e) refl
+
+pub bit-choose : (r kind f p : ℕ) → 5 ≤ r → (kind ≡ 0 → ⊥) → (kind ≡ 6 → ⊥) → 64 * p ≡ firstBit r kind f p
+unfolding firstBit
+bit-choose r kind f p h e u = rw (le-ltb r 5 h, ne-eqb kind 0 e, ne-eqb kind 6 u) refl
 
 pub fact-low : (r w : ℕ) → r < 5 → 0 ≡ factWords r w
 unfolding factWords
@@ -102,21 +107,30 @@ pub choose-none : (k w : ℕ) → k ≡ 0 → 0 ≡ chooseWords k w
 unfolding chooseWords
 choose-none k w h = rw h refl
 
-pub choose-all : (k w : ℕ) → (k ≡ 0 → ⊥) → w ≡ chooseWords k w
+pub choose-every : (k w : ℕ) → k ≡ 6 → 0 ≡ chooseWords k w
 unfolding chooseWords
-choose-all k w h = rw (ne-eqb k 0 h) refl
+choose-every k w h = rw h refl
 
-pub source-low : (r k : ℕ) → r < 5 → r ≡ sourceOf r k
-unfolding sourceOf
-source-low r k h = rw (lt-ltb r 5 h) refl
+pub choose-all : (k w : ℕ) → (k ≡ 0 → ⊥) → (k ≡ 6 → ⊥) → w ≡ chooseWords k w
+unfolding chooseWords
+choose-all k w h u = rw (ne-eqb k 0 h, ne-eqb k 6 u) refl
 
-pub source-fact : (r k : ℕ) → 5 ≤ r → k ≡ 0 → 5 ≡ sourceOf r k
-unfolding sourceOf
-source-fact r k h e = rw (le-ltb r 5 h, e) refl
+module _ (value r k : ℕ) where
+  pub source-low : r < 5 → r ≡ sourceOf value r k
+  unfolding sourceOf
+  source-low h = rw (lt-ltb r 5 h) refl
 
-pub source-choose : (r k : ℕ) → 5 ≤ r → (k ≡ 0 → ⊥) → 6 ≡ sourceOf r k
-unfolding sourceOf
-source-choose r k h e = rw (le-ltb r 5 h, ne-eqb k 0 e) refl
+  pub source-fact : 5 ≤ r → k ≡ 0 → 5 ≡ sourceOf value r k
+  unfolding sourceOf
+  source-fact h e = rw (le-ltb r 5 h, e) refl
+
+  pub source-every : 5 ≤ r → k ≡ 6 → 7 + value ≡ sourceOf value r k
+  unfolding sourceOf
+  source-every h e = rw (le-ltb r 5 h, e) refl
+
+  pub source-choose : 5 ≤ r → (k ≡ 0 → ⊥) → (k ≡ 6 → ⊥) → 6 ≡ sourceOf value r k
+  unfolding sourceOf
+  source-choose h e u = rw (le-ltb r 5 h, ne-eqb k 0 e, ne-eqb k 6 u) refl
 
 pub seven-most : (a b c d e f g : ℕ) → a ≤ 2 ^ 32 → b ≤ 2 ^ 32 → c ≤ 2 ^ 32 → d ≤ 2 ^ 32 → e ≤ 2 ^ 32 → f ≤ 2 ^ 32 → g ≤ 2 ^ 32
     → Most (a ∷ b ∷ c ∷ d ∷ e ∷ f ∷ g ∷ []) (2 ^ 32)
@@ -258,20 +272,20 @@ bits-next n g bits r b f p l a q e h u k = from-this (decLt u r)
         rw x (getD-set-same bits r b 0 l ∙ e ∙ ap₂ (firstBit r (getD (g .kind) r 0)) a q)
 
 -- ---- a part's line
-pub part-literal : (n : ℕ) (kinds bits : List ℕ) (q : PartRow) (a b d t s : ℕ) (w : List ℕ) → q .tag < 2 → (a ≡ q .which) × (a < 256) → (b ≡ q .width) × (b < 256) → (t ≡ q .tag) × (t < 256) → (s ≡ sourceOf a (getD kinds a 0)) × (s ≤ 6)
+pub part-literal : (n value : ℕ) (kinds bits : List ℕ) (q : PartRow) (a b d t s : ℕ) (w : List ℕ) → q .tag < 2 → (a ≡ q .which) × (a < 256) → (b ≡ q .width) × (b < 256) → (t ≡ q .tag) × (t < 256) → (s ≡ sourceOf value a (getD kinds a 0)) × (s ≤ 262)
     → valueIn w ≡ weightOf n (take b (q .levels)) → Most w (65 ^ 4) → Most bits (2 ^ 32)
-    → ((t + 1) ∷ s ∷ getD bits a 0 ∷ getD w 0 0 ∷ getD w 1 0 ∷ getD w 2 0 ∷ getD w 3 0 ∷ [] ≡ partNumbers n kinds bits q) × Most ((t + 1) ∷ s ∷ getD bits a 0 ∷ getD w 0 0 ∷ getD w 1 0 ∷ getD w 2 0 ∷ getD w 3 0 ∷ []) (2 ^ 32)
+    → ((t + 1) ∷ s ∷ getD bits a 0 ∷ getD w 0 0 ∷ getD w 1 0 ∷ getD w 2 0 ∷ getD w 3 0 ∷ [] ≡ partNumbers n value kinds bits q) × Most ((t + 1) ∷ s ∷ getD bits a 0 ∷ getD w 0 0 ∷ getD w 1 0 ∷ getD w 2 0 ∷ getD w 3 0 ∷ []) (2 ^ 32)
 unfolding partNumbers valueIn
-part-literal n kinds bits q a b d t s w h e f i j v m o =
+part-literal n value kinds bits q a b d t s w h e f i j v m o =
     let z : (l : ℕ) → getD w l 0 ≡ weightOf n (take (q .width) (q .levels)) l = λ l. ap (λ (x : Values). x l) v ∙ ap (λ (k : ℕ). weightOf n (take k (q .levels)) l) (f .0) in (
       rw (lt-ltb (q .tag) 2 h, z 0, z 1, z 2, z 3, j .0, e .0, i .0, add-one) refl,
       each-most (2 ^ 32) ((t + 1) ∷ s ∷ getD bits a 0 ∷ getD w 0 0 ∷ getD w 1 0 ∷ getD w 2 0 ∷ getD w 3 0 ∷ []) (omega arith, (omega arith, (o a, (omega (arith, m 0), (omega (arith, m 1), (omega (arith, m 2), (omega (arith, m 3), tt))))))),
     )
 
-pub part-node : (n : ℕ) (kinds bits : List ℕ) (q : PartRow) (a b : ℕ) (w : List ℕ) → 2 ≤ q .tag → Wide a (q .which) → Wide b (q .width) → valueIn w ≡ weightOf n (take b (q .levels)) → Most w (65 ^ 4)
-    → (0 ∷ a ∷ 0 ∷ getD w 0 0 ∷ getD w 1 0 ∷ getD w 2 0 ∷ getD w 3 0 ∷ [] ≡ partNumbers n kinds bits q) × Most (0 ∷ a ∷ 0 ∷ getD w 0 0 ∷ getD w 1 0 ∷ getD w 2 0 ∷ getD w 3 0 ∷ []) (2 ^ 32)
+pub part-node : (n value : ℕ) (kinds bits : List ℕ) (q : PartRow) (a b : ℕ) (w : List ℕ) → 2 ≤ q .tag → Wide a (q .which) → Wide b (q .width) → valueIn w ≡ weightOf n (take b (q .levels)) → Most w (65 ^ 4)
+    → (0 ∷ a ∷ 0 ∷ getD w 0 0 ∷ getD w 1 0 ∷ getD w 2 0 ∷ getD w 3 0 ∷ [] ≡ partNumbers n value kinds bits q) × Most (0 ∷ a ∷ 0 ∷ getD w 0 0 ∷ getD w 1 0 ∷ getD w 2 0 ∷ getD w 3 0 ∷ []) (2 ^ 32)
 unfolding partNumbers valueIn
-part-node n kinds bits q a b w h e f v m =
+part-node n value kinds bits q a b w h e f v m =
     let z : (l : ℕ) → getD w l 0 ≡ weightOf n (take (q .width) (q .levels)) l = λ l. ap (λ (x : Values). x l) v ∙ ap (λ (k : ℕ). weightOf n (take k (q .levels)) l) (f .0) in (
       rw (le-ltb (q .tag) 2 h, z 0, z 1, z 2, z 3, e .0) refl,
       seven-most 0 a 0 (getD w 0 0) (getD w 1 0) (getD w 2 0) (getD w 3 0) (omega arith) (omega arith) (omega arith) (omega (arith, m 0)) (omega (arith, m 1)) (omega (arith, m 2)) (omega (arith, m 3)),
@@ -281,51 +295,16 @@ pub sums-none : (n : ℕ) (g : Relations) → (0 ≡ factSum n g 0) × (0 ≡ ch
 unfolding factSum chooseSum
 sums-none n g = (refl, refl)
 
-pub zeros-most : Most (0 ∷ 0 ∷ 0 ∷ 0 ∷ 0 ∷ 0 ∷ 0 ∷ 0 ∷ 0 ∷ 0 ∷ 0 ∷ 0 ∷ 0 ∷ 0 ∷ 0 ∷ 0 ∷ 0 ∷ []) (2 ^ 32)
-zeros-most =
-    each-most (2 ^ 32) (0 ∷ 0 ∷ 0 ∷ 0 ∷ 0 ∷ 0 ∷ 0 ∷ 0 ∷ 0 ∷ 0 ∷ 0 ∷ 0 ∷ 0 ∷ 0 ∷ 0 ∷ 0 ∷ 0 ∷ []) (
-      omega arith,
-      (
-        omega arith,
-        (
-          omega arith,
-          (
-            omega arith,
-            (
-              omega arith,
-              (
-                omega arith,
-                (
-                  omega arith,
-                  (
-                    omega arith,
-                    (
-                      omega arith,
-                      (
-                        omega arith,
-                        (
-                          omega arith,
-                          (
-                            omega arith,
-                            (omega arith, (omega arith, (omega arith, (omega arith, (omega arith, tt))))),
-                          ),
-                        ),
-                      ),
-                    ),
-                  ),
-                ),
-              ),
-            ),
-          ),
-        ),
-      ),
-    )
+pub zeros-most : (k : ℕ) → Most (replicate k 0) (2 ^ 32)
+zeros-most zero i = omega arith
+zeros-most (suc k) zero = omega arith
+zeros-most (suc k) (suc i) = zeros-most k i
 
-pub part-list : (n : ℕ) (g : Relations) (bits line : List ℕ) (q : PartRow) → Bits n g bits → PartFits q → (line ≡ partNumbers n (g .kind) bits q) × Most line (2 ^ 32) → (line ≡ partList n g q) × Most line (2 ^ 32)
+pub part-list : (n value : ℕ) (g : Relations) (bits line : List ℕ) (q : PartRow) → Bits n g bits → PartFits q → (line ≡ partNumbers n value (g .kind) bits q) × Most line (2 ^ 32) → (line ≡ partList n value g q) × Most line (2 ^ 32)
 unfolding partNumbers partOf lineOf
-part-list n g bits line q b f e = (e .0 ∙ by-test (ltb (q .tag) 2) refl, e .1)
+part-list n value g bits line q b f e = (e .0 ∙ by-test (ltb (q .tag) 2) refl, e .1)
   where
-    by-test : (z : Bool) → ltb (q .tag) 2 ≡ z → partNumbers n (g .kind) bits q ≡ partList n g q
+    by-test : (z : Bool) → ltb (q .tag) 2 ≡ z → partNumbers n value (g .kind) bits q ≡ partList n value g q
     by-test true k = rw (k, b (q .which) (f .relation (ltb-true (q .tag) 2 k))) refl
     by-test false k = rw k refl
 
@@ -335,20 +314,20 @@ pub node-turn : (counts : List ℕ) (t : Nodes) (w d z : List ℕ) (v : ℕ) (li
 node-turn counts t w d z v line len h a b e =
     tab-next (nodeLines counts t) 7 (λ i. refl) 0 v line w d z (omega arith) a b (e ∙ ap (λ (k : ℕ). splice k line w) (sym (zero-add (7 * v))))
 
-pub part-turn : (n : ℕ) (g : Relations) (t : Nodes) (w d z : List ℕ) (i : ℕ) (line : List ℕ) → length d ≡ linesLength → i < 64 → line ≡ partLines n g t i → w ≡ splice 448 (tab (partLines n g t) i) d → z ≡ splice (448 + 7 * i) line w → z ≡ splice 448 (tab (partLines n g t) (i + 1)) d
-part-turn n g t w d z i line len h a b e = tab-next (partLines n g t) 7 (λ i. refl) 448 i line w d z (omega arith) a b e
+pub part-turn : (n value : ℕ) (g : Relations) (t : Nodes) (w d z : List ℕ) (i : ℕ) (line : List ℕ) → length d ≡ linesLength → i < 64 → line ≡ partLines n value g t i → w ≡ splice 448 (tab (partLines n value g t) i) d → z ≡ splice (448 + 7 * i) line w → z ≡ splice 448 (tab (partLines n value g t) (i + 1)) d
+part-turn n value g t w d z i line len h a b e = tab-next (partLines n value g t) 7 (λ i. refl) 448 i line w d z (omega arith) a b e
 
 -- ---- what stands where
-module _ (n : ℕ) (members : List ℕ) (k : ℕ) (counts : List ℕ) (g : Relations) (t : Nodes) (d : List ℕ) (len : length d ≡ linesLength) (zeros : Most d 0) (few : t .count ≤ 64) (parts : t .placed ≤ 64) (some : 0 < n) (size : n ≤ 64) (types : k ≤ 8)
-    (nm : (v : ℕ) → v < t .count → Most (nodeLines counts t v) (2 ^ 32)) (pm : (i : ℕ) → i < t .placed → Most (partLines n g t i) (2 ^ 32)) (rm : Most (partList n g (t .root)) (2 ^ 32)) where
+module _ (n value : ℕ) (members : List ℕ) (k : ℕ) (counts : List ℕ) (g : Relations) (t : Nodes) (d : List ℕ) (len : length d ≡ linesLength) (zeros : Most d 0) (few : t .count ≤ 64) (parts : t .placed ≤ 64) (some : 0 < n) (size : n ≤ 64) (types : k ≤ 8)
+    (nm : (v : ℕ) → v < t .count → Most (nodeLines counts t v) (2 ^ 32)) (pm : (i : ℕ) → i < t .placed → Most (partLines n value g t i) (2 ^ 32)) (rm : Most (partList n value g (t .root)) (2 ^ 32)) where
   abbrev N : List ℕ
   N = tab (nodeLines counts t) (t .count)
 
   abbrev P : List ℕ
-  P = tab (partLines n g t) (t .placed)
+  P = tab (partLines n value g t) (t .placed)
 
   abbrev Q : List ℕ
-  Q = partList n g (t .root)
+  Q = partList n value g (t .root)
 
   abbrev T₁ : List ℕ
   T₁ = splice 0 N d
@@ -366,7 +345,7 @@ module _ (n : ℕ) (members : List ℕ) (k : ℕ) (counts : List ℕ) (g : Relat
   length-N = length-tab (nodeLines counts t) 7 (λ i. refl) (t .count)
 
   length-P : length P ≡ 7 * t .placed
-  length-P = length-tab (partLines n g t) 7 (λ i. refl) (t .placed)
+  length-P = length-tab (partLines n value g t) 7 (λ i. refl) (t .placed)
 
   zero-d : ZeroFrom 0 d
   zero-d i h = omega (arith, zeros i)
@@ -419,8 +398,8 @@ module _ (n : ℕ) (members : List ℕ) (k : ℕ) (counts : List ℕ) (g : Relat
   past-N : (i : ℕ) → 7 * t .count ≤ i → i < 448 → getD T i 0 ≡ 0
   past-N i h k = in-N i k ∙ beyond N i (omega (arith, length-N))
 
-  part-at : (k j i : ℕ) → k < t .placed → j < 7 → i ≡ 448 + (7 * k + j) → getD T i 0 ≡ getD (partLines n g t k) j 0
-  part-at k j i h q e = ap (λ (x : ℕ). getD T x 0) e ∙ in-P (7 * k + j) (omega arith) ∙ tab-at (partLines n g t) 7 (λ i. refl) (t .placed) k j h q
+  part-at : (k j i : ℕ) → k < t .placed → j < 7 → i ≡ 448 + (7 * k + j) → getD T i 0 ≡ getD (partLines n value g t k) j 0
+  part-at k j i h q e = ap (λ (x : ℕ). getD T x 0) e ∙ in-P (7 * k + j) (omega arith) ∙ tab-at (partLines n value g t) 7 (λ i. refl) (t .placed) k j h q
 
   root-at : (j i : ℕ) → j < 7 → i ≡ 896 + j → getD T i 0 ≡ getD Q j 0
   root-at j i h e = ap (λ (x : ℕ). getD T x 0) e ∙ in-Q j h
@@ -430,7 +409,7 @@ module _ (n : ℕ) (members : List ℕ) (k : ℕ) (counts : List ℕ) (g : Relat
     where
       from-this : Dec (i < 448) → Dec (i < 896) → Dec (i < 903) → getD T i 0 ≤ 2 ^ 32
       from-this (yes h) q r = rw (in-N i h) (tab-most (nodeLines counts t) (t .count) (2 ^ 32) nm i)
-      from-this (no h) (yes q) r = let e : i ≡ 448 + (i - 448) = omega arith in rw e (rw (in-P (i - 448) (omega arith)) (tab-most (partLines n g t) (t .placed) (2 ^ 32) pm (i - 448)))
+      from-this (no h) (yes q) r = let e : i ≡ 448 + (i - 448) = omega arith in rw e (rw (in-P (i - 448) (omega arith)) (tab-most (partLines n value g t) (t .placed) (2 ^ 32) pm (i - 448)))
       from-this (no h) (no q) (yes r) = let e : i ≡ 896 + (i - 896) = omega arith in rw e (rw (in-Q (i - 896) (omega arith)) (rm (i - 896)))
       from-this (no h) (no q) (no r) = omega (arith, low-M i (omega arith))
 
@@ -449,7 +428,7 @@ module _ (n : ℕ) (members : List ℕ) (k : ℕ) (counts : List ℕ) (g : Relat
   same-line : (q : PartRow) (l : PartLine) → l ≡ record { start = lineOf n g q .start; weights = getD (lineOf n g q .weights) 0 0 ∷ getD (lineOf n g q .weights) 1 0 ∷ getD (lineOf n g q .weights) 2 0 ∷ getD (lineOf n g q .weights) 3 0 ∷ [] } → l ≡ lineOf n g q
   same-line q l e = e ∙ ap (λ (ws : List ℕ). record { start = lineOf n g q .start; weights = ws }) (four (lineOf n g q .weights) (four-weights q))
 
-  pub lined : Lined n members k counts g t T
+  pub lined : Lined n value members k counts g t T
   unfolding nodeIn partIn lineIn
   lined = record {
     whole = length-ranges rangesPlace n members size k T₃ room₄ ∙ length-T₃;
@@ -504,11 +483,11 @@ module _ (n : ℕ) (members : List ℕ) (k : ℕ) (counts : List ℕ) (g : Relat
     );
   }
 
-pub all-lined : (n : ℕ) (members : List ℕ) (k : ℕ) (counts : List ℕ) (g : Relations) (t : Nodes) (d x y z : List ℕ) → length d ≡ linesLength → Most d 0 → t .count ≤ 64 → t .placed ≤ 64 → 0 < n → n ≤ 64 → k ≤ 8
+pub all-lined : (n value : ℕ) (members : List ℕ) (k : ℕ) (counts : List ℕ) (g : Relations) (t : Nodes) (d x y z : List ℕ) → length d ≡ linesLength → Most d 0 → t .count ≤ 64 → t .placed ≤ 64 → 0 < n → n ≤ 64 → k ≤ 8
     → x ≡ splice 0 (tab (nodeLines counts t) (t .count)) d → ((v : ℕ) → v < t .count → Most (nodeLines counts t v) (2 ^ 32))
-    → y ≡ splice 896 (partList n g (t .root)) (splice 448 (tab (partLines n g t) (t .placed)) x)
-    → ((i : ℕ) → i < t .placed → Most (partLines n g t i) (2 ^ 32)) → Most (partList n g (t .root)) (2 ^ 32) → z ≡ withRanges rangesPlace n members k y → Lined n members k counts g t z
-all-lined n members k counts g t d x y z len zeros few parts some size types e nm f pm rm h =
-    subst (Lined n members k counts g t)
-    (sym (h ∙ ap (withRanges rangesPlace n members k) (f ∙ ap (λ (z : List ℕ). splice 896 (partList n g (t .root)) (splice 448 (tab (partLines n g t) (t .placed)) z)) e)))
-    (lined n members k counts g t d len zeros few parts some size types nm pm rm)
+    → y ≡ splice 896 (partList n value g (t .root)) (splice 448 (tab (partLines n value g t) (t .placed)) x)
+    → ((i : ℕ) → i < t .placed → Most (partLines n value g t i) (2 ^ 32)) → Most (partList n value g (t .root)) (2 ^ 32) → z ≡ withRanges rangesPlace n members k y → Lined n value members k counts g t z
+all-lined n value members k counts g t d x y z len zeros few parts some size types e nm f pm rm h =
+    subst (Lined n value members k counts g t)
+    (sym (h ∙ ap (withRanges rangesPlace n members k) (f ∙ ap (λ (z : List ℕ). splice 896 (partList n value g (t .root)) (splice 448 (tab (partLines n value g t) (t .placed)) z)) e)))
+    (lined n value members k counts g t d len zeros few parts some size types nm pm rm)

@@ -2,6 +2,7 @@
 use mathlib.Core.Path.{_≡_, refl, sym, ap, ap₂, subst, _∙_}
 use mathlib.Core.Logic.{inl, inr}
 use mathlib.Core.Bool.{Bool, true, false, not, _||_}
+use mathlib.Core.Option.{Option, none}
 use mathlib.Core.List.{List, [], _∷_, _++_, map}
 use Prim.Native.Nat.{ℕ, zero, suc, _+_, _-_, _^_, _≤_, _<_}
 use native.Mathlib.Omega.{arith}
@@ -10,13 +11,13 @@ use borrow.Author.Tests.{lt-ltb, le-ltb, eqb-true, ltb-true, ltb-false}
 use lib.Dec.{T, eqb, ltb, ltb→lt}
 use lib.ListN.{length, getD, take, drop, length-map}
 use lib.Seq.{getD-drop}
-use Rattle.definitions.specs.Lists.{if_then_else_, all, any, isIn, below}
+use Rattle.definitions.specs.Lists.{if_then_else_, isSome, all, any, isIn, below}
 use Rattle.laws.specs.Booleans.{and-T, T-and-l, T-and-r, T-ext}
 use Rattle.laws.specs.Lists.{all-at, getD-mem, mem-below, mem-filter, filter-mem}
 use Rattle.laws.specs.Members.{in-mem, mem-in, range-few}
 use Rattle.laws.specs.Sorts.{Sorted}
-use Rattle.definitions.specs.Sheet.Relations.{Tuple}
-use Rattle.definitions.specs.Problem.Truth.{Case, holds, ruleIsTrue}
+use Rattle.definitions.specs.Sheet.Relations.{Relation, Tuple, isUniversal}
+use Rattle.definitions.specs.Problem.Truth.{Case, holds, arePicks, everyValue, ruleHolds}
 use Rattle.definitions.specs.Problem.Tree.{Tree, Trees, leaf, forallNode, existsNode, andNode, orNode, end, _then_, Part, parts, partsFrom, nodes, nodesAll, nodeSort, occurs, free}
 use Rattle.definitions.specs.Problem.Atoms.{Problem, problemOf, problemWith, relationAt, nodeAt, rowOf}
 use Rattle.definitions.specs.Problem.Actions.{Values}
@@ -55,7 +56,7 @@ use Rattle.eval_valuations.specs.Words.{leafIn}
 use Rattle.eval_valuations.specs.Laws.{leaf-fixed, leaf-pos, leaf-neg, agree-true, agree-false}
 use Rattle.bits.specs.Table.{digit}
 use Rattle.eval_table.specs.Worded.{WordsAre}
-use Rattle.eval_table.specs.Literals.{literal-is, Stands, fixed-literal, chosen-literal, stands, row-small}
+use Rattle.eval_table.specs.Literals.{literal-is, Stands, fixed-literal, chosen-literal, every-literal, stands, row-small}
 
 -- ---- the head of one part among those of a node
 heads-at : (ps : List PartRow) (m : ℕ) (qs : List Part) → map headIn (take m ps) ≡ map headOf qs → (i : ℕ) → i < length qs → headIn (getD ps i noRow) ≡ headOf (getD qs i noPart)
@@ -356,19 +357,19 @@ mutual
   no-literals (t then ts) = all-both (λ u. ltb (nodeKind u) 4) (nodes t) (nodesAll ts) (no-literal t) (no-literals ts)
 
 -- ---- what a part's line is
-module _ (g : Relations) (q : PartRow) where
-  is-literal : q .tag < 2 → partOf g q ≡ record { tag = suc (q .tag); which = sourceOf (q .which) (getD (g .kind) (q .which) 0) }
+module _ (value : ℕ) (g : Relations) (q : PartRow) where
+  is-literal : q .tag < 2 → partOf value g q ≡ record { tag = suc (q .tag); which = sourceOf value (q .which) (getD (g .kind) (q .which) 0) }
   unfolding partOf
   is-literal h = rw (lt-ltb (q .tag) 2 h) refl
 
-  is-node : 2 ≤ q .tag → partOf g q ≡ record { tag = 0; which = q .which }
+  is-node : 2 ≤ q .tag → partOf value g q ≡ record { tag = 0; which = q .which }
   unfolding partOf
   is-node h = rw (le-ltb (q .tag) 2 h) refl
 
-  no-tag : q .tag < 2 → partOf g q .tag ≡ 0 → ⊥
+  no-tag : q .tag < 2 → partOf value g q .tag ≡ 0 → ⊥
   no-tag h z = let a : suc (q .tag) ≡ 0 = sym (ap (λ (x : PartAt). x .tag) (is-literal h)) ∙ z in omega arith
 
-  which-is : 2 ≤ q .tag → partOf g q .which ≡ q .which
+  which-is : 2 ≤ q .tag → partOf value g q .which ≡ q .which
   which-is h = ap (λ (x : PartAt). x .which) (is-node h)
 
   its-line : (n : ℕ) → q .tag < 2 → lineOf n g q ≡ record { start = bitOf n g (q .which); weights = weightOf n (take (q .width) (q .levels)) 0 ∷ weightOf n (take (q .width) (q .levels)) 1 ∷ weightOf n (take (q .width) (q .levels)) 2 ∷ weightOf n (take (q .width) (q .levels)) 3 ∷ [] }
@@ -381,7 +382,7 @@ module _ (g : Relations) (q : PartRow) where
   its-number n e f h = ap (partNumber e) (its-line n h) ∙ ap (λ (x : ℕ). bitOf n g (q .which) + x) (sym (row-weighed n e (q .width) (q .levels) (f .levels)))
 
 -- ---- the lines of a case
-module _ (c : Case) (A : Accepted c) (n : ℕ) (ws : List ℕ) (types : ℕ) (ranges : Ranges) (g : Relations) (t : Nodes) (ra : RangesAre n ws types ranges) (inputs : Inputs (problemOf c) n ws types g t) (ft : TreeFits t) where
+module _ (c : Case) (A : Accepted c) (n value : ℕ) (ws : List ℕ) (types : ℕ) (ranges : Ranges) (g : Relations) (t : Nodes) (ra : RangesAre n ws types ranges) (inputs : Inputs (problemOf c) n ws types g t) (ft : TreeFits t) where
   abbrev p : Problem
   p = problemOf c
 
@@ -408,20 +409,20 @@ module _ (c : Case) (A : Accepted c) (n : ℕ) (ws : List ℕ) (types : ℕ) (ra
   here-of v l i h = block-here p v (nodeAt p v) (here-at p (good c A) v l) i h
 
   -- a part that is a node has its number, which is above its own node's
-  tag-node : (q : PartRow) (k : ℕ) (s : Tree) → headIn q ≡ headFrom k s → Here p k s → partOf g q .tag ≡ 0 → (partOf g q .which ≡ k) × (k < length (p .nodeList)) × (nodeAt p k ≡ s)
+  tag-node : (q : PartRow) (k : ℕ) (s : Tree) → headIn q ≡ headFrom k s → Here p k s → partOf value g q .tag ≡ 0 → (partOf value g q .which ≡ k) × (k < length (p .nodeList)) × (nodeAt p k ≡ s)
   unfolding headFrom NotLeaf
-  tag-node q k (leaf true r ls) e h z = let a : q .tag ≡ 0 = ap (λ (x : Head). x .tag) e in absurd (no-tag g q (omega arith) z)
-  tag-node q k (leaf false r ls) e h z = let a : q .tag ≡ 1 = ap (λ (x : Head). x .tag) e in absurd (no-tag g q (omega arith) z)
-  tag-node q k (forallNode d σ s) e h z = let a : q .tag ≡ 2 = ap (λ (x : Head). x .tag) e in let y = node-at p k (forallNode d σ s) h tt in (which-is g q (omega arith) ∙ ap (λ (x : Head). x .which) e, y .1, y .0)
-  tag-node q k (existsNode d σ s) e h z = let a : q .tag ≡ 3 = ap (λ (x : Head). x .tag) e in let y = node-at p k (existsNode d σ s) h tt in (which-is g q (omega arith) ∙ ap (λ (x : Head). x .which) e, y .1, y .0)
-  tag-node q k (andNode ts) e h z = let a : q .tag ≡ 3 = ap (λ (x : Head). x .tag) e in let y = node-at p k (andNode ts) h tt in (which-is g q (omega arith) ∙ ap (λ (x : Head). x .which) e, y .1, y .0)
-  tag-node q k (orNode ts) e h z = let a : q .tag ≡ 3 = ap (λ (x : Head). x .tag) e in let y = node-at p k (orNode ts) h tt in (which-is g q (omega arith) ∙ ap (λ (x : Head). x .which) e, y .1, y .0)
+  tag-node q k (leaf true r ls) e h z = let a : q .tag ≡ 0 = ap (λ (x : Head). x .tag) e in absurd (no-tag value g q (omega arith) z)
+  tag-node q k (leaf false r ls) e h z = let a : q .tag ≡ 1 = ap (λ (x : Head). x .tag) e in absurd (no-tag value g q (omega arith) z)
+  tag-node q k (forallNode d σ s) e h z = let a : q .tag ≡ 2 = ap (λ (x : Head). x .tag) e in let y = node-at p k (forallNode d σ s) h tt in (which-is value g q (omega arith) ∙ ap (λ (x : Head). x .which) e, y .1, y .0)
+  tag-node q k (existsNode d σ s) e h z = let a : q .tag ≡ 3 = ap (λ (x : Head). x .tag) e in let y = node-at p k (existsNode d σ s) h tt in (which-is value g q (omega arith) ∙ ap (λ (x : Head). x .which) e, y .1, y .0)
+  tag-node q k (andNode ts) e h z = let a : q .tag ≡ 3 = ap (λ (x : Head). x .tag) e in let y = node-at p k (andNode ts) h tt in (which-is value g q (omega arith) ∙ ap (λ (x : Head). x .which) e, y .1, y .0)
+  tag-node q k (orNode ts) e h z = let a : q .tag ≡ 3 = ap (λ (x : Head). x .tag) e in let y = node-at p k (orNode ts) h tt in (which-is value g q (omega arith) ∙ ap (λ (x : Head). x .which) e, y .1, y .0)
 
   above : (k : ℕ) → k < length (p .nodeList) → k < 64
   above k l = omega (arith, count-is p n ws types g t inputs ft, ft .few)
 
   -- ---- sound lines
-  module _ (some : 0 < n) (small : n ≤ 64) (w : List ℕ) (lined : Lined n ws types (ranges .count) g t w) where
+  module _ (some : 0 < n) (small : n ≤ 64) (w : List ℕ) (lined : Lined n value ws types (ranges .count) g t w) where
     few : (b : Bool) (k : ℕ) → k ≤ n → (if b then k else 1) ≤ n
     few true k h = h
     few false k h = some
@@ -478,22 +479,22 @@ module _ (c : Case) (A : Accepted c) (n : ℕ) (ws : List ℕ) (types : ℕ) (ra
   -- ---- what the lines say, where a valuation of the literals is read off their lines
   abbrev pub Reads : Literals → Leaf → Type 0
   Reads lit read = (b : Bool) (q : PartRow) (r : ℕ) (ls : List ℕ) (e : Values) → PartFits q → q .tag ≡ (if b then 0 else 1) → q .which ≡ r → take (q .width) (q .levels) ≡ ls
-      → (r < length (p .relations)) × (length ls ≡ relationAt p r .arity) → Bnd n e → read e (partOf g q) (lineOf n g q) ≡ lit b r (map e ls)
+      → (r < length (p .relations)) × (length ls ≡ relationAt p r .arity) → Bnd n e → read e (partOf value g q) (lineOf n g q) ≡ lit b r (map e ls)
 
   module _ (lit : Literals) (read : Leaf) (reads : Reads lit read) where
-    literal-says : (q : PartRow) (k : ℕ) (s : Tree) → PartFits q → headIn q ≡ headFrom k s → Here p k s → (partOf g q .tag ≡ 0 → ⊥) → (e : Values) → Bnd n e → read e (partOf g q) (lineOf n g q) ≡ treeBy c lit e s
+    literal-says : (q : PartRow) (k : ℕ) (s : Tree) → PartFits q → headIn q ≡ headFrom k s → Here p k s → (partOf value g q .tag ≡ 0 → ⊥) → (e : Values) → Bnd n e → read e (partOf value g q) (lineOf n g q) ≡ treeBy c lit e s
     unfolding headFrom treeBy Fits
     literal-says q k (leaf true r ls) f h here z e b =
         reads true q r ls e f (ap (λ (x : Head). x .tag) h) (ap (λ (x : Head). x .which) h) (ap (λ (x : Head). x .levels) h) (here .fits) b
     literal-says q k (leaf false r ls) f h here z e b =
         reads false q r ls e f (ap (λ (x : Head). x .tag) h) (ap (λ (x : Head). x .which) h) (ap (λ (x : Head). x .levels) h) (here .fits) b
-    literal-says q k (forallNode d σ s) f h here z e b = let a : q .tag ≡ 2 = ap (λ (x : Head). x .tag) h in absurd (z (ap (λ (x : PartAt). x .tag) (is-node g q (omega arith))))
-    literal-says q k (existsNode d σ s) f h here z e b = let a : q .tag ≡ 3 = ap (λ (x : Head). x .tag) h in absurd (z (ap (λ (x : PartAt). x .tag) (is-node g q (omega arith))))
-    literal-says q k (andNode ts) f h here z e b = let a : q .tag ≡ 3 = ap (λ (x : Head). x .tag) h in absurd (z (ap (λ (x : PartAt). x .tag) (is-node g q (omega arith))))
-    literal-says q k (orNode ts) f h here z e b = let a : q .tag ≡ 3 = ap (λ (x : Head). x .tag) h in absurd (z (ap (λ (x : PartAt). x .tag) (is-node g q (omega arith))))
+    literal-says q k (forallNode d σ s) f h here z e b = let a : q .tag ≡ 2 = ap (λ (x : Head). x .tag) h in absurd (z (ap (λ (x : PartAt). x .tag) (is-node value g q (omega arith))))
+    literal-says q k (existsNode d σ s) f h here z e b = let a : q .tag ≡ 3 = ap (λ (x : Head). x .tag) h in absurd (z (ap (λ (x : PartAt). x .tag) (is-node value g q (omega arith))))
+    literal-says q k (andNode ts) f h here z e b = let a : q .tag ≡ 3 = ap (λ (x : Head). x .tag) h in absurd (z (ap (λ (x : PartAt). x .tag) (is-node value g q (omega arith))))
+    literal-says q k (orNode ts) f h here z e b = let a : q .tag ≡ 3 = ap (λ (x : Head). x .tag) h in absurd (z (ap (λ (x : PartAt). x .tag) (is-node value g q (omega arith))))
 
-    module _ (w : List ℕ) (lined : Lined n ws types (ranges .count) g t w) where
-      part-says : (q : PartRow) (k : ℕ) (s : Tree) → PartFits q → headIn q ≡ headFrom k s → Here p k s → PartSays (treeBy c lit) (p .root) n w read (partOf g q) (lineOf n g q) k s
+    module _ (w : List ℕ) (lined : Lined n value ws types (ranges .count) g t w) where
+      part-says : (q : PartRow) (k : ℕ) (s : Tree) → PartFits q → headIn q ≡ headFrom k s → Here p k s → PartSays (treeBy c lit) (p .root) n w read (partOf value g q) (lineOf n g q) k s
       unfolding problemOf problemWith nodeAt nodeOfTree
       part-says q k s f h here = record { node = λ z. tag-node q k s h here z; literal = λ z e b. literal-says q k s f h here z e b }
 
@@ -548,26 +549,29 @@ module _ (c : Case) (A : Accepted c) (n : ℕ) (ws : List ℕ) (types : ℕ) (ra
         top = rw (lined .top .0, lined .top .1) (part-says (t .root) 0 (p .root) (ft .root) (inputs .tree .top) (good c A .root-here));
       }
 
-  -- ---- by picks, whose bits are lent
-  module _ (F : List Tuple) (facts : List ℕ) (fi : FactsIn (problemOf c) facts) (picks : List ℕ) (pa : PicksAre (problemOf c) picks F) where
-    literal-of : (q : PartRow) (r : ℕ) (ls : List ℕ) (e : Values) → PartFits q → q .tag < 2 → q .which ≡ r → take (q .width) (q .levels) ≡ ls → (r < length (p .relations)) × (length ls ≡ relationAt p r .arity) → Bnd n e
-        → literalAt facts picks n (partOf g q .which) (partNumber e (lineOf n g q)) ≡ holds c F r (map e ls)
-    literal-of q r ls e f h a b m bnd =
-        ap₂ (literalAt facts picks n) (ap (λ (x : PartAt). x .which) (is-literal g q h) ∙ ap (λ (x : ℕ). sourceOf x (getD (g .kind) x 0)) a)
-        (its-number g q n e f h ∙ ap₂ (λ (x : ℕ) (ys : List ℕ). bitOf n g x + rowOf n (map e ys)) a b)
-        ∙ literal-is c A F n ws types g t inputs facts fi picks r (map e ls) (omega (arith, m .0, inputs .count)) (length-map ls e ∙ m .1) (bnd-map n e ls bnd) pa
+  -- ---- by picks, whose bits are lent, and the value
+  module _ (P : List Tuple) (pk : arePicks c P ≡ true) (facts : List ℕ) (fi : FactsIn (problemOf c) facts) (picks : List ℕ) (pa : PicksAre (problemOf c) picks P) where
+    abbrev F : List Tuple
+    F = P ++ everyValue c value
 
-    leaf-of : (q : PartRow) (e : Values) (b : Bool) → q .tag ≡ 0 → literalAt facts picks n (partOf g q .which) (partNumber e (lineOf n g q)) ≡ b → leafAt facts picks n e (partOf g q) (lineOf n g q) ≡ b
+    literal-of : (q : PartRow) (r : ℕ) (ls : List ℕ) (e : Values) → PartFits q → q .tag < 2 → q .which ≡ r → take (q .width) (q .levels) ≡ ls → (r < length (p .relations)) × (length ls ≡ relationAt p r .arity) → Bnd n e
+        → literalAt facts picks n (partOf value g q .which) (partNumber e (lineOf n g q)) ≡ holds c F r (map e ls)
+    literal-of q r ls e f h a b m bnd =
+        ap₂ (literalAt facts picks n) (ap (λ (x : PartAt). x .which) (is-literal value g q h) ∙ ap (λ (x : ℕ). sourceOf value x (getD (g .kind) x 0)) a)
+        (its-number value g q n e f h ∙ ap₂ (λ (x : ℕ) (ys : List ℕ). bitOf n g x + rowOf n (map e ys)) a b)
+        ∙ literal-is c A P pk n value ws types g t inputs facts fi picks pa r (map e ls) (omega (arith, m .0, inputs .count)) (length-map ls e ∙ m .1) (bnd-map n e ls bnd)
+
+    leaf-of : (q : PartRow) (e : Values) (b : Bool) → q .tag ≡ 0 → literalAt facts picks n (partOf value g q .which) (partNumber e (lineOf n g q)) ≡ b → leafAt facts picks n e (partOf value g q) (lineOf n g q) ≡ b
     unfolding leafAt agree
-    leaf-of q e b h k = ap₂ agree k (ap (λ (x : PartAt). eqb (x .tag) 1) (is-literal g q (omega arith)) ∙ ap (λ (x : ℕ). eqb (suc x) 1) h) ∙ by-test b
+    leaf-of q e b h k = ap₂ agree k (ap (λ (x : PartAt). eqb (x .tag) 1) (is-literal value g q (omega arith)) ∙ ap (λ (x : ℕ). eqb (suc x) 1) h) ∙ by-test b
       where
         by-test : (b : Bool) → agree b true ≡ b
         by-test true = refl
         by-test false = refl
 
-    not-leaf-of : (q : PartRow) (e : Values) (b : Bool) → q .tag ≡ 1 → literalAt facts picks n (partOf g q .which) (partNumber e (lineOf n g q)) ≡ b → leafAt facts picks n e (partOf g q) (lineOf n g q) ≡ not b
+    not-leaf-of : (q : PartRow) (e : Values) (b : Bool) → q .tag ≡ 1 → literalAt facts picks n (partOf value g q .which) (partNumber e (lineOf n g q)) ≡ b → leafAt facts picks n e (partOf value g q) (lineOf n g q) ≡ not b
     unfolding leafAt agree
-    not-leaf-of q e b h k = ap₂ agree k (ap (λ (x : PartAt). eqb (x .tag) 1) (is-literal g q (omega arith)) ∙ ap (λ (x : ℕ). eqb (suc x) 1) h) ∙ by-test b
+    not-leaf-of q e b h k = ap₂ agree k (ap (λ (x : PartAt). eqb (x .tag) 1) (is-literal value g q (omega arith)) ∙ ap (λ (x : ℕ). eqb (suc x) 1) h) ∙ by-test b
       where
         by-test : (b : Bool) → agree b false ≡ not b
         by-test true = refl
@@ -578,11 +582,15 @@ module _ (c : Case) (A : Accepted c) (n : ℕ) (ws : List ℕ) (types : ℕ) (ra
     picks-read true q r ls e f a h k m b = leaf-of q e (holds c F r (map e ls)) a (literal-of q r ls e f (omega arith) h k m b)
     picks-read false q r ls e f a h k m b = not-leaf-of q e (holds c F r (map e ls)) a (literal-of q r ls e f (omega arith) h k m b)
 
-    pub says : (w : List ℕ) → Lined n ws types (ranges .count) g t w → Says (treeBy c (byPicks c F F)) (p .root) n w (leafAt facts picks n)
+    pub says : (w : List ℕ) → Lined n value ws types (ranges .count) g t w → Says (treeBy c (byPicks c F F)) (p .root) n w (leafAt facts picks n)
     says w lined = says-by (byPicks c F F) (leafAt facts picks n) picks-read w lined
 
-  -- ---- by words of sixty-four valuations: in one of them the words say what may, and what must, be picked
-  module _ (may must : List Tuple) (facts : List ℕ) (fi : FactsIn (problemOf c) facts) (pos neg : List ℕ) (j : ℕ) (l : j < 64) (wa : WordsAre (problemOf c) pos neg j may must) where
+  -- ---- by words of sixty-four valuations, without an `every` line: in one of them the words say what may, and what must, be picked
+  module _ (plain : c .question .every ≡ none) (may must : List Tuple) (facts : List ℕ) (fi : FactsIn (problemOf c) facts) (pos neg : List ℕ) (j : ℕ) (l : j < 64) (wa : WordsAre (problemOf c) pos neg j may must) where
+    no-every : T (isSome (problemOf c .source .question .every)) → ⊥
+    unfolding problemOf problemWith isSome
+    no-every t = subst (λ (o : Option Relation). T (isSome o)) plain t
+
     words-read : Reads (byPicks c may must) (leafIn facts pos neg n j)
     unfolding byPicks
     words-read b q r ls e f a h k m bnd = by-sign b a
@@ -600,34 +608,39 @@ module _ (c : Case) (A : Accepted c) (n : ℕ) (ws : List ℕ) (types : ℕ) (ra
         row : ℕ
         row = rowOf n (map e ls)
 
-        which-is : (b : Bool) → q .tag ≡ (if b then 0 else 1) → partOf g q .which ≡ sourceOf r (getD (g .kind) r 0)
-        which-is b a = ap (λ (x : PartAt). x .which) (is-literal g q (tag-small b a)) ∙ ap (λ (x : ℕ). sourceOf x (getD (g .kind) x 0)) h
+        which-is : (b : Bool) → q .tag ≡ (if b then 0 else 1) → partOf value g q .which ≡ sourceOf value r (getD (g .kind) r 0)
+        which-is b a = ap (λ (x : PartAt). x .which) (is-literal value g q (tag-small b a)) ∙ ap (λ (x : ℕ). sourceOf value x (getD (g .kind) x 0)) h
 
         number-is : (b : Bool) → q .tag ≡ (if b then 0 else 1) → partNumber e (lineOf n g q) ≡ bitOf n g r + row
-        number-is b a = its-number g q n e f (tag-small b a) ∙ ap₂ (λ (x : ℕ) (ys : List ℕ). bitOf n g x + rowOf n (map e ys)) h k
+        number-is b a = its-number value g q n e f (tag-small b a) ∙ ap₂ (λ (x : ℕ) (ys : List ℕ). bitOf n g x + rowOf n (map e ys)) h k
 
-        tag-is : (b : Bool) → q .tag ≡ (if b then 0 else 1) → eqb (partOf g q .tag) 1 ≡ b
-        tag-is b a = ap (λ (x : PartAt). eqb (x .tag) 1) (is-literal g q (tag-small b a)) ∙ ap (λ (x : ℕ). eqb (suc x) 1) a ∙ by-test b
+        tag-is : (b : Bool) → q .tag ≡ (if b then 0 else 1) → eqb (partOf value g q .tag) 1 ≡ b
+        tag-is b a = ap (λ (x : PartAt). eqb (x .tag) 1) (is-literal value g q (tag-small b a)) ∙ ap (λ (x : ℕ). eqb (suc x) 1) a ∙ by-test b
           where
             by-test : (b : Bool) → eqb (suc (if b then 0 else 1)) 1 ≡ b
             by-test true = refl
             by-test false = refl
 
-        tuple-says : Stands c A may n ws types g t inputs facts fi facts r (map e ls) inside long (bnd-map n e ls bnd) → q .tag ≡ 0 → leafIn facts pos neg n j e (partOf g q) (lineOf n g q) ≡ holds c may r (map e ls)
-        tuple-says (fixed-literal s v) a = leaf-fixed facts pos neg n e (partOf g q) (lineOf n g q) j l true _ (subst (λ (x : ℕ). x < 6) (sym (which-is true a)) s) (ap₂ (literalAt facts facts n) (which-is true a) (number-is true a) ∙ v) (tag-is true a) ∙ agree-true _
-        tuple-says (chosen-literal s k′ o v) a = leaf-pos facts pos neg n e (partOf g q) (lineOf n g q) j (which-is true a ∙ s) (tag-is true a) ∙ ap (λ (x : ℕ). digit (getD pos x 0) j) (number-is true a ∙ o) ∙ wa r row (m .0) k′ (row-small c A may n ws types g t inputs facts fi facts r (map e ls) inside long (bnd-map n e ls bnd)) .0 ∙ v may
+        none-there : T (isUniversal (relationAt p r .kind)) → ⊥
+        none-there u = no-every (good c A .every-one r (m .0) u .1)
 
-        not-says : Stands c A must n ws types g t inputs facts fi facts r (map e ls) inside long (bnd-map n e ls bnd) → q .tag ≡ 1 → leafIn facts pos neg n j e (partOf g q) (lineOf n g q) ≡ not (holds c must r (map e ls))
-        not-says (fixed-literal s v) a = leaf-fixed facts pos neg n e (partOf g q) (lineOf n g q) j l false _ (subst (λ (x : ℕ). x < 6) (sym (which-is false a)) s) (ap₂ (literalAt facts facts n) (which-is false a) (number-is false a) ∙ v) (tag-is false a) ∙ agree-false _
-        not-says (chosen-literal s k′ o v) a = leaf-neg facts pos neg n e (partOf g q) (lineOf n g q) j (which-is false a ∙ s) (tag-is false a) ∙ ap (λ (x : ℕ). digit (getD neg x 0) j) (number-is false a ∙ o) ∙ wa r row (m .0) k′ (row-small c A must n ws types g t inputs facts fi facts r (map e ls) inside long (bnd-map n e ls bnd)) .1 ∙ ap not (v must)
+        tuple-says : Stands c A may n value ws types g t inputs facts fi facts r (map e ls) inside long (bnd-map n e ls bnd) → q .tag ≡ 0 → leafIn facts pos neg n j e (partOf value g q) (lineOf n g q) ≡ holds c may r (map e ls)
+        tuple-says (fixed-literal s v) a = leaf-fixed facts pos neg n e (partOf value g q) (lineOf n g q) j l true _ (subst (λ (x : ℕ). x < 6) (sym (which-is true a)) s) (ap₂ (literalAt facts facts n) (which-is true a) (number-is true a) ∙ v) (tag-is true a) ∙ agree-true _
+        tuple-says (chosen-literal s k′ o v) a = leaf-pos facts pos neg n e (partOf value g q) (lineOf n g q) j (which-is true a ∙ s) (tag-is true a) ∙ ap (λ (x : ℕ). digit (getD pos x 0) j) (number-is true a ∙ o) ∙ wa r row (m .0) k′ (row-small c A may n value ws types g t inputs facts fi facts r (map e ls) inside long (bnd-map n e ls bnd)) .0 ∙ v may
+        tuple-says (every-literal s u o) a = absurd (none-there u)
 
-        by-sign : (b : Bool) → q .tag ≡ (if b then 0 else 1) → leafIn facts pos neg n j e (partOf g q) (lineOf n g q) ≡ byPicks c may must b r (map e ls)
-        by-sign true a = tuple-says (stands c A may n ws types g t inputs facts fi facts r (map e ls) inside long (bnd-map n e ls bnd)) a
-        by-sign false a = not-says (stands c A must n ws types g t inputs facts fi facts r (map e ls) inside long (bnd-map n e ls bnd)) a
+        not-says : Stands c A must n value ws types g t inputs facts fi facts r (map e ls) inside long (bnd-map n e ls bnd) → q .tag ≡ 1 → leafIn facts pos neg n j e (partOf value g q) (lineOf n g q) ≡ not (holds c must r (map e ls))
+        not-says (fixed-literal s v) a = leaf-fixed facts pos neg n e (partOf value g q) (lineOf n g q) j l false _ (subst (λ (x : ℕ). x < 6) (sym (which-is false a)) s) (ap₂ (literalAt facts facts n) (which-is false a) (number-is false a) ∙ v) (tag-is false a) ∙ agree-false _
+        not-says (chosen-literal s k′ o v) a = leaf-neg facts pos neg n e (partOf value g q) (lineOf n g q) j (which-is false a ∙ s) (tag-is false a) ∙ ap (λ (x : ℕ). digit (getD neg x 0) j) (number-is false a ∙ o) ∙ wa r row (m .0) k′ (row-small c A must n value ws types g t inputs facts fi facts r (map e ls) inside long (bnd-map n e ls bnd)) .1 ∙ ap not (v must)
+        not-says (every-literal s u o) a = absurd (none-there u)
 
-    pub says-words : (w : List ℕ) → Lined n ws types (ranges .count) g t w → Says (treeBy c (byPicks c may must)) (p .root) n w (leafIn facts pos neg n j)
+        by-sign : (b : Bool) → q .tag ≡ (if b then 0 else 1) → leafIn facts pos neg n j e (partOf value g q) (lineOf n g q) ≡ byPicks c may must b r (map e ls)
+        by-sign true a = tuple-says (stands c A may n value ws types g t inputs facts fi facts r (map e ls) inside long (bnd-map n e ls bnd)) a
+        by-sign false a = not-says (stands c A must n value ws types g t inputs facts fi facts r (map e ls) inside long (bnd-map n e ls bnd)) a
+
+    pub says-words : (w : List ℕ) → Lined n value ws types (ranges .count) g t w → Says (treeBy c (byPicks c may must)) (p .root) n w (leafIn facts pos neg n j)
     says-words w lined = says-by (byPicks c may must) (leafIn facts pos neg n j) words-read w lined
 
-pub rule-is : (c : Case) (F : List Tuple) (r : Bool) → Accepted c → r ≡ treeBy c (byPicks c F F) noValues (problemOf c .root) → r ≡ ruleIsTrue c F
+pub rule-is : (c : Case) (F : List Tuple) (r : Bool) → Accepted c → r ≡ treeBy c (byPicks c F F) noValues (problemOf c .root) → r ≡ ruleHolds c F
 unfolding problemOf problemWith
 rule-is c F r A e = e ∙ by-holds c F noValues (problemOf c .root) ∙ tree-means c F A

@@ -1,11 +1,12 @@
 // The lines of `eval_rule`, filled from the relations and the node table of a rule; and whether the rule is true of picks.
 ghost use mathlib.Core.Path.{_≡_};
 ghost use mathlib.Core.Bool.{true};
-ghost use mathlib.Core.List.{List};
+ghost use mathlib.Core.Option.{none};
+ghost use mathlib.Core.List.{List, _++_};
 ghost use Prim.Native.Nat.{ℕ, _^_, _<_, _≤_};
 ghost use lib.ListN.{length};
 ghost use Rattle.definitions.specs.Sheet.Relations.{Tuple};
-ghost use Rattle.definitions.specs.Problem.Truth.{Case, arePicks, ruleIsTrue};
+ghost use Rattle.definitions.specs.Problem.Truth.{Case, arePicks, everyValue, ruleHolds};
 ghost use Rattle.definitions.specs.Problem.Atoms.{problemOf};
 ghost use Rattle.definitions.specs.Problem.Tree.{treeOf};
 ghost use Rattle.bits.specs.Table.{digit};
@@ -28,7 +29,7 @@ use rule_nodes::NodeRow;
 use rule_nodes::Nodes;
 use rule_nodes::PartRow;
 
-// The first bit of a relation, by the words before it.
+// The first bit of a relation, by the words before it. A built-in one has none, and an `every` relation's tuples are the digits of its value.
 fn first_bit(r: usize, kind: usize, facts: usize, picks: usize) -> usize
     requires { ⌜ (facts ≤ 2 ^ 24) × (picks ≤ 2 ^ 24) ⌝ }
     ensures { λ b. ⌜ (b ≡ firstBit r kind facts picks) × (b ≤ 2 ^ 32) ⌝ }
@@ -38,6 +39,9 @@ fn first_bit(r: usize, kind: usize, facts: usize, picks: usize) -> usize
     }
     if kind == 0 {
         return 64 * facts;
+    }
+    if kind == 6 {
+        return 0;
     }
     64 * picks
 }
@@ -56,6 +60,9 @@ fn choose_words(kind: usize, words: usize) -> usize
     ensures { λ c. ⌜ (c ≡ chooseWords kind words) × (c ≤ words) ⌝ }
 {
     if kind == 0 {
+        return 0;
+    }
+    if kind == 6 {
         return 0;
     }
     words
@@ -81,9 +88,10 @@ fn bits_of(n: usize, g: Relations) -> [usize; problem_layout::RELATIONS]
     bits
 }
 
-// Where a relation's tuples are.
-fn source(r: usize, kind: usize) -> usize
-    ensures { λ s. ⌜ (s ≡ sourceOf r kind) × (s ≤ 6) ⌝ }
+// Where a relation's tuples are, where that of an `every` line has this value.
+fn source(r: usize, kind: usize, value: usize) -> usize
+    requires { ⌜ value < 256 ⌝ }
+    ensures { λ s. ⌜ (s ≡ sourceOf value r kind) × (s ≤ 262) ⌝ }
 {
     if r < 5 {
         return r;
@@ -91,13 +99,16 @@ fn source(r: usize, kind: usize) -> usize
     if kind == 0 {
         return 5;
     }
+    if kind == 6 {
+        return 7 + value;
+    }
     6
 }
 
 // The line of a part. A node has weights too: they tell at which levels it is the same.
-fn part_numbers(n: usize, kinds: &[usize], bits: &[usize], q: PartRow) -> [usize; 7]
-    requires { ⌜ (0 < n) × (n ≤ 64) × PartFits q × (17 ≤ length (now kinds)) × (17 ≤ length (now bits)) × Most (now bits) (2 ^ 32) ⌝ }
-    ensures { λ r. ⌜ (r ≡ partNumbers n (now (kinds .entry)) (now (bits .entry)) q) × Most r (2 ^ 32) ⌝ }
+fn part_numbers(n: usize, kinds: &[usize], bits: &[usize], q: PartRow, value: usize) -> [usize; 7]
+    requires { ⌜ (0 < n) × (n ≤ 64) × PartFits q × (18 ≤ length (now kinds)) × (18 ≤ length (now bits)) × Most (now bits) (2 ^ 32) × (value < 256) ⌝ }
+    ensures { λ r. ⌜ (r ≡ partNumbers n value (now (kinds .entry)) (now (bits .entry)) q) × Most r (2 ^ 32) ⌝ }
 {
     let which = rule_nodes::wide(q.which);
     let levels = q.levels;
@@ -105,7 +116,7 @@ fn part_numbers(n: usize, kinds: &[usize], bits: &[usize], q: PartRow) -> [usize
     if q.tag < 2 {
         return [
             rule_nodes::wide(q.tag) + 1,
-            source(which, kinds[which]),
+            source(which, kinds[which], value),
             bits[which],
             w[0],
             w[1],
@@ -211,34 +222,35 @@ fn fill_nodes(lines: &mut [usize], n: usize, t: Nodes, ranges: Ranges)
 }
 
 // The line of a part of the table.
-fn part_line(n: usize, g: Relations, bits: &[usize], q: PartRow) -> [usize; 7]
-    requires { ⌜ (0 < n) × (n ≤ 64) × PartFits q × (17 ≤ length (now bits)) × Bits n g (now bits) × Most (now bits) (2 ^ 32) ⌝ }
-    ensures { λ r. ⌜ (r ≡ partList n g q) × Most r (2 ^ 32) ⌝ }
+fn part_line(n: usize, g: Relations, bits: &[usize], q: PartRow, value: usize) -> [usize; 7]
+    requires { ⌜ (0 < n) × (n ≤ 64) × PartFits q × (18 ≤ length (now bits)) × Bits n g (now bits) × Most (now bits) (2 ^ 32) × (value < 256) ⌝ }
+    ensures { λ r. ⌜ (r ≡ partList n value g q) × Most r (2 ^ 32) ⌝ }
 {
     let kinds = g.kind;
-    part_numbers(n, &kinds, bits, q)
+    part_numbers(n, &kinds, bits, q, value)
 }
 
 // The lines of the parts, and the root's.
-fn fill_parts(lines: &mut [usize], n: usize, g: Relations, t: Nodes)
-    requires { ⌜ (length (now lines) ≡ linesLength) × (0 < n) × (n ≤ 64) × RelationsFit g × Fits t ⌝ }
-    ensures { λ r. ⌜ (now (lines .exit) ≡ splice 896 (partList n g (t .root)) (splice 448 (tab (partLines n g t) (t .placed)) (now (lines .entry))))
-        × ((i : ℕ) → i < t .placed → Most (partLines n g t i) (2 ^ 32)) × Most (partList n g (t .root)) (2 ^ 32) ⌝ }
+fn fill_parts(lines: &mut [usize], n: usize, g: Relations, t: Nodes, value: usize)
+    requires { ⌜ (length (now lines) ≡ linesLength) × (0 < n) × (n ≤ 64) × RelationsFit g × Fits t × (value < 256) ⌝ }
+    ensures { λ r. ⌜ (now (lines .exit) ≡ splice 896 (partList n value g (t .root)) (splice 448 (tab (partLines n value g t) (t .placed)) (now (lines .entry))))
+        × ((i : ℕ) → i < t .placed → Most (partLines n value g t i) (2 ^ 32)) × Most (partList n value g (t .root)) (2 ^ 32) ⌝ }
 {
     let bits = bits_of(n, g);
     let mut i: usize = 0;
     while i < t.placed {
         let q = t.parts[i];
-        let line = part_line(n, g, &bits, q);
+        let line = part_line(n, g, &bits, q, value);
         problem_layout::store(lines, eval_rule::PART_AT + eval_rule::PART_LINE * i, &line);
         i += 1;
     }
     let q = t.root;
-    let last = part_line(n, g, &bits, q);
+    let last = part_line(n, g, &bits, q, value);
     problem_layout::store(lines, eval_rule::ROOT_AT, &last);
 }
 
-// All lines, in place of zeros.
+// All lines, in place of zeros, for one value of the `every` relation: its literals are the digits of that number. Without an `every` line
+// there is one value, 0.
 pub fn fill(
     lines: &mut [usize],
     n: usize,
@@ -247,30 +259,32 @@ pub fn fill(
     ranges: Ranges,
     g: Relations,
     t: Nodes,
+    value: usize,
 )
-    requires { ⌜ (length (now lines) ≡ linesLength) × Most (now lines) 0 × (0 < n) × (n ≤ 64) × RelationsFit g × Fits t × (types ≤ 8) × (types ≤ length (now members)) × RangesFit n ranges ⌝ }
-    ensures { λ r. ⌜ Lined n (now (members .entry)) types (ranges .count) g t (now (lines .exit)) ⌝ }
+    requires { ⌜ (length (now lines) ≡ linesLength) × Most (now lines) 0 × (0 < n) × (n ≤ 64) × RelationsFit g × Fits t × (types ≤ 8) × (types ≤ length (now members)) × RangesFit n ranges × (value < 256) ⌝ }
+    ensures { λ r. ⌜ Lined n value (now (members .entry)) types (ranges .count) g t (now (lines .exit)) ⌝ }
 {
     fill_nodes(lines, n, t, ranges);
-    fill_parts(lines, n, g, t);
+    fill_parts(lines, n, g, t, value);
     problem_layout::fill_ranges(lines, eval_rule::RANGE_AT, n, types, members);
 }
 
-// Whether the rule is true of picks, by the lines of its case: `facts` and `picks` are the bits of the case's facts and of the picks.
+// Whether the rule holds of picks and one value of the `every` relation, by the lines for that value: `facts` and `picks` are the bits of the
+// case's facts and of the picks. It is true of the picks where it is so for every value; without an `every` line, where it is so for value 0.
 pub fn rule_is_true(lines: &[usize], facts: &[u64], picks: &[u64], n: usize) -> bool
     requires { ⌜ OfCase n (now lines) ⌝ }
-    ensures { λ r. ⌜ ((c : Case) (F : List Tuple) → Accepted c → arePicks c F ≡ true → LinesOf c n (now (lines .entry)) → FactsIn (problemOf c) (now (facts .entry)) → PicksAre (problemOf c) (now (picks .entry)) F
-        → r ≡ ruleIsTrue c F) ⌝ }
+    ensures { λ r. ⌜ ((c : Case) (value : ℕ) (F : List Tuple) → Accepted c → arePicks c F ≡ true → LinesOf c n value (now (lines .entry)) → FactsIn (problemOf c) (now (facts .entry)) → PicksAre (problemOf c) (now (picks .entry)) F
+        → r ≡ ruleHolds c (F ++ everyValue c value)) ⌝ }
 {
     eval_rule::rule_holds(lines, facts, picks, n)
 }
 
-// The same for sixty-four valuations at once: digit j is the rule's truth by what may be picked, for the tuples that it asks for, and by
+// The same for sixty-four valuations at once, of a case without an `every` line: digit j is the rule's truth by what may be picked, for the tuples that it asks for, and by
 // what must be, for their not-tuples. Where the two are one, that is its truth of these picks; else, where it is false, it is false of all
 // picks between them.
 pub fn true_words(lines: &[usize], facts: &[u64], pos: &[u64], neg: &[u64], n: usize) -> u64
     requires { ⌜ OfCase n (now lines) ⌝ }
-    ensures { λ r. ⌜ ((c : Case) (may must : List Tuple) (j : ℕ) → j < 64 → Accepted c → LinesOf c n (now (lines .entry)) → FactsIn (problemOf c) (now (facts .entry)) → WordsAre (problemOf c) (now (pos .entry)) (now (neg .entry)) j may must
+    ensures { λ r. ⌜ ((c : Case) (may must : List Tuple) (j : ℕ) → j < 64 → Accepted c → c .question .every ≡ none → LinesOf c n 0 (now (lines .entry)) → FactsIn (problemOf c) (now (facts .entry)) → WordsAre (problemOf c) (now (pos .entry)) (now (neg .entry)) j may must
         → digit r j ≡ treeBy c (byPicks c may must) noValues (treeOf (c .question))) ⌝ }
 {
     eval_valuations::rule_words(lines, facts, pos, neg, n)

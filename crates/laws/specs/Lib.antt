@@ -19,6 +19,7 @@
 --   Reader             what an accepted question and site have
 --   Sorts              a node's sort is 0 or that of a declared type
 --   Valued             truth of a tree by a valuation of its literals
+--   Digits             binary digits of numbers
 --   Decimals           numbers written and read
 --   Lines, Spelling    lines and fields of a text; elements written by number or by label
 --   Told               what a sheet that was read tells of its text
@@ -46,6 +47,7 @@ pub mod Labels
 pub mod Reader
 pub mod Sorts
 pub mod Valued
+pub mod Digits
 pub mod Decimals
 pub mod Lines
 pub mod Spelling

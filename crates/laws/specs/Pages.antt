@@ -14,7 +14,7 @@ use Rattle.definitions.specs.Lists.{if_then_else_, option, flatMap, mapFrom, fr
 use Rattle.definitions.specs.Sheet.Text.{decimal}
 use Rattle.definitions.specs.Sheet.Sheets.{Label}
 use Rattle.definitions.specs.Problem.Atoms.{Problem}
-use Rattle.definitions.specs.Problem.Actions.{Action, set, beginProof, proveAnd, proveOr, proveExists, proveForall, proveGoal, actionAt}
+use Rattle.definitions.specs.Problem.Actions.{Action, set, beginProof, proveAnd, proveOr, proveExists, proveForall, proveGoal, roundEnd, markIn, markOut, actionAt}
 use Rattle.definitions.specs.Reply.Desk.{said}
 use Rattle.definitions.specs.Reply.Page
 use Rattle.laws.specs.Decimals.{decimal-length}
@@ -128,6 +128,9 @@ kind-short (proveOr v row i) = omega arith
 kind-short (proveExists v row x) = omega arith
 kind-short (proveForall v row z) = omega arith
 kind-short proveGoal = omega arith
+kind-short roundEnd = omega arith
+kind-short (markIn r row) = omega arith
+kind-short (markOut r row) = omega arith
 
 pub head-length : (p : Problem) (i k : ℕ) (a : Action) → i < 10 ^ 7 → k < 10 ^ 7 → length (subjectWord p a) ≤ 12 → length (stepHead p i k a) ≡ 42
 unfolding stepHead

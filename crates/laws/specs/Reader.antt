@@ -9,26 +9,27 @@ use native.Mathlib.Omega.{arith}
 use lib.Dec.{T, ltb, leb, eqb, ltb→lt, nltb→le, eqb→eq, leb→le, nleb→lt, T-not, not-T}
 use lib.ListN.{length, getD, length-append}
 use Rattle.definitions.specs.Limits.{CaseLimits}
-use Rattle.definitions.specs.Lists.{if_then_else_, all, any, same, isEmpty, option, position, below}
+use Rattle.definitions.specs.Lists.{if_then_else_, all, any, same, isEmpty, option, isSome, listed, position, below}
 use Rattle.definitions.specs.Sheet.Text.{Line, fields, isBetween, isRelationName, number, lines, bytes}
 use Rattle.definitions.specs.Refusal.{Result, refused, accepted, _>>=_, refuseIf, given, readLines, readText}
 use Rattle.definitions.specs.Limits.{textLimit}
-use Rattle.definitions.specs.Sheet.Relations.{Kind, static, plain, Fun, PFun, Inj, PInj, isChosen, isFunction, Relation, fixed, Tuple, isAmong, areDistinct, builtIn, isDeclared}
+use Rattle.definitions.specs.Sheet.Relations.{Kind, static, plain, Fun, PFun, Inj, PInj, universal, isChosen, isFunction, Relation, fixed, varying, Tuple, isAmong, areDistinct, builtIn, isDeclared}
 use Rattle.definitions.specs.Sheet.Formula.{allForms, nesting, isKnown, isScoped, isTyped, typeNumber, sortNamed, isType}
 use Rattle.definitions.specs.Sheet.Parsing.{readFormula}
 use Rattle.definitions.specs.Sheet.Sheets
-use Sheets.{Element, Entry, rel, type, choose, rule, size, label, member, fact, pick, step, arityOf, element, elements, labelOf, memberOf, kindNamed}
+use Sheets.{Element, Entry, rel, type, choose, every, rule, size, label, member, fact, pick, step, arityOf, everyArityOf, element, elements, labelOf, memberOf, kindNamed}
 use Sheets.{chooseOf, withOne, withTwo, withElements, entry, entryOf, Rule, Draft, Question, relations, isRuled, isNewName, addRel, addType}
-use Sheets.{placeSort, addChoose, addRule, addToQuestion, questionLine, readQuestion, relationsOf, firstRel, used, Label, elementOf, elementsOf}
+use Sheets.{placeSort, addChoose, addEvery, addRule, addToQuestion, questionLine, readQuestion, relationsOf, firstRel, used, Label, elementOf, elementsOf}
 use Sheets.{isInRange, addTuple, Member, isMember, hasMember, SiteDraft, Site, Labelled, addSize, isTaken, addLabel, addMember, addFact, addToSite}
 use Sheets.{siteLine, readSite, addToPicks, picksLine, readPicks}
-use Rattle.definitions.specs.Problem.Truth.{Case, membersOf}
+use Rattle.definitions.specs.Problem.Truth.{Case, membersOf, everyTuples}
 use Rattle.definitions.specs.Problem.Atoms.{Problem, problemOf, atoms}
 use Rattle.definitions.specs.Problem.Actions.{actions}
-use Rattle.definitions.specs.Reply.Outcome.{CaseRead, readFiled, readCase, ground, readProblem}
+use Rattle.definitions.specs.Problem.Built.{bound}
+use Rattle.definitions.specs.Reply.Outcome.{CaseRead, readFiled, readCase, tooManyValues, ground, readProblem}
 use Rattle.laws.specs.Booleans.{T-and-l, T-and-r, T-of, T-or, not-not-T, not-or-l, not-or-r, or-l, or-r}
 use Rattle.laws.specs.Tuples.{distinct-snoc, same-eq, same-refl}
-use Rattle.laws.specs.Lists.{all-at, any-of, mem-below}
+use Rattle.laws.specs.Lists.{all-at, any-of, mem-below, none-some}
 use Rattle.laws.specs.Repeats.{Once, once-append}
 use Rattle.laws.specs.Members.{IsRange, MembersFit, no-members, members-range}
 use Rattle.laws.specs.SetRows.{fun-chosen}
@@ -142,6 +143,7 @@ unfoldable EntryFits : Entry → Type 0
 EntryFits (rel name a) = Arity a
 EntryFits (type name) = Unit {0}
 EntryFits (choose name a k types) = Fit a k × (isFunction k ≡ false → types ≡ [])
+EntryFits (every name a) = (1 ≤ a) × (a ≤ 2)
 EntryFits (rule f) = Unit {0}
 EntryFits (size n) = Unit {0}
 EntryFits (label x name) = T (isRelationName name)
@@ -162,6 +164,13 @@ all-there (some a) = tt
 arity-fits : (f : List ℕ) → Holds Arity (arityOf f)
 unfolding arityOf
 arity-fits f = holds-option (λ _. Unit {0}) Arity (number f) _ (all-there (number f)) (λ a _. holds-if Arity (isBetween 1 3 a) (some a) none (λ t. holds-some Arity a (between 1 3 a t)) (holds-none Arity))
+
+every-arity-fits : (f : List ℕ) → Holds (λ a. (1 ≤ a) × (a ≤ 2)) (everyArityOf f)
+unfolding everyArityOf
+every-arity-fits f = holds-option Arity Few (arityOf f) _ (arity-fits f) (λ a h. holds-if Few (leb a 2) (some a) none (λ t. holds-some Few a (h .0, leb→le a 2 t)) (holds-none Few))
+  where
+    Few : ℕ → Type 0
+    Few a = (1 ≤ a) × (a ≤ 2)
 
 two-few : Arity 2
 two-few = (omega arith, omega arith)
@@ -228,6 +237,7 @@ entry-fits (w ∷ fs) =
     holds-if EntryFits (same w (bytes "rel")) _ _ (λ t. two-fits (λ name a. option (arityOf a) none (λ k. some (rel name k))) (λ name a. holds-option Arity EntryFits (arityOf a) _ (arity-fits a) (λ k h. holds-some EntryFits (rel name k) h)) fs)
     (holds-if EntryFits (same w (bytes "type")) _ _ (λ t. one-fits (λ f. some (type f)) (λ f. holds-some EntryFits (type f) tt) fs)
     (holds-if EntryFits (same w (bytes "choose")) _ _ (λ t. choose-fits fs)
+    (holds-if EntryFits (same w (bytes "every")) _ _ (λ t. two-fits (λ name a. option (everyArityOf a) none (λ k. some (every name k))) (λ name a. holds-option (λ k. (1 ≤ k) × (k ≤ 2)) EntryFits (everyArityOf a) _ (every-arity-fits a) (λ k h. holds-some EntryFits (every name k) h)) fs)
     (holds-if EntryFits (same w (bytes "rule")) _ _ (λ t. one-fits (λ f. some (rule f)) (λ f. holds-some EntryFits (rule f) tt) fs)
     (holds-if EntryFits (same w (bytes "size")) _ _ (λ t. one-fits (λ f. option (number f) none (λ n. some (size n))) (λ f. holds-option (λ _. Unit {0}) EntryFits (number f) _ (all-there (number f)) (λ n _. holds-some EntryFits (size n) tt)) fs)
     (holds-if EntryFits (same w (bytes "label")) _ _ (λ t. two-fits labelOf label-fits fs)
@@ -235,7 +245,7 @@ entry-fits (w ∷ fs) =
     (holds-if EntryFits (same w (bytes "fact")) _ _ (λ t. elements-fit fact (λ f g. tt) fs)
     (holds-if EntryFits (same w (bytes "pick")) _ _ (λ t. elements-fit pick (λ f g. tt) fs)
     (holds-if EntryFits (same w (bytes "step")) _ _ (λ t. one-fits (λ f. option (number f) none (λ n. some (step n))) (λ f. holds-option (λ _. Unit {0}) EntryFits (number f) _ (all-there (number f)) (λ n _. holds-some EntryFits (step n) tt)) fs)
-    (holds-none EntryFits))))))))))
+    (holds-none EntryFits)))))))))))
 
 line-fits : (l : Line) → Gives EntryFits (entryOf l)
 unfolding entryOf
@@ -277,9 +287,16 @@ pub record SortsFit (types : ℕ) (k : Relation) : Type 0 where
 pub unsorted-fits : (types : ℕ) (k : Relation) → (k .firsts ≡ 0) × (k .seconds ≡ 0) → SortsFit types k
 unsorted-fits types k h = record { firsts-few = omega (arith, h .0); seconds-few = omega (arith, h .1); no-sorts = λ _. h }
 
-pub record RuleFits (rels : List Relation) (types : List (List ℕ)) (chosen : List Relation) (r : Rule) : Type 0 where
+-- that of an `every` line
+pub record EveryFits (k : Relation) : Type 0 where
+  pub few : (1 ≤ k .arity) × (k .arity ≤ 2)
+  pub is-universal : k .kind ≡ universal
+  pub no-sorts : (k .firsts ≡ 0) × (k .seconds ≡ 0)
+  pub named : T (isRelationName (k .name))
+
+pub record RuleFits (rels : List Relation) (types : List (List ℕ)) (chosen : List Relation) (last : Option Relation) (r : Rule) : Type 0 where
   pub scoped : T (isScoped [] (r .formula))
-  pub known : T (isKnown (relations rels chosen) (r .formula))
+  pub known : T (isKnown (relations rels chosen last) (r .formula))
   pub typed : T (isTyped types (r .formula))
   pub nested : nesting (r .formula) ≤ 4
   pub few-forms : allForms chosen (r .formula) ≤ 64
@@ -297,8 +314,10 @@ record DraftFits (d : Draft) : Type 0 where
   chosen-fit : (k : Relation) → List·Memᴰ k (d .chosen) → Fit (k .arity) (k .kind)
   chosen-named : (k : Relation) → List·Memᴰ k (d .chosen) → T (isRelationName (k .name))
   chosen-sorted : (k : Relation) → List·Memᴰ k (d .chosen) → SortsFit (length (d .types)) k
-  apart : Apart (relations (d .rels) (d .chosen))
-  ruled-fits : Holds (RuleFits (d .rels) (d .types) (d .chosen)) (d .ruled)
+  every-fits : Holds EveryFits (d .every)
+  every-chosen : T (isSome (d .every)) → T (not (isEmpty (d .chosen)))
+  apart : Apart (relations (d .rels) (d .chosen) (d .every))
+  ruled-fits : Holds (RuleFits (d .rels) (d .types) (d .chosen) (d .every)) (d .ruled)
 
 pub mem-snoc : {A : Type 0} (P : A → Type 0) (l : List A) (x : A) → ((y : A) → List·Memᴰ y l → P y) → P x → (y : A) → List·Memᴰ y (l ++ (x ∷ [])) → P y
 mem-snoc P l x h p y m = ⊎-elim (λ q. h y q) (λ q. subst P (sym (List·Memᴰ·eq-of-singleton q)) p) (List·Memᴰ·append-cases l m)
@@ -308,13 +327,57 @@ unfolding isEmpty
 empty-nil [] t = refl
 empty-nil (x ∷ l) t = absurd t
 
-relations-snoc : (rels chosen : List Relation) (x : Relation) → relations rels (chosen ++ (x ∷ [])) ≡ relations rels chosen ++ (x ∷ [])
-unfolding relations builtIn
-relations-snoc rels chosen x = ap (λ (l : List Relation). builtIn ++ l) (sym (append-assoc rels chosen (x ∷ []))) ∙ sym (append-assoc builtIn (rels ++ chosen) (x ∷ []))
+-- without an `every` line, and with one
+pub relations-none : (rels chosen : List Relation) → relations rels chosen none ≡ builtIn ++ (rels ++ chosen)
+unfolding relations listed
+relations-none rels chosen = ap (λ (l : List Relation). builtIn ++ (rels ++ l)) (append-nil chosen)
 
-relations-snoc-rel : (rels : List Relation) (x : Relation) → relations (rels ++ (x ∷ [])) [] ≡ relations rels [] ++ (x ∷ [])
-unfolding relations builtIn
-relations-snoc-rel rels x = ap (λ (l : List Relation). builtIn ++ l) (append-nil (rels ++ (x ∷ [])) ∙ ap (λ (l : List Relation). l ++ (x ∷ [])) (sym (append-nil rels))) ∙ sym (append-assoc builtIn (rels ++ []) (x ∷ []))
+relations-every : (rels chosen : List Relation) (x : Relation) → relations rels chosen (some x) ≡ relations rels chosen none ++ (x ∷ [])
+unfolding relations listed
+relations-every rels chosen x =
+    ap (λ (l : List Relation). builtIn ++ l) (sym (append-assoc rels chosen (x ∷ []))) ∙ sym (append-assoc builtIn (rels ++ chosen) (x ∷ []))
+    ∙ ap (λ (l : List Relation). l ++ (x ∷ [])) (sym (relations-none rels chosen))
+
+relations-snoc : (rels chosen : List Relation) (x : Relation) → relations rels (chosen ++ (x ∷ [])) none ≡ relations rels chosen none ++ (x ∷ [])
+relations-snoc rels chosen x =
+    relations-none rels (chosen ++ (x ∷ [])) ∙ ap (λ (l : List Relation). builtIn ++ l) (sym (append-assoc rels chosen (x ∷ []))) ∙ sym (append-assoc builtIn (rels ++ chosen) (x ∷ []))
+    ∙ ap (λ (l : List Relation). l ++ (x ∷ [])) (sym (relations-none rels chosen))
+
+relations-snoc-rel : (rels : List Relation) (x : Relation) → relations (rels ++ (x ∷ [])) [] none ≡ relations rels [] none ++ (x ∷ [])
+relations-snoc-rel rels x =
+    relations-none (rels ++ (x ∷ [])) [] ∙ ap (λ (l : List Relation). builtIn ++ l) (append-nil (rels ++ (x ∷ [])) ∙ ap (λ (l : List Relation). l ++ (x ∷ [])) (sym (append-nil rels)))
+    ∙ sym (append-assoc builtIn (rels ++ []) (x ∷ [])) ∙ ap (λ (l : List Relation). l ++ (x ∷ [])) (sym (relations-none rels []))
+
+pub not-some : {A : Type 0} (o : Option A) → T (not (isSome o)) → o ≡ none
+unfolding isSome
+not-some none t = refl
+not-some (some a) t = absurd t
+
+-- one relation more: a `rel` where nothing else is declared, a `choose` where there is no `every` line, the relation of an `every` line
+rel-apart : (rels chosen : List Relation) (o : Option Relation) (x : Relation) → chosen ≡ [] → o ≡ none → Apart (relations rels chosen o) → T (not (isDeclared (relations rels chosen o) (x .name))) → Apart (relations (rels ++ (x ∷ [])) chosen o)
+rel-apart rels [] none x e f a n = subst Apart (sym (relations-snoc-rel rels x)) (apart-snoc (relations rels [] none) x a n)
+rel-apart rels [] (some k) x e f a n = absurd (none-some (sym f))
+rel-apart rels (c ∷ chosen) o x e f a n = absurd (nil≢cons (sym e))
+
+choose-apart : (rels chosen : List Relation) (o : Option Relation) (x : Relation) → o ≡ none → Apart (relations rels chosen o) → T (not (isDeclared (relations rels chosen o) (x .name))) → Apart (relations rels (chosen ++ (x ∷ [])) o)
+choose-apart rels chosen none x f a n = subst Apart (sym (relations-snoc rels chosen x)) (apart-snoc (relations rels chosen none) x a n)
+choose-apart rels chosen (some k) x f a n = absurd (none-some (sym f))
+
+every-apart : (rels chosen : List Relation) (o : Option Relation) (x : Relation) → o ≡ none → Apart (relations rels chosen o) → T (not (isDeclared (relations rels chosen o) (x .name))) → Apart (relations rels chosen (some x))
+every-apart rels chosen none x f a n = subst Apart (sym (relations-every rels chosen x)) (apart-snoc (relations rels chosen none) x a n)
+every-apart rels chosen (some k) x f a n = absurd (none-some (sym f))
+
+-- where nothing is chosen there is no `every` line
+no-every : {A B : Type 0} (o : Option A) (l : List B) → (T (isSome o) → T (not (isEmpty l))) → l ≡ [] → o ≡ none
+unfolding isSome isEmpty
+no-every none l h e = refl
+no-every (some a) [] h e = absurd (h tt)
+no-every (some a) (x ∷ l) h e = absurd (nil≢cons (sym e))
+
+snoc-some : {A : Type 0} (l : List A) (x : A) → T (not (isEmpty (l ++ (x ∷ []))))
+unfolding isEmpty
+snoc-some [] x = tt
+snoc-some (y ∷ l) x = tt
 
 no-types : TypesFit []
 unfolding Once
@@ -328,17 +391,17 @@ types-more : (types : List (List ℕ)) (name : List ℕ) → T (not (leb 8 (leng
 types-more types name t = let h = nleb→lt 8 (length types) t in let e = length-append types (name ∷ []) in omega arith
 
 -- where nothing was chosen there is no rule yet
-no-rule : (rels : List Relation) (types : List (List ℕ)) (chosen : List Relation) (o : Option Rule) → Holds (RuleFits rels types chosen) o → T (not (not (isEmpty chosen))) → (P : Rule → Type 0) → Holds P o
+no-rule : (rels : List Relation) (types : List (List ℕ)) (chosen : List Relation) (last : Option Relation) (o : Option Rule) → Holds (RuleFits rels types chosen last) o → T (not (not (isEmpty chosen))) → (P : Rule → Type 0) → Holds P o
 unfolding Holds
-no-rule rels types chosen none h t P = tt
-no-rule rels types chosen (some r) h t P = absurd (T-not (not (isEmpty chosen)) t (h .some-chosen))
+no-rule rels types chosen last none h t P = tt
+no-rule rels types chosen last (some r) h t P = absurd (T-not (not (isEmpty chosen)) t (h .some-chosen))
 
 not-ruled : (o : Option Rule) → T (not (isRuled o)) → (P : Rule → Type 0) → Holds P o
 unfolding Holds isRuled
 not-ruled none t P = tt
 not-ruled (some r) t P = absurd t
 
-new-name : (d : Draft) (name : List ℕ) → T (not (not (isNewName d name))) → T (not (isDeclared (relations (d .rels) (d .chosen)) name))
+new-name : (d : Draft) (name : List ℕ) → T (not (not (isNewName d name))) → T (not (isDeclared (relations (d .rels) (d .chosen) (d .every)) name))
 unfolding isNewName
 new-name d name t = T-and-r (isRelationName name) _ (not-not-T (isNewName d name) t)
 
@@ -358,13 +421,11 @@ rel-line d at name arity D h =
       chosen-fit = D .chosen-fit;
       chosen-named = D .chosen-named;
       chosen-sorted = D .chosen-sorted;
-      apart = by-list (d .chosen) (empty-nil (d .chosen) z) (D .apart) (new-name d name u);
-      ruled-fits = no-rule (d .rels) (d .types) (d .chosen) (d .ruled) (D .ruled-fits) z (RuleFits (d .rels ++ (fixed name arity ∷ [])) (d .types) (d .chosen));
+      every-fits = D .every-fits;
+      every-chosen = D .every-chosen;
+      apart = rel-apart (d .rels) (d .chosen) (d .every) (fixed name arity) (empty-nil (d .chosen) z) (no-every (d .every) (d .chosen) (D .every-chosen) (empty-nil (d .chosen) z)) (D .apart) (new-name d name u);
+      ruled-fits = no-rule (d .rels) (d .types) (d .chosen) (d .every) (d .ruled) (D .ruled-fits) z (RuleFits (d .rels ++ (fixed name arity ∷ [])) (d .types) (d .chosen) (d .every));
     })))
-  where
-    by-list : (ch : List Relation) → ch ≡ [] → Apart (relations (d .rels) ch) → T (not (isDeclared (relations (d .rels) ch) name)) → Apart (relations (d .rels ++ (fixed name arity ∷ [])) ch)
-    by-list [] e a n = subst Apart (sym (relations-snoc-rel (d .rels) (fixed name arity))) (apart-snoc (relations (d .rels) []) (fixed name arity) a n)
-    by-list (x ∷ ch) e a n = absurd (nil≢cons (sym e))
 
 -- a place's sort is 0 or that of a declared type
 pub sort-named : (types : List (List ℕ)) (name : List ℕ) → sortNamed types name ≤ length types
@@ -404,14 +465,16 @@ type-line d at name D =
       chosen-fit = D .chosen-fit;
       chosen-named = D .chosen-named;
       chosen-sorted = λ k m. sorts-more (length (d .types)) (length (d .types ++ (name ∷ []))) k (omega (arith, length-append (d .types) (name ∷ []))) (D .chosen-sorted k m);
+      every-fits = D .every-fits;
+      every-chosen = D .every-chosen;
       apart = D .apart;
-      ruled-fits = no-rule (d .rels) (d .types) (d .chosen) (d .ruled) (D .ruled-fits) (not-or-l (not (isEmpty (d .chosen))) (leb 8 (length (d .types))) t) (RuleFits (d .rels) (d .types ++ (name ∷ [])) (d .chosen));
+      ruled-fits = no-rule (d .rels) (d .types) (d .chosen) (d .every) (d .ruled) (D .ruled-fits) (not-or-l (not (isEmpty (d .chosen))) (leb 8 (length (d .types))) t) (RuleFits (d .rels) (d .types ++ (name ∷ [])) (d .chosen) (d .every));
     }))))
 
 choose-line : (d : Draft) (at : ℕ) (name : List ℕ) (arity : ℕ) (kind : Kind) (names : List (List ℕ)) → DraftFits d → Fit arity kind × (isFunction kind ≡ false → names ≡ []) → Gives DraftFits (addChoose d at name arity kind names)
 unfolding addChoose
 choose-line d at name arity kind names D h =
-    gives-bind (λ _. T (not (isRuled (d .ruled) || leb 4 (length (d .chosen))))) DraftFits _ _ (gives-refuse (isRuled (d .ruled) || leb 4 (length (d .chosen))) 3 at)
+    gives-bind (λ _. T (not (isSome (d .every) || isRuled (d .ruled) || leb 4 (length (d .chosen))))) DraftFits _ _ (gives-refuse (isSome (d .every) || isRuled (d .ruled) || leb 4 (length (d .chosen))) 3 at)
     (λ _ t. gives-bind (λ _. T (not (not (isNewName d name)))) DraftFits _ _ (gives-refuse (not (isNewName d name)) 4 at)
     (λ _ u. gives-bind (λ _. T (not (not (all (isType (d .types)) names)))) DraftFits _ _ (gives-refuse (not (all (isType (d .types)) names)) 19 at)
     (λ _ v. gives-accepted DraftFits _ (record {
@@ -420,8 +483,10 @@ choose-line d at name arity kind names D h =
       chosen-fit = mem-snoc (λ (k : Relation). Fit (k .arity) (k .kind)) (d .chosen) new (D .chosen-fit) (h .0);
       chosen-named = mem-snoc (λ (k : Relation). T (isRelationName (k .name))) (d .chosen) new (D .chosen-named) (formed-name d name u);
       chosen-sorted = mem-snoc (SortsFit (length (d .types))) (d .chosen) new (D .chosen-sorted) (record { firsts-few = place-sort (d .types) names 0; seconds-few = place-sort (d .types) names 1; no-sorts = λ e. unsorted (h .1 e) });
-      apart = subst Apart (sym (relations-snoc (d .rels) (d .chosen) new)) (apart-snoc (relations (d .rels) (d .chosen)) new (D .apart) (new-name d name u));
-      ruled-fits = not-ruled (d .ruled) (not-or-l (isRuled (d .ruled)) (leb 4 (length (d .chosen))) t) (RuleFits (d .rels) (d .types) (d .chosen ++ (new ∷ [])));
+      every-fits = D .every-fits;
+      every-chosen = λ _. snoc-some (d .chosen) new;
+      apart = choose-apart (d .rels) (d .chosen) (d .every) new (not-some (d .every) (not-or-l (isSome (d .every)) (isRuled (d .ruled)) (not-or-l (isSome (d .every) || isRuled (d .ruled)) (leb 4 (length (d .chosen))) t))) (D .apart) (new-name d name u);
+      ruled-fits = not-ruled (d .ruled) (not-or-r (isSome (d .every)) (isRuled (d .ruled)) (not-or-l (isSome (d .every) || isRuled (d .ruled)) (leb 4 (length (d .chosen))) t)) (RuleFits (d .rels) (d .types) (d .chosen ++ (new ∷ [])) (d .every));
     }))))
   where
     new : Relation
@@ -430,13 +495,31 @@ choose-line d at name arity kind names D h =
     unsorted : names ≡ [] → (placeSort (d .types) names 0 ≡ 0) × (placeSort (d .types) names 1 ≡ 0)
     unsorted e = (ap (λ (l : List (List ℕ)). placeSort (d .types) l 0) e ∙ none-sorted (d .types) 0, ap (λ (l : List (List ℕ)). placeSort (d .types) l 1) e ∙ none-sorted (d .types) 1)
 
+every-line : (d : Draft) (at : ℕ) (name : List ℕ) (arity : ℕ) → DraftFits d → (1 ≤ arity) × (arity ≤ 2) → Gives DraftFits (addEvery d at name arity)
+unfolding addEvery
+every-line d at name arity D h =
+    gives-bind (λ _. T (not (isSome (d .every) || isRuled (d .ruled) || isEmpty (d .chosen)))) DraftFits _ _ (gives-refuse (isSome (d .every) || isRuled (d .ruled) || isEmpty (d .chosen)) 3 at)
+    (λ _ t. let early = not-or-l (isSome (d .every) || isRuled (d .ruled)) (isEmpty (d .chosen)) t in
+    gives-bind (λ _. T (not (not (isNewName d name)))) DraftFits _ _ (gives-refuse (not (isNewName d name)) 4 at)
+    (λ _ u. gives-accepted DraftFits _ (record {
+      rels-fit = D .rels-fit;
+      types-fit = D .types-fit;
+      chosen-fit = D .chosen-fit;
+      chosen-named = D .chosen-named;
+      chosen-sorted = D .chosen-sorted;
+      every-fits = holds-some EveryFits (varying name arity) (record { few = h; is-universal = refl; no-sorts = (refl, refl); named = formed-name d name u });
+      every-chosen = λ _. not-or-r (isSome (d .every) || isRuled (d .ruled)) (isEmpty (d .chosen)) t;
+      apart = every-apart (d .rels) (d .chosen) (d .every) (varying name arity) (not-some (d .every) (not-or-l (isSome (d .every)) (isRuled (d .ruled)) early)) (D .apart) (new-name d name u);
+      ruled-fits = not-ruled (d .ruled) (not-or-r (isSome (d .every)) (isRuled (d .ruled)) early) (RuleFits (d .rels) (d .types) (d .chosen) (some (varying name arity)));
+    })))
+
 rule-line : (d : Draft) (at : ℕ) (text : List ℕ) → DraftFits d → Gives DraftFits (addRule d at text)
 unfolding addRule
 rule-line d at text D =
     gives-bind (λ _. T (not (isRuled (d .ruled) || isEmpty (d .chosen)))) DraftFits _ _ (gives-refuse (isRuled (d .ruled) || isEmpty (d .chosen)) 3 at)
     (λ _ t. gives-bind (λ _. Unit {0}) DraftFits (given (readFormula text) 5 at) _ (gives-given (λ _. Unit {0}) (readFormula text) 5 at (all-there (readFormula text)))
     (λ f _. gives-bind (λ _. T (not (ltb 64 (allForms (d .chosen) f) || ltb 4 (nesting f)))) DraftFits _ _ (gives-refuse (ltb 64 (allForms (d .chosen) f) || ltb 4 (nesting f)) 6 at)
-    (λ _ u. gives-bind (λ _. T (not (not (isKnown (relations (d .rels) (d .chosen)) f)))) DraftFits _ _ (gives-refuse (not (isKnown (relations (d .rels) (d .chosen)) f)) 7 at)
+    (λ _ u. gives-bind (λ _. T (not (not (isKnown (relations (d .rels) (d .chosen) (d .every)) f)))) DraftFits _ _ (gives-refuse (not (isKnown (relations (d .rels) (d .chosen) (d .every)) f)) 7 at)
     (λ _ v. gives-bind (λ _. T (not (not (isScoped [] f)))) DraftFits _ _ (gives-refuse (not (isScoped [] f)) 8 at)
     (λ _ w. gives-bind (λ _. T (not (not (isTyped (d .types) f)))) DraftFits _ _ (gives-refuse (not (isTyped (d .types) f)) 19 at)
     (λ _ x. gives-accepted DraftFits _ (record {
@@ -445,10 +528,12 @@ rule-line d at text D =
       chosen-fit = D .chosen-fit;
       chosen-named = D .chosen-named;
       chosen-sorted = D .chosen-sorted;
+      every-fits = D .every-fits;
+      every-chosen = D .every-chosen;
       apart = D .apart;
-      ruled-fits = holds-some (RuleFits (d .rels) (d .types) (d .chosen)) _ (record {
+      ruled-fits = holds-some (RuleFits (d .rels) (d .types) (d .chosen) (d .every)) _ (record {
         scoped = not-not-T (isScoped [] f) w;
-        known = not-not-T (isKnown (relations (d .rels) (d .chosen)) f) v;
+        known = not-not-T (isKnown (relations (d .rels) (d .chosen) (d .every)) f) v;
         typed = not-not-T (isTyped (d .types) f) x;
         nested = nltb→le 4 (nesting f) (not-or-r (ltb 64 (allForms (d .chosen) f)) (ltb 4 (nesting f)) u);
         few-forms = nltb→le 64 (allForms (d .chosen) f) (not-or-l (ltb 64 (allForms (d .chosen) f)) (ltb 4 (nesting f)) u);
@@ -461,6 +546,7 @@ unfolding addToQuestion EntryFits
 question-entry d at (rel name a) D h = rel-line d at name a D h
 question-entry d at (type name) D h = type-line d at name D
 question-entry d at (choose name a k types) D h = choose-line d at name a k types D h
+question-entry d at (every name a) D h = every-line d at name a D h
 question-entry d at (rule f) D h = rule-line d at f D
 question-entry d at (size n) D h = gives-refused DraftFits 3 at
 question-entry d at (label x name) D h = gives-refused DraftFits 3 at
@@ -480,18 +566,19 @@ pub record QuestionFits (q : Question) : Type 0 where
   pub chosen-fit : (k : Relation) → List·Memᴰ k (q .chosen) → Fit (k .arity) (k .kind)
   pub chosen-named : (k : Relation) → List·Memᴰ k (q .chosen) → T (isRelationName (k .name))
   pub chosen-sorted : (k : Relation) → List·Memᴰ k (q .chosen) → SortsFit (length (q .types)) k
+  pub every-fits : Holds EveryFits (q .every)
   pub apart : Apart (relationsOf q)
-  pub rule-fits : RuleFits (q .rels) (q .types) (q .chosen) (q .rule)
+  pub rule-fits : RuleFits (q .rels) (q .types) (q .chosen) (q .every) (q .rule)
 
-builtIn-apart : Apart (relations [] [])
-unfolding relations builtIn Apart isDeclared any same
+builtIn-apart : Apart (relations [] [] none)
+unfolding relations listed builtIn Apart isDeclared any same
 builtIn-apart = (tt, (tt, (tt, (tt, (tt, tt)))))
 
 pub question-fits : (text : List ℕ) → Gives QuestionFits (readQuestion text)
-unfolding readQuestion relationsOf
+unfolding readQuestion relationsOf isSome
 question-fits text =
-    gives-bind DraftFits QuestionFits (readText questionLine (record { rels = []; types = []; chosen = []; ruled = none }) text) _
-    (gives-text DraftFits questionLine line-step (record { rels = []; types = []; chosen = []; ruled = none }) text
+    gives-bind DraftFits QuestionFits (readText questionLine (record { rels = []; types = []; chosen = []; every = none; ruled = none }) text) _
+    (gives-text DraftFits questionLine line-step (record { rels = []; types = []; chosen = []; every = none; ruled = none }) text
     (record {
       rels-fit = λ k m. absurd (List·Memᴰ·not-nil m);
       types-fit = no-types;
@@ -499,12 +586,13 @@ question-fits text =
       chosen-named
           = λ k m. absurd (List·Memᴰ·not-nil m);
       chosen-sorted = λ k m. absurd (List·Memᴰ·not-nil m);
+      every-fits = holds-none EveryFits;
+      every-chosen = λ t. absurd t;
       apart = builtIn-apart;
-      ruled-fits = holds-none
-          (RuleFits [] [] []);
+      ruled-fits = holds-none (RuleFits [] [] [] none);
     }))
-    (λ d D. gives-bind (RuleFits (d .rels) (d .types) (d .chosen)) QuestionFits (given (d .ruled) 3 (length text)) _ (gives-given (RuleFits (d .rels) (d .types) (d .chosen)) (d .ruled) 3 (length text) (D .ruled-fits))
-    (λ r R. gives-accepted QuestionFits _ (record { rels-fit = D .rels-fit; types-fit = D .types-fit; chosen-fit = D .chosen-fit; chosen-named = D .chosen-named; chosen-sorted = D .chosen-sorted; apart = D .apart; rule-fits = R })))
+    (λ d D. gives-bind (RuleFits (d .rels) (d .types) (d .chosen) (d .every)) QuestionFits (given (d .ruled) 3 (length text)) _ (gives-given (RuleFits (d .rels) (d .types) (d .chosen) (d .every)) (d .ruled) 3 (length text) (D .ruled-fits))
+    (λ r R. gives-accepted QuestionFits _ (record { rels-fit = D .rels-fit; types-fit = D .types-fit; chosen-fit = D .chosen-fit; chosen-named = D .chosen-named; chosen-sorted = D .chosen-sorted; every-fits = D .every-fits; apart = D .apart; rule-fits = R })))
 
 -- ---- tuples of a sheet
 -- a tuple of one of the relations, whose numbers begin at `first`, over n elements
@@ -631,6 +719,7 @@ unfolding addToSite EntryFits
 site-entry L few rs types d at (rel name a) D h = gives-refused (SiteSoFar rs types) 3 at
 site-entry L few rs types d at (type name) D h = gives-refused (SiteSoFar rs types) 3 at
 site-entry L few rs types d at (choose name a k names) D h = gives-refused (SiteSoFar rs types) 3 at
+site-entry L few rs types d at (every name a) D h = gives-refused (SiteSoFar rs types) 3 at
 site-entry L few rs types d at (rule f) D h = gives-refused (SiteSoFar rs types) 3 at
 site-entry L few rs types d at (size n) D h = size-line rs types L few d at n (d .sized) D
 site-entry L few rs types d at (label x name) D h = label-line rs types (d .labels) (d .members) (d .facts) (d .sized) at x name h D
@@ -685,6 +774,7 @@ module _ (rs : List Relation) (first n : ℕ) (labels : List Label) (K : LabelsF
   picks-entry ts at (rel name a) D = gives-refused _ 3 at
   picks-entry ts at (type name) D = gives-refused _ 3 at
   picks-entry ts at (choose name a k types) D = gives-refused _ 3 at
+  picks-entry ts at (every name a) D = gives-refused _ 3 at
   picks-entry ts at (rule f) D = gives-refused _ 3 at
   picks-entry ts at (size m) D = gives-refused _ 3 at
   picks-entry ts at (label x name) D = gives-refused _ 3 at
@@ -745,20 +835,29 @@ pub record ProblemFits (L : CaseLimits) (p : Problem) : Type 0 where
   pub is-accepted : Accepted case
   pub few-atoms : atoms p ≤ L .atoms
   pub few-actions : actions p ≤ L .actions
+  pub few-tuples : T (isSome (p .source .question .every)) → everyTuples (p .source) ≤ 8
+  pub few-steps : T (isSome (p .source .question .every)) → bound p ≤ L .steps
 
 module _ (L : CaseLimits) where
   ground-fits : (c : Case) → Accepted c → Gives (ProblemFits L) (ground L c)
-  unfolding ground
+  unfolding ground tooManyValues
   ground-fits c A =
       let p = problemOf c in
       gives-bind (λ _. T (not (ltb (L .atoms) (atoms p) || ltb (L .actions) (actions p)))) (ProblemFits L) _ _ (gives-refuse (ltb (L .atoms) (atoms p) || ltb (L .actions) (actions p)) 11 zero)
-      (λ _ t. gives-accepted (ProblemFits L) p (record {
+      (λ _ t. gives-bind (λ _. T (not (isSome (p .source .question .every) && (ltb 8 (everyTuples (p .source)) || ltb (L .steps) (bound p))))) (ProblemFits L) _ _ (gives-refuse (isSome (p .source .question .every) && (ltb 8 (everyTuples (p .source)) || ltb (L .steps) (bound p))) 23 zero)
+      (λ _ u. gives-accepted (ProblemFits L) p (record {
         case = c;
         is-problem = refl;
         is-accepted = A;
         few-atoms = nltb→le (L .atoms) (atoms p) (not-or-l (ltb (L .atoms) (atoms p)) (ltb (L .actions) (actions p)) t);
         few-actions = nltb→le (L .actions) (actions p) (not-or-r (ltb (L .atoms) (atoms p)) (ltb (L .actions) (actions p)) t);
-      }))
+        few-tuples = λ s. nltb→le 8 (everyTuples (p .source)) (not-or-l (ltb 8 (everyTuples (p .source))) (ltb (L .steps) (bound p)) (not-and-T (isSome (p .source .question .every)) _ s u));
+        few-steps = λ s. nltb→le (L .steps) (bound p) (not-or-r (ltb 8 (everyTuples (p .source))) (ltb (L .steps) (bound p)) (not-and-T (isSome (p .source .question .every)) _ s u));
+      })))
+    where
+      not-and-T : (a b : Bool) → T a → T (not (a && b)) → T (not b)
+      not-and-T true b t u = u
+      not-and-T false b t u = absurd t
 
   -- what acceptance gives
   pub acceptance : L .elements ≤ 64 → (question site : List ℕ) (p : Problem) → readProblem L question site ≡ accepted p → ProblemFits L p

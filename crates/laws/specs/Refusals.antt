@@ -12,8 +12,8 @@ use Rattle.definitions.specs.Lists.{if_then_else_, all, any, option, isIn}
 use Rattle.definitions.specs.Sheet.Text.{Line, lines}
 use Rattle.definitions.specs.Refusal.{Result, refused, accepted, _>>=_, refuseIf, given, readLines, readText, caseNumbers, readyNumbers, runNumbers, picksNumbers, findNumbers, monotoneNumbers}
 use Rattle.definitions.specs.Sheet.Relations.{Relation, Tuple}
-use Rattle.definitions.specs.Sheet.Sheets.{Element, Entry, rel, type, choose, rule, size, label, member, fact, pick, step, entryOf, Draft, addRel, addType}
-use Rattle.definitions.specs.Sheet.Sheets.{addChoose, addRule, addToQuestion, questionLine, readQuestion, firstRel, Label, addTuple, SiteDraft, addSize}
+use Rattle.definitions.specs.Sheet.Sheets.{Element, Entry, rel, type, choose, every, rule, size, label, member, fact, pick, step, entryOf, Draft, addRel, addType}
+use Rattle.definitions.specs.Sheet.Sheets.{addChoose, addEvery, addRule, addToQuestion, questionLine, readQuestion, firstRel, Label, addTuple, SiteDraft, addSize}
 use Rattle.definitions.specs.Sheet.Sheets.{addLabel, addMember, addFact, addToSite, siteLine, readSite, addToPicks, picksLine, readPicks, addToSteps}
 use Rattle.definitions.specs.Sheet.Sheets.{stepsLine, readSteps}
 use Rattle.definitions.specs.Problem.Truth.{Case, firstOfOtherKind}
@@ -25,7 +25,7 @@ use Rattle.definitions.specs.Reply.Page.{pageBytes, pageOf, laid, pagedFrom, pa
 use Rattle.definitions.specs.Reply.Judgement.{judge}
 use Rattle.definitions.specs.Reply.Finding.{leastPicks, foundWords}
 use Rattle.definitions.specs.Reply.Monotone.{monotone}
-use Rattle.definitions.specs.Reply.Outcome.{CaseRead, readFiled, readCase, ground, readProblem, Ready, asked, nothing, satisfying, roomFor, sizes, action}
+use Rattle.definitions.specs.Reply.Outcome.{withoutEvery, CaseRead, readFiled, readCase, ground, readProblem, Ready, asked, nothing, satisfying, roomFor, sizes, action}
 use Rattle.definitions.specs.Reply.Outcome.{stateLength, picksLength, ThirdInput, asText, asNumbers, takeSteps, textPicks, picksRoom, spareWord, spareRefusal}
 use Rattle.definitions.specs.Reply.Outcome.{takePicks, readyToRun, checkedFrom, checkSteps, picksReadFrom, picksFromSteps, kindRefusal, Plan, plan}
 use Rattle.definitions.specs.Reply.Outcome.{builtFrom, buildSteps}
@@ -104,10 +104,11 @@ other A at = refused-by Sheet A 3 at refl
 
 -- ---- the question
 question-add : (d : Draft) (at : ℕ) (e : Entry) → Refuses Sheet (addToQuestion d at e)
-unfolding addToQuestion addRel addType addChoose addRule isIn any
+unfolding addToQuestion addRel addType addChoose addEvery addRule isIn any
 question-add d at (rel name arity) = bind-by Sheet _ _ (if-by Sheet _ 3 at refl) (λ _. bind-by Sheet _ _ (if-by Sheet _ 4 at refl) (λ _. accepted-by Sheet _))
 question-add d at (type name) = bind-by Sheet _ _ (if-by Sheet _ 3 at refl) (λ _. bind-by Sheet _ _ (if-by Sheet _ 4 at refl) (λ _. bind-by Sheet _ _ (if-by Sheet _ 19 at refl) (λ _. accepted-by Sheet _)))
 question-add d at (choose name arity kind types) = bind-by Sheet _ _ (if-by Sheet _ 3 at refl) (λ _. bind-by Sheet _ _ (if-by Sheet _ 4 at refl) (λ _. bind-by Sheet _ _ (if-by Sheet _ 19 at refl) (λ _. accepted-by Sheet _)))
+question-add d at (every name arity) = bind-by Sheet _ _ (if-by Sheet _ 3 at refl) (λ _. bind-by Sheet _ _ (if-by Sheet _ 4 at refl) (λ _. accepted-by Sheet _))
 question-add d at (rule text) = bind-by Sheet _ _ (if-by Sheet _ 3 at refl) (λ _. bind-by Sheet _ _ (given-by Sheet _ 5 at refl) (λ f. bind-by Sheet _ _ (if-by Sheet _ 6 at refl)
     (λ _. bind-by Sheet _ _ (if-by Sheet _ 7 at refl) (λ _. bind-by Sheet _ _ (if-by Sheet _ 8 at refl) (λ _. bind-by Sheet _ _ (if-by Sheet _ 19 at refl) (λ _. accepted-by Sheet _))))))
 question-add d at (size n) = other Draft at
@@ -147,6 +148,7 @@ unfolding addToSite addFact isIn any
 site-add L rels types d at (rel name arity) = other SiteDraft at
 site-add L rels types d at (type name) = other SiteDraft at
 site-add L rels types d at (choose name arity kind names) = other SiteDraft at
+site-add L rels types d at (every name arity) = other SiteDraft at
 site-add L rels types d at (rule text) = other SiteDraft at
 site-add L rels types d at (size n) = size-by L d at n (d .sized)
 site-add L rels types d at (label x name) = label-by d at x name
@@ -167,6 +169,7 @@ unfolding addToPicks
 picks-add rs first n labels ts at (rel name arity) = other (List Tuple) at
 picks-add rs first n labels ts at (type name) = other (List Tuple) at
 picks-add rs first n labels ts at (choose name arity kind types) = other (List Tuple) at
+picks-add rs first n labels ts at (every name arity) = other (List Tuple) at
 picks-add rs first n labels ts at (rule text) = other (List Tuple) at
 picks-add rs first n labels ts at (size m) = other (List Tuple) at
 picks-add rs first n labels ts at (label x name) = other (List Tuple) at
@@ -180,6 +183,7 @@ unfolding addToSteps
 steps-add ks at (rel name arity) = other (List ℕ) at
 steps-add ks at (type name) = other (List ℕ) at
 steps-add ks at (choose name arity kind types) = other (List ℕ) at
+steps-add ks at (every name arity) = other (List ℕ) at
 steps-add ks at (rule text) = other (List ℕ) at
 steps-add ks at (size m) = other (List ℕ) at
 steps-add ks at (label x name) = other (List ℕ) at
@@ -209,7 +213,7 @@ case-by L question site = bind-by Sheet _ _ (filed-by L question site) (λ r. ac
 
 ground-by : (L : CaseLimits) (c : Case) → Refuses Sheet (ground L c)
 unfolding ground isIn any
-ground-by L c = bind-by Sheet _ _ (if-by Sheet _ 11 zero refl) (λ _. accepted-by Sheet _)
+ground-by L c = bind-by Sheet _ _ (if-by Sheet _ 11 zero refl) (λ _. bind-by Sheet _ _ (if-by Sheet _ 23 zero refl) (λ _. accepted-by Sheet _))
 
 abbrev pub Early : ℕ → Type 0
 Early = In readyNumbers
@@ -222,12 +226,24 @@ pub room-by : (needed room : ℕ) → Refuses Early (roomFor needed room)
 unfolding roomFor isIn any
 room-by needed room = if-by Early _ 12 needed refl
 
+pub nothing-by : {A : Type 0} (a : A) → Refuses Sheet (nothing a)
+unfolding nothing
+nothing-by a = accepted-by Sheet tt
+
 -- what every call begins with
-pub asked-by : {A : Type 0} (L : CaseLimits) (question site : List ℕ) (third : CaseRead → Result A) (rooms : Problem → Result (Unit {0})) → ((c : CaseRead) → Refuses Sheet (third c)) → ((p : Problem) → Refuses Early (rooms p)) → Refuses Early (asked L question site third nothing nothing rooms)
+pub tested-by : {A : Type 0} (L : CaseLimits) (question site : List ℕ) (third : CaseRead → Result A) (late : Case → Result (Unit {0})) (rooms : Problem → Result (Unit {0})) → ((c : CaseRead) → Refuses Sheet (third c)) → ((c : Case) → Refuses Sheet (late c)) → ((p : Problem) → Refuses Early (rooms p)) → Refuses Early (asked L question site third nothing late rooms)
 unfolding asked nothing
-asked-by L question site third rooms h g =
+tested-by L question site third late rooms h f g =
     bind-by Early _ _ (weaken sheet-early _ (filed-by L question site)) (λ c. bind-by Early _ _ (weaken sheet-early _ (h c)) (λ t. bind-by Early _ _ (accepted-by Early tt) (λ _.
-    bind-by Early _ _ (weaken sheet-early _ (ground-by L (c .case))) (λ p. bind-by Early _ _ (accepted-by Early tt) (λ _. bind-by Early _ _ (g p) (λ _. accepted-by Early _))))))
+    bind-by Early _ _ (weaken sheet-early _ (ground-by L (c .case))) (λ p. bind-by Early _ _ (weaken sheet-early _ (f (c .case))) (λ _. bind-by Early _ _ (g p) (λ _. accepted-by Early _))))))
+
+pub asked-by : {A : Type 0} (L : CaseLimits) (question site : List ℕ) (third : CaseRead → Result A) (rooms : Problem → Result (Unit {0})) → ((c : CaseRead) → Refuses Sheet (third c)) → ((p : Problem) → Refuses Early (rooms p)) → Refuses Early (asked L question site third nothing nothing rooms)
+asked-by L question site third rooms h g = tested-by L question site third nothing rooms h nothing-by g
+
+-- a case with an `every` line is 23
+pub every-by : (c : Case) → Refuses Sheet (withoutEvery c)
+unfolding withoutEvery isIn any
+every-by c = if-by Sheet _ 23 zero refl
 
 -- of a case alone, where no buffer is lent
 alone-by : {A : Type 0} (L : CaseLimits) (question site : List ℕ) (third : CaseRead → Result A) → ((c : CaseRead) → Refuses Sheet (third c)) → Refuses Sheet (asked L question site third nothing nothing nothing)
@@ -235,10 +251,6 @@ unfolding asked nothing
 alone-by L question site third h =
     bind-by Sheet _ _ (filed-by L question site) (λ c. bind-by Sheet _ _ (h c) (λ t. bind-by Sheet _ _ (accepted-by Sheet tt) (λ _.
     bind-by Sheet _ _ (ground-by L (c .case)) (λ p. bind-by Sheet _ _ (accepted-by Sheet tt) (λ _. bind-by Sheet _ _ (accepted-by Sheet tt) (λ _. accepted-by Sheet _))))))
-
-pub nothing-by : {A : Type 0} (a : A) → Refuses Sheet (nothing a)
-unfolding nothing
-nothing-by a = accepted-by Sheet tt
 
 -- what a run refuses with
 abbrev pub Late : ℕ → Type 0
@@ -391,7 +403,7 @@ module _ (L : CaseLimits) (question site : List ℕ) where
   pub words-refuse : (room k place : ℕ) → foundWords L question site room ≡ refused k place → In (readyNumbers ++ findNumbers) k
   unfolding foundWords leastPicks isIn any all
   words-refuse room k place e = told Finds _ k place e
-      (bind-by Finds _ _ (weaken (among readyNumbers (readyNumbers ++ findNumbers) refl) _ (asked-by L question site nothing _ nothing-by (λ p. room-by (picksLength p) room)))
+      (bind-by Finds _ _ (weaken (among readyNumbers (readyNumbers ++ findNumbers) refl) _ (tested-by L question site nothing withoutEvery _ nothing-by every-by (λ p. room-by (picksLength p) room)))
       (λ r. bind-by Finds _ _ (bind-by Finds _ _ (if-by Finds _ 20 zero refl) (λ _. bind-by Finds _ _ (given-by Finds _ 21 zero refl) (λ m. accepted-by Finds _))) (λ F. accepted-by Finds _)))
 
   abbrev Wants : ℕ → Type 0

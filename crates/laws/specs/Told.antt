@@ -13,7 +13,7 @@ use Rattle.definitions.specs.Lists.{if_then_else_, all, same, option, flatMap, 
 use Rattle.definitions.specs.Sheet.Text.{bytes, decimal, number, onFirst, split, Line, lines, linesFrom, fields, isBetween, isRelationName}
 use Rattle.definitions.specs.Refusal.{Result, accepted, refuseIf, given, readLines, readText}
 use Rattle.definitions.specs.Sheet.Relations.{Kind, plain, Relation, Tuple, isAmong}
-use Rattle.definitions.specs.Sheet.Sheets.{Element, Entry, rel, type, choose, rule, size, label, member, fact, pick, step, arityOf, kindNamed, chooseOf}
+use Rattle.definitions.specs.Sheet.Sheets.{Element, Entry, rel, type, choose, every, rule, size, label, member, fact, pick, step, arityOf, everyArityOf, kindNamed, chooseOf}
 use Rattle.definitions.specs.Sheet.Sheets.{element, elements, labelOf, memberOf, withOne, withTwo, withElements, entry, entryOf, Label, elementsOf}
 use Rattle.definitions.specs.Sheet.Sheets.{isInRange, used, addTuple, addToPicks, picksLine, readPicks, addToSteps, stepsLine, readSteps}
 use Rattle.definitions.specs.Reply.Desk.{printLine, stepLine}
@@ -63,6 +63,7 @@ unfoldable pub Says : List (List ℕ) → Entry → Type 0
 Says fs (rel name a) = Unit {0}
 Says fs (type name) = Unit {0}
 Says fs (choose name a k types) = Unit {0}
+Says fs (every name a) = Unit {0}
 Says fs (rule f) = Unit {0}
 Says fs (size n) = (fs ≡ bytes "size" ∷ decimal n ∷ []) × (n < 10 ^ 7)
 Says fs (label x name) = (f : List ℕ) × (fs ≡ bytes "label" ∷ f ∷ name ∷ [])
@@ -138,6 +139,7 @@ entry-told (w ∷ fs) =
     holds-if (Says (w ∷ fs)) (same w (bytes "rel")) _ _ (λ t. two-told (w ∷ fs) _ fs (λ f g. holds-option (λ a. arityOf g ≡ some a) (Says (w ∷ fs)) (arityOf g) _ (holds-self (arityOf g)) (λ a e. holds-some (Says (w ∷ fs)) (rel f a) tt)))
     (holds-if (Says (w ∷ fs)) (same w (bytes "type")) _ _ (λ t. one-told (w ∷ fs) _ fs (λ f. holds-some (Says (w ∷ fs)) (type f) tt))
     (holds-if (Says (w ∷ fs)) (same w (bytes "choose")) _ _ (λ t. choose-told (w ∷ fs) fs)
+    (holds-if (Says (w ∷ fs)) (same w (bytes "every")) _ _ (λ t. two-told (w ∷ fs) _ fs (λ f g. holds-option (λ a. everyArityOf g ≡ some a) (Says (w ∷ fs)) (everyArityOf g) _ (holds-self (everyArityOf g)) (λ a e. holds-some (Says (w ∷ fs)) (every f a) tt)))
     (holds-if (Says (w ∷ fs)) (same w (bytes "rule")) _ _ (λ t. one-told (w ∷ fs) _ fs (λ f. holds-some (Says (w ∷ fs)) (rule f) tt))
     (holds-if (Says (w ∷ fs)) (same w (bytes "size")) _ _ (λ t. number-told size (bytes "size") w fs t (λ k h. h))
     (holds-if (Says (w ∷ fs)) (same w (bytes "label")) _ _ (λ t. label-told w fs t)
@@ -145,7 +147,7 @@ entry-told (w ∷ fs) =
     (holds-if (Says (w ∷ fs)) (same w (bytes "fact")) _ _ (λ t. elements-told fact (bytes "fact") w fs t (λ name es h. h))
     (holds-if (Says (w ∷ fs)) (same w (bytes "pick")) _ _ (λ t. elements-told pick (bytes "pick") w fs t (λ name es h. h))
     (holds-if (Says (w ∷ fs)) (same w (bytes "step")) _ _ (λ t. number-told step (bytes "step") w fs t (λ k h. h))
-    (holds-none (Says (w ∷ fs))))))))))))
+    (holds-none (Says (w ∷ fs)))))))))))))
 
 holds-told : {A : Type 0} (P : A → Type 0) (o : Option A) (a : A) → o ≡ some a → Holds P o → P a
 unfolding Holds
@@ -208,6 +210,7 @@ unfolding addToSteps Says isAccepted
 steps-add acc at fs (rel name a) m s e = absurd (refused-accepted e)
 steps-add acc at fs (type name) m s e = absurd (refused-accepted e)
 steps-add acc at fs (choose name a k types) m s e = absurd (refused-accepted e)
+steps-add acc at fs (every name a) m s e = absurd (refused-accepted e)
 steps-add acc at fs (rule f) m s e = absurd (refused-accepted e)
 steps-add acc at fs (size n) m s e = absurd (refused-accepted e)
 steps-add acc at fs (label x name) m s e = absurd (refused-accepted e)
@@ -283,6 +286,7 @@ module _ (rs : List Relation) (first n : ℕ) (labels : List Label) (K : LabelsF
   picks-add acc at fs (rel name a) m s e = absurd (refused-accepted e)
   picks-add acc at fs (type name) m s e = absurd (refused-accepted e)
   picks-add acc at fs (choose name a k types) m s e = absurd (refused-accepted e)
+  picks-add acc at fs (every name a) m s e = absurd (refused-accepted e)
   picks-add acc at fs (rule f) m s e = absurd (refused-accepted e)
   picks-add acc at fs (size k) m s e = absurd (refused-accepted e)
   picks-add acc at fs (label x name) m s e = absurd (refused-accepted e)

@@ -1,5 +1,5 @@
 -- Building steps from picks: what `plan` answers with buffers long enough, and what an answer of it tells.
-use Prim.Native.Nat.{ℕ, zero, _<_, _≤_}
+use Prim.Native.Nat.{ℕ, zero, _+_, _*_, _^_, _<_, _≤_}
 use mathlib.Core.Path.{_≡_, refl, sym, ap, subst, _∙_}
 use mathlib.Core.Bool.{Bool, true, false, not}
 use mathlib.Core.Option.{Option, none, some}
@@ -12,10 +12,10 @@ use Rattle.definitions.specs.Lists.{filter, below}
 use Rattle.definitions.specs.Refusal.{Result, refused, accepted, _>>=_, refuseIf}
 use Rattle.definitions.specs.Sheet.Relations.{Tuple, isChosen}
 use Rattle.definitions.specs.Sheet.Sheets.{Label, readPicks, firstChosen}
-use Rattle.definitions.specs.Problem.Truth.{Case, eachChosen, isOfKind, arePicks, areOfKinds, firstOfOtherKind, ruleIsTrue}
-use Rattle.definitions.specs.Problem.Atoms.{Problem, problemOf, relationAt, tuplesOf}
+use Rattle.definitions.specs.Problem.Truth.{Case, eachChosen, isOfKind, arePicks, areOfKinds, firstOfOtherKind, everyTuples, values, ruleIsTrue}
+use Rattle.definitions.specs.Problem.Atoms.{Problem, problemOf, problemWith, relationAt, tuplesOf, nodeAtoms}
 use Rattle.definitions.specs.Problem.Built.{chosenNumbers, builtSteps, builtCount, bound}
-use Rattle.definitions.specs.Reply.Outcome.{readFiled, readCase, ground, asked, nothing, satisfying, roomFor, stateLength, picksLength, ThirdInput, asText, asNumbers, textPicks, picksRoom, spareWord, spareRefusal, takePicks, lentPicks, kindRefusal, Plan, plan, written, builtFrom}
+use Rattle.definitions.specs.Reply.Outcome.{readFiled, readCase, tooManyValues, ground, asked, nothing, satisfying, roomFor, stateLength, picksLength, ThirdInput, asText, asNumbers, textPicks, picksRoom, spareWord, spareRefusal, takePicks, lentPicks, kindRefusal, Plan, plan, written, builtFrom}
 use Rattle.definitions.specs.Reply.Demand.{isAccepted}
 use Rattle.laws.specs.Booleans.{T-of, T-true}
 use Rattle.laws.specs.Results.{accepted-eq, bind-parts, not-refused, refused-accepted}
@@ -30,7 +30,7 @@ use Rattle.meaning.specs.Sound.{Inside, tupleAt}
 use Rattle.meaning.specs.Grounded.{good}
 use Rattle.meaning.specs.Picks.{fit-picks, inside-picks, picks-inside, picks-distinct}
 use Rattle.meaning.specs.Kinds.{tested-kinds}
-use Rattle.meaning.specs.Count.{built-length, built-bound}
+use Rattle.meaning.specs.Count.{built-length, built-bound, built-most}
 use Rattle.meaning.specs.Lent.{lent-at, lent-once, numbers-once}
 
 -- ---- lent picks are tuples of the `choose` relations, none twice
@@ -51,7 +51,10 @@ module _ (c : Case) (A : Accepted c) where
 -- the problem that is grounded is the case's
 pub ground-is : (L : CaseLimits) (c : Case) (p : Problem) → ground L c ≡ accepted p → p ≡ problemOf c
 unfolding ground
-ground-is L c p e = let (u, a, g) = bind-parts (refuseIf _ 11 zero) (λ _. accepted (problemOf c)) p e in sym (accepted-eq (problemOf c) p g)
+ground-is L c p e =
+    let (u, a, g) = bind-parts (refuseIf _ 11 zero) (λ _. refuseIf (tooManyValues L (problemOf c)) 23 zero >>= λ _. accepted (problemOf c)) p e in
+    let (v, b, h) = bind-parts (refuseIf (tooManyValues L (problemOf c)) 23 zero) (λ _. accepted (problemOf c)) p g in
+    sym (accepted-eq (problemOf c) p h)
 
 -- ---- the picks that are handed over: read from a text, or the tuples of words that are long enough and have no spare bit set
 abbrev pub picksGiven : Case → List Label → Problem → ThirdInput → Result (List Tuple)
@@ -184,6 +187,10 @@ built-tells (refused n place) state steps k e = absurd (refused-accepted e)
 built-tells (accepted b) state steps k e = (b, refl, sym (accepted-eq (length (b .steps)) k e), refl)
 
 -- ---- how many the built steps are, for picks in the words of the definitions
+pub count-most : (c : Case) (A : Accepted c) (F : List Tuple) → arePicks c F ≡ true → areOfKinds c F ≡ true → builtCount (problemOf c) F ≤ length F + 1 + 2 ^ everyTuples c * (nodeAtoms (problemOf c) + everyTuples c + 1)
+unfolding values problemOf problemWith
+count-most c A F P k = built-most (problemOf c) (good c A) F (tested-kinds c A F (picks-inside c A F (T-of P)) (T-of k))
+
 pub count-case : (c : Case) (A : Accepted c) (F : List Tuple) → arePicks c F ≡ true → areOfKinds c F ≡ true
     → (length (builtSteps (problemOf c) F) ≡ builtCount (problemOf c) F) × (builtCount (problemOf c) F ≤ bound (problemOf c))
 count-case c A F P k =

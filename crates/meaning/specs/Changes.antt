@@ -7,7 +7,7 @@ use lib.Dec.{T, eqb, eqb→eq, eqb-refl}
 use borrow.Author.Tests.{eq-eqb}
 use Rattle.definitions.specs.Lists.{if_then_else_, any}
 use Rattle.definitions.specs.Sheet.Relations.{Relation, isFunction, isInjective}
-use Rattle.definitions.specs.Problem.Atoms.{Problem, Atom, guess, proof, goal, tuple, notTuple, freeDomain, freeRange, holdsNode, atomNumber, State}
+use Rattle.definitions.specs.Problem.Atoms.{Problem, Atom, guess, proof, goal, tuple, notTuple, freeDomain, freeRange, holdsNode, marked, atomNumber, State}
 use Rattle.definitions.specs.Problem.Actions.{Action, freeAtoms, adds, removes}
 use Rattle.definitions.specs.Problem.Strips.{after}
 use Rattle.laws.specs.Booleans.{and-T, T-and-l, T-and-r, T-of, T-ext}
@@ -25,6 +25,7 @@ sort (notTuple r row) = 4
 sort (freeDomain r x) = 5
 sort (freeRange r y) = 6
 sort (holdsNode v row) = 7
+sort (marked r row) = 8
 
 unfoldable pub whose : Atom → ℕ
 whose guess = 0
@@ -35,6 +36,7 @@ whose (notTuple r row) = r
 whose (freeDomain r x) = r
 whose (freeRange r y) = r
 whose (holdsNode v row) = v
+whose (marked r row) = r
 
 unfoldable pub which : Atom → ℕ
 which guess = 0
@@ -45,6 +47,7 @@ which (notTuple r row) = row
 which (freeDomain r x) = x
 which (freeRange r y) = y
 which (holdsNode v row) = row
+which (marked r row) = row
 
 unfoldable pub sameAtom : Atom → Atom → Bool
 sameAtom x y = eqb (sort x) (sort y) && eqb (whose x) (whose y) && eqb (which x) (which y)
@@ -57,7 +60,8 @@ atomOf (suc (suc (suc zero))) r row = tuple r row
 atomOf (suc (suc (suc (suc zero)))) r row = notTuple r row
 atomOf (suc (suc (suc (suc (suc zero))))) r row = freeDomain r row
 atomOf (suc (suc (suc (suc (suc (suc zero)))))) r row = freeRange r row
-atomOf (suc (suc (suc (suc (suc (suc (suc k))))))) r row = holdsNode r row
+atomOf (suc (suc (suc (suc (suc (suc (suc zero))))))) r row = holdsNode r row
+atomOf (suc (suc (suc (suc (suc (suc (suc (suc k)))))))) r row = marked r row
 
 atom-of : (x : Atom) → atomOf (sort x) (whose x) (which x) ≡ x
 unfolding atomOf sort whose which
@@ -69,6 +73,7 @@ atom-of (notTuple r row) = refl
 atom-of (freeDomain r x) = refl
 atom-of (freeRange r y) = refl
 atom-of (holdsNode v row) = refl
+atom-of (marked r row) = refl
 
 pub same-atom : (x y : Atom) → T (sameAtom x y) → x ≡ y
 unfolding sameAtom

@@ -12,7 +12,7 @@ use lib.ListN.{length, getD, take, drop}
 use Rattle.definitions.specs.Lists.{all, option, before, upTo}
 use Rattle.definitions.specs.Sheet.Relations.{Tuple}
 use Rattle.definitions.specs.Problem.Tree.{Tree, Trees, leaf, forallNode, existsNode, andNode, orNode, end, _then_, nodes, Part, partsFrom, parts, howMany, nodeSort}
-use Rattle.definitions.specs.Problem.Atoms.{Problem, nodeAt, rowsOf, Atom, guess, proof, goal, tuple, notTuple, freeDomain, freeRange, holdsNode, atomNumber, State}
+use Rattle.definitions.specs.Problem.Atoms.{Problem, nodeAt, rowsOf, Atom, guess, proof, goal, tuple, notTuple, freeDomain, freeRange, holdsNode, marked, atomNumber, State}
 use Rattle.definitions.specs.Problem.Actions.{Action, proveAnd, proveOr, proveExists, proveForall, Values, withValue, valuesAt, partAtom, partAtoms, underAtom, forallNeeds, needs}
 use Rattle.definitions.specs.Problem.Strips.{mayTake}
 use Rattle.definitions.specs.Problem.Built.{treeHolds, isTrueAt}
@@ -39,6 +39,7 @@ isProofAtom (notTuple r row) = true
 isProofAtom (freeDomain r x) = false
 isProofAtom (freeRange r y) = false
 isProofAtom (holdsNode v row) = true
+isProofAtom (marked r row) = false
 
 -- which node atoms are decided, by node and row
 abbrev pub Decided : Type 0
@@ -54,6 +55,7 @@ says p F D (notTuple r row) = means p F (notTuple r row)
 says p F D (freeDomain r x) = false
 says p F D (freeRange r y) = false
 says p F D (holdsNode v row) = D v row && isTrueAt p F (nodeAt p v) row
+says p F D (marked r row) = false
 
 abbrev pub Knows : Problem → List Tuple → Decided → State → Type 0
 Knows p F D s = (x : Atom) → IsAtom p x → T (isProofAtom x) → s (atomNumber p x) ≡ says p F D x

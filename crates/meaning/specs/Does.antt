@@ -12,7 +12,7 @@ use lib.ListN.{length, getD, take, drop}
 use Rattle.definitions.specs.Lists.{if_then_else_, all, any, filter, option, from, below, upTo, before}
 use Rattle.definitions.specs.Sheet.Relations.{Tuple}
 use Rattle.definitions.specs.Problem.Tree.{Tree, Trees, leaf, forallNode, existsNode, andNode, orNode, end, _then_, nodes, Part, partsFrom, parts, howMany, isForall, nodeSort}
-use Rattle.definitions.specs.Problem.Atoms.{Problem, nodeAt, rowsOf, nodeWidth, Atom, guess, proof, goal, tuple, notTuple, freeDomain, freeRange, holdsNode, atomNumber, State}
+use Rattle.definitions.specs.Problem.Atoms.{Problem, nodeAt, rowsOf, nodeWidth, Atom, guess, proof, goal, tuple, notTuple, freeDomain, freeRange, holdsNode, marked, atomNumber, State}
 use Rattle.definitions.specs.Problem.Actions.{Action, proveAnd, proveOr, proveExists, proveForall, proveGoal, actionNumber, Values, withValue, valuesAt, partAtom, partAtoms, underAtom, forallNeeds, needs, adds, removes}
 use Rattle.definitions.specs.Problem.Strips.{mayTake, after, reachesFrom}
 use Rattle.definitions.specs.Problem.Built.{treeHolds, treesHold, someHolds, isTrueAt, least, stepFor, trueRows, nodeSteps}
@@ -136,6 +136,7 @@ module _ (p : Problem) (G : Good p) where
     High k (freeDomain r x) = ⊥
     High k (freeRange r y) = ⊥
     High k (holdsNode w row) = k ≤ w
+    High k (marked r row) = ⊥
 
     abbrev pub Low : ℕ → Atom → Type 0
     Low k x = T (means p P x) × High k x
@@ -289,6 +290,7 @@ module _ (p : Problem) (G : Good p) where
     split-low v s e (notTuple r row) w q = inl q
     split-low v s e (freeDomain r y) w q = absurd (q .1)
     split-low v s e (freeRange r y) w q = absurd (q .1)
+    split-low v s e (marked r row) w q = absurd (q .1)
     split-low v s e (holdsNode k row) w q = ⊎-elim
         (λ a. inr (row, subst (λ (t : Tree). row < nodeWidth (p .size) t) (ap (nodeAt p) (sym a) ∙ e) (w .1), subst (λ (t : Tree). T (isTrueAt p P t row)) (ap (nodeAt p) (sym a) ∙ e) (q .0), ap (λ (z : ℕ). holdsNode z row) (sym a)))
         (λ a. inl (q .0, a))

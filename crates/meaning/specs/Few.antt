@@ -13,9 +13,9 @@ use Rattle.definitions.specs.Lists.{option, flatMap, sum}
 use Rattle.definitions.specs.Sheet.Text.{bytes, split, isBetween}
 use Rattle.definitions.specs.Refusal.{accepted}
 use Rattle.definitions.specs.Sheet.Relations.{Relation, Tuple}
-use Rattle.definitions.specs.Sheet.Sheets.{Entry, rel, type, choose, rule, size, label, member, fact, pick, step, entryOf, Label, addToPicks, picksLine, readPicks, readSteps}
+use Rattle.definitions.specs.Sheet.Sheets.{Entry, rel, type, choose, every, rule, size, label, member, fact, pick, step, entryOf, Label, addToPicks, picksLine, readPicks, readSteps}
 use Rattle.definitions.specs.Problem.Atoms.{Problem}
-use Rattle.definitions.specs.Problem.Actions.{Action, set, beginProof, proveAnd, proveOr, proveExists, proveForall, proveGoal, actionAt}
+use Rattle.definitions.specs.Problem.Actions.{Action, set, beginProof, proveAnd, proveOr, proveExists, proveForall, proveGoal, roundEnd, markIn, markOut, actionAt}
 use Rattle.definitions.specs.Problem.Strips.{run, pickOf, picksOf}
 use Rattle.definitions.specs.Problem.Built.{chosenNumbers, pickedRows}
 use Rattle.definitions.specs.Reply.Outcome.{asText, nothing, roomFor, stateLength, takeSteps, readyToRun, Plan, plan}
@@ -69,6 +69,9 @@ set-few p (k ∷ ks) =
     one (some (proveExists v row x)) = omega arith
     one (some (proveForall v row z)) = omega arith
     one (some proveGoal) = omega arith
+    one (some roundEnd) = omega arith
+    one (some (markIn r row)) = omega arith
+    one (some (markOut r row)) = omega arith
 
 -- ---- picks
 module _ (rs : List Relation) (first n : ℕ) (labels : List Label) where
@@ -77,6 +80,7 @@ module _ (rs : List Relation) (first n : ℕ) (labels : List Label) where
   add-long acc at fs (rel name a) m s e = absurd (refused-accepted e)
   add-long acc at fs (type name) m s e = absurd (refused-accepted e)
   add-long acc at fs (choose name a k types) m s e = absurd (refused-accepted e)
+  add-long acc at fs (every name a) m s e = absurd (refused-accepted e)
   add-long acc at fs (rule f) m s e = absurd (refused-accepted e)
   add-long acc at fs (size k) m s e = absurd (refused-accepted e)
   add-long acc at fs (label x name) m s e = absurd (refused-accepted e)

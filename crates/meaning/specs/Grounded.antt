@@ -1,20 +1,20 @@
 -- The problem of an accepted case is a good one.
 use Prim.Native.Nat.{ℕ, zero, suc, _+_, _-_, _<_, _≤_}
-use mathlib.Core.Path.{_≡_, refl, sym, ap, ap₂, subst, _∙_}
+use mathlib.Core.Path.{_≡_, refl, sym, ap, ap₂, subst, subst₂, _∙_}
 use mathlib.Core.Logic.{_⊎_, inl, inr, ⊎-elim}
-use mathlib.Core.Bool.{Bool, true, false, _&&_, _||_}
-use mathlib.Core.Option.{some}
-use mathlib.Core.List.{List, [], _∷_, _++_, map, append-assoc, List·Memᴰ, List·Memᴰ·head, List·Memᴰ·tail, List·Memᴰ·append-cases}
+use mathlib.Core.Bool.{Bool, true, false, not, _&&_, _||_}
+use mathlib.Core.Option.{Option, none, some}
+use mathlib.Core.List.{List, [], _∷_, _++_, map, append-assoc, List·Memᴰ, List·Memᴰ·head, List·Memᴰ·tail, List·Memᴰ·not-nil, List·Memᴰ·eq-of-singleton, List·Memᴰ·append-cases}
 use native.Mathlib.Omega.{arith}
 use native.Mathlib.Nat.{add-zero, zero-add}
 use lib.Dec.{T, ltb, eqb, leb, lt→ltb, eqb→eq, T-not, leb→le}
 use lib.ListN.{length, getD, length-append, length-map, List·getD-append, List·getD-eq-default}
 use lib.Seq.{getD-append-add}
 use borrow.Author.Tests.{ltb-true, ltb-false, le-ltb, lt-ltb}
-use Rattle.definitions.specs.Lists.{if_then_else_, all, any, same, option, position}
-use Rattle.definitions.specs.Sheet.Relations.{Kind, static, plain, Fun, PFun, Inj, PInj, isChosen, isFunction, isTotal, Relation, Tuple, builtIn, numberOf, isDeclared, builtInHolds, isAmong}
+use Rattle.definitions.specs.Lists.{if_then_else_, all, any, same, option, isSome, listed, position}
+use Rattle.definitions.specs.Sheet.Relations.{Kind, static, plain, Fun, PFun, Inj, PInj, universal, isChosen, isUniversal, isFunction, isTotal, Relation, Tuple, builtIn, numberOf, isDeclared, builtInHolds, isAmong}
 use Rattle.definitions.specs.Sheet.Formula.{Quantified, variablesOf, Formula, Formulas, literal, negation, implication, conjunction, disjunction, exists, forall, nil, cons, nesting, nestingAll, isKnown, areKnown, isBound, areNew, isScoped, areScoped, sortOf}
-use Rattle.definitions.specs.Sheet.Sheets.{Question, relationsOf, relations, firstChosen, firstRel}
+use Rattle.definitions.specs.Sheet.Sheets.{Question, relationsOf, relations, firstChosen, firstRel, everyNumber}
 use Rattle.definitions.specs.Problem.Truth.{Case, holds}
 use Rattle.definitions.specs.Problem.Tree.{Tree, Trees, leaf, forallNode, existsNode, end, _then_, nest, leafOf, asIs, negated, allAsIs, allNegated, totalities, joined, treeOf, nodes}
 use Rattle.definitions.specs.Problem.Atoms.{Problem, problemOf, problemWith, relationAt, nodeAt}
@@ -22,8 +22,8 @@ use Rattle.laws.specs.Booleans.{T-and-l, T-and-r, T-of, T-or, and-T}
 use Rattle.laws.specs.Lists.{all-at, getD-mem}
 use Rattle.laws.specs.Positions.{place, place-lt, position-place}
 use Rattle.laws.specs.Tuples.{same-eq}
-use Rattle.laws.specs.Numbers.{noRelation}
-use Rattle.laws.specs.Reader.{Apart, Fit, SortsFit, unsorted-fits, Accepted, accepted-range}
+use Rattle.laws.specs.Numbers.{noRelation, chosen-early}
+use Rattle.laws.specs.Reader.{Holds, Apart, Fit, EveryFits, SortsFit, unsorted-fits, Accepted, accepted-range}
 use Rattle.meaning.specs.Meaning.{known-name}
 use Rattle.meaning.specs.Parts.{Within, WithinAll, Fits, FitsAll, Here, IsNode}
 use Rattle.meaning.specs.Means.{Good}
@@ -36,6 +36,7 @@ isStatic Fun = false
 isStatic PFun = false
 isStatic Inj = false
 isStatic PInj = false
+isStatic universal = false
 
 static-kind : (k : Kind) → T (isStatic k) → k ≡ static
 unfolding isStatic
@@ -45,6 +46,7 @@ static-kind Fun t = absurd t
 static-kind PFun t = absurd t
 static-kind Inj t = absurd t
 static-kind PInj t = absurd t
+static-kind universal t = absurd t
 
 static-free : (k : Kind) → k ≡ static → T (isChosen k) → ⊥
 unfolding isChosen
@@ -53,6 +55,15 @@ static-free k e t = subst (λ (x : Kind). T (isChosen x)) e t
 static-nofun : (k : Kind) → k ≡ static → T (isFunction k) → ⊥
 unfolding isFunction
 static-nofun k e t = subst (λ (x : Kind). T (isFunction x)) e t
+
+pub static-early : (k : Kind) → k ≡ static → T (isUniversal k) → ⊥
+unfolding isUniversal
+static-early k e t = subst (λ (x : Kind). T (isUniversal x)) e t
+
+-- that of an `every` line is neither chosen nor fixed nor a function
+universal-alone : (k : Kind) → k ≡ universal → T (isUniversal k) × (isChosen k ≡ false) × (isFunction k ≡ false) × (k ≡ static → ⊥)
+unfolding isUniversal isChosen isFunction isStatic
+universal-alone k e = subst (λ (x : Kind). T (isUniversal x) × (isChosen x ≡ false) × (isFunction x ≡ false) × (x ≡ static → ⊥)) (sym e) (tt, refl, refl, λ s. subst (λ (x : Kind). T (not (isStatic x))) s tt)
 
 builtIn-static : (k : Relation) → List·Memᴰ k builtIn → (k .kind ≡ static) × (1 ≤ k .arity) × (k .arity ≤ 3)
 unfolding builtIn all isStatic
@@ -101,6 +112,7 @@ total-function Fun t = tt
 total-function PFun t = tt
 total-function Inj t = tt
 total-function PInj t = tt
+total-function universal t = t
 
 -- ---- a known literal's relation has its arity
 known-at : (rs : List Relation) (r : List ℕ) (k : ℕ) → Apart rs → T (any (λ (q : Relation). same (q .name) r && eqb (q .arity) k) rs)
@@ -138,25 +150,37 @@ module _ (c : Case) (A : Accepted c) where
   unfolding relationAt problemOf problemWith
   relation-is r = refl
 
-  -- the built-in ones and the `rel`s, then the `choose`s
+  -- the built-in ones and the `rel`s, then the `choose`s, then that of an `every` line
   abbrev low : List Relation
   low = builtIn ++ c .question .rels
 
-  low-first : relationsOf (c .question) ≡ low ++ c .question .chosen
-  unfolding relationsOf relations
-  low-first = sym (append-assoc builtIn (c .question .rels) (c .question .chosen))
+  abbrev high : List Relation
+  high = c .question .chosen ++ listed (c .question .every)
 
-  pub relation-cases : (k : Relation) → List·Memᴰ k (relationsOf (c .question)) → (1 ≤ k .arity) × (k .arity ≤ 3) × ((k .kind ≡ static) ⊎ Fit (k .arity) (k .kind))
+  low-first : relationsOf (c .question) ≡ low ++ (c .question .chosen ++ listed (c .question .every))
+  unfolding relationsOf relations
+  low-first = sym (append-assoc builtIn (c .question .rels) (c .question .chosen ++ listed (c .question .every)))
+
+  -- what is known of the relation of an `every` line
+  every-fits : (k : Relation) → List·Memᴰ k (listed (c .question .every)) → EveryFits k
+  unfolding listed Holds
+  every-fits k m = by-option (c .question .every) (A .question-fits .every-fits) m
+    where
+      by-option : (o : Option Relation) → Holds EveryFits o → List·Memᴰ k (listed o) → EveryFits k
+      by-option none h m = absurd (List·Memᴰ·not-nil m)
+      by-option (some e) h m = subst EveryFits (sym (List·Memᴰ·eq-of-singleton m)) h
+
+  pub relation-cases : (k : Relation) → List·Memᴰ k (relationsOf (c .question)) → (1 ≤ k .arity) × (k .arity ≤ 3) × ((k .kind ≡ static) ⊎ (Fit (k .arity) (k .kind) ⊎ EveryFits k))
   relation-cases k m = ⊎-elim
       (λ a. ⊎-elim (λ b. let h = builtIn-static k b in (h .1, h .2, inl (h .0))) (λ b. let h = A .question-fits .rels-fit k b in (h .few .0, h .few .1, inl (h .is-static))) (List·Memᴰ·append-cases builtIn a))
-      (λ a. let h = A .question-fits .chosen-fit k a in (h .few .0, h .few .1, inr h))
+      (λ a. ⊎-elim (λ b. let h = A .question-fits .chosen-fit k b in (h .few .0, h .few .1, inr (inl h))) (λ b. let h = every-fits k b in (h .few .0, omega (arith, h .few .1), inr (inr h))) (List·Memᴰ·append-cases (c .question .chosen) a))
       (List·Memᴰ·append-cases low (subst (λ (l : List Relation). List·Memᴰ k l) low-first m))
 
   -- the sorts of a relation's places, and so whatever its number
   pub sorts-fit : (k : Relation) → List·Memᴰ k (relationsOf (c .question)) → SortsFit (length (c .question .types)) k
   sorts-fit k m = ⊎-elim
       (λ a. unsorted-fits (length (c .question .types)) k (⊎-elim (λ b. builtIn-unsorted k b) (λ b. A .question-fits .rels-fit k b .no-sorts) (List·Memᴰ·append-cases builtIn a)))
-      (λ a. A .question-fits .chosen-sorted k a)
+      (λ a. ⊎-elim (λ b. A .question-fits .chosen-sorted k b) (λ b. unsorted-fits (length (c .question .types)) k (every-fits k b .no-sorts)) (List·Memᴰ·append-cases (c .question .chosen) a))
       (List·Memᴰ·append-cases low (subst (λ (l : List Relation). List·Memᴰ k l) low-first m))
 
   pub relation-sorts : (r : ℕ) → SortsFit (length (c .question .types)) (relationAt p r)
@@ -170,16 +194,55 @@ module _ (c : Case) (A : Accepted c) where
   unfolding firstChosen firstRel
   low-count = length-append builtIn (c .question .rels)
 
-  pub count-relations : length (p .relations) ≡ firstChosen (c .question) + length (c .question .chosen)
-  count-relations = ap length (relations-are ∙ low-first) ∙ length-append low (c .question .chosen) ∙ ap (λ (x : ℕ). x + length (c .question .chosen)) low-count
+  pub count-relations : length (p .relations) ≡ firstChosen (c .question) + length (c .question .chosen) + length (listed (c .question .every))
+  count-relations =
+      let a = ap length (relations-are ∙ low-first) in
+      let b = length-append low (c .question .chosen ++ listed (c .question .every)) in
+      let d = length-append (c .question .chosen) (listed (c .question .every)) in
+      let e = low-count in
+      omega arith
 
-  pub chosen-at : (j : ℕ) → relationAt p (firstChosen (c .question) + j) ≡ getD (c .question .chosen) j noRelation
-  chosen-at j = relation-is (firstChosen (c .question) + j) ∙ ap₂ (λ (l : List Relation) (x : ℕ). getD l (x + j) noRelation) low-first (sym low-count) ∙ getD-append-add low (c .question .chosen) j noRelation
+  high-at : (j : ℕ) → relationAt p (firstChosen (c .question) + j) ≡ getD (c .question .chosen ++ listed (c .question .every)) j noRelation
+  high-at j = relation-is (firstChosen (c .question) + j) ∙ ap₂ (λ (l : List Relation) (x : ℕ). getD l (x + j) noRelation) low-first (sym low-count) ∙ getD-append-add low (c .question .chosen ++ listed (c .question .every)) j noRelation
+
+  pub chosen-at : (j : ℕ) → j < length (c .question .chosen) → relationAt p (firstChosen (c .question) + j) ≡ getD (c .question .chosen) j noRelation
+  chosen-at j h = high-at j ∙ List·getD-append (c .question .chosen) (listed (c .question .every)) noRelation j h
+
+  -- the relation of an `every` line
+  pub every-at : (e : Relation) → c .question .every ≡ some e → (everyNumber (c .question) < length (p .relations)) × (relationAt p (everyNumber (c .question)) ≡ e) × T (isUniversal (e .kind))
+  unfolding everyNumber listed
+  every-at e h =
+      let n = count-relations in
+      let l : length (listed (c .question .every)) ≡ 1 = ap (λ (o : Option Relation). length (listed o)) h in
+      let z : length (c .question .chosen) ≡ length (c .question .chosen) + 0 = omega arith in (
+        omega arith,
+        high-at (length (c .question .chosen)) ∙ ap (λ (j : ℕ). getD (c .question .chosen ++ listed (c .question .every)) j noRelation) z ∙ getD-append-add (c .question .chosen) (listed (c .question .every)) 0 noRelation ∙ ap (λ (o : Option Relation). getD (listed o) 0 noRelation) h,
+        universal-alone (e .kind) (every-fits e (subst (λ (o : Option Relation). List·Memᴰ e (listed o)) (sym h) (List·Memᴰ·head refl)) .is-universal) .0,
+      )
+
+  -- a relation past the fixed ones is chosen or that of an `every` line
+  pub high-cases : (r : ℕ) → firstChosen (c .question) ≤ r → r < length (p .relations) → ((j : ℕ) × (r ≡ firstChosen (c .question) + j) × (j < length (c .question .chosen))) ⊎ ((e : Relation) × (c .question .every ≡ some e) × (r ≡ everyNumber (c .question)))
+  unfolding everyNumber listed
+  high-cases r h l = by-option (c .question .every) refl (ltb (r - firstChosen (c .question)) (length (c .question .chosen))) refl
+    where
+      by-option : (o : Option Relation) → c .question .every ≡ o → (b : Bool) → ltb (r - firstChosen (c .question)) (length (c .question .chosen)) ≡ b
+          → ((j : ℕ) × (r ≡ firstChosen (c .question) + j) × (j < length (c .question .chosen))) ⊎ ((e : Relation) × (o ≡ some e) × (r ≡ firstChosen (c .question) + length (c .question .chosen)))
+      by-option o e true t = inl (r - firstChosen (c .question), omega arith, ltb-true _ _ t)
+      by-option none e false t =
+          let n = count-relations in
+          let z : length (listed (c .question .every)) ≡ 0 = ap (λ (o : Option Relation). length (listed o)) e in
+          let g : length (c .question .chosen) ≤ r - firstChosen (c .question) = ltb-false _ _ t in
+          absurd (omega arith)
+      by-option (some k) e false t =
+          let n = count-relations in
+          let z : length (listed (c .question .every)) ≡ 1 = ap (λ (o : Option Relation). length (listed o)) e in
+          let g : length (c .question .chosen) ≤ r - firstChosen (c .question) = ltb-false _ _ t in
+          inr (k, refl, omega arith)
 
   low-static : (r : ℕ) → r < firstChosen (c .question) → relationAt p r .kind ≡ static
   low-static r h =
       let l : r < length low = subst (λ (x : ℕ). r < x) (sym low-count) h in
-      ap (λ (k : Relation). k .kind) (relation-is r ∙ ap (λ (l : List Relation). getD l r noRelation) low-first ∙ List·getD-append low (c .question .chosen) noRelation r l)
+      ap (λ (k : Relation). k .kind) (relation-is r ∙ ap (λ (l : List Relation). getD l r noRelation) low-first ∙ List·getD-append low (c .question .chosen ++ listed (c .question .every)) noRelation r l)
       ∙ kind-of (getD low r noRelation) (getD-mem low r noRelation l)
     where
       kind-of : (k : Relation) → List·Memᴰ k low → k .kind ≡ static
@@ -191,17 +254,14 @@ module _ (c : Case) (A : Accepted c) where
     where
       by-test : (b : Bool) → ltb r (firstChosen (c .question)) ≡ b → (j : ℕ) × (r ≡ firstChosen (c .question) + j) × (j < length (c .question .chosen))
       by-test true e = absurd (static-free (relationAt p r .kind) (low-static r (ltb-true r _ e)) t)
-      by-test false e =
-          let h : firstChosen (c .question) ≤ r = ltb-false r _ e in
-          let n = count-relations in
-          (r - firstChosen (c .question), omega arith, omega arith)
+      by-test false e = ⊎-elim (λ q. q) (λ q. let (k, i, n) = q in let (a, b, u) = every-at k i in absurd (chosen-early (relationAt p r .kind) t (subst₂ (λ (x : ℕ) (y : Relation). T (isUniversal (y .kind))) (sym n) (sym (ap (relationAt p) n ∙ b)) u))) (high-cases r (ltb-false r _ e) l)
 
   pub chosen-is : (j : ℕ) → j < length (c .question .chosen) → (firstChosen (c .question) + j < length (p .relations))
       × T (isChosen (relationAt p (firstChosen (c .question) + j) .kind))
       × (T (isFunction (relationAt p (firstChosen (c .question) + j) .kind)) → relationAt p (firstChosen (c .question) + j) .arity ≡ 2)
   chosen-is j h =
       let f = A .question-fits .chosen-fit (getD (c .question .chosen) j noRelation) (getD-mem (c .question .chosen) j noRelation h) in
-      let e = chosen-at j in
+      let e = chosen-at j h in
       let n = count-relations in
       (omega arith, subst (λ (k : Relation). T (isChosen (k .kind))) (sym e) (f .chosen), subst (λ (k : Relation). T (isFunction (k .kind)) → k .arity ≡ 2) (sym e) (f .pairs))
 
@@ -211,14 +271,14 @@ module _ (c : Case) (A : Accepted c) where
       by-test : (b : Bool) → ltb r (firstChosen (c .question)) ≡ b → r < firstChosen (c .question)
       by-test true q = ltb-true r _ q
       by-test false q =
-          let h : firstChosen (c .question) ≤ r = ltb-false r _ q in
-          let n = count-relations in
-          let z : firstChosen (c .question) + (r - firstChosen (c .question)) ≡ r = omega arith in
-          absurd (static-free (relationAt p r .kind) e (subst (λ (x : ℕ). T (isChosen (relationAt p x .kind))) z (chosen-is (r - firstChosen (c .question)) (omega arith) .1)))
+          absurd (⊎-elim
+          (λ s. let (j, n, h) = s in static-free (relationAt p r .kind) e (subst (λ (x : ℕ). T (isChosen (relationAt p x .kind))) (sym n) (chosen-is j h .1)))
+          (λ s. let (k, i, n) = s in let (a, b, u) = every-at k i in static-early (relationAt p r .kind) e (subst (λ (y : Relation). T (isUniversal (y .kind))) (sym (ap (relationAt p) n ∙ b)) u))
+          (high-cases r (ltb-false r _ q) l))
 
   pairs : (r : ℕ) → r < length (p .relations) → T (isFunction (relationAt p r .kind)) → relationAt p r .arity ≡ 2
-  pairs r l t = ⊎-elim (λ e. absurd (static-nofun (relationAt p r .kind) e t)) (λ f. f .pairs t)
-      (subst (λ (k : Relation). (k .kind ≡ static) ⊎ Fit (k .arity) (k .kind)) (sym (relation-is r)) (relation-cases (getD (relationsOf (c .question)) r noRelation) (getD-mem (relationsOf (c .question)) r noRelation (subst (λ (rs : List Relation). r < length rs) relations-are l)) .2))
+  pairs r l t = ⊎-elim (λ e. absurd (static-nofun (relationAt p r .kind) e t)) (λ f. ⊎-elim (λ g. g .pairs t) (λ g. absurd (subst T (universal-alone (relationAt p r .kind) (g .is-universal) .2) t)) f)
+      (subst (λ (k : Relation). (k .kind ≡ static) ⊎ (Fit (k .arity) (k .kind) ⊎ EveryFits k)) (sym (relation-is r)) (relation-cases (getD (relationsOf (c .question)) r noRelation) (getD-mem (relationsOf (c .question)) r noRelation (subst (λ (rs : List Relation). r < length rs) relations-are l)) .2))
 
   -- ---- levels
   leaf-levels : (scope vs : List (List ℕ)) → length scope ≤ 4 → T (all (isBound scope) vs) → T (all (λ l. ltb l 4) (map (λ v. option (position (same v) scope) zero (λ k. k)) vs))
@@ -412,12 +472,12 @@ module _ (c : Case) (A : Accepted c) where
   root-here = record {
     cover = λ j l. ap (λ (x : ℕ). getD (nodes (treeOf (c .question))) x (leaf true zero [])) (zero-add j);
     within = joined-within t₀ us₀ (as-within (c .question .rule .formula) [] (A .question-fits .rule-fits .scoped) (omega (arith, A .question-fits .rule-fits .nested))) (totals-within (firstChosen (c .question)) (c .question .chosen));
-    fits = joined-fits t₀ us₀ (as-fits (c .question .rule .formula) [] known) (totals-fit (firstChosen (c .question)) (c .question .chosen) (λ j l. let h = chosen-is j l in (h .0, chosen-at j, subst (λ (k : Relation). T (isFunction (k .kind)) → k .arity ≡ 2) (chosen-at j) (h .2))));
+    fits = joined-fits t₀ us₀ (as-fits (c .question .rule .formula) [] known) (totals-fit (firstChosen (c .question)) (c .question .chosen) (λ j l. let h = chosen-is j l in (h .0, chosen-at j l, subst (λ (k : Relation). T (isFunction (k .kind)) → k .arity ≡ 2) (chosen-at j l) (h .2))));
     inside = omega arith;
   }
 
   pub good : Good p
-  unfolding problemOf problemWith treeOf
+  unfolding problemOf problemWith treeOf isSome
   good = record {
     element = A .site-fits .some-element;
     ranges = refl;
@@ -426,9 +486,22 @@ module _ (c : Case) (A : Accepted c) where
     root-here = root-here;
     root-node = joined-node t₀ us₀ (as-node (c .question .rule .formula) (A .question-fits .rule-fits .scoped) known);
     pairs = pairs;
-    high-chosen = λ r t. high r t (ltb r (firstChosen (c .question))) refl;
+    high-chosen = λ r t. high-of r t (ltb r (firstChosen (c .question))) refl;
+    sized = refl;
+    every-is = every-at;
+    every-one = one-of;
   }
     where
-      high : (r : ℕ) → T (isChosen (relationAt p r .kind)) → (b : Bool) → ltb r (firstChosen (c .question)) ≡ b → firstChosen (c .question) ≤ r
-      high r t true e = absurd (static-free (relationAt p r .kind) (low-static r (ltb-true r _ e)) t)
-      high r t false e = ltb-false r _ e
+      high-of : (r : ℕ) → T (isChosen (relationAt p r .kind)) → (b : Bool) → ltb r (firstChosen (c .question)) ≡ b → firstChosen (c .question) ≤ r
+      high-of r t true e = absurd (static-free (relationAt p r .kind) (low-static r (ltb-true r _ e)) t)
+      high-of r t false e = ltb-false r _ e
+
+      one-of : (r : ℕ) → r < length (p .relations) → T (isUniversal (relationAt p r .kind)) → (r ≡ everyNumber (c .question)) × T (isSome (c .question .every))
+      one-of r l u = by-test (ltb r (firstChosen (c .question))) refl
+        where
+          by-test : (b : Bool) → ltb r (firstChosen (c .question)) ≡ b → (r ≡ everyNumber (c .question)) × T (isSome (c .question .every))
+          by-test true e = absurd (static-early (relationAt p r .kind) (low-static r (ltb-true r _ e)) u)
+          by-test false e = ⊎-elim
+              (λ q. let (j, n, h) = q in absurd (chosen-early (relationAt p r .kind) (subst (λ (x : ℕ). T (isChosen (relationAt p x .kind))) (sym n) (chosen-is j h .1)) u))
+              (λ q. let (k, i, n) = q in (n, subst (λ (o : Option Relation). T (isSome o)) (sym i) tt))
+              (high-cases r (ltb-false r _ e) l)

@@ -13,7 +13,7 @@ use lib.Arith.{digits-lt, digits-div, digits-mod}
 use lib.Dec.{T, eqb, eqb→eq, eqb-refl, ltb, ltb→lt, nltb→le, lt→ltb}
 use lib.ListN.{length, getD}
 use Rattle.bits.specs.Table.{num, count}
-use Rattle.definitions.specs.Lists.{if_then_else_, any, filter, option, position, mapFrom, from, below, isIn}
+use Rattle.definitions.specs.Lists.{listed, if_then_else_, any, filter, option, position, mapFrom, from, below, isIn}
 use Rattle.definitions.specs.Sheet.Relations.{Kind, Relation, Tuple, isAmong, isChosen, isFunction, isInjective}
 use Rattle.definitions.specs.Sheet.Sheets.{firstChosen}
 use Rattle.definitions.specs.Problem.Truth.{Case, two, first, second, isInside, isOfKind, eachChosen, firstOfOtherKind}
@@ -219,24 +219,36 @@ filter-none f (suc b) a k h =
     let e : f a ≡ false = ap f (sym (add-zero a)) ∙ h 0 (omega arith) in
     ap (λ (x : ℕ). filter f (from a x)) n ∙ rw e (filter-none f b (suc a) k (λ i l. let q : suc a + i ≡ a + suc i = omega arith in ap f q ∙ h (suc i) (omega arith)) ∙ ap (λ (x : ℕ). filter f (from x k)) m)
 
-filter-all : (f : ℕ → Bool) (a k : ℕ) → ((i : ℕ) → i < k → f (a + i) ≡ true) → filter f (from a k) ≡ from a k
+filter-nothing : (f : ℕ → Bool) (a k : ℕ) → ((i : ℕ) → i < k → f (a + i) ≡ false) → filter f (from a k) ≡ []
 unfolding filter from
-filter-all f a zero h = refl
-filter-all f a (suc k) h =
+filter-nothing f a zero h = refl
+filter-nothing f a (suc k) h =
+    let e : f a ≡ false = ap f (sym (add-zero a)) ∙ h 0 (omega arith) in
+    rw e (filter-nothing f (suc a) k (λ i l. let q : suc a + i ≡ a + suc i = omega arith in ap f q ∙ h (suc i) (omega arith)))
+
+-- the first b pass, the k after them do not
+filter-front : (f : ℕ → Bool) (a b k : ℕ) → ((i : ℕ) → i < b → f (a + i) ≡ true) → ((i : ℕ) → i < k → f (a + (b + i)) ≡ false) → filter f (from a (b + k)) ≡ from a b
+unfolding filter from
+filter-front f a zero k h g = let e : zero + k ≡ k = omega arith in ap (λ (x : ℕ). filter f (from a x)) e ∙ filter-nothing f a k (λ i l. let q : a + i ≡ a + (zero + i) = omega arith in ap f q ∙ g i l)
+filter-front f a (suc b) k h g =
+    let n : suc b + k ≡ suc (b + k) = omega arith in
     let e : f a ≡ true = ap f (sym (add-zero a)) ∙ h 0 (omega arith) in
-    rw e (ap (λ (l : List ℕ). a ∷ l) (filter-all f (suc a) k (λ i l. let q : suc a + i ≡ a + suc i = omega arith in ap f q ∙ h (suc i) (omega arith))))
+    ap (λ (x : ℕ). filter f (from a x)) n ∙ rw e (ap (λ (l : List ℕ). a ∷ l) (filter-front f (suc a) b k (λ i l. let q : suc a + i ≡ a + suc i = omega arith in ap f q ∙ h (suc i) (omega arith)) (λ i l. let q : suc a + (b + i) ≡ a + (suc b + i) = omega arith in ap f q ∙ g i l)))
 
 module _ (c : Case) (A : Accepted c) where
-  -- their numbers follow all others
+  -- their numbers follow those of the fixed ones
   pub numbers-are : chosenNumbers (problemOf c) ≡ from (firstChosen (c .question)) (length (c .question .chosen))
   unfolding chosenNumbers below
   numbers-are =
       let f : ℕ → Bool = λ r. isChosen (relationAt (problemOf c) r .kind) in
-      ap (λ (k : ℕ). filter f (from 0 k)) (count-relations c A)
-      ∙ filter-none f (firstChosen (c .question)) 0 (length (c .question .chosen)) (λ i h. ap f (zero-add i) ∙ T-false (f i) (λ t.
+      let n = count-relations c A in
+      let e : length (problemOf c .relations) ≡ firstChosen (c .question) + (length (c .question .chosen) + length (listed (c .question .every))) = omega arith in
+      ap (λ (k : ℕ). filter f (from 0 k)) e
+      ∙ filter-none f (firstChosen (c .question)) 0 (length (c .question .chosen) + length (listed (c .question .every))) (λ i h. ap f (zero-add i) ∙ T-false (f i) (λ t.
       let q = chosen-index c A i (let k = count-relations c A in omega arith) t in omega (arith, q .1)))
-      ∙ ap (λ (a : ℕ). filter f (from a (length (c .question .chosen)))) (zero-add (firstChosen (c .question)))
-      ∙ filter-all f (firstChosen (c .question)) (length (c .question .chosen)) (λ i h. T-true (f (firstChosen (c .question) + i)) (chosen-is c A i h .1))
+      ∙ ap (λ (a : ℕ). filter f (from a (length (c .question .chosen) + length (listed (c .question .every))))) (zero-add (firstChosen (c .question)))
+      ∙ filter-front f (firstChosen (c .question)) (length (c .question .chosen)) (length (listed (c .question .every))) (λ i h. T-true (f (firstChosen (c .question) + i)) (chosen-is c A i h .1)) (λ i h. T-false (f (firstChosen (c .question) + (length (c .question .chosen) + i))) (λ t.
+      let q = chosen-index c A (firstChosen (c .question) + (length (c .question .chosen) + i)) (omega arith) t in omega (arith, q .1, q .2)))
 
   position-not : (F : List Tuple) (f : ℕ → Bool) (ks : List Relation) (a : ℕ) → ((j : ℕ) → j < length ks → not (isOfKind c F (a + j) (getD ks j noRelation)) ≡ f (a + j)) → position not (mapFrom (isOfKind c F) a ks) ≡ position f (from a (length ks))
   unfolding position mapFrom from option
@@ -259,6 +271,6 @@ module _ (c : Case) (A : Accepted c) where
   pub first-broken : (F : List Tuple) → ((t : Tuple) → List·Memᴰ t F → Inside (problemOf c) (good c A) t) → firstOfOtherKind c F ≡ position (isBroken F) (chosenNumbers (problemOf c))
   unfolding firstOfOtherKind eachChosen
   first-broken F inside = position-not F (isBroken F) (c .question .chosen) (firstChosen (c .question))
-      (λ j h. ap₂ (λ (d : Case) (k : Relation). not (isOfKind d F (firstChosen (c .question) + j) k)) (sym source-is) (sym (chosen-at c A j))
+      (λ j h. ap₂ (λ (d : Case) (k : Relation). not (isOfKind d F (firstChosen (c .question) + j) k)) (sym source-is) (sym (chosen-at c A j h))
       ∙ ap not (of-kind (problemOf c) (good c A) F inside (firstChosen (c .question) + j) (chosen-is c A j h .0)) ∙ Bool·not-not _)
       ∙ ap (position (isBroken F)) (sym numbers-are)

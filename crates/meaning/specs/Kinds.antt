@@ -3,26 +3,26 @@ use Prim.Native.Nat.{ℕ, zero, _+_, _<_}
 use mathlib.Core.Path.{_≡_, refl, sym, ap, subst, subst₂, _∙_}
 use mathlib.Core.Logic.{_↔_}
 use mathlib.Core.Bool.{Bool, true, false, not, _&&_}
-use mathlib.Core.List.{List, [], _∷_, List·Memᴰ}
+use mathlib.Core.List.{List, [], _∷_, _++_, List·Memᴰ}
 use native.Mathlib.Omega.{arith}
 use lib.Dec.{T, eqb, eqb→eq, eqb-refl, T-not, not-T}
 use lib.ListN.{length, getD}
 use borrow.Author.Tests.{eq-eqb}
-use Rattle.definitions.specs.Lists.{any, isIn}
+use Rattle.definitions.specs.Lists.{any, isIn, below}
 use Rattle.definitions.specs.Sheet.Relations.{isFunction, isInjective, Relation, Tuple}
 use Rattle.definitions.specs.Sheet.Sheets.{firstChosen}
-use Rattle.definitions.specs.Problem.Truth.{Case, membersOf, eachChosen, two, first, second, isInside, isOfKind, areOfKinds, ruleIsTrue}
+use Rattle.definitions.specs.Problem.Truth.{Case, membersOf, eachChosen, two, first, second, isInside, isOfKind, areOfKinds, values, everyValue, ruleHolds, ruleIsTrue}
 use Rattle.definitions.specs.Problem.Atoms.{Problem, problemOf, problemWith, relationAt}
 use Rattle.definitions.specs.Problem.Strips.{reachesGoal, picksOf}
 use Rattle.definitions.specs.Problem.Built.{treeHolds}
 use Rattle.laws.specs.Booleans.{T-and-l, T-and-r, T-of, T-true, and-T, not-unequal}
-use Rattle.laws.specs.Lists.{any-at, any-of, each-at, each-of}
+use Rattle.laws.specs.Lists.{all-at, all-of, any-at, any-of, below-lt, each-at, each-of, mem-below}
 use Rattle.laws.specs.Members.{in-mem, mem-in}
 use Rattle.laws.specs.Numbers.{inj-fun, noRelation}
 use Rattle.laws.specs.Reader.{Accepted}
 use Rattle.meaning.specs.Meaning.{tree-means}
 use Rattle.meaning.specs.Means.{Good}
-use Rattle.meaning.specs.Sound.{tup, Inside, OfKinds, sound}
+use Rattle.meaning.specs.Sound.{tup, Inside, OfKinds, Solves, sound}
 use Rattle.meaning.specs.Grounded.{good, chosen-at, chosen-index, chosen-is}
 
 -- a tuple of a relation with pairs
@@ -156,7 +156,7 @@ module _ (c : Case) (A : Accepted c) where
 
   pub kinds-tested : (P : List Tuple) → OfKinds p G P → T (areOfKinds c P)
   unfolding areOfKinds eachChosen
-  kinds-tested P K = each-of (isOfKind c P) (firstChosen (c .question)) (c .question .chosen) noRelation (λ j l. kinds-test P K (firstChosen (c .question) + j) (getD (c .question .chosen) j noRelation) (chosen-at c A j) (chosen-is c A j l .0))
+  kinds-tested P K = each-of (isOfKind c P) (firstChosen (c .question)) (c .question .chosen) noRelation (λ j l. kinds-test P K (firstChosen (c .question) + j) (getD (c .question .chosen) j noRelation) (chosen-at c A j l) (chosen-is c A j l .0))
 
   -- tuples of chosen relations that pass the test are of the declared kinds
   pub tested-kinds : (P : List Tuple) → ((t : Tuple) → List·Memᴰ t P → Inside p G t) → T (areOfKinds c P) → OfKinds p G P
@@ -171,14 +171,30 @@ module _ (c : Case) (A : Accepted c) where
       test : (r : ℕ) {xs : List ℕ} → Inside p G (tup r xs) → OfKind c P r (relationAt p r)
       test r i =
           let (j, e, l) = chosen-index c A r (i .known) (i .chosen) in
-          kind-at c P r (relationAt p r) (subst₂ (λ (x : ℕ) (k : Relation). T (isOfKind c P x k)) (sym e) (sym (chosen-at c A j) ∙ ap (relationAt p) (sym e)) (each-at (isOfKind c P) (firstChosen (c .question)) (c .question .chosen) noRelation h j l))
+          kind-at c P r (relationAt p r) (subst₂ (λ (x : ℕ) (k : Relation). T (isOfKind c P x k)) (sym e) (sym (chosen-at c A j l) ∙ ap (relationAt p) (sym e)) (each-at (isOfKind c P) (firstChosen (c .question)) (c .question .chosen) noRelation h j l))
 
-  pub root-means : (P : List Tuple) → treeHolds (p .source) P (λ _. zero) (p .root) ≡ ruleIsTrue c P
+  pub root-means : (P : List Tuple) → treeHolds (p .source) P (λ _. zero) (p .root) ≡ ruleHolds c P
   unfolding problemOf problemWith
   root-means P = tree-means c P A
 
+  -- the rule is true of picks exactly if the tree is true of them with each value of the `every` relation
+  abbrev pub Everywhere : List Tuple → Type 0
+  Everywhere P = (k : ℕ) → k < values c → T (treeHolds (p .source) (P ++ everyValue c k) (λ _. zero) (p .root))
+
+  pub rule-everywhere : (P : List Tuple) → T (ruleIsTrue c P) → Everywhere P
+  unfolding ruleIsTrue
+  rule-everywhere P t k h = subst T (sym (root-means (P ++ everyValue c k))) (all-at (λ k. ruleHolds c (P ++ everyValue c k)) (below (values c)) t k (mem-below (values c) k h))
+
+  pub everywhere-rule : (P : List Tuple) → Everywhere P → T (ruleIsTrue c P)
+  unfolding ruleIsTrue
+  everywhere-rule P h = all-of (λ k. ruleHolds c (P ++ everyValue c k)) (below (values c)) (λ k m. subst T (root-means (P ++ everyValue c k)) (h k (below-lt (values c) k m)))
+
   -- soundness
   pub steps-sound : (ks : List ℕ) → reachesGoal p ks ≡ true → (areOfKinds c (picksOf p ks) ≡ true) × (ruleIsTrue c (picksOf p ks) ≡ true)
+  unfolding problemOf problemWith
   steps-sound ks e =
       let s = sound p G ks (T-of e) in
-      (T-true (areOfKinds c (picksOf p ks)) (kinds-tested (picksOf p ks) (s .kinds)), sym (root-means (picksOf p ks)) ∙ T-true (treeHolds (p .source) (picksOf p ks) (λ _. zero) (p .root)) (s .true-of))
+      (T-true (areOfKinds c (picksOf p ks)) (kinds-tested (picksOf p ks) (s .kinds)), T-true (ruleIsTrue c (picksOf p ks)) (everywhere-rule (picksOf p ks) (true-of s)))
+    where
+      true-of : Solves p G (picksOf p ks) → Everywhere (picksOf p ks)
+      true-of s = s .true-of

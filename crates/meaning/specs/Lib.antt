@@ -3,7 +3,10 @@
 --   Parts              trees: free levels, nodes by preorder number
 --   Means              what each atom means in the proof phase; the nodes' actions keep to it
 --   Valid              actions need, add and remove atoms of the problem only; a step on atoms
+--   Holding            what holds, by picks
+--   Rounds             after begin-proof: what is so while a round is proved, between two rounds, and past the last
 --   Sound              steps that reach the goal set picks that solve the case
+--   Moments            they go through every value of the `every` relation
 --   Grounded           an accepted case's problem has what the laws ask of one
 --   Kinds              the declared kinds as tested and as said
 --   Grows              more literals, more picks: what stays true; fewer picks keep to the kinds
@@ -22,13 +25,18 @@
 --   HeldTuples         after steps, the tuples that hold are the picks read from them
 --   Deciding           what an action's needs say where the later nodes are decided
 --   Planning           the built steps found by what may be taken alone
+--   Marking            between two rounds: what a round's end and the marks leave
 --   BuiltState         so the steps and the state of building, and 17
 --   KindRows           16 as a test of rows
 pub mod Meaning
 pub mod Parts
 pub mod Means
 pub mod Valid
+pub mod Holding
+pub mod Values
+pub mod Rounds
 pub mod Sound
+pub mod Moments
 pub mod Grounded
 pub mod Kinds
 pub mod Grows
@@ -46,5 +54,6 @@ pub mod Changes
 pub mod HeldTuples
 pub mod Deciding
 pub mod Planning
+pub mod Marking
 pub mod BuiltState
 pub mod KindRows

@@ -13,7 +13,7 @@ use Rattle.definitions.specs.Sheet.Relations.{Relation, Tuple, numberOf, isTota
 use Rattle.definitions.specs.Sheet.Formula.{Quantified, variablesOf, Formula, Formulas, literal, negation, implication, conjunction, disjunction, exists, forall, nil, cons, isKnown, areKnown, isBound, areNew, isScoped, areScoped, sortOf}
 use Rattle.definitions.specs.Sheet.Sheets.{relationsOf, firstChosen}
 use Rattle.definitions.specs.Problem.Truth
-use Truth.{Case, holds, Binding, valueOf, rangeOf, forEvery, forSome, isTrue, allTrue, someTrue, eachChosen, isTotalIn, areTotal, ruleIsTrue}
+use Truth.{Case, holds, Binding, valueOf, rangeOf, forEvery, forSome, isTrue, allTrue, someTrue, eachChosen, isTotalIn, areTotal, ruleHolds}
 use Rattle.definitions.specs.Problem.Tree.{Tree, Trees, leaf, forallNode, existsNode, end, _then_, nest, leafOf, asIs, negated, allAsIs, allNegated, totalities, joined, treeOf}
 use Rattle.definitions.specs.Problem.Actions.{Values, withValue}
 use Rattle.definitions.specs.Problem.Built.{treeHolds, treesHold, someHolds}
@@ -205,8 +205,8 @@ module _ (c : Case) (picks : List Tuple) where
   joined-holds t (u then us) e = refl
 
   -- the tree means what the rule as written means, totalities included
-  pub tree-means : Accepted c → treeHolds c picks (λ _. zero) (treeOf (c .question)) ≡ ruleIsTrue c picks
-  unfolding treeOf ruleIsTrue areTotal eachChosen Agree isBound any relationsOf
+  pub tree-means : Accepted c → treeHolds c picks (λ _. zero) (treeOf (c .question)) ≡ ruleHolds c picks
+  unfolding treeOf ruleHolds areTotal eachChosen Agree isBound any relationsOf
   tree-means A =
       joined-holds (asIs (relationsOf (c .question)) (c .question .types) [] (c .question .rule .formula)) (totalities (firstChosen (c .question)) (c .question .chosen)) (λ _. zero)
       ∙ ap₂ _&&_ (as-means (c .question .rule .formula) [] [] (λ _. zero) (λ v t. absurd t) (A .question-fits .rule-fits .scoped) (A .question-fits .rule-fits .known))

@@ -9,13 +9,13 @@ use native.Mathlib.Nat.{zero-add}
 use lib.Arith.{digits-lt, digits-div, digits-mod}
 use lib.Dec.{T}
 use lib.ListN.{length, getD, take, drop, length-map}
-use Rattle.definitions.specs.Lists.{all, option, isIn, upTo, before, greatest}
-use Rattle.definitions.specs.Sheet.Relations.{Tuple, isChosen, isFunction}
-use Rattle.definitions.specs.Sheet.Sheets.{firstChosen}
+use Rattle.definitions.specs.Lists.{all, option, isSome, isIn, upTo, before, greatest}
+use Rattle.definitions.specs.Sheet.Relations.{Relation, Tuple, isChosen, isUniversal, isFunction}
+use Rattle.definitions.specs.Sheet.Sheets.{firstChosen, everyNumber}
 use Rattle.definitions.specs.Problem.Truth.{holds, membersOf}
 use Rattle.definitions.specs.Problem.Tree.{Tree, Trees, leaf, forallNode, existsNode, andNode, orNode, end, _then_, nodes, free, partsFrom, parts, howMany, isForall, nodeSort}
-use Rattle.definitions.specs.Problem.Atoms.{Problem, relationAt, nodeAt, rowOf, placesOf, tuplesOf, rowsOf, nodeWidth, Atom, guess, proof, goal, tuple, notTuple, freeDomain, freeRange, holdsNode}
-use Rattle.definitions.specs.Problem.Actions.{Action, set, beginProof, proveAnd, proveOr, proveExists, proveForall, proveGoal, Values, valuesIn, withValue, valuesAt, partAtom, partAtoms, underAtom, forallNeeds, needs, adds}
+use Rattle.definitions.specs.Problem.Atoms.{Problem, relationAt, nodeAt, rowOf, placesOf, tuplesOf, rowsOf, nodeWidth, Atom, guess, proof, goal, tuple, notTuple, freeDomain, freeRange, holdsNode, marked}
+use Rattle.definitions.specs.Problem.Actions.{Action, set, beginProof, proveAnd, proveOr, proveExists, proveForall, proveGoal, roundEnd, markIn, markOut, Values, valuesIn, withValue, valuesAt, partAtom, partAtoms, underAtom, forallNeeds, rootAtom, needs, adds}
 use Rattle.definitions.specs.Problem.Built.{treeHolds, treesHold, someHolds, isTrueAt}
 use Rattle.laws.specs.Booleans.{T-and-l, T-and-r, T-true, and-T, or-l, or-r}
 use Rattle.laws.specs.Lists.{any-of}
@@ -34,16 +34,33 @@ pub record Good (p : Problem) : Type 0 where
   pub root-node : IsNode p (p .root)
   pub pairs : (r : ℕ) → r < length (p .relations) → T (isFunction (relationAt p r .kind)) → relationAt p r .arity ≡ 2
   pub high-chosen : (r : ℕ) → T (isChosen (relationAt p r .kind)) → firstChosen (p .source .question) ≤ r
+  pub sized : p .source .site .size ≡ p .size
+  pub every-is : (e : Relation) → p .source .question .every ≡ some e → (everyNumber (p .source .question) < length (p .relations)) × (relationAt p (everyNumber (p .source .question)) ≡ e) × T (isUniversal (e .kind))
+  pub every-one : (r : ℕ) → r < length (p .relations) → T (isUniversal (relationAt p r .kind)) → (r ≡ everyNumber (p .source .question)) × T (isSome (p .source .question .every))
 
 unfoldable pub means : Problem → List Tuple → Atom → Bool
 means p P guess = false
 means p P proof = true
-means p P goal = treeHolds (p .source) P (λ _. zero) (p .root)
+means p P goal = not (isSome (p .source .question .every)) && treeHolds (p .source) P (λ _. zero) (p .root)
 means p P (tuple r row) = holds (p .source) P r (placesOf (p .size) (relationAt p r .arity) row)
 means p P (notTuple r row) = not (holds (p .source) P r (placesOf (p .size) (relationAt p r .arity) row))
 means p P (freeDomain r x) = true
 means p P (freeRange r y) = true
 means p P (holdsNode v row) = isTrueAt p P (nodeAt p v) row
+means p P (marked r row) = false
+
+-- the action that leaves the proof phase
+unfoldable pub isRoundEnd : Action → Bool
+isRoundEnd (set r row) = false
+isRoundEnd beginProof = false
+isRoundEnd (proveAnd v row) = false
+isRoundEnd (proveOr v row i) = false
+isRoundEnd (proveExists v row x) = false
+isRoundEnd (proveForall v row z) = false
+isRoundEnd proveGoal = false
+isRoundEnd roundEnd = true
+isRoundEnd (markIn r row) = false
+isRoundEnd (markOut r row) = false
 
 module _ (p : Problem) (G : Good p) where
   pub here-at : (v : ℕ) → v < length (p .nodeList) → Here p v (nodeAt p v)
@@ -183,9 +200,14 @@ module _ (p : Problem) (G : Good p) where
             let a : T (isTrueAt p P (nodeAt p v) (row * p .size + y)) = T-and-l (isTrueAt p P (nodeAt p v) (row * p .size + y)) true q in
             subst T (forall-at d σ u row y (k .0)) (subst (λ (s : Tree). T (isTrueAt p P s (row * p .size + y))) e a)
 
-    goal-sound : T (all (means p P) (needs p proveGoal)) → T (means p P goal)
-    unfolding needs all means
-    goal-sound t = subst T (means-at 0 (p .root) (λ _. zero) (G .root-here) (λ l. G .element)) (T-and-l (means p P (partAtom (p .size) (p .range) (λ _. zero) zero (p .root))) true t)
+    -- the root's atom
+    pub root-sound : T (means p P (rootAtom p)) → T (treeHolds (p .source) P (λ _. zero) (p .root))
+    unfolding rootAtom
+    root-sound t = subst T (means-at 0 (p .root) (λ _. zero) (G .root-here) (λ l. G .element)) t
+
+    goal-sound : IsAction p proveGoal → T (all (means p P) (needs p proveGoal)) → T (means p P goal)
+    unfolding needs all means IsAction
+    goal-sound v t = and-T (not (isSome (p .source .question .every))) _ v (root-sound (T-and-l (means p P (rootAtom p)) true t))
 
     pub set-not : (r row : ℕ) → T (all (means p P) (needs p (set r row))) → ⊥
     unfolding needs all means
@@ -195,13 +217,24 @@ module _ (p : Problem) (G : Good p) where
     unfolding needs all means
     begin-not t = t
 
-    -- no set action and no begin-proof can be taken in the proof phase, and each other action keeps to the meaning
-    pub adds-mean : (a : Action) → IsAction p a → T (all (means p P) (needs p a)) → (x : Atom) → List·Memᴰ x (adds p a) → T (means p P x)
-    unfolding IsAction adds
-    adds-mean (set r row) v t x m = absurd (set-not r row t)
-    adds-mean beginProof v t x m = absurd (begin-not t)
-    adds-mean (proveAnd v row) (l, h, (ts, e)) t x m = subst (λ (y : Atom). T (means p P y)) (sym (List·Memᴰ·eq-of-singleton m)) (and-sound v row ts l e t)
-    adds-mean (proveOr v row i) (l, h, (ts, e, g)) t x m = subst (λ (y : Atom). T (means p P y)) (sym (List·Memᴰ·eq-of-singleton m)) (or-sound v row i ts l e g t)
-    adds-mean (proveExists v row z) (l, h, (d, σ, u, e, g)) t x m = subst (λ (y : Atom). T (means p P y)) (sym (List·Memᴰ·eq-of-singleton m)) (exists-sound v row z d σ u l e g t)
-    adds-mean (proveForall v row z) (l, h, (d, σ, u, e, g)) t x m = subst (λ (y : Atom). T (means p P y)) (sym (List·Memᴰ·eq-of-singleton m)) (forall-sound v row z d σ u l e g t)
-    adds-mean proveGoal v t x m = subst (λ (y : Atom). T (means p P y)) (sym (List·Memᴰ·eq-of-singleton m)) (goal-sound t)
+    pub in-not : (r row : ℕ) → T (all (means p P) (needs p (markIn r row))) → ⊥
+    unfolding needs all means
+    in-not r row t = t
+
+    pub out-not : (r row : ℕ) → T (all (means p P) (needs p (markOut r row))) → ⊥
+    unfolding needs all means
+    out-not r row t = t
+
+    -- no set action, no begin-proof and no mark can be taken in the proof phase, and each other action but round-end keeps to the meaning
+    pub adds-mean : (a : Action) → T (not (isRoundEnd a)) → IsAction p a → T (all (means p P) (needs p a)) → (x : Atom) → List·Memᴰ x (adds p a) → T (means p P x)
+    unfolding IsAction adds isRoundEnd
+    adds-mean (set r row) i v t x m = absurd (set-not r row t)
+    adds-mean beginProof i v t x m = absurd (begin-not t)
+    adds-mean roundEnd i v t x m = absurd i
+    adds-mean (markIn r row) i v t x m = absurd (in-not r row t)
+    adds-mean (markOut r row) i v t x m = absurd (out-not r row t)
+    adds-mean (proveAnd v row) i (l, h, (ts, e)) t x m = subst (λ (y : Atom). T (means p P y)) (sym (List·Memᴰ·eq-of-singleton m)) (and-sound v row ts l e t)
+    adds-mean (proveOr v row i) j (l, h, (ts, e, g)) t x m = subst (λ (y : Atom). T (means p P y)) (sym (List·Memᴰ·eq-of-singleton m)) (or-sound v row i ts l e g t)
+    adds-mean (proveExists v row z) i (l, h, (d, σ, u, e, g)) t x m = subst (λ (y : Atom). T (means p P y)) (sym (List·Memᴰ·eq-of-singleton m)) (exists-sound v row z d σ u l e g t)
+    adds-mean (proveForall v row z) i (l, h, (d, σ, u, e, g)) t x m = subst (λ (y : Atom). T (means p P y)) (sym (List·Memᴰ·eq-of-singleton m)) (forall-sound v row z d σ u l e g t)
+    adds-mean proveGoal i v t x m = subst (λ (y : Atom). T (means p P y)) (sym (List·Memᴰ·eq-of-singleton m)) (goal-sound v t)

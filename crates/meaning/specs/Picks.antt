@@ -73,7 +73,7 @@ module _ (c : Case) where
         record {
           known = subst (λ (r : ℕ). r < length (p .relations)) e (h .0);
           chosen = subst (λ (r : ℕ). T (isChosen (relationAt p r .kind))) e (h .1);
-          long = f .length-arity ∙ ap (λ (k : Relation). k .arity) (sym (chosen-at c A (f .index)) ∙ ap (relationAt p) e);
+          long = f .length-arity ∙ ap (λ (k : Relation). k .arity) (sym (chosen-at c A (f .index) (f .inside)) ∙ ap (relationAt p) e);
           small = f .small;
         }
 
@@ -81,7 +81,7 @@ module _ (c : Case) where
     unfolding problemOf problemWith
     inside-fits t i =
         let (j, e, l) = chosen-index c A (t .relation) (i .known) (i .chosen) in
-        record { index = j; numbered = e; inside = l; length-arity = i .long ∙ ap (λ (k : Relation). k .arity) (ap (relationAt p) e ∙ chosen-at c A j); small = i .small }
+        record { index = j; numbered = e; inside = l; length-arity = i .long ∙ ap (λ (k : Relation). k .arity) (ap (relationAt p) e ∙ chosen-at c A j l); small = i .small }
 
     pub picks-inside : (F : List Tuple) → T (arePicks c F) → (t : Tuple) → List·Memᴰ t F → Inside p (good c A) t
     unfolding arePicks

@@ -15,10 +15,10 @@ use lib.Seq.{take-suc, length-take-le}
 use Rattle.definitions.specs.Lists.{if_then_else_, all, any, filter, option, position, from, below, isIn, rank, upTo}
 use Rattle.definitions.specs.Sheet.Relations.{Tuple}
 use Rattle.definitions.specs.Problem.Tree.{Tree, Trees, leaf, forallNode, existsNode, andNode, orNode, end, _then_, nodes, Part, partsFrom, parts, howMany, isForall, nodeSort}
-use Rattle.definitions.specs.Problem.Atoms.{Problem, nodeAt, rowsOf, nodeWidth, Atom, guess, proof, goal, tuple, notTuple, freeDomain, freeRange, holdsNode, atomNumber, atoms, State}
-use Rattle.definitions.specs.Problem.Actions.{Action, proveAnd, proveOr, proveExists, proveForall, choices, proveNode, withValue, valuesAt, adds, removes}
+use Rattle.definitions.specs.Problem.Atoms.{Problem, nodeAt, rowsOf, nodeWidth, Atom, guess, proof, goal, tuple, notTuple, freeDomain, freeRange, holdsNode, marked, atomNumber, atoms, State}
+use Rattle.definitions.specs.Problem.Actions.{Action, proveAnd, proveOr, proveExists, proveForall, finish, choices, proveNode, withValue, valuesAt, adds, removes}
 use Rattle.definitions.specs.Problem.Strips.{mayTake, after}
-use Rattle.definitions.specs.Problem.Built.{treeHolds, isTrueAt, least, stepFor, trueRows, nodeSteps}
+use Rattle.definitions.specs.Problem.Built.{treeHolds, isTrueAt, least, stepFor, trueRows, nodeSteps, marksAfter}
 use Rattle.laws.specs.Booleans.{and-T, T-and-l, T-and-r, T-or, or-l, or-r, T-of, T-true, T-ext, T-dec, lt-split}
 use Rattle.laws.specs.Lists.{getD-mem}
 use Rattle.laws.specs.Members.{in-mem, select-rank, least-in}
@@ -71,6 +71,22 @@ provedSteps p s zero = []
 provedSteps p s (suc v) =
     let l = rowSteps p v s zero (nodeWidth (p .size) (nodeAt p v)) in
     l ++ provedSteps p (taken p s l) v
+
+-- a round, with the value of number k: the steps for all nodes, the round's end, its marks; and d rounds from that on
+unfoldable pub roundNow : Problem → State → ℕ → List Action
+roundNow p s k = provedSteps p s (length (p .nodeList)) ++ (finish p ∷ marksAfter p k)
+
+unfoldable pub roundsNow : Problem → State → (k d : ℕ) → List Action
+roundsNow p s k zero = []
+roundsNow p s k (suc d) = roundNow p s k ++ roundsNow p (taken p s (roundNow p s k)) (suc k) d
+
+-- the state in which round k begins, if round 0 begins in s, and the one in which its end is asked for
+unfoldable pub roundState : Problem → State → ℕ → State
+roundState p s zero = s
+roundState p s (suc k) = taken p (roundState p s k) (roundNow p (roundState p s k) k)
+
+unfoldable pub provedState : Problem → State → ℕ → State
+provedState p s k = taken p (roundState p s k) (provedSteps p (roundState p s k) (length (p .nodeList)))
 
 pub taken-append : (p : Problem) (l m : List Action) (s : State) → taken p s (l ++ m) ≡ taken p (taken p s l) m
 unfolding taken
@@ -228,6 +244,7 @@ module _ (p : Problem) (G : Good p) (F : List Tuple) where
   said-more v j t (notTuple r row) q = or-false (means p F (notTuple r row))
   said-more v j t (freeDomain r x) q = absurd q
   said-more v j t (freeRange r y) q = absurd q
+  said-more v j t (marked r row) q = absurd q
   said-more v j t (holdsNode w row) q = T-ext _ _ up down
     where
       up : T ((rowsTo v j w row && isTrueAt p F (nodeAt p w) row) || (eqb w v && eqb row j)) → T (rowsTo v (suc j) w row && isTrueAt p F (nodeAt p w) row)
@@ -255,6 +272,7 @@ module _ (p : Problem) (G : Good p) (F : List Tuple) where
   said-same v j f (notTuple r row) = refl
   said-same v j f (freeDomain r x) = refl
   said-same v j f (freeRange r y) = refl
+  said-same v j f (marked r row) = refl
   said-same v j f (holdsNode w row) = T-ext _ _
       (λ h. and-T (rowsTo v (suc j) w row) _ (rows-of v (suc j) w row (⊎-elim (λ b. inl b) (λ b. inr (b .0, omega (arith, b .1))) (rows-at v j w row (T-and-l (rowsTo v j w row) _ h)))) (T-and-r (rowsTo v j w row) _ h))
       (λ h. and-T (rowsTo v j w row) _ (rows-of v j w row (⊎-elim (λ b. inl b)
@@ -311,6 +329,7 @@ module _ (p : Problem) (G : Good p) (F : List Tuple) where
   says-same D E h (notTuple r row) w = refl
   says-same D E h (freeDomain r x) w = refl
   says-same D E h (freeRange r y) w = refl
+  says-same D E h (marked r row) w = refl
   says-same D E h (holdsNode v row) w = ap (λ (b : Bool). b && isTrueAt p F (nodeAt p v) row) (h v row w)
 
   pub node-known : (v : ℕ) (s : State) → Knows p F (rowsTo v (nodeWidth (p .size) (nodeAt p v))) s → Knows p F (nodesFrom v) s
@@ -415,6 +434,7 @@ module _ (p : Problem) (G : Good p) (F : List Tuple) where
       by-kind i goal w e = by-atom i goal w e (λ v row q. no-node q tt)
       by-kind i (tuple r x) w e = by-atom i (tuple r x) w e (λ v row q. no-node q tt)
       by-kind i (notTuple r x) w e = by-atom i (notTuple r x) w e (λ v row q. no-node q tt)
+      by-kind i (marked r x) w e = by-atom i (marked r x) w e (λ v row q. no-node q tt)
       by-kind i (freeDomain r x) w e = by-atom i (freeDomain r x) w e (λ v row q. no-node q tt)
       by-kind i (freeRange r x) w e = by-atom i (freeRange r x) w e (λ v row q. no-node q tt)
 

@@ -14,9 +14,10 @@ use Rattle.definitions.specs.Limits.{usual, stepLimit}
 use Rattle.definitions.specs.Lists.{if_then_else_, below}
 use Rattle.definitions.specs.Sheet.Text.{decimal, isBetween}
 use Rattle.definitions.specs.Refusal.{Result, accepted, refuseIf}
+use Rattle.definitions.specs.Sheet.Relations.{isUniversal}
 use Rattle.definitions.specs.Problem.Tree.{Tree, free, isForall, occurs}
 use Rattle.definitions.specs.Problem.Atoms.{Problem, problemOf, problemWith, relationAt, nodeAt, placesOf, rowsOf, nodeWidth, nodeStart, atoms}
-use Rattle.definitions.specs.Problem.Actions.{Action, set, beginProof, proveAnd, proveOr, proveExists, proveForall, proveGoal, proofNumber, actionNumber, actions, actionAt}
+use Rattle.definitions.specs.Problem.Actions.{Action, set, beginProof, proveAnd, proveOr, proveExists, proveForall, proveGoal, roundEnd, markIn, markOut, proofNumber, actionNumber, actions, actionAt}
 use Rattle.definitions.specs.Reply.Outcome.{ThirdInput, asText, asNumbers, takeSteps, CaseRead, readFiled, nothing, Ready, readyToRun}
 use Rattle.definitions.specs.Problem.Strips.{run}
 use Rattle.definitions.specs.Reply.Desk.{said}
@@ -27,11 +28,11 @@ use Rattle.laws.specs.Results.{accepted-eq, bind-parts, not-refused}
 use Rattle.laws.specs.Repeats.{filter-le}
 use Rattle.laws.specs.Members.{ascending-once}
 use Rattle.laws.specs.Rows.{length-places, places-below}
-use Rattle.laws.specs.Numbers.{noRelation, IsAction, node-next, node-le, action-is, action-number, action-below}
+use Rattle.laws.specs.Numbers.{noRelation, IsAction, chosen-early, node-next, node-le, action-is, action-number, action-below}
 use Rattle.laws.specs.Asked
 use Rattle.laws.specs.Reader.{FiledFits, filed-fits, gives-if, acceptance}
 use Rattle.meaning.specs.Means.{Good}
-use Rattle.meaning.specs.Grounded.{good, relation-cases, chosen-index, chosen-at}
+use Rattle.meaning.specs.Grounded.{good, static-early, relation-cases, chosen-index, chosen-at}
 use Rattle.laws.specs.Decimals.{decimal-length}
 use Rattle.laws.specs.Lines.{name-short}
 use Rattle.meaning.specs.Building.{ground-is}
@@ -99,8 +100,15 @@ module _ (f : CaseRead) (F : FiledFits f) (few-atoms : atoms (problemOf (f .case
   unfolding IsAction
   chosen-short r row v =
       let (j, e, l) = chosen-index (f .case) (F .case-fits) r (v .0) (v .1) in
-      let q = ap (relationAt p) e ∙ chosen-at (f .case) (F .case-fits) j in
+      let q = ap (relationAt p) e ∙ chosen-at (f .case) (F .case-fits) j l in
       name-short (relationAt p r .name) (rw q (F .case-fits .question-fits .chosen-named _ (getD-mem (f .case .question .chosen) j noRelation l)))
+
+  mark-short : (r : ℕ) → r < length (p .relations) → T (isUniversal (relationAt p r .kind)) → length (relationAt p r .name) ≤ 12
+  unfolding problemOf problemWith
+  mark-short r l u = ⊎-elim
+      (λ e. absurd (static-early (relationAt p r .kind) e u))
+      (λ q. ⊎-elim (λ h. absurd (chosen-early (relationAt p r .kind) (h .chosen) u)) (λ h. name-short (relationAt p r .name) (h .named)) q)
+      (relation-cases (f .case) (F .case-fits) (relationAt p r) (name-at r l) .2)
 
   arity-few : (r : ℕ) → r < length (p .relations) → relationAt p r .arity ≤ 3
   unfolding problemOf problemWith
@@ -148,6 +156,21 @@ module _ (f : CaseRead) (F : FiledFits f) (few-atoms : atoms (problemOf (f .case
         few = omega (arith, free-count w row, length-append (freeValues p w row) (x ∷ []));
       }
       by-action proveGoal e v = record { number = low proveGoal e; subject = omega arith; part = omega arith; element = λ x m. absurd (List·Memᴰ·not-nil m); few = omega arith }
+      by-action roundEnd e v = record { number = low roundEnd e; subject = omega arith; part = omega arith; element = λ x m. absurd (List·Memᴰ·not-nil m); few = omega arith }
+      by-action (markIn r row) e v = record {
+        number = low (markIn r row) e;
+        subject = mark-short r (v .0) (v .1);
+        part = omega arith;
+        element = places-short (relationAt p r .arity) row;
+        few = omega (arith, length-places (p .size) (relationAt p r .arity) row, arity-few r (v .0));
+      }
+      by-action (markOut r row) e v = record {
+        number = low (markOut r row) e;
+        subject = mark-short r (v .0) (v .1);
+        part = omega arith;
+        element = places-short (relationAt p r .arity) row;
+        few = omega (arith, length-places (p .size) (relationAt p r .arity) row, arity-few r (v .0));
+      }
 
 -- ---- at most so many steps are ever taken from a third input
 pub taken-few : (given : ThirdInput) (ks : List ℕ) → takeSteps given ≡ accepted ks → length ks ≤ stepLimit

@@ -1,4 +1,4 @@
--- Soundness: steps that reach the goal have picks of the declared kinds, of which the tree is true.
+-- Soundness: steps that reach the goal have picks of the declared kinds, of which the tree is true with every value of the `every` relation.
 use Prim.Native.Nat.{ℕ, zero, _/_, _%_, _<_, _≤_}
 use mathlib.Core.Path.{_≡_, refl, sym, ap, ap₂, subst, subst₂, _∙_}
 use mathlib.Core.Logic.{_⊎_, inl, inr, ⊎-elim}
@@ -6,28 +6,31 @@ use mathlib.Core.Bool.{Bool, true, false, not, _&&_}
 use mathlib.Core.Option.{Option, none, some}
 use mathlib.Core.List.{List, [], _∷_, _++_, append-assoc, append-nil, List·Memᴰ, List·Memᴰ·head, List·Memᴰ·tail, List·Memᴰ·not-nil, List·Memᴰ·eq-of-singleton, Memᴰ·append-left, Memᴰ·append-right, Memᴰ·cast}
 use native.Mathlib.Omega.{arith}
-use lib.Dec.{T, ltb, T-not, not-T}
+use native.Mathlib.Nat.{one-le-pow}
+use lib.Dec.{T, T-not, not-T}
 use lib.ListN.{length, getD}
-use borrow.Author.Tests.{ltb-false, le-ltb}
-use Rattle.definitions.specs.Lists.{if_then_else_, all, any, option, flatMap}
-use Rattle.definitions.specs.Sheet.Relations.{Tuple, isAmong, areDistinct, isChosen, isFunction, isInjective, builtInHolds}
-use Rattle.definitions.specs.Sheet.Sheets.{firstRel, firstChosen}
-use Rattle.definitions.specs.Problem.Truth.{Case, holds}
+use Rattle.definitions.specs.Lists.{if_then_else_, option, isSome, flatMap}
+use Rattle.definitions.specs.Sheet.Relations.{Tuple, isAmong, areDistinct, isChosen, isFunction, isInjective}
+use Rattle.definitions.specs.Sheet.Sheets.{firstChosen}
+use Rattle.definitions.specs.Problem.Truth.{holds, everyTuples, values, everyValue}
 use Rattle.definitions.specs.Problem.Tree.{Tree, leaf, forallNode, existsNode, andNode, orNode}
-use Rattle.definitions.specs.Problem.Atoms.{Problem, relationAt, placesOf, rowOf, tuplesOf, Atom, guess, proof, goal, tuple, notTuple, freeDomain, freeRange, holdsNode, atomNumber, isInitial, tupleHolds, State, initial}
-use Rattle.definitions.specs.Problem.Actions.{Action, set, beginProof, proveAnd, proveOr, proveExists, proveForall, proveGoal, actionAt, partAtom, needs, adds, removes}
+use Rattle.definitions.specs.Problem.Atoms.{Problem, relationAt, placesOf, Atom, guess, proof, goal, tuple, notTuple, freeDomain, freeRange, holdsNode, marked, atomNumber, isInitial, tupleHolds, State, initial}
+use Rattle.definitions.specs.Problem.Actions.{Action, set, beginProof, proveAnd, proveOr, proveExists, proveForall, proveGoal, roundEnd, markIn, markOut, actionAt, partAtom, rootAtom, needs, adds, removes}
 use Rattle.definitions.specs.Problem.Strips.{mayTake, after, reachesFrom, reachesGoal, pickOf, picksOf}
 use Rattle.definitions.specs.Problem.Built.{treeHolds}
 use Rattle.laws.specs.Booleans.{T-and-l, T-and-r}
-use Rattle.laws.specs.Lists.{all-of, snoc-cases}
-use Rattle.laws.specs.Tuples.{among-mem, distinct-snoc, mem-among}
-use Rattle.laws.specs.Rows.{Below, length-places, places-below, row-places}
+use Rattle.laws.specs.Lists.{snoc-cases}
+use Rattle.laws.specs.Tuples.{among-mem, distinct-snoc}
+use Rattle.laws.specs.Rows.{Below, length-places, places-below}
 use Rattle.laws.specs.Numbers.{IsAction, IsAtom, action-is, atom-at, inj-fun, set-below, set-typed}
 use Rattle.meaning.specs.Parts.{Here, IsNode}
-use Rattle.meaning.specs.Means.{Good, means, adds-mean, set-not, part-valid}
+use Rattle.meaning.specs.Means.{Good, means, part-valid, root-sound}
+use Rattle.meaning.specs.Values.{Chosen, with-zero}
+use Rattle.meaning.specs.Rounds.{SeenBelow, Stage, proving, no-pick, stage-goal, stage-step}
+pub use Rattle.meaning.specs.Holding.{tup, tupleAt, holds-split, holds-base, holds-pick, holds-empty, holds-mono, holds-new, same-row}
 use Rattle.meaning.specs.Valid.{needs-valid, after-cases, may-at, domain-free, range-free, pair-of}
 
-unfoldable isTuple : Atom → Bool
+unfoldable pub isTuple : Atom → Bool
 isTuple guess = false
 isTuple proof = false
 isTuple goal = false
@@ -36,6 +39,7 @@ isTuple (notTuple r row) = false
 isTuple (freeDomain r x) = false
 isTuple (freeRange r y) = false
 isTuple (holdsNode v row) = false
+isTuple (marked r row) = false
 
 unfoldable isProof : Atom → Bool
 isProof guess = false
@@ -46,68 +50,7 @@ isProof (notTuple r row) = false
 isProof (freeDomain r x) = false
 isProof (freeRange r y) = false
 isProof (holdsNode v row) = false
-
-abbrev pub tup : ℕ → List ℕ → Tuple
-tup r xs = record { relation = r; places = xs }
-
--- the tuple of a row
-abbrev pub tupleAt : Problem → ℕ → ℕ → Tuple
-tupleAt p r row = tup r (placesOf (p .size) (relationAt p r .arity) row)
-
--- ---- what holds, by picks: of a `choose` the picks, of any other relation the same whatever is picked
-module _ (c : Case) where
-  abbrev high : ℕ → Type 0
-  high r = firstChosen (c .question) ≤ r
-
-  -- a relation's tuple by where its number lies
-  by-number : (P : List Tuple) (r : ℕ) (xs : List ℕ) → Bool → Bool → Bool
-  by-number P r xs b d =
-      if b then builtInHolds (c .site .size) r (getD xs 0 0) (getD xs 1 0)
-      else if d then isAmong (tup r xs) (c .site .facts)
-      else isAmong (tup r xs) P
-
-  below-rel : (r : ℕ) → high r → ltb r firstRel ≡ false
-  unfolding firstChosen
-  below-rel r h = le-ltb r firstRel (omega arith)
-
-  pub holds-split : (P : List Tuple) (r : ℕ) (xs : List ℕ) → T (holds c P r xs) → T (holds c [] r xs) ⊎ (high r × List·Memᴰ (tup r xs) P)
-  unfolding holds isAmong by-number
-  holds-split P r xs t = by-test (ltb r firstRel) (ltb r (firstChosen (c .question))) refl t
-    where
-      by-test : (b d : Bool) → ltb r (firstChosen (c .question)) ≡ d → T (by-number P r xs b d) → T (by-number [] r xs b d) ⊎ (high r × List·Memᴰ (tup r xs) P)
-      by-test true d e t = inl t
-      by-test false true e t = inl t
-      by-test false false e t = inr (ltb-false r _ e, among-mem (tup r xs) P t)
-
-  pub holds-base : (P : List Tuple) (r : ℕ) (xs : List ℕ) → T (holds c [] r xs) → T (holds c P r xs)
-  unfolding holds isAmong any by-number
-  holds-base P r xs t = by-test (ltb r firstRel) (ltb r (firstChosen (c .question))) t
-    where
-      by-test : (b d : Bool) → T (by-number [] r xs b d) → T (by-number P r xs b d)
-      by-test true d t = t
-      by-test false true t = t
-      by-test false false t = absurd t
-
-  pub holds-pick : (P : List Tuple) (r : ℕ) (xs : List ℕ) → high r → List·Memᴰ (tup r xs) P → T (holds c P r xs)
-  unfolding holds
-  holds-pick P r xs h m = rw (below-rel r h, le-ltb r (firstChosen (c .question)) h) (mem-among (tup r xs) P m)
-
-  -- of a chosen relation nothing holds without picks
-  pub holds-empty : (r : ℕ) (xs : List ℕ) → high r → T (holds c [] r xs) → ⊥
-  unfolding holds isAmong any by-number
-  holds-empty r xs h t = by-test (ltb r firstRel) (below-rel r h) (ltb r (firstChosen (c .question))) (le-ltb r (firstChosen (c .question)) h) t
-    where
-      by-test : (b : Bool) → b ≡ false → (d : Bool) → d ≡ false → T (by-number [] r xs b d) → ⊥
-      by-test true e d f t = subst T e tt
-      by-test false e true f t = subst T f tt
-      by-test false e false f t = t
-
-  -- more picks, and one more
-  pub holds-mono : (P Q : List Tuple) → ((t : Tuple) → List·Memᴰ t P → List·Memᴰ t Q) → (r : ℕ) (xs : List ℕ) → T (holds c P r xs) → T (holds c Q r xs)
-  holds-mono P Q h r xs t = ⊎-elim (λ q. holds-base Q r xs q) (λ q. holds-pick Q r xs (q .0) (h _ (q .1))) (holds-split P r xs t)
-
-  pub holds-new : (P : List Tuple) (t : Tuple) (r : ℕ) (xs : List ℕ) → T (holds c (P ++ (t ∷ [])) r xs) → T (holds c P r xs) ⊎ (tup r xs ≡ t)
-  holds-new P t r xs h = ⊎-elim (λ q. inl (holds-base P r xs q)) (λ q. ⊎-elim (λ m. inl (holds-pick P r xs (q .0) m)) (λ e. inr e) (snoc-cases P t (tup r xs) (q .1))) (holds-split (P ++ (t ∷ [])) r xs h)
+isProof (marked r row) = false
 
 module _ (p : Problem) (G : Good p) where
   -- a tuple of a chosen relation, over the elements
@@ -126,7 +69,7 @@ module _ (p : Problem) (G : Good p) where
   pub record Solves (P : List Tuple) : Type 0 where
     pub kinds : OfKinds P
     pub distinct : T (areDistinct P)
-    pub true-of : T (treeHolds (p .source) P (λ _. zero) (p .root))
+    pub true-of : (k : ℕ) → k < values (p .source) → T (treeHolds (p .source) (P ++ everyValue (p .source) k) (λ _. zero) (p .root))
 
   -- what each atom says while guess holds
   unfoldable pub asks : List Tuple → Atom → Type 0
@@ -138,17 +81,12 @@ module _ (p : Problem) (G : Good p) where
   asks P (freeDomain r x) = (y : ℕ) → List·Memᴰ (tup r (x ∷ y ∷ [])) P → ⊥
   asks P (freeRange r y) = (x : ℕ) → List·Memᴰ (tup r (x ∷ y ∷ [])) P → ⊥
   asks P (holdsNode v row) = ⊥
+  asks P (marked r row) = ⊥
 
   pub record Guessing (P : List Tuple) (s : State) : Type 0 where
     pub kinds : OfKinds P
     pub distinct : T (areDistinct P)
     pub asked : (x : Atom) → IsAtom p x → T (s (atomNumber p x)) → asks P x
-
-  pub same-row : (r row r′ row′ : ℕ) → row < tuplesOf (p .size) (relationAt p r) → row′ < tuplesOf (p .size) (relationAt p r′) → tupleAt p r′ row′ ≡ tupleAt p r row → (r′ ≡ r) × (row′ ≡ row)
-  unfolding tuplesOf
-  same-row r row r′ row′ h h′ e =
-      let q : r′ ≡ r = ap (λ (t : Tuple). t .relation) e in
-      (q, sym (row-places (p .size) (relationAt p r′ .arity) row′ (G .element) h′) ∙ ap (λ (t : Tuple). rowOf (p .size) (t .places)) e ∙ row-places (p .size) (relationAt p r .arity) row (G .element) h)
 
   module _ (P : List Tuple) (s : State) (r row : ℕ) (I : Guessing P s) (v : IsAction p (set r row)) (ok : T (mayTake p s (set r row))) where
     abbrev t₀ : Tuple
@@ -239,7 +177,7 @@ module _ (p : Problem) (G : Good p) where
     set-asked (tuple r′ row′) w (inr m) = subst (asks P₁) (sym (List·Memᴰ·eq-of-singleton m)) (holds-pick (p .source) P₁ r _ chosen-high (Memᴰ·append-right P (List·Memᴰ·head refl)))
     set-asked (notTuple r′ row′) w (inl q) = not-T (holds (p .source) P₁ r′ (placesOf (p .size) (relationAt p r′ .arity) row′)) (λ t. ⊎-elim
         (λ a. T-not (holds (p .source) P r′ (placesOf (p .size) (relationAt p r′ .arity) row′)) (I .asked (notTuple r′ row′) w (q .0)) a)
-        (λ e. let k = same-row r row r′ row′ (set-below p r row v) (w .1) e in q .1 (List·Memᴰ·head (ap₂ notTuple (k .0) (k .1))))
+        (λ e. let k = same-row p G r row r′ row′ (set-below p r row v) (w .1) e in q .1 (List·Memᴰ·head (ap₂ notTuple (k .0) (k .1))))
         (holds-new (p .source) P (tupleAt p r row) r′ _ t))
     set-asked (notTuple r′ row′) w (inr m) = absurd (subst (λ (a : Atom). T (not (isTuple a))) (List·Memᴰ·eq-of-singleton m) tt)
     set-asked (freeDomain r′ x) w (inl q) = λ y m. ⊎-elim
@@ -254,6 +192,8 @@ module _ (p : Problem) (G : Good p) where
     set-asked (freeRange r′ y) w (inr m) = absurd (subst (λ (a : Atom). T (not (isTuple a))) (List·Memᴰ·eq-of-singleton m) tt)
     set-asked (holdsNode k row′) w (inl q) = I .asked (holdsNode k row′) w (q .0)
     set-asked (holdsNode k row′) w (inr m) = absurd (subst (λ (a : Atom). T (not (isTuple a))) (List·Memᴰ·eq-of-singleton m) tt)
+    set-asked (marked r′ row′) w (inl q) = I .asked (marked r′ row′) w (q .0)
+    set-asked (marked r′ row′) w (inr m) = absurd (subst (λ (a : Atom). T (not (isTuple a))) (List·Memᴰ·eq-of-singleton m) tt)
 
     -- a tuple is set once: its not-tuple is gone
     is-new : T (not (isAmong (tupleAt p r row) P))
@@ -281,9 +221,11 @@ module _ (p : Problem) (G : Good p) where
   begin-cases P s I (freeRange r y) w q = tt
   begin-cases P s I (holdsNode v row) w (inl q) = absurd (I .asked (holdsNode v row) w (q .0))
   begin-cases P s I (holdsNode v row) w (inr m) = absurd (subst (λ (a : Atom). T (not (isProof a))) (List·Memᴰ·eq-of-singleton m) tt)
+  begin-cases P s I (marked r row) w (inl q) = absurd (I .asked (marked r row) w (q .0))
+  begin-cases P s I (marked r row) w (inr m) = absurd (subst (λ (a : Atom). T (not (isProof a))) (List·Memᴰ·eq-of-singleton m) tt)
 
   -- ---- one step of reachesFrom
-  step-cases : (s : State) (k : ℕ) (ks : List ℕ) → T (reachesFrom p s (k ∷ ks)) → (a : Action) × (actionAt p k ≡ some a) × T (mayTake p s a) × T (reachesFrom p (after p s a) ks)
+  pub step-cases : (s : State) (k : ℕ) (ks : List ℕ) → T (reachesFrom p s (k ∷ ks)) → (a : Action) × (actionAt p k ≡ some a) × T (mayTake p s a) × T (reachesFrom p (after p s a) ks)
   unfolding reachesFrom option
   step-cases s k ks t = by-option (actionAt p k) refl t
     where
@@ -295,34 +237,30 @@ module _ (p : Problem) (G : Good p) where
   unfolding picksOf flatMap option
   picks-cons k ks a e = rw e refl
 
-  -- ---- the proof phase
-  abbrev Meant : List Tuple → State → Type 0
-  Meant P s = (x : Atom) → IsAtom p x → T (s (atomNumber p x)) → T (means p P x)
+  -- ---- the proof phase begins with the first value, which is empty
+  pub begins : (Seen : ℕ → Type 0) (P : List Tuple) (s : State) → Guessing P s → IsAction p beginProof → Stage p G Seen P (after p s beginProof)
+  unfolding values
+  begins Seen P s I v = proving 0 (one-le-pow (everyTuples (p .source)) 2 (omega arith)) (λ j h. absurd (omega arith))
+      (λ x w t. subst (λ (Q : List Tuple). T (means p Q x)) (sym (with-zero p G P)) (begin-cases P s I x w (after-cases p G s beginProof x v w t)))
 
-  needs-meant : (P : List Tuple) (s : State) → Meant P s → (a : Action) → IsAction p a → T (mayTake p s a) → T (all (means p P) (needs p a))
-  needs-meant P s I a v t = all-of (means p P) (needs p a) (λ x m. I x (needs-valid p G a v x m) (may-at p G s a t x m))
+  -- the tree is true with each value whose round has ended
+  abbrev TrueWith : List Tuple → ℕ → Type 0
+  TrueWith P k = T (treeHolds (p .source) (P ++ everyValue (p .source) k) (λ _. zero) (p .root))
 
-  no-pick : (P : List Tuple) (a : Action) → T (all (means p P) (needs p a)) → pickOf p a ≡ []
-  unfolding pickOf
-  no-pick P (set r row) t = absurd (set-not p G P r row t)
-  no-pick P beginProof t = refl
-  no-pick P (proveAnd v row) t = refl
-  no-pick P (proveOr v row i) t = refl
-  no-pick P (proveExists v row x) t = refl
-  no-pick P (proveForall v row z) t = refl
-  no-pick P proveGoal t = refl
+  root-there : IsAtom p (rootAtom p)
+  unfolding rootAtom
+  root-there = part-valid p G 0 (p .root) (λ _. zero) (G .root-here) (λ l. G .element)
 
-  proof-phase : (P : List Tuple) (ks : List ℕ) (s : State) → Meant P s → T (reachesFrom p s ks) → T (means p P goal) × (picksOf p ks ≡ [])
-  unfolding reachesFrom picksOf flatMap IsAtom
-  proof-phase P [] s I t = (I goal tt t, refl)
-  proof-phase P (k ∷ ks) s I t =
+  proof-phase : (P : List Tuple) → Chosen p G P → (ks : List ℕ) (s : State) → Stage p G (TrueWith P) P s → T (reachesFrom p s ks) → SeenBelow p G (TrueWith P) (values (p .source)) × (picksOf p ks ≡ [])
+  unfolding reachesFrom picksOf flatMap means
+  proof-phase P K [] s S t = (stage-goal p G (TrueWith P) P s S (λ k q. T-and-r (not (isSome (p .source .question .every))) _ q) t, refl)
+  proof-phase P K (k ∷ ks) s S t =
       let (a, e, ok, rest) = step-cases s k ks t in
       let v = action-is p k a e in
-      let q = needs-meant P s I a v ok in
-      let r = proof-phase P ks (after p s a) (λ x w h. ⊎-elim (λ b. I x w (b .0)) (λ m. adds-mean p G P a v q x m) (after-cases p G s a x v w h)) rest in
-      (r .0, picks-cons k ks a e ∙ ap₂ _++_ (no-pick P a q) (r .1))
+      let r = proof-phase P K ks (after p s a) (stage-step p G (TrueWith P) P K s S (λ j I h. root-sound p G (P ++ everyValue (p .source) j) (I (rootAtom p) root-there h)) a v ok) rest in
+      (r .0, picks-cons k ks a e ∙ ap₂ _++_ (no-pick p G (TrueWith P) P s S a ok) (r .1))
 
-  -- ---- the guess phase
+  -- ---- in the guess phase tuples are set, until the proof begins
   no-goal-yet : (P : List Tuple) (s : State) (t : Tree) → IsNode p t → Guessing P s → Here p 0 t → T (s (atomNumber p (partAtom (p .size) (p .range) (λ _. zero) zero t))) → ⊥
   unfolding IsNode partAtom asks
   no-goal-yet P s (leaf q r ls) n I h t = n
@@ -335,26 +273,43 @@ module _ (p : Problem) (G : Good p) where
   unfolding asks IsAtom
   no-proof P s a I t m = I .asked proof tt (may-at p G s a t proof m)
 
-  after-action : (P : List Tuple) (s : State) (ks : List ℕ) → Guessing P s → (a : Action) → IsAction p a → T (mayTake p s a)
-      → T (reachesFrom p (after p s a) ks) → ((P′ : List Tuple) (s′ : State) → Guessing P′ s′ → T (reachesFrom p s′ ks) → Solves (P′ ++ picksOf p ks))
-      → Solves (P ++ (pickOf p a ++ picksOf p ks))
-  unfolding pickOf needs means
-  after-action P s ks I (set r row) v ok rest ih = subst Solves (append-assoc P (tupleAt p r row ∷ []) (picksOf p ks)) (ih (P ++ (tupleAt p r row ∷ [])) (after p s (set r row)) (guessing-set P s r row I v ok) rest)
-  after-action P s ks I beginProof v ok rest ih =
-      let d = proof-phase P ks (after p s beginProof) (λ x w t. begin-cases P s I x w (after-cases p G s beginProof x v w t)) rest in
-      subst Solves (sym (ap (λ (l : List Tuple). P ++ l) (d .1) ∙ append-nil P)) (record { kinds = I .kinds; distinct = I .distinct; true-of = d .0 })
-  after-action P s ks I (proveAnd w row) v ok rest ih = absurd (no-proof P s (proveAnd w row) I ok (List·Memᴰ·head refl))
-  after-action P s ks I (proveOr w row i) v ok rest ih = absurd (no-proof P s (proveOr w row i) I ok (List·Memᴰ·head refl))
-  after-action P s ks I (proveExists w row x) v ok rest ih = absurd (no-proof P s (proveExists w row x) I ok (List·Memᴰ·head refl))
-  after-action P s ks I (proveForall w row z) v ok rest ih = absurd (no-proof P s (proveForall w row z) I ok (List·Memᴰ·head refl))
-  after-action P s ks I proveGoal v ok rest ih = absurd (no-goal-yet P s (p .root) (G .root-node) I (G .root-here) (may-at p G s proveGoal ok _ (List·Memᴰ·head refl)))
+  no-mark : (P : List Tuple) (s : State) (a : Action) (r row : ℕ) → Guessing P s → IsAction p a → T (mayTake p s a) → List·Memᴰ (marked r row) (needs p a) → ⊥
+  unfolding asks
+  no-mark P s a r row I v t m = I .asked (marked r row) (needs-valid p G a v (marked r row) m) (may-at p G s a t (marked r row) m)
+
+  pub sets-or-begins : (P : List Tuple) (s : State) → Guessing P s → (a : Action) → IsAction p a → T (mayTake p s a) → ((r : ℕ) × (row : ℕ) × (a ≡ set r row)) ⊎ (a ≡ beginProof)
+  unfolding needs rootAtom
+  sets-or-begins P s I (set r row) v ok = inl (r, row, refl)
+  sets-or-begins P s I beginProof v ok = inr refl
+  sets-or-begins P s I (proveAnd w row) v ok = absurd (no-proof P s (proveAnd w row) I ok (List·Memᴰ·head refl))
+  sets-or-begins P s I (proveOr w row i) v ok = absurd (no-proof P s (proveOr w row i) I ok (List·Memᴰ·head refl))
+  sets-or-begins P s I (proveExists w row x) v ok = absurd (no-proof P s (proveExists w row x) I ok (List·Memᴰ·head refl))
+  sets-or-begins P s I (proveForall w row z) v ok = absurd (no-proof P s (proveForall w row z) I ok (List·Memᴰ·head refl))
+  sets-or-begins P s I proveGoal v ok = absurd (no-goal-yet P s (p .root) (G .root-node) I (G .root-here) (may-at p G s proveGoal ok _ (List·Memᴰ·head refl)))
+  sets-or-begins P s I roundEnd v ok = absurd (no-goal-yet P s (p .root) (G .root-node) I (G .root-here) (may-at p G s roundEnd ok _ (List·Memᴰ·head refl)))
+  sets-or-begins P s I (markIn r row) v ok = absurd (no-mark P s (markIn r row) r row I v ok (List·Memᴰ·head refl))
+  sets-or-begins P s I (markOut r row) v ok = absurd (no-mark P s (markOut r row) r row I v ok (List·Memᴰ·head refl))
 
   guess-phase : (ks : List ℕ) (P : List Tuple) (s : State) → Guessing P s → T (reachesFrom p s ks) → Solves (P ++ picksOf p ks)
-  unfolding reachesFrom asks IsAtom
+  unfolding reachesFrom asks IsAtom pickOf
   guess-phase [] P s I t = absurd (I .asked goal tt t)
   guess-phase (k ∷ ks) P s I t =
       let (a, e, ok, rest) = step-cases s k ks t in
-      subst (λ (l : List Tuple). Solves (P ++ l)) (sym (picks-cons k ks a e)) (after-action P s ks I a (action-is p k a e) ok rest (λ P′ s′ I′ r. guess-phase ks P′ s′ I′ r))
+      let v = action-is p k a e in
+      subst (λ (l : List Tuple). Solves (P ++ l)) (sym (picks-cons k ks a e)) (⊎-elim (λ q. let (r, row, i) = q in at-set (λ P′ s′ J u. guess-phase ks P′ s′ J u) a v ok rest r row i) (λ i. at-begin a v rest i) (sets-or-begins P s I a v ok))
+    where
+      at-set : ((P′ : List Tuple) (s′ : State) → Guessing P′ s′ → T (reachesFrom p s′ ks) → Solves (P′ ++ picksOf p ks)) → (a : Action) → IsAction p a → T (mayTake p s a) → T (reachesFrom p (after p s a) ks) → (r row : ℕ) → a ≡ set r row → Solves (P ++ (pickOf p a ++ picksOf p ks))
+      at-set next a v ok rest r row i =
+          subst (λ (b : Action). IsAction p b → T (mayTake p s b) → T (reachesFrom p (after p s b) ks) → Solves (P ++ (pickOf p b ++ picksOf p ks))) (sym i)
+          (λ v ok rest. subst Solves (append-assoc P (tupleAt p r row ∷ []) (picksOf p ks)) (next (P ++ (tupleAt p r row ∷ [])) (after p s (set r row)) (guessing-set P s r row I v ok) rest))
+          v ok rest
+
+      at-begin : (a : Action) → IsAction p a → T (reachesFrom p (after p s a) ks) → a ≡ beginProof → Solves (P ++ (pickOf p a ++ picksOf p ks))
+      at-begin a v rest i =
+          subst (λ (b : Action). IsAction p b → T (reachesFrom p (after p s b) ks) → Solves (P ++ (pickOf p b ++ picksOf p ks))) (sym i)
+          (λ v rest. let d = proof-phase P (λ t m. I .kinds .inside t m .chosen) ks (after p s beginProof) (begins (TrueWith P) P s I v) rest in
+          subst Solves (sym (ap (λ (l : List Tuple). P ++ l) (d .1) ∙ append-nil P)) (record { kinds = I .kinds; distinct = I .distinct; true-of = d .0 }))
+          v rest
 
   -- ---- the initial state
   pub initial-at : (x : Atom) → IsAtom p x → initial p (atomNumber p x) ≡ isInitial p x
@@ -371,20 +326,22 @@ module _ (p : Problem) (G : Good p) where
   initial-asked (freeDomain r x) t = λ y m. List·Memᴰ·not-nil m
   initial-asked (freeRange r y) t = λ x m. List·Memᴰ·not-nil m
   initial-asked (holdsNode v row) t = t
+  initial-asked (marked r row) t = t
+
+  pub first-guess : Guessing [] (initial p)
+  unfolding areDistinct
+  first-guess = record {
+    kinds = record {
+      inside = λ t m. absurd (List·Memᴰ·not-nil m);
+      fun = λ r x y z f m k. absurd (List·Memᴰ·not-nil m);
+      inj = λ r x y z f m k. absurd (List·Memᴰ·not-nil m);
+      typed = λ r x y f m. absurd (List·Memᴰ·not-nil m);
+    };
+    distinct = tt;
+    asked = λ x v h. initial-asked x (subst T (initial-at x v) h);
+  }
 
   -- steps that reach the goal are read as picks of the declared kinds of which the tree is true
   pub sound : (ks : List ℕ) → T (reachesGoal p ks) → Solves (picksOf p ks)
-  unfolding reachesGoal areDistinct
-  sound ks t =
-      guess-phase ks [] (initial p) (record {
-        kinds = record {
-          inside = λ t m. absurd (List·Memᴰ·not-nil m);
-          fun = λ r x y z f m k. absurd (List·Memᴰ·not-nil m);
-          inj = λ r x y z f m k. absurd
-              (List·Memᴰ·not-nil m);
-          typed = λ r x y f m. absurd (List·Memᴰ·not-nil m);
-        };
-        distinct = tt;
-        asked = λ x v h. initial-asked x
-            (subst T (initial-at x v) h);
-      }) t
+  unfolding reachesGoal
+  sound ks t = guess-phase ks [] (initial p) first-guess t

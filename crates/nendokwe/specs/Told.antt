@@ -13,7 +13,7 @@ use Rattle.definitions.specs.Reply.Outcome.{Sizes, spanOf, rulePart, replyNumbe
 use Rattle.read_question.specs.declared.Asked.{Asked as Read}
 use Rattle.read_question.specs.Drafts.{QuestionRead, refusedWith}
 use Rattle.problem_table.specs.declared.Act.{Act}
-use Rattle.problem_table.specs.declared.Act.the-variants.{Set, Begin, And, Or, Exists, Forall, Goal, Nothing}
+use Rattle.problem_table.specs.declared.Act.the-variants.{Set, Begin, And, Or, Exists, Forall, Goal, RoundEnd, MarkIn, MarkOut, Nothing}
 use Rattle.call_sizes.specs.declared.Counts.{Counts}
 use Rattle.call_sizes.specs.declared.Sizing.{Sizing}
 use Rattle.call_sizes.specs.declared.Sizing.the-variants.{Sized, Refused as Unsized}
@@ -32,7 +32,10 @@ detailsOf (Or a) = record { kind = 3; subject = a .node; row = a .row; choice = 
 detailsOf (Exists a) = record { kind = 4; subject = a .node; row = a .row; choice = a .choice }
 detailsOf (Forall a) = record { kind = 5; subject = a .node; row = a .row; choice = a .choice }
 detailsOf Goal = record { kind = 6; subject = 0; row = 0; choice = 0 }
-detailsOf Nothing = record { kind = 7; subject = 0; row = 0; choice = 0 }
+detailsOf RoundEnd = record { kind = 7; subject = 0; row = 0; choice = 0 }
+detailsOf (MarkIn a) = record { kind = 8; subject = a .relation; row = a .row; choice = 0 }
+detailsOf (MarkOut a) = record { kind = 9; subject = a .relation; row = a .row; choice = 0 }
+detailsOf Nothing = record { kind = 10; subject = 0; row = 0; choice = 0 }
 
 -- ---- what the calls write, by what was returned to them
 
@@ -80,7 +83,7 @@ unfolding heard detailsOf actionKind actionSubject actionRow actionChoice
 details-are a b e = same a ∙ ap its e
   where
     its : Option Action → Details
-    its none = record { kind = 7; subject = 0; row = 0; choice = 0 }
+    its none = record { kind = 10; subject = 0; row = 0; choice = 0 }
     its (some b) = record { kind = actionKind b; subject = actionSubject b; row = actionRow b; choice = actionChoice b }
 
     same : (a : Act) → detailsOf a ≡ its (heard a)
@@ -91,6 +94,9 @@ details-are a b e = same a ∙ ap its e
     same (Exists a) = refl
     same (Forall a) = refl
     same Goal = refl
+    same RoundEnd = refl
+    same (MarkIn a) = refl
+    same (MarkOut a) = refl
     same Nothing = refl
 
 module _ (x : Result Action) (r : Asked) (e : actionOf r ≡ found x) (kind subject row choice : ℕ) where

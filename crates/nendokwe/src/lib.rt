@@ -22,6 +22,7 @@ use call_tries::Try;
 use open_case::Reply;
 use problem_table::Act;
 use problem_table::ChoiceAct;
+use problem_table::TupleAct;
 
 // A reply as number and place.
 fn tell(r: Reply, number: &mut u32, place: &mut usize)
@@ -108,6 +109,18 @@ fn bare(kind: u32) -> Details
     }
 }
 
+// The details of an action on a tuple.
+fn on_tuple(kind: u32, a: TupleAct) -> Details
+    ensures { λ r. ⌜ r ≡ record { kind = kind; subject = a .relation; row = a .row; choice = 0 } ⌝ }
+{
+    Details {
+        kind,
+        subject: a.relation,
+        row: a.row,
+        choice: 0,
+    }
+}
+
 // The details of an action on a node, with the part, element or z that is chosen.
 fn chosen(kind: u32, a: ChoiceAct) -> Details
     ensures { λ r. ⌜ r ≡ record { kind = kind; subject = a .node; row = a .row; choice = a .choice } ⌝ }
@@ -125,12 +138,7 @@ fn in_numbers(a: Act) -> Details
     ensures { λ r. ⌜ r ≡ detailsOf a ⌝ }
 {
     match a {
-        Act::Set(x) => Details {
-            kind: 0,
-            subject: x.relation,
-            row: x.row,
-            choice: 0,
-        },
+        Act::Set(x) => on_tuple(0, x),
         Act::And(x) => Details {
             kind: 2,
             subject: x.node,
@@ -140,14 +148,17 @@ fn in_numbers(a: Act) -> Details
         Act::Or(x) => chosen(3, x),
         Act::Exists(x) => chosen(4, x),
         Act::Forall(x) => chosen(5, x),
+        Act::MarkIn(x) => on_tuple(8, x),
+        Act::MarkOut(x) => on_tuple(9, x),
         Act::Begin => bare(1),
         Act::Goal => bare(6),
-        Act::Nothing => bare(7),
+        Act::RoundEnd => bare(7),
+        Act::Nothing => bare(10),
     }
 }
 
-// The action of number k: its kind (0 set, 1 begin-proof, 2 `and`, 3 `or`, 4 `exists`, 5 `forall`, 6 prove-goal), its relation or node,
-// its row, and its part, element or z; a detail that its kind does not have is 0.
+// The action of number k: its kind (0 set, 1 begin-proof, 2 `and`, 3 `or`, 4 `exists`, 5 `forall`, 6 prove-goal, 7 round-end,
+// 8 mark-in, 9 mark-out), its relation or node, its row, and its part, element or z; a detail that its kind does not have is 0.
 #[no_mangle]
 pub extern "C" fn nendokwe_action(
     question: &[u8],

@@ -4,7 +4,7 @@ use Prim.Native.Nat.{ℕ, _≤_, _<_}
 use mathlib.Core.Path.{_≡_, refl, sym, ap₂, subst, _∙_}
 use mathlib.Core.List.{List}
 use native.Mathlib.Omega.{arith}
-use Rattle.definitions.specs.Limits.{CaseLimits}
+use Rattle.definitions.specs.Limits.{CaseLimits, usual}
 use Rattle.definitions.specs.Refusal.{Result, refused, accepted, _>>=_}
 use Rattle.definitions.specs.Problem.Truth.{Case}
 use Rattle.definitions.specs.Reply.Outcome.{CaseRead, readFiled, readCase, ground}
@@ -14,14 +14,15 @@ use Rattle.bits.specs.Table.{bit}
 use Rattle.read_sheets.specs.declared.Opened.{Opened}
 use Rattle.read_tuples.specs.Labels.{LabelsAre}
 use Rattle.read_sheets.specs.Opening.{Holds, FiledRead}
+use Rattle.problem_sizes.specs.declared.Limits.{Limits}
 use Rattle.problem_of_case.specs.declared.Sized.{Sized}
 use Rattle.problem_of_case.specs.Grounds.{GroundsTo}
 use Rattle.open_case.specs.declared.Front.{Front}
 use Rattle.open_case.specs.Within.{case-within}
 
 -- limits by their numbers, as code has them
-abbrev pub limits : ℕ → ℕ → ℕ → CaseLimits
-limits most mostAtoms mostActions = record { elements = most; atoms = mostAtoms; actions = mostActions }
+abbrev pub limits : ℕ → Limits → CaseLimits
+limits most l = record { elements = most; atoms = l .atoms; actions = l .actions; steps = l .steps }
 
 -- the case c was read and grounded
 pub record Held (L : CaseLimits) (question : List ℕ) (c : Case) (r : Front) (facts table : List ℕ) : Type 0 where
@@ -51,6 +52,11 @@ FiledBy L question site (accepted x) r labels facts table = Held L question (x .
 
 abbrev pub Filed : CaseLimits → List ℕ → List ℕ → Front → (labels facts table : List ℕ) → Type 0
 Filed L question site r labels facts table = FiledBy L question site (readFiled L question site) r labels facts table
+
+-- by the usual limits
+pub by-usual : (l : Limits) (question site : List ℕ) (r : Front) (labels facts table : List ℕ) → l ≡ record { atoms = usual .atoms; actions = usual .actions; steps = usual .steps }
+    → Filed (limits 64 l) question site r labels facts table → Filed usual question site r labels facts table
+by-usual l question site r labels facts table e f = subst (λ (x : Limits). Filed (limits 64 x) question site r labels facts table) e f
 
 -- some case was read and grounded: what is known inside a call
 pub record ReadyFront (question : List ℕ) (r : Front) (facts table : List ℕ) : Type 0 where

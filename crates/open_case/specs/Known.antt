@@ -1,24 +1,28 @@
 -- What is known once a case was read and its problem grounded: the refusal or the case, the facts, the table and the counts.
 -- Assumes nothing.
-use Prim.Native.Nat.{ℕ, zero, _+_, _/_, _≤_, _<_}
+use Prim.Native.Nat.{ℕ, zero, _+_, _/_, _^_, _≤_, _<_}
 use mathlib.Core.Path.{_≡_, refl, sym, ap, ap₂, subst, _∙_}
-use mathlib.Core.Bool.{true, false, _||_}
-use mathlib.Core.List.{List}
+use mathlib.Core.Bool.{false, _&&_, _||_}
+use mathlib.Core.Option.{Option, none, some}
+use mathlib.Core.List.{List, List·Memᴰ, List·Memᴰ·not-nil, List·Memᴰ·eq-of-singleton}
 use native.Mathlib.Omega.{arith}
-use lib.Dec.{ltb}
+use lib.Dec.{T, ltb}
 use lib.ListN.{length}
 use borrow.Author.Tests.{lt-ltb, le-ltb, ltb-false}
 use Rattle.definitions.specs.Limits.{CaseLimits}
+use Rattle.definitions.specs.Lists.{option, isSome, listed}
 use Rattle.definitions.specs.Refusal.{Result, refused, accepted, refuseIf}
+use Rattle.definitions.specs.Sheet.Relations.{Kind, Relation, isUniversal}
 use Rattle.definitions.specs.Sheet.Sheets.{readQuestion}
-use Rattle.definitions.specs.Problem.Truth.{Case}
-use Rattle.definitions.specs.Problem.Atoms.{Problem, problemOf, atoms, wordsFor}
+use Rattle.definitions.specs.Problem.Truth.{Case, everyTuples}
+use Rattle.definitions.specs.Problem.Atoms.{Problem, problemOf, problemWith, atoms, wordsFor}
 use Rattle.definitions.specs.Problem.Actions.{actions}
+use Rattle.definitions.specs.Problem.Built.{bound}
 use Rattle.definitions.specs.Reply.Outcome
 use Rattle.bits.specs.Table.{bit}
-use Rattle.laws.specs.Booleans.{T-of, or-both}
+use Rattle.laws.specs.Booleans.{or-both}
 use Rattle.laws.specs.Results.{bind-parts, not-refused}
-use Rattle.laws.specs.Reader.{gives-if, QuestionFits, question-fits}
+use Rattle.laws.specs.Reader.{Holds as Fits, gives-if, QuestionFits, EveryFits, question-fits}
 use Rattle.meaning.specs.Building.{ground-is}
 use Rattle.step_start.specs.Rows.{atomsIn}
 use Rattle.step_start.specs.Initial.{FactsIn}
@@ -31,30 +35,35 @@ use Rattle.problem_of_case.specs.Grounds.{GroundsTo, Tabled}
 use Rattle.step_run.specs.declared.End.{End}
 use Rattle.step_run.specs.Checks.{Ran, Runs}
 
+every-universal : (o : Option Relation) → Fits EveryFits o → (k : Relation) → List·Memᴰ k (listed o) → T (isUniversal (k .kind))
+unfolding Fits listed isUniversal
+every-universal none h k m = absurd (List·Memᴰ·not-nil m)
+every-universal (some e) h k m = subst (λ (x : Relation). T (isUniversal (x .kind))) (sym (List·Memᴰ·eq-of-singleton m)) (subst (λ (x : Kind). T (isUniversal x)) (sym (h .is-universal)) tt)
+
 -- the facts' words are those of the case's problem
 pub facts-held : (s : List ℕ) (c : Case) (o : Opened) (f : List ℕ) → Holds s c o (bit f) → FactsIn (problemOf c) f
 facts-held s c o f h =
     let q = gives-if QuestionFits (readQuestion s) (c .question) (h .asked) (question-fits s) in
-    facts-in c s (o .sig) f (h .rels) (λ k m. q .rels-fit k m .is-static) (λ k m. q .chosen-fit k m .chosen) (subst (λ (n : ℕ). 0 < n) (h .size) (h .some-elements)) (h .facts-valid) (h .facts-are)
+    facts-in c s (o .sig) f (h .rels) (λ k m. q .rels-fit k m .is-static) (λ k m. q .chosen-fit k m .chosen) (every-universal (c .question .every) (q .every-fits)) (subst (λ (n : ℕ). 0 < n) (h .size) (h .some-elements)) (h .facts-valid) (h .facts-are)
 
 -- ---- the problem
 
 module _ (L : CaseLimits) (c : Case) (m : Sized) (w : List ℕ) (g : GroundsTo (Outcome.ground L c) m w) where
-  pub case-over : m .over ≡ true → Outcome.ground L c ≡ refused 11 0
+  pub case-over : (m .refusal ≡ 0 → ⊥) → Outcome.ground L c ≡ refused (m .refusal) 0
   unfolding GroundsTo
   case-over o = by-result (Outcome.ground L c) g
     where
-      by-result : (x : Result Problem) → GroundsTo x m w → x ≡ refused 11 0
+      by-result : (x : Result Problem) → GroundsTo x m w → x ≡ refused (m .refusal) 0
       by-result (refused k place) h = ap₂ refused (h .number) (h .no-place)
-      by-result (accepted p) h = let z : false ≡ true = sym (h .within) ∙ o in absurd (T-of z)
+      by-result (accepted p) h = absurd (o (h .within))
 
-  module _ (o : m .over ≡ false) where
+  module _ (o : m .refusal ≡ 0) where
     within : (p : Problem) × (Outcome.ground L c ≡ accepted p) × Tabled p m w
     unfolding GroundsTo
     within = by-result (Outcome.ground L c) refl g
       where
         by-result : (x : Result Problem) → Outcome.ground L c ≡ x → GroundsTo x m w → (p : Problem) × (Outcome.ground L c ≡ accepted p) × Tabled p m w
-        by-result (refused k place) e h = let z : false ≡ true = sym o ∙ h .over in absurd (T-of z)
+        by-result (refused k place) e h = absurd (h .over o)
         by-result (accepted p) e h = (p, e, h)
 
     -- it is the case's, and the table is its
@@ -67,12 +76,23 @@ module _ (L : CaseLimits) (c : Case) (m : Sized) (w : List ℕ) (g : GroundsTo (
     pub table-is : Grounded w
     table-is = record { problem = problemOf c; is = tabled .is; fits = tabled .fits }
 
-    -- there are few enough atoms and actions
-    limits : (ltb (L .atoms) (atoms (problemOf c)) ≡ false) × (ltb (L .actions) (actions (problemOf c)) ≡ false)
+    -- there are few enough atoms and actions, and few tuples of an `every` relation
+    limits : (ltb (L .atoms) (atoms (problemOf c)) ≡ false) × (ltb (L .actions) (actions (problemOf c)) ≡ false) × (Outcome.tooManyValues L (problemOf c) ≡ false)
     unfolding Outcome.ground
     limits =
-        let (u, a, e) = bind-parts (refuseIf (ltb (L .atoms) (atoms (problemOf c)) || ltb (L .actions) (actions (problemOf c))) 11 zero) (λ _. accepted (problemOf c)) (problemOf c) grounds in
-        or-both (ltb (L .atoms) (atoms (problemOf c))) _ (not-refused _ 11 zero u a)
+        let (u, a, e) = bind-parts (refuseIf (ltb (L .atoms) (atoms (problemOf c)) || ltb (L .actions) (actions (problemOf c))) 11 zero) _ (problemOf c) grounds in
+        let (v, b, f) = bind-parts (refuseIf (Outcome.tooManyValues L (problemOf c)) 23 zero) _ (problemOf c) e in
+        let (x, y) = or-both (ltb (L .atoms) (atoms (problemOf c))) _ (not-refused _ 11 zero u a) in
+        (x, y, not-refused _ 23 zero v b)
+
+    pub tuples-few : everyTuples c ≤ 8
+    unfolding Outcome.tooManyValues everyTuples option isSome problemOf problemWith
+    tuples-few = by-option (c .question .every) (limits .2)
+      where
+        by-option : (x : Option Relation) → (isSome x && (ltb 8 (option x zero (λ (k : Relation). c .site .size ^ k .arity)) || ltb (L .steps) (bound (problemOf c)))) ≡ false
+            → option x zero (λ (k : Relation). c .site .size ^ k .arity) ≤ 8
+        by-option none q = omega arith
+        by-option (some k) q = let n = c .site .size ^ k .arity in ltb-false 8 n (or-both (ltb 8 n) (ltb (L .steps) (bound (problemOf c))) q .0)
 
     pub atoms-few : m .atoms ≤ L .atoms
     atoms-few = subst (λ (k : ℕ). k ≤ L .atoms) (sym (tabled .atoms-are)) (ltb-false (L .atoms) (atoms (problemOf c)) (limits .0))

@@ -18,7 +18,7 @@ use Rattle.laws.specs.Results.{given-some}
 use Rattle.read_line.proofs.Fields.{lines-stop}
 use Rattle.read_line.specs.Entries.{entryIn, Reads}
 use Rattle.read_line.specs.declared.Entry.{Entry}
-use Rattle.read_line.specs.declared.Entry.the-variants.{Wrong, Rel, Typed, Choose, Rule, Size, Label, Member, Fact, Pick, Step}
+use Rattle.read_line.specs.declared.Entry.the-variants.{Wrong, Rel, Typed, Choose, Every, Rule, Size, Label, Member, Fact, Pick, Step}
 use Rattle.read_sheets.specs.Reading.{FactsRoom}
 
 -- what holds 8 relations of three places over the most elements holds any
@@ -41,6 +41,7 @@ saysSmall Wrong = true
 saysSmall (Rel a e k) = true
 saysSmall (Typed a e) = true
 saysSmall (Choose a e k kind t u v) = true
+saysSmall (Every a e k) = true
 saysSmall (Rule a e) = true
 saysSmall (Size k) = leb k 16
 saysSmall (Label x a t e) = true
@@ -55,6 +56,7 @@ sizeSaid none = none
 sizeSaid (some (S.rel name arity)) = none
 sizeSaid (some (S.type name)) = none
 sizeSaid (some (S.choose name arity kind types)) = none
+sizeSaid (some (S.every name arity)) = none
 sizeSaid (some (S.rule text)) = none
 sizeSaid (some (S.size n)) = some n
 sizeSaid (some (S.label x name)) = none
@@ -84,6 +86,7 @@ small-said s Wrong k h e = absurd (none-some e)
 small-said s (Rel a t n) k h e = absurd (none-some e)
 small-said s (Typed a t) k h e = absurd (none-some e)
 small-said s (Choose a t n kind u v w) k h e = absurd (none-some e)
+small-said s (Every a t n) k h e = absurd (none-some e)
 small-said s (Rule a t) k h e = absurd (none-some e)
 small-said s (Size n) k h e = subst (λ (m : ℕ). m ≤ 16) (some-eq e) (leb-true n 16 h)
 small-said s (Label x a t u) k h e = absurd (none-some e)

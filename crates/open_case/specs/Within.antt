@@ -10,7 +10,7 @@ use Rattle.definitions.specs.Limits.{CaseLimits}
 use Rattle.definitions.specs.Sheet.Text.{Line, isBetween, lines}
 use Rattle.definitions.specs.Refusal.{accepted, readLines, readText}
 use Rattle.definitions.specs.Sheet.Relations.{Relation}
-use Rattle.definitions.specs.Sheet.Sheets.{Entry, rel, type, choose, rule, size, label, member, fact, pick, step, Element, entryOf, SiteDraft, addSize, addLabel, addMember, addFact, addToSite, siteLine, Labelled, readSite, readQuestion}
+use Rattle.definitions.specs.Sheet.Sheets.{Entry, rel, type, choose, every, rule, size, label, member, fact, pick, step, Element, entryOf, SiteDraft, addSize, addLabel, addMember, addFact, addToSite, siteLine, Labelled, readSite, readQuestion}
 use Rattle.definitions.specs.Problem.Truth.{Case}
 use Rattle.definitions.specs.Reply.Outcome.{CaseRead, readFiled, readCase}
 use Rattle.laws.specs.Booleans.{T-of, T-and-r}
@@ -68,6 +68,7 @@ module _ (L : CaseLimits) where
     entry-few d next at (rel name arity) h e = absurd (refused-accepted e)
     entry-few d next at (type name) h e = absurd (refused-accepted e)
     entry-few d next at (choose name arity kind types) h e = absurd (refused-accepted e)
+    entry-few d next at (every name arity) h e = absurd (refused-accepted e)
     entry-few d next at (rule text) h e = absurd (refused-accepted e)
     entry-few d next at (size n) h e = size-few d next at n (d .sized) e
     entry-few d next at (label x name) h e = label-few d next at x name h e

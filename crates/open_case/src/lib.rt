@@ -1,5 +1,5 @@
 // What every call begins with: a case is read and its problem grounded, by limits that the caller chooses. What is wrong with the case is
-// told; that it has too many atoms or actions is only noted, since a third input may be refused before that.
+// told; that its problem is over the limits (11 or 23) is only noted, since a third input may be refused before that.
 ghost use mathlib.Core.Path.{_≡_};
 ghost use mathlib.Core.Bool.{true, false};
 ghost use Prim.Native.Nat.{_≤_};
@@ -11,15 +11,18 @@ ghost use Rattle.problem_layout.specs.Laid.{numberLimit};
 ghost use Rattle.read_tuples.specs.Labels.{NoLabels};
 ghost use Rattle.read_sheets.specs.Reading.{FactsRoom};
 ghost use Rattle.step_run.specs.Ended.{ended};
-ghost use Rattle.open_case.specs.Fronts.{limits, Fronted, Filed};
+ghost use Rattle.definitions.specs.Limits.{usual};
+ghost use Rattle.open_case.specs.Fronts.{limits as «limits-of», Fronted, Filed};
 ghost use Rattle.open_case.specs.Rooms.{saysSmall};
 ghost use Rattle.open_case.specs.Replies.{resultOf};
 use problem_of_case::Sized;
+use problem_sizes::Limits;
 use read_line::Entry;
 use read_sheets::Opened;
 use step_run::End;
 
-// The most elements, atoms and actions that a case may have, and the most steps that may be lent.
+// The most elements, atoms and actions that a case may have, and the most steps that may be lent, or that its bound may be where it has an
+// `every` line.
 pub const ELEMENTS: usize = 64;
 
 pub const ATOMS: usize = 1048576;
@@ -51,6 +54,7 @@ fn says_small(x: Entry) -> bool
         Entry::Rel(_, _, _) => true,
         Entry::Typed(_, _) => true,
         Entry::Choose(_, _, _, _, _, _, _) => true,
+        Entry::Every(_, _, _) => true,
         Entry::Rule(_, _) => true,
         Entry::Size(k) => k <= SMALL,
         Entry::Label(_, _, _, _) => true,
@@ -100,36 +104,35 @@ pub struct Front {
 }
 
 // Reads the question and the site, and grounds the case: its labels go to the lent numbers, which come in all 0, its facts to the lent
-// words, which come in cleared and are enough for the size that the site says, its problem to the lent table of zeros, unless there are
-// more atoms or actions than there may be.
+// words, which come in cleared and are enough for the size that the site says, its problem to the lent table of zeros, unless a limit
+// refuses it.
 pub fn open_filed(
     question: &[u8],
     site: &[u8],
     most: usize,
-    most_atoms: usize,
-    most_actions: usize,
+    limits: Limits,
     labels: &mut [usize],
     facts: &mut [u64],
     table: &mut [usize],
 ) -> Front
-    requires { ⌜ (most ≤ 64) × («most_atoms» ≤ numberLimit) × («most_actions» ≤ numberLimit) ⌝ }
+    requires { ⌜ (most ≤ 64) × (limits .atoms ≤ numberLimit) × (limits .actions ≤ numberLimit) ⌝ }
     requires { ⌜ FactsRoom (now site) most (length (now facts)) × NoLabels (now labels) × (bit (now facts) ≡ λ i. false) ⌝ }
     requires { ⌜ (length (now table) ≡ tableLength) × Most (now table) 0 ⌝ }
-    ensures { λ r. ⌜ Filed (limits most «most_atoms» «most_actions») (now (question .entry)) (now (site .entry)) r (now (labels .exit)) (now (facts .exit)) (now (table .exit)) ⌝ }
+    ensures { λ r. ⌜ Filed («limits-of» most limits) (now (question .entry)) (now (site .entry)) r (now (labels .exit)) (now (facts .exit)) (now (table .exit)) ⌝ }
 {
     let o = read_sheets::read_filed(question, site, most, labels, facts);
     let fault = o.fault;
     if fault != 0 {
         let place = o.place;
         let m = Sized {
-            over: true,
+            refusal: fault,
             atoms: 0,
             actions: 0,
             bound: 0,
         };
         return Front { fault, place, o, m };
     }
-    let m = problem_of_case::ground_case(question, o, most_atoms, most_actions, table);
+    let m = problem_of_case::ground_case(question, o, limits, table);
     Front {
         fault: 0,
         place: 0,
@@ -138,30 +141,39 @@ pub fn open_filed(
     }
 }
 
-// The same for a call that asks for no label.
-pub fn open_case(
+// The limits that all calls but the desk have.
+pub fn usual_limits() -> Limits
+    ensures { λ r. ⌜ r ≡ record { atoms = usual .atoms; actions = usual .actions; steps = usual .steps } ⌝ }
+{
+    Limits {
+        atoms: ATOMS,
+        actions: ACTIONS,
+        steps: STEPS,
+    }
+}
+
+// Opens a case by these.
+pub fn open_usual(
     question: &[u8],
     site: &[u8],
-    most: usize,
-    most_atoms: usize,
-    most_actions: usize,
+    labels: &mut [usize],
     facts: &mut [u64],
     table: &mut [usize],
 ) -> Front
-    requires { ⌜ (most ≤ 64) × («most_atoms» ≤ numberLimit) × («most_actions» ≤ numberLimit) ⌝ }
-    requires { ⌜ FactsRoom (now site) most (length (now facts)) × (bit (now facts) ≡ λ i. false) ⌝ }
+    requires { ⌜ FactsRoom (now site) 64 (length (now facts)) × NoLabels (now labels) × (bit (now facts) ≡ λ i. false) ⌝ }
     requires { ⌜ (length (now table) ≡ tableLength) × Most (now table) 0 ⌝ }
-    ensures { λ r. ⌜ Fronted (limits most «most_atoms» «most_actions») (now (question .entry)) (now (site .entry)) r (now (facts .exit)) (now (table .exit)) ⌝ }
+    ensures { λ r. ⌜ Filed usual (now (question .entry)) (now (site .entry)) r (now (labels .exit)) (now (facts .exit)) (now (table .exit)) ⌝ }
+{
+    let limits = usual_limits();
+    open_filed(question, site, ELEMENTS, limits, labels, facts, table)
+}
+
+// The same for a call that asks for no label.
+pub fn open_case(question: &[u8], site: &[u8], facts: &mut [u64], table: &mut [usize]) -> Front
+    requires { ⌜ FactsRoom (now site) 64 (length (now facts)) × (bit (now facts) ≡ λ i. false) ⌝ }
+    requires { ⌜ (length (now table) ≡ tableLength) × Most (now table) 0 ⌝ }
+    ensures { λ r. ⌜ Fronted usual (now (question .entry)) (now (site .entry)) r (now (facts .exit)) (now (table .exit)) ⌝ }
 {
     let mut labels = [0usize; read_sheets::LABELS];
-    open_filed(
-        question,
-        site,
-        most,
-        most_atoms,
-        most_actions,
-        &mut labels,
-        facts,
-        table,
-    )
+    open_usual(question, site, &mut labels, facts, table)
 }

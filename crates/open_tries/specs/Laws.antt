@@ -1,7 +1,6 @@
 -- Laws of the two covered parts: how a case begins, and one list. Assumes nothing.
 use Prim.Native.Nat.{ℕ, _+_, _-_, _*_, _/_, _≤_, _<_}
 use mathlib.Core.Path.{_≡_, refl, sym, ap, ap₂, subst, _∙_}
-use mathlib.Core.Bool.{true, false}
 use mathlib.Core.List.{List, [], _∷_, _++_}
 use native.Mathlib.Omega.{arith}
 use lib.ListN.{length, take, drop, length-append, drop-of-length-le}
@@ -55,12 +54,12 @@ module _ (L : CaseLimits) (question site old : List ℕ) (many : ℕ) (r : Front
     abbrev its : (c : Case) × (readCase L question site ≡ accepted c) × Held L question c r facts w
     its = front-held L question site r facts w opens z
 
-    pub begun-over : r .m .over ≡ true → (b : Begun) → b ≡ record { number = 11; place = 0; words = 0; many = 0 } → Begins b old
+    pub begun-over : (r .m .refusal ≡ 0 → ⊥) → (b : Begun) → b ≡ record { number = r .m .refusal; place = 0; words = 0; many = 0 } → Begins b old
     begun-over t =
         let (c, e, h) = its in
-        refused-with 11 0 (Alone.limits-refused L question site nothing nothing nothing rooms c e tt (λ _. Asked.untested _) (Asked.untested c) 11 0 (case-over L c _ _ (h .grounded) t))
+        refused-with _ _ (Alone.limits-refused L question site nothing nothing nothing rooms c e tt (λ _. Asked.untested _) (Asked.untested c) _ _ (case-over L c _ _ (h .grounded) t))
 
-    module _ (f : r .m .over ≡ false) where
+    module _ (f : r .m .refusal ≡ 0) where
       abbrev k : ℕ
       k = (r .m .atoms + 63) / 64
 

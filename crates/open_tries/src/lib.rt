@@ -88,21 +88,13 @@ fn begin_in(
     requires { ⌜ («length-of» (now table) ≡ tableLength) × Most (now table) 0 ⌝ }
     ensures { λ r. ⌜ BegunBy (readyToTry usual (now (question .entry)) (now (site .entry)) («length-of» (now (state .entry)))) many (now (state .entry)) r (now (table .exit)) (now (state .exit)) ⌝ }
 {
-    let f = open_case::open_case(
-        question,
-        site,
-        open_case::ELEMENTS,
-        open_case::ATOMS,
-        open_case::ACTIONS,
-        facts,
-        table,
-    );
+    let f = open_case::open_case(question, site, facts, table);
     if f.fault != 0 {
         return not_begun(f.fault, f.place);
     }
     let m = f.m;
-    if m.over {
-        return not_begun(11, 0);
+    if m.refusal != 0 {
+        return not_begun(m.refusal, 0);
     }
     let words = (m.atoms + 63) / 64;
     if state.len() < words {

@@ -1,6 +1,7 @@
 -- The words of an action by the table: its elements, its part, its kind and its subject. Assumes nothing.
 use Prim.Native.Nat.{ℕ, zero, suc, _+_, _-_, _*_, _/_, _%_, _^_, _≤_, _<_}
 use mathlib.Core.Path.{_≡_, refl, sym, ap, ap₂, subst, _∙_}
+use mathlib.Core.Bool.{Bool, _||_}
 use mathlib.Core.List.{List, [], _∷_, _++_}
 use native.Mathlib.Numerals.{add-one}
 use native.Mathlib.Nat.{pow-suc, div-div-eq-div-mul}
@@ -8,11 +9,12 @@ use native.Mathlib.Omega.{arith}
 use lib.Dec.{T}
 use lib.ListN.{length, getD, take, drop, set, length-set}
 use lib.Seq.{drop-cons, drop-set-lt, getD-set-same, take-suc-set}
-use Rattle.definitions.specs.Sheet.Relations.{isChosen}
+use Rattle.definitions.specs.Sheet.Relations.{Kind, isChosen, isUniversal}
 use Rattle.definitions.specs.Sheet.Text.{bytes, decimal}
 use Rattle.definitions.specs.Problem.Atoms.{Problem, relationAt, placesOf}
 use Rattle.definitions.specs.Problem.Actions as A
 use Rattle.definitions.specs.Reply.Page.{spaces, left, right, stepHead, kindWord, subjectWord, freeValues, shownElements, partWord}
+use Rattle.laws.specs.Booleans.{or-l, or-r}
 use Rattle.laws.specs.Numbers.{IsAction}
 use Rattle.problem_table.specs.Lines.{sizeIn, nodeLine, nodePlace, Fits}
 use Rattle.problem_table.specs.Numbers.{ActFits}
@@ -21,38 +23,47 @@ use Rattle.problem_table.specs.declared.TupleAct.{TupleAct}
 use Rattle.problem_table.specs.declared.ChoiceAct.{ChoiceAct}
 use Rattle.problem_table.specs.Of.{Is, said}
 use Rattle.problem_table.specs.declared.Act.{Act}
-use Rattle.problem_table.specs.declared.Act.the-variants.{Set, Begin, And, Or, Exists, Forall, Goal, Nothing}
+use Rattle.problem_table.specs.declared.Act.the-variants.{Set, Begin, And, Or, Exists, Forall, Goal, RoundEnd, MarkIn, MarkOut, Nothing}
 use Rattle.rows.specs.Values.{Within}
 use Rattle.rows.specs.Laws.{rest-none, within-set}
 use Rattle.print_units.specs.Units.{partText}
 
 -- three numbers of each relation: the span of its name in the question's text, and its arity
 pub record Names (question names : List ℕ) : Type 0 where
-  pub room : length names ≡ 51
+  pub room : length names ≡ 54
   pub in-text : (r : ℕ) → (getD names (3 * r) 0 ≤ getD names (3 * r + 1) 0) × (getD names (3 * r + 1) 0 ≤ length question)
   pub arity : (r : ℕ) → getD names (3 * r + 2) 0 ≤ 3
 
 unfoldable pub nameIn : (question names : List ℕ) → ℕ → List ℕ
 nameIn question names r = take (getD names (3 * r + 1) 0 - getD names (3 * r) 0) (drop (getD names (3 * r) 0) question)
 
--- they are those of the problem's relations, as far as they are chosen
+-- they are those of the problem's relations, as far as actions are about their tuples: those of `choose` and `every` lines
+abbrev pub isMoved : Kind → Bool
+isMoved k = isChosen k || isUniversal k
+
 pub record NamesAre (p : Problem) (question names : List ℕ) : Type 0 where
   pub fit : Names question names
-  pub name : (r : ℕ) → r < length (p .relations) → T (isChosen (relationAt p r .kind)) → nameIn question names r ≡ relationAt p r .name
-  pub arity : (r : ℕ) → r < length (p .relations) → T (isChosen (relationAt p r .kind)) → getD names (3 * r + 2) 0 ≡ relationAt p r .arity
+  pub name : (r : ℕ) → r < length (p .relations) → T (isMoved (relationAt p r .kind)) → nameIn question names r ≡ relationAt p r .name
+  pub arity : (r : ℕ) → r < length (p .relations) → T (isMoved (relationAt p r .kind)) → getD names (3 * r + 2) 0 ≡ relationAt p r .arity
 
 -- ---- by the table
 unfoldable pub freeIn : List ℕ → (node row : ℕ) → List ℕ
 freeIn w v row = placesOf (sizeIn w) (nodeLine w v .width) row
 
+unfoldable pub tupleIn : (w names : List ℕ) → TupleAct → List ℕ
+tupleIn w names a = placesOf (sizeIn w) (getD names (3 * a .relation + 2) 0) (a .row)
+
 unfoldable pub elementsIn : (w names : List ℕ) → Act → List ℕ
-elementsIn w names (Set a) = placesOf (sizeIn w) (getD names (3 * a .relation + 2) 0) (a .row)
+elementsIn w names (Set a) = tupleIn w names a
 elementsIn w names Begin = []
 elementsIn w names (And a) = freeIn w (a .node) (a .row)
 elementsIn w names (Or a) = freeIn w (a .node) (a .row)
 elementsIn w names (Exists a) = freeIn w (a .node) (a .row) ++ (a .choice ∷ [])
 elementsIn w names (Forall a) = freeIn w (a .node) (a .row) ++ (a .choice ∷ [])
 elementsIn w names Goal = []
+elementsIn w names RoundEnd = []
+elementsIn w names (MarkIn a) = tupleIn w names a
+elementsIn w names (MarkOut a) = tupleIn w names a
 elementsIn w names Nothing = []
 
 unfoldable pub partIn : Act → ℕ
@@ -63,6 +74,9 @@ partIn (Or a) = suc (a .choice)
 partIn (Exists a) = 0
 partIn (Forall a) = 0
 partIn Goal = 0
+partIn RoundEnd = 0
+partIn (MarkIn a) = 0
+partIn (MarkOut a) = 0
 partIn Nothing = 0
 
 unfoldable pub kindIn : Act → List ℕ
@@ -73,6 +87,9 @@ kindIn (Or a) = bytes "or"
 kindIn (Exists a) = bytes "exists"
 kindIn (Forall a) = bytes "forall"
 kindIn Goal = bytes "prove-goal"
+kindIn RoundEnd = bytes "round-end"
+kindIn (MarkIn a) = bytes "mark-in"
+kindIn (MarkOut a) = bytes "mark-out"
 kindIn Nothing = []
 
 unfoldable pub subjectIn : (question names : List ℕ) → Act → List ℕ
@@ -83,6 +100,9 @@ subjectIn question names (Or a) = decimal (a .node)
 subjectIn question names (Exists a) = decimal (a .node)
 subjectIn question names (Forall a) = decimal (a .node)
 subjectIn question names Goal = []
+subjectIn question names RoundEnd = []
+subjectIn question names (MarkIn a) = nameIn question names (a .relation)
+subjectIn question names (MarkOut a) = nameIn question names (a .relation)
 subjectIn question names Nothing = []
 
 -- ---- and of the problem whose table it is
@@ -91,25 +111,40 @@ module _ (p : Problem) (w question names : List ℕ) (is : Is p w) (N : NamesAre
   unfolding freeIn freeValues
   free-are v row h = ap₂ (λ (n k : ℕ). placesOf n k row) (is .size) (is .node v h .width)
 
+  tuple-elements : (r row : ℕ) → r < length (p .relations) → T (isMoved (relationAt p r .kind)) → placesOf (sizeIn w) (getD names (3 * r + 2) 0) row ≡ placesOf (p .size) (relationAt p r .arity) row
+  tuple-elements r row h t = ap₂ (λ (n k : ℕ). placesOf n k row) (is .size) (N .arity r h t)
+
+  chosen-moved : (k : Kind) → T (isChosen k) → T (isMoved k)
+  chosen-moved k t = or-l (isChosen k) (isUniversal k) t
+
+  every-moved : (k : Kind) → T (isUniversal k) → T (isMoved k)
+  every-moved k t = or-r (isChosen k) (isUniversal k) t
+
   pub elements-are : (a : A.Action) → IsAction p a → elementsIn w names (said a) ≡ shownElements p a
-  unfolding IsAction elementsIn shownElements said
-  elements-are (A.set r row) v = ap₂ (λ (n k : ℕ). placesOf n k row) (is .size) (N .arity r (v .0) (v .1))
+  unfolding IsAction elementsIn tupleIn shownElements said
+  elements-are (A.set r row) v = tuple-elements r row (v .0) (chosen-moved (relationAt p r .kind) (v .1))
   elements-are A.beginProof v = refl
   elements-are (A.proveAnd u row) v = free-are u row (v .0)
   elements-are (A.proveOr u row i) v = free-are u row (v .0)
   elements-are (A.proveExists u row x) v = ap (λ (l : List ℕ). l ++ (x ∷ [])) (free-are u row (v .0))
   elements-are (A.proveForall u row x) v = ap (λ (l : List ℕ). l ++ (x ∷ [])) (free-are u row (v .0))
   elements-are A.proveGoal v = refl
+  elements-are A.roundEnd v = refl
+  elements-are (A.markIn r row) v = tuple-elements r row (v .0) (every-moved (relationAt p r .kind) (v .1))
+  elements-are (A.markOut r row) v = tuple-elements r row (v .0) (every-moved (relationAt p r .kind) (v .1))
 
   pub subject-is : (a : A.Action) → IsAction p a → subjectIn question names (said a) ≡ subjectWord p a
   unfolding IsAction subjectIn subjectWord said
-  subject-is (A.set r row) v = N .name r (v .0) (v .1)
+  subject-is (A.set r row) v = N .name r (v .0) (chosen-moved (relationAt p r .kind) (v .1))
   subject-is A.beginProof v = refl
   subject-is (A.proveAnd u row) v = refl
   subject-is (A.proveOr u row i) v = refl
   subject-is (A.proveExists u row x) v = refl
   subject-is (A.proveForall u row x) v = refl
   subject-is A.proveGoal v = refl
+  subject-is A.roundEnd v = refl
+  subject-is (A.markIn r row) v = N .name r (v .0) (every-moved (relationAt p r .kind) (v .1))
+  subject-is (A.markOut r row) v = N .name r (v .0) (every-moved (relationAt p r .kind) (v .1))
 
 pub kind-is : (a : A.Action) → kindIn (said a) ≡ kindWord a
 unfolding kindIn kindWord said
@@ -120,6 +155,9 @@ kind-is (A.proveOr u row i) = refl
 kind-is (A.proveExists u row x) = refl
 kind-is (A.proveForall u row x) = refl
 kind-is A.proveGoal = refl
+kind-is A.roundEnd = refl
+kind-is (A.markIn r row) = refl
+kind-is (A.markOut r row) = refl
 
 pub part-is : (a : A.Action) → partText (partIn (said a)) ≡ partWord a
 unfolding partText partIn partWord said
@@ -130,6 +168,9 @@ part-is (A.proveOr u row i) = refl
 part-is (A.proveExists u row x) = refl
 part-is (A.proveForall u row x) = refl
 part-is A.proveGoal = refl
+part-is A.roundEnd = refl
+part-is (A.markIn r row) = refl
+part-is (A.markOut r row) = refl
 
 -- ---- the places of a row, the last first
 pub rest-first : (n row k : ℕ) → row ≡ row / n ^ (k - k)
@@ -180,8 +221,14 @@ unfolding left
 left-none k = let e : k - 0 ≡ k = omega arith in ap spaces e
 
 -- ---- what is known of an action's numbers, by its case
-pub relation-small : (w : List ℕ) (a : Act) (t : TupleAct) → ActFits w a → a ≡ Set t → t .relation < 17
+pub relation-small : (w : List ℕ) (a : Act) (t : TupleAct) → ActFits w a → a ≡ Set t → t .relation < 18
 relation-small w a t f e = subst (ActFits w) e f .0
+
+pub in-small : (w : List ℕ) (a : Act) (t : TupleAct) → ActFits w a → a ≡ MarkIn t → t .relation < 18
+in-small w a t f e = subst (ActFits w) e f .0
+
+pub out-small : (w : List ℕ) (a : Act) (t : TupleAct) → ActFits w a → a ≡ MarkOut t → t .relation < 18
+out-small w a t f e = subst (ActFits w) e f .0
 
 pub choice-small : (w : List ℕ) (a : Act) (t : ChoiceAct) → Fits w → ActFits w a → a ≡ Or t → t .choice + 1 < 2 ^ 64
 unfolding nodeLine

@@ -18,7 +18,7 @@ use Rattle.print_line.specs.Lines.{saidBy}
 use Rattle.rows.specs.Values.{Within}
 use Rattle.problem_table.specs.Of.{Is, said, actOf}
 use Rattle.problem_table.specs.declared.Act.{Act}
-use Rattle.problem_table.specs.declared.Act.the-variants.{Set, Begin, And, Or, Exists, Forall, Goal, Nothing}
+use Rattle.problem_table.specs.declared.Act.the-variants.{Set, Begin, And, Or, Exists, Forall, Goal, RoundEnd, MarkIn, MarkOut, Nothing}
 use Rattle.print_units.specs.Units.{allUnits, units-are}
 use Rattle.print_units.specs.Streams.{streamed, streamed-is, linesIn, lines-are}
 use Rattle.print_page.specs.Elements.{NamesAre, elementsIn, partIn, headIn, elements-are, part-is, head-is}
@@ -31,6 +31,9 @@ isThere (Or a) = true
 isThere (Exists a) = true
 isThere (Forall a) = true
 isThere Goal = true
+isThere RoundEnd = true
+isThere (MarkIn a) = true
+isThere (MarkOut a) = true
 isThere Nothing = false
 
 there : (x : A.Action) → isThere (said x) ≡ true
@@ -42,6 +45,9 @@ there (A.proveOr v row i) = refl
 there (A.proveExists v row x) = refl
 there (A.proveForall v row x) = refl
 there A.proveGoal = refl
+there A.roundEnd = refl
+there (A.markIn r row) = refl
+there (A.markOut r row) = refl
 
 pub within-five : (n : ℕ) → 0 < n → Within n (0 ∷ 0 ∷ 0 ∷ 0 ∷ 0 ∷ [])
 within-five n h zero = h

@@ -21,7 +21,7 @@ ghost use Rattle.rows.specs.Values.{Within, Most};
 ghost use Rattle.read_names.specs.Signatures.{SoundSignature};
 ghost use Rattle.problem_table.specs.Lines.{sizeIn, Fits};
 ghost use Rattle.problem_table.specs.Numbers.{ActFits};
-ghost use Rattle.print_page.specs.Elements.{Names, NamesAre, freeIn, elementsIn, partIn, kindIn, subjectIn, headIn};
+ghost use Rattle.print_page.specs.Elements.{Names, NamesAre, nameIn, freeIn, tupleIn, elementsIn, partIn, kindIn, subjectIn, headIn};
 ghost use Rattle.print_units.specs.Units.{Short};
 ghost use Rattle.print_page.specs.Steps.{isThere};
 ghost use Rattle.print_page.specs.Bodies.{restFrom, Before, Finds, Covers};
@@ -36,8 +36,8 @@ pub const PAGE: usize = 4380;
 
 const BODY: usize = 4307;
 
-// Three numbers for each of 17 relations.
-pub const NAMES: usize = 51;
+// Three numbers for each of 18 relations.
+pub const NAMES: usize = 54;
 
 // The places of a row, the first place first, at the front of the lent numbers.
 fn places(n: usize, count: usize, row: usize, values: &mut [usize])
@@ -74,6 +74,23 @@ fn free_and(table: &[usize], v: usize, row: usize, x: usize, values: &mut [usize
     count + 1
 }
 
+// The places of a tuple that an action is about, and how many they are.
+fn tuple_places(
+    table: &[usize],
+    names: &[usize],
+    t: problem_table::TupleAct,
+    values: &mut [usize],
+) -> usize
+    requires { ⌜ Fits (now table) × (t .relation < 18) × (5 ≤ length (now values)) × Within (sizeIn (now table)) (now values) ⌝ }
+    requires { ⌜ ((question : List ℕ) × Names question (now names)) ⌝ }
+    ensures { λ r. ⌜ (r ≤ 5) × (take r (now (values .exit)) ≡ tupleIn (now (table .entry)) (now (names .entry)) t) × Within (sizeIn (now (table .entry))) (now (values .exit)) ⌝ }
+{
+    let r = t.relation;
+    let count = names[3 * r + 2];
+    places(table[0], count, t.row, values);
+    count
+}
+
 // The elements that an action shows, and how many they are.
 fn elements(table: &[usize], names: &[usize], a: Act, values: &mut [usize]) -> usize
     requires { ⌜ Fits (now table) × ActFits (now table) a × (5 ≤ length (now values)) × Within (sizeIn (now table)) (now values) ⌝ }
@@ -81,33 +98,17 @@ fn elements(table: &[usize], names: &[usize], a: Act, values: &mut [usize]) -> u
     ensures { λ r. ⌜ (r ≤ 5) × (take r (now (values .exit)) ≡ elementsIn (now (table .entry)) (now (names .entry)) a) × Within (sizeIn (now (table .entry))) (now (values .exit)) ⌝ }
 {
     match a {
-        Act::Set(t) => {
-            let r = t.relation;
-            let count = names[3 * r + 2];
-            places(table[0], count, t.row, values);
-            return count;
-        }
-        Act::Begin => {
-            return 0;
-        }
-        Act::And(t) => {
-            return free(table, t.node, t.row, values);
-        }
-        Act::Or(t) => {
-            return free(table, t.node, t.row, values);
-        }
-        Act::Exists(t) => {
-            return free_and(table, t.node, t.row, t.choice, values);
-        }
-        Act::Forall(t) => {
-            return free_and(table, t.node, t.row, t.choice, values);
-        }
-        Act::Goal => {
-            return 0;
-        }
-        Act::Nothing => {
-            return 0;
-        }
+        Act::Set(t) => tuple_places(table, names, t, values),
+        Act::Begin => 0,
+        Act::And(t) => free(table, t.node, t.row, values),
+        Act::Or(t) => free(table, t.node, t.row, values),
+        Act::Exists(t) => free_and(table, t.node, t.row, t.choice, values),
+        Act::Forall(t) => free_and(table, t.node, t.row, t.choice, values),
+        Act::Goal => 0,
+        Act::RoundEnd => 0,
+        Act::MarkIn(t) => tuple_places(table, names, t, values),
+        Act::MarkOut(t) => tuple_places(table, names, t, values),
+        Act::Nothing => 0,
     }
 }
 
@@ -117,30 +118,17 @@ fn part_of(table: &[usize], a: Act) -> usize
     ensures { λ r. ⌜ r ≡ partIn a ⌝ }
 {
     match a {
-        Act::Set(_) => {
-            return 0;
-        }
-        Act::Begin => {
-            return 0;
-        }
-        Act::And(_) => {
-            return 0;
-        }
-        Act::Or(t) => {
-            return t.choice + 1;
-        }
-        Act::Exists(_) => {
-            return 0;
-        }
-        Act::Forall(_) => {
-            return 0;
-        }
-        Act::Goal => {
-            return 0;
-        }
-        Act::Nothing => {
-            return 0;
-        }
+        Act::Set(_) => 0,
+        Act::Begin => 0,
+        Act::And(_) => 0,
+        Act::Or(t) => t.choice + 1,
+        Act::Exists(_) => 0,
+        Act::Forall(_) => 0,
+        Act::Goal => 0,
+        Act::RoundEnd => 0,
+        Act::MarkIn(_) => 0,
+        Act::MarkOut(_) => 0,
+        Act::Nothing => 0,
     }
 }
 
@@ -149,31 +137,28 @@ fn kind(out: &mut [u8], at: usize, a: Act) -> usize
     ensures { λ r. ⌜ Emits (left 12 (kindIn a)) (now (out .entry)) at (now (out .exit)) r ⌝ }
 {
     match a {
-        Act::Set(_) => {
-            return print_bytes::left(out, at, 12, b"set");
-        }
-        Act::Begin => {
-            return print_bytes::left(out, at, 12, b"begin-proof");
-        }
-        Act::And(_) => {
-            return print_bytes::left(out, at, 12, b"and");
-        }
-        Act::Or(_) => {
-            return print_bytes::left(out, at, 12, b"or");
-        }
-        Act::Exists(_) => {
-            return print_bytes::left(out, at, 12, b"exists");
-        }
-        Act::Forall(_) => {
-            return print_bytes::left(out, at, 12, b"forall");
-        }
-        Act::Goal => {
-            return print_bytes::left(out, at, 12, b"prove-goal");
-        }
-        Act::Nothing => {
-            return print_bytes::spaces(out, at, 12);
-        }
+        Act::Set(_) => print_bytes::left(out, at, 12, b"set"),
+        Act::Begin => print_bytes::left(out, at, 12, b"begin-proof"),
+        Act::And(_) => print_bytes::left(out, at, 12, b"and"),
+        Act::Or(_) => print_bytes::left(out, at, 12, b"or"),
+        Act::Exists(_) => print_bytes::left(out, at, 12, b"exists"),
+        Act::Forall(_) => print_bytes::left(out, at, 12, b"forall"),
+        Act::Goal => print_bytes::left(out, at, 12, b"prove-goal"),
+        Act::RoundEnd => print_bytes::left(out, at, 12, b"round-end"),
+        Act::MarkIn(_) => print_bytes::left(out, at, 12, b"mark-in"),
+        Act::MarkOut(_) => print_bytes::left(out, at, 12, b"mark-out"),
+        Act::Nothing => print_bytes::spaces(out, at, 12),
     }
+}
+
+// The name of a relation, in 12 columns.
+fn name(out: &mut [u8], at: usize, question: &[u8], names: &[usize], r: usize) -> usize
+    requires { ⌜ Names (now question) (now names) × (r < 18) ⌝ }
+    ensures { λ k. ⌜ Emits (left 12 (nameIn (now (question .entry)) (now (names .entry)) r)) (now (out .entry)) at (now (out .exit)) k ⌝ }
+{
+    let from = names[3 * r];
+    let to = names[3 * r + 1];
+    print_bytes::left(out, at, 12, &question[from..to])
 }
 
 // Its relation, or its node's preorder number, in 12 columns.
@@ -182,33 +167,17 @@ fn subject(out: &mut [u8], at: usize, question: &[u8], names: &[usize], a: Act) 
     ensures { λ r. ⌜ Emits (left 12 (subjectIn (now (question .entry)) (now (names .entry)) a)) (now (out .entry)) at (now (out .exit)) r ⌝ }
 {
     match a {
-        Act::Set(t) => {
-            let r = t.relation;
-            let from = names[3 * r];
-            let to = names[3 * r + 1];
-            return print_bytes::left(out, at, 12, &question[from..to]);
-        }
-        Act::Begin => {
-            return print_bytes::spaces(out, at, 12);
-        }
-        Act::And(t) => {
-            return print_bytes::left_number(out, at, 12, t.node);
-        }
-        Act::Or(t) => {
-            return print_bytes::left_number(out, at, 12, t.node);
-        }
-        Act::Exists(t) => {
-            return print_bytes::left_number(out, at, 12, t.node);
-        }
-        Act::Forall(t) => {
-            return print_bytes::left_number(out, at, 12, t.node);
-        }
-        Act::Goal => {
-            return print_bytes::spaces(out, at, 12);
-        }
-        Act::Nothing => {
-            return print_bytes::spaces(out, at, 12);
-        }
+        Act::Set(t) => name(out, at, question, names, t.relation),
+        Act::Begin => print_bytes::spaces(out, at, 12),
+        Act::And(t) => print_bytes::left_number(out, at, 12, t.node),
+        Act::Or(t) => print_bytes::left_number(out, at, 12, t.node),
+        Act::Exists(t) => print_bytes::left_number(out, at, 12, t.node),
+        Act::Forall(t) => print_bytes::left_number(out, at, 12, t.node),
+        Act::Goal => print_bytes::spaces(out, at, 12),
+        Act::RoundEnd => print_bytes::spaces(out, at, 12),
+        Act::MarkIn(t) => name(out, at, question, names, t.relation),
+        Act::MarkOut(t) => name(out, at, question, names, t.relation),
+        Act::Nothing => print_bytes::spaces(out, at, 12),
     }
 }
 
@@ -240,30 +209,17 @@ fn is_there(a: Act) -> bool
     ensures { λ r. ⌜ r ≡ isThere a ⌝ }
 {
     match a {
-        Act::Set(_) => {
-            return true;
-        }
-        Act::Begin => {
-            return true;
-        }
-        Act::And(_) => {
-            return true;
-        }
-        Act::Or(_) => {
-            return true;
-        }
-        Act::Exists(_) => {
-            return true;
-        }
-        Act::Forall(_) => {
-            return true;
-        }
-        Act::Goal => {
-            return true;
-        }
-        Act::Nothing => {
-            return false;
-        }
+        Act::Set(_) => true,
+        Act::Begin => true,
+        Act::And(_) => true,
+        Act::Or(_) => true,
+        Act::Exists(_) => true,
+        Act::Forall(_) => true,
+        Act::Goal => true,
+        Act::RoundEnd => true,
+        Act::MarkIn(_) => true,
+        Act::MarkOut(_) => true,
+        Act::Nothing => false,
     }
 }
 
@@ -500,13 +456,13 @@ pub fn page(
     print_bytes::byte(out, numbered, 10)
 }
 
-// The names and arities of a signature's relations, three numbers for each by its number; the lent numbers come in as 51 zeros.
+// The names and arities of a signature's relations, three numbers for each by its number; the lent numbers come in as 54 zeros.
 pub fn names_of(g: Signature, names: &mut [usize])
     requires { ⌜ ((question : List ℕ) × SoundSignature question g) ⌝ }
-    requires { ⌜ (length (now names) ≡ 51) × Most (now names) 0 ⌝ }
-    ensures { λ r. ⌜ Named (g .from) (g .to) (g .arity) (g .rels + g .chosen) (now (names .exit)) ⌝ }
+    requires { ⌜ (length (now names) ≡ 54) × Most (now names) 0 ⌝ }
+    ensures { λ r. ⌜ Named (g .from) (g .to) (g .arity) (g .rels + g .chosen + g .every) (now (names .exit)) ⌝ }
 {
-    let total = g.rels + g.chosen;
+    let total = g.rels + g.chosen + g.every;
     let from = g.from;
     let to = g.to;
     let arity = g.arity;

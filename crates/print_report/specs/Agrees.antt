@@ -84,24 +84,25 @@ module _ (p test : ℕ → Bool) (a : ℕ) where
 abbrev pub noRelation : Relation
 noRelation = fixed [] zero
 
-relation-is : (p : Problem) (q : List ℕ) (g : Signature) → p .relations ≡ allOf q g → (i : ℕ) → i < g .rels + g .chosen → relationAt p (5 + i) ≡ relationIn q g i
+relation-is : (p : Problem) (q : List ℕ) (g : Signature) → g .every ≤ 1 → p .relations ≡ allOf q g → (i : ℕ) → i < g .rels + g .chosen → relationAt p (5 + i) ≡ relationIn q g i
 unfolding relationAt builtIn
-relation-is p q g e i h =
-    ap (λ (rs : List Relation). getD rs (5 + i) noRelation) (e ∙ all-are q g)
-    ∙ getD-append-add builtIn (relationsFrom q g 0 (g .rels + g .chosen)) i noRelation
-    ∙ relation-at q g 0 (g .rels + g .chosen) i noRelation h ∙ rw (zero-add i)
+relation-is p q g one e i h =
+    ap (λ (rs : List Relation). getD rs (5 + i) noRelation) (e ∙ all-are q g one)
+    ∙ getD-append-add builtIn (relationsFrom q g 0 (g .rels + g .chosen + g .every)) i noRelation
+    ∙ relation-at q g 0 (g .rels + g .chosen + g .every) i noRelation (omega arith) ∙ rw (zero-add i)
 
-pub relation-arity : (p : Problem) (q : List ℕ) (g : Signature) → p .relations ≡ allOf q g → (i : ℕ) → i < g .rels + g .chosen → relationAt p (5 + i) .arity ≡ getD (g .arity) i 0
+pub relation-arity : (p : Problem) (q : List ℕ) (g : Signature) → g .every ≤ 1 → p .relations ≡ allOf q g → (i : ℕ) → i < g .rels + g .chosen → relationAt p (5 + i) .arity ≡ getD (g .arity) i 0
 unfolding relationIn
-relation-arity p q g e i h = ap (λ (k : Relation). k .arity) (relation-is p q g e i h)
+relation-arity p q g one e i h = ap (λ (k : Relation). k .arity) (relation-is p q g one e i h)
 
-pub relation-rows : (p : Problem) (q : List ℕ) (g : Signature) (n : ℕ) → p .size ≡ n → p .relations ≡ allOf q g → (i : ℕ) → i < g .rels + g .chosen → tuplesOf (p .size) (relationAt p (5 + i)) ≡ rowsAt g n i
+pub relation-rows : (p : Problem) (q : List ℕ) (g : Signature) (n : ℕ) → g .every ≤ 1 → p .size ≡ n → p .relations ≡ allOf q g → (i : ℕ) → i < g .rels + g .chosen → tuplesOf (p .size) (relationAt p (5 + i)) ≡ rowsAt g n i
 unfolding tuplesOf rowsAt
-relation-rows p q g n s e i h = ap₂ (λ (x y : ℕ). x ^ y) s (relation-arity p q g e i h)
+relation-rows p q g n one s e i h = ap₂ (λ (x y : ℕ). x ^ y) s (relation-arity p q g one e i h)
 
 -- ---- the tables of a problem and its picks
 pub record Agrees (p : Problem) (F : List Tuple) (q : List ℕ) (g : Signature) (n : ℕ) (words : List ℕ) : Type 0 where
   pub size : p .size ≡ n
+  pub one : g .every ≤ 1
   pub relations : p .relations ≡ allOf q g
   pub chosen : chosenNumbers p ≡ from (5 + g .rels) (g .chosen)
   pub bits : (j i : ℕ) → j < g .chosen → i < 64 * wordsFor (rowsAt g n (g .rels + j)) → bit words (64 * wordAt g n j + i) ≡ (ltb i (rowsAt g n (g .rels + j)) && isPicked p F (5 + (g .rels + j)) i)
@@ -112,17 +113,17 @@ module _ (p : Problem) (F : List Tuple) (q : List ℕ) (g : Signature) (n : ℕ)
     r = 5 + (g .rels + j)
 
     its-relation : relationAt p r ≡ relationIn q g (g .rels + j)
-    its-relation = relation-is p q g (A .relations) (g .rels + j) (omega arith)
+    its-relation = relation-is p q g (A .one) (A .relations) (g .rels + j) (omega arith)
 
     pub its-name : relationAt p r .name ≡ nameAt q g (g .rels + j)
     unfolding relationIn nameAt
     its-name = ap (λ (k : Relation). k .name) its-relation ∙ part-is (getD (g .from) (g .rels + j) 0) (getD (g .to) (g .rels + j) 0) q
 
     pub its-arity : relationAt p r .arity ≡ getD (g .arity) (g .rels + j) 0
-    its-arity = relation-arity p q g (A .relations) (g .rels + j) (omega arith)
+    its-arity = relation-arity p q g (A .one) (A .relations) (g .rels + j) (omega arith)
 
     its-rows : tuplesOf (p .size) (relationAt p r) ≡ rowsAt g n (g .rels + j)
-    its-rows = relation-rows p q g n (A .size) (A .relations) (g .rels + j) (omega arith)
+    its-rows = relation-rows p q g n (A .one) (A .size) (A .relations) (g .rels + j) (omega arith)
 
     rows-fit : rowsAt g n (g .rels + j) ≤ 64 * wordsFor (rowsAt g n (g .rels + j))
     unfolding wordsFor

@@ -1,7 +1,7 @@
 -- What the signature of an accepted question says of the case's problem: its relations, and that the names of its `choose` relations
 -- are short. Assumes nothing.
 use Prim.Native.Nat.{ℕ, _+_, _≤_, _<_}
-use mathlib.Core.Path.{_≡_, refl, ap, ap₂, subst, _∙_}
+use mathlib.Core.Path.{_≡_, refl, ap, subst, _∙_}
 use mathlib.Core.List.{List}
 use native.Mathlib.Omega.{arith}
 use lib.ListN.{length, getD}
@@ -11,7 +11,7 @@ use Rattle.definitions.specs.Problem.Truth.{Case}
 use Rattle.definitions.specs.Problem.Atoms.{problemWith, problemOf}
 use Rattle.laws.specs.Lists.{getD-mem}
 use Rattle.read_names.specs.declared.Signature.{Signature}
-use Rattle.read_names.specs.Signatures.{relationIn, relsOf, chosenOf, allOf}
+use Rattle.read_names.specs.Signatures.{relationIn, relsOf, chosenOf, everyOf, allOf}
 use Rattle.read_names.proofs.Laws.{length-relations, relation-at}
 use Rattle.laws.specs.Reader.{Accepted}
 use Rattle.print_report.specs.Report.{nameAt}
@@ -19,7 +19,7 @@ use Rattle.print_line.specs.Lines.{part-is}
 use Rattle.print_report.specs.Agrees.{noRelation}
 use Rattle.laws.specs.Lines.{name-short}
 
-all-relations : (c : Case) → problemOf c .relations ≡ relations (c .question .rels) (c .question .chosen)
+all-relations : (c : Case) → problemOf c .relations ≡ relations (c .question .rels) (c .question .chosen) (c .question .every)
 unfolding problemOf problemWith relationsOf
 all-relations c = refl
 
@@ -28,9 +28,9 @@ module _ (q : List ℕ) (g : Signature) (c : Case) (rels-are : c .question .rels
   unfolding chosenOf
   chosen-count = ap length chosen-are ∙ length-relations q g (g .rels) (g .chosen)
 
-  pub its-relations : problemOf c .relations ≡ allOf q g
+  pub its-relations : c .question .every ≡ everyOf q g → problemOf c .relations ≡ allOf q g
   unfolding allOf
-  its-relations = all-relations c ∙ ap₂ relations rels-are chosen-are
+  its-relations every-is = all-relations c ∙ rw (rels-are, chosen-are, every-is)
 
   module _ (A : Accepted c) where
     pub its-names : (j : ℕ) → j < g .chosen → length (nameAt q g (g .rels + j)) ≤ 12

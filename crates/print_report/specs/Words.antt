@@ -49,7 +49,7 @@ module _ (own : ℕ → List ℕ) (b : ℕ) where
 
 -- ---- the words of picks
 
-module _ (p : Problem) (F : List Tuple) (q : List ℕ) (g : Signature) (n : ℕ) (s : p .size ≡ n) (e : p .relations ≡ allOf q g) (c : chosenNumbers p ≡ from (5 + g .rels) (g .chosen)) where
+module _ (p : Problem) (F : List Tuple) (q : List ℕ) (g : Signature) (n : ℕ) (one : g .every ≤ 1) (s : p .size ≡ n) (e : p .relations ≡ allOf q g) (c : chosenNumbers p ≡ from (5 + g .rels) (g .chosen)) where
   abbrev rowBit : ℕ → ℕ → Bool
   rowBit r row = ltb row (tuplesOf (p .size) (relationAt p r)) && isPicked p F r row
 
@@ -58,7 +58,7 @@ module _ (p : Problem) (F : List Tuple) (q : List ℕ) (g : Signature) (n : ℕ)
 
   its-words : (j : ℕ) → j < g .chosen → relationWords p (5 + g .rels + j) ≡ wordsFor (rowsAt g n (g .rels + j))
   unfolding relationWords
-  its-words j h = let z : 5 + g .rels + j ≡ 5 + (g .rels + j) = omega arith in rw z (ap wordsFor (relation-rows p q g n s e (g .rels + j) (omega arith)))
+  its-words j h = let z : 5 + g .rels + j ≡ 5 + (g .rels + j) = omega arith in rw z (ap wordsFor (relation-rows p q g n one s e (g .rels + j) (omega arith)))
 
   starts : (j : ℕ) → j ≤ g .chosen → length (flatMap own (from (5 + g .rels) j)) ≡ wordAt g n j
   unfolding wordAt firstWord flatMap from rowsAt
@@ -70,6 +70,7 @@ module _ (p : Problem) (F : List Tuple) (q : List ℕ) (g : Signature) (n : ℕ)
   pub words-agree : (rest : List ℕ) → Agrees p F q g n (pickWords p F ++ rest)
   words-agree rest = record {
     size = s;
+    one = one;
     relations = e;
     chosen = c;
     bits = λ j i h l.
@@ -81,5 +82,5 @@ module _ (p : Problem) (F : List Tuple) (q : List ℕ) (g : Signature) (n : ℕ)
         ∙ flat-bit own (5 + g .rels) (g .chosen) j i rest h (omega arith)
         ∙ bit-words (rowBit (5 + g .rels + j)) (relationWords p (5 + g .rels + j)) i (omega arith)
         ∙ ap (λ (r : ℕ). rowBit r i) z
-        ∙ ap (λ (t : ℕ). ltb i t && isPicked p F (5 + (g .rels + j)) i) (relation-rows p q g n s e (g .rels + j) (omega arith));
+        ∙ ap (λ (t : ℕ). ltb i t && isPicked p F (5 + (g .rels + j)) i) (relation-rows p q g n one s e (g .rels + j) (omega arith));
   }

@@ -1,26 +1,33 @@
 -- What a search over the starting numbers finds is the action of that number.
 use mathlib.Core.Path.{_≡_, refl, sym, ap, _∙_, subst}
-use mathlib.Core.Bool.{false}
+use mathlib.Core.Bool.{Bool, true, false, not, _&&_}
 use mathlib.Core.List.{List}
 use Prim.Native.Nat.{ℕ, zero, suc, _+_, _-_, _*_, _/_, _%_, _^_, _≤_, _<_}
 use native.Mathlib.Nat.{div-one, div-le-self, mod-lt, mul-zero}
 use native.Mathlib.Numerals.{add-one}
 use native.Mathlib.Omega.{arith}
+use borrow.Author.Tests.{lt-ltb, le-ltb, ltb-true, ltb-false}
+use lib.Dec.{T, ltb, eqb}
 use lib.ListN.{length, getD}
+use Rattle.definitions.specs.Lists.{if_then_else_, isSome}
+use Rattle.definitions.specs.Sheet.Relations.{Relation, isUniversal}
+use Rattle.definitions.specs.Sheet.Sheets.{everyNumber}
 use Rattle.definitions.specs.Problem.Tree.{Tree, leaf, forallNode, existsNode, andNode, orNode, parts, nodeSort}
-use Rattle.definitions.specs.Problem.Atoms.{Problem, relationAt, nodeAt, rowsOf}
-use Rattle.definitions.specs.Problem.Actions.{Action, proveExists, proveForall, choices, proveNode, setsOf, proofsOf, actionAt, setStart, proofStart}
-use Rattle.laws.specs.Numbers.{set-next, set-first, proof-first, proof-next, at-set, at-begin, at-proof, at-goal, at-none}
+use Rattle.definitions.specs.Problem.Atoms.{Problem, relationAt, nodeAt, tuplesOf, rowsOf, lastTuples}
+use Rattle.definitions.specs.Problem.Actions.{Action, proveExists, proveForall, choices, proveNode, setsOf, proofsOf, actionAt, setStart, proofStart, marksBefore}
+use Rattle.laws.specs.Booleans.{T-of, T-true, T-false}
+use Rattle.laws.specs.Numbers.{last-width, set-next, set-first, proof-first, proof-next, mark-first, mark-next, actions-end, at-set, at-begin, at-proof, at-goal, at-mark-in, at-mark-out, at-none}
 use Rattle.rule_nodes.specs.Tables.{nodeKind}
-use Rattle.problem_table.specs.Lines.{relationPlace, nodePlace, relationsIn, nodesIn, relationLine, nodeLine, RangeFits, PlacesFit}
-use Rattle.problem_table.specs.NeedLaws.{members-length, member-at}
-use Rattle.problem_table.specs.Numbers.{isWhole, setRow, ActFits}
+use Rattle.problem_table.specs.Lines.{relationPlace, nodePlace, relationsIn, nodesIn, relationLine, lastLine, hasEvery, everyIn, nodeLine, RangeFits, PlacesFit, Fits}
+use Rattle.problem_table.specs.NeedLaws.{members-length, member-at, relation-small}
+use Rattle.problem_table.specs.Numbers.{isWhole, setRow, finishIn, ActFits}
 use Rattle.problem_table.specs.Of.{Is, IsNode, said, actOf}
-use Rattle.problem_table.specs.OfLaws.{parts-length, typed-sets, set-row-is}
+use Rattle.problem_table.specs.OfLaws.{parts-length, typed-sets, set-row-is, has-every, last-is, every-below, every-kind, finish-are}
 use Rattle.problem_table.specs.declared.RelationLine.{RelationLine}
 use Rattle.problem_table.specs.declared.NodeLine.{NodeLine}
-use Rattle.problem_table.specs.declared.Act.the-variants.{Set, Begin, And, Or, Exists, Forall, Goal, Nothing}
-use Rattle.problem_action.specs.Decoded.{proofBy, proofIn}
+use Rattle.problem_table.specs.declared.Act.the-variants.{Set, Begin, And, Or, Exists, Forall, Goal, RoundEnd, MarkIn, MarkOut, Nothing}
+use Rattle.problem_table.specs.declared.Act.{Act}
+use Rattle.problem_action.specs.Decoded.{proofBy, proofIn, markAt}
 
 -- ---- by the kind
 module _ (w : List ℕ) (v off : ℕ) (x : NodeLine) where
@@ -45,6 +52,19 @@ module _ (w : List ℕ) (v off : ℕ) (x : NodeLine) where
       last-kind (suc zero) a b c = absurd (b refl)
       last-kind (suc (suc zero)) a b c = absurd (c refl)
       last-kind (suc (suc (suc k))) a b c = refl
+
+-- as many tuples as the last line's numbers are apart
+every-small : (w : List ℕ) → Fits w → everyIn w ≤ 2 ^ 32
+unfolding everyIn
+every-small w f = by-test (hasEvery w)
+  where
+    by-test : (b : Bool) → (if b then lastLine w .nots - lastLine w .tuples else 0) ≤ 2 ^ 32
+    by-test true = omega (arith, relation-small w f (relationsIn w - 1) (lastLine w) refl)
+    by-test false = omega arith
+
+no-lasts : (n : ℕ) (k : Relation) → isUniversal (k .kind) ≡ false → lastTuples n k ≡ 0
+unfolding lastTuples
+no-lasts n k e = rw e refl
 
 -- what a node has actions by: the elements of its range, or its parts
 pub record Counted (x : NodeLine) : Type 0 where
@@ -108,6 +128,84 @@ module _ (p : Problem) (w : List ℕ) (is : Is p w) where
       acts-at 0 (omega arith) ∙ proof-first p
       ∙ ap (λ (x : ℕ). x + 1) (sym (sets-at (length (p .relations)) (omega arith)) ∙ ap (λ (r : ℕ). getD w (relationPlace r) 0) (sym (is .relations)))
 
+  goal-at : getD w (nodePlace (nodesIn w)) 0 ≡ proofStart p (length (p .nodeList))
+  goal-at = ap (λ (v : ℕ). getD w (nodePlace v) 0) (is .nodes) ∙ acts-at (length (p .nodeList)) (omega arith)
+
+  -- ---- marks: no relation before that of an `every` line has any
+  no-marks : (r : ℕ) → r ≤ length (p .relations) → ((j : ℕ) → j < r → isUniversal (relationAt p j .kind) ≡ false) → marksBefore p r ≡ 0
+  no-marks zero h e = mark-first p
+  no-marks (suc r) h e =
+      let n = mark-next p r (omega arith) in
+      let z = no-marks r (omega arith) (λ j l. e j (omega arith)) in
+      let w = no-lasts (p .size) (relationAt p r) (e r (omega arith)) in
+      omega arith
+
+  early : (r : ℕ) → r < length (p .relations) → (r ≡ everyNumber (p .source .question) → T (isSome (p .source .question .every)) → ⊥) → isUniversal (relationAt p r .kind) ≡ false
+  early r h n = T-false (isUniversal (relationAt p r .kind)) (λ u. let q = is .every .alone r h u in n (q .0) (q .1))
+
+  pub marks-none : T (not (isSome (p .source .question .every))) → (everyIn w ≡ 0) × (marksBefore p (length (p .relations)) ≡ 0)
+  unfolding everyIn
+  marks-none t =
+      let e : isSome (p .source .question .every) ≡ false = not-true (isSome (p .source .question .every)) t in (
+        ap (λ (b : Bool). if b then lastLine w .nots - lastLine w .tuples else 0) (has-every p w is ∙ e),
+        no-marks (length (p .relations)) (omega arith) (λ j l. early j l (λ q s. subst T e s)),
+      )
+    where
+      not-true : (b : Bool) → T (not b) → b ≡ false
+      not-true true t = absurd t
+      not-true false t = refl
+
+  pub marks-some : T (isSome (p .source .question .every)) → (marksBefore p (everyNumber (p .source .question)) ≡ 0)
+      × (marksBefore p (suc (everyNumber (p .source .question))) ≡ everyIn w) × (relationsIn w - 1 ≡ everyNumber (p .source .question))
+  unfolding everyIn
+  marks-some t =
+      let r : ℕ = everyNumber (p .source .question) in
+      let l = every-below p w is t in
+      let z = no-marks r (omega arith) (λ j h. early j (omega arith) (λ q s. omega arith)) in
+      let n = mark-next p r l in
+      let k = last-width (p .size) (relationAt p r) (T-true (isUniversal (relationAt p r .kind)) (every-kind p w is t)) in
+      let c : everyIn w ≡ tuplesOf (p .size) (relationAt p r) =
+      ap (λ (b : Bool). if b then lastLine w .nots - lastLine w .tuples else 0) (has-every p w is ∙ T-true (isSome (p .source .question .every)) t)
+      ∙ ap (λ (x : RelationLine). x .nots - x .tuples) (last-is p w is t) ∙ omega (arith, is .relation r l .tuples, is .relation r l .nots) in
+      (z, omega (arith, z, n, k, c), omega (arith, is .relations, is .every .last t))
+
+  mark-of : (off : ℕ) → markAt w off ≡ actOf (actionAt p (proofStart p (length (p .nodeList)) + 1 + off))
+  unfolding markAt actOf said
+  mark-of off = by-some (isSome (p .source .question .every)) refl
+    where
+      by-some : (b : Bool) → isSome (p .source .question .every) ≡ b → markAt w off ≡ actOf (actionAt p (proofStart p (length (p .nodeList)) + 1 + off))
+      by-some false e =
+          let (a, b) = marks-none (subst (λ (x : Bool). T (not x)) (sym e) tt) in
+          let n = actions-end p in
+          rw (a, le-ltb off 0 (omega arith), le-ltb (off - 0) 0 (omega arith), at-none p (proofStart p (length (p .nodeList)) + 1 + off) (omega arith)) refl
+      by-some true e = by-place (ltb off (everyIn w)) refl (ltb (off - everyIn w) (everyIn w)) refl
+        where
+          t : T (isSome (p .source .question .every))
+          t = T-of e
+
+          by-place : (b : Bool) → ltb off (everyIn w) ≡ b → (d : Bool) → ltb (off - everyIn w) (everyIn w) ≡ d → markAt w off ≡ actOf (actionAt p (proofStart p (length (p .nodeList)) + 1 + off))
+          by-place true h d g =
+              let (a, b, c) = marks-some t in
+              let l = ltb-true off (everyIn w) h in
+              let r : ℕ = everyNumber (p .source .question) in
+              let x : proofStart p (length (p .nodeList)) + 1 + off - (proofStart p (length (p .nodeList)) + 1 + marksBefore p r) ≡ off = omega arith in
+              rw (h, at-mark-in p (proofStart p (length (p .nodeList)) + 1 + off) r (every-below p w is t) (omega arith) (omega arith), x, c) refl
+          by-place false h true g =
+              let (a, b, c) = marks-some t in
+              let k = ltb-false off (everyIn w) h in
+              let l = ltb-true (off - everyIn w) (everyIn w) g in
+              let r : ℕ = everyNumber (p .source .question) in
+              let z : marksBefore p (length (p .relations)) ≡ everyIn w = ap (marksBefore p) (sym (is .every .last t)) ∙ b in
+              let x : proofStart p (length (p .nodeList)) + 1 + off - (proofStart p (length (p .nodeList)) + 1 + marksBefore p (length (p .relations)) + marksBefore p r) ≡ off - everyIn w = omega arith in
+              rw (h, g, at-mark-out p (proofStart p (length (p .nodeList)) + 1 + off) r (every-below p w is t) (omega arith) (omega arith), x, c) refl
+          by-place false h false g =
+              let (a, b, c) = marks-some t in
+              let k = ltb-false off (everyIn w) h in
+              let l = ltb-false (off - everyIn w) (everyIn w) g in
+              let z : marksBefore p (length (p .relations)) ≡ everyIn w = ap (marksBefore p) (sym (is .every .last t)) ∙ b in
+              let n = actions-end p in
+              rw (h, g, at-none p (proofStart p (length (p .nodeList)) + 1 + off) (omega arith)) refl
+
   module _ (k : ℕ) where
     module _ (r : ℕ) (h : r < relationsIn w) (a : getD w (relationPlace r) 0 ≤ k) (b : k < getD w (relationPlace (r + 1)) 0) where
       abbrev offset : ℕ
@@ -159,15 +257,61 @@ module _ (p : Problem) (w : List ℕ) (is : Is p w) where
       pub found-counted : (x : NodeLine) → x ≡ nodeLine w v → Counted x
       found-counted x l = rw l (counted-of p w v (k - getD w (nodePlace v) 0) (nodeLine w v) (nodeAt p v) line (inside .2))
 
-    pub found-goal : k ≡ getD w (nodePlace (nodesIn w)) 0 → Goal ≡ actOf (actionAt p k)
-    unfolding actOf said
-    found-goal h = rw (at-goal p k (h ∙ ap (λ (v : ℕ). getD w (nodePlace v) 0) (is .nodes) ∙ acts-at (length (p .nodeList)) (omega arith))) refl
-
-    pub found-none : getD w (nodePlace (nodesIn w)) 0 < k → Nothing ≡ actOf (actionAt p k)
+    pub found-goal : (r : Act) → k ≡ getD w (nodePlace (nodesIn w)) 0 → r ≡ finishIn w → r ≡ actOf (actionAt p k)
     unfolding actOf
-    found-none h =
-        let e = ap (λ (v : ℕ). getD w (nodePlace v) 0) (is .nodes) ∙ acts-at (length (p .nodeList)) (omega arith) in
-        rw (at-none p k (omega arith)) refl
+    found-goal r h e = rw (at-goal p k (h ∙ goal-at)) (e ∙ sym (finish-are p w is))
+
+    pub found-mark : (r : Act) → getD w (nodePlace (nodesIn w)) 0 < k → r ≡ markAt w (k - getD w (nodePlace (nodesIn w)) 0 - 1) → r ≡ actOf (actionAt p k)
+    unfolding actOf
+    found-mark r h e =
+        let g = goal-at in
+        let off : ℕ = k - getD w (nodePlace (nodesIn w)) 0 - 1 in
+        let q : k ≡ proofStart p (length (p .nodeList)) + 1 + off = omega arith in
+        e ∙ mark-of off ∙ ap (λ (x : ℕ). actOf (actionAt p x)) (sym q)
+
+-- ---- marks by the table
+module _ (w : List ℕ) (off : ℕ) where
+  pub mark-in : (r : ℕ) → off < everyIn w → r ≡ relationsIn w - 1 → MarkIn (record { relation = r; row = off }) ≡ markAt w off
+  unfolding markAt
+  mark-in r h e = rw (lt-ltb off (everyIn w) h, e) refl
+
+  pub mark-out : (r : ℕ) → everyIn w ≤ off → off - everyIn w < everyIn w → r ≡ relationsIn w - 1 → MarkOut (record { relation = r; row = off - everyIn w }) ≡ markAt w off
+  unfolding markAt
+  mark-out r h l e = rw (le-ltb off (everyIn w) h, lt-ltb (off - everyIn w) (everyIn w) l, e) refl
+
+  pub mark-past : everyIn w ≤ off → everyIn w ≤ off - everyIn w → Nothing ≡ markAt w off
+  unfolding markAt
+  mark-past h l = rw (le-ltb off (everyIn w) h, le-ltb (off - everyIn w) (everyIn w) l) refl
+
+  -- the last relation is one
+  pub some-relation : 0 < everyIn w → 0 < relationsIn w
+  unfolding everyIn hasEvery
+  some-relation h = by-test (ltb 0 (relationsIn w)) refl h
+    where
+      by-test : (b : Bool) → ltb 0 (relationsIn w) ≡ b → 0 < (if b && eqb (lastLine w .kind) 6 then lastLine w .nots - lastLine w .tuples else 0) → 0 < relationsIn w
+      by-test true e h = ltb-true 0 (relationsIn w) e
+      by-test false e h = absurd (omega arith)
+
+  pub mark-fits : Fits w → ActFits w (markAt w off)
+  unfolding markAt
+  mark-fits f = by-place (ltb off (everyIn w)) refl (ltb (off - everyIn w) (everyIn w)) refl
+    where
+      few : everyIn w ≤ 2 ^ 32
+      few = every-small w f
+
+      by-place : (b : Bool) → ltb off (everyIn w) ≡ b → (d : Bool) → ltb (off - everyIn w) (everyIn w) ≡ d
+          → ActFits w (if b then MarkIn (record { relation = relationsIn w - 1; row = off }) else if d then MarkOut (record { relation = relationsIn w - 1; row = off - everyIn w }) else Nothing)
+      by-place true h d g = (omega (arith, f .relations), omega (arith, ltb-true off (everyIn w) h, few))
+      by-place false h true g = (omega (arith, f .relations), omega (arith, ltb-true (off - everyIn w) (everyIn w) g, few))
+      by-place false h false g = tt
+
+pub finish-fits : (w : List ℕ) → ActFits w (finishIn w)
+unfolding finishIn
+finish-fits w = by-test (hasEvery w)
+  where
+    by-test : (b : Bool) → ActFits w (if b then RoundEnd else Goal)
+    by-test true = tt
+    by-test false = tt
 
 -- ---- what is found fits
 pub proof-fits : (v off : ℕ) (w : List ℕ) (x : NodeLine) → x ≡ nodeLine w v → RangeFits w (nodeLine w v) → v < 64 → off ≤ 2 ^ 32 → Counted x → ActFits w (proofIn w v off x)

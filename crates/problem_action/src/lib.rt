@@ -4,10 +4,10 @@ ghost use Prim.Native.Nat.{_+_, _<_, _≤_};
 ghost use lib.ListN.{length};
 ghost use Rattle.definitions.specs.Problem.Atoms.{Problem};
 ghost use Rattle.definitions.specs.Problem.Actions.{actionAt};
-ghost use Rattle.problem_table.specs.Lines.{tableLength};
+ghost use Rattle.problem_table.specs.Lines.{tableLength, Fits};
 ghost use Rattle.problem_table.specs.Numbers.{ActFits};
 ghost use Rattle.problem_table.specs.Of.{Is, actOf};
-ghost use Rattle.problem_action.specs.Decoded.{Grounded, proofIn};
+ghost use Rattle.problem_action.specs.Decoded.{Grounded, proofIn, markAt};
 
 // The action of offset `off` among those of node v: by row, and in a row by the place of the element in its range or by the part.
 fn proof_of(
@@ -44,6 +44,27 @@ fn proof_of(
         row: off / many,
         choice: off % many,
     })
+}
+
+// The action of offset `off` past that which ends a round: a mark-in for each tuple of the `every` relation, then a mark-out for each.
+fn mark_of(table: &[usize], off: usize) -> problem_table::Act
+    requires { ⌜ Fits (now table) ⌝ }
+    ensures { λ r. ⌜ r ≡ markAt (now (table .entry)) off ⌝ }
+{
+    let count = problem_table::every_tuples(table);
+    if off < count {
+        return problem_table::Act::MarkIn(problem_table::TupleAct {
+            relation: table[1] - 1,
+            row: off,
+        });
+    }
+    if off - count < count {
+        return problem_table::Act::MarkOut(problem_table::TupleAct {
+            relation: table[1] - 1,
+            row: off - count,
+        });
+    }
+    problem_table::Act::Nothing
 }
 
 // The action of number k.
@@ -84,7 +105,7 @@ pub fn action_at(table: &[usize], k: usize) -> problem_table::Act
         return proof_of(table, v, off, line);
     }
     if k == goal {
-        return problem_table::Act::Goal;
+        return problem_table::finish_act(table);
     }
-    problem_table::Act::Nothing
+    mark_of(table, k - goal - 1)
 }

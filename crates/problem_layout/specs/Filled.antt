@@ -11,7 +11,7 @@ use Rattle.rule_nodes.specs.declared.PartRow.{PartRow}
 use Rattle.rule_nodes.specs.declared.NodeRow.{NodeRow}
 use Rattle.rule_nodes.specs.declared.Nodes.{Nodes}
 use Rattle.rows.specs.Values.{weightOf}
-use Rattle.problem_table.specs.Lines.{rootPlace, rangesPlace, rangePlace, nodesIn, nodeLine, Fits}
+use Rattle.problem_table.specs.Lines.{rootPlace, rangesPlace, rangePlace, nodesIn, nodeLine, everyIn, isPlaceless, Fits}
 use Rattle.problem_table.specs.Of.{Is}
 use Rattle.problem_layout.specs.Laid.{firstsAt, secondsAt, countAt, rangeBy, Inputs, Starts}
 use Rattle.problem_layout.specs.declared.Relations.{Relations}
@@ -23,10 +23,10 @@ abbrev pub relationsPlace : ℕ
 relationsPlace = 3
 
 abbrev pub nodesPlace : ℕ
-nodesPlace = 165
+nodesPlace = 174
 
 abbrev pub partsPlace : ℕ
-partsPlace = 1010
+partsPlace = 1019
 
 abbrev pub relationLength : ℕ
 relationLength = 9
@@ -45,10 +45,10 @@ tab f (suc k) = tab f k ++ f k
 
 -- where the range of a place starts, and how many of the elements of its sort it has: only a function kind has any
 unfoldable pub placeStart : (kind sort : ℕ) → ℕ
-placeStart kind sort = if ltb kind 2 then 0 else rangePlace sort
+placeStart kind sort = if isPlaceless kind then 0 else rangePlace sort
 
 unfoldable pub placeCount : (count kind : ℕ) → ℕ
-placeCount count kind = if ltb kind 2 then 0 else count
+placeCount count kind = if isPlaceless kind then 0 else count
 
 unfoldable pub relationNumbers : List ℕ → Relations → Layout → ℕ → List ℕ
 relationNumbers counts g l r =
@@ -146,4 +146,4 @@ tableOf n w k r g t l d =
 pub record Filled (n : ℕ) (members : List ℕ) (k : ℕ) (g : Relations) (t : Nodes) (l : Layout) (w : List ℕ) : Type 0 where
   pub fits : Fits w
   pub is : (p : Problem) → Inputs p n members k g t → Starts p l → Is p w
-  pub ends : (p : Problem) → Inputs p n members k g t → Starts p l → nodeLine w (nodesIn w) .atoms ≡ atoms p
+  pub ends : (p : Problem) → Inputs p n members k g t → Starts p l → nodeLine w (nodesIn w) .atoms + 3 * everyIn w ≡ atoms p

@@ -7,30 +7,34 @@ use native.Mathlib.Omega.{arith}
 use lib.ListN.{length, getD, take, drop, set, replicate, length-append, length-set, List·getD-eq-default}
 use lib.Seq.{getD-set-same, getD-set-other, getD-drop}
 use mathlib.Core.Bool.{Bool, true, false}
+use mathlib.Core.Option.{Option, none, some as «some-of»}
 use lib.Dec.{ltb, T as Holds}
-use borrow.Author.Tests.{lt-ltb, le-ltb}
-use Rattle.definitions.specs.Lists.{if_then_else_, below, greatest}
-use Rattle.definitions.specs.Sheet.Relations.{isFunction}
+use borrow.Author.Tests.{lt-ltb}
+use Rattle.definitions.specs.Lists.{if_then_else_, option, isSome, below, greatest}
+use Rattle.definitions.specs.Sheet.Relations.{Kind, static, plain, Fun, PFun, Inj, PInj, universal, isUniversal, isFunction, Relation}
+use Rattle.definitions.specs.Sheet.Sheets.{everyNumber}
+use Rattle.definitions.specs.Problem.Truth.{everyTuples}
+use Rattle.laws.specs.Booleans.{T-true, T-false}
 use Rattle.definitions.specs.Problem.Tree.{Tree, Part, parts, free, nodeSort}
-use Rattle.definitions.specs.Problem.Atoms.{Problem, relationAt, placesOf, nodeAt, atoms}
+use Rattle.definitions.specs.Problem.Atoms.{Problem, relationAt, tuplesOf, placesOf, nodeAt, nodeStart, lastStart, atoms}
 use Rattle.definitions.specs.Problem.Actions.{valuesIn, valuesAt}
 use Rattle.laws.specs.Lists.{length-below}
-use Rattle.laws.specs.Numbers.{atoms-end}
+use Rattle.laws.specs.Numbers.{atoms-end, last-next, lastWidth, last-width}
 use Rattle.rule_nodes.specs.Bounds.{in-parts}
 use Rattle.rule_nodes.specs.Tables.{Levels, headIn, headOf, IsNode as IsRow, noPart, noNode, NodeFits as RowFits, Fits as TreeFits}
 use Rattle.rule_nodes.specs.declared.PartRow.{PartRow}
 use Rattle.rule_nodes.specs.declared.NodeRow.{NodeRow}
 use Rattle.rule_nodes.specs.declared.Nodes.{Nodes}
 use Rattle.rows.specs.Values.{Most}
-use Rattle.problem_table.specs.Lines.{tableLength, rootPlace, rangesPlace, rangePlace, relationPlace, nodePlace, partPlace, nodesIn, relationLine, nodeLine, partLine, membersIn, rangeIn, NodeFits, SpanFits, RangeFits, PlacesFit, Fits}
+use Rattle.problem_table.specs.Lines.{tableLength, rootPlace, rangesPlace, rangePlace, relationPlace, nodePlace, partPlace, nodesIn, isPlaceless, everyIn, relationLine, nodeLine, partLine, membersIn, rangeIn, NodeFits, SpanFits, RangeFits, PlacesFit, Fits}
 use Rattle.problem_table.specs.Numbers.{rowValues}
-use Rattle.problem_table.specs.Of.{IsPart, noPart as noTreePart, IsRelation, IsNode, Is}
-use Rattle.problem_table.specs.OfLaws.{function-number}
+use Rattle.problem_table.specs.Of.{kindNumber, IsPart, noPart as noTreePart, IsRelation, IsNode, Is}
+use Rattle.problem_table.specs.OfLaws.{every-count, every-kind}
 use Rattle.problem_table.specs.declared.NodeLine.{NodeLine}
 use Rattle.problem_table.specs.declared.PartLine.{PartLine}
 use Rattle.problem_layout.specs.Laid.{rangeBy, RangesFit, RangesAre, firstsAt, secondsAt, countAt, RelationsFit, Inputs, Starts, Small, numberLimit}
 use Rattle.problem_layout.specs.SortLaws.{sort-within, part-sorted}
-use Rattle.problem_layout.specs.StartsAre.{firsts-count, seconds-count, count-is, node-is, many-are, node-sort, count-of}
+use Rattle.problem_layout.specs.StartsAre.{lasts-none, firsts-count, seconds-count, count-is, node-is, many-are, node-sort, count-of}
 use Rattle.problem_layout.specs.declared.Relations.{Relations}
 use Rattle.problem_layout.specs.declared.Ranges.{Ranges}
 use Rattle.problem_layout.specs.declared.Layout.{Layout}
@@ -61,7 +65,7 @@ length-node-end l v = refl
 -- ---- bounds of lines
 place-start-most : (kind sort : ℕ) → sort ≤ 8 → placeStart kind sort ≤ 2 ^ 32
 unfolding placeStart
-place-start-most kind sort h = by-test (ltb kind 2)
+place-start-most kind sort h = by-test (isPlaceless kind)
   where
     by-test : (b : Bool) → (if b then 0 else rangePlace sort) ≤ 2 ^ 32
     by-test true = omega arith
@@ -69,7 +73,7 @@ place-start-most kind sort h = by-test (ltb kind 2)
 
 place-count-most : (count kind : ℕ) → count ≤ 64 → placeCount count kind ≤ 2 ^ 32
 unfolding placeCount
-place-count-most count kind h = by-test (ltb kind 2)
+place-count-most count kind h = by-test (isPlaceless kind)
   where
     by-test : (b : Bool) → (if b then 0 else count) ≤ 2 ^ 32
     by-test true = omega arith
@@ -293,7 +297,7 @@ module _ (n : ℕ) (ws : List ℕ) (types : ℕ) (ranges : Ranges) (g : Relation
   zero-T₄ = zeros-after rootPlace Q T₃ room₄ rangesPlace (omega (arith, length-Q)) zero-T₃
 
   -- ---- what stands where
-  in-R : (j : ℕ) → j < 162 → getD T (relationsPlace + j) 0 ≡ getD R j 0
+  in-R : (j : ℕ) → j < 171 → getD T (relationsPlace + j) 0 ≡ getD R j 0
   in-R j h =
       before-ranges rangesPlace n ws small types T₄ room₅ (relationsPlace + j) (omega arith)
       ∙ read-before rootPlace Q T₃ room₄ (relationsPlace + j) (omega arith) ∙ read-before partsPlace P T₂ room₃ (relationsPlace + j) (omega arith)
@@ -341,7 +345,7 @@ module _ (n : ℕ) (ws : List ℕ) (types : ℕ) (ranges : Ranges) (g : Relation
       ap (λ (x : ℕ). getD T x 0) e ∙ in-R (relationLength * r + j) (omega (arith, fg .count))
       ∙ lines-at (relationNumbers (ranges .count) g l) relationLength (length-relation (ranges .count) g l) (g .count) (relationEnd l (g .count)) r j h k
 
-  relation-past : (j i : ℕ) → relationLength * g .count + j < 162 → i ≡ relationsPlace + (relationLength * g .count + j) → getD T i 0 ≡ getD (relationEnd l (g .count)) j 0
+  relation-past : (j i : ℕ) → relationLength * g .count + j < 171 → i ≡ relationsPlace + (relationLength * g .count + j) → getD T i 0 ≡ getD (relationEnd l (g .count)) j 0
   unfolding relationLines
   relation-past j i k e =
       ap (λ (x : ℕ). getD T x 0) e ∙ in-R (relationLength * g .count + j) k ∙ end-at (relationNumbers (ranges .count) g l) relationLength (length-relation (ranges .count) g l) (g .count) (relationEnd l (g .count)) j
@@ -405,7 +409,7 @@ module _ (n : ℕ) (ws : List ℕ) (types : ℕ) (ranges : Ranges) (g : Relation
   )
 
   -- past the last relation they are empty
-  places-past : (r : ℕ) → g .count ≤ r → r < 17 → (relationLine T r .firsts ≡ 0) × (relationLine T r .«first_count» ≡ 0) × (relationLine T r .seconds ≡ 0) × (relationLine T r .«second_count» ≡ 0)
+  places-past : (r : ℕ) → g .count ≤ r → r < 18 → (relationLine T r .firsts ≡ 0) × (relationLine T r .«first_count» ≡ 0) × (relationLine T r .seconds ≡ 0) × (relationLine T r .«second_count» ≡ 0)
   unfolding relationLine
   places-past r h k = (at 5 (omega arith) (omega arith), at 6 (omega arith) (omega arith), at 7 (omega arith) (omega arith), at 8 (omega arith) (omega arith))
     where
@@ -589,17 +593,17 @@ module _ (n : ℕ) (ws : List ℕ) (types : ℕ) (ranges : Ranges) (g : Relation
     -- so are those of a relation's places
     place-fits : (kind sort count : ℕ) → sort ≤ 8 → count ≤ 64 → (sort ≡ 0 → count ≡ n) → SpanFits T (placeStart kind sort) (placeCount count kind)
     unfolding placeStart placeCount
-    place-fits kind sort count a b e = by-test (ltb kind 2)
+    place-fits kind sort count a b e = by-test (isPlaceless kind)
       where
         by-test : (q : Bool) → SpanFits T (if q then 0 else rangePlace sort) (if q then 0 else count)
         by-test true = no-span
         by-test false = span-fits sort count a b e
 
-    no-place : (kind sort count : ℕ) → kind < 2 → (placeStart kind sort ≡ 0) × (placeCount count kind ≡ 0)
+    no-place : (kind sort count : ℕ) → isPlaceless kind ≡ true → (placeStart kind sort ≡ 0) × (placeCount count kind ≡ 0)
     unfolding placeStart placeCount
-    no-place kind sort count h = (rw (lt-ltb kind 2 h) refl, rw (lt-ltb kind 2 h) refl)
+    no-place kind sort count h = (rw h refl, rw h refl)
 
-    places-fit : (r : ℕ) → r < 17 → PlacesFit T (relationLine T r)
+    places-fit : (r : ℕ) → r < 18 → PlacesFit T (relationLine T r)
     places-fit r h = by-place (decLt r (g .count))
       where
         by-place : Dec (r < g .count) → PlacesFit T (relationLine T r)
@@ -609,7 +613,7 @@ module _ (n : ℕ) (ws : List ℕ) (types : ℕ) (ranges : Ranges) (g : Relation
               firsts = rw (a, x) (place-fits (getD (g .kind) r 0) (getD (g .firsts) r 0) (firstsAt (ranges .count) g r) (fg .firsts r) (fr .count (getD (g .firsts) r 0)) (whole-count (getD (g .firsts) r 0)));
               seconds = rw (b, y) (place-fits (getD (g .kind) r 0) (getD (g .seconds) r 0) (secondsAt (ranges .count) g r) (fg .seconds r) (fr .count (getD (g .seconds) r 0)) (whole-count (getD (g .seconds) r 0)));
               untyped = λ l.
-                  let k : getD (g .kind) r 0 < 2 = subst (λ (m : ℕ). m < 2) (kind-at r q) l in
+                  let k : isPlaceless (getD (g .kind) r 0) ≡ true = ap isPlaceless (sym (kind-at r q)) ∙ T-true (isPlaceless (relationLine T r .kind)) l in
                   let u = no-place (getD (g .kind) r 0) (getD (g .firsts) r 0) (firstsAt (ranges .count) g r) k in
                   let v = no-place (getD (g .kind) r 0) (getD (g .seconds) r 0) (secondsAt (ranges .count) g r) k in
                   (a ∙ u .0, x ∙ u .1, b ∙ v .0, y ∙ v .1);
@@ -632,6 +636,49 @@ module _ (n : ℕ) (ws : List ℕ) (types : ℕ) (ranges : Ranges) (g : Relation
           places = places-fit;
         }
 
+-- ---- the atoms end with those of the relation of an `every` line
+function-placed : (k : Kind) → Holds (isFunction k) → isPlaceless (kindNumber k) ≡ false
+unfolding isFunction kindNumber
+function-placed static f = absurd f
+function-placed plain f = absurd f
+function-placed Fun f = refl
+function-placed PFun f = refl
+function-placed Inj f = refl
+function-placed PInj f = refl
+function-placed universal f = absurd f
+
+last-all : (n : ℕ) (k : Relation) → isUniversal (k .kind) ≡ true → lastWidth n k ≡ 3 * tuplesOf n k
+unfolding lastWidth
+last-all n k e = let w = last-width n k e in omega arith
+
+atoms-counted : (p : Problem) (w : List ℕ) → Is p w → nodeLine w (nodesIn w) .atoms + 3 * everyIn w ≡ atoms p
+unfolding everyTuples option isSome tuplesOf
+atoms-counted p w is = by-option (p .source .question .every) refl (every-count p w is)
+  where
+    end : nodeLine w (nodesIn w) .atoms ≡ nodeStart p (length (p .nodeList))
+    end = ap (λ (v : ℕ). nodeLine w v .atoms) (is .nodes) ∙ is .ends
+
+    by-option : (o : Option Relation) → p .source .question .every ≡ o → everyIn w ≡ option (p .source .question .every) zero (λ (e : Relation). p .source .site .size ^ e .arity) → nodeLine w (nodesIn w) .atoms + 3 * everyIn w ≡ atoms p
+    by-option none e c =
+        let z = lasts-none p (length (p .relations)) (omega arith)
+        (λ j h. T-false (isUniversal (relationAt p j .kind)) (λ u. subst (λ (o : Option Relation). Holds (isSome o)) e (is .every .alone j h u .1))) in
+        let q : everyIn w ≡ 0 = c ∙ ap (λ (o : Option Relation). option o zero (λ (e : Relation). p .source .site .size ^ e .arity)) e in
+        let f = atoms-end p in
+        omega (arith, z, q, f, end)
+    by-option («some-of» k) e c =
+        let t : Holds (isSome (p .source .question .every)) = subst (λ (o : Option Relation). Holds (isSome o)) (sym e) tt in
+        let r : ℕ = everyNumber (p .source .question) in
+        let l : suc r ≡ length (p .relations) = is .every .last t in
+        let (a, u) = is .every .line k e in
+        let q : everyIn w ≡ tuplesOf (p .size) (relationAt p r) =
+        c ∙ ap (λ (o : Option Relation). option o zero (λ (e : Relation). p .source .site .size ^ e .arity)) e ∙ ap₂ (λ (n : ℕ) (x : Relation). n ^ x .arity) (is .every .sized) (sym a) in
+        let z = lasts-none p r (omega arith)
+        (λ j h. T-false (isUniversal (relationAt p j .kind)) (λ v. let m = is .every .alone j (omega arith) v .0 in omega arith)) in
+        let n = last-next p r (omega arith) in
+        let d = last-all (p .size) (relationAt p r) (T-true (isUniversal (relationAt p r .kind)) (every-kind p w is t)) in
+        let f : lastStart p (suc r) ≡ atoms p = ap (lastStart p) l ∙ atoms-end p in
+        omega (arith, z, q, n, d, f, end)
+
 -- ---- of the problem
 module _ (p : Problem) (ws : List ℕ) (types : ℕ) (ranges : Ranges) (g : Relations) (t : Nodes) (l : Layout) (d : List ℕ)
     (len : length d ≡ tableLength) (zeros : Most d 0) (ty : types ≤ 8) (fr : RangesFit (p .size) ranges) (fg : RelationsFit g) (ft : TreeFits t)
@@ -648,15 +695,15 @@ module _ (p : Problem) (ws : List ℕ) (types : ℕ) (ranges : Ranges) (g : Rela
   unfolding membersIn
   range-is σ h = rw (inputs .ranges σ h) (map-places (λ i. getD W (rangePlace σ + i) 0) (rangeBy (p .size) ws σ) (λ i q. in-M (p .size) ws types ranges g t l d len zeros ty fr fg ft some small σ i h q))
 
-  place-is : (kind sort count a x : ℕ) (σ : ℕ) → 2 ≤ kind → σ ≤ types → a ≡ placeStart kind sort → x ≡ placeCount count kind → sort ≡ σ → count ≡ length (p .range σ) → membersIn W a x ≡ p .range σ
+  place-is : (kind sort count a x : ℕ) (σ : ℕ) → isPlaceless kind ≡ false → σ ≤ types → a ≡ placeStart kind sort → x ≡ placeCount count kind → sort ≡ σ → count ≡ length (p .range σ) → membersIn W a x ≡ p .range σ
   unfolding placeStart placeCount
-  place-is kind sort count a x σ h b e q s c = rw (e, q, le-ltb kind 2 h, s, c) (range-is σ b)
+  place-is kind sort count a x σ h b e q s c = rw (e, q, h, s, c) (range-is σ b)
 
   relation-of : (r : ℕ) → r < length (p .relations) → IsRelation p W r (relationLine W r)
   relation-of r h =
       let b : r < g .count = omega (arith, inputs .count) in
       let places = places-at (p .size) ws types ranges g t l d len zeros ty fr fg ft some small r b in
-      let two : Holds (isFunction (relationAt p r .kind)) → 2 ≤ getD (g .kind) r 0 = λ f. rw (inputs .kind r b) (function-number (relationAt p r .kind) f) in
+      let two : Holds (isFunction (relationAt p r .kind)) → isPlaceless (getD (g .kind) r 0) ≡ false = λ f. ap isPlaceless (inputs .kind r b) ∙ function-placed (relationAt p r .kind) f in
       record {
         tuples = tuples-at (p .size) ws types ranges g t l d len zeros ty fr fg ft some small r b ∙ starts .rel r (omega arith);
         nots = nots-at (p .size) ws types ranges g t l d len zeros ty fr fg ft some small r b ∙ starts .neg r h;
@@ -723,14 +770,11 @@ module _ (p : Problem) (ws : List ℕ) (types : ℕ) (ranges : Ranges) (g : Rela
         relation = relation-of;
         acts = λ v h. acts-at (p .size) ws types ranges g t l d len zeros ty fr fg ft some small v (omega (arith, counted)) ∙ starts .act v h;
         node = node-of;
+        ends = atoms-at (p .size) ws types ranges g t l d len zeros ty fr fg ft some small (length (p .nodeList)) (omega (arith, counted)) ∙ starts .node (length (p .nodeList)) (omega arith);
+        every = inputs .every;
         root = subst (λ (y : PartLine). IsPart p y 0 (p .root)) (sym (root-line (p .size) ws types ranges g t l d len zeros ty fr fg ft some small))
             (part-is p l starts (ranges .top) types top-is (g .count) (t .count) (inputs .count) counted (t .root) 0 (p .root) (inputs .sorted) (ft .root) (inputs .tree .top-within) (inputs .tree .top));
       }
-
-  ends-of : nodeLine W (nodesIn W) .atoms ≡ atoms p
-  ends-of =
-      let e : nodesIn W ≡ length (p .nodeList) = nodes-at (p .size) ws types ranges g t l d len zeros ty fr fg ft some small ∙ counted in
-      ap (λ (v : ℕ). nodeLine W v .atoms) e ∙ atoms-at (p .size) ws types ranges g t l d len zeros ty fr fg ft some small (length (p .nodeList)) (omega (arith, counted)) ∙ starts .node (length (p .nodeList)) (omega arith) ∙ atoms-end p
 
 pub filled : (n : ℕ) (ws : List ℕ) (types : ℕ) (ranges : Ranges) (g : Relations) (t : Nodes) (l : Layout) (d w : List ℕ) → length d ≡ tableLength → Most d 0 → 0 < n → n ≤ 64 → RelationsFit g → TreeFits t → Small l numberLimit → types ≤ 8 → RangesFit n ranges → RangesAre n ws types ranges
     → w ≡ tableOf n ws types ranges g t l d → ((v : ℕ) → v < t .count → Most (nodeNumbers (ranges .count) t l v) (2 ^ 32))
@@ -741,8 +785,8 @@ filled n ws types ranges g t l d w len zeros some small fg ft sl ty fr ra e nm p
     (record {
       fits = fits n ws types ranges g t l d len zeros ty fr fg ft some small sl nm pm rm;
       is = λ p i s. subst (λ (m : ℕ). Is p (tableOf m ws types ranges g t l d)) (sym (i .size)) (is-of p ws types ranges g t l d len zeros ty (fit p i) fg ft (some-of p i) (small-of p i) (are p i) (of p i) s);
-      ends = λ p i s. subst (λ (m : ℕ). nodeLine (tableOf m ws types ranges g t l d) (nodesIn (tableOf m ws types ranges g t l d)) .atoms ≡ atoms p) (sym (i .size))
-          (ends-of p ws types ranges g t l d len zeros ty (fit p i) fg ft (some-of p i) (small-of p i) (are p i) (of p i) s);
+      ends = λ p i s. subst (λ (m : ℕ). nodeLine (tableOf m ws types ranges g t l d) (nodesIn (tableOf m ws types ranges g t l d)) .atoms + 3 * everyIn (tableOf m ws types ranges g t l d) ≡ atoms p) (sym (i .size))
+          (atoms-counted p _ (is-of p ws types ranges g t l d len zeros ty (fit p i) fg ft (some-of p i) (small-of p i) (are p i) (of p i) s));
     })
   where
     fit : (p : Problem) → Inputs p n ws types g t → RangesFit (p .size) ranges

@@ -1,42 +1,40 @@
 -- What is promised of a layout.
 use mathlib.Core.Path.{_≡_}
-use mathlib.Core.Bool.{false, _||_}
+use mathlib.Core.Bool.{Bool, true, false, _&&_}
 use mathlib.Core.List.{List}
-use Prim.Native.Nat.{ℕ, zero, suc, _+_, _*_, _^_, _≤_, _<_}
-use lib.Dec.{T, ltb}
-use lib.ListN.{length, getD}
+use Prim.Native.Nat.{ℕ, zero, suc, _+_, _-_, _*_, _^_, _≤_, _<_}
+use lib.Dec.{T, eqb, ltb}
+use lib.ListN.{length, getD, set}
 use Rattle.bits.specs.Table.{bit}
 use Rattle.definitions.specs.Lists.{if_then_else_, filter, below, greatest}
 use Rattle.definitions.specs.Sheet.Relations.{isFunction}
 use Rattle.definitions.specs.Problem.Tree.{nodes}
-use Rattle.definitions.specs.Problem.Atoms.{Problem, relationAt, tuplesOf, relationStart, nodeStart, atoms}
+use Rattle.definitions.specs.Problem.Atoms.{Problem, relationAt, tuplesOf, tupleStart, relationStart, nodeStart, atoms}
 use Rattle.definitions.specs.Problem.Actions.{actions, setStart, proofStart}
-use Rattle.definitions.specs.Problem.Built.{bound}
 use Rattle.laws.specs.Members.{IsRange}
 use Rattle.laws.specs.Sorts.{Sorted}
 use Rattle.rule_nodes.specs.Tables.{IsTable, noNode}
 use Rattle.rule_nodes.specs.declared.Nodes.{Nodes}
 use Rattle.rows.specs.Values.{Most}
-use Rattle.problem_table.specs.Of.{kindNumber}
+use Rattle.problem_table.specs.Of.{kindNumber, EveryLast}
 use Rattle.problem_layout.specs.declared.Relations.{Relations}
 use Rattle.problem_layout.specs.declared.Ranges.{Ranges}
 use Rattle.problem_layout.specs.declared.Layout.{Layout}
-use Rattle.problem_layout.specs.declared.Made.{Made}
 
--- ---- by the number of a kind
+-- ---- by the number of a kind; the relation of an `every` line has no set actions, no picks, and its atoms behind the nodes
 unfoldable pub relationWidth : (n size kind : ℕ) → ℕ
-relationWidth n size kind = if ltb kind 2 then size + size else (if ltb kind 4 then size + size + n else size + size + n + n)
+relationWidth n size kind = if ltb kind 2 then size + size else (if ltb kind 4 then size + size + n else (if ltb kind 6 then size + size + n + n else 0))
 
 -- of a function kind by how many elements its places have
 unfoldable pub setWidth : (size firsts seconds kind : ℕ) → ℕ
 setWidth size firsts seconds zero = 0
 setWidth size firsts seconds (suc zero) = size
-setWidth size firsts seconds (suc (suc k)) = firsts * seconds
+setWidth size firsts seconds (suc (suc k)) = if ltb k 4 then firsts * seconds else 0
 
 unfoldable pub mostWidth : (n size kind : ℕ) → ℕ
 mostWidth n size zero = 0
 mostWidth n size (suc zero) = size
-mostWidth n size (suc (suc k)) = n
+mostWidth n size (suc (suc k)) = if ltb k 4 then n else 0
 
 unfoldable pub nodeWidth : (n rows kind : ℕ) → ℕ
 nodeWidth n rows zero = rows * n
@@ -66,9 +64,9 @@ pub record RangesFit (n : ℕ) (r : Ranges) : Type 0 where
 
 -- the relations fit their arrays, and no arity, kind or sort is out of range
 pub record RelationsFit (g : Relations) : Type 0 where
-  pub count : g .count ≤ 17
+  pub count : g .count ≤ 18
   pub arity : Most (g .arity) 4
-  pub kind : Most (g .kind) 5
+  pub kind : Most (g .kind) 6
   pub firsts : Most (g .firsts) 8
   pub seconds : Most (g .seconds) 8
 
@@ -107,18 +105,20 @@ unfoldable pub actSum : ℕ → List ℕ → Nodes → ℕ → ℕ → ℕ
 actSum n counts t from zero = from
 actSum n counts t from (suc v) = actSum n counts t from v + (n ^ getD (t .rows) v noNode .width) * choicesAt counts t v
 
-pub record RelationsLaid (n : ℕ) (counts : List ℕ) (g : Relations) (i : ℕ) (rel neg dom sets : List ℕ) (at set picks : ℕ) : Type 0 where
+pub record RelationsLaid (n : ℕ) (counts : List ℕ) (g : Relations) (i : ℕ) (rel neg dom sets : List ℕ) (at st : ℕ) : Type 0 where
+  pub rel-long : length rel ≡ 19
+  pub neg-long : length neg ≡ 18
+  pub dom-long : length dom ≡ 18
   pub at-is : at ≡ relationSum n g i
-  pub set-is : set ≡ setSum n counts g i
-  pub picks-are : picks ≡ pickSum n g i
+  pub set-is : st ≡ setSum n counts g i
   pub rel-at : (r : ℕ) → r ≤ i → getD rel r 0 ≡ relationSum n g r
   pub neg-at : (r : ℕ) → r < i → getD neg r 0 ≡ relationSum n g r + n ^ getD (g .arity) r 0
   pub dom-at : (r : ℕ) → r < i → getD dom r 0 ≡ relationSum n g r + (n ^ getD (g .arity) r 0 + n ^ getD (g .arity) r 0)
   pub set-at : (r : ℕ) → r ≤ i → getD sets r 0 ≡ setSum n counts g r
   pub rel-most : Most rel at
-  pub neg-most : Most neg at
-  pub dom-most : Most dom at
-  pub set-most : Most sets set
+  pub neg-rest : (r : ℕ) → i ≤ r → getD neg r 0 ≡ 0
+  pub dom-rest : (r : ℕ) → i ≤ r → getD dom r 0 ≡ 0
+  pub set-most : Most sets st
 
 pub record NodesLaid (n : ℕ) (counts : List ℕ) (t : Nodes) (from first : ℕ) (v : ℕ) (node act : List ℕ) (at acts : ℕ) : Type 0 where
   pub at-is : at ≡ nodeSum n t from v
@@ -127,6 +127,15 @@ pub record NodesLaid (n : ℕ) (counts : List ℕ) (t : Nodes) (from first : ℕ
   pub act-at : (r : ℕ) → r ≤ v → getD act r 0 ≡ actSum n counts t first r
   pub node-most : Most node at
   pub act-most : Most act acts
+
+-- whether the last relation is that of an `every` line; where it is, its atoms start at `end`
+unfoldable pub hasLast : Relations → Bool
+hasLast g = ltb 0 (g .count) && eqb (getD (g .kind) (g .count - 1) 0) 6
+
+pub record LastLaid (n : ℕ) (g : Relations) (end : ℕ) (rel neg dom rel′ neg′ dom′ : List ℕ) : Type 0 where
+  pub none : hasLast g ≡ false → (rel′ ≡ rel) × (neg′ ≡ neg) × (dom′ ≡ dom)
+  pub here : hasLast g ≡ true → (rel′ ≡ set rel (g .count - 1) end) × (neg′ ≡ set neg (g .count - 1) (end + n ^ getD (g .arity) (g .count - 1) 0))
+      × (dom′ ≡ set dom (g .count - 1) (end + (n ^ getD (g .arity) (g .count - 1) 0 + n ^ getD (g .arity) (g .count - 1) 0)))
 
 -- ---- of which problem the elements, the words of members of k types, the relations and the node table are
 pub record Inputs (p : Problem) (n : ℕ) (w : List ℕ) (k : ℕ) (g : Relations) (t : Nodes) : Type 0 where
@@ -143,12 +152,14 @@ pub record Inputs (p : Problem) (n : ℕ) (w : List ℕ) (k : ℕ) (g : Relation
   pub seconds : (r : ℕ) → r < g .count → getD (g .seconds) r 0 ≡ relationAt p r .seconds
   pub placed : (r : ℕ) → r < g .count → (relationAt p r .firsts ≤ k) × (relationAt p r .seconds ≤ k)
   pub tree : IsTable (g .count) (p .root) t
+  pub every : EveryLast p
 
 -- every start is the problem's
 pub record Starts (p : Problem) (l : Layout) : Type 0 where
-  pub rel : (r : ℕ) → r ≤ length (p .relations) → getD (l .rel) r 0 ≡ relationStart p r
-  pub neg : (r : ℕ) → r < length (p .relations) → getD (l .neg) r 0 ≡ relationStart p r + tuplesOf (p .size) (relationAt p r)
-  pub dom : (r : ℕ) → r < length (p .relations) → getD (l .dom) r 0 ≡ relationStart p r + 2 * tuplesOf (p .size) (relationAt p r)
+  pub rel : (r : ℕ) → r < length (p .relations) → getD (l .rel) r 0 ≡ tupleStart p r
+  pub rel-end : getD (l .rel) (length (p .relations)) 0 ≡ relationStart p (length (p .relations))
+  pub neg : (r : ℕ) → r < length (p .relations) → getD (l .neg) r 0 ≡ tupleStart p r + tuplesOf (p .size) (relationAt p r)
+  pub dom : (r : ℕ) → r < length (p .relations) → getD (l .dom) r 0 ≡ tupleStart p r + 2 * tuplesOf (p .size) (relationAt p r)
   pub set : (r : ℕ) → r ≤ length (p .relations) → getD (l .set) r 0 ≡ setStart p r
   pub node : (v : ℕ) → v ≤ length (p .nodeList) → getD (l .node) v 0 ≡ nodeStart p v
   pub act : (v : ℕ) → v ≤ length (p .nodeList) → getD (l .act) v 0 ≡ proofStart p v
@@ -166,10 +177,6 @@ pub record Small (l : Layout) (b : ℕ) : Type 0 where
 abbrev pub numberLimit : ℕ
 numberLimit = 8388608
 
-pub record Laid (mostAtoms mostActions : ℕ) (p : Problem) (m : Made) : Type 0 where
-  pub over-is : m .over ≡ (ltb mostAtoms (atoms p) || ltb mostActions (actions p))
-  pub atoms-are : m .atoms ≡ atoms p
-  pub actions-are : m .actions ≡ actions p
-  pub bound-is : m .bound ≡ bound p
-  pub starts : Starts p (m .layout)
-  pub small : m .over ≡ false → Small (m .layout) numberLimit
+pub record Laid (p : Problem) (l : Layout) : Type 0 where
+  pub starts : Starts p l
+  pub small : (b : ℕ) → atoms p ≤ b → actions p ≤ b → Small l b

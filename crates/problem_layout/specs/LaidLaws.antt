@@ -9,12 +9,14 @@ use native.Mathlib.Decide.{ℕ-discrete, decLt}
 use native.Mathlib.Omega.{arith}
 use borrow.Author.Tests.{lt-ltb, le-ltb}
 use lib.Dec.{ltb}
-use lib.ListN.{length, getD, set, replicate}
+use lib.ListN.{length, getD, set, replicate, length-set}
 use lib.Seq.{getD-set-same, getD-set-other, set-out}
 use Rattle.definitions.specs.Lists.{if_then_else_}
 use Rattle.rule_nodes.specs.Tables.{noNode, Fits}
 use Rattle.rule_nodes.specs.declared.Nodes.{Nodes}
 use Rattle.rows.specs.Values.{Most}
+use Rattle.problem_table.specs.Lines.{rangePlace}
+use Rattle.problem_layout.specs.Filled.{placeStart, placeCount}
 use Rattle.problem_layout.specs.declared.Relations.{Relations}
 use Rattle.problem_layout.specs.Laid.{relationWidth, setWidth, firstsAt, secondsAt, mostWidth, nodeWidth, choicesOf, choicesAt, RelationsFit, relationSum, setSum, pickSum, nodeSum, actSum, RelationsLaid, NodesLaid}
 
@@ -38,18 +40,23 @@ module _ (n size kind : ℕ) where
   unfolding relationWidth
   width-function h k = rw (le-ltb kind 2 h, lt-ltb kind 4 k) refl
 
-  pub width-injective : 4 ≤ kind → size + size + n + n ≡ relationWidth n size kind
+  pub width-injective : 4 ≤ kind → kind < 6 → size + size + n + n ≡ relationWidth n size kind
   unfolding relationWidth
-  width-injective h = rw (le-ltb kind 2 (omega arith), le-ltb kind 4 h) refl
+  width-injective h k = rw (le-ltb kind 2 (omega arith), le-ltb kind 4 h, lt-ltb kind 6 k) refl
 
-  pub width-le : n ≤ 64 → size ≤ 64 ^ 4 → (size + size ≤ relationWidth n size kind) × (relationWidth n size kind ≤ 2 * 64 ^ 4 + 128)
+  pub width-last : 6 ≤ kind → 0 ≡ relationWidth n size kind
   unfolding relationWidth
-  width-le a b = by-test (ltb kind 2) (ltb kind 4)
+  width-last h = rw (le-ltb kind 2 (omega arith), le-ltb kind 4 (omega arith), le-ltb kind 6 h) refl
+
+  pub width-le : n ≤ 64 → size ≤ 64 ^ 4 → relationWidth n size kind ≤ 2 * 64 ^ 4 + 128
+  unfolding relationWidth
+  width-le a b = by-test (ltb kind 2) (ltb kind 4) (ltb kind 6)
     where
-      by-test : (x y : Bool) → (size + size ≤ (if x then size + size else (if y then size + size + n else size + size + n + n))) × ((if x then size + size else (if y then size + size + n else size + size + n + n)) ≤ 2 * 64 ^ 4 + 128)
-      by-test true y = omega arith
-      by-test false true = omega arith
-      by-test false false = omega arith
+      by-test : (x y z : Bool) → (if x then size + size else (if y then size + size + n else (if z then size + size + n + n else 0))) ≤ 2 * 64 ^ 4 + 128
+      by-test true y z = omega arith
+      by-test false true z = omega arith
+      by-test false false true = omega arith
+      by-test false false false = omega arith
 
 module _ (size firsts seconds : ℕ) where
   pub set-none : (kind : ℕ) → kind ≡ 0 → 0 ≡ setWidth size firsts seconds kind
@@ -60,17 +67,27 @@ module _ (size firsts seconds : ℕ) where
   unfolding setWidth
   set-all kind e = rw e refl
 
-  pub set-pairs : (kind : ℕ) → (kind ≡ 0 → ⊥) → (kind ≡ 1 → ⊥) → firsts * seconds ≡ setWidth size firsts seconds kind
+  pub set-pairs : (kind : ℕ) → (kind ≡ 0 → ⊥) → (kind ≡ 1 → ⊥) → kind < 6 → firsts * seconds ≡ setWidth size firsts seconds kind
   unfolding setWidth
-  set-pairs zero a b = absurd (a refl)
-  set-pairs (suc zero) a b = absurd (b refl)
-  set-pairs (suc (suc k)) a b = refl
+  set-pairs zero a b h = absurd (a refl)
+  set-pairs (suc zero) a b h = absurd (b refl)
+  set-pairs (suc (suc k)) a b h = rw (lt-ltb k 4 (omega arith)) refl
+
+  pub set-last : (kind : ℕ) → 6 ≤ kind → 0 ≡ setWidth size firsts seconds kind
+  unfolding setWidth
+  set-last zero h = absurd (omega arith)
+  set-last (suc zero) h = absurd (omega arith)
+  set-last (suc (suc k)) h = rw (le-ltb k 4 (omega arith)) refl
 
   pub set-width-le : (kind : ℕ) → size ≤ 64 ^ 4 → firsts ≤ 64 → seconds ≤ 64 → setWidth size firsts seconds kind ≤ 64 ^ 4
   unfolding setWidth
   set-width-le zero h a b = omega arith
   set-width-le (suc zero) h a b = h
-  set-width-le (suc (suc k)) h a b = omega (arith, mul-le-mul {n₁ = firsts} {n₂ = 64} a b)
+  set-width-le (suc (suc k)) h a b = by-test (ltb k 4)
+    where
+      by-test : (x : Bool) → (if x then firsts * seconds else 0) ≤ 64 ^ 4
+      by-test true = omega (arith, mul-le-mul {n₁ = firsts} {n₂ = 64} a b)
+      by-test false = omega arith
 
 module _ (n size : ℕ) where
   pub most-none : (kind : ℕ) → kind ≡ 0 → 0 ≡ mostWidth n size kind
@@ -81,17 +98,27 @@ module _ (n size : ℕ) where
   unfolding mostWidth
   most-all kind e = rw e refl
 
-  pub most-one : (kind : ℕ) → (kind ≡ 0 → ⊥) → (kind ≡ 1 → ⊥) → n ≡ mostWidth n size kind
+  pub most-one : (kind : ℕ) → (kind ≡ 0 → ⊥) → (kind ≡ 1 → ⊥) → kind < 6 → n ≡ mostWidth n size kind
   unfolding mostWidth
-  most-one zero a b = absurd (a refl)
-  most-one (suc zero) a b = absurd (b refl)
-  most-one (suc (suc k)) a b = refl
+  most-one zero a b h = absurd (a refl)
+  most-one (suc zero) a b h = absurd (b refl)
+  most-one (suc (suc k)) a b h = rw (lt-ltb k 4 (omega arith)) refl
+
+  pub most-last : (kind : ℕ) → 6 ≤ kind → 0 ≡ mostWidth n size kind
+  unfolding mostWidth
+  most-last zero h = absurd (omega arith)
+  most-last (suc zero) h = absurd (omega arith)
+  most-last (suc (suc k)) h = rw (le-ltb k 4 (omega arith)) refl
 
   pub most-width-le : (kind : ℕ) → n ≤ 64 → size ≤ 64 ^ 4 → mostWidth n size kind ≤ 64 ^ 4
   unfolding mostWidth
   most-width-le zero a b = omega arith
   most-width-le (suc zero) a b = b
-  most-width-le (suc (suc k)) a b = omega arith
+  most-width-le (suc (suc k)) a b = by-test (ltb k 4)
+    where
+      by-test : (x : Bool) → (if x then n else 0) ≤ 64 ^ 4
+      by-test true = omega arith
+      by-test false = omega arith
 
   pub width-forall : (kind : ℕ) → kind ≡ 0 → size * n ≡ nodeWidth n size kind
   unfolding nodeWidth
@@ -162,6 +189,10 @@ most-set a i x b b' h k m r = from-this (ℕ-discrete r i) (decLt i (length a))
     from-this (yes e) (no l) = rw (set-out a i x (omega arith)) (omega (arith, m r))
     from-this (no e) l = rw (getD-set-other a i r x 0 e) (omega (arith, m r))
 
+-- the entries past the next one stay 0
+rest-set : (a : List ℕ) (i x : ℕ) → ((r : ℕ) → i ≤ r → getD a r 0 ≡ 0) → (r : ℕ) → i + 1 ≤ r → getD (set a i x) r 0 ≡ 0
+rest-set a i x h r l = getD-set-other a i r x 0 (λ e. omega arith) ∙ h r (omega arith)
+
 -- ---- relations
 module _ (n : ℕ) (g : Relations) (small : n ≤ 64) (sizes : RelationsFit g) where
   rel-suc : (i : ℕ) → relationSum n g (suc i) ≡ relationSum n g i + relationWidth n (n ^ getD (g .arity) i 0) (getD (g .kind) i 0)
@@ -177,7 +208,7 @@ module _ (n : ℕ) (g : Relations) (small : n ≤ 64) (sizes : RelationsFit g) w
   rel-bound zero = omega arith
   rel-bound (suc i) =
       let q = width-le n (n ^ getD (g .arity) i 0) (getD (g .kind) i 0) small (pow-most n (getD (g .arity) i 0) small (sizes .arity i)) in
-      omega (arith, rel-bound i, q .1)
+      omega (arith, rel-bound i, q)
 
   pub set-bound : (counts : List ℕ) → Most counts 64 → (i : ℕ) → setSum n counts g i ≤ i * 64 ^ 4
   unfolding setSum
@@ -186,34 +217,31 @@ module _ (n : ℕ) (g : Relations) (small : n ≤ 64) (sizes : RelationsFit g) w
       let q = set-width-le (n ^ getD (g .arity) i 0) (firstsAt counts g i) (secondsAt counts g i) (getD (g .kind) i 0) (pow-most n (getD (g .arity) i 0) small (sizes .arity i)) (few (getD (g .firsts) i 0)) (few (getD (g .seconds) i 0)) in
       omega (arith, set-bound counts few i, q)
 
-  pick-suc : (i : ℕ) → pickSum n g (suc i) ≡ pickSum n g i + mostWidth n (n ^ getD (g .arity) i 0) (getD (g .kind) i 0)
-  unfolding pickSum
-  pick-suc i = refl
-
   pub pick-bound : (i : ℕ) → pickSum n g i ≤ i * 64 ^ 4
   unfolding pickSum
   pick-bound zero = omega arith
   pick-bound (suc i) = omega (arith, pick-bound i, most-width-le n (n ^ getD (g .arity) i 0) (getD (g .kind) i 0) small (pow-most n (getD (g .arity) i 0) small (sizes .arity i)))
 
-  pub rels-next : (counts : List ℕ) (i : ℕ) (rel neg dom sets : List ℕ) (at st pk size w u m : ℕ) → i < 17 → length rel ≡ 18 → length neg ≡ 17 → length dom ≡ 17 → length sets ≡ 18
-      → size ≡ n ^ getD (g .arity) i 0 → w ≡ relationWidth n size (getD (g .kind) i 0) → u ≡ setWidth size (firstsAt counts g i) (secondsAt counts g i) (getD (g .kind) i 0) → m ≡ mostWidth n size (getD (g .kind) i 0)
-      → RelationsLaid n counts g i rel neg dom sets at st pk
-      → RelationsLaid n counts g (i + 1) (set rel (i + 1) (at + w)) (set neg i (at + size)) (set dom i (at + (size + size))) (set sets (i + 1) (st + u)) (at + w) (st + u) (pk + m)
-  rels-next counts i rel neg dom sets at st pk size w u m h l₁ l₂ l₃ l₄ e ew eu em L =
-      let q = width-le n size (getD (g .kind) i 0) small (rw e (pow-most n (getD (g .arity) i 0) small (sizes .arity i))) in
+  pub rels-next : (counts : List ℕ) (i : ℕ) (rel neg dom sets : List ℕ) (at st size w u : ℕ) → i < 18 → length rel ≡ 19 → length neg ≡ 18 → length dom ≡ 18 → length sets ≡ 19
+      → size ≡ n ^ getD (g .arity) i 0 → w ≡ relationWidth n size (getD (g .kind) i 0) → u ≡ setWidth size (firstsAt counts g i) (secondsAt counts g i) (getD (g .kind) i 0)
+      → RelationsLaid n counts g i rel neg dom sets at st
+      → RelationsLaid n counts g (i + 1) (set rel (i + 1) (at + w)) (set neg i (at + size)) (set dom i (at + (size + size))) (set sets (i + 1) (st + u)) (at + w) (st + u)
+  rels-next counts i rel neg dom sets at st size w u h l₁ l₂ l₃ l₄ e ew eu L =
       let a : at + w ≡ relationSum n g (suc i) = ap₂ (λ (x y : ℕ). x + y) (L .at-is) (ew ∙ ap (λ (x : ℕ). relationWidth n x (getD (g .kind) i 0)) e) ∙ sym (rel-suc i) in
       let b : st + u ≡ setSum n counts g (suc i) = ap₂ (λ (x y : ℕ). x + y) (L .set-is) (eu ∙ ap (λ (x : ℕ). setWidth x (firstsAt counts g i) (secondsAt counts g i) (getD (g .kind) i 0)) e) ∙ sym (set-suc counts i) in
       record {
+        rel-long = length-set rel (i + 1) (at + w) ∙ l₁;
+        neg-long = length-set neg i (at + size) ∙ l₂;
+        dom-long = length-set dom i (at + (size + size)) ∙ l₃;
         at-is = a ∙ ap (relationSum n g) (sym (add-one i));
         set-is = b ∙ ap (setSum n counts g) (sym (add-one i));
-        picks-are = ap₂ (λ (x y : ℕ). x + y) (L .picks-are) (em ∙ ap (λ (x : ℕ). mostWidth n x (getD (g .kind) i 0)) e) ∙ sym (pick-suc i) ∙ ap (pickSum n g) (sym (add-one i));
         rel-at = entry-le rel (relationSum n g) i (at + w) (omega arith) a (L .rel-at);
         neg-at = entry-lt neg (λ (r : ℕ). relationSum n g r + n ^ getD (g .arity) r 0) i (at + size) (omega arith) (ap₂ (λ (x y : ℕ). x + y) (L .at-is) e) (L .neg-at);
         dom-at = entry-lt dom (λ (r : ℕ). relationSum n g r + (n ^ getD (g .arity) r 0 + n ^ getD (g .arity) r 0)) i (at + (size + size)) (omega arith) (ap₂ (λ (x y : ℕ). x + (y + y)) (L .at-is) e) (L .dom-at);
         set-at = entry-le sets (setSum n counts g) i (st + u) (omega arith) b (L .set-at);
         rel-most = most-set rel (i + 1) (at + w) at (at + w) (omega arith) (omega arith) (L .rel-most);
-        neg-most = most-set neg i (at + size) at (at + w) (omega (arith, q .0, ew)) (omega arith) (L .neg-most);
-        dom-most = most-set dom i (at + (size + size)) at (at + w) (omega (arith, q .0, ew)) (omega arith) (L .dom-most);
+        neg-rest = rest-set neg i (at + size) (L .neg-rest);
+        dom-rest = rest-set dom i (at + (size + size)) (L .dom-rest);
         set-most = most-set sets (i + 1) (st + u) st (st + u) (omega arith) (omega arith) (L .set-most);
       }
 
@@ -222,24 +250,29 @@ most-zeros zero b r = omega arith
 most-zeros (suc k) b zero = omega arith
 most-zeros (suc k) b (suc r) = most-zeros k b r
 
+all-zeros : (k r : ℕ) → getD (replicate {A = ℕ} k 0) r 0 ≡ 0
+all-zeros k r = omega (arith, most-zeros k 0 r)
+
 zero-le : (a : List ℕ) (f : ℕ → ℕ) (x : ℕ) → getD a 0 0 ≡ x → x ≡ f 0 → (r : ℕ) → r ≤ 0 → getD a r 0 ≡ f r
 zero-le a f x e q r h = let z : r ≡ 0 = omega arith in rw z (e ∙ q)
 
-pub rels-first : (n : ℕ) (counts : List ℕ) (g : Relations) → RelationsLaid n counts g 0 (set (replicate 18 0) 0 3) (replicate 17 0) (replicate 17 0) (replicate 18 0) 3 0 0
-unfolding relationSum setSum pickSum
+pub rels-first : (n : ℕ) (counts : List ℕ) (g : Relations) → RelationsLaid n counts g 0 (set (replicate 19 0) 0 3) (replicate 18 0) (replicate 18 0) (replicate 19 0) 3 0
+unfolding relationSum setSum
 rels-first n counts g =
     record {
+      rel-long = refl;
+      neg-long = refl;
+      dom-long = refl;
       at-is = refl;
       set-is = refl;
-      picks-are = refl;
-      rel-at = zero-le (set (replicate 18 0) 0 3) (relationSum n g) 3 refl refl;
+      rel-at = zero-le (set (replicate 19 0) 0 3) (relationSum n g) 3 refl refl;
       neg-at = λ r h. absurd (omega arith);
       dom-at = λ r h. absurd (omega arith);
-      set-at = zero-le (replicate 18 0) (setSum n counts g) 0 refl refl;
-      rel-most = most-set (replicate 18 0) 0 3 3 3 (omega arith) (omega arith) (most-zeros 18 3);
-      neg-most = most-zeros 17 3;
-      dom-most = most-zeros 17 3;
-      set-most = most-zeros 18 0;
+      set-at = zero-le (replicate 19 0) (setSum n counts g) 0 refl refl;
+      rel-most = most-set (replicate 19 0) 0 3 3 3 (omega arith) (omega arith) (most-zeros 19 3);
+      neg-rest = λ r h. all-zeros 18 r;
+      dom-rest = λ r h. all-zeros 18 r;
+      set-most = most-zeros 19 0;
     }
 
 -- ---- nodes
@@ -297,3 +330,17 @@ module _ (n : ℕ) (counts : List ℕ) (t : Nodes) (from first : ℕ) where
           node-most = most-set node (v + 1) (at + w) at (at + w) (omega arith) (omega arith) (L .node-most);
           act-most = most-set act (v + 1) (acts + r * m) acts (acts + r * m) (omega arith) (omega arith) (L .act-most);
         }
+
+-- ---- a place of a relation by its kind
+module _ (kind sort count : ℕ) where
+  pub place-low : kind < 2 → (0 ≡ placeStart kind sort) × (0 ≡ placeCount count kind)
+  unfolding placeStart placeCount
+  place-low h = (rw (lt-ltb kind 2 h) refl, rw (lt-ltb kind 2 h) refl)
+
+  pub place-high : 5 < kind → (0 ≡ placeStart kind sort) × (0 ≡ placeCount count kind)
+  unfolding placeStart placeCount
+  place-high h = (rw (le-ltb kind 2 (omega arith), lt-ltb 5 kind h) refl, rw (le-ltb kind 2 (omega arith), lt-ltb 5 kind h) refl)
+
+  pub place-some : 2 ≤ kind → kind ≤ 5 → (rangePlace sort ≡ placeStart kind sort) × (count ≡ placeCount count kind)
+  unfolding placeStart placeCount
+  place-some h k = (rw (le-ltb kind 2 h, le-ltb 5 kind k) refl, rw (le-ltb kind 2 h, le-ltb 5 kind k) refl)

@@ -23,7 +23,7 @@ use Rattle.problem_layout.specs.FilledLaws.{length-relation, length-rela
 use Rattle.problem_layout.specs.Laid.{firstsAt, secondsAt, numberLimit}
 
 module _ (counts : List ℕ) (g : Relations) (l : Layout) (w d z : List ℕ) (len : length d ≡ tableLength) where
-  pub relation-turn : (r a x b y : ℕ) → r < 17 → a ≡ placeStart (getD (g .kind) r 0) (getD (g .firsts) r 0) → x ≡ placeCount (firstsAt counts g r) (getD (g .kind) r 0)
+  pub relation-turn : (r a x b y : ℕ) → r < 18 → a ≡ placeStart (getD (g .kind) r 0) (getD (g .firsts) r 0) → x ≡ placeCount (firstsAt counts g r) (getD (g .kind) r 0)
       → b ≡ placeStart (getD (g .kind) r 0) (getD (g .seconds) r 0) → y ≡ placeCount (secondsAt counts g r) (getD (g .kind) r 0) → w ≡ splice relationsPlace (tab (relationNumbers counts g l) r) d
       → z ≡ splice (relationPlace r) (getD (l .set) r 0 ∷ getD (l .rel) r 0 ∷ getD (l .neg) r 0 ∷ getD (l .dom) r 0 ∷ getD (g .kind) r 0 ∷ a ∷ x ∷ b ∷ y ∷ []) w
       → z ≡ splice relationsPlace (tab (relationNumbers counts g l) (r + 1)) d
@@ -31,7 +31,7 @@ module _ (counts : List ℕ) (g : Relations) (l : Layout) (w d z : List ℕ) (le
   relation-turn r a x b y h ea ex eb ey e q =
       tab-next (relationNumbers counts g l) relationLength (length-relation counts g l) relationsPlace r (relationNumbers counts g l r) w d z (omega arith) refl e (rw (ea, ex, eb, ey) at q)
 
-  pub relation-last : (r : ℕ) → r ≤ 17 → r ≡ g .count → w ≡ splice relationsPlace (tab (relationNumbers counts g l) r) d
+  pub relation-last : (r : ℕ) → r ≤ 18 → r ≡ g .count → w ≡ splice relationsPlace (tab (relationNumbers counts g l) r) d
       → z ≡ splice (relationPlace r) (getD (l .set) r 0 ∷ getD (l .rel) r 0 ∷ 0 ∷ 0 ∷ 0 ∷ 0 ∷ 0 ∷ 0 ∷ 0 ∷ []) w → z ≡ splice relationsPlace (relationLines counts g l) d
   unfolding relationLines relationEnd
   relation-last r b h e q =

@@ -1,12 +1,10 @@
-// Where the numbers of atoms and actions start, and how many there are; and the flat table that steps read, filled from that.
+// Where the numbers of atoms and actions start; and the flat table that steps read, filled from that.
 ghost use mathlib.Core.Path.{_≡_};
-ghost use mathlib.Core.Bool.{_||_};
 ghost use mathlib.Core.List.{List};
-ghost use Prim.Native.Nat.{ℕ, suc, _+_, _*_, _^_, _<_, _≤_};
-ghost use lib.Dec.{ltb};
+ghost use Prim.Native.Nat.{ℕ, suc, _+_, _-_, _*_, _^_, _<_, _≤_};
 ghost use Rattle.definitions.specs.Problem.Atoms.{Problem};
 ghost use Rattle.rule_nodes.specs.Tables.{Fits, noPart, PartFits};
-ghost use Rattle.problem_layout.specs.Laid.{relationWidth, setWidth, mostWidth, nodeWidth, choicesOf, rangeBy, RangesFit, RangesAre, RelationsFit, Inputs, RelationsLaid, NodesLaid, Laid, Small, numberLimit};
+ghost use Rattle.problem_layout.specs.Laid.{relationWidth, setWidth, mostWidth, nodeWidth, choicesOf, rangeBy, RangesFit, RangesAre, RelationsFit, Inputs, hasLast, RelationsLaid, NodesLaid, LastLaid, Laid, Small, numberLimit};
 ghost use lib.ListN.{getD, length};
 ghost use Rattle.rows.specs.Values.{Most};
 ghost use Rattle.problem_table.specs.Lines.{tableLength, rootPlace};
@@ -16,13 +14,13 @@ use rule_nodes::NodeRow;
 use rule_nodes::Nodes;
 use rule_nodes::PartRow;
 
-// The most relations that a question has: five built in, those of 8 `rel` and 4 `choose` lines.
-pub const RELATIONS: usize = 17;
+// The most relations that a question has: five built in, those of 8 `rel` and 4 `choose` lines, that of an `every` line.
+pub const RELATIONS: usize = 18;
 
 pub const NODES: usize = rule_nodes::NODES;
 
-// The relations by number: arity and kind (0 static, 1 plain, 2 Fun, 3 PFun, 4 Inj, 5 PInj) of each, and the sorts of its first and
-// of its second place (0, all elements, unless it is of a function kind with types).
+// The relations by number: arity and kind (0 static, 1 plain, 2 Fun, 3 PFun, 4 Inj, 5 PInj, 6 that of an `every` line, which is the
+// last) of each, and the sorts of its first and of its second place (0, all elements, unless it is of a function kind with types).
 pub struct Relations {
     pub count: usize,
     pub arity: [usize; RELATIONS],
@@ -46,8 +44,8 @@ struct Range {
     top: usize,
 }
 
-// Where a relation's tuples, not-tuples, free atoms and set actions start, and a node's atoms and actions; in `rel`, `set`, `node`
-// and `act` what comes after the last one starts at the next entry.
+// Where a relation's tuples, not-tuples, free atoms (of an `every` line's its marks) and set actions start, and a node's atoms and
+// actions; in `set`, `node` and `act` what comes after the last one starts at the next entry, and in `rel` the nodes do.
 pub struct Layout {
     pub rel: [usize; RELATIONS + 1],
     pub neg: [usize; RELATIONS],
@@ -57,16 +55,7 @@ pub struct Layout {
     pub act: [usize; NODES + 1],
 }
 
-// The layout, how many atoms and actions there are, the bound, and whether there are more than the limits allow.
-pub struct Made {
-    pub over: bool,
-    pub atoms: usize,
-    pub actions: usize,
-    pub bound: usize,
-    pub layout: Layout,
-}
-
-// The part of a layout that the relations have, where it ends, and the most picks.
+// The part of a layout that the relations have, and where it ends.
 struct RelationStarts {
     rel: [usize; RELATIONS + 1],
     neg: [usize; RELATIONS],
@@ -74,7 +63,6 @@ struct RelationStarts {
     set: [usize; RELATIONS + 1],
     at: usize,
     sets: usize,
-    picks: usize,
 }
 
 // The part that the nodes have, and where it ends.
@@ -85,7 +73,7 @@ struct NodeStarts {
     acts: usize,
 }
 
-// How many atoms a relation with `size` tuples has.
+// How many atoms a relation with `size` tuples has before the nodes; those of an `every` line's come after them.
 pub fn relation_width(n: usize, size: usize, kind: usize) -> usize
     requires { ⌜ (n ≤ 64) × (size ≤ 64 ^ 4) ⌝ }
     ensures { λ r. ⌜ r ≡ relationWidth n size kind ⌝ }
@@ -96,7 +84,10 @@ pub fn relation_width(n: usize, size: usize, kind: usize) -> usize
     if kind < 4 {
         return size + size + n;
     }
-    size + size + n + n
+    if kind < 6 {
+        return size + size + n + n;
+    }
+    0
 }
 
 // How many set actions it has, where its two places have `firsts` and `seconds` elements.
@@ -110,7 +101,10 @@ pub fn set_width(size: usize, firsts: usize, seconds: usize, kind: usize) -> usi
     if kind == 1 {
         return size;
     }
-    firsts * seconds
+    if kind < 6 {
+        return firsts * seconds;
+    }
+    0
 }
 
 // How many picks of it there are at the most.
@@ -123,7 +117,10 @@ pub fn most_width(n: usize, size: usize, kind: usize) -> usize
     if kind == 1 {
         return size;
     }
-    n
+    if kind < 6 {
+        return n;
+    }
+    0
 }
 
 // How many atoms a node has whose free variables have `rows` values.
@@ -190,7 +187,7 @@ pub fn ranges_of(n: usize, types: usize, members: &[u64]) -> Ranges
 
 fn relation_starts(n: usize, ranges: Ranges, g: Relations) -> RelationStarts
     requires { ⌜ (0 < n) × (n ≤ 64) × RelationsFit g × RangesFit n ranges ⌝ }
-    ensures { λ r. ⌜ RelationsLaid n (ranges .count) g (g .count) (r .rel) (r .neg) (r .dom) (r .set) (r .at) (r .sets) (r .picks) ⌝ }
+    ensures { λ r. ⌜ RelationsLaid n (ranges .count) g (g .count) (r .rel) (r .neg) (r .dom) (r .set) (r .at) (r .sets) ⌝ }
 {
     let mut rel = [0usize; RELATIONS + 1];
     let mut neg = [0usize; RELATIONS];
@@ -199,7 +196,6 @@ fn relation_starts(n: usize, ranges: Ranges, g: Relations) -> RelationStarts
     rel[0] = 3;
     let mut at: usize = 3;
     let mut sets: usize = 0;
-    let mut picks: usize = 0;
     let mut i: usize = 0;
     while i < g.count {
         let kind = g.kind[i];
@@ -210,7 +206,6 @@ fn relation_starts(n: usize, ranges: Ranges, g: Relations) -> RelationStarts
         let firsts = ranges.count[g.firsts[i]];
         let seconds = ranges.count[g.seconds[i]];
         sets = sets + set_width(size, firsts, seconds, kind);
-        picks = picks + most_width(n, size, kind);
         i += 1;
         rel[i] = at;
         set[i] = sets;
@@ -222,7 +217,6 @@ fn relation_starts(n: usize, ranges: Ranges, g: Relations) -> RelationStarts
         set,
         at,
         sets,
-        picks,
     }
 }
 
@@ -262,55 +256,68 @@ fn node_starts(
     }
 }
 
-// There are more atoms or actions than the limits allow.
-pub fn too_many(atoms: usize, actions: usize, most_atoms: usize, most_actions: usize) -> bool
-    ensures { λ r. ⌜ r ≡ (ltb «most_atoms» atoms || ltb «most_actions» actions) ⌝ }
+// Whether the last relation is that of an `every` line.
+pub fn has_last(g: Relations) -> bool
+    requires { ⌜ RelationsFit g ⌝ }
+    ensures { λ r. ⌜ r ≡ hasLast g ⌝ }
 {
-    if most_atoms < atoms {
-        return true;
+    if g.count == 0 {
+        return false;
     }
-    most_actions < actions
+    g.kind[g.count - 1] == 6
 }
 
-// The layout of n elements, their ranges, the relations and the nodes of a tree, and whether these are more atoms or actions than there may be.
-pub fn lay_out(
-    n: usize,
-    ranges: Ranges,
-    g: Relations,
-    t: rule_nodes::Nodes,
-    most_atoms: usize,
-    most_actions: usize,
-) -> Made
-    requires { ⌜ (0 < n) × (n ≤ 64) × RelationsFit g × Fits t × («most_atoms» ≤ numberLimit) × («most_actions» ≤ numberLimit) × RangesFit n ranges ⌝ }
-    ensures { λ r. ⌜ ((p : Problem) (w : List ℕ) (k : ℕ) → RangesAre n w k ranges → Inputs p n w k g t → Laid «most_atoms» «most_actions» p r) ⌝ }
+// The same starts, but those of an `every` line's relation come behind the nodes, which end at `end`.
+fn last_starts(n: usize, g: Relations, r: RelationStarts, end: usize) -> RelationStarts
+    requires { ⌜ (0 < n) × (n ≤ 64) × RelationsFit g × (end ≤ 2 ^ 40) ⌝ }
+    ensures { λ x. ⌜ LastLaid n g end (r .rel) (r .neg) (r .dom) (x .rel) (x .neg) (x .dom) × (x .set ≡ r .set) ⌝ }
+{
+    if has_last(g) {
+        let e = g.count - 1;
+        let size = rows::power(n, g.arity[e]);
+        let mut rel = r.rel;
+        let mut neg = r.neg;
+        let mut dom = r.dom;
+        let set = r.set;
+        let at = r.at;
+        let sets = r.sets;
+        rel[e] = end;
+        neg[e] = end + size;
+        dom[e] = end + (size + size);
+        return RelationStarts {
+            rel,
+            neg,
+            dom,
+            set,
+            at,
+            sets,
+        };
+    }
+    r
+}
+
+// The layout of n elements, their ranges, the relations and the nodes of a tree.
+pub fn lay_out(n: usize, ranges: Ranges, g: Relations, t: rule_nodes::Nodes) -> Layout
+    requires { ⌜ (0 < n) × (n ≤ 64) × RelationsFit g × Fits t × RangesFit n ranges ⌝ }
+    ensures { λ r. ⌜ ((p : Problem) (w : List ℕ) (k : ℕ) → RangesAre n w k ranges → Inputs p n w k g t → Laid p r) ⌝ }
 {
     let r = relation_starts(n, ranges, g);
     let first = r.sets + 1;
     let s = node_starts(n, ranges, t, r.at, first);
-    let atoms = s.at;
-    let actions = s.acts + 1;
-    let bound = r.picks + (atoms - r.at) + 2;
-    let over = too_many(atoms, actions, most_atoms, most_actions);
-    let rel = r.rel;
-    let neg = r.neg;
-    let dom = r.dom;
-    let set = r.set;
+    let e = last_starts(n, g, r, s.at);
+    let rel = e.rel;
+    let neg = e.neg;
+    let dom = e.dom;
+    let set = e.set;
     let node = s.node;
     let act = s.act;
-    let layout = Layout {
+    Layout {
         rel,
         neg,
         dom,
         set,
         node,
         act,
-    };
-    Made {
-        over,
-        atoms,
-        actions,
-        bound,
-        layout,
     }
 }
 
@@ -335,6 +342,9 @@ fn place_start(kind: usize, sort: usize) -> usize
     if kind < 2 {
         return 0;
     }
+    if 5 < kind {
+        return 0;
+    }
     problem_table::RANGE_AT + problem_table::RANGE_LINE * sort
 }
 
@@ -342,6 +352,9 @@ fn place_count(count: usize, kind: usize) -> usize
     ensures { λ r. ⌜ r ≡ placeCount count kind ⌝ }
 {
     if kind < 2 {
+        return 0;
+    }
+    if 5 < kind {
         return 0;
     }
     count
@@ -459,7 +472,7 @@ fn fill_nodes(table: &mut [usize], n: usize, t: Nodes, l: Layout, ranges: Ranges
 
 // Where the atoms of a part's relation or node start; the arrays of a layout come as slices, so that no call copies it.
 fn start_of(rel: &[usize], neg: &[usize], node: &[usize], tag: u8, which: usize) -> usize
-    requires { ⌜ (tag < 2 → which < 17) × (2 ≤ tag → which < 64) × (17 ≤ length (now rel)) × (17 ≤ length (now neg)) × (64 ≤ length (now node)) ⌝ }
+    requires { ⌜ (tag < 2 → which < 18) × (2 ≤ tag → which < 64) × (18 ≤ length (now rel)) × (18 ≤ length (now neg)) × (64 ≤ length (now node)) ⌝ }
     ensures { λ r. ⌜ r ≡ startIn (now (rel .entry)) (now (neg .entry)) (now (node .entry)) tag which ⌝ }
 {
     if tag == 0 {

@@ -1,20 +1,22 @@
 -- A case that was read, and the table of its numbered problem.
 use Prim.Native.Nat.{ℕ, zero, suc, _+_, _*_, _≤_, _<_}
-use mathlib.Core.Path.{_≡_, refl, sym, ap, ap₂, subst, _∙_}
-use mathlib.Core.Bool.{Bool, true, false, _||_}
+use mathlib.Core.Path.{_≡_, refl, sym, ap, subst, _∙_}
+use mathlib.Core.Bool.{Bool, true, false}
+use mathlib.Core.Option.{Option, none, some}
 use mathlib.Core.List.{List, []}
-use lib.Dec.{ltb}
+use lib.Dec.{T, ltb}
 use lib.ListN.{length, getD}
 use borrow.Author.Tests.{le-ltb}
 use Rattle.definitions.specs.Limits.{CaseLimits, formLimit, nestingLimit}
-use Rattle.definitions.specs.Lists.{option, filter, below}
+use Rattle.definitions.specs.Lists.{option, isSome, listed, filter, below}
 use Rattle.definitions.specs.Sheet.Formula.{Formula, allForms, nesting, isKnown, isScoped, isTyped}
-use Rattle.definitions.specs.Refusal.{Result, refused, accepted, _>>=_, refuseIf}
+use Rattle.definitions.specs.Refusal.{Result, refused, accepted}
 use Rattle.definitions.specs.Sheet.Relations.{Relation}
-use Rattle.definitions.specs.Sheet.Sheets.{readQuestion, relations, relationsOf, isMember}
+use Rattle.definitions.specs.Sheet.Sheets.{readQuestion, relations, relationsOf, everyNumber, isMember}
 use Rattle.laws.specs.Booleans.{T-true}
 use Rattle.laws.specs.Reader.{gives-if, QuestionFits, RuleFits, question-fits, Accepted as CaseFits, accepted-range}
-use Rattle.meaning.specs.Grounded.{relation-sorts, good}
+use Rattle.meaning.specs.Grounded.{relation-sorts, count-relations, good}
+use Rattle.meaning.specs.Means.{Good}
 use Rattle.laws.specs.Lists.{below-lt, filter-same}
 use Rattle.laws.specs.Members.{members-are}
 use Rattle.laws.specs.Sorts.{Sorted, tree-sorted}
@@ -26,21 +28,20 @@ use Rattle.definitions.specs.Problem.Tree.{treeOf}
 use Rattle.definitions.specs.Problem.Atoms.{Problem, problemOf, problemWith, relationAt, atoms}
 use Rattle.definitions.specs.Problem.Actions.{actions}
 use Rattle.definitions.specs.Problem.Built.{bound}
-use Rattle.definitions.specs.Reply.Outcome.{ground, sizesOf}
-use Rattle.definitions.specs.Reply.Tally.{Tally as TallyOf}
-use Rattle.laws.specs.Walks.{tally-is}
+use Rattle.definitions.specs.Reply.Outcome.{ground}
 use Rattle.read_names.specs.Signatures.{typesOf, chosenOf, allOf}
 use Rattle.read_names.proofs.Laws.{length-names}
 use Rattle.rule_nodes.specs.Tables.{IsTable}
 use Rattle.rule_nodes.specs.declared.Nodes.{Nodes}
-use Rattle.problem_table.specs.Lines.{Fits, nodesIn, nodeLine}
-use Rattle.problem_table.specs.Of.{Is, kindNumber}
+use Rattle.problem_table.specs.Lines.{Fits, nodesIn, nodeLine, everyIn}
+use Rattle.problem_table.specs.Of.{Is, EveryLast, kindNumber}
 use native.Mathlib.Omega.{arith}
 use Rattle.problem_layout.specs.declared.Relations.{Relations}
-use Rattle.problem_layout.specs.declared.Made.{Made}
-use Rattle.problem_layout.specs.Laid.{rangeBy, Inputs, Laid}
+use Rattle.problem_layout.specs.Laid.{rangeBy, Inputs}
 use Rattle.problem_sizes.specs.declared.Tally.{Tally}
-use Rattle.problem_sizes.specs.Sums.{Tallied}
+use Rattle.problem_sizes.specs.declared.Limits.{Limits}
+use Rattle.problem_sizes.specs.Sums.{Tallied, refusalIn}
+use Rattle.problem_sizes.specs.Refused.{counts-within, atoms-told, actions-told, bound-within, grounded-by, refused-by}
 use Rattle.problem_of_case.specs.Numbered.{Numbered, Declared, noRelation}
 use Rattle.read_sheets.specs.declared.Opened.{Opened}
 use Rattle.read_sheets.specs.Opening.{Holds}
@@ -54,18 +55,18 @@ pub record Read (s : List ℕ) (o : Opened) : Type 0 where
 
 -- the table w is that of the problem p, whose counts are these
 pub record Tabled (p : Problem) (r : Sized) (w : List ℕ) : Type 0 where
-  pub within : r .over ≡ false
+  pub within : r .refusal ≡ 0
   pub atoms-are : r .atoms ≡ atoms p
   pub actions-are : r .actions ≡ actions p
   pub bound-is : r .bound ≡ bound p
   pub fits : Fits w
   pub is : Is p w
-  pub ends : nodeLine w (nodesIn w) .atoms ≡ atoms p
+  pub ends : nodeLine w (nodesIn w) .atoms + 3 * everyIn w ≡ atoms p
 
--- what grounding a case gives: 11, place 0, or the table of its problem
+-- what grounding a case gives: 11 or 23, place 0, or the table of its problem
 pub record Over (k place : ℕ) (r : Sized) : Type 0 where
-  pub over : r .over ≡ true
-  pub number : k ≡ 11
+  pub over : r .refusal ≡ 0 → ⊥
+  pub number : k ≡ r .refusal
   pub no-place : place ≡ 0
 
 unfoldable pub GroundsTo : Result Problem → Sized → List ℕ → Type 0
@@ -73,22 +74,27 @@ GroundsTo (refused k place) r w = Over k place r
 GroundsTo (accepted p) r w = Tabled p r w
 
 -- ---- laws
+some-listed : (x : Option Relation) → T (isSome x) → length (listed x) ≡ 1
+unfolding isSome listed
+some-listed none t = absurd t
+some-listed (some e) t = refl
+
 module _ (s : List ℕ) (o : Opened) (c : Case) (facts : ℕ → Bool) (h : Holds s c o facts) where
-  all-are : relations (c .question .rels) (c .question .chosen) ≡ allOf s (o .sig)
+  all-are : relations (c .question .rels) (c .question .chosen) (c .question .every) ≡ allOf s (o .sig)
   unfolding allOf
-  all-are = ap₂ relations (h .rels) (h .chosen)
+  all-are = rw (h .rels, h .chosen, h .every)
 
   relations-are : relationsOf (c .question) ≡ allOf s (o .sig)
   unfolding relationsOf
   relations-are = all-are
 
   pub declared : Declared (o .sig)
-  declared = record { rels = h .sound .rels-le; chosen = h .sound .chosen-le; arity = λ i l. small i (h .sound .arities i l .1); sorts = sorts }
+  declared = record { rels = h .sound .rels-le; chosen = h .sound .chosen-le; every = h .sound .every-le; arity = λ i l. small i (h .sound .arities i l .1); sorts = sorts }
     where
       small : (i : ℕ) → getD (o .sig .arity) i 0 ≤ 3 → getD (o .sig .arity) i 0 ≤ 4
       small i a = omega arith
 
-      sorts : (i : ℕ) → i < o .sig .rels + o .sig .chosen → (getD (o .sig .firsts) i 0 ≤ 8) × (getD (o .sig .seconds) i 0 ≤ 8)
+      sorts : (i : ℕ) → i < o .sig .rels + o .sig .chosen + o .sig .every → (getD (o .sig .firsts) i 0 ≤ 8) × (getD (o .sig .seconds) i 0 ≤ 8)
       sorts i l = let a = h .sound .sorts i l in let b = h .sound .types-le in (omega (arith, a .0), omega (arith, a .1))
 
   -- the case was accepted
@@ -108,7 +114,7 @@ module _ (s : List ℕ) (o : Opened) (c : Case) (facts : ℕ → Bool) (h : Hold
       f : Formula
       f = c .question .rule .formula
 
-      fits : RuleFits (c .question .rels) (c .question .types) (c .question .chosen) (c .question .rule)
+      fits : RuleFits (c .question .rels) (c .question .types) (c .question .chosen) (c .question .every) (c .question .rule)
       fits = accepted-case .question-fits .rule-fits
 
       few : ltb formLimit (allForms (chosenOf s (o .sig)) f) ≡ false
@@ -118,7 +124,7 @@ module _ (s : List ℕ) (o : Opened) (c : Case) (facts : ℕ → Bool) (h : Hold
       shallow = le-ltb nestingLimit (nesting f) (fits .nested)
 
       known : isKnown (allOf s (o .sig)) f ≡ true
-      known = ap (λ (ks : List Relation). isKnown ks f) (sym all-are) ∙ T-true (isKnown (relations (c .question .rels) (c .question .chosen)) f) (fits .known)
+      known = ap (λ (ks : List Relation). isKnown ks f) (sym all-are) ∙ T-true (isKnown (relations (c .question .rels) (c .question .chosen) (c .question .every)) f) (fits .known)
 
       scoped : isScoped [] f ≡ true
       scoped = T-true (isScoped [] f) (fits .scoped)
@@ -128,7 +134,7 @@ module _ (s : List ℕ) (o : Opened) (c : Case) (facts : ℕ → Bool) (h : Hold
 
   types-count : length (c .question .types) ≡ o .sig .types
   unfolding typesOf
-  types-count = ap length (h .types) ∙ length-names s (o .sig .from) (o .sig .to) 12 (o .sig .types)
+  types-count = ap length (h .types) ∙ length-names s (o .sig .from) (o .sig .to) 13 (o .sig .types)
 
   -- the ranges of the sorts, by the words of members
   ranges-are : (σ : ℕ) → σ ≤ o .sig .types → membersOf c σ ≡ rangeBy (o .n) (o .members) σ
@@ -140,7 +146,23 @@ module _ (s : List ℕ) (o : Opened) (c : Case) (facts : ℕ → Bool) (h : Hold
       ∙ filter-same (isMember (c .site .members) k) (λ x. bit (o .members) (64 * k + x)) (below (o .n)) (λ x m. sym (h .members-are .says k x (omega (arith, below-lt (o .n) x m, h .few-elements))))
 
   pub is-question : IsQuestion s (o .rule .from) (o .rule .to) (o .sig) (c .question)
-  is-question = record { rels = h .rels; types = h .types; chosen = h .chosen; rule = h .formula }
+  is-question = record { rels = h .rels; types = h .types; chosen = h .chosen; every = h .every; rule = h .formula }
+
+  -- the relation of an `every` line is the last
+  every-last : EveryLast (problemOf c)
+  unfolding everyNumber problemOf problemWith
+  every-last = record {
+    sized = G .sized;
+    last = λ t. omega (arith, count-relations c accepted-case, one (c .question .every) t);
+    line = λ e q. let f = G .every-is e q in (f .1, f .2);
+    alone = G .every-one;
+  }
+    where
+      G : Good (problemOf c)
+      G = good c accepted-case
+
+      one : (x : Option Relation) → T (isSome x) → length (listed x) ≡ 1
+      one x t = some-listed x t
 
   module _ (g : Relations) (t : Nodes) (m : Numbered (o .sig) g) (table : TableOf s (o .rule .from) (o .rule .to) (o .sig) t) where
     pub inputs : Inputs (problemOf c) (o .n) (o .members) (o .sig .types) g t
@@ -159,25 +181,30 @@ module _ (s : List ℕ) (o : Opened) (c : Case) (facts : ℕ → Bool) (h : Hold
       seconds = λ r l. m .seconds s r l ∙ ap (λ (ks : List Relation). getD ks r noRelation .seconds) (sym relations-are);
       placed = λ r l. let f = relation-sorts c accepted-case r in (omega (arith, f .firsts-few, types-count), omega (arith, f .seconds-few, types-count));
       tree = subst (λ (k : ℕ). IsTable k (treeOf (c .question)) t) (ap length relations-are ∙ sym (m .count s)) (table .is (c .question) is-question);
+      every = every-last;
     }
 
--- what the walk counted are the problem's atoms, actions and bound
-pub counts-are : (c : Case) (t : Tally) → Tallied (problemOf c) t → (t .atoms ≡ atoms (problemOf c)) × (t .actions ≡ actions (problemOf c)) × (t .bound ≡ bound (problemOf c))
-unfolding sizesOf
-counts-are c t h = (h .atoms-are ∙ ap (λ (x : TallyOf). x .sizes .atomCount) (tally-is c), h .actions-are ∙ ap (λ (x : TallyOf). x .sizes .actionCount) (tally-is c), h .bound-is ∙ ap (λ (x : TallyOf). x .sizes .stepBound) (tally-is c))
+-- ---- by the walk's counts
+module _ (L : CaseLimits) (l : Limits) (c : Case) (t : Tally) (i : L .atoms ≡ l .atoms) (j : L .actions ≡ l .actions) (k : L .steps ≡ l .steps) (h : Tallied (problemOf c) t)
+    (n : ℕ) (r : Sized) (told : r ≡ record { refusal = n; atoms = t .atoms; actions = t .actions; bound = t .bound }) (w : List ℕ) where
+  pub grounds-over : n ≡ refusalIn t l → (n ≡ 0 → ⊥) → GroundsTo (ground L c) r w
+  unfolding GroundsTo
+  grounds-over e o =
+      let q : r .refusal ≡ n = ap (λ (x : Sized). x .refusal) told in
+      subst (λ (x : Result Problem). GroundsTo x r w) (sym (refused-by c t h L l i j k (λ z. o (e ∙ z)))) (record { over = λ z. o (sym q ∙ z); number = sym (q ∙ e); no-place = refl })
 
--- whether they are too many, by the limits' own numbers
-too-many-is : (a b : ℕ) (c : Case) (t : Tally) (e : Bool) → Tallied (problemOf c) t → e ≡ (ltb a (t .atoms) || ltb b (t .actions)) → e ≡ (ltb a (atoms (problemOf c)) || ltb b (actions (problemOf c)))
-too-many-is a b c t e h q = let (x, y, z) = counts-are c t h in q ∙ ap₂ (λ (i j : ℕ). ltb a i || ltb b j) x y
+  pub grounds-within : n ≡ 0 → refusalIn t l ≡ 0 → Fits w → Is (problemOf c) w → nodeLine w (nodesIn w) .atoms + 3 * everyIn w ≡ atoms (problemOf c) → GroundsTo (ground L c) r w
+  unfolding GroundsTo
+  grounds-within z e f is ends = subst (λ (x : Result Problem). GroundsTo x r w) (sym (grounded-by c t h L l i j k e)) (record {
+    within = ap (λ (x : Sized). x .refusal) told ∙ z;
+    atoms-are = ap (λ (x : Sized). x .atoms) told ∙ atoms-told c t h;
+    actions-are = ap (λ (x : Sized). x .actions) told ∙ actions-told c t h;
+    bound-is = ap (λ (x : Sized). x .bound) told ∙ bound-within c t h l e;
+    fits = f;
+    is = is;
+    ends = ends;
+  })
 
-pub grounds-over : (L : CaseLimits) (a b : ℕ) (c : Case) (t : Tally) (e : Bool) (r : Sized) (w : List ℕ) → L .atoms ≡ a → L .actions ≡ b → Tallied (problemOf c) t → e ≡ (ltb a (t .atoms) || ltb b (t .actions)) → e ≡ true → r .over ≡ true → GroundsTo (ground L c) r w
-unfolding ground refuseIf _>>=_ GroundsTo
-grounds-over L a b c t e r w i j h q f o = let s : (ltb a (atoms (problemOf c)) || ltb b (actions (problemOf c))) ≡ true = sym (too-many-is a b c t e h q) ∙ f in rw (i, j, s) (record { over = o; number = refl; no-place = refl })
-
-pub grounds-within : (L : CaseLimits) (a b : ℕ) (c : Case) (t : Tally) (e : Bool) (r : Sized) (w : List ℕ) → L .atoms ≡ a → L .actions ≡ b → Tallied (problemOf c) t → e ≡ (ltb a (t .atoms) || ltb b (t .actions)) → e ≡ false → Tabled (problemOf c) r w → GroundsTo (ground L c) r w
-unfolding ground refuseIf _>>=_ GroundsTo
-grounds-within L a b c t e r w i j h q f tabled = let s : (ltb a (atoms (problemOf c)) || ltb b (actions (problemOf c))) ≡ false = sym (too-many-is a b c t e h q) ∙ f in rw (i, j, s) tabled
-
--- then the layout is within the limits too
-pub laid-within : (a b : ℕ) (c : Case) (t : Tally) (e : Bool) (m : Made) → Laid a b (problemOf c) m → Tallied (problemOf c) t → e ≡ (ltb a (t .atoms) || ltb b (t .actions)) → e ≡ false → m .over ≡ false
-laid-within a b c t e m l h q f = l .over-is ∙ sym (too-many-is a b c t e h q) ∙ f
+-- ... and then they are within the limits
+pub counts-few : (l : Limits) (c : Case) (t : Tally) → Tallied (problemOf c) t → refusalIn t l ≡ 0 → (atoms (problemOf c) ≤ l .atoms) × (actions (problemOf c) ≤ l .actions)
+counts-few l c t h e = let (a, b) = counts-within t l e in (omega (arith, a, atoms-told c t h), omega (arith, b, actions-told c t h))

@@ -13,8 +13,9 @@ use Rattle.problem_layout.specs.declared.Relations.{Relations}
 pub record Declared (g : Signature) : Type 0 where
   pub rels : g .rels ≤ 8
   pub chosen : g .chosen ≤ 4
-  pub arity : (i : ℕ) → i < g .rels + g .chosen → getD (g .arity) i 0 ≤ 4
-  pub sorts : (i : ℕ) → i < g .rels + g .chosen → (getD (g .firsts) i 0 ≤ 8) × (getD (g .seconds) i 0 ≤ 8)
+  pub every : g .every ≤ 1
+  pub arity : (i : ℕ) → i < g .rels + g .chosen + g .every → getD (g .arity) i 0 ≤ 4
+  pub sorts : (i : ℕ) → i < g .rels + g .chosen + g .every → (getD (g .firsts) i 0 ≤ 8) × (getD (g .seconds) i 0 ≤ 8)
 
 abbrev pub noRelation : Relation
 noRelation = record { name = []; arity = zero; kind = static; firsts = zero; seconds = zero }
@@ -29,4 +30,4 @@ pub record Numbered (g : Signature) (r : Relations) : Type 0 where
 
 -- t is the sort of a place of relation r, whichever of the two places `sorts` are of
 unfoldable pub SortAt : List ℕ → ℕ → ℕ → Type 0
-SortAt sorts r t = (g : Signature) → r < 5 + (g .rels + g .chosen) → (g .firsts ≡ sorts → HasFirsts g r t) × (g .seconds ≡ sorts → HasSeconds g r t)
+SortAt sorts r t = (g : Signature) → r < 5 + (g .rels + g .chosen + g .every) → g .every ≤ 1 → (g .firsts ≡ sorts → HasFirsts g r t) × (g .seconds ≡ sorts → HasSeconds g r t)

@@ -1,19 +1,30 @@
 // The sizes of a problem in one pass over its node table; no layout is made and no table is filled. No limit is asked, and no count
-// passes 2^38: with at most 64 elements, 17 relations have fewer than 2^30 atoms, 64 nodes at most 2^30 each.
+// passes 2^46: with at most 64 elements, 18 relations have fewer than 2^30 atoms, 64 nodes at most 2^30 each, and the bound counts the
+// nodes' atoms for each of at most 2^8 values of an `every` relation.
 ghost use mathlib.Core.Path.{_≡_};
 ghost use mathlib.Core.List.{List};
-ghost use Prim.Native.Nat.{ℕ, _≤_, _<_};
+ghost use Prim.Native.Nat.{ℕ, _^_, _≤_, _<_};
 ghost use Rattle.definitions.specs.Problem.Atoms.{Problem};
 ghost use Rattle.rule_nodes.specs.Tables.{Fits};
 ghost use Rattle.problem_layout.specs.Laid.{RangesFit, RangesAre, RelationsFit, Inputs};
-ghost use Rattle.problem_sizes.specs.Sums.{RelationsSummed, NodesSummed, Tallied};
+ghost use Rattle.problem_sizes.specs.Sums.{RelationsSummed, NodesSummed, everySize, boundIn, Tallied, refusalIn};
 use problem_layout::Ranges;
 use problem_layout::Relations;
 
-// How many elements, nodes, atoms and actions there are, and the bound.
+// How many atoms and actions a case may have, and how large the bound may be of one with an `every` line.
+pub struct Limits {
+    pub atoms: usize,
+    pub actions: usize,
+    pub steps: usize,
+}
+
+// How many elements and nodes there are, whether there is an `every` line and how many tuples its relation has (0 where there is none),
+// how many atoms and actions, and the bound (0 where that relation has more than 8 tuples).
 pub struct Tally {
     pub elements: usize,
     pub nodes: usize,
+    pub every: bool,
+    pub tuples: usize,
     pub atoms: usize,
     pub actions: usize,
     pub bound: usize,
@@ -78,6 +89,28 @@ fn of_nodes(n: usize, ranges: Ranges, t: rule_nodes::Nodes) -> Walked
     }
 }
 
+// How many tuples the relation of an `every` line has; 0 where there is none.
+fn every_tuples(n: usize, g: Relations) -> usize
+    requires { ⌜ (0 < n) × (n ≤ 64) × RelationsFit g ⌝ }
+    ensures { λ r. ⌜ r ≡ everySize n g ⌝ }
+{
+    if problem_layout::has_last(g) {
+        return rows::power(n, g.arity[g.count - 1]);
+    }
+    0
+}
+
+// The most picks, and for each value of an `every` relation with `tuples` tuples all atoms of the nodes, a mark for each tuple and one.
+fn bound_of(picks: usize, atoms: usize, tuples: usize) -> usize
+    requires { ⌜ (picks ≤ 2 ^ 40) × (atoms ≤ 2 ^ 40) ⌝ }
+    ensures { λ r. ⌜ r ≡ boundIn picks atoms tuples ⌝ }
+{
+    if tuples < 9 {
+        return picks + 1 + rows::power(2, tuples) * (atoms + tuples + 1);
+    }
+    0
+}
+
 // The tally of n elements, their ranges, the relations and the nodes of a tree.
 pub fn of_tables(n: usize, ranges: Ranges, g: Relations, t: rule_nodes::Nodes) -> Tally
     requires { ⌜ (0 < n) × (n ≤ 64) × RelationsFit g × Fits t × RangesFit n ranges ⌝ }
@@ -85,16 +118,42 @@ pub fn of_tables(n: usize, ranges: Ranges, g: Relations, t: rule_nodes::Nodes) -
 {
     let b = of_relations(n, ranges, g);
     let w = of_nodes(n, ranges, t);
+    let tuples = every_tuples(n, g);
     let nodes = w.nodes;
-    let atoms = b.atoms + w.atoms;
-    let actions = b.sets + 1 + (w.actions + 1);
-    let bound = b.picks + w.atoms + 2;
+    let every = 0 < tuples;
+    let atoms = b.atoms + w.atoms + 3 * tuples;
+    let actions = b.sets + 1 + (w.actions + 1) + 2 * tuples;
+    let bound = bound_of(b.picks, w.atoms, tuples);
     let elements = n;
     Tally {
         elements,
         nodes,
+        every,
+        tuples,
         atoms,
         actions,
         bound,
     }
+}
+
+// The refusal by size: 11 where there are more atoms or actions than the limits allow; then 23 where an `every` relation has more than 8
+// tuples, or the bound is above the limit; 0 where there is none.
+pub fn refusal(t: Tally, limits: Limits) -> u32
+    ensures { λ r. ⌜ r ≡ refusalIn t limits ⌝ }
+{
+    if limits.atoms < t.atoms {
+        return 11;
+    }
+    if limits.actions < t.actions {
+        return 11;
+    }
+    if t.every {
+        if 8 < t.tuples {
+            return 23;
+        }
+        if limits.steps < t.bound {
+            return 23;
+        }
+    }
+    0
 }

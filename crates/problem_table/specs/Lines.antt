@@ -1,9 +1,11 @@
 -- The lines of a table of numbers, and what keeps indexes and sums in range.
 use mathlib.Core.Path.{_≡_}
+use mathlib.Core.Bool.{Bool, _&&_, _||_}
 use mathlib.Core.List.{List, [], _∷_, map}
-use Prim.Native.Nat.{ℕ, _+_, _*_, _^_, _≤_, _<_}
+use Prim.Native.Nat.{ℕ, _+_, _-_, _*_, _^_, _≤_, _<_}
+use lib.Dec.{T, eqb, ltb}
 use lib.ListN.{length, getD}
-use Rattle.definitions.specs.Lists.{below}
+use Rattle.definitions.specs.Lists.{if_then_else_, below}
 use Rattle.definitions.specs.Problem.Actions.{Values}
 use Rattle.rule_nodes.specs.Tables.{Levels}
 use Rattle.rows.specs.Values.{valueIn, weighed}
@@ -11,28 +13,28 @@ use Rattle.problem_table.specs.declared.RelationLine.{RelationLine}
 use Rattle.problem_table.specs.declared.NodeLine.{NodeLine}
 use Rattle.problem_table.specs.declared.PartLine.{PartLine}
 
--- where lines stand: after three numbers 18 lines of relations, 65 of nodes, 64 of parts and the root's, then the ranges of 9 sorts
+-- where lines stand: after three numbers 19 lines of relations, 65 of nodes, 64 of parts and the root's, then the ranges of 9 sorts
 abbrev pub relationPlace : ℕ → ℕ
 relationPlace r = 3 + 9 * r
 
 abbrev pub nodePlace : ℕ → ℕ
-nodePlace v = 165 + 13 * v
+nodePlace v = 174 + 13 * v
 
 abbrev pub partPlace : ℕ → ℕ
-partPlace i = 1010 + 5 * i
+partPlace i = 1019 + 5 * i
 
 abbrev pub rootPlace : ℕ
-rootPlace = 1330
+rootPlace = 1339
 
 -- the first range is that of all elements, sort 0
 abbrev pub rangesPlace : ℕ
-rangesPlace = 1335
+rangesPlace = 1344
 
 abbrev pub rangePlace : ℕ → ℕ
 rangePlace s = rangesPlace + 64 * s
 
 abbrev pub tableLength : ℕ
-tableLength = 1911
+tableLength = 1920
 
 -- n, how many relations, how many nodes
 abbrev pub sizeIn : List ℕ → ℕ
@@ -57,6 +59,16 @@ relationLine w r =
       seconds = getD w (relationPlace r + 7) 0;
       «second_count» = getD w (relationPlace r + 8) 0;
     }
+
+-- the line of the last relation; whether that is the one of an `every` line, and how many tuples this has
+abbrev pub lastLine : List ℕ → RelationLine
+lastLine w = relationLine w (relationsIn w - 1)
+
+unfoldable pub hasEvery : List ℕ → Bool
+hasEvery w = ltb 0 (relationsIn w) && eqb (lastLine w .kind) 6
+
+unfoldable pub everyIn : List ℕ → ℕ
+everyIn w = if hasEvery w then lastLine w .nots - lastLine w .tuples else 0
 
 unfoldable pub nodeLine : List ℕ → ℕ → NodeLine
 nodeLine w v =
@@ -111,19 +123,23 @@ pub record SpanFits (w : List ℕ) (a k : ℕ) : Type 0 where
 abbrev pub RangeFits : List ℕ → NodeLine → Type 0
 RangeFits w v = SpanFits w (v .range) (v .count)
 
+-- the kinds whose places have no ranges: all but the function kinds
+abbrev pub isPlaceless : ℕ → Bool
+isPlaceless kind = ltb kind 2 || ltb 5 kind
+
 -- those of the two places of a function kind; other kinds have none
 pub record PlacesFit (w : List ℕ) (k : RelationLine) : Type 0 where
   pub firsts : SpanFits w (k .firsts) (k .«first_count»)
   pub seconds : SpanFits w (k .seconds) (k .«second_count»)
-  pub untyped : k .kind < 2 → (k .firsts ≡ 0) × (k .«first_count» ≡ 0) × (k .seconds ≡ 0) × (k .«second_count» ≡ 0)
+  pub untyped : T (isPlaceless (k .kind)) → (k .firsts ≡ 0) × (k .«first_count» ≡ 0) × (k .seconds ≡ 0) × (k .«second_count» ≡ 0)
 
 pub record Fits (w : List ℕ) : Type 0 where
   pub whole : length w ≡ tableLength
   pub some : 0 < sizeIn w
   pub size : sizeIn w ≤ 64
-  pub relations : relationsIn w ≤ 17
+  pub relations : relationsIn w ≤ 18
   pub nodes : nodesIn w ≤ 64
   pub entry : (i : ℕ) → getD w i 0 ≤ 2 ^ 32
   pub node : (v : ℕ) → v < 64 → NodeFits (nodeLine w v)
   pub range : (v : ℕ) → v < 64 → RangeFits w (nodeLine w v)
-  pub places : (r : ℕ) → r < 17 → PlacesFit w (relationLine w r)
+  pub places : (r : ℕ) → r < 18 → PlacesFit w (relationLine w r)

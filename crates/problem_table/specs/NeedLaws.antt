@@ -17,8 +17,8 @@ use Rattle.laws.specs.Members.{before-least, before-below}
 use Rattle.laws.specs.SetRows.{row-below}
 use Rattle.rows.specs.Values.{valueIn, Most, Within}
 use Rattle.rows.specs.Laws.{value-zeros}
-use Rattle.problem_table.specs.Lines.{relationPlace, nodePlace, partPlace, rangesPlace, sizeIn, relationLine, nodeLine, partLine, partNumber, partAt, membersIn, rangeIn, tableLength, NodeFits, RangeFits, PlacesFit, Fits}
-use Rattle.problem_table.specs.Numbers.{isWhole, setRow, pairRow, freeNumbers, setNeeds, rowValues, underAt, andNeeds, orNeeds, existsNeeds, ownBefore, forallNeeds, goalNeeds, needNumbers, ActFits}
+use Rattle.problem_table.specs.Lines.{relationPlace, nodePlace, partPlace, rangesPlace, sizeIn, relationsIn, relationLine, lastLine, hasEvery, everyIn, nodeLine, partLine, partNumber, partAt, membersIn, rangeIn, tableLength, NodeFits, RangeFits, PlacesFit, Fits}
+use Rattle.problem_table.specs.Numbers.{isWhole, setRow, pairRow, freeNumbers, setNeeds, rowValues, underAt, andNeeds, orNeeds, existsNeeds, ownBefore, forallNeeds, goalNeeds, finishIn, nextMark, needNumbers, ActFits}
 use Rattle.problem_table.specs.declared.RelationLine.{RelationLine}
 use Rattle.problem_table.specs.declared.NodeLine.{NodeLine}
 use Rattle.problem_table.specs.declared.PartLine.{PartLine}
@@ -26,7 +26,7 @@ use Rattle.problem_table.specs.declared.TupleAct.{TupleAct}
 use Rattle.problem_table.specs.declared.RowAct.{RowAct}
 use Rattle.problem_table.specs.declared.ChoiceAct.{ChoiceAct}
 use Rattle.problem_table.specs.declared.Act.{Act}
-use Rattle.problem_table.specs.declared.Act.the-variants.{Set, Begin, And, Or, Exists, Forall, Goal, Nothing}
+use Rattle.problem_table.specs.declared.Act.the-variants.{Set, Begin, And, Or, Exists, Forall, Goal, RoundEnd, MarkIn, MarkOut, Nothing}
 
 module _ {A : Type 0} (s : A → Bool) where
   pub all-no : (x : A) (xs : List A) → s x ≡ false → false ≡ all s (x ∷ xs)
@@ -167,11 +167,14 @@ module _ (k : RelationLine) where
   pub whole-plain : k .kind < 2 → true ≡ isWhole k
   whole-plain h = rw (lt-ltb (k .kind) 2 h) refl
 
-  pub whole-pair : (b : Bool) → 2 ≤ k .kind → k .firsts ≡ rangesPlace → b ≡ eqb (k .seconds) rangesPlace → b ≡ isWhole k
-  whole-pair b h e q = rw (le-ltb (k .kind) 2 h, e) q
+  pub whole-late : 5 < k .kind → true ≡ isWhole k
+  whole-late h = rw (le-ltb (k .kind) 2 (omega arith), lt-ltb 5 (k .kind) h) refl
 
-  pub whole-not : 2 ≤ k .kind → (k .firsts ≡ rangesPlace → ⊥) → false ≡ isWhole k
-  whole-not h e = rw (le-ltb (k .kind) 2 h, ne-eqb (k .firsts) rangesPlace e) refl
+  pub whole-pair : (b : Bool) → 2 ≤ k .kind → k .kind ≤ 5 → k .firsts ≡ rangesPlace → b ≡ eqb (k .seconds) rangesPlace → b ≡ isWhole k
+  whole-pair b h u e q = rw (le-ltb (k .kind) 2 h, le-ltb 5 (k .kind) u, e) q
+
+  pub whole-not : 2 ≤ k .kind → k .kind ≤ 5 → (k .firsts ≡ rangesPlace → ⊥) → false ≡ isWhole k
+  whole-not h u e = rw (le-ltb (k .kind) 2 h, le-ltb 5 (k .kind) u, ne-eqb (k .firsts) rangesPlace e) refl
 
 module _ (t : List ℕ) (k : RelationLine) (off : ℕ) where
   pub row-whole : isWhole k ≡ true → off ≡ setRow t k off
@@ -208,6 +211,44 @@ module _ (s : ℕ → Bool) (n : ℕ) (k : RelationLine) (row : ℕ) where
   pub set-free : (b : Bool) → s 0 ≡ true → s (k .nots + row) ≡ true → b ≡ all s (freeNumbers n (k .kind) (k .free) row) → b ≡ all s (setNeeds n k row)
   unfolding setNeeds
   set-free b e q f = all-yes s 0 _ b e (all-yes s (k .nots + row) _ b q f)
+
+-- ---- the last relation
+module _ (t : List ℕ) where
+  pub last-none : (k : RelationLine) → relationsIn t ≡ 0 → k ≡ relationLine t 0 → k ≡ lastLine t
+  last-none k e q = q ∙ rw e refl
+
+  pub every-none : relationsIn t ≡ 0 → false ≡ hasEvery t
+  unfolding hasEvery
+  every-none e = rw e refl
+
+  pub every-kind : 0 < relationsIn t → (k : RelationLine) → k ≡ lastLine t → eqb (k .kind) 6 ≡ hasEvery t
+  unfolding hasEvery
+  every-kind h k e = rw (lt-ltb 0 (relationsIn t) h, e) refl
+
+  pub every-count : hasEvery t ≡ true → (k : RelationLine) (c : ℕ) → k ≡ lastLine t → c ≡ k .nots - k .tuples → c ≡ everyIn t
+  unfolding everyIn
+  every-count h k c e q = rw h (q ∙ ap (λ (x : RelationLine). x .nots - x .tuples) e)
+
+  pub every-zero : hasEvery t ≡ false → 0 ≡ everyIn t
+  unfolding everyIn
+  every-zero h = rw h refl
+
+  pub finish-round : hasEvery t ≡ true → RoundEnd ≡ finishIn t
+  unfolding finishIn
+  finish-round h = rw h refl
+
+  pub finish-goal : hasEvery t ≡ false → Goal ≡ finishIn t
+  unfolding finishIn
+  finish-goal h = rw h refl
+
+-- ---- a mark
+pub next-inside : (k : RelationLine) (row : ℕ) → k .tuples + row + 1 < k .nots → k .free + row + 1 ≡ nextMark k row
+unfolding nextMark
+next-inside k row h = rw (lt-ltb (k .tuples + row + 1) (k .nots) h) refl
+
+pub next-past : (k : RelationLine) (row : ℕ) → k .nots ≤ k .tuples + row + 1 → 2 ≡ nextMark k row
+unfolding nextMark
+next-past k row h = rw (le-ltb (k .tuples + row + 1) (k .nots) h) refl
 
 -- ---- goal
 pub goal-all : (s : ℕ → Bool) (t : List ℕ) (b : Bool) → b ≡ s (partAt t (valueIn (0 ∷ 0 ∷ 0 ∷ 0 ∷ [])) 64) → b ≡ all s (goalNeeds t)
@@ -302,6 +343,18 @@ module _ (s : ℕ → Bool) (t : List ℕ) (a : Act) (b : Bool) where
   unfolding needNumbers
   need-goal e q = rw e q
 
+  pub need-round : a ≡ RoundEnd → b ≡ all s (goalNeeds t) → b ≡ all s (needNumbers t a)
+  unfolding needNumbers
+  need-round e q = rw e q
+
+  pub need-in : (x : TupleAct) (k : RelationLine) → a ≡ MarkIn x → k ≡ relationLine t (x .relation) → b ≡ all s ((k .free + x .row) ∷ (k .nots + x .row) ∷ []) → b ≡ all s (needNumbers t a)
+  unfolding needNumbers
+  need-in x k e l q = rw (e, ← l) q
+
+  pub need-out : (x : TupleAct) (k : RelationLine) → a ≡ MarkOut x → k ≡ relationLine t (x .relation) → b ≡ all s ((k .free + x .row) ∷ (k .tuples + x .row) ∷ []) → b ≡ all s (needNumbers t a)
+  unfolding needNumbers
+  need-out x k e l q = rw (e, ← l) q
+
 pub need-nothing : (s : ℕ → Bool) (t : List ℕ) (a : Act) → a ≡ Nothing → true ≡ all s (needNumbers t a)
 unfolding needNumbers
 need-nothing s t a e = rw e (all-nil s)
@@ -325,6 +378,10 @@ module _ (t : List ℕ) (fits : Fits t) where
   pub relation-small : (r : ℕ) (k : RelationLine) → k ≡ relationLine t r → (k .tuples ≤ 2 ^ 32) × (k .nots ≤ 2 ^ 32) × (k .free ≤ 2 ^ 32)
   unfolding relationLine
   relation-small r k e = rw e (fits .entry (relationPlace r + 1), fits .entry (relationPlace r + 2), fits .entry (relationPlace r + 3))
+
+  pub atoms-small : (v : ℕ) (x : NodeLine) → x ≡ nodeLine t v → x .atoms ≤ 2 ^ 32
+  unfolding nodeLine
+  atoms-small v x e = rw e (fits .entry (nodePlace v + 1))
 
   pub node-small : (v : ℕ) (x : NodeLine) → x ≡ nodeLine t v → v < 64 → NodeFits x × (x .atoms ≤ 2 ^ 32) × RangeFits t x
   unfolding nodeLine

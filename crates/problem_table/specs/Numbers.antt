@@ -1,17 +1,17 @@
 -- The numbers of the atoms that an action needs, adds and removes, by the table.
 use mathlib.Core.Bool.{Bool, not, _&&_, _||_}
 use mathlib.Core.List.{List, [], _∷_, map}
-use Prim.Native.Nat.{ℕ, _+_, _*_, _/_, _%_, _^_, _≤_, _<_}
+use Prim.Native.Nat.{ℕ, _+_, _-_, _*_, _/_, _%_, _^_, _≤_, _<_}
 use lib.Dec.{ltb, eqb}
 use lib.ListN.{take, getD}
 use Rattle.definitions.specs.Lists.{if_then_else_, any, option, from, before}
 use Rattle.definitions.specs.Problem.Atoms.{placesOf}
 use Rattle.definitions.specs.Problem.Actions.{Values, valuesIn, withValue}
-use Rattle.problem_table.specs.Lines.{sizeIn, rangesPlace, relationLine, nodeLine, partAt, rangeIn}
+use Rattle.problem_table.specs.Lines.{sizeIn, rangesPlace, relationLine, lastLine, hasEvery, nodeLine, nodesIn, isPlaceless, partAt, rangeIn}
 use Rattle.problem_table.specs.declared.RelationLine.{RelationLine}
 use Rattle.problem_table.specs.declared.NodeLine.{NodeLine}
 use Rattle.problem_table.specs.declared.Act.{Act}
-use Rattle.problem_table.specs.declared.Act.the-variants.{Set, Begin, And, Or, Exists, Forall, Goal, Nothing}
+use Rattle.problem_table.specs.declared.Act.the-variants.{Set, Begin, And, Or, Exists, Forall, Goal, RoundEnd, MarkIn, MarkOut, Nothing}
 
 -- the free atoms of a tuple: of its first place for kinds 2 to 5, of its second for 4 and 5
 unfoldable pub freeNumbers : (n kind free row : ℕ) → List ℕ
@@ -21,7 +21,7 @@ freeNumbers n kind free row =
 -- the row that the set action of an offset sets: the offset itself where every tuple may be set, else a member of the first place's range
 -- and one of the second's, which runs faster
 abbrev pub isWhole : RelationLine → Bool
-isWhole k = ltb (k .kind) 2 || (eqb (k .firsts) rangesPlace && eqb (k .seconds) rangesPlace)
+isWhole k = isPlaceless (k .kind) || (eqb (k .firsts) rangesPlace && eqb (k .seconds) rangesPlace)
 
 unfoldable pub pairRow : List ℕ → RelationLine → ℕ → ℕ
 pairRow w k off = getD w (k .firsts + off / k .«second_count») 0 * sizeIn w + getD w (k .seconds + off % k .«second_count») 0
@@ -62,6 +62,17 @@ forallNeeds n w v row z = 1 ∷ underAt n w v row z ∷ ownBefore n w v row z
 unfoldable pub goalNeeds : List ℕ → List ℕ
 goalNeeds w = partAt w (λ _. 0) 64 ∷ []
 
+-- what ends a round, and what that removes: the proof phase and the atoms of all nodes
+unfoldable pub finishIn : List ℕ → Act
+finishIn w = if hasEvery w then RoundEnd else Goal
+
+unfoldable pub roundRemoves : List ℕ → List ℕ
+roundRemoves w = 1 ∷ from (nodeLine w 0 .atoms) (nodeLine w (nodesIn w) .atoms - nodeLine w 0 .atoms)
+
+-- the mark after that of a row; past the last one the goal
+unfoldable pub nextMark : RelationLine → ℕ → ℕ
+nextMark k row = if ltb (k .tuples + row + 1) (k .nots) then k .free + row + 1 else 2
+
 -- ---- of an action
 unfoldable pub needNumbers : List ℕ → Act → List ℕ
 needNumbers w (Set a) = setNeeds (sizeIn w) (relationLine w (a .relation)) (a .row)
@@ -71,6 +82,9 @@ needNumbers w (Or a) = orNeeds (sizeIn w) w (nodeLine w (a .node)) (a .row) (a .
 needNumbers w (Exists a) = existsNeeds (sizeIn w) w (nodeLine w (a .node)) (a .row) (a .choice)
 needNumbers w (Forall a) = forallNeeds (sizeIn w) w (nodeLine w (a .node)) (a .row) (a .choice)
 needNumbers w Goal = goalNeeds w
+needNumbers w RoundEnd = goalNeeds w
+needNumbers w (MarkIn a) = (relationLine w (a .relation) .free + a .row) ∷ (relationLine w (a .relation) .nots + a .row) ∷ []
+needNumbers w (MarkOut a) = (relationLine w (a .relation) .free + a .row) ∷ (relationLine w (a .relation) .tuples + a .row) ∷ []
 needNumbers w Nothing = []
 
 unfoldable pub addNumbers : List ℕ → Act → List ℕ
@@ -81,6 +95,9 @@ addNumbers w (Or a) = (nodeLine w (a .node) .atoms + a .row) ∷ []
 addNumbers w (Exists a) = (nodeLine w (a .node) .atoms + a .row) ∷ []
 addNumbers w (Forall a) = (nodeLine w (a .node) .atoms + (a .row * sizeIn w + a .choice)) ∷ []
 addNumbers w Goal = 2 ∷ []
+addNumbers w RoundEnd = lastLine w .free ∷ []
+addNumbers w (MarkIn a) = (relationLine w (a .relation) .tuples + a .row) ∷ 1 ∷ []
+addNumbers w (MarkOut a) = (relationLine w (a .relation) .nots + a .row) ∷ nextMark (relationLine w (a .relation)) (a .row) ∷ []
 addNumbers w Nothing = []
 
 unfoldable pub removeNumbers : List ℕ → Act → List ℕ
@@ -91,17 +108,23 @@ removeNumbers w (Or a) = []
 removeNumbers w (Exists a) = []
 removeNumbers w (Forall a) = []
 removeNumbers w Goal = []
+removeNumbers w RoundEnd = roundRemoves w
+removeNumbers w (MarkIn a) = (relationLine w (a .relation) .free + a .row) ∷ (relationLine w (a .relation) .nots + a .row) ∷ []
+removeNumbers w (MarkOut a) = (relationLine w (a .relation) .free + a .row) ∷ (relationLine w (a .relation) .tuples + a .row) ∷ []
 removeNumbers w Nothing = []
 
 -- what keeps an action in the table
 abbrev pub ActFits : List ℕ → Act → Type 0
-ActFits w (Set a) = (a .relation < 17) × (a .row ≤ 2 ^ 32)
+ActFits w (Set a) = (a .relation < 18) × (a .row ≤ 2 ^ 32)
 ActFits w Begin = Unit {0}
 ActFits w (And a) = (a .node < 64) × (a .row ≤ 2 ^ 32)
 ActFits w (Or a) = (a .node < 64) × (a .row ≤ 2 ^ 32) × (a .choice < nodeLine w (a .node) .many)
 ActFits w (Exists a) = (a .node < 64) × (a .row ≤ 2 ^ 32) × (a .choice < sizeIn w)
 ActFits w (Forall a) = (a .node < 64) × (a .row ≤ 2 ^ 32) × (a .choice < sizeIn w)
 ActFits w Goal = Unit {0}
+ActFits w RoundEnd = Unit {0}
+ActFits w (MarkIn a) = (a .relation < 18) × (a .row ≤ 2 ^ 32)
+ActFits w (MarkOut a) = (a .relation < 18) × (a .row ≤ 2 ^ 32)
 ActFits w Nothing = Unit {0}
 
 -- ---- a state without what goes and with what comes

@@ -3,15 +3,15 @@
 ghost use mathlib.Core.Path.{_≡_};
 ghost use mathlib.Core.Bool.{false};
 ghost use mathlib.Core.List.{[], _∷_, map};
-ghost use Prim.Native.Nat.{suc, _+_, _*_, _/_, _^_, _<_, _≤_};
+ghost use Prim.Native.Nat.{suc, _+_, _-_, _*_, _/_, _^_, _<_, _≤_, min};
 ghost use lib.Dec.{ltb};
 ghost use lib.ListN.{length, take as «take-of»};
 ghost use Rattle.definitions.specs.Lists.{if_then_else_, all, option, from, below, before};
 ghost use Rattle.definitions.specs.Reply.Outcome.{written};
 ghost use Rattle.bits.specs.Table.{bit, Words};
 ghost use Rattle.rows.specs.Values.{valueIn, Most};
-ghost use Rattle.problem_table.specs.Lines.{tableLength, rangesPlace, sizeIn, membersIn, relationLine, nodeLine, partLine, partNumber, partAt, NodeFits, RangeFits, PlacesFit, Fits};
-ghost use Rattle.problem_table.specs.Numbers.{isWhole, setRow, freeNumbers, setNeeds, andNeeds, orNeeds, existsNeeds, forallNeeds, goalNeeds, underAt, setRemoves, ActFits, needNumbers, addNumbers, removeNumbers, changed, Held};
+ghost use Rattle.problem_table.specs.Lines.{tableLength, rangesPlace, sizeIn, membersIn, relationLine, lastLine, hasEvery, everyIn, nodeLine, partLine, partNumber, partAt, NodeFits, RangeFits, PlacesFit, Fits};
+ghost use Rattle.problem_table.specs.Numbers.{isWhole, setRow, freeNumbers, setNeeds, andNeeds, orNeeds, existsNeeds, forallNeeds, goalNeeds, underAt, setRemoves, roundRemoves, nextMark, finishIn, ActFits, needNumbers, addNumbers, removeNumbers, changed, Held};
 
 // The numbers of a table: n, how many relations and how many nodes there are; a line for each relation and one past the last; a
 // line for each node and one past the last; a line for each part, and the root's last; the range of each sort, that of all elements
@@ -20,24 +20,24 @@ pub const RELATION_AT: usize = 3;
 
 pub const RELATION_LINE: usize = 9;
 
-pub const NODE_AT: usize = 165;
+pub const NODE_AT: usize = 174;
 
 pub const NODE_LINE: usize = 13;
 
-pub const PART_AT: usize = 1010;
+pub const PART_AT: usize = 1019;
 
 pub const PART_LINE: usize = 5;
 
-pub const ROOT_AT: usize = 1330;
+pub const ROOT_AT: usize = 1339;
 
-pub const RANGE_AT: usize = 1335;
+pub const RANGE_AT: usize = 1344;
 
 pub const RANGE_LINE: usize = 64;
 
-pub const TABLE: usize = 1911;
+pub const TABLE: usize = 1920;
 
-// A relation: where its set actions, its tuples, its not-tuples and its free atoms start; its kind (0 static, 1 plain, 2 Fun,
-// 3 PFun, 4 Inj, 5 PInj); of a function kind where the ranges of its first and of its second place start in the table, and how many
+// A relation: where its set actions, its tuples, its not-tuples and its free atoms (of an `every` line's its marks) start; its kind
+// (0 static, 1 plain, 2 Fun, 3 PFun, 4 Inj, 5 PInj, 6 that of an `every` line); of a function kind where the ranges of its first and of its second place start in the table, and how many
 // elements these have (0 for other kinds).
 pub struct RelationLine {
     pub sets: usize,
@@ -99,12 +99,15 @@ pub enum Act {
     Exists(ChoiceAct),
     Forall(ChoiceAct),
     Goal,
+    RoundEnd,
+    MarkIn(TupleAct),
+    MarkOut(TupleAct),
     Nothing,
 }
 
 // The line of a relation.
 pub fn relation_line(table: &[usize], r: usize) -> RelationLine
-    requires { ⌜ (length (now table) ≡ tableLength) × (r < 18) ⌝ }
+    requires { ⌜ (length (now table) ≡ tableLength) × (r < 19) ⌝ }
     ensures { λ x. ⌜ x ≡ relationLine (now (table .entry)) r ⌝ }
 {
     let at = RELATION_AT + RELATION_LINE * r;
@@ -128,10 +131,61 @@ pub fn is_whole(line: RelationLine) -> bool
     if line.kind < 2 {
         return true;
     }
+    if 5 < line.kind {
+        return true;
+    }
     if line.firsts == RANGE_AT {
         return line.seconds == RANGE_AT;
     }
     false
+}
+
+// The line of the last relation.
+pub fn last_line(table: &[usize]) -> RelationLine
+    requires { ⌜ Fits (now table) ⌝ }
+    ensures { λ x. ⌜ x ≡ lastLine (now (table .entry)) ⌝ }
+{
+    let count = table[1];
+    if count == 0 {
+        return relation_line(table, 0);
+    }
+    relation_line(table, count - 1)
+}
+
+// Whether the last relation is that of an `every` line.
+pub fn has_every(table: &[usize]) -> bool
+    requires { ⌜ Fits (now table) ⌝ }
+    ensures { λ r. ⌜ r ≡ hasEvery (now (table .entry)) ⌝ }
+{
+    if table[1] == 0 {
+        return false;
+    }
+    last_line(table).kind == 6
+}
+
+// How many tuples the relation of the `every` line has; 0 where there is no such line.
+pub fn every_tuples(table: &[usize]) -> usize
+    requires { ⌜ Fits (now table) ⌝ }
+    ensures { λ r. ⌜ r ≡ everyIn (now (table .entry)) ⌝ }
+{
+    if has_every(table) {
+        let line = last_line(table);
+        if line.tuples < line.nots {
+            return line.nots - line.tuples;
+        }
+    }
+    0
+}
+
+// The action that ends a round: round-end where there is an `every` line, prove-goal where there is none.
+pub fn finish_act(table: &[usize]) -> Act
+    requires { ⌜ Fits (now table) ⌝ }
+    ensures { λ r. ⌜ r ≡ finishIn (now (table .entry)) ⌝ }
+{
+    if has_every(table) {
+        return Act::RoundEnd;
+    }
+    Act::Goal
 }
 
 // The row of the tuple that the set action of offset `off` sets.
@@ -381,6 +435,16 @@ fn may_goal(state: &[u64], table: &[usize]) -> bool
     part_holds(state, table, 64, env)
 }
 
+// Whether a mark and the atom that it is to change hold.
+fn may_mark(state: &[u64], mark: usize, old: usize) -> bool
+    ensures { λ r. ⌜ r ≡ all (bit (now (state .entry))) (mark ∷ old ∷ []) ⌝ }
+{
+    if test(state, mark) {
+        return test(state, old);
+    }
+    false
+}
+
 // Whether all that an action needs holds.
 pub fn may_take(state: &[u64], table: &[usize], a: Act) -> bool
     requires { ⌜ Fits (now table) ⌝ }
@@ -414,6 +478,17 @@ pub fn may_take(state: &[u64], table: &[usize], a: Act) -> bool
         }
         Act::Goal => {
             return may_goal(state, table);
+        }
+        Act::RoundEnd => {
+            return may_goal(state, table);
+        }
+        Act::MarkIn(x) => {
+            let k = relation_line(table, x.relation);
+            return may_mark(state, k.free + x.row, k.nots + x.row);
+        }
+        Act::MarkOut(x) => {
+            let k = relation_line(table, x.relation);
+            return may_mark(state, k.free + x.row, k.tuples + x.row);
         }
         Act::Nothing => {
             return true;
@@ -464,6 +539,65 @@ fn take_set(state: &mut [u64], n: usize, k: RelationLine, row: usize)
     raise(state, k.tuples + row);
 }
 
+// How many of the first `to` bits there are in so many words.
+fn inside(words: &[u64], to: usize) -> usize
+    ensures { λ r. ⌜ r ≡ min to (64 * length (now (words .entry))) ⌝ }
+{
+    if to / 64 < words.len() {
+        return to;
+    }
+    64 * words.len()
+}
+
+// The bits from `start` on before `to` are cleared, a word at a time; past the end none is set.
+fn clear_run(words: &mut [u64], start: usize, to: usize)
+    requires { ⌜ (start ≤ 2 ^ 32) × (to ≤ 2 ^ 32) ⌝ }
+    ensures { λ r. ⌜ bit (now (words .exit)) ≡ changed (bit (now (words .entry))) (from start (to - start)) [] ⌝ }
+{
+    let end = inside(words, to);
+    let mut k = start;
+    while k < end {
+        let c = bits::least(64, end - k);
+        bits::store(words, k, c, 0);
+        k += c;
+    }
+}
+
+// A round ends: the proof phase and the atoms of all nodes go, the first mark comes.
+fn end_round(state: &mut [u64], table: &[usize])
+    requires { ⌜ Fits (now table) ⌝ }
+    ensures { λ r. ⌜ (lastLine (now (table .entry)) .free / 64 < length (now (state .entry))
+        → bit (now (state .exit)) ≡ changed (bit (now (state .entry))) (roundRemoves (now (table .entry))) (lastLine (now (table .entry)) .free ∷ [])) ⌝ }
+{
+    let start = node_line(table, 0).atoms;
+    let to = node_line(table, table[2]).atoms;
+    let mark = last_line(table).free;
+    clear(state, 1);
+    clear_run(state, start, to);
+    raise(state, mark);
+}
+
+// A mark goes and one of a tuple's two atoms, and the other one comes and what is next.
+fn take_mark(state: &mut [u64], mark: usize, old: usize, new: usize, next: usize)
+    ensures { λ r. ⌜ (Held (new ∷ next ∷ []) (length (now (state .entry))) → bit (now (state .exit)) ≡ changed (bit (now (state .entry))) (mark ∷ old ∷ []) (new ∷ next ∷ [])) ⌝ }
+{
+    clear(state, mark);
+    clear(state, old);
+    raise(state, new);
+    raise(state, next);
+}
+
+// The mark after that of a row, and the goal past the last one.
+fn next_mark(k: RelationLine, row: usize) -> usize
+    requires { ⌜ (k .tuples ≤ 2 ^ 32) × (k .free ≤ 2 ^ 32) × (row ≤ 2 ^ 32) ⌝ }
+    ensures { λ r. ⌜ r ≡ nextMark k row ⌝ }
+{
+    if k.tuples + row + 1 < k.nots {
+        return k.free + row + 1;
+    }
+    2
+}
+
 // An action is taken: what it removes goes, what it adds comes.
 pub fn take(state: &mut [u64], table: &[usize], a: Act)
     requires { ⌜ Fits (now table) ⌝ }
@@ -504,6 +638,26 @@ pub fn take(state: &mut [u64], table: &[usize], a: Act)
         }
         Act::Goal => {
             raise(state, 2);
+            return;
+        }
+        Act::RoundEnd => {
+            end_round(state, table);
+            return;
+        }
+        Act::MarkIn(x) => {
+            let k = relation_line(table, x.relation);
+            take_mark(state, k.free + x.row, k.nots + x.row, k.tuples + x.row, 1);
+            return;
+        }
+        Act::MarkOut(x) => {
+            let k = relation_line(table, x.relation);
+            take_mark(
+                state,
+                k.free + x.row,
+                k.tuples + x.row,
+                k.nots + x.row,
+                next_mark(k, x.row),
+            );
             return;
         }
         Act::Nothing => {

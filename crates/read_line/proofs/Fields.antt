@@ -22,7 +22,7 @@ use Rattle.laws.specs.Lists.{none-some, some-eq}
 use Rattle.laws.specs.Tuples.{same-eq}
 use Rattle.read_text.specs.Spans.{indexOf, numOf, kindOf}
 use Rattle.read_line.specs.Lines.{linesAt}
-use Rattle.read_line.specs.Entries.{OneField, TwoFields, Named, Fielded, codeOf, codesIn, codesOf, codes, elementBy, elementsBy, listOf, consed, upTo, kindWord, relOf, typeOf, ruleOf, sizeOf, stepOf, made, Says, entryIn, Reads}
+use Rattle.read_line.specs.Entries.{OneField, TwoFields, Named, Fielded, codeOf, codesIn, codesOf, codes, elementBy, elementsBy, listOf, consed, upTo, kindWord, relOf, everyOf, typeOf, ruleOf, sizeOf, stepOf, made, Says, entryIn, Reads}
 use Rattle.read_text.specs.declared.Num.{Num}
 use Rattle.read_text.specs.declared.Num.the-variants.{Is, Bad}
 use Rattle.read_text.specs.declared.Found.{Found}
@@ -128,6 +128,20 @@ module _ (f : List ℕ) where
   pub arity-good : (k : ℕ) → number f ≡ some k → 1 ≤ k → k ≤ 3 → S.arityOf f ≡ some k
   unfolding S.arityOf option isBetween
   arity-good k p l m = rw p (simp (le-leb 1 k l, le-leb k 3 m))
+
+-- no more than two
+module _ (f : List ℕ) where
+  pub every-bad : S.arityOf f ≡ none → S.everyArityOf f ≡ none
+  unfolding S.everyArityOf option
+  every-bad p = rw p
+
+  pub every-high : (k : ℕ) → S.arityOf f ≡ some k → 2 < k → S.everyArityOf f ≡ none
+  unfolding S.everyArityOf option
+  every-high k p m = rw p (simp (lt-leb k 2 m))
+
+  pub every-fine : (k : ℕ) → S.arityOf f ≡ some k → k ≤ 2 → S.everyArityOf f ≡ some k
+  unfolding S.everyArityOf option
+  every-fine k p m = rw p (simp (le-leb k 2 m))
 
 -- ---- kinds
 
@@ -261,36 +275,40 @@ module _ (w : List ℕ) where
   unfolding Says made S.entry same relOf typeOf ruleOf sizeOf stepOf
   says-rule e = says-as w (114 ∷ 117 ∷ 108 ∷ 101 ∷ []) 4 e (λ fs. refl, λ p. refl)
 
-  pub says-size : same w (115 ∷ 105 ∷ 122 ∷ 101 ∷ []) ≡ true → Says w 5
-  unfolding Says made S.entry same relOf typeOf ruleOf sizeOf stepOf
-  says-size e = says-as w (115 ∷ 105 ∷ 122 ∷ 101 ∷ []) 5 e (λ fs. refl, λ p. absurd (omega arith))
+  pub says-every : same w (101 ∷ 118 ∷ 101 ∷ 114 ∷ 121 ∷ []) ≡ true → Says w 5
+  unfolding Says made S.entry same relOf everyOf typeOf ruleOf sizeOf stepOf
+  says-every e = says-as w (101 ∷ 118 ∷ 101 ∷ 114 ∷ 121 ∷ []) 5 e (λ fs. refl, λ p. absurd (omega arith))
 
-  pub says-label : same w (108 ∷ 97 ∷ 98 ∷ 101 ∷ 108 ∷ []) ≡ true → Says w 6
+  pub says-size : same w (115 ∷ 105 ∷ 122 ∷ 101 ∷ []) ≡ true → Says w 6
   unfolding Says made S.entry same relOf typeOf ruleOf sizeOf stepOf
-  says-label e = says-as w (108 ∷ 97 ∷ 98 ∷ 101 ∷ 108 ∷ []) 6 e (λ fs. refl, λ p. absurd (omega arith))
+  says-size e = says-as w (115 ∷ 105 ∷ 122 ∷ 101 ∷ []) 6 e (λ fs. refl, λ p. absurd (omega arith))
 
-  pub says-member : same w (109 ∷ 101 ∷ 109 ∷ 98 ∷ 101 ∷ 114 ∷ []) ≡ true → Says w 7
+  pub says-label : same w (108 ∷ 97 ∷ 98 ∷ 101 ∷ 108 ∷ []) ≡ true → Says w 7
   unfolding Says made S.entry same relOf typeOf ruleOf sizeOf stepOf
-  says-member e = says-as w (109 ∷ 101 ∷ 109 ∷ 98 ∷ 101 ∷ 114 ∷ []) 7 e (λ fs. refl, λ p. absurd (omega arith))
+  says-label e = says-as w (108 ∷ 97 ∷ 98 ∷ 101 ∷ 108 ∷ []) 7 e (λ fs. refl, λ p. absurd (omega arith))
 
-  pub says-fact : same w (102 ∷ 97 ∷ 99 ∷ 116 ∷ []) ≡ true → Says w 8
+  pub says-member : same w (109 ∷ 101 ∷ 109 ∷ 98 ∷ 101 ∷ 114 ∷ []) ≡ true → Says w 8
   unfolding Says made S.entry same relOf typeOf ruleOf sizeOf stepOf
-  says-fact e = says-as w (102 ∷ 97 ∷ 99 ∷ 116 ∷ []) 8 e (λ fs. refl, λ p. absurd (omega arith))
+  says-member e = says-as w (109 ∷ 101 ∷ 109 ∷ 98 ∷ 101 ∷ 114 ∷ []) 8 e (λ fs. refl, λ p. absurd (omega arith))
 
-  pub says-pick : same w (112 ∷ 105 ∷ 99 ∷ 107 ∷ []) ≡ true → Says w 9
+  pub says-fact : same w (102 ∷ 97 ∷ 99 ∷ 116 ∷ []) ≡ true → Says w 9
   unfolding Says made S.entry same relOf typeOf ruleOf sizeOf stepOf
-  says-pick e = says-as w (112 ∷ 105 ∷ 99 ∷ 107 ∷ []) 9 e (λ fs. refl, λ p. absurd (omega arith))
+  says-fact e = says-as w (102 ∷ 97 ∷ 99 ∷ 116 ∷ []) 9 e (λ fs. refl, λ p. absurd (omega arith))
 
-  pub says-step : same w (115 ∷ 116 ∷ 101 ∷ 112 ∷ []) ≡ true → Says w 10
+  pub says-pick : same w (112 ∷ 105 ∷ 99 ∷ 107 ∷ []) ≡ true → Says w 10
   unfolding Says made S.entry same relOf typeOf ruleOf sizeOf stepOf
-  says-step e = says-as w (115 ∷ 116 ∷ 101 ∷ 112 ∷ []) 10 e (λ fs. refl, λ p. absurd (omega arith))
+  says-pick e = says-as w (112 ∷ 105 ∷ 99 ∷ 107 ∷ []) 10 e (λ fs. refl, λ p. absurd (omega arith))
+
+  pub says-step : same w (115 ∷ 116 ∷ 101 ∷ 112 ∷ []) ≡ true → Says w 11
+  unfolding Says made S.entry same relOf typeOf ruleOf sizeOf stepOf
+  says-step e = says-as w (115 ∷ 116 ∷ 101 ∷ 112 ∷ []) 11 e (λ fs. refl, λ p. absurd (omega arith))
 
   pub says-none : same w (102 ∷ 97 ∷ 99 ∷ 116 ∷ []) ≡ false → same w (112 ∷ 105 ∷ 99 ∷ 107 ∷ []) ≡ false → same w (114 ∷ 101 ∷ 108 ∷ []) ≡ false
       → same w (116 ∷ 121 ∷ 112 ∷ 101 ∷ []) ≡ false → same w (99 ∷ 104 ∷ 111 ∷ 111 ∷ 115 ∷ 101 ∷ []) ≡ false → same w (114 ∷ 117 ∷ 108 ∷ 101 ∷ [])
-      ≡ false → same w (115 ∷ 105 ∷ 122 ∷ 101 ∷ []) ≡ false → same w (108 ∷ 97 ∷ 98 ∷ 101 ∷ 108 ∷ []) ≡ false
+      ≡ false → same w (101 ∷ 118 ∷ 101 ∷ 114 ∷ 121 ∷ []) ≡ false → same w (115 ∷ 105 ∷ 122 ∷ 101 ∷ []) ≡ false → same w (108 ∷ 97 ∷ 98 ∷ 101 ∷ 108 ∷ []) ≡ false
       → same w (109 ∷ 101 ∷ 109 ∷ 98 ∷ 101 ∷ 114 ∷ []) ≡ false → same w (115 ∷ 116 ∷ 101 ∷ 112 ∷ []) ≡ false → Says w 0
   unfolding Says made S.entry
-  says-none n-fact n-pick n-rel n-type n-choose n-rule n-size n-label n-member n-step = (λ fs. rw (n-rel, n-type, n-choose, n-rule, n-size, n-label, n-member, n-fact, n-pick, n-step), λ p. absurd (omega arith))
+  says-none n-fact n-pick n-rel n-type n-choose n-rule n-every n-size n-label n-member n-step = (λ fs. rw (n-rel, n-type, n-choose, n-every, n-rule, n-size, n-label, n-member, n-fact, n-pick, n-step), λ p. absurd (omega arith))
 
 -- a record word alone says nothing
 none-either : (b : Bool) (x y : Option S.Entry) → x ≡ none → y ≡ none → (if b then x else y) ≡ none
@@ -303,12 +321,13 @@ alone w =
     none-either (same w (114 ∷ 101 ∷ 108 ∷ [])) none _ refl
     (none-either (same w (116 ∷ 121 ∷ 112 ∷ 101 ∷ [])) none _ refl
     (none-either (same w (99 ∷ 104 ∷ 111 ∷ 111 ∷ 115 ∷ 101 ∷ [])) none _ refl
+    (none-either (same w (101 ∷ 118 ∷ 101 ∷ 114 ∷ 121 ∷ [])) none _ refl
     (none-either (same w (114 ∷ 117 ∷ 108 ∷ 101 ∷ [])) none _ refl
     (none-either (same w (115 ∷ 105 ∷ 122 ∷ 101 ∷ [])) none _ refl
     (none-either (same w (108 ∷ 97 ∷ 98 ∷ 101 ∷ 108 ∷ [])) none _ refl
     (none-either (same w (109 ∷ 101 ∷ 109 ∷ 98 ∷ 101 ∷ 114 ∷ [])) none _ refl
     (none-either (same w (102 ∷ 97 ∷ 99 ∷ 116 ∷ [])) none _ refl
-    (none-either (same w (112 ∷ 105 ∷ 99 ∷ 107 ∷ [])) none _ refl (none-either (same w (115 ∷ 116 ∷ 101 ∷ 112 ∷ [])) none _ refl refl)))))))))
+    (none-either (same w (112 ∷ 105 ∷ 99 ∷ 107 ∷ [])) none _ refl (none-either (same w (115 ∷ 116 ∷ 101 ∷ 112 ∷ [])) none _ refl refl))))))))))
 
 module _ (s : List ℕ) (a e : ℕ) (h : a ≤ e) (k : e ≤ length s) (t : ℕ) (q : t ≡ a + indexOf 9 (slice a e s)) where
   pub record-alone : t ≡ e → entryIn s Wrong ≡ S.entry (split 9 (slice a e s))
@@ -328,7 +347,7 @@ pub made-at : (j k : ℕ) (fs : List (List ℕ)) → j ≡ k → made k fs ≡ m
 made-at j k fs e = ap (λ (i : ℕ). made i fs) (sym e)
 
 -- what no number stands for
-pub made-past : (j : ℕ) (fs : List (List ℕ)) → 10 < j → made j fs ≡ none
+pub made-past : (j : ℕ) (fs : List (List ℕ)) → 11 < j → made j fs ≡ none
 unfolding made
 made-past zero fs h = absurd (omega arith)
 made-past (suc zero) fs h = absurd (omega arith)
@@ -341,7 +360,8 @@ made-past (suc (suc (suc (suc (suc (suc (suc zero))))))) fs h = absurd (omega ar
 made-past (suc (suc (suc (suc (suc (suc (suc (suc zero)))))))) fs h = absurd (omega arith)
 made-past (suc (suc (suc (suc (suc (suc (suc (suc (suc zero))))))))) fs h = absurd (omega arith)
 made-past (suc (suc (suc (suc (suc (suc (suc (suc (suc (suc zero)))))))))) fs h = absurd (omega arith)
-made-past (suc (suc (suc (suc (suc (suc (suc (suc (suc (suc (suc j))))))))))) fs h = refl
+made-past (suc (suc (suc (suc (suc (suc (suc (suc (suc (suc (suc zero))))))))))) fs h = absurd (omega arith)
+made-past (suc (suc (suc (suc (suc (suc (suc (suc (suc (suc (suc (suc j)))))))))))) fs h = refl
 
 -- ---- element fields
 

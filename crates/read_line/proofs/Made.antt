@@ -11,14 +11,14 @@ use Rattle.definitions.specs.Lists.{option}
 use Rattle.definitions.specs.Sheet.Text.{split, number, isRelationName}
 use Rattle.definitions.specs.Sheet.Sheets as S
 use Rattle.read_text.specs.Spans.{indexOf, numOf, kindOf}
-use Rattle.read_line.specs.Entries.{OneField, TwoFields, Named, codeOf, codes, kindWord, relOf, typeOf, ruleOf, sizeOf, stepOf, typesAt, entryIn, InText, IsArity}
+use Rattle.read_line.specs.Entries.{OneField, TwoFields, Named, codeOf, codes, kindWord, relOf, everyOf, typeOf, ruleOf, sizeOf, stepOf, typesAt, entryIn, InText, IsArity}
 use Rattle.read_text.specs.declared.Num.{Num}
 use Rattle.read_text.specs.declared.Num.the-variants.{Is, Bad}
 use Rattle.read_text.specs.declared.Found.{Found}
 use Rattle.read_text.specs.declared.Found.the-variants.{At, Nowhere}
 use Rattle.read_line.specs.declared.Places.{Places}
 use Rattle.read_line.specs.declared.Places.the-variants.{Unread, One, Two, Three}
-use Rattle.read_line.specs.declared.Entry.the-variants.{Wrong, Rel, Typed, Choose, Rule, Size, Label, Member, Fact, Pick, Step}
+use Rattle.read_line.specs.declared.Entry.the-variants.{Wrong, Rel, Typed, Choose, Every, Rule, Size, Label, Member, Fact, Pick, Step}
 use Rattle.read_text.proofs.Laws.{pieces-at, pieces-whole, split-some}
 use Rattle.read_line.proofs.Fields.{two-bounds, two-bad, two-is, one-bad, one-is, num-is, num-bad, element-by, choose-of-one, choose-by-arity, choose-by-kind, typed-no-kind, typed-by-kind, named-made, named-fields}
 
@@ -89,6 +89,19 @@ module _ (s : List ℕ) (a e : ℕ) where
       pub rel-good : (k : ℕ) → n ≡ Is k → entryIn s (Rel a t k) ≡ S.withTwo relOf (split 9 (slice a e s))
       unfolding entryIn relOf option
       rel-good k b = sym (two-is s a e t f relOf p w ∙ rw (num-is (S.arityOf (slice (t + 1) e s)) n k b q))
+
+    pub every-none : f ≡ Nowhere → entryIn s Wrong ≡ S.withTwo everyOf (split 9 (slice a e s))
+    unfolding entryIn
+    every-none p = sym (two-bad s a e f everyOf p w)
+
+    module _ (t : ℕ) (p : f ≡ At t) (n : Num) (q : n ≡ numOf (S.everyArityOf (slice (t + 1) e s))) where
+      pub every-unread : n ≡ Bad → entryIn s Wrong ≡ S.withTwo everyOf (split 9 (slice a e s))
+      unfolding entryIn everyOf option
+      every-unread b = sym (two-is s a e t f everyOf p w ∙ rw (num-bad (S.everyArityOf (slice (t + 1) e s)) n b q))
+
+      pub every-good : (k : ℕ) → n ≡ Is k → entryIn s (Every a t k) ≡ S.withTwo everyOf (split 9 (slice a e s))
+      unfolding entryIn everyOf option
+      every-good k b = sym (two-is s a e t f everyOf p w ∙ rw (num-is (S.everyArityOf (slice (t + 1) e s)) n k b q))
 
     pub label-none : f ≡ Nowhere → entryIn s Wrong ≡ S.withTwo S.labelOf (split 9 (slice a e s))
     unfolding entryIn
@@ -239,6 +252,10 @@ module _ (s : List ℕ) where
     pub in-rel : (n : Num) (k : ℕ) → n ≡ Is k → IsArity n → (at : ℕ) → InText s at (Rel a t k)
     unfolding InText
     in-rel n k q v at = let b = two-bounds s a e t f p w in let c = arity-told n k q v in (b .0, omega arith, c .0, c .1)
+
+    pub in-every : (n : Num) (k : ℕ) → n ≡ Is k → IsArity n → (at : ℕ) → InText s at (Every a t k)
+    unfolding InText
+    in-every n k q v at = let b = two-bounds s a e t f p w in let c = arity-told n k q v in (b .0, omega arith, c .0, c .1)
 
     pub in-member : (k at : ℕ) → InText s at (Member a t k e)
     unfolding InText

@@ -22,7 +22,7 @@ use Rattle.read_line.specs.declared.Places.the-variants.{Unread, One, Tw
 use Rattle.read_line.specs.declared.Quick.{Quick}
 use Rattle.read_line.specs.declared.Quick.the-variants.{Step as Told, Other}
 use Rattle.read_line.specs.declared.Entry.{Entry}
-use Rattle.read_line.specs.declared.Entry.the-variants.{Wrong, Rel, Typed, Choose, Rule, Size, Label, Member, Fact, Pick, Step}
+use Rattle.read_line.specs.declared.Entry.the-variants.{Wrong, Rel, Typed, Choose, Every, Rule, Size, Label, Member, Fact, Pick, Step}
 
 -- the span is one field; or it is not one
 unfoldable pub OneField : List ℕ → ℕ → ℕ → Bool → Type 0
@@ -102,6 +102,9 @@ kindWord f =
 unfoldable pub relOf : List ℕ → List ℕ → Option S.Entry
 relOf name a = option (S.arityOf a) none (λ k. some (S.rel name k))
 
+unfoldable pub everyOf : List ℕ → List ℕ → Option S.Entry
+everyOf name a = option (S.everyArityOf a) none (λ k. some (S.every name k))
+
 unfoldable pub typeOf : List ℕ → Option S.Entry
 typeOf f = some (S.type f)
 
@@ -121,13 +124,14 @@ made (suc zero) fs = S.withTwo relOf fs
 made (suc (suc zero)) fs = S.withOne typeOf fs
 made (suc (suc (suc zero))) fs = S.chooseOf fs
 made (suc (suc (suc (suc zero)))) fs = S.withOne ruleOf fs
-made (suc (suc (suc (suc (suc zero))))) fs = S.withOne sizeOf fs
-made (suc (suc (suc (suc (suc (suc zero)))))) fs = S.withTwo S.labelOf fs
-made (suc (suc (suc (suc (suc (suc (suc zero))))))) fs = S.withTwo S.memberOf fs
-made (suc (suc (suc (suc (suc (suc (suc (suc zero)))))))) fs = S.withElements S.fact fs
-made (suc (suc (suc (suc (suc (suc (suc (suc (suc zero))))))))) fs = S.withElements S.pick fs
-made (suc (suc (suc (suc (suc (suc (suc (suc (suc (suc zero)))))))))) fs = S.withOne stepOf fs
-made (suc (suc (suc (suc (suc (suc (suc (suc (suc (suc (suc k))))))))))) fs = none
+made (suc (suc (suc (suc (suc zero))))) fs = S.withTwo everyOf fs
+made (suc (suc (suc (suc (suc (suc zero)))))) fs = S.withOne sizeOf fs
+made (suc (suc (suc (suc (suc (suc (suc zero))))))) fs = S.withTwo S.labelOf fs
+made (suc (suc (suc (suc (suc (suc (suc (suc zero)))))))) fs = S.withTwo S.memberOf fs
+made (suc (suc (suc (suc (suc (suc (suc (suc (suc zero))))))))) fs = S.withElements S.fact fs
+made (suc (suc (suc (suc (suc (suc (suc (suc (suc (suc zero)))))))))) fs = S.withElements S.pick fs
+made (suc (suc (suc (suc (suc (suc (suc (suc (suc (suc (suc zero))))))))))) fs = S.withOne stepOf fs
+made (suc (suc (suc (suc (suc (suc (suc (suc (suc (suc (suc (suc k)))))))))))) fs = none
 
 unfoldable pub Says : List ℕ → ℕ → Type 0
 Says w k = ((fs : List (List ℕ)) → S.entry (w ∷ fs) ≡ made k fs) × (k ≡ 4 → length w ≡ 4)
@@ -143,6 +147,7 @@ entryIn s Wrong = none
 entryIn s (Rel a e k) = some (S.rel (slice a e s) k)
 entryIn s (Typed a e) = some (S.type (slice a e s))
 entryIn s (Choose a e k kind t u v) = some (S.choose (slice a e s) k (kindOf kind) (typesAt s t u v))
+entryIn s (Every a e k) = some (S.every (slice a e s) k)
 entryIn s (Rule a e) = some (S.rule (slice a e s))
 entryIn s (Size n) = some (S.size n)
 entryIn s (Label k a t e) = some (S.label (elementBy (slice a t s) k) (slice (t + 1) e s))
@@ -157,6 +162,7 @@ InText s at Wrong = Unit {0}
 InText s at (Rel a e k) = (a ≤ e) × (e ≤ length s) × (1 ≤ k) × (k ≤ 3)
 InText s at (Typed a e) = (a ≤ e) × (e ≤ length s)
 InText s at (Choose a e k kind t u v) = (a ≤ e) × (e ≤ length s) × (1 ≤ k) × (k ≤ 3) × (0 < v → (t ≤ u) × (u < v) × (v ≤ length s))
+InText s at (Every a e k) = (a ≤ e) × (e ≤ length s) × (1 ≤ k) × (k ≤ 3)
 InText s at (Rule a e) = (a ≡ at + 5) × (a ≤ e) × (e ≤ length s)
 InText s at (Size n) = Unit {0}
 InText s at (Label k a t e) = (t < e) × (e ≤ length s) × (isRelationName (slice (t + 1) e s) ≡ true)

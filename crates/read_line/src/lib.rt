@@ -5,9 +5,9 @@ ghost use Prim.Native.Nat.{ℕ, _+_, _≤_, _<_};
 ghost use lib.ListN.{length};
 ghost use lib.Seq.{slice};
 ghost use Rattle.definitions.specs.Sheet.Text.{split};
-ghost use Rattle.definitions.specs.Sheet.Sheets.{arityOf, chooseOf, labelOf, memberOf, withOne, withTwo, withElements, fact as factOf, pick as pickOf, entry as entryOf};
+ghost use Rattle.definitions.specs.Sheet.Sheets.{arityOf, everyArityOf, chooseOf, labelOf, memberOf, withOne, withTwo, withElements, fact as factOf, pick as pickOf, entry as entryOf};
 ghost use Rattle.read_text.specs.Spans.{numOf};
-ghost use Rattle.read_line.specs.Entries.{OneField, TwoFields, Named, codeOf, codes, consed, upTo, kindWord, relOf, typeOf, ruleOf, sizeOf, stepOf, made, Says, entryIn, InText, IsArity, Reads, StepReads};
+ghost use Rattle.read_line.specs.Entries.{OneField, TwoFields, Named, codeOf, codes, consed, upTo, kindWord, relOf, everyOf, typeOf, ruleOf, sizeOf, stepOf, made, Says, entryIn, InText, IsArity, Reads, StepReads};
 use read_text::Found;
 use read_text::Num;
 
@@ -30,6 +30,7 @@ pub enum Entry {
     Rel(usize, usize, u32),
     Typed(usize, usize),
     Choose(usize, usize, u32, u32, usize, usize, usize),
+    Every(usize, usize, u32),
     Rule(usize, usize),
     Size(u32),
     Label(u32, usize, usize, usize),
@@ -105,6 +106,23 @@ fn arity(s: &[u8], a: usize, e: usize) -> Num
     }
 }
 
+// The arity that the span writes after `every`: no more than two.
+fn every_arity(s: &[u8], a: usize, e: usize) -> Num
+    requires { ⌜ (a ≤ e) × (e ≤ length (now s)) ⌝ }
+    ensures { λ r. ⌜ (r ≡ numOf (everyArityOf (slice a e (now (s .entry))))) × IsArity r ⌝ }
+{
+    let n = arity(s, a, e);
+    match n {
+        Num::Bad => Num::Bad,
+        Num::Is(k) => {
+            if 2 < k {
+                return Num::Bad;
+            }
+            Num::Is(k)
+        }
+    }
+}
+
 // The number of the kind that the span names, 0 where it names none.
 fn kind_word(s: &[u8], a: usize, e: usize) -> u32
     requires { ⌜ (a ≤ e) × (e ≤ length (now s)) ⌝ }
@@ -131,10 +149,10 @@ fn record_word(s: &[u8], a: usize, e: usize) -> u32
     ensures { λ r. ⌜ Says (slice a e (now (s .entry))) r ⌝ }
 {
     if read_text::word(s, a, e, b"fact") {
-        return 8;
+        return 9;
     }
     if read_text::word(s, a, e, b"pick") {
-        return 9;
+        return 10;
     }
     if read_text::word(s, a, e, b"rel") {
         return 1;
@@ -148,17 +166,20 @@ fn record_word(s: &[u8], a: usize, e: usize) -> u32
     if read_text::word(s, a, e, b"rule") {
         return 4;
     }
-    if read_text::word(s, a, e, b"size") {
+    if read_text::word(s, a, e, b"every") {
         return 5;
     }
-    if read_text::word(s, a, e, b"label") {
+    if read_text::word(s, a, e, b"size") {
         return 6;
     }
-    if read_text::word(s, a, e, b"member") {
+    if read_text::word(s, a, e, b"label") {
         return 7;
     }
+    if read_text::word(s, a, e, b"member") {
+        return 8;
+    }
     if read_text::word(s, a, e, b"step") {
-        return 10;
+        return 11;
     }
     0
 }
@@ -228,6 +249,24 @@ fn choose_entry(s: &[u8], a: usize, e: usize) -> Entry
         return choose_untyped(s, a, t, e);
     }
     choose_typed(s, a, t, u, e)
+}
+
+// The fields after `every`.
+fn every_entry(s: &[u8], a: usize, e: usize) -> Entry
+    requires { ⌜ (a ≤ e) × (e ≤ length (now s)) ⌝ }
+    ensures { λ r. ⌜ (entryIn (now (s .entry)) r ≡ withTwo everyOf (split 9 (slice a e (now (s .entry))))) × ((at : ℕ) → InText (now (s .entry)) at r) ⌝ }
+{
+    let f = two(s, a, e);
+    match f {
+        Found::Nowhere => Entry::Wrong,
+        Found::At(t) => {
+            let n = every_arity(s, t + 1, e);
+            match n {
+                Num::Bad => Entry::Wrong,
+                Num::Is(k) => Entry::Every(a, t, k),
+            }
+        }
+    }
 }
 
 // The field after `type`.
@@ -442,7 +481,7 @@ fn pick_entry(s: &[u8], a: usize, e: usize) -> Entry
 
 // What the fields from a up to e make after the record word of number k: a question's record, or another sheet's.
 fn question_entry(s: &[u8], a: usize, e: usize, k: u32) -> Entry
-    requires { ⌜ (a ≤ e) × (e ≤ length (now s)) × (k < 5) ⌝ }
+    requires { ⌜ (a ≤ e) × (e ≤ length (now s)) × (k < 6) ⌝ }
     ensures { λ r. ⌜ (entryIn (now (s .entry)) r ≡ made k (split 9 (slice a e (now (s .entry))))) × ((at : ℕ) → (k ≡ 4 → a ≡ at + 5) → InText (now (s .entry)) at r) ⌝ }
 {
     if k == 1 {
@@ -457,29 +496,32 @@ fn question_entry(s: &[u8], a: usize, e: usize, k: u32) -> Entry
     if k == 4 {
         return rule_entry(s, a, e);
     }
+    if k == 5 {
+        return every_entry(s, a, e);
+    }
     Entry::Wrong
 }
 
 fn other_entry(s: &[u8], a: usize, e: usize, k: u32) -> Entry
-    requires { ⌜ (a ≤ e) × (e ≤ length (now s)) × (5 ≤ k) ⌝ }
+    requires { ⌜ (a ≤ e) × (e ≤ length (now s)) × (6 ≤ k) ⌝ }
     ensures { λ r. ⌜ (entryIn (now (s .entry)) r ≡ made k (split 9 (slice a e (now (s .entry))))) × ((at : ℕ) → InText (now (s .entry)) at r) ⌝ }
 {
-    if k == 5 {
+    if k == 6 {
         return size_entry(s, a, e);
     }
-    if k == 6 {
+    if k == 7 {
         return label_entry(s, a, e);
     }
-    if k == 7 {
+    if k == 8 {
         return member_entry(s, a, e);
     }
-    if k == 8 {
+    if k == 9 {
         return fact_entry(s, a, e);
     }
-    if k == 9 {
+    if k == 10 {
         return pick_entry(s, a, e);
     }
-    if k == 10 {
+    if k == 11 {
         return step_entry(s, a, e);
     }
     Entry::Wrong
@@ -495,7 +537,7 @@ pub fn record(s: &[u8], a: usize, e: usize) -> Entry
         return Entry::Wrong;
     }
     let k = record_word(s, a, t);
-    if k < 5 {
+    if k < 6 {
         return question_entry(s, t + 1, e, k);
     }
     other_entry(s, t + 1, e, k)

@@ -1,16 +1,16 @@
 -- Laws of looking a relation up by its name: one relation more, the built-in ones before those declared, arities, kinds and sorts.
 use Prim.Native.Nat.{ℕ, zero, suc, _+_, _-_, _≤_, _<_}
-use mathlib.Core.Path.{_≡_, refl, sym, ap, _∙_}
+use mathlib.Core.Path.{_≡_, refl, sym, ap, ap₂, _∙_}
 use mathlib.Core.Bool.{Bool, true, false, _&&_, _||_, and-true, and-false}
 use mathlib.Core.Option.{Option, none, some}
-use mathlib.Core.List.{List, [], _∷_, _++_}
+use mathlib.Core.List.{List, [], _∷_, _++_, append-assoc}
 use native.Mathlib.Numerals.{add-one}
 use native.Mathlib.Omega.{arith}
 use lib.Dec.{eqb}
 use lib.ListN.{length, getD}
 use lib.Seq.{slice, getD-append-add}
 use borrow.Author.Tests.{eq-eqb, ne-eqb}
-use Rattle.definitions.specs.Lists.{if_then_else_, same, any, option, position}
+use Rattle.definitions.specs.Lists.{if_then_else_, same, any, option, listed, position}
 use Rattle.definitions.specs.Sheet.Relations.{Relation, static, fixed, builtIn, numberOf, isDeclared}
 use Rattle.definitions.specs.Sheet.Sheets.{relations}
 use Rattle.definitions.specs.Sheet.Formula.{typeNumber}
@@ -18,7 +18,7 @@ use Rattle.read_text.specs.Spans.{placeOf, kindOf}
 use Rattle.read_text.specs.declared.Found.{Found}
 use Rattle.read_text.specs.declared.Found.the-variants.{At, Nowhere}
 use Rattle.read_names.specs.declared.Signature.{Signature}
-use Rattle.read_names.specs.Signatures.{withArrays, lentOf, Lent, relationIn, relationsFrom, namesFrom, typesIn, relsOf, chosenOf, allOf, builtInTable, matches, hasArity, counted, HasArity, HasKind, HasFirsts, HasSeconds}
+use Rattle.read_names.specs.Signatures.{withArrays, lentOf, Lent, relationIn, relationsFrom, namesFrom, typesIn, relsOf, chosenOf, lastOf, everyOf, allOf, builtInTable, matches, hasArity, counted, HasArity, HasKind, HasFirsts, HasSeconds}
 
 -- ---- the first element that passes a test
 
@@ -136,9 +136,22 @@ relations-append q g i (suc m) n =
     let y : i + suc m ≡ suc i + m = omega arith in
     rw (z, y) (ap (λ (rs : List Relation). relationIn q g i ∷ rs) (relations-append q g (suc i) m n))
 
-pub all-are : (q : List ℕ) (g : Signature) → allOf q g ≡ builtIn ++ relationsFrom q g 0 (g .rels + g .chosen)
-unfolding allOf relsOf chosenOf relations builtIn
-all-are q g = let z : 0 + g .rels ≡ g .rels = omega arith in sym (ap (λ (rs : List Relation). builtIn ++ rs) (relations-append q g 0 (g .rels) (g .chosen) ∙ rw z))
+-- the relation of an `every` line stands after the others
+last-are : (q : List ℕ) (g : Signature) (k : ℕ) → k ≤ 1 → relationsFrom q g (g .rels + g .chosen) k ≡ listed (lastOf q g k)
+unfolding relationsFrom listed lastOf
+last-are q g zero h = refl
+last-are q g (suc zero) h = refl
+last-are q g (suc (suc k)) h = absurd (omega arith)
+
+pub all-are : (q : List ℕ) (g : Signature) → g .every ≤ 1 → allOf q g ≡ builtIn ++ relationsFrom q g 0 (g .rels + g .chosen + g .every)
+unfolding allOf relsOf chosenOf everyOf relations builtIn
+all-are q g one =
+    let z : 0 + g .rels ≡ g .rels = omega arith in
+    let y : 0 + (g .rels + g .chosen) ≡ g .rels + g .chosen = omega arith in
+    let e : relationsFrom q g 0 (g .rels + g .chosen) ≡ relsOf q g ++ chosenOf q g = relations-append q g 0 (g .rels) (g .chosen) ∙ rw z in
+    let f : relationsFrom q g 0 (g .rels + g .chosen + g .every) ≡ (relsOf q g ++ chosenOf q g) ++ listed (everyOf q g) =
+    relations-append q g 0 (g .rels + g .chosen) (g .every) ∙ ap₂ (λ (a b : List Relation). a ++ b) e (rw y (last-are q g (g .every) one)) in
+    sym (ap (λ (rs : List Relation). builtIn ++ rs) (f ∙ append-assoc (relsOf q g) (chosenOf q g) (listed (everyOf q g))))
 
 built-in-are : relationsFrom (69 ∷ 81 ∷ 76 ∷ 84 ∷ 83 ∷ 85 ∷ 67 ∷ 90 ∷ 69 ∷ 82 ∷ 79 ∷ 77 ∷ 65 ∷ 88 ∷ []) builtInTable 0 5 ≡ builtIn
 unfolding relationsFrom relationIn builtInTable builtIn kindOf
@@ -152,10 +165,10 @@ pub found-none : (o : Option ℕ) (f : Found) → f ≡ Nowhere → f ≡ placeO
 found-none none f p q = refl
 found-none (some j) f p q = let z : _≡_ {A = ℕ} 0 1 = cc in absurd (omega arith)
 
-module _ (q : List ℕ) (g : Signature) (p : Relation → Bool) where
-  in-all : position p (allOf q g) ≡ option (position p builtIn) (counted 5 (position p (relationsFrom q g 0 (g .rels + g .chosen)))) (λ i. some i)
+module _ (q : List ℕ) (g : Signature) (one : g .every ≤ 1) (p : Relation → Bool) where
+  in-all : position p (allOf q g) ≡ option (position p builtIn) (counted 5 (position p (relationsFrom q g 0 (g .rels + g .chosen + g .every)))) (λ i. some i)
   unfolding builtIn
-  in-all = ap (position p) (all-are q g) ∙ position-append p builtIn (relationsFrom q g 0 (g .rels + g .chosen))
+  in-all = ap (position p) (all-are q g one) ∙ position-append p builtIn (relationsFrom q g 0 (g .rels + g .chosen + g .every))
 
   module _ (b : Found) (w : b ≡ placeOf (counted 0 (position p (relationsFrom (69 ∷ 81 ∷ 76 ∷ 84 ∷ 83 ∷ 85 ∷ 67 ∷ 90 ∷ 69 ∷ 82 ∷ 79 ∷ 77 ∷ 65 ∷ 88 ∷ []) builtInTable 0 5)))) where
     among-built-in : b ≡ placeOf (position p builtIn)
@@ -165,24 +178,24 @@ module _ (q : List ℕ) (g : Signature) (p : Relation → Bool) where
     unfolding option
     in-built-in i e = let w : position p (allOf q g) ≡ some i = in-all ∙ rw (found-some (position p builtIn) i b e among-built-in) in sym (ap placeOf w)
 
-    module _ (e : b ≡ Nowhere) (m : ℕ) (all : m ≡ g .rels + g .chosen) (d : Found) (v : d ≡ placeOf (counted 0 (position p (relationsFrom q g 0 m)))) where
-      past-built-in : position p (allOf q g) ≡ counted 5 (position p (relationsFrom q g 0 (g .rels + g .chosen)))
+    module _ (e : b ≡ Nowhere) (m : ℕ) (all : m ≡ g .rels + g .chosen + g .every) (d : Found) (v : d ≡ placeOf (counted 0 (position p (relationsFrom q g 0 m)))) where
+      past-built-in : position p (allOf q g) ≡ counted 5 (position p (relationsFrom q g 0 (g .rels + g .chosen + g .every)))
       unfolding option
       past-built-in = in-all ∙ rw (found-none (position p builtIn) b e among-built-in)
 
-      among-declared : d ≡ placeOf (position p (relationsFrom q g 0 (g .rels + g .chosen)))
+      among-declared : d ≡ placeOf (position p (relationsFrom q g 0 (g .rels + g .chosen + g .every)))
       among-declared = v ∙ ap placeOf (counted-zero _ ∙ ap (λ (n : ℕ). position p (relationsFrom q g 0 n)) all)
 
       pub in-declared : (i : ℕ) → d ≡ At i → At (5 + i) ≡ placeOf (position p (allOf q g))
       unfolding counted option
       in-declared i f =
-          let w : position p (allOf q g) ≡ some (5 + i) = past-built-in ∙ rw (found-some (position p (relationsFrom q g 0 (g .rels + g .chosen))) i d f among-declared) in
+          let w : position p (allOf q g) ≡ some (5 + i) = past-built-in ∙ rw (found-some (position p (relationsFrom q g 0 (g .rels + g .chosen + g .every))) i d f among-declared) in
           sym (ap placeOf w)
 
       pub in-none : d ≡ Nowhere → Nowhere ≡ placeOf (position p (allOf q g))
       unfolding counted option
       in-none f =
-          let w : position p (allOf q g) ≡ none = past-built-in ∙ rw (found-none (position p (relationsFrom q g 0 (g .rels + g .chosen))) d f among-declared) in
+          let w : position p (allOf q g) ≡ none = past-built-in ∙ rw (found-none (position p (relationsFrom q g 0 (g .rels + g .chosen + g .every))) d f among-declared) in
           sym (ap placeOf w)
 
 -- ---- what was found
@@ -253,15 +266,15 @@ unfolding position relationsFrom relationIn
 same-names p q g A i zero = refl
 same-names p q g A i (suc m) = rw (same-names p q g A (suc i) m)
 
-same-number : (q : List ℕ) (g : Signature) (A name : List ℕ) → numberOf (allOf q (withArrays g (g .from) (g .to) A)) name ≡ numberOf (allOf q g) name
+same-number : (q : List ℕ) (g : Signature) (A name : List ℕ) → g .every ≤ 1 → numberOf (allOf q (withArrays g (g .from) (g .to) A)) name ≡ numberOf (allOf q g) name
 unfolding numberOf
-same-number q g A name =
-    in-all q (withArrays g (g .from) (g .to) A) (λ (r : Relation). same (r .name) name)
-    ∙ ap (λ (o : Option ℕ). option (position (λ (r : Relation). same (r .name) name) builtIn) (counted 5 o) (λ i. some i)) (same-names (λ (n : List ℕ). same n name) q g A 0 (g .rels + g .chosen))
-    ∙ sym (in-all q g (λ (r : Relation). same (r .name) name))
+same-number q g A name one =
+    in-all q (withArrays g (g .from) (g .to) A) one (λ (r : Relation). same (r .name) name)
+    ∙ ap (λ (o : Option ℕ). option (position (λ (r : Relation). same (r .name) name) builtIn) (counted 5 o) (λ i. some i)) (same-names (λ (n : List ℕ). same n name) q g A 0 (g .rels + g .chosen + g .every))
+    ∙ sym (in-all q g one (λ (r : Relation). same (r .name) name))
 
 pub by-lent : (q : List ℕ) (g : Signature) (F T A : List ℕ) (m : ℕ) (name : List ℕ) (f : Found) → Lent g F T m → f ≡ placeOf (position (matches name true 0) (allOf q (withArrays g F T A))) → f ≡ placeOf (numberOf (allOf q g) name)
-by-lent q g F T A m name f l w = by-name (allOf q (withArrays g F T A)) name f w ∙ ap placeOf (ap (λ (x : List ℕ). numberOf (allOf q (withArrays g x T A)) name) (l .from-is) ∙ ap (λ (x : List ℕ). numberOf (allOf q (withArrays g (g .from) x A)) name) (l .to-is) ∙ same-number q g A name)
+by-lent q g F T A m name f l w = by-name (allOf q (withArrays g F T A)) name f w ∙ ap placeOf (ap (λ (x : List ℕ). numberOf (allOf q (withArrays g x T A)) name) (l .from-is) ∙ ap (λ (x : List ℕ). numberOf (allOf q (withArrays g (g .from) x A)) name) (l .to-is) ∙ same-number q g A name (l .one))
 
 -- ---- arities, kinds and sorts by number
 
@@ -287,50 +300,50 @@ built-in-fixed rs (suc (suc (suc zero))) h = (refl, refl, refl)
 built-in-fixed rs (suc (suc (suc (suc zero)))) h = (refl, refl, refl)
 built-in-fixed rs (suc (suc (suc (suc (suc r))))) h = absurd (omega arith)
 
-declared-at : (q : List ℕ) (g : Signature) (r : ℕ) → 5 ≤ r → r < 5 + (g .rels + g .chosen) → getD (allOf q g) r no-relation ≡ relationIn q g (r - 5)
+declared-at : (q : List ℕ) (g : Signature) → g .every ≤ 1 → (r : ℕ) → 5 ≤ r → r < 5 + (g .rels + g .chosen + g .every) → getD (allOf q g) r no-relation ≡ relationIn q g (r - 5)
 unfolding builtIn
-declared-at q g r h l =
+declared-at q g one r h l =
     let z : r ≡ 5 + (r - 5) = omega arith in
     let y : 0 + (r - 5) ≡ r - 5 = omega arith in
-    ap (λ (rs : List Relation). getD rs r no-relation) (all-are q g)
-    ∙ ap (λ (i : ℕ). getD (builtIn ++ relationsFrom q g 0 (g .rels + g .chosen)) i no-relation) z
-    ∙ getD-append-add builtIn (relationsFrom q g 0 (g .rels + g .chosen)) (r - 5) no-relation
-    ∙ relation-at q g 0 (g .rels + g .chosen) (r - 5) no-relation (omega arith)
+    ap (λ (rs : List Relation). getD rs r no-relation) (all-are q g one)
+    ∙ ap (λ (i : ℕ). getD (builtIn ++ relationsFrom q g 0 (g .rels + g .chosen + g .every)) i no-relation) z
+    ∙ getD-append-add builtIn (relationsFrom q g 0 (g .rels + g .chosen + g .every)) (r - 5) no-relation
+    ∙ relation-at q g 0 (g .rels + g .chosen + g .every) (r - 5) no-relation (omega arith)
     ∙ ap (relationIn q g) y
 
-module _ (g : Signature) (r : ℕ) where
-  pub arity-built-in : r < 5 → HasArity g r (getD (2 ∷ 2 ∷ 2 ∷ 1 ∷ 1 ∷ 0 ∷ 0 ∷ 0 ∷ 0 ∷ 0 ∷ 0 ∷ 0 ∷ []) r 0)
+module _ (g : Signature) (one : g .every ≤ 1) (r : ℕ) where
+  pub arity-built-in : r < 5 → HasArity g r (getD (2 ∷ 2 ∷ 2 ∷ 1 ∷ 1 ∷ 0 ∷ 0 ∷ 0 ∷ 0 ∷ 0 ∷ 0 ∷ 0 ∷ 0 ∷ []) r 0)
   unfolding HasArity builtInTable
-  arity-built-in h q = built-in-arity (relationsFrom q g 0 (g .rels + g .chosen)) r h ∙ ap (λ (rs : List Relation). getD rs r no-relation .arity) (sym (all-are q g))
+  arity-built-in h q = built-in-arity (relationsFrom q g 0 (g .rels + g .chosen + g .every)) r h ∙ ap (λ (rs : List Relation). getD rs r no-relation .arity) (sym (all-are q g one))
 
   pub kind-built-in : r < 5 → HasKind g r 0
   unfolding HasKind kindOf
-  kind-built-in h q = built-in-fixed (relationsFrom q g 0 (g .rels + g .chosen)) r h .0 ∙ ap (λ (rs : List Relation). getD rs r no-relation .kind) (sym (all-are q g))
+  kind-built-in h q = built-in-fixed (relationsFrom q g 0 (g .rels + g .chosen + g .every)) r h .0 ∙ ap (λ (rs : List Relation). getD rs r no-relation .kind) (sym (all-are q g one))
 
   pub firsts-built-in : r < 5 → HasFirsts g r 0
   unfolding HasFirsts
-  firsts-built-in h q = built-in-fixed (relationsFrom q g 0 (g .rels + g .chosen)) r h .1 ∙ ap (λ (rs : List Relation). getD rs r no-relation .firsts) (sym (all-are q g))
+  firsts-built-in h q = built-in-fixed (relationsFrom q g 0 (g .rels + g .chosen + g .every)) r h .1 ∙ ap (λ (rs : List Relation). getD rs r no-relation .firsts) (sym (all-are q g one))
 
   pub seconds-built-in : r < 5 → HasSeconds g r 0
   unfolding HasSeconds
-  seconds-built-in h q = built-in-fixed (relationsFrom q g 0 (g .rels + g .chosen)) r h .2 ∙ ap (λ (rs : List Relation). getD rs r no-relation .seconds) (sym (all-are q g))
+  seconds-built-in h q = built-in-fixed (relationsFrom q g 0 (g .rels + g .chosen + g .every)) r h .2 ∙ ap (λ (rs : List Relation). getD rs r no-relation .seconds) (sym (all-are q g one))
 
-  module _ (h : 5 ≤ r) (l : r < 5 + (g .rels + g .chosen)) where
+  module _ (h : 5 ≤ r) (l : r < 5 + (g .rels + g .chosen + g .every)) where
     pub arity-declared : HasArity g r (getD (g .arity) (r - 5) 0)
     unfolding HasArity relationIn
-    arity-declared q = sym (ap (λ (k : Relation). k .arity) (declared-at q g r h l))
+    arity-declared q = sym (ap (λ (k : Relation). k .arity) (declared-at q g one r h l))
 
     pub kind-declared : HasKind g r (getD (g .kind) (r - 5) 0)
     unfolding HasKind relationIn
-    kind-declared q = sym (ap (λ (k : Relation). k .kind) (declared-at q g r h l))
+    kind-declared q = sym (ap (λ (k : Relation). k .kind) (declared-at q g one r h l))
 
     pub firsts-declared : HasFirsts g r (getD (g .firsts) (r - 5) 0)
     unfolding HasFirsts relationIn
-    firsts-declared q = sym (ap (λ (k : Relation). k .firsts) (declared-at q g r h l))
+    firsts-declared q = sym (ap (λ (k : Relation). k .firsts) (declared-at q g one r h l))
 
     pub seconds-declared : HasSeconds g r (getD (g .seconds) (r - 5) 0)
     unfolding HasSeconds relationIn
-    seconds-declared q = sym (ap (λ (k : Relation). k .seconds) (declared-at q g r h l))
+    seconds-declared q = sym (ap (λ (k : Relation). k .seconds) (declared-at q g one r h l))
 
 -- ---- names and arities alone: kinds and sorts do not matter
 
@@ -345,16 +358,16 @@ module _ (name : List ℕ) (k : ℕ) where
   any-arrays q g m i zero = refl
   any-arrays q g m i (suc n) = ap (λ (b : Bool). (same (slice (getD (g .from) i 0) (getD (g .to) i 0) q) name && eqb (getD (g .arity) i 0) k) || b) (any-arrays q g m (suc i) n)
 
-  pub any-lent : (q : List ℕ) (g : Signature) (m : ℕ) → m ≡ g .rels + g .chosen → any (hasArity name k) (allOf q (lentOf (g .from) (g .to) (g .arity) m)) ≡ any (hasArity name k) (allOf q g)
-  any-lent q g m e =
-      let z : m + 0 ≡ g .rels + g .chosen = omega arith in
-      ap (λ (l : List Relation). any (hasArity name k) l) (all-are q (lentOf (g .from) (g .to) (g .arity) m))
-      ∙ any-after builtIn _ _ (any-arrays q g m 0 (m + 0) ∙ ap (λ (n : ℕ). any (hasArity name k) (relationsFrom q g 0 n)) z)
-      ∙ ap (λ (l : List Relation). any (hasArity name k) l) (sym (all-are q g))
+  pub any-lent : (q : List ℕ) (g : Signature) (m : ℕ) → m ≡ g .rels + g .chosen + g .every → g .every ≤ 1 → any (hasArity name k) (allOf q (lentOf (g .from) (g .to) (g .arity) m)) ≡ any (hasArity name k) (allOf q g)
+  any-lent q g m e one =
+      let z : m + 0 + 0 ≡ g .rels + g .chosen + g .every = omega arith in
+      ap (λ (l : List Relation). any (hasArity name k) l) (all-are q (lentOf (g .from) (g .to) (g .arity) m) (omega arith))
+      ∙ any-after builtIn _ _ (any-arrays q g m 0 (m + 0 + 0) ∙ ap (λ (n : ℕ). any (hasArity name k) (relationsFrom q g 0 n)) z)
+      ∙ ap (λ (l : List Relation). any (hasArity name k) l) (sym (all-are q g one))
 
--- ---- types: names alone, from entry 12 on
+-- ---- types: names alone, from entry 13 on
 
-counted-none : (o : Option ℕ) → counted 12 o ≡ none → Nowhere ≡ placeOf o
+counted-none : (o : Option ℕ) → counted 13 o ≡ none → Nowhere ≡ placeOf o
 unfolding counted option
 counted-none none e = refl
 counted-none (some j) e = let z : _≡_ {A = ℕ} 0 1 = cc in absurd (omega arith)
@@ -364,15 +377,15 @@ unfolding position matches relationsFrom relationIn namesFrom
 names-are name q g F T A i zero = refl
 names-are name q g F T A i (suc k) = rw (and-true (same (slice (getD F i 0) (getD T i 0) q) name), names-are name q g F T A (suc i) k)
 
-module _ (q : List ℕ) (g : Signature) (F T A : List ℕ) (k : ℕ) (name : List ℕ) (f : Found) (w : f ≡ placeOf (counted 12 (position (matches name true 0) (relationsFrom q (withArrays g F T A) 12 k)))) where
-  by-slot : f ≡ placeOf (counted 12 (typeNumber (typesIn q F T k) name))
+module _ (q : List ℕ) (g : Signature) (F T A : List ℕ) (k : ℕ) (name : List ℕ) (f : Found) (w : f ≡ placeOf (counted 13 (position (matches name true 0) (relationsFrom q (withArrays g F T A) 13 k)))) where
+  by-slot : f ≡ placeOf (counted 13 (typeNumber (typesIn q F T k) name))
   unfolding typeNumber
-  by-slot = w ∙ ap (λ (o : Option ℕ). placeOf (counted 12 o)) (names-are name q g F T A 12 k)
+  by-slot = w ∙ ap (λ (o : Option ℕ). placeOf (counted 13 o)) (names-are name q g F T A 13 k)
 
-  pub type-found : (i : ℕ) → f ≡ At i → At (i - 12) ≡ placeOf (typeNumber (typesIn q F T k) name)
+  pub type-found : (i : ℕ) → f ≡ At i → At (i - 13) ≡ placeOf (typeNumber (typesIn q F T k) name)
   type-found i e =
-      let (j, o, z) = counted-some 12 (typeNumber (typesIn q F T k) name) i (found-some _ i f e by-slot) in
-      let y : i - 12 ≡ j = omega arith in
+      let (j, o, z) = counted-some 13 (typeNumber (typesIn q F T k) name) i (found-some _ i f e by-slot) in
+      let y : i - 13 ≡ j = omega arith in
       rw (o, y)
 
   pub type-missed : f ≡ Nowhere → Nowhere ≡ placeOf (typeNumber (typesIn q F T k) name)

@@ -16,17 +16,18 @@ use Rattle.read_names.specs.declared.Signature.{Signature}
 -- the signature with these arrays in place of its own
 abbrev pub withArrays : Signature → (from to arity : List ℕ) → Signature
 withArrays g from to arity =
-    record { rels = g .rels; chosen = g .chosen; types = g .types; from = from; to = to; arity = arity; kind = g .kind; firsts = g .firsts; seconds = g .seconds }
+    record { rels = g .rels; chosen = g .chosen; every = g .every; types = g .types; from = from; to = to; arity = arity; kind = g .kind; firsts = g .firsts; seconds = g .seconds }
 
 -- m relations whose names and arities are lent, and whose kinds and sorts do not matter
 abbrev pub lentOf : (from to arity : List ℕ) → ℕ → Signature
-lentOf from to arity m = record { rels = m; chosen = 0; types = 0; from = from; to = to; arity = arity; kind = []; firsts = []; seconds = [] }
+lentOf from to arity m = record { rels = m; chosen = 0; every = 0; types = 0; from = from; to = to; arity = arity; kind = []; firsts = []; seconds = [] }
 
 -- the signature's names, and how many relations it has
 pub record Lent (g : Signature) (from to : List ℕ) (m : ℕ) : Type 0 where
   pub from-is : from ≡ g .from
   pub to-is : to ≡ g .to
-  pub count : m ≡ g .rels + g .chosen
+  pub count : m ≡ g .rels + g .chosen + g .every
+  pub one : g .every ≤ 1
 
 -- relation i of the signature, whose names are spans of q
 unfoldable pub relationIn : List ℕ → Signature → ℕ → Relation
@@ -43,15 +44,22 @@ unfoldable pub relationsFrom : List ℕ → Signature → ℕ → ℕ → List R
 relationsFrom q g i zero = []
 relationsFrom q g i (suc m) = relationIn q g i ∷ relationsFrom q g (suc i) m
 
--- the `rel` and the `choose` relations, and all in the order of their numbers
+-- the `rel` and the `choose` relations, that of an `every` line, and all in the order of their numbers
 unfoldable pub relsOf : List ℕ → Signature → List Relation
 relsOf q g = relationsFrom q g 0 (g .rels)
 
 unfoldable pub chosenOf : List ℕ → Signature → List Relation
 chosenOf q g = relationsFrom q g (g .rels) (g .chosen)
 
+unfoldable pub lastOf : List ℕ → Signature → ℕ → Option Relation
+lastOf q g zero = none
+lastOf q g (suc k) = some (relationIn q g (g .rels + g .chosen))
+
+unfoldable pub everyOf : List ℕ → Signature → Option Relation
+everyOf q g = lastOf q g (g .every)
+
 unfoldable pub allOf : List ℕ → Signature → List Relation
-allOf q g = relations (relsOf q g) (chosenOf q g)
+allOf q g = relations (relsOf q g) (chosenOf q g) (everyOf q g)
 
 -- the k names from entry i on, and of these the types', which stand after the relations'; the types of the signature
 unfoldable pub namesFrom : (q from to : List ℕ) → ℕ → ℕ → List (List ℕ)
@@ -59,37 +67,39 @@ namesFrom q from to i zero = []
 namesFrom q from to i (suc k) = slice (getD from i 0) (getD to i 0) q ∷ namesFrom q from to (suc i) k
 
 abbrev pub typesIn : (q from to : List ℕ) → ℕ → List (List ℕ)
-typesIn q from to k = namesFrom q from to 12 k
+typesIn q from to k = namesFrom q from to 13 k
 
 unfoldable pub typesOf : List ℕ → Signature → List (List ℕ)
 typesOf q g = typesIn q (g .from) (g .to) (g .types)
 
 -- the entries of types that are not there are empty
 abbrev pub NoFurther : (to : List ℕ) → ℕ → Type 0
-NoFurther to k = (i : ℕ) → k ≤ i → i < 8 → getD to (12 + i) 0 ≡ 0
+NoFurther to k = (i : ℕ) → k ≤ i → i < 8 → getD to (13 + i) 0 ≡ 0
 
 -- a signature of a question: as many relations and types as there may be, names inside its text, arities 1 to 3, sorts of its types
 pub record SoundSignature (q : List ℕ) (g : Signature) : Type 0 where
   pub rels-le : g .rels ≤ 8
   pub chosen-le : g .chosen ≤ 4
+  pub every-le : g .every ≤ 1
   pub types-le : g .types ≤ 8
-  pub spans : (i : ℕ) → i < g .rels + g .chosen → (getD (g .from) i 0 ≤ getD (g .to) i 0) × (getD (g .to) i 0 ≤ length q)
+  pub spans : (i : ℕ) → i < g .rels + g .chosen + g .every → (getD (g .from) i 0 ≤ getD (g .to) i 0) × (getD (g .to) i 0 ≤ length q)
   pub no-further : NoFurther (g .to) (g .types)
-  pub arities : (i : ℕ) → i < g .rels + g .chosen → (1 ≤ getD (g .arity) i 0) × (getD (g .arity) i 0 ≤ 3)
-  pub sorts : (i : ℕ) → i < g .rels + g .chosen → (getD (g .firsts) i 0 ≤ g .types) × (getD (g .seconds) i 0 ≤ g .types)
+  pub arities : (i : ℕ) → i < g .rels + g .chosen + g .every → (1 ≤ getD (g .arity) i 0) × (getD (g .arity) i 0 ≤ 3)
+  pub sorts : (i : ℕ) → i < g .rels + g .chosen + g .every → (getD (g .firsts) i 0 ≤ g .types) × (getD (g .seconds) i 0 ≤ g .types)
 
 -- the table of the built-in relations, and the bytes of their names
 unfoldable pub builtInTable : Signature
 builtInTable = record {
   rels = 5;
   chosen = 0;
+  every = 0;
   types = 0;
-  from = 0 ∷ 2 ∷ 4 ∷ 7 ∷ 11 ∷ 0 ∷ 0 ∷ 0 ∷ 0 ∷ 0 ∷ 0 ∷ 0 ∷ [];
-  to = 2 ∷ 4 ∷ 7 ∷ 11 ∷ 14 ∷ 0 ∷ 0 ∷ 0 ∷ 0 ∷ 0 ∷ 0 ∷ 0 ∷ [];
-  arity = 2 ∷ 2 ∷ 2 ∷ 1 ∷ 1 ∷ 0 ∷ 0 ∷ 0 ∷ 0 ∷ 0 ∷ 0 ∷ 0 ∷ [];
-  kind = 0 ∷ 0 ∷ 0 ∷ 0 ∷ 0 ∷ 0 ∷ 0 ∷ 0 ∷ 0 ∷ 0 ∷ 0 ∷ 0 ∷ [];
-  firsts = 0 ∷ 0 ∷ 0 ∷ 0 ∷ 0 ∷ 0 ∷ 0 ∷ 0 ∷ 0 ∷ 0 ∷ 0 ∷ 0 ∷ [];
-  seconds = 0 ∷ 0 ∷ 0 ∷ 0 ∷ 0 ∷ 0 ∷ 0 ∷ 0 ∷ 0 ∷ 0 ∷ 0 ∷ 0 ∷ [];
+  from = 0 ∷ 2 ∷ 4 ∷ 7 ∷ 11 ∷ 0 ∷ 0 ∷ 0 ∷ 0 ∷ 0 ∷ 0 ∷ 0 ∷ 0 ∷ [];
+  to = 2 ∷ 4 ∷ 7 ∷ 11 ∷ 14 ∷ 0 ∷ 0 ∷ 0 ∷ 0 ∷ 0 ∷ 0 ∷ 0 ∷ 0 ∷ [];
+  arity = 2 ∷ 2 ∷ 2 ∷ 1 ∷ 1 ∷ 0 ∷ 0 ∷ 0 ∷ 0 ∷ 0 ∷ 0 ∷ 0 ∷ 0 ∷ [];
+  kind = 0 ∷ 0 ∷ 0 ∷ 0 ∷ 0 ∷ 0 ∷ 0 ∷ 0 ∷ 0 ∷ 0 ∷ 0 ∷ 0 ∷ 0 ∷ [];
+  firsts = 0 ∷ 0 ∷ 0 ∷ 0 ∷ 0 ∷ 0 ∷ 0 ∷ 0 ∷ 0 ∷ 0 ∷ 0 ∷ 0 ∷ 0 ∷ [];
+  seconds = 0 ∷ 0 ∷ 0 ∷ 0 ∷ 0 ∷ 0 ∷ 0 ∷ 0 ∷ 0 ∷ 0 ∷ 0 ∷ 0 ∷ 0 ∷ [];
 }
 
 -- a relation has the name and, unless any will do, the arity k; it has both

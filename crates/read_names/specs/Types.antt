@@ -55,7 +55,7 @@ module _ (q from to name : List ℕ) (named : isRelationName name ≡ true) wher
   module _ (k : ℕ) (h : k ≤ 8) (e : NoFurther to k) where
     pub number-in : typeNumber (typesIn q from to 8) name ≡ typeNumber (typesIn q from to k) name
     unfolding typeNumber
-    number-in = first-of 12 k 8 h (λ j a b. e j a b)
+    number-in = first-of 13 k 8 h (λ j a b. e j a b)
 
     pub any-in : any (λ t. same t name) (typesIn q from to 8) ≡ any (λ t. same t name) (typesIn q from to k)
     unfolding typeNumber

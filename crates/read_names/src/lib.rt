@@ -14,18 +14,19 @@ ghost use Rattle.read_names.specs.Signatures.{relationsFrom, typesIn, al
 use read_text::Found;
 
 // How many relations a question declares at the most.
-pub const DECLARED: usize = 12;
+pub const DECLARED: usize = 13;
 
 // How many types, and how many names there are then.
 pub const TYPES: usize = 8;
 
 pub const NAMES: usize = DECLARED + TYPES;
 
-// Names as spans of a text, arities, kinds by number, the sorts of both places; first each `rel`, then each `choose`. The names of types
-// stand from DECLARED on, and those of types that are not there are empty.
+// Names as spans of a text, arities, kinds by number, the sorts of both places; first each `rel`, then each `choose`, then that of an
+// `every` line, of which there is one or none. The names of types stand from DECLARED on, and those of types that are not there are empty.
 pub struct Signature {
     pub rels: usize,
     pub chosen: usize,
+    pub every: usize,
     pub types: usize,
     pub from: [usize; NAMES],
     pub to: [usize; NAMES],
@@ -36,11 +37,11 @@ pub struct Signature {
 }
 
 // The table of the five built-in relations, EQ, LT, SUC, ZERO and MAX: names as spans of `EQLTSUCZEROMAX`, and arities.
-const STARTS: [usize; DECLARED] = [0, 2, 4, 7, 11, 0, 0, 0, 0, 0, 0, 0];
+const STARTS: [usize; DECLARED] = [0, 2, 4, 7, 11, 0, 0, 0, 0, 0, 0, 0, 0];
 
-const ENDS: [usize; DECLARED] = [2, 4, 7, 11, 14, 0, 0, 0, 0, 0, 0, 0];
+const ENDS: [usize; DECLARED] = [2, 4, 7, 11, 14, 0, 0, 0, 0, 0, 0, 0, 0];
 
-const ARITIES: [usize; DECLARED] = [2, 2, 2, 1, 1, 0, 0, 0, 0, 0, 0, 0];
+const ARITIES: [usize; DECLARED] = [2, 2, 2, 1, 1, 0, 0, 0, 0, 0, 0, 0, 0];
 
 // A relation with the name from b to f of q, and an arity, has the name from a to e of s and, unless any will do, the arity k.
 fn fits(
@@ -80,7 +81,7 @@ pub fn lookup(
     any: bool,
     k: usize,
 ) -> Found
-    requires { ⌜ (lo + m ≤ 20) × (lo + m ≤ length (now from)) × (lo + m ≤ length (now to)) × (lo + m ≤ length (now arity)) ⌝ }
+    requires { ⌜ (lo + m ≤ 21) × (lo + m ≤ length (now from)) × (lo + m ≤ length (now to)) × (lo + m ≤ length (now arity)) ⌝ }
     ensures { λ r. ⌜ ((g : Signature) → r ≡ placeOf (counted lo (position (matches (slice a e (now (s .entry))) any k)
         (relationsFrom (now (q .entry)) (withArrays g (now (from .entry)) (now (to .entry)) (now (arity .entry))) lo m)))) ⌝ }
 {
@@ -108,8 +109,8 @@ fn search(
     any: bool,
     k: usize,
 ) -> Found
-    requires { ⌜ (m ≤ 12) × (12 ≤ length (now from)) × (12 ≤ length (now to)) × (12 ≤ length (now arity)) ⌝ }
-    ensures { λ r. ⌜ ((g : Signature) → m ≡ g .rels + g .chosen → r ≡ placeOf (position (matches (slice a e (now (s .entry))) any k)
+    requires { ⌜ (m ≤ 13) × (13 ≤ length (now from)) × (13 ≤ length (now to)) × (13 ≤ length (now arity)) ⌝ }
+    ensures { λ r. ⌜ ((g : Signature) → m ≡ g .rels + g .chosen + g .every → g .every ≤ 1 → r ≡ placeOf (position (matches (slice a e (now (s .entry))) any k)
         (allOf (now (s .entry)) (withArrays g (now (from .entry)) (now (to .entry)) (now (arity .entry)))))) ⌝ }
 {
     let b = lookup(
@@ -140,7 +141,7 @@ fn search(
 // The number of the relation that the span names, in a signature whose names and count are lent. Any arity will do, so that no array
 // of arities is looked at.
 pub fn relation(s: &[u8], from: &[usize], to: &[usize], m: usize, a: usize, e: usize) -> Found
-    requires { ⌜ (m ≤ 12) × (12 ≤ length (now from)) × (12 ≤ length (now to)) ⌝ }
+    requires { ⌜ (m ≤ 13) × (13 ≤ length (now from)) × (13 ≤ length (now to)) ⌝ }
     ensures { λ r. ⌜ ((g : Signature) → Lent g (now (from .entry)) (now (to .entry)) m → r ≡ placeOf (numberOf (allOf (now (s .entry)) g) (slice a e (now (s .entry))))) ⌝ }
 {
     search(s, from, to, from, m, a, e, true, 0)
@@ -148,7 +149,7 @@ pub fn relation(s: &[u8], from: &[usize], to: &[usize], m: usize, a: usize, e: u
 
 // Whether the span names a relation, in a signature whose names and count are lent.
 pub fn is_declared(s: &[u8], from: &[usize], to: &[usize], m: usize, a: usize, e: usize) -> bool
-    requires { ⌜ (m ≤ 12) × (12 ≤ length (now from)) × (12 ≤ length (now to)) ⌝ }
+    requires { ⌜ (m ≤ 13) × (13 ≤ length (now from)) × (13 ≤ length (now to)) ⌝ }
     ensures { λ r. ⌜ ((g : Signature) → Lent g (now (from .entry)) (now (to .entry)) m → r ≡ isDeclared (allOf (now (s .entry)) g) (slice a e (now (s .entry)))) ⌝ }
 {
     let f = relation(s, from, to, m, a, e);
@@ -169,7 +170,7 @@ pub fn known(
     e: usize,
     count: usize,
 ) -> bool
-    requires { ⌜ m ≤ 12 ⌝ }
+    requires { ⌜ m ≤ 13 ⌝ }
     ensures { λ r. ⌜ r ≡ anyOf (hasArity (slice a e (now (s .entry))) count) (allOf (now (s .entry)) (lentOf (now (from .entry)) (now (to .entry)) (now (arity .entry)) m)) ⌝ }
 {
     let f = search(s, from, to, arity, m, a, e, false, count);
@@ -189,7 +190,7 @@ pub fn type_named(
     a: usize,
     e: usize,
 ) -> Found
-    requires { ⌜ (k ≤ 8) × (20 ≤ length (now from)) × (20 ≤ length (now to)) ⌝ }
+    requires { ⌜ (k ≤ 8) × (21 ≤ length (now from)) × (21 ≤ length (now to)) ⌝ }
     ensures { λ r. ⌜ r ≡ placeOf (typeNumber (typesIn (now (q .entry)) (now (from .entry)) (now (to .entry)) k) (slice a e (now (s .entry)))) ⌝ }
 {
     let f = lookup(q, from, to, from, DECLARED, k, s, a, e, true, 0);

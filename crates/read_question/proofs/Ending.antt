@@ -8,7 +8,7 @@ use native.Mathlib.Omega.{arith}
 use lib.Dec.{ltb}
 use lib.ListN.{length, take, drop}
 use lib.Seq.{slice, length-slice}
-use Rattle.definitions.specs.Lists.{if_then_else_, isEmpty, option}
+use Rattle.definitions.specs.Lists.{if_then_else_, isEmpty, isSome, option}
 use Rattle.definitions.specs.Refusal.{Result, refused, accepted, _>>=_, refuseIf, given}
 use Rattle.definitions.specs.Sheet.Formula.{Formula, allForms, nesting, isKnown, isScoped, isTyped}
 use Rattle.definitions.specs.Sheet.Parsing.{readFormula}
@@ -17,10 +17,10 @@ use Rattle.definitions.specs.Reply.Outcome.{spanOf, rulePart}
 use Rattle.read_line.specs.Lines.{readAt}
 use Rattle.read_line.specs.Entries.{entryIn, Reads}
 use Rattle.read_line.specs.declared.Entry.{Entry}
-use Rattle.read_line.specs.declared.Entry.the-variants.{Wrong, Rel, Typed, Choose, Rule, Size, Label, Member, Fact, Pick, Step}
+use Rattle.read_line.specs.declared.Entry.the-variants.{Wrong, Rel, Typed, Choose, Every, Rule, Size, Label, Member, Fact, Pick, Step}
 use Rattle.read_line.proofs.Runs.{read-stop, read-next}
 use Rattle.read_names.specs.declared.Signature.{Signature}
-use Rattle.read_names.specs.Signatures.{relationsFrom, relsOf, chosenOf, typesOf, allOf, NoFurther, SoundSignature}
+use Rattle.read_names.specs.Signatures.{relationsFrom, relsOf, chosenOf, everyOf, typesOf, allOf, NoFurther, SoundSignature}
 use Rattle.read_rule.specs.Seen.{ruleNumber}
 use Rattle.read_question.specs.declared.Head.{Head}
 use Rattle.read_question.specs.declared.Asked.{Asked}
@@ -51,7 +51,7 @@ module _ (s : List ℕ) (g : Signature) where
   module _ (at : ℕ) (text : List ℕ) where
     -- the draft that has the formula as its rule, once its tests are passed
     unfoldable ruled : Formula → D.Draft
-    ruled f = record { rels = relsOf s g; types = typesOf s g; chosen = chosenOf s g; ruled = some (record { at = at + 5; text = text; formula = f }) }
+    ruled f = record { rels = relsOf s g; types = typesOf s g; chosen = chosenOf s g; every = everyOf s g; ruled = some (record { at = at + 5; text = text; formula = f }) }
 
     abbrev tested : Formula → Result D.Draft
     tested f =
@@ -90,10 +90,11 @@ module _ (s : List ℕ) (g : Signature) (p : ℕ) (text : List ℕ) (f : Formula
   late-rel false c r = refl
 
   later-by : (x : Entry) → (given (entryIn s x) 2 at >>= D.addToQuestion (ruled s g p text f) at) ≡ refused (laterOf x) at
-  unfolding given entryIn _>>=_ D.addToQuestion laterOf D.addRel D.addType D.addChoose D.addRule D.isRuled refuseIf ruled
+  unfolding given entryIn _>>=_ D.addToQuestion laterOf D.addRel D.addType D.addChoose D.addEvery D.addRule D.isRuled refuseIf ruled
   later-by (Rel a e k) = rw (not-empty s g h) (late-rel (not (isEmpty (typesOf s g))) _ _)
   later-by (Typed a e) = rw (not-empty s g h)
-  later-by (Choose a e k d t u v) = refl
+  later-by (Choose a e k d t u v) = late-rel (isSome (everyOf s g)) _ _
+  later-by (Every a e k) = late-rel (isSome (everyOf s g)) _ _
   later-by (Rule a e) = refl
   later-by Wrong = refl
   later-by (Size n) = refl
@@ -131,9 +132,9 @@ module _ (s : List ℕ) (h : Head) (w : Headed s h) where
 
   module _ (z : h .fault ≡ 0) where
     -- what the rule's verdict asks, and where the lines after it begin
-    pub rule-in : (h .span .from ≤ h .span .to) × (h .span .to ≤ length s) × (h .sig .rels + h .sig .chosen ≤ 12) × (h .sig .types ≤ 8) × NoFurther (h .sig .to) (h .sig .types)
+    pub rule-in : (h .span .from ≤ h .span .to) × (h .span .to ≤ length s) × (h .sig .rels + h .sig .chosen ≤ 12) × (h .sig .every ≤ 1) × (h .sig .types ≤ 8) × NoFurther (h .sig .to) (h .sig .types)
     unfolding Reached
-    rule-in = let r = reached s h z w in (r .3, r .4, omega (arith, r .0 .rels-le, r .0 .chosen-le), r .0 .types-le, r .0 .no-further)
+    rule-in = let r = reached s h z w in (r .3, r .4, omega (arith, r .0 .rels-le, r .0 .chosen-le), r .0 .every-le, r .0 .types-le, r .0 .no-further)
 
     pub next-in : h .next ≤ length s
     unfolding Reached
@@ -191,6 +192,7 @@ module _ (s : List ℕ) (h : Head) (w : Headed s h) where
             rels = refl;
             types = refl;
             chosen = refl;
+            every = refl;
             rule-at = sym (t .2);
             rule-text = refl;
             rule-from = t .3;

@@ -8,7 +8,7 @@ use native.Mathlib.Numerals.{add-one}
 use native.Mathlib.Omega.{arith}
 use lib.Dec.{eqb, leb}
 use lib.Seq.{slice}
-use borrow.Author.Tests.{eq-eqb, ne-eqb, le-leb, lt-leb, eqb-true, leb-false, not-false}
+use borrow.Author.Tests.{eq-eqb, ne-eqb, eqb-true, leb-false, not-false}
 use denote.Enum.Declared.{tagOf}
 use types.Run.{OneOf, miss}
 use Rattle.definitions.specs.Lists.{if_then_else_, all, any, same, option, position}
@@ -25,11 +25,11 @@ use Rattle.read_names.specs.declared.Signature.{Signature}
 use Rattle.read_names.proofs.Laws.{any-found, any-missed, position-some, found-some, found-none, length-names}
 use Rattle.read_line.specs.Entries.{typesAt}
 use Rattle.read_line.specs.declared.Entry.{Entry}
-use Rattle.read_line.specs.declared.Entry.the-variants.{Wrong, Rel, Typed, Choose, Rule, Size, Label, Member, Fact, Pick, Step}
+use Rattle.read_line.specs.declared.Entry.the-variants.{Wrong, Rel, Typed, Choose, Every, Rule, Size, Label, Member, Fact, Pick, Step}
 use Rattle.read_line.proofs.Entry.{the-type}
 use Rattle.read_line.proofs.Made.{types-at}
 use Rattle.read_question.specs.declared.Sorts.{Sorts}
-use Rattle.read_question.specs.Drafts.{draftOf, isLate, nameFault, typeFault, chooseFault, judgeOf, Room, sortsIn, pushed, typed, grownBy, spanIn, laterOf}
+use Rattle.read_question.specs.Drafts.{draftOf, isLate, isClosed, nameFault, typeFault, chooseFault, everyFault, judgeOf, Room, sortsIn, pushed, typed, grownBy, spanIn, laterOf}
 
 -- ---- too late
 
@@ -53,11 +53,25 @@ module _ (types chosen own : ℕ) where
       let d = or-both (not (eqb types 0)) (not (eqb chosen 0)) (b .0) in
       (eqb-true types 0 (not-false (eqb types 0) (d .0)), eqb-true chosen 0 (not-false (eqb chosen 0) (d .1)), leb-false 8 own (b .1))
 
+-- no `choose` line may follow
+module _ (every chosen : ℕ) where
+  pub closed-every : (every ≡ 0 → ⊥) → true ≡ isClosed every chosen
+  unfolding isClosed
+  closed-every h = rw (ne-eqb every 0 h)
+
+  pub closed-many : every ≡ 0 → leb 4 chosen ≡ isClosed every chosen
+  unfolding isClosed
+  closed-many h = rw (eq-eqb every 0 h)
+
+  pub not-closed : isClosed every chosen ≡ false → (every ≡ 0) × (chosen < 4)
+  unfolding isClosed
+  not-closed p = let b = or-both (not (eqb every 0)) (leb 4 chosen) p in (eqb-true every 0 (not-false (eqb every 0) (b .0)), leb-false 4 chosen (b .1))
+
 -- ---- names
 
 -- a signature lends its own arrays
-pub own-arrays : (g : Signature) → Lent g (g .from) (g .to) (g .rels + g .chosen)
-own-arrays g = record { from-is = refl; to-is = refl; count = refl }
+pub own-arrays : (g : Signature) → g .every ≤ 1 → Lent g (g .from) (g .to) (g .rels + g .chosen + g .every)
+own-arrays g one = record { from-is = refl; to-is = refl; count = refl; one = one }
 
 module _ (s : List ℕ) (g : Signature) (name : List ℕ) where
   pub name-malformed : isRelationName name ≡ false → 4 ≡ nameFault s g name
@@ -109,7 +123,7 @@ module _ (q F T : List ℕ) (k : ℕ) (name : List ℕ) (f : Found) (w : f ≡ p
 
   pub type-few : (i : ℕ) → f ≡ At i → i < k
   unfolding typeNumber
-  type-few i e = omega (arith, position-some (λ t. same t name) (typesIn q F T k) i [] (found-some (typeNumber (typesIn q F T k) name) i f e w) .0, length-names q F T 12 k)
+  type-few i e = omega (arith, position-some (λ t. same t name) (typesIn q F T k) i [] (found-some (typeNumber (typesIn q F T k) name) i f e w) .0, length-names q F T 13 k)
 
 -- the sorts of its places
 module _ (s : List ℕ) (types : List (List ℕ)) (t u v : ℕ) where
@@ -162,6 +176,22 @@ module _ (s : List ℕ) (g : Signature) (name : List ℕ) (t u v : ℕ) where
         pub choose-typed : (p .seconds ≡ 0 → ⊥) → 0 ≡ chooseFault s g name (typesAt s t u v)
         choose-typed second = by-types true (all-sorted s (typesOf s g) t u v h p e ∙ rw (ne-eqb (p .firsts) 0 first, ne-eqb (p .seconds) 0 second))
 
+-- ---- the relation of an `every` line
+
+module _ (s : List ℕ) (g : Signature) (name : List ℕ) where
+  pub every-twice : (g .every ≡ 0 → ⊥) → 3 ≡ everyFault s g name
+  unfolding everyFault
+  every-twice h = rw (ne-eqb (g .every) 0 h)
+
+  module _ (first : g .every ≡ 0) where
+    pub every-early : g .chosen ≡ 0 → 3 ≡ everyFault s g name
+    unfolding everyFault
+    every-early h = rw (eq-eqb (g .every) 0 first, eq-eqb (g .chosen) 0 h)
+
+    pub every-now : (g .chosen ≡ 0 → ⊥) → (r : ℕ) → r ≡ nameFault s g name → r ≡ everyFault s g name
+    unfolding everyFault
+    every-now h r e = rw (eq-eqb (g .every) 0 first, ne-eqb (g .chosen) 0 h) e
+
 -- ---- the line
 
 module _ (s : List ℕ) (g : Signature) (x : Entry) where
@@ -188,13 +218,17 @@ module _ (s : List ℕ) (g : Signature) (x : Entry) where
     type-here r l n = n ∙ sym (ap (judgeOf s g) p ∙ rw l)
 
   module _ (a e k d t u v : ℕ) (p : x ≡ Choose a e k d t u v) where
-    pub choose-many : 4 ≤ g .chosen → 3 ≡ judgeOf s g x
+    pub choose-closed : isClosed (g .every) (g .chosen) ≡ true → 3 ≡ judgeOf s g x
     unfolding judgeOf
-    choose-many l = sym (ap (judgeOf s g) p ∙ rw (le-leb 4 (g .chosen) l))
+    choose-closed l = sym (ap (judgeOf s g) p ∙ rw l)
 
-    pub choose-here : (r : ℕ) → g .chosen < 4 → r ≡ chooseFault s g (slice a e s) (typesAt s t u v) → r ≡ judgeOf s g x
+    pub choose-here : (r : ℕ) → isClosed (g .every) (g .chosen) ≡ false → r ≡ chooseFault s g (slice a e s) (typesAt s t u v) → r ≡ judgeOf s g x
     unfolding judgeOf
-    choose-here r l n = n ∙ sym (ap (judgeOf s g) p ∙ rw (lt-leb 4 (g .chosen) l))
+    choose-here r l n = n ∙ sym (ap (judgeOf s g) p ∙ rw l)
+
+  pub every-here : (a e k r : ℕ) → x ≡ Every a e k → r ≡ everyFault s g (slice a e s) → r ≡ judgeOf s g x
+  unfolding judgeOf
+  every-here a e k r p n = n ∙ sym (ap (judgeOf s g) p)
 
   module _ (a e : ℕ) (p : x ≡ Rule a e) where
     pub rule-early : g .chosen ≡ 0 → 3 ≡ judgeOf s g x
@@ -220,9 +254,13 @@ module _ (g : Signature) {x : Entry} (room : Room g x) where
   unfolding Room
   room-choose p = subst (Room g) p room
 
+  pub room-every : {a e k : ℕ} → x ≡ Every a e k → g .rels + g .chosen < 13
+  unfolding Room
+  room-every p = subst (Room g) p room
+
 module _ (s : List ℕ) (g : Signature) {x : Entry} where
   pub grown-rel : {a e k : ℕ} → x ≡ Rel a e k
-      → pushed g (g .rels) a e k 0 (record { firsts = 0; seconds = 0 }) (g .rels + 1) (g .chosen) ≡ grownBy s g x
+      → pushed g (g .rels) a e k 0 (record { firsts = 0; seconds = 0 }) (g .rels + 1) (g .chosen) (g .every) ≡ grownBy s g x
   unfolding grownBy
   grown-rel p = sym (ap (grownBy s g) p)
 
@@ -231,14 +269,19 @@ module _ (s : List ℕ) (g : Signature) {x : Entry} where
   grown-type p = sym (ap (grownBy s g) p)
 
   pub grown-choose : {a e k d t u v : ℕ} → x ≡ Choose a e k d t u v → {y : Sorts} → y ≡ sortsIn (typesOf s g) (typesAt s t u v)
-      → pushed g (g .rels + g .chosen) a e k d y (g .rels) (g .chosen + 1) ≡ grownBy s g x
+      → pushed g (g .rels + g .chosen) a e k d y (g .rels) (g .chosen + 1) (g .every) ≡ grownBy s g x
   unfolding grownBy
-  grown-choose {a} {e} {k} {d} p q = ap (λ (z : Sorts). pushed g (g .rels + g .chosen) a e k d z (g .rels) (g .chosen + 1)) q ∙ sym (ap (grownBy s g) p)
+  grown-choose {a} {e} {k} {d} p q = ap (λ (z : Sorts). pushed g (g .rels + g .chosen) a e k d z (g .rels) (g .chosen + 1) (g .every)) q ∙ sym (ap (grownBy s g) p)
+
+  pub grown-every : {a e k : ℕ} → x ≡ Every a e k
+      → pushed g (g .rels + g .chosen) a e k 6 (record { firsts = 0; seconds = 0 }) (g .rels) (g .chosen) 1 ≡ grownBy s g x
+  unfolding grownBy
+  grown-every p = sym (ap (grownBy s g) p)
 
 -- ---- what is left of an enum when some of its variants, by their places, are ruled out
 
 abbrev otherSheets : List ℕ
-otherSheets = 5 ∷ 6 ∷ 7 ∷ 8 ∷ 9 ∷ 10 ∷ []
+otherSheets = 6 ∷ 7 ∷ 8 ∷ 9 ∷ 10 ∷ 11 ∷ []
 
 pub judge-other : (s : List ℕ) (g : Signature) (x : Entry) → OneOf otherSheets (tagOf the-type x) → 3 ≡ judgeOf s g x
 unfolding judgeOf
@@ -246,7 +289,8 @@ judge-other s g Wrong w = absurd (miss otherSheets 0 tt w)
 judge-other s g (Rel a e k) w = absurd (miss otherSheets 1 tt w)
 judge-other s g (Typed a e) w = absurd (miss otherSheets 2 tt w)
 judge-other s g (Choose a e k d t u v) w = absurd (miss otherSheets 3 tt w)
-judge-other s g (Rule a e) w = absurd (miss otherSheets 4 tt w)
+judge-other s g (Every a e k) w = absurd (miss otherSheets 4 tt w)
+judge-other s g (Rule a e) w = absurd (miss otherSheets 5 tt w)
 judge-other s g (Size n) w = refl
 judge-other s g (Label k a t e) w = refl
 judge-other s g (Member a t k e) w = refl
@@ -255,13 +299,14 @@ judge-other s g (Pick a t e p) w = refl
 judge-other s g (Step k) w = refl
 
 abbrev undeclaring : List ℕ
-undeclaring = 0 ∷ 4 ∷ otherSheets
+undeclaring = 0 ∷ 5 ∷ otherSheets
 
 pub grown-other : (s : List ℕ) (g : Signature) (x : Entry) → OneOf undeclaring (tagOf the-type x) → g ≡ grownBy s g x
 unfolding grownBy
 grown-other s g (Rel a e k) w = absurd (miss undeclaring 1 tt w)
 grown-other s g (Typed a e) w = absurd (miss undeclaring 2 tt w)
 grown-other s g (Choose a e k d t u v) w = absurd (miss undeclaring 3 tt w)
+grown-other s g (Every a e k) w = absurd (miss undeclaring 4 tt w)
 grown-other s g Wrong w = refl
 grown-other s g (Rule a e) w = refl
 grown-other s g (Size n) w = refl
@@ -272,15 +317,16 @@ grown-other s g (Pick a t e p) w = refl
 grown-other s g (Step k) w = refl
 
 abbrev notRule : List ℕ
-notRule = 0 ∷ 1 ∷ 2 ∷ 3 ∷ otherSheets
+notRule = 0 ∷ 1 ∷ 2 ∷ 3 ∷ 4 ∷ otherSheets
 
 pub span-other : (x : Entry) → OneOf notRule (tagOf the-type x) → record { from = 0; to = 0 } ≡ spanIn x
 unfolding spanIn
-span-other (Rule a e) w = absurd (miss notRule 4 tt w)
+span-other (Rule a e) w = absurd (miss notRule 5 tt w)
 span-other Wrong w = refl
 span-other (Rel a e k) w = refl
 span-other (Typed a e) w = refl
 span-other (Choose a e k d t u v) w = refl
+span-other (Every a e k) w = refl
 span-other (Size n) w = refl
 span-other (Label k a t e) w = refl
 span-other (Member a t k e) w = refl
@@ -289,7 +335,7 @@ span-other (Pick a t e p) w = refl
 span-other (Step k) w = refl
 
 abbrev notWrong : List ℕ
-notWrong = 1 ∷ 2 ∷ 3 ∷ 4 ∷ otherSheets
+notWrong = 1 ∷ 2 ∷ 3 ∷ 4 ∷ 5 ∷ otherSheets
 
 pub later-other : (x : Entry) → OneOf notWrong (tagOf the-type x) → 3 ≡ laterOf x
 unfolding laterOf
@@ -297,6 +343,7 @@ later-other Wrong w = absurd (miss notWrong 0 tt w)
 later-other (Rel a e k) w = refl
 later-other (Typed a e) w = refl
 later-other (Choose a e k d t u v) w = refl
+later-other (Every a e k) w = refl
 later-other (Rule a e) w = refl
 later-other (Size n) w = refl
 later-other (Label k a t e) w = refl

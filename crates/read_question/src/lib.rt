@@ -9,7 +9,7 @@ ghost use Rattle.definitions.specs.Sheet.Formula.{sortNamed};
 ghost use Rattle.read_line.specs.Entries.{InText, typesAt};
 ghost use Rattle.read_names.specs.Signatures.{typesIn, typesOf, SoundSignature, Lent};
 ghost use Rattle.read_rule.specs.Seen.{verdictNumber};
-ghost use Rattle.read_question.specs.Drafts.{isLate, nameFault, typeFault, chooseFault, judgeOf, Room, sortsIn, pushed, typed, grownBy, spanIn, Headed, laterOf, noSignature, refusedWith, QuestionRead};
+ghost use Rattle.read_question.specs.Drafts.{isLate, isClosed, nameFault, typeFault, chooseFault, everyFault, judgeOf, Room, sortsIn, pushed, typed, grownBy, spanIn, Headed, laterOf, noSignature, refusedWith, QuestionRead};
 use read_line::Entry;
 use read_names::Signature;
 use read_rule::Verdict;
@@ -68,7 +68,7 @@ fn name_fault(
     a: usize,
     e: usize,
 ) -> u32
-    requires { ⌜ (m ≤ 12) × (a ≤ e) × (e ≤ length (now s)) ⌝ }
+    requires { ⌜ (m ≤ 13) × (a ≤ e) × (e ≤ length (now s)) ⌝ }
     ensures { λ r. ⌜ ((g : Signature) → Lent g (now (from .entry)) (now (to .entry)) m → r ≡ nameFault (now (s .entry)) g (slice a e (now (s .entry)))) ⌝ }
 {
     if read_text::is_relation_name(s, a, e) {
@@ -78,6 +78,16 @@ fn name_fault(
         return 0;
     }
     4
+}
+
+// The same in a signature.
+fn new_name(s: &[u8], g: Signature, a: usize, e: usize) -> u32
+    requires { ⌜ SoundSignature (now s) g × (a ≤ e) × (e ≤ length (now s)) ⌝ }
+    ensures { λ r. ⌜ r ≡ nameFault (now (s .entry)) g (slice a e (now (s .entry))) ⌝ }
+{
+    let from = g.from;
+    let to = g.to;
+    name_fault(s, &from, &to, g.rels + g.chosen + g.every, a, e)
 }
 
 // What a type gets in its place: 4 unless the span has a name's form, 19 if it is one of the first k types of a signature whose names
@@ -149,9 +159,7 @@ fn choose_fault(s: &[u8], g: Signature, a: usize, e: usize, t: usize, u: usize, 
     requires { ⌜ SoundSignature (now s) g × (a ≤ e) × (e ≤ length (now s)) × (0 < v → u < v) ⌝ }
     ensures { λ r. ⌜ r ≡ chooseFault (now (s .entry)) g (slice a e (now (s .entry))) (typesAt (now (s .entry)) t u v) ⌝ }
 {
-    let from = g.from;
-    let to = g.to;
-    let c = name_fault(s, &from, &to, g.rels + g.chosen, a, e);
+    let c = new_name(s, g, a, e);
     if c != 0 {
         return c;
     }
@@ -168,6 +176,30 @@ fn choose_fault(s: &[u8], g: Signature, a: usize, e: usize, t: usize, u: usize, 
     0
 }
 
+// No `choose` line may follow: the `every` line was read, or four of its kind.
+fn closed(every: usize, chosen: usize) -> bool
+    ensures { λ r. ⌜ r ≡ isClosed every chosen ⌝ }
+{
+    if every != 0 {
+        return true;
+    }
+    4 <= chosen
+}
+
+// What the relation of an `every` line gets: 3 if it is the second or comes before any `choose`, then 4 by its name.
+fn every_fault(s: &[u8], g: Signature, a: usize, e: usize) -> u32
+    requires { ⌜ SoundSignature (now s) g × (a ≤ e) × (e ≤ length (now s)) ⌝ }
+    ensures { λ r. ⌜ r ≡ everyFault (now (s .entry)) g (slice a e (now (s .entry))) ⌝ }
+{
+    if g.every != 0 {
+        return 3;
+    }
+    if g.chosen == 0 {
+        return 3;
+    }
+    new_name(s, g, a, e)
+}
+
 // What a line before the rule gets: 0 for a good relation or type, 1 for the rule in its place, else the refusal's number.
 fn judge(s: &[u8], g: Signature, at: usize, x: Entry) -> u32
     requires { ⌜ SoundSignature (now s) g × InText (now s) at x ⌝ }
@@ -179,9 +211,7 @@ fn judge(s: &[u8], g: Signature, at: usize, x: Entry) -> u32
             if late(g.types, g.chosen, g.rels) {
                 return 3;
             }
-            let from = g.from;
-            let to = g.to;
-            name_fault(s, &from, &to, g.rels + g.chosen, a, e)
+            new_name(s, g, a, e)
         }
         Entry::Typed(a, e) => {
             if late(0, g.chosen, g.types) {
@@ -192,11 +222,12 @@ fn judge(s: &[u8], g: Signature, at: usize, x: Entry) -> u32
             type_fault(s, &from, &to, g.types, a, e)
         }
         Entry::Choose(a, e, _, _, t, u, v) => {
-            if 4 <= g.chosen {
+            if closed(g.every, g.chosen) {
                 return 3;
             }
             choose_fault(s, g, a, e, t, u, v)
         }
+        Entry::Every(a, e, _) => every_fault(s, g, a, e),
         Entry::Rule(_, _) => {
             if g.chosen == 0 {
                 return 3;
@@ -218,9 +249,10 @@ fn push(
     p: Sorts,
     rels: usize,
     chosen: usize,
+    every: usize,
 ) -> Signature
-    requires { ⌜ i < 12 ⌝ }
-    ensures { λ r. ⌜ r ≡ pushed g i a e k d p rels chosen ⌝ }
+    requires { ⌜ i < 13 ⌝ }
+    ensures { λ r. ⌜ r ≡ pushed g i a e k d p rels chosen every ⌝ }
 {
     let mut h = g;
     h.from[i] = a;
@@ -231,6 +263,7 @@ fn push(
     h.seconds[i] = p.seconds;
     h.rels = rels;
     h.chosen = chosen;
+    h.every = every;
     h
 }
 
@@ -258,13 +291,32 @@ fn grow(s: &[u8], g: Signature, x: Entry) -> Signature
                 firsts: 0,
                 seconds: 0,
             };
-            push(g, g.rels, a, e, k as usize, 0, p, g.rels + 1, g.chosen)
+            push(
+                g,
+                g.rels,
+                a,
+                e,
+                k as usize,
+                0,
+                p,
+                g.rels + 1,
+                g.chosen,
+                g.every,
+            )
         }
         Entry::Typed(a, e) => push_type(g, a, e),
         Entry::Choose(a, e, k, d, t, u, v) => {
             let p = sorts_of(s, g, t, u, v);
             let i = g.rels + g.chosen;
-            push(g, i, a, e, k as usize, d, p, g.rels, g.chosen + 1)
+            push(g, i, a, e, k as usize, d, p, g.rels, g.chosen + 1, g.every)
+        }
+        Entry::Every(a, e, k) => {
+            let p = Sorts {
+                firsts: 0,
+                seconds: 0,
+            };
+            let i = g.rels + g.chosen;
+            push(g, i, a, e, k as usize, 6, p, g.rels, g.chosen, 1)
         }
         _ => g,
     }
@@ -287,6 +339,7 @@ fn no_relations() -> Signature
     Signature {
         rels: 0,
         chosen: 0,
+        every: 0,
         types: 0,
         from: [0; read_names::NAMES],
         to: [0; read_names::NAMES],

@@ -74,14 +74,14 @@ module _ (types : List (List ℕ)) (name : List ℕ) (f : Place) (w : f ≡ plac
   no-type e = any-missed (λ t. same t name) (λ t. same t name) (λ t. refl) types (found-none _ f e w)
 
 -- the names and the arities of a signature say it all
-pub seen-lent : (q : List ℕ) (g : Signature) (m : ℕ) → m ≡ g .rels + g .chosen → g .types ≤ 8 → NoFurther (g .to) (g .types) → (sc : List (List ℕ)) (len k : ℕ) (l : List ℕ)
+pub seen-lent : (q : List ℕ) (g : Signature) (m : ℕ) → m ≡ g .rels + g .chosen + g .every → g .every ≤ 1 → g .types ≤ 8 → NoFurther (g .to) (g .types) → (sc : List (List ℕ)) (len k : ℕ) (l : List ℕ)
     → seen (facts (allOf q (lentOf (g .from) (g .to) (g .arity) m)) (typesIn q (g .from) (g .to) 8) sc) len (read k l) ≡ seen (facts (allOf q g) (typesOf q g) sc) len (read k l)
 unfolding seen facts typesOf
-seen-lent q g m e few none sc len k l = by-res (read k l) refl
+seen-lent q g m e one few none sc len k l = by-res (read k l) refl
   where
     by-res : (x : Res Formula) → read k l ≡ x
         → seen (facts (allOf q (lentOf (g .from) (g .to) (g .arity) m)) (typesIn q (g .from) (g .to) 8) sc) len x ≡ seen (facts (allOf q g) (typesOf q g) sc) len x
     by-res bad w = refl
     by-res (ok f r) w =
-        ap (λ (x : Facts). Ok (len - length r) x) (facts-eq _ _ _ _ _ _ _ _ _ _ refl refl (known-as _ _ (λ name j. any-lent name j q g m e) f) refl
+        ap (λ (x : Facts). Ok (len - length r) x) (facts-eq _ _ _ _ _ _ _ _ _ _ refl refl (known-as _ _ (λ name j. any-lent name j q g m e one) f) refl
         (typed-as _ _ (λ x. has-type-in q (g .from) (g .to) (g .types) few none x) (sound k l f r w .good)))

@@ -22,7 +22,7 @@ numberAt at (accepted a) = some 0
 eqb-same : (n : ℕ) → eqb n n ≡ true
 eqb-same n = eq-eqb n n refl
 
-pub rule-line : (d : Draft) (at : ℕ) (text : List ℕ) → (isRuled (d .ruled) || isEmpty (d .chosen)) ≡ false → numberAt at (addRule d at text) ≡ some (ruleNumber (relations (d .rels) (d .chosen)) (d .types) (d .chosen) text)
+pub rule-line : (d : Draft) (at : ℕ) (text : List ℕ) → (isRuled (d .ruled) || isEmpty (d .chosen)) ≡ false → numberAt at (addRule d at text) ≡ some (ruleNumber (relations (d .rels) (d .chosen) (d .every)) (d .types) (d .chosen) text)
 unfolding addRule refuseIf _>>=_ given ruleNumber option numberAt
 rule-line d at text e = rw e (by-option (readFormula text))
   where
@@ -35,15 +35,16 @@ rule-line d at text e = rw e (by-option (readFormula text))
 
     by-option : (o : Option Formula) → numberAt {A = Draft} at
         (given o 5 at >>= (λ f. refuseIf (ltb formLimit (allForms (d .chosen) f) || ltb nestingLimit (nesting f)) 6 at >>=
-        (λ _. refuseIf (not (isKnown (relations (d .rels) (d .chosen)) f)) 7 at >>=
+        (λ _. refuseIf (not (isKnown (relations (d .rels) (d .chosen) (d .every)) f)) 7 at >>=
         (λ _. refuseIf (not (isScoped [] f)) 8 at >>= (λ _. refuseIf (not (isTyped (d .types) f)) 19 at >>=
         (λ _. accepted (record {
           rels = d .rels;
           types = d .types;
           chosen = d .chosen;
+          every = d .every;
           ruled = some (record { at = at + 5; text = text; formula = f });
         }))))))) ≡ some (option o 5 (λ f. if ltb formLimit (allForms (d .chosen) f)
-        || ltb nestingLimit (nesting f) then 6 else if not (isKnown (relations (d .rels) (d .chosen)) f) then 7 else if not (isScoped [] f) then 8
+        || ltb nestingLimit (nesting f) then 6 else if not (isKnown (relations (d .rels) (d .chosen) (d .every)) f) then 7 else if not (isScoped [] f) then 8
         else if not (isTyped (d .types) f) then 19 else 0))
     by-option none = rw (eqb-same at)
-    by-option (some f) = tests (ltb formLimit (allForms (d .chosen) f) || ltb nestingLimit (nesting f)) (not (isKnown (relations (d .rels) (d .chosen)) f)) (not (isScoped [] f)) (not (isTyped (d .types) f)) _
+    by-option (some f) = tests (ltb formLimit (allForms (d .chosen) f) || ltb nestingLimit (nesting f)) (not (isKnown (relations (d .rels) (d .chosen) (d .every)) f)) (not (isScoped [] f)) (not (isTyped (d .types) f)) _

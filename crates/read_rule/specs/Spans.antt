@@ -195,7 +195,8 @@ total-none (suc zero) e h = refl
 total-none (suc (suc zero)) e h = absurd (e refl)
 total-none (suc (suc (suc zero))) e h = refl
 total-none (suc (suc (suc (suc zero)))) e h = absurd (h refl)
-total-none (suc (suc (suc (suc (suc k))))) e h = refl
+total-none (suc (suc (suc (suc (suc zero))))) e h = refl
+total-none (suc (suc (suc (suc (suc (suc k)))))) e h = refl
 
 pub total-le : (k : ℕ) → totalOf k ≤ 1
 unfolding totalOf

@@ -521,10 +521,10 @@ fn shut_literal(
     f: Facts,
     from: &[usize; read_names::NAMES],
     to: &[usize; read_names::NAMES],
-    arity: &[usize; 12],
+    arity: &[usize; 13],
     m: usize,
 ) -> Scanned
-    requires { ⌜ (at ≤ length (now s)) × (m ≤ 12) ⌝ }
+    requires { ⌜ (at ≤ length (now s)) × (m ≤ 13) ⌝ }
     ensures { λ r. ⌜ r ≡ shutOf (now (s .entry)) at (litFacts (allOf (now (s .entry)) (lentOf (now (from .entry)) (now (to .entry)) (now (arity .entry)) m)) (slice a e (now (s .entry))) f) ⌝ }
 {
     let k = read_names::known(s, from, to, arity, m, a, e, f.forms);
@@ -563,11 +563,11 @@ pub fn literal(
     at: usize,
     from: &[usize; read_names::NAMES],
     to: &[usize; read_names::NAMES],
-    arity: &[usize; 12],
+    arity: &[usize; 13],
     m: usize,
     sc: Scope,
 ) -> Scanned
-    requires { ⌜ (at ≤ length (now s)) × (m ≤ 12) × (sc .n ≤ 4) ⌝ }
+    requires { ⌜ (at ≤ length (now s)) × (m ≤ 13) × (sc .n ≤ 4) ⌝ }
     ensures { λ r. ⌜ r ≡ seen (facts (allOf (now (s .entry)) (lentOf (now (from .entry)) (now (to .entry)) (now (arity .entry)) m)) (typesIn (now (s .entry)) (now (from .entry)) (now (to .entry)) 8) (names (now (s .entry)) sc)) (length (now (s .entry))) (readLit (drop at (now (s .entry)))) ⌝ }
 {
     if starts(s, at, b"(") {
@@ -607,11 +607,11 @@ pub fn scan(
     room: usize,
     from: &[usize; read_names::NAMES],
     to: &[usize; read_names::NAMES],
-    arity: &[usize; 12],
+    arity: &[usize; 13],
     m: usize,
     sc: Scope,
 ) -> Scanned
-    requires { ⌜ (at ≤ length (now s)) × (m ≤ 12) × (sc .n ≤ 4) ⌝ }
+    requires { ⌜ (at ≤ length (now s)) × (m ≤ 13) × (sc .n ≤ 4) ⌝ }
     ensures { λ r. ⌜ r ≡ seen (facts (allOf (now (s .entry)) (lentOf (now (from .entry)) (now (to .entry)) (now (arity .entry)) m)) (typesIn (now (s .entry)) (now (from .entry)) (now (to .entry)) 8) (names (now (s .entry)) sc)) (length (now (s .entry))) (read room (drop at (now (s .entry)))) ⌝ }
 {
     if room == 0 {
@@ -636,11 +636,11 @@ fn negated(
     room: usize,
     from: &[usize; read_names::NAMES],
     to: &[usize; read_names::NAMES],
-    arity: &[usize; 12],
+    arity: &[usize; 13],
     m: usize,
     sc: Scope,
 ) -> Scanned
-    requires { ⌜ (at ≤ length (now s)) × (m ≤ 12) × (sc .n ≤ 4) ⌝ }
+    requires { ⌜ (at ≤ length (now s)) × (m ≤ 13) × (sc .n ≤ 4) ⌝ }
     ensures { λ r. ⌜ r ≡ seen (facts (allOf (now (s .entry)) (lentOf (now (from .entry)) (now (to .entry)) (now (arity .entry)) m)) (typesIn (now (s .entry)) (now (from .entry)) (now (to .entry)) 8) (names (now (s .entry)) sc))
         (length (now (s .entry))) (readNeg (read room) (drop at (now (s .entry)))) ⌝ }
 {
@@ -658,11 +658,11 @@ fn implied(
     room: usize,
     from: &[usize; read_names::NAMES],
     to: &[usize; read_names::NAMES],
-    arity: &[usize; 12],
+    arity: &[usize; 13],
     m: usize,
     sc: Scope,
 ) -> Scanned
-    requires { ⌜ (at ≤ length (now s)) × (m ≤ 12) × (sc .n ≤ 4) ⌝ }
+    requires { ⌜ (at ≤ length (now s)) × (m ≤ 13) × (sc .n ≤ 4) ⌝ }
     ensures { λ r. ⌜ r ≡ seen (facts (allOf (now (s .entry)) (lentOf (now (from .entry)) (now (to .entry)) (now (arity .entry)) m)) (typesIn (now (s .entry)) (now (from .entry)) (now (to .entry)) 8) (names (now (s .entry)) sc))
         (length (now (s .entry))) (readImp (read room) (drop at (now (s .entry)))) ⌝ }
 {
@@ -690,11 +690,11 @@ fn joined(
     room: usize,
     from: &[usize; read_names::NAMES],
     to: &[usize; read_names::NAMES],
-    arity: &[usize; 12],
+    arity: &[usize; 13],
     m: usize,
     sc: Scope,
 ) -> Scanned
-    requires { ⌜ (at ≤ length (now s)) × (m ≤ 12) × (sc .n ≤ 4) ⌝ }
+    requires { ⌜ (at ≤ length (now s)) × (m ≤ 13) × (sc .n ≤ 4) ⌝ }
     ensures { λ r. ⌜ ((j : Join) → r ≡ seen (facts (allOf (now (s .entry)) (lentOf (now (from .entry)) (now (to .entry)) (now (arity .entry)) m)) (typesIn (now (s .entry)) (now (from .entry)) (now (to .entry)) 8) (names (now (s .entry)) sc))
         (length (now (s .entry))) (readJoin (read room) j (drop at (now (s .entry))))) ⌝ }
 {
@@ -719,11 +719,11 @@ fn parts(
     left: usize,
     from: &[usize; read_names::NAMES],
     to: &[usize; read_names::NAMES],
-    arity: &[usize; 12],
+    arity: &[usize; 13],
     m: usize,
     sc: Scope,
 ) -> Scanned
-    requires { ⌜ (at ≤ length (now s)) × (m ≤ 12) × (sc .n ≤ 4) ⌝ }
+    requires { ⌜ (at ≤ length (now s)) × (m ≤ 13) × (sc .n ≤ 4) ⌝ }
     ensures { λ r. ⌜ r ≡ seen (factsAll (allOf (now (s .entry)) (lentOf (now (from .entry)) (now (to .entry)) (now (arity .entry)) m)) (typesIn (now (s .entry)) (now (from .entry)) (now (to .entry)) 8) (names (now (s .entry)) sc))
         (length (now (s .entry))) (readParts (read room) left (drop at (now (s .entry)))) ⌝ }
 {
@@ -760,11 +760,11 @@ fn bound(
     room: usize,
     from: &[usize; read_names::NAMES],
     to: &[usize; read_names::NAMES],
-    arity: &[usize; 12],
+    arity: &[usize; 13],
     m: usize,
     sc: Scope,
 ) -> Scanned
-    requires { ⌜ (at ≤ length (now s)) × (m ≤ 12) × (sc .n ≤ 4) ⌝ }
+    requires { ⌜ (at ≤ length (now s)) × (m ≤ 13) × (sc .n ≤ 4) ⌝ }
     ensures { λ r. ⌜ ((q : Quant) → r ≡ seen (facts (allOf (now (s .entry)) (lentOf (now (from .entry)) (now (to .entry)) (now (arity .entry)) m)) (typesIn (now (s .entry)) (now (from .entry)) (now (to .entry)) 8) (names (now (s .entry)) sc))
         (length (now (s .entry))) (readQuant (read room) q (drop at (now (s .entry))))) ⌝ }
 {
@@ -869,7 +869,7 @@ fn judge(f: Facts, t: usize) -> Verdict
 
 // The refusal of the rule field from `at` to `end`.
 pub fn rule_verdict(text: &[u8], at: usize, end: usize, sig: Signature) -> Verdict
-    requires { ⌜ (at ≤ end) × (end ≤ length (now text)) × (sig .rels + sig .chosen ≤ 12) × (sig .types ≤ 8) × NoFurther (sig .to) (sig .types) ⌝ }
+    requires { ⌜ (at ≤ end) × (end ≤ length (now text)) × (sig .rels + sig .chosen ≤ 12) × (sig .every ≤ 1) × (sig .types ≤ 8) × NoFurther (sig .to) (sig .types) ⌝ }
     ensures { λ r. ⌜ verdictNumber r ≡ ruleNumber (allOf (now (text .entry)) sig) (typesOf (now (text .entry)) sig) (chosenOf (now (text .entry)) sig) (slice at end (now (text .entry))) ⌝ }
 {
     let sc = Scope {
@@ -880,7 +880,7 @@ pub fn rule_verdict(text: &[u8], at: usize, end: usize, sig: Signature) -> Verdi
     let from = sig.from;
     let to = sig.to;
     let arity = sig.arity;
-    let m = sig.rels + sig.chosen;
+    let m = sig.rels + sig.chosen + sig.every;
     let f = scan(text, at, 128, &from, &to, &arity, m, sc);
     match f {
         Scanned::Bad => Verdict::NotOfForm,

@@ -253,7 +253,7 @@ module _ (L : CaseLimits) (q : List ℕ) (g : Signature) (s : List ℕ) where
       site-end r f = subst (λ (a : Answer). GotSite L g s site-read a words joins (bit table)) (sym (f (w .1) (w .4 .3))) (by-number (st .n) refl (eqb (st .n) 0) refl (all (D.hasMember (w .1)) (below (g .types))) refl)
         where
           its-types : (b : Bool) → all (D.hasMember (w .1)) (below (g .types)) ≡ b → all (D.hasMember (w .1)) (below (length (typesOf q g))) ≡ b
-          its-types b h = ap (λ (k : ℕ). all (D.hasMember (w .1)) (below k)) (length-names q (g .from) (g .to) 12 (g .types)) ∙ h
+          its-types b h = ap (λ (k : ℕ). all (D.hasMember (w .1)) (below k)) (length-names q (g .from) (g .to) 13 (g .types)) ∙ h
 
           at-least : (n : ℕ) → (n ≡ 0 → ⊥) → 1 ≤ n
           at-least zero h = absurd (h refl)

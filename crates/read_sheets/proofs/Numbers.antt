@@ -15,7 +15,7 @@ use Rattle.definitions.specs.Reply.Outcome.{written}
 use Rattle.read_line.specs.Lines.{linesAt, lineBy, readAt}
 use Rattle.read_line.specs.Entries.{entryIn, Reads}
 use Rattle.read_line.specs.declared.Entry.{Entry}
-use Rattle.read_line.specs.declared.Entry.the-variants.{Wrong, Rel, Typed, Choose, Rule, Size, Label, Member, Fact, Pick, Step}
+use Rattle.read_line.specs.declared.Entry.the-variants.{Wrong, Rel, Typed, Choose, Every, Rule, Size, Label, Member, Fact, Pick, Step}
 use Rattle.read_line.proofs.Runs.{read-long, read-start, read-stop, read-went, read-halted}
 use Rattle.laws.specs.Told.{steps-told}
 use Rattle.laws.specs.Long.{steps-long}
@@ -47,6 +47,7 @@ module _ (s : List ℕ) (at next : ℕ) (ks : List ℕ) where
   number-line (Rel a e j) k p = let z : _≡_ {A = ℕ} 0 1 = cc in absurd (omega arith)
   number-line (Typed a e) k p = let z : _≡_ {A = ℕ} 0 1 = cc in absurd (omega arith)
   number-line (Choose a e j d t u v) k p = let z : _≡_ {A = ℕ} 0 1 = cc in absurd (omega arith)
+  number-line (Every a e j) k p = let z : _≡_ {A = ℕ} 0 1 = cc in absurd (omega arith)
   number-line (Rule a e) k p = let z : _≡_ {A = ℕ} 0 1 = cc in absurd (omega arith)
   number-line (Size n) k p = let z : _≡_ {A = ℕ} 0 1 = cc in absurd (omega arith)
   number-line (Label j a t e) k p = let z : _≡_ {A = ℕ} 0 1 = cc in absurd (omega arith)
@@ -61,6 +62,7 @@ module _ (s : List ℕ) (at next : ℕ) (ks : List ℕ) where
   fault-line (Rel a e j) k p = rw (← fault-is 3 k p)
   fault-line (Typed a e) k p = rw (← fault-is 3 k p)
   fault-line (Choose a e j d t u v) k p = rw (← fault-is 3 k p)
+  fault-line (Every a e j) k p = rw (← fault-is 3 k p)
   fault-line (Rule a e) k p = rw (← fault-is 3 k p)
   fault-line (Size n) k p = rw (← fault-is 3 k p)
   fault-line (Label j a t e) k p = rw (← fault-is 3 k p)
@@ -116,6 +118,7 @@ added f ks all at (D.step k) ih q = omega (arith, ih (ks ++ (k ∷ [])) q, lengt
 added f ks all at (D.rel a b) ih q = absurd (clash 3 at all q)
 added f ks all at (D.type a) ih q = absurd (clash 3 at all q)
 added f ks all at (D.choose a b c d) ih q = absurd (clash 3 at all q)
+added f ks all at (D.every a b) ih q = absurd (clash 3 at all q)
 added f ks all at (D.rule a) ih q = absurd (clash 3 at all q)
 added f ks all at (D.size a) ih q = absurd (clash 3 at all q)
 added f ks all at (D.label a b) ih q = absurd (clash 3 at all q)

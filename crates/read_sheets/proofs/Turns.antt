@@ -24,7 +24,7 @@ use Rattle.bits.specs.Table.{bit}
 use Rattle.read_line.specs.Entries.{Fielded, entryIn, elementBy, listOf, InText}
 use Rattle.read_line.specs.declared.Places.{Places}
 use Rattle.read_line.specs.declared.Entry.{Entry}
-use Rattle.read_line.specs.declared.Entry.the-variants.{Wrong, Rel, Typed, Choose, Rule, Size, Label, Member, Fact, Pick, Step}
+use Rattle.read_line.specs.declared.Entry.the-variants.{Wrong, Rel, Typed, Choose, Every, Rule, Size, Label, Member, Fact, Pick, Step}
 use Rattle.read_names.specs.declared.Signature.{Signature}
 use Rattle.read_names.specs.Signatures.{relationsFrom, relsOf, typesIn, typesOf, chosenOf, SoundSignature, withArrays}
 use Rattle.definitions.specs.Problem.Atoms.{wordsFor}
@@ -49,7 +49,7 @@ adds-fault q g lo m n ls name es ts at new (suc k) h v = v
 pub sound-few : (q : List ℕ) (g : Signature) (lo m : ℕ) → SoundSignature q g → lo + m ≤ g .rels + g .chosen → FewArities lo m (g .arity)
 sound-few q g lo m s h = (omega (arith, s .rels-le, s .chosen-le), λ j l. s .arities j (omega arith) .1)
 
-pub arrays-of : (lo m : ℕ) (from to arity : List ℕ) → FewArities lo m arity → length from ≡ 20 → length to ≡ 20 → length arity ≡ 12 → Arrays lo m from to arity
+pub arrays-of : (lo m : ℕ) (from to arity : List ℕ) → FewArities lo m arity → length from ≡ 21 → length to ≡ 21 → length arity ≡ 13 → Arrays lo m from to arity
 arrays-of lo m from to arity h f t a = record { few = h .0; length-from = omega arith; length-to = omega arith; length-arity = omega arith; arities = h .1 }
 
 -- a table that has room for 8 relations of three places has room for a question's `rel` relations, and for 4 such for its `choose`
@@ -193,6 +193,10 @@ module _ (L : CaseLimits) (q : List ℕ) (g : Signature) (s : List ℕ) (st : St
   pub site-choose : (a e k d t u v : ℕ) → x ≡ Choose a e k d t u v → Turned (Fault 3)
   unfolding SiteTurned SiteTurns given entryIn _>>=_ D.addToSite
   site-choose a e k d t u v p at labels members facts w = rw p
+
+  pub site-every : (a e k : ℕ) → x ≡ Every a e k → Turned (Fault 3)
+  unfolding SiteTurned SiteTurns given entryIn _>>=_ D.addToSite
+  site-every a e k p at labels members facts w = rw p
 
   pub site-rule : (a e : ℕ) → x ≡ Rule a e → Turned (Fault 3)
   unfolding SiteTurned SiteTurns given entryIn _>>=_ D.addToSite
@@ -468,7 +472,7 @@ module _ (L : CaseLimits) (q : List ℕ) (g : Signature) (s : List ℕ) (st : St
 
 -- limits of so many elements, whatever the others are
 abbrev pub upTo : ℕ → CaseLimits
-upTo most = record { elements = most; atoms = 0; actions = 0 }
+upTo most = record { elements = most; atoms = 0; actions = 0; steps = 0 }
 
 -- where no size was read before, a line that goes on is the size's own
 module _ (L : CaseLimits) (q : List ℕ) (g : Signature) (s : List ℕ) where
@@ -495,6 +499,7 @@ module _ (L : CaseLimits) (q : List ℕ) (g : Signature) (s : List ℕ) where
   first-size (Rel a b k) at m labels ls members ms facts fs e = absurd (refused-accepted e)
   first-size (Typed a b) at m labels ls members ms facts fs e = absurd (refused-accepted e)
   first-size (Choose a b k d t u v) at m labels ls members ms facts fs e = absurd (refused-accepted e)
+  first-size (Every a b k) at m labels ls members ms facts fs e = absurd (refused-accepted e)
   first-size (Rule a b) at m labels ls members ms facts fs e = absurd (refused-accepted e)
   first-size (Size k) at m labels ls members ms facts fs e = ap Size (sym (sized-by k at m (not (isBetween 1 (L .elements) k)) labels ls members ms facts fs e))
   first-size (Label k a b d) at m labels ls members ms facts fs e = absurd (refused-accepted e)
@@ -515,6 +520,7 @@ module _ (L : CaseLimits) (q : List ℕ) (g : Signature) (s : List ℕ) where
   sized-stays (Rel a b k) at (suc j) m labels ls members ms facts fs h e = absurd (refused-accepted e)
   sized-stays (Typed a b) at (suc j) m labels ls members ms facts fs h e = absurd (refused-accepted e)
   sized-stays (Choose a b k d t u v) at (suc j) m labels ls members ms facts fs h e = absurd (refused-accepted e)
+  sized-stays (Every a b k) at (suc j) m labels ls members ms facts fs h e = absurd (refused-accepted e)
   sized-stays (Rule a b) at (suc j) m labels ls members ms facts fs h e = absurd (refused-accepted e)
   sized-stays (Size k) at (suc j) m labels ls members ms facts fs h e = absurd (refused-accepted e)
   sized-stays (Label k a b d) at (suc j) m labels ls members ms facts fs h e =
@@ -567,6 +573,10 @@ module _ (q : List ℕ) (g : Signature) (s : List ℕ) (n : ℕ) (ls : List D.La
   pub picks-choose : (a e k d t u v : ℕ) → x ≡ Choose a e k d t u v → PickTurned q g s n ls x old new 3
   unfolding PickTurned PickTurns given entryIn _>>=_ D.addToPicks
   picks-choose a e k d t u v p at picks w = rw p
+
+  pub picks-every : (a e k : ℕ) → x ≡ Every a e k → PickTurned q g s n ls x old new 3
+  unfolding PickTurned PickTurns given entryIn _>>=_ D.addToPicks
+  picks-every a e k p at picks w = rw p
 
   pub picks-rule : (a e : ℕ) → x ≡ Rule a e → PickTurned q g s n ls x old new 3
   unfolding PickTurned PickTurns given entryIn _>>=_ D.addToPicks

@@ -15,7 +15,7 @@ use Rattle.definitions.specs.Sheet.Relations.{Relation}
 use Rattle.definitions.specs.Problem.Truth.{Case}
 use Rattle.definitions.specs.Problem.Atoms.{problemOf, problemWith}
 use Rattle.definitions.specs.Reply.Outcome.{CaseRead as Filed, readFiled, readCase}
-use Rattle.read_names.specs.Signatures.{SoundSignature, relsOf, typesOf, chosenOf}
+use Rattle.read_names.specs.Signatures.{SoundSignature, relsOf, typesOf, chosenOf, everyOf}
 use Rattle.read_tuples.specs.Labels.{LabelsAre}
 use Rattle.read_tuples.specs.Members.{MembersAre}
 use Rattle.read_tuples.specs.Marks.{bitOf, marks, AllValid}
@@ -43,6 +43,7 @@ pub record Holds (s : List ℕ) (c : Case) (r : Opened) (facts : ℕ → Bool) :
   pub rels : c .question .rels ≡ relsOf s (r .sig)
   pub types : c .question .types ≡ typesOf s (r .sig)
   pub chosen : c .question .chosen ≡ chosenOf s (r .sig)
+  pub every : c .question .every ≡ everyOf s (r .sig)
   pub rule-from : r .rule .from ≤ r .rule .to
   pub rule-to : r .rule .to ≤ length s
   pub formula : readFormula (slice (r .rule .from) (r .rule .to) s) ≡ some (c .question .rule .formula)
@@ -143,6 +144,7 @@ module _ (L : CaseLimits) (s t : List ℕ) (a : Asked) (words : List ℕ) (facts
                 rels = y .rels;
                 types = y .types;
                 chosen = y .chosen;
+                every = y .every;
                 rule-from = y .rule-from;
                 rule-to = y .rule-to;
                 formula = y .formula;

@@ -17,7 +17,7 @@ use Rattle.definitions.specs.Reply.Outcome.{written}
 use Rattle.bits.specs.Table.{bit}
 use Rattle.read_line.specs.Entries.{entryIn, Reads}
 use Rattle.read_line.specs.declared.Entry.{Entry}
-use Rattle.read_line.specs.declared.Entry.the-variants.{Wrong, Rel, Typed, Choose, Rule, Size, Label, Member, Fact, Pick, Step}
+use Rattle.read_line.specs.declared.Entry.the-variants.{Wrong, Rel, Typed, Choose, Every, Rule, Size, Label, Member, Fact, Pick, Step}
 use Rattle.read_names.specs.declared.Signature.{Signature}
 use Rattle.read_names.specs.Signatures.{relsOf, typesOf, chosenOf}
 use Rattle.read_tuples.specs.Labels.{LabelsAre}
@@ -157,6 +157,7 @@ verdictOf Wrong = Bad 2
 verdictOf (Rel a e k) = Bad 3
 verdictOf (Typed a e) = Bad 3
 verdictOf (Choose a e k d t u v) = Bad 3
+verdictOf (Every a e k) = Bad 3
 verdictOf (Rule a e) = Bad 3
 verdictOf (Size n) = Bad 3
 verdictOf (Label k a t e) = Bad 3

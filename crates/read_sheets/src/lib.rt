@@ -136,6 +136,7 @@ fn site_turn(
         Entry::Rel(_, _, _) => Turn::Fault(3),
         Entry::Typed(_, _) => Turn::Fault(3),
         Entry::Choose(_, _, _, _, _, _, _) => Turn::Fault(3),
+        Entry::Every(_, _, _) => Turn::Fault(3),
         Entry::Rule(_, _) => Turn::Fault(3),
         Entry::Size(k) => size_turn(k as usize, most, st),
         Entry::Label(k, a, t, e) => {
@@ -319,6 +320,7 @@ fn picks_turn(
         Entry::Rel(_, _, _) => 3,
         Entry::Typed(_, _) => 3,
         Entry::Choose(_, _, _, _, _, _, _) => 3,
+        Entry::Every(_, _, _) => 3,
         Entry::Rule(_, _) => 3,
         Entry::Size(_) => 3,
         Entry::Label(_, _, _, _) => 3,
@@ -438,6 +440,7 @@ fn judge(x: Entry) -> Verdict
         Entry::Rel(_, _, _) => Verdict::Fault(3),
         Entry::Typed(_, _) => Verdict::Fault(3),
         Entry::Choose(_, _, _, _, _, _, _) => Verdict::Fault(3),
+        Entry::Every(_, _, _) => Verdict::Fault(3),
         Entry::Rule(_, _) => Verdict::Fault(3),
         Entry::Size(_) => Verdict::Fault(3),
         Entry::Label(_, _, _, _) => Verdict::Fault(3),

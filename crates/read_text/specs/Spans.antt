@@ -5,7 +5,7 @@ use mathlib.Core.List.{List, [], _∷_}
 use mathlib.Core.Option.{Option, none, some}
 use lib.Dec.{eqb}
 use Rattle.definitions.specs.Lists.{if_then_else_}
-use Rattle.definitions.specs.Sheet.Relations.{Kind, static, plain, Fun, PFun, Inj, PInj}
+use Rattle.definitions.specs.Sheet.Relations.{Kind, static, plain, Fun, PFun, Inj, PInj, universal}
 use Rattle.definitions.specs.Sheet.Text.{isCapital, isDigit}
 use Rattle.read_text.specs.declared.Num.{Num}
 use Rattle.read_text.specs.declared.Num.the-variants.{Is, Bad}
@@ -37,4 +37,5 @@ kindOf (suc zero) = plain
 kindOf (suc (suc zero)) = Fun
 kindOf (suc (suc (suc zero))) = PFun
 kindOf (suc (suc (suc (suc zero)))) = Inj
-kindOf (suc (suc (suc (suc (suc k))))) = PInj
+kindOf (suc (suc (suc (suc (suc zero))))) = PInj
+kindOf (suc (suc (suc (suc (suc (suc k)))))) = universal

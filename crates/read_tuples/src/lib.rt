@@ -469,7 +469,7 @@ pub fn member(
     labels: &[usize],
     members: &mut [u64],
 ) -> u32
-    requires { ⌜ (types ≤ 8) × (20 ≤ length (now from)) × (20 ≤ length (now to)) × (n ≤ 64) × (length (now members) ≡ 8) × (t < e) × (e ≤ length (now s)) ⌝ }
+    requires { ⌜ (types ≤ 8) × (21 ≤ length (now from)) × (21 ≤ length (now to)) × (n ≤ 64) × (length (now members) ≡ 8) × (t < e) × (e ≤ length (now s)) ⌝ }
     requires { ⌜ ((ls : List Label) × LabelsAre (now s) (now labels) n ls) ⌝ }
     ensures { λ r. ⌜ ((ls : List Label) → LabelsAre (now (s .entry)) (now (labels .entry)) n ls
         → MemberAdded (typesIn (now (q .entry)) (now (from .entry)) (now (to .entry)) types) n ls (slice a t (now (s .entry))) (elementBy (slice (t + 1) e (now (s .entry))) k) (now (members .entry)) (now (members .exit)) r) ⌝ }

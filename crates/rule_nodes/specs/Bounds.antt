@@ -60,7 +60,7 @@ pub record Good (rels count : ℕ) (q : PartRow) : Type 0 where
   pub fits : PartFits q
   pub within : PartIn rels count q
 
-leaf-good : (rels count tag r : ℕ) (ls : List ℕ) → rels ≤ 17 → tag < 2 → r < rels → length ls ≤ 3 → ((i : ℕ) → getD ls i 0 < 4) → Good rels count (record { tag = tag; which = r; sort = 0; levels = pad 4 ls; width = length ls })
+leaf-good : (rels count tag r : ℕ) (ls : List ℕ) → rels ≤ 18 → tag < 2 → r < rels → length ls ≤ 3 → ((i : ℕ) → getD ls i 0 < 4) → Good rels count (record { tag = tag; which = r; sort = 0; levels = pad 4 ls; width = length ls })
 leaf-good rels count tag r ls b h q k f = record {
   fits = record { width = omega arith; sort = omega arith; levels = pad-below 4 4 ls (omega arith) f; relation = λ _. omega arith; node = λ n. absurd (omega arith) };
   within = record { relation = λ _. q; node = λ n. absurd (omega arith) };
@@ -111,7 +111,7 @@ none-fits placed = record { width = omega arith; levels = λ i. zero-at i; level
 blank-fits : (placed : ℕ) → NodeFits placed blankRow
 blank-fits placed = record { width = omega arith; levels = blank-levels 4; level = omega arith; sort = omega arith; parts = omega arith }
 
-module _ (rels count : ℕ) (b : rels ≤ 17) (c : count ≤ 64) where
+module _ (rels count : ℕ) (b : rels ≤ 18) (c : count ≤ 64) where
   pub part-good : (v : ℕ) (t : Tree) → Small rels t → v + length (nodes t) ≤ count → Good rels count (partOf v t)
   unfolding partOf Small nodes
   part-good v (leaf true r ls) s h = leaf-good rels count 0 r ls b (omega arith) (s .0) (s .1) (s .2)

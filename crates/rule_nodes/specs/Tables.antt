@@ -88,7 +88,7 @@ pub record PartFits (q : PartRow) : Type 0 where
   pub width : q .width ≤ 4
   pub sort : q .sort ≤ 8
   pub levels : Levels (q .levels)
-  pub relation : q .tag < 2 → q .which < 17
+  pub relation : q .tag < 2 → q .which < 18
   pub node : 2 ≤ q .tag → q .which < 64
 
 -- ... of a node whose parts are among the first `placed`

@@ -26,7 +26,7 @@ pub record Of (rels : ℕ) (root : Tree) (rows : Rows) : Type 0 where
   pub small : Small rels root
   pub fits : suc (inner root) ≤ 64
   pub some-rels : 0 < rels
-  pub few-rels : rels ≤ 17
+  pub few-rels : rels ≤ 18
 
 -- ---- in range
 ranged-node : (row : Row) (h p : ℕ) (R : List Row) → ltb (row .kind) 4 ≡ true → row .many ≤ h → p + row .many ≤ 64 → row .which < 64 → h - row .many < 64 → Ranged (h - row .many + 1) (p + row .many) R → Ranged h p (row ∷ R)
@@ -128,7 +128,7 @@ shown-is rels v t row l s h = subst (λ (r : NodeRow). IsNode v t r (l .parts)) 
 abbrev pub tableOf : Laid → Tree → Nodes
 tableOf l root = record { count = length (nodes root); placed = l .placed; rows = l .rows; parts = l .parts; root = partOf 0 root }
 
-module _ (rels : ℕ) (root : Tree) (o : 0 < rels) (b : rels ≤ 17) (s : Small rels root) (h : suc (inner root) ≤ 64) where
+module _ (rels : ℕ) (root : Tree) (o : 0 < rels) (b : rels ≤ 18) (s : Small rels root) (h : suc (inner root) ≤ 64) where
   few : length (nodes root) ≤ 64
   few = omega (arith, nodes-le root)
 

@@ -30,13 +30,13 @@ use Rattle.rule_rewrite.proofs.Ends.{quant-list, quant-ready, quant-nod
 use Rattle.rule_rewrite.proofs.Ends.{none-row, lit-vars, lit-place, lit-done}
 
 -- the lengths that each asks are kept
-pub still : {a b n m : ℕ} → (20 ≤ a) × (20 ≤ b) × (n ≡ 512) → m ≡ n → (20 ≤ a) × (20 ≤ b) × (m ≡ 512)
+pub still : {a b n m : ℕ} → (21 ≤ a) × (21 ≤ b) × (n ≡ 512) → m ≡ n → (21 ≤ a) × (21 ≤ b) × (m ≡ 512)
 still h e = (h .0, h .1, e ∙ h .2)
 
 -- what a formula's place asks of the function of its form: the measure falls, and the form's head is told
 abbrev pub Handed : (t : ℕ) (s : List ℕ) (at : ℕ) (F T : List ℕ) (m : ℕ) → Scope → (rows : List ℕ) (len nodes : ℕ) → Kind → Type 0
 Handed t s at F T m sc rows len nodes k =
-    ((length s - at) * 4 + 0 < t) × (((20 ≤ length F) × (20 ≤ length T) × (length rows ≡ 512))
+    ((length s - at) * 4 + 0 < t) × (((21 ≤ length F) × (21 ≤ length T) × (length rows ≡ 512))
     × (ReadyIn s at F T m sc (rowsFrom rows len nodes) × (kindOf (drop at s) ≡ headOf k)))
 
 -- ---- a negation

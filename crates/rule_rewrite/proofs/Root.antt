@@ -214,7 +214,7 @@ few-from q g i zero f = tt
 few-from q g i (suc m) f = (f i (omega arith), few-from q g (suc i) m (λ j h. f j (omega arith)))
 
 pub few-places : (s : List ℕ) (g : Signature) → SoundSignature s g → FewPlaces (allOf s g)
-few-places s g a = subst (λ (l : List Relation). FewPlaces l) (sym (all-are s g)) (few-append builtIn (relationsFrom s g 0 (g .rels + g .chosen)) few-built-in (few-from s g 0 (g .rels + g .chosen) (λ j h. a .arities j (omega arith) .1)))
+few-places s g a = subst (λ (l : List Relation). FewPlaces l) (sym (all-are s g (a .every-le))) (few-append builtIn (relationsFrom s g 0 (g .rels + g .chosen + g .every)) few-built-in (few-from s g 0 (g .rels + g .chosen + g .every) (λ j h. a .arities j (omega arith) .1)))
 
 sorts-from : (q : List ℕ) (g : Signature) (i m : ℕ) → ((j : ℕ) → j < i + m → (getD (g .firsts) j 0 ≤ 8) × (getD (g .seconds) j 0 ≤ 8)) → FewSorts (relationsFrom q g i m)
 unfolding FewSorts relationsFrom relationIn
@@ -223,7 +223,7 @@ sorts-from q g i (suc m) f = let (x, y) = f i (omega arith) in (x, y, sorts-from
 
 few-sorts : (s : List ℕ) (g : Signature) → SoundSignature s g → FewSorts (chosenOf s g)
 unfolding chosenOf
-few-sorts s g a = sorts-from s g (g .rels) (g .chosen) (λ j h. let (x, y) = a .sorts j h in let t = a .types-le in (omega arith, omega arith))
+few-sorts s g a = sorts-from s g (g .rels) (g .chosen) (λ j h. let (x, y) = a .sorts j (omega arith) in let t = a .types-le in (omega arith, omega arith))
 
 few-cons : (k : Relation) (ks : List Relation) → FewSorts (k ∷ ks) → (k .firsts ≤ 8) × (k .seconds ≤ 8) × FewSorts ks
 unfolding FewSorts
@@ -243,12 +243,12 @@ top-ready s at stop g F T t c a h n m = record {
     deep = subst (λ (l : List (List ℕ)). length l + nesting (a .f) ≤ 4) (sym (names-none s F T)) (omega (arith, a .deep));
     known = a .known;
   };
-  fixed = record { few = omega (arith, c .sound .rels-le, c .sound .chosen-le); places = few-places s g (c .sound); types = c .sound .types-le; no-further = c .sound .no-further; long = h };
+  fixed = record { few = omega (arith, c .sound .rels-le, c .sound .chosen-le, c .sound .every-le); one = c .sound .every-le; places = few-places s g (c .sound); types = c .sound .types-le; no-further = c .sound .no-further; long = h };
 }
 
 -- ... over the names and the count of the signature itself
-abbrev pub own : {s : List ℕ} {at : ℕ} {g : Signature} {sc : Scope} {t : Rows} → ReadyAt s at g sc t → ReadyIn s at (g .from) (g .to) (g .rels + g .chosen) sc t
-own w = over (record { from-is = refl; to-is = refl; count = refl }) w
+abbrev pub own : {s : List ℕ} {at : ℕ} {g : Signature} {sc : Scope} {t : Rows} → ReadyAt s at g sc t → ReadyIn s at (g .from) (g .to) (g .rels + g .chosen + g .every) sc t
+own w = over (record { from-is = refl; to-is = refl; count = refl; one = w .fixed .one }) w
 
 -- ---- the tree with its totalities
 totals-some : (k : Relation) (ds : List Relation) → totals (k ∷ ds) ≡ (if isTotal (k .kind) then 1 else 0) + totals ds
@@ -317,7 +317,7 @@ joined-some T end n e h = absurd (h (sym e))
 joined-some T (U then US) n e h = refl
 
 -- ---- the rows of a tree in a table that was empty
-of-adds : (t u : Rows) (rels : ℕ) (root : Tree) → t .len ≡ 0 → t .nodes ≡ 0 → Adds t (post (t .nodes) root) (length (nodes root)) u → Small rels root → suc (inner root) ≤ 64 → 0 < rels → rels ≤ 17 → Of rels root u
+of-adds : (t u : Rows) (rels : ℕ) (root : Tree) → t .len ≡ 0 → t .nodes ≡ 0 → Adds t (post (t .nodes) root) (length (nodes root)) u → Small rels root → suc (inner root) ≤ 64 → 0 < rels → rels ≤ 18 → Of rels root u
 unfolding rowsIn
 of-adds t u rels root e h a s f o b = record {
   is = a .is ∙ ap (λ (n : ℕ). take n (t .at) ++ post (t .nodes) root) e ∙ ap (λ (n : ℕ). take 0 (t .at) ++ post n root) h ∙ none (t .at);
@@ -354,14 +354,14 @@ module _ (s : List ℕ) (at stop : ℕ) (g : Signature) (c : Accepted s at stop 
   tops = ap (λ (l : List (List ℕ)). asIs (allOf s g) (typesOf s g) l (a .f)) (names-none s F T)
 
   rels-some : 0 < length (allOf s g)
-  rels-some = omega (arith, length-all s g)
+  rels-some = omega (arith, length-all s g (c .sound .every-le))
 
-  rels-few : length (allOf s g) ≤ 17
-  rels-few = omega (arith, length-all s g, c .sound .rels-le, c .sound .chosen-le)
+  rels-few : length (allOf s g) ≤ 18
+  rels-few = omega (arith, length-all s g (c .sound .every-le), c .sound .rels-le, c .sound .chosen-le, c .sound .every-le)
 
   types-few : length (typesOf s g) ≤ 8
   unfolding typesOf
-  types-few = omega (arith, length-names s (g .from) (g .to) 12 (g .types), c .sound .types-le)
+  types-few = omega (arith, length-names s (g .from) (g .to) 13 (g .types), c .sound .types-le)
 
   tops-small : Small (length (allOf s g)) (asIs (allOf s g) (typesOf s g) [] (a .f))
   unfolding treeIn
@@ -438,7 +438,7 @@ module _ (s : List ℕ) (at stop : ℕ) (g : Signature) (c : Accepted s at stop 
               (first-rows (asIs (allOf s g) (typesOf s g) [] (a .f)) (totalities (5 + g .rels) (chosenOf s g)) (adds-number t 1 long) walk-adds A)
 
           root-small : Small (length (allOf s g)) (andNode (asIs (allOf s g) (typesOf s g) [] (a .f) then totalities (5 + g .rels) (chosenOf s g)))
-          root-small = small-and (length (allOf s g)) (asIs (allOf s g) (typesOf s g) [] (a .f)) (totalities (5 + g .rels) (chosenOf s g)) tops-small (all-totals .small (omega (arith, chosen-long, length-all s g)) (few-sorts s g (c .sound)))
+          root-small = small-and (length (allOf s g)) (asIs (allOf s g) (typesOf s g) [] (a .f)) (totalities (5 + g .rels) (chosenOf s g)) tops-small (all-totals .small (omega (arith, chosen-long, length-all s g (c .sound .every-le))) (few-sorts s g (c .sound)))
 
           root-rows : suc (inner (andNode (asIs (allOf s g) (typesOf s g) [] (a .f) then totalities (5 + g .rels) (chosenOf s g)))) ≤ 64
           root-rows = and-rows (asIs (allOf s g) (typesOf s g) [] (a .f)) (totalities (5 + g .rels) (chosenOf s g)) (totals (chosenOf s g)) (forms (a .f)) (all-totals .many) (all-totals .rows) tops-rows (joined-forms h)
@@ -448,13 +448,13 @@ abbrev pub unbound : Scope
 unbound = record { from = 0 ∷ 0 ∷ 0 ∷ 0 ∷ []; to = 0 ∷ 0 ∷ 0 ∷ 0 ∷ []; n = 0 }
 
 module _ {s : List ℕ} {at stop : ℕ} {g : Signature} (c : Accepted s at stop g) (b : List ℕ) where
-  abbrev pub plain-ready : ReadyIn s at (g .from) (g .to) (g .rels + g .chosen) unbound (rowsFrom b 0 0)
+  abbrev pub plain-ready : ReadyIn s at (g .from) (g .to) (g .rels + g .chosen + g .every) unbound (rowsFrom b 0 0)
   plain-ready =
       let a = formed s at stop g c in let h = plain-forms s at stop g c a [] [] in
       own (top-ready s at stop g (unbound .from) (unbound .to) (rowsFrom b 0 0) c a (rows-many b 0 0) (omega (arith, h)) (omega (arith, h)))
 
   pub plain-rows : totals (chosenOf s g) ≡ 0 → {after : ℕ} {r : Rows}
-      → Walks true s at (g .from) (g .to) (g .rels + g .chosen) unbound (rowsFrom b 0 0) after r → RowsOf s at stop g r
+      → Walks true s at (g .from) (g .to) (g .rels + g .chosen + g .every) unbound (rowsFrom b 0 0) after r → RowsOf s at stop g r
   plain-rows e {after} {r} w =
       of-plain s at stop g c (formed s at stop g c) (unbound .from) (unbound .to) (rowsFrom b 0 0) after r refl refl e (w plain-ready)
 
@@ -462,12 +462,12 @@ module _ {s : List ℕ} {at stop : ℕ} {g : Signature} (c : Accepted s at stop 
     pub joined-few : forms (formed s at stop g c .f) + 3 * n + 1 ≤ 64
     joined-few = omega (arith, all s, joined-forms s at stop g c (formed s at stop g c) [] [] (λ e. some (all s ∙ e)))
 
-    abbrev pub joined-ready : ReadyIn s at (g .from) (g .to) (g .rels + g .chosen) unbound (rowsFrom b 0 1)
+    abbrev pub joined-ready : ReadyIn s at (g .from) (g .to) (g .rels + g .chosen + g .every) unbound (rowsFrom b 0 1)
     joined-ready =
         let a = formed s at stop g c in
         own (top-ready s at stop g (unbound .from) (unbound .to) (rowsFrom b 0 1) c a (rows-many b 0 1) (omega (arith, joined-few)) (omega (arith, joined-few)))
 
-    module _ {after : ℕ} {r : Rows} (w : Walks true s at (g .from) (g .to) (g .rels + g .chosen) unbound (rowsFrom b 0 1) after r) where
+    module _ {after : ℕ} {r : Rows} (w : Walks true s at (g .from) (g .to) (g .rels + g .chosen + g .every) unbound (rowsFrom b 0 1) after r) where
       pub joined-left : (q : List ℕ) → (r .len + 3 * totals (chosenOf q g) ≤ 64) × (r .nodes + 3 * totals (chosenOf q g) ≤ 64)
       joined-left q =
           let f = formed s at stop g c .f in let W = w joined-ready in
@@ -488,7 +488,7 @@ module _ {s : List ℕ} {at stop : ℕ} {g : Signature} (c : Accepted s at stop 
 -- ---- the question's table
 relations-are : (s : List ℕ) (at stop : ℕ) (g : Signature) (q : Question) → IsQuestion s at stop g q → allOf s g ≡ relationsOf q
 unfolding allOf relationsOf
-relations-are s at stop g q i = rw (i .rels, i .chosen)
+relations-are s at stop g q i = rw (i .rels, i .chosen, i .every)
 
 tree-is : (s : List ℕ) (at stop : ℕ) (g : Signature) (q : Question) → IsQuestion s at stop g q → rootOf s g (q .rule .formula) ≡ treeOf q
 unfolding treeOf firstChosen firstRel builtIn

@@ -161,7 +161,7 @@ over-parts {g = g} l w = record { g = g; lent = l; ready = w }
 
 -- another table in its place
 pub moved : {s : List ℕ} {g : Signature} {t : Rows} (u : Rows) → Fixed s g t → length (u .at) ≡ 64 → Fixed s g u
-moved u f h = record { few = f .few; places = f .places; types = f .types; no-further = f .no-further; long = h }
+moved u f h = record { few = f .few; one = f .one; places = f .places; types = f .types; no-further = f .no-further; long = h }
 
 pub as-tree : {t u : Rows} {T U : Tree} → U ≡ T → Adds t (post (t .nodes) T) (length (nodes T)) u → Adds t (post (t .nodes) U) (length (nodes U)) u
 as-tree {t} {u} {T} {U} e a = subst (λ (x : Tree). Adds t (post (t .nodes) x) (length (nodes x)) u) (sym e) a

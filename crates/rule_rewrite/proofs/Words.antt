@@ -68,8 +68,10 @@ five : length builtIn ≡ 5
 unfolding builtIn
 five = refl
 
-pub length-all : (q : List ℕ) (g : Signature) → length (allOf q g) ≡ 5 + (g .rels + g .chosen)
-length-all q g = omega (arith, ap length (all-are q g), length-append builtIn (relationsFrom q g 0 (g .rels + g .chosen)), length-relations q g 0 (g .rels + g .chosen), five)
+pub length-all : (q : List ℕ) (g : Signature) → g .every ≤ 1 → length (allOf q g) ≡ 5 + (g .rels + g .chosen + g .every)
+length-all q g one =
+    let n = g .rels + g .chosen + g .every in
+    omega (arith, ap length (all-are q g one), length-append builtIn (relationsFrom q g 0 n), length-relations q g 0 n, five)
 
 number-found : (x : Option ℕ) (k : ℕ) → At k ≡ placeOf x → x ≡ some k
 number-found none k e = let z : _≡_ {A = ℕ} 0 1 = cc in absurd (omega arith)
@@ -79,13 +81,13 @@ number-lost : (x : Option ℕ) → Nowhere ≡ placeOf x → x ≡ none
 number-lost none e = refl
 number-lost (some j) e = let z : _≡_ {A = ℕ} 0 1 = cc in absurd (omega arith)
 
-number-low : (q : List ℕ) (g : Signature) (w : List ℕ) (k : ℕ) → g .rels + g .chosen ≤ 12 → At k ≡ placeOf (numberOf (allOf q g) w) → k < 17
+number-low : (q : List ℕ) (g : Signature) (w : List ℕ) (k : ℕ) → g .rels + g .chosen + g .every ≤ 13 → g .every ≤ 1 → At k ≡ placeOf (numberOf (allOf q g) w) → k < 18
 unfolding numberOf
-number-low q g w k h e = omega (arith, length-all q g, position-some (λ (r : Relation). same (r .name) w) (allOf q g) k (fixed [] 0) (number-found (numberOf (allOf q g) w) k e) .0)
+number-low q g w k h one e = omega (arith, length-all q g one, position-some (λ (r : Relation). same (r .name) w) (allOf q g) k (fixed [] 0) (number-found (numberOf (allOf q g) w) k e) .0)
 
 -- ... of any signature whose names and count are lent
-pub lent-low : (q F T w : List ℕ) (m k : ℕ) → m ≤ 12 → ((g : Signature) → Lent g F T m → At k ≡ placeOf (numberOf (allOf q g) w)) → k < 17
-lent-low q F T w m k h e = let g : Signature = record { rels = m; chosen = 0; types = 0; from = F; to = T; arity = []; kind = []; firsts = []; seconds = [] } in number-low q g w k (omega arith) (e g (record { from-is = refl; to-is = refl; count = omega arith }))
+pub lent-low : (q F T w : List ℕ) (m k : ℕ) → m ≤ 13 → ((g : Signature) → Lent g F T m → At k ≡ placeOf (numberOf (allOf q g) w)) → k < 18
+lent-low q F T w m k h e = let g : Signature = record { rels = m; chosen = 0; every = 0; types = 0; from = F; to = T; arity = []; kind = []; firsts = []; seconds = [] } in number-low q g w k (omega arith) (omega arith) (e g (record { from-is = refl; to-is = refl; count = omega arith; one = omega arith }))
 
 pub number-at : (x : Option ℕ) (k : ℕ) → At k ≡ placeOf x → k ≡ option x zero (λ j. j)
 unfolding option
@@ -222,7 +224,7 @@ module _ (types : List (List ℕ)) (s : List ℕ) (e p : ℕ) (h : e ≡ p → �
 
 pub type-low : (q from to name : List ℕ) (k : ℕ) → At k ≡ placeOf (typeNumber (typesIn q from to 8) name) → k < 8
 unfolding typeNumber
-type-low q from to name k w = omega (arith, length-names q from to 12 8, position-some (λ t. same t name) (typesIn q from to 8) k [] (number-found (typeNumber (typesIn q from to 8) name) k w) .0)
+type-low q from to name k w = omega (arith, length-names q from to 13 8, position-some (λ t. same t name) (typesIn q from to 8) k [] (number-found (typeNumber (typesIn q from to 8) name) k w) .0)
 
 -- ---- `bind`
 -- the sort that stands in the text

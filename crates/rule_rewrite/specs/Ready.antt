@@ -81,7 +81,8 @@ pub record AllFine (rs : List Relation) (scope : List (List ℕ)) (n m : ℕ) (f
 
 -- the relations are few, and so are their places; types too, and no other entry names one; there is space for all rows
 pub record Fixed (s : List ℕ) (g : Signature) (t : Rows) : Type 0 where
-  pub few : g .rels + g .chosen ≤ 12
+  pub few : g .rels + g .chosen + g .every ≤ 13
+  pub one : g .every ≤ 1
   pub places : FewPlaces (allOf s g)
   pub types : g .types ≤ 8
   pub no-further : NoFurther (g .to) (g .types)

@@ -13,7 +13,7 @@ use Rattle.definitions.specs.Sheet.Parsing.{readFormula}
 use Rattle.definitions.specs.Sheet.Sheets.{Question, relationsOf}
 use Rattle.definitions.specs.Problem.Tree.{Tree, Trees, leaf, forallNode, existsNode, end, _then_, asIs, totalities, joined, treeOf}
 use Rattle.read_text.specs.Spans.{kindOf}
-use Rattle.read_names.specs.Signatures.{SoundSignature, allOf, relsOf, chosenOf, typesOf}
+use Rattle.read_names.specs.Signatures.{SoundSignature, allOf, relsOf, chosenOf, everyOf, typesOf}
 use Rattle.read_names.specs.declared.Signature.{Signature}
 use Rattle.read_rule.specs.Seen.{ruleNumber}
 use Rattle.rule_nodes.specs.Tables.{IsTable, Fits}
@@ -44,6 +44,7 @@ pub record IsQuestion (s : List ℕ) (at stop : ℕ) (g : Signature) (q : Questi
   pub rels : q .rels ≡ relsOf s g
   pub types : q .types ≡ typesOf s g
   pub chosen : q .chosen ≡ chosenOf s g
+  pub every : q .every ≡ everyOf s g
   pub rule : readFormula (slice at stop s) ≡ some (q .rule .formula)
 
 -- the rows are those of the rule's tree, and the table holds them

@@ -154,7 +154,7 @@ fn level(s: &[u8], a: usize, e: usize, sc: Scope) -> u8
 
 // The number of the relation that is named from `a` to `e`, in a signature whose names and count are lent; 0 if there is none.
 fn number(s: &[u8], from: &[usize], to: &[usize], m: usize, a: usize, e: usize) -> u8
-    requires { ⌜ (m ≤ 12) × (12 ≤ length (now from)) × (12 ≤ length (now to)) ⌝ }
+    requires { ⌜ (m ≤ 13) × (13 ≤ length (now from)) × (13 ≤ length (now to)) ⌝ }
     ensures { λ r. ⌜ ((g : Signature) → Lent g (now (from .entry)) (now (to .entry)) m → r ≡ option (numberOf (allOf (now (s .entry)) g) (slice a e (now (s .entry)))) zero (λ k. k)) ⌝ }
 {
     let f = read_names::relation(s, from, to, m, a, e);
@@ -184,7 +184,7 @@ fn fill(s: &[u8], at: usize, row: Row, sc: Scope) -> Leaf
 
 // The sort of a variable that ends at `at`, its type being what follows a colon there, up to `end`; 0 if nothing does.
 fn sort_at(s: &[u8], at: usize, end: usize, from: &[usize], to: &[usize]) -> u8
-    requires { ⌜ (at ≤ length (now s)) × (20 ≤ length (now from)) × (20 ≤ length (now to)) ⌝ }
+    requires { ⌜ (at ≤ length (now s)) × (21 ≤ length (now from)) × (21 ≤ length (now to)) ⌝ }
     ensures { λ r. ⌜ r ≡ sortIn (typesIn (now (s .entry)) (now (from .entry)) (now (to .entry)) 8) (now (s .entry)) at end ⌝ }
 {
     if at == end {
@@ -199,7 +199,7 @@ fn sort_at(s: &[u8], at: usize, end: usize, from: &[usize], to: &[usize]) -> u8
 
 // The variables at `at`, one byte between them and their types, are bound, and their sorts noted.
 fn bind(s: &[u8], at: usize, from: &[usize], to: &[usize], sc: Scope) -> Bound
-    requires { ⌜ (20 ≤ length (now from)) × (20 ≤ length (now to)) ⌝ }
+    requires { ⌜ (21 ≤ length (now from)) × (21 ≤ length (now to)) ⌝ }
     requires { ⌜ ListReady (now s) at sc ⌝ }
     ensures { λ r. ⌜ ((w : ListReady (now (s .entry)) at sc) → Opened (now (s .entry)) at (typesIn (now (s .entry)) (now (from .entry)) (now (to .entry)) 8) sc (replicate 4 0) (w .q ∷ w .qs) r) ⌝ }
 {
@@ -239,7 +239,7 @@ fn literal(
     len: usize,
     nodes: usize,
 ) -> Walk
-    requires { ⌜ (20 ≤ length (now from)) × (20 ≤ length (now to)) × (length (now rows) ≡ 512) ⌝ }
+    requires { ⌜ (21 ≤ length (now from)) × (21 ≤ length (now to)) × (length (now rows) ≡ 512) ⌝ }
     requires { ⌜ ReadyIn (now s) at (now from) (now to) m sc (rowsFrom (now rows) len nodes) ⌝ }
     requires { ⌜ kindOf (drop at (now s)) ≡ isOther ⌝ }
     ensures { λ r. ⌜ Walks pos (now (s .entry)) at (now (from .entry)) (now (to .entry)) m sc (rowsFrom (now (rows .entry)) len nodes) (r .at) (rowsFrom (now (rows .exit)) (r .len) (r .nodes)) ⌝ }
@@ -278,7 +278,7 @@ fn positive(
     len: usize,
     nodes: usize,
 ) -> Walk
-    requires { ⌜ (20 ≤ length (now from)) × (20 ≤ length (now to)) × (length (now rows) ≡ 512) ⌝ }
+    requires { ⌜ (21 ≤ length (now from)) × (21 ≤ length (now to)) × (length (now rows) ≡ 512) ⌝ }
     requires { ⌜ ReadyIn (now s) at (now from) (now to) m sc (rowsFrom (now rows) len nodes) ⌝ }
     ensures { λ r. ⌜ Walks true (now (s .entry)) at (now (from .entry)) (now (to .entry)) m sc (rowsFrom (now (rows .entry)) len nodes) (r .at) (rowsFrom (now (rows .exit)) (r .len) (r .nodes)) ⌝ }
 {
@@ -313,7 +313,7 @@ fn negative(
     len: usize,
     nodes: usize,
 ) -> Walk
-    requires { ⌜ (20 ≤ length (now from)) × (20 ≤ length (now to)) × (length (now rows) ≡ 512) ⌝ }
+    requires { ⌜ (21 ≤ length (now from)) × (21 ≤ length (now to)) × (length (now rows) ≡ 512) ⌝ }
     requires { ⌜ ReadyIn (now s) at (now from) (now to) m sc (rowsFrom (now rows) len nodes) ⌝ }
     ensures { λ r. ⌜ Walks false (now (s .entry)) at (now (from .entry)) (now (to .entry)) m sc (rowsFrom (now (rows .entry)) len nodes) (r .at) (rowsFrom (now (rows .exit)) (r .len) (r .nodes)) ⌝ }
 {
@@ -349,7 +349,7 @@ fn part(
     len: usize,
     nodes: usize,
 ) -> Walk
-    requires { ⌜ (20 ≤ length (now from)) × (20 ≤ length (now to)) × (length (now rows) ≡ 512) ⌝ }
+    requires { ⌜ (21 ≤ length (now from)) × (21 ≤ length (now to)) × (length (now rows) ≡ 512) ⌝ }
     requires { ⌜ ReadyIn (now s) at (now from) (now to) m sc (rowsFrom (now rows) len nodes) ⌝ }
     ensures { λ r. ⌜ Walks pos (now (s .entry)) at (now (from .entry)) (now (to .entry)) m sc (rowsFrom (now (rows .entry)) len nodes) (r .at) (rowsFrom (now (rows .exit)) (r .len) (r .nodes)) ⌝ }
 {
@@ -373,7 +373,7 @@ fn arrow(
     len: usize,
     nodes: usize,
 ) -> Walk
-    requires { ⌜ (20 ≤ length (now from)) × (20 ≤ length (now to)) × (length (now rows) ≡ 512) ⌝ }
+    requires { ⌜ (21 ≤ length (now from)) × (21 ≤ length (now to)) × (length (now rows) ≡ 512) ⌝ }
     requires { ⌜ ReadyIn (now s) at (now from) (now to) m sc (rowsFrom (now rows) len nodes) ⌝ }
     requires { ⌜ kindOf (drop at (now s)) ≡ isImplies ⌝ }
     ensures { λ r. ⌜ Walks pos (now (s .entry)) at (now (from .entry)) (now (to .entry)) m sc (rowsFrom (now (rows .entry)) len nodes) (r .at) (rowsFrom (now (rows .exit)) (r .len) (r .nodes)) ⌝ }
@@ -411,7 +411,7 @@ fn gather(
     len: usize,
     nodes: usize,
 ) -> Walk
-    requires { ⌜ (20 ≤ length (now from)) × (20 ≤ length (now to)) × (length (now rows) ≡ 512) ⌝ }
+    requires { ⌜ (21 ≤ length (now from)) × (21 ≤ length (now to)) × (length (now rows) ≡ 512) ⌝ }
     requires { ⌜ ReadyIn (now s) at (now from) (now to) m sc (rowsFrom (now rows) len nodes) ⌝ }
     requires { ⌜ kindOf (drop at (now s)) ≡ joinHead conj ⌝ }
     ensures { λ r. ⌜ Walks pos (now (s .entry)) at (now (from .entry)) (now (to .entry)) m sc (rowsFrom (now (rows .entry)) len nodes) (r .at) (rowsFrom (now (rows .exit)) (r .len) (r .nodes)) ⌝ }
@@ -443,7 +443,7 @@ fn further(
     len: usize,
     nodes: usize,
 ) -> Pieces
-    requires { ⌜ (20 ≤ length (now from)) × (20 ≤ length (now to)) × (length (now rows) ≡ 512) ⌝ }
+    requires { ⌜ (21 ≤ length (now from)) × (21 ≤ length (now to)) × (length (now rows) ≡ 512) ⌝ }
     requires { ⌜ PartsReadyIn (now s) at (now from) (now to) m sc (rowsFrom (now rows) len nodes) ⌝ }
     requires { ⌜ many ≤ len ⌝ }
     ensures { λ r. ⌜ WalksParts pos (now (s .entry)) at (now (from .entry)) (now (to .entry)) m sc (rowsFrom (now (rows .entry)) len nodes) many (r .at) (r .many) (rowsFrom (now (rows .exit)) (r .len) (r .nodes)) ⌝ }
@@ -487,7 +487,7 @@ fn under(
     len: usize,
     nodes: usize,
 ) -> Walk
-    requires { ⌜ (20 ≤ length (now from)) × (20 ≤ length (now to)) × (length (now rows) ≡ 512) ⌝ }
+    requires { ⌜ (21 ≤ length (now from)) × (21 ≤ length (now to)) × (length (now rows) ≡ 512) ⌝ }
     requires { ⌜ ReadyIn (now s) at (now from) (now to) m sc (rowsFrom (now rows) len nodes) ⌝ }
     requires { ⌜ kindOf (drop at (now s)) ≡ quantHead some ⌝ }
     ensures { λ r. ⌜ Walks pos (now (s .entry)) at (now (from .entry)) (now (to .entry)) m sc (rowsFrom (now (rows .entry)) len nodes) (r .at) (rowsFrom (now (rows .exit)) (r .len) (r .nodes)) ⌝ }
@@ -591,7 +591,7 @@ fn rows_of(text: &[u8], at: usize, end: usize, sig: Signature, rows: &mut [u8]) 
     };
     let from = sig.from;
     let to = sig.to;
-    let m = sig.rels + sig.chosen;
+    let m = sig.rels + sig.chosen + sig.every;
     let total = read_rule::totalities(sig);
     if total == 0 {
         let w = positive(text, at, &from, &to, m, sc, rows, 0, 0);

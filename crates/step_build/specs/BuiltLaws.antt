@@ -1,9 +1,9 @@
 -- The builder's answers, its state and its steps are those of the definitions.
-use Prim.Native.Nat.{ℕ, _*_, _/_, _%_, _<_, _≤_}
+use Prim.Native.Nat.{ℕ, zero, _*_, _/_, _%_, _<_, _≤_}
 use mathlib.Core.Path.{_≡_, sym, ap, _∙_}
-use mathlib.Core.Bool.{Bool, true, false}
+use mathlib.Core.Bool.{true, false}
 use mathlib.Core.Option.{none, some}
-use mathlib.Core.List.{List, [], _∷_, _++_, append-assoc}
+use mathlib.Core.List.{List, _∷_, _++_}
 use native.Mathlib.Omega.{arith}
 use native.Mathlib.Nat.{zero-add}
 use lib.Dec.{T}
@@ -11,13 +11,12 @@ use lib.ListN.{length, take, drop, length-map}
 use lib.Seq.{sets-eq, length-take-le, getD-take}
 use Rattle.bits.specs.Table.{digit, bit, Words}
 use Rattle.bits.proofs.Laws.{is-words}
-use Rattle.definitions.specs.Lists.{if_then_else_}
 use Rattle.definitions.specs.Refusal.{_>>=_, refuseIf}
 use Rattle.definitions.specs.Sheet.Relations.{Tuple, isChosen}
-use Rattle.definitions.specs.Problem.Truth.{Case, arePicks, areOfKinds, ruleIsTrue, firstOfOtherKind}
+use Rattle.definitions.specs.Problem.Truth.{Case, arePicks, areOfKinds, values, ruleIsTrue, firstOfOtherKind}
 use Rattle.definitions.specs.Problem.Atoms.{Problem, problemOf, State, initial, stateWords, relationAt, tuplesOf}
-use Rattle.definitions.specs.Problem.Actions.{Action, set, beginProof, proveGoal, actionNumber}
-use Rattle.definitions.specs.Problem.Strips.{mayTake, after, run}
+use Rattle.definitions.specs.Problem.Actions.{set, beginProof, actionNumber}
+use Rattle.definitions.specs.Problem.Strips.{run}
 use Rattle.definitions.specs.Problem.Built.{isPicked, setSteps, builtActions, builtSteps, bound}
 use Rattle.definitions.specs.Reply.Outcome.{stateLength, written, kindRefusal, takePicks, satisfying, builtFrom}
 use Rattle.laws.specs.Booleans.{T-of}
@@ -31,12 +30,11 @@ use Rattle.meaning.specs.Pairs.{IsPair, pair-action}
 use Rattle.laws.specs.Reader.{Accepted}
 use Rattle.meaning.specs.Lent.{words-take}
 use Rattle.meaning.specs.Building.{count-case}
-use Rattle.meaning.specs.Planning.{taken, taken-append, provedSteps}
-use Rattle.meaning.specs.BuiltState.{built-steps, rule-may, built-state}
-use Rattle.step_picks.specs.Words.{PicksAre, rowsIn}
-use Rattle.step_prove.specs.Following.{Out, out, one}
-use Rattle.step_build.specs.Following.{proved, Follows}
-use Rattle.step_build.specs.Ways.{follow, follow-append, follow-state, follow-steps, follow-count, proved-follow}
+use Rattle.meaning.specs.Planning.{taken, taken-append, roundsNow}
+use Rattle.meaning.specs.BuiltState.{built-steps, built-state}
+use Rattle.step_prove.specs.Following.{Out, out}
+use Rattle.step_build.specs.Ways.{follow-state, follow-steps, follow-count}
+use Rattle.step_build.specs.Following.{begunFrom, Follows}
 use Rattle.step_picks.specs.Handed.{decided}
 use Rattle.step_build.specs.Answers.{planned, answered, Gives}
 use Rattle.step_build.specs.declared.PlanAnswer.the-variants.{Steps, OtherKind, RuleFalse}
@@ -50,15 +48,9 @@ pub front-words : (p : Problem) (s : State) (t : List ℕ) → Words t → state
 front-words p s t w h e = is-words (take (stateLength p) t) s (stateLength p) (words-take (stateLength p) t w) (length-take-le (stateLength p) t h)
     (λ i l. bit-take (stateLength p) t i l ∙ ap (λ (f : State). f i) e) ∙ sym (state-words p s)
 
-module _ (c : Case) (A : Accepted c) (F : List Tuple) (picks : arePicks c F ≡ true) (kinds : areOfKinds c F ≡ true) (words : List ℕ) (same : PicksAre (problemOf c) words F) where
+module _ (c : Case) (A : Accepted c) (F : List Tuple) (picks : arePicks c F ≡ true) (kinds : areOfKinds c F ≡ true) where
   abbrev p : Problem
   p = problemOf c
-
-  abbrev s₂ : State
-  s₂ = after (problemOf c) (taken (problemOf c) (initial (problemOf c)) (setSteps (problemOf c) F)) beginProof
-
-  abbrev front : List Action
-  front = setSteps (problemOf c) F ++ (beginProof ∷ provedSteps (problemOf c) s₂ (length (problemOf c .nodeList)))
 
   -- each pick has a set action, since it is of its kind
   pub settable : (r row : ℕ) → r < length (problemOf c .relations) → T (isChosen (relationAt (problemOf c) r .kind)) → row < tuplesOf (problemOf c .size) (relationAt (problemOf c) r) → T (isPicked (problemOf c) F r row)
@@ -66,39 +58,22 @@ module _ (c : Case) (A : Accepted c) (F : List Tuple) (picks : arePicks c F ≡ 
   unfolding isPicked IsPair
   settable r row l t h m = pair-action (problemOf c) (good c A) F (tested-kinds c A F (picks-inside c A F (T-of picks)) (T-of kinds)) (r, row) (l, t, h) (among-mem _ F m)
 
-  module _ (b : List ℕ) (o′ : Out) (holds : Bool) (W : Follows (problemOf c) (rowsIn (problemOf c) words) (out (initial (problemOf c)) b 0) o′ holds) where
-    proved-is : proved p (rowsIn p words) (out (initial p) b 0) ≡ follow p (out (initial p) b 0) front
-    proved-is = proved-follow p (rowsIn p words) F same settable (out (initial p) b 0)
+  module _ (b : List ℕ) (o : Out) (W : Follows c F b o) where
+    pub count-is : o .count ≡ length (builtSteps (problemOf c) F)
+    unfolding builtSteps
+    count-is = ap (λ (x : Out). x .count) (sym W) ∙ follow-count p (builtActions p F) (out (initial p) b 0) ∙ zero-add _ ∙ sym (length-map (builtActions p F) (actionNumber p))
 
-    -- 17
-    pub holds-is : holds ≡ ruleIsTrue c F
+    pub steps-are : bound (problemOf c) ≤ length b → o .steps ≡ written (builtSteps (problemOf c) F) b
+    unfolding written builtSteps
+    steps-are h =
+        let k = count-case c A F picks kinds in
+        ap (λ (x : Out). x .steps) (sym W) ∙ follow-steps p (builtActions p F) (out (initial p) b 0) ∙ sets-eq (builtSteps p F) b 0 (omega (arith, k .0, k .1)) ∙ ap (λ (n : ℕ). builtSteps p F ++ drop n b) (zero-add (length (builtSteps p F)))
+
+    pub state-is : ruleIsTrue c F ≡ true → o .state ≡ run (problemOf c) (builtSteps (problemOf c) F) .state
     unfolding taken
-    holds-is = W .goal ∙ ap (λ (s : State). mayTake p s proveGoal) (ap (λ (o : Out). o .state) proved-is ∙ follow-state p front (out (initial p) b 0) ∙ taken-append p (setSteps p F) (beginProof ∷ provedSteps p s₂ (length (p .nodeList))) (initial p))
-        ∙ rule-may c A F picks kinds
-
-    module _ (t : holds ≡ true) where
-      out-is : o′ ≡ follow p (out (initial p) b 0) (builtActions p F)
-      unfolding follow
-      out-is = sym (W .end) ∙ ap (λ (x : Bool). if x then one p (proved p (rowsIn p words) (out (initial p) b 0)) proveGoal else proved p (rowsIn p words) (out (initial p) b 0)) t
-          ∙ ap (λ (o : Out). one p o proveGoal) proved-is ∙ sym (follow-append p front (proveGoal ∷ []) (out (initial p) b 0))
-          ∙ ap (follow p (out (initial p) b 0)) (append-assoc (setSteps p F) (beginProof ∷ provedSteps p s₂ (length (p .nodeList))) (proveGoal ∷ []) ∙ sym (built-steps c A F picks kinds))
-
-      pub count-is : o′ .count ≡ length (builtSteps p F)
-      unfolding builtSteps
-      count-is = ap (λ (o : Out). o .count) out-is ∙ follow-count p (builtActions p F) (out (initial p) b 0) ∙ zero-add _ ∙ sym (length-map (builtActions p F) (actionNumber p))
-
-      pub steps-are : bound p ≤ length b → o′ .steps ≡ written (builtSteps p F) b
-      unfolding written builtSteps
-      steps-are h =
-          let k = count-case c A F picks kinds in
-          ap (λ (o : Out). o .steps) out-is ∙ follow-steps p (builtActions p F) (out (initial p) b 0) ∙ sets-eq (builtSteps p F) b 0 (omega (arith, k .0, k .1)) ∙ ap (λ (n : ℕ). builtSteps p F ++ drop n b) (zero-add (length (builtSteps p F)))
-
-      pub state-is : o′ .state ≡ run p (builtSteps p F) .state
-      unfolding taken
-      state-is = ap (λ (o : Out). o .state) out-is ∙ follow-state p (builtActions p F) (out (initial p) b 0) ∙ ap (taken p (initial p)) (built-steps c A F picks kinds)
-          ∙ taken-append p (setSteps p F) (beginProof ∷ (provedSteps p s₂ (length (p .nodeList)) ++ (proveGoal ∷ []))) (initial p)
-          ∙ taken-append p (provedSteps p s₂ (length (p .nodeList))) (proveGoal ∷ []) s₂
-          ∙ sym (built-state c A F picks kinds (sym holds-is ∙ t))
+    state-is t = ap (λ (x : Out). x .state) (sym W) ∙ follow-state p (builtActions p F) (out (initial p) b 0) ∙ ap (taken p (initial p)) (built-steps c A F picks kinds)
+        ∙ taken-append p (setSteps p F) (beginProof ∷ roundsNow p (begunFrom c F) zero (values c)) (initial p)
+        ∙ sym (built-state c A F picks kinds t)
 
 -- ---- answers
 module _ (c : Case) (p : Problem) (F : List Tuple) (state steps : List ℕ) where

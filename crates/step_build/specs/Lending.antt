@@ -9,19 +9,16 @@ use lib.ListN.{length, take, drop}
 use lib.Seq.{take-length, take-append-seam}
 use Rattle.definitions.specs.Sheet.Relations.{Tuple}
 use Rattle.definitions.specs.Problem.Truth.{Case, areOfKinds, ruleIsTrue, firstOfOtherKind}
-use Rattle.definitions.specs.Problem.Atoms.{problemOf, State, initial, stateWords, wordsFor}
-use Rattle.definitions.specs.Reply.Outcome.{written, stateLength}
+use Rattle.definitions.specs.Problem.Atoms.{problemOf, State, stateWords}
+use Rattle.definitions.specs.Reply.Outcome.{written}
 use Rattle.meaning.specs.Building.{kinds-told}
 use Rattle.meaning.specs.Lent.{words-take}
 use Rattle.bits.specs.Table.{bit, Words}
-use Rattle.step_start.specs.Rows.{atomsIn}
-use Rattle.step_start.specs.Initial.{Begun}
-use Rattle.step_picks.specs.Words.{rowsIn}
-use Rattle.step_prove.specs.Following.{Out, out}
+use Rattle.step_prove.specs.Following.{out}
 use Rattle.step_build.specs.Following.{Follows}
 use Rattle.step_build.specs.Answers.{Gives}
 use Rattle.step_build.specs.Starts.{Prepared}
-use Rattle.step_build.specs.BuiltLaws.{holds-is, count-is, steps-are, state-is, gives-false, gives-steps}
+use Rattle.step_build.specs.BuiltLaws.{count-is, steps-are, state-is, gives-false, gives-steps}
 use Rattle.step_build.specs.EndLaws.{state-lent}
 use Rattle.step_build.specs.declared.PlanAnswer.the-variants.{Steps, RuleFalse}
 
@@ -33,15 +30,6 @@ front-written v k state e = sym (ap (λ (u : List ℕ). u ++ drop (length u) sta
 words-front : (v rest : List ℕ) → Words (v ++ rest) → Words v
 words-front v rest w = subst Words (take-append-seam v rest) (words-take (length v) (v ++ rest) w)
 
--- the way from the words that the initial state was written to, which are just those that it needs
-pub follows-start : (c : Case) (F : List Tuple) (table facts words : List ℕ) (m room : ℕ) → Prepared c F table facts words m room → atomsIn table ≡ m
-    → (old new : List ℕ) → Begun table facts old new → length old ≡ (m + 63) / 64
-    → (b : List ℕ) (o : Out) (h : Bool) → Follows (problemOf c) (rowsIn (problemOf c) words) (out (bit new) b 0) o h → Follows (problemOf c) (rowsIn (problemOf c) words) (out (initial (problemOf c)) b 0) o h
-unfolding Begun stateLength wordsFor
-follows-start c F table facts words m room G e old new begun l b o h W =
-    subst (λ (s : State). Follows (problemOf c) (rowsIn (problemOf c) words) (out s b 0) o h)
-    (begun (problemOf c) (G .is) (e ∙ G .atoms-are) (G .facts-in) .exact (l ∙ ap (λ (k : ℕ). (k + 63) / 64) (G .atoms-are))) W
-
 -- the steps taken and written in what is lent, once the rule is known to be true
 module _ (c : Case) (F : List Tuple) (table facts words : List ℕ) (m : ℕ) (state steps : List ℕ) (G : Prepared c F table facts words m (length steps)) (n : none ≡ firstOfOtherKind c F) where
   kinds : areOfKinds c F ≡ true
@@ -50,14 +38,10 @@ module _ (c : Case) (F : List Tuple) (table facts words : List ℕ) (m : ℕ) (s
   pub lent-false : (r : Bool) → r ≡ ruleIsTrue c F → r ≡ false → Gives c (problemOf c) F state steps RuleFalse state steps
   lent-false r t e = gives-false c (problemOf c) F state steps n (sym t ∙ e)
 
-  module _ (r : Bool) (t : r ≡ ruleIsTrue c F) (e : r ≡ true) (v steps′ : List ℕ) (k : ℕ) (h : Bool)
-      (W : Follows (problemOf c) (rowsIn (problemOf c) words) (out (initial (problemOf c)) steps 0) (out (bit v) steps′ k) h) where
-    holds : h ≡ true
-    holds = holds-is c (G .case) F (G .picks) kinds words (G .picked) steps (out (bit v) steps′ k) h W ∙ sym t ∙ e
-
+  module _ (r : Bool) (t : r ≡ ruleIsTrue c F) (e : r ≡ true) (v steps′ : List ℕ) (k : ℕ) (W : Follows c F steps (out (bit v) steps′ k)) where
     pub lent-steps : Words (v ++ drop ((m + 63) / 64) state) → length v ≡ (m + 63) / 64 → Gives c (problemOf c) F state steps (Steps k) (v ++ drop ((m + 63) / 64) state) steps′
     lent-steps w l = gives-steps c (problemOf c) F state steps k (v ++ drop ((m + 63) / 64) state) steps′ n (sym t ∙ e)
-        (count-is c (G .case) F (G .picks) kinds words (G .picked) steps (out (bit v) steps′ k) h W holds)
+        (count-is c (G .case) F (G .picks) kinds steps (out (bit v) steps′ k) W)
         (state-lent (problemOf c) v m state (v ++ drop ((m + 63) / 64) state) (words-front v _ w) (omega (arith, l)) (G .atoms-are) (front-written v ((m + 63) / 64) state l)
-        ∙ ap (λ (z : State). written (stateWords (problemOf c) z) state) (state-is c (G .case) F (G .picks) kinds words (G .picked) steps (out (bit v) steps′ k) h W holds))
-        (steps-are c (G .case) F (G .picks) kinds words (G .picked) steps (out (bit v) steps′ k) h W holds (G .steps-room))
+        ∙ ap (λ (z : State). written (stateWords (problemOf c) z) state) (state-is c (G .case) F (G .picks) kinds steps (out (bit v) steps′ k) W (sym t ∙ e)))
+        (steps-are c (G .case) F (G .picks) kinds steps (out (bit v) steps′ k) W (G .steps-room))

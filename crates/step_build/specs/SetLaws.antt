@@ -1,5 +1,5 @@
 -- Setting the picks, step by step.
-use Prim.Native.Nat.{ℕ, suc, _+_, _-_, _*_, _<_, _≤_}
+use Prim.Native.Nat.{ℕ, zero, suc, _+_, _-_, _*_, _<_, _≤_}
 use mathlib.Core.Path.{_≡_, refl, sym, ap, subst, _∙_, fun-ext}
 use mathlib.Core.Bool.{Bool, true, false}
 use mathlib.Core.List.{List, List·Memᴰ}
@@ -23,8 +23,8 @@ use Rattle.problem_table.specs.Of.{Is, said}
 use Rattle.problem_table.specs.OfLaws.{whole-rows, typed-sets, set-row-is}
 use Rattle.problem_table.specs.declared.Act.the-variants.{Set}
 use Rattle.problem_table.specs.declared.RelationLine.{RelationLine}
-use Rattle.step_picks.specs.Words.{wordStart, rowsIn}
-use Rattle.step_picks.specs.WordLaws.{is-chosen, is-static, tuples-are}
+use Rattle.step_picks.specs.Words.{wordStart, isOpen, rowsIn}
+use Rattle.step_picks.specs.WordLaws.{is-open, tuples-are}
 use Rattle.step_prove.specs.Following.{Out, one}
 use Rattle.step_build.specs.Setting.{rowAt, setCount, setRow, setRows, setRelation, setRelations}
 
@@ -51,6 +51,19 @@ module _ (p : Problem) (r : ℕ) where
     pub rows-end : (o : Out) (j k : ℕ) → k ≤ j → setRows p r f o j (k - j) ≡ o
     unfolding setRows
     rows-end o j k h = let m : k - j ≡ 0 = omega arith in rw m
+
+    -- offsets whose rows are not picked
+    rows-over : (n : ℕ) (o : Out) (j k : ℕ) → j + n ≤ k → ((i : ℕ) → j ≤ i → i < j + n → f (rowAt p r i) ≡ false) → setRows p r f o j (k - j) ≡ setRows p r f o (j + n) (k - (j + n))
+    rows-over zero o j k h none = let m : j ≡ j + 0 = omega arith in ap (λ (i : ℕ). setRows p r f o i (k - i)) m
+    rows-over (suc n) o j k h none =
+        let m : j + 1 + n ≡ j + suc n = omega arith in
+        rows-next false o o j k (rowAt p r j) (omega arith) refl (sym (none j (omega arith) (omega arith))) (row-no false o (rowAt p r j) refl)
+        ∙ rows-over n o (j + 1) k (omega arith) (λ i l u. none i (omega arith) (omega arith)) ∙ ap (λ (i : ℕ). setRows p r f o i (k - i)) m
+
+    pub rows-skip : (o : Out) (j i k : ℕ) → j ≤ i → i ≤ k → ((m : ℕ) → j ≤ m → m < i → f (rowAt p r m) ≡ false) → setRows p r f o j (k - j) ≡ setRows p r f o i (k - i)
+    rows-skip o j i k l h none =
+        let e : j + (i - j) ≡ i = omega arith in
+        rows-over (i - j) o j k (omega arith) (λ m a b. none m a (omega arith)) ∙ ap (λ (x : ℕ). setRows p r f o x (k - x)) e
 
 -- how many set actions there are by the line
 module _ (x : RelationLine) (whole : Bool) (q : whole ≡ isWhole x) where
@@ -90,6 +103,17 @@ module _ (p : Problem) (w : List ℕ) (is : Is p w) (r : ℕ) (l : r < length (p
     pub row-is : (x : RelationLine) → x ≡ relationLine w r → PlacesFit w x → (z : ℕ) → z ≡ rowIn w x off → z ≡ rowAt p r off
     row-is x e fits z q = q ∙ ap (λ (y : RelationLine). rowIn w y off) e ∙ set-row-is p w is r l (subst (PlacesFit w) e fits) off h
 
+  -- offsets passed over where each action sets the row of its own number
+  module _ (x : RelationLine) (e : x ≡ relationLine w r) (fits : PlacesFit w x) (whole : Bool) (q : whole ≡ isWhole x) (picks : List ℕ) (start : ℕ) where
+    pub passed-over : (o : Out) (off next count : ℕ) → count ≡ setsOf (p .size) (p .range) (relationAt p r) → off ≤ next → next ≤ count
+        → ((i : ℕ) → off ≤ i → i < next → (whole ≡ true) × (bit picks (start + i) ≡ false))
+        → setRows p r (λ row. bit picks (start + row)) o off (count - off) ≡ setRows p r (λ row. bit picks (start + row)) o next (count - next)
+    passed-over o off next count n a b none =
+        rows-skip p r (λ row. bit picks (start + row)) o off next count a b (λ i l u.
+        let g = none i l u in
+        let at = row-is i (rowAt p r i) (omega arith) refl x e fits i (row-whole-at x whole q w i (g .0)) in
+        ap (λ (y : ℕ). bit picks (start + y)) (sym at) ∙ g .1)
+
   -- how many there are
   pub count-is : (x : RelationLine) → x ≡ relationLine w r → PlacesFit w x → isChosen (relationAt p r .kind) ≡ true → setCount x ≡ setsOf (p .size) (p .range) (relationAt p r)
   unfolding setCount
@@ -105,16 +129,16 @@ module _ (p : Problem) (w : List ℕ) (is : Is p w) (r : ℕ) (l : r < length (p
 
   -- a relation by its line
   module _ (x : RelationLine) (e : x ≡ relationLine w r) (f : ℕ → Bool) where
-    pub relation-yes : (o o′ : Out) (k : ℕ) → 0 < x .kind → PlacesFit w x → k ≡ setCount x → (k ≡ setsOf (p .size) (p .range) (relationAt p r) → setRows p r f o 0 k ≡ o′) → setRelation p f o r ≡ o′
+    pub relation-yes : (o o′ : Out) (k : ℕ) → isOpen (x .kind) ≡ true → PlacesFit w x → k ≡ setCount x → (k ≡ setsOf (p .size) (p .range) (relationAt p r) → setRows p r f o 0 k ≡ o′) → setRelation p f o r ≡ o′
     unfolding setRelation
     relation-yes o o′ k h fits q g =
-        let t = is-chosen p w is r l x e h in
+        let t = sym (is-open p w is r l x e) ∙ h in
         let n = q ∙ count-is x e fits t in
         rw t (ap (setRows p r f o 0) (sym n) ∙ g n)
 
-    pub relation-no : (o : Out) → x .kind ≡ 0 → setRelation p f o r ≡ o
+    pub relation-no : (o : Out) → isOpen (x .kind) ≡ false → setRelation p f o r ≡ o
     unfolding setRelation
-    relation-no o h = rw (is-static p w is r l x e h)
+    relation-no o h = rw (sym (is-open p w is r l x e) ∙ h)
 
 -- ---- relations
 module _ (p : Problem) (f : ℕ → ℕ → Bool) where

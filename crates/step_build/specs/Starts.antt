@@ -7,7 +7,7 @@ use mathlib.Core.List.{List, _++_}
 use lib.ListN.{length, take, drop, length-take}
 use lib.Seq.{length-front}
 use Rattle.definitions.specs.Sheet.Relations.{Tuple}
-use Rattle.definitions.specs.Problem.Truth.{Case, arePicks}
+use Rattle.definitions.specs.Problem.Truth.{Case, arePicks, everyTuples}
 use Rattle.definitions.specs.Problem.Atoms.{problemOf, atoms, wordsFor}
 use Rattle.definitions.specs.Problem.Actions.{actions}
 use Rattle.definitions.specs.Problem.Built.{bound}
@@ -26,6 +26,7 @@ pub record Prepared (c : Case) (F : List Tuple) (table facts words : List ℕ) (
   pub picked : PicksAre (problemOf c) words F
   pub atoms-are : count ≡ atoms (problemOf c)
   pub few : actions (problemOf c) ≤ 2 ^ 32
+  pub few-tuples : everyTuples c ≤ 8
   pub steps-room : bound (problemOf c) ≤ room
 
 -- so many words are enough for the initial state

@@ -3,30 +3,31 @@ use Prim.Native.Nat.{ℕ, zero, suc, _+_, _<_}
 use native.Mathlib.Nat.{add-zero, zero-add}
 use mathlib.Core.Path.{_≡_, refl, sym, ap, ap₂, subst, _∙_}
 use mathlib.Core.Bool.{Bool, true, false}
-use mathlib.Core.Option.{Option, none, some}
 use mathlib.Core.List.{List, [], _∷_, _++_, map, List·Memᴰ, List·Memᴰ·head, List·Memᴰ·tail}
 use native.Mathlib.Omega.{arith}
 use lib.Dec.{T}
 use lib.ListN.{length, getD}
 use lib.Seq.{sets}
-use Rattle.definitions.specs.Lists.{if_then_else_, filter, flatMap, option, from, below}
+use Rattle.definitions.specs.Lists.{if_then_else_, filter, flatMap, from, below}
 use Rattle.definitions.specs.Sheet.Relations.{Tuple, isChosen}
-use Rattle.definitions.specs.Problem.Atoms.{Problem, State, relationAt, nodeAt, tuplesOf, nodeWidth}
-use Rattle.definitions.specs.Problem.Actions.{Action, set, beginProof, isSettable, setRows as settableRows, setsOf, actionNumber}
-use Rattle.definitions.specs.Problem.Strips.{after}
+use Rattle.definitions.specs.Problem.Atoms.{Problem, State, relationAt, tuplesOf}
+use Rattle.definitions.specs.Problem.Actions.{Action, set, isSettable, setRows as settableRows, setsOf, actionNumber}
 use Rattle.definitions.specs.Problem.Built.{isPicked, pickedRows, chosenNumbers, setSteps}
 use Rattle.laws.specs.Booleans.{T-of, T-true}
 use Rattle.laws.specs.Numbers.{IsAction}
 use Rattle.laws.specs.Lists.{filter-same, filter-mem, flat-same, below-lt}
-use Rattle.meaning.specs.Planning.{taken, stepNow, rowSteps, provedSteps}
-use Rattle.step_prove.specs.Following.{Out, one, provedRow, provedRows, provedNodes}
+use Rattle.meaning.specs.Planning.{taken}
+use Rattle.step_prove.specs.Following.{Out, out, one}
 use Rattle.step_build.specs.Setting.{rowAt, setRow, setRows, setRelation, setRelations}
-use Rattle.step_build.specs.Following.{proved}
 
 -- actions taken and written
 unfoldable pub follow : Problem → Out → List Action → Out
 follow p o [] = o
 follow p o (a ∷ l) = follow p (one p o a) l
+
+-- where actions lead, by its three parts
+pub out-ext : (o : Out) (s : State) (b : List ℕ) (k : ℕ) → o .state ≡ s → o .steps ≡ b → o .count ≡ k → o ≡ out s b k
+out-ext o s b k e f g = rw (sym e, sym f, sym g) refl
 
 -- a list by its places; a test that another one implies
 listed : (l : List ℕ) (a : ℕ) (g : ℕ → ℕ) → ((i : ℕ) → i < length l → g (a + i) ≡ getD l i 0) → map g (from a (length l)) ≡ l
@@ -67,27 +68,6 @@ module _ (p : Problem) where
   unfolding follow one
   follow-count [] o = omega arith
   follow-count (a ∷ l) o = let e = follow-count l (one p o a) in omega arith
-
-  -- ---- the proof phase
-  row-follow : (v j k : ℕ) (o : Out) (x : Option Action) → ((o′ : Out) → provedRows p v o′ (suc j) k ≡ follow p o′ (rowSteps p v (o′ .state) (suc j) k))
-      → provedRows p v (option x o (one p o)) (suc j) k ≡ follow p o (option x (rowSteps p v (o .state) (suc j) k) (λ a. a ∷ rowSteps p v (after p (o .state) a) (suc j) k))
-  unfolding option follow one
-  row-follow v j k o none ih = ih o
-  row-follow v j k o (some a) ih = ih (one p o a)
-
-  rows-follow : (v k j : ℕ) (o : Out) → provedRows p v o j k ≡ follow p o (rowSteps p v (o .state) j k)
-  unfolding provedRows provedRow rowSteps follow
-  rows-follow v zero j o = refl
-  rows-follow v (suc k) j o = row-follow v j k o (stepNow p (o .state) v (nodeAt p v) j) (λ o′. rows-follow v k (suc j) o′)
-
-  pub nodes-follow : (v : ℕ) (o : Out) → provedNodes p o v ≡ follow p o (provedSteps p (o .state) v)
-  unfolding provedNodes provedSteps follow
-  nodes-follow zero o = refl
-  nodes-follow (suc v) o =
-      let l : List Action = rowSteps p v (o .state) zero (nodeWidth (p .size) (nodeAt p v)) in
-      let e : provedRows p v o zero (nodeWidth (p .size) (nodeAt p v)) ≡ follow p o l = rows-follow v (nodeWidth (p .size) (nodeAt p v)) zero o in
-      ap (λ (x : Out). provedNodes p x v) e ∙ nodes-follow v (follow p o l) ∙ ap (λ (s : State). follow p (follow p o l) (provedSteps p s v)) (follow-state l o)
-      ∙ sym (follow-append l (provedSteps p (taken p (o .state) l) v) o)
 
   -- ---- the picks
   set-follow : (r : ℕ) (f : ℕ → Bool) (k j : ℕ) (o : Out) → setRows p r f o j k ≡ follow p o (map (set r) (filter f (map (rowAt p r) (from j k))))
@@ -148,15 +128,3 @@ module _ (p : Problem) where
       pub picks-follow : (o : Out) → setRelations p f o zero (length (p .relations)) ≡ follow p o (setSteps p F)
       unfolding chosenNumbers below
       picks-follow o = sets-follow (length (p .relations)) zero o ∙ ap (follow p o) sets-are
-
-      abbrev pub begun : State → State
-      begun s = after p (taken p s (setSteps p F)) beginProof
-
-      -- up to the goal
-      pub proved-follow : (o : Out) → proved p f o ≡ follow p o (setSteps p F ++ (beginProof ∷ provedSteps p (begun (o .state)) (length (p .nodeList))))
-      unfolding proved follow one
-      proved-follow o =
-          ap (λ (x : Out). provedNodes p (one p x beginProof) (length (p .nodeList))) (picks-follow o)
-          ∙ nodes-follow (length (p .nodeList)) (one p (follow p o (setSteps p F)) beginProof)
-          ∙ ap (λ (s : State). follow p (one p (follow p o (setSteps p F)) beginProof) (provedSteps p (after p s beginProof) (length (p .nodeList)))) (follow-state (setSteps p F) o)
-          ∙ sym (follow-append (setSteps p F) (beginProof ∷ provedSteps p (begun (o .state)) (length (p .nodeList))) o)

@@ -5,28 +5,29 @@ use mathlib.Core.Bool.{Bool, true, false, _&&_}
 use mathlib.Core.List.{List, [], _∷_, _++_, map}
 use native.Mathlib.Nat.{zero-add, add-zero}
 use native.Mathlib.Omega.{arith}
-use lib.Dec.{T, ltb, eqb}
+use lib.Dec.{T, ltb}
 use lib.ListN.{length, drop, set, length-append}
 use lib.Seq.{sets, sets-eq}
-use borrow.Author.Tests.{ltb-true, ltb-false, lt-ltb, le-ltb, eqb-true, eqb-false}
+use borrow.Author.Tests.{ltb-true, ltb-false, lt-ltb, le-ltb}
 use Rattle.definitions.specs.Lists.{if_then_else_, filter, flatMap, from, below, sum}
 use Rattle.definitions.specs.Refusal.{Result, accepted}
 use Rattle.definitions.specs.Sheet.Relations.{isChosen}
-use Rattle.definitions.specs.Problem.Atoms.{Problem, State, relationAt, tuplesOf, relationStart, atoms, wordsFor, stateWords}
+use Rattle.definitions.specs.Problem.Atoms.{Problem, State, relationAt, tuplesOf, relationStart, tupleStart, atoms, wordsFor, stateWords}
 use Rattle.definitions.specs.Problem.Strips.{run, picksOf}
 use Rattle.definitions.specs.Problem.Built.{chosenNumbers}
 use Rattle.definitions.specs.Reply.Outcome.{relationWords, picksLength, pickWords, written, stateLength}
 use Rattle.bits.specs.Table.{bit, word, words}
 use Rattle.bits.proofs.Laws.{length-words}
-use Rattle.laws.specs.Numbers.{tuple-below}
+use Rattle.laws.specs.Booleans.{T-of, T-false}
+use Rattle.laws.specs.Numbers.{chosen-early, early-start, tuple-below}
 use Rattle.laws.specs.Words.{words-are, words-for, bit-is, state-bit}
 use Rattle.meaning.specs.HeldTuples.{areTaken, words-left}
 use Rattle.meaning.specs.Means.{Good}
 use Rattle.problem_table.specs.Lines.{relationsIn, relationLine}
 use Rattle.problem_table.specs.Of.{Is}
 use Rattle.problem_table.specs.declared.RelationLine.{RelationLine}
-use Rattle.step_picks.specs.Words.{wordsIn}
-use Rattle.step_picks.specs.WordLaws.{is-chosen, is-static, tuples-are}
+use Rattle.step_picks.specs.Words.{isOpen, wordsIn}
+use Rattle.step_picks.specs.WordLaws.{is-open, tuples-are}
 use Rattle.step_picks.specs.Copies.{rowHolds, lineWords, wordsFrom, countFrom, picksIn, Copied}
 
 -- ---- stores
@@ -58,11 +59,11 @@ module _ (s : ℕ → Bool) (x : RelationLine) where
   -- words are left while tuples are
   pub line-tuples : (count tuples j : ℕ) → count ≡ wordsIn x → tuples ≡ x .nots - x .tuples → j < count → 64 * j < tuples
   unfolding wordsIn wordsFor
-  line-tuples count tuples j e t h = by-test (eqb (x .kind) 0) refl
+  line-tuples count tuples j e t h = by-test (isOpen (x .kind)) refl
     where
-      by-test : (b : Bool) → eqb (x .kind) 0 ≡ b → 64 * j < tuples
-      by-test true q = let z : count ≡ 0 = rw q at e in absurd (omega arith)
-      by-test false q = let z : count ≡ (x .nots - x .tuples + 63) / 64 = rw q at e in omega arith
+      by-test : (b : Bool) → isOpen (x .kind) ≡ b → 64 * j < tuples
+      by-test true q = let z : count ≡ (x .nots - x .tuples + 63) / 64 = rw q at e in omega arith
+      by-test false q = let z : count ≡ 0 = rw q at e in absurd (omega arith)
 
   -- word j is cut from the state
   own-word : (tuples j : ℕ) → tuples ≡ x .nots - x .tuples → 64 * j < tuples
@@ -157,13 +158,7 @@ module _ (p : Problem) (w : List ℕ) (is : Is p w) where
   -- a line's words count if the relation is a `choose`
   line-count : (r : ℕ) → r < length (p .relations) → wordsIn (relationLine w r) ≡ (if chosen r then relationWords p r else zero)
   unfolding wordsIn relationWords
-  line-count r l = by-test (eqb (relationLine w r .kind) 0) refl
-    where
-      by-test : (b : Bool) → eqb (relationLine w r .kind) 0 ≡ b → (if b then zero else wordsFor (relationLine w r .nots - relationLine w r .tuples)) ≡ (if chosen r then wordsFor (tuplesOf (p .size) (relationAt p r)) else zero)
-      by-test true e = rw (is-static p w is r l (relationLine w r) refl (eqb-true (relationLine w r .kind) 0 e))
-      by-test false e =
-          let h = eqb-false (relationLine w r .kind) 0 e in
-          rw (is-chosen p w is r l (relationLine w r) refl (omega arith)) (ap wordsFor (tuples-are p w is r l (relationLine w r) refl _ refl))
+  line-count r l = rw (is-open p w is r l (relationLine w r) refl, tuples-are p w is r l (relationLine w r) refl _ refl) refl
 
   counts-are : (k r : ℕ) → r + k ≤ length (p .relations) → countFrom w r k ≡ sum (map (relationWords p) (filter chosen (from r k)))
   unfolding countFrom sum filter from
@@ -186,23 +181,29 @@ module _ (p : Problem) (w : List ℕ) (is : Is p w) where
     abbrev rowOf : ℕ → ℕ → Bool
     rowOf r row = ltb row (tuplesOf (p .size) (relationAt p r)) && s (relationStart p r + row)
 
-    row-is : (r : ℕ) → r < length (p .relations) → (row : ℕ) → rowHolds (bit state) (relationLine w r) row ≡ rowOf r row
+    start-is : (r : ℕ) → chosen r ≡ true → tupleStart p r ≡ relationStart p r
+    start-is r c = early-start p r (T-false _ (chosen-early (relationAt p r .kind) (T-of c)))
+
+    row-is : (r : ℕ) → r < length (p .relations) → chosen r ≡ true → (row : ℕ) → rowHolds (bit state) (relationLine w r) row ≡ rowOf r row
     unfolding rowHolds
-    row-is r l row =
-        ap₂ (λ (m a : ℕ). ltb row m && bit state (a + row)) (tuples-are p w is r l (relationLine w r) refl _ refl) (is .relation r l .tuples)
+    row-is r l c row =
+        ap₂ (λ (m a : ℕ). ltb row m && bit state (a + row)) (tuples-are p w is r l (relationLine w r) refl _ refl) (is .relation r l .tuples ∙ start-is r c)
         ∙ by-test (ltb row (tuplesOf (p .size) (relationAt p r))) refl
       where
         by-test : (b : Bool) → ltb row (tuplesOf (p .size) (relationAt p r)) ≡ b → (b && bit state (relationStart p r + row)) ≡ (b && s (relationStart p r + row))
-        by-test true q = state-at (relationStart p r + row) (tuple-below p r row l (ltb-true row (tuplesOf (p .size) (relationAt p r)) q))
+        by-test true q = state-at (relationStart p r + row) (subst (λ (x : ℕ). x + row < atoms p) (start-is r c) (tuple-below p r row l (ltb-true row (tuplesOf (p .size) (relationAt p r)) q)))
         by-test false q = refl
 
     line-words : (r : ℕ) → r < length (p .relations) → lineWords (bit state) (relationLine w r) ≡ (if chosen r then words (rowOf r) (relationWords p r) else [])
     unfolding lineWords words
-    line-words r l = ap₂ words (fun-ext (row-is r l)) (line-count r l) ∙ by-test (chosen r)
+    line-words r l = by-test (chosen r) refl
       where
-        by-test : (b : Bool) → words (rowOf r) (if b then relationWords p r else zero) ≡ (if b then words (rowOf r) (relationWords p r) else [])
-        by-test true = refl
-        by-test false = refl
+        count : (b : Bool) → chosen r ≡ b → wordsIn (relationLine w r) ≡ (if b then relationWords p r else zero)
+        count b c = line-count r l ∙ ap (λ (b : Bool). if b then relationWords p r else zero) c
+
+        by-test : (b : Bool) → chosen r ≡ b → words (rowHolds (bit state) (relationLine w r)) (wordsIn (relationLine w r)) ≡ (if b then words (rowOf r) (relationWords p r) else [])
+        by-test true c = ap₂ words (fun-ext (row-is r l c)) (count true c)
+        by-test false c = ap (words (rowHolds (bit state) (relationLine w r))) (count false c)
 
     lines-are : (k r : ℕ) → r + k ≤ length (p .relations) → wordsFrom (bit state) w r k ≡ flatMap (λ r. words (rowOf r) (relationWords p r)) (filter chosen (from r k))
     unfolding wordsFrom flatMap filter from

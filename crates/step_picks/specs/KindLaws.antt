@@ -11,7 +11,7 @@ use lib.Dec.{T, ltb}
 use lib.ListN.{length}
 use Rattle.bits.specs.Table.{num, count}
 use Rattle.definitions.specs.Lists.{if_then_else_, any, option, position, below, isIn}
-use Rattle.definitions.specs.Sheet.Relations.{Kind, static, plain, Fun, PFun, Inj, PInj, Tuple, isChosen, isFunction, isInjective}
+use Rattle.definitions.specs.Sheet.Relations.{Kind, static, plain, Fun, PFun, Inj, PInj, universal, Tuple, isChosen, isFunction, isInjective}
 use Rattle.definitions.specs.Problem.Truth.{Case, arePicks, firstOfOtherKind}
 use Rattle.definitions.specs.Problem.Atoms.{problemOf, relationAt, tuplesOf}
 use Rattle.definitions.specs.Problem.Built.{isPicked, chosenNumbers}
@@ -70,6 +70,7 @@ breaks-same Fun xs ys n f g h = tests-same f g n (h tt) Fun xs ys
 breaks-same PFun xs ys n f g h = tests-same f g n (h tt) PFun xs ys
 breaks-same Inj xs ys n f g h = tests-same f g n (h tt) Inj xs ys
 breaks-same PInj xs ys n f g h = tests-same f g n (h tt) PInj xs ys
+breaks-same universal xs ys n f g h = refl
 
 module _ (c : Case) (A : Accepted c) (F : List Tuple) (picks : arePicks c F ≡ true) (words : List ℕ) (same : PicksAre (problemOf c) words F) where
   -- 16

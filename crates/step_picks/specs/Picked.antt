@@ -130,7 +130,7 @@ module _ (s : List ℕ) (c : Case) (A : Accepted c) (o : Opened) (facts : ℕ �
   unfolding chosenOf relationIn
   chosen-arity i l =
       ap (λ (x : ℕ). relationAt (problemOf c) (x + i) .arity) (sym first-is)
-      ∙ ap (λ (k : Relation). k .arity) (chosen-at c A i ∙ ap (λ (ks : List Relation). getD ks i noRelation) (h .chosen) ∙ relation-at s (o .sig) (o .sig .rels) (o .sig .chosen) i noRelation l)
+      ∙ ap (λ (k : Relation). k .arity) (chosen-at c A i (omega (arith, many-chosen)) ∙ ap (λ (ks : List Relation). getD ks i noRelation) (h .chosen) ∙ relation-at s (o .sig) (o .sig .rels) (o .sig .chosen) i noRelation l)
 
   abbrev size : o .n ≡ problemOf c .size
   size = elements-are s c o facts h

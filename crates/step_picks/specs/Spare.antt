@@ -28,8 +28,8 @@ use Rattle.meaning.specs.Lent.{words-drop}
 use Rattle.problem_table.specs.Lines.{relationLine}
 use Rattle.problem_table.specs.Of.{Is}
 use Rattle.problem_table.specs.declared.RelationLine.{RelationLine}
-use Rattle.step_picks.specs.Words.{wordsIn}
-use Rattle.step_picks.specs.WordLaws.{is-chosen, is-static, tuples-are}
+use Rattle.step_picks.specs.Words.{isOpen, wordsIn}
+use Rattle.step_picks.specs.WordLaws.{is-open, tuples-are}
 use Rattle.bits.proofs.Shifts.{right-digit}
 use Rattle.step_picks.specs.declared.Spare.{Spare}
 use Rattle.step_picks.specs.declared.Spare.the-variants.{Clear, Word}
@@ -40,7 +40,7 @@ isSpare w word tuples = if eqb (tuples % 64) 0 then false else ltb 0 (getD w (wo
 
 -- the same for a relation's line; only a `choose` has words
 unfoldable pub spareIn : List ℕ → ℕ → RelationLine → Bool
-spareIn w word x = if eqb (x .kind) 0 then false else isSpare w word (x .nots - x .tuples)
+spareIn w word x = if isOpen (x .kind) then isSpare w word (x .nots - x .tuples) else false
 
 -- the word that an answer names
 unfoldable pub spareFound : Spare → Option ℕ
@@ -156,41 +156,38 @@ module _ (p : Problem) (picks : List ℕ) (ok : Words picks) (r word : ℕ) (l :
   module _ (w : List ℕ) (is : Is p w) (x : RelationLine) (e : x ≡ relationLine w r) where
     pub spare-yes : spareIn picks word x ≡ true → (n : ℕ) → n ≡ x .nots - x .tuples → spareFrom p picks r word ≡ some (word + n / 64)
     unfolding spareIn
-    spare-yes t n m = by-test (eqb (x .kind) 0) refl t
+    spare-yes t n m = by-test (isOpen (x .kind)) refl t
       where
-        by-test : (b : Bool) → eqb (x .kind) 0 ≡ b → (if b then false else isSpare picks word (x .nots - x .tuples)) ≡ true → spareFrom p picks r word ≡ some (word + n / 64)
-        by-test true k t = absurd (T-of t)
-        by-test false k t =
-            let h = eqb-false (x .kind) 0 k in
+        by-test : (b : Bool) → isOpen (x .kind) ≡ b → (if b then isSpare picks word (x .nots - x .tuples) else false) ≡ true → spareFrom p picks r word ≡ some (word + n / 64)
+        by-test false k t = absurd (T-of t)
+        by-test true k t =
             let q = tuples-are p w is r l x e (x .nots - x .tuples) refl in
-            next-chosen (is-chosen p w is r l x e (omega arith)) true (ap (isSpare picks word) (sym q) ∙ t) ∙ ap (λ (n : ℕ). some (word + n / 64)) (sym (m ∙ q))
+            next-chosen (sym (is-open p w is r l x e) ∙ k) true (ap (isSpare picks word) (sym q) ∙ t) ∙ ap (λ (n : ℕ). some (word + n / 64)) (sym (m ∙ q))
 
     pub spare-no : spareIn picks word x ≡ false → (k : ℕ) → k ≡ wordsIn x → spareFrom p picks r word ≡ spareFrom p picks (r + 1) (word + k)
     unfolding spareIn wordsIn relationWords
-    spare-no t k m = by-test (eqb (x .kind) 0) refl t ∙ ap (λ (k : ℕ). spareFrom p picks (r + 1) (word + k)) (sym m)
+    spare-no t k m = by-test (isOpen (x .kind)) refl t ∙ ap (λ (k : ℕ). spareFrom p picks (r + 1) (word + k)) (sym m)
       where
-        by-test : (b : Bool) → eqb (x .kind) 0 ≡ b → (if b then false else isSpare picks word (x .nots - x .tuples)) ≡ false → spareFrom p picks r word ≡ spareFrom p picks (r + 1) (word + (if b then zero else wordsFor (x .nots - x .tuples)))
-        by-test true k t = next-static (is-static p w is r l x e (eqb-true (x .kind) 0 k))
-        by-test false k t =
-            let h = eqb-false (x .kind) 0 k in
+        by-test : (b : Bool) → isOpen (x .kind) ≡ b → (if b then isSpare picks word (x .nots - x .tuples) else false) ≡ false → spareFrom p picks r word ≡ spareFrom p picks (r + 1) (word + (if b then wordsFor (x .nots - x .tuples) else zero))
+        by-test false k t = next-static (sym (is-open p w is r l x e) ∙ k)
+        by-test true k t =
             let q = tuples-are p w is r l x e (x .nots - x .tuples) refl in
-            next-chosen (is-chosen p w is r l x e (omega arith)) false (ap (isSpare picks word) (sym q) ∙ t) ∙ ap (λ (n : ℕ). spareFrom p picks (r + 1) (word + wordsFor n)) (sym q)
+            next-chosen (sym (is-open p w is r l x e) ∙ k) false (ap (isSpare picks word) (sym q) ∙ t) ∙ ap (λ (n : ℕ). spareFrom p picks (r + 1) (word + wordsFor n)) (sym q)
 
 -- ---- what the code tests
 module _ (picks : List ℕ) (word : ℕ) (x : RelationLine) where
-  pub line-static : x .kind ≡ 0 → false ≡ spareIn picks word x
+  pub line-none : isOpen (x .kind) ≡ false → false ≡ spareIn picks word x
   unfolding spareIn
-  line-static e = rw (eq-eqb (x .kind) 0 e)
+  line-none e = rw e
 
-  module _ (e : x .kind ≡ 0 → ⊥) (n : ℕ) (m : n ≡ x .nots - x .tuples) where
-    line-chosen : isSpare picks word n ≡ spareIn picks word x
-    unfolding spareIn
-    line-chosen = rw (ne-eqb (x .kind) 0 e, m)
+  pub line-some : isOpen (x .kind) ≡ true → (n : ℕ) → n ≡ x .nots - x .tuples → (b : Bool) → b ≡ isSpare picks word n → b ≡ spareIn picks word x
+  unfolding spareIn
+  line-some e n m b q = rw (e, sym m) q
 
-    pub line-full : n % 64 ≡ 0 → false ≡ spareIn picks word x
-    unfolding isSpare
-    line-full z = rw (eq-eqb (n % 64) 0 z) at line-chosen
+pub past-full : (picks : List ℕ) (word n : ℕ) → n % 64 ≡ 0 → false ≡ isSpare picks word n
+unfolding isSpare
+past-full picks word n z = rw (eq-eqb (n % 64) 0 z)
 
-    pub line-last : (n % 64 ≡ 0 → ⊥) → (v : ℕ) → v ≡ getD picks (word + n / 64) 0 → ltb 0 (v / 2 ^ (n % 64)) ≡ spareIn picks word x
-    unfolding isSpare
-    line-last z v q = ap (λ (v : ℕ). ltb 0 (v / 2 ^ (n % 64))) q ∙ rw (ne-eqb (n % 64) 0 z) at line-chosen
+pub past-last : (picks : List ℕ) (word n : ℕ) → (n % 64 ≡ 0 → ⊥) → (v : ℕ) → v ≡ getD picks (word + n / 64) 0 → ltb 0 (v / 2 ^ (n % 64)) ≡ isSpare picks word n
+unfolding isSpare
+past-last picks word n z v q = ap (λ (v : ℕ). ltb 0 (v / 2 ^ (n % 64))) q ∙ rw (ne-eqb (n % 64) 0 z) refl

@@ -1,7 +1,7 @@
 -- The tests of kinds, step by step, and that by the table they are those of the problem.
 use Prim.Native.Nat.{ℕ, zero, suc, _+_, _-_, _*_, _<_, _≤_}
 use mathlib.Core.Path.{_≡_, refl, sym, ap, ap₂, subst, _∙_, fun-ext}
-use mathlib.Core.Bool.{Bool, true, false, not, _&&_, _||_, and-false}
+use mathlib.Core.Bool.{Bool, true, false, not, _&&_, _||_}
 use mathlib.Core.Option.{Option, none, some}
 use mathlib.Core.List.{List, [], _∷_, map}
 use native.Mathlib.Omega.{arith}
@@ -9,21 +9,21 @@ use native.Mathlib.Numerals.{add-one}
 use native.Mathlib.Nat.{add-assoc, add-zero, zero-add}
 use lib.Dec.{T, ltb, eqb}
 use lib.ListN.{length, getD}
-use borrow.Author.Tests.{lt-ltb, le-ltb, ltb-true, ltb-false, eq-eqb, ne-eqb}
+use borrow.Author.Tests.{lt-ltb, le-ltb}
 use Rattle.bits.specs.Table.{bit, num, count}
 use Rattle.definitions.specs.Lists.{if_then_else_, any, filter, option, position, from, below, isIn}
-use Rattle.definitions.specs.Sheet.Relations.{Kind, static, plain, Fun, PFun, Inj, PInj, isChosen, isFunction, isInjective}
+use Rattle.definitions.specs.Sheet.Relations.{Kind, static, plain, Fun, PFun, Inj, PInj, universal, isChosen, isFunction, isInjective}
 use Rattle.definitions.specs.Problem.Atoms.{Problem, relationAt}
 use Rattle.definitions.specs.Problem.Built.{chosenNumbers}
 use Rattle.laws.specs.Booleans.{T-of}
 use Rattle.problem_table.specs.OfLaws.{both-whole}
-use Rattle.problem_table.specs.Lines.{rangesPlace, sizeIn, relationsIn, relationLine, membersIn, PlacesFit, Fits}
+use Rattle.problem_table.specs.Lines.{isPlaceless, rangesPlace, sizeIn, relationsIn, relationLine, membersIn, PlacesFit, Fits}
 use Rattle.problem_table.specs.Numbers.{isWhole}
 use Rattle.problem_table.specs.Of.{Is, kindNumber}
 use Rattle.problem_table.specs.declared.RelationLine.{RelationLine}
 use Rattle.meaning.specs.KindRows.{hasTwo, isCrowded, isStray, breaks, none-stray}
-use Rattle.step_picks.specs.Words.{wordStart, wordsIn, rowsIn}
-use Rattle.step_picks.specs.WordLaws.{is-kind, word-next}
+use Rattle.step_picks.specs.Words.{wordStart, isOpen, wordsIn, rowsIn}
+use Rattle.step_picks.specs.WordLaws.{kind-open, is-kind, word-next}
 use Rattle.step_picks.specs.Tests.{crowdsBy, breaksBy, firstsIn, secondsIn, areInside, chosenBy, brokenAt, brokenFrom, told}
 use Rattle.step_picks.specs.declared.Kinds.the-variants.{Kept, Broken}
 
@@ -69,19 +69,24 @@ module _ (words : List ℕ) (start n a b : ℕ) where
 module _ (kind n : ℕ) (f : ℕ → Bool) where
   pub crowds-none : kind < 2 → false ≡ crowdsBy kind n f
   unfolding crowdsBy
-  crowds-none h = rw (le-ltb 1 kind (omega arith), le-ltb 3 kind (omega arith))
+  crowds-none h = rw (lt-ltb kind 2 h)
 
-  pub crowds-first : 2 ≤ kind → isCrowded f n n 1 ≡ true → true ≡ crowdsBy kind n f
+  pub crowds-past : 5 < kind → false ≡ crowdsBy kind n f
   unfolding crowdsBy
-  crowds-first h e = rw (lt-ltb 1 kind (omega arith), e)
+  crowds-past h = rw (le-ltb kind 2 (omega arith), lt-ltb 5 kind h)
 
-  pub crowds-fun : 2 ≤ kind → kind < 4 → isCrowded f n n 1 ≡ false → false ≡ crowdsBy kind n f
-  unfolding crowdsBy
-  crowds-fun h k e = rw (lt-ltb 1 kind (omega arith), le-ltb 3 kind (omega arith), e)
+  module _ (h : 2 ≤ kind) (k : kind ≤ 5) where
+    pub crowds-first : isCrowded f n n 1 ≡ true → true ≡ crowdsBy kind n f
+    unfolding crowdsBy
+    crowds-first e = rw (le-ltb kind 2 h, le-ltb 5 kind k, e)
 
-  pub crowds-second : (b : Bool) → 4 ≤ kind → isCrowded f n n 1 ≡ false → b ≡ isCrowded f n 1 n → b ≡ crowdsBy kind n f
-  unfolding crowdsBy
-  crowds-second b h e q = rw (lt-ltb 1 kind (omega arith), lt-ltb 3 kind (omega arith), e) q
+    pub crowds-fun : kind < 4 → isCrowded f n n 1 ≡ false → false ≡ crowdsBy kind n f
+    unfolding crowdsBy
+    crowds-fun l e = rw (le-ltb kind 2 h, le-ltb 5 kind k, le-ltb 3 kind (omega arith), e)
+
+    pub crowds-second : (b : Bool) → 4 ≤ kind → isCrowded f n n 1 ≡ false → b ≡ isCrowded f n 1 n → b ≡ crowdsBy kind n f
+    unfolding crowdsBy
+    crowds-second b l e q = rw (le-ltb kind 2 h, le-ltb 5 kind k, lt-ltb 3 kind (omega arith), e) q
 
 -- ---- pairs outside the types
 module _ (w : List ℕ) (at k x : ℕ) where
@@ -126,27 +131,26 @@ module _ (kind : ℕ) (xs ys : List ℕ) (n : ℕ) (f : ℕ → Bool) where
   unfolding breaksBy
   breaks-crowd e = rw e
 
-  pub breaks-stray : (b : Bool) → crowdsBy kind n f ≡ false → b ≡ (ltb 1 kind && isStray f n xs ys) → b ≡ breaksBy kind xs ys n f
+  pub breaks-stray : (b : Bool) → crowdsBy kind n f ≡ false → b ≡ (not (isPlaceless kind) && isStray f n xs ys) → b ≡ breaksBy kind xs ys n f
   unfolding breaksBy
   breaks-stray b e q = rw e q
 
 -- where every tuple may be set, no pair strays; where not, the kind is a function kind
-pub whole-none : (w : List ℕ) (line : RelationLine) (f : ℕ → Bool) (n : ℕ) → PlacesFit w line → n ≡ sizeIn w → isWhole line ≡ true → false ≡ (ltb 1 (line .kind) && isStray f n (firstsIn w line) (secondsIn w line))
-whole-none w line f n fits e h = by-kind (ltb (line .kind) 2) refl
+pub whole-none : (w : List ℕ) (line : RelationLine) (f : ℕ → Bool) (n : ℕ) → PlacesFit w line → n ≡ sizeIn w → isWhole line ≡ true → false ≡ (not (isPlaceless (line .kind)) && isStray f n (firstsIn w line) (secondsIn w line))
+whole-none w line f n fits e h = by-kind (isPlaceless (line .kind)) refl
   where
-    by-kind : (b : Bool) → ltb (line .kind) 2 ≡ b → false ≡ (ltb 1 (line .kind) && isStray f n (firstsIn w line) (secondsIn w line))
-    by-kind true q = rw (le-ltb 1 (line .kind) (omega (arith, ltb-true (line .kind) 2 q)))
+    by-kind : (b : Bool) → isPlaceless (line .kind) ≡ b → false ≡ (not b && isStray f n (firstsIn w line) (secondsIn w line))
+    by-kind true q = refl
     by-kind false q =
         let (a, b) = both-whole line q h in
-        let s : isStray f n (firstsIn w line) (secondsIn w line) ≡ false = ap₂ (isStray f n) (fits .firsts .whole a ∙ ap below (sym e)) (fits .seconds .whole b ∙ ap below (sym e)) ∙ none-stray f n in
-        rw s (sym (and-false (ltb 1 (line .kind))))
+        sym (ap₂ (isStray f n) (fits .firsts .whole a ∙ ap below (sym e)) (fits .seconds .whole b ∙ ap below (sym e)) ∙ none-stray f n)
 
-pub typed-some : (line : RelationLine) (a b : Bool) → isWhole line ≡ false → a ≡ b → a ≡ (ltb 1 (line .kind) && b)
-typed-some line a b e q = rw (lt-ltb 1 (line .kind) (by-kind (ltb (line .kind) 2) refl)) q
+pub typed-some : (line : RelationLine) (a b : Bool) → isWhole line ≡ false → a ≡ b → a ≡ (not (isPlaceless (line .kind)) && b)
+typed-some line a b e q = by-kind (isPlaceless (line .kind)) e
   where
-    by-kind : (t : Bool) → ltb (line .kind) 2 ≡ t → 1 < line .kind
-    by-kind true h = absurd (T-of (sym e ∙ ap (λ (t : Bool). t || (eqb (line .firsts) rangesPlace && eqb (line .seconds) rangesPlace)) h))
-    by-kind false h = let l = ltb-false (line .kind) 2 h in omega arith
+    by-kind : (t : Bool) → (t || (eqb (line .firsts) rangesPlace && eqb (line .seconds) rangesPlace)) ≡ false → a ≡ (not t && b)
+    by-kind true h = absurd (T-of (sym h))
+    by-kind false h = q
 
 breaks-is : (k : Kind) (xs ys us vs : List ℕ) (n : ℕ) (f : ℕ → Bool) → (T (isFunction k) → us ≡ xs) → (T (isFunction k) → vs ≡ ys) → breaksBy (kindNumber k) us vs n f ≡ breaks k xs ys n f
 unfolding breaksBy crowdsBy breaks kindNumber isFunction isInjective
@@ -156,31 +160,27 @@ breaks-is Fun xs ys us vs n f a b = rw (a tt, b tt) refl
 breaks-is PFun xs ys us vs n f a b = rw (a tt, b tt) refl
 breaks-is Inj xs ys us vs n f a b = rw (a tt, b tt) refl
 breaks-is PInj xs ys us vs n f a b = rw (a tt, b tt) refl
+breaks-is universal xs ys us vs n f a b = refl
 
 chosen-is : (k : Kind) → chosenBy (kindNumber k) ≡ (if isChosen k then 1 else zero)
-unfolding chosenBy kindNumber isChosen
-chosen-is static = refl
-chosen-is plain = refl
-chosen-is Fun = refl
-chosen-is PFun = refl
-chosen-is Inj = refl
-chosen-is PInj = refl
+unfolding chosenBy
+chosen-is k = ap (λ (b : Bool). if b then 1 else zero) (kind-open k)
 
 pub chosen-le : (kind : ℕ) → chosenBy kind ≤ 1
 unfolding chosenBy
-chosen-le kind = by-test (eqb kind 0)
+chosen-le kind = by-test (isOpen kind)
   where
-    by-test : (b : Bool) → (if b then zero else 1) ≤ 1
+    by-test : (b : Bool) → (if b then 1 else zero) ≤ 1
     by-test true = omega arith
     by-test false = omega arith
 
-pub chosen-none : (kind : ℕ) → kind ≡ 0 → 0 ≡ chosenBy kind
+pub chosen-none : (kind : ℕ) → isOpen kind ≡ false → 0 ≡ chosenBy kind
 unfolding chosenBy
-chosen-none kind e = rw (eq-eqb kind 0 e)
+chosen-none kind e = rw e
 
-pub chosen-one : (kind : ℕ) → 0 < kind → 1 ≡ chosenBy kind
+pub chosen-one : (kind : ℕ) → isOpen kind ≡ true → 1 ≡ chosenBy kind
 unfolding chosenBy
-chosen-one kind h = rw (ne-eqb kind 0 (λ z. omega arith))
+chosen-one kind e = rw e
 
 -- ---- relation by relation
 module _ (p : Problem) (f : ℕ → ℕ → Bool) where
@@ -210,6 +210,7 @@ module _ (p : Problem) (f : ℕ → ℕ → Bool) where
   static-kept PFun xs ys n g e = absurd (T-of (sym e))
   static-kept Inj xs ys n g e = absurd (T-of (sym e))
   static-kept PInj xs ys n g e = absurd (T-of (sym e))
+  static-kept universal xs ys n g e = refl
 
   broken-position : (k r i : ℕ) → brokenFrom p f r k i ≡ option (position (brokenAt p f) (filter (λ r. isChosen (relationAt p r .kind)) (from r k))) none (λ j. some (i + j))
   unfolding brokenFrom position filter from option
@@ -247,7 +248,7 @@ unfolding told
 told-broken i = refl
 
 -- ---- by the table
-pub line-places : (w : List ℕ) → Fits w → (r : ℕ) (x : RelationLine) → x ≡ relationLine w r → r < 17 → PlacesFit w x
+pub line-places : (w : List ℕ) → Fits w → (r : ℕ) (x : RelationLine) → x ≡ relationLine w r → r < 18 → PlacesFit w x
 line-places w fits r x e h = subst (PlacesFit w) (sym e) (fits .places r h)
 
 module _ (p : Problem) (w : List ℕ) (is : Is p w) (words : List ℕ) where

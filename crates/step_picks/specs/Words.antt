@@ -1,9 +1,9 @@
 -- Picks as bits in words: each `choose` from a new word on, a tuple by its row.
 use Prim.Native.Nat.{ℕ, zero, suc, _+_, _-_, _*_, _<_}
 use mathlib.Core.Path.{_≡_}
-use mathlib.Core.Bool.{Bool}
+use mathlib.Core.Bool.{Bool, _&&_}
 use mathlib.Core.List.{List}
-use lib.Dec.{T, eqb}
+use lib.Dec.{T, ltb}
 use lib.ListN.{length}
 use Rattle.bits.specs.Table.{bit}
 use Rattle.definitions.specs.Lists.{if_then_else_}
@@ -18,9 +18,12 @@ unfoldable pub wordStart : Problem → ℕ → ℕ
 wordStart p zero = zero
 wordStart p (suc r) = wordStart p r + (if isChosen (relationAt p r .kind) then relationWords p r else zero)
 
--- of a relation's line
+-- the kinds of a `choose`, 1 to 5; and the words of a relation's line
+unfoldable pub isOpen : ℕ → Bool
+isOpen kind = ltb 0 kind && ltb kind 6
+
 unfoldable pub wordsIn : RelationLine → ℕ
-wordsIn x = if eqb (x .kind) 0 then zero else wordsFor (x .nots - x .tuples)
+wordsIn x = if isOpen (x .kind) then wordsFor (x .nots - x .tuples) else zero
 
 -- what words say of the rows of each relation
 abbrev pub rowsIn : Problem → List ℕ → ℕ → ℕ → Bool

@@ -13,10 +13,10 @@ ghost use Rattle.bits.specs.Table.{bit, num, count as «count-of»};
 ghost use Rattle.problem_table.specs.Lines.{tableLength, sizeIn, membersIn, PlacesFit, Fits};
 ghost use Rattle.problem_table.specs.Of.{Is};
 ghost use Rattle.meaning.specs.KindRows.{isCrowded, isStray};
-ghost use Rattle.step_picks.specs.Words.{wordsIn, rowsIn};
+ghost use Rattle.step_picks.specs.Words.{isOpen, wordsIn, rowsIn};
 ghost use Rattle.step_picks.specs.Tests.{crowdsBy, breaksBy, firstsIn, secondsIn, areInside, chosenBy, brokenAt, told};
 ghost use Rattle.step_picks.specs.Copies.{lineWords, picksIn, Copied};
-ghost use Rattle.step_picks.specs.Spare.{spareIn, spareFound};
+ghost use Rattle.step_picks.specs.Spare.{isSpare, spareIn, spareFound};
 use problem_table::RelationLine;
 
 // Whether picks are of the declared kinds, or the index of the first `choose` of which they are not.
@@ -35,26 +35,36 @@ pub fn tuples_in(k: RelationLine) -> usize
     0
 }
 
+// Whether a kind is that of a `choose`.
+pub fn is_chosen(kind: usize) -> bool
+    ensures { λ r. ⌜ r ≡ isOpen kind ⌝ }
+{
+    if kind == 0 {
+        return false;
+    }
+    kind < 6
+}
+
 // How many words its picks have.
 pub fn words_in(k: RelationLine) -> usize
     requires { ⌜ k .nots ≤ 2 ^ 32 ⌝ }
     ensures { λ r. ⌜ r ≡ wordsIn k ⌝ }
 {
-    if k.kind == 0 {
-        return 0;
+    if is_chosen(k.kind) {
+        let tuples = tuples_in(k);
+        return (tuples + 63) / 64;
     }
-    let tuples = tuples_in(k);
-    (tuples + 63) / 64
+    0
 }
 
 // 1 for a `choose`.
 fn chosen(kind: usize) -> usize
     ensures { λ r. ⌜ r ≡ chosenBy kind ⌝ }
 {
-    if kind == 0 {
-        return 0;
+    if is_chosen(kind) {
+        return 1;
     }
-    1
+    0
 }
 
 // Bit i as a number.
@@ -102,6 +112,9 @@ fn crowds(picks: &[u64], start: usize, n: usize, kind: usize) -> bool
     ensures { λ r. ⌜ r ≡ crowdsBy kind n (λ i. bit (now (picks .entry)) (start + i)) ⌝ }
 {
     if kind < 2 {
+        return false;
+    }
+    if 5 < kind {
         return false;
     }
     if crowded(picks, start, n, n, 1) {
@@ -276,20 +289,28 @@ pub enum Spare {
     Word(usize),
 }
 
-// Whether a relation has a spare bit set. Its words start with word `word`; the tuples leave bits over in the last one alone.
-fn has_spare(picks: &[u64], word: usize, line: RelationLine) -> bool
-    requires { ⌜ (word ≤ 2 ^ 32) × (line .nots ≤ 2 ^ 32) ⌝ }
-    ensures { λ r. ⌜ r ≡ spareIn (now (picks .entry)) word line ⌝ }
+// Whether a bit is set past those of so many tuples, whose words start with word `word`; they leave bits over in the last one alone.
+fn spare_past(picks: &[u64], word: usize, tuples: usize) -> bool
+    requires { ⌜ (word ≤ 2 ^ 32) × (tuples ≤ 2 ^ 32) ⌝ }
+    ensures { λ r. ⌜ r ≡ isSpare (now (picks .entry)) word tuples ⌝ }
 {
-    if line.kind == 0 {
-        return false;
-    }
-    let tuples = tuples_in(line);
     let used = tuples % 64;
     if used == 0 {
         return false;
     }
     0 < bits::word_at(picks, word + tuples / 64) >> used
+}
+
+// Whether a relation has a spare bit set; only a `choose` has words.
+fn has_spare(picks: &[u64], word: usize, line: RelationLine) -> bool
+    requires { ⌜ (word ≤ 2 ^ 32) × (line .nots ≤ 2 ^ 32) ⌝ }
+    ensures { λ r. ⌜ r ≡ spareIn (now (picks .entry)) word line ⌝ }
+{
+    if is_chosen(line.kind) {
+        let tuples = tuples_in(line);
+        return spare_past(picks, word, tuples);
+    }
+    false
 }
 
 // The first word of lent picks that has a spare bit set.

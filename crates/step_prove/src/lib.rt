@@ -5,7 +5,7 @@ ghost use mathlib.Core.Bool.{true};
 ghost use mathlib.Core.List.{List, [], _∷_};
 ghost use Prim.Native.Nat.{ℕ, _+_, _-_, _*_, _/_, _%_, _^_, _<_, _≤_};
 ghost use lib.ListN.{length, getD, take, set as «set-at»};
-ghost use Rattle.definitions.specs.Problem.Atoms.{Problem, placesOf, atoms as «atoms-of»};
+ghost use Rattle.definitions.specs.Problem.Atoms.{Problem, placesOf};
 ghost use Rattle.definitions.specs.Problem.Actions.{Action, actionNumber, valuesIn, withValue};
 ghost use Rattle.laws.specs.Numbers.{IsAction};
 ghost use Rattle.bits.specs.Table.{bit};
@@ -166,7 +166,7 @@ pub fn step(
     a: problem_table::Act,
     number: usize,
 ) -> usize
-    requires { ⌜ Fits (now table) × (at < 2 ^ 40) ⌝ }
+    requires { ⌜ Fits (now table) × (at < 2 ^ 50) ⌝ }
     requires { ⌜ ActFits (now table) a ⌝ }
     ensures { λ r. ⌜ (r ≡ at + 1) × ((p : Problem) (x : Action) → ReadyToFollow p (now (table .entry)) (length (now (state .entry))) → IsAction p x → a ≡ said x → number ≡ actionNumber p x
         → one p (out (bit (now (state .entry))) (now (steps .entry)) at) x ≡ out (bit (now (state .exit))) (now (steps .exit)) r) ⌝ }

@@ -3,7 +3,7 @@ use mathlib.Core.Bool.{Bool, true, false}
 use Prim.Native.Nat.{ℕ}
 use Rattle.definitions.specs.Refusal.{Result, refused, accepted}
 use Rattle.problem_table.specs.declared.Act.{Act}
-use Rattle.problem_table.specs.declared.Act.the-variants.{Set, Begin, And, Or, Exists, Forall, Goal, Nothing}
+use Rattle.problem_table.specs.declared.Act.the-variants.{Set, Begin, And, Or, Exists, Forall, Goal, RoundEnd, MarkIn, MarkOut, Nothing}
 use Rattle.step_run.specs.declared.End.{End}
 use Rattle.step_run.specs.declared.End.the-variants.{Done, NoAction, NotNow, NoGoal}
 
@@ -21,4 +21,7 @@ isNothing (Or a) = false
 isNothing (Exists a) = false
 isNothing (Forall a) = false
 isNothing Goal = false
+isNothing RoundEnd = false
+isNothing (MarkIn a) = false
+isNothing (MarkOut a) = false
 isNothing Nothing = true

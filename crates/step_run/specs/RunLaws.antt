@@ -9,7 +9,7 @@ use lib.Seq.{drop-cons}
 use Rattle.definitions.specs.Lists.{all, option}
 use Rattle.definitions.specs.Refusal.{Result, refused, accepted}
 use Rattle.definitions.specs.Problem.Atoms.{Problem, State, atoms, atomNumber}
-use Rattle.definitions.specs.Problem.Actions.{Action, set, beginProof, proveAnd, proveOr, proveExists, proveForall, proveGoal, actionAt}
+use Rattle.definitions.specs.Problem.Actions.{Action, set, beginProof, proveAnd, proveOr, proveExists, proveForall, proveGoal, roundEnd, markIn, markOut, actionAt}
 use Rattle.definitions.specs.Problem.Strips.{mayTake, after, Run, runFrom}
 use Rattle.laws.specs.Numbers.{IsAction, action-is}
 use Rattle.problem_table.specs.Numbers.{needNumbers, addNumbers, removeNumbers, changed, Held}
@@ -53,6 +53,9 @@ said-some (proveOr v row i) = refl
 said-some (proveExists v row x) = refl
 said-some (proveForall v row z) = refl
 said-some proveGoal = refl
+said-some roundEnd = refl
+said-some (markIn r row) = refl
+said-some (markOut r row) = refl
 
 is-none : (o : Option Action) → isNothing (actOf o) ≡ true → o ≡ none
 unfolding actOf

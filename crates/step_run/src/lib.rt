@@ -52,6 +52,15 @@ fn is_nothing(a: problem_table::Act) -> bool
         problem_table::Act::Goal => {
             return false;
         }
+        problem_table::Act::RoundEnd => {
+            return false;
+        }
+        problem_table::Act::MarkIn(_) => {
+            return false;
+        }
+        problem_table::Act::MarkOut(_) => {
+            return false;
+        }
     }
 }
 

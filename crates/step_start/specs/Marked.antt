@@ -1,7 +1,7 @@
 -- The words that a site's reader leaves, a bit for each fact, hold the facts of the case's problem.
 use mathlib.Core.Path.{_≡_, refl, sym, ap, ap₂, subst, _∙_}
 use mathlib.Core.Bool.{Bool, false}
-use mathlib.Core.List.{List, [], _++_, List·Memᴰ}
+use mathlib.Core.List.{List, [], _++_, List·Memᴰ, List·Memᴰ·append-cases}
 use mathlib.Core.Logic.{⊎-elim}
 use Prim.Native.Nat.{ℕ, zero, suc, _+_, _-_, _*_, _^_, _≤_, _<_}
 use native.Mathlib.Nat.{add-suc}
@@ -10,8 +10,8 @@ use borrow.Author.Tests.{lt-ltb, le-ltb}
 use lib.Dec.{T}
 use lib.ListN.{length, getD, length-append, List·getD-append}
 use lib.Seq.{getD-append-add}
-use Rattle.definitions.specs.Lists.{any}
-use Rattle.definitions.specs.Sheet.Relations.{Kind, static, isChosen, Relation, builtIn, Tuple, isAmong}
+use Rattle.definitions.specs.Lists.{any, listed}
+use Rattle.definitions.specs.Sheet.Relations.{Kind, static, isChosen, isUniversal, Relation, builtIn, Tuple, isAmong}
 use Rattle.definitions.specs.Sheet.Sheets.{relations, relationsOf}
 use Rattle.definitions.specs.Problem.Truth.{Case}
 use Rattle.definitions.specs.Problem.Atoms.{problemOf, problemWith, placesOf, relationAt, tuplesOf, tupleHolds, wordsFor}
@@ -44,10 +44,15 @@ not-both : (d : Kind) → d ≡ static → T (isChosen d) → ⊥
 unfolding isChosen
 not-both d e t = subst (λ (k : Kind). T (isChosen k)) e t
 
+not-every : (d : Kind) → d ≡ static → T (isUniversal d) → ⊥
+unfolding isUniversal
+not-every d e t = subst (λ (k : Kind). T (isUniversal k)) e t
+
 module _ (c : Case) (s : List ℕ) (g : Signature) (f : List ℕ)
     (its-rels : c .question .rels ≡ relsOf s g)
     (rels-static : (k : Relation) → List·Memᴰ k (c .question .rels) → k .kind ≡ static)
     (chosen-are : (k : Relation) → List·Memᴰ k (c .question .chosen) → T (isChosen (k .kind)))
+    (every-is : (k : Relation) → List·Memᴰ k (listed (c .question .every)) → T (isUniversal (k .kind)))
     (element : 0 < c .site .size)
     (valid : AllValid g (c .site .size) 0 (g .rels) (c .site .facts))
     (its-bits : bit f ≡ marks (bitOf g (c .site .size) 0) (c .site .facts)) where
@@ -57,34 +62,38 @@ module _ (c : Case) (s : List ℕ) (g : Signature) (f : List ℕ)
   abbrev rels : List Relation
   rels = c .question .rels
 
-  abbrev chosen : List Relation
-  chosen = c .question .chosen
+  -- those that are no `rel`
+  abbrev others : List Relation
+  others = c .question .chosen ++ listed (c .question .every)
+
+  other-is : (k : Relation) → List·Memᴰ k others → k .kind ≡ static → ⊥
+  other-is k m e = ⊎-elim (λ q. not-both (k .kind) e (chosen-are k q)) (λ q. not-every (k .kind) e (every-is k q)) (List·Memᴰ·append-cases (c .question .chosen) m)
 
   many-rels : length rels ≡ g .rels
   unfolding relsOf
   many-rels = ap length its-rels ∙ length-relations s g 0 (g .rels)
 
   -- ---- the relations by number
-  relation-is : (r : ℕ) → relationAt (problemOf c) r ≡ getD (builtIn ++ (rels ++ chosen)) r noRelation
+  relation-is : (r : ℕ) → relationAt (problemOf c) r ≡ getD (builtIn ++ (rels ++ others)) r noRelation
   unfolding relationAt problemOf problemWith relationsOf relations
   relation-is r = refl
 
-  relations-many : length (problemOf c .relations) ≡ 5 + (length rels + length chosen)
+  relations-many : length (problemOf c .relations) ≡ 5 + (length rels + length others)
   unfolding problemOf problemWith relationsOf relations
-  relations-many = length-append builtIn (rels ++ chosen) ∙ ap₂ _+_ five (length-append rels chosen)
+  relations-many = length-append builtIn (rels ++ others) ∙ ap₂ _+_ five (length-append rels others)
 
   built-at : (r : ℕ) → r < 5 → relationAt (problemOf c) r ≡ getD builtIn r noRelation
-  built-at r h = relation-is r ∙ List·getD-append builtIn (rels ++ chosen) noRelation r (omega (arith, five))
+  built-at r h = relation-is r ∙ List·getD-append builtIn (rels ++ others) noRelation r (omega (arith, five))
 
   rel-at : (j : ℕ) → j < g .rels → relationAt (problemOf c) (5 + j) ≡ getD rels j noRelation
   rel-at j h =
-      relation-is (5 + j) ∙ ap (λ (k : ℕ). getD (builtIn ++ (rels ++ chosen)) (k + j) noRelation) (sym five)
-      ∙ getD-append-add builtIn (rels ++ chosen) j noRelation ∙ List·getD-append rels chosen noRelation j (omega (arith, many-rels))
+      relation-is (5 + j) ∙ ap (λ (k : ℕ). getD (builtIn ++ (rels ++ others)) (k + j) noRelation) (sym five)
+      ∙ getD-append-add builtIn (rels ++ others) j noRelation ∙ List·getD-append rels others noRelation j (omega (arith, many-rels))
 
-  chosen-at : (j : ℕ) → relationAt (problemOf c) (5 + (g .rels + j)) ≡ getD chosen j noRelation
-  chosen-at j =
-      relation-is (5 + (g .rels + j)) ∙ ap₂ (λ (k m : ℕ). getD (builtIn ++ (rels ++ chosen)) (k + (m + j)) noRelation) (sym five) (sym many-rels)
-      ∙ getD-append-add builtIn (rels ++ chosen) (length rels + j) noRelation ∙ getD-append-add rels chosen j noRelation
+  other-at : (j : ℕ) → relationAt (problemOf c) (5 + (g .rels + j)) ≡ getD others j noRelation
+  other-at j =
+      relation-is (5 + (g .rels + j)) ∙ ap₂ (λ (k m : ℕ). getD (builtIn ++ (rels ++ others)) (k + (m + j)) noRelation) (sym five) (sym many-rels)
+      ∙ getD-append-add builtIn (rels ++ others) (length rels + j) noRelation ∙ getD-append-add rels others j noRelation
 
   rel-arity : (j : ℕ) → j < g .rels → relationAt (problemOf c) (5 + j) .arity ≡ getD (g .arity) j 0
   unfolding relsOf relationIn
@@ -136,9 +145,9 @@ module _ (c : Case) (s : List ℕ) (g : Signature) (f : List ℕ)
       ∙ mark-bit g n 0 (g .rels) (c .site .facts) valid j row element h k ∙ ap (λ (t : Tuple). isAmong t (c .site .facts)) (its-tuple j row h) ∙ sym (tuple-fact j row h)
 
   -- ---- by kind
-  is-chosen : (j : ℕ) → 5 + (g .rels + j) < length (problemOf c .relations) → T (isChosen (relationAt (problemOf c) (5 + (g .rels + j)) .kind))
-  is-chosen j h =
-      subst (λ (k : Relation). T (isChosen (k .kind))) (sym (chosen-at j)) (chosen-are (getD chosen j noRelation) (getD-mem chosen j noRelation (omega (arith, relations-many, many-rels))))
+  is-other : (j : ℕ) → 5 + (g .rels + j) < length (problemOf c .relations) → relationAt (problemOf c) (5 + (g .rels + j)) .kind ≡ static → ⊥
+  is-other j h =
+      subst (λ (k : Relation). k .kind ≡ static → ⊥) (sym (other-at j)) (other-is (getD others j noRelation) (getD-mem others j noRelation (omega (arith, relations-many, many-rels))))
 
   is-static : (r : ℕ) → r < 5 + g .rels → relationAt (problemOf c) r .kind ≡ static
   is-static r h = ⊎-elim
@@ -158,7 +167,7 @@ module _ (c : Case) (s : List ℕ) (g : Signature) (f : List ℕ)
           subst (λ (x : ℕ). bit f (64 * factWord (problemOf c) x + row) ≡ tupleHolds (problemOf c) x row) z
           (rel-bit (r - 5) row (omega arith) (subst (λ (x : ℕ). row < tuplesOf n (relationAt (problemOf c) x)) (sym z) q)))
           (λ k. let z : r ≡ 5 + (g .rels + (r - 5 - g .rels)) = omega arith in
-          absurd (not-both (relationAt (problemOf c) r .kind) e (subst (λ (x : ℕ). T (isChosen (relationAt (problemOf c) x .kind))) (sym z) (is-chosen (r - 5 - g .rels) (omega arith)))))
+          absurd (subst (λ (x : ℕ). relationAt (problemOf c) x .kind ≡ static → ⊥) (sym z) (is-other (r - 5 - g .rels) (omega arith)) e))
           (lt-or-le r (5 + g .rels))
 
       unpicked : (r row : ℕ) → r < length (problemOf c .relations) → row < tuplesOf n (relationAt (problemOf c) r) → T (isChosen (relationAt (problemOf c) r .kind))

@@ -44,7 +44,7 @@ over-out old m s i h = paste-out old 0 s 0 m i (λ q. omega (arith, q .1))
 
 module _ (old : ℕ → Bool) (m : ℕ) (s : ℕ → Bool) where
   -- the next w bits
-  cut-more : (a w : ℕ) (g : ℕ → Bool) → a + w ≤ m → ((i : ℕ) → i < w → g i ≡ s (a + i)) → paste (over old m (cut s a)) a g 0 w ≡ over old m (cut s (a + w))
+  pub cut-more : (a w : ℕ) (g : ℕ → Bool) → a + w ≤ m → ((i : ℕ) → i < w → g i ≡ s (a + i)) → paste (over old m (cut s a)) a g 0 w ≡ over old m (cut s (a + w))
   cut-more a w g l h = fun-ext (λ j. by-number j (decLe a j) (decLt j (a + w)))
     where
       outside : (j : ℕ) → ((a ≤ j) × (j < a + w) → ⊥) → cut s a j ≡ cut s (a + w) j → paste (over old m (cut s a)) a g 0 w j ≡ over old m (cut s (a + w)) j
@@ -90,6 +90,15 @@ module _ (old : ℕ → Bool) (m : ℕ) (s : ℕ → Bool) where
       by-number (suc zero) = none 1 (λ z. omega arith) (cut-in s 3 1 (omega arith) ∙ b) (decLt 1 m)
       by-number (suc (suc zero)) = none 2 (λ z. omega arith) (cut-in s 3 2 (omega arith) ∙ c) (decLt 2 m)
       by-number (suc (suc (suc j))) = none (suc (suc (suc j))) (λ z. omega arith) (cut-out s 3 (suc (suc (suc j))) (omega arith)) (decLt (suc (suc (suc j))) m)
+
+  -- a part in which nothing is set may be left out
+  pub cut-skip : (a b : ℕ) → a ≤ b → ((i : ℕ) → a ≤ i → i < b → s i ≡ false) → cut s a ≡ cut s b
+  cut-skip a b h z = fun-ext (λ i. by-number i (decLt i a) (decLt i b))
+    where
+      by-number : (i : ℕ) → Dec (i < a) → Dec (i < b) → cut s a i ≡ cut s b i
+      by-number i (yes q) k = cut-in s a i q ∙ sym (cut-in s b i (omega arith))
+      by-number i (no q) (yes k) = cut-out s a i (omega arith) ∙ sym (cut-in s b i k ∙ z i (omega arith) k)
+      by-number i (no q) (no k) = cut-out s a i (omega arith) ∙ sym (cut-out s b i (omega arith))
 
   pub cut-all : (k : ℕ) → ((i : ℕ) → k ≤ i → s i ≡ false) → cut s k ≡ s
   cut-all k h = fun-ext (λ i. by-number i (decLt i k))

@@ -21,7 +21,7 @@ use Rattle.bits.proofs.Laws.{eqb-same, paste-zero}
 use Rattle.bits.proofs.Digit.{digit-not}
 use Rattle.bits.proofs.Shifts.{mask-digit}
 use Rattle.bits.proofs.Stores.{paste-clear}
-use Rattle.problem_table.specs.Lines.{relationPlace, nodePlace, sizeIn, nodesIn, relationLine, nodeLine, Fits}
+use Rattle.problem_table.specs.Lines.{relationPlace, nodePlace, sizeIn, relationsIn, nodesIn, relationLine, lastLine, hasEvery, everyIn, nodeLine, Fits}
 use Rattle.problem_table.specs.declared.NodeLine.{NodeLine}
 use Rattle.problem_table.specs.declared.RelationLine.{RelationLine}
 use Rattle.step_start.specs.Rows.{atomsIn, holdsAt, builtInAt, rowsIn, freeIn, heldPut, tuplesPut, relationPut, wordsIn, firstIn, relationsPut, RelationRoom}
@@ -98,16 +98,21 @@ module _ (n kind : ℕ) where
 
   pub free-le : freeIn n kind ≤ 2 * n
   unfolding freeIn
-  free-le = by-test (ltb kind 2) (ltb kind 4)
+  free-le = by-test (ltb kind 2) (ltb kind 4) (ltb 5 kind)
     where
-      by-test : (a b : Bool) → (if a then 0 else if b then n else 2 * n) ≤ 2 * n
-      by-test true b = omega arith
-      by-test false true = omega arith
-      by-test false false = omega arith
+      by-test : (a b c : Bool) → (if a then 0 else if b then n else if c then 0 else 2 * n) ≤ 2 * n
+      by-test true b c = omega arith
+      by-test false true c = omega arith
+      by-test false false true = omega arith
+      by-test false false false = omega arith
 
-  pub free-two : 4 ≤ kind → 2 * n ≡ freeIn n kind
+  pub free-two : 4 ≤ kind → kind ≤ 5 → 2 * n ≡ freeIn n kind
   unfolding freeIn
-  free-two h = let l : 2 ≤ kind = omega arith in rw (le-ltb kind 2 l, le-ltb kind 4 h) refl
+  free-two h k = let l : 2 ≤ kind = omega arith in rw (le-ltb kind 2 l, le-ltb kind 4 h, le-ltb 5 kind k) refl
+
+  pub free-past : 5 < kind → 0 ≡ freeIn n kind
+  unfolding freeIn
+  free-past h = let l : 2 ≤ kind = omega arith in let k : 4 ≤ kind = omega arith in rw (le-ltb kind 2 l, le-ltb kind 4 k, lt-ltb 5 kind h) refl
 
 -- ---- the n rows of a built-in relation from row x * n on, a digit each
 module _ (n r row x y : ℕ) (e : row ≡ x * n) (l : y < n) where
@@ -313,6 +318,15 @@ module _ (w : List ℕ) (x : NodeLine) (e : x ≡ nodeLine w (nodesIn w)) where
   unfolding nodeLine
   atoms-few fits = rw e (fits .entry (nodePlace (nodesIn w) + 1))
 
-  pub atoms-words : (x .atoms + 63) / 64 ≡ wordsFor (atomsIn w)
+  pub atoms-words : (c : ℕ) → c ≡ everyIn w → (x .atoms + 3 * c + 63) / 64 ≡ wordsFor (atomsIn w)
   unfolding wordsFor
-  atoms-words = ap (λ (v : NodeLine). (v .atoms + 63) / 64) e
+  atoms-words c q = ap₂ (λ (v : NodeLine) (k : ℕ). (v .atoms + 3 * k + 63) / 64) e q
+
+-- an `every` line's relation has few tuples to count
+pub every-few : (w : List ℕ) → Fits w → everyIn w ≤ 4294967296
+unfolding everyIn relationLine
+every-few w fits = by-test (hasEvery w)
+  where
+    by-test : (b : Bool) → (if b then lastLine w .nots - lastLine w .tuples else 0) ≤ 4294967296
+    by-test true = let l : getD w (relationPlace (relationsIn w - 1) + 2) 0 ≤ 4294967296 = fits .entry (relationPlace (relationsIn w - 1) + 2) in omega arith
+    by-test false = omega arith

@@ -7,15 +7,15 @@ use Rattle.definitions.specs.Lists.{if_then_else_}
 use Rattle.definitions.specs.Sheet.Relations.{builtInHolds}
 use Rattle.definitions.specs.Problem.Atoms.{wordsFor}
 use Rattle.bits.specs.Table.{bit, paste}
-use Rattle.problem_table.specs.Lines.{sizeIn, relationsIn, nodesIn, relationLine, nodeLine}
+use Rattle.problem_table.specs.Lines.{sizeIn, relationsIn, nodesIn, relationLine, nodeLine, everyIn}
 use Rattle.problem_table.specs.declared.RelationLine.{RelationLine}
 
--- where the atoms end
+-- where the atoms end: those of an `every` line's relation come after the nodes, three for each tuple
 abbrev pub atomsIn : List ℕ → ℕ
-atomsIn w = nodeLine w (nodesIn w) .atoms
+atomsIn w = nodeLine w (nodesIn w) .atoms + 3 * everyIn w
 
 -- whether a tuple holds while nothing is picked: a built-in one by its two places or its one, one of a `rel` by its bit among the
--- facts, whose words begin with word `first` of f, and none of a `choose`
+-- facts, whose words begin with word `first` of f, and none of a `choose` or `every` line
 unfoldable pub holdsAt : List ℕ → (n r kind first row : ℕ) → Bool
 holdsAt f n r kind first row =
     if ltb r 3 then builtInHolds n r (row / n) (row % n)
@@ -32,7 +32,7 @@ unfoldable pub rowsIn : RelationLine → ℕ
 rowsIn k = k .nots - k .tuples
 
 unfoldable pub freeIn : (n kind : ℕ) → ℕ
-freeIn n kind = if ltb kind 2 then 0 else if ltb kind 4 then n else 2 * n
+freeIn n kind = if ltb kind 2 then 0 else if ltb kind 4 then n else if ltb 5 kind then 0 else 2 * n
 
 -- the state s, but a relation's first c tuples are as they hold while nothing is picked; those of a `choose` stay
 unfoldable pub heldPut : List ℕ → (n r : ℕ) → RelationLine → (first c : ℕ) → (ℕ → Bool) → ℕ → Bool

@@ -51,6 +51,9 @@ fn free(n: usize, kind: usize) -> usize
     if kind < 4 {
         return n;
     }
+    if 5 < kind {
+        return 0;
+    }
     2 * n
 }
 
@@ -76,7 +79,7 @@ fn put_built_in(state: &mut [u64], to: usize, count: usize, n: usize, r: usize, 
 }
 
 // Of each tuple of a relation, it or its not-tuple holds while nothing is picked: a built-in one by its meaning, one of a `rel` by its
-// bit among the facts, whose words begin with word `first`, and none of a `choose`, whose tuples' bits are clear already.
+// bit among the facts, whose words begin with word `first`, and none of a `choose` or `every` line, whose tuples' bits are clear already.
 fn put_tuples(state: &mut [u64], facts: &[u64], n: usize, r: usize, k: RelationLine, first: usize)
     requires { ⌜ (0 < n) × (n ≤ 64) × (first ≤ 2 ^ 32) × (k .tuples ≤ 2 ^ 32) × (k .nots ≤ 2 ^ 32) ⌝ }
     ensures { λ u. ⌜ (k .nots + rowsIn k ≤ 64 * length (now (state .entry))
@@ -101,7 +104,7 @@ fn put_tuples(state: &mut [u64], facts: &[u64], n: usize, r: usize, k: RelationL
 
 // The atoms of a relation.
 fn put_relation(state: &mut [u64], facts: &[u64], table: &[usize], r: usize, first: usize)
-    requires { ⌜ Fits (now table) × (r < 17) × (first ≤ 2 ^ 32) ⌝ }
+    requires { ⌜ Fits (now table) × (r < 18) × (first ≤ 2 ^ 32) ⌝ }
     ensures { λ u. ⌜ (RelationRoom (now (table .entry)) (length (now (state .entry))) r
         → bit (now (state .exit)) ≡ relationPut (now (facts .entry)) (now (table .entry)) r first (bit (now (state .entry)))) ⌝ }
 {
@@ -114,7 +117,7 @@ fn put_relation(state: &mut [u64], facts: &[u64], table: &[usize], r: usize, fir
 
 // How many words of facts a relation has; a built-in one has none.
 fn words(table: &[usize], r: usize) -> usize
-    requires { ⌜ Fits (now table) × (r < 17) ⌝ }
+    requires { ⌜ Fits (now table) × (r < 18) ⌝ }
     ensures { λ c. ⌜ c ≡ wordsIn (now (table .entry)) r ⌝ }
 {
     if r < 5 {
@@ -147,7 +150,8 @@ pub fn initial_state(table: &[usize], facts: &[u64], state: &mut [u64])
     ensures { λ u. ⌜ Begun (now (table .entry)) (now (facts .entry)) (now (state .entry)) (now (state .exit)) ⌝ }
 {
     let end = problem_table::node_line(table, table[2]);
-    bits::fill(state, (end.atoms + 63) / 64);
+    let count = problem_table::every_tuples(table);
+    bits::fill(state, (end.atoms + 3 * count + 63) / 64);
     problem_table::raise(state, 0);
     put_relations(state, facts, table);
 }

@@ -9,7 +9,7 @@ use lib.Dec.{T, eqb, ltb, ltb→lt, lt→ltb, eqb→eq}
 use borrow.Author.Tests.{eq-eqb}
 use lib.ListN.{length}
 use Rattle.definitions.specs.Sheet.Relations.{Tuple}
-use Rattle.definitions.specs.Problem.Atoms.{Problem, nodeAt, nodeWidth, nodeStart, Atom, guess, proof, goal, tuple, notTuple, freeDomain, freeRange, holdsNode, atomNumber, State}
+use Rattle.definitions.specs.Problem.Atoms.{Problem, nodeAt, nodeWidth, nodeStart, Atom, guess, proof, goal, tuple, notTuple, freeDomain, freeRange, holdsNode, marked, atomNumber, State}
 use Rattle.definitions.specs.Problem.Built.{isTrueAt}
 use Rattle.laws.specs.Booleans.{and-T, T-and-l, T-and-r, T-or, or-l, or-r, T-of, T-true, T-ext}
 use Rattle.laws.specs.Numbers.{IsAtom, atom-injective}
@@ -56,6 +56,7 @@ module _ (p : Problem) (G : Good p) (F : List Tuple) (v : ℕ) (here : v < lengt
   others (notTuple r row) out = refl
   others (freeDomain r x) out = refl
   others (freeRange r y) out = refl
+  others (marked r row) out = refl
   others (holdsNode w row) out =
       ap (λ (b : Bool). b && isTrueAt p F (nodeAt p w) row)
       (same-row w row (λ q. let e = ap (nodeStart p) (q .0) in out (omega (arith, e, q .1), omega (arith, e, q .2))))

@@ -37,7 +37,7 @@ use Rattle.step_prove.specs.FollowLaws.{start-before, width-before}
 use Rattle.step_prove.specs.RowLaws.{row-found, row-lost}
 use Rattle.step_truth.specs.TurnLaws.{wide-forall, row-inside}
 use Rattle.step_write.specs.Steps.{rowNumbers, linkNumbers, Wrote, Readable, Reading}
-use Rattle.step_write.specs.StepLaws.{wrote-more, wrote-as, wrote-none, link-yes, link-no, rows-append, row-single}
+use Rattle.step_write.specs.StepLaws.{wrote-more, wrote-as, wrote-none, link-yes, link-no, rows-append, row-single, rows-more, rows-all}
 
 -- ---- a `forall`: its choices, its step at an atom, and where it is true
 chosen-of : (R : ℕ → List ℕ) (t : Tree) → nodeKind t ≡ 0 → choices R t ≡ length (R (nodeSort t))
@@ -120,6 +120,19 @@ module _ (p : Problem) (G : Good p) (F : List Tuple) (w : List ℕ) (v : ℕ) (x
   row-no j h e b at =
       let q = sym (bit-true j h) ∙ e in
       row-written j 0 (λ t. absurd (subst T (sym t ∙ q) tt)) false (sym q) b b at at (link-no b at 0 false refl)
+
+  -- rows whose atoms are false
+  none-written : (n row : ℕ) → row + n ≤ width → ((i : ℕ) → row ≤ i → i < row + n → s (x .atoms + i) ≡ false) → (b b′ : List ℕ) (at at′ : ℕ)
+      → Wrote b at (rowNumbers p F v (from zero row)) b′ at′ → Wrote b at (rowNumbers p F v (from zero (row + n))) b′ at′
+  none-written zero row h none b b′ at at′ W = rows-all p F v b b′ at at′ row (row + 0) (omega arith) W
+  none-written (suc n) row h none b b′ at at′ W =
+      let one = rows-more p F v b b′ b′ at at′ at′ row 1 W (row-no row (omega arith) (none row (omega arith) (omega arith)) b′ at′) in
+      rows-all p F v b b′ at at′ (row + 1 + n) (row + suc n) (omega arith) (none-written n (row + 1) (omega arith) (λ i l u. none i (omega arith) (omega arith)) b b′ at at′ one)
+
+  pub rows-passed : (row next : ℕ) → row ≤ next → next ≤ width → ((i : ℕ) → row ≤ i → i < next → s (x .atoms + i) ≡ false) → (b b′ : List ℕ) (at at′ : ℕ)
+      → Wrote b at (rowNumbers p F v (from zero row)) b′ at′ → Wrote b at (rowNumbers p F v (from zero next)) b′ at′
+  rows-passed row next l h none b b′ at at′ W =
+      rows-all p F v b b′ at at′ (row + (next - row)) next (omega arith) (none-written (next - row) row (omega arith) (λ i a u. none i a (omega arith)) b b′ at at′ W)
 
   module _ (j : ℕ) (h : j < width) (e : s (x .atoms + j) ≡ true) (r : ℕ) (f : r ≡ firstBy s (sizeIn w) w x j) (tries : ℕ) (et : (tries ≡ wayAt w x j .tries) × (tries ≡ wayAt w x j .choices)) (kind : 0 < x .kind) where
     flat : FlatAt (wayAt w x j) j

@@ -1,9 +1,10 @@
 // The steps of the nodes, read off a state that knows the truth of all their atoms: a step for each true atom, later nodes first, its
 // number written to the lent steps.
 ghost use mathlib.Core.Path.{_≡_};
+ghost use mathlib.Core.Bool.{false};
 ghost use mathlib.Core.List.{List};
 ghost use Prim.Native.Nat.{ℕ, zero, _+_, _-_, _*_, _^_, _<_, _≤_};
-ghost use lib.ListN.{length, set as «set-at»};
+ghost use lib.ListN.{length, getD};
 ghost use Rattle.definitions.specs.Lists.{from};
 ghost use Rattle.definitions.specs.Sheet.Relations.{Tuple};
 ghost use Rattle.definitions.specs.Problem.Atoms.{Problem, nodeStart};
@@ -13,6 +14,35 @@ ghost use Rattle.rows.specs.Values.{Within};
 ghost use Rattle.problem_table.specs.Lines.{sizeIn, nodeLine, NodeFits, RangeFits, Fits};
 ghost use Rattle.step_prove.specs.Tries.{wayAt, Digits, Rest};
 ghost use Rattle.step_write.specs.Steps.{Readable, Reading, Wrote, rowNumbers, nodeNumbers, linkNumbers};
+
+// The first word from word j on and before word `past` that has a bit; `past` where none has.
+fn next_word(words: &[u64], j: usize, past: usize) -> usize
+    requires { ⌜ (j ≤ past) × (past ≤ 2 ^ 50) ⌝ }
+    ensures { λ r. ⌜ (j ≤ r) × (r ≤ past) × ((m : ℕ) → j ≤ m → m < r → getD (now (words .entry)) m 0 ≡ 0) ⌝ }
+{
+    let mut k = j;
+    while k < past {
+        if bits::word_at(words, k) != 0 {
+            return k;
+        }
+        k += 1;
+    }
+    k
+}
+
+// A bit from bit i on, `past` at the most, before which none from bit i on is set. Words without a bit are passed over whole.
+pub fn next_set(words: &[u64], i: usize, past: usize) -> usize
+    requires { ⌜ (i ≤ past) × (past ≤ 2 ^ 50) ⌝ }
+    ensures { λ r. ⌜ (i ≤ r) × (r ≤ past) × ((k : ℕ) → i ≤ k → k < r → bit (now (words .entry)) k ≡ false) ⌝ }
+{
+    let here = bits::cut(words, i, 64);
+    if here != 0 {
+        return bits::least(i + bits::lowest(here), past);
+    }
+    let j = next_word(words, i / 64 + 1, past / 64 + 1);
+    let there = bits::word_at(words, j);
+    bits::least(64 * j + bits::lowest(there), past)
+}
 
 // The step of one atom of an `exists`, `and` or `or`, if that is true: the first of its `tries` actions whose needs all hold.
 fn write_row(
@@ -25,7 +55,7 @@ fn write_row(
     digits: &[usize],
     row: usize,
 ) -> usize
-    requires { ⌜ Fits (now table) × NodeFits v × (v .acts ≤ 2 ^ 32) × (v .atoms ≤ 2 ^ 32) × (row ≤ 2 ^ 32) × (at < 2 ^ 40) × (0 < v .kind) × (tries ≤ 2 ^ 11) × (length (now digits) ≡ 4) × Within (sizeIn (now table)) (now digits) × Rest (v .width) (now digits) × RangeFits (now table) v ⌝ }
+    requires { ⌜ Fits (now table) × NodeFits v × (v .acts ≤ 2 ^ 32) × (v .atoms ≤ 2 ^ 32) × (row ≤ 2 ^ 32) × (at < 2 ^ 50) × (0 < v .kind) × (tries ≤ 2 ^ 11) × (length (now digits) ≡ 4) × Within (sizeIn (now table)) (now digits) × Rest (v .width) (now digits) × RangeFits (now table) v ⌝ }
     ensures { λ r. ⌜ (r ≤ at + 1) × ((p : Problem) (G : Good p) (F : List Tuple) (node width : ℕ) → Reading p G F (now (table .entry)) node v width (bit (now (state .entry)))
         → (tries ≡ wayAt (now (table .entry)) v row .tries) × (tries ≡ wayAt (now (table .entry)) v row .choices)
         → Digits (sizeIn (now (table .entry))) (v .width) row (now (digits .entry)) → row < width
@@ -41,6 +71,43 @@ fn write_row(
     at
 }
 
+// The digits of a row, from scratch.
+fn digits_at(n: usize, width: usize, row: usize, digits: &mut [usize])
+    requires { ⌜ (0 < n) × (n ≤ 64) × (width ≤ 4) × (length (now digits) ≡ 4) × Within n (now digits) × Rest width (now digits) ⌝ }
+    ensures { λ r. ⌜ Within n (now (digits .exit)) × Rest width (now (digits .exit)) × Digits n width row (now (digits .exit)) ⌝ }
+{
+    let mut rest = row;
+    let mut i = width;
+    while 0 < i {
+        i -= 1;
+        digits[i] = rest % n;
+        rest = rest / n;
+    }
+}
+
+// From the digits of a row to those of a later one.
+fn move_to(n: usize, width: usize, row: usize, next: usize, digits: &mut [usize])
+    requires { ⌜ (0 < n) × (n ≤ 64) × (width ≤ 4) × (row < 2 ^ 40) × (length (now digits) ≡ 4) × Within n (now digits) × Rest width (now digits) ⌝ }
+    ensures { λ r. ⌜ Within n (now (digits .exit)) × Rest width (now (digits .exit)) × (Digits n width row (now (digits .entry)) → Digits n width next (now (digits .exit))) ⌝ }
+{
+    if next == row + 1 {
+        step_prove::advance(n, width, digits);
+        return;
+    }
+    digits_at(n, width, next, digits);
+}
+
+// The row to look at after this one: past a true atom the next, past a false one all that are false are passed over.
+fn next_row(state: &[u64], atoms: usize, row: usize, width: usize) -> usize
+    requires { ⌜ (atoms ≤ 2 ^ 32) × (row < width) × (width ≤ 2 ^ 32) ⌝ }
+    ensures { λ r. ⌜ (row < r) × (r ≤ width) × ((i : ℕ) → row < i → i < r → bit (now (state .entry)) (atoms + i) ≡ false) ⌝ }
+{
+    if problem_table::test(state, atoms + row) {
+        return row + 1;
+    }
+    next_set(state, atoms + row + 1, atoms + width) - atoms
+}
+
 // The steps of an `exists`, `and` or `or`.
 fn write_rows(
     state: &[u64],
@@ -50,7 +117,7 @@ fn write_rows(
     v: problem_table::NodeLine,
     width: usize,
 ) -> usize
-    requires { ⌜ Fits (now table) × NodeFits v × (v .acts ≤ 2 ^ 32) × (v .atoms ≤ 2 ^ 32) × (0 < v .kind) × (width ≤ 2 ^ 32) × (at < 2 ^ 39) × RangeFits (now table) v ⌝ }
+    requires { ⌜ Fits (now table) × NodeFits v × (v .acts ≤ 2 ^ 32) × (v .atoms ≤ 2 ^ 32) × (0 < v .kind) × (width ≤ 2 ^ 32) × (at < 2 ^ 49) × RangeFits (now table) v ⌝ }
     ensures { λ r. ⌜ (r ≤ at + width) × ((p : Problem) (G : Good p) (F : List Tuple) (node : ℕ) → Reading p G F (now (table .entry)) node v width (bit (now (state .entry)))
         → Wrote (now (steps .entry)) at (rowNumbers p F node (from zero width)) (now (steps .exit)) r) ⌝ }
 {
@@ -61,15 +128,16 @@ fn write_rows(
     let mut row: usize = 0;
     while row < width {
         k = write_row(state, steps, k, table, v, m, &digits, row);
-        step_prove::advance(n, v.width, &mut digits);
-        row += 1;
+        let next = next_row(state, v.atoms, row, width);
+        move_to(n, v.width, row, next, &mut digits);
+        row = next;
     }
     k
 }
 
 // The step of one atom of a `forall`, if that is true.
 fn write_link(state: &[u64], steps: &mut [u32], at: usize, own: usize, number: usize) -> usize
-    requires { ⌜ at < 2 ^ 40 ⌝ }
+    requires { ⌜ at < 2 ^ 50 ⌝ }
     ensures { λ r. ⌜ (r ≤ at + 1) × (number < 2 ^ 32 → Wrote (now (steps .entry)) at (linkNumbers (bit (now (state .entry)) own) number) (now (steps .exit)) r) ⌝ }
 {
     if problem_table::test(state, own) {
@@ -89,7 +157,7 @@ fn write_chain(
     j: usize,
     action: usize,
 ) -> usize
-    requires { ⌜ Fits (now table) × RangeFits (now table) v × (v .count ≤ 64) × (v .atoms ≤ 2 ^ 32) × (j ≤ 2 ^ 32) × (action ≤ 2 ^ 40) × (at + 64 ≤ 2 ^ 40) ⌝ }
+    requires { ⌜ Fits (now table) × RangeFits (now table) v × (v .count ≤ 64) × (v .atoms ≤ 2 ^ 32) × (j ≤ 2 ^ 32) × (action ≤ 2 ^ 40) × (at + 64 ≤ 2 ^ 50) ⌝ }
     ensures { λ r. ⌜ (r ≤ at + v .count) × ((p : Problem) (G : Good p) (F : List Tuple) (node width row : ℕ) → Reading p G F (now (table .entry)) node v width (bit (now (state .entry))) → v .kind ≡ 0
         → j ≡ row * sizeIn (now (table .entry)) → action ≡ v .acts + row * v .count → j + sizeIn (now (table .entry)) ≤ width
         → Wrote (now (steps .entry)) at (rowNumbers p F node (from j (sizeIn (now (table .entry))))) (now (steps .exit)) r) ⌝ }
@@ -113,7 +181,7 @@ fn write_chains(
     v: problem_table::NodeLine,
     width: usize,
 ) -> usize
-    requires { ⌜ Fits (now table) × NodeFits v × (v .acts ≤ 2 ^ 32) × (v .atoms ≤ 2 ^ 32) × (v .kind ≡ 0) × (width ≤ 2 ^ 32) × (at < 2 ^ 39) × RangeFits (now table) v ⌝ }
+    requires { ⌜ Fits (now table) × NodeFits v × (v .acts ≤ 2 ^ 32) × (v .atoms ≤ 2 ^ 32) × (v .kind ≡ 0) × (width ≤ 2 ^ 32) × (at < 2 ^ 49) × RangeFits (now table) v ⌝ }
     ensures { λ r. ⌜ (r ≤ at + width) × ((p : Problem) (G : Good p) (F : List Tuple) (node : ℕ) → Reading p G F (now (table .entry)) node v width (bit (now (state .entry)))
         → Wrote (now (steps .entry)) at (rowNumbers p F node (from zero width)) (now (steps .exit)) r) ⌝ }
 {
@@ -141,7 +209,7 @@ fn write_node(
     node: usize,
     width: usize,
 ) -> usize
-    requires { ⌜ Fits (now table) × (node < 64) × (width ≤ 2 ^ 32) × (at < 2 ^ 39) ⌝ }
+    requires { ⌜ Fits (now table) × (node < 64) × (width ≤ 2 ^ 32) × (at < 2 ^ 49) ⌝ }
     ensures { λ r. ⌜ (r ≤ at + width) × ((p : Problem) (G : Good p) (F : List Tuple) → Reading p G F (now (table .entry)) node (nodeLine (now (table .entry)) node) width (bit (now (state .entry)))
         → Wrote (now (steps .entry)) at (rowNumbers p F node (from zero width)) (now (steps .exit)) r) ⌝ }
 {
@@ -160,7 +228,7 @@ pub fn write_nodes(
     table: &[usize],
     past: usize,
 ) -> usize
-    requires { ⌜ Fits (now table) × (past ≤ 64) × (at ≤ 2 ^ 37) ⌝ }
+    requires { ⌜ Fits (now table) × (past ≤ 64) × (at ≤ 2 ^ 48) ⌝ }
     ensures { λ r. ⌜ (r ≤ at + 64 * 2 ^ 32) × ((p : Problem) (G : Good p) (F : List Tuple) → Readable p G F (now (table .entry)) (bit (now (state .entry))) → past ≤ length (p .nodeList) → nodeLine (now (table .entry)) past .atoms ≡ nodeStart p past
         → Wrote (now (steps .entry)) at (nodeNumbers p F past) (now (steps .exit)) r) ⌝ }
 {

@@ -40,6 +40,7 @@ use open_tries::Begun;
 use open_tries::Verdict;
 use problem_table::Act;
 use problem_table::ChoiceAct;
+use problem_table::TupleAct;
 use read_text::Found;
 
 // A script has no more bytes; what follows them is not read.
@@ -217,15 +218,18 @@ fn show_choice(kind: &[u8], a: ChoiceAct) {
     show(a.choice as u64);
 }
 
+// A kind of action on a tuple, and its numbers.
+fn show_tuple(kind: &[u8], a: TupleAct) {
+    io::write_all(1, kind);
+    show(a.relation as u64);
+    show(a.row as u64);
+}
+
 // An action's kind and its numbers.
 fn show_action(a: Act) {
     show_two(0, 0);
     match a {
-        Act::Set(x) => {
-            io::write_all(1, b" set");
-            show(x.relation as u64);
-            show(x.row as u64);
-        }
+        Act::Set(x) => show_tuple(b" set", x),
         Act::Begin => {
             io::write_all(1, b" begin");
         }
@@ -240,6 +244,11 @@ fn show_action(a: Act) {
         Act::Goal => {
             io::write_all(1, b" goal");
         }
+        Act::RoundEnd => {
+            io::write_all(1, b" round-end");
+        }
+        Act::MarkIn(x) => show_tuple(b" mark-in", x),
+        Act::MarkOut(x) => show_tuple(b" mark-out", x),
         Act::Nothing => {
             io::write_all(1, b" nothing");
         }

@@ -267,6 +267,31 @@ fn members2() {
     read_steps(b"type\tDOOR\n");
 }
 
+// An `every` line: its place, its fields, its name; and in the other sheets.
+fn every1() {
+    ask(b"choose\tT\t1\nevery\tL\t1\nrule\t(forall (?x) (or (T ?x) (L ?x)))\n");
+    ask(b"every\tL\t1\nchoose\tT\t1\n");
+    ask(b"choose\tT\t1\nevery\tL\t1\nevery\tM\t1\n");
+    ask(b"choose\tT\t1\nevery\tL\t1\nchoose\tM\t1\n");
+    ask(b"choose\tT\t1\nevery\tL\t3\n");
+    ask(b"choose\tT\t1\nevery\tL\t0\n");
+    ask(b"choose\tT\t1\nevery\tT\t1\n");
+    ask(b"choose\tT\t1\nevery\tEQ\t2\n");
+}
+
+fn every2() {
+    ask(b"choose\tT\t1\nrule\t(exists (?x) (T ?x))\nevery\tL\t1\n");
+    ask(b"choose\tT\t1\nevery\tL\tFun\n");
+    ask(b"choose\tT\t1\nevery\tL\n");
+    ask(b"type\tL\nchoose\tT\t1\nevery\tL\t2\nrule\t(exists (?x:L) (L ?x ?x))\n");
+    ask(b"choose\tT\t1\nevery\tL\t1\nrule\t(exists (?x) (L ?x ?x))\n");
+    let text = b"choose\tT\t1\nevery\tL\t1\nrule\t(exists (?x) (L ?x))\n";
+    read_site_of(text, b"size\t2\nfact\tL\t0\n");
+    read_site(b"size\t2\nevery\tL\t1\n");
+    read_picks(b"every\tL\t1\n");
+    read_steps(b"every\tL\t1\n");
+}
+
 fn picks1() {
     read_picks(b"");
     read_picks(b"pick\tT\t0\npick\tT\t1\n");
@@ -384,6 +409,8 @@ fn main() {
     types2();
     members1();
     members2();
+    every1();
+    every2();
     picks1();
     picks2();
     picks3();

@@ -3,13 +3,14 @@
 //!     bench [ROUNDS] [WORD]      all jobs, or those whose names have the word
 
 use peer::large::{
-    broken_deep, broken_path, deep, facts, kind_zones, labelled, last, long_text, named_facts,
-    named_picks, padded, path, round, sorted_zones, wide_facts, zones,
+    bare, broken_deep, broken_path, deep, facts, kind_zones, labelled, last, long_text, lost_cards,
+    named_facts, named_picks, padded, path, round, slow_to_judge, sorted_zones, triples,
+    wide_facts, zones,
 };
 use peer::limits::{STEPS, TEXT};
 use peer::paper::PAGE_BYTES;
 use peer::sample::{needs, sound, Random, Sample};
-use peer::searches::searches;
+use peer::searches::{searches, wanting};
 use peer::trial::{Calls, Other, Peer, LINKED};
 use peer::typing::typed;
 use peer::Reply;
@@ -30,6 +31,7 @@ enum Work {
     /// A page of the lent steps.
     Page(u64),
     Find,
+    Monotone,
     /// Build from text, check and read the picks, each on a small case.
     Small,
 }
@@ -69,6 +71,7 @@ impl Job {
                 Work::Picks => program.picks(case, &sample.lent_steps, picks, state),
                 Work::Page(number) => program.page(case, &sample.lent_steps, number, state, page),
                 Work::Find => program.find(case, picks),
+                Work::Monotone => program.monotone(case),
                 Work::Small => {
                     black_box(program.build_text(case, &sample.picks, state, steps));
                     black_box(program.check_text(case, &sample.steps, state));
@@ -185,6 +188,8 @@ fn wide_jobs() -> Vec<Job> {
         ("airport of 64, a round", round()),
         ("path of 31", path(31)),
         ("four deep of 26", deep(26)),
+        ("lost cards of 8", lost_cards()),
+        ("three places of 64", triples()),
     ];
     let mut jobs = Vec::new();
     for (name, sample) in &cases {
@@ -196,6 +201,9 @@ fn wide_jobs() -> Vec<Job> {
         ] {
             jobs.push(planned_job(&format!("{name}: {what}"), work, sample));
         }
+    }
+    for n in [17, 24, 64] {
+        jobs.push(Job::new(&format!("{n} elements, no fact: sizes"), Work::Sizes, &bare(n)));
     }
     jobs
 }
@@ -274,6 +282,8 @@ fn judgements() -> Vec<(String, Vec<Sample>)> {
         ("airport of 64, zones as a type".into(), vec![sorted_zones()]),
         ("airport of 64, a typed kind".into(), vec![kind_zones()]),
         ("airport of 64, a round".into(), vec![round()]),
+        ("lost cards of 8, 256 values".into(), vec![lost_cards()]),
+        ("a chain under four variables, 64".into(), vec![slow_to_judge()]),
     ]
 }
 
@@ -343,6 +353,14 @@ fn main() {
     for (name, sample) in searches().into_iter().filter(|(name, _)| wanted(name)) {
         let [peer, other] = Job::new(name, Work::Find, &sample).time(rounds.min(3), &mut buffers);
         println!("{name:<56} {peer:>11.1} {other:>11.1} {:>7.2}", other / peer);
+    }
+    // A rule that only wants more, asked by the call for such rules and found.
+    for (name, sample) in wanting().into_iter().filter(|(name, _)| wanted(name)) {
+        for (what, work) in [("monotone", Work::Monotone), ("found", Work::Find)] {
+            let name = format!("{what}: {name}");
+            let [peer, other] = Job::new(&name, work, &sample).time(rounds.min(3), &mut buffers);
+            println!("{name:<56} {peer:>11.1} {other:>11.1} {:>7.2}", other / peer);
+        }
     }
     print_growth(rounds, &mut buffers);
     print_judgements(rounds, &mut buffers);

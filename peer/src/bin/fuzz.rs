@@ -17,7 +17,7 @@ const TURNS: u64 = 10;
 /// A sheet of bytes with no plan behind them.
 fn noise(random: &mut Random) -> Vec<u8> {
     let alphabet =
-        b"\t\t\n\n  (())??axyz019ABRT_relchoosrulsizelabeltype:memberfactpicksteporandnotforall";
+        b"\t\t\n\n  (())??axyz019ABRT_relchoosevryrulsizelabeltype:memberfactpicksteporandnotforall";
     let plain = random.once_in(2);
     let length = random.below(200);
     let mut byte = || if plain { random.word() as u8 } else { *random.choose(alphabet) };
@@ -99,14 +99,14 @@ fn kept(sample: &Sample, outcome: &Outcome, call: Call, needs: Option<Rooms>) ->
 fn known(outcome: &Outcome, call: Call) -> bool {
     let Reply::Refused(refusal) = outcome.reply else { return true };
     match call {
-        Call::Sizes => matches!(refusal.number, 1..=11 | 18..=19),
-        Call::Action => matches!(refusal.number, 1..=11 | 13 | 18..=19),
-        Call::Find => matches!(refusal.number, 1..=12 | 18..=21),
-        Call::Monotone => matches!(refusal.number, 1..=11 | 18..=19 | 21 | 24),
-        Call::Tries | Call::Allowances => matches!(refusal.number, 1..=12 | 18..=19),
-        Call::BuildText | Call::Build => matches!(refusal.number, 1..=12 | 16..=19),
-        Call::JudgeText | Call::Judge => matches!(refusal.number, 1..=12 | 16..=19),
-        _ => matches!(refusal.number, 1..=15 | 18..=19),
+        Call::Sizes => matches!(refusal.number, 1..=11 | 18..=19 | 23),
+        Call::Action => matches!(refusal.number, 1..=11 | 13 | 18..=19 | 23),
+        Call::Find => matches!(refusal.number, 1..=12 | 18..=21 | 23),
+        Call::Monotone => matches!(refusal.number, 1..=11 | 18..=19 | 21 | 23 | 24),
+        Call::Tries | Call::Allowances => matches!(refusal.number, 1..=12 | 18..=19 | 23),
+        Call::BuildText | Call::Build => matches!(refusal.number, 1..=12 | 16..=19 | 23),
+        Call::JudgeText | Call::Judge => matches!(refusal.number, 1..=12 | 16..=19 | 23),
+        _ => matches!(refusal.number, 1..=15 | 18..=19 | 23),
     }
 }
 

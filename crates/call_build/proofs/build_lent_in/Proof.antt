@@ -10,7 +10,7 @@ use Rattle.call_build.proofs.build_lent_in.Tie as tie
 
 pub build-lent-in-spec : {M : Type 1} → Rattle.call_build.proofs.build_lent_in.Statement.statement M
 build-lent-in-spec = tie.close (tie.spec (λ c. search needs)
-    (λ c κs. ((omega arith, omega arith, omega arith), (c .before .before .before .before .before .before .before .before .pre, (search needs, most-zeros tableLength 0))))
+    (λ c κs. (c .before .before .before .before .before .before .before .before .pre, (search needs, most-zeros tableLength 0)))
     (λ c. search needs) (λ c. call-case usual _ _ _ _ _ (c .before .before .before .before .before .open-case .ensures) _ _ _ (c .if1 .taken))
     (λ c. search needs)
     (λ c κs. let o = c .before .before .before .before in let x = o .before .before .before .before .before .open-case .ensures in ((_, front-ready usual _ _ _ _ _ x (omega arith) (omega arith) (o .if1 .left)), few-atoms usual _ _ _ _ _ x (o .if1 .left)))

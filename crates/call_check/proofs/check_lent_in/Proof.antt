@@ -9,7 +9,7 @@ use borrow.Author.Needs.{needs}
 use Rattle.call_check.proofs.check_lent_in.Tie as tie
 
 open-case-requires : tie.Need-open-case-requires
-open-case-requires c κs = ((omega arith, omega arith, omega arith), (c .before .before .before .before .before .before .before .pre, (search needs, most-zeros tableLength 0)))
+open-case-requires c κs = (c .before .before .before .before .before .before .before .pre, (search needs, most-zeros tableLength 0))
 
 returns-2 : tie.Need-returns-2
 returns-2 c = call-steps _ _ _ _ _ _ _ _ (c .before .before .before .before .before .before .open-case .ensures) (c .before .if1 .left) _ _ (lent-many _ (omega arith))

@@ -9,12 +9,12 @@ use Rattle.call_check.proofs.check_steps.Tie as tie
 
 add-words : tie.Need-add-words
 add-words c =
-    let h = c .before .before .before .before .before .before .before .pre .1 in
+    let h = c .before .before .before .before .before .before .before .before .pre .1 in
     omega (arith, h .atoms-few, atoms-few (h .limits-are) (h .case) _ _ (h .held .grounded) (c .before .if1 .left))
 
 start-and-run-requires : tie.Need-start-and-run-requires
 start-and-run-requires c κs =
-    let h = c .before .before .before .before .before .before .before .before .before .pre .1 in let o = c .before .before .before .if1 .left in
+    let h = c .before .before .before .before .before .before .before .before .before .before .pre .1 in let o = c .before .before .before .if1 .left in
     (table-is (h .limits-are) (h .case) _ _ (h .held .grounded) o, words-fit (h .limits-are) (h .case) _ _ (h .held .grounded) o _ (sym (length-take-le _ _ (omega arith))))
 
 returns-3 : tie.Need-returns-3

@@ -8,7 +8,7 @@ use borrow.Author.Needs.{needs}
 use Rattle.call_check.proofs.check_text_with.Tie as tie
 
 open-case-requires : tie.Need-open-case-requires
-open-case-requires c κs = ((omega arith, omega arith, omega arith), (c .before .before .before .before .before .before .before .before .pre .0, (search needs, most-zeros tableLength 0)))
+open-case-requires c κs = (c .before .before .before .before .before .before .before .before .pre .0, (search needs, most-zeros tableLength 0))
 
 check-listed-requires : tie.Need-check-listed-requires
 check-listed-requires c κs =

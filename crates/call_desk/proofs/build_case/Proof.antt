@@ -11,12 +11,12 @@ use Rattle.call_desk.proofs.build_case.Tie as tie
 
 -- where the case is known to be within its limits, and before
 abbrev start : tie.Else1 → tie.Start
-start o = o .before .before .before .before .before .before .before .before .before
+start o = o .before .before .before .before .before .before .before .before .before .before
 
 returns-2 : tie.Need-returns-2
 returns-2 c text F k P =
     let l = c .before .before .before .before in let o = l .before .before in
-    reply-long _ _ _ _ _ _ _ (λ j. omega (arith, o .before .before .shared-slice-known6 .given j)) (start o .pre .1) _ _ k P _ _ _ (o .if1 .left)
+    reply-long _ _ _ _ _ _ _ (λ j. omega (arith, o .before .before .before .shared-slice-known6 .given j)) (start o .pre .1) _ _ k P _ _ _ (o .if1 .left)
     (omega (arith, l .if2 .taken)) (c .before .before .refuse2 .ensures)
 
 start-and-build-requires : tie.Need-start-and-build-requires
@@ -28,14 +28,14 @@ start-and-build-requires c κs =
 few : tie.Need-array-share-prefix-steps
 few c =
     let b = c .before .before .before .before .before .before in let l = b .before .before .before in let o = l .before .before in
-    let h = built-fit _ _ _ _ _ _ _ (λ j. omega (arith, o .before .before .shared-slice-known6 .given j)) (start o .pre .1) (start o .pre .0) (o .if1 .left)
+    let h = built-fit _ _ _ _ _ _ _ (λ j. omega (arith, o .before .before .before .shared-slice-known6 .given j)) (start o .pre .1) (start o .pre .0) (o .if1 .left)
     (omega (arith, l .if2 .left)) _ _ _ _ _
     (b .start-and-build .ensures) (omega arith) _ (c .before .before .a .given .1) in omega arith
 
 report-requires : tie.Need-report-requires
 report-requires c κs =
     let o = c .before .before .before .before .before .before .before .before .before .before .before .before in (
-      picked-reportable _ _ _ _ _ _ _ (λ j. omega (arith, o .before .before .shared-slice-known6 .given j)) (start o .pre .1) (start o .pre .0) _
+      picked-reportable _ _ _ _ _ _ _ (λ j. omega (arith, o .before .before .before .shared-slice-known6 .given j)) (start o .pre .1) (start o .pre .0) _
           (front-short (c .before .before .before .a .given .0 .0) _ _ (omega (arith, few (c .before)))),
       start o .pre .2,
     )
@@ -43,28 +43,28 @@ report-requires c κs =
 returns-3 : tie.Need-returns-3
 returns-3 c text F k P =
     let b = c .before .before .before .before .before .before .before .before .before .before in let l = b .before .before .before in let o = l .before .before in
-    reply-built _ _ _ _ _ _ _ (λ j. omega (arith, o .before .before .shared-slice-known6 .given j)) (start o .pre .1) _ _ k P _ _ _ (o .if1 .left)
+    reply-built _ _ _ _ _ _ _ (λ j. omega (arith, o .before .before .before .shared-slice-known6 .given j)) (start o .pre .1) _ _ k P _ _ _ (o .if1 .left)
     (omega (arith, l .if2 .left)) _ _ _ _ _
     (b .start-and-build .ensures) (omega arith) _ (c .before .before .before .before .before .before .a .given .1) (c .before .before .report .ensures)
 
 returns-4 : tie.Need-returns-4
 returns-4 c text F k P =
     let b = c .before .before .before .before .before .before .before .before .before in let l = b .before .before .before in let o = l .before .before in
-    reply-kind _ _ _ _ _ _ _ (λ j. omega (arith, o .before .before .shared-slice-known6 .given j)) (start o .pre .1) _ _ k P _ _ _ (o .if1 .left) (omega (arith, l .if2 .left)) _ _ _ _ _
+    reply-kind _ _ _ _ _ _ _ (λ j. omega (arith, o .before .before .before .shared-slice-known6 .given j)) (start o .pre .1) _ _ k P _ _ _ (o .if1 .left) (omega (arith, l .if2 .left)) _ _ _ _ _
     (b .start-and-build .ensures) (omega arith) _ (c .before .before .before .before .before .a2 .given .1) (c .before .before .refuse3 .ensures)
 
 returns-5 : tie.Need-returns-5
 returns-5 c text F k P =
     let b = c .before .before .before .before .before .before .before .before in let l = b .before .before .before in let o = l .before .before in
-    reply-false _ _ _ _ _ _ _ (λ j. omega (arith, o .before .before .shared-slice-known6 .given j)) (start o .pre .1) _ _ k P _ _ _ (o .if1 .left)
+    reply-false _ _ _ _ _ _ _ (λ j. omega (arith, o .before .before .before .shared-slice-known6 .given j)) (start o .pre .1) _ _ k P _ _ _ (o .if1 .left)
     (omega (arith, l .if2 .left)) _ _ _ _ _
     (b .start-and-build .ensures) (omega arith) (c .before .before .before .before .enum-told .given .1) (c .before .before .refuse4 .ensures)
 
 pub build-case-spec : {M : Type 1} → Rattle.call_desk.proofs.build_case.Statement.statement M
 build-case-spec = tie.close (tie.spec (λ c κs. search needs) (λ c. search needs)
     (λ c text F k P. let i = c .before .before .before .before in
-    reply-over _ _ _ _ _ _ _ (λ j. omega (arith, i .before .before .shared-slice-known6 .given j))
-    (i .before .before .before .before .before .before .before .before .before .pre .1) _ _ k P _ _ _ (i .if1 .taken)
+    reply-over _ _ _ _ _ _ _ (λ j. omega (arith, i .before .before .before .shared-slice-known6 .given j))
+    (i .before .before .before .before .before .before .before .before .before .before .pre .1) _ _ k P _ _ _ (i .if1 .taken)
     (c .before .before .refuse .ensures))
     (λ c κs. search needs) (λ c. search needs) returns-2 (λ c. search needs) (λ c. search needs) start-and-build-requires (λ c. search needs) few
     (λ c. sym (length-take-le _ _ (omega (arith, few (c .before))))) report-requires (λ c. search needs) (λ c κs. search needs) (λ c. search needs)

@@ -21,7 +21,7 @@ start x = x .before .before .before .before .before .before .before .before .bef
 
 returns : tie.Need-returns
 returns c =
-    let t = c .before .before .before .before in let a = filed-alone own _ _ _ _ _ _ (t .before .before .before .before .before .open-filed .ensures) in
+    let t = c .before .before .before .before in let a = filed-alone own _ _ _ _ _ _ (t .before .before .before .before .before .open-early .ensures) in
     answer-as _ _ _ _ _ (checked-refused _ _ _ _ _ (front-refused own _ _ _ _ _ a (t .if1 .taken))) (c .before .before .refuse .ensures)
 
 few : tie.Need-array-share-prefix-steps
@@ -36,12 +36,12 @@ check-case-requires : tie.Need-check-case-requires
 check-case-requires c κs =
     let d = c .before .before .before .before .before .before .a2 .given .1 in let x = c .before .before .before .before .before .before .before .before .before in
     let o = x .before .before in let p = start x .pre in let t = text-taken _ _ _ _ (x .steps2 .ensures .0) d _ (x .steps2 .ensures .1 _ d) in
-    (case-known _ _ _ _ _ _ (o .before .before .before .before .before .open-filed .ensures) (o .if1 .left), steps-few _ _ t (p .0), p .1)
+    (case-known _ _ _ _ _ _ (o .before .before .before .before .before .open-early .ensures) (o .if1 .left), steps-few _ _ t (p .0), p .1)
 
 returns-2 : tie.Need-returns-2
 returns-2 c =
     let x = c .before .before .before .before .before .before .before .before in let o = x .before .before in
-    let K = case-known _ _ _ _ _ _ (o .before .before .before .before .before .open-filed .ensures) (o .if1 .left) in
+    let K = case-known _ _ _ _ _ _ (o .before .before .before .before .before .open-early .ensures) (o .if1 .left) in
     answer-as _ _ _ _ _ (text-fault _ _ _ _ _ _ K _ _ _ (text-refused _ [] _ _ _ (x .steps2 .ensures .0) (c .before .before .before .before .before .a .given .1)))
     (c .before .before .refuse2 .ensures)
 
@@ -52,7 +52,7 @@ returns-3 c =
 
 pub check-spec : {M : Type 1} → Rattle.call_desk.proofs.check.Statement.statement M
 check-spec = tie.close (tie.spec (λ c. search needs) (λ c. search needs) (λ c. search needs)
-    (λ c κs. ((omega arith, omega arith, omega arith), ((few-room _, no-label-words, zeros-clear 512), (search needs, most-zeros tableLength 0))))
+    (λ c κs. ((few-room _, no-label-words, zeros-clear 512), (search needs, most-zeros tableLength 0)))
     (λ c κs. search needs) (λ c. search needs) returns (λ c. search needs) (λ c κs. search needs) (λ c. search needs)
     (λ c κs. start (c .before .before .before .before .before) .pre .1) (λ c. search needs) (λ c. search needs) (λ c. search needs)
     (λ c. search needs) few (λ c. sym (length-take-le _ _ (omega (arith, few (c .before))))) check-case-requires (λ c. search needs) returns-2

@@ -11,7 +11,7 @@ use Rattle.call_desk.proofs.check_case.Tie as tie
 
 -- where the case is known to be within its limits, and before
 abbrev start : tie.Else1 → tie.Start
-start o = o .before .before .before .before .before .before .before .before .before
+start o = o .before .before .before .before .before .before .before .before .before .before
 
 -- the state has room for the atoms, before the run and after it
 room : tie.Need-array-borrow-prefix-state
@@ -57,7 +57,7 @@ returns-5 c text t =
 
 pub check-case-spec : {M : Type 1} → Rattle.call_desk.proofs.check_case.Statement.statement M
 check-case-spec = tie.close (tie.spec (λ c κs. search needs) (λ c. search needs)
-    (λ c text t. let i = c .before .before .before .before in reply-over _ _ _ _ _ _ (i .before .before .before .before .before .before .before .before .before .pre .0) _ _ t _ _ _ (i .if1 .taken) (c .before .before .refuse .ensures))
+    (λ c text t. let i = c .before .before .before .before in reply-over _ _ _ _ _ _ (i .before .before .before .before .before .before .before .before .before .before .pre .0) _ _ t _ _ _ (i .if1 .taken) (c .before .before .refuse .ensures))
     (λ c. omega (arith, room c)) room lent
     (λ c κs. let o = c .before .before in let g = start o .pre .0 .held .grounded in (table-is own _ _ _ g (o .if1 .left), words-fit own _ _ _ g (o .if1 .left) _ (lent c)))
     (λ c. search needs) left (λ c. sym (length-take-le _ _ (left (c .before)))) (λ c. search needs)

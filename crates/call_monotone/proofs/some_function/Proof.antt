@@ -11,7 +11,7 @@ use Rattle.call_monotone.proofs.some_function.Statement.{statement}
 use Rattle.call_monotone.proofs.some_function.Tie as tie
 
 abbrev Inv-loop : tie.InvT-loop
-Inv-loop first count g i₀ i = (i ≤ count) × (any (kindAt (g .kind) first) (below count) ≡ any (kindAt (g .kind) first) (from i (count - i))) × (length (g .kind) ≡ 17)
+Inv-loop first count g i₀ i = (i ≤ count) × (any (kindAt (g .kind) first) (below count) ≡ any (kindAt (g .kind) first) (from i (count - i))) × (length (g .kind) ≡ 18)
 
 abbrev μ-loop : tie.MeasureT-loop
 μ-loop first count g i₀ i = count - i

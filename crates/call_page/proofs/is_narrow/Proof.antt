@@ -24,12 +24,6 @@ sub-if1 c = omega (arith, c .before .label .ensures .0, c .before .label .ensure
 returns : tie.Need-returns Inv-loop μ-loop
 returns c = λ e. absurd (T-of e)
 
-add-x : tie.Need-add-x Inv-loop μ-loop
-add-x c = omega arith
-
-loop-less : tie.Need-loop-less Inv-loop μ-loop
-loop-less c = omega arith
-
 loop-again : tie.Need-loop-again Inv-loop μ-loop
 loop-again c = (omega arith, narrow-next _ (c .before .before .before .before .loop .x) _ _ (c .before .before .before .before .loop .inv .1) (c .before .before .label .ensures .0) (c .before .before .label .ensures .1) (omega arith))
 
@@ -37,4 +31,4 @@ returns-2 : tie.Need-returns-2 Inv-loop μ-loop
 returns-2 c = λ _. let e : c .before .loop .x ≡ c .before .before .before .args .n = omega arith in subst (Narrow _) e (c .before .loop .inv .1)
 
 pub is-narrow-spec : {M : Type 1} → Rattle.call_page.proofs.is_narrow.Statement.statement M
-is-narrow-spec = tie.close (tie.spec Inv-loop μ-loop loop-holds label-requires sub-if1 returns add-x loop-less loop-again returns-2)
+is-narrow-spec = tie.close (tie.spec Inv-loop μ-loop loop-holds label-requires sub-if1 returns (λ c. omega arith) (λ c. omega arith) loop-again returns-2)

@@ -16,7 +16,7 @@ returns-2 c = page-beyond _ _ _ _ _ _ _ _ (omega arith)
 names-of-requires : tie.Need-names-of-requires
 names-of-requires c κs =
     let s = c .before .before .before .before .before .before .before .before .before in
-    ((_, s .pre .0 .sound), (search needs, most-zeros 51 0))
+    ((_, s .pre .0 .sound), (search needs, most-zeros 54 0))
 
 first-step-requires : tie.Need-first-step-requires
 first-step-requires c κs =

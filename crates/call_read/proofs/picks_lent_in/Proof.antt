@@ -12,7 +12,7 @@ use Rattle.call_read.proofs.picks_lent_in.Tie as tie
 open-case-requires : tie.Need-open-case-requires
 open-case-requires c κs =
     let s = c .before .before .before .before .before .before .before .before in
-    ((omega arith, omega arith, omega arith), (s .pre, (search needs, most-zeros tableLength 0)))
+    (s .pre, (search needs, most-zeros tableLength 0))
 
 returns-2 : tie.Need-returns-2
 returns-2 c = call-steps _ _ _ _ _ _ usual _ _ (c .before .before .before .before .before .before .open-case .ensures) (c .before .if1 .left) _ _ (lent-many _ (omega arith))

@@ -9,7 +9,7 @@ use borrow.Author.Needs.{needs}
 use Rattle.call_read.proofs.picks_text_with.Tie as tie
 
 open-case-requires : tie.Need-open-case-requires
-open-case-requires c κs = ((omega arith, omega arith, omega arith), (c .before .before .before .before .before .before .before .before .before .pre .0, (search needs, most-zeros tableLength 0)))
+open-case-requires c κs = (c .before .before .before .before .before .before .before .before .before .pre .0, (search needs, most-zeros tableLength 0))
 
 read-listed-requires : tie.Need-read-listed-requires
 read-listed-requires c κs =

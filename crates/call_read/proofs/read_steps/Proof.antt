@@ -9,7 +9,7 @@ use Rattle.call_read.proofs.read_steps.Tie as tie
 
 picks-length-requires : tie.Need-picks-length-requires
 picks-length-requires c κs =
-    let r = c .before .before .before .before .before .before .before .pre .1 in
+    let r = c .before .before .before .before .before .before .before .before .pre .1 in
     tabled (r .limits-are) (r .case) _ _ (r .held .grounded) (c .if1 .left) .fits
 
 returns-2 : tie.Need-returns-2
@@ -17,7 +17,7 @@ returns-2 c = λ given t L q site front z. call-few-picks given _ _ _ _ _ L q si
 
 add-words : tie.Need-add-words
 add-words c =
-    let at-if1 = c .before .before .before in let s = at-if1 .before .before .before .before .before .before .before in
+    let at-if1 = c .before .before .before in let s = at-if1 .before .before .before .before .before .before .before .before in
     let r = s .pre .1 in omega (arith, atoms-few (r .limits-are) (r .case) _ _ (r .held .grounded) (at-if1 .if1 .left), r .atoms-few)
 
 returns-3 : tie.Need-returns-3
@@ -28,7 +28,7 @@ returns-3 c =
 run-and-copy-requires : tie.Need-run-and-copy-requires
 run-and-copy-requires c κs =
     let at-picks-length = c .before .before .before .before .before in let at-if1 = at-picks-length .before in
-    let s = at-if1 .before .before .before .before .before .before .before in let r = s .pre .1 in let g = r .held .grounded in
+    let s = at-if1 .before .before .before .before .before .before .before .before in let r = s .pre .1 in let g = r .held .grounded in
     (table-is (r .limits-are) (r .case) _ _ g (at-if1 .if1 .left), (words-fit (r .limits-are) (r .case) _ _ g (at-if1 .if1 .left) _ (sym (length-take-le _ _ (omega arith))), omega (arith, at-picks-length .picks-length .ensures .0)))
 
 returns-4 : tie.Need-returns-4

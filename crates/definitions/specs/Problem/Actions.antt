@@ -1,14 +1,15 @@
--- Document 01, "Actions": their order and numbers, what they need, add and remove.
+-- Document 01, "Actions": their order and numbers, what they need, add and remove; and document 02, job 12: the rounds of an `every` line.
 use Prim.Native.Nat.{ℕ, zero, suc, _+_, _*_, _/_, _%_}
 use mathlib.Core.Bool.{Bool, true, false, _&&_}
 use mathlib.Core.Option.{Option}
 use mathlib.Core.List.{List, [], _∷_, _++_, map}
 use lib.ListN.{length, getD, take, drop}
-use lib.Dec.{eqb}
+use lib.Dec.{eqb, ltb}
 use Rattle.definitions.specs.Lists.{if_then_else_, option, mapFrom, filter, isIn, below, rank, before, greatest}
 use Rattle.definitions.specs.Sheet.Relations.{Relation, isChosen, isFunction, isInjective}
 use Rattle.definitions.specs.Problem.Tree.{Tree, leaf, forallNode, existsNode, andNode, orNode, Part, parts, howMany, nodeSort, free}
-use Rattle.definitions.specs.Problem.Atoms.{Problem, relationAt, nodeAt, tuplesOf, rowsOf, rowOf, placesOf, Block, itemAt, countOf, Atom, guess, proof, goal, tuple, notTuple, freeDomain, freeRange, holdsNode}
+use Rattle.definitions.specs.Sheet.Sheets.{everyNumber}
+use Rattle.definitions.specs.Problem.Atoms.{Problem, relationAt, nodeAt, tuplesOf, rowsOf, nodeWidth, lastTuples, rowOf, placesOf, Block, itemAt, countOf, Atom, guess, proof, goal, tuple, notTuple, freeDomain, freeRange, holdsNode, marked}
 
 -- An action and its details: a relation by its number, a node by its preorder number, a row as the number of a tuple or of the
 -- values of a node's free variables, and the part, element or z that is chosen.
@@ -20,6 +21,8 @@ pub data Action : Type 0 where
   proveExists : (node row element : ℕ) → Action
   proveForall : (node row z : ℕ) → Action
   proveGoal : Action
+  roundEnd : Action
+  markIn markOut : (relation row : ℕ) → Action
 
 -- an action in the paper's numbers: its kind in this order, its relation or node, its row, and its part, element or z; what its kind
 -- does not have is 0
@@ -31,6 +34,9 @@ actionKind (proveOr v row i) = 3
 actionKind (proveExists v row x) = 4
 actionKind (proveForall v row z) = 5
 actionKind proveGoal = 6
+actionKind roundEnd = 7
+actionKind (markIn r row) = 8
+actionKind (markOut r row) = 9
 
 unfoldable pub actionSubject : Action → ℕ
 actionSubject (set r row) = r
@@ -40,6 +46,9 @@ actionSubject (proveOr v row i) = v
 actionSubject (proveExists v row x) = v
 actionSubject (proveForall v row z) = v
 actionSubject proveGoal = 0
+actionSubject roundEnd = 0
+actionSubject (markIn r row) = r
+actionSubject (markOut r row) = r
 
 unfoldable pub actionRow : Action → ℕ
 actionRow (set r row) = row
@@ -49,6 +58,9 @@ actionRow (proveOr v row i) = row
 actionRow (proveExists v row x) = row
 actionRow (proveForall v row z) = row
 actionRow proveGoal = 0
+actionRow roundEnd = 0
+actionRow (markIn r row) = row
+actionRow (markOut r row) = row
 
 unfoldable pub actionChoice : Action → ℕ
 actionChoice (set r row) = 0
@@ -58,9 +70,12 @@ actionChoice (proveOr v row i) = i
 actionChoice (proveExists v row x) = x
 actionChoice (proveForall v row z) = z
 actionChoice proveGoal = 0
+actionChoice roundEnd = 0
+actionChoice (markIn r row) = 0
+actionChoice (markOut r row) = 0
 
 -- ---- order and numbers: the set actions of every `choose`; begin-proof; node by node, each row by row, with the part, element
--- or z running fastest; prove-goal
+-- or z running fastest; prove-goal, or in its place, where there is an `every` line, round-end; every mark-in, every mark-out of that relation
 
 -- how many actions a node has at each value of its free variables, and the action of a part, element or z there. (A literal is not a
 -- node: it has no actions, and what stands for one is never asked for.)
@@ -100,11 +115,18 @@ unfoldable pub proofBlocks : ℕ → (ℕ → List ℕ) → List Tree → List (
 proofBlocks n R ts =
     mapFrom (λ v t. record { width = proofsOf n R t; item = λ i. proveNode R t v (i / choices R t) (i % choices R t) }) zero ts
 
+unfoldable pub finish : Problem → Action
+finish p = option (p .source .question .every) proveGoal (λ _. roundEnd)
+
+unfoldable pub markBlocks : (ℕ → ℕ → Action) → ℕ → List Relation → List (Block Action)
+markBlocks mark n ks = mapFrom (λ r k. record { width = lastTuples n k; item = mark r }) zero ks
+
 unfoldable pub actionBlocks : Problem → List (Block Action)
 actionBlocks p =
     setBlocks (p .size) (p .range) (p .relations)
     ++ (record { width = 1; item = λ _. beginProof }
-    ∷ (proofBlocks (p .size) (p .range) (p .nodeList) ++ (record { width = 1; item = λ _. proveGoal } ∷ [])))
+    ∷ (proofBlocks (p .size) (p .range) (p .nodeList)
+    ++ (record { width = 1; item = λ _. finish p } ∷ (markBlocks markIn (p .size) (p .relations) ++ markBlocks markOut (p .size) (p .relations)))))
 
 unfoldable pub actions : Problem → ℕ
 actions p = countOf (actionBlocks p)
@@ -124,6 +146,10 @@ proofStart p v = setStart p (length (p .relations)) + 1 + countOf (proofBlocks (
 unfoldable pub proofNumber : Problem → ℕ → ℕ → ℕ → ℕ
 proofNumber p v row i = proofStart p v + row * choices (p .range) (nodeAt p v) + i
 
+-- how many mark-ins, and so how many mark-outs, there are before those of a relation
+unfoldable pub marksBefore : Problem → ℕ → ℕ
+marksBefore p r = countOf (markBlocks markIn (p .size) (take r (p .relations)))
+
 -- the range of a quantifier's variable
 unfoldable pub rangeAt : Problem → ℕ → List ℕ
 rangeAt p v = p .range (nodeSort (nodeAt p v))
@@ -136,6 +162,9 @@ actionNumber p (proveOr v row i) = proofNumber p v row i
 actionNumber p (proveExists v row x) = proofNumber p v row (rank (rangeAt p v) x)
 actionNumber p (proveForall v row z) = proofNumber p v row (rank (rangeAt p v) z)
 actionNumber p proveGoal = proofStart p (length (p .nodeList))
+actionNumber p roundEnd = proofStart p (length (p .nodeList))
+actionNumber p (markIn r row) = proofStart p (length (p .nodeList)) + 1 + marksBefore p r + row
+actionNumber p (markOut r row) = proofStart p (length (p .nodeList)) + 1 + marksBefore p (length (p .relations)) + marksBefore p r + row
 
 -- ---- the atom that stands for a part at values of the variables: of a literal its tuple or not-tuple, of a `forall` the one at
 -- the greatest element of its range, of any other node its own
@@ -190,7 +219,10 @@ forallNeeds n R v t row z =
 
 -- needs: a set action the guess phase, its not-tuple and its free atoms; begin-proof the guess phase; a node's action the proof
 -- phase and, for `and`, all parts, for `or` the chosen part, for `exists` the part at the chosen element, for `forall` as said above;
--- prove-goal the root alone
+-- prove-goal and round-end the root alone; a mark-in the mark of its tuple, which is out, a mark-out that of one which is in
+unfoldable pub rootAtom : Problem → Atom
+rootAtom p = partAtom (p .size) (p .range) (λ _. zero) zero (p .root)
+
 unfoldable pub needs : Problem → Action → List Atom
 needs p (set r row) = guess ∷ notTuple r row ∷ freeAtoms (p .size) (relationAt p r) r row
 needs p beginProof = guess ∷ []
@@ -198,9 +230,17 @@ needs p (proveAnd v row) = proof ∷ partAtoms (p .size) (p .range) (valuesAt (p
 needs p (proveOr v row i) = proof ∷ take 1 (drop i (partAtoms (p .size) (p .range) (valuesAt (p .size) (nodeAt p v) row) (parts v (nodeAt p v))))
 needs p (proveExists v row x) = proof ∷ underAtom (p .size) (p .range) v (nodeAt p v) row x ∷ []
 needs p (proveForall v row z) = proof ∷ forallNeeds (p .size) (p .range) v (nodeAt p v) row z
-needs p proveGoal = partAtom (p .size) (p .range) (λ _. zero) zero (p .root) ∷ []
+needs p proveGoal = rootAtom p ∷ []
+needs p roundEnd = rootAtom p ∷ []
+needs p (markIn r row) = marked r row ∷ notTuple r row ∷ []
+needs p (markOut r row) = marked r row ∷ tuple r row ∷ []
 
--- adds: the tuple; the proof phase; the node's atom; the goal
+-- the mark of tuple i, and the goal past the last tuple
+unfoldable pub markOrGoal : Problem → ℕ → ℕ → Atom
+markOrGoal p r i = if ltb i (tuplesOf (p .size) (relationAt p r)) then marked r i else goal
+
+-- adds: the tuple; the proof phase; the node's atom; the goal; round-end the first mark; a mark-in the tuple and the proof phase, a mark-out the
+-- not-tuple and the next mark or the goal
 unfoldable pub adds : Problem → Action → List Atom
 adds p (set r row) = tuple r row ∷ []
 adds p beginProof = proof ∷ []
@@ -209,8 +249,17 @@ adds p (proveOr v row i) = holdsNode v row ∷ []
 adds p (proveExists v row x) = holdsNode v row ∷ []
 adds p (proveForall v row z) = holdsNode v (row * p .size + z) ∷ []
 adds p proveGoal = goal ∷ []
+adds p roundEnd = markOrGoal p (everyNumber (p .source .question)) zero ∷ []
+adds p (markIn r row) = tuple r row ∷ proof ∷ []
+adds p (markOut r row) = notTuple r row ∷ markOrGoal p r (suc row) ∷ []
 
--- removes: a set action all it needs but the guess phase; begin-proof the guess phase; the others nothing
+-- the atoms of all nodes, where the first one's number is v
+unfoldable pub nodesAtoms : ℕ → ℕ → List Tree → List Atom
+nodesAtoms n v [] = []
+nodesAtoms n v (t ∷ ts) = map (holdsNode v) (below (nodeWidth n t)) ++ nodesAtoms n (suc v) ts
+
+-- removes: a set action all it needs but the guess phase; begin-proof the guess phase; round-end the proof phase and every node's atoms; a mark-in
+-- and a mark-out all they need; the others nothing
 unfoldable pub removes : Problem → Action → List Atom
 removes p (set r row) = notTuple r row ∷ freeAtoms (p .size) (relationAt p r) r row
 removes p beginProof = guess ∷ []
@@ -219,3 +268,6 @@ removes p (proveOr v row i) = []
 removes p (proveExists v row x) = []
 removes p (proveForall v row z) = []
 removes p proveGoal = []
+removes p roundEnd = proof ∷ nodesAtoms (p .size) zero (p .nodeList)
+removes p (markIn r row) = marked r row ∷ notTuple r row ∷ []
+removes p (markOut r row) = marked r row ∷ tuple r row ∷ []

@@ -1,27 +1,16 @@
--- Document 01, "Atoms": their order and numbers, and which are initially true.
-use Prim.Native.Nat.{ℕ, zero, suc, _+_, _-_, _*_, _/_, _%_, _^_}
+-- Document 01, "Atoms": their order and numbers, and which are initially true; and document 02, job 12: the atoms of an `every` line.
+use Prim.Native.Nat.{ℕ, zero, suc, _+_, _-_, _*_, _/_, _^_}
 use mathlib.Core.Bool.{Bool, true, false, not}
 use mathlib.Core.Option.{Option, none, some}
 use mathlib.Core.List.{List, [], _∷_, _++_, map}
 use lib.ListN.{length, take, getD}
 use lib.Dec.{ltb}
 use Rattle.definitions.specs.Lists.{if_then_else_, option, flatMap, mapFrom, below}
-use Rattle.definitions.specs.Sheet.Relations.{Relation, fixed, isFunction, isInjective}
+use Rattle.definitions.specs.Sheet.Relations.{Relation, fixed, isFunction, isInjective, isUniversal}
+unfoldable pub use Rattle.definitions.specs.Problem.Rows.{rowOf, placesOf}
 use Rattle.definitions.specs.Sheet.Sheets.{relationsOf}
 use Rattle.definitions.specs.Problem.Truth.{Case, holds, membersOf}
 use Rattle.definitions.specs.Problem.Tree.{Tree, leaf, treeOf, nodes, free, isForall}
-
--- ---- rows: tuples of any number of places are numbered with the "first place most significant"
-
--- the row of the values of places, among n elements
-unfoldable pub rowOf : ℕ → List ℕ → ℕ
-rowOf n [] = zero
-rowOf n (x ∷ xs) = x * n ^ length xs + rowOf n xs
-
--- the k values of a row
-unfoldable pub placesOf : ℕ → ℕ → ℕ → List ℕ
-placesOf n zero row = []
-placesOf n (suc k) row = row / n ^ k % n ∷ placesOf n k row
 
 -- ---- blocks: a run of numbers, each standing for an item; a list of blocks numbers the items one after another
 
@@ -74,17 +63,25 @@ nodeWidth n t = if isForall t then rowsOf n t * n else rowsOf n t
 
 -- ---- the atoms, "Numbered in this order": three of the phases; for each relation in the order of the numbers its tuples, its
 -- not-tuples, for a function kind an atom for each first place still free, for an injective kind one for each second place still
--- free; for each node its own
+-- free; for each node its own; for the `every` relation its tuples, its not-tuples and a mark for each tuple, which come last
 pub data Atom : Type 0 where
   guess proof goal : Atom
   tuple notTuple : (relation row : ℕ) → Atom
   freeDomain freeRange : (relation element : ℕ) → Atom
   holdsNode : (node row : ℕ) → Atom
+  marked : (relation row : ℕ) → Atom
+
+-- how many tuples of a relation have their atoms before the nodes, and how many after them
+unfoldable pub firstTuples : ℕ → Relation → ℕ
+firstTuples n k = if isUniversal (k .kind) then zero else tuplesOf n k
+
+unfoldable pub lastTuples : ℕ → Relation → ℕ
+lastTuples n k = if isUniversal (k .kind) then tuplesOf n k else zero
 
 unfoldable pub relationBlocks : ℕ → ℕ → Relation → List (Block Atom)
 relationBlocks n r k =
-    record { width = tuplesOf n k; item = tuple r }
-    ∷ record { width = tuplesOf n k; item = notTuple r }
+    record { width = firstTuples n k; item = tuple r }
+    ∷ record { width = firstTuples n k; item = notTuple r }
     ∷ record { width = if isFunction (k .kind) then n else zero; item = freeDomain r }
     ∷ record { width = if isInjective (k .kind) then n else zero; item = freeRange r }
     ∷ []
@@ -95,12 +92,22 @@ relationsBlocks n ks = flatMap (λ (bs : List (Block Atom)). bs) (mapFrom (relat
 unfoldable pub nodesBlocks : ℕ → List Tree → List (Block Atom)
 nodesBlocks n ts = mapFrom (λ v t. record { width = nodeWidth n t; item = holdsNode v }) zero ts
 
+unfoldable pub lastBlocks : ℕ → ℕ → Relation → List (Block Atom)
+lastBlocks n r k =
+    record { width = lastTuples n k; item = tuple r }
+    ∷ record { width = lastTuples n k; item = notTuple r }
+    ∷ record { width = lastTuples n k; item = marked r }
+    ∷ []
+
+unfoldable pub lastsBlocks : ℕ → List Relation → List (Block Atom)
+lastsBlocks n ks = flatMap (λ (bs : List (Block Atom)). bs) (mapFrom (lastBlocks n) zero ks)
+
 unfoldable pub atomBlocks : Problem → List (Block Atom)
 atomBlocks p =
     record { width = 1; item = λ _. guess }
     ∷ record { width = 1; item = λ _. proof }
     ∷ record { width = 1; item = λ _. goal }
-    ∷ (relationsBlocks (p .size) (p .relations) ++ nodesBlocks (p .size) (p .nodeList))
+    ∷ (relationsBlocks (p .size) (p .relations) ++ (nodesBlocks (p .size) (p .nodeList) ++ lastsBlocks (p .size) (p .relations)))
 
 unfoldable pub atoms : Problem → ℕ
 atoms p = countOf (atomBlocks p)
@@ -116,15 +123,22 @@ relationStart p r = 3 + countOf (relationsBlocks (p .size) (take r (p .relations
 unfoldable pub nodeStart : Problem → ℕ → ℕ
 nodeStart p v = relationStart p (length (p .relations)) + countOf (nodesBlocks (p .size) (take v (p .nodeList)))
 
+unfoldable pub lastStart : Problem → ℕ → ℕ
+lastStart p r = nodeStart p (length (p .nodeList)) + countOf (lastsBlocks (p .size) (take r (p .relations)))
+
+unfoldable pub tupleStart : Problem → ℕ → ℕ
+tupleStart p r = if isUniversal (relationAt p r .kind) then lastStart p r else relationStart p r
+
 unfoldable pub atomNumber : Problem → Atom → ℕ
 atomNumber p guess = 0
 atomNumber p proof = 1
 atomNumber p goal = 2
-atomNumber p (tuple r row) = relationStart p r + row
-atomNumber p (notTuple r row) = relationStart p r + tuplesOf (p .size) (relationAt p r) + row
+atomNumber p (tuple r row) = tupleStart p r + row
+atomNumber p (notTuple r row) = tupleStart p r + tuplesOf (p .size) (relationAt p r) + row
 atomNumber p (freeDomain r x) = relationStart p r + 2 * tuplesOf (p .size) (relationAt p r) + x
 atomNumber p (freeRange r y) = relationStart p r + 2 * tuplesOf (p .size) (relationAt p r) + p .size + y
 atomNumber p (holdsNode v row) = nodeStart p v + row
+atomNumber p (marked r row) = lastStart p r + 2 * tuplesOf (p .size) (relationAt p r) + row
 
 -- ---- "Initially true": the guess phase; of each tuple it or its not-tuple, by whether it holds while nothing is picked; every
 -- free atom
@@ -140,6 +154,7 @@ isInitial p (notTuple r row) = not (tupleHolds p r row)
 isInitial p (freeDomain r x) = true
 isInitial p (freeRange r y) = true
 isInitial p (holdsNode v row) = false
+isInitial p (marked r row) = false
 
 -- A state says of each atom's number whether it holds; beyond the last atom nothing does.
 abbrev pub State : Type 0

@@ -1,15 +1,16 @@
--- Document 01, "Actions": the built steps, their count and the bound; "The words of demand 3": true node atoms.
-use Prim.Native.Nat.{ℕ, zero, suc, _+_, _/_, _%_, _^_}
+-- Document 01, "Actions": the built steps, their count and the bound; "The words of demand 3": true node atoms; and document 02, job 12: a
+-- round for each value of the `every` relation.
+use Prim.Native.Nat.{ℕ, zero, suc, _+_, _-_, _*_, _/_, _%_, _^_}
 use mathlib.Core.Bool.{Bool, true, false, not, _&&_, _||_}
 use mathlib.Core.List.{List, [], _∷_, _++_, map}
 use lib.ListN.{length, getD}
 use Rattle.definitions.specs.Lists.{if_then_else_, all, any, filter, option, position, below, isIn, upTo, sum, flatMap}
 use Rattle.definitions.specs.Sheet.Relations.{Relation, Tuple, isAmong, isChosen, isFunction}
-use Rattle.definitions.specs.Sheet.Sheets.{Question, relationsOf}
-use Rattle.definitions.specs.Problem.Truth.{Case, holds, membersOf}
+use Rattle.definitions.specs.Sheet.Sheets.{Question, relationsOf, everyNumber}
+use Rattle.definitions.specs.Problem.Truth.{Case, holds, membersOf, everyTuples, values, isOdd, everyValue}
 use Rattle.definitions.specs.Problem.Tree.{Tree, Trees, leaf, forallNode, existsNode, andNode, orNode, end, _then_, Part, parts, treeOf, nodes, free, isForall}
 use Rattle.definitions.specs.Problem.Atoms.{Problem, relationAt, tuplesOf, nodeWidth, placesOf, nodeAtoms}
-use Rattle.definitions.specs.Problem.Actions.{Action, set, beginProof, proveAnd, proveOr, proveExists, proveForall, proveGoal, actionNumber, Values, withValue, valuesAt}
+use Rattle.definitions.specs.Problem.Actions.{Action, set, beginProof, proveAnd, proveOr, proveExists, proveForall, proveGoal, markIn, markOut, finish, actionNumber, Values, withValue, valuesAt}
 
 -- whether a part of the tree is so at values of its levels
 unfoldable mutual
@@ -79,26 +80,47 @@ pickedRows p picks r = filter (isPicked p picks r) (below (tuplesOf (p .size) (r
 unfoldable pub setSteps : Problem → List Tuple → List Action
 setSteps p picks = flatMap (λ r. map (set r) (pickedRows p picks r)) (chosenNumbers p)
 
--- "Built steps": the picks are set, the proof begins, every true node atom is proved once, the goal is proved
+-- The marks between a round and the next, from tuple i of relation r on, with `left` tuples left and m the digits of the round's value from
+-- there on: a tuple that is in goes out, and the mark moves on; the first that is out goes in. After the last value all go out.
+unfoldable pub marksFrom : (r left i m : ℕ) → List Action
+marksFrom r zero i m = []
+marksFrom r (suc left) i m = if isOdd m then markOut r i ∷ marksFrom r left (suc i) (m / 2) else markIn r i ∷ []
+
+unfoldable pub marksAfter : Problem → ℕ → List Action
+marksAfter p k = marksFrom (everyNumber (p .source .question)) (everyTuples (p .source)) zero k
+
+-- the round of value k: every node atom that is true then is proved once, the round ends (or the goal is proved), and the marks go on
+unfoldable pub roundSteps : Problem → List Tuple → ℕ → List Action
+roundSteps p picks k = nodeSteps p (picks ++ everyValue (p .source) k) zero (p .nodeList) ++ (finish p ∷ marksAfter p k)
+
+-- "Built steps": the picks are set, the proof begins, and there is a round for each value of the `every` relation. Without an `every` line that
+-- is one round, which ends by proving the goal.
 unfoldable pub builtActions : Problem → List Tuple → List Action
-builtActions p picks = setSteps p picks ++ (beginProof ∷ (nodeSteps p picks zero (p .nodeList) ++ (proveGoal ∷ [])))
+builtActions p picks = setSteps p picks ++ (beginProof ∷ flatMap (roundSteps p picks) (below (values (p .source))))
 
 unfoldable pub builtSteps : Problem → List Tuple → List ℕ
 builtSteps p picks = map (actionNumber p) (builtActions p picks)
 
--- how many there are: picks, true node atoms, and two
-unfoldable pub builtCount : Problem → List Tuple → ℕ
-builtCount p picks = length picks + sum (map (λ t. length (trueRows p picks t)) (p .nodeList)) + 2
+-- how many there are: picks and one; the true node atoms of each round; a round's end for each value; a mark-in and a mark-out for each value but
+-- one. Without an `every` line: picks, true node atoms, and two.
+unfoldable pub trueAtoms : Problem → List Tuple → ℕ
+trueAtoms p tuples = sum (map (λ t. length (trueRows p tuples t)) (p .nodeList))
 
--- The bound: all tuples of each plain `choose`, n for each function kind, all node atoms, and two.
+unfoldable pub builtCount : Problem → List Tuple → ℕ
+builtCount p picks =
+    let rounds = values (p .source) in
+    length picks + 1 + (sum (map (λ k. trueAtoms p (picks ++ everyValue (p .source) k)) (below rounds)) + rounds + 2 * (rounds - 1))
+
+-- The bound: all tuples of each plain `choose`, n for each function kind, one; and for each value all node atoms, a mark for each tuple of the
+-- `every` relation, one. Without an `every` line: the most picks, all node atoms, and two.
 unfoldable pub mostPicks : ℕ → Relation → ℕ
 mostPicks n k = if isFunction (k .kind) then n else if isChosen (k .kind) then tuplesOf n k else zero
 
 unfoldable pub bound : Problem → ℕ
-bound p = sum (map (mostPicks (p .size)) (p .relations)) + nodeAtoms p + 2
+bound p = sum (map (mostPicks (p .size)) (p .relations)) + 1 + values (p .source) * (nodeAtoms p + everyTuples (p .source) + 1)
 
--- ---- the bound as a polynomial in the number of elements, its terms fixed by the question alone: a power of n for each `choose`
--- and each node, and the constant two
+-- ---- the bound, where there is no `every` line, as a polynomial in the number of elements, its terms fixed by the question alone: a power of n
+-- for each `choose` and each node, and the constant two
 
 unfoldable pub pickExponent : Relation → List ℕ
 pickExponent k = if isFunction (k .kind) then 1 ∷ [] else if isChosen (k .kind) then k .arity ∷ [] else []

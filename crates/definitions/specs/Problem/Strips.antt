@@ -7,7 +7,7 @@ use Rattle.definitions.specs.Lists.{if_then_else_, all, any, option, fla
 use Rattle.definitions.specs.Refusal.{Result, refused, accepted}
 use Rattle.definitions.specs.Sheet.Relations.{Tuple}
 use Rattle.definitions.specs.Problem.Atoms.{Problem, relationAt, placesOf, goal, atomNumber, State, initial}
-use Rattle.definitions.specs.Problem.Actions.{Action, set, beginProof, proveAnd, proveOr, proveExists, proveForall, proveGoal, actionAt, needs, adds, removes}
+use Rattle.definitions.specs.Problem.Actions.{Action, set, beginProof, proveAnd, proveOr, proveExists, proveForall, proveGoal, roundEnd, markIn, markOut, actionAt, needs, adds, removes}
 
 -- an action may be taken in a state that has all it needs
 unfoldable pub mayTake : Problem → State → Action → Bool
@@ -52,6 +52,9 @@ pickOf p (proveOr v row i) = []
 pickOf p (proveExists v row x) = []
 pickOf p (proveForall v row z) = []
 pickOf p proveGoal = []
+pickOf p roundEnd = []
+pickOf p (markIn r row) = []
+pickOf p (markOut r row) = []
 
 unfoldable pub picksOf : Problem → List ℕ → List Tuple
 picksOf p steps = flatMap (λ k. option (actionAt p k) [] (pickOf p)) steps

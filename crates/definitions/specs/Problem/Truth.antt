@@ -1,15 +1,16 @@
 -- Document 01, "The words of demand 3": truth of the rule and the declared kinds, read off the sheets; and document 02, job 4: what a
--- variable ranges over, job 5: the types of a kind.
-use Prim.Native.Nat.{ℕ, zero, suc, _+_, _-_}
+-- variable ranges over, job 5: the types of a kind, job 12: the values of the `every` relation.
+use Prim.Native.Nat.{ℕ, zero, suc, _+_, _-_, _/_, _%_, _^_}
 use mathlib.Core.Bool.{Bool, true, false, not, _&&_, _||_}
 use mathlib.Core.Option.{Option}
-use mathlib.Core.List.{List, [], _∷_, map}
+use mathlib.Core.List.{List, [], _∷_, _++_, map}
 use lib.ListN.{getD, length}
 use lib.Dec.{eqb, leb, ltb}
 use Rattle.definitions.specs.Lists.{if_then_else_, all, any, filter, same, option, position, mapFrom, below, isIn}
 use Rattle.definitions.specs.Sheet.Relations.{Relation, fixed, Tuple, isAmong, areDistinct, builtInHolds, numberOf, isFunction, isInjective, isTotal}
+use Rattle.definitions.specs.Problem.Rows.{placesOf}
 use Rattle.definitions.specs.Sheet.Formula.{Quantified, Formula, Formulas, literal, negation, implication, conjunction, disjunction, exists, forall, nil, cons, sortOf}
-use Rattle.definitions.specs.Sheet.Sheets.{Question, Site, isMember, relationsOf, firstRel, firstChosen}
+use Rattle.definitions.specs.Sheet.Sheets.{Question, Site, isMember, relationsOf, firstRel, firstChosen, everyNumber}
 
 -- A case: its question and its site.
 pub record Case : Type 0 where
@@ -17,7 +18,7 @@ pub record Case : Type 0 where
   pub site : Site
 
 -- Whether a tuple holds, of relation r and at the places xs: a built-in one by its meaning, that of a `rel` if it is a fact, that of a
--- `choose` if it is a pick.
+-- `choose`, or of an `every` line, if it is among the given ones.
 unfoldable pub holds : Case → List Tuple → ℕ → List ℕ → Bool
 holds c picks r xs =
     if ltb r firstRel then builtInHolds (c .site .size) r (getD xs 0 0) (getD xs 1 0)
@@ -83,9 +84,35 @@ isTotalIn c picks r k = all (λ x. any (λ y. holds c picks r (x ∷ y ∷ [])) 
 unfoldable pub areTotal : Case → List Tuple → Bool
 areTotal c picks = all (λ b. b) (eachChosen c (λ r (k : Relation). if isTotal (k .kind) then isTotalIn c picks r k else true))
 
--- the rule is true of the picks, totality included; 17 where it is not
+-- ---- document 02, job 12: the relation of an `every` line
+
+-- how many tuples it has, 0 where there is no such line; and so how many values: 1 where there is none
+unfoldable pub everyTuples : Case → ℕ
+everyTuples c = option (c .question .every) zero (λ (e : Relation). c .site .size ^ e .arity)
+
+unfoldable pub values : Case → ℕ
+values c = 2 ^ everyTuples c
+
+-- Value k has the tuples whose binary digit of k is 1, that of the first tuple being the least significant: value 0 has none, and each further
+-- one is the next in counting.
+unfoldable pub isOdd : ℕ → Bool
+isOdd k = eqb (k % 2) 1
+
+unfoldable pub digit : ℕ → ℕ → Bool
+digit k i = isOdd (k / 2 ^ i)
+
+unfoldable pub everyValue : Case → ℕ → List Tuple
+everyValue c k =
+    option (c .question .every) []
+    (λ (e : Relation). map (λ row. record { relation = everyNumber (c .question); places = placesOf (c .site .size) (e .arity) row }) (filter (digit k) (below (everyTuples c))))
+
+-- the rule is true of tuples, totality included
+unfoldable pub ruleHolds : Case → List Tuple → Bool
+ruleHolds c tuples = isTrue c tuples [] (c .question .rule .formula) && areTotal c tuples
+
+-- the rule is true of the picks: it is so for every value of the `every` relation; 17 where it is not
 unfoldable pub ruleIsTrue : Case → List Tuple → Bool
-ruleIsTrue c picks = isTrue c picks [] (c .question .rule .formula) && areTotal c picks
+ruleIsTrue c picks = all (λ k. ruleHolds c (picks ++ everyValue c k)) (below (values c))
 
 -- two picks of relation r agree in `a` and differ in `b`
 unfoldable pub two : ℕ → (a b : Tuple → ℕ) → List Tuple → Bool

@@ -10,7 +10,7 @@ use Rattle.definitions.specs.Refusal.{Result, refused, accepted}
 use Rattle.definitions.specs.Problem.Tree.{Tree, Trees, leaf, forallNode, existsNode, andNode, orNode, end, _then_}
 use Rattle.definitions.specs.Problem.Atoms.{Problem, nodeWidth}
 use Rattle.definitions.specs.Problem.Built.{chosenNumbers}
-use Rattle.definitions.specs.Reply.Outcome.{Ready, asked, nothing, roomFor, written}
+use Rattle.definitions.specs.Reply.Outcome.{Ready, asked, nothing, withoutEvery, roomFor, written}
 
 -- Whether a literal of relation r, of either sign, stands somewhere in a tree. The tree is that of the whole case: negation is pushed
 -- inward, and the totalities and the `and` that joins them are nodes like the others.
@@ -30,7 +30,8 @@ unfoldable mutual
 unfoldable pub allowance : Problem → ℕ → ℕ
 allowance p r = 1 + sum (map (nodeWidth (p .size)) (filter (mentions r) (p .nodeList)))
 
--- ---- the call: one number for each `choose`, in their order, at the front of a lent buffer; 12 where that is too short
+-- ---- the call: one number for each `choose`, in their order, at the front of a lent buffer; 12 where that is too short. A case with an `every`
+-- line is 23: there a pick moves every round.
 unfoldable pub allowancesOf : Problem → List ℕ
 allowancesOf p = map (allowance p) (chosenNumbers p)
 
@@ -43,4 +44,4 @@ allowedFrom (refused k place) old = record { answer = refused k place; allowance
 allowedFrom (accepted r) old = record { answer = accepted zero; allowances = written (allowancesOf (r .problem)) old }
 
 unfoldable pub allowances : CaseLimits → List ℕ → List ℕ → List ℕ → Allowed
-allowances L question site old = allowedFrom (asked L question site nothing nothing nothing (λ p. roomFor (length (chosenNumbers p)) (length old))) old
+allowances L question site old = allowedFrom (asked L question site nothing nothing withoutEvery (λ p. roomFor (length (chosenNumbers p)) (length old))) old

@@ -12,7 +12,7 @@ use Rattle.definitions.specs.Sheet.Relations.{Tuple}
 use Rattle.definitions.specs.Problem.Truth.{Case, areOfKinds, ruleIsTrue}
 use Rattle.definitions.specs.Problem.Atoms.{Problem, relationAt, tuplesOf, placesOf}
 use Rattle.definitions.specs.Problem.Built.{chosenNumbers}
-use Rattle.definitions.specs.Reply.Outcome.{asked, nothing, roomFor, picksLength, pickWords, written}
+use Rattle.definitions.specs.Reply.Outcome.{withoutEvery, asked, nothing, roomFor, picksLength, pickWords, written}
 
 -- the cells: all tuples of each `choose`, in the order of the lines, and of the rows; of a function kind n × n, whatever its types
 unfoldable pub cellsOf : Problem → ℕ → List Tuple
@@ -41,11 +41,11 @@ leastPicks c ts = do
   m ← given (leastNumber c ts) 21 zero
   accepted (numbered ts m)
 
--- ---- the call: the words of these picks at the front of a lent buffer. Refusals in their order: the question, the site, 11, 12 where
--- the buffer is too short, 20, 21. Success is 0, place 0.
+-- ---- the call: the words of these picks at the front of a lent buffer. Refusals in their order: the question, the site, 11, 23 of any
+-- case with an `every` line, 12 where the buffer is too short, 20, 21. Success is 0, place 0.
 unfoldable pub foundWords : CaseLimits → (question site : List ℕ) → (room : ℕ) → Result (List ℕ)
 foundWords L question site room = do
-  r ← asked L question site nothing nothing nothing (λ p. roomFor (picksLength p) room)
+  r ← asked L question site nothing nothing withoutEvery (λ p. roomFor (picksLength p) room)
   F ← leastPicks (r .case) (cells (r .problem))
   accepted (pickWords (r .problem) F)
 

@@ -5,7 +5,7 @@ use Rattle.definitions.specs.Limits.{CaseLimits}
 use Rattle.definitions.specs.Refusal.{Result, refused, accepted, _>>=_}
 use Rattle.definitions.specs.Reply.Outcome.{asked, nothing, ThirdInput, textPicks, picksRoom, satisfying}
 
--- Refusals come in the order in which building has them: the question, the site, the picks' text, 11, 12 where lent picks are too
+-- Refusals come in the order in which building has them: the question, the site, the picks' text, 11, 23, 12 where lent picks are too
 -- short, 10, 16, 17. No other buffer is lent. A yes is 0, place 0.
 unfoldable pub judge : CaseLimits → (question site : List ℕ) → ThirdInput → Result ℕ
 judge L question site picks = do

@@ -4,7 +4,7 @@ use mathlib.Core.Bool.{Bool, true, false, not, _&&_}
 use mathlib.Core.List.{List}
 use lib.Dec.{ltb}
 use Rattle.definitions.specs.Limits.{CaseLimits}
-use Rattle.definitions.specs.Lists.{all}
+use Rattle.definitions.specs.Lists.{all, isSome}
 use Rattle.definitions.specs.Refusal.{Result, accepted, _>>=_, refuseIf}
 use Rattle.definitions.specs.Sheet.Relations.{Relation, isFunction}
 use Rattle.definitions.specs.Sheet.Sheets.{Question, firstChosen}
@@ -27,11 +27,11 @@ unfoldable mutual
   allWantMore first end = true
   allWantMore first (t then ts) = wantsMore first t && allWantMore first ts
 
--- the profile: each `choose` is plain, and none is negated
+-- the profile: there is no `every` line, each `choose` is plain, and none is negated
 unfoldable pub onlyWantsMore : Question → Bool
-onlyWantsMore q = all (λ (k : Relation). not (isFunction (k .kind))) (q .chosen) && wantsMore (firstChosen q) (treeOf q)
+onlyWantsMore q = not (isSome (q .every)) && all (λ (k : Relation). not (isFunction (k .kind))) (q .chosen) && wantsMore (firstChosen q) (treeOf q)
 
--- ---- the call. Refusals in their order: the question, the site, 11, 24 outside the profile, 21 where no picks make the rule true,
+-- ---- the call. Refusals in their order: the question, the site, 11, 23, 24 outside the profile, 21 where no picks make the rule true,
 -- since it is false with all tuples picked. A yes is 0, place 0; nothing is written.
 unfoldable pub monotone : CaseLimits → (question site : List ℕ) → Result ℕ
 monotone L question site = do

@@ -5,12 +5,12 @@ use mathlib.Core.Option.{Option, none, some}
 use mathlib.Core.List.{List, [], _∷_, _++_, map}
 use lib.ListN.{length, drop, getD}
 use lib.Dec.{eqb, leb, ltb}
-use Rattle.definitions.specs.Limits.{CaseLimits, stepLimit}
-use Rattle.definitions.specs.Lists.{any, filter, option, position, below, from, sum, flatMap}
+use Rattle.definitions.specs.Limits.{CaseLimits, stepLimit, everyLimit}
+use Rattle.definitions.specs.Lists.{any, filter, option, isSome, position, below, from, sum, flatMap}
 use Rattle.definitions.specs.Refusal.{Result, refused, accepted, _>>=_, refuseIf, given}
 use Rattle.definitions.specs.Sheet.Relations.{Tuple}
 use Rattle.definitions.specs.Sheet.Sheets.{Question, Label, readQuestion, readSite, readPicks, readSteps, firstChosen}
-use Rattle.definitions.specs.Problem.Truth.{Case, ruleIsTrue, firstOfOtherKind}
+use Rattle.definitions.specs.Problem.Truth.{Case, everyTuples, ruleIsTrue, firstOfOtherKind}
 use Rattle.definitions.specs.Problem.Atoms.{Problem, problemOf, relationAt, tuplesOf, placesOf, atoms, wordsFor, bitsFrom, stateWords}
 use Rattle.definitions.specs.Problem.Actions.{Action, actions, actionAt}
 use Rattle.definitions.specs.Problem.Strips.{run, picksOf}
@@ -51,17 +51,24 @@ readFiled L question site = do
 unfoldable pub readCase : CaseLimits → List ℕ → List ℕ → Result Case
 readCase L question site = readFiled L question site >>= λ r. accepted (r .case)
 
--- 11: too many atoms or actions
+-- 11: too many atoms or actions; 23 after it: an `every` relation with too many tuples, or with too large a bound
+unfoldable pub tooManyValues : CaseLimits → Problem → Bool
+tooManyValues L p = isSome (p .source .question .every) && (ltb everyLimit (everyTuples (p .source)) || ltb (L .steps) (bound p))
+
 unfoldable pub ground : CaseLimits → Case → Result Problem
 ground L c =
     let p = problemOf c in
-    refuseIf (ltb (L .atoms) (atoms p) || ltb (L .actions) (actions p)) 11 zero >>= λ _. accepted p
+    refuseIf (ltb (L .atoms) (atoms p) || ltb (L .actions) (actions p)) 11 zero >>= λ _. refuseIf (tooManyValues L p) 23 zero >>= λ _. accepted p
+
+-- what a call tests after 11 that takes no case with an `every` line: 23
+unfoldable pub withoutEvery : Case → Result (Unit {0})
+withoutEvery c = refuseIf (isSome (c .question .every)) 23 zero
 
 unfoldable pub readProblem : CaseLimits → List ℕ → List ℕ → Result Problem
 readProblem L question site = readCase L question site >>= ground L
 
 -- ---- What every call begins with, and the order of its refusals: the question, the site, the third input (picks or steps, where
--- there is one), what is tested of the case before 11, 11, what is tested of it after 11, the lent buffers.
+-- there is one), what is tested of the case before 11, 11 and 23, what is tested of it after that, the lent buffers.
 pub record Ready (A : Type 0) : Type 0 where
   pub case : Case
   pub labels : List Label
@@ -252,7 +259,7 @@ pub record Plan : Type 0 where
   pub picks : List Tuple
   pub steps : List ℕ
 
--- The refusals of building in their order: the texts, 11, 12 (lent picks, state, steps; the steps need the bound), 10, 16, 17.
+-- The refusals of building in their order: the texts, 11, 23, 12 (lent picks, state, steps; the steps need the bound), 10, 16, 17.
 unfoldable pub plan : CaseLimits → List ℕ → List ℕ → ThirdInput → ℕ → ℕ → Result Plan
 plan L question site picks stateRoom stepsRoom = do
   r ← asked L question site (λ c. textPicks (c .case) (c .labels) picks) nothing nothing (λ p. picksRoom p picks >>= λ _. roomFor (stateLength p) stateRoom >>= λ _. roomFor (bound p) stepsRoom)

@@ -11,7 +11,7 @@ use Rattle.definitions.specs.Refusal.{Result, refused, accepted, _>>=_, 
 use Rattle.definitions.specs.Sheet.Sheets.{Label}
 use Rattle.definitions.specs.Problem.Tree.{free}
 use Rattle.definitions.specs.Problem.Atoms.{Problem, relationAt, nodeAt, placesOf, stateWords}
-use Rattle.definitions.specs.Problem.Actions.{Action, set, beginProof, proveAnd, proveOr, proveExists, proveForall, proveGoal, actionAt}
+use Rattle.definitions.specs.Problem.Actions.{Action, set, beginProof, proveAnd, proveOr, proveExists, proveForall, proveGoal, roundEnd, markIn, markOut, actionAt}
 use Rattle.definitions.specs.Problem.Strips.{run}
 use Rattle.definitions.specs.Reply.Outcome.{ThirdInput, Ready, readyToRun, roomFor, stateLength, written}
 use Rattle.definitions.specs.Reply.Desk.{said}
@@ -36,6 +36,9 @@ kindWord (proveOr v row i) = bytes "or"
 kindWord (proveExists v row x) = bytes "exists"
 kindWord (proveForall v row z) = bytes "forall"
 kindWord proveGoal = bytes "prove-goal"
+kindWord roundEnd = bytes "round-end"
+kindWord (markIn r row) = bytes "mark-in"
+kindWord (markOut r row) = bytes "mark-out"
 
 unfoldable pub subjectWord : Problem → Action → List ℕ
 subjectWord p (set r row) = relationAt p r .name
@@ -45,6 +48,9 @@ subjectWord p (proveOr v row i) = decimal v
 subjectWord p (proveExists v row x) = decimal v
 subjectWord p (proveForall v row z) = decimal v
 subjectWord p proveGoal = []
+subjectWord p roundEnd = []
+subjectWord p (markIn r row) = relationAt p r .name
+subjectWord p (markOut r row) = relationAt p r .name
 
 unfoldable pub freeValues : Problem → ℕ → ℕ → List ℕ
 freeValues p v row = placesOf (p .size) (length (free (nodeAt p v))) row
@@ -57,6 +63,9 @@ shownElements p (proveOr v row i) = freeValues p v row
 shownElements p (proveExists v row x) = freeValues p v row ++ (x ∷ [])
 shownElements p (proveForall v row z) = freeValues p v row ++ (z ∷ [])
 shownElements p proveGoal = []
+shownElements p roundEnd = []
+shownElements p (markIn r row) = placesOf (p .size) (relationAt p r .arity) row
+shownElements p (markOut r row) = placesOf (p .size) (relationAt p r .arity) row
 
 unfoldable pub partWord : Action → List ℕ
 partWord (set r row) = []
@@ -66,6 +75,9 @@ partWord (proveOr v row i) = 47 ∷ decimal i
 partWord (proveExists v row x) = []
 partWord (proveForall v row z) = []
 partWord proveGoal = []
+partWord roundEnd = []
+partWord (markIn r row) = []
+partWord (markOut r row) = []
 
 -- ---- What is never cut: each element as it is printed, its label or its number, with the comma (byte 44) or the part right after it.
 -- Without elements the part stands alone.

@@ -1,13 +1,16 @@
 -- Document 02, job 3: one walk of the tree gives the nodes it visits, their atoms and their actions.
 use Prim.Native.Nat.{ℕ, zero, suc, _+_, _*_}
+use mathlib.Core.Bool.{Bool}
 use mathlib.Core.List.{List, [], _∷_, _++_, map}
 use lib.ListN.{length}
-use Rattle.definitions.specs.Lists.{sum}
-use Rattle.definitions.specs.Limits.{CaseLimits}
+use lib.Dec.{leb}
+use Rattle.definitions.specs.Lists.{if_then_else_, isSome, sum}
+use Rattle.definitions.specs.Limits.{CaseLimits, everyLimit}
 use Rattle.definitions.specs.Refusal.{Result, accepted, _>>=_}
+use Rattle.definitions.specs.Problem.Truth.{everyTuples, values}
 use Rattle.definitions.specs.Problem.Tree.{Tree, Trees, leaf, forallNode, existsNode, andNode, orNode, end, _then_, Part, howMany}
-use Rattle.definitions.specs.Problem.Atoms.{Problem, problemOf, rowsOf, countOf, relationsBlocks}
-use Rattle.definitions.specs.Problem.Actions.{setBlocks}
+use Rattle.definitions.specs.Problem.Atoms.{Problem, problemOf, rowsOf, countOf, relationsBlocks, lastsBlocks}
+use Rattle.definitions.specs.Problem.Actions.{markIn, markOut, setBlocks, markBlocks}
 use Rattle.definitions.specs.Problem.Built.{mostPicks}
 use Rattle.definitions.specs.Reply.Outcome.{readCase, Sizes}
 
@@ -45,24 +48,30 @@ unfoldable mutual
   walkAll n R v (t then ts) = thenWalk (walk n R v t) (walkAll n R (v + length (walk n R v t .visited)) ts)
 
 -- ---- the counts of a problem: beside what the walk gives, three atoms of the phases and those of the relations; the set actions,
--- begin-proof and prove-goal; for the bound the most picks, and two. No limit is asked.
+-- begin-proof and prove-goal or round-end, the marks; for the bound the most picks, one, and the rounds. No limit of 11 is asked. (Where an `every`
+-- relation has more tuples than 23 allows, there are too many rounds to be counted by a machine's number, and the bound is told as 0.)
 unfoldable pub walked : Problem → Walk
 walked p = walk (p .size) (p .range) zero (p .root)
 
 pub record Tally : Type 0 where
   pub nodeCount : ℕ
+  pub hasEvery : Bool
+  pub tuples : ℕ
   pub sizes : Sizes
 
 unfoldable pub tallyOf : Problem → Tally
 tallyOf p =
     let w = walked p in
+    let c = everyTuples (p .source) in
     record {
       nodeCount = length (w .visited);
+      hasEvery = isSome (p .source .question .every);
+      tuples = c;
       sizes = record {
         elements = p .size;
-        atomCount = 3 + (countOf (relationsBlocks (p .size) (p .relations)) + w .atomCount);
-        actionCount = countOf (setBlocks (p .size) (p .range) (p .relations)) + (1 + (w .actionCount + 1));
-        stepBound = sum (map (mostPicks (p .size)) (p .relations)) + w .atomCount + 2;
+        atomCount = 3 + (countOf (relationsBlocks (p .size) (p .relations)) + (w .atomCount + countOf (lastsBlocks (p .size) (p .relations))));
+        actionCount = countOf (setBlocks (p .size) (p .range) (p .relations)) + (1 + (w .actionCount + (1 + (countOf (markBlocks markIn (p .size) (p .relations)) + countOf (markBlocks markOut (p .size) (p .relations))))));
+        stepBound = if leb c everyLimit then sum (map (mostPicks (p .size)) (p .relations)) + 1 + values (p .source) * (w .atomCount + c + 1) else zero;
       };
     }
 

@@ -37,6 +37,6 @@ unfoldable pub untyped : Case → Case
 untyped c =
     let q = c .question in
     record {
-      question = record { rels = q .rels; types = []; chosen = q .chosen; rule = q .rule };
+      question = record { rels = q .rels; types = []; chosen = q .chosen; every = q .every; rule = q .rule };
       site = record { size = c .site .size; members = []; facts = c .site .facts };
     }

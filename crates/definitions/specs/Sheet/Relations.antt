@@ -1,5 +1,5 @@
 -- Document 01, "The sheets": relations, built in and declared, and the kinds of chosen ones; and document 02, job 5: types of a function
--- kind's places.
+-- kind's places, job 12: the relation of an `every` line.
 use Prim.Native.Nat.{ℕ, zero, suc}
 use mathlib.Core.Bool.{Bool, true, false, not, _&&_}
 use mathlib.Core.Option.{Option}
@@ -8,9 +8,9 @@ use lib.Dec.{eqb, ltb}
 use Rattle.definitions.specs.Lists.{same, position, any}
 use Rattle.definitions.specs.Sheet.Text.{bytes}
 
--- `static`: built in, or of a `rel` line; the others: of a `choose` line
+-- `static`: built in, or of a `rel` line; `universal`: of an `every` line; the others: of a `choose` line
 pub data Kind : Type 0 where
-  static plain Fun PFun Inj PInj : Kind
+  static plain Fun PFun Inj PInj universal : Kind
 
 -- of a `choose` line
 unfoldable pub isChosen : Kind → Bool
@@ -20,6 +20,17 @@ isChosen Fun = true
 isChosen PFun = true
 isChosen Inj = true
 isChosen PInj = true
+isChosen universal = false
+
+-- of an `every` line
+unfoldable pub isUniversal : Kind → Bool
+isUniversal static = false
+isUniversal plain = false
+isUniversal Fun = false
+isUniversal PFun = false
+isUniversal Inj = false
+isUniversal PInj = false
+isUniversal universal = true
 
 -- a function kind: no first place has two seconds
 unfoldable pub isFunction : Kind → Bool
@@ -29,6 +40,7 @@ isFunction Fun = true
 isFunction PFun = true
 isFunction Inj = true
 isFunction PInj = true
+isFunction universal = false
 
 -- an injective kind: no second place has two firsts either
 unfoldable pub isInjective : Kind → Bool
@@ -38,6 +50,7 @@ isInjective Fun = false
 isInjective PFun = false
 isInjective Inj = true
 isInjective PInj = true
+isInjective universal = false
 
 -- a total kind, for which a totality is added to the rule
 unfoldable pub isTotal : Kind → Bool
@@ -47,6 +60,7 @@ isTotal Fun = true
 isTotal PFun = false
 isTotal Inj = true
 isTotal PInj = false
+isTotal universal = false
 
 -- `firsts` and `seconds` are the sorts of its first and of its second place: 0, all elements, unless it is of a function kind that was
 -- given types
@@ -57,11 +71,14 @@ pub record Relation : Type 0 where
   pub firsts : ℕ
   pub seconds : ℕ
 
--- one that is built in or of a `rel` line
+-- one that is built in or of a `rel` line, and one of an `every` line
 abbrev pub fixed : List ℕ → ℕ → Relation
 fixed name arity = record { name = name; arity = arity; kind = static; firsts = zero; seconds = zero }
 
--- "Five are built in". A relation's number is its index when all are listed as their atoms are: these five, each `rel`, each `choose`.
+abbrev pub varying : List ℕ → ℕ → Relation
+varying name arity = record { name = name; arity = arity; kind = universal; firsts = zero; seconds = zero }
+
+-- "Five are built in". A relation's number is its index in the list of all: these five, each `rel`, each `choose`, and that of an `every` line.
 unfoldable pub builtIn : List Relation
 builtIn =
     fixed (bytes "EQ") 2

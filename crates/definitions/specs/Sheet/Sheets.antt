@@ -1,5 +1,5 @@
 -- Document 01, "The sheets" and the first ten rows of its "Refusal sheet": reading the question, the site, picks and steps; and
--- document 02, job 1: labels of elements, job 4: types and their members, job 5: types of a function kind. A reader takes the relations and the types that its lines
+-- document 02, job 1: labels of elements, job 4: types and their members, job 5: types of a function kind, job 12: an `every` line. A reader takes the relations and the types that its lines
 -- may name, and nothing else of the question.
 use Prim.Native.Nat.{ℕ, zero, _+_}
 use mathlib.Core.Bool.{Bool, true, false, not, _&&_, _||_}
@@ -7,11 +7,11 @@ use mathlib.Core.Option.{Option, none, some}
 use mathlib.Core.List.{List, [], _∷_, _++_, map}
 use lib.ListN.{length, getD}
 use lib.Dec.{eqb, leb, ltb}
-use Rattle.definitions.specs.Limits.{arityLimit, relLimit, typeLimit, chooseLimit, formLimit, nestingLimit, CaseLimits}
-use Rattle.definitions.specs.Lists.{if_then_else_, all, any, same, isEmpty, option, position, below}
+use Rattle.definitions.specs.Limits.{arityLimit, everyArityLimit, relLimit, typeLimit, chooseLimit, formLimit, nestingLimit, CaseLimits}
+use Rattle.definitions.specs.Lists.{if_then_else_, all, any, same, isEmpty, option, isSome, listed, position, below}
 use Rattle.definitions.specs.Sheet.Text.{bytes, Line, fields, number, isRelationName, isBetween}
 use Rattle.definitions.specs.Refusal.{Result, refused, accepted, _>>=_, refuseIf, given, readText}
-use Rattle.definitions.specs.Sheet.Relations.{Kind, plain, Fun, PFun, Inj, PInj, Relation, fixed, Tuple, isAmong, builtIn, isDeclared}
+use Rattle.definitions.specs.Sheet.Relations.{Kind, plain, Fun, PFun, Inj, PInj, Relation, fixed, varying, Tuple, isAmong, builtIn, isDeclared}
 use Rattle.definitions.specs.Sheet.Formula.{Formula, allForms, nesting, isKnown, isScoped, typeNumber, sortNamed, isType, isTyped}
 use Rattle.definitions.specs.Sheet.Parsing.{readFormula}
 
@@ -28,6 +28,7 @@ pub data Entry : Type 0 where
   rel : (name : List ℕ) → (arity : ℕ) → Entry
   type : (name : List ℕ) → Entry
   choose : (name : List ℕ) → (arity : ℕ) → Kind → (types : List (List ℕ)) → Entry
+  every : (name : List ℕ) → (arity : ℕ) → Entry
   rule : (formula : List ℕ) → Entry
   size : (n : ℕ) → Entry
   label : Element → (name : List ℕ) → Entry
@@ -35,9 +36,12 @@ pub data Entry : Type 0 where
   fact pick : (name : List ℕ) → (elements : List Element) → Entry
   step : (action : ℕ) → Entry
 
--- an arity
+-- an arity, and one that an `every` line may have
 unfoldable pub arityOf : List ℕ → Option ℕ
 arityOf f = option (number f) none (λ a. if isBetween 1 arityLimit a then some a else none)
+
+unfoldable pub everyArityOf : List ℕ → Option ℕ
+everyArityOf f = option (arityOf f) none (λ a. if leb a everyArityLimit then some a else none)
 
 -- the function kind that a word names
 unfoldable pub kindNamed : List ℕ → Option Kind
@@ -97,6 +101,7 @@ entry (w ∷ fs) =
     if same w (bytes "rel") then withTwo (λ name a. option (arityOf a) none (λ k. some (rel name k))) fs
     else if same w (bytes "type") then withOne (λ f. some (type f)) fs
     else if same w (bytes "choose") then chooseOf fs
+    else if same w (bytes "every") then withTwo (λ name a. option (everyArityOf a) none (λ k. some (every name k))) fs
     else if same w (bytes "rule") then withOne (λ f. some (rule f)) fs
     else if same w (bytes "size") then withOne (λ f. option (number f) none (λ n. some (size n))) fs
     else if same w (bytes "label") then withTwo labelOf fs
@@ -110,7 +115,7 @@ entry (w ∷ fs) =
 unfoldable pub entryOf : Line → Result Entry
 entryOf l = given (if l .ended then entry (fields l) else none) 2 (l .at)
 
--- ---- the question: `rel` lines, then `type` lines, then `choose` lines, then one `rule` line
+-- ---- the question: `rel` lines, then `type` lines, then `choose` lines, then at most one `every` line, then one `rule` line
 
 -- the formula, with the place and the bytes of its field
 pub record Rule : Type 0 where
@@ -123,17 +128,19 @@ pub record Draft : Type 0 where
   pub rels : List Relation
   pub types : List (List ℕ)
   pub chosen : List Relation
+  pub every : Option Relation
   pub ruled : Option Rule
 
 pub record Question : Type 0 where
   pub rels : List Relation
   pub types : List (List ℕ)
   pub chosen : List Relation
+  pub every : Option Relation
   pub rule : Rule
 
 -- all relations in the order of their numbers
-unfoldable pub relations : List Relation → List Relation → List Relation
-relations rels chosen = builtIn ++ (rels ++ chosen)
+unfoldable pub relations : List Relation → List Relation → Option Relation → List Relation
+relations rels chosen last = builtIn ++ (rels ++ (chosen ++ listed last))
 
 unfoldable pub isRuled : Option Rule → Bool
 isRuled none = false
@@ -141,14 +148,14 @@ isRuled (some r) = true
 
 -- 4: a declared name is of its form, not built in and not declared by an earlier line
 unfoldable pub isNewName : Draft → List ℕ → Bool
-isNewName d name = isRelationName name && not (isDeclared (relations (d .rels) (d .chosen)) name)
+isNewName d name = isRelationName name && not (isDeclared (relations (d .rels) (d .chosen) (d .every)) name)
 
 -- a `rel` line: 3 after a `type` or `choose` line, and where there are 8 already
 unfoldable pub addRel : Draft → ℕ → List ℕ → ℕ → Result Draft
 addRel d at name arity = do
   _ ← refuseIf (not (isEmpty (d .types)) || not (isEmpty (d .chosen)) || leb relLimit (length (d .rels))) 3 at
   _ ← refuseIf (not (isNewName d name)) 4 at
-  accepted (record { rels = d .rels ++ (fixed name arity ∷ []); types = d .types; chosen = d .chosen; ruled = d .ruled })
+  accepted (record { rels = d .rels ++ (fixed name arity ∷ []); types = d .types; chosen = d .chosen; every = d .every; ruled = d .ruled })
 
 -- a `type` line: 3 after a `choose` line, and where there are 8 already; 4 if its name has not a relation name's form, which is all that
 -- is asked of it; 19 if it is declared already
@@ -157,20 +164,27 @@ addType d at name = do
   _ ← refuseIf (not (isEmpty (d .chosen)) || leb typeLimit (length (d .types))) 3 at
   _ ← refuseIf (not (isRelationName name)) 4 at
   _ ← refuseIf (isType (d .types) name) 19 at
-  accepted (record { rels = d .rels; types = d .types ++ (name ∷ []); chosen = d .chosen; ruled = d .ruled })
+  accepted (record { rels = d .rels; types = d .types ++ (name ∷ []); chosen = d .chosen; every = d .every; ruled = d .ruled })
 
 -- the sort of place i, by the types that a `choose` line gives
 unfoldable pub placeSort : List (List ℕ) → List (List ℕ) → ℕ → ℕ
 placeSort types names i = getD (map (sortNamed types) names) i 0
 
--- a `choose` line: 3 after the rule, and where there are 4 already; 19 if a type that it gives is not declared
+-- a `choose` line: 3 after an `every` line or the rule, and where there are 4 already; 19 if a type that it gives is not declared
 unfoldable pub addChoose : Draft → ℕ → List ℕ → ℕ → Kind → List (List ℕ) → Result Draft
 addChoose d at name arity kind names = do
-  _ ← refuseIf (isRuled (d .ruled) || leb chooseLimit (length (d .chosen))) 3 at
+  _ ← refuseIf (isSome (d .every) || isRuled (d .ruled) || leb chooseLimit (length (d .chosen))) 3 at
   _ ← refuseIf (not (isNewName d name)) 4 at
   _ ← refuseIf (not (all (isType (d .types)) names)) 19 at
   let k : Relation = record { name = name; arity = arity; kind = kind; firsts = placeSort (d .types) names 0; seconds = placeSort (d .types) names 1 }
-  accepted (record { rels = d .rels; types = d .types; chosen = d .chosen ++ (k ∷ []); ruled = d .ruled })
+  accepted (record { rels = d .rels; types = d .types; chosen = d .chosen ++ (k ∷ []); every = d .every; ruled = d .ruled })
+
+-- an `every` line: 3 if it is the second, comes before any `choose` or after the rule; 4 if no `choose` could have its name
+unfoldable pub addEvery : Draft → ℕ → List ℕ → ℕ → Result Draft
+addEvery d at name arity = do
+  _ ← refuseIf (isSome (d .every) || isRuled (d .ruled) || isEmpty (d .chosen)) 3 at
+  _ ← refuseIf (not (isNewName d name)) 4 at
+  accepted (record { rels = d .rels; types = d .types; chosen = d .chosen; every = some (varying name arity); ruled = d .ruled })
 
 -- the `rule` line: 3 if it is the second, or comes before any `choose`; then 5 to 8 and 19, each of the whole formula. The formula
 -- begins 5 bytes into the line, after `rule` and the tab.
@@ -179,16 +193,17 @@ addRule d at text = do
   _ ← refuseIf (isRuled (d .ruled) || isEmpty (d .chosen)) 3 at
   f ← given (readFormula text) 5 at
   _ ← refuseIf (ltb formLimit (allForms (d .chosen) f) || ltb nestingLimit (nesting f)) 6 at
-  _ ← refuseIf (not (isKnown (relations (d .rels) (d .chosen)) f)) 7 at
+  _ ← refuseIf (not (isKnown (relations (d .rels) (d .chosen) (d .every)) f)) 7 at
   _ ← refuseIf (not (isScoped [] f)) 8 at
   _ ← refuseIf (not (isTyped (d .types) f)) 19 at
-  accepted (record { rels = d .rels; types = d .types; chosen = d .chosen; ruled = some (record { at = at + 5; text = text; formula = f }) })
+  accepted (record { rels = d .rels; types = d .types; chosen = d .chosen; every = d .every; ruled = some (record { at = at + 5; text = text; formula = f }) })
 
 -- a line of the question; what belongs to another sheet is 3
 unfoldable pub addToQuestion : Draft → ℕ → Entry → Result Draft
 addToQuestion d at (rel name arity) = addRel d at name arity
 addToQuestion d at (type name) = addType d at name
 addToQuestion d at (choose name arity kind types) = addChoose d at name arity kind types
+addToQuestion d at (every name arity) = addEvery d at name arity
 addToQuestion d at (rule text) = addRule d at text
 addToQuestion d at (size n) = refused 3 at
 addToQuestion d at (label x name) = refused 3 at
@@ -203,19 +218,22 @@ questionLine d l = entryOf l >>= addToQuestion d (l .at)
 -- the whole question; without a rule it is 3 at the text's length
 unfoldable pub readQuestion : List ℕ → Result Question
 readQuestion text = do
-  d ← readText questionLine (record { rels = []; types = []; chosen = []; ruled = none }) text
+  d ← readText questionLine (record { rels = []; types = []; chosen = []; every = none; ruled = none }) text
   r ← given (d .ruled) 3 (length text)
-  accepted (record { rels = d .rels; types = d .types; chosen = d .chosen; rule = r })
+  accepted (record { rels = d .rels; types = d .types; chosen = d .chosen; every = d .every; rule = r })
 
 unfoldable pub relationsOf : Question → List Relation
-relationsOf q = relations (q .rels) (q .chosen)
+relationsOf q = relations (q .rels) (q .chosen) (q .every)
 
--- the number of the first `rel`, and of the first `choose`
+-- the number of the first `rel`, of the first `choose`, and of the relation of an `every` line
 unfoldable pub firstRel : ℕ
 firstRel = length builtIn
 
 unfoldable pub firstChosen : Question → ℕ
 firstChosen q = firstRel + length (q .rels)
+
+unfoldable pub everyNumber : Question → ℕ
+everyNumber q = firstChosen q + length (q .chosen)
 
 -- ---- labels: what an element field means
 
@@ -336,6 +354,7 @@ unfoldable pub addToSite : CaseLimits → List Relation → List (List ℕ) → 
 addToSite L rels types d at (rel name arity) = refused 3 at
 addToSite L rels types d at (type name) = refused 3 at
 addToSite L rels types d at (choose name arity kind names) = refused 3 at
+addToSite L rels types d at (every name arity) = refused 3 at
 addToSite L rels types d at (rule text) = refused 3 at
 addToSite L rels types d at (size n) = addSize L d at n (d .sized)
 addToSite L rels types d at (label x name) = addLabel d at x name
@@ -361,6 +380,7 @@ unfoldable pub addToPicks : List Relation → ℕ → ℕ → List Label → Lis
 addToPicks chosen first n labels picks at (rel name arity) = refused 3 at
 addToPicks chosen first n labels picks at (type name) = refused 3 at
 addToPicks chosen first n labels picks at (choose name arity kind types) = refused 3 at
+addToPicks chosen first n labels picks at (every name arity) = refused 3 at
 addToPicks chosen first n labels picks at (rule text) = refused 3 at
 addToPicks chosen first n labels picks at (size m) = refused 3 at
 addToPicks chosen first n labels picks at (label x name) = refused 3 at
@@ -381,6 +401,7 @@ unfoldable pub addToSteps : List ℕ → ℕ → Entry → Result (List ℕ)
 addToSteps steps at (rel name arity) = refused 3 at
 addToSteps steps at (type name) = refused 3 at
 addToSteps steps at (choose name arity kind types) = refused 3 at
+addToSteps steps at (every name arity) = refused 3 at
 addToSteps steps at (rule text) = refused 3 at
 addToSteps steps at (size n) = refused 3 at
 addToSteps steps at (label x name) = refused 3 at

@@ -13,6 +13,7 @@ use Rattle.definitions.specs.Refusal.{Result, refused, accepted}
 use Rattle.definitions.specs.Reply.Outcome.{asText, Plan, plan}
 use Rattle.definitions.specs.Reply.Allowance.{allowances}
 use Rattle.definitions.specs.Table.Opened.{everything}
+use Rattle.definitions.specs.Table.EveryCases.{lostQ}
 use Rattle.definitions.specs.Table.Drawer.{answerMatches, refusalMatches, sheetQ, sheetS, satQ, satS, oneQ, oneS, injQ, injS}
 
 -- What the call leaves in a lent buffer when it succeeds; how it refuses, the buffer as it was; by how many the steps that are built
@@ -76,8 +77,12 @@ table =
     -- where the rule has the relation its root does too, and the root's atoms are true of both: one less than the allowance is all
     -- that a rule with a root of one atom can show, and it is reached
     ∷ moves eitherQ "size\t3\n" "" "pick\tT\t1\n" 0 5 6
+    -- a case with an `every` line is 23, before 12
+    ∷ refuses lostQ "size\t2\n" (7 ∷ []) 23 0
+    ∷ refuses lostQ "size\t2\n" [] 23 0
+    ∷ refuses lostQ "size\t9\n" [] 23 0
     ∷ []
 
 pub table-is-so : all isSo table ≡ true
-unfolding everything isSo builtBoth planFor answerMatches refusalMatches table unusedQ deepQ eitherQ sheetQ sheetS satQ satS oneQ oneS injQ injS
+unfolding everything lostQ isSo builtBoth planFor answerMatches refusalMatches table unusedQ deepQ eitherQ sheetQ sheetS satQ satS oneQ oneS injQ injS
 table-is-so = refl

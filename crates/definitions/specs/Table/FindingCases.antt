@@ -10,6 +10,7 @@ use Rattle.definitions.specs.Sheet.Text.{bytes}
 use Rattle.definitions.specs.Table.Opened.{everything}
 use Rattle.definitions.specs.Table.Drawer.{satQ, satS}
 use Rattle.definitions.specs.Table.Whole.{replies, overQ, twoS, sixtyFourS}
+use Rattle.definitions.specs.Table.EveryCases.{lostQ}
 use Rattle.definitions.specs.Reply.Finding.{find, Found}
 
 -- a question and a site, the picks' buffer as it is lent, the reply's number and place, and the buffer afterwards
@@ -83,6 +84,9 @@ rows =
     ∷ found someQ "size\t21\n" [] 12 1 []
     ∷ found neverQ twoS [] 12 1 []
     ∷ found eitherQ twoS (7 ∷ []) 12 2 (7 ∷ [])
+    -- an `every` line is 23, before 12
+    ∷ found lostQ twoS (7 ∷ []) 23 0 (7 ∷ [])
+    ∷ found lostQ twoS [] 23 0 []
     -- 11 before 12 and 20; the question first, then the site
     ∷ found overQ sixtyFourS [] 11 0 []
     ∷ found "x\n" "x\n" [] 2 0 []
@@ -90,5 +94,5 @@ rows =
     ∷ []
 
 pub rows-are-so : all isSo rows ≡ true
-unfolding everything found matches isSo rows replies someQ eitherQ movesQ apartQ risesQ neverQ noneQ typedQ typedS overQ twoS sixtyFourS satQ satS
+unfolding everything found matches isSo rows replies someQ eitherQ movesQ apartQ risesQ neverQ noneQ typedQ typedS overQ twoS sixtyFourS satQ satS lostQ
 rows-are-so = refl

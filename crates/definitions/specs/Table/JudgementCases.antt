@@ -10,6 +10,7 @@ use Rattle.definitions.specs.Sheet.Text.{bytes}
 use Rattle.definitions.specs.Reply.Outcome.{ThirdInput, asText, asNumbers}
 use Rattle.definitions.specs.Table.Opened.{everything}
 use Rattle.definitions.specs.Table.Drawer
+use Rattle.definitions.specs.Table.EveryCases.{lostQ}
 use Rattle.definitions.specs.Table.Whole.{replies, funQ, twoQ, overQ, twoS, sixtyFourS}
 use Rattle.definitions.specs.Reply.Judgement.{judge}
 
@@ -63,6 +64,11 @@ rows =
     ∷ judged bothQ twoS (asNumbers (0 ∷ 3 ∷ [])) 16 1
     ∷ judged bothQ twoS (asNumbers (0 ∷ 19 ∷ [])) 10 1
     ∷ judged bothQ twoS (asNumbers (4 ∷ [])) 12 2
+    -- with an `every` line the rule must be true for every value; 23 before 12
+    ∷ judged lostQ twoS (asText (bytes "pick\tT\t0\npick\tT\t1\n")) 0 0
+    ∷ judged lostQ twoS (asNumbers (3 ∷ [])) 0 0
+    ∷ judged lostQ twoS (asNumbers (1 ∷ [])) 17 0
+    ∷ judged lostQ "size\t9\n" (asNumbers []) 23 0
     -- 11 before 12, and it is no yes; a text that is refused before 11
     ∷ judged overQ sixtyFourS (asNumbers []) 11 0
     ∷ judged overQ sixtyFourS (asText []) 11 0
@@ -82,5 +88,5 @@ rows =
     ∷ []
 
 pub rows-are-so : all isSo rows ≡ true
-unfolding everything judge judged isSo rows labelsS spotQ spotS groupQ groupS Drawer.sheetQ replies bothQ funQ twoQ overQ twoS sixtyFourS Drawer.oneQ Drawer.oneS
+unfolding everything judge judged isSo rows labelsS spotQ spotS groupQ groupS Drawer.sheetQ replies bothQ lostQ funQ twoQ overQ twoS sixtyFourS Drawer.oneQ Drawer.oneS
 rows-are-so = refl

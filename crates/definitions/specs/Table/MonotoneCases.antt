@@ -9,6 +9,7 @@ use Rattle.definitions.specs.Lists.{all}
 use Rattle.definitions.specs.Sheet.Text.{bytes}
 use Rattle.definitions.specs.Table.Opened.{everything}
 use Rattle.definitions.specs.Table.Whole.{replies, funQ, overQ, twoS, sixtyFourS}
+use Rattle.definitions.specs.Table.EveryCases.{lostQ, unusedQ}
 use Rattle.definitions.specs.Reply.Monotone.{monotone}
 
 -- a question and a site, and the reply's number and place
@@ -42,6 +43,10 @@ rows =
     ∷ asked "choose\tF\tPInj\nrule\t(exists (?x) (LT ?x ?x))\n" twoS 24 0
     -- more cells than are searched
     ∷ asked "choose\tT\t2\nrule\t(forall (?x ?y) (T ?x ?y))\n" "size\t5\n" 0 0
+    -- nor any `every` line, whatever the rule says of it; too many tuples of its relation are 23 first
+    ∷ asked lostQ twoS 24 0
+    ∷ asked unusedQ twoS 24 0
+    ∷ asked unusedQ "size\t9\n" 23 0
     -- 11 before 24; the question first, then the site
     ∷ asked overQ sixtyFourS 11 0
     ∷ asked "x\n" "x\n" 2 0
@@ -49,5 +54,5 @@ rows =
     ∷ []
 
 pub rows-are-so : all isSo rows ≡ true
-unfolding everything asked isSo rows replies funQ overQ twoS sixtyFourS
+unfolding everything asked isSo rows replies funQ overQ twoS sixtyFourS lostQ unusedQ
 rows-are-so = refl

@@ -3,6 +3,7 @@ use Rattle.definitions.specs.Lists
 use Rattle.definitions.specs.Sheet.Text
 use Rattle.definitions.specs.Refusal
 use Rattle.definitions.specs.Sheet.Relations
+use Rattle.definitions.specs.Problem.Rows
 use Rattle.definitions.specs.Sheet.Formula
 use Rattle.definitions.specs.Sheet.Parsing
 use Rattle.definitions.specs.Sheet.Sheets
@@ -24,32 +25,32 @@ use Rattle.definitions.specs.Reply.Allowance
 use Rattle.definitions.specs.Reply.Page
 
 unfoldable pub everything : Unit {0}
-unfolding Lists.all Lists.any Lists.filter Lists.flatMap Lists.mapFrom Lists.option Lists.position Lists.from Lists.below Lists.last Lists.isIn Lists.rank Lists.upTo Lists.before Lists.greatest Lists.sum Lists.same Lists.isEmpty
+unfolding Lists.all Lists.any Lists.filter Lists.flatMap Lists.mapFrom Lists.option Lists.isSome Lists.listed Lists.position Lists.from Lists.below Lists.last Lists.isIn Lists.rank Lists.upTo Lists.before Lists.greatest Lists.sum Lists.same Lists.isEmpty
     Text.onFirst Text.split Text.linesFrom Text.lines Text.fields Text.isBetween Text.isDigit Text.decimalValue Text.noLeadingZero Text.number Text.decimalIn Text.decimal Text.isCapital Text.isRelationName Text.isSmall Text.isVariable
     Refusal._>>=_ Refusal.refuseIf Refusal.given Refusal.readLines Refusal.readText
-    Relations.isChosen Relations.isFunction Relations.isInjective Relations.isTotal Relations.builtIn Relations.builtInHolds Relations.numberOf Relations.isDeclared Relations.sameTuple Relations.isAmong Relations.areDistinct
+    Relations.isChosen Relations.isUniversal Relations.isFunction Relations.isInjective Relations.isTotal Relations.builtIn Relations.builtInHolds Relations.numberOf Relations.isDeclared Relations.sameTuple Relations.isAmong Relations.areDistinct
     Parsing.begins Parsing.want Parsing.span Parsing.readWord Parsing.readVar Parsing.readEach Parsing.readType Parsing.readTyped Parsing.readParts Parsing.kindOf Parsing.readJoin Parsing.readQuant Parsing.readLit Parsing.readNeg Parsing.readImp Parsing.read Parsing.readFormula
     Formula.variablesOf Formula.typeNumber Formula.sortNamed Formula.sortOf Formula.totals Formula.allForms Formula.isBound Formula.areNew Formula.forms Formula.nesting Formula.isKnown Formula.isScoped Formula.isType Formula.hasType Formula.isTyped
-    Sheets.arityOf Sheets.kindNamed Sheets.chooseOf Sheets.element Sheets.elements Sheets.labelOf Sheets.memberOf Sheets.withOne Sheets.withTwo
+    Sheets.arityOf Sheets.everyArityOf Sheets.kindNamed Sheets.chooseOf Sheets.element Sheets.elements Sheets.labelOf Sheets.memberOf Sheets.withOne Sheets.withTwo
     Sheets.withElements Sheets.entry Sheets.entryOf Sheets.relations Sheets.isRuled Sheets.isNewName Sheets.addRel Sheets.addType Sheets.placeSort
-    Sheets.addChoose Sheets.addRule Sheets.addToQuestion Sheets.questionLine Sheets.readQuestion Sheets.relationsOf Sheets.firstRel
-    Sheets.firstChosen Sheets.elementNamed Sheets.nameOf Sheets.elementOf Sheets.elementsOf Sheets.isInRange Sheets.used Sheets.addTuple
+    Sheets.addChoose Sheets.addEvery Sheets.addRule Sheets.addToQuestion Sheets.questionLine Sheets.readQuestion Sheets.relationsOf Sheets.firstRel
+    Sheets.firstChosen Sheets.everyNumber Sheets.elementNamed Sheets.nameOf Sheets.elementOf Sheets.elementsOf Sheets.isInRange Sheets.used Sheets.addTuple
     Sheets.isMember Sheets.hasMember Sheets.addSize Sheets.isTaken Sheets.addLabel Sheets.addMember Sheets.addFact Sheets.addToSite Sheets.siteLine
     Sheets.readSite Sheets.addToPicks Sheets.picksLine Sheets.readPicks Sheets.addToSteps Sheets.stepsLine Sheets.readSteps
-    Truth.holds Truth.valueOf Truth.membersOf Truth.rangeOf Truth.forEvery Truth.forSome Truth.eachChosen Truth.isTotalIn Truth.areTotal Truth.ruleIsTrue Truth.two Truth.first Truth.second Truth.isInside Truth.isOfKind Truth.areOfKinds Truth.firstOfOtherKind Truth.isPick Truth.arePicks Truth.isTrue
+    Truth.holds Truth.valueOf Truth.membersOf Truth.rangeOf Truth.forEvery Truth.forSome Truth.eachChosen Truth.isTotalIn Truth.areTotal Truth.everyTuples Truth.values Truth.isOdd Truth.digit Truth.everyValue Truth.ruleHolds Truth.ruleIsTrue Truth.two Truth.first Truth.second Truth.isInside Truth.isOfKind Truth.areOfKinds Truth.firstOfOtherKind Truth.isPick Truth.arePicks Truth.isTrue
     Tree.nest Tree.leafOf Tree.totalities Tree.joined Tree.treeOf Tree.partsFrom Tree.parts Tree.howMany Tree.isForall Tree.nodeSort Tree.free Tree.asIs Tree.nodes Tree.occurs
-    Atoms.rowOf Atoms.placesOf Atoms.itemAt Atoms.countOf Atoms.problemWith Atoms.problemOf Atoms.relationAt Atoms.nodeAt Atoms.tuplesOf Atoms.rowsOf
-    Atoms.nodeWidth Atoms.relationBlocks Atoms.relationsBlocks Atoms.nodesBlocks Atoms.atomBlocks Atoms.atoms Atoms.nodeAtoms Atoms.relationStart
-    Atoms.nodeStart Atoms.atomNumber Atoms.tupleHolds Atoms.isInitial Atoms.initial Atoms.wordsFor Atoms.bitsFrom Atoms.stateWords
+    Rows.rowOf Rows.placesOf Atoms.itemAt Atoms.countOf Atoms.problemWith Atoms.problemOf Atoms.relationAt Atoms.nodeAt Atoms.tuplesOf Atoms.rowsOf
+    Atoms.nodeWidth Atoms.firstTuples Atoms.lastTuples Atoms.relationBlocks Atoms.relationsBlocks Atoms.nodesBlocks Atoms.lastBlocks Atoms.lastsBlocks Atoms.atomBlocks Atoms.atoms Atoms.nodeAtoms Atoms.relationStart
+    Atoms.nodeStart Atoms.lastStart Atoms.tupleStart Atoms.atomNumber Atoms.tupleHolds Atoms.isInitial Atoms.initial Atoms.wordsFor Atoms.bitsFrom Atoms.stateWords
     Actions.actionKind Actions.actionSubject Actions.actionRow Actions.actionChoice Actions.choices Actions.proveNode Actions.isSettable
-    Actions.setRows Actions.setsOf Actions.setBlocks Actions.proofsOf Actions.proofBlocks Actions.actionBlocks Actions.actions Actions.actionAt
-    Actions.setStart Actions.proofStart Actions.proofNumber Actions.rangeAt Actions.actionNumber Actions.valuesIn Actions.withValue Actions.valuesAt
-    Actions.partAtom Actions.partAtoms Actions.underAtom Actions.freeAtoms Actions.forallNeeds Actions.needs Actions.adds Actions.removes
+    Actions.setRows Actions.setsOf Actions.setBlocks Actions.proofsOf Actions.proofBlocks Actions.finish Actions.markBlocks Actions.actionBlocks Actions.actions Actions.actionAt
+    Actions.setStart Actions.proofStart Actions.proofNumber Actions.marksBefore Actions.rangeAt Actions.actionNumber Actions.valuesIn Actions.withValue Actions.valuesAt
+    Actions.partAtom Actions.partAtoms Actions.underAtom Actions.freeAtoms Actions.forallNeeds Actions.rootAtom Actions.markOrGoal Actions.nodesAtoms Actions.needs Actions.adds Actions.removes
     Strips.mayTake Strips.after Strips.reachesFrom Strips.reachesGoal Strips.runFrom Strips.run Strips.pickOf Strips.picksOf
     Built.isTrueAt Built.least Built.stepFor Built.trueRows Built.nodeSteps Built.chosenNumbers Built.isPicked Built.pickedRows Built.setSteps
-    Built.builtActions Built.builtSteps Built.builtCount Built.mostPicks Built.bound Built.pickExponent Built.nodeExponent Built.boundExponents
+    Built.marksFrom Built.marksAfter Built.roundSteps Built.builtActions Built.builtSteps Built.trueAtoms Built.builtCount Built.mostPicks Built.bound Built.pickExponent Built.nodeExponent Built.boundExponents
     Built.polynomial Built.boundPolynomial Built.treeHolds
-    Outcome.replyNumber Outcome.replyPlace Outcome.refusalPlace Outcome.told Outcome.readFiled Outcome.readCase Outcome.ground Outcome.readProblem
+    Outcome.replyNumber Outcome.replyPlace Outcome.refusalPlace Outcome.told Outcome.readFiled Outcome.readCase Outcome.tooManyValues Outcome.withoutEvery Outcome.ground Outcome.readProblem
     Outcome.asked Outcome.nothing Outcome.roomFor Outcome.stateLength Outcome.written Outcome.spanOf Outcome.rulePart Outcome.sizesOf Outcome.sizes
     Outcome.action Outcome.relationWords Outcome.picksLength Outcome.pickWords Outcome.bitOf Outcome.relationPicks Outcome.lentPicks
     Outcome.hasSpare Outcome.spareWord Outcome.takeSteps Outcome.textPicks Outcome.picksRoom Outcome.spareRefusal Outcome.takePicks

@@ -16,6 +16,7 @@ use Rattle.definitions.specs.Table.Opened.{everything}
 use Rattle.definitions.specs.Table.Drawer.{sheetQ, oneQ, oneS}
 use Rattle.definitions.specs.Table.LabelCases.{bothS}
 use Rattle.definitions.specs.Table.Whole.{overQ, sixtyFourS}
+use Rattle.definitions.specs.Table.EveryCases.{lostQ, two}
 
 -- What a row says: for a case, its steps, a page's number, a state and a buffer of `room` bytes 7, the state afterwards, and either the page's lines
 -- up to the last that is not blank, and its last line; or the refusal's number and place.
@@ -53,6 +54,13 @@ nineS = "size\t1\nlabel\t0\tABCDEFGHI\n"
 
 unfoldable pub twelveS : String
 twelveS = "size\t1\nlabel\t0\tABCDEFGHIJKL\n"
+
+-- an `every` line with a name of twelve bytes and arity 2; the steps of the four rounds of `lostQ` on two elements
+unfoldable pub cardsQ : String
+cardsQ = "choose\tT\t2\nevery\tLOST_CARDS_2\t2\nrule\t(forall (?x ?y) (or (not (LOST_CARDS_2 ?x ?y)) (T ?x ?y)))\n"
+
+unfoldable pub lostSteps : List ℕ
+lostSteps = 0 ∷ 1 ∷ 2 ∷ 5 ∷ 7 ∷ 3 ∷ 4 ∷ 9 ∷ 10 ∷ 5 ∷ 7 ∷ 3 ∷ 4 ∷ 9 ∷ 12 ∷ 11 ∷ 5 ∷ 7 ∷ 3 ∷ 4 ∷ 9 ∷ 10 ∷ 5 ∷ 7 ∷ 3 ∷ 4 ∷ 9 ∷ 12 ∷ 13 ∷ []
 
 unfoldable pub pagesLaid : List Row
 pagesLaid =
@@ -121,6 +129,55 @@ pagesLaid =
     ∷ "     35       8 prove-goal                                              "
     ∷ [])
     "                                                                       2"
+    -- an `every` line: a round's end has nothing but its kind, and a mark the relation's name and its tuple
+    ∷ lays lostQ two (asNumbers lostSteps) 1 (7 ∷ []) 4380 (105670398874444 ∷ [])
+    ("      0       0 set          T            0                             "
+    ∷ "      1       1 set          T            1                             "
+    ∷ "      2       2 begin-proof                                             "
+    ∷ "      3       5 or           1            0/0                           "
+    ∷ "      4       7 or           1            1/0                           "
+    ∷ "      5       3 forall       0            0                             "
+    ∷ "      6       4 forall       0            1                             "
+    ∷ "      7       9 round-end                                               "
+    ∷ "      8      10 mark-in      L            0                             "
+    ∷ "      9       5 or           1            0/0                           "
+    ∷ "     10       7 or           1            1/0                           "
+    ∷ "     11       3 forall       0            0                             "
+    ∷ "     12       4 forall       0            1                             "
+    ∷ "     13       9 round-end                                               "
+    ∷ "     14      12 mark-out     L            0                             "
+    ∷ "     15      11 mark-in      L            1                             "
+    ∷ "     16       5 or           1            0/0                           "
+    ∷ "     17       7 or           1            1/0                           "
+    ∷ "     18       3 forall       0            0                             "
+    ∷ "     19       4 forall       0            1                             "
+    ∷ "     20       9 round-end                                               "
+    ∷ "     21      10 mark-in      L            0                             "
+    ∷ "     22       5 or           1            0/0                           "
+    ∷ "     23       7 or           1            1/0                           "
+    ∷ "     24       3 forall       0            0                             "
+    ∷ "     25       4 forall       0            1                             "
+    ∷ "     26       9 round-end                                               "
+    ∷ "     27      12 mark-out     L            0                             "
+    ∷ "     28      13 mark-out     L            1                             "
+    ∷ [])
+    "                                                                       1"
+    -- a name that fills its columns, before a pair
+    ∷ lays cardsQ twelveS (asNumbers (0 ∷ 1 ∷ 4 ∷ 3 ∷ 2 ∷ 6 ∷ 7 ∷ 5 ∷ 3 ∷ 2 ∷ 6 ∷ 8 ∷ [])) 1 (7 ∷ []) 4380 (535372 ∷ [])
+    ("      0       0 set          T            ABCDEFGHIJKL,ABCDEFGHIJKL     "
+    ∷ "      1       1 begin-proof                                             "
+    ∷ "      2       4 or           2            ABCDEFGHIJKL,ABCDEFGHIJKL/0   "
+    ∷ "      3       3 forall       1            ABCDEFGHIJKL,ABCDEFGHIJKL     "
+    ∷ "      4       2 forall       0            ABCDEFGHIJKL                  "
+    ∷ "      5       6 round-end                                               "
+    ∷ "      6       7 mark-in      LOST_CARDS_2 ABCDEFGHIJKL,ABCDEFGHIJKL     "
+    ∷ "      7       5 or           2            ABCDEFGHIJKL,ABCDEFGHIJKL/1   "
+    ∷ "      8       3 forall       1            ABCDEFGHIJKL,ABCDEFGHIJKL     "
+    ∷ "      9       2 forall       0            ABCDEFGHIJKL                  "
+    ∷ "     10       6 round-end                                               "
+    ∷ "     11       8 mark-out     LOST_CARDS_2 ABCDEFGHIJKL,ABCDEFGHIJKL     "
+    ∷ [])
+    "                                                                       1"
     ∷ []
 
 unfoldable pub pagesRefused : List Row
@@ -142,12 +199,21 @@ pagesRefused =
     ∷ refuses overQ sixtyFourS (asNumbers []) 0 [] 0 11 0 []
     ∷ refuses oneQ oneS (asText (bytes "step\t4\nstep\n")) 0 [] 0 2 7 []
     ∷ refuses oneQ "size\t65\n" (asNumbers []) 0 [] 0 9 0 []
+    -- the same with an `every` line: a page that is not there, a run that ends before the last round does, a step that may not be taken or is none
+    ∷ refuses lostQ two (asNumbers lostSteps) 2 (7 ∷ []) 4380 13 2 (105670398874444 ∷ [])
+    ∷ refuses lostQ two (asNumbers (0 ∷ 1 ∷ 2 ∷ 5 ∷ 7 ∷ 3 ∷ 4 ∷ 9 ∷ [])) 1 (7 ∷ []) 4380 15 8 (246407887229768 ∷ [])
+    ∷ refuses lostQ two (asNumbers (0 ∷ 1 ∷ 2 ∷ 5 ∷ 7 ∷ 3 ∷ 4 ∷ 9 ∷ 10 ∷ 9 ∷ [])) 0 (7 ∷ []) 4380 14 9 (79282119807818 ∷ [])
+    ∷ refuses lostQ two (asNumbers (lostSteps ++ (9 ∷ []))) 1 (7 ∷ []) 4380 14 29 (105670398874444 ∷ [])
+    ∷ refuses lostQ two (asNumbers (lostSteps ++ (14 ∷ []))) 1 (7 ∷ []) 4380 13 29 (105670398874444 ∷ [])
+    -- 23 before 12, and 11 before 23
+    ∷ refuses lostQ "size\t9\n" (asNumbers (0 ∷ [])) 0 [] 0 23 0 []
+    ∷ refuses "choose\tT\t3\nevery\tL\t2\nrule\t(forall (?a ?b ?c ?d) (T ?a ?b ?c))\n" "size\t64\n" (asNumbers []) 0 [] 0 11 0 []
     ∷ []
 
 pub laid-are-so : all isSo pagesLaid ≡ true
-unfolding everything line sheet leaves isSo pagesLaid sheetQ oneQ oneS bothS fourQ threeQ eitherQ nineS twelveS
+unfolding everything line sheet leaves isSo pagesLaid sheetQ oneQ oneS bothS fourQ threeQ eitherQ nineS twelveS lostQ two lostSteps cardsQ
 laid-are-so = refl
 
 pub refused-are-so : all isSo pagesRefused ≡ true
-unfolding everything leaves isSo pagesRefused oneQ oneS overQ sixtyFourS fourQ twelveS
+unfolding everything leaves isSo pagesRefused oneQ oneS overQ sixtyFourS fourQ twelveS lostQ two lostSteps
 refused-are-so = refl

@@ -15,6 +15,7 @@ use Rattle.definitions.specs.Problem.Atoms.{problemOf}
 use Rattle.definitions.specs.Reply.Outcome.{readCase}
 use Rattle.definitions.specs.Reply.Tally.{Tally, walked, tally}
 use Rattle.definitions.specs.Table.Opened.{everything}
+use Rattle.definitions.specs.Table.EveryCases.{lostQ}
 use Rattle.definitions.specs.Table.Drawer.{refusalMatches, sheetQ, sheetS, satQ, satS, oneQ, oneS, injQ, injS}
 
 -- what a walk counts, over the limits or not; that there is no case to count; the numbers of the nodes it visits
@@ -56,10 +57,13 @@ table =
     ∷ visits "choose\tT\t1\nrule\t(and (forall (?x) (or (T ?x))) (exists (?x) (T ?x)))\n" "size\t2\n" (0 ∷ 1 ∷ 2 ∷ 3 ∷ [])
     ∷ counts "type\tA\ntype\tB\nchoose\tR\t2\nrule\t(forall (?x:A ?y:B) (R ?x ?y))\n" "size\t3\nmember\tB\t2\nmember\tA\t1\nmember\tB\t0\n" 2 99 18 23
     ∷ counts "type\tDOOR\ntype\tGROUP\nchoose\tG\tFun\tDOOR\tGROUP\nrule\t(forall (?x) (EQ ?x ?x))\n" "size\t5\nmember\tDOOR\t3\nmember\tDOOR\t0\nmember\tGROUP\t4\nmember\tGROUP\t1\nmember\tGROUP\t3\n" 4 244 31 23
+    -- with an `every` line; and where 23 would refuse it the bound is told as 0
+    ∷ counts lostQ "size\t2\n" 2 49 14 31
+    ∷ counts lostQ "size\t9\n" 2 588 56 0
     ∷ refuses "choose\tT\t1\n" "" 3 11
     ∷ refuses oneQ "size\t65\n" 9 0
     ∷ []
 
 pub table-is-so : all isSo table ≡ true
-unfolding everything isSo countsMatch visitsMatch refusalMatches table wideQ sheetQ sheetS satQ satS oneQ oneS injQ injS
+unfolding everything isSo countsMatch visitsMatch refusalMatches table wideQ lostQ sheetQ sheetS satQ satS oneQ oneS injQ injS
 table-is-so = refl

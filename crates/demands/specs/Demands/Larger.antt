@@ -20,7 +20,7 @@ use Rattle.definitions.specs.Reply.Outcome.{sizes, action, readCase, readProble
 use Rattle.definitions.specs.Reply.Outcome.{pickWords, ThirdInput, asNumbers}
 use Rattle.definitions.specs.Reply.Outcome.{takeSteps, textPicks, readyToRun, checkedFrom, checkSteps}
 use Rattle.definitions.specs.Reply.Outcome.{picksReadFrom, picksFromSteps, plan, builtFrom, buildSteps, Ready, sizesOf}
-use Rattle.definitions.specs.Reply.Outcome.{satisfying}
+use Rattle.definitions.specs.Reply.Outcome.{satisfying, withoutEvery}
 use Rattle.definitions.specs.Reply.Tally.{tallyOf, tally}
 use Rattle.definitions.specs.Reply.Page.{pagedFrom, layPage}
 use Rattle.definitions.specs.Reply.Allowance.{allowedFrom, allowances}
@@ -68,7 +68,7 @@ module _ (L M : CaseLimits) (larger : Wider.Wider L M) (question site : List ℕ
 
   pub kept-allowances : (old : List ℕ) → allowances L question site old ≡ allowances M question site old
   unfolding allowances
-  kept-allowances old = ap (λ (r : Result (Ready (Unit {0}))). allowedFrom r old) (Wider.asked-wider L M larger question site p is-problem nothing nothing nothing _)
+  kept-allowances old = ap (λ (r : Result (Ready (Unit {0}))). allowedFrom r old) (Wider.asked-wider L M larger question site p is-problem nothing nothing withoutEvery _)
 
   pub kept-page : (steps : ThirdInput) (m : ℕ) (state page : List ℕ) → layPage L question site steps m state page ≡ layPage M question site steps m state page
   unfolding layPage readyToRun
@@ -76,7 +76,7 @@ module _ (L M : CaseLimits) (larger : Wider.Wider L M) (question site : List ℕ
 
   pub kept-found : (old : List ℕ) → find L question site old ≡ find M question site old
   unfolding find foundWords
-  kept-found old = ap (λ (r : Result (Ready (Unit {0}))). foundFrom (r >>= λ x. leastPicks (x .case) (cells (x .problem)) >>= λ F. accepted (pickWords (x .problem) F)) old) (Wider.asked-wider L M larger question site p is-problem nothing nothing nothing _)
+  kept-found old = ap (λ (r : Result (Ready (Unit {0}))). foundFrom (r >>= λ x. leastPicks (x .case) (cells (x .problem)) >>= λ F. accepted (pickWords (x .problem) F)) old) (Wider.asked-wider L M larger question site p is-problem nothing nothing withoutEvery _)
 
   pub kept-monotone : monotone L question site ≡ monotone M question site
   unfolding monotone
@@ -91,11 +91,11 @@ kept-tally L M larger question site c e = ap (λ (r : Result Case). r >>= λ x. 
 
 -- Document 02, job 10: so every case of document 01 is the same problem by the limits that are usual now, and is answered as before.
 pub grown : Wider.Wider early usual
-grown = record { elements = omega arith; atoms = omega arith; actions = omega arith }
+grown = record { elements = omega arith; atoms = omega arith; actions = omega arith; steps = omega arith }
 
 -- These are the limits: of document 02, of document 01, and the desk program's own.
-pub limits-are : (usual ≡ record { elements = 64; atoms = 1048576; actions = 4194304 }) × (textLimit ≡ 1048576) × (stepLimit ≡ 1048576)
-    × (early ≡ record { elements = 16; atoms = 65536; actions = 131072 }) × (deskBytes ≡ 16384) × (deskSteps ≡ 8192)
+pub limits-are : (usual ≡ record { elements = 64; atoms = 1048576; actions = 4194304; steps = 1048576 }) × (textLimit ≡ 1048576) × (stepLimit ≡ 1048576)
+    × (early ≡ record { elements = 16; atoms = 65536; actions = 131072; steps = 65536 }) × (deskBytes ≡ 16384) × (deskSteps ≡ 8192)
 limits-are = (refl, refl, refl, refl, refl, refl)
 
 -- The limits of a text's bytes and of a list's steps stand in no record. Each is asked in one place; by a smaller one, what is within it is

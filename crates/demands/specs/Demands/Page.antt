@@ -1,23 +1,28 @@
 -- Document 02, job 9, section 19 of the demands: steps on paper.
 use Prim.Native.Nat.{ℕ, suc, _-_, _*_, _^_, _<_, _≤_}
 use mathlib.Core.Path.{_≡_}
+use mathlib.Core.Logic.{_⊎_}
 use mathlib.Core.Bool.{true, false}
 use mathlib.Core.Option.{some}
-use mathlib.Core.List.{List, _∷_, _++_, map, List·Memᴰ}
+use mathlib.Core.List.{List, [], _∷_, _++_, map, List·Memᴰ}
 use lib.ListN.{length, take, drop, replicate}
 use Rattle.definitions.specs.Limits.{CaseLimits, usual}
 use Rattle.definitions.specs.Lists.{flatMap, below, isIn}
-use Rattle.definitions.specs.Sheet.Text.{isBetween, number}
+use Rattle.definitions.specs.Sheet.Text.{isBetween, number, decimal}
 use Rattle.definitions.specs.Reply.Desk.{said, answer}
 use Rattle.definitions.specs.Refusal.{Result, refused, accepted, readyNumbers, runNumbers}
+use Rattle.definitions.specs.Sheet.Relations.{Relation}
 use Rattle.definitions.specs.Sheet.Sheets.{Label}
-use Rattle.definitions.specs.Problem.Atoms.{Problem, stateWords}
-use Rattle.definitions.specs.Problem.Actions.{Action}
+use Rattle.definitions.specs.Problem.Truth.{Case}
+use Rattle.definitions.specs.Problem.Atoms.{Problem, problemOf, placesOf, stateWords}
+use Rattle.definitions.specs.Problem.Actions.{Action, beginProof, proveGoal, roundEnd, markIn, markOut, actionAt}
 use Rattle.definitions.specs.Problem.Strips.{run}
 use Rattle.definitions.specs.Reply.Outcome.{written, ThirdInput}
-use Rattle.definitions.specs.Reply.Outcome.{readyToRun, checkSteps}
+use Rattle.definitions.specs.Reply.Outcome.{readCase, readyToRun, checkSteps}
 use Rattle.definitions.specs.Reply.Outcome.{Ready}
-use Rattle.definitions.specs.Reply.Page.{shownElements, partWord, units, stepLines, linesOf, blankLine, pages, pageLines, pageText, pageRooms, layPage}
+use Rattle.definitions.specs.Reply.Page.{spaces, left, right, kindWord, subjectWord, shownElements, partWord, units, stepLines, linesOf, blankLine, pages, pageLines, pageText, pageRooms, layPage}
+use Rattle.laws.specs.Reader
+use Reader.{Accepted, case-fits, gives-if}
 use Rattle.laws.specs.Pages
 use Pages.{joined, commas}
 use Rattle.meaning.specs.Shown
@@ -33,6 +38,17 @@ paper-uncut = Paper.uncut
 -- What the units hold are the action's elements as they are printed, parted by commas, and its part.
 pub paper-units : (labels : List Label) (p : Problem) (a : Action) → joined (units labels (partWord a) (shownElements p a)) ≡ commas (map (said labels) (shownElements p a)) ++ partWord a
 paper-units labels p a = Pages.units-joined labels (partWord a) (shownElements p a)
+
+-- Begin-proof, prove-goal and a round's end are one line, blank from column 29 on.
+pub paper-bare : (labels : List Label) (p : Problem) (i k : ℕ) (a : Action) → (a ≡ beginProof) ⊎ ((a ≡ proveGoal) ⊎ (a ≡ roundEnd))
+    → stepLines labels p i k a ≡ ((right 7 (decimal i) ++ (32 ∷ (right 7 (decimal k) ++ (32 ∷ left 12 (kindWord a))))) ++ spaces 44) ∷ []
+paper-bare = Paper.bare
+
+-- In a case that is read, a mark shows the name of its `every` line and the places of the tuple.
+pub paper-marks : (L : CaseLimits) → L .elements ≤ 64 → (question site : List ℕ) (c : Case) → readCase L question site ≡ accepted c → (e : Relation) → c .question .every ≡ some e
+    → (k r row : ℕ) (a : Action) → (a ≡ markIn r row) ⊎ (a ≡ markOut r row) → actionAt (problemOf c) k ≡ some a
+    → (subjectWord (problemOf c) a ≡ e .name) × (shownElements (problemOf c) a ≡ placesOf (c .site .size) (e .arity) row)
+paper-marks L few question site c is-case = Paper.mark-shows c (gives-if Accepted (readCase L question site) c is-case (case-fits L few question site))
 
 -- A page has the 59 lines of its place, and blank ones where there are fewer; all pages together have all lines of all steps, in order.
 pub paper-page : (lines : List (List ℕ)) (m : ℕ) → pageLines lines m ≡ take 59 (drop (59 * m) lines) ++ replicate (59 - length (drop (59 * m) lines)) blankLine

@@ -20,9 +20,9 @@ use Rattle.definitions.specs.Reply.Outcome.{checkSteps}
 use Rattle.definitions.specs.Reply.Tries.{Try, tried, tryLists}
 use Rattle.demands.specs.Trying
 
--- For every limits of at most 64 elements and no more atoms than steps may be handed over, and every question and site that are
--- accepted under them: c is the case read from the two texts, with its labels, and p its numbered problem.
-module _ (L : CaseLimits) (few : L .elements ≤ 64) (lendable : L .atoms ≤ stepLimit) (question site : List ℕ) (c : Case) (labels : List Label) (p : Problem)
+-- For every limits of at most 64 elements, with no more atoms and no larger a bound than steps may be handed over, and every question and site
+-- that are accepted under them: c is the case read from the two texts, with its labels, and p its numbered problem.
+module _ (L : CaseLimits) (few : L .elements ≤ 64) (lendable : L .atoms ≤ stepLimit) (handed : L .steps ≤ stepLimit) (question site : List ℕ) (c : Case) (labels : List Label) (p : Problem)
     (is-filed : readFiled L question site ≡ accepted (record { case = c; labels = labels })) (is-problem : readProblem L question site ≡ accepted p) where
   -- ---- 11, many step lists of one case, in one call: it answers 0 and place 0, every record gets its list's reply, and the initial
   -- state is left;

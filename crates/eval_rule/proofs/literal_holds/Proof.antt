@@ -1,6 +1,6 @@
 use mathlib.Core.Path.{_∙_}
 use native.Mathlib.Omega.{arith}
-use Rattle.eval_rule.specs.Laws.{is-pair, is-one, is-fact, is-pick, quotient-small, rest-small}
+use Rattle.eval_rule.specs.Laws.{is-pair, is-one, is-fact, is-pick, is-value, quotient-small, rest-small}
 use borrow.Author.Needs.{needs}
 use Rattle.eval_rule.proofs.literal_holds.Tie as tie
 
@@ -14,4 +14,5 @@ literal-holds-spec = tie.close (tie.spec (λ c. search needs) (λ c. search need
     (λ c. c .built-in-holds .ensures ∙ is-pair _ _ _ _ _ (omega arith)) (λ c κs. search needs)
     (λ c. c .built-in-holds2 .ensures ∙ is-one _ _ _ _ _ (omega arith) (omega arith)) (λ c κs. search needs)
     (λ c. c .test .ensures ∙ is-fact _ _ _ _ _ (c .before .if3 .taken)) (λ c κs. search needs)
-    (λ c. c .test2 .ensures ∙ is-pick _ _ _ _ _ (omega arith) (c .before .if3 .left)))
+    (λ c. c .test2 .ensures ∙ is-pick _ _ _ _ _ (c .before .if4 .taken)) (λ c. omega arith) (λ c κs. search needs)
+    (λ c. c .value-has .ensures ∙ is-value _ _ _ _ _ (omega arith)))

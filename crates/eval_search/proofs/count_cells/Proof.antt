@@ -9,7 +9,7 @@ use Rattle.eval_search.proofs.count_cells.Statement.{statement}
 use Rattle.eval_search.proofs.count_cells.Tie as tie
 
 abbrev Inv-loop : tie.InvT-loop
-Inv-loop table sum₀ r₀ sum r = (r ≤ relationsIn table) × (sum ≤ r * 2 ^ 32) × (sum ≡ cellsTo table r) × (relationsIn table ≤ 17) × (length table ≡ tableLength)
+Inv-loop table sum₀ r₀ sum r = (r ≤ relationsIn table) × (sum ≤ r * 2 ^ 32) × (sum ≡ cellsTo table r) × (relationsIn table ≤ 18) × (length table ≡ tableLength)
 
 abbrev μ-loop : tie.MeasureT-loop
 μ-loop table sum₀ r₀ sum r = relationsIn table - r

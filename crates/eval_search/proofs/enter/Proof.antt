@@ -14,7 +14,7 @@ returns c = let p = c .before .before .before .before .before .pre in record {
   lane = refl;
   level = refl;
   found = refl;
-  searched = λ d q b k. record { before = b; known = kept-set d (q .sought .accepted-case) (cellsOf d) (c .before .before .before .before .before .args .at .top) (c .before .before .before .before .before .args .at .level) (c .may-hold .result) (c .before .before .before .before .before .args .at .kept) (p .2) (long (c .before .before .before .before .before)) (c .may-hold .ensures d q) k };
+  searched = λ d q b k. record { before = b; known = kept-set d (q .sought .accepted-case) (q .sought .no-every) (cellsOf d) (c .before .before .before .before .before .args .at .top) (c .before .before .before .before .before .args .at .level) (c .may-hold .result) (c .before .before .before .before .before .args .at .kept) (p .2) (long (c .before .before .before .before .before)) (c .may-hold .ensures d q) k };
 }
 
 pub enter-spec : {M : Type 1} → statement M

@@ -12,7 +12,7 @@ use Rattle.eval_search.proofs.fill.Statement.{statement}
 use Rattle.eval_search.proofs.fill.Tie as tie
 
 abbrev Inv-loop : tie.InvT-loop
-Inv-loop table words₀ cells lanes keeps word₀ left₀ r₀ words word left r = (r ≤ relationsIn table) × (word ≡ wordsTo table r) × (left + cellsTo table r ≡ cells) × CellsIn table cells (numberIn (lanes .top) (lanes .low) keeps) keeps r words × (length words ≡ length words₀) × (relationsIn table ≤ 17) × (length table ≡ tableLength)
+Inv-loop table words₀ cells lanes keeps word₀ left₀ r₀ words word left r = (r ≤ relationsIn table) × (word ≡ wordsTo table r) × (left + cellsTo table r ≡ cells) × CellsIn table cells (numberIn (lanes .top) (lanes .low) keeps) keeps r words × (length words ≡ length words₀) × (relationsIn table ≤ 18) × (length table ≡ tableLength)
 
 abbrev μ-loop : tie.MeasureT-loop
 μ-loop table words₀ cells lanes keeps word₀ left₀ r₀ words word left r = relationsIn table - r

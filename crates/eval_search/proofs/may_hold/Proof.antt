@@ -8,7 +8,7 @@ use Rattle.eval_search.proofs.may_hold.Tie as tie
 
 returns : tie.Need-returns
 returns c = λ d a j l. let s = a .sought in let p = problemOf d in
-    c .true-words .ensures d _ _ j l (s .accepted-case) (a .lines-of) (a .facts-in)
+    c .true-words .ensures d _ _ j l (s .accepted-case) (s .no-every) (a .lines-of) (a .facts-in)
     (words-are p _ (s .is) (good d (s .accepted-case)) _ (c .before .before .before .before .before .before .before .before .before .before .before .before .pre .0 .counted ∙ all-cells p _ (s .is)) _ _ _ _ (c .before .before .before .before .before .before .before .fill .ensures) (c .before .before .before .before .fill2 .ensures) j l)
 
 pub may-hold-spec : {M : Type 1} → statement M

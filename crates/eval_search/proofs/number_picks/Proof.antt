@@ -10,7 +10,7 @@ use Rattle.eval_search.proofs.number_picks.Statement.{statement}
 use Rattle.eval_search.proofs.number_picks.Tie as tie
 
 abbrev Inv-loop : tie.InvT-loop
-Inv-loop table words₀ cells m word₀ left₀ r₀ words word left r = (r ≤ relationsIn table) × (word ≡ wordsTo table r) × (left + cellsTo table r ≡ cells) × (take word words ≡ digitsTo table cells m r) × (length words ≡ length words₀) × (relationsIn table ≤ 17) × (length table ≡ tableLength)
+Inv-loop table words₀ cells m word₀ left₀ r₀ words word left r = (r ≤ relationsIn table) × (word ≡ wordsTo table r) × (left + cellsTo table r ≡ cells) × (take word words ≡ digitsTo table cells m r) × (length words ≡ length words₀) × (relationsIn table ≤ 18) × (length table ≡ tableLength)
 
 abbrev μ-loop : tie.MeasureT-loop
 μ-loop table words₀ cells m word₀ left₀ r₀ words word left r = relationsIn table - r

@@ -10,13 +10,13 @@ use Rattle.eval_table.specs.Numbers.{words-small, fact-next, choose-next
 use Rattle.eval_table.proofs.bits_of.Tie as tie
 
 abbrev Inv-loop : tie.InvT-loop
-Inv-loop n g bits₀ facts₀ picks₀ r₀ bits facts picks r = (r ≤ 17) × (facts ≡ factSum n g r) × (picks ≡ chooseSum n g r) × (facts ≤ r * 262145) × (picks ≤ r * 262145) × ((u : ℕ) → u < r → getD bits u 0 ≡ bitOf n g u) × Most bits (2 ^ 32) × (length bits ≡ 17)
+Inv-loop n g bits₀ facts₀ picks₀ r₀ bits facts picks r = (r ≤ 18) × (facts ≡ factSum n g r) × (picks ≡ chooseSum n g r) × (facts ≤ r * 262145) × (picks ≤ r * 262145) × ((u : ℕ) → u < r → getD bits u 0 ≡ bitOf n g u) × Most bits (2 ^ 32) × (length bits ≡ 18)
 
 abbrev μ-loop : tie.MeasureT-loop
-μ-loop n g bits₀ facts₀ picks₀ r₀ bits facts picks r = 17 - r
+μ-loop n g bits₀ facts₀ picks₀ r₀ bits facts picks r = 18 - r
 
 loop-holds : tie.Need-loop-holds Inv-loop μ-loop
-loop-holds c = (omega arith, sums-none (c .args .n) (c .args .t2) .0, sums-none (c .args .n) (c .args .t2) .1, omega arith, omega arith, λ u h. absurd (omega arith), zeros-most, refl)
+loop-holds c = (omega arith, sums-none (c .args .n) (c .args .t2) .0, sums-none (c .args .n) (c .args .t2) .1, omega arith, omega arith, λ u h. absurd (omega arith), zeros-most 18, refl)
 
 power-requires : tie.Need-power-requires Inv-loop μ-loop
 power-requires c κs =

@@ -5,7 +5,7 @@ use Rattle.eval_table.specs.Numbers.{all-lined}
 use Rattle.eval_table.proofs.fill.Tie as tie
 
 fill-parts-requires : tie.Need-fill-parts-requires
-fill-parts-requires c κs = let h = c .before .before .before .before .before .before .before .pre in (c .before .before .before .fill-nodes .kept .0 ∙ h .0, h .2, h .3, h .4, h .5)
+fill-parts-requires c κs = let h = c .before .before .before .before .before .before .before .pre in (c .before .before .before .fill-nodes .kept .0 ∙ h .0, h .2, h .3, h .4, h .5, h .9)
 
 fill-ranges-requires : tie.Need-fill-ranges-requires
 fill-ranges-requires c κs =
@@ -21,7 +21,7 @@ returns c =
     let h = c .before .before .before .before .before .before .before .before .before .before .before .before .before .before .pre in
     let v = c .before .before .before .before .before .before .before .before .before .before .fill-nodes in
     let q = c .before .before .before .before .before .before .fill-parts in let m = c .before .before .fill-ranges in
-    all-lined (a .n) (a .members .now) (a .types) (a .ranges .count) (a .g) (a .t) (a .lines .now) (v .last .0) (q .last .0) (m .last .0) (h .0) (h .1) (h .5 .few) (h .5 .few-parts) (h .2) (h .3) (h .6)
+    all-lined (a .n) (a .value) (a .members .now) (a .types) (a .ranges .count) (a .g) (a .t) (a .lines .now) (v .last .0) (q .last .0) (m .last .0) (h .0) (h .1) (h .5 .few) (h .5 .few-parts) (h .2) (h .3) (h .6)
     (v .ensures .0) (v .ensures .1) (q .ensures .0) (q .ensures .1) (q .ensures .2) (m .ensures)
 
 pub fill-spec : {M : Type 1} → Rattle.eval_table.proofs.fill.Statement.statement M

@@ -12,19 +12,19 @@ use Rattle.eval_table.specs.Numbers.{partLines, part-turn}
 use Rattle.eval_table.proofs.fill_parts.Tie as tie
 
 abbrev Inv-loop : tie.InvT-loop
-Inv-loop lines₀ n g t bits i₀ lines i = (i ≤ t .placed) × (length lines ≡ length lines₀) × (lines ≡ splice 448 (tab (partLines n g t) i) lines₀) × ((u : ℕ) → u < i → Most (partLines n g t u) (2 ^ 32))
+Inv-loop lines₀ n g value t bits i₀ lines i = (i ≤ t .placed) × (length lines ≡ length lines₀) × (lines ≡ splice 448 (tab (partLines n value g t) i) lines₀) × ((u : ℕ) → u < i → Most (partLines n value g t u) (2 ^ 32))
 
 abbrev μ-loop : tie.MeasureT-loop
-μ-loop lines₀ n g t bits i₀ lines i = t .placed - i
+μ-loop lines₀ n g value t bits i₀ lines i = t .placed - i
 
 loop-holds : tie.Need-loop-holds Inv-loop μ-loop
-loop-holds c = (omega arith, refl, tab-none (partLines (c .before .before .args .n) (c .before .before .args .g) (c .before .before .args .t4)) 448 (c .before .before .args .lines .now), λ u h. absurd (omega arith))
+loop-holds c = (omega arith, refl, tab-none (partLines (c .before .before .args .n) (c .before .before .args .value) (c .before .before .args .g) (c .before .before .args .t4)) 448 (c .before .before .args .lines .now), λ u h. absurd (omega arith))
 
 part-line-requires : tie.Need-part-line-requires Inv-loop μ-loop
 part-line-requires c κs =
     let bits-of = c .before .before .before .before .bits-of in let s = c .before .before .before .before .before .before in
-    let len : length (bits-of .result) ≡ 17 = search needs in
-    (s .pre .1, s .pre .2, s .pre .4 .parts .part (c .before .before .before .loop .i), omega (arith, len), bits-of .ensures .0, bits-of .ensures .1)
+    let len : length (bits-of .result) ≡ 18 = search needs in
+    (s .pre .1, s .pre .2, s .pre .4 .parts .part (c .before .before .before .loop .i), omega (arith, len), bits-of .ensures .0, bits-of .ensures .1, s .pre .5)
 
 store-requires : tie.Need-store-requires Inv-loop μ-loop
 store-requires c κs =
@@ -37,7 +37,7 @@ loop-again c =
     let e = c .before .before .before .before .before .part-line .ensures in (
       omega arith,
       c .before .before .store .kept .0 ∙ c .before .before .before .before .before .before .before .before .before .loop .inv .1,
-      part-turn (c .before .before .before .before .before .before .before .before .before .before .before .before .args .n)
+      part-turn (c .before .before .before .before .before .before .before .before .before .before .before .before .args .n) (c .before .before .before .before .before .before .before .before .before .before .before .before .args .value)
           (c .before .before .before .before .before .before .before .before .before .before .before .before .args .g)
           (c .before .before .before .before .before .before .before .before .before .before .before .before .args .t4)
           (c .before .before .before .before .before .before .before .before .before .loop .lines)
@@ -46,8 +46,8 @@ loop-again c =
           (c .before .before .before .before .before .before .before .before .before .before .before .before .pre .0)
           (omega (arith, c .before .before .before .before .before .before .before .before .before .before .before .before .pre .4 .few-parts)) (e .0)
           (c .before .before .before .before .before .before .before .before .before .loop .inv .2) (c .before .before .store .ensures),
-      one-more (λ (u : ℕ). Most (partLines (c .before .before .before .before .before .before .before .before .before .before .before .before .args
-          .n) (c .before .before .before .before .before .before .before .before .before .before .before .before .args .g)
+      one-more (λ (u : ℕ). Most (partLines (c .before .before .before .before .before .before .before .before .before .before .before .before .args .n) (c .before .before .before .before .before .before .before .before .before .before .before .before .args .value)
+          (c .before .before .before .before .before .before .before .before .before .before .before .before .args .g)
           (c .before .before .before .before .before .before .before .before .before .before .before .before .args .t4) u) (2 ^ 32))
           (c .before .before .before .before .before .before .before .before .before .loop .i)
           (c .before .before .before .before .before .before .before .before .before .loop .inv .3)
@@ -57,8 +57,8 @@ loop-again c =
 part-line-requires-2 : tie.Need-part-line-requires-2 Inv-loop μ-loop
 part-line-requires-2 c κs =
     let bits-of = c .before .before .before .before .bits-of in let s = c .before .before .before .before .before .before in
-    let len : length (bits-of .result) ≡ 17 = search needs in
-    (s .pre .1, s .pre .2, s .pre .4 .root, omega (arith, len), bits-of .ensures .0, bits-of .ensures .1)
+    let len : length (bits-of .result) ≡ 18 = search needs in
+    (s .pre .1, s .pre .2, s .pre .4 .root, omega (arith, len), bits-of .ensures .0, bits-of .ensures .1, s .pre .5)
 
 store-requires-2 : tie.Need-store-requires-2 Inv-loop μ-loop
 store-requires-2 c κs = omega (arith, c .before .before .before .before .before .before .before .before .before .pre .0, c .before .before .before .before .before .before .loop .inv .1)

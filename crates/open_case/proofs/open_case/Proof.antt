@@ -4,11 +4,11 @@ use Rattle.read_sheets.proofs.Loops.{no-label-words}
 use borrow.Author.Needs.{needs}
 use Rattle.open_case.proofs.open_case.Tie as tie
 
-open-filed-requires : tie.Need-open-filed-requires
-open-filed-requires c κs =
+open-usual-requires : tie.Need-open-usual-requires
+open-usual-requires c κs =
     let s = c .before .before .before .before .before .before .before in
-    (s .pre .0, ((s .pre .1 .0 .0, no-label-words, s .pre .1 .0 .1), s .pre .1 .1))
+    ((s .pre .0 .0, no-label-words, s .pre .0 .1), s .pre .1)
 
 pub open-case-spec : {M : Type 1} → Rattle.open_case.proofs.open_case.Statement.statement M
-open-case-spec = tie.close (tie.spec (λ c. search needs) open-filed-requires (λ c. search needs) (λ c. search needs)
-    (λ c. filed-alone _ _ _ _ _ _ _ (c .before .before .before .before .before .open-filed .ensures)))
+open-case-spec = tie.close (tie.spec (λ c. search needs) open-usual-requires (λ c. search needs) (λ c. search needs)
+    (λ c. filed-alone _ _ _ _ _ _ _ (c .before .before .before .before .before .open-usual .ensures)))

@@ -38,7 +38,9 @@ cast-k : tie.Need-cast-k Inv-loop μ-loop
 cast-k c = omega (arith, c .shared-slice-known7 .given (c .before .before .before .loop .i))
 
 step-requires : tie.Need-step-requires Inv-loop μ-loop
-step-requires c κs = c .before .before .before .before .before .before .before .before .before .before .before .before .pre
+step-requires c κs =
+    let s = c .before .before .before .before .before .before .before .before .before .before .before .before in
+    s .pre
 
 loop-again : tie.Need-loop-again Inv-loop μ-loop
 loop-again c = (

@@ -1,7 +1,7 @@
 -- `print_page::is_there` meets its contract.
-use mathlib.Core.Path.{ap, sym}
 use Rattle.print_page.specs.Steps.{isThere}
 use borrow.Author.Needs.{needs}
+use mathlib.Core.Path.{ap, sym}
 use Rattle.print_page.proofs.is_there.Tie as tie
 
 returns : tie.Need-returns
@@ -36,6 +36,19 @@ returns-8 : tie.Need-returns-8
 unfolding isThere
 returns-8 c = sym (ap isThere (c .enum-told8 .given .1))
 
+returns-9 : tie.Need-returns-9
+unfolding isThere
+returns-9 c = sym (ap isThere (c .enum-told9 .given .1))
+
+returns-10 : tie.Need-returns-10
+unfolding isThere
+returns-10 c = sym (ap isThere (c .enum-told10 .given .1))
+
+returns-11 : tie.Need-returns-11
+unfolding isThere
+returns-11 c = sym (ap isThere (c .enum-told11 .given .1))
+
 pub is-there-spec : {M : Type 1} → Rattle.print_page.proofs.is_there.Statement.statement M
-is-there-spec = tie.close (tie.spec (λ c. search needs) returns (λ c. search needs) returns-2 (λ c. search needs) returns-3 (λ c. search needs)
-    returns-4 (λ c. search needs) returns-5 (λ c. search needs) returns-6 (λ c. search needs) returns-7 (λ c. search needs) returns-8)
+is-there-spec = tie.close (tie.spec (λ c. search needs) (λ c. search needs) (λ c. search needs) (λ c. search needs) (λ c. search needs)
+    (λ c. search needs) (λ c. search needs) (λ c. search needs) (λ c. search needs) (λ c. search needs) (λ c. search needs) returns returns-2
+    returns-3 returns-4 returns-5 returns-6 returns-7 returns-8 returns-9 returns-10 returns-11)

@@ -1,10 +1,10 @@
 -- `print_page::kind` meets its contract.
-use mathlib.Core.Path.{ap, _∙_}
 use Rattle.definitions.specs.Reply.Page.{left}
-use Rattle.problem_table.specs.declared.Act.{Act}
 use Rattle.print_bytes.specs.Emitted.{emits-as}
 use Rattle.print_page.specs.Elements.{kindIn, left-none}
+use Rattle.problem_table.specs.declared.Act.{Act}
 use borrow.Author.Needs.{needs}
+use mathlib.Core.Path.{ap, _∙_}
 use Rattle.print_page.proofs.kind.Tie as tie
 
 returns : tie.Need-returns
@@ -37,12 +37,26 @@ returns-7 c = emits-as (ap (λ (a : Act). left 12 (kindIn a)) (c .before .before
 
 returns-8 : tie.Need-returns-8
 unfolding kindIn
-returns-8 c = emits-as (ap (λ (a : Act). left 12 (kindIn a)) (c .before .before .before .before .enum-told8 .given .1) ∙ left-none 12) (c .before .before .spaces .ensures)
+returns-8 c = emits-as (ap (λ (a : Act). left 12 (kindIn a)) (c .before .before .before .before .before .enum-told8 .given .1)) (c .before .before .left8 .ensures)
+
+returns-9 : tie.Need-returns-9
+unfolding kindIn
+returns-9 c = emits-as (ap (λ (a : Act). left 12 (kindIn a)) (c .before .before .before .before .before .enum-told9 .given .1)) (c .before .before .left9 .ensures)
+
+returns-10 : tie.Need-returns-10
+unfolding kindIn
+returns-10 c = emits-as (ap (λ (a : Act). left 12 (kindIn a)) (c .before .before .before .before .before .enum-told10 .given .1)) (c .before .before .left10 .ensures)
+
+returns-11 : tie.Need-returns-11
+unfolding kindIn
+returns-11 c = emits-as (ap (λ (a : Act). left 12 (kindIn a)) (c .before .before .before .before .enum-told11 .given .1) ∙ left-none 12) (c .before .before .spaces .ensures)
 
 pub kind-spec : {M : Type 1} → Rattle.print_page.proofs.kind.Statement.statement M
-kind-spec = tie.close (tie.spec (λ c. search needs) (λ c. search needs) (λ c κs. search needs) (λ c. search needs) returns (λ c. search needs)
-    (λ c. search needs) (λ c κs. search needs) (λ c. search needs) returns-2 (λ c. search needs) (λ c. search needs) (λ c κs. search needs)
-    (λ c. search needs) returns-3 (λ c. search needs) (λ c. search needs) (λ c κs. search needs) (λ c. search needs) returns-4 (λ c. search needs)
-    (λ c. search needs) (λ c κs. search needs) (λ c. search needs) returns-5 (λ c. search needs) (λ c. search needs) (λ c κs. search needs)
-    (λ c. search needs) returns-6 (λ c. search needs) (λ c. search needs) (λ c κs. search needs) (λ c. search needs) returns-7 (λ c. search needs)
-    (λ c κs. search needs) (λ c. search needs) returns-8)
+kind-spec = tie.close (tie.spec (λ c. search needs) (λ c. search needs) (λ c κs. search needs) (λ c. search needs) (λ c. search needs)
+    (λ c κs. search needs) (λ c. search needs) (λ c. search needs) (λ c κs. search needs) (λ c. search needs) (λ c. search needs)
+    (λ c κs. search needs) (λ c. search needs) (λ c. search needs) (λ c κs. search needs) (λ c. search needs) (λ c. search needs)
+    (λ c κs. search needs) (λ c. search needs) (λ c. search needs) (λ c κs. search needs) (λ c. search needs) (λ c. search needs)
+    (λ c κs. search needs) (λ c. search needs) (λ c. search needs) (λ c κs. search needs) (λ c. search needs) (λ c. search needs)
+    (λ c κs. search needs) (λ c. search needs) (λ c κs. search needs) (λ c. search needs) returns (λ c. search needs) returns-2 (λ c. search needs)
+    returns-3 (λ c. search needs) returns-4 (λ c. search needs) returns-5 (λ c. search needs) returns-6 (λ c. search needs) returns-7
+    (λ c. search needs) returns-8 (λ c. search needs) returns-9 (λ c. search needs) returns-10 (λ c. search needs) returns-11)

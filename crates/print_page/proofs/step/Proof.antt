@@ -23,23 +23,28 @@ elements-requires c κs =
     ((s .pre .0 .fits, c .before .before .before .action-at .ensures .0, omega arith, within-five _ (s .pre .0 .fits .some)), (_, s .pre .1))
 
 part-of-requires : tie.Need-part-of-requires
-part-of-requires c κs = (c .before .before .before .before .before .before .before .before .before .before .before .before .pre .0 .fits, c .before .before .before .before .before .action-at .ensures .0)
+part-of-requires c κs =
+    let s = c .before .before .before .before .before .before .before .before .before .before .before .before in
+    (s .pre .0 .fits, c .before .before .before .before .before .action-at .ensures .0)
 
 head-requires : tie.Need-head-requires
-head-requires c κs = (
-  c .before .before .before .before .before .before .before .before .before .before .before .before .before .before .pre .1,
-  (_, c .before .before .before .before .before .before .before .action-at .ensures .0),
-)
+head-requires c κs =
+    let s = c .before .before .before .before .before .before .before .before .before .before .before .before .before .before in (
+      s .pre .1,
+      (_, c .before .before .before .before .before .before .before .action-at .ensures .0),
+    )
 
 units-requires : tie.Need-units-requires
-units-requires c κs = (
-  (
-    _,
-    c .before .before .before .before .before .before .before .before .before .before .before .before .before .before .before .before .before .before .before .pre .2,
-    c .before .before .before .before .before .before .before .before .elements .ensures .2,
-  ),
-  omega (arith, c .before .before .before .before .before .before .before .before .elements .ensures .0),
-)
+units-requires c κs =
+    let elements-at = c .before .before .before .before .before .before .before .before in
+    let s = elements-at .before .before .before .before .before .before .before .before .before .before .before in (
+      (
+        _,
+        s .pre .2,
+        elements-at .elements .ensures .2,
+      ),
+      omega (arith, elements-at .elements .ensures .0),
+    )
 
 returns : tie.Need-returns
 returns c =

@@ -20,11 +20,12 @@ part-of-requires : tie.Need-part-of-requires
 part-of-requires c κs = (c .before .before .before .before .before .before .before .before .before .before .pre .0 .fits, c .before .before .before .before .before .action-at .ensures .0)
 
 lines-requires : tie.Need-lines-requires
-lines-requires c κs = (
-  (_, c .before .before .before .before .before .before .before .before .before .before .before .before .pre .2, c .before .before .before .elements .ensures .2),
-  omega
-      (arith, c .before .before .before .elements .ensures .0),
-)
+lines-requires c κs =
+    let s = c .before .before .before .before .before .before .before .before .before .before .before .before in (
+      (_, s .pre .2, c .before .before .before .elements .ensures .2),
+      omega
+          (arith, c .before .before .before .elements .ensures .0),
+    )
 
 returns : tie.Need-returns
 returns c =

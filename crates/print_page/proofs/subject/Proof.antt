@@ -1,62 +1,32 @@
 -- `print_page::subject` meets its contract.
-use native.Mathlib.Omega.{arith}
-use mathlib.Core.Path.{ap, _∙_}
 use Rattle.definitions.specs.Reply.Page.{left}
-use Rattle.problem_table.specs.declared.Act.{Act}
 use Rattle.print_bytes.specs.Emitted.{emits-as}
-use Rattle.print_page.specs.Elements.{nameIn, subjectIn, left-none, relation-small}
+use Rattle.print_page.specs.Elements.{subjectIn, left-none, relation-small, in-small, out-small}
+use Rattle.problem_table.specs.declared.Act.{Act}
 use borrow.Author.Needs.{needs}
+use mathlib.Core.Path.{ap, _∙_}
 use Rattle.print_page.proofs.subject.Tie as tie
 
-mul-from : tie.Need-mul-from
-mul-from c =
-    let s = c .before .before .before .before .before .before in
-    omega (arith, relation-small (s .pre .1 .0) (s .args .a) _ (s .pre .1 .1) (c .before .a .given .1), s .pre .0 .room)
-
-mul-from-2 : tie.Need-mul-from-2
-mul-from-2 c =
-    let s = c .before .before .before .before .before .before in
-    omega (arith, relation-small (s .pre .1 .0) (s .args .a) _ (s .pre .1 .1) (c .before .a .given .1), s .pre .0 .room)
-
-shared-slice-read-from : tie.Need-shared-slice-read-from
-shared-slice-read-from c =
+name-requires : tie.Need-name-requires
+name-requires c κs =
     let s = c .before .before .before .before .before .before .before in
-    omega (arith, relation-small (s .pre .1 .0) (s .args .a) _ (s .pre .1 .1) (c .before .before .a .given .1), s .pre .0 .room)
+    (s .pre .0, relation-small (s .pre .1 .0) (s .args .a) _ (s .pre .1 .1) (c .before .before .a .given .1))
 
-mul-to : tie.Need-mul-to
-mul-to c =
+name-requires-2 : tie.Need-name-requires-2
+name-requires-2 c κs =
     let s = c .before .before .before .before .before .before .before in
-    omega (arith, relation-small (s .pre .1 .0) (s .args .a) _ (s .pre .1 .1) (c .before .before .a .given .1), s .pre .0 .room)
+    (s .pre .0, in-small (s .pre .1 .0) (s .args .a) _ (s .pre .1 .1) (c .before .before .a6 .given .1))
 
-add-to : tie.Need-add-to
-add-to c =
+name-requires-3 : tie.Need-name-requires-3
+name-requires-3 c κs =
     let s = c .before .before .before .before .before .before .before in
-    omega (arith, relation-small (s .pre .1 .0) (s .args .a) _ (s .pre .1 .1) (c .before .before .a .given .1), s .pre .0 .room)
-
-mul-to-2 : tie.Need-mul-to-2
-mul-to-2 c =
-    let s = c .before .before .before .before .before .before .before in
-    omega (arith, relation-small (s .pre .1 .0) (s .args .a) _ (s .pre .1 .1) (c .before .before .a .given .1), s .pre .0 .room)
-
-shared-slice-read-to : tie.Need-shared-slice-read-to
-shared-slice-read-to c =
-    let s = c .before .before .before .before .before .before .before .before in
-    omega (arith, relation-small (s .pre .1 .0) (s .args .a) _ (s .pre .1 .1) (c .before .before .before .a .given .1), s .pre .0 .room)
-
-sub-left : tie.Need-sub-left
-sub-left c = c .before .before .before .before .before .before .before .before .before .pre .0 .in-text (c .before .before .before .before .a .given .0 .0 .relation) .0
-
-part-left-start : tie.Need-part-left-start
-part-left-start c = c .before .before .before .before .before .before .before .before .before .pre .0 .in-text (c .before .before .before .before .a .given .0 .0 .relation) .0
-
-part-left-end : tie.Need-part-left-end
-part-left-end c = c .before .before .before .before .before .before .before .before .before .pre .0 .in-text (c .before .before .before .before .a .given .0 .0 .relation) .1
+    (s .pre .0, out-small (s .pre .1 .0) (s .args .a) _ (s .pre .1 .1) (c .before .before .a7 .given .1))
 
 returns : tie.Need-returns
-unfolding subjectIn nameIn
+unfolding subjectIn
 returns c =
-    let s = c .before .before .before .before .before .before .before .before .before .before .before .before .before in
-    emits-as (ap (λ (a : Act). left 12 (subjectIn (s .args .question .now) (s .args .names .now) a)) (c .before .before .before .before .before .before .before .before .a .given .1)) (c .before .before .left .ensures)
+    let s = c .before .before .before .before .before .before .before .before .before .before in
+    emits-as (ap (λ (a : Act). left 12 (subjectIn (s .args .question .now) (s .args .names .now) a)) (c .before .before .before .before .before .a .given .1)) (c .before .before .name .ensures)
 
 returns-2 : tie.Need-returns-2
 unfolding subjectIn
@@ -100,10 +70,28 @@ returns-8 c =
     let s = c .before .before .before .before .before .before .before .before .before in
     emits-as (ap (λ (a : Act). left 12 (subjectIn (s .args .question .now) (s .args .names .now) a)) (c .before .before .before .before .enum-told3 .given .1) ∙ left-none 12) (c .before .before .spaces3 .ensures)
 
+returns-9 : tie.Need-returns-9
+unfolding subjectIn
+returns-9 c =
+    let s = c .before .before .before .before .before .before .before .before .before .before in
+    emits-as (ap (λ (a : Act). left 12 (subjectIn (s .args .question .now) (s .args .names .now) a)) (c .before .before .before .before .before .a6 .given .1)) (c .before .before .name2 .ensures)
+
+returns-10 : tie.Need-returns-10
+unfolding subjectIn
+returns-10 c =
+    let s = c .before .before .before .before .before .before .before .before .before .before in
+    emits-as (ap (λ (a : Act). left 12 (subjectIn (s .args .question .now) (s .args .names .now) a)) (c .before .before .before .before .before .a7 .given .1)) (c .before .before .name3 .ensures)
+
+returns-11 : tie.Need-returns-11
+unfolding subjectIn
+returns-11 c =
+    let s = c .before .before .before .before .before .before .before .before .before in
+    emits-as (ap (λ (a : Act). left 12 (subjectIn (s .args .question .now) (s .args .names .now) a)) (c .before .before .before .before .enum-told4 .given .1) ∙ left-none 12) (c .before .before .spaces4 .ensures)
+
 pub subject-spec : {M : Type 1} → Rattle.print_page.proofs.subject.Statement.statement M
-subject-spec = tie.close (tie.spec (λ c. search needs) mul-from mul-from-2 shared-slice-read-from mul-to add-to mul-to-2 shared-slice-read-to sub-left
-    part-left-start part-left-end (λ c κs. search needs) (λ c. search needs) returns (λ c. search needs) (λ c κs. search needs) (λ c. search needs)
-    returns-2 (λ c. search needs) (λ c κs. search needs) (λ c. search needs) returns-3 (λ c. search needs) (λ c κs. search needs) (λ c. search needs)
-    returns-4 (λ c. search needs) (λ c κs. search needs) (λ c. search needs) returns-5 (λ c. search needs) (λ c κs. search needs) (λ c. search needs)
-    returns-6 (λ c. search needs) (λ c κs. search needs) (λ c. search needs) returns-7 (λ c. search needs) (λ c κs. search needs) (λ c. search needs)
-    returns-8)
+subject-spec = tie.close (tie.spec (λ c. search needs) name-requires (λ c. search needs) (λ c κs. search needs) (λ c. search needs)
+    (λ c κs. search needs) (λ c. search needs) (λ c κs. search needs) (λ c. search needs) (λ c κs. search needs) (λ c. search needs)
+    (λ c κs. search needs) (λ c. search needs) (λ c κs. search needs) (λ c. search needs) (λ c κs. search needs) (λ c. search needs) name-requires-2
+    (λ c. search needs) name-requires-3 (λ c. search needs) (λ c κs. search needs) (λ c. search needs) returns (λ c. search needs) returns-2
+    (λ c. search needs) returns-3 (λ c. search needs) returns-4 (λ c. search needs) returns-5 (λ c. search needs) returns-6 (λ c. search needs)
+    returns-7 (λ c. search needs) returns-8 (λ c. search needs) returns-9 (λ c. search needs) returns-10 (λ c. search needs) returns-11)

@@ -14,7 +14,9 @@ said-requires : tie.Need-said-requires
 said-requires c κs = c .before .before .before .before .before .before .before .before .pre .0
 
 returns : tie.Need-returns
-returns c = λ xs e. finish _ (then _ _ (then _ _ (begin (c .before .before .before .before .before .before .before .before .before .before .before .before .before .before .before .args .out .now) refl
+returns c =
+    let s = c .before .before .before .before .before .before .before .before .before .before .before .before .before .before .before in
+    λ xs e. finish _ (then _ _ (then _ _ (begin (s .args .out .now) refl
     (omega arith) (omega arith)) (c .before .before .before .before .before .before .before .before .before .before .further .ensures)) (c .before .before .before .before .before .before .said .ensures))
     (c .before .before .after-text .ensures xs e)
 

@@ -9,7 +9,7 @@ use Rattle.problem_table.specs.Lines.{relationPlace, nodePlace, RangeFits, Plac
 use Rattle.problem_table.specs.Numbers.{isWhole, ActFits}
 use Rattle.problem_table.specs.NeedLaws.{set-row-small}
 use Rattle.problem_table.specs.declared.Act.{Act}
-use Rattle.problem_action.specs.Found.{sets-begin, acts-begin, found-pair, found-set, found-begin, found-proof, found-counted, found-goal, found-none, proof-fits}
+use Rattle.problem_action.specs.Found.{sets-begin, acts-begin, found-pair, found-set, found-begin, found-proof, found-counted, found-goal, found-mark, mark-fits, finish-fits, proof-fits}
 use Rattle.problem_action.proofs.action_at.Tie as tie
 
 locate-requires : tie.Need-locate-requires
@@ -38,7 +38,7 @@ returns c =
     let w = s .args .table .now in
     let l = c .before .before .before .locate in
     let line = c .before .relation-line in
-    let few : l .result < 17 = omega (arith, l .ensures .0, s .pre .fits .relations) in
+    let few : l .result < 18 = omega (arith, l .ensures .0, s .pre .fits .relations) in
     let off = s .args .k - getD w (relationPlace (l .result)) 0 in
     let small = set-row-small w (s .pre .fits) (line .result) (in-places (c .before)) off (omega (arith, s .pre .fits .entry (relationPlace (l .result + 1)), l .ensures .2)) (among (c .before)) in (
       (few, omega (arith, c .set-row .ensures, small, s .pre .fits .entry (relationPlace (l .result + 1)), l .ensures .2)),
@@ -75,10 +75,16 @@ returns-3 c =
     )
 
 returns-4 : tie.Need-returns-4
-returns-4 c = let s = c .before .before .before .before .before .before .before .before .before in (tt, λ p is. found-goal p (s .args .table .now) is (s .args .k) (omega arith))
+returns-4 c =
+    let s = c .before .before .before .before .before .before .before .before .before .before in
+    (subst (ActFits (s .args .table .now)) (sym (c .finish-act .ensures)) (finish-fits (s .args .table .now)), λ p is. found-goal p (s .args .table .now) is (s .args .k) _ (omega arith) (c .finish-act .ensures))
 
 returns-5 : tie.Need-returns-5
-returns-5 c = let s = c .before .before .before .before .before .before .before .before .before in (tt, λ p is. found-none p (s .args .table .now) is (s .args .k) (omega (arith, c .before .if3 .left, c .if4 .left)))
+returns-5 c =
+    let s = c .before .before .before .before .before .before .before .before .before .before in (
+      subst (ActFits (s .args .table .now)) (sym (c .mark-of .ensures)) (mark-fits (s .args .table .now) _ (s .pre .fits)),
+      λ p is. found-mark p (s .args .table .now) is (s .args .k) _ (omega (arith, c .before .before .if3 .left, c .before .if4 .left)) (c .mark-of .ensures),
+    )
 
 pub action-at-spec : {M : Type 1} → Rattle.problem_action.proofs.action_at.Statement.statement M
 action-at-spec = tie.close (tie.spec (λ c. search needs) (λ c. search needs) (λ c. search needs) (λ c. search needs) (λ c. search needs)
@@ -86,4 +92,4 @@ action-at-spec = tie.close (tie.spec (λ c. search needs) (λ c. search needs) (
     (λ c. search needs) (λ c. search needs) (λ c. search needs) (λ c. search needs) relation-line-requires
     (λ c κs. (c .before .before .before .before .before .before .before .before .before .pre .fits, in-places c, among c)) returns returns-2
     locate-requires-2 (λ c. search needs) (λ c. search needs) (λ c. search needs) (λ c. search needs) (λ c. search needs) (λ c κs. search needs)
-    proof-of-requires returns-3 returns-4 returns-5)
+    proof-of-requires returns-3 (λ c κs. search needs) returns-4 (λ c. search needs) (λ c κs. search needs) returns-5)

@@ -23,9 +23,9 @@ abbrev μ-loop : tie.MeasureT-loop
 μ-loop table₀ n t ranges rel neg node i₀ table i = t .placed - i
 
 -- the arrays that a part's start is read from are long enough
-lengths : (c : tie.Start Inv-loop μ-loop) → (17 ≤ length (c .args .l .rel)) × (17 ≤ length (c .args .l .neg)) × (64 ≤ length (c .args .l .node))
+lengths : (c : tie.Start Inv-loop μ-loop) → (18 ≤ length (c .args .l .rel)) × (18 ≤ length (c .args .l .neg)) × (64 ≤ length (c .args .l .node))
 lengths c =
-    let a : length (c .args .l .rel) ≡ 18 = search needs in let b : length (c .args .l .neg) ≡ 17 = search needs in
+    let a : length (c .args .l .rel) ≡ 19 = search needs in let b : length (c .args .l .neg) ≡ 18 = search needs in
     let d : length (c .args .l .node) ≡ 65 = search (needs, c .good .1 .1 .1 .0) in (omega arith, omega arith, omega arith)
 
 start-of-requires : tie.Need-start-of-requires Inv-loop μ-loop

@@ -13,7 +13,7 @@ use Rattle.problem_layout.proofs.fill_relations.Tie as tie
 abbrev Inv-loop : tie.InvT-loop
 Inv-loop table₀ g l ranges r₀ table r =
     (r ≤ g .count) × (length table ≡ length table₀) × (table ≡ splice relationsPlace (tab (relationNumbers (ranges .count) g l) r) table₀)
-    × (g .count ≤ 17) × (length table₀ ≡ tableLength)
+    × (g .count ≤ 18) × (length table₀ ≡ tableLength)
 
 abbrev μ-loop : tie.MeasureT-loop
 μ-loop table₀ g l ranges r₀ table r = g .count - r

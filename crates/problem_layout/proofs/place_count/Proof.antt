@@ -1,17 +1,16 @@
 -- `problem_layout::place_count` meets its contract.
-use mathlib.Core.Path.{refl}
 use native.Mathlib.Omega.{arith}
-use borrow.Author.Tests.{lt-ltb, le-ltb}
-use Rattle.problem_layout.specs.Filled.{placeCount}
+use Rattle.problem_layout.specs.LaidLaws.{place-low, place-high, place-some}
 use Rattle.problem_layout.proofs.place_count.Tie as tie
 
 returns : tie.Need-returns
-unfolding placeCount
-returns c = rw (lt-ltb (c .before .args .kind) 2 (omega arith)) refl
+returns c = place-low (c .before .args .kind) 0 (c .before .args .count) (omega arith) .1
 
 returns-2 : tie.Need-returns-2
-unfolding placeCount
-returns-2 c = rw (le-ltb (c .before .args .kind) 2 (omega arith)) refl
+returns-2 c = place-high (c .before .before .args .kind) 0 (c .before .before .args .count) (omega arith) .1
+
+returns-3 : tie.Need-returns-3
+returns-3 c = place-some (c .before .before .args .kind) 0 (c .before .before .args .count) (omega arith) (omega arith) .1
 
 pub place-count-spec : {M : Type 1} → Rattle.problem_layout.proofs.place_count.Statement.statement M
-place-count-spec = tie.close (tie.spec returns returns-2)
+place-count-spec = tie.close (tie.spec returns returns-2 returns-3)

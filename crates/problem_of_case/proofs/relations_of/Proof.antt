@@ -9,19 +9,24 @@ use Rattle.problem_of_case.specs.NumberedLaws.{Filled, filled-start, fil
 use Rattle.problem_of_case.proofs.relations_of.Tie as tie
 
 abbrev Inv-loop : tie.InvT-loop
-Inv-loop count arity₀ kind₀ firsts₀ seconds₀ arities kinds first-sorts second-sorts r₀ arity kind firsts seconds r = (r ≤ count) × (count ≤ 17) × (length arity ≡ 17) × (length kind ≡ 17) × (length firsts ≡ 17) × (length seconds ≡ 17) × Filled count arities kinds first-sorts second-sorts r arity kind firsts seconds
+Inv-loop count arity₀ kind₀ firsts₀ seconds₀ arities kinds first-sorts second-sorts r₀ arity kind firsts seconds r = (r ≤ count) × (count ≤ 18) × (length arity ≡ 18) × (length kind ≡ 18) × (length firsts ≡ 18) × (length seconds ≡ 18) × Filled count arities kinds first-sorts second-sorts r arity kind firsts seconds
 
 abbrev μ-loop : tie.MeasureT-loop
 μ-loop count arity₀ kind₀ firsts₀ seconds₀ arities kinds first-sorts second-sorts r₀ arity kind firsts seconds r = count - r
 
 add-count : tie.Need-add-count Inv-loop μ-loop
-add-count c = omega (arith, c .before .pre .rels, c .before .pre .chosen)
+add-count c = omega (arith, c .before .pre .rels, c .before .pre .chosen, c .before .pre .every)
 
 add-count-2 : tie.Need-add-count-2 Inv-loop μ-loop
-add-count-2 c = omega (arith, c .before .pre .rels, c .before .pre .chosen)
+add-count-2 c = omega (arith, c .before .before .pre .rels, c .before .before .pre .chosen, c .before .before .pre .every)
+
+add-count-3 : tie.Need-add-count-3 Inv-loop μ-loop
+add-count-3 c = omega (arith, c .before .before .pre .rels, c .before .before .pre .chosen, c .before .before .pre .every)
 
 loop-holds : tie.Need-loop-holds Inv-loop μ-loop
-loop-holds c = (omega arith, omega (arith, c .before .before .before .before .before .pre .rels, c .before .before .before .before .before .pre .chosen), refl, refl, refl, refl, filled-start _ _ _ _ _)
+loop-holds c =
+    let s = c .before .before .before .before .before .before in
+    (omega arith, omega (arith, s .pre .rels, s .pre .chosen, s .pre .every), refl, refl, refl, refl, filled-start _ _ _ _ _)
 
 arity-at-requires : tie.Need-arity-at-requires Inv-loop μ-loop
 arity-at-requires c κs = omega (arith, c .before .before .loop .inv .1)
@@ -54,13 +59,19 @@ sort-at-requires-2 : tie.Need-sort-at-requires-2 Inv-loop μ-loop
 sort-at-requires-2 c κs = omega (arith, c .before .before .before .before .before .before .before .before .before .before .loop .inv .1)
 
 mul-seconds : tie.Need-mul-seconds Inv-loop μ-loop
-mul-seconds c = omega (arith, c .before .before .before .before .before .before .before .before .before .before .before .before .loop .inv .1, c .before .before .before .before .before .before .before .before .before .before .before .before .loop .inv .5)
+mul-seconds c =
+    let s = c .before .before .before .before .before .before .before .before .before .before .before .before in
+    omega (arith, s .loop .inv .1, s .loop .inv .5)
 
 array-write-seconds : tie.Need-array-write-seconds Inv-loop μ-loop
-array-write-seconds c = omega (arith, c .before .before .before .before .before .before .before .before .before .before .before .before .loop .inv .1, c .before .before .before .before .before .before .before .before .before .before .before .before .loop .inv .5)
+array-write-seconds c =
+    let s = c .before .before .before .before .before .before .before .before .before .before .before .before in
+    omega (arith, s .loop .inv .1, s .loop .inv .5)
 
 add-r : tie.Need-add-r Inv-loop μ-loop
-add-r c = omega (arith, c .before .before .before .before .before .before .before .before .before .before .before .before .loop .inv .1)
+add-r c =
+    let s = c .before .before .before .before .before .before .before .before .before .before .before .before in
+    omega (arith, s .loop .inv .1)
 
 loop-again : tie.Need-loop-again Inv-loop μ-loop
 loop-again c =
@@ -81,8 +92,8 @@ returns : tie.Need-returns Inv-loop μ-loop
 unfolding Filled
 returns c =
     let k = c .before .loop in
-    let s = c .before .before .before .before .before .before .before .pre in
-    numbered (c .before .before .before .before .before .before .before .args .g) (k .r) (k .arity) (k .kind) (k .firsts) (k .seconds) s (omega arith) (k .inv .6 (c .before .before .before .before .before .before .before .args .g) s refl refl refl refl refl)
+    let s = c .before .before .before .before .before .before .before .before .pre in
+    numbered (c .before .before .before .before .before .before .before .before .args .g) (k .r) (k .arity) (k .kind) (k .firsts) (k .seconds) s (omega arith) (k .inv .6 (c .before .before .before .before .before .before .before .before .args .g) s refl refl refl refl refl)
 
 pub relations-of-spec : {M : Type 1} → Rattle.problem_of_case.proofs.relations_of.Statement.statement M
 relations-of-spec =
@@ -92,6 +103,7 @@ relations-of-spec =
     μ-loop
     add-count
     add-count-2
+    add-count-3
     loop-holds
     arity-at-requires
     mul-arity

@@ -24,7 +24,8 @@ row c = getD (c .before .before .args .t3 .rows) (c .before .loop .nodes) noNode
 
 -- the counts so far
 counts-small : (c : tie.At-loop Inv-loop μ-loop) → (c .loop .atoms ≤ 2 ^ 36) × (c .loop .actions ≤ 2 ^ 36)
-counts-small c = node-counts (c .before .args .n) (c .before .pre .1) (c .before .args .t2 .count) (c .before .args .t3) (c .before .pre .3 .count) (c .before .pre .2) (c .loop .nodes) (c .loop .nodes) (c .loop .atoms) (c .loop .actions) (c .loop .inv .0) (c .loop .inv .1)
+counts-small c = node-counts (c .before .args .n) (c .before .pre .1) (c .before .args .t2 .count) (c .before .args .t3) (c .before .pre .3 .count) (c .before .pre .2)
+    (c .loop .nodes) (c .loop .nodes) (c .loop .atoms) (c .loop .actions) (c .loop .inv .0) (c .loop .inv .1)
 
 -- how many values its free variables have
 rows-are : (c : tie.After-power Inv-loop μ-loop) → c .power .result ≡ c .before .before .before .before .before .before .args .n ^ row (c .before .before .before .before) .width

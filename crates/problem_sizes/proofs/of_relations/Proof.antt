@@ -35,7 +35,7 @@ power-requires c κs =
 add-atoms : tie.Need-add-atoms Inv-loop μ-loop
 add-atoms c =
     let l = c .before .before .before .before .before in let s = l .before in
-    omega (arith, counts-small (l) .0, c .relation-width .ensures, width-le (s .args .n) (c .before .power .result) (getD (s .args .t3 .kind) (l .loop .i) 0) (s .pre .1) (size-small (c .before)) .1)
+    omega (arith, counts-small (l) .0, c .relation-width .ensures, width-le (s .args .n) (c .before .power .result) (getD (s .args .t3 .kind) (l .loop .i) 0) (s .pre .1) (size-small (c .before)))
 
 mul-seconds-2 : tie.Need-mul-seconds-2 Inv-loop μ-loop
 mul-seconds-2 c = omega (arith, c .before .before .before .before .before .before .before .before .before .pre .2 .seconds (c .before .before .before .before .before .before .before .before .loop .i))
@@ -68,7 +68,8 @@ loop-again c =
     let s = c .before .before .before .before .before .before .before .before .before .before .before .before .args in
     let k = c .before .before .before .before .before .before .before .before .before .before .before .loop in (
       omega arith,
-      relations-next (s .n) (s .t2 .count) (s .t3) (k .i) (k .atoms) (k .sets) (k .picks) (c .before .before .before .before .before .before .before .power .result) (c .before .before .before .before .before .before .relation-width .result) (c .before .set-width .result) (c .most-width .result)
+      relations-next (s .n) (s .t2 .count) (s .t3) (k .i) (k .atoms) (k .sets) (k .picks) (c .before .before .before .before .before .before .before .power .result)
+          (c .before .before .before .before .before .before .relation-width .result) (c .before .set-width .result) (c .most-width .result)
           (c .before .before .before .before .before .before .before .power .ensures) (c .before .before .before .before .before .before .relation-width .ensures) (c .before .set-width .ensures) (c .most-width .ensures) (k .inv .1),
     )
 

@@ -11,14 +11,14 @@ unfolding builtInTable
 returns c =
     let lookup = c .before .before .before .lookup in
     let z = c .before .before .before .before .before .before .before .before .before .before .before .before in
-    λ g h. in-built-in (z .args .s .now) (withArrays g (z .args .from .now) (z .args .to .now) (z .args .arity .now)) (matches (slice (z .args .a) (z .args .e) (z .args .s .now)) (z .args .any) (z .args .k)) (lookup .result) (lookup .ensures builtInTable) _ (c .before .b .given .1)
+    λ g h one. in-built-in (z .args .s .now) (withArrays g (z .args .from .now) (z .args .to .now) (z .args .arity .now)) one (matches (slice (z .args .a) (z .args .e) (z .args .s .now)) (z .args .any) (z .args .k)) (lookup .result) (lookup .ensures builtInTable) _ (c .before .b .given .1)
 
 returns-2 : tie.Need-returns-2
 unfolding builtInTable
 returns-2 c =
     let lookup2 = c .before .before .before .lookup2 in let lookup = c .before .before .before .before .before .before .lookup in
     let z = c .before .before .before .before .before .before .before .before .before .before .before .before .before .before .before in
-    λ g h. in-declared (z .args .s .now) (withArrays g (z .args .from .now) (z .args .to .now) (z .args .arity .now))
+    λ g h one. in-declared (z .args .s .now) (withArrays g (z .args .from .now) (z .args .to .now) (z .args .arity .now)) one
     (matches (slice (z .args .a) (z .args .e) (z .args .s .now)) (z .args .any) (z .args .k)) (lookup .result) (lookup .ensures builtInTable)
     (c .before .before .before .before .enum-told .given .1) (z .args .m) h (lookup2 .result) (lookup2 .ensures g) _ (c .before .d .given .1)
 
@@ -27,7 +27,7 @@ unfolding builtInTable
 returns-3 c =
     let lookup = c .before .before .before .before .before .lookup in
     let z = c .before .before .before .before .before .before .before .before .before .before .before .before .before .before in
-    λ g h. in-none (z .args .s .now) (withArrays g (z .args .from .now) (z .args .to .now) (z .args .arity .now))
+    λ g h one. in-none (z .args .s .now) (withArrays g (z .args .from .now) (z .args .to .now) (z .args .arity .now)) one
     (matches (slice (z .args .a) (z .args .e) (z .args .s .now)) (z .args .any) (z .args .k)) (lookup .result) (lookup .ensures builtInTable)
     (c .before .before .before .enum-told .given .1) (z .args .m) h (c .before .before .lookup2 .result) (c .before .before .lookup2 .ensures g)
     (c .enum-told2 .given .1)

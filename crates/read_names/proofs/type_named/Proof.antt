@@ -1,4 +1,4 @@
--- `read_names::type_named` meets its contract. Types stand from entry 12 on, so that what is found there is 12 further on.
+-- `read_names::type_named` meets its contract. Types stand from entry 13 on, so that what is found there is 13 further on.
 use lib.Seq.{slice}
 use native.Mathlib.Omega.{arith}
 use borrow.Author.Needs.{needs}

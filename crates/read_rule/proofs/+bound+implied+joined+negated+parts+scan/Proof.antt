@@ -294,7 +294,7 @@ parts-returns-3 t c =
 -- the form's word is in the text, and what its function reads after it is the formula
 module _ (t : ℕ) (c : scan-lts.After-kind-at (scan-claims t) (scan-at t) scan.Post) (k : Form) (told : c .kind-at .result ≡ k) where
   scan-asks : let a = c .before .before .before .args in
-      ((a .room - 1) * 3 + 2 < t) × ((pastWord (headOf k) (a .at) ≤ length (a .s .now)) × (a .m ≤ 12) × (a .sc .n ≤ 4))
+      ((a .room - 1) * 3 + 2 < t) × ((pastWord (headOf k) (a .at) ≤ length (a .s .now)) × (a .m ≤ 13) × (a .sc .n ≤ 4))
   scan-asks =
       let s = c .before .before .before in let word = word-in k told (s .args .s .now) (s .args .at) (c .kind-at .ensures) (s .pre .1 .0) in
       (omega (arith, s .pre .0, c .before .if1 .left), (word, s .pre .1 .1, s .pre .1 .2))

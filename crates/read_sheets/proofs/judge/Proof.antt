@@ -8,10 +8,10 @@ pub judge-spec : {M : Type 1} → Rattle.read_sheets.proofs.judge.State
 unfolding verdictOf
 judge-spec =
     tie.close (tie.spec (λ c. search needs) (λ c. search needs) (λ c. search needs) (λ c. search needs) (λ c. search needs) (λ c. search needs)
-    (λ c. search needs) (λ c. search needs) (λ c. search needs) (λ c. search needs) (λ c. search needs)
+    (λ c. search needs) (λ c. search needs) (λ c. search needs) (λ c. search needs) (λ c. search needs) (λ c. search needs)
     (λ c. sym (ap verdictOf (c .enum-told .given .1))) (λ c. sym (ap verdictOf (c .enum-told2 .given .1)))
     (λ c. sym (ap verdictOf (c .enum-told3 .given .1))) (λ c. sym (ap verdictOf (c .enum-told4 .given .1)))
     (λ c. sym (ap verdictOf (c .enum-told5 .given .1))) (λ c. sym (ap verdictOf (c .enum-told6 .given .1)))
     (λ c. sym (ap verdictOf (c .enum-told7 .given .1))) (λ c. sym (ap verdictOf (c .enum-told8 .given .1)))
     (λ c. sym (ap verdictOf (c .enum-told9 .given .1))) (λ c. sym (ap verdictOf (c .enum-told10 .given .1)))
-    (λ c. sym (ap verdictOf (c .before .x .given .1))))
+    (λ c. sym (ap verdictOf (c .enum-told11 .given .1))) (λ c. sym (ap verdictOf (c .before .x .given .1))))

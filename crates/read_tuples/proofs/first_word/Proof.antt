@@ -6,7 +6,7 @@ use lib.ListN.{length}
 use Rattle.read_tuples.proofs.first_word.Tie as tie
 
 word-of-requires : tie.Need-word-of-requires
-word-of-requires c κs = let e : length (c .before .before .args .g .arity) ≡ 12 = search needs in
+word-of-requires c κs = let e : length (c .before .before .args .g .arity) ≡ 13 = search needs in
     (omega arith, omega arith, omega arith, omega (arith, e), c .before .before .pre .3)
 
 pub first-word-spec : {M : Type 1} → Rattle.read_tuples.proofs.first_word.Statement.statement M

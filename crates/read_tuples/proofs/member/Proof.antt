@@ -15,7 +15,7 @@ few c =
     let s = c .before .before .before .before .before .before .before .before .before in let a = s .args in
     omega (
       arith,
-      length-names (a .q .now) (a .from .now) (a .to .now) 12 (a .types),
+      length-names (a .q .now) (a .from .now) (a .to .now) 13 (a .types),
       type-below _ (a .n) (s .pre .1 .0) _ (elementBy [] 0) [] [] _ (c .before .before .type-named .ensures) _ (c .f .given .1),
     )
 

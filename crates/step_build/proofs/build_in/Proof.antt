@@ -7,49 +7,25 @@ use borrow.Author.Needs.{needs}
 use Rattle.step_build.proofs.build_in.Statement.{statement}
 use Rattle.step_build.proofs.build_in.Tie as tie
 
--- src/lib.rt:268:8
-rule-holds-requires : tie.Need-rule-holds-requires
-rule-holds-requires c κs = search needs
-
--- src/lib.rt:269:22
-add-words : tie.Need-add-words
-add-words c = search needs
-
--- src/lib.rt:270:44
-slice-relend-prefix-start-and-follow : tie.Need-slice-relend-prefix-start-and-follow
-slice-relend-prefix-start-and-follow c = search needs
-
--- src/lib.rt:270:44
 slice-aggregate-start-and-follow : tie.Need-slice-aggregate-start-and-follow
 slice-aggregate-start-and-follow c = sym (length-take-le _ _ (c .before .before .before .before .before .before .before .before .before .before .before .before .before .pre .0 .3))
 
--- src/lib.rt:270:13
 start-and-follow-requires : tie.Need-start-and-follow-requires
-start-and-follow-requires c κs = let q = c .before .before .before .before .before .before .before .before .before .before .before .before .before .before .pre in (q .0 .0, q .0 .1, length-take-le _ _ (q .0 .3), c .before .before .before .before .before .before .rule-holds .kept .0 ∙ q .1)
+start-and-follow-requires c κs = let q = c .before .before .before .before .before .before .before .before .before .before .before .before .before .before .pre in (
+  q .0 .0,
+  q .0 .1,
+  length-take-le _
+      _ (q .0 .3),
+  c .before .before .before .before .before .before .rule-holds .kept .0 ∙ q .1,
+)
 
--- src/lib.rt:271:9
-same-length : tie.Need-same-length
-same-length c = search needs
-
--- src/lib.rt:271:9
-same-length-2 : tie.Need-same-length-2
-same-length-2 c = search needs
-
--- src/lib.rt:271:9
-same-length-3 : tie.Need-same-length-3
-same-length-3 c = search needs
-
--- src/lib.rt:271:9
 returns : tie.Need-returns
-returns c = let q = c .before .before .before .before .before .before .before .before .before .before .before .before .before .before .before .before .before .before .before .pre in let h = c .before .before .before .before .before .before .before .before .before .before .before .rule-holds in let f = c .before .before .before .before .start-and-follow in
-    λ x F G n. lent-steps x F _ _ _ _ _ _ G n _ (h .ensures x F _ G n .told) (c .before .before .before .before .before .before .before .before .if1 .taken) _ _ _ _ (f .ensures x F _ G n (as-true (c .before .before .before .before .before .before .before .before .if1 .taken) (h .ensures x F _ G n))) (λ j. omega (arith, c .before .before .slice-known5 .given j, c .slice-known6 .given j))
+returns c = let q = c .before .before .before .before .before .before .before .before .before .before .before .before .before .before .before .before .before .before .before .pre in
+    let h = c .before .before .before .before .before .before .before .before .before .before .before .rule-holds in let f = c .before .before .before .before .start-and-follow in
+    λ x F G n. lent-steps x F _ _ _ _ _ _ G n _ (h .ensures x F _ G n .told) (c .before .before .before .before .before .before .before .before .if1 .taken) _ _ _ (f .ensures x F _ G n (as-true (c
+    .before .before .before .before .before .before .before .before .if1 .taken) (h .ensures x F _ G n))) (λ j. omega (arith, c .before .before .slice-known5 .given j, c .slice-known6 .given j))
     (f .kept .1 .0 ∙ length-take-le _ _ (q .0 .3))
 
--- src/lib.rt:254:1
-same-length-4 : tie.Need-same-length-4
-same-length-4 c = search needs
-
--- src/lib.rt:254:1
 returns-2 : tie.Need-returns-2
 returns-2 c = let h = c .before .before .before .rule-holds in λ x F G n. lent-false x F _ _ _ _ _ _ G n _ (h .ensures x F _ G n .told) (c .if1 .left)
 
@@ -57,14 +33,14 @@ pub build-in-spec : {M : Type 1} → statement M
 build-in-spec =
     tie.close
     (tie.spec
-    rule-holds-requires
-    add-words
-    slice-relend-prefix-start-and-follow
+    (λ c κs. search needs)
+    (λ c. search needs)
+    (λ c. search needs)
     slice-aggregate-start-and-follow
     start-and-follow-requires
-    same-length
-    same-length-2
-    same-length-3
+    (λ c. search needs)
+    (λ c. search needs)
+    (λ c. search needs)
     returns
-    same-length-4
+    (λ c. search needs)
     returns-2)

@@ -5,42 +5,20 @@ use borrow.Author.Needs.{needs}
 use Rattle.step_build.proofs.build_small.Statement.{statement}
 use Rattle.step_build.proofs.build_small.Tie as tie
 
--- src/lib.rt:289:18
-add-words : tie.Need-add-words
-add-words c = search needs
-
--- src/lib.rt:291:14
-array-borrow-prefix-left : tie.Need-array-borrow-prefix-left
-array-borrow-prefix-left c = search needs
-
--- src/lib.rt:291:14
 slice-aggregate-build-in : tie.Need-slice-aggregate-build-in
 slice-aggregate-build-in c = sym (length-take-le _ _ (search needs))
 
--- src/lib.rt:291:5
 build-in-requires : tie.Need-build-in-requires
 build-in-requires c κs = let q = c .before .before .before .before .before .before .before .before .pre in ((q .0, q .1, omega arith, q .3), length-take-le _ _ (search needs))
-
--- src/lib.rt:277:1
-same-length : tie.Need-same-length
-same-length c = search needs
-
--- src/lib.rt:277:1
-same-length-2 : tie.Need-same-length-2
-same-length-2 c = search needs
-
--- src/lib.rt:277:1
-returns : tie.Need-returns
-returns c = search needs
 
 pub build-small-spec : {M : Type 1} → statement M
 build-small-spec =
     tie.close
     (tie.spec
-    add-words
-    array-borrow-prefix-left
+    (λ c. search needs)
+    (λ c. search needs)
     slice-aggregate-build-in
     build-in-requires
-    same-length
-    same-length-2
-    returns)
+    (λ c. search needs)
+    (λ c. search needs)
+    (λ c. search needs))

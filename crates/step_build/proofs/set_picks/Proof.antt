@@ -20,7 +20,7 @@ Inv-loop state₀ steps₀ table picks k₀ word₀ r₀ state steps k word r =
     × ((p : Problem) → ReadyToFollow p table (length state₀) → (word ≡ wordStart p r)
     × (setRelations p (rowsIn p picks) (out (bit state₀) steps₀ 0) 0 (length (p .relations))
     ≡ setRelations p (rowsIn p picks) (out (bit state) steps k) r (length (p .relations) - r)))
-    × (relationsIn table ≤ 17) × (length table ≡ tableLength)
+    × (relationsIn table ≤ 18) × (length table ≡ tableLength)
 
 abbrev μ-loop : tie.MeasureT-loop
 μ-loop state₀ steps₀ table picks k₀ word₀ r₀ state steps k word r = relationsIn table - r

@@ -16,7 +16,7 @@ abbrev Inv-loop : tie.InvT-loop
 Inv-loop table state picks₀ word₀ r₀ picks word r =
     (r ≤ relationsIn table) × (length picks ≡ length picks₀) × (word + countFrom table r (relationsIn table - r) ≡ picksIn table)
     × (sets picks₀ 0 (wordsFrom (bit state) table 0 (relationsIn table)) ≡ sets picks word (wordsFrom (bit state) table r (relationsIn table - r)))
-    × (relationsIn table ≤ 17) × (length table ≡ tableLength)
+    × (relationsIn table ≤ 18) × (length table ≡ tableLength)
 
 abbrev μ-loop : tie.MeasureT-loop
 μ-loop table state picks₀ word₀ r₀ picks word r = relationsIn table - r

@@ -1,12 +1,14 @@
--- `step_picks::has_spare` meets its contract: each return is a law of `Spare`. Assumes nothing.
-use Rattle.step_picks.specs.Spare.{line-static, line-full, line-last}
+-- `step_picks::has_spare` meets its contract.
+use Rattle.step_picks.specs.Spare.{line-none, line-some}
 use borrow.Author.Needs.{needs}
+use mathlib.Core.Path.{sym, _∙_}
 use Rattle.step_picks.proofs.has_spare.Tie as tie
 
-returns-3 : tie.Need-returns-3
-returns-3 c = line-last _ _ _ (c .before .before .before .if1 .left) _ (c .before .before .tuples-in .ensures) (c .before .if2 .left) _ (c .word-at .ensures)
+returns : tie.Need-returns
+returns c = line-some _ _ _ (sym (c .before .before .before .is-chosen .ensures) ∙ c .before .before .if1 .taken) _ (c .before .tuples-in .ensures) _ (c .spare-past .ensures)
+
+returns-2 : tie.Need-returns-2
+returns-2 c = line-none _ _ _ (sym (c .before .is-chosen .ensures) ∙ c .if1 .left)
 
 pub has-spare-spec : {M : Type 1} → Rattle.step_picks.proofs.has_spare.Statement.statement M
-has-spare-spec = tie.close (tie.spec (λ c. line-static _ _ _ (c .if1 .taken)) (λ c κs. search needs)
-    (λ c. line-full _ _ _ (c .before .before .if1 .left) _ (c .before .tuples-in .ensures) (c .if2 .taken)) (λ c. search needs) (λ c κs. search needs)
-    (λ c. search needs) returns-3)
+has-spare-spec = tie.close (tie.spec (λ c κs. search needs) (λ c κs. search needs) (λ c κs. search needs) returns returns-2)

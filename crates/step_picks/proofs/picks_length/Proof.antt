@@ -12,7 +12,7 @@ use Rattle.step_picks.proofs.picks_length.Tie as tie
 
 abbrev Inv-loop : tie.InvT-loop
 Inv-loop table sum₀ r₀ sum r =
-    (r ≤ relationsIn table) × (sum ≤ r * 2 ^ 27) × (sum + countFrom table r (relationsIn table - r) ≡ picksIn table) × (relationsIn table ≤ 17)
+    (r ≤ relationsIn table) × (sum ≤ r * 2 ^ 27) × (sum + countFrom table r (relationsIn table - r) ≡ picksIn table) × (relationsIn table ≤ 18)
     × (length table ≡ tableLength)
 
 abbrev μ-loop : tie.MeasureT-loop

@@ -17,7 +17,7 @@ use Rattle.step_picks.proofs.spare_word.Tie as tie
 abbrev Inv-loop : tie.InvT-loop
 Inv-loop table picks word₀ r₀ word r =
     (r ≤ relationsIn table) × (word ≤ r * 2 ^ 27) × ((p : Problem) → Is p table → spareWord p picks 0 (chosenNumbers p) ≡ spareFrom p picks r word)
-    × (relationsIn table ≤ 17) × (length table ≡ tableLength)
+    × (relationsIn table ≤ 18) × (length table ≡ tableLength)
 
 abbrev μ-loop : tie.MeasureT-loop
 μ-loop table picks word₀ r₀ word r = relationsIn table - r

@@ -16,7 +16,7 @@ abbrev Inv-loop : tie.InvT-loop
 Inv-loop table picks n i₀ word₀ r₀ i word r =
     (r ≤ relationsIn table) × (i ≤ r) × (word ≤ r * 2 ^ 27) × ((p : Problem) → Is p table → (word ≡ wordStart p r)
     × (brokenFrom p (rowsIn p picks) 0 (length (p .relations)) 0 ≡ brokenFrom p (rowsIn p picks) r (length (p .relations) - r) i))
-    × (relationsIn table ≤ 17) × (length table ≡ tableLength)
+    × (relationsIn table ≤ 18) × (length table ≡ tableLength)
 
 abbrev μ-loop : tie.MeasureT-loop
 μ-loop table picks n i₀ word₀ r₀ i word r = relationsIn table - r

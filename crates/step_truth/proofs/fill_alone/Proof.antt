@@ -8,21 +8,11 @@ use borrow.Author.Needs.{needs}
 use Rattle.step_truth.proofs.fill_alone.Statement.{statement}
 use Rattle.step_truth.proofs.fill_alone.Tie as tie
 
--- src/lib.rt:162:9
 parts-word-requires : tie.Need-parts-word-requires
 parts-word-requires c κs = let q = c .before .before .before .before .pre in (q .0, q .1 .parts, within-most 1 (0 ∷ 0 ∷ 0 ∷ 0 ∷ []) (omega arith) (within-zeros 1 (omega arith)), omega arith, omega arith)
 
--- src/lib.rt:163:5
-store-requires : tie.Need-store-requires
-store-requires c κs = search needs
-
--- src/lib.rt:157:1
-same-length : tie.Need-same-length
-same-length c = search needs
-
--- src/lib.rt:157:1
 returns : tie.Need-returns
 returns c = let q = c .before .before .before .before .before .before .before .before .before .pre in λ p G F node N K. alone-turn p G F _ _ node _ _ N _ _ _ refl (q .3) _ _ (q .4) refl value-zeros (c .before .before .before .before .parts-word .ensures) (λ h. c .before .before .store .ensures h) K
 
 pub fill-alone-spec : {M : Type 1} → statement M
-fill-alone-spec = tie.close (tie.spec parts-word-requires store-requires same-length returns)
+fill-alone-spec = tie.close (tie.spec parts-word-requires (λ c κs. search needs) (λ c. search needs) returns)

@@ -1,22 +1,22 @@
+-- `step_truth::fill_exists` meets its contract.
 use Prim.Native.Nat.{ℕ, zero, _+_, _-_, _≤_}
-use mathlib.Core.Path.{_≡_, refl, subst, _∙_}
-use mathlib.Core.List.{List}
-use native.Mathlib.Omega.{arith}
-use lib.ListN.{length}
-use Rattle.definitions.specs.Sheet.Relations.{Tuple}
-use Rattle.definitions.specs.Problem.Atoms.{Problem}
-use Rattle.meaning.specs.Means.{Good}
-use Rattle.meaning.specs.Deciding.{Knows}
-use Rattle.meaning.specs.Planning.{rowsTo}
 use Rattle.bits.specs.Table.{bit}
-use Rattle.rows.specs.Values.{Within}
+use Rattle.definitions.specs.Problem.Atoms.{Problem}
+use Rattle.definitions.specs.Sheet.Relations.{Tuple}
+use Rattle.meaning.specs.Deciding.{Knows}
+use Rattle.meaning.specs.Means.{Good}
+use Rattle.meaning.specs.Planning.{rowsTo}
 use Rattle.rows.specs.Laws.{within-zeros}
+use Rattle.rows.specs.Values.{Within}
 use Rattle.step_prove.specs.Tries.{Digits, Rest}
 use Rattle.step_prove.specs.TurnLaws.{zero-digits, rest-zeros}
 use Rattle.step_truth.specs.Nodes.{Filling, Knowing}
 use Rattle.step_truth.specs.TurnLaws.{meet-turn}
 use borrow.Author.Needs.{needs}
-use Rattle.step_truth.proofs.fill_exists.Statement.{statement}
+use lib.ListN.{length}
+use mathlib.Core.List.{List}
+use mathlib.Core.Path.{_≡_, refl, subst, _∙_}
+use native.Mathlib.Omega.{arith}
 use Rattle.step_truth.proofs.fill_exists.Tie as tie
 
 abbrev Inv-loop : tie.InvT-loop
@@ -26,59 +26,15 @@ Inv-loop state₀ table v width n members digits₀ row₀ state digits row = (r
 abbrev μ-loop : tie.MeasureT-loop
 μ-loop state₀ table v width n members digits₀ row₀ state digits row = width - row
 
--- src/lib.rt:142:13
 shared-slice-read-n : tie.Need-shared-slice-read-n Inv-loop μ-loop
 shared-slice-read-n c = omega (arith, c .before .before .before .pre .0 .whole)
 
--- src/lib.rt:143:9
-members-word-requires : tie.Need-members-word-requires Inv-loop μ-loop
-members-word-requires c κs = search needs
-
--- src/lib.rt:146:5
 loop-holds : tie.Need-loop-holds Inv-loop μ-loop
 loop-holds c = (omega arith, refl, refl, within-zeros _ (c .before .before .before .before .pre .0 .some), rest-zeros _, zero-digits _ _, λ p G F node N K. (K, λ i o. refl))
 
--- src/lib.rt:147:52
-slice-aggregate-under-at : tie.Need-slice-aggregate-under-at Inv-loop μ-loop
-slice-aggregate-under-at c = search needs
-
--- src/lib.rt:147:13
-under-at-requires : tie.Need-under-at-requires Inv-loop μ-loop
-under-at-requires c κs = search needs
-
--- src/lib.rt:148:13
 window-requires : tie.Need-window-requires Inv-loop μ-loop
 window-requires c κs = let u = c .before .under-at .ensures in (u .0, u .1, c .before .before .before .before .before .before .before .before .before .pre .0 .size)
 
--- src/lib.rt:149:13
-meets-requires : tie.Need-meets-requires Inv-loop μ-loop
-meets-requires c κs = search needs
-
--- src/lib.rt:150:28
-add-store : tie.Need-add-store Inv-loop μ-loop
-add-store c = search needs
-
--- src/lib.rt:150:9
-store-requires : tie.Need-store-requires Inv-loop μ-loop
-store-requires c κs = search needs
-
--- src/lib.rt:151:41
-slice-aggregate-advance : tie.Need-slice-aggregate-advance Inv-loop μ-loop
-slice-aggregate-advance c = search needs
-
--- src/lib.rt:151:9
-advance-requires : tie.Need-advance-requires Inv-loop μ-loop
-advance-requires c κs = search needs
-
--- src/lib.rt:152:9
-add-row : tie.Need-add-row Inv-loop μ-loop
-add-row c = search needs
-
--- src/lib.rt:146:5
-loop-less : tie.Need-loop-less Inv-loop μ-loop
-loop-less c = search needs
-
--- src/lib.rt:146:5
 loop-again : tie.Need-loop-again Inv-loop μ-loop
 loop-again c = let l = c .before .before .before .before .before .before .before .before .before .before .before .before .before .before .loop in let d = c .before .advance in let q = c .before .before .before .before .before .before .before .before .before .before .before .before .before .before .before .before .before .before .before .pre in (
   omega arith,
@@ -91,33 +47,13 @@ loop-again c = let l = c .before .before .before .before .before .before .before
       (omega arith) (c .before .before .before .before .before .before .before .before .meets .ensures) (λ h. c .before .before .before .before .before .store .ensures (omega (arith, h, l .inv .1))) (I .0) in (M .0, λ i o. M .1 i o ∙ I .1 i o),
 )
 
--- src/lib.rt:138:1
 same-length : tie.Need-same-length Inv-loop μ-loop
 same-length c = c .before .loop .inv .1
 
--- src/lib.rt:138:1
 returns : tie.Need-returns Inv-loop μ-loop
 returns c = let l = c .before .loop in λ p G F node N K. let e : l .row ≡ c .before .before .before .before .before .before .args .width = omega arith in let I = l .inv .6 p G F node N K in (subst (λ (i : ℕ). Knows p F (rowsTo p G F node i) (bit (l .state))) e (I .0), I .1)
 
-pub fill-exists-spec : {M : Type 1} → statement M
-fill-exists-spec =
-    tie.close
-    (tie.spec
-    Inv-loop
-    μ-loop
-    shared-slice-read-n
-    members-word-requires
-    loop-holds
-    slice-aggregate-under-at
-    under-at-requires
-    window-requires
-    meets-requires
-    add-store
-    store-requires
-    slice-aggregate-advance
-    advance-requires
-    add-row
-    loop-less
-    loop-again
-    same-length
-    returns)
+pub fill-exists-spec : {M : Type 1} → Rattle.step_truth.proofs.fill_exists.Statement.statement M
+fill-exists-spec = tie.close (tie.spec Inv-loop μ-loop shared-slice-read-n (λ c κs. search needs) loop-holds (λ c. search needs)
+    (λ c κs. search needs) window-requires (λ c κs. search needs) (λ c. search needs) (λ c κs. search needs) (λ c. search needs)
+    (λ c κs. search needs) (λ c. search needs) (λ c. search needs) loop-again same-length returns)

@@ -1,20 +1,20 @@
+-- `step_truth::fill_nodes` meets its contract.
 use Prim.Native.Nat.{ℕ, _+_, _-_, _^_, _≤_}
-use mathlib.Core.Path.{_≡_, refl, ap, subst, _∙_}
-use mathlib.Core.List.{List}
-use native.Mathlib.Omega.{arith}
-use lib.ListN.{length}
-use Rattle.definitions.specs.Sheet.Relations.{Tuple}
-use Rattle.definitions.specs.Problem.Atoms.{Problem, nodeStart}
-use Rattle.meaning.specs.Means.{Good}
-use Rattle.meaning.specs.Deciding.{Knows}
-use Rattle.meaning.specs.Planning.{nodesFrom}
 use Rattle.bits.specs.Table.{bit}
+use Rattle.definitions.specs.Problem.Atoms.{Problem, nodeStart}
+use Rattle.definitions.specs.Sheet.Relations.{Tuple}
+use Rattle.meaning.specs.Deciding.{Knows}
+use Rattle.meaning.specs.Means.{Good}
+use Rattle.meaning.specs.Planning.{nodesFrom}
 use Rattle.problem_table.specs.Lines.{nodeLine}
 use Rattle.problem_table.specs.declared.NodeLine.{NodeLine}
 use Rattle.step_truth.specs.Nodes.{Fillable, Knowing}
 use Rattle.step_truth.specs.TurnLaws.{atoms-few, node-turn}
 use borrow.Author.Needs.{needs}
-use Rattle.step_truth.proofs.fill_nodes.Statement.{statement}
+use lib.ListN.{length}
+use mathlib.Core.List.{List}
+use mathlib.Core.Path.{_≡_, refl, ap, subst, _∙_}
+use native.Mathlib.Omega.{arith}
 use Rattle.step_truth.proofs.fill_nodes.Tie as tie
 
 abbrev Inv-loop : tie.InvT-loop
@@ -25,35 +25,12 @@ Inv-loop state₀ table first past end₀ v₀ state end v = (first ≤ v) × (v
 abbrev μ-loop : tie.MeasureT-loop
 μ-loop state₀ table first past end₀ v₀ state end v = v
 
--- src/lib.rt:211:9
-node-line-requires : tie.Need-node-line-requires Inv-loop μ-loop
-node-line-requires c κs = search needs
-
--- src/lib.rt:214:5
 loop-holds : tie.Need-loop-holds Inv-loop μ-loop
 loop-holds c = (c .before .before .before .pre .1, omega arith, atoms-few _ _ _ (c .before .before .before .pre .0) (c .node-line .ensures), refl, λ p G F R h e K. (ap (λ (x : NodeLine). x .atoms) (c .node-line .ensures) ∙ e, (K, λ i o. refl)))
 
--- src/lib.rt:215:9
-sub-v : tie.Need-sub-v Inv-loop μ-loop
-sub-v c = search needs
-
--- src/lib.rt:216:13
-node-line-requires-2 : tie.Need-node-line-requires-2 Inv-loop μ-loop
-node-line-requires-2 c κs = search needs
-
--- src/lib.rt:217:13
-gap-requires : tie.Need-gap-requires Inv-loop μ-loop
-gap-requires c κs = search needs
-
--- src/lib.rt:218:9
 fill-node-requires : tie.Need-fill-node-requires Inv-loop μ-loop
 fill-node-requires c κs = (c .before .before .before .before .before .before .before .before .pre .0, omega (arith, c .before .before .before .before .before .before .before .before .pre .2), omega (arith, c .before .gap .ensures))
 
--- src/lib.rt:214:5
-loop-less : tie.Need-loop-less Inv-loop μ-loop
-loop-less c = search needs
-
--- src/lib.rt:214:5
 loop-again : tie.Need-loop-again Inv-loop μ-loop
 loop-again c = let l = c .before .before .before .before .before .before .before .loop in let q = c .before .before .before .before .before .before .before .before .before .before .before .pre in (
   omega arith,
@@ -65,27 +42,12 @@ loop-again c = let l = c .before .before .before .before .before .before .before
       let M = node-turn p G F _ (l .v) _ _ _ _ _ (c .before .before .before .before .before .node-line2 .ensures) (omega arith) (omega arith) (record { is = R .is; room = omega (arith, R .room, l .inv .3) }) (I .0) (c .before .before .before .before .gap .ensures) (c .before .before .fill-node .ensures) (I .1 .0) in (M .0, (M .1 .0, λ i o. M .1 .1 i o ∙ I .1 .1 i o)),
 )
 
--- src/lib.rt:206:1
 same-length : tie.Need-same-length Inv-loop μ-loop
 same-length c = c .before .loop .inv .3
 
--- src/lib.rt:206:1
 returns : tie.Need-returns Inv-loop μ-loop
 returns c = let l = c .before .loop in λ p G F R h e K. let d : l .v ≡ c .before .before .before .before .before .args .first = omega arith in let I = l .inv .4 p G F R h e K .1 in (subst (λ (i : ℕ). Knows p F (nodesFrom p G F i) (bit (l .state))) d (I .0), I .1)
 
-pub fill-nodes-spec : {M : Type 1} → statement M
-fill-nodes-spec =
-    tie.close
-    (tie.spec
-    Inv-loop
-    μ-loop
-    node-line-requires
-    loop-holds
-    sub-v
-    node-line-requires-2
-    gap-requires
-    fill-node-requires
-    loop-less
-    loop-again
-    same-length
-    returns)
+pub fill-nodes-spec : {M : Type 1} → Rattle.step_truth.proofs.fill_nodes.Statement.statement M
+fill-nodes-spec = tie.close (tie.spec Inv-loop μ-loop (λ c κs. search needs) loop-holds (λ c. search needs) (λ c κs. search needs)
+    (λ c κs. search needs) fill-node-requires (λ c. search needs) loop-again same-length returns)

@@ -3,17 +3,11 @@ use borrow.Author.Needs.{needs}
 use Rattle.step_truth.proofs.with_bit.Statement.{statement}
 use Rattle.step_truth.proofs.with_bit.Tie as tie
 
--- src/lib.rt:26:20
-single-requires : tie.Need-single-requires
-single-requires c κs = search needs
-
--- src/lib.rt:26:9
 returns : tie.Need-returns
 returns c = λ k h. with-yes _ _ _ k _ (c .before .if1 .taken) (c .single .ensures k h)
 
--- src/lib.rt:22:1
 returns-2 : tie.Need-returns-2
 returns-2 c = λ k h. with-no _ _ k _ (c .if1 .left)
 
 pub with-bit-spec : {M : Type 1} → statement M
-with-bit-spec = tie.close (tie.spec single-requires returns returns-2)
+with-bit-spec = tie.close (tie.spec (λ c κs. search needs) returns returns-2)

@@ -22,47 +22,24 @@ Inv-loop state steps₀ at table v j action k₀ i₀ steps k i = (i ≤ v .coun
 abbrev μ-loop : tie.MeasureT-loop
 μ-loop state steps₀ at table v j action k₀ i₀ steps k i = v .count - i
 
--- src/lib.rt:100:5
 loop-holds : tie.Need-loop-holds Inv-loop μ-loop
 loop-holds c = (omega arith, omega arith, refl, λ p G F node width row R e ej ea h. links-none p G F _ node _ width _ R e row _ _ _ refl ej ea h _ _)
 
--- src/lib.rt:101:23
-add-z : tie.Need-add-z Inv-loop μ-loop
-add-z c = search needs
-
--- src/lib.rt:101:17
-mul-z : tie.Need-mul-z Inv-loop μ-loop
-mul-z c = search needs
-
--- src/lib.rt:101:17
 shared-slice-read-z : tie.Need-shared-slice-read-z Inv-loop μ-loop
 shared-slice-read-z c = let q = c .before .before .before .before .before .before .before .before .pre in omega (arith, q .1 .inside, q .0 .whole)
 
--- src/lib.rt:102:52
 add-write-link : tie.Need-add-write-link Inv-loop μ-loop
 add-write-link c = let q = c .before .before .before .before .before .before .before .before .before .pre in omega (arith, q .1 .member (c .before .before .before .before .before .loop .i) (omega arith), q .0 .size, q .4)
 
--- src/lib.rt:102:41
 add-write-link-2 : tie.Need-add-write-link-2 Inv-loop μ-loop
 add-write-link-2 c = let q = c .before .before .before .before .before .before .before .before .before .before .pre in omega (arith, q .1 .member (c .before .before .before .before .before .before .loop .i) (omega arith), q .0 .size, q .4, q .3)
 
--- src/lib.rt:102:60
 add-write-link-3 : tie.Need-add-write-link-3 Inv-loop μ-loop
 add-write-link-3 c = let q = c .before .before .before .before .before .before .before .before .before .before .pre in omega (arith, q .5, q .2)
 
--- src/lib.rt:102:9
 write-link-requires : tie.Need-write-link-requires Inv-loop μ-loop
 write-link-requires c κs = let q = c .before .before .before .before .before .before .before .before .before .before .pre in omega (arith, q .6, q .2)
 
--- src/lib.rt:103:9
-add-i : tie.Need-add-i Inv-loop μ-loop
-add-i c = search needs
-
--- src/lib.rt:100:5
-loop-less : tie.Need-loop-less Inv-loop μ-loop
-loop-less c = search needs
-
--- src/lib.rt:100:5
 loop-again : tie.Need-loop-again Inv-loop μ-loop
 loop-again c = let l = c .before .before .before .before .before .before .before .before .before .loop in let q = c .before .before .write-link in (
   omega arith,
@@ -71,11 +48,9 @@ loop-again c = let l = c .before .before .before .before .before .before .before
   λ p G F node width row R e ej ea h. links-more p G F _ node _ width _ R e row _ _ _ refl ej ea h (l .i) (omega arith) _ _ _ _ _ _ (l .inv .3 p G F node width row R e ej ea h) (q .ensures .1),
 )
 
--- src/lib.rt:84:1
 same-length : tie.Need-same-length Inv-loop μ-loop
 same-length c = c .before .before .loop .inv .2
 
--- src/lib.rt:84:1
 returns : tie.Need-returns Inv-loop μ-loop
 returns c = let l = c .before .before .loop in (omega arith, λ p G F node width row R e ej ea h. links-all p G F _ node _ width _ R e row _ _ _ refl ej ea h (l .i) (omega arith) _ _ _ _ (l .inv .3 p G F node width row R e ej ea h))
 
@@ -86,15 +61,15 @@ write-chain-spec =
     Inv-loop
     μ-loop
     loop-holds
-    add-z
-    mul-z
+    (λ c. search needs)
+    (λ c. search needs)
     shared-slice-read-z
     add-write-link
     add-write-link-2
     add-write-link-3
     write-link-requires
-    add-i
-    loop-less
+    (λ c. search needs)
+    (λ c. search needs)
     loop-again
     same-length
     returns)

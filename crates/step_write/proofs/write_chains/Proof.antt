@@ -25,55 +25,48 @@ Inv-loop state steps₀ at table v width n k₀ j₀ action₀ steps k j action 
 abbrev μ-loop : tie.MeasureT-loop
 μ-loop state steps₀ at table v width n k₀ j₀ action₀ steps k j action = width - j
 
--- src/lib.rt:121:13
 shared-slice-read-n : tie.Need-shared-slice-read-n Inv-loop μ-loop
 shared-slice-read-n c = omega (arith, c .before .before .before .before .pre .0 .whole)
 
--- src/lib.rt:123:9
 returns : tie.Need-returns Inv-loop μ-loop
 returns c = (omega arith, λ p G F node R. absurd (omega (arith, chain-few p G F _ node _ _ _ R (c .before .before .before .before .before .before .pre .4))))
 
--- src/lib.rt:128:5
 loop-holds : tie.Need-loop-holds Inv-loop μ-loop
 loop-holds c = let z = zero-div (sizeIn (c .before .before .before .before .before .before .args .table .now)) in (omega arith, omega arith, refl, rw (z, zero-mul), rw (z, zero-mul) (omega arith), λ p G F node R. rows-none p F node _ _)
 
--- src/lib.rt:128:11
-add-loop : tie.Need-add-loop Inv-loop μ-loop
-add-loop c = search needs
-
--- src/lib.rt:129:9
 write-chain-requires : tie.Need-write-chain-requires Inv-loop μ-loop
-write-chain-requires c κs = let q = c .before .before .before .before .before .before .before .before .before .pre in let l = c .before .before .loop in let low = acts-low _ (c .before .before .before .before .before .before .before .before .before .args .v .count) _ _ (omega arith) (l .inv .3) in
+write-chain-requires c κs =
+    let q = c .before .before .before .before .before .before .before .before .before .pre in
+    let l = c .before .before .loop in
+    let low = acts-low _ (c .before .before .before .before .before .before .before .before .before .args .v .count) _ _ (omega arith) (l .inv .3) in
     (q .0, q .7, omega (arith, q .0 .size), q .3, omega (arith, q .5), omega (arith, q .2, q .5, low, l .inv .4), omega (arith, q .6, q .5))
 
--- src/lib.rt:130:9
-add-j : tie.Need-add-j Inv-loop μ-loop
-add-j c = search needs
-
--- src/lib.rt:131:9
 add-action : tie.Need-add-action Inv-loop μ-loop
-add-action c = let q = c .before .before .before .before .before .before .before .before .before .before .before .before .before .pre in let l = c .before .before .before .before .before .before .loop in omega (arith, q .2, q .5, q .0 .size, acts-low _ _ _ _ (c .before .before .before .before .before .before .before .if1 .left) (l .inv .3), l .inv .4)
+add-action c =
+    let q = c .before .before .before .before .before .before .before .before .before .before .before .before .before .pre in
+    let l = c .before .before .before .before .before .before .loop in
+    omega (arith, q .2, q .5, q .0 .size, acts-low _ _ _ _ (c .before .before .before .before .before .before .before .if1 .left) (l .inv .3), l .inv .4)
 
--- src/lib.rt:128:5
 loop-less : tie.Need-loop-less Inv-loop μ-loop
 loop-less c = omega (arith, c .before .before .before .before .before .before .before .before .before .before .before .before .before .pre .0 .some)
 
--- src/lib.rt:128:5
 loop-again : tie.Need-loop-again Inv-loop μ-loop
-loop-again c = let l = c .before .before .before .before .before .before .loop in let q = c .before .before .before .before .before .before .before .before .before .before .before .before .before .pre in let f = c .before .before .before .write-chain in let r = row-on _ _ (q .0 .some) (l .inv .3) in (
-  omega (arith, c .before .before .before .before .before .loop-test .taken),
-  omega (arith, f .ensures .0, l .inv .1, c .before .before .before .before .before .before .before .if1 .left),
-  f .kept .1 .0 ∙ l .inv .2,
-  r .1,
-  acts-on _ _ _ _ _ (l .inv .4) (r .0),
-  λ p G F node R. rows-more p F node _ _ _ _ _ _ (l .j) _ (l .inv .5 p G F node R) (f .ensures .1 p G F node _ _ R (q .4) (l .inv .3) (l .inv .4) (omega (arith, c .before .before .before .before .before .loop-test .taken))),
-)
+loop-again c =
+    let l = c .before .before .before .before .before .before .loop in
+    let q = c .before .before .before .before .before .before .before .before .before .before .before .before .before .pre in
+    let f = c .before .before .before .write-chain in
+    let r = row-on _ _ (q .0 .some) (l .inv .3) in (
+      omega (arith, c .before .before .before .before .before .loop-test .taken),
+      omega (arith, f .ensures .0, l .inv .1, c .before .before .before .before .before .before .before .if1 .left),
+      f .kept .1 .0 ∙ l .inv .2,
+      r .1,
+      acts-on _ _ _ _ _ (l .inv .4) (r .0),
+      λ p G F node R. rows-more p F node _ _ _ _ _ _ (l .j) _ (l .inv .5 p G F node R) (f .ensures .1 p G F node _ _ R (q .4) (l .inv .3) (l .inv .4) (omega (arith, c .before .before .before .before .before .loop-test .taken))),
+    )
 
--- src/lib.rt:109:1
 same-length : tie.Need-same-length Inv-loop μ-loop
 same-length c = c .before .loop .inv .2
 
--- src/lib.rt:109:1
 returns-2 : tie.Need-returns-2 Inv-loop μ-loop
 returns-2 c = let l = c .before .loop in (omega arith, λ p G F node R. rows-all p F node _ _ _ _ _ _ (chain-end p G F _ node _ _ _ R (c .before .before .before .before .before .before .before .before .pre .4) (l .j) _ (l .inv .3) (l .inv .0) (omega arith)) (l .inv .5 p G F node R))
 
@@ -86,9 +79,9 @@ write-chains-spec =
     shared-slice-read-n
     returns
     loop-holds
-    add-loop
+    (λ c. search needs)
     write-chain-requires
-    add-j
+    (λ c. search needs)
     add-action
     loop-less
     loop-again

@@ -5,30 +5,12 @@ use borrow.Author.Needs.{needs}
 use Rattle.step_write.proofs.write_link.Statement.{statement}
 use Rattle.step_write.proofs.write_link.Tie as tie
 
--- src/lib.rt:76:8
-test-requires : tie.Need-test-requires
-test-requires c κs = search needs
-
--- src/lib.rt:77:9
-put-requires : tie.Need-put-requires
-put-requires c κs = search needs
-
--- src/lib.rt:78:16
-add-result : tie.Need-add-result
-add-result c = search needs
-
--- src/lib.rt:78:9
-same-length : tie.Need-same-length
-same-length c = search needs
-
--- src/lib.rt:78:9
 returns : tie.Need-returns
 returns c = (omega arith, λ h. link-yes _ _ _ _ _ (sym (c .before .before .before .before .before .test .ensures) ∙ c .before .before .before .before .if1 .taken) (c .before .before .put .ensures h))
 
--- src/lib.rt:72:1
 returns-2 : tie.Need-returns-2
 returns-2 c = (omega arith, λ h. link-no _ _ _ _ (sym (c .before .test .ensures) ∙ c .if1 .left))
 
 pub write-link-spec : {M : Type 1} → statement M
 write-link-spec =
-    tie.close (tie.spec test-requires put-requires add-result same-length returns returns-2)
+    tie.close (tie.spec (λ c κs. search needs) (λ c κs. search needs) (λ c. search needs) (λ c. search needs) returns returns-2)

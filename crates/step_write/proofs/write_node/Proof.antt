@@ -6,31 +6,23 @@ use borrow.Author.Needs.{needs}
 use Rattle.step_write.proofs.write_node.Statement.{statement}
 use Rattle.step_write.proofs.write_node.Tie as tie
 
--- src/lib.rt:149:9
-node-line-requires : tie.Need-node-line-requires
-node-line-requires c κs = search needs
-
--- src/lib.rt:151:9
 write-chains-requires : tie.Need-write-chains-requires
-write-chains-requires c κs = let q = c .before .before .before .before .before .before .before .pre in let e = c .before .before .before .node-line .ensures in let f = node-small _ (q .0) _ _ e (q .1) in (q .0, f .0, acts-small _ _ (q .0) _ e, f .1, omega arith, q .2, q .3, f .2)
+write-chains-requires c κs =
+    let q = c .before .before .before .before .before .before .before .pre in
+    let e = c .before .before .before .node-line .ensures in
+    let f = node-small _ (q .0) _ _ e (q .1) in
+    (q .0, f .0, acts-small _ _ (q .0) _ e, f .1, omega arith, q .2, q .3, f .2)
 
--- src/lib.rt:151:9
-same-length : tie.Need-same-length
-same-length c = search needs
-
--- src/lib.rt:151:9
 returns : tie.Need-returns
 returns c = (c .before .before .write-chains .ensures .0, λ p G F R. c .before .before .write-chains .ensures .1 p G F _ (read-as (c .before .before .before .before .before .before .node-line .ensures) R))
 
--- src/lib.rt:153:5
 write-rows-requires : tie.Need-write-rows-requires
-write-rows-requires c κs = let q = c .before .before .before .before .before .before .before .pre in let e = c .before .before .before .node-line .ensures in let f = node-small _ (q .0) _ _ e (q .1) in (q .0, f .0, acts-small _ _ (q .0) _ e, f .1, omega arith, q .2, q .3, f .2)
+write-rows-requires c κs =
+    let q = c .before .before .before .before .before .before .before .pre in
+    let e = c .before .before .before .node-line .ensures in
+    let f = node-small _ (q .0) _ _ e (q .1) in
+    (q .0, f .0, acts-small _ _ (q .0) _ e, f .1, omega arith, q .2, q .3, f .2)
 
--- src/lib.rt:137:1
-same-length-2 : tie.Need-same-length-2
-same-length-2 c = search needs
-
--- src/lib.rt:137:1
 returns-2 : tie.Need-returns-2
 returns-2 c = (c .before .before .write-rows .ensures .0, λ p G F R. c .before .before .write-rows .ensures .1 p G F _ (read-as (c .before .before .before .before .before .before .node-line .ensures) R))
 
@@ -38,10 +30,10 @@ pub write-node-spec : {M : Type 1} → statement M
 write-node-spec =
     tie.close
     (tie.spec
-    node-line-requires
+    (λ c κs. search needs)
     write-chains-requires
-    same-length
+    (λ c. search needs)
     returns
     write-rows-requires
-    same-length-2
+    (λ c. search needs)
     returns-2)

@@ -24,52 +24,30 @@ Inv-loop state steps₀ at table past end₀ k₀ v₀ steps end k v = (v ≤ pa
 abbrev μ-loop : tie.MeasureT-loop
 μ-loop state steps₀ at table past end₀ k₀ v₀ steps end k v = v
 
--- src/lib.rt:168:9
-node-line-requires : tie.Need-node-line-requires Inv-loop μ-loop
-node-line-requires c κs = search needs
-
--- src/lib.rt:172:5
 loop-holds : tie.Need-loop-holds Inv-loop μ-loop
 loop-holds c = (omega arith, atoms-few _ _ _ (c .before .before .before .before .pre .0) (c .node-line .ensures), omega arith, refl, λ p G F R h e. (ap (λ (x : NodeLine). x .atoms) (c .node-line .ensures) ∙ e, part-none p G F _ _ _))
 
--- src/lib.rt:173:9
-sub-v : tie.Need-sub-v Inv-loop μ-loop
-sub-v c = search needs
-
--- src/lib.rt:174:13
-node-line-requires-2 : tie.Need-node-line-requires-2 Inv-loop μ-loop
-node-line-requires-2 c κs = search needs
-
--- src/lib.rt:175:13
-gap-requires : tie.Need-gap-requires Inv-loop μ-loop
-gap-requires c κs = search needs
-
--- src/lib.rt:176:9
 write-node-requires : tie.Need-write-node-requires Inv-loop μ-loop
 write-node-requires c κs = let q = c .before .before .before .before .before .before .before .before .before .pre in (q .0, omega (arith, q .1), omega (arith, c .before .gap .ensures), omega (arith, q .1, q .2))
 
--- src/lib.rt:172:5
-loop-less : tie.Need-loop-less Inv-loop μ-loop
-loop-less c = search needs
-
--- src/lib.rt:172:5
 loop-again : tie.Need-loop-again Inv-loop μ-loop
-loop-again c = let l = c .before .before .before .before .before .before .before .loop in let q = c .before .before .before .before .before .before .before .before .before .before .before .before .pre in let w = c .before .before .write-node in (
-  omega arith,
-  atoms-few _ _ _ (q .0) (c .before .before .before .before .before .node-line2 .ensures),
-  omega (arith, w .ensures .0, c .before .before .before .before .gap .ensures),
-  w .kept .1 .0 ∙ l .inv .3,
-  λ p G F R h e.
-      let I = l .inv .4 p G F R h e in
-      let B = read-before p G F _ (l .v) _ _ _ _ R (c .before .before .before .before .before .node-line2 .ensures) (omega arith) (omega arith) (I .0) (c .before .before .before .before .gap .ensures) in
-      (B .0, part-more p G F _ (l .v) (omega arith) (omega arith) _ (B .1 .wide) _ _ _ _ _ _ (I .1) (w .ensures .1 p G F (B .1))),
-)
+loop-again c =
+    let l = c .before .before .before .before .before .before .before .loop in
+    let q = c .before .before .before .before .before .before .before .before .before .before .before .before .pre in
+    let w = c .before .before .write-node in (
+      omega arith,
+      atoms-few _ _ _ (q .0) (c .before .before .before .before .before .node-line2 .ensures),
+      omega (arith, w .ensures .0, c .before .before .before .before .gap .ensures),
+      w .kept .1 .0 ∙ l .inv .3,
+      λ p G F R h e.
+          let I = l .inv .4 p G F R h e in
+          let B = read-before p G F _ (l .v) _ _ _ _ R (c .before .before .before .before .before .node-line2 .ensures) (omega arith) (omega arith) (I .0) (c .before .before .before .before .gap .ensures) in
+          (B .0, part-more p G F _ (l .v) (omega arith) (omega arith) _ (B .1 .wide) _ _ _ _ _ _ (I .1) (w .ensures .1 p G F (B .1))),
+    )
 
--- src/lib.rt:157:1
 same-length : tie.Need-same-length Inv-loop μ-loop
 same-length c = c .before .loop .inv .3
 
--- src/lib.rt:157:1
 returns : tie.Need-returns Inv-loop μ-loop
 returns c = let l = c .before .loop in (omega (arith, c .before .before .before .before .before .before .pre .1), λ p G F R h e. part-all p G F _ (l .v) (omega arith) _ _ _ _ (l .inv .4 p G F R h e .1))
 
@@ -79,13 +57,13 @@ write-nodes-spec =
     (tie.spec
     Inv-loop
     μ-loop
-    node-line-requires
+    (λ c κs. search needs)
     loop-holds
-    sub-v
-    node-line-requires-2
-    gap-requires
+    (λ c. search needs)
+    (λ c κs. search needs)
+    (λ c κs. search needs)
     write-node-requires
-    loop-less
+    (λ c. search needs)
     loop-again
     same-length
     returns)

@@ -6,55 +6,21 @@ use borrow.Author.Needs.{needs}
 use Rattle.step_write.proofs.write_row.Statement.{statement}
 use Rattle.step_write.proofs.write_row.Tie as tie
 
--- src/lib.rt:35:35
-add-test : tie.Need-add-test
-add-test c = search needs
-
--- src/lib.rt:35:8
-test-requires : tie.Need-test-requires
-test-requires c κs = search needs
-
--- src/lib.rt:36:46
-shared-slice-read-first-try : tie.Need-shared-slice-read-first-try
-shared-slice-read-first-try c = search needs
-
--- src/lib.rt:36:13
-first-try-requires : tie.Need-first-try-requires
-first-try-requires c κs = search needs
-
--- src/lib.rt:38:49
 mul-put : tie.Need-mul-put
 mul-put c = omega (arith, row-wide _ _ 0 (c .before .before .before .before .before .before .before .before .before .before .before .pre .4) (c .before .before .before .before .before .before .before .before .before .before .before .pre .7) (omega arith))
 
--- src/lib.rt:38:40
 add-put : tie.Need-add-put
 add-put c = omega (arith, row-wide _ _ 0 (c .before .before .before .before .before .before .before .before .before .before .before .before .pre .4) (c .before .before .before .before .before .before .before .before .before .before .before .before .pre .7) (omega arith), c .before .before .before .before .before .before .before .before .before .before .before .before .pre .2)
 
--- src/lib.rt:38:40
 add-put-2 : tie.Need-add-put-2
 add-put-2 c = omega (arith, row-wide _ _ 0 (c .before .before .before .before .before .before .before .before .before .before .before .before .pre .4) (c .before .before .before .before .before .before .before .before .before .before .before .before .pre .7) (omega arith), c .before .before .before .before .before .before .before .before .before .before .before .before .pre .2, c .before .before .before .before .before .before .before .before .before .before .before .before .pre .7)
 
--- src/lib.rt:38:13
-put-requires : tie.Need-put-requires
-put-requires c κs = search needs
-
--- src/lib.rt:39:20
-add-result : tie.Need-add-result
-add-result c = search needs
-
--- src/lib.rt:39:13
-same-length : tie.Need-same-length
-same-length c = search needs
-
--- src/lib.rt:39:13
 returns : tie.Need-returns
 returns c = (omega arith, λ p G F node width R t D h. row-yes p G F _ node _ width _ R _ h (sym (c .before .before .before .before .before .before .before .before .before .test .ensures) ∙ c .before .before .before .before .before .before .before .before .if1 .taken) _ (c .before .before .before .before .before .before .first-try .ensures _ D (begun p G F _ node _ width _ R)) _ t (c .before .before .before .before .before .before .before .before .before .before .before .before .before .before .before .pre .6) (omega arith) _ _ _ (c .before .before .put .ensures))
 
--- src/lib.rt:19:1
 returns-2 : tie.Need-returns-2
 returns-2 c = (omega arith, λ p G F node width R t D h. absurd (row-never p G F _ node _ width _ R _ h (sym (c .before .before .before .before .test .ensures) ∙ c .before .before .before .if1 .taken) _ (c .before .first-try .ensures _ D (begun p G F _ node _ width _ R)) _ t (c .before .before .before .before .before .before .before .before .before .before .pre .6) (omega arith)))
 
--- src/lib.rt:19:1
 returns-3 : tie.Need-returns-3
 returns-3 c = (omega arith, λ p G F node width R t D h. row-no p G F _ node _ width _ R _ h (sym (c .before .test .ensures) ∙ c .if1 .left) _ _)
 
@@ -62,16 +28,16 @@ pub write-row-spec : {M : Type 1} → statement M
 write-row-spec =
     tie.close
     (tie.spec
-    add-test
-    test-requires
-    shared-slice-read-first-try
-    first-try-requires
+    (λ c. search needs)
+    (λ c κs. search needs)
+    (λ c. search needs)
+    (λ c κs. search needs)
     mul-put
     add-put
     add-put-2
-    put-requires
-    add-result
-    same-length
+    (λ c κs. search needs)
+    (λ c. search needs)
+    (λ c. search needs)
     returns
     returns-2
     returns-3)
