@@ -1,9 +1,22 @@
--- Plain functions on lists, and a test that chooses between two values.
+-- What lists of numbers stand for, plain functions on lists, and a test that chooses between two values.
 use Prim.Native.Nat.{ℕ, zero, suc, _+_}
 use mathlib.Core.Bool.{Bool, true, false, _&&_, _||_}
 use mathlib.Core.Option.{Option, none, some}
 use mathlib.Core.List.{List, [], _∷_, _++_}
 use lib.Dec.{eqb, leb, ltb}
+
+-- the bytes of a text or of a part of one; those of a name; action numbers; words of 64 bits, as states and picks are lent
+abbrev pub Text : Type 0
+Text = List ℕ
+
+abbrev pub Name : Type 0
+Name = List ℕ
+
+abbrev pub Steps : Type 0
+Steps = List ℕ
+
+abbrev pub Words : Type 0
+Words = List ℕ
 
 infixr 5 if_then_else_
 abbrev pub if_then_else_ : {A : Type 0} → Bool → A → A → A

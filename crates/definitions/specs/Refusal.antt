@@ -29,6 +29,7 @@ use mathlib.Core.Option.{Option, none, some}
 use mathlib.Core.List.{List, [], _∷_}
 use lib.ListN.{length}
 use lib.Dec.{ltb}
+use Rattle.definitions.specs.Lists.{Text}
 use Rattle.definitions.specs.Limits.{textLimit}
 use Rattle.definitions.specs.Sheet.Text.{Line, lines}
 
@@ -58,7 +59,7 @@ unfoldable pub readLines : {S : Type 0} → (S → Line → Result S) → S → 
 readLines line s [] = accepted s
 readLines line s (l ∷ ls) = line s l >>= λ s′. readLines line s′ ls
 
-unfoldable pub readText : {S : Type 0} → (S → Line → Result S) → S → List ℕ → Result S
+unfoldable pub readText : {S : Type 0} → (S → Line → Result S) → S → Text → Result S
 readText line s text = refuseIf (ltb textLimit (length text)) 1 zero >>= λ _. readLines line s (lines text)
 
 -- ---- the numbers that a call may refuse with: where no problem is made of the texts; or a lent buffer is too short; steps that are

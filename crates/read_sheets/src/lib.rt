@@ -1,7 +1,7 @@
 // The readers of the site, of picks and of steps: a value, or the refusal's number and place (1 to 3, 7, 19, 9, 18, 10); and of a case,
 // which is a question and a site.
 ghost use mathlib.Core.Path.{_≡_};
-ghost use mathlib.Core.Bool.{false};
+ghost use mathlib.Core.Bool.{true, false};
 ghost use mathlib.Core.List.{List};
 ghost use Prim.Native.Nat.{ℕ, _+_, _*_, _≤_};
 ghost use lib.ListN.{length, set as «set-at»};
@@ -19,8 +19,11 @@ ghost use Rattle.read_sheets.specs.declared.Answer.the-variants.{Done};
 ghost use Rattle.definitions.specs.Reply.Outcome.{readFiled, readCase};
 ghost use Rattle.read_sheets.specs.Opening.{FiledRead, CaseRead, failed};
 use read_line::Entry;
+use read_line::Places;
 use read_names::Signature;
 use read_question::Span;
+use read_tuples::MemberLine;
+use read_tuples::TupleLine;
 
 // The most steps that a text has: a step line has at least 7 bytes.
 pub const STEPS: usize = read_text::LIMIT / 7;
@@ -107,30 +110,87 @@ fn after(c: u32, st: Stage) -> Turn
     Turn::Fault(c)
 }
 
-// One line of a site, where `most` is the most elements that it may have; of a signature the arrays, the number m of `rel` relations and
-// that of types.
+// A line of a site after what was read so far, where `most` is the most elements that the site may have, and a signature has so many
+// `rel` relations and types.
+struct SiteLine {
+    entry: Entry,
+    stage: Stage,
+    most: usize,
+    rels: usize,
+    types: usize,
+}
+
+// What its `member` entry, and its `fact` entry, says.
+fn member_line(line: SiteLine, a: usize, t: usize, k: u32, e: usize) -> MemberLine
+    ensures { λ r. ⌜ r ≡ record { types = line .types; n = line .stage .n; name = a; tab = t; end = e; element = k } ⌝ }
+{
+    MemberLine {
+        types: line.types,
+        n: line.stage.n,
+        name: a,
+        tab: t,
+        end: e,
+        element: k,
+    }
+}
+
+fn fact_line(line: SiteLine, a: usize, t: usize, e: usize, p: Places) -> TupleLine
+    ensures { λ r. ⌜ r ≡ record { first = 0; count = line .rels; n = line .stage .n; name = a; tab = t; end = e; places = p } ⌝ }
+{
+    TupleLine {
+        first: 0,
+        count: line.rels,
+        n: line.stage.n,
+        name: a,
+        tab: t,
+        end: e,
+        places: p,
+    }
+}
+
+// What was read once there is a member, and once there is a fact.
+fn with_member(st: Stage) -> Stage
+    ensures { λ r. ⌜ r ≡ record { n = st .n; joined = true; begun = st .begun } ⌝ }
+{
+    Stage {
+        n: st.n,
+        joined: true,
+        begun: st.begun,
+    }
+}
+
+fn with_fact(st: Stage) -> Stage
+    ensures { λ r. ⌜ r ≡ record { n = st .n; joined = st .joined; begun = true } ⌝ }
+{
+    Stage {
+        n: st.n,
+        joined: st.joined,
+        begun: true,
+    }
+}
+
+// One line of a site; of a signature the arrays are lent.
 fn site_turn(
     q: &[u8],
     from: &[usize; read_names::NAMES],
     to: &[usize; read_names::NAMES],
     arity: &[usize; read_names::DECLARED],
-    m: usize,
-    types: usize,
     s: &[u8],
-    most: usize,
-    st: Stage,
     labels: &mut [usize],
     members: &mut [u64],
     table: &mut [u64],
-    x: Entry,
+    line: SiteLine,
 ) -> Turn
-    requires { ⌜ FewArities 0 m (now arity) × (most ≤ 64) × (st .n ≤ most) × ((st .n ≡ 0 → ⊥) → Roomy (now from) (now to) (now arity) 0 m (st .n) (length (now table))) ⌝ }
-    requires { ⌜ (types ≤ 8) × (length (now members) ≡ 8) ⌝ }
-    requires { ⌜ ((ls : List Label) × LabelsAre (now s) (now labels) (st .n) ls) × ((at : ℕ) × InText (now s) at x) ⌝ }
-    ensures { λ r. ⌜ ((L : CaseLimits) → L .elements ≡ most → (g : Signature) → m ≡ g .rels → types ≡ g .types
-        → SiteTurned L (now (q .entry)) (withArrays g (now (from .entry)) (now (to .entry)) (now (arity .entry))) (now (s .entry)) st x (now (labels .entry)) (now (labels .exit)) (now (members .entry)) (now (members .exit)) (now (table .entry)) (now (table .exit)) r) ⌝ }
+    requires { ⌜ FewArities 0 (line .rels) (now arity) × (line .most ≤ 64) × (line .stage .n ≤ line .most)
+        × ((line .stage .n ≡ 0 → ⊥) → Roomy (now from) (now to) (now arity) 0 (line .rels) (line .stage .n) (length (now table))) ⌝ }
+    requires { ⌜ (line .types ≤ 8) × (length (now members) ≡ 8) ⌝ }
+    requires { ⌜ ((ls : List Label) × LabelsAre (now s) (now labels) (line .stage .n) ls) × ((at : ℕ) × InText (now s) at (line .entry)) ⌝ }
+    ensures { λ r. ⌜ ((L : CaseLimits) → L .elements ≡ line .most → (g : Signature) → line .rels ≡ g .rels → line .types ≡ g .types
+        → SiteTurned L (now (q .entry)) (withArrays g (now (from .entry)) (now (to .entry)) (now (arity .entry))) (now (s .entry)) (line .stage) (line .entry)
+        (now (labels .entry)) (now (labels .exit)) (now (members .entry)) (now (members .exit)) (now (table .entry)) (now (table .exit)) r) ⌝ }
 {
-    let n = st.n;
+    let x = line.entry;
+    let st = line.stage;
     match x {
         Entry::Wrong => Turn::Fault(2),
         Entry::Rel(_, _, _) => Turn::Fault(3),
@@ -138,43 +198,29 @@ fn site_turn(
         Entry::Choose(_, _, _, _, _, _, _) => Turn::Fault(3),
         Entry::Every(_, _, _) => Turn::Fault(3),
         Entry::Rule(_, _) => Turn::Fault(3),
-        Entry::Size(k) => size_turn(k as usize, most, st),
+        Entry::Size(k) => size_turn(k as usize, line.most, st),
         Entry::Label(k, a, t, e) => {
             if is_no_place_for_label(st) {
                 return Turn::Fault(3);
             }
-            let c = read_tuples::label(s, k, a, t, e, n, labels);
+            let c = read_tuples::label(s, k, a, t, e, st.n, labels);
             after(c, st)
         }
         Entry::Member(a, t, k, e) => {
             if is_no_place_for_member(st) {
                 return Turn::Fault(3);
             }
-            let c = read_tuples::member(q, from, to, types, s, a, t, k, e, n, labels, members);
-            let begun = st.begun;
-            after(
-                c,
-                Stage {
-                    n,
-                    joined: true,
-                    begun,
-                },
-            )
+            let m = member_line(line, a, t, k, e);
+            let c = read_tuples::member(q, from, to, s, labels, members, m);
+            after(c, with_member(st))
         }
         Entry::Fact(a, t, e, p) => {
-            if n == 0 {
+            if st.n == 0 {
                 return Turn::Fault(3);
             }
-            let c = read_tuples::add(q, from, to, arity, 0, m, n, s, a, t, e, p, s, labels, table);
-            let joined = st.joined;
-            after(
-                c,
-                Stage {
-                    n,
-                    joined,
-                    begun: true,
-                },
-            )
+            let f = fact_line(line, a, t, e, p);
+            let c = read_tuples::add(q, from, to, arity, s, s, labels, table, f);
+            after(c, with_fact(st))
         }
         Entry::Pick(_, _, _, _) => Turn::Fault(3),
         Entry::Step(_) => Turn::Fault(3),
@@ -239,21 +285,14 @@ fn site_lines(
     while at < end {
         let l = read_line::line(s, at);
         let x = l.entry;
-        let t = site_turn(
-            q,
-            &from,
-            &to,
-            &arity,
-            g.rels,
-            g.types,
-            s,
+        let line = SiteLine {
+            entry: x,
+            stage: st,
             most,
-            st,
-            labels,
-            members,
-            table,
-            x,
-        );
+            rels: g.rels,
+            types: g.types,
+        };
+        let t = site_turn(q, &from, &to, &arity, s, labels, members, table, line);
         match t {
             Turn::Next(u) => {
                 st = u;
@@ -295,26 +334,33 @@ pub fn site(
     }
 }
 
-// One line of picks: 0, or the refusal's number; of a signature the arrays, and the m `choose` relations from lo on.
+// A line of picks over n elements, and which relations they are of: the `count` ones from `first` on.
+struct PickLine {
+    entry: Entry,
+    first: usize,
+    count: usize,
+    n: usize,
+}
+
+// One line of picks: 0, or the refusal's number; of a signature the arrays are lent.
 fn picks_turn(
     q: &[u8],
     from: &[usize; read_names::NAMES],
     to: &[usize; read_names::NAMES],
     arity: &[usize; read_names::DECLARED],
-    lo: usize,
-    m: usize,
     s: &[u8],
-    n: usize,
     site: &[u8],
     labels: &[usize],
     table: &mut [u64],
-    x: Entry,
+    line: PickLine,
 ) -> u32
-    requires { ⌜ FewArities lo m (now arity) × (n ≤ 64) × Roomy (now from) (now to) (now arity) lo m n (length (now table)) ⌝ }
-    requires { ⌜ ((ls : List Label) × LabelsAre (now site) (now labels) n ls) × ((at : ℕ) × InText (now s) at x) ⌝ }
-    ensures { λ r. ⌜ ((ls : List Label) → LabelsAre (now (site .entry)) (now (labels .entry)) n ls → (g : Signature) → lo ≡ g .rels → m ≡ g .chosen
-        → PickTurned (now (q .entry)) (withArrays g (now (from .entry)) (now (to .entry)) (now (arity .entry))) (now (s .entry)) n ls x (now (table .entry)) (now (table .exit)) r) ⌝ }
+    requires { ⌜ FewArities (line .first) (line .count) (now arity) × (line .n ≤ 64)
+        × Roomy (now from) (now to) (now arity) (line .first) (line .count) (line .n) (length (now table)) ⌝ }
+    requires { ⌜ ((ls : List Label) × LabelsAre (now site) (now labels) (line .n) ls) × ((at : ℕ) × InText (now s) at (line .entry)) ⌝ }
+    ensures { λ r. ⌜ ((ls : List Label) → LabelsAre (now (site .entry)) (now (labels .entry)) (line .n) ls → (g : Signature) → line .first ≡ g .rels → line .count ≡ g .chosen
+        → PickTurned (now (q .entry)) (withArrays g (now (from .entry)) (now (to .entry)) (now (arity .entry))) (now (s .entry)) (line .n) ls (line .entry) (now (table .entry)) (now (table .exit)) r) ⌝ }
 {
+    let x = line.entry;
     match x {
         Entry::Wrong => 2,
         Entry::Rel(_, _, _) => 3,
@@ -327,23 +373,16 @@ fn picks_turn(
         Entry::Member(_, _, _, _) => 3,
         Entry::Fact(_, _, _, _) => 3,
         Entry::Pick(a, t, e, p) => {
-            read_tuples::add(
-                q,
-                from,
-                to,
-                arity,
-                lo,
-                m,
-                n,
-                s,
-                a,
-                t,
-                e,
-                p,
-                site,
-                labels,
-                table,
-            )
+            let pick = TupleLine {
+                first: line.first,
+                count: line.count,
+                n: line.n,
+                name: a,
+                tab: t,
+                end: e,
+                places: p,
+            };
+            read_tuples::add(q, from, to, arity, s, site, labels, table, pick)
         }
         Entry::Step(_) => 3,
     }
@@ -376,20 +415,13 @@ fn picks_lines(
     while at < end {
         let l = read_line::line(s, at);
         let x = l.entry;
-        let c = picks_turn(
-            q,
-            &from,
-            &to,
-            &arity,
-            g.rels,
-            g.chosen,
-            s,
+        let line = PickLine {
+            entry: x,
+            first: g.rels,
+            count: g.chosen,
             n,
-            site,
-            labels,
-            table,
-            x,
-        );
+        };
+        let c = picks_turn(q, &from, &to, &arity, s, site, labels, table, line);
         if c != 0 {
             return Answer::Refused(c, at);
         }

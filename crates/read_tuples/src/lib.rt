@@ -24,6 +24,29 @@ enum Mark {
     Fault(u32),
 }
 
+// A `fact` or `pick` line over n elements: a tuple of the `count` relations from `first` on, named from `name` up to `tab`; its element
+// fields, of these numbers, go from tab + 1 up to `end`.
+pub struct TupleLine {
+    pub first: usize,
+    pub count: usize,
+    pub n: usize,
+    pub name: usize,
+    pub tab: usize,
+    pub end: usize,
+    pub places: Places,
+}
+
+// A `member` line over n elements: its type, one of the first `types`, is named from `name` up to `tab`; its element field, of this number,
+// goes from tab + 1 up to `end`.
+pub struct MemberLine {
+    pub types: usize,
+    pub n: usize,
+    pub name: usize,
+    pub tab: usize,
+    pub end: usize,
+    pub element: u32,
+}
+
 // A number below 128 for the name from a to e of s.
 fn slot(s: &[u8], a: usize, e: usize) -> usize
     ensures { λ r. ⌜ r < 128 ⌝ }
@@ -346,33 +369,35 @@ pub fn first_word(g: Signature, n: usize, lo: usize, i: usize) -> usize
     word_of(&arity, n, lo, i)
 }
 
-// The bit of the tuple with the name from a to e of s and those elements, of the m relations from lo on.
+// The bit of a line's tuple. The arrays of a signature come as slices, so that no call copies it.
 fn spot(
     q: &[u8],
     from: &[usize],
     to: &[usize],
     arity: &[usize],
-    lo: usize,
-    m: usize,
-    n: usize,
     s: &[u8],
-    a: usize,
-    t: usize,
-    e: usize,
-    p: Places,
     site: &[u8],
     labels: &[usize],
+    line: TupleLine,
 ) -> Mark
-    requires { ⌜ Arrays lo m (now from) (now to) (now arity) × (n ≤ 64) × Fielded (now s) (t + 1) e p × ((ls : List Label) × LabelsAre (now site) (now labels) n ls) ⌝ }
-    ensures { λ r. ⌜ ((ls : List Label) → LabelsAre (now (site .entry)) (now (labels .entry)) n ls → (g : Signature)
-        → Spotted (now (q .entry)) (withArrays g (now (from .entry)) (now (to .entry)) (now (arity .entry))) lo m n ls (slice a t (now (s .entry))) (listOf (now (s .entry)) (t + 1) e p) r) ⌝ }
+    requires { ⌜ Arrays (line .first) (line .count) (now from) (now to) (now arity) × (line .n ≤ 64) × Fielded (now s) (line .tab + 1) (line .end) (line .places)
+        × ((ls : List Label) × LabelsAre (now site) (now labels) (line .n) ls) ⌝ }
+    ensures { λ r. ⌜ ((ls : List Label) → LabelsAre (now (site .entry)) (now (labels .entry)) (line .n) ls → (g : Signature)
+        → Spotted (now (q .entry)) (withArrays g (now (from .entry)) (now (to .entry)) (now (arity .entry))) (line .first) (line .count) (line .n) ls
+        (slice (line .name) (line .tab) (now (s .entry))) (listOf (now (s .entry)) (line .tab + 1) (line .end) (line .places)) r) ⌝ }
 {
+    let p = line.places;
+    let n = line.n;
+    let lo = line.first;
+    let m = line.count;
+    let a = line.name;
+    let t = line.tab;
     let k = count(p);
     let f = read_names::lookup(q, from, to, arity, lo, m, s, a, t, false, k);
     match f {
         Found::Nowhere => Mark::Fault(7),
         Found::At(i) => {
-            let v = elements(s, t + 1, e, p, n, site, labels);
+            let v = elements(s, t + 1, line.end, p, n, site, labels);
             let w = row(v, n);
             match w {
                 Found::Nowhere => {
@@ -390,30 +415,26 @@ fn spot(
     }
 }
 
-// Adds that tuple to the table: 0, or the number of its refusal. The arrays of a signature come as slices, so that no call copies it.
+// Adds that tuple to the table: 0, or the number of its refusal.
 pub fn add(
     q: &[u8],
     from: &[usize],
     to: &[usize],
     arity: &[usize],
-    lo: usize,
-    m: usize,
-    n: usize,
     s: &[u8],
-    a: usize,
-    t: usize,
-    e: usize,
-    p: Places,
     site: &[u8],
     labels: &[usize],
     table: &mut [u64],
+    line: TupleLine,
 ) -> u32
-    requires { ⌜ Arrays lo m (now from) (now to) (now arity) × (n ≤ 64) × Roomy (now from) (now to) (now arity) lo m n (length (now table)) ⌝ }
-    requires { ⌜ Fielded (now s) (t + 1) e p × ((ls : List Label) × LabelsAre (now site) (now labels) n ls) ⌝ }
-    ensures { λ r. ⌜ ((ls : List Label) → LabelsAre (now (site .entry)) (now (labels .entry)) n ls → (g : Signature)
-        → Added (now (q .entry)) (withArrays g (now (from .entry)) (now (to .entry)) (now (arity .entry))) lo m n ls (slice a t (now (s .entry))) (listOf (now (s .entry)) (t + 1) e p) (now (table .entry)) (now (table .exit)) r) ⌝ }
+    requires { ⌜ Arrays (line .first) (line .count) (now from) (now to) (now arity) × (line .n ≤ 64)
+        × Roomy (now from) (now to) (now arity) (line .first) (line .count) (line .n) (length (now table)) ⌝ }
+    requires { ⌜ Fielded (now s) (line .tab + 1) (line .end) (line .places) × ((ls : List Label) × LabelsAre (now site) (now labels) (line .n) ls) ⌝ }
+    ensures { λ r. ⌜ ((ls : List Label) → LabelsAre (now (site .entry)) (now (labels .entry)) (line .n) ls → (g : Signature)
+        → Added (now (q .entry)) (withArrays g (now (from .entry)) (now (to .entry)) (now (arity .entry))) (line .first) (line .count) (line .n) ls
+        (slice (line .name) (line .tab) (now (s .entry))) (listOf (now (s .entry)) (line .tab + 1) (line .end) (line .places)) (now (table .entry)) (now (table .exit)) r) ⌝ }
 {
-    let place = spot(q, from, to, arity, lo, m, n, s, a, t, e, p, site, labels);
+    let place = spot(q, from, to, arity, s, site, labels, line);
     match place {
         Mark::Fault(k) => k,
         Mark::Bit(b) => {
@@ -453,33 +474,31 @@ pub fn label(s: &[u8], k: u32, a: usize, t: usize, e: usize, n: usize, labels: &
     0
 }
 
-// Adds a member from the site's text, where its type is named from a to t, one of the first `types` of a signature whose names are lent,
-// and its element field, of number k, goes from t + 1 up to e: 0, or the number of its refusal.
+// Adds a member from the site's text, whose types have names that are lent: 0, or the number of its refusal.
 pub fn member(
     q: &[u8],
     from: &[usize],
     to: &[usize],
-    types: usize,
     s: &[u8],
-    a: usize,
-    t: usize,
-    k: u32,
-    e: usize,
-    n: usize,
     labels: &[usize],
     members: &mut [u64],
+    line: MemberLine,
 ) -> u32
-    requires { ⌜ (types ≤ 8) × (21 ≤ length (now from)) × (21 ≤ length (now to)) × (n ≤ 64) × (length (now members) ≡ 8) × (t < e) × (e ≤ length (now s)) ⌝ }
-    requires { ⌜ ((ls : List Label) × LabelsAre (now s) (now labels) n ls) ⌝ }
-    ensures { λ r. ⌜ ((ls : List Label) → LabelsAre (now (s .entry)) (now (labels .entry)) n ls
-        → MemberAdded (typesIn (now (q .entry)) (now (from .entry)) (now (to .entry)) types) n ls (slice a t (now (s .entry))) (elementBy (slice (t + 1) e (now (s .entry))) k) (now (members .entry)) (now (members .exit)) r) ⌝ }
+    requires { ⌜ (line .types ≤ 8) × (21 ≤ length (now from)) × (21 ≤ length (now to)) × (line .n ≤ 64) × (length (now members) ≡ 8) × (line .tab < line .end) × (line .end ≤ length (now s)) ⌝ }
+    requires { ⌜ ((ls : List Label) × LabelsAre (now s) (now labels) (line .n) ls) ⌝ }
+    ensures { λ r. ⌜ ((ls : List Label) → LabelsAre (now (s .entry)) (now (labels .entry)) (line .n) ls
+        → MemberAdded (typesIn (now (q .entry)) (now (from .entry)) (now (to .entry)) (line .types)) (line .n) ls (slice (line .name) (line .tab) (now (s .entry)))
+        (elementBy (slice (line .tab + 1) (line .end) (now (s .entry))) (line .element)) (now (members .entry)) (now (members .exit)) r) ⌝ }
 {
-    let f = read_names::type_named(q, from, to, types, s, a, t);
+    let n = line.n;
+    let t = line.tab;
+    let k = line.element;
+    let f = read_names::type_named(q, from, to, line.types, s, line.name, t);
     match f {
         Found::Nowhere => 19,
         Found::At(j) => {
             if fits(k, n) {
-                let x = value(s, t + 1, e, k, n, s, labels) as usize;
+                let x = value(s, t + 1, line.end, k, n, s, labels) as usize;
                 if n <= x {
                     return 18;
                 }

@@ -302,12 +302,11 @@ pub fn tabulate(from: &[u8], len: usize, count: usize) -> Nodes
         stack[base] = node_part(row, free);
         height = base + 1;
     }
-    let root = stack[0];
     Nodes {
         count,
         placed,
         rows,
         parts,
-        root,
+        root: stack[0],
     }
 }

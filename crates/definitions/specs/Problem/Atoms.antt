@@ -5,7 +5,7 @@ use mathlib.Core.Option.{Option, none, some}
 use mathlib.Core.List.{List, [], _∷_, _++_, map}
 use lib.ListN.{length, take, getD}
 use lib.Dec.{ltb}
-use Rattle.definitions.specs.Lists.{if_then_else_, option, flatMap, mapFrom, below}
+use Rattle.definitions.specs.Lists.{Words, if_then_else_, option, flatMap, mapFrom, below}
 use Rattle.definitions.specs.Sheet.Relations.{Relation, fixed, isFunction, isInjective, isUniversal}
 unfoldable pub use Rattle.definitions.specs.Problem.Rows.{rowOf, placesOf}
 use Rattle.definitions.specs.Sheet.Sheets.{relationsOf}
@@ -172,5 +172,5 @@ unfoldable pub bitsFrom : (ℕ → Bool) → ℕ → ℕ → ℕ
 bitsFrom s i zero = zero
 bitsFrom s i (suc k) = (if s i then 1 else zero) + 2 * bitsFrom s (suc i) k
 
-unfoldable pub stateWords : Problem → State → List ℕ
+unfoldable pub stateWords : Problem → State → Words
 stateWords p s = map (λ j. bitsFrom s (64 * j) 64) (below (wordsFor (atoms p)))

@@ -4,7 +4,7 @@ use Prim.Native.Nat.{ℕ, zero, suc, _+_, _-_, _*_, _/_, _%_, _^_}
 use mathlib.Core.Bool.{Bool, true, false, not, _&&_, _||_}
 use mathlib.Core.List.{List, [], _∷_, _++_, map}
 use lib.ListN.{length, getD}
-use Rattle.definitions.specs.Lists.{if_then_else_, all, any, filter, option, position, below, isIn, upTo, sum, flatMap}
+use Rattle.definitions.specs.Lists.{Steps, if_then_else_, all, any, filter, option, position, below, isIn, upTo, sum, flatMap}
 use Rattle.definitions.specs.Sheet.Relations.{Relation, Tuple, isAmong, isChosen, isFunction}
 use Rattle.definitions.specs.Sheet.Sheets.{Question, relationsOf, everyNumber}
 use Rattle.definitions.specs.Problem.Truth.{Case, holds, membersOf, everyTuples, values, isOdd, everyValue}
@@ -98,7 +98,7 @@ roundSteps p picks k = nodeSteps p (picks ++ everyValue (p .source) k) zero (p .
 unfoldable pub builtActions : Problem → List Tuple → List Action
 builtActions p picks = setSteps p picks ++ (beginProof ∷ flatMap (roundSteps p picks) (below (values (p .source))))
 
-unfoldable pub builtSteps : Problem → List Tuple → List ℕ
+unfoldable pub builtSteps : Problem → List Tuple → Steps
 builtSteps p picks = map (actionNumber p) (builtActions p picks)
 
 -- how many there are: picks and one; the true node atoms of each round; a round's end for each value; a mark-in and a mark-out for each value but

@@ -5,7 +5,7 @@ use mathlib.Core.List.{List, [], _∷_, _++_, map}
 use lib.ListN.{length}
 use lib.Dec.{eqb}
 use Rattle.definitions.specs.Limits.{nestingLimit}
-use Rattle.definitions.specs.Lists.{if_then_else_, any, filter, same, option, position, below}
+use Rattle.definitions.specs.Lists.{Name, if_then_else_, any, filter, same, option, position, below}
 use Rattle.definitions.specs.Sheet.Relations.{Relation, isTotal, numberOf}
 use Rattle.definitions.specs.Sheet.Formula.{Formula, Formulas, literal, negation, implication, conjunction, disjunction, exists, forall, nil, cons, variablesOf, sortOf}
 use Rattle.definitions.specs.Sheet.Sheets.{Question, relationsOf, firstChosen}
@@ -29,14 +29,14 @@ nest quantifier level [] t = t
 nest quantifier level (s ∷ sorts) t = quantifier level s (nest quantifier (suc level) sorts t)
 
 -- (7 refuses a relation that is unknown, 8 a variable that is not bound: neither is ever given number 0 or level 0 for that.)
-unfoldable pub leafOf : Bool → List Relation → List (List ℕ) → List ℕ → List (List ℕ) → Tree
+unfoldable pub leafOf : Bool → List Relation → List Name → Name → List Name → Tree
 leafOf positive rs scope r vs = leaf positive (option (numberOf rs r) zero (λ k. k)) (map (λ v. option (position (same v) scope) zero (λ k. k)) vs)
 
 -- Negation is pushed inward until only literals are negated, and `implies` is an `or` whose first part is negated. `asIs` is the
 -- tree of a formula, `negated` that of its negation, where `and` and `or`, `exists` and `forall` change places; a variable keeps its
 -- sort. Both take the relations, the types, and the variables bound around.
 unfoldable mutual
-  pub asIs : List Relation → (types scope : List (List ℕ)) → Formula → Tree
+  pub asIs : List Relation → (types scope : List Name) → Formula → Tree
   asIs rs types scope (literal r vs) = leafOf true rs scope r vs
   asIs rs types scope (negation f) = negated rs types scope f
   asIs rs types scope (implication f g) = orNode (negated rs types scope f then asIs rs types scope g then end)
@@ -45,7 +45,7 @@ unfoldable mutual
   asIs rs types scope (exists qs f) = nest existsNode (length scope) (map (sortOf types) qs) (asIs rs types (scope ++ variablesOf qs) f)
   asIs rs types scope (forall qs f) = nest forallNode (length scope) (map (sortOf types) qs) (asIs rs types (scope ++ variablesOf qs) f)
 
-  pub negated : List Relation → (types scope : List (List ℕ)) → Formula → Tree
+  pub negated : List Relation → (types scope : List Name) → Formula → Tree
   negated rs types scope (literal r vs) = leafOf false rs scope r vs
   negated rs types scope (negation f) = asIs rs types scope f
   negated rs types scope (implication f g) = andNode (asIs rs types scope f then negated rs types scope g then end)
@@ -54,11 +54,11 @@ unfoldable mutual
   negated rs types scope (exists qs f) = nest forallNode (length scope) (map (sortOf types) qs) (negated rs types (scope ++ variablesOf qs) f)
   negated rs types scope (forall qs f) = nest existsNode (length scope) (map (sortOf types) qs) (negated rs types (scope ++ variablesOf qs) f)
 
-  pub allAsIs : List Relation → (types scope : List (List ℕ)) → Formulas → Trees
+  pub allAsIs : List Relation → (types scope : List Name) → Formulas → Trees
   allAsIs rs types scope nil = end
   allAsIs rs types scope (cons f fs) = asIs rs types scope f then allAsIs rs types scope fs
 
-  pub allNegated : List Relation → (types scope : List (List ℕ)) → Formulas → Trees
+  pub allNegated : List Relation → (types scope : List Name) → Formulas → Trees
   allNegated rs types scope nil = end
   allNegated rs types scope (cons f fs) = negated rs types scope f then allNegated rs types scope fs
 

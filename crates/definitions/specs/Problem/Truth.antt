@@ -6,7 +6,7 @@ use mathlib.Core.Option.{Option}
 use mathlib.Core.List.{List, [], _∷_, _++_, map}
 use lib.ListN.{getD, length}
 use lib.Dec.{eqb, leb, ltb}
-use Rattle.definitions.specs.Lists.{if_then_else_, all, any, filter, same, option, position, mapFrom, below, isIn}
+use Rattle.definitions.specs.Lists.{Name, if_then_else_, all, any, filter, same, option, position, mapFrom, below, isIn}
 use Rattle.definitions.specs.Sheet.Relations.{Relation, fixed, Tuple, isAmong, areDistinct, builtInHolds, numberOf, isFunction, isInjective, isTotal}
 use Rattle.definitions.specs.Problem.Rows.{placesOf}
 use Rattle.definitions.specs.Sheet.Formula.{Quantified, Formula, Formulas, literal, negation, implication, conjunction, disjunction, exists, forall, nil, cons, sortOf}
@@ -27,10 +27,10 @@ holds c picks r xs =
 
 -- the variables bound around, innermost first, with their values; a variable that none of them binds would be 0, and 8 refuses it
 pub record Binding : Type 0 where
-  pub variable : List ℕ
+  pub variable : Name
   pub value : ℕ
 
-unfoldable pub valueOf : List Binding → List ℕ → ℕ
+unfoldable pub valueOf : List Binding → Name → ℕ
 valueOf [] v = zero
 valueOf (b ∷ bs) v = if same (b .variable) v then b .value else valueOf bs v
 

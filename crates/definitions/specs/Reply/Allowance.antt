@@ -4,7 +4,7 @@ use mathlib.Core.Bool.{Bool, false, _||_}
 use mathlib.Core.List.{List, map}
 use lib.ListN.{length}
 use lib.Dec.{eqb}
-use Rattle.definitions.specs.Lists.{filter, sum}
+use Rattle.definitions.specs.Lists.{Text, filter, sum}
 use Rattle.definitions.specs.Limits.{CaseLimits}
 use Rattle.definitions.specs.Refusal.{Result, refused, accepted}
 use Rattle.definitions.specs.Problem.Tree.{Tree, Trees, leaf, forallNode, existsNode, andNode, orNode, end, _then_}
@@ -43,5 +43,5 @@ unfoldable pub allowedFrom : Result (Ready (Unit {0})) → List ℕ → Allowed
 allowedFrom (refused k place) old = record { answer = refused k place; allowances = old }
 allowedFrom (accepted r) old = record { answer = accepted zero; allowances = written (allowancesOf (r .problem)) old }
 
-unfoldable pub allowances : CaseLimits → List ℕ → List ℕ → List ℕ → Allowed
+unfoldable pub allowances : CaseLimits → Text → Text → List ℕ → Allowed
 allowances L question site old = allowedFrom (asked L question site nothing nothing withoutEvery (λ p. roomFor (length (chosenNumbers p)) (length old))) old

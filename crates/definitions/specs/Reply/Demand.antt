@@ -6,11 +6,10 @@
 --   the picks read from steps                 Strips.picksOf
 --   a node atom is true                       Built.isTrueAt
 --   the built steps, their count, the bound   Built.builtSteps, Built.builtCount, Built.bound
-use Prim.Native.Nat.{ℕ}
 use mathlib.Core.Bool.{Bool, true, false, _&&_}
 use mathlib.Core.List.{List}
 use Rattle.definitions.specs.Limits.{CaseLimits}
-use Rattle.definitions.specs.Lists.{all}
+use Rattle.definitions.specs.Lists.{Text, all}
 use Rattle.definitions.specs.Refusal.{Result, refused, accepted, _>>=_}
 use Rattle.definitions.specs.Sheet.Relations.{Tuple, isAmong}
 use Rattle.definitions.specs.Problem.Strips.{run}
@@ -21,11 +20,11 @@ isAccepted (refused k place) = false
 isAccepted (accepted a) = true
 
 -- a question and a site are accepted: nothing in the two texts makes checking steps refuse
-unfoldable pub caseIsAccepted : CaseLimits → List ℕ → List ℕ → Bool
+unfoldable pub caseIsAccepted : CaseLimits → Text → Text → Bool
 caseIsAccepted L question site = isAccepted (readProblem L question site)
 
 -- steps are accepted: checking them refuses nothing
-unfoldable pub stepsAreAccepted : CaseLimits → List ℕ → List ℕ → ThirdInput → Bool
+unfoldable pub stepsAreAccepted : CaseLimits → Text → Text → ThirdInput → Bool
 stepsAreAccepted L question site steps =
     isAccepted (readyToRun L question site steps nothing >>= λ r. run (r .problem) (r .third) .answer)
 

@@ -5,7 +5,7 @@ use mathlib.Core.List.{List, [], _∷_, _++_, map}
 use lib.ListN.{length, take, drop}
 use lib.Dec.{ltb}
 use Rattle.definitions.specs.Limits.{early, deskBytes, deskSteps, deskWords}
-use Rattle.definitions.specs.Lists.{if_then_else_, same, option, flatMap}
+use Rattle.definitions.specs.Lists.{Text, if_then_else_, same, option, flatMap}
 use Rattle.definitions.specs.Sheet.Text.{bytes, decimal, Line, lines, fields}
 use Rattle.definitions.specs.Refusal.{Result, refused, accepted, _>>=_, refuseIf}
 use Rattle.definitions.specs.Sheet.Relations.{Tuple}
@@ -18,7 +18,7 @@ use Rattle.definitions.specs.Reply.Outcome.{asText, readyToRun, Plan, pl
 -- ---- the three sheets of one input: the question ends with the first `rule` line, or is all there is; the site ends before the
 -- first `pick` or `step` line; the rest is picks or steps. A line's record word is all before its first tab.
 
-unfoldable pub isRecord : List ℕ → List (List ℕ) → Bool
+unfoldable pub isRecord : Text → List Text → Bool
 isRecord w [] = false
 isRecord w (f ∷ fs) = same f w
 
@@ -41,47 +41,47 @@ firstPickOrStep end [] = end
 firstPickOrStep end (l ∷ ls) = if isPickOrStep l then l .at else firstPickOrStep end ls
 
 pub record CaseSheets : Type 0 where
-  pub question : List ℕ
-  pub site : List ℕ
-  pub rest : List ℕ
+  pub question : Text
+  pub site : Text
+  pub rest : Text
 
-unfoldable pub siteAndRest : List ℕ → List ℕ → ℕ → CaseSheets
+unfoldable pub siteAndRest : Text → Text → ℕ → CaseSheets
 siteAndRest question more cut = record { question = question; site = take cut more; rest = drop cut more }
 
-unfoldable pub afterQuestion : List ℕ → List ℕ → CaseSheets
+unfoldable pub afterQuestion : Text → Text → CaseSheets
 afterQuestion question more = siteAndRest question more (firstPickOrStep (length more) (lines more))
 
-unfoldable pub cutAt : List ℕ → ℕ → CaseSheets
+unfoldable pub cutAt : Text → ℕ → CaseSheets
 cutAt input cut = afterQuestion (take cut input) (drop cut input)
 
-unfoldable pub sheets : List ℕ → CaseSheets
+unfoldable pub sheets : Text → CaseSheets
 sheets input = cutAt input (afterRule (length input) (lines input))
 
 -- ---- what is printed
 
-unfoldable pub printLine : List (List ℕ) → List ℕ
+unfoldable pub printLine : List Text → Text
 printLine [] = 10 ∷ []
 printLine (f ∷ []) = f ++ (10 ∷ [])
 printLine (f ∷ g ∷ fs) = f ++ (9 ∷ printLine (g ∷ fs))
 
-unfoldable pub sizesLine : Sizes → List ℕ
+unfoldable pub sizesLine : Sizes → Text
 sizesLine s = printLine (bytes "sizes" ∷ decimal (s .elements) ∷ decimal (s .atomCount) ∷ decimal (s .actionCount) ∷ decimal (s .stepBound) ∷ [])
 
-unfoldable pub countLine : Problem → List Tuple → ℕ → List ℕ
+unfoldable pub countLine : Problem → List Tuple → ℕ → Text
 countLine p picks r = printLine (bytes "count" ∷ relationAt p r .name ∷ decimal (length (pickedRows p picks r)) ∷ [])
 
 -- an element as it is printed: its label, or its number where it has none
-unfoldable pub said : List Label → ℕ → List ℕ
+unfoldable pub said : List Label → ℕ → Text
 said labels x = option (nameOf labels x) (decimal x) (λ name. name)
 
-unfoldable pub pickLine : List Label → Problem → ℕ → ℕ → List ℕ
+unfoldable pub pickLine : List Label → Problem → ℕ → ℕ → Text
 pickLine labels p r row = printLine (bytes "pick" ∷ relationAt p r .name ∷ map (said labels) (placesOf (p .size) (relationAt p r .arity) row))
 
-unfoldable pub stepLine : ℕ → List ℕ
+unfoldable pub stepLine : ℕ → Text
 stepLine k = printLine (bytes "step" ∷ decimal k ∷ [])
 
 -- the sizes; for each `choose` how many tuples are picked; the picks in the order of the atoms; the steps; the step count
-unfoldable pub report : Plan → List ℕ
+unfoldable pub report : Plan → Text
 report r =
     sizesLine (sizesOf (r .problem))
     ++ (flatMap (countLine (r .problem) (r .picks)) (chosenNumbers (r .problem))
@@ -89,13 +89,13 @@ report r =
     ++ (flatMap stepLine (r .steps) ++ printLine (bytes "ok" ∷ decimal (length (r .steps)) ∷ []))))
 
 -- a refusal is one line
-unfoldable pub printed : Result Plan → List ℕ
+unfoldable pub printed : Result Plan → Text
 printed (refused k place) = printLine (bytes "no" ∷ decimal k ∷ decimal place ∷ [])
 printed (accepted r) = report r
 
 -- ---- a third sheet that begins with a `step` line is checked, any other is built from
 
-unfoldable pub checkedPlan : List ℕ → List ℕ → List ℕ → Result Plan
+unfoldable pub checkedPlan : Text → Text → Text → Result Plan
 checkedPlan question site steps = do
   r ← readyToRun early question site (asText steps) (λ p. roomFor (stateLength p) deskWords)
   _ ← run (r .problem) (r .third) .answer
@@ -111,8 +111,8 @@ answerOf s =
     else plan early (s .question) (s .site) (asText (s .rest)) deskWords deskSteps
 
 -- more input than the program reads is 1
-unfoldable pub answer : List ℕ → Result Plan
+unfoldable pub answer : Text → Result Plan
 answer input = refuseIf (ltb deskBytes (length input)) 1 zero >>= λ _. answerOf (sheets input)
 
-unfoldable pub desk : List ℕ → List ℕ
+unfoldable pub desk : Text → Text
 desk input = printed (answer input)

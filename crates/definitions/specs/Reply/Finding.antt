@@ -6,7 +6,7 @@ use mathlib.Core.List.{List, [], _∷_, map}
 use lib.ListN.{length}
 use lib.Dec.{eqb, ltb}
 use Rattle.definitions.specs.Limits.{CaseLimits, cellLimit}
-use Rattle.definitions.specs.Lists.{if_then_else_, position, below, flatMap}
+use Rattle.definitions.specs.Lists.{Text, Words, if_then_else_, position, below, flatMap}
 use Rattle.definitions.specs.Refusal.{Result, refused, accepted, _>>=_, refuseIf, given}
 use Rattle.definitions.specs.Sheet.Relations.{Tuple}
 use Rattle.definitions.specs.Problem.Truth.{Case, areOfKinds, ruleIsTrue}
@@ -43,7 +43,7 @@ leastPicks c ts = do
 
 -- ---- the call: the words of these picks at the front of a lent buffer. Refusals in their order: the question, the site, 11, 23 of any
 -- case with an `every` line, 12 where the buffer is too short, 20, 21. Success is 0, place 0.
-unfoldable pub foundWords : CaseLimits → (question site : List ℕ) → (room : ℕ) → Result (List ℕ)
+unfoldable pub foundWords : CaseLimits → (question site : Text) → (room : ℕ) → Result Words
 foundWords L question site room = do
   r ← asked L question site nothing nothing withoutEvery (λ p. roomFor (picksLength p) room)
   F ← leastPicks (r .case) (cells (r .problem))
@@ -51,11 +51,11 @@ foundWords L question site room = do
 
 pub record Found : Type 0 where
   pub answer : Result ℕ
-  pub picks : List ℕ
+  pub picks : Words
 
-unfoldable pub foundFrom : Result (List ℕ) → List ℕ → Found
+unfoldable pub foundFrom : Result Words → Words → Found
 foundFrom (refused k place) old = record { answer = refused k place; picks = old }
 foundFrom (accepted words) old = record { answer = accepted zero; picks = written words old }
 
-unfoldable pub find : CaseLimits → (question site : List ℕ) → List ℕ → Found
+unfoldable pub find : CaseLimits → (question site : Text) → Words → Found
 find L question site old = foundFrom (foundWords L question site (length old)) old

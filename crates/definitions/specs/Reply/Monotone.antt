@@ -1,10 +1,9 @@
 -- Document 02, job 13: rules that only ever want more, where all tuples picked are as good as any picks.
 use Prim.Native.Nat.{ℕ, zero}
 use mathlib.Core.Bool.{Bool, true, false, not, _&&_}
-use mathlib.Core.List.{List}
 use lib.Dec.{ltb}
 use Rattle.definitions.specs.Limits.{CaseLimits}
-use Rattle.definitions.specs.Lists.{all, isSome}
+use Rattle.definitions.specs.Lists.{Text, all, isSome}
 use Rattle.definitions.specs.Refusal.{Result, accepted, _>>=_, refuseIf}
 use Rattle.definitions.specs.Sheet.Relations.{Relation, isFunction}
 use Rattle.definitions.specs.Sheet.Sheets.{Question, firstChosen}
@@ -33,7 +32,7 @@ onlyWantsMore q = not (isSome (q .every)) && all (λ (k : Relation). not (isFunc
 
 -- ---- the call. Refusals in their order: the question, the site, 11, 23, 24 outside the profile, 21 where no picks make the rule true,
 -- since it is false with all tuples picked. A yes is 0, place 0; nothing is written.
-unfoldable pub monotone : CaseLimits → (question site : List ℕ) → Result ℕ
+unfoldable pub monotone : CaseLimits → (question site : Text) → Result ℕ
 monotone L question site = do
   r ← asked L question site nothing nothing nothing nothing
   _ ← refuseIf (not (onlyWantsMore (r .case .question))) 24 zero

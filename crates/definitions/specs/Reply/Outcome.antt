@@ -6,7 +6,7 @@ use mathlib.Core.List.{List, [], _∷_, _++_, map}
 use lib.ListN.{length, drop, getD}
 use lib.Dec.{eqb, leb, ltb}
 use Rattle.definitions.specs.Limits.{CaseLimits, stepLimit, everyLimit}
-use Rattle.definitions.specs.Lists.{any, filter, option, isSome, position, below, from, sum, flatMap}
+use Rattle.definitions.specs.Lists.{Steps, Text, Words, any, filter, option, isSome, position, below, from, sum, flatMap}
 use Rattle.definitions.specs.Refusal.{Result, refused, accepted, _>>=_, refuseIf, given}
 use Rattle.definitions.specs.Sheet.Relations.{Tuple}
 use Rattle.definitions.specs.Sheet.Sheets.{Question, Label, readQuestion, readSite, readPicks, readSteps, firstChosen}
@@ -41,14 +41,14 @@ pub record CaseRead : Type 0 where
   pub case : Case
   pub labels : List Label
 
-unfoldable pub readFiled : CaseLimits → List ℕ → List ℕ → Result CaseRead
+unfoldable pub readFiled : CaseLimits → Text → Text → Result CaseRead
 readFiled L question site = do
   q ← readQuestion question
   s ← readSite L (q .rels) (q .types) site
   accepted (record { case = record { question = q; site = s .site }; labels = s .labels })
 
 -- the case alone
-unfoldable pub readCase : CaseLimits → List ℕ → List ℕ → Result Case
+unfoldable pub readCase : CaseLimits → Text → Text → Result Case
 readCase L question site = readFiled L question site >>= λ r. accepted (r .case)
 
 -- 11: too many atoms or actions; 23 after it: an `every` relation with too many tuples, or with too large a bound
@@ -64,7 +64,7 @@ ground L c =
 unfoldable pub withoutEvery : Case → Result (Unit {0})
 withoutEvery c = refuseIf (isSome (c .question .every)) 23 zero
 
-unfoldable pub readProblem : CaseLimits → List ℕ → List ℕ → Result Problem
+unfoldable pub readProblem : CaseLimits → Text → Text → Result Problem
 readProblem L question site = readCase L question site >>= ground L
 
 -- ---- What every call begins with, and the order of its refusals: the question, the site, the third input (picks or steps, where
@@ -75,7 +75,7 @@ pub record Ready (A : Type 0) : Type 0 where
   pub problem : Problem
   pub third : A
 
-unfoldable pub asked : {A : Type 0} → CaseLimits → List ℕ → List ℕ → (CaseRead → Result A) → (early late : Case → Result (Unit {0})) → (Problem → Result (Unit {0})) → Result (Ready A)
+unfoldable pub asked : {A : Type 0} → CaseLimits → Text → Text → (CaseRead → Result A) → (early late : Case → Result (Unit {0})) → (Problem → Result (Unit {0})) → Result (Ready A)
 asked L question site third early late rooms = do
   r ← readFiled L question site
   t ← third r
@@ -109,7 +109,7 @@ unfoldable pub spanOf : Result Question → Span
 spanOf (refused k place) = record { start = zero; len = zero }
 spanOf (accepted q) = record { start = q .rule .at; len = length (q .rule .text) }
 
-unfoldable pub rulePart : List ℕ → Span
+unfoldable pub rulePart : Text → Span
 rulePart question = spanOf (readQuestion question)
 
 -- ---- sizes (n, atoms, actions, bound)
@@ -122,11 +122,11 @@ pub record Sizes : Type 0 where
 unfoldable pub sizesOf : Problem → Sizes
 sizesOf p = record { elements = p .size; atomCount = atoms p; actionCount = actions p; stepBound = bound p }
 
-unfoldable pub sizes : CaseLimits → List ℕ → List ℕ → Result Sizes
+unfoldable pub sizes : CaseLimits → Text → Text → Result Sizes
 sizes L question site = asked L question site nothing nothing nothing nothing >>= λ r. accepted (sizesOf (r .problem))
 
 -- ---- an action by its number; 13 and that number where there is none
-unfoldable pub action : CaseLimits → List ℕ → List ℕ → ℕ → Result Action
+unfoldable pub action : CaseLimits → Text → Text → ℕ → Result Action
 action L question site k = asked L question site nothing nothing nothing nothing >>= λ r. given (actionAt (r .problem) k) 13 k
 
 -- ---- picks as words: the rows of each `choose` as bits, as a state's atoms are, every `choose` from a new word on
@@ -137,41 +137,41 @@ relationWords p r = wordsFor (tuplesOf (p .size) (relationAt p r))
 unfoldable pub picksLength : Problem → ℕ
 picksLength p = sum (map (relationWords p) (chosenNumbers p))
 
-unfoldable pub pickWords : Problem → List Tuple → List ℕ
+unfoldable pub pickWords : Problem → List Tuple → Words
 pickWords p picks = flatMap
     (λ r.
     map (λ j. bitsFrom (λ row. ltb row (tuplesOf (p .size) (relationAt p r)) && isPicked p picks r row) (64 * j) 64) (below (relationWords p r)))
     (chosenNumbers p)
 
 -- bit i of words
-unfoldable pub bitOf : List ℕ → ℕ → Bool
+unfoldable pub bitOf : Words → ℕ → Bool
 bitOf words i = eqb (getD words (i / 64) 0 / 2 ^ (i % 64) % 2) 1
 
 -- the tuples of one relation's words, of all relations' words
-unfoldable pub relationPicks : Problem → List ℕ → ℕ → List Tuple
+unfoldable pub relationPicks : Problem → Words → ℕ → List Tuple
 relationPicks p words r = map (λ row. record { relation = r; places = placesOf (p .size) (relationAt p r .arity) row })
     (filter (bitOf words) (below (tuplesOf (p .size) (relationAt p r))))
 
-unfoldable pub lentPicks : Problem → List ℕ → List ℕ → List Tuple
+unfoldable pub lentPicks : Problem → Words → List ℕ → List Tuple
 lentPicks p words [] = []
 lentPicks p words (r ∷ rs) = relationPicks p words r ++ lentPicks p (drop (relationWords p r) words) rs
 
 -- whether word j of a relation's words has a spare bit set; the first such word of all relations' words
-unfoldable pub hasSpare : Problem → List ℕ → ℕ → ℕ → Bool
+unfoldable pub hasSpare : Problem → Words → ℕ → ℕ → Bool
 hasSpare p words r j = any (λ i. leb (tuplesOf (p .size) (relationAt p r)) i && bitOf words i) (from (64 * j) 64)
 
-unfoldable pub spareWord : Problem → List ℕ → ℕ → List ℕ → Option ℕ
+unfoldable pub spareWord : Problem → Words → ℕ → List ℕ → Option ℕ
 spareWord p words start [] = none
 spareWord p words start (r ∷ rs) = option (position (hasSpare p words r) (below (relationWords p r)))
     (spareWord p (drop (relationWords p r) words) (start + relationWords p r) rs) (λ j. some (start + j))
 
 -- ---- what is handed to a call: a text, or numbers
 pub data ThirdInput : Type 0 where
-  asText : List ℕ → ThirdInput
+  asText : Text → ThirdInput
   asNumbers : List ℕ → ThirdInput
 
 -- steps as a text, or lent: these are refused here only if they are too many
-unfoldable pub takeSteps : ThirdInput → Result (List ℕ)
+unfoldable pub takeSteps : ThirdInput → Result Steps
 takeSteps (asText text) = readSteps text
 takeSteps (asNumbers steps) = refuseIf (ltb stepLimit (length steps)) 1 zero >>= λ _. accepted steps
 
@@ -196,34 +196,34 @@ takePicks p (asNumbers words) picks =
 -- ---- checking steps
 
 -- everything before the steps go one by one; `rooms` tests the lent buffers
-unfoldable pub readyToRun : CaseLimits → List ℕ → List ℕ → ThirdInput → (Problem → Result (Unit {0})) → Result (Ready (List ℕ))
+unfoldable pub readyToRun : CaseLimits → Text → Text → ThirdInput → (Problem → Result (Unit {0})) → Result (Ready Steps)
 readyToRun L question site steps rooms = asked L question site (λ _. takeSteps steps) nothing nothing rooms
 
 pub record Checked : Type 0 where
   pub answer : Result ℕ
-  pub state : List ℕ
+  pub state : Words
 
-unfoldable pub checkedFrom : Result (Ready (List ℕ)) → List ℕ → Checked
+unfoldable pub checkedFrom : Result (Ready Steps) → Words → Checked
 checkedFrom (refused k place) state = record { answer = refused k place; state = state }
 checkedFrom (accepted r) state =
     let ran = run (r .problem) (r .third) in
     record { answer = ran .answer; state = written (stateWords (r .problem) (ran .state)) state }
 
-unfoldable pub checkSteps : CaseLimits → List ℕ → List ℕ → ThirdInput → List ℕ → Checked
+unfoldable pub checkSteps : CaseLimits → Text → Text → ThirdInput → Words → Checked
 checkSteps L question site steps state = checkedFrom (readyToRun L question site steps (λ p. roomFor (stateLength p) (length state))) state
 
 -- ---- reading picks from steps
 
 pub record PicksRead : Type 0 where
   pub answer : Result ℕ
-  pub picks : List ℕ
-  pub state : List ℕ
+  pub picks : Words
+  pub state : Words
 
-unfoldable pub picksIfAccepted : Result ℕ → List ℕ → List ℕ → List ℕ
+unfoldable pub picksIfAccepted : Result ℕ → Words → Words → Words
 picksIfAccepted (refused k place) new old = old
 picksIfAccepted (accepted count) new old = written new old
 
-unfoldable pub picksReadFrom : Result (Ready (List ℕ)) → List ℕ → List ℕ → PicksRead
+unfoldable pub picksReadFrom : Result (Ready Steps) → Words → Words → PicksRead
 picksReadFrom (refused k place) picks state = record { answer = refused k place; picks = picks; state = state }
 picksReadFrom (accepted r) picks state =
     let ran = run (r .problem) (r .third) in
@@ -233,7 +233,7 @@ picksReadFrom (accepted r) picks state =
       state = written (stateWords (r .problem) (ran .state)) state;
     }
 
-unfoldable pub picksFromSteps : CaseLimits → List ℕ → List ℕ → ThirdInput → List ℕ → List ℕ → PicksRead
+unfoldable pub picksFromSteps : CaseLimits → Text → Text → ThirdInput → Words → Words → PicksRead
 picksFromSteps L question site steps picks state = picksReadFrom
     (readyToRun L question site steps (λ p.
     roomFor (picksLength p) (length picks) >>= λ _. roomFor (stateLength p) (length state))) picks state
@@ -257,10 +257,10 @@ pub record Plan : Type 0 where
   pub labels : List Label
   pub problem : Problem
   pub picks : List Tuple
-  pub steps : List ℕ
+  pub steps : Steps
 
 -- The refusals of building in their order: the texts, 11, 23, 12 (lent picks, state, steps; the steps need the bound), 10, 16, 17.
-unfoldable pub plan : CaseLimits → List ℕ → List ℕ → ThirdInput → ℕ → ℕ → Result Plan
+unfoldable pub plan : CaseLimits → Text → Text → ThirdInput → ℕ → ℕ → Result Plan
 plan L question site picks stateRoom stepsRoom = do
   r ← asked L question site (λ c. textPicks (c .case) (c .labels) picks) nothing nothing (λ p. picksRoom p picks >>= λ _. roomFor (stateLength p) stateRoom >>= λ _. roomFor (bound p) stepsRoom)
   tuples ← satisfying (r .case) (r .problem) picks (r .third)
@@ -268,10 +268,10 @@ plan L question site picks stateRoom stepsRoom = do
 
 pub record StepsBuilt : Type 0 where
   pub answer : Result ℕ
-  pub state : List ℕ
-  pub steps : List ℕ
+  pub state : Words
+  pub steps : Steps
 
-unfoldable pub builtFrom : Result Plan → List ℕ → List ℕ → StepsBuilt
+unfoldable pub builtFrom : Result Plan → Words → Steps → StepsBuilt
 builtFrom (refused k place) state steps = record { answer = refused k place; state = state; steps = steps }
 builtFrom (accepted b) state steps =
     record {
@@ -280,5 +280,5 @@ builtFrom (accepted b) state steps =
       steps = written (b .steps) steps;
     }
 
-unfoldable pub buildSteps : CaseLimits → List ℕ → List ℕ → ThirdInput → List ℕ → List ℕ → StepsBuilt
+unfoldable pub buildSteps : CaseLimits → Text → Text → ThirdInput → Words → Steps → StepsBuilt
 buildSteps L question site picks state steps = builtFrom (plan L question site picks (length state) (length steps)) state steps

@@ -4,7 +4,7 @@ use mathlib.Core.Bool.{Bool}
 use mathlib.Core.List.{List, [], _∷_, _++_, map}
 use lib.ListN.{length}
 use lib.Dec.{leb}
-use Rattle.definitions.specs.Lists.{if_then_else_, isSome, sum}
+use Rattle.definitions.specs.Lists.{Text, if_then_else_, isSome, sum}
 use Rattle.definitions.specs.Limits.{CaseLimits, everyLimit}
 use Rattle.definitions.specs.Refusal.{Result, accepted, _>>=_}
 use Rattle.definitions.specs.Problem.Truth.{everyTuples, values}
@@ -76,5 +76,5 @@ tallyOf p =
     }
 
 -- the tally of two texts that a case is read from, be it over the limits of 11 or not
-unfoldable pub tally : CaseLimits → List ℕ → List ℕ → Result Tally
+unfoldable pub tally : CaseLimits → Text → Text → Result Tally
 tally L question site = readCase L question site >>= λ c. accepted (tallyOf (problemOf c))

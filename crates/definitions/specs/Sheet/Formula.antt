@@ -9,23 +9,23 @@ use mathlib.Core.List.{List, [], _∷_, _++_, map}
 use lib.ListN.{length}
 use lib.Dec.{eqb}
 use Rattle.definitions.specs.Limits.{listLimit}
-use Rattle.definitions.specs.Lists.{if_then_else_, all, any, filter, same, option, position}
+use Rattle.definitions.specs.Lists.{Name, Text, if_then_else_, all, any, filter, same, option, position}
 use Rattle.definitions.specs.Sheet.Text.{bytes, isRelationName, isVariable}
 use Rattle.definitions.specs.Sheet.Relations.{Relation, isTotal}
 
 -- a variable in a quantifier's list, as written: alone, or with a type
 pub record Quantified : Type 0 where
-  pub variable : List ℕ
-  pub type : Option (List ℕ)
+  pub variable : Name
+  pub type : Option Name
 
-unfoldable pub variablesOf : List Quantified → List (List ℕ)
+unfoldable pub variablesOf : List Quantified → List Name
 variablesOf qs = map (λ (q : Quantified). q .variable) qs
 
 -- Seven forms, with the names of relations, variables and types kept as their bytes. How many parts and variables each may have is
 -- said by `WellFormed` below.
 mutual
   pub data Formula : Type 0 where
-    literal : (relation : List ℕ) → (variables : List (List ℕ)) → Formula
+    literal : (relation : Name) → (variables : List Name) → Formula
     negation : Formula → Formula
     implication : Formula → Formula → Formula
     conjunction disjunction : Formulas → Formula
@@ -53,44 +53,44 @@ quant somes qs f = exists qs f
 quant everys qs f = forall qs f
 
 -- the bracket, the keyword and the space after it; for a quantifier the bracket of its list too
-abbrev pub joinWord : Join → List ℕ
+abbrev pub joinWord : Join → Text
 joinWord ands = bytes "(and "
 joinWord ors = bytes "(or "
 
-abbrev pub quantWord : Quant → List ℕ
+abbrev pub quantWord : Quant → Text
 quantWord somes = bytes "(exists ("
 quantWord everys = bytes "(forall ("
 
-abbrev pub notWord : List ℕ
+abbrev pub notWord : Text
 notWord = bytes "(not "
 
-abbrev pub impWord : List ℕ
+abbrev pub impWord : Text
 impWord = bytes "(implies "
 
 -- things one after another, each after a space
-unfoldable pub writeEach : {A : Type 0} → (A → List ℕ) → List A → List ℕ
+unfoldable pub writeEach : {A : Type 0} → (A → Text) → List A → Text
 writeEach word [] = []
 writeEach word (x ∷ xs) = 32 ∷ word x ++ writeEach word xs
 
 -- the variables of a literal
-abbrev pub writeVars : List (List ℕ) → List ℕ
+abbrev pub writeVars : List Name → Text
 writeVars vs = writeEach (λ v. v) vs
 
 -- a quantified variable, its type after a colon; several, each after a space; a list of them
-unfoldable pub writeTyped : Quantified → List ℕ
+unfoldable pub writeTyped : Quantified → Text
 writeTyped q = q .variable ++ option (q .type) [] (λ t. 58 ∷ t)
 
-abbrev pub writeMore : List Quantified → List ℕ
+abbrev pub writeMore : List Quantified → Text
 writeMore qs = writeEach writeTyped qs
 
-abbrev pub writeList : List Quantified → List ℕ
+abbrev pub writeList : List Quantified → Text
 writeList [] = []
 writeList (q ∷ qs) = writeTyped q ++ writeMore qs
 
 -- a formula; formulas, each after a space; a list of formulas
 
 unfoldable mutual
-  pub write : Formula → List ℕ
+  pub write : Formula → Text
   write (literal r vs) = 40 ∷ r ++ writeVars vs ++ 41 ∷ []
   write (negation f) = notWord ++ write f ++ 41 ∷ []
   write (implication f g) = impWord ++ write f ++ 32 ∷ write g ++ 41 ∷ []
@@ -99,11 +99,11 @@ unfoldable mutual
   write (exists qs f) = quantWord somes ++ writeList qs ++ 41 ∷ 32 ∷ write f ++ 41 ∷ []
   write (forall qs f) = quantWord everys ++ writeList qs ++ 41 ∷ 32 ∷ write f ++ 41 ∷ []
 
-  pub writeAll : Formulas → List ℕ
+  pub writeAll : Formulas → Text
   writeAll nil = []
   writeAll (cons f fs) = write f ++ writeParts fs
 
-  pub writeParts : Formulas → List ℕ
+  pub writeParts : Formulas → Text
   writeParts nil = []
   writeParts (cons f fs) = 32 ∷ write f ++ writeParts fs
 
@@ -117,7 +117,7 @@ pub data Words {A : Type 0} (isWord : A → Bool) : List A → Type 0 where
   no-words : Words isWord []
   a-word : {v : A} {vs : List A} → isWord v ≡ true → Words isWord vs → Words isWord (v ∷ vs)
 
-abbrev pub Variables : List (List ℕ) → Type 0
+abbrev pub Variables : List Name → Type 0
 Variables vs = Words isVariable vs
 
 abbrev pub AllQuantified : List Quantified → Type 0
@@ -125,7 +125,7 @@ AllQuantified qs = Words isQuantified qs
 
 mutual
   pub data WellFormed : ℕ → Formula → Type 0 where
-    g-lit : {k : ℕ} {n v : List ℕ} {vs : List (List ℕ)} → isRelationName n ≡ true → Variables (v ∷ vs) → WellFormed (suc k) (literal n (v ∷ vs))
+    g-lit : {k : ℕ} {n v : Name} {vs : List Name} → isRelationName n ≡ true → Variables (v ∷ vs) → WellFormed (suc k) (literal n (v ∷ vs))
     g-neg : {k : ℕ} {f : Formula} → WellFormed k f → WellFormed (suc k) (negation f)
     g-imp : {k : ℕ} {f g : Formula} → WellFormed k f → WellFormed k g → WellFormed (suc k) (implication f g)
     g-and : {k : ℕ} {f : Formula} {fs : Formulas} → WellFormed k f → AllWellFormed k fs → WellFormed (suc k) (conjunction (cons f fs))
@@ -140,13 +140,13 @@ mutual
 -- The number of a type among the declared ones. The sort of a quantified variable says what it ranges over (`Truth.membersOf`): 0,
 -- all elements, where it has no type, and 1 more than its type's number where it has one. (19 refuses a type that is not declared: it
 -- is never given sort 0 for that.)
-unfoldable pub typeNumber : List (List ℕ) → List ℕ → Option ℕ
+unfoldable pub typeNumber : List Name → Name → Option ℕ
 typeNumber types name = position (λ t. same t name) types
 
-unfoldable pub sortNamed : List (List ℕ) → List ℕ → ℕ
+unfoldable pub sortNamed : List Name → Name → ℕ
 sortNamed types name = option (typeNumber types name) zero suc
 
-unfoldable pub sortOf : List (List ℕ) → Quantified → ℕ
+unfoldable pub sortOf : List Name → Quantified → ℕ
 sortOf types q = option (q .type) zero (sortNamed types)
 
 -- ---- 6, "Forms counted": as written, a literal, a connective and a quantified variable are one form each; every added totality
@@ -203,15 +203,15 @@ unfoldable mutual
 
 -- ---- 8: every variable of a literal is bound around it, and none is bound again inside its own range. The scope is the
 -- variables bound around, outermost first.
-unfoldable pub isBound : List (List ℕ) → List ℕ → Bool
+unfoldable pub isBound : List Name → Name → Bool
 isBound scope v = any (same v) scope
 
-unfoldable pub areNew : List (List ℕ) → List (List ℕ) → Bool
+unfoldable pub areNew : List Name → List Name → Bool
 areNew scope [] = true
 areNew scope (v ∷ vs) = not (isBound scope v) && areNew (scope ++ (v ∷ [])) vs
 
 unfoldable mutual
-  pub isScoped : List (List ℕ) → Formula → Bool
+  pub isScoped : List Name → Formula → Bool
   isScoped scope (literal r vs) = all (isBound scope) vs
   isScoped scope (negation f) = isScoped scope f
   isScoped scope (implication f g) = isScoped scope f && isScoped scope g
@@ -220,19 +220,19 @@ unfoldable mutual
   isScoped scope (exists qs f) = areNew scope (variablesOf qs) && isScoped (scope ++ variablesOf qs) f
   isScoped scope (forall qs f) = areNew scope (variablesOf qs) && isScoped (scope ++ variablesOf qs) f
 
-  pub areScoped : List (List ℕ) → Formulas → Bool
+  pub areScoped : List Name → Formulas → Bool
   areScoped scope nil = true
   areScoped scope (cons f fs) = isScoped scope f && areScoped scope fs
 
 -- ---- 19: every type in the formula is declared
-unfoldable pub isType : List (List ℕ) → List ℕ → Bool
+unfoldable pub isType : List Name → Name → Bool
 isType types name = any (λ t. same t name) types
 
-unfoldable pub hasType : List (List ℕ) → Quantified → Bool
+unfoldable pub hasType : List Name → Quantified → Bool
 hasType types q = option (q .type) true (isType types)
 
 unfoldable mutual
-  pub isTyped : List (List ℕ) → Formula → Bool
+  pub isTyped : List Name → Formula → Bool
   isTyped types (literal r vs) = true
   isTyped types (negation f) = isTyped types f
   isTyped types (implication f g) = isTyped types f && isTyped types g
@@ -241,6 +241,6 @@ unfoldable mutual
   isTyped types (exists qs f) = all (hasType types) qs && isTyped types f
   isTyped types (forall qs f) = all (hasType types) qs && isTyped types f
 
-  pub areTyped : List (List ℕ) → Formulas → Bool
+  pub areTyped : List Name → Formulas → Bool
   areTyped types nil = true
   areTyped types (cons f fs) = isTyped types f && areTyped types fs

@@ -5,7 +5,7 @@ use mathlib.Core.Bool.{Bool, true, false, not, _&&_}
 use mathlib.Core.Option.{Option}
 use mathlib.Core.List.{List, [], _∷_}
 use lib.Dec.{eqb, ltb}
-use Rattle.definitions.specs.Lists.{same, position, any}
+use Rattle.definitions.specs.Lists.{Name, same, position, any}
 use Rattle.definitions.specs.Sheet.Text.{bytes}
 
 -- `static`: built in, or of a `rel` line; `universal`: of an `every` line; the others: of a `choose` line
@@ -65,17 +65,17 @@ isTotal universal = false
 -- `firsts` and `seconds` are the sorts of its first and of its second place: 0, all elements, unless it is of a function kind that was
 -- given types
 pub record Relation : Type 0 where
-  pub name : List ℕ
+  pub name : Name
   pub arity : ℕ
   pub kind : Kind
   pub firsts : ℕ
   pub seconds : ℕ
 
 -- one that is built in or of a `rel` line, and one of an `every` line
-abbrev pub fixed : List ℕ → ℕ → Relation
+abbrev pub fixed : Name → ℕ → Relation
 fixed name arity = record { name = name; arity = arity; kind = static; firsts = zero; seconds = zero }
 
-abbrev pub varying : List ℕ → ℕ → Relation
+abbrev pub varying : Name → ℕ → Relation
 varying name arity = record { name = name; arity = arity; kind = universal; firsts = zero; seconds = zero }
 
 -- "Five are built in". A relation's number is its index in the list of all: these five, each `rel`, each `choose`, and that of an `every` line.
@@ -99,11 +99,11 @@ builtInHolds n (suc (suc (suc (suc zero)))) x y = eqb (suc x) n
 builtInHolds n (suc (suc (suc (suc (suc r))))) x y = false
 
 -- the number of the relation of a name
-unfoldable pub numberOf : List Relation → List ℕ → Option ℕ
+unfoldable pub numberOf : List Relation → Name → Option ℕ
 numberOf rs name = position (λ (r : Relation). same (r .name) name) rs
 
 -- whether a relation has that name
-unfoldable pub isDeclared : List Relation → List ℕ → Bool
+unfoldable pub isDeclared : List Relation → Name → Bool
 isDeclared rs name = any (λ (r : Relation). same (r .name) name) rs
 
 -- A tuple of a relation, by the relation's number.

@@ -8,7 +8,7 @@ use mathlib.Core.List.{List, [], _∷_, _++_, map}
 use lib.ListN.{length, getD}
 use lib.Dec.{eqb, leb, ltb}
 use Rattle.definitions.specs.Limits.{arityLimit, everyArityLimit, relLimit, typeLimit, chooseLimit, formLimit, nestingLimit, CaseLimits}
-use Rattle.definitions.specs.Lists.{if_then_else_, all, any, same, isEmpty, option, isSome, listed, position, below}
+use Rattle.definitions.specs.Lists.{Name, Steps, Text, if_then_else_, all, any, same, isEmpty, option, isSome, listed, position, below}
 use Rattle.definitions.specs.Sheet.Text.{bytes, Line, fields, number, isRelationName, isBetween}
 use Rattle.definitions.specs.Refusal.{Result, refused, accepted, _>>=_, refuseIf, given, readText}
 use Rattle.definitions.specs.Sheet.Relations.{Kind, plain, Fun, PFun, Inj, PInj, Relation, fixed, varying, Tuple, isAmong, builtIn, isDeclared}
@@ -21,30 +21,30 @@ use Rattle.definitions.specs.Sheet.Parsing.{readFormula}
 -- site's labels, and no form depends on them.
 pub data Element : Type 0 where
   numbered : ℕ → Element
-  named : (name : List ℕ) → Element
+  named : (name : Name) → Element
 
 -- one line of any sheet, by its record word
 pub data Entry : Type 0 where
-  rel : (name : List ℕ) → (arity : ℕ) → Entry
-  type : (name : List ℕ) → Entry
-  choose : (name : List ℕ) → (arity : ℕ) → Kind → (types : List (List ℕ)) → Entry
-  every : (name : List ℕ) → (arity : ℕ) → Entry
-  rule : (formula : List ℕ) → Entry
+  rel : (name : Name) → (arity : ℕ) → Entry
+  type : (name : Name) → Entry
+  choose : (name : Name) → (arity : ℕ) → Kind → (types : List Name) → Entry
+  every : (name : Name) → (arity : ℕ) → Entry
+  rule : (formula : Text) → Entry
   size : (n : ℕ) → Entry
-  label : Element → (name : List ℕ) → Entry
-  member : (type : List ℕ) → Element → Entry
-  fact pick : (name : List ℕ) → (elements : List Element) → Entry
+  label : Element → (name : Name) → Entry
+  member : (type : Name) → Element → Entry
+  fact pick : (name : Name) → (elements : List Element) → Entry
   step : (action : ℕ) → Entry
 
 -- an arity, and one that an `every` line may have
-unfoldable pub arityOf : List ℕ → Option ℕ
+unfoldable pub arityOf : Text → Option ℕ
 arityOf f = option (number f) none (λ a. if isBetween 1 arityLimit a then some a else none)
 
-unfoldable pub everyArityOf : List ℕ → Option ℕ
+unfoldable pub everyArityOf : Text → Option ℕ
 everyArityOf f = option (arityOf f) none (λ a. if leb a everyArityLimit then some a else none)
 
 -- the function kind that a word names
-unfoldable pub kindNamed : List ℕ → Option Kind
+unfoldable pub kindNamed : Text → Option Kind
 kindNamed f =
     if same f (bytes "Fun") then some Fun
     else if same f (bytes "PFun") then some PFun
@@ -53,8 +53,8 @@ kindNamed f =
     else none
 
 -- what a `choose` line has: a name; then a function kind, which has arity 2, or an arity; after a function kind there may be two types.
--- (Whether these are types is not its form: it is 19 where they are none.)
-unfoldable pub chooseOf : List (List ℕ) → Option Entry
+-- (A name that no type has is no fault of the form: `addChoose` refuses it with 19.)
+unfoldable pub chooseOf : List Text → Option Entry
 chooseOf [] = none
 chooseOf (name ∷ []) = none
 chooseOf (name ∷ f ∷ []) = option (kindNamed f) (option (arityOf f) none (λ a. some (choose name a plain []))) (λ kind. some (choose name 2 kind []))
@@ -63,39 +63,39 @@ chooseOf (name ∷ f ∷ t ∷ u ∷ []) = option (kindNamed f) none (λ kind. s
 chooseOf (name ∷ f ∷ t ∷ u ∷ v ∷ fs) = none
 
 -- an element field, and a list of them
-unfoldable pub element : List ℕ → Option Element
+unfoldable pub element : Text → Option Element
 element f = option (number f) (if isRelationName f then some (named f) else none) (λ x. some (numbered x))
 
-unfoldable pub elements : List (List ℕ) → Option (List Element)
+unfoldable pub elements : List Text → Option (List Element)
 elements [] = some []
 elements (f ∷ fs) = option (element f) none (λ x. option (elements fs) none (λ xs. some (x ∷ xs)))
 
 -- what a `label` line has: an element, then a name in the form of a relation's
-unfoldable pub labelOf : List ℕ → List ℕ → Option Entry
+unfoldable pub labelOf : Text → Text → Option Entry
 labelOf f name = if isRelationName name then option (element f) none (λ x. some (label x name)) else none
 
 -- what a `member` line has: a type, then an element. (Whether the type is one is not its form: it is 19 where it is none.)
-unfoldable pub memberOf : List ℕ → List ℕ → Option Entry
+unfoldable pub memberOf : Text → Text → Option Entry
 memberOf name f = option (element f) none (λ x. some (member name x))
 
 -- records with one field after the record word, with two, and, for `fact` and `pick`, with a name and 1 to 3 elements
-unfoldable pub withOne : (List ℕ → Option Entry) → List (List ℕ) → Option Entry
+unfoldable pub withOne : (Text → Option Entry) → List Text → Option Entry
 withOne make [] = none
 withOne make (f ∷ []) = make f
 withOne make (f ∷ g ∷ fs) = none
 
-unfoldable pub withTwo : (List ℕ → List ℕ → Option Entry) → List (List ℕ) → Option Entry
+unfoldable pub withTwo : (Text → Text → Option Entry) → List Text → Option Entry
 withTwo make [] = none
 withTwo make (f ∷ []) = none
 withTwo make (f ∷ g ∷ []) = make f g
 withTwo make (f ∷ g ∷ h ∷ fs) = none
 
-unfoldable pub withElements : (List ℕ → List Element → Entry) → List (List ℕ) → Option Entry
+unfoldable pub withElements : (Text → List Element → Entry) → List Text → Option Entry
 withElements make [] = none
 withElements make (f ∷ fs) = if isBetween 1 arityLimit (length fs) then option (elements fs) none (λ xs. some (make f xs)) else none
 
 -- what a line's fields say; none where the record word is unknown or the fields are not of its form
-unfoldable pub entry : List (List ℕ) → Option Entry
+unfoldable pub entry : List Text → Option Entry
 entry [] = none
 entry (w ∷ fs) =
     if same w (bytes "rel") then withTwo (λ name a. option (arityOf a) none (λ k. some (rel name k))) fs
@@ -120,20 +120,20 @@ entryOf l = given (if l .ended then entry (fields l) else none) 2 (l .at)
 -- the formula, with the place and the bytes of its field
 pub record Rule : Type 0 where
   pub at : ℕ
-  pub text : List ℕ
+  pub text : Text
   pub formula : Formula
 
 -- a question's lines so far, and a whole question
 pub record Draft : Type 0 where
   pub rels : List Relation
-  pub types : List (List ℕ)
+  pub types : List Name
   pub chosen : List Relation
   pub every : Option Relation
   pub ruled : Option Rule
 
 pub record Question : Type 0 where
   pub rels : List Relation
-  pub types : List (List ℕ)
+  pub types : List Name
   pub chosen : List Relation
   pub every : Option Relation
   pub rule : Rule
@@ -147,11 +147,11 @@ isRuled none = false
 isRuled (some r) = true
 
 -- 4: a declared name is of its form, not built in and not declared by an earlier line
-unfoldable pub isNewName : Draft → List ℕ → Bool
+unfoldable pub isNewName : Draft → Name → Bool
 isNewName d name = isRelationName name && not (isDeclared (relations (d .rels) (d .chosen) (d .every)) name)
 
 -- a `rel` line: 3 after a `type` or `choose` line, and where there are 8 already
-unfoldable pub addRel : Draft → ℕ → List ℕ → ℕ → Result Draft
+unfoldable pub addRel : Draft → ℕ → Name → ℕ → Result Draft
 addRel d at name arity = do
   _ ← refuseIf (not (isEmpty (d .types)) || not (isEmpty (d .chosen)) || leb relLimit (length (d .rels))) 3 at
   _ ← refuseIf (not (isNewName d name)) 4 at
@@ -159,7 +159,7 @@ addRel d at name arity = do
 
 -- a `type` line: 3 after a `choose` line, and where there are 8 already; 4 if its name has not a relation name's form, which is all that
 -- is asked of it; 19 if it is declared already
-unfoldable pub addType : Draft → ℕ → List ℕ → Result Draft
+unfoldable pub addType : Draft → ℕ → Name → Result Draft
 addType d at name = do
   _ ← refuseIf (not (isEmpty (d .chosen)) || leb typeLimit (length (d .types))) 3 at
   _ ← refuseIf (not (isRelationName name)) 4 at
@@ -167,11 +167,11 @@ addType d at name = do
   accepted (record { rels = d .rels; types = d .types ++ (name ∷ []); chosen = d .chosen; every = d .every; ruled = d .ruled })
 
 -- the sort of place i, by the types that a `choose` line gives
-unfoldable pub placeSort : List (List ℕ) → List (List ℕ) → ℕ → ℕ
+unfoldable pub placeSort : List Name → List Name → ℕ → ℕ
 placeSort types names i = getD (map (sortNamed types) names) i 0
 
 -- a `choose` line: 3 after an `every` line or the rule, and where there are 4 already; 19 if a type that it gives is not declared
-unfoldable pub addChoose : Draft → ℕ → List ℕ → ℕ → Kind → List (List ℕ) → Result Draft
+unfoldable pub addChoose : Draft → ℕ → Name → ℕ → Kind → List Name → Result Draft
 addChoose d at name arity kind names = do
   _ ← refuseIf (isSome (d .every) || isRuled (d .ruled) || leb chooseLimit (length (d .chosen))) 3 at
   _ ← refuseIf (not (isNewName d name)) 4 at
@@ -180,7 +180,7 @@ addChoose d at name arity kind names = do
   accepted (record { rels = d .rels; types = d .types; chosen = d .chosen ++ (k ∷ []); every = d .every; ruled = d .ruled })
 
 -- an `every` line: 3 if it is the second, comes before any `choose` or after the rule; 4 if no `choose` could have its name
-unfoldable pub addEvery : Draft → ℕ → List ℕ → ℕ → Result Draft
+unfoldable pub addEvery : Draft → ℕ → Name → ℕ → Result Draft
 addEvery d at name arity = do
   _ ← refuseIf (isSome (d .every) || isRuled (d .ruled) || isEmpty (d .chosen)) 3 at
   _ ← refuseIf (not (isNewName d name)) 4 at
@@ -188,7 +188,7 @@ addEvery d at name arity = do
 
 -- the `rule` line: 3 if it is the second, or comes before any `choose`; then 5 to 8 and 19, each of the whole formula. The formula
 -- begins 5 bytes into the line, after `rule` and the tab.
-unfoldable pub addRule : Draft → ℕ → List ℕ → Result Draft
+unfoldable pub addRule : Draft → ℕ → Text → Result Draft
 addRule d at text = do
   _ ← refuseIf (isRuled (d .ruled) || isEmpty (d .chosen)) 3 at
   f ← given (readFormula text) 5 at
@@ -216,7 +216,7 @@ unfoldable pub questionLine : Draft → Line → Result Draft
 questionLine d l = entryOf l >>= addToQuestion d (l .at)
 
 -- the whole question; without a rule it is 3 at the text's length
-unfoldable pub readQuestion : List ℕ → Result Question
+unfoldable pub readQuestion : Text → Result Question
 readQuestion text = do
   d ← readText questionLine (record { rels = []; types = []; chosen = []; every = none; ruled = none }) text
   r ← given (d .ruled) 3 (length text)
@@ -239,14 +239,14 @@ everyNumber q = firstChosen q + length (q .chosen)
 
 pub record Label : Type 0 where
   pub element : ℕ
-  pub name : List ℕ
+  pub name : Name
 
 -- the element that has the name, and the name that an element has
-unfoldable pub elementNamed : List Label → List ℕ → Option ℕ
+unfoldable pub elementNamed : List Label → Name → Option ℕ
 elementNamed [] name = none
 elementNamed (l ∷ ls) name = if same (l .name) name then some (l .element) else elementNamed ls name
 
-unfoldable pub nameOf : List Label → ℕ → Option (List ℕ)
+unfoldable pub nameOf : List Label → ℕ → Option Name
 nameOf [] x = none
 nameOf (l ∷ ls) x = if eqb (l .element) x then some (l .name) else nameOf ls x
 
@@ -267,13 +267,13 @@ isInRange n (named name) = true
 -- ---- a tuple in a line: 7, 9, 18 and 10
 
 -- the number of the relation that has the name and as many places as there are elements, where `first` is the first one's number
-unfoldable pub used : List Relation → ℕ → List ℕ → ℕ → Option ℕ
+unfoldable pub used : List Relation → ℕ → Name → ℕ → Option ℕ
 used rs first name arity =
     option (position (λ (r : Relation). same (r .name) name && eqb (r .arity) arity) rs) none (λ i. some (first + i))
 
 -- 7: no relation of this sheet has that name and arity; 9: a number is not below n; 18: a name is no label; 10: the tuple, however
 -- its elements were written, stood in an earlier line
-unfoldable pub addTuple : List Relation → ℕ → ℕ → List Label → List Tuple → ℕ → List ℕ → List Element → Result (List Tuple)
+unfoldable pub addTuple : List Relation → ℕ → ℕ → List Label → List Tuple → ℕ → Name → List Element → Result (List Tuple)
 addTuple rs first n labels tuples at name es = do
   r ← given (used rs first name (length es)) 7 at
   _ ← refuseIf (not (all (isInRange n) es)) 9 at
@@ -317,12 +317,12 @@ addSize L d at n none = refuseIf (not (isBetween 1 (L .elements) n)) 9 at >>= λ
 addSize L d at n (some m) = refused 3 at
 
 -- whether an earlier label is that of the element, or has the name
-unfoldable pub isTaken : List Label → ℕ → List ℕ → Bool
+unfoldable pub isTaken : List Label → ℕ → Name → Bool
 isTaken labels x name = any (λ (l : Label). eqb (l .element) x || same (l .name) name) labels
 
 -- a `label` line: 3 before `size` and after a `member` or `fact`; 9 if its element is a number not below n; 18 if that is a name that is no label,
 -- or if the element or the name has a `label` line already. (So a name there always ends in 18: its element has one, or it means none.)
-unfoldable pub addLabel : SiteDraft → ℕ → Element → List ℕ → Result SiteDraft
+unfoldable pub addLabel : SiteDraft → ℕ → Element → Name → Result SiteDraft
 addLabel d at e name = do
   n ← given (d .sized) 3 at
   _ ← refuseIf (not (isEmpty (d .members)) || not (isEmpty (d .facts))) 3 at
@@ -333,7 +333,7 @@ addLabel d at e name = do
 
 -- a `member` line: 3 before `size` and after a `fact`; 19 if no such type is declared; 9 if its element is a number not below n; 18 if
 -- that is a name that is no label; 10 if the element, however written, is a member of that type by an earlier line
-unfoldable pub addMember : List (List ℕ) → SiteDraft → ℕ → List ℕ → Element → Result SiteDraft
+unfoldable pub addMember : List Name → SiteDraft → ℕ → Name → Element → Result SiteDraft
 addMember types d at name e = do
   n ← given (d .sized) 3 at
   _ ← refuseIf (not (isEmpty (d .facts))) 3 at
@@ -344,13 +344,13 @@ addMember types d at name e = do
   accepted (record { sized = d .sized; labels = d .labels; members = d .members ++ (record { type = k; element = x } ∷ []); facts = d .facts })
 
 -- a `fact` line: 3 before `size`
-unfoldable pub addFact : List Relation → SiteDraft → ℕ → List ℕ → List Element → Result SiteDraft
+unfoldable pub addFact : List Relation → SiteDraft → ℕ → Name → List Element → Result SiteDraft
 addFact rels d at name es = do
   n ← given (d .sized) 3 at
   facts ← addTuple rels firstRel n (d .labels) (d .facts) at name es
   accepted (record { sized = d .sized; labels = d .labels; members = d .members; facts = facts })
 
-unfoldable pub addToSite : CaseLimits → List Relation → List (List ℕ) → SiteDraft → ℕ → Entry → Result SiteDraft
+unfoldable pub addToSite : CaseLimits → List Relation → List Name → SiteDraft → ℕ → Entry → Result SiteDraft
 addToSite L rels types d at (rel name arity) = refused 3 at
 addToSite L rels types d at (type name) = refused 3 at
 addToSite L rels types d at (choose name arity kind names) = refused 3 at
@@ -363,11 +363,11 @@ addToSite L rels types d at (fact name xs) = addFact rels d at name xs
 addToSite L rels types d at (pick name xs) = refused 3 at
 addToSite L rels types d at (step k) = refused 3 at
 
-unfoldable pub siteLine : CaseLimits → List Relation → List (List ℕ) → SiteDraft → Line → Result SiteDraft
+unfoldable pub siteLine : CaseLimits → List Relation → List Name → SiteDraft → Line → Result SiteDraft
 siteLine L rels types d l = entryOf l >>= addToSite L rels types d (l .at)
 
 -- the whole site; without a size it is 3 at the text's length, and then 19, place 0, where a type has no member
-unfoldable pub readSite : CaseLimits → List Relation → List (List ℕ) → List ℕ → Result Labelled
+unfoldable pub readSite : CaseLimits → List Relation → List Name → Text → Result Labelled
 readSite L rels types text = do
   d ← readText (siteLine L rels types) (record { sized = none; labels = []; members = []; facts = [] }) text
   n ← given (d .sized) 3 (length text)
@@ -392,12 +392,12 @@ addToPicks chosen first n labels picks at (step k) = refused 3 at
 unfoldable pub picksLine : List Relation → ℕ → ℕ → List Label → List Tuple → Line → Result (List Tuple)
 picksLine chosen first n labels picks l = entryOf l >>= addToPicks chosen first n labels picks (l .at)
 
-unfoldable pub readPicks : List Relation → ℕ → ℕ → List Label → List ℕ → Result (List Tuple)
+unfoldable pub readPicks : List Relation → ℕ → ℕ → List Label → Text → Result (List Tuple)
 readPicks chosen first n labels text = readText (picksLine chosen first n labels) [] text
 
 -- ---- steps: `step` lines, each an action's number
 
-unfoldable pub addToSteps : List ℕ → ℕ → Entry → Result (List ℕ)
+unfoldable pub addToSteps : Steps → ℕ → Entry → Result Steps
 addToSteps steps at (rel name arity) = refused 3 at
 addToSteps steps at (type name) = refused 3 at
 addToSteps steps at (choose name arity kind types) = refused 3 at
@@ -410,8 +410,8 @@ addToSteps steps at (fact name xs) = refused 3 at
 addToSteps steps at (pick name xs) = refused 3 at
 addToSteps steps at (step k) = accepted (steps ++ (k ∷ []))
 
-unfoldable pub stepsLine : List ℕ → Line → Result (List ℕ)
+unfoldable pub stepsLine : Steps → Line → Result Steps
 stepsLine steps l = entryOf l >>= addToSteps steps (l .at)
 
-unfoldable pub readSteps : List ℕ → Result (List ℕ)
+unfoldable pub readSteps : Text → Result Steps
 readSteps text = readText stepsLine [] text

@@ -8,19 +8,19 @@ use mathlib.Core.List.{List, [], _∷_, _++_}
 use lib.ListN.{length}
 use lib.Dec.{eqb, leb}
 use Rattle.definitions.specs.Limits.{digitLimit, nameLimit, variableLimit}
-use Rattle.definitions.specs.Lists.{if_then_else_, all, isEmpty}
+use Rattle.definitions.specs.Lists.{Text, if_then_else_, all, isEmpty}
 
 -- a quoted ASCII text as its bytes (it stands for them wherever it is written)
-abbrev pub bytes : String → List ℕ
+abbrev pub bytes : String → Text
 bytes ε = []
 bytes (c ∶ s) = code c ∷ bytes s
 
 -- A text cut at each byte `sep`: there is always one piece more than there are such bytes.
-unfoldable pub onFirst : ℕ → List (List ℕ) → List (List ℕ)
+unfoldable pub onFirst : ℕ → List Text → List Text
 onFirst b [] = []
 onFirst b (p ∷ ps) = (b ∷ p) ∷ ps
 
-unfoldable pub split : ℕ → List ℕ → List (List ℕ)
+unfoldable pub split : ℕ → Text → List Text
 split sep [] = [] ∷ []
 split sep (b ∷ bs) = if eqb b sep then [] ∷ split sep bs else onFirst b (split sep bs)
 
@@ -29,18 +29,18 @@ split sep (b ∷ bs) = if eqb b sep then [] ∷ split sep bs else onFirst b (spl
 pub record Line : Type 0 where
   pub at : ℕ
   pub ended : Bool
-  pub content : List ℕ
+  pub content : Text
 
-unfoldable pub linesFrom : ℕ → List (List ℕ) → List Line
+unfoldable pub linesFrom : ℕ → List Text → List Line
 linesFrom at [] = []
 linesFrom at (p ∷ []) = if isEmpty p then [] else record { at = at; ended = false; content = p } ∷ []
 linesFrom at (p ∷ q ∷ qs) = record { at = at; ended = true; content = p } ∷ linesFrom (at + length p + 1) (q ∷ qs)
 
-unfoldable pub lines : List ℕ → List Line
+unfoldable pub lines : Text → List Line
 lines text = linesFrom zero (split 10 text)
 
 -- the first of a line's fields is its record word
-unfoldable pub fields : Line → List (List ℕ)
+unfoldable pub fields : Line → List Text
 fields l = split 9 (l .content)
 
 -- A number is 1 to 7 decimal digits, and 0 comes first only where it stands alone.
@@ -50,31 +50,31 @@ isBetween a e b = leb a b && leb b e
 unfoldable pub isDigit : ℕ → Bool
 isDigit b = isBetween 48 57 b
 
-unfoldable pub decimalValue : ℕ → List ℕ → ℕ
+unfoldable pub decimalValue : ℕ → Text → ℕ
 decimalValue v [] = v
 decimalValue v (b ∷ bs) = decimalValue (v * 10 + (b - 48)) bs
 
-unfoldable pub noLeadingZero : List ℕ → Bool
+unfoldable pub noLeadingZero : Text → Bool
 noLeadingZero [] = false
 noLeadingZero (b ∷ []) = true
 noLeadingZero (b ∷ c ∷ bs) = not (eqb b 48)
 
-unfoldable pub number : List ℕ → Option ℕ
+unfoldable pub number : Text → Option ℕ
 number bs = if all isDigit bs && noLeadingZero bs && leb (length bs) digitLimit then some (decimalValue zero bs) else none
 
 -- A number written in decimal. Twenty digits are enough for 64 bits.
-unfoldable pub decimalIn : ℕ → ℕ → List ℕ
+unfoldable pub decimalIn : ℕ → ℕ → Text
 decimalIn zero n = []
 decimalIn (suc k) n = if leb n 9 then (n + 48) ∷ [] else decimalIn k (n / 10) ++ ((n % 10 + 48) ∷ [])
 
-unfoldable pub decimal : ℕ → List ℕ
+unfoldable pub decimal : ℕ → Text
 decimal n = decimalIn 20 n
 
 -- A relation's name has 1 to 12 bytes: a capital, and after it capitals, digits and underscores (95).
 unfoldable pub isCapital : ℕ → Bool
 isCapital b = isBetween 65 90 b
 
-unfoldable pub isRelationName : List ℕ → Bool
+unfoldable pub isRelationName : Text → Bool
 isRelationName [] = false
 isRelationName (b ∷ bs) = isCapital b && all (λ c. isCapital c || isDigit c || eqb c 95) bs && leb (length (b ∷ bs)) nameLimit
 
@@ -82,7 +82,7 @@ isRelationName (b ∷ bs) = isCapital b && all (λ c. isCapital c || isDigit c |
 unfoldable pub isSmall : ℕ → Bool
 isSmall b = isBetween 97 122 b
 
-unfoldable pub isVariable : List ℕ → Bool
+unfoldable pub isVariable : Text → Bool
 isVariable [] = false
 isVariable (q ∷ []) = false
 isVariable (q ∷ b ∷ bs) =

@@ -20,9 +20,9 @@ abbrev μ-loop : tie.MeasureT-loop
 
 picks-turn-requires : tie.Need-picks-turn-requires Inv-loop μ-loop
 picks-turn-requires c κs =
-    let s = c .before .before .before .before .before .before .before .before .before .before .before .before .before .before .before .before in
+    let l = c .before .before .before .before .before .before in let s = l .before .before .before .before .before .before .before .before .before .before in
     let g = s .args .g in let known = s .pre .0 in (
-      (sound-few _ g (g .rels) (g .chosen) (known .0) (omega arith), known .1, rw (c .before .before .before .before .before .before .loop .inv .2) (known .2)),
+      (sound-few _ g (g .rels) (g .chosen) (known .0) (omega arith), known .1, rw (l .loop .inv .2) (known .2)),
       (s .pre .1, (_, c .before .before .before .before .line .ensures .3)),
     )
 

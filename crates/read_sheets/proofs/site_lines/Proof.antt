@@ -28,9 +28,9 @@ loop-holds c =
 
 site-turn-requires : tie.Need-site-turn-requires Inv-loop μ-loop
 site-turn-requires c κs =
-    let s = c .before .before .before .before .before .before .before .before .before .before .before .before .before .before .before .before .before .before in
+    let l = c .before .before .before .before .before .before .before .before in let s = l .before .before .before .before .before .before .before .before .before .before in
     let g = s .args .g in let p = s .pre in let most = upTo (s .args .most) in
-    let so-far = c .before .before .before .before .before .before .before .before .loop .inv in let read = so-far .4 most refl in (
+    let so-far = l .loop .inv in let read = so-far .4 most refl in (
       (sound-few _ g 0 (g .rels) (p .0) (omega arith), p .1, size-small most _ _ _ _ _ _ _ _ read, λ h. rw (so-far .1) (so-far .6 h)),
       ((p .0 .types-le, omega (arith, so-far .3, p .4 .room)), (labels-so-far most _ _ _ _ _ _ _ _ read, (_, c .before .before .before .before .before .before .line .ensures .3))),
     )
@@ -71,7 +71,7 @@ site-end-requires c κs =
 pub site-lines-spec : {M : Type 1} → Rattle.read_sheets.proofs.site_lines.Statement.statement M
 site-lines-spec = tie.close (tie.spec Inv-loop μ-loop (λ c. λ L e. site-long _ _ _ _ _ _ _ (c .if1 .taken)) loop-holds (λ c κs. search needs)
     site-turn-requires (λ c. search needs) (λ c. search needs) (λ c. search needs) (λ c. search needs) (λ c. search needs) returns-2
-    (λ c. omega (arith, c .before .before .before .before .before .before .before .before .before .before .before .before .before .before .before .before .line .ensures))
+    (λ c. let t = c .before .before .before .before .before .before .before .before .before in omega (arith, t .before .before .before .before .before .before .before .line .ensures))
     loop-again site-end-requires (λ c. c .before .before .before .loop .inv .2) (λ c. c .before .before .before .loop .inv .3)
     (λ c. c .before .before .before .loop .inv .1)
     (λ c. λ L e. site-end _ _ _ _ _ _ _ _ _ (c .before .before .before .loop .inv .4 L e) (omega arith) _ (c .site-end .ensures)))

@@ -15,8 +15,8 @@ few c =
     let s = c .before .before .before .before .before .before .before .before .before in let a = s .args in
     omega (
       arith,
-      length-names (a .q .now) (a .from .now) (a .to .now) 13 (a .types),
-      type-below _ (a .n) (s .pre .1 .0) _ (elementBy [] 0) [] [] _ (c .before .before .type-named .ensures) _ (c .f .given .1),
+      length-names (a .q .now) (a .from .now) (a .to .now) 13 (a .line .types),
+      type-below _ (a .line .n) (s .pre .1 .0) _ (elementBy [] 0) [] [] _ (c .before .before .type-named .ensures) _ (c .f .given .1),
     )
 
 returns : tie.Need-returns
@@ -35,13 +35,13 @@ returns-2 c = λ ls L.
 
 returns-3 : tie.Need-returns-3
 returns-3 c = λ ls L.
+    let f = c .before .before .before .before .before .before .before .before .before .before .before .before in
     let fit = sym (c .before .before .before .before .before .before .before .before .before .before .fits2 .ensures _)
     ∙ c .before .before .before .before .before .before .before .before .before .if1 .taken in
-    let type = c .before .before .before .before .before .before .before .before .before .before .before .before .before .before .type-named .ensures in
     let value = c .before .before .before .before .before .before .before .before .value .ensures ls L in
-    let eight = c .before .before .before .before .before .before .before .before .before .before .before .before .before .before .before .before .before .before .before .before .before .pre .0 in
-    member-new _ _ ls _ _ _ _ _ type _
-    (c .before .before .before .before .before .before .before .before .before .before .before .before .f .given .1) (L .fit) fit _ value
+    let eight = f .before .before .before .before .before .before .before .before .before .pre .0 in
+    member-new _ _ ls _ _ _ _ _ (f .before .before .type-named .ensures) _
+    (f .f .given .1) (L .fit) fit _ value
     (omega (arith, c .before .before .before .before .before .before .before .if2 .left)) (omega (arith, eight))
     (sym (c .before .before .before .before .before .get .ensures) ∙ c .before .before .before .before .if3 .left)
     (omega (arith, c .before .members .given, eight)) (c .before .before .set .ensures)
