@@ -137,11 +137,11 @@ pub fn bare(n: usize) -> Sample {
 }
 
 /// A chain of `and`s under four quantifiers that speaks of two of their variables only, so that an evaluator asks it again and again.
-pub fn slow_to_judge() -> Sample {
+pub fn slow_to_judge(n: usize) -> Sample {
     let chain = format!("{}(not (E ?c ?d)){}", "(and ".repeat(52), ")".repeat(52));
     let rule =
         format!("(forall (?a ?b ?c) (and (EQ ?a ?a) (EQ ?b ?b) (EQ ?c ?c) (forall (?d) {chain})))");
-    filed(format!("rel\tE\t2\nchoose\tT\t1\nrule\t{rule}\n"), "size\t64\n".into(), String::new())
+    filed(format!("rel\tE\t2\nchoose\tT\t1\nrule\t{rule}\n"), format!("size\t{n}\n"), String::new())
 }
 
 /// The same case with a label of twelve bytes for each element.

@@ -283,7 +283,7 @@ fn judgements() -> Vec<(String, Vec<Sample>)> {
         ("airport of 64, a typed kind".into(), vec![kind_zones()]),
         ("airport of 64, a round".into(), vec![round()]),
         ("lost cards of 8, 256 values".into(), vec![lost_cards()]),
-        ("a chain under four variables, 64".into(), vec![slow_to_judge()]),
+        ("a chain under four variables, 20".into(), vec![slow_to_judge(20)]),
     ]
 }
 
