@@ -4,17 +4,14 @@ use mathlib.Core.Path.{_≡_, refl, sym, ap, _∙_}
 use mathlib.Core.Bool.{Bool, true, false}
 use mathlib.Core.Option.{none, some}
 use mathlib.Core.List.{List}
-use native.Mathlib.Omega.{arith}
 use borrow.Author.Tests.{lt-ltb, le-ltb}
 use lib.Dec.{ltb}
 use lib.ListN.{length, take}
 use Rattle.definitions.specs.Limits.{CaseLimits, cellLimit}
 use Rattle.definitions.specs.Lists.{isSome}
 use Rattle.definitions.specs.Refusal.{Result, refused, accepted, _>>=_, refuseIf, given}
-use Rattle.definitions.specs.Sheet.Relations.{builtIn}
-use Rattle.definitions.specs.Sheet.Sheets.{relationsOf, relations}
 use Rattle.definitions.specs.Problem.Truth.{Case}
-use Rattle.definitions.specs.Problem.Atoms.{Problem, problemOf, problemWith}
+use Rattle.definitions.specs.Problem.Atoms.{Problem, problemOf}
 use Rattle.definitions.specs.Reply.Outcome.{readCase, ground, withoutEvery, asked, nothing, roomFor, picksLength, pickWords, written}
 use Rattle.definitions.specs.Reply.Finding.{numbered, leastNumber, leastPicks, foundWords, foundFrom}
 use Rattle.laws.specs.Asked
@@ -48,10 +45,6 @@ Answers x old r new = (resultOf r ≡ foundFrom x old .answer) × (new ≡ found
 -- what is found, as words
 unfoldable pub leastWords : Case → Result (List ℕ)
 leastWords c = leastPicks c (cellsOf c) >>= λ F. accepted (pickWords (problemOf c) F)
-
-pub some-relations : (c : Case) → 0 < length (problemOf c .relations)
-unfolding problemOf problemWith relationsOf relations builtIn
-some-relations c = omega arith
 
 -- ---- 20, 21, or the picks
 module _ (c : Case) (old : List ℕ) (count : ℕ) (e : count ≡ length (cellsOf c)) where

@@ -11,10 +11,10 @@ use lib.ListN.{length}
 use Rattle.definitions.specs.Limits.{CaseLimits, usual}
 use Rattle.definitions.specs.Lists.{position}
 use Rattle.definitions.specs.Refusal.{Result, refused, accepted, _>>=_, refuseIf}
-use Rattle.definitions.specs.Sheet.Relations.{Tuple, builtIn}
-use Rattle.definitions.specs.Sheet.Sheets.{relationsOf, relations}
+use Rattle.definitions.specs.Sheet.Relations.{Tuple}
+use Rattle.definitions.specs.Sheet.Sheets.{relations}
 use Rattle.definitions.specs.Problem.Truth.{Case, arePicks, everyTuples, values, everyValue, ruleHolds, ruleIsTrue, firstOfOtherKind}
-use Rattle.definitions.specs.Problem.Atoms.{Problem, problemOf, problemWith}
+use Rattle.definitions.specs.Problem.Atoms.{Problem, problemOf}
 use Rattle.definitions.specs.Problem.Built.{chosenNumbers}
 use Rattle.definitions.specs.Reply.Outcome.{CaseRead, readFiled, ground, Ready, asked, nothing, ThirdInput, asText, picksRoom, textPicks, takePicks, picksLength, spareWord, kindRefusal, satisfying}
 use Rattle.definitions.specs.Reply.Judgement.{judge}
@@ -145,10 +145,6 @@ module _ (c : Case) (F : List Tuple) (n : ℕ) (ms : List ℕ) (types : ℕ) (g 
     pub decides-no : b ≡ false → resultOf (Refused 17 0) ≡ verdict c F
     unfolding resultOf verdict decided satisfying takePicks kindRefusal refuseIf _>>=_
     decides-no y = let z : ruleIsTrue c F ≡ false = sym f ∙ y in rw (none-told, z) refl
-
-pub some-relations : (c : Case) → 0 < length (problemOf c .relations)
-unfolding problemOf problemWith relationsOf relations builtIn
-some-relations c = omega arith
 
 -- ---- the places where judging can end
 module _ (L : CaseLimits) (question site : List ℕ) (picks : ThirdInput) where

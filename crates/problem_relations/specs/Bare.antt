@@ -6,11 +6,13 @@ use mathlib.Core.Option.{some}
 use mathlib.Core.List.{List, [], _∷_, map}
 use native.Mathlib.Omega.{arith}
 use lib.ListN.{length, drop, getD, set, replicate}
+use Rattle.definitions.specs.Sheet.Sheets.{relations, relationsOf}
+use Rattle.definitions.specs.Problem.Truth.{Case}
 use Rattle.bits.specs.Table.{bit}
 use Rattle.definitions.specs.Lists.{if_then_else_, option, position, below, sum}
-use Rattle.definitions.specs.Sheet.Relations.{isChosen, isUniversal}
+use Rattle.definitions.specs.Sheet.Relations.{isChosen, isUniversal, builtIn}
 use Rattle.definitions.specs.Problem.Tree.{leaf, nodes}
-use Rattle.definitions.specs.Problem.Atoms.{Problem, relationAt, tuplesOf, tupleStart, relationStart, nodeStart}
+use Rattle.definitions.specs.Problem.Atoms.{Problem, relationAt, tuplesOf, tupleStart, relationStart, nodeStart, problemOf, problemWith}
 use Rattle.definitions.specs.Problem.Actions.{setStart, proofStart}
 use Rattle.definitions.specs.Problem.Built.{chosenNumbers}
 use Rattle.definitions.specs.Reply.Outcome.{relationWords, picksLength, hasSpare, spareWord}
@@ -337,3 +339,8 @@ module _ (p : Problem) where
 
   pub kinds-same : (words : List ℕ) → position (brokenAt (bare p) (rowsIn (bare p) words)) (chosenNumbers (bare p)) ≡ position (brokenAt p (rowsIn p words)) (chosenNumbers p)
   kinds-same words = ap₂ (λ (f : ℕ → Bool) (rs : List ℕ). position f rs) (fun-ext (breaks-alike words)) chosen-same
+
+-- every case has the relations that are built in
+pub some-relations : (c : Case) → 0 < length (problemOf c .relations)
+unfolding problemOf problemWith relationsOf relations builtIn
+some-relations c = omega arith

@@ -9,12 +9,12 @@ use Rattle.problem_layout.specs.LaidLaws.{most-zeros}
 use Rattle.problem_table.specs.Lines.{tableLength}
 use Rattle.problem_sizes.specs.Refused.{every-told}
 use Rattle.problem_of_case.specs.Grounds.{declared, rule-fine, inputs}
-use Rattle.problem_relations.specs.Bare.{bare, length-same}
+use Rattle.problem_relations.specs.Bare.{bare, some-relations, length-same}
 use Rattle.read_sheets.specs.Opening.{case-read}
 use Rattle.open_case.specs.Known.{facts-held}
 use Rattle.open_case.specs.Usual.{over-usual, within-usual, counts-usual}
 use Rattle.eval_table.specs.Everywhere.{no-every}
-use Rattle.call_find.specs.Finds.{some-relations, ends-over, ends-every, ends-short, ends-found}
+use Rattle.call_find.specs.Finds.{ends-over, ends-every, ends-short, ends-found}
 use borrow.Author.Needs.{needs}
 use Rattle.call_find.proofs.find_case.Statement.{statement}
 use Rattle.call_find.proofs.find_case.Tie as tie

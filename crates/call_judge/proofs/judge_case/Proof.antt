@@ -8,9 +8,9 @@ use Rattle.problem_layout.specs.LaidLaws.{most-zeros}
 use Rattle.problem_table.specs.Lines.{tableLength}
 use Rattle.problem_sizes.specs.Refused.{tuples-told}
 use Rattle.problem_of_case.specs.Grounds.{declared, rule-fine, inputs}
-use Rattle.problem_relations.specs.Bare.{bare, length-same, spare-same}
+use Rattle.problem_relations.specs.Bare.{bare, some-relations, length-same, spare-same}
 use Rattle.open_case.specs.Usual.{over-usual, within-usual, few-usual, counts-usual}
-use Rattle.call_judge.specs.Judges.{some-relations, values-are, ends-over, ends-short, ends-spare, ends-judged, asks-of}
+use Rattle.call_judge.specs.Judges.{values-are, ends-over, ends-short, ends-spare, ends-judged, asks-of}
 use borrow.Author.Needs.{needs}
 use Rattle.call_judge.proofs.judge_case.Statement.{statement}
 use Rattle.call_judge.proofs.judge_case.Tie as tie
