@@ -115,6 +115,29 @@ void nendokwe_find(const uint8_t *question, size_t question_length, const uint8_
 void nendokwe_monotone(const uint8_t *question, size_t question_length, const uint8_t *site, size_t site_length,
                        uint32_t *number, size_t *place);
 
+/* Plans in layers. A layer is steps that may all be taken in the state before it, none of which removes what another needs or adds. A plan
+ * is lent as all its steps, layer after layer, and for each layer the index after its last step; ends that fall, or whose last is not the
+ * step count (0 without layers), are 3 with the layer as place. Places of 13, 14 and 15 are layers too, and the state left is that before
+ * the layer. Success is 0 and the number of layers.
+ *
+ * The window: how many layers accepted plans have at the least, and built ones at the most; success is 0 and 0, a refusal leaves the two. */
+void nendokwe_window(const uint8_t *question, size_t question_length, const uint8_t *site, size_t site_length,
+                     uint32_t *number, size_t *place, size_t *lower, size_t *upper);
+void nendokwe_check_layers(const uint8_t *question, size_t question_length, const uint8_t *site, size_t site_length,
+                           const uint32_t *steps, size_t steps_length, const uint32_t *ends, size_t ends_length,
+                           uint64_t *state, size_t state_length, uint32_t *number, size_t *place);
+
+/* The steps that nendokwe_build builds, each in the earliest layer that it may join. Room is needed as there, and for the ends as many
+ * entries as the window's upper number. */
+void nendokwe_build_layers_text(const uint8_t *question, size_t question_length, const uint8_t *site, size_t site_length,
+                                const uint8_t *picks, size_t picks_length, uint64_t *state, size_t state_length,
+                                uint32_t *steps, size_t steps_length, uint32_t *ends, size_t ends_length,
+                                uint32_t *number, size_t *place);
+void nendokwe_build_layers(const uint8_t *question, size_t question_length, const uint8_t *site, size_t site_length,
+                           const uint64_t *picks, size_t picks_length, uint64_t *state, size_t state_length,
+                           uint32_t *steps, size_t steps_length, uint32_t *ends, size_t ends_length,
+                           uint32_t *number, size_t *place);
+
 /* The desk program's reply to an input, to a buffer of exactly NENDOKWE_REPLY bytes; returns how many bytes it has. */
 #define NENDOKWE_REPLY 573952
 size_t nendokwe_desk(const uint8_t *input, size_t input_length, uint8_t *out);

@@ -3,7 +3,7 @@
 
 VECTORS/jobs/jobNN.txt are scripts, whose answers stand behind each call; VECTORS/desk and VECTORS/jobs/deskNN have inputs of the desk program
 with their outputs. Taken are the calls and inputs that need nothing that has not landed; left out are calls that this program does not
-make, and answers that tell a buffer by its digest only. stdin has the own part of the script first, up to the line MARK, whose answers
+make, or has no room for. stdin has the own part of the script first, up to the line MARK, whose answers
 in stdout stay. So the program is held to the vectors and not to itself.
 """
 import pathlib
@@ -12,12 +12,15 @@ import sys
 MARK = "# What follows is written by pack.py, from scripts of vectors."
 LANDED = {"-", "big", "labels", "types", "kinds", "every"}  # what an answer may rest on
 SHEETS = ("question", "site", "text")
-NUMBERS = ("lent", "lists")
+NUMBERS = ("lent", "ends", "lists")
 CALLS = {"sizes", "tally", "action", "allowances", "find", "monotone", "check_text", "picks_text", "build_text", "judge_text", "page_text",
-         "check", "picks", "build", "judge", "page", "tries"}
-STEPS = {"check", "picks", "page", "tries"}  # the calls on lent steps
-ROOMS = {"state": 1024, "picks": 64, "steps": 8192, "lent": 512, "lists": 512}  # as many words and numbers the program has
-JOBS = ("01", "03", "04", "05", "06", "07", "08", "09", "10", "12", "13", "14")  # whose scripts and desk inputs are taken
+         "check", "picks", "build", "judge", "page", "tries", "window", "check_layers", "build_layers_text", "build_layers"}
+STEPS = {"check", "picks", "page", "tries", "check_layers"}  # the calls on lent steps
+ROOMS = {"state": 1024, "picks": 64, "steps": 8192, "ends": 512, "out": 16384, "-": 1 << 64}  # as many words, steps and bytes the program has
+LENT = 512  # as many numbers that are lent
+BUFFERS = {"check_text": "state", "picks_text": "picks state", "build_text": "state steps", "page_text": "- state out", "allowances": "picks",
+           "find": "picks", "tries": "state", "action": "-", "check_layers": "state", "build_layers_text": "state steps ends"}  # what the numbers behind a call are the lengths of
+JOBS = ("01", "02", "03", "04", "05", "06", "07", "08", "09", "10", "12", "13", "14")  # whose scripts and desk inputs are taken
 LATER = {"0342"}  # of the first desk folder: its `type` line was no record then, and stands in the wrong place now
 
 
@@ -35,16 +38,13 @@ def own_calls(lines):
     return calls
 
 
-def fits(call, required, settings):
-    """Whether an answer tells all that its buffers hold, and the program has room for them and for what is lent, steps of 32 bits."""
-    counts, name = {}, ""
-    for word in required.split()[1:]:
-        name = word if word.isalpha() else name
-        counts[name] = counts.get(name, -1) + 1
-    held = all(counts.get(name, 0) <= room for name, room in ROOMS.items())
+def fits(call, rooms, settings):
+    """Whether the program has room for a call's buffers and for what is lent, steps of 32 bits."""
+    names = BUFFERS.get(call, BUFFERS.get(call + "_text", "")).split()
+    held = all(int(room) <= ROOMS[name] for room, name in zip(rooms, names, strict=True))
     lent = {k: [int(n) for n in settings.get(k, [""])[0].split()[1:]] for k in NUMBERS}
     narrow = call not in STEPS or all(n < 2**32 for n in lent["lent"])
-    return "sha256" not in required and held and narrow and all(len(lent[k]) <= ROOMS[k] for k in NUMBERS)
+    return held and narrow and all(len(lent[k]) <= LENT for k in NUMBERS)
 
 
 def packed(lines):
@@ -59,7 +59,7 @@ def packed(lines):
             fresh = [w for w in fresh if w != word] + [word]
         elif word in CALLS and LANDED.issuperset(needs.split()):
             required = next(lines)
-            if fits(word, required, standing):
+            if fits(word, line.split()[1:], standing):
                 taken += [part for w in fresh for part in standing[w]] + [line]
                 answers.append(required)
                 fresh = []
@@ -85,11 +85,11 @@ def desk(folder, letter, rows_left_out):
 if len(sys.argv) != 2:
     sys.exit(__doc__)
 here, vectors = pathlib.Path(__file__).parent, pathlib.Path(sys.argv[1])
-script = (here / "stdin").read_text().split("\n" + MARK + "\n")[0].rstrip("\n").split("\n")
+script = (here / "stdin").read_bytes().decode().split("\n" + MARK + "\n")[0].rstrip("\n").split("\n")
 answers = (here / "stdout").read_bytes().split(b"\n")[: own_calls(script)]
 script += ["", MARK]
 for job in JOBS:
-    more, required = packed(iter((vectors / "jobs" / f"job{job}.txt").read_text().split("\n")))
+    more, required = packed(iter((vectors / "jobs" / f"job{job}.txt").read_bytes().decode().split("\n")))
     script, answers = script + more, answers + [line.encode() for line in required]
 inputs, outputs, index = desk(vectors / "desk", "", LATER)
 for letter, job in zip("abcdefgh", [job for job in JOBS if (vectors / "jobs" / f"desk{job}").is_dir()]):

@@ -32,6 +32,14 @@ pub struct Prove {
     pub choice: u32,
 }
 
+/// What an action needs, adds and removes, by the numbers of the atoms.
+#[derive(Clone, Debug, Default)]
+pub struct Effects {
+    pub needs: Vec<u32>,
+    pub adds: Vec<u32>,
+    pub removes: Vec<u32>,
+}
+
 #[derive(Clone, Copy, Debug, PartialEq, Eq)]
 pub enum Action {
     Set(Set),
@@ -549,6 +557,65 @@ impl<'c> Problem<'c> {
             add(state, atom);
         }
         may
+    }
+
+    /// What an action of a case without an `every` line needs, adds and removes.
+    pub fn effects(&self, action: Action, into: &mut Effects) {
+        let Effects { needs, adds, removes } = into;
+        needs.clear();
+        adds.clear();
+        removes.clear();
+        match action {
+            Action::Set(Set { choose, row }) => {
+                let relation =
+                    &self.relations[self.question.signature.chosen().start + choose as usize];
+                let (first, second) = self.by_n.split(row);
+                removes.push(relation.not_tuple(row));
+                if relation.kind.is_function() {
+                    removes.push(relation.free_domain(first));
+                }
+                if relation.kind.is_injective() {
+                    removes.push(relation.free_range(second, self.n));
+                }
+                needs.push(GUESS);
+                needs.extend(&*removes);
+                adds.push(relation.tuple(row));
+            }
+            Action::BeginProof => {
+                needs.push(GUESS);
+                adds.push(PROOF);
+                removes.push(GUESS);
+            }
+            Action::Prove(prove) => self.prove_effects(prove, needs, adds),
+            Action::ProveGoal => {
+                needs.push(self.root());
+                adds.push(GOAL);
+            }
+            Action::RoundEnd | Action::MarkIn(_) | Action::MarkOut(_) => (),
+        }
+    }
+
+    fn prove_effects(&self, prove: Prove, needs: &mut Vec<u32>, adds: &mut Vec<u32>) {
+        let Prove { node, row, choice } = prove;
+        let node = &self.nodes[node as usize];
+        let mut values = self.values(node.free, row);
+        let parts = &self.parts[node.parts.clone()];
+        let own = node.first_atom + row * node.width;
+        needs.push(PROOF);
+        match node.shape {
+            Shape::And => needs.extend(parts.iter().map(|part| part.at(&values))),
+            Shape::Or => needs.push(parts[choice as usize].at(&values)),
+            Shape::Exists | Shape::Forall => {
+                values[node.depth] = choice;
+                needs.push(parts[0].at(&values));
+            }
+        }
+        if node.shape == Shape::Forall {
+            needs.extend(node.extent().before(choice).map(|before| own + before));
+            adds.push(own + choice);
+        } else {
+            adds.push(own);
+        }
     }
 
     /// The tuple atoms of one `choose`: first and how many.

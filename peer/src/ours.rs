@@ -7,8 +7,9 @@
 #![allow(unsafe_code)]
 
 use crate::cases::Sizes;
+use crate::layers::Window;
 use crate::text::{Refusal, Reply};
-use crate::trial::Calls;
+use crate::trial::{Calls, Lent};
 use crate::tries::Try;
 
 #[rustfmt::skip]
@@ -93,6 +94,50 @@ mod foreign {
             question: *const u8, question_len: usize, site: *const u8, site_len: usize,
             steps: *const u32, steps_len: usize, page: u64, state: *mut u64, state_len: usize,
             out: *mut u8, out_len: usize, number: &mut u32, place: &mut u64,
+        );
+        pub fn nendokwe_window(
+            question: *const u8, question_len: usize, site: *const u8, site_len: usize,
+            number: &mut u32, place: &mut u64, lower: &mut u64, upper: &mut u64,
+        );
+        pub fn nendokwe_check_layers(
+            question: *const u8, question_len: usize, site: *const u8, site_len: usize,
+            steps: *const u32, steps_len: usize, ends: *const u32, ends_len: usize,
+            state: *mut u64, state_len: usize, number: &mut u32, place: &mut u64,
+        );
+        pub fn nendokwe_build_layers_text(
+            question: *const u8, question_len: usize, site: *const u8, site_len: usize,
+            picks: *const u8, picks_len: usize, state: *mut u64, state_len: usize,
+            steps: *mut u32, steps_len: usize, ends: *mut u32, ends_len: usize,
+            number: &mut u32, place: &mut u64,
+        );
+        pub fn nendokwe_build_layers(
+            question: *const u8, question_len: usize, site: *const u8, site_len: usize,
+            picks: *const u64, picks_len: usize, state: *mut u64, state_len: usize,
+            steps: *mut u32, steps_len: usize, ends: *mut u32, ends_len: usize,
+            number: &mut u32, place: &mut u64,
+        );
+        pub fn nendokwe_pddl_domain(
+            question: *const u8, question_len: usize, site: *const u8, site_len: usize,
+            out: *mut u8, out_len: usize, number: &mut u32, place: &mut u64,
+        );
+        pub fn nendokwe_pddl_instance(
+            question: *const u8, question_len: usize, site: *const u8, site_len: usize,
+            out: *mut u8, out_len: usize, number: &mut u32, place: &mut u64,
+        );
+        pub fn nendokwe_pddl_plan_text(
+            question: *const u8, question_len: usize, site: *const u8, site_len: usize,
+            steps: *const u8, steps_len: usize, out: *mut u8, out_len: usize,
+            number: &mut u32, place: &mut u64,
+        );
+        pub fn nendokwe_pddl_plan(
+            question: *const u8, question_len: usize, site: *const u8, site_len: usize,
+            steps: *const u32, steps_len: usize, out: *mut u8, out_len: usize,
+            number: &mut u32, place: &mut u64,
+        );
+        pub fn nendokwe_pddl_read(
+            question: *const u8, question_len: usize, site: *const u8, site_len: usize,
+            plan: *const u8, plan_len: usize, steps: *mut u32, steps_len: usize,
+            number: &mut u32, place: &mut u64,
         );
         pub fn nendokwe_desk(input: *const u8, input_len: usize, out: *mut u8) -> usize;
     }
@@ -359,6 +404,135 @@ impl Calls for Ours {
         unsafe {
             foreign::nendokwe_monotone(
                 case[0].as_ptr(), case[0].len(), case[1].as_ptr(), case[1].len(),
+                &mut number, &mut place,
+            );
+        }
+        reply(number, place)
+    }
+
+    fn window(&self, case: [&[u8]; 2]) -> Result<Window, Refusal> {
+        let (mut number, mut place) = (u32::MAX, UNSET);
+        let mut window = Window { lower: UNSET, upper: UNSET };
+        // Safety: as for `sizes`.
+        unsafe {
+            foreign::nendokwe_window(
+                case[0].as_ptr(), case[0].len(), case[1].as_ptr(), case[1].len(),
+                &mut number, &mut place, &mut window.lower, &mut window.upper,
+            );
+        }
+        match number {
+            0 => Ok(window),
+            number => Err(Refusal { number, place }),
+        }
+    }
+
+    fn check_layers(
+        &self, case: [&[u8]; 2], steps: &[u32], ends: &[u32], state: &mut [u64],
+    ) -> Reply {
+        let (mut number, mut place) = (u32::MAX, UNSET);
+        // Safety: as for `check_text`.
+        unsafe {
+            foreign::nendokwe_check_layers(
+                case[0].as_ptr(), case[0].len(), case[1].as_ptr(), case[1].len(),
+                steps.as_ptr(), steps.len(), ends.as_ptr(), ends.len(),
+                state.as_mut_ptr(), state.len(),
+                &mut number, &mut place,
+            );
+        }
+        reply(number, place)
+    }
+
+    fn build_layers_text(&self, case: [&[u8]; 2], picks: &[u8], lent: &mut Lent) -> Reply {
+        let (mut number, mut place) = (u32::MAX, UNSET);
+        // Safety: as for `picks_text`.
+        unsafe {
+            foreign::nendokwe_build_layers_text(
+                case[0].as_ptr(), case[0].len(), case[1].as_ptr(), case[1].len(),
+                picks.as_ptr(), picks.len(),
+                lent.state.as_mut_ptr(), lent.state.len(),
+                lent.steps.as_mut_ptr(), lent.steps.len(),
+                lent.ends.as_mut_ptr(), lent.ends.len(),
+                &mut number, &mut place,
+            );
+        }
+        reply(number, place)
+    }
+
+    fn build_layers(&self, case: [&[u8]; 2], picks: &[u64], lent: &mut Lent) -> Reply {
+        let (mut number, mut place) = (u32::MAX, UNSET);
+        // Safety: as for `picks_text`.
+        unsafe {
+            foreign::nendokwe_build_layers(
+                case[0].as_ptr(), case[0].len(), case[1].as_ptr(), case[1].len(),
+                picks.as_ptr(), picks.len(),
+                lent.state.as_mut_ptr(), lent.state.len(),
+                lent.steps.as_mut_ptr(), lent.steps.len(),
+                lent.ends.as_mut_ptr(), lent.ends.len(),
+                &mut number, &mut place,
+            );
+        }
+        reply(number, place)
+    }
+
+    fn pddl_domain(&self, case: [&[u8]; 2], out: &mut [u8]) -> Reply {
+        let (mut number, mut place) = (u32::MAX, UNSET);
+        // Safety: as for `check_text`.
+        unsafe {
+            foreign::nendokwe_pddl_domain(
+                case[0].as_ptr(), case[0].len(), case[1].as_ptr(), case[1].len(),
+                out.as_mut_ptr(), out.len(),
+                &mut number, &mut place,
+            );
+        }
+        reply(number, place)
+    }
+
+    fn pddl_instance(&self, case: [&[u8]; 2], out: &mut [u8]) -> Reply {
+        let (mut number, mut place) = (u32::MAX, UNSET);
+        // Safety: as for `check_text`.
+        unsafe {
+            foreign::nendokwe_pddl_instance(
+                case[0].as_ptr(), case[0].len(), case[1].as_ptr(), case[1].len(),
+                out.as_mut_ptr(), out.len(),
+                &mut number, &mut place,
+            );
+        }
+        reply(number, place)
+    }
+
+    fn pddl_plan_text(&self, case: [&[u8]; 2], steps: &[u8], out: &mut [u8]) -> Reply {
+        let (mut number, mut place) = (u32::MAX, UNSET);
+        // Safety: as for `check_text`.
+        unsafe {
+            foreign::nendokwe_pddl_plan_text(
+                case[0].as_ptr(), case[0].len(), case[1].as_ptr(), case[1].len(),
+                steps.as_ptr(), steps.len(), out.as_mut_ptr(), out.len(),
+                &mut number, &mut place,
+            );
+        }
+        reply(number, place)
+    }
+
+    fn pddl_plan(&self, case: [&[u8]; 2], steps: &[u32], out: &mut [u8]) -> Reply {
+        let (mut number, mut place) = (u32::MAX, UNSET);
+        // Safety: as for `check_text`.
+        unsafe {
+            foreign::nendokwe_pddl_plan(
+                case[0].as_ptr(), case[0].len(), case[1].as_ptr(), case[1].len(),
+                steps.as_ptr(), steps.len(), out.as_mut_ptr(), out.len(),
+                &mut number, &mut place,
+            );
+        }
+        reply(number, place)
+    }
+
+    fn pddl_read(&self, case: [&[u8]; 2], plan: &[u8], steps: &mut [u32]) -> Reply {
+        let (mut number, mut place) = (u32::MAX, UNSET);
+        // Safety: as for `check_text`.
+        unsafe {
+            foreign::nendokwe_pddl_read(
+                case[0].as_ptr(), case[0].len(), case[1].as_ptr(), case[1].len(),
+                plan.as_ptr(), plan.len(), steps.as_mut_ptr(), steps.len(),
                 &mut number, &mut place,
             );
         }

@@ -3,6 +3,7 @@
 //! ```text
 //! question | site | text     the lines that follow, up to a full stop alone, are that text
 //! lent N N ..                lent steps, or the words of lent picks
+//! ends N N ..                where the layers of the lent steps end
 //! lists F L F L ..           lists among the lent steps, for `tries`
 //! # needs ..                 what the answers of a block rest on
 //! CALL N ..                  a call, with the lengths of its lent buffers
@@ -10,9 +11,10 @@
 //! ```
 
 use crate::digest::sha256;
+use crate::layers::Window;
 use crate::measures::tally;
 use crate::text::{Refusal, Reply};
-use crate::trial::{numbers, Calls, Other, Peer};
+use crate::trial::{numbers, Calls, Lent, Other, Peer};
 use crate::tries::Try;
 use std::fmt::Display;
 
@@ -44,6 +46,7 @@ struct Script {
     site: Vec<u8>,
     text: Vec<u8>,
     lent: Vec<u64>,
+    ends: Vec<u32>,
     lists: Vec<Try>,
 }
 
@@ -101,6 +104,21 @@ impl Script {
                 self.checked(program, call, room(0), room(1))
             }
             "build" | "build_text" => self.built(program, call, room(0), room(1)),
+            "window" => window_line(program, case),
+            "check_layers" => {
+                let mut state = vec![7; room(0)];
+                let reply = program.check_layers(case, &self.steps(), &self.ends, &mut state);
+                replied(reply) + &written("state", &state)
+            }
+            "build_layers" | "build_layers_text" => self.layered(program, call, rooms),
+            "pddl_domain" | "pddl_instance" | "pddl_plan" | "pddl_plan_text" => {
+                self.translated(program, call, room(0))
+            }
+            "pddl_read" => {
+                let mut steps = vec![7; room(0)];
+                let reply = program.pddl_read(case, &self.text, &mut steps);
+                replied(reply) + &written("steps", &steps)
+            }
             "judge" => replied(program.judge(case, &self.lent)),
             "judge_text" => replied(program.judge_text(case, &self.text)),
             "tries" => self.tried(program, room(0)),
@@ -143,6 +161,37 @@ impl Script {
         replied(reply) + &written("state", &state) + &written("steps", &steps)
     }
 
+    fn layered(&self, program: &impl Calls, call: &str, rooms: &[usize]) -> String {
+        let &[words, room, layers] = rooms else { return "three numbers are wanted".into() };
+        let mut lent = Lent { state: vec![7; words], steps: vec![7; room], ends: vec![7; layers] };
+        let reply = match call {
+            "build_layers" => program.build_layers(self.case(), &self.lent, &mut lent),
+            _ => program.build_layers_text(self.case(), &self.text, &mut lent),
+        };
+        let Lent { state, steps, ends } = &lent;
+        replied(reply)
+            + &written("state", state)
+            + &written("steps", steps)
+            + &written("ends", ends)
+    }
+
+    /// A text of PDDL; where it is refused, all that is said is that no byte has changed.
+    fn translated(&self, program: &impl Calls, call: &str, room: usize) -> String {
+        let (case, mut out) = (self.case(), vec![7; room]);
+        let reply = match call {
+            "pddl_domain" => program.pddl_domain(case, &mut out),
+            "pddl_instance" => program.pddl_instance(case, &mut out),
+            "pddl_plan" => program.pddl_plan(case, &self.steps(), &mut out),
+            _ => program.pddl_plan_text(case, &self.text, &mut out),
+        };
+        let kept = out.iter().all(|&byte| byte == 7);
+        let told = match reply {
+            Reply::Refused(_) if kept => " out kept".into(),
+            _ => format!(" out sha256:{}", sha256(&out)),
+        };
+        replied(reply) + &told
+    }
+
     /// A page; its number stands before the lengths of the buffers.
     fn paged(&self, program: &impl Calls, call: &str, rooms: &[usize]) -> String {
         let &[page, words, room] = rooms else { return "three numbers are wanted".into() };
@@ -181,6 +230,7 @@ impl Script {
             "site" => self.site = sheet(),
             "text" => self.text = sheet(),
             "lent" => self.lent = numbers().collect(),
+            "ends" => self.ends = numbers().map(|end: u64| end as u32).collect(),
             "lists" => {
                 let all: Vec<u64> = numbers().collect();
                 let list = |list: &[u64]| Try {
@@ -206,6 +256,13 @@ fn sizes_line(program: &impl Calls, case: [&[u8]; 2]) -> String {
     }
 }
 
+fn window_line(program: &impl Calls, case: [&[u8]; 2]) -> String {
+    match program.window(case) {
+        Ok(Window { lower, upper }) => format!("= 0 0 {lower} {upper}"),
+        Err(Refusal { number, place }) => format!("= {number} {place} 7 7"),
+    }
+}
+
 /// Only this program has a call for the tally; the proved one's is inside its sizes.
 fn tally_line(case: [&[u8]; 2]) -> String {
     match tally(case[0], case[1]) {
@@ -217,7 +274,8 @@ fn tally_line(case: [&[u8]; 2]) -> String {
 /// Makes the calls of a script by both programs, and holds them to the answers that stand there.
 pub fn run(text: &str) -> Told {
     let (mut script, mut told, mut wanted) = (Script::default(), Told::default(), true);
-    let mut lines = text.lines();
+    // A carriage return is a byte of its line.
+    let mut lines = text.split('\n');
     while let Some(line) = lines.next() {
         if let Some(needs) = line.strip_prefix("# needs ") {
             wanted = landed(needs);

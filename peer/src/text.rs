@@ -25,6 +25,7 @@ pub mod cause {
     pub const TYPE: u32 = 19;
     pub const TOO_MANY_CELLS: u32 = 20;
     pub const NO_PICKS: u32 = 21;
+    pub const PDDL: u32 = 22;
     pub const EVERY: u32 = 23;
     pub const NOT_MONOTONE: u32 = 24;
 }

@@ -2,9 +2,11 @@
 //! lent word can be held against each other.
 
 use crate::cases::{self, Sizes};
+use crate::layers::{self, Window};
 use crate::paper::PAGE_BYTES;
-use crate::sample::{desk_input, Random, Sample};
-use crate::text::{Refusal, Reply};
+use crate::pddl;
+use crate::sample::{desk_input, needs, Random, Sample};
+use crate::text::{cause, Refusal, Reply};
 use crate::tries::Try;
 
 /// The calls that both programs have.
@@ -56,7 +58,30 @@ pub trait Calls {
     ) -> Reply;
     fn find(&self, case: [&[u8]; 2], picks: &mut [u64]) -> Reply;
     fn monotone(&self, case: [&[u8]; 2]) -> Reply;
+    fn window(&self, case: [&[u8]; 2]) -> Result<Window, Refusal>;
+    fn check_layers(
+        &self,
+        case: [&[u8]; 2],
+        steps: &[u32],
+        ends: &[u32],
+        state: &mut [u64],
+    ) -> Reply;
+    fn build_layers_text(&self, case: [&[u8]; 2], picks: &[u8], lent: &mut Lent) -> Reply;
+    fn build_layers(&self, case: [&[u8]; 2], picks: &[u64], lent: &mut Lent) -> Reply;
+    fn pddl_domain(&self, case: [&[u8]; 2], out: &mut [u8]) -> Reply;
+    fn pddl_instance(&self, case: [&[u8]; 2], out: &mut [u8]) -> Reply;
+    fn pddl_plan_text(&self, case: [&[u8]; 2], steps: &[u8], out: &mut [u8]) -> Reply;
+    fn pddl_plan(&self, case: [&[u8]; 2], steps: &[u32], out: &mut [u8]) -> Reply;
+    fn pddl_read(&self, case: [&[u8]; 2], plan: &[u8], steps: &mut [u32]) -> Reply;
     fn desk(&self, input: &[u8]) -> Vec<u8>;
+}
+
+/// What is lent for a layered plan.
+#[derive(Clone, Debug, PartialEq, Eq)]
+pub struct Lent {
+    pub state: Vec<u64>,
+    pub steps: Vec<u32>,
+    pub ends: Vec<u32>,
 }
 
 /// This package's own program.
@@ -177,6 +202,50 @@ impl Calls for Peer {
         crate::finding::monotone(case[0], case[1])
     }
 
+    fn window(&self, case: [&[u8]; 2]) -> Result<Window, Refusal> {
+        layers::window(case[0], case[1])
+    }
+
+    fn check_layers(
+        &self,
+        case: [&[u8]; 2],
+        steps: &[u32],
+        ends: &[u32],
+        state: &mut [u64],
+    ) -> Reply {
+        layers::check_layers(case[0], case[1], steps, ends, state)
+    }
+
+    fn build_layers_text(&self, case: [&[u8]; 2], picks: &[u8], lent: &mut Lent) -> Reply {
+        let Lent { state, steps, ends } = lent;
+        layers::build_layers_text(case[0], case[1], picks, state, steps, ends)
+    }
+
+    fn build_layers(&self, case: [&[u8]; 2], picks: &[u64], lent: &mut Lent) -> Reply {
+        let Lent { state, steps, ends } = lent;
+        layers::build_layers(case[0], case[1], picks, state, steps, ends)
+    }
+
+    fn pddl_domain(&self, case: [&[u8]; 2], out: &mut [u8]) -> Reply {
+        pddl::pddl_domain(case[0], case[1], out)
+    }
+
+    fn pddl_instance(&self, case: [&[u8]; 2], out: &mut [u8]) -> Reply {
+        pddl::pddl_instance(case[0], case[1], out)
+    }
+
+    fn pddl_plan_text(&self, case: [&[u8]; 2], steps: &[u8], out: &mut [u8]) -> Reply {
+        pddl::pddl_plan_text(case[0], case[1], steps, out)
+    }
+
+    fn pddl_plan(&self, case: [&[u8]; 2], steps: &[u32], out: &mut [u8]) -> Reply {
+        pddl::pddl_plan(case[0], case[1], steps, out)
+    }
+
+    fn pddl_read(&self, case: [&[u8]; 2], plan: &[u8], steps: &mut [u32]) -> Reply {
+        pddl::pddl_read(case[0], case[1], plan, steps)
+    }
+
     fn desk(&self, input: &[u8]) -> Vec<u8> {
         crate::desk::desk(input)
     }
@@ -213,11 +282,20 @@ pub enum Call {
     Page,
     Find,
     Monotone,
+    Window,
+    CheckLayers,
+    BuildLayersText,
+    BuildLayers,
+    PddlDomain,
+    PddlInstance,
+    PddlPlanText,
+    PddlPlan,
+    PddlRead,
     DeskPicks,
     DeskSteps,
 }
 
-pub const CALLS: [Call; 19] = [
+pub const CALLS: [Call; 28] = [
     Call::Sizes,
     Call::Rule,
     Call::Action,
@@ -235,6 +313,15 @@ pub const CALLS: [Call; 19] = [
     Call::Page,
     Call::Find,
     Call::Monotone,
+    Call::Window,
+    Call::CheckLayers,
+    Call::BuildLayersText,
+    Call::BuildLayers,
+    Call::PddlDomain,
+    Call::PddlInstance,
+    Call::PddlPlanText,
+    Call::PddlPlan,
+    Call::PddlRead,
     Call::DeskPicks,
     Call::DeskSteps,
 ];
@@ -251,8 +338,9 @@ pub struct Outcome {
     pub picks: Vec<u64>,
     pub state: Vec<u64>,
     pub steps: Vec<u32>,
+    pub ends: Vec<u32>,
     pub printed: Vec<u8>,
-    /// The bytes lent for a page.
+    /// The bytes lent for a page, or for a text of PDDL.
     pub page: Vec<u8>,
 }
 
@@ -267,6 +355,7 @@ impl Outcome {
             picks: vec![FILL; rooms[0] + GUARD],
             state: vec![FILL; rooms[1] + GUARD],
             steps: vec![FILL as u32; rooms[2] + GUARD],
+            ends: Vec::new(),
             printed: Vec::new(),
             page: Vec::new(),
         }
@@ -307,6 +396,111 @@ fn page_asked(rooms: Rooms) -> (u64, usize) {
     let short = rooms[2] % 7 == 0;
     let length = if short { rooms[2] % PAGE_BYTES } else { PAGE_BYTES + rooms[2] % 3 };
     ((rooms[0] + rooms[2] + 1) as u64 % 5, length)
+}
+
+/// Buffers for a layered plan; so many ends as the window has layers, or some more or fewer, by the other lengths.
+fn lent(sample: &Sample, rooms: Rooms) -> Lent {
+    let layers = layers::window(&sample.question, &sample.site).map_or(9, |window| window.upper);
+    let ends = (layers as usize + rooms[0] % 3).saturating_sub(usize::from(rooms[2] % 5 == 0));
+    Lent { state: vec![FILL; rooms[1]], steps: vec![FILL as u32; rooms[2]], ends: vec![7; ends] }
+}
+
+/// Layers to be checked: those built from the sample's picks, often with an end moved by one, or the lent steps one by one.
+fn layered(sample: &Sample, rooms: Rooms) -> (Vec<u32>, Vec<u32>) {
+    let case = [&sample.question[..], &sample.site[..]];
+    let enough = needs(sample).unwrap_or([4, 16, 64]);
+    let mut built = lent(sample, [2, enough[1], enough[2]]);
+    let Reply::Accepted(count) = Peer.build_layers_text(case, &sample.picks, &mut built) else {
+        let ends = 1..=sample.lent_steps.len() as u32;
+        return (sample.lent_steps.clone(), ends.collect());
+    };
+    let mut ends = built.ends[..count as usize].to_vec();
+    built.steps.truncate(ends.last().map_or(0, |&end| end as usize));
+    let moved = rooms[2] % ends.len().max(1);
+    match rooms[0] % 5 {
+        0 => ends[moved] += 1,
+        1 => ends[moved] = ends[moved].wrapping_sub(1),
+        2 => drop(ends.remove(moved)),
+        3 => ends.insert(moved, ends[moved]),
+        _ => (),
+    }
+    (built.steps, ends)
+}
+
+/// A plan to be read: the lent steps as they are written, some letters in capitals and some bytes changed.
+fn plan(sample: &Sample, rooms: Rooms) -> Vec<u8> {
+    let case = [&sample.question[..], &sample.site[..]];
+    let mut plan = vec![0; 1 << 20];
+    let steps: Vec<u32> = sample.lent_steps.iter().copied().take(999).collect();
+    let length = match Peer.pddl_plan(case, &steps, &mut plan) {
+        Reply::Accepted(length) => length as usize,
+        Reply::Refused(_) => 0,
+    };
+    plan.truncate(length);
+    if rooms[0] % 2 == 0 {
+        plan.iter_mut().step_by(3).for_each(|byte| byte.make_ascii_uppercase());
+    }
+    if rooms[2] % 3 == 0 && length > 0 {
+        plan[rooms[1] % length] = *b"o0 )(_-\n19xT".get(rooms[2] % 12).unwrap_or(&b'\r');
+    }
+    plan
+}
+
+/// A call that writes PDDL.
+fn translate(program: &impl Calls, call: Call, sample: &Sample, out: &mut [u8]) -> Reply {
+    let case = [&sample.question[..], &sample.site[..]];
+    match call {
+        Call::PddlDomain => program.pddl_domain(case, out),
+        Call::PddlInstance => program.pddl_instance(case, out),
+        Call::PddlPlanText => program.pddl_plan_text(case, &sample.steps, out),
+        _ => program.pddl_plan(case, &sample.lent_steps, out),
+    }
+}
+
+/// Room for a text of PDDL: what it needs, or some bytes more or fewer.
+fn text_room(call: Call, sample: &Sample, rooms: Rooms) -> usize {
+    let needed = match translate(&Peer, call, sample, &mut []) {
+        Reply::Refused(Refusal { number: cause::SHORT_BUFFER, place }) => place as usize,
+        _ => 0,
+    };
+    (needed + rooms[0] % 4).saturating_sub(2 * usize::from(rooms[2] % 4 == 0))
+}
+
+/// The calls on layers and on PDDL, whose buffers are made here.
+fn run_later(program: &impl Calls, call: Call, sample: &Sample, rooms: Rooms) -> Outcome {
+    let mut outcome = Outcome::fresh(rooms);
+    let case = [&sample.question[..], &sample.site[..]];
+    outcome.reply = match call {
+        Call::Window => {
+            let window = program.window(case).map(|window| [window.lower, window.upper]);
+            found(window, &mut outcome.found)
+        }
+        Call::CheckLayers => {
+            let (steps, ends) = layered(sample, rooms);
+            program.check_layers(case, &steps, &ends, &mut outcome.state[..rooms[1]])
+        }
+        Call::BuildLayersText | Call::BuildLayers => {
+            let mut buffers = lent(sample, rooms);
+            let mut picks = sample.lent_picks.clone();
+            picks.resize(rooms[0], FILL);
+            let reply = match call {
+                Call::BuildLayers => program.build_layers(case, &picks, &mut buffers),
+                _ => program.build_layers_text(case, &sample.picks, &mut buffers),
+            };
+            let Lent { state, steps, ends } = buffers;
+            (outcome.state, outcome.steps, outcome.ends) = (state, steps, ends);
+            reply
+        }
+        Call::PddlRead => {
+            program.pddl_read(case, &plan(sample, rooms), &mut outcome.steps[..rooms[2]])
+        }
+        _ => {
+            let length = text_room(call, sample, rooms);
+            outcome.page = vec![FILL as u8; length + GUARD];
+            translate(program, call, sample, &mut outcome.page[..length])
+        }
+    };
+    outcome
 }
 
 /// Makes one call, with buffers of these lengths.
@@ -355,6 +549,7 @@ pub fn run(program: &impl Calls, call: Call, sample: &Sample, rooms: Rooms) -> O
             outcome.printed = program.desk(&input);
             Reply::Accepted(0)
         }
+        _ => return run_later(program, call, sample, rooms),
     };
     outcome
 }

@@ -15,6 +15,7 @@
 --   "Case drawer"                  Drawer; Cases has further ones, Whole looks at all that a call leaves
 -- Document 02, "What customers want changed later":
 --   job 1, door names              Sheets (labels, 18), Desk, Rewritten; LabelCases has cases
+--   job 2, steps side by side      Layers; LayerCases has cases
 --   job 3, sizes in one pass       Tally; TallyCases has cases
 --   job 4, types                   Formula (19 in the rule), Sheets (`type` and `member` lines), Truth (ranges), Untyped; TypeCases
 --                                  has cases

@@ -2,7 +2,7 @@
 --    1  `readText` here; too many lent steps: Outcome.takeSteps; the desk program's bytes: Desk.answer
 --    2  Sheets.entryOf
 --    3  Sheets.addRel, addType, addChoose, addEvery, addRule, addSize, addLabel, addMember, addFact; another sheet's record: addToQuestion,
---       addToSite, addToPicks, addToSteps; missing: readQuestion, readSite
+--       addToSite, addToPicks, addToSteps; missing: readQuestion, readSite; the ends of layers: Layers.endsTest
 --    4  Sheets.isNewName, and a type's: Sheets.addType
 --    5  Parsing.readFormula
 --    6  Formula.allForms, Formula.nesting
@@ -12,7 +12,7 @@
 --   10  Sheets.addMember, Sheets.addTuple in a text, Outcome.spareWord in lent picks
 --   11  Outcome.ground
 --   12  Outcome.roomFor
---   13, 14, 15  Strips.runFrom; an action asked for by number: Outcome.action
+--   13, 14, 15  Strips.runFrom, of layers Layers.runLayersFrom; an action asked for by number: Outcome.action
 --   16  Truth.firstOfOtherKind, by Outcome.satisfying
 --   17  Truth.ruleIsTrue, by Outcome.satisfying
 -- and of document 02:

@@ -4,6 +4,7 @@ pub mod Demand
 pub mod Desk
 pub mod Rewritten
 pub mod Untyped
+pub mod Layers
 pub mod Tally
 pub mod Tries
 pub mod Judgement

@@ -7,6 +7,7 @@ pub mod LabelCases
 pub mod TypeCases
 pub mod KindCases
 pub mod EveryCases
+pub mod LayerCases
 pub mod TallyCases
 pub mod TriesDrawn
 pub mod JudgementCases

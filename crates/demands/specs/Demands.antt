@@ -20,7 +20,12 @@
 --   16  labels-one-to-one, labels-are, said-label, said-number, said-pick; rewritten-case, rewritten-problem, rewritten-sizes,
 --       rewritten-tally, rewritten-action, rewritten-check,
 --       rewritten-read, rewritten-build, rewritten-judgement, rewritten-tries, rewritten-allowances, rewritten-found,
---       rewritten-monotone; rewritten-picks, rewritten-build-text, rewritten-judgement-text
+--       rewritten-monotone, rewritten-window, rewritten-check-layers, rewritten-build-layers; rewritten-picks, rewritten-build-text,
+--       rewritten-layers-text, rewritten-judgement-text
+--   Layers, job 2
+--   23  layer-means, disturbs-means; window-is, checking-layers, flat, low-layers, layers-every, layers-plain; building-layers,
+--       built-layers, built-within, built-checked, same-steps, layers-exactly; window-refuse, layers-check-refuse, layers-check-length,
+--       layers-build-refuse, layers-build-length
 --   Tally, job 3
 --   13  visited-are, visited-once, tallied, sizes-tallied
 --   Types, job 4
@@ -42,7 +47,8 @@
 --       paper-run, paper-none, paper-laid, paper-checked, paper-refuse, paper-bytes, paper-length
 --   Larger, job 10
 --   15  kept-problem, kept-sizes, kept-action, kept-check, kept-read, kept-build, kept-judgement, kept-tries, kept-allowances,
---       kept-page, kept-found, kept-monotone, kept-tally, kept-text, kept-steps; grown, limits-are, long-text, many-steps, desk-limits, desk-steps
+--       kept-window, kept-check-layers, kept-build-layers, kept-page, kept-found, kept-monotone, kept-tally, kept-text, kept-steps; grown,
+--       limits-are, long-text, many-steps, desk-limits, desk-steps
 --   Every, job 12
 --   22  every-sets, value-is, rounds, few-values; no-every-relations, no-every-tuple, no-every-not, no-every-atoms, no-every-actions,
 --       no-every-action, no-every-rule, no-every-built, no-every-ground
@@ -51,6 +57,7 @@
 --   Allowance, job 14
 --   12  one-pick, one-pick-built, allowances-are, allowances-every, allowances-refuse, allowances-length
 pub mod Labels
+pub mod Layers
 pub mod Tally
 pub mod Types
 pub mod Kinds

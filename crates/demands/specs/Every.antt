@@ -4,46 +4,38 @@ use mathlib.Core.Path.{_≡_, refl, sym, ap, ap₂, subst, _∙_}
 use mathlib.Core.Logic.{_↔_}
 use mathlib.Core.Bool.{Bool, true, false, not, _&&_, _||_, and-true}
 use mathlib.Core.Option.{Option, none, some}
-use mathlib.Core.List.{List, [], _∷_, _++_, append-nil, List·Memᴰ}
+use mathlib.Core.List.{List, [], _∷_, _++_, List·Memᴰ}
 use native.Mathlib.Omega.{arith}
 use native.Mathlib.Nat.{pow-succ'}
 use lib.Dec.{T, ltb, T-not}
 use lib.ListN.{length}
 use borrow.Author.Tests.{ltb-false}
 use Rattle.definitions.specs.Limits.{CaseLimits}
-use Rattle.definitions.specs.Lists.{if_then_else_, option, isSome, all, any, from, below, flatMap}
-use Rattle.definitions.specs.Refusal.{refused, accepted, _>>=_, refuseIf}
+use Rattle.definitions.specs.Lists.{if_then_else_, option, isSome, all, any, from, below}
+use Rattle.definitions.specs.Refusal.{accepted, _>>=_, refuseIf}
 use Rattle.definitions.specs.Sheet.Relations.{Relation, Tuple, sameTuple, isAmong, isUniversal, builtIn}
 use Rattle.definitions.specs.Sheet.Sheets.{relations, relationsOf, everyNumber}
 use Rattle.definitions.specs.Problem.Truth.{Case, everyTuples, values, digit, everyValue, ruleHolds, ruleIsTrue}
 use Rattle.definitions.specs.Problem.Atoms.{Problem, problemOf, problemWith, relationAt, placesOf, rowOf, tuplesOf, tuple, notTuple, atomNumber, relationStart, nodeStart, lastStart, lastTuples, atoms}
 use Rattle.definitions.specs.Problem.Actions.{Action, beginProof, proveGoal, roundEnd, markIn, markOut, actionAt, actions, proofStart, marksBefore, rootAtom}
 use Rattle.definitions.specs.Problem.Strips.{reachesGoal, run}
-use Rattle.definitions.specs.Problem.Built.{setSteps, nodeSteps, marksFrom, marksAfter, roundSteps, builtActions, bound}
-use Rattle.definitions.specs.Reply.Outcome.{withoutEvery, tooManyValues, ground}
+use Rattle.definitions.specs.Problem.Built.{setSteps, nodeSteps, builtActions, bound}
+use Rattle.definitions.specs.Reply.Outcome.{tooManyValues, ground}
 use Rattle.laws.specs.Booleans.{T-of, T-true, T-false, T-ext, or-both}
 use Rattle.laws.specs.Results.{accepted-eq, bind-parts, not-refused}
 use Rattle.laws.specs.Lists.{all-at, all-of, mem-below}
 use Rattle.laws.specs.Tuples.{among-mem, mem-among}
 use Rattle.laws.specs.Rows.{length-places, places-below, places-row, row-lt}
-use Rattle.laws.specs.Numbers.{IsAction, lastWidth, action-is, early-start, last-first, last-next, atoms-end, mark-first, mark-next, actions-end, finish-goal}
+use Rattle.laws.specs.Numbers.{IsAction, lastWidth, action-is, early-start, last-first, last-next, atoms-end, mark-first, mark-next, actions-end}
 use Rattle.laws.specs.Digits.{digit-first, digit-next, is-odd, is-even}
-use Rattle.meaning.specs.Values.{no-tuples, one-value, value-mem, mem-value, with-zero}
+use Rattle.meaning.specs.Values.{one-value, value-mem, mem-value, with-zero}
 use Rattle.laws.specs.Reader.{Accepted, relations-none}
 use Rattle.meaning.specs.Changes.{any-append}
 use Rattle.meaning.specs.Sound.{tup, tupleAt}
+use Rattle.meaning.specs.Complete.{built-plain}
 use Rattle.meaning.specs.Moments.{rounds}
 use Rattle.meaning.specs.Grounded.{good}
 use Rattle.demands.specs.AnyOrder
-
--- ---- the test of a call that takes no case with an `every` line
-pub untested : (c : Case) → c .question .every ≡ none → withoutEvery c ≡ accepted tt
-unfolding withoutEvery isSome refuseIf
-untested c e = ap (λ (o : Option Relation). refuseIf (isSome o) 23 zero) e
-
-pub tested : (c : Case) (k : Relation) → c .question .every ≡ some k → withoutEvery c ≡ refused 23 0
-unfolding withoutEvery isSome refuseIf
-tested c k e = ap (λ (o : Option Relation). refuseIf (isSome o) 23 zero) e
 
 -- ---- every set of rows is that of some number's digits
 pub every-set : (S : ℕ → Bool) (m : ℕ) → (k : ℕ) × (k < 2 ^ m) × ((row : ℕ) → row < m → digit k row ≡ S row)
@@ -138,7 +130,7 @@ module _ (c : Case) (A : Accepted c) where
 
   -- ---- without an `every` line
   module _ (plain : c .question .every ≡ none) where
-    alone : T (not (isSome (problemOf c .source .question .every)))
+    pub alone : T (not (isSome (problemOf c .source .question .every)))
     unfolding problemOf problemWith isSome
     alone = rw plain tt
 
@@ -196,9 +188,7 @@ module _ (c : Case) (A : Accepted c) where
     plain-true picks = rw (one-value (problemOf c) (good c A) alone) (and-true (ruleHolds c (picks ++ everyValue c 0)) ∙ ap (ruleHolds c) (with-zero (problemOf c) (good c A) picks))
 
     pub plain-built : (picks : List Tuple) → builtActions (problemOf c) picks ≡ setSteps (problemOf c) picks ++ (beginProof ∷ (nodeSteps (problemOf c) picks zero (problemOf c .nodeList) ++ (proveGoal ∷ [])))
-    unfolding builtActions roundSteps marksAfter marksFrom flatMap below from
-    plain-built picks = rw (one-value (problemOf c) (good c A) alone, no-tuples (problemOf c) (good c A) alone, with-zero (problemOf c) (good c A) picks, finish-goal (problemOf c) alone)
-        (ap (λ (l : List Action). setSteps (problemOf c) picks ++ (beginProof ∷ l)) (append-nil (nodeSteps (problemOf c) picks zero (problemOf c .nodeList) ++ (proveGoal ∷ []))))
+    plain-built picks = built-plain (problemOf c) (good c A) alone picks
 
     -- and only 11 may refuse what is grounded
     pub plain-ground : (L : CaseLimits) → ground L c ≡ (refuseIf (ltb (L .atoms) (atoms (problemOf c)) || ltb (L .actions) (actions (problemOf c))) 11 zero >>= λ _. accepted (problemOf c))

@@ -38,7 +38,6 @@ use Rattle.meaning.specs.Cells.{cell-inside, inside-cell, cells-once, numberOf,
 use Rattle.laws.specs.Asked
 use Rattle.laws.specs.Refusals.{In, words-refuse}
 use Rattle.demands.specs.Between.{same-picks}
-use Rattle.demands.specs.Every.{untested, tested}
 use Rattle.demands.specs.Answered.{same-among}
 use Rattle.demands.specs.Buffers.{written-length, has-room}
 
@@ -174,20 +173,20 @@ module _ (c : Case) (A : Accepted c) where
     ends = by-every (c .question .every) refl
       where
         by-least : Plain → ltb (length old) (picksLength p) ≡ false → ltb cellLimit (length (cells p)) ≡ false → (o : Option ℕ) → leastNumber c (cells p) ≡ o → Ends
-        by-least n a b none e = nothing-found n (ltb-false (length old) (picksLength p) a) (ltb-false cellLimit (length (cells p)) b) (least-none e) (rw (is-filed, grounds, untested c n, a, b, e) refl)
-        by-least n a b (some m) e = least-found n (ltb-false (length old) (picksLength p) a) (ltb-false cellLimit (length (cells p)) b) m (least-some m e) (rw (is-filed, grounds, untested c n, a, b, e) refl)
+        by-least n a b none e = nothing-found n (ltb-false (length old) (picksLength p) a) (ltb-false cellLimit (length (cells p)) b) (least-none e) (rw (is-filed, grounds, Asked.every-passes c n, a, b, e) refl)
+        by-least n a b (some m) e = least-found n (ltb-false (length old) (picksLength p) a) (ltb-false cellLimit (length (cells p)) b) m (least-some m e) (rw (is-filed, grounds, Asked.every-passes c n, a, b, e) refl)
 
         by-cells : Plain → ltb (length old) (picksLength p) ≡ false → (b : Bool) → ltb cellLimit (length (cells p)) ≡ b → Ends
-        by-cells n a true b = many n (ltb-false (length old) (picksLength p) a) (ltb-true cellLimit (length (cells p)) b) (rw (is-filed, grounds, untested c n, a, b) refl)
+        by-cells n a true b = many n (ltb-false (length old) (picksLength p) a) (ltb-true cellLimit (length (cells p)) b) (rw (is-filed, grounds, Asked.every-passes c n, a, b) refl)
         by-cells n a false b = by-least n a b (leastNumber c (cells p)) refl
 
         by-room : Plain → (b : Bool) → ltb (length old) (picksLength p) ≡ b → Ends
-        by-room n true a = short n (ltb-true (length old) (picksLength p) a) (rw (is-filed, grounds, untested c n, a) refl)
+        by-room n true a = short n (ltb-true (length old) (picksLength p) a) (rw (is-filed, grounds, Asked.every-passes c n, a) refl)
         by-room n false a = by-cells n a (ltb cellLimit (length (cells p))) refl
 
         by-every : (o : Option Relation) → c .question .every ≡ o → Ends
         by-every none e = by-room e (ltb (length old) (picksLength p)) refl
-        by-every (some k) e = universal k e (rw (is-filed, grounds, tested c k e) refl)
+        by-every (some k) e = universal k e (rw (is-filed, grounds, Asked.every-fails c k e) refl)
 
     -- an end says the answer, which is one only
     answer-of : {x : Found} → found ≡ x → found .answer ≡ x .answer

@@ -36,6 +36,7 @@
 --   Columns      numbers on paper are read back from their columns
 --   FullPage     a last page that is full
 --   Every        the values of an `every` relation in plain words, and what a case without one keeps
+--   Layering     layered plans: what a layer is, the fewest layers, lent ends, what the calls answer
 pub mod Demands
 pub mod BothSides
 pub mod Instance
@@ -71,3 +72,4 @@ pub mod Paper
 pub mod Columns
 pub mod FullPage
 pub mod Every
+pub mod Layering

@@ -2,7 +2,7 @@
 use Prim.Native.Nat.{ℕ, zero}
 use mathlib.Core.Path.{_≡_, refl, sym, ap, _∙_}
 use mathlib.Core.Bool.{not}
-use mathlib.Core.List.{List}
+use mathlib.Core.List.{List, map}
 use lib.ListN.{length}
 use Rattle.definitions.specs.Limits.{CaseLimits}
 use Rattle.definitions.specs.Refusal.{Result, refused, accepted, _>>=_, refuseIf, given}
@@ -10,11 +10,12 @@ use Rattle.definitions.specs.Sheet.Relations.{Tuple}
 use Rattle.definitions.specs.Sheet.Sheets.{Label}
 use Rattle.definitions.specs.Problem.Truth.{Case, ruleIsTrue}
 use Rattle.definitions.specs.Problem.Atoms.{Problem}
-use Rattle.definitions.specs.Problem.Actions.{actionAt}
+use Rattle.definitions.specs.Problem.Actions.{actionAt, actionNumber}
 use Rattle.definitions.specs.Problem.Built.{builtSteps, bound}
 use Rattle.definitions.specs.Reply.Outcome.{withoutEvery, CaseRead, readFiled, readCase, ground, readProblem, Ready, asked, nothing, roomFor, stateLength, pickWords, sizesOf, sizes}
 use Rattle.definitions.specs.Reply.Outcome.{action, ThirdInput, asText, asNumbers, takeSteps, textPicks, picksRoom, takePicks, readyToRun, checkedFrom}
 use Rattle.definitions.specs.Reply.Outcome.{checkSteps, picksReadFrom, picksFromSteps, satisfying, Plan, plan, builtFrom, buildSteps}
+use Rattle.definitions.specs.Reply.Layers.{caseWindow, builtLayers, takeLayers, windowOf, layersCheckedFrom, checkLayers, LayeredPlan, layeredPlan, layersBuiltFrom, buildLayers}
 use Rattle.definitions.specs.Reply.Tally.{tally}
 use Rattle.definitions.specs.Reply.Judgement.{judge}
 use Rattle.definitions.specs.Reply.Tries.{Try, readyToTry, triedFrom, tryLists}
@@ -96,6 +97,14 @@ module _ (L : CaseLimits) (question site other : List ℕ) (r : CaseRead) (label
   unfolding allowances allowedFrom nothing
   same-allowances old = same-by withoutEvery nothing nothing _ _ refl (λ p. refl) (λ x. allowedFrom x old) (λ x. refl)
 
+  pub same-window : windowOf L question other ≡ windowOf L question site
+  unfolding windowOf nothing _>>=_
+  same-window = same-by withoutEvery nothing nothing nothing nothing refl (λ p. refl) (λ x. x >>= λ y. accepted (caseWindow (y .problem))) (λ x. refl)
+
+  pub same-check-layers : (steps ends state : List ℕ) → checkLayers L question other steps ends state ≡ checkLayers L question site steps ends state
+  unfolding checkLayers layersCheckedFrom
+  same-check-layers steps ends state = same-by withoutEvery (λ _. takeLayers steps ends) (λ _. takeLayers steps ends) _ _ refl (λ p. refl) (λ x. layersCheckedFrom x state) (λ x. refl)
+
   pub same-found : (old : List ℕ) → find L question other old ≡ find L question site old
   unfolding find foundWords foundFrom nothing _>>=_
   same-found old = same-by withoutEvery nothing nothing _ _ refl (λ p. refl) (λ x. foundFrom (x >>= λ y. leastPicks (y .case) (cells (y .problem)) >>= λ F. accepted (pickWords (y .problem) F)) old) (λ x. refl)
@@ -138,6 +147,23 @@ module _ (L : CaseLimits) (question site other : List ℕ) (r : CaseRead) (label
         taken (refused j place) = refl
         taken (accepted y) = ap (λ (x : Result (List Tuple)). builtFrom (planned (y .labels) (y .problem) x) state steps) (satisfied (y .case) (y .problem) (y .third))
 
+    same-layers : (state steps ends : List ℕ) → buildLayers L question other g′ state steps ends ≡ buildLayers L question site g state steps ends
+    unfolding buildLayers layeredPlan layersBuiltFrom _>>=_
+    same-layers state steps ends =
+        taken (asked L question other picked′ nothing withoutEvery (rooms g′))
+        ∙ same-by withoutEvery picked picked′ (rooms g) (rooms g′) t (λ p. ap (λ (x : Result (Unit {0})). x >>= λ _. roomFor (stateLength p) (length state) >>= λ _. roomFor (bound p) (length steps) >>= λ _. roomFor (caseWindow p .upper) (length ends)) (m p))
+        (λ x. layersBuiltFrom (x >>= λ y. made (y .problem) (satisfying (y .case) (y .problem) g (y .third))) state steps ends) (λ y. refl)
+      where
+        rooms : ThirdInput → Problem → Result (Unit {0})
+        rooms h p = picksRoom p h >>= λ _. roomFor (stateLength p) (length state) >>= λ _. roomFor (bound p) (length steps) >>= λ _. roomFor (caseWindow p .upper) (length ends)
+
+        made : Problem → Result (List Tuple) → Result LayeredPlan
+        made p x = x >>= λ F. accepted (record { problem = p; picks = F; layers = map (map (actionNumber p)) (builtLayers p F) })
+
+        taken : (x : Result (Ready (List Tuple))) → layersBuiltFrom (x >>= λ y. made (y .problem) (satisfying (y .case) (y .problem) g′ (y .third))) state steps ends ≡ layersBuiltFrom (x >>= λ y. made (y .problem) (satisfying (y .case) (y .problem) g (y .third))) state steps ends
+        taken (refused j place) = refl
+        taken (accepted y) = ap (λ (x : Result (List Tuple)). layersBuiltFrom (made (y .problem) x) state steps ends) (satisfied (y .case) (y .problem) (y .third))
+
     same-judge : judge L question other g′ ≡ judge L question site g
     unfolding judge _>>=_
     same-judge =
@@ -153,6 +179,10 @@ module _ (L : CaseLimits) (question site other : List ℕ) (r : CaseRead) (label
   unfolding textPicks
   same-build-words words state steps = same-build (asNumbers words) (asNumbers words) refl (λ p. refl) (λ p F. refl) state steps
 
+  pub same-layers-words : (words state steps ends : List ℕ) → buildLayers L question other (asNumbers words) state steps ends ≡ buildLayers L question site (asNumbers words) state steps ends
+  unfolding textPicks
+  same-layers-words words state steps ends = same-layers (asNumbers words) (asNumbers words) refl (λ p. refl) (λ p F. refl) state steps ends
+
   pub same-judge-words : (words : List ℕ) → judge L question other (asNumbers words) ≡ judge L question site (asNumbers words)
   unfolding textPicks
   same-judge-words words = same-judge (asNumbers words) (asNumbers words) refl (λ p. refl) (λ p F. refl)
@@ -162,6 +192,10 @@ module _ (L : CaseLimits) (question site other : List ℕ) (r : CaseRead) (label
     pub same-build-text : (state steps : List ℕ) → buildSteps L question other (asText text′) state steps ≡ buildSteps L question site (asText text) state steps
     unfolding picksRoom takePicks
     same-build-text state steps = same-build (asText text) (asText text′) (a ∙ sym b) (λ p. refl) (λ p F. refl) state steps
+
+    pub same-layers-text : (state steps ends : List ℕ) → buildLayers L question other (asText text′) state steps ends ≡ buildLayers L question site (asText text) state steps ends
+    unfolding picksRoom takePicks
+    same-layers-text state steps ends = same-layers (asText text) (asText text′) (a ∙ sym b) (λ p. refl) (λ p F. refl) state steps ends
 
     pub same-judge-text : judge L question other (asText text′) ≡ judge L question site (asText text)
     unfolding picksRoom takePicks

@@ -1,14 +1,19 @@
 -- What every call begins with: the order of its refusals, and what is known once it is ready.
-use Prim.Native.Nat.{ℕ}
-use mathlib.Core.Path.{_≡_, refl, sym, subst, _∙_}
+use Prim.Native.Nat.{ℕ, zero}
+use mathlib.Core.Path.{_≡_, refl, sym, ap, subst, _∙_}
+use mathlib.Core.Bool.{false}
+use mathlib.Core.Option.{Option, none, some}
 use mathlib.Core.List.{List}
+use lib.Dec.{T}
 use Rattle.definitions.specs.Limits.{CaseLimits}
-use Rattle.definitions.specs.Refusal.{Result, refused, accepted, _>>=_}
+use Rattle.definitions.specs.Lists.{isSome}
+use Rattle.definitions.specs.Refusal.{Result, refused, accepted, _>>=_, refuseIf}
+use Rattle.definitions.specs.Sheet.Relations.{Relation}
 use Rattle.definitions.specs.Sheet.Sheets.{Label}
 use Rattle.definitions.specs.Problem.Truth.{Case}
 use Rattle.definitions.specs.Problem.Atoms.{Problem}
-use Rattle.definitions.specs.Reply.Outcome.{CaseRead, readFiled, readCase, ground, readProblem, Ready, asked, nothing}
-use Rattle.laws.specs.Results.{accepted-eq, bind-parts, refused-accepted}
+use Rattle.definitions.specs.Reply.Outcome.{CaseRead, readFiled, readCase, ground, readProblem, Ready, asked, nothing, withoutEvery}
+use Rattle.laws.specs.Results.{accepted-eq, bind-parts, refused-accepted, not-refused}
 
 -- where nothing is tested, nothing is refused
 pub untested : {B : Type 0} (b : B) → nothing b ≡ accepted tt
@@ -79,6 +84,7 @@ module _ {A : Type 0} (L : CaseLimits) (question site : List ℕ) (third : CaseR
     pub is-case : readCase L question site ≡ accepted (r .case)
     pub is-third : third (record { case = r .case; labels = r .labels }) ≡ accepted (r .third)
     pub is-problem : ground L (r .case) ≡ accepted (r .problem)
+    pub is-late : late (r .case) ≡ accepted tt
     pub has-room : rooms (r .problem) ≡ accepted tt
 
   pub parts : (r : Ready A) → call ≡ accepted r → Parts r
@@ -90,7 +96,36 @@ module _ {A : Type 0} (L : CaseLimits) (question site : List ℕ) (third : CaseR
       let (p, rp, e₄) = bind-parts (ground L (c .case)) _ r e₃ in
       let (v, rv, e₅) = bind-parts (late (c .case)) _ r e₄ in
       let (w, rw′, e₆) = bind-parts (rooms p) _ r e₅ in
-      subst Parts (accepted-eq _ r e₆) (record { is-filed = rc; is-case = filed-case L question site c rc; is-third = rt; is-problem = rp; has-room = rw′ })
+      subst Parts (accepted-eq _ r e₆) (record { is-filed = rc; is-case = filed-case L question site c rc; is-third = rt; is-problem = rp; is-late = rv; has-room = rw′ })
+
+-- ---- a test after 11 that is passed: the call is as without it
+pub late-passed : {A : Type 0} (L : CaseLimits) (question site : List ℕ) (third : CaseRead → Result A) (early late : Case → Result (Unit {0})) (rooms : Problem → Result (Unit {0})) → ((c : Case) → readCase L question site ≡ accepted c → late c ≡ accepted tt)
+    → asked L question site third early late rooms ≡ asked L question site third early nothing rooms
+unfolding asked nothing _>>=_
+late-passed {A} L question site third early late rooms h = by-file (readFiled L question site) refl
+  where
+    by-file : (x : Result CaseRead) → readFiled L question site ≡ x
+        → _≡_ {A = Result (Ready A)} (x >>= λ r. third r >>= λ t. early (r .case) >>= λ _. ground L (r .case) >>= λ p. late (r .case) >>= λ _. rooms p >>= λ _. accepted (record { case = r .case; labels = r .labels; problem = p; third = t }))
+        (x >>= λ r. third r >>= λ t. early (r .case) >>= λ _. ground L (r .case) >>= λ p. rooms p >>= λ _. accepted (record { case = r .case; labels = r .labels; problem = p; third = t }))
+    by-file (refused k place) e = refl
+    by-file (accepted r) e = rw (h (r .case) (filed-case L question site r e)) refl
+
+-- the test of a call that takes no case with an `every` line
+pub every-passes : (c : Case) → c .question .every ≡ none → withoutEvery c ≡ accepted tt
+unfolding withoutEvery isSome refuseIf
+every-passes c e = ap (λ (o : Option Relation). refuseIf (isSome o) 23 zero) e
+
+pub passes-every : (c : Case) → withoutEvery c ≡ accepted tt → c .question .every ≡ none
+unfolding withoutEvery isSome
+passes-every c e = by-option (c .question .every) (not-refused (isSome (c .question .every)) 23 zero tt e)
+  where
+    by-option : (o : Option Relation) → isSome o ≡ false → o ≡ none
+    by-option none e = refl
+    by-option (some k) e = absurd (subst T e tt)
+
+pub every-fails : (c : Case) (k : Relation) → c .question .every ≡ some k → withoutEvery c ≡ refused 23 0
+unfolding withoutEvery isSome refuseIf
+every-fails c k e = ap (λ (o : Option Relation). refuseIf (isSome o) 23 zero) e
 
 -- a problem that is read is that of a case that is read
 pub problem-parts : (L : CaseLimits) (question site : List ℕ) (p : Problem) → readProblem L question site ≡ accepted p → (c : Case) × (readCase L question site ≡ accepted c) × (ground L c ≡ accepted p)

@@ -29,6 +29,7 @@ use Rattle.definitions.specs.Reply.Outcome.{withoutEvery, CaseRead, readFiled, 
 use Rattle.definitions.specs.Reply.Outcome.{stateLength, picksLength, ThirdInput, asText, asNumbers, takeSteps, textPicks, picksRoom, spareWord, spareRefusal}
 use Rattle.definitions.specs.Reply.Outcome.{takePicks, readyToRun, checkedFrom, checkSteps, picksReadFrom, picksFromSteps, kindRefusal, Plan, plan}
 use Rattle.definitions.specs.Reply.Outcome.{builtFrom, buildSteps}
+use Rattle.definitions.specs.Reply.Layers.{caseWindow, mayTakeAll, afterAll, actionsAt, runLayersFrom, runLayers, endsTest, takeLayers, windowOf, layersCheckedFrom, checkLayers, LayeredPlan, layeredPlan, layersBuiltFrom, buildLayers}
 use Rattle.laws.specs.Booleans.{T-of, T-true}
 use Rattle.laws.specs.Lists.{all-at}
 use Rattle.laws.specs.Members.{in-mem}
@@ -246,11 +247,11 @@ unfolding withoutEvery isIn any
 every-by c = if-by Sheet _ 23 zero refl
 
 -- of a case alone, where no buffer is lent
-alone-by : {A : Type 0} (L : CaseLimits) (question site : List ℕ) (third : CaseRead → Result A) → ((c : CaseRead) → Refuses Sheet (third c)) → Refuses Sheet (asked L question site third nothing nothing nothing)
+alone-by : {A : Type 0} (L : CaseLimits) (question site : List ℕ) (third : CaseRead → Result A) (late : Case → Result (Unit {0})) → ((c : CaseRead) → Refuses Sheet (third c)) → ((c : Case) → Refuses Sheet (late c)) → Refuses Sheet (asked L question site third nothing late nothing)
 unfolding asked nothing
-alone-by L question site third h =
+alone-by L question site third late h f =
     bind-by Sheet _ _ (filed-by L question site) (λ c. bind-by Sheet _ _ (h c) (λ t. bind-by Sheet _ _ (accepted-by Sheet tt) (λ _.
-    bind-by Sheet _ _ (ground-by L (c .case)) (λ p. bind-by Sheet _ _ (accepted-by Sheet tt) (λ _. bind-by Sheet _ _ (accepted-by Sheet tt) (λ _. accepted-by Sheet _))))))
+    bind-by Sheet _ _ (ground-by L (c .case)) (λ p. bind-by Sheet _ _ (f (c .case)) (λ _. bind-by Sheet _ _ (accepted-by Sheet tt) (λ _. accepted-by Sheet _))))))
 
 -- what a run refuses with
 abbrev pub Late : ℕ → Type 0
@@ -291,7 +292,7 @@ module _ (L : CaseLimits) (question site : List ℕ) where
 
   pub sizes-refuse : (k place : ℕ) → sizes L question site ≡ refused k place → In caseNumbers k
   unfolding sizes
-  sizes-refuse k place e = told Sheet (sizes L question site) k place e (bind-by Sheet _ _ (alone-by L question site nothing nothing-by) (λ r. accepted-by Sheet _))
+  sizes-refuse k place e = told Sheet (sizes L question site) k place e (bind-by Sheet _ _ (alone-by L question site nothing nothing nothing-by nothing-by) (λ r. accepted-by Sheet _))
 
   abbrev Asks : ℕ → Type 0
   Asks = In (13 ∷ caseNumbers)
@@ -299,7 +300,7 @@ module _ (L : CaseLimits) (question site : List ℕ) where
   pub action-refuse : (n k place : ℕ) → action L question site n ≡ refused k place → In (13 ∷ caseNumbers) k
   unfolding action isIn all any
   action-refuse n k place e = told Asks (action L question site n) k place e
-      (bind-by Asks _ _ (weaken (among caseNumbers (13 ∷ caseNumbers) refl) _ (alone-by L question site nothing nothing-by)) (λ r. given-by Asks (actionAt (r .problem) n) 13 n refl))
+      (bind-by Asks _ _ (weaken (among caseNumbers (13 ∷ caseNumbers) refl) _ (alone-by L question site nothing nothing nothing-by nothing-by)) (λ r. given-by Asks (actionAt (r .problem) n) 13 n refl))
 
   -- ---- steps, checked and read
   abbrev Checks : ℕ → Type 0
@@ -395,6 +396,65 @@ module _ (L : CaseLimits) (question site : List ℕ) where
   judge-refuse picks k place e = told Builds _ k place e (bind-by Builds _ _ (early-by _ (asked-by L question site (λ c. textPicks (c .case) (c .labels) picks) _ (λ c. picks-by (c .case) (c .labels) picks) (λ p. picks-room p picks)))
       (λ r. bind-by Builds _ _ (satisfying-by (r .case) (r .problem) picks (r .third)) (λ F. accepted-by Builds _)))
 
+  -- ---- layers
+  pub window-refuse : (k place : ℕ) → windowOf L question site ≡ refused k place → In caseNumbers k
+  unfolding windowOf
+  window-refuse k place e = told Sheet (windowOf L question site) k place e (bind-by Sheet _ _ (alone-by L question site nothing withoutEvery nothing-by every-by) (λ r. accepted-by Sheet _))
+
+  ends-by : (ends : List ℕ) (count k i : ℕ) → Refuses Sheet (endsTest count k i ends)
+  unfolding endsTest isIn any
+  ends-by [] count k i = if-by Sheet _ 3 _ refl
+  ends-by (e ∷ ends) count k i = bind-by Sheet _ _ (if-by Sheet _ 3 i refl) (λ _. ends-by ends count e (suc i))
+
+  layers-by : (steps ends : List ℕ) → Refuses Sheet (takeLayers steps ends)
+  unfolding takeLayers
+  layers-by steps ends = bind-by Sheet _ _ (steps-by (asNumbers steps)) (λ ks. bind-by Sheet _ _ (ends-by ends (length ks) zero zero) (λ _. accepted-by Sheet _))
+
+  layers-run-by : (p : Problem) (layers : List (List ℕ)) (s : State) (i : ℕ) → Refuses Late (runLayersFrom p s i layers .answer)
+  unfolding runLayersFrom option isIn any
+  layers-run-by p [] s i = by-test (s (atomNumber p goal))
+    where
+      by-test : (b : Bool) → Refuses Late (if b then accepted i else refused 15 i)
+      by-test true = accepted-by Late i
+      by-test false = refused-by Late ℕ 15 i refl
+  layers-run-by p (ks ∷ layers) s i = by-option (actionsAt p ks) (λ l. layers-run-by p layers (afterAll p s l) (suc i))
+    where
+      may : (l : List Action) (b : Bool) → Refuses Late (runLayersFrom p (afterAll p s l) (suc i) layers .answer) → Refuses Late ((if b then runLayersFrom p (afterAll p s l) (suc i) layers else record { answer = refused 14 i; state = s }) .answer)
+      may l true r = r
+      may l false r = refused-by Late ℕ 14 i refl
+
+      by-option : (o : Option (List Action)) → ((l : List Action) → Refuses Late (runLayersFrom p (afterAll p s l) (suc i) layers .answer))
+          → Refuses Late (option o (record { answer = refused 13 i; state = s })
+          (λ l. if mayTakeAll p s l then runLayersFrom p (afterAll p s l) (suc i) layers else record { answer = refused 14 i; state = s }) .answer)
+      by-option none r = refused-by Late ℕ 13 i refl
+      by-option (some l) r = may l (mayTakeAll p s l) (r l)
+
+  pub layers-run-refuses : (p : Problem) (layers : List (List ℕ)) (k place : ℕ) → runLayers p layers .answer ≡ refused k place → In runNumbers k
+  unfolding runLayers
+  layers-run-refuses p layers k place e = told Late (runLayersFrom p (initial p) zero layers .answer) k place e (layers-run-by p layers (initial p) zero)
+
+  pub layers-check-refuse : (steps ends state : List ℕ) (k place : ℕ) → checkLayers L question site steps ends state .answer ≡ refused k place → In (readyNumbers ++ runNumbers) k
+  unfolding checkLayers layersCheckedFrom runLayers isIn all any
+  layers-check-refuse steps ends state k place e = told Checks _ k place e (from-this _ (tested-by L question site (λ _. takeLayers steps ends) withoutEvery _ (λ _. layers-by steps ends) every-by (λ p. room-by (stateLength p) (length state))))
+    where
+      from-this : (m : Result (Ready (List (List ℕ)))) → Refuses Early m → Refuses Checks (layersCheckedFrom m state .answer)
+      from-this (refused j at) h = refused-by Checks ℕ j at (early-checks j (told Early (refused j at) j at refl h))
+      from-this (accepted r) h = weaken (among runNumbers (readyNumbers ++ runNumbers) refl) _ (layers-run-by (r .problem) (r .third) (initial (r .problem)) zero)
+
+  layered-by : (g : ThirdInput) (stateRoom stepsRoom endsRoom : ℕ) → Refuses Builds (layeredPlan L question site g stateRoom stepsRoom endsRoom)
+  unfolding layeredPlan
+  layered-by g stateRoom stepsRoom endsRoom = bind-by Builds _ _
+      (early-by _ (tested-by L question site (λ c. textPicks (c .case) (c .labels) g) withoutEvery _ (λ c. picks-by (c .case) (c .labels) g) every-by (λ p. bind-by Early _ _ (picks-room p g) (λ _. bind-by Early _ _ (room-by (stateLength p) stateRoom) (λ _. bind-by Early _ _ (room-by (bound p) stepsRoom) (λ _. room-by (caseWindow p .upper) endsRoom))))))
+      (λ r. bind-by Builds _ _ (satisfying-by (r .case) (r .problem) g (r .third)) (λ F. accepted-by Builds _))
+
+  pub layers-build-refuse : (picks : ThirdInput) (state steps ends : List ℕ) (k place : ℕ) → buildLayers L question site picks state steps ends .answer ≡ refused k place → In (readyNumbers ++ picksNumbers) k
+  unfolding buildLayers layersBuiltFrom
+  layers-build-refuse picks state steps ends k place e = told Builds _ k place e (by-result _ (layered-by picks (length state) (length steps) (length ends)))
+    where
+      by-result : (m : Result LayeredPlan) → Refuses Builds m → Refuses Builds (layersBuiltFrom m state steps ends .answer)
+      by-result (refused j at) h = refused-by Builds ℕ j at (told Builds (refused j at) j at refl h)
+      by-result (accepted b) h = accepted-by Builds _
+
 -- finding, and asking whether any picks do
 module _ (L : CaseLimits) (question site : List ℕ) where
   abbrev Finds : ℕ → Type 0
@@ -412,5 +472,5 @@ module _ (L : CaseLimits) (question site : List ℕ) where
   pub monotone-refuse : (k place : ℕ) → monotone L question site ≡ refused k place → In (caseNumbers ++ monotoneNumbers) k
   unfolding monotone isIn any all
   monotone-refuse k place e = told Wants _ k place e
-      (bind-by Wants _ _ (weaken (among caseNumbers (caseNumbers ++ monotoneNumbers) refl) _ (alone-by L question site nothing nothing-by))
+      (bind-by Wants _ _ (weaken (among caseNumbers (caseNumbers ++ monotoneNumbers) refl) _ (alone-by L question site nothing nothing nothing-by nothing-by))
       (λ r. bind-by Wants _ _ (if-by Wants _ 24 zero refl) (λ _. bind-by Wants _ _ (if-by Wants _ 21 zero refl) (λ _. accepted-by Wants _))))

@@ -18,7 +18,7 @@ use Rattle.definitions.specs.Sheet.Sheets.{firstChosen}
 use Rattle.definitions.specs.Problem.Atoms.{Problem, relationAt, nodeAt, placesOf, tuplesOf, Atom, guess, proof, goal, tuple, notTuple, freeDomain, freeRange, holdsNode, marked, atomNumber, isInitial, tupleHolds, State, initial}
 use Rattle.definitions.specs.Problem.Actions.{Action, set, beginProof, proveGoal, roundEnd, markIn, markOut, finish, actionNumber, rootAtom, needs, adds, removes, freeAtoms}
 use Rattle.definitions.specs.Problem.Strips.{mayTake, after, reachesFrom, reachesGoal, pickOf, picksOf}
-use Rattle.definitions.specs.Problem.Built.{treeHolds, nodeSteps, marksFrom, marksAfter, roundSteps, builtActions, builtSteps, stepFor, trueRows}
+use Rattle.definitions.specs.Problem.Built.{treeHolds, setSteps, nodeSteps, marksFrom, marksAfter, roundSteps, builtActions, builtSteps, stepFor, trueRows}
 use Rattle.laws.specs.Booleans.{T-of}
 use Rattle.laws.specs.Lists.{flat-append, snoc-cases}
 use Rattle.laws.specs.Repeats.{Once}
@@ -561,3 +561,15 @@ module _ (p : Problem) (G : Good p) where
           ∙ flat-append (pickOf p) (map setOf (pairs p F)) (beginProof ∷ flatMap (roundSteps p F) (below (values (p .source))))
           ∙ ap₂ _++_ (sets-read (pairs p F)) (rounds-read (below (values (p .source))))
           ∙ append-nil (map (tupleOf p) (pairs p F))
+
+-- ---- Without an `every` line: one round, which ends by proving the goal, and one value, with which the rule is true
+module _ (p : Problem) (G : Good p) (plain : T (not (isSome (p .source .question .every)))) (F : List Tuple) where
+  pub built-plain : builtActions p F ≡ setSteps p F ++ (beginProof ∷ (nodeSteps p F zero (p .nodeList) ++ (proveGoal ∷ [])))
+  unfolding builtActions roundSteps marksAfter marksFrom flatMap below from
+  built-plain = rw (one-value p G plain, no-tuples p G plain, with-zero p G F, finish-goal p plain)
+      (ap (λ (l : List Action). setSteps p F ++ (beginProof ∷ l)) (append-nil (nodeSteps p F zero (p .nodeList) ++ (proveGoal ∷ []))))
+
+  pub each-true : T (treeHolds (p .source) F (λ _. zero) (p .root)) → (k : ℕ) → k < values (p .source) → T (treeHolds (p .source) (F ++ everyValue (p .source) k) (λ _. zero) (p .root))
+  each-true t k l =
+      let e : k ≡ 0 = omega (arith, one-value p G plain) in
+      subst (λ (P : List Tuple). T (treeHolds (p .source) P (λ _. zero) (p .root))) (sym (ap (λ (j : ℕ). F ++ everyValue (p .source) j) e ∙ with-zero p G F)) t

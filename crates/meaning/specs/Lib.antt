@@ -20,6 +20,14 @@
 --   Building           what building answers
 --   Few                how many picks and steps a sheet can hold
 --   Shown              what an accepted case shows on them is short
+--   Layers             layers are their steps one by one
+--   Windows            how far an atom lies from its literals, at the most
+--   LayerTests         a layer tested without comparing its steps with each other
+--   Levels             a step's layer from a table of levels
+--   Placing            layers by counting: what a layer holds, where it starts
+--   Layered            the built layers: what they are, that they are accepted, how many
+--   LayerPlans         building layers is building steps with one buffer more
+--   FewNodes           a rule's tree has at most 64 nodes, and a node at most 64 parts
 -- What steps leave in a state, for the code that builds and that reads picks:
 --   Changes            what a step changes, as an equation on atoms
 --   HeldTuples         after steps, the tuples that hold are the picks read from them
@@ -50,6 +58,14 @@ pub mod Lent
 pub mod Building
 pub mod Few
 pub mod Shown
+pub mod Layers
+pub mod LayerTests
+pub mod Windows
+pub mod Levels
+pub mod Placing
+pub mod Layered
+pub mod LayerPlans
+pub mod FewNodes
 pub mod Changes
 pub mod HeldTuples
 pub mod Deciding

@@ -18,11 +18,11 @@ use Rattle.definitions.specs.Problem.Atoms.{Problem, relationAt, nodeAt, rowOf,
 use Rattle.definitions.specs.Problem.Actions.{Action, set, beginProof, proveAnd, proveOr, proveExists, proveForall, proveGoal, roundEnd, markIn, markOut, Values, valuesIn, withValue, valuesAt, partAtom, partAtoms, underAtom, forallNeeds, rootAtom, needs, adds}
 use Rattle.definitions.specs.Problem.Built.{treeHolds, treesHold, someHolds, isTrueAt}
 use Rattle.laws.specs.Booleans.{T-and-l, T-and-r, T-true, and-T, or-l, or-r}
-use Rattle.laws.specs.Lists.{any-of}
+use Rattle.laws.specs.Lists.{any-of, getD-mem}
 use Rattle.laws.specs.Members.{IsRange, in-mem, mem-in, greatest-is, before-some, up-step, up-all}
 use Rattle.laws.specs.Rows.{places-below, places-row, row-lt}
 use Rattle.laws.specs.Numbers.{IsAction, IsAtom}
-use Rattle.meaning.specs.Parts.{Within, holds-same, back, Bnd, bnd-with, bnd-values, bnd-map, Here, HereAll, under-forall, under-exists, parts-and, parts-or, head-here, tail-here, here-sub, IsNode, node-at, Fits}
+use Rattle.meaning.specs.Parts.{Within, holds-same, back, Bnd, bnd-with, bnd-values, bnd-map, Here, HereAll, under-forall, under-exists, parts-and, parts-or, head-here, tail-here, here-sub, IsNode, node-at, are-nodes, Fits}
 
 -- what of an accepted case's problem the argument needs
 pub record Good (p : Problem) : Type 0 where
@@ -66,6 +66,10 @@ module _ (p : Problem) (G : Good p) where
   pub here-at : (v : ℕ) → v < length (p .nodeList) → Here p v (nodeAt p v)
   unfolding nodeAt
   here-at v l = subst₂ (Here p) (zero-add v) (ap (λ (ts : List Tree). getD ts v (leaf true zero [])) (sym (G .noded))) (here-sub p (p .root) 0 (G .root-here) v (subst (λ (ts : List Tree). v < length ts) (G .noded) l))
+
+  pub is-node : (v : ℕ) → v < length (p .nodeList) → IsNode p (nodeAt p v)
+  unfolding nodeAt
+  is-node v l = are-nodes p (p .root) (getD (p .nodeList) v (leaf true zero [])) (subst (λ (ts : List Tree). List·Memᴰ (getD (p .nodeList) v (leaf true zero [])) ts) (G .noded) (getD-mem (p .nodeList) v (leaf true zero []) l))
 
   pub here-as : (v : ℕ) (s : Tree) → v < length (p .nodeList) → nodeAt p v ≡ s → Here p v s
   here-as v s l e = subst (Here p v) e (here-at v l)

@@ -3,7 +3,7 @@ use Prim.Native.Nat.{ℕ, zero, suc, _+_, _-_, _<_, _≤_}
 use mathlib.Core.Path.{_≡_, refl, sym, ap, ap₂, subst, _∙_, fun-ext}
 use mathlib.Core.Logic.{_⊎_, inl, inr, ⊎-elim}
 use mathlib.Core.Bool.{Bool, true, false, not, _&&_, _||_}
-use mathlib.Core.List.{List, [], _∷_, _++_, map, List·Memᴰ, List·Memᴰ·not-nil, List·Memᴰ·cases-cons}
+use mathlib.Core.List.{List, [], _∷_, _++_, map, List·Memᴰ, List·Memᴰ·not-nil, List·Memᴰ·cases-cons, List·Memᴰ·append-cases}
 use native.Mathlib.Omega.{arith}
 use native.Mathlib.Nat.{add-zero, add-assoc}
 use lib.Dec.{T, ltb, eqb, ltb→lt, lt→ltb, eqb→eq}
@@ -235,3 +235,18 @@ module _ (p : Problem) where
   node-at v (existsNode d σ t) h n = (ap (nodeAt p) (sym (add-zero v)) ∙ h .cover 0 (omega arith), omega (arith, h .inside))
   node-at v (andNode ts) h n = (ap (nodeAt p) (sym (add-zero v)) ∙ h .cover 0 (omega arith), omega (arith, h .inside))
   node-at v (orNode ts) h n = (ap (nodeAt p) (sym (add-zero v)) ∙ h .cover 0 (omega arith), omega (arith, h .inside))
+
+  -- and every tree among the nodes of one is a node
+  mutual
+    unfolding nodes nodesAll IsNode
+
+    pub are-nodes : (s x : Tree) → List·Memᴰ x (nodes s) → IsNode x
+    are-nodes (leaf b k ls) x m = absurd (List·Memᴰ·not-nil m)
+    are-nodes (forallNode d σ s) x m = ⊎-elim (λ e. subst (IsNode) (sym e) tt) (λ q. are-nodes s x q) (List·Memᴰ·cases-cons m)
+    are-nodes (existsNode d σ s) x m = ⊎-elim (λ e. subst (IsNode) (sym e) tt) (λ q. are-nodes s x q) (List·Memᴰ·cases-cons m)
+    are-nodes (andNode ts) x m = ⊎-elim (λ e. subst (IsNode) (sym e) tt) (λ q. all-are-nodes ts x q) (List·Memᴰ·cases-cons m)
+    are-nodes (orNode ts) x m = ⊎-elim (λ e. subst (IsNode) (sym e) tt) (λ q. all-are-nodes ts x q) (List·Memᴰ·cases-cons m)
+
+    all-are-nodes : (ts : Trees) (x : Tree) → List·Memᴰ x (nodesAll ts) → IsNode x
+    all-are-nodes end x m = absurd (List·Memᴰ·not-nil m)
+    all-are-nodes (s then ts) x m = ⊎-elim (λ q. are-nodes s x q) (λ q. all-are-nodes ts x q) (List·Memᴰ·append-cases (nodes s) m)

@@ -213,7 +213,7 @@ module _ (p : Problem) (G : Good p) (F : List Tuple) where
       let k : place g (partsFrom (suc v) ts) < howMany ts = subst (λ (n : ℕ). place g (partsFrom (suc v) ts) < n) (length-parts ts (suc v)) (place-lt g (partsFrom (suc v) ts) a) in
       (l, subst (λ (x : Tree). j < rowsOf (p .size) x) (sym e) h, (ts, e, subst (λ (n : ℕ). n < howMany ts) (sym (least-place g (partsFrom (suc v) ts) a)) k))
 
-  step-adds : (v : ℕ) (t : Tree) (j : ℕ) → T (isTrueAt p F t j) → (adds p (stepFor p F v t j) ≡ holdsNode v j ∷ []) × (removes p (stepFor p F v t j) ≡ [])
+  pub step-adds : (v : ℕ) (t : Tree) (j : ℕ) → T (isTrueAt p F t j) → (adds p (stepFor p F v t j) ≡ holdsNode v j ∷ []) × (removes p (stepFor p F v t j) ≡ [])
   unfolding stepFor isTrueAt adds removes
   step-adds v (leaf q r ls) j t = absurd t
   step-adds v (forallNode d σ u) j t = (ap (λ (k : ℕ). holdsNode v k ∷ []) (div-add-mod' j (p .size)), refl)

@@ -21,6 +21,10 @@ use Rattle.call_sizes.specs.Answers.{sizingOf}
 use Rattle.call_action.specs.declared.Asked.{Asked}
 use Rattle.call_action.specs.declared.Asked.the-variants.{Action as Known, Refused as Unknown}
 use Rattle.call_action.specs.Asked.{heard, actionOf, found}
+use Rattle.definitions.specs.Reply.Layers.{Window}
+use Rattle.call_window.specs.declared.Windowed.{Windowed}
+use Rattle.call_window.specs.declared.Windowed.the-variants.{Window as Within, Refused as Unwindowed}
+use Rattle.call_window.specs.Windows.{windowedOf}
 use Rattle.nendokwe.specs.declared.Details.{Details}
 
 -- the code's action in numbers; one that is none has a kind of its own
@@ -76,6 +80,21 @@ module _ (x : Result Sizes) (r : Sizing) (e : sizingOf r ≡ x) (n a b d : ℕ) 
   sizes-refused k place q =
       let (i, j, t) = refused-told x k place (sym e ∙ ap sizingOf q) in
       (i, (j, (t (λ s. s .elements) n, (t (λ s. s .atomCount) a, (t (λ s. s .actionCount) b, t (λ s. s .stepBound) d)))))
+
+module _ (x : Result Window) (r : Windowed) (e : windowedOf r ≡ x) (a b : ℕ) where
+  -- the four numbers that go out
+  abbrev Window-told : (number place a′ b′ : ℕ) → Type 0
+  Window-told number place a′ b′ = (number ≡ replyNumber x) × ((place ≡ refusalPlace x) × ((a′ ≡ told (λ w. w .lower) x a) × (b′ ≡ told (λ w. w .upper) x b)))
+
+  pub window-told : (lower upper : ℕ) → r ≡ Within lower upper → Window-told 0 0 lower upper
+  unfolding windowedOf
+  window-told lower upper q =
+      let (i, j, t) = accepted-told x (record { lower = lower; upper = upper }) (sym e ∙ ap windowedOf q) in
+      (i, (j, (t (λ w. w .lower) a, t (λ w. w .upper) b)))
+
+  pub window-refused : (k place : ℕ) → r ≡ Unwindowed k place → Window-told k place a b
+  unfolding windowedOf
+  window-refused k place q = let (i, j, t) = refused-told x k place (sym e ∙ ap windowedOf q) in (i, (j, (t (λ w. w .lower) a, t (λ w. w .upper) b)))
 
 -- the details of an action that was found
 details-are : (a : Act) (b : Action) → heard a ≡ some b → detailsOf a ≡ record { kind = actionKind b; subject = actionSubject b; row = actionRow b; choice = actionChoice b }

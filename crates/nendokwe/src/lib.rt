@@ -14,11 +14,13 @@ ghost use Rattle.definitions.specs.Reply.Judgement.{judge};
 ghost use Rattle.definitions.specs.Reply.Finding.{find as «find-of»};
 ghost use Rattle.definitions.specs.Reply.Monotone.{monotone as «monotone-of»};
 ghost use Rattle.definitions.specs.Reply.Page.{layPage};
+ghost use Rattle.definitions.specs.Reply.Layers.{windowOf, checkLayers, buildLayers};
 ghost use Rattle.definitions.specs.Reply.Tries.{tryLists};
 ghost use Rattle.call_tries.specs.Recorded.{records};
 use call_action::Asked;
 use call_sizes::Sizing;
 use call_tries::Try;
+use call_window::Windowed;
 use open_case::Reply;
 use problem_table::Act;
 use problem_table::ChoiceAct;
@@ -465,5 +467,98 @@ pub extern "C" fn nendokwe_monotone(
     ensures { λ _. ⌜ now (place .exit) ≡ replyPlace («monotone-of» usual (now (question .entry)) (now (site .entry))) ⌝ }
 {
     let r = call_monotone::monotone(question, site);
+    tell(r, number, place);
+}
+
+// The window of a case: how many layers its plans have at the least, and built ones at the most. A refusal leaves the two.
+#[no_mangle]
+pub extern "C" fn nendokwe_window(
+    question: &[u8],
+    site: &[u8],
+    number: &mut u32,
+    place: &mut usize,
+    lower: &mut usize,
+    upper: &mut usize,
+)
+    ensures { λ _. ⌜ now (number .exit) ≡ replyNumber (windowOf usual (now (question .entry)) (now (site .entry))) ⌝ }
+    ensures { λ _. ⌜ now (place .exit) ≡ refusalPlace (windowOf usual (now (question .entry)) (now (site .entry))) ⌝ }
+    ensures { λ _. ⌜ now (lower .exit) ≡ told (λ w. w .lower) (windowOf usual (now (question .entry)) (now (site .entry))) (now (lower .entry)) ⌝ }
+    ensures { λ _. ⌜ now (upper .exit) ≡ told (λ w. w .upper) (windowOf usual (now (question .entry)) (now (site .entry))) (now (upper .entry)) ⌝ }
+{
+    let r = call_window::window(question, site);
+    match r {
+        Windowed::Window(least, most) => {
+            *number = 0;
+            *place = 0;
+            *lower = least;
+            *upper = most;
+        }
+        Windowed::Refused(k, at) => {
+            *number = k;
+            *place = at;
+        }
+    }
+}
+
+// Checks a plan in layers: all steps, and for each layer the index after its last. Success is 0 and the number of layers.
+#[no_mangle]
+pub extern "C" fn nendokwe_check_layers(
+    question: &[u8],
+    site: &[u8],
+    steps: &[u32],
+    ends: &[u32],
+    state: &mut [u64],
+    number: &mut u32,
+    place: &mut usize,
+)
+    ensures { λ _. ⌜ now (number .exit) ≡ replyNumber (checkLayers usual (now (question .entry)) (now (site .entry)) (now (steps .entry)) (now (ends .entry)) (now (state .entry)) .answer) ⌝ }
+    ensures { λ _. ⌜ now (place .exit) ≡ replyPlace (checkLayers usual (now (question .entry)) (now (site .entry)) (now (steps .entry)) (now (ends .entry)) (now (state .entry)) .answer) ⌝ }
+    ensures { λ _. ⌜ now (state .exit) ≡ checkLayers usual (now (question .entry)) (now (site .entry)) (now (steps .entry)) (now (ends .entry)) (now (state .entry)) .state ⌝ }
+{
+    let r = call_check_layers::check_layers(question, site, steps, ends, state);
+    tell(r, number, place);
+}
+
+// Builds a plan in layers from picks that are handed over as a text.
+#[no_mangle]
+pub extern "C" fn nendokwe_build_layers_text(
+    question: &[u8],
+    site: &[u8],
+    picks: &[u8],
+    state: &mut [u64],
+    steps: &mut [u32],
+    ends: &mut [u32],
+    number: &mut u32,
+    place: &mut usize,
+)
+    ensures { λ _. ⌜ now (number .exit) ≡ replyNumber (buildLayers usual (now (question .entry)) (now (site .entry)) (asText (now (picks .entry))) (now (state .entry)) (now (steps .entry)) (now (ends .entry)) .answer) ⌝ }
+    ensures { λ _. ⌜ now (place .exit) ≡ replyPlace (buildLayers usual (now (question .entry)) (now (site .entry)) (asText (now (picks .entry))) (now (state .entry)) (now (steps .entry)) (now (ends .entry)) .answer) ⌝ }
+    ensures { λ _. ⌜ now (state .exit) ≡ buildLayers usual (now (question .entry)) (now (site .entry)) (asText (now (picks .entry))) (now (state .entry)) (now (steps .entry)) (now (ends .entry)) .state ⌝ }
+    ensures { λ _. ⌜ now (steps .exit) ≡ buildLayers usual (now (question .entry)) (now (site .entry)) (asText (now (picks .entry))) (now (state .entry)) (now (steps .entry)) (now (ends .entry)) .steps ⌝ }
+    ensures { λ _. ⌜ now (ends .exit) ≡ buildLayers usual (now (question .entry)) (now (site .entry)) (asText (now (picks .entry))) (now (state .entry)) (now (steps .entry)) (now (ends .entry)) .ends ⌝ }
+{
+    let r = call_build_layers::build_layers_text(question, site, picks, state, steps, ends);
+    tell(r, number, place);
+}
+
+// The same from picks that are lent as words.
+#[no_mangle]
+pub extern "C" fn nendokwe_build_layers(
+    question: &[u8],
+    site: &[u8],
+    picks: &[u64],
+    state: &mut [u64],
+    steps: &mut [u32],
+    ends: &mut [u32],
+    number: &mut u32,
+    place: &mut usize,
+)
+    ensures { λ _. ⌜ now (number .exit) ≡ replyNumber (buildLayers usual (now (question .entry)) (now (site .entry)) (asNumbers (now (picks .entry))) (now (state .entry)) (now (steps .entry)) (now (ends .entry)) .answer) ⌝ }
+    ensures { λ _. ⌜ now (place .exit) ≡ replyPlace (buildLayers usual (now (question .entry)) (now (site .entry)) (asNumbers (now (picks .entry))) (now (state .entry)) (now (steps .entry)) (now (ends .entry)) .answer) ⌝ }
+    ensures { λ _. ⌜ now (state .exit) ≡ buildLayers usual (now (question .entry)) (now (site .entry)) (asNumbers (now (picks .entry))) (now (state .entry)) (now (steps .entry)) (now (ends .entry)) .state ⌝ }
+    ensures { λ _. ⌜ now (steps .exit) ≡ buildLayers usual (now (question .entry)) (now (site .entry)) (asNumbers (now (picks .entry))) (now (state .entry)) (now (steps .entry)) (now (ends .entry)) .steps ⌝ }
+    ensures { λ _. ⌜ now (ends .exit) ≡ buildLayers usual (now (question .entry)) (now (site .entry)) (asNumbers (now (picks .entry))) (now (state .entry)) (now (steps .entry)) (now (ends .entry)) .ends ⌝ }
+{
+    let r = call_build_layers::build_layers_lent(question, site, picks, state, steps, ends);
     tell(r, number, place);
 }

@@ -1,8 +1,8 @@
 -- What is known once a case was read and its problem grounded: the refusal or the case, the facts, the table and the counts.
 -- Assumes nothing.
-use Prim.Native.Nat.{ℕ, zero, _+_, _/_, _^_, _≤_, _<_}
+use Prim.Native.Nat.{ℕ, zero, suc, _+_, _/_, _^_, _≤_, _<_}
 use mathlib.Core.Path.{_≡_, refl, sym, ap, ap₂, subst, _∙_}
-use mathlib.Core.Bool.{false, _&&_, _||_}
+use mathlib.Core.Bool.{Bool, false, _&&_, _||_}
 use mathlib.Core.Option.{Option, none, some}
 use mathlib.Core.List.{List, List·Memᴰ, List·Memᴰ·not-nil, List·Memᴰ·eq-of-singleton}
 use native.Mathlib.Omega.{arith}
@@ -30,6 +30,7 @@ use Rattle.step_start.specs.Marked.{facts-in}
 use Rattle.problem_action.specs.Decoded.{Grounded}
 use Rattle.read_sheets.specs.declared.Opened.{Opened}
 use Rattle.read_sheets.specs.Opening.{Holds}
+use Rattle.read_names.specs.Signatures.{relationIn, lastOf, everyOf}
 use Rattle.problem_of_case.specs.declared.Sized.{Sized}
 use Rattle.problem_of_case.specs.Grounds.{GroundsTo, Tabled}
 use Rattle.step_run.specs.declared.End.{End}
@@ -45,6 +46,20 @@ pub facts-held : (s : List ℕ) (c : Case) (o : Opened) (f : List ℕ) → Holds
 facts-held s c o f h =
     let q = gives-if QuestionFits (readQuestion s) (c .question) (h .asked) (question-fits s) in
     facts-in c s (o .sig) f (h .rels) (λ k m. q .rels-fit k m .is-static) (λ k m. q .chosen-fit k m .chosen) (every-universal (c .question .every) (q .every-fits)) (subst (λ (n : ℕ). 0 < n) (h .size) (h .some-elements)) (h .facts-valid) (h .facts-are)
+
+-- whether there is an `every` line, by the signature
+module _ (s : List ℕ) (c : Case) (o : Opened) (facts : ℕ → Bool) (h : Holds s c o facts) where
+  pub every-none : o .sig .every ≡ 0 → c .question .every ≡ none
+  unfolding everyOf lastOf
+  every-none e = h .every ∙ ap (lastOf s (o .sig)) e
+
+  pub every-some : (o .sig .every ≡ 0 → ⊥) → (k : Relation) × (c .question .every ≡ some k)
+  unfolding everyOf lastOf
+  every-some n = by-count (o .sig .every) refl
+    where
+      by-count : (k : ℕ) → o .sig .every ≡ k → (k : Relation) × (c .question .every ≡ some k)
+      by-count zero e = absurd (n e)
+      by-count (suc k) e = (relationIn s (o .sig) (o .sig .rels + o .sig .chosen), h .every ∙ ap (lastOf s (o .sig)) e)
 
 -- ---- the problem
 

@@ -11,16 +11,15 @@ use native.Mathlib.Omega.{arith}
 use lib.Dec.{eqb, ltb}
 use lib.ListN.{length, getD, set, take, drop, replicate, length-set, length-replicate, length-drop}
 use lib.Seq.{getD-set-same, getD-set-other, getD-drop, take-suc, drop-cons, drop-nil}
-use borrow.Author.Tests.{lt-ltb, le-ltb, ltb-true, ltb-false}
+use borrow.Author.Tests.{lt-ltb, le-ltb}
 use Rattle.definitions.specs.Lists.{if_then_else_, any, filter, sum}
-use Rattle.definitions.specs.Problem.Tree.{Tree, Trees, leaf, forallNode, existsNode, andNode, orNode, end, _then_, Part, partsFrom, parts, nodes, nodesAll}
+use Rattle.definitions.specs.Problem.Tree.{Tree, Trees, leaf, forallNode, existsNode, andNode, orNode, end, _then_, Part, partsFrom, parts, nodes}
 use Rattle.definitions.specs.Problem.Atoms.{Problem, nodeAt, nodeWidth as widthOf}
 use Rattle.definitions.specs.Reply.Allowance.{mentions, mentionsIn, allowance}
-use Rattle.laws.specs.Lists.{getD-mem}
 use Rattle.meaning.specs.Parts.{Here, HereAll, IsNode, under-forall, under-exists, parts-and, parts-or, head-here, tail-here, node-at}
-use Rattle.meaning.specs.Means.{Good, here-at}
+use Rattle.meaning.specs.Means.{Good, here-at, is-node}
 use Rattle.rule_nodes.specs.Bounds.{in-parts}
-use Rattle.rule_nodes.specs.Tables.{Head, headFrom, headOf, headIn, noNode, noPart, PartFits, Fits}
+use Rattle.rule_nodes.specs.Tables.{Head, headFrom, headOf, headIn, noNode, noPart, Fits}
 use Rattle.rule_nodes.specs.declared.PartRow.{PartRow}
 use Rattle.rule_nodes.specs.declared.Nodes.{Nodes}
 use Rattle.problem_layout.specs.declared.Relations.{Relations}
@@ -28,14 +27,6 @@ use Rattle.problem_layout.specs.Laid.{Inputs}
 use Rattle.problem_layout.specs.LaidLaws.{node-width-le, pow-most}
 use Rattle.problem_layout.specs.StartsAre.{count-is, node-is, node-width}
 use Rattle.problem_mentions.specs.Marks.{partHits, hits, rowHits, rowWidth, marksAfter, atomsAfter}
-
--- ---- a part's number is in range
-pub which-small : (q : PartRow) → PartFits q → q .which < 64
-which-small q f = by-test (ltb (q .tag) 2) refl
-  where
-    by-test : (b : Bool) → ltb (q .tag) 2 ≡ b → q .which < 64
-    by-test true e = let h = f .relation (ltb-true (q .tag) 2 e) in omega arith
-    by-test false e = f .node (ltb-false (q .tag) 2 e)
 
 -- ---- turns
 pub found-literal : (before : Bool) (tag which : ℕ) (marked : Bool) (r : ℕ) → before ≡ false → tag < 2 → eqb which r ≡ (before || (if ltb tag 2 then eqb which r else marked))
@@ -176,24 +167,6 @@ module _ (p : Problem) (G : Good p) (ws : List ℕ) (types : ℕ) (g : Relations
   parts-right v (andNode ts) marks m here n = heads-right (suc v) (suc v) ts marks m (omega arith) (parts-and p v ts here)
   parts-right v (orNode ts) marks m here n = heads-right (suc v) (suc v) ts marks m (omega arith) (parts-or p v ts here)
 
-  mutual
-    unfolding nodes nodesAll IsNode
-
-    are-nodes : (s x : Tree) → List·Memᴰ x (nodes s) → IsNode p x
-    are-nodes (leaf b k ls) x m = absurd (List·Memᴰ·not-nil m)
-    are-nodes (forallNode d σ s) x m = ⊎-elim (λ e. subst (IsNode p) (sym e) tt) (λ q. are-nodes s x q) (List·Memᴰ·cases-cons m)
-    are-nodes (existsNode d σ s) x m = ⊎-elim (λ e. subst (IsNode p) (sym e) tt) (λ q. are-nodes s x q) (List·Memᴰ·cases-cons m)
-    are-nodes (andNode ts) x m = ⊎-elim (λ e. subst (IsNode p) (sym e) tt) (λ q. all-are-nodes ts x q) (List·Memᴰ·cases-cons m)
-    are-nodes (orNode ts) x m = ⊎-elim (λ e. subst (IsNode p) (sym e) tt) (λ q. all-are-nodes ts x q) (List·Memᴰ·cases-cons m)
-
-    all-are-nodes : (ts : Trees) (x : Tree) → List·Memᴰ x (nodesAll ts) → IsNode p x
-    all-are-nodes end x m = absurd (List·Memᴰ·not-nil m)
-    all-are-nodes (s then ts) x m = ⊎-elim (λ q. are-nodes s x q) (λ q. all-are-nodes ts x q) (List·Memᴰ·append-cases (nodes s) m)
-
-  is-node : (v : ℕ) → v < length (p .nodeList) → IsNode p (nodeAt p v)
-  unfolding nodeAt
-  is-node v l = are-nodes (p .root) (getD (p .nodeList) v (leaf true 0 [])) (subst (λ (ts : List Tree). List·Memᴰ (getD (p .nodeList) v (leaf true 0 [])) ts) (G .noded) (getD-mem (p .nodeList) v (leaf true 0 []) l))
-
   row-right : (v : ℕ) → v < t .count → (marks : List Bool) → Marked (suc v) marks → rowHits t marks r v ≡ mentions r (nodeAt p v)
   row-right v h marks m =
       let l : v < length (p .nodeList) = omega (arith, count-is p ws types g t is) in
@@ -203,7 +176,7 @@ module _ (p : Problem) (G : Good p) (ws : List ℕ) (types : ℕ) (g : Relations
       ∙ heads-hit marks r (take many (drop first (t .parts)))
       ∙ ap (any (headHits marks r)) (node-is p ws types g t is v h .parts)
       ∙ any-map (headHits marks r) headOf (parts v (nodeAt p v))
-      ∙ parts-right v (nodeAt p v) marks m (here-at p G v l) (is-node v l)
+      ∙ parts-right v (nodeAt p v) marks m (here-at p G v l) (is-node p G v l)
 
   mark-next : (d : ℕ) → d < t .count → Marked (t .count - d) (marksAfter t r d) → rowHits t (marksAfter t r d) r (t .count - suc d) ≡ mentions r (nodeAt p (t .count - suc d))
   mark-next d h m = row-right (t .count - suc d) (omega arith) (marksAfter t r d) (λ u a b. m u (omega arith) b)

@@ -393,7 +393,7 @@ fn latest(found: usize, y: usize, z: usize) -> usize
 }
 
 // The element before z in a range of the table, and 1; 0 where there is none. In the range of all elements that is z itself.
-fn element_before(table: &[usize], range: usize, count: usize, z: usize) -> usize
+pub fn element_before(table: &[usize], range: usize, count: usize, z: usize) -> usize
     requires { ⌜ (length (now table) ≡ tableLength) × (range + count ≤ tableLength) × (z < sizeIn (now table)) × (range ≡ rangesPlace → membersIn (now table) range count ≡ below (sizeIn (now table))) ⌝ }
     ensures { λ r. ⌜ (r ≡ option (before (membersIn (now (table .entry)) range count) z) 0 suc) × (r ≤ z) ⌝ }
 {

@@ -2,11 +2,13 @@
 use Prim.Native.Nat.{ℕ, zero, suc, _+_, _≤_, _<_}
 use native.Mathlib.Nat.{not-suc-le-zero, le-of-suc-le-suc}
 use native.Mathlib.Omega.{arith}
-use mathlib.Core.Path.{_≡_, _∙_}
-use mathlib.Core.Bool.{true, false}
+use mathlib.Core.Path.{_≡_, refl, _∙_}
+use mathlib.Core.Bool.{Bool, true, false}
 use mathlib.Core.List.{List, [], _∷_, _++_}
 use lib.ListN.{length, getD, set, replicate, length-append, length-replicate}
 use lib.Seq.{sets}
+use lib.Dec.{ltb}
+use borrow.Author.Tests.{ltb-true, ltb-false}
 use Rattle.definitions.specs.Problem.Tree.{Tree, Trees, leaf, forallNode, existsNode, andNode, orNode, end, _then_, nodes, nodesAll, parts, partsFrom, nodeSort, free}
 use Rattle.rule_nodes.specs.declared.Nodes.{Nodes}
 use Rattle.rule_nodes.specs.Tables.{noPart, noNode, nodeLevel, PartIn, PartFits, NodeFits, Fits}
@@ -187,3 +189,11 @@ module _ (rels count : ℕ) (b : rels ≤ 18) (c : count ≤ 64) where
 -- ---- the parts of a node stand in the table
 pub in-parts : (t : Nodes) → Fits t → (v : ℕ) → getD (t .rows) v noNode .first + getD (t .rows) v noNode .many ≤ length (t .parts)
 in-parts t fits v = omega (arith, fits .nodes .node v .parts, fits .parts .parts-length)
+
+-- ---- a part's number is in range
+pub which-small : (q : PartRow) → PartFits q → q .which < 64
+which-small q f = by-test (ltb (q .tag) 2) refl
+  where
+    by-test : (b : Bool) → ltb (q .tag) 2 ≡ b → q .which < 64
+    by-test true e = let h = f .relation (ltb-true (q .tag) 2 e) in omega arith
+    by-test false e = f .node (ltb-false (q .tag) 2 e)

@@ -57,7 +57,7 @@ said-some roundEnd = refl
 said-some (markIn r row) = refl
 said-some (markOut r row) = refl
 
-is-none : (o : Option Action) → isNothing (actOf o) ≡ true → o ≡ none
+pub is-none : (o : Option Action) → isNothing (actOf o) ≡ true → o ≡ none
 unfolding actOf
 is-none none e = refl
 is-none (some x) e = absurd (false≢true (sym (said-some x) ∙ e))
@@ -68,7 +68,7 @@ pub record FoundAction (p : Problem) (k : ℕ) (a : Act) : Type 0 where
   pub says : a ≡ said action
   pub sound : IsAction p action
 
-is-some : (p : Problem) (k : ℕ) (a : Act) → a ≡ actOf (actionAt p k) → isNothing a ≡ false → FoundAction p k a
+pub is-some : (p : Problem) (k : ℕ) (a : Act) → a ≡ actOf (actionAt p k) → isNothing a ≡ false → FoundAction p k a
 unfolding actOf
 is-some p k a e h = by-option (actionAt p k) refl e
   where
@@ -76,7 +76,7 @@ is-some p k a e h = by-option (actionAt p k) refl e
     by-option none q e = absurd (false≢true (sym h ∙ ap isNothing e))
     by-option (some x) q e = record { action = x; at = q; says = e; sound = action-is p k x q }
 
-act-some : (x : Action) → actOf (some x) ≡ said x
+pub act-some : (x : Action) → actOf (some x) ≡ said x
 unfolding actOf
 act-some x = refl
 

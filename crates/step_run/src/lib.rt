@@ -24,7 +24,7 @@ pub enum End {
     NoGoal(usize),
 }
 
-fn is_nothing(a: problem_table::Act) -> bool
+pub fn is_nothing(a: problem_table::Act) -> bool
     ensures { λ r. ⌜ r ≡ isNothing a ⌝ }
 {
     match a {

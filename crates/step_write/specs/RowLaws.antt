@@ -5,7 +5,7 @@ use mathlib.Core.Bool.{Bool, true, false, _&&_}
 use mathlib.Core.Option.{some}
 use mathlib.Core.List.{List, [], _∷_, _++_, map, List·Memᴰ}
 use native.Mathlib.Omega.{arith}
-use native.Mathlib.Nat.{zero-add}
+use native.Mathlib.Nat.{zero-add, zero-div, zero-mul}
 use lib.Arith.{digits-div, digits-mod}
 use lib.Dec.{T, leb, le→leb}
 use lib.ListN.{length, getD, set, take}
@@ -36,8 +36,14 @@ use Rattle.step_prove.specs.NeedLaws.{need-by}
 use Rattle.step_prove.specs.FollowLaws.{start-before, width-before}
 use Rattle.step_prove.specs.RowLaws.{row-found, row-lost}
 use Rattle.step_truth.specs.TurnLaws.{wide-forall, row-inside}
-use Rattle.step_write.specs.Steps.{rowNumbers, linkNumbers, Wrote, Readable, Reading}
+use Rattle.step_write.specs.Steps.{rowNumbers, linkNumbers, Wrote, Whole, Readable, Reading}
 use Rattle.step_write.specs.StepLaws.{wrote-more, wrote-as, wrote-none, link-yes, link-no, rows-append, row-single, rows-more, rows-all}
+
+pub whole-of : (q n : ℕ) → 0 < n → (q * n / n ≡ q) × Whole n (q * n)
+whole-of q n o =
+    let a : q * n ≡ q * n + 0 = omega arith in
+    let e : q * n / n ≡ q = ap (λ (m : ℕ). m / n) a ∙ digits-div q o in
+    (e, ap (λ (m : ℕ). m * n) (sym e))
 
 -- ---- a `forall`: its choices, its step at an atom, and where it is true
 chosen-of : (R : ℕ → List ℕ) (t : Tree) → nodeKind t ≡ 0 → choices R t ≡ length (R (nodeSort t))
@@ -122,17 +128,17 @@ module _ (p : Problem) (G : Good p) (F : List Tuple) (w : List ℕ) (v : ℕ) (x
       row-written j 0 (λ t. absurd (subst T (sym t ∙ q) tt)) false (sym q) b b at at (link-no b at 0 false refl)
 
   -- rows whose atoms are false
-  none-written : (n row : ℕ) → row + n ≤ width → ((i : ℕ) → row ≤ i → i < row + n → s (x .atoms + i) ≡ false) → (b b′ : List ℕ) (at at′ : ℕ)
-      → Wrote b at (rowNumbers p F v (from zero row)) b′ at′ → Wrote b at (rowNumbers p F v (from zero (row + n))) b′ at′
-  none-written zero row h none b b′ at at′ W = rows-all p F v b b′ at at′ row (row + 0) (omega arith) W
-  none-written (suc n) row h none b b′ at at′ W =
-      let one = rows-more p F v b b′ b′ at at′ at′ row 1 W (row-no row (omega arith) (none row (omega arith) (omega arith)) b′ at′) in
-      rows-all p F v b b′ at at′ (row + 1 + n) (row + suc n) (omega arith) (none-written n (row + 1) (omega arith) (λ i l u. none i (omega arith) (omega arith)) b b′ at at′ one)
+  none-written : (start n row : ℕ) → start ≤ row → row + n ≤ width → ((i : ℕ) → row ≤ i → i < row + n → s (x .atoms + i) ≡ false) → (b b′ : List ℕ) (at at′ : ℕ)
+      → Wrote b at (rowNumbers p F v (from start (row - start))) b′ at′ → Wrote b at (rowNumbers p F v (from start (row + n - start))) b′ at′
+  none-written start zero row l h none b b′ at at′ W = rows-all p F v start b b′ at at′ row (row + 0) (omega arith) W
+  none-written start (suc n) row l h none b b′ at at′ W =
+      let one = rows-more p F v start row 1 l b b′ b′ at at′ at′ W (row-no row (omega arith) (none row (omega arith) (omega arith)) b′ at′) in
+      rows-all p F v start b b′ at at′ (row + 1 + n) (row + suc n) (omega arith) (none-written start n (row + 1) (omega arith) (omega arith) (λ i l u. none i (omega arith) (omega arith)) b b′ at at′ one)
 
-  pub rows-passed : (row next : ℕ) → row ≤ next → next ≤ width → ((i : ℕ) → row ≤ i → i < next → s (x .atoms + i) ≡ false) → (b b′ : List ℕ) (at at′ : ℕ)
-      → Wrote b at (rowNumbers p F v (from zero row)) b′ at′ → Wrote b at (rowNumbers p F v (from zero next)) b′ at′
-  rows-passed row next l h none b b′ at at′ W =
-      rows-all p F v b b′ at at′ (row + (next - row)) next (omega arith) (none-written (next - row) row (omega arith) (λ i a u. none i a (omega arith)) b b′ at at′ W)
+  pub rows-passed : (start row next : ℕ) → start ≤ row → row ≤ next → next ≤ width → ((i : ℕ) → row ≤ i → i < next → s (x .atoms + i) ≡ false) → (b b′ : List ℕ) (at at′ : ℕ)
+      → Wrote b at (rowNumbers p F v (from start (row - start))) b′ at′ → Wrote b at (rowNumbers p F v (from start (next - start))) b′ at′
+  rows-passed start row next o l h none b b′ at at′ W =
+      rows-all p F v start b b′ at at′ (row + (next - row)) next (omega arith) (none-written start (next - row) row o (omega arith) (λ i a u. none i a (omega arith)) b b′ at at′ W)
 
   module _ (j : ℕ) (h : j < width) (e : s (x .atoms + j) ≡ true) (r : ℕ) (f : r ≡ firstBy s (sizeIn w) w x j) (tries : ℕ) (et : (tries ≡ wayAt w x j .tries) × (tries ≡ wayAt w x j .choices)) (kind : 0 < x .kind) where
     flat : FlatAt (wayAt w x j) j
@@ -153,11 +159,16 @@ module _ (p : Problem) (G : Good p) (F : List Tuple) (w : List ℕ) (v : ℕ) (x
       let k : nodeKind (nodeAt p v) ≡ 0 = sym (node .kind) ∙ kind in
       omega (arith, members-length w (x .range) (x .count), range-few (sizeIn w) (rangeIn w x) (subst₂ IsRange (sym (is .size)) (sym (node .range (omega (arith, k)))) (is .ranges (nodeSort (nodeAt p v)))))
 
-  pub chain-end : x .kind ≡ 0 → (j q : ℕ) → j ≡ q * sizeIn w → j ≤ width → width < j + sizeIn w → j ≡ width
-  chain-end kind j q ej l h =
-      let e : width ≡ rowsOf (p .size) (nodeAt p v) * sizeIn w = R .wide ∙ wide-forall (p .size) (nodeAt p v) (sym (node .kind) ∙ kind) ∙ ap (λ (m : ℕ). rowsOf (p .size) (nodeAt p v) * m) (sym (is .size)) in
-      let u = whole-end q (rowsOf (p .size) (nodeAt p v)) (sizeIn w) (omega arith) in
+  pub chain-end : (j q end : ℕ) → j ≡ q * sizeIn w → Whole (sizeIn w) end → j ≤ end → end < j + sizeIn w → j ≡ end
+  chain-end j q end ej whole l h =
+      let u = whole-end q (end / sizeIn w) (sizeIn w) (omega arith) in
       omega arith
+
+  -- all atoms of a `forall` are whole rows
+  pub chain-whole : x .kind ≡ 0 → Whole (sizeIn w) 0 × Whole (sizeIn w) width
+  chain-whole kind =
+      let e : width ≡ rowsOf (p .size) (nodeAt p v) * sizeIn w = R .wide ∙ wide-forall (p .size) (nodeAt p v) (sym (node .kind) ∙ kind) ∙ ap (λ (m : ℕ). rowsOf (p .size) (nodeAt p v) * m) (sym (is .size)) in
+      (sym (ap (λ (m : ℕ). m * sizeIn w) (zero-div (sizeIn w)) ∙ zero-mul (sizeIn w)), subst (Whole (sizeIn w)) (sym e) (whole-of (rowsOf (p .size) (nodeAt p v)) (sizeIn w) (omega (arith, is .size, is .element)) .1))
 
   -- ---- the row of a `forall`
   module _ (kind : x .kind ≡ 0) (row j action n : ℕ) (en : n ≡ sizeIn w) (ej : j ≡ row * n) (ea : action ≡ x .acts + row * x .count) (h : j + n ≤ width) where

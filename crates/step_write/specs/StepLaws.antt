@@ -1,10 +1,10 @@
 -- Lists of step numbers, piece by piece.
 use Prim.Native.Nat.{ℕ, zero, suc, _+_, _-_, _≤_, _<_}
-use mathlib.Core.Path.{_≡_, refl, sym, ap, ap₂, _∙_}
+use mathlib.Core.Path.{_≡_, refl, sym, ap, ap₂, subst, _∙_}
 use mathlib.Core.Bool.{Bool, true, false}
 use mathlib.Core.List.{List, [], _∷_, _++_, map, append-assoc, append-nil}
 use native.Mathlib.Omega.{arith}
-use native.Mathlib.Nat.{add-zero, zero-add}
+use native.Mathlib.Nat.{add-zero}
 use lib.ListN.{length, set, take, length-append}
 use lib.Seq.{sets}
 use Rattle.definitions.specs.Lists.{if_then_else_, filter, from}
@@ -69,17 +69,27 @@ module _ (p : Problem) (F : List Tuple) (v : ℕ) where
       by-test true q = rw (e ∙ q) (ap (λ (i : ℕ). i ∷ []) (f q))
       by-test false q = rw (e ∙ q) refl
 
-  pub rows-none : (b : List ℕ) (at : ℕ) → Wrote b at (rowNumbers p F v (from zero 0)) b at
+  pub rows-none : (start : ℕ) (b : List ℕ) (at : ℕ) → Wrote b at (rowNumbers p F v (from start (start - start))) b at
   unfolding rowNumbers from filter
-  rows-none b at = wrote-none b at
+  rows-none start b at =
+      let e : start - start ≡ 0 = omega arith in
+      subst (λ (k : ℕ). Wrote b at (rowNumbers p F v (from start k)) b at) (sym e) (wrote-none b at)
 
-  pub rows-more : (b b₁ b₂ : List ℕ) (at at₁ at₂ j m : ℕ) → Wrote b at (rowNumbers p F v (from zero j)) b₁ at₁ → Wrote b₁ at₁ (rowNumbers p F v (from j m)) b₂ at₂ → Wrote b at (rowNumbers p F v (from zero (j + m))) b₂ at₂
-  rows-more b b₁ b₂ at at₁ at₂ j m f g =
-      wrote-as b b₂ at at₂ (rowNumbers p F v (from zero j) ++ rowNumbers p F v (from j m)) (rowNumbers p F v (from zero (j + m))) (ap (λ (i : ℕ). rowNumbers p F v (from zero j) ++ rowNumbers p F v (from i m)) (sym (zero-add j)) ∙ sym (rows-append (from zero j) (from (zero + j) m)) ∙ ap (rowNumbers p F v) (sym (from-append zero j m)))
-      (wrote-more b b₁ b₂ at at₁ at₂ (rowNumbers p F v (from zero j)) (rowNumbers p F v (from j m)) f g)
+  -- rows from `start` on, first those before row j
+  pub rows-more : (start j m : ℕ) → start ≤ j → (b b₁ b₂ : List ℕ) (at at₁ at₂ : ℕ) → Wrote b at (rowNumbers p F v (from start (j - start))) b₁ at₁ → Wrote b₁ at₁ (rowNumbers p F v (from j m)) b₂ at₂ → Wrote b at (rowNumbers p F v (from start (j + m - start))) b₂ at₂
+  rows-more start j m h b b₁ b₂ at at₁ at₂ f g =
+      let i : start + (j - start) ≡ j = omega arith in
+      let k : j - start + m ≡ j + m - start = omega arith in
+      wrote-as b b₂ at at₂ (rowNumbers p F v (from start (j - start)) ++ rowNumbers p F v (from j m)) (rowNumbers p F v (from start (j + m - start)))
+      (ap (λ (i : ℕ). rowNumbers p F v (from start (j - start)) ++ rowNumbers p F v (from i m)) (sym i) ∙ sym (rows-append (from start (j - start)) (from (start + (j - start)) m)) ∙ ap (rowNumbers p F v) (sym (from-append start (j - start) m) ∙ ap (from start) k))
+      (wrote-more b b₁ b₂ at at₁ at₂ (rowNumbers p F v (from start (j - start))) (rowNumbers p F v (from j m)) f g)
 
-  pub rows-all : (b b′ : List ℕ) (at at′ j width : ℕ) → j ≡ width → Wrote b at (rowNumbers p F v (from zero j)) b′ at′ → Wrote b at (rowNumbers p F v (from zero width)) b′ at′
-  rows-all b b′ at at′ j width e W = wrote-as b b′ at at′ (rowNumbers p F v (from zero j)) (rowNumbers p F v (from zero width)) (ap (λ (k : ℕ). rowNumbers p F v (from zero k)) e) W
+  pub rows-all : (start : ℕ) (b b′ : List ℕ) (at at′ j width : ℕ) → j ≡ width → Wrote b at (rowNumbers p F v (from start (j - start))) b′ at′ → Wrote b at (rowNumbers p F v (from start (width - start))) b′ at′
+  rows-all start b b′ at at′ j width e W = wrote-as b b′ at at′ (rowNumbers p F v (from start (j - start))) (rowNumbers p F v (from start (width - start))) (ap (λ (k : ℕ). rowNumbers p F v (from start (k - start))) e) W
+
+  -- all rows of a node
+  pub rows-whole : (b b′ : List ℕ) (at at′ width : ℕ) → Wrote b at (rowNumbers p F v (from zero (width - zero))) b′ at′ → Wrote b at (rowNumbers p F v (from zero width)) b′ at′
+  rows-whole b b′ at at′ width W = let e : width - 0 ≡ width = omega arith in wrote-as b b′ at at′ (rowNumbers p F v (from zero (width - zero))) (rowNumbers p F v (from zero width)) (ap (λ (k : ℕ). rowNumbers p F v (from zero k)) e) W
 
 -- ---- nodes, the last first
 module _ (p : Problem) (G : Good p) (F : List Tuple) where

@@ -1,5 +1,5 @@
 -- The numbers of the nodes' steps as lists, and what writing some of them is.
-use Prim.Native.Nat.{ℕ, zero, _+_, _^_, _≤_, _<_}
+use Prim.Native.Nat.{ℕ, zero, _+_, _*_, _/_, _^_, _≤_, _<_}
 use mathlib.Core.Path.{_≡_}
 use mathlib.Core.Bool.{Bool}
 use mathlib.Core.List.{List, [], _∷_, _++_, map}
@@ -32,6 +32,10 @@ linkNumbers b k = if b then k ∷ [] else []
 -- from entry `at` on, numbers are written; the next goes to at′
 abbrev pub Wrote : List ℕ → ℕ → List ℕ → List ℕ → ℕ → Type 0
 Wrote b at l b′ at′ = (b′ ≡ sets b at l) × (at′ ≡ at + length l)
+
+-- an atom of a `forall` where a row of n elements starts
+abbrev pub Whole : ℕ → ℕ → Type 0
+Whole n j = j ≡ j / n * n
 
 -- the table is the problem's, its action numbers fit a step, and the state knows all nodes
 pub record Readable (p : Problem) (G : Good p) (F : List Tuple) (w : List ℕ) (s : State) : Type 0 where

@@ -13,7 +13,7 @@ ghost use Rattle.bits.specs.Table.{bit};
 ghost use Rattle.rows.specs.Values.{Within};
 ghost use Rattle.problem_table.specs.Lines.{sizeIn, nodeLine, NodeFits, RangeFits, Fits};
 ghost use Rattle.step_prove.specs.Tries.{wayAt, Digits, Rest};
-ghost use Rattle.step_write.specs.Steps.{Readable, Reading, Wrote, rowNumbers, nodeNumbers, linkNumbers};
+ghost use Rattle.step_write.specs.Steps.{Readable, Reading, Wrote, Whole, rowNumbers, nodeNumbers, linkNumbers};
 
 // The first word from word j on and before word `past` that has a bit; `past` where none has.
 fn next_word(words: &[u64], j: usize, past: usize) -> usize
@@ -108,27 +108,29 @@ fn next_row(state: &[u64], atoms: usize, row: usize, width: usize) -> usize
     next_set(state, atoms + row + 1, atoms + width) - atoms
 }
 
-// The steps of an `exists`, `and` or `or`.
+// The steps of the rows of an `exists`, `and` or `or` from row `start` on and before row `end`.
 fn write_rows(
     state: &[u64],
     steps: &mut [u32],
     at: usize,
     table: &[usize],
     v: problem_table::NodeLine,
-    width: usize,
+    start: usize,
+    end: usize,
 ) -> usize
-    requires { ⌜ Fits (now table) × NodeFits v × (v .acts ≤ 2 ^ 32) × (v .atoms ≤ 2 ^ 32) × (0 < v .kind) × (width ≤ 2 ^ 32) × (at < 2 ^ 49) × RangeFits (now table) v ⌝ }
-    ensures { λ r. ⌜ (r ≤ at + width) × ((p : Problem) (G : Good p) (F : List Tuple) (node : ℕ) → Reading p G F (now (table .entry)) node v width (bit (now (state .entry)))
-        → Wrote (now (steps .entry)) at (rowNumbers p F node (from zero width)) (now (steps .exit)) r) ⌝ }
+    requires { ⌜ Fits (now table) × NodeFits v × (v .acts ≤ 2 ^ 32) × (v .atoms ≤ 2 ^ 32) × (0 < v .kind) × (start ≤ end) × (end ≤ 2 ^ 32) × (at < 2 ^ 49) × RangeFits (now table) v ⌝ }
+    ensures { λ r. ⌜ (r ≤ at + end) × ((p : Problem) (G : Good p) (F : List Tuple) (node width : ℕ) → Reading p G F (now (table .entry)) node v width (bit (now (state .entry))) → end ≤ width
+        → Wrote (now (steps .entry)) at (rowNumbers p F node (from start (end - start))) (now (steps .exit)) r) ⌝ }
 {
     let n = table[0];
     let m = step_prove::tries(v.kind, v.many, v.count);
     let mut digits = [0usize; 4];
+    digits_at(n, v.width, start, &mut digits);
     let mut k = at;
-    let mut row: usize = 0;
-    while row < width {
+    let mut row = start;
+    while row < end {
         k = write_row(state, steps, k, table, v, m, &digits, row);
-        let next = next_row(state, v.atoms, row, width);
+        let next = next_row(state, v.atoms, row, end);
         move_to(n, v.width, row, next, &mut digits);
         row = next;
     }
@@ -172,27 +174,31 @@ fn write_chain(
     k
 }
 
-// The steps of a `forall`. A range of more than n members is no problem's, and nothing is written for it.
+// The steps of a `forall` from atom `start` on and before atom `end`, both at the start of a row. A range of more than n members is no
+// problem's, and nothing is written for it.
 fn write_chains(
     state: &[u64],
     steps: &mut [u32],
     at: usize,
     table: &[usize],
     v: problem_table::NodeLine,
-    width: usize,
+    start: usize,
+    end: usize,
 ) -> usize
-    requires { ⌜ Fits (now table) × NodeFits v × (v .acts ≤ 2 ^ 32) × (v .atoms ≤ 2 ^ 32) × (v .kind ≡ 0) × (width ≤ 2 ^ 32) × (at < 2 ^ 49) × RangeFits (now table) v ⌝ }
-    ensures { λ r. ⌜ (r ≤ at + width) × ((p : Problem) (G : Good p) (F : List Tuple) (node : ℕ) → Reading p G F (now (table .entry)) node v width (bit (now (state .entry)))
-        → Wrote (now (steps .entry)) at (rowNumbers p F node (from zero width)) (now (steps .exit)) r) ⌝ }
+    requires { ⌜ Fits (now table) × NodeFits v × (v .acts ≤ 2 ^ 32) × (v .atoms ≤ 2 ^ 32) × (v .kind ≡ 0) × (start ≤ end) × (end ≤ 2 ^ 32) × (at < 2 ^ 49) × RangeFits (now table) v ⌝ }
+    ensures { λ r. ⌜ (r ≤ at + end) × ((p : Problem) (G : Good p) (F : List Tuple) (node width : ℕ) → Reading p G F (now (table .entry)) node v width (bit (now (state .entry))) → end ≤ width
+        → Whole (sizeIn (now (table .entry))) start → Whole (sizeIn (now (table .entry))) end
+        → Wrote (now (steps .entry)) at (rowNumbers p F node (from start (end - start))) (now (steps .exit)) r) ⌝ }
 {
     let n = table[0];
     if n < v.count {
         return at;
     }
+    let first = start / n;
     let mut k = at;
-    let mut j: usize = 0;
-    let mut action = v.acts;
-    while j + n <= width {
+    let mut j = first * n;
+    let mut action = v.acts + first * v.count;
+    while j + n <= end {
         k = write_chain(state, steps, k, table, v, j, action);
         j += n;
         action += v.count;
@@ -200,24 +206,26 @@ fn write_chains(
     k
 }
 
-// The steps of a node.
-fn write_node(
+// The steps of the rows of a node from row `start` on and before row `end`: of a `forall` these are the starts of a row of its own.
+pub fn write_node(
     state: &[u64],
     steps: &mut [u32],
     at: usize,
     table: &[usize],
     node: usize,
-    width: usize,
+    start: usize,
+    end: usize,
 ) -> usize
-    requires { ⌜ Fits (now table) × (node < 64) × (width ≤ 2 ^ 32) × (at < 2 ^ 49) ⌝ }
-    ensures { λ r. ⌜ (r ≤ at + width) × ((p : Problem) (G : Good p) (F : List Tuple) → Reading p G F (now (table .entry)) node (nodeLine (now (table .entry)) node) width (bit (now (state .entry)))
-        → Wrote (now (steps .entry)) at (rowNumbers p F node (from zero width)) (now (steps .exit)) r) ⌝ }
+    requires { ⌜ Fits (now table) × (node < 64) × (start ≤ end) × (end ≤ 2 ^ 32) × (at < 2 ^ 49) ⌝ }
+    ensures { λ r. ⌜ (r ≤ at + end) × ((p : Problem) (G : Good p) (F : List Tuple) (width : ℕ) → Reading p G F (now (table .entry)) node (nodeLine (now (table .entry)) node) width (bit (now (state .entry))) → end ≤ width
+        → (nodeLine (now (table .entry)) node .kind ≡ 0 → Whole (sizeIn (now (table .entry))) start × Whole (sizeIn (now (table .entry))) end)
+        → Wrote (now (steps .entry)) at (rowNumbers p F node (from start (end - start))) (now (steps .exit)) r) ⌝ }
 {
     let v = problem_table::node_line(table, node);
     if v.kind == 0 {
-        return write_chains(state, steps, at, table, v, width);
+        return write_chains(state, steps, at, table, v, start, end);
     }
-    write_rows(state, steps, at, table, v, width)
+    write_rows(state, steps, at, table, v, start, end)
 }
 
 // The steps of the nodes before `past`, the last of them first.
@@ -240,7 +248,7 @@ pub fn write_nodes(
         v -= 1;
         let line = problem_table::node_line(table, v);
         let width = step_prove::gap(line.atoms, end);
-        k = write_node(state, steps, k, table, v, width);
+        k = write_node(state, steps, k, table, v, 0, width);
         end = line.atoms;
     }
     k

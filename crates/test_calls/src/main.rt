@@ -9,6 +9,7 @@
 //     site                      the same, the site
 //     text                      the same, the steps or the picks that are sent as a text
 //     lent N N ..               these numbers are the steps or the picks that are lent to the calls below
+//     ends N N ..               where each layer of the lent steps ends
 //     lists F L F L ..          where each list of steps begins among the lent ones, and its length
 //
 //     sizes                     the sizes
@@ -16,6 +17,7 @@
 //     action K                  the action of the number K
 //     allowances ROOM           how far one pick moves the built steps
 //     find PICKS                the least picks that meet the rule
+//     window                    how many layers plans have at the least, and built ones at the most
 //     monotone                  whether all tuples picked meet a rule that only ever wants more
 //     check_text STATE          checks the text's steps
 //     picks_text PICKS STATE    reads the picks of the text's steps
@@ -24,17 +26,22 @@
 //     page_text PAGE STATE OUT  a page of the text's steps on paper
 //     check STATE, picks PICKS STATE, build STATE STEPS, judge, page PAGE STATE OUT
 //                               the same of what is lent
+//     build_layers_text STATE STEPS ENDS, build_layers STATE STEPS ENDS
+//                               builds layers of the text's picks, or of those that are lent
+//     check_layers STATE        checks the lent steps, layer by layer
 //     tries STATE               tries each list of lent steps
 //
-// Numbers after a call are the lengths of the buffers that it is lent, but for K and PAGE. A buffer begins as sevens and is written whole; of
-// bytes those of a page as text, a bar for a line's end, and where it is refused in hexadecimal, or as `kept`. An answer is a line: an equals sign, the reply's number and place (0 and what success tells), then what the call handed out and its buffers, each under
-// its name. Any other line ends the run, and is written, with all that follows it, under a word that says so.
+// Numbers after a call are the lengths of the buffers that it is lent, but for K and PAGE. A buffer begins as sevens and is written whole, one
+// of more than 64 entries as the SHA-256 of its numbers; a page's bytes as theirs, and where it is refused in hexadecimal, or as `kept`. An
+// answer is a line: an equals sign, the reply's number and place (0 and what success tells), then what the call handed out and its buffers,
+// each under its name. Any other line ends the run, and is written, with all that follows it, under a word that says so.
 ghost use Prim.Native.Nat.{_≤_, _<_};
 ghost use lib.ListN.{length};
 ghost use Rattle.open_tries.specs.Begun.{ReadyToTry};
 use call_action::Asked;
 use call_sizes::Sizing;
 use call_sizes::Tallied;
+use call_window::Windowed;
 use open_case::Reply;
 use open_tries::Begun;
 use open_tries::Verdict;
@@ -55,7 +62,12 @@ const STEPS: usize = 8192;
 
 const NUMBERS: usize = 512;
 
-const PAGE: usize = 8192;
+const PAGE: usize = 16384;
+
+// More entries of a buffer are told by their digest, whose text has no more bytes.
+const PRINTED: usize = 64;
+
+const TEXT: usize = 131072;
 
 // A number of the script, or none.
 enum Value {
@@ -85,6 +97,7 @@ struct Script {
     site: Span,
     text: Span,
     lent: Span,
+    ends: Span,
     lists: Span,
 }
 
@@ -110,9 +123,67 @@ fn show_reply(r: Reply) {
     }
 }
 
-// Words after the name of their buffer.
+// Half a byte in hexadecimal.
+fn show_half(k: u64) {
+    if k < 10 {
+        let digit = [48 + k as u8];
+        io::write_all(1, &digit);
+        return;
+    }
+    let letter = [87 + (k % 16) as u8];
+    io::write_all(1, &letter);
+}
+
+// A number of 32 bits in hexadecimal, all eight digits of it.
+fn show_hex(k: u64) {
+    let mut i: u64 = 0;
+    while i < 8 {
+        show_half((k >> (28 - 4 * i)) % 16);
+        i += 1;
+    }
+}
+
+// A text by its digest.
+fn show_digest(text: &[u8]) {
+    let x = test_digest::sha256(text);
+    io::write_all(1, b" sha256:");
+    show_hex(x.a);
+    show_hex(x.b);
+    show_hex(x.c);
+    show_hex(x.d);
+    show_hex(x.e);
+    show_hex(x.f);
+    show_hex(x.g);
+    show_hex(x.h);
+}
+
+// A decimal number behind what stands before place `at`, after a space unless it is the first.
+fn put(text: &mut [u8], at: usize, k: u64) -> usize {
+    if at == 0 {
+        return print_bytes::decimal(text, at, k as usize);
+    }
+    let next = print_bytes::byte(text, at, 32);
+    print_bytes::decimal(text, next, k as usize)
+}
+
+fn put_step(text: &mut [u8], at: usize, k: u32) -> usize {
+    put(text, at, k as u64)
+}
+
+// The part of a table of bytes before a place.
+fn show_before(text: &[u8], end: usize) {
+    if end <= text.len() {
+        show_digest(&text[..end]);
+    }
+}
+
+// Words after the name of their buffer, many of them by the digest of their numbers.
 fn show_words(what: &[u8], w: &[u64]) {
     io::write_all(1, what);
+    if PRINTED < w.len() {
+        digest_words(w);
+        return;
+    }
     let mut i = 0;
     while i < w.len() {
         show(w[i]);
@@ -120,13 +191,34 @@ fn show_words(what: &[u8], w: &[u64]) {
     }
 }
 
+// Words in decimal.
+fn put_words(text: &mut [u8], w: &[u64]) -> usize {
+    let mut at = 0;
+    let mut i = 0;
+    while i < w.len() {
+        at = put(text, at, w[i]);
+        i += 1;
+    }
+    at
+}
+
+fn digest_words(w: &[u64]) {
+    let mut text = [0u8; TEXT];
+    let at = put_words(&mut text, w);
+    show_before(&text, at);
+}
+
 fn show_step(k: u32) {
     show(k as u64);
 }
 
-// Steps after their name.
-fn show_steps(w: &[u32]) {
-    io::write_all(1, b" steps");
+// Steps, or where layers end, after their name.
+fn show_steps(what: &[u8], w: &[u32]) {
+    io::write_all(1, what);
+    if PRINTED < w.len() {
+        digest_steps(w);
+        return;
+    }
     let mut i = 0;
     while i < w.len() {
         show_step(w[i]);
@@ -134,42 +226,21 @@ fn show_steps(w: &[u32]) {
     }
 }
 
-// A page's bytes, a bar for the end of a line.
-fn show_lines(out: &[u8]) {
-    let mut from = 0;
-    while from < out.len() {
-        let end = read_text::find(out, from, out.len(), 10);
-        let line = Span { from, to: end };
-        io::write_all(1, part(out, line));
-        io::write_all(1, b"|");
-        if out.len() <= end {
-            return;
-        }
-        from = end + 1;
-    }
-}
-
-fn show_half(k: u8) {
-    if k < 10 {
-        let digit = [48 + k];
-        io::write_all(1, &digit);
-        return;
-    }
-    let letter = [87 + k % 16];
-    io::write_all(1, &letter);
-}
-
-fn show_byte(k: u8) {
-    show_half(k / 16);
-    show_half(k % 16);
-}
-
-fn show_hex(out: &[u8]) {
+// Steps in decimal.
+fn put_steps(text: &mut [u8], w: &[u32]) -> usize {
+    let mut at = 0;
     let mut i = 0;
-    while i < out.len() {
-        show_byte(out[i]);
+    while i < w.len() {
+        at = put_step(text, at, w[i]);
         i += 1;
     }
+    at
+}
+
+fn digest_steps(w: &[u32]) {
+    let mut text = [0u8; TEXT];
+    let at = put_steps(&mut text, w);
+    show_before(&text, at);
 }
 
 // Whether all bytes are sevens, as they began.
@@ -184,28 +255,45 @@ fn are_sevens(out: &[u8]) -> bool {
     true
 }
 
+fn show_byte(k: u8) {
+    show_half(k as u64 / 16);
+    show_half(k as u64 % 16);
+}
+
+fn show_bytes(out: &[u8]) {
+    let mut i = 0;
+    while i < out.len() {
+        show_byte(out[i]);
+        i += 1;
+    }
+}
+
+// Bytes of a call that was refused: whether they are as they were.
+fn show_kept_bytes(out: &[u8]) {
+    if are_sevens(out) {
+        io::write_all(1, b" kept");
+        return;
+    }
+    show_digest(out);
+}
+
 // The bytes of a page that was refused.
 fn show_refused(out: &[u8]) {
-    if out.len() <= 64 {
-        show_hex(out);
+    if PRINTED < out.len() {
+        show_kept_bytes(out);
         return;
     }
-    if are_sevens(out) {
-        io::write_all(1, b"kept");
-        return;
+    if 0 < out.len() {
+        io::write_all(1, b" ");
+        show_bytes(out);
     }
-    io::write_all(1, b"changed");
 }
 
 // The bytes that were lent for a page.
-fn show_out(r: Reply, out: &[u8]) {
+fn show_page(r: Reply, out: &[u8]) {
     io::write_all(1, b" out");
-    if out.len() == 0 {
-        return;
-    }
-    io::write_all(1, b" ");
     match r {
-        Reply::Accepted(_) => show_lines(out),
+        Reply::Accepted(_) => show_digest(out),
         Reply::Refused(_, _) => show_refused(out),
     }
 }
@@ -325,6 +413,21 @@ fn find(question: &[u8], site: &[u8], many: usize) -> bool {
     true
 }
 
+fn window(question: &[u8], site: &[u8]) -> bool {
+    match call_window::window(question, site) {
+        Windowed::Window(lower, upper) => {
+            show_two(0, 0);
+            show(lower as u64);
+            show(upper as u64);
+        }
+        Windowed::Refused(k, place) => {
+            show_two(k, place);
+            io::write_all(1, b" 7 7");
+        }
+    }
+    true
+}
+
 fn monotone(question: &[u8], site: &[u8]) -> bool {
     let r = call_monotone::monotone(question, site);
     show_reply(r);
@@ -384,7 +487,7 @@ fn build_text_into(
     let r = call_build::build_text(question, site, text, state, steps);
     show_reply(r);
     show_words(b" state", state);
-    show_steps(steps);
+    show_steps(b" steps", steps);
 }
 
 fn build_text(question: &[u8], site: &[u8], text: &[u8], room: usize, many: usize) -> bool {
@@ -417,7 +520,7 @@ fn page_text_into(
     let r = call_page::page_text(question, site, text, page, state, out);
     show_reply(r);
     show_words(b" state", state);
-    show_out(r, out);
+    show_page(r, out);
 }
 
 fn page_text(
@@ -488,7 +591,7 @@ fn build_into(question: &[u8], site: &[u8], lent: &[u64], state: &mut [u64], ste
     let r = call_build::build_lent(question, site, lent, state, steps);
     show_reply(r);
     show_words(b" state", state);
-    show_steps(steps);
+    show_steps(b" steps", steps);
 }
 
 fn build(question: &[u8], site: &[u8], lent: &[u64], room: usize, many: usize) -> bool {
@@ -521,7 +624,7 @@ fn page_into(
     let r = call_page::page_lent(question, site, list, page, state, out);
     show_reply(r);
     show_words(b" state", state);
-    show_out(r, out);
+    show_page(r, out);
 }
 
 fn page(
@@ -548,6 +651,108 @@ fn page(
         &mut state[..room],
         &mut out[..bytes],
     );
+    true
+}
+
+// ---- layers of steps
+
+fn show_layers(r: Reply, state: &[u64], steps: &[u32], ends: &[u32]) {
+    show_reply(r);
+    show_words(b" state", state);
+    show_steps(b" steps", steps);
+    show_steps(b" ends", ends);
+}
+
+fn build_layers_text_into(
+    question: &[u8],
+    site: &[u8],
+    text: &[u8],
+    state: &mut [u64],
+    steps: &mut [u32],
+    ends: &mut [u32],
+) {
+    let r = call_build_layers::build_layers_text(question, site, text, state, steps, ends);
+    show_layers(r, state, steps, ends);
+}
+
+fn build_layers_text(question: &[u8], site: &[u8], text: &[u8], n: Given) -> bool {
+    let room = n.a;
+    let many = n.b;
+    let layers = n.c;
+    let mut state = [7u64; STATE];
+    let mut steps = [7u32; STEPS];
+    let mut ends = [7u32; NUMBERS];
+    if STATE < room {
+        return false;
+    }
+    if STEPS < many {
+        return false;
+    }
+    if NUMBERS < layers {
+        return false;
+    }
+    build_layers_text_into(
+        question,
+        site,
+        text,
+        &mut state[..room],
+        &mut steps[..many],
+        &mut ends[..layers],
+    );
+    true
+}
+
+fn build_layers_into(
+    question: &[u8],
+    site: &[u8],
+    lent: &[u64],
+    state: &mut [u64],
+    steps: &mut [u32],
+    ends: &mut [u32],
+) {
+    let r = call_build_layers::build_layers_lent(question, site, lent, state, steps, ends);
+    show_layers(r, state, steps, ends);
+}
+
+fn build_layers(question: &[u8], site: &[u8], lent: &[u64], n: Given) -> bool {
+    let room = n.a;
+    let many = n.b;
+    let layers = n.c;
+    let mut state = [7u64; STATE];
+    let mut steps = [7u32; STEPS];
+    let mut ends = [7u32; NUMBERS];
+    if STATE < room {
+        return false;
+    }
+    if STEPS < many {
+        return false;
+    }
+    if NUMBERS < layers {
+        return false;
+    }
+    build_layers_into(
+        question,
+        site,
+        lent,
+        &mut state[..room],
+        &mut steps[..many],
+        &mut ends[..layers],
+    );
+    true
+}
+
+fn check_layers_into(question: &[u8], site: &[u8], list: &[u32], ends: &[u32], state: &mut [u64]) {
+    let r = call_check_layers::check_layers(question, site, list, ends, state);
+    show_reply(r);
+    show_words(b" state", state);
+}
+
+fn check_layers(question: &[u8], site: &[u8], list: &[u32], ends: &[u32], room: usize) -> bool {
+    let mut state = [7u64; STATE];
+    if STATE < room {
+        return false;
+    }
+    check_layers_into(question, site, list, ends, &mut state[..room]);
     true
 }
 
@@ -700,6 +905,40 @@ fn narrow(from: &[u64], out: &mut [u32]) -> bool {
     true
 }
 
+// Puts numbers of 32 bits of a line into `out`, and gives how many they are.
+fn small_numbers(line: &[u8], out: &mut [u32]) -> Found {
+    let mut read = [0u64; NUMBERS];
+    let Found::At(n) = numbers(line, 0, &mut read) else {
+        return Found::Nowhere;
+    };
+    if NUMBERS < n {
+        return Found::Nowhere;
+    }
+    if narrow(&read[..n], out) {
+        return Found::At(n);
+    }
+    Found::Nowhere
+}
+
+// Checks layers: the lent steps, and where they end.
+fn call_on_layers(s: &[u8], t: Script, question: &[u8], site: &[u8], room: usize) -> bool {
+    let mut steps = [0u32; NUMBERS];
+    let mut ends = [0u32; NUMBERS];
+    let Found::At(n) = small_numbers(part(s, t.lent), &mut steps) else {
+        return false;
+    };
+    let Found::At(m) = small_numbers(part(s, t.ends), &mut ends) else {
+        return false;
+    };
+    if NUMBERS < n {
+        return false;
+    }
+    if NUMBERS < m {
+        return false;
+    }
+    check_layers(question, site, &steps[..n], &ends[..m], room)
+}
+
 // Makes the call that the first w bytes of a line name, if it is one on a case alone.
 fn call_on_case(line: &[u8], w: usize, question: &[u8], site: &[u8], n: Given) -> bool {
     if read_text::word(line, 0, w, b"sizes") {
@@ -719,6 +958,9 @@ fn call_on_case(line: &[u8], w: usize, question: &[u8], site: &[u8], n: Given) -
     }
     if read_text::word(line, 0, w, b"monotone") {
         return monotone(question, site);
+    }
+    if read_text::word(line, 0, w, b"window") {
+        return window(question, site);
     }
     false
 }
@@ -747,6 +989,9 @@ fn call_on_text(
     if read_text::word(line, 0, w, b"page_text") {
         return page_text(question, site, text, n.a, n.b, n.c);
     }
+    if read_text::word(line, 0, w, b"build_layers_text") {
+        return build_layers_text(question, site, text, n);
+    }
     false
 }
 
@@ -764,6 +1009,9 @@ fn call_on_picks(
     }
     if read_text::word(line, 0, w, b"judge") {
         return judge(question, site, lent);
+    }
+    if read_text::word(line, 0, w, b"build_layers") {
+        return build_layers(question, site, lent, n);
     }
     false
 }
@@ -871,6 +1119,9 @@ fn make(s: &[u8], t: Script, line: &[u8], w: usize) -> bool {
     if call_on_text(line, w, question, site, part(s, t.text), given) {
         return true;
     }
+    if read_text::word(line, 0, w, b"check_layers") {
+        return call_on_layers(s, t, question, site, given.a);
+    }
     make_with(s, t, line, w, question, site, given)
 }
 
@@ -941,6 +1192,14 @@ fn follow(s: &[u8], at: usize, end: usize, mut t: Script) -> Script
         t.lent = lent;
         return t;
     }
+    if read_text::word(line, 0, w, b"ends") {
+        let ends = Span {
+            from: at + 4,
+            to: end,
+        };
+        t.ends = ends;
+        return t;
+    }
     if read_text::word(line, 0, w, b"lists") {
         let lists = Span {
             from: at + 5,
@@ -978,6 +1237,7 @@ fn run(s: &[u8]) -> Found {
         site: nothing,
         text: nothing,
         lent: nothing,
+        ends: nothing,
         lists: nothing,
     };
     let mut at = 0;

@@ -11,7 +11,7 @@ use peer::limits::{STEPS, TEXT};
 use peer::paper::PAGE_BYTES;
 use peer::sample::{needs, sound, Random, Sample};
 use peer::searches::{searches, wanting};
-use peer::trial::{Calls, Other, Peer, LINKED};
+use peer::trial::{Calls, Lent, Other, Peer, LINKED};
 use peer::typing::typed;
 use peer::Reply;
 use std::hint::black_box;
@@ -32,6 +32,14 @@ enum Work {
     Page(u64),
     Find,
     Monotone,
+    CheckLayers,
+    BuildLayers,
+    PddlDomain,
+    PddlInstance,
+    /// The lent steps as a plan.
+    PddlPlan,
+    /// The text of the steps is a plan.
+    PddlRead,
     /// Build from text, check and read the picks, each on a small case.
     Small,
 }
@@ -40,6 +48,8 @@ struct Job {
     name: String,
     work: Work,
     samples: Vec<Sample>,
+    /// Where layers of the lent steps end.
+    ends: Vec<u32>,
 }
 
 /// Buffers made once, so that no job pays for making them.
@@ -48,15 +58,16 @@ struct Buffers {
     state: Vec<u64>,
     steps: Vec<u32>,
     page: Vec<u8>,
+    layers: Lent,
 }
 
 impl Job {
     fn new(name: &str, work: Work, sample: &Sample) -> Self {
-        Job { name: name.to_string(), work, samples: vec![sample.clone()] }
+        Job { name: name.to_string(), work, samples: vec![sample.clone()], ends: Vec::new() }
     }
 
     fn run(&self, program: &impl Calls, buffers: &mut Buffers) -> u64 {
-        let Buffers { picks, state, steps, page } = buffers;
+        let Buffers { picks, state, steps, page, layers } = buffers;
         let mut accepted = 0;
         for sample in &self.samples {
             let case = [&sample.question[..], &sample.site[..]];
@@ -70,6 +81,14 @@ impl Job {
                 Work::CheckText => program.check_text(case, &sample.steps, state),
                 Work::Picks => program.picks(case, &sample.lent_steps, picks, state),
                 Work::Page(number) => program.page(case, &sample.lent_steps, number, state, page),
+                Work::CheckLayers => {
+                    program.check_layers(case, &sample.lent_steps, &self.ends, state)
+                }
+                Work::BuildLayers => program.build_layers(case, &sample.lent_picks, layers),
+                Work::PddlDomain => program.pddl_domain(case, page),
+                Work::PddlInstance => program.pddl_instance(case, page),
+                Work::PddlPlan => program.pddl_plan(case, &sample.lent_steps, page),
+                Work::PddlRead => program.pddl_read(case, &sample.steps, steps),
                 Work::Find => program.find(case, picks),
                 Work::Monotone => program.monotone(case),
                 Work::Small => {
@@ -159,7 +178,7 @@ fn jobs() -> Vec<Job> {
 }
 
 fn small_job(name: &str, types: bool) -> Job {
-    Job { name: name.into(), work: Work::Small, samples: small_cases(types) }
+    Job { name: name.into(), work: Work::Small, samples: small_cases(types), ends: Vec::new() }
 }
 
 /// Texts full of labels, and the same texts with numbers.
@@ -206,6 +225,66 @@ fn wide_jobs() -> Vec<Job> {
         jobs.push(Job::new(&format!("{n} elements, no fact: sizes"), Work::Sizes, &bare(n)));
     }
     jobs
+}
+
+/// The plain calls on a case, and those on layers.
+fn layer_jobs() -> Vec<Job> {
+    let cases = [
+        ("airport of 64, zones", zones()),
+        ("path of 31", path(31)),
+        ("four deep of 26", deep(26)),
+    ];
+    let mut jobs = Vec::new();
+    for (name, sample) in cases {
+        let case = [&sample.question[..], &sample.site[..]];
+        let mut lent =
+            Lent { state: vec![0; 16_384], steps: vec![0; STEPS], ends: vec![0; 1 << 13] };
+        let reply = Peer.build_layers(case, &sample.lent_picks, &mut lent);
+        let Reply::Accepted(layers) = reply else { panic!("{name}: {reply:?}") };
+        let ends = lent.ends[..layers as usize].to_vec();
+        let lent_steps = lent.steps[..sample.lent_steps.len()].to_vec();
+        jobs.push(planned_job(
+            &format!("{name}: {layers} layers built"),
+            Work::BuildLayers,
+            &sample,
+        ));
+        let layered = Sample { lent_steps, ..sample };
+        let checked =
+            planned_job(&format!("{name}: {layers} layers checked"), Work::CheckLayers, &layered);
+        jobs.push(Job { ends, ..checked });
+    }
+    // A million steps in one layer, and a million layers: a node step twice in a layer is fine.
+    let plan = padded(&deep(4), STEPS);
+    let mut begun = plan.lent_steps.iter().position(|&step| step == plan.lent_steps[STEPS - 1]);
+    let first = begun.take().unwrap_or(0) as u32;
+    let all = STEPS as u32;
+    let one = Job::new("a step a layer, 1,048,576 layers", Work::CheckLayers, &plan);
+    jobs.push(Job { ends: (1..=all).collect(), ..one });
+    let wide = Job::new("one layer of all further steps", Work::CheckLayers, &plan);
+    jobs.push(Job { ends: (1..=first + 1).chain([all]).collect(), ..wide });
+    jobs
+}
+
+/// Room for a text of PDDL.
+const PDDL: usize = 1 << 25;
+
+/// Domains, instances, and a plan of nearly 1 MB.
+fn pddl_jobs() -> Vec<Job> {
+    let path = path(31);
+    let plan = padded(&deep(4), 40_000);
+    let mut text = vec![0; PDDL];
+    let reply = Peer.pddl_plan([&plan.question, &plan.site], &plan.lent_steps, &mut text);
+    let Reply::Accepted(bytes) = reply else { panic!("{reply:?}") };
+    text.truncate((bytes as usize).min(TEXT));
+    text.truncate(text.iter().rposition(|&byte| byte == b'\n').map_or(0, |end| end + 1));
+    let named = |what: &str| format!("PDDL: {what}, {} bytes", text.len());
+    vec![
+        Job::new("PDDL: domain, path of 31", Work::PddlDomain, &path),
+        Job::new("PDDL: instance, path of 31", Work::PddlInstance, &path),
+        Job::new("PDDL: instance, three places of 64", Work::PddlInstance, &triples()),
+        Job::new(&named("a plan written"), Work::PddlPlan, &plan),
+        Job::new(&named("a plan read"), Work::PddlRead, &Sample { steps: text.clone(), ..plan }),
+    ]
 }
 
 /// The number of the last page of a plan's lent steps.
@@ -301,7 +380,8 @@ fn print_judgements(rounds: u32, buffers: &mut Buffers) {
         ];
         for (picks, build, judge) in kinds {
             let name = format!("{name}, {picks}");
-            let job = |work| Job { name: name.clone(), work, samples: samples.clone() };
+            let job =
+                |work| Job { name: name.clone(), work, samples: samples.clone(), ends: Vec::new() };
             let [_, built] = job(build).time(rounds, buffers);
             let [peer, judged] = job(judge).time(rounds, buffers);
             let (part, ratio) = (judged / built, judged / peer);
@@ -335,7 +415,8 @@ fn main() {
         picks: vec![0; 16_384],
         state: vec![0; 16_384],
         steps: vec![0; STEPS],
-        page: vec![0; PAGE_BYTES],
+        page: vec![0; PDDL],
+        layers: Lent { state: vec![0; 16_384], steps: vec![0; STEPS], ends: vec![0; 1 << 13] },
     };
     if !LINKED {
         println!("The library is not linked: the peer is timed against itself.");
@@ -345,6 +426,7 @@ fn main() {
         "microseconds, least of all rounds", "peer", "ours", "ratio"
     );
     let all = jobs().into_iter().chain(named_jobs()).chain(wide_jobs());
+    let all = all.chain(layer_jobs()).chain(pddl_jobs());
     for job in all.filter(|job| wanted(&job.name)) {
         let [peer, other] = job.time(rounds, &mut buffers);
         println!("{:<56} {peer:>11.1} {other:>11.1} {:>7.2}", job.name, other / peer);

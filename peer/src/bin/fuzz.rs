@@ -51,7 +51,15 @@ fn judges(call: Call) -> bool {
 }
 
 fn pages(call: Call) -> bool {
-    matches!(call, Call::PageText | Call::Page)
+    matches!(call, Call::PageText | Call::Page) || translates(call)
+}
+
+fn translates(call: Call) -> bool {
+    matches!(call, Call::PddlDomain | Call::PddlInstance | Call::PddlPlanText | Call::PddlPlan)
+}
+
+fn builds_layers(call: Call) -> bool {
+    matches!(call, Call::BuildLayersText | Call::BuildLayers)
 }
 
 /// Whether a page call left its bytes alone, but for those of the page.
@@ -71,19 +79,24 @@ fn chosen(sample: &Sample) -> usize {
 /// Whether everything a call must leave alone is as it was.
 fn kept(sample: &Sample, outcome: &Outcome, call: Call, needs: Option<Rooms>) -> bool {
     let [picks, state, _] = needs.unwrap_or([0; 3]);
+    if builds_layers(call) {
+        return layers_kept(outcome, state);
+    }
     let reads_picks = matches!(call, Call::PicksText | Call::Picks);
     let builds = matches!(call, Call::BuildText | Call::Build);
     // How far each buffer may have been written.
     let (picks, state, steps) = match outcome.reply {
         Reply::Accepted(_) if matches!(call, Call::Sizes | Call::Rule | Call::Action) => (0, 0, 0),
-        Reply::Accepted(_) if judges(call) => (0, 0, 0),
+        Reply::Accepted(_) if judges(call) || translates(call) => (0, 0, 0),
+        Reply::Accepted(_) if call == Call::Window => (0, 0, 0),
+        Reply::Accepted(count) if call == Call::PddlRead => (0, 0, count as usize),
         Reply::Accepted(_) if call == Call::Allowances => (chosen(sample), 0, 0),
         Reply::Accepted(_) if call == Call::Monotone => (0, 0, 0),
         Reply::Accepted(_) if call == Call::Find => (picks, 0, 0),
         Reply::Accepted(_) if reads_picks => (picks, state, 0),
         Reply::Accepted(count) if builds => (0, state, count as usize),
         Reply::Accepted(_) => (0, state, 0),
-        Reply::Refused(_) if call == Call::Action => (0, 0, 0),
+        Reply::Refused(_) if call == Call::Action || translates(call) => (0, 0, 0),
         Reply::Refused(refusal) if (13..=15).contains(&refusal.number) => (0, state, 0),
         Reply::Refused(_) => (0, 0, 0),
     };
@@ -95,6 +108,40 @@ fn kept(sample: &Sample, outcome: &Outcome, call: Call, needs: Option<Rooms>) ->
         && outcome.steps[steps..].iter().all(|&step| step == FILL as u32)
 }
 
+/// Whether a layered plan took no more of its buffers than it says.
+fn layers_kept(outcome: &Outcome, words: usize) -> bool {
+    let (state, steps, ends) = match outcome.reply {
+        Reply::Accepted(layers) => {
+            let layers = layers as usize;
+            (words, outcome.ends[layers - 1] as usize, layers)
+        }
+        Reply::Refused(_) => (0, 0, 0),
+    };
+    untouched(&outcome.state[state..])
+        && outcome.steps[steps..].iter().all(|&step| step == FILL as u32)
+        && outcome.ends[ends..].iter().all(|&end| end == 7)
+}
+
+/// Whether layers that were built are taken by the checker, and laid flat by the plain one.
+fn layers_hold(sample: &Sample, outcome: &Outcome) -> bool {
+    let Reply::Accepted(layers) = outcome.reply else { return true };
+    let case = [&sample.question[..], &sample.site[..]];
+    let (ends, mut state) = (&outcome.ends[..layers as usize], outcome.state.clone());
+    let steps = &outcome.steps[..ends.last().map_or(0, |&end| end as usize)];
+    let taken = Other.check_layers(case, steps, ends, &mut state) == outcome.reply;
+    let flat = Other.check(case, steps, &mut state) == Reply::Accepted(steps.len() as u64);
+    taken && flat && state == outcome.state
+}
+
+/// Whether a plan that was written is read back.
+fn read_back(sample: &Sample, outcome: &Outcome, call: Call) -> bool {
+    let (Call::PddlPlan, Reply::Accepted(length)) = (call, outcome.reply) else { return true };
+    let case = [&sample.question[..], &sample.site[..]];
+    let mut steps = vec![0; sample.lent_steps.len()];
+    let reply = Other.pddl_read(case, &outcome.page[..length as usize], &mut steps);
+    reply == Reply::Accepted(steps.len() as u64) && steps == sample.lent_steps
+}
+
 /// Whether a refusal is one that the call can give.
 fn known(outcome: &Outcome, call: Call) -> bool {
     let Reply::Refused(refusal) = outcome.reply else { return true };
@@ -103,6 +150,16 @@ fn known(outcome: &Outcome, call: Call) -> bool {
         Call::Action => matches!(refusal.number, 1..=11 | 13 | 18..=19 | 23),
         Call::Find => matches!(refusal.number, 1..=12 | 18..=21 | 23),
         Call::Monotone => matches!(refusal.number, 1..=11 | 18..=19 | 21 | 23 | 24),
+        Call::Window => matches!(refusal.number, 1..=11 | 18..=19 | 23),
+        Call::BuildLayersText | Call::BuildLayers => {
+            matches!(refusal.number, 1..=12 | 16..=19 | 23)
+        }
+        Call::PddlDomain | Call::PddlInstance | Call::PddlRead => {
+            matches!(refusal.number, 1..=12 | 18..=19 | 22..=23)
+        }
+        Call::PddlPlanText | Call::PddlPlan => {
+            matches!(refusal.number, 1..=13 | 18..=19 | 22..=23)
+        }
         Call::Tries | Call::Allowances => matches!(refusal.number, 1..=12 | 18..=19 | 23),
         Call::BuildText | Call::Build => matches!(refusal.number, 1..=12 | 16..=19 | 23),
         Call::JudgeText | Call::Judge => matches!(refusal.number, 1..=12 | 16..=19 | 23),
@@ -148,6 +205,8 @@ fn sane(sample: &Sample, call: Call, rooms: Rooms, outcome: &Outcome) -> bool {
     let whole = match call {
         Call::Build => round_trip(sample, outcome, needs),
         Call::Find => judged(sample, outcome, needs),
+        Call::BuildLayersText | Call::BuildLayers => layers_hold(sample, outcome),
+        Call::PddlPlan => read_back(sample, outcome, call),
         _ => !judges(call) || as_built(sample, call, rooms, outcome),
     };
     let printed = !pages(call) || page_kept(outcome);

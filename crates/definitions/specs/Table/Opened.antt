@@ -17,6 +17,7 @@ use Rattle.definitions.specs.Reply.Outcome
 use Rattle.definitions.specs.Reply.Demand
 use Rattle.definitions.specs.Reply.Desk
 use Rattle.definitions.specs.Reply.Rewritten
+use Rattle.definitions.specs.Reply.Layers
 use Rattle.definitions.specs.Reply.Tries
 use Rattle.definitions.specs.Reply.Tally
 use Rattle.definitions.specs.Reply.Finding
@@ -61,6 +62,10 @@ unfolding Lists.all Lists.any Lists.filter Lists.flatMap Lists.mapFrom Lists.opt
     Desk.sheets Desk.printLine Desk.sizesLine Desk.countLine Desk.said Desk.pickLine Desk.stepLine Desk.report Desk.printed Desk.checkedPlan
     Desk.startsWithStep Desk.answerOf Desk.answer Desk.desk
     Rewritten.fieldInNumbers Rewritten.fieldsInNumbers Rewritten.lineInNumbers Rewritten.inNumbers
+    Layers.most Layers.fewest Layers.wider Layers.window Layers.caseWindow Layers.disturbs Layers.areApart Layers.mayTakeAll Layers.afterAll
+    Layers.actionsAt Layers.runLayersFrom Layers.runLayers Layers.join Layers.joinEach Layers.builtLayers Layers.flat Layers.endsFrom
+    Layers.layersFrom Layers.endsTest Layers.takeLayers Layers.windowOf Layers.layersCheckedFrom Layers.checkLayers Layers.layeredPlan
+    Layers.layersBuiltFrom Layers.buildLayers
     Tries.tryList Tries.tried Tries.readyToTry Tries.triedFrom Tries.tryLists
     Tally.noWalk Tally.thenWalk Tally.visit Tally.walk Tally.walked Tally.tallyOf Tally.tally
     Finding.cellsOf Finding.cells Finding.numbered Finding.meets Finding.leastNumber Finding.leastPicks Finding.foundWords Finding.foundFrom Finding.find

@@ -22,8 +22,8 @@ use Rattle.definitions.specs.Reply.Outcome.{buildSteps}
 use Rattle.definitions.specs.Reply.Allowance.{allowance, allowancesOf, allowedFrom, allowances}
 use Rattle.definitions.specs.Reply.Demand.{areSamePicks}
 use Rattle.laws.specs.Results.{accepted-eq}
+use Rattle.laws.specs.Asked
 use Rattle.demands.specs.OnePick
-use Rattle.demands.specs.Every
 use Rattle.demands.specs.Demands
 
 -- For every limits of at most 64 elements, with no more atoms and no larger a bound than steps may be handed over, and every question and site
@@ -66,12 +66,12 @@ module _ (L : CaseLimits) (few : L .elements ≤ 64) (lendable : L .atoms ≤ st
   unfolding allowances allowedFrom allowancesOf asked nothing roomFor refuseIf _>>=_
   allowances-are plain old h =
       let e : ltb (length old) (length (chosenNumbers p)) ≡ false = le-ltb (length old) (length (chosenNumbers p)) h in
-      rw (is-filed, Demands.grounds L few lendable handed question site c labels p is-filed is-problem, Every.untested c plain, e) refl
+      rw (is-filed, Demands.grounds L few lendable handed question site c labels p is-filed is-problem, Asked.every-passes c plain, e) refl
 
   -- With an `every` line it is 23, and the buffer stays as it was.
   pub allowances-every : (k : Relation) → c .question .every ≡ some k → (old : List ℕ) → allowances L question site old ≡ record { answer = refused 23 0; allowances = old }
   unfolding allowances allowedFrom asked nothing _>>=_
-  allowances-every k e old = rw (is-filed, Demands.grounds L few lendable handed question site c labels p is-filed is-problem, Every.tested c k e) refl
+  allowances-every k e old = rw (is-filed, Demands.grounds L few lendable handed question site c labels p is-filed is-problem, Asked.every-fails c k e) refl
 
 -- Whatever is handed over:
 module _ (L : CaseLimits) (question site : List ℕ) where

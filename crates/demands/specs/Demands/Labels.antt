@@ -11,6 +11,7 @@ use Rattle.definitions.specs.Lists.{option}
 use Rattle.definitions.specs.Sheet.Text.{bytes, decimal, isRelationName}
 use Rattle.definitions.specs.Reply.Rewritten.{inNumbers}
 use Rattle.definitions.specs.Reply.Desk.{printLine, said, pickLine}
+use Rattle.definitions.specs.Reply.Layers.{windowOf, checkLayers, buildLayers}
 use Rattle.definitions.specs.Reply.Tally.{tally}
 use Rattle.definitions.specs.Refusal.{accepted}
 use Rattle.definitions.specs.Sheet.Relations.{Tuple}
@@ -96,6 +97,12 @@ module _ (L : CaseLimits) (few : L .elements ≤ 64) (question site : List ℕ) 
     pub rewritten-allowances : (old : List ℕ) → allowances L question (inNumbers labels site) old ≡ allowances L question site old
     rewritten-allowances = SameReplies.same-allowances L question site (inNumbers labels site) (record { case = c; labels = labels }) [] is-filed rewritten-case
 
+    pub rewritten-window : windowOf L question (inNumbers labels site) ≡ windowOf L question site
+    rewritten-window = SameReplies.same-window L question site (inNumbers labels site) (record { case = c; labels = labels }) [] is-filed rewritten-case
+
+    pub rewritten-check-layers : (steps ends state : List ℕ) → checkLayers L question (inNumbers labels site) steps ends state ≡ checkLayers L question site steps ends state
+    rewritten-check-layers = SameReplies.same-check-layers L question site (inNumbers labels site) (record { case = c; labels = labels }) [] is-filed rewritten-case
+
     pub rewritten-found : (old : List ℕ) → find L question (inNumbers labels site) old ≡ find L question site old
     rewritten-found = SameReplies.same-found L question site (inNumbers labels site) (record { case = c; labels = labels }) [] is-filed rewritten-case
 
@@ -106,6 +113,9 @@ module _ (L : CaseLimits) (few : L .elements ≤ 64) (question site : List ℕ) 
     pub rewritten-build : (words state steps : List ℕ) → buildSteps L question (inNumbers labels site) (asNumbers words) state steps ≡ buildSteps L question site (asNumbers words) state steps
     rewritten-build = SameReplies.same-build-words L question site (inNumbers labels site) (record { case = c; labels = labels }) [] is-filed rewritten-case
 
+    pub rewritten-build-layers : (words state steps ends : List ℕ) → buildLayers L question (inNumbers labels site) (asNumbers words) state steps ends ≡ buildLayers L question site (asNumbers words) state steps ends
+    rewritten-build-layers = SameReplies.same-layers-words L question site (inNumbers labels site) (record { case = c; labels = labels }) [] is-filed rewritten-case
+
     pub rewritten-judgement : (words : List ℕ) → judge L question (inNumbers labels site) (asNumbers words) ≡ judge L question site (asNumbers words)
     rewritten-judgement = SameReplies.same-judge-words L question site (inNumbers labels site) (record { case = c; labels = labels }) [] is-filed rewritten-case
 
@@ -114,6 +124,10 @@ module _ (L : CaseLimits) (few : L .elements ≤ 64) (question site : List ℕ) 
       pub rewritten-build-text : (state steps : List ℕ) → buildSteps L question (inNumbers labels site) (asText (inNumbers labels text)) state steps ≡ buildSteps L question site (asText text) state steps
       unfolding textPicks
       rewritten-build-text = SameReplies.same-build-text L question site (inNumbers labels site) (record { case = c; labels = labels }) [] is-filed rewritten-case text (inNumbers labels text) picks is-read (rewritten-picks text picks is-read short)
+
+      pub rewritten-layers-text : (state steps ends : List ℕ) → buildLayers L question (inNumbers labels site) (asText (inNumbers labels text)) state steps ends ≡ buildLayers L question site (asText text) state steps ends
+      unfolding textPicks
+      rewritten-layers-text = SameReplies.same-layers-text L question site (inNumbers labels site) (record { case = c; labels = labels }) [] is-filed rewritten-case text (inNumbers labels text) picks is-read (rewritten-picks text picks is-read short)
 
       pub rewritten-judgement-text : judge L question (inNumbers labels site) (asText (inNumbers labels text)) ≡ judge L question site (asText text)
       unfolding textPicks

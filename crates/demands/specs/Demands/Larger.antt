@@ -2,7 +2,7 @@
 use Prim.Native.Nat.{ℕ, zero, _<_, _≤_}
 use mathlib.Core.Path.{_≡_, refl, sym, ap, _∙_}
 use mathlib.Core.Bool.{not}
-use mathlib.Core.List.{List}
+use mathlib.Core.List.{List, map}
 use native.Mathlib.Omega.{arith}
 use lib.Dec.{ltb}
 use lib.ListN.{length}
@@ -14,13 +14,14 @@ use Rattle.definitions.specs.Sheet.Relations.{Tuple}
 use Rattle.definitions.specs.Sheet.Sheets.{readSteps}
 use Rattle.definitions.specs.Problem.Truth.{Case, ruleIsTrue}
 use Rattle.definitions.specs.Problem.Atoms.{Problem, problemOf, atoms}
-use Rattle.definitions.specs.Problem.Actions.{actionAt, actions}
+use Rattle.definitions.specs.Problem.Actions.{actionAt, actions, actionNumber}
 use Rattle.definitions.specs.Problem.Built.{builtSteps}
 use Rattle.definitions.specs.Reply.Outcome.{sizes, action, readCase, readProblem, nothing}
 use Rattle.definitions.specs.Reply.Outcome.{pickWords, ThirdInput, asNumbers}
 use Rattle.definitions.specs.Reply.Outcome.{takeSteps, textPicks, readyToRun, checkedFrom, checkSteps}
 use Rattle.definitions.specs.Reply.Outcome.{picksReadFrom, picksFromSteps, plan, builtFrom, buildSteps, Ready, sizesOf}
 use Rattle.definitions.specs.Reply.Outcome.{satisfying, withoutEvery}
+use Rattle.definitions.specs.Reply.Layers.{caseWindow, builtLayers, takeLayers, windowOf, layersCheckedFrom, checkLayers, layeredPlan, layersBuiltFrom, buildLayers}
 use Rattle.definitions.specs.Reply.Tally.{tallyOf, tally}
 use Rattle.definitions.specs.Reply.Page.{pagedFrom, layPage}
 use Rattle.definitions.specs.Reply.Allowance.{allowedFrom, allowances}
@@ -69,6 +70,20 @@ module _ (L M : CaseLimits) (larger : Wider.Wider L M) (question site : List ℕ
   pub kept-allowances : (old : List ℕ) → allowances L question site old ≡ allowances M question site old
   unfolding allowances
   kept-allowances old = ap (λ (r : Result (Ready (Unit {0}))). allowedFrom r old) (Wider.asked-wider L M larger question site p is-problem nothing nothing withoutEvery _)
+
+  pub kept-window : windowOf L question site ≡ windowOf M question site
+  unfolding windowOf
+  kept-window = ap (λ (r : Result (Ready (Unit {0}))). r >>= λ x. accepted (caseWindow (x .problem))) (Wider.asked-wider L M larger question site p is-problem nothing nothing withoutEvery nothing)
+
+  pub kept-check-layers : (steps ends state : List ℕ) → checkLayers L question site steps ends state ≡ checkLayers M question site steps ends state
+  unfolding checkLayers
+  kept-check-layers steps ends state = ap (λ (r : Result (Ready (List (List ℕ)))). layersCheckedFrom r state) (Wider.asked-wider L M larger question site p is-problem (λ _. takeLayers steps ends) nothing withoutEvery _)
+
+  pub kept-build-layers : (picks : ThirdInput) (state steps ends : List ℕ) → buildLayers L question site picks state steps ends ≡ buildLayers M question site picks state steps ends
+  unfolding buildLayers layeredPlan
+  kept-build-layers picks state steps ends = ap
+      (λ (r : Result (Ready (List Tuple))). layersBuiltFrom (r >>= λ x. satisfying (x .case) (x .problem) picks (x .third) >>= λ F. accepted (record { problem = x .problem; picks = F; layers = map (map (actionNumber (x .problem))) (builtLayers (x .problem) F) })) state steps ends)
+      (Wider.asked-wider L M larger question site p is-problem (λ c. textPicks (c .case) (c .labels) picks) nothing withoutEvery _)
 
   pub kept-page : (steps : ThirdInput) (m : ℕ) (state page : List ℕ) → layPage L question site steps m state page ≡ layPage M question site steps m state page
   unfolding layPage readyToRun

@@ -8,7 +8,8 @@ use Rattle.rule_nodes.specs.Tables.{noNode}
 use Rattle.problem_layout.specs.Laid.{nodeWidth}
 use Rattle.problem_layout.specs.LaidLaws.{node-width-le, pow-fits, size-most}
 use Rattle.problem_mentions.specs.Marks.{hits, marksAfter, atomsAfter, rowWidth}
-use Rattle.problem_mentions.specs.MarkLaws.{which-small, hits-none, hits-next, marks-first, marks-next, atoms-first, atoms-next, atoms-bound, counted-le, allowed}
+use Rattle.rule_nodes.specs.Bounds.{which-small}
+use Rattle.problem_mentions.specs.MarkLaws.{hits-none, hits-next, marks-first, marks-next, atoms-first, atoms-next, atoms-bound, counted-le, allowed}
 use Rattle.problem_mentions.proofs.allowance.Tie as tie
 
 abbrev Inv-parts : tie.InvT-parts

@@ -11,8 +11,8 @@ use Rattle.problem_table.specs.Lines.{nodeLine}
 use Rattle.problem_table.specs.declared.NodeLine.{NodeLine}
 use Rattle.step_truth.specs.TurnLaws.{atoms-few}
 use Rattle.step_write.specs.Steps.{Readable, PartWrote}
-use Rattle.step_write.specs.StepLaws.{part-none, part-more, part-all}
-use Rattle.step_write.specs.RowLaws.{read-before}
+use Rattle.step_write.specs.StepLaws.{rows-whole, part-none, part-more, part-all}
+use Rattle.step_write.specs.RowLaws.{chain-whole, read-before}
 use borrow.Author.Needs.{needs}
 use Rattle.step_write.proofs.write_nodes.Statement.{statement}
 use Rattle.step_write.proofs.write_nodes.Tie as tie
@@ -28,7 +28,7 @@ loop-holds : tie.Need-loop-holds Inv-loop μ-loop
 loop-holds c = (omega arith, atoms-few _ _ _ (c .before .before .before .before .pre .0) (c .node-line .ensures), omega arith, refl, λ p G F R h e. (ap (λ (x : NodeLine). x .atoms) (c .node-line .ensures) ∙ e, part-none p G F _ _ _))
 
 write-node-requires : tie.Need-write-node-requires Inv-loop μ-loop
-write-node-requires c κs = let q = c .before .before .before .before .before .before .before .before .before .pre in (q .0, omega (arith, q .1), omega (arith, c .before .gap .ensures), omega (arith, q .1, q .2))
+write-node-requires c κs = let q = c .before .before .before .before .before .before .before .before .before .pre in (q .0, omega (arith, q .1), omega arith, omega (arith, c .before .gap .ensures), omega (arith, q .1, q .2))
 
 loop-again : tie.Need-loop-again Inv-loop μ-loop
 loop-again c =
@@ -42,7 +42,7 @@ loop-again c =
       λ p G F R h e.
           let I = l .inv .4 p G F R h e in
           let B = read-before p G F _ (l .v) _ _ _ _ R (c .before .before .before .before .before .node-line2 .ensures) (omega arith) (omega arith) (I .0) (c .before .before .before .before .gap .ensures) in
-          (B .0, part-more p G F _ (l .v) (omega arith) (omega arith) _ (B .1 .wide) _ _ _ _ _ _ (I .1) (w .ensures .1 p G F (B .1))),
+          (B .0, part-more p G F _ (l .v) (omega arith) (omega arith) _ (B .1 .wide) _ _ _ _ _ _ (I .1) (rows-whole p F _ _ _ _ _ _ (w .ensures .1 p G F _ (B .1) (omega arith) (chain-whole p G F _ _ _ _ _ (B .1))))),
     )
 
 same-length : tie.Need-same-length Inv-loop μ-loop

@@ -1,6 +1,5 @@
 -- `test_calls::show_words` runs safely.
-use Prim.Native.Nat.{_-_, _/_, _≤_}
-use native.Mathlib.Omega.{arith}
+use Prim.Native.Nat.{_-_, _≤_}
 use lib.ListN.{length}
 use borrow.Author.Needs.{needs}
 use Rattle.test_calls.proofs.show_words.Tie as tie
@@ -12,4 +11,4 @@ abbrev μ-loop : tie.MeasureT-loop
 μ-loop what w i₀ i = length w - i
 
 pub show-words-spec : {M : Type 1} → Rattle.test_calls.proofs.show_words.Statement.statement M
-show-words-spec = tie.close (tie.spec Inv-loop μ-loop (λ c κs. search needs) (λ c. omega arith) (λ c. search needs) (λ c. search needs) (λ c κs. search needs) (λ c. search needs) (λ c. search needs) (λ c. search needs) (λ c. search needs))
+show-words-spec = tie.close (tie.spec Inv-loop μ-loop (λ c κs. search needs) (λ c κs. search needs) (λ c. search needs) (λ c. search needs) (λ c. search needs) (λ c. search needs) (λ c κs. search needs) (λ c. search needs) (λ c. search needs) (λ c. search needs) (λ c. search needs))

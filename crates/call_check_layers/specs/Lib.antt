@@ -1,0 +1,3 @@
+-- What the public call answers, in the words of the definitions.
+--   Replies    layered plans that are checked
+pub mod Replies

@@ -1,0 +1,2 @@
+-- Words of this crate's contracts, and their laws.
+pub mod Windows
