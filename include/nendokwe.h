@@ -138,6 +138,26 @@ void nendokwe_build_layers(const uint8_t *question, size_t question_length, cons
                            uint32_t *steps, size_t steps_length, uint32_t *ends, size_t ends_length,
                            uint32_t *number, size_t *place);
 
+/* A case as PDDL (docs/PDDL.md has the layout to the byte): its domain, its instance, and plans. A text needs exactly as many bytes as it has
+ * (12 tells how many), and success is 0 and that number; the bytes are not ended by a 0. A case with a `type` line is 22, one with an `every`
+ * line 23. Steps are written whether they lead anywhere or not; 13 and the step's index comes before 12. */
+void nendokwe_pddl_domain(const uint8_t *question, size_t question_length, const uint8_t *site, size_t site_length,
+                          uint8_t *out, size_t out_length, uint32_t *number, size_t *place);
+void nendokwe_pddl_instance(const uint8_t *question, size_t question_length, const uint8_t *site, size_t site_length,
+                            uint8_t *out, size_t out_length, uint32_t *number, size_t *place);
+void nendokwe_pddl_plan_text(const uint8_t *question, size_t question_length, const uint8_t *site, size_t site_length,
+                             const uint8_t *steps, size_t steps_length, uint8_t *out, size_t out_length,
+                             uint32_t *number, size_t *place);
+void nendokwe_pddl_plan(const uint8_t *question, size_t question_length, const uint8_t *site, size_t site_length,
+                        const uint32_t *steps, size_t steps_length, uint8_t *out, size_t out_length,
+                        uint32_t *number, size_t *place);
+
+/* The step numbers of a plan, a line each such as "(prove_or_2_0 o0 o1)", in capitals or small letters; the steps are neither run nor judged.
+ * They need as many entries as the plan has lines; success is 0 and how many they are. 22 and the line's place where a line is no step. */
+void nendokwe_pddl_read(const uint8_t *question, size_t question_length, const uint8_t *site, size_t site_length,
+                        const uint8_t *plan, size_t plan_length, uint32_t *steps, size_t steps_length,
+                        uint32_t *number, size_t *place);
+
 /* The desk program's reply to an input, to a buffer of exactly NENDOKWE_REPLY bytes; returns how many bytes it has. */
 #define NENDOKWE_REPLY 573952
 size_t nendokwe_desk(const uint8_t *input, size_t input_length, uint8_t *out);

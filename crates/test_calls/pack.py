@@ -14,13 +14,15 @@ LANDED = {"-", "big", "labels", "types", "kinds", "every"}  # what an answer may
 SHEETS = ("question", "site", "text")
 NUMBERS = ("lent", "ends", "lists")
 CALLS = {"sizes", "tally", "action", "allowances", "find", "monotone", "check_text", "picks_text", "build_text", "judge_text", "page_text",
-         "check", "picks", "build", "judge", "page", "tries", "window", "check_layers", "build_layers_text", "build_layers"}
-STEPS = {"check", "picks", "page", "tries", "check_layers"}  # the calls on lent steps
+         "check", "picks", "build", "judge", "page", "tries", "window", "check_layers", "build_layers_text", "build_layers",
+         "pddl_domain", "pddl_instance", "pddl_plan_text", "pddl_plan", "pddl_read"}
+STEPS = {"check", "picks", "page", "tries", "check_layers", "pddl_plan"}  # the calls on lent steps
 ROOMS = {"state": 1024, "picks": 64, "steps": 8192, "ends": 512, "out": 16384, "-": 1 << 64}  # as many words, steps and bytes the program has
 LENT = 512  # as many numbers that are lent
 BUFFERS = {"check_text": "state", "picks_text": "picks state", "build_text": "state steps", "page_text": "- state out", "allowances": "picks",
-           "find": "picks", "tries": "state", "action": "-", "check_layers": "state", "build_layers_text": "state steps ends"}  # what the numbers behind a call are the lengths of
-JOBS = ("01", "02", "03", "04", "05", "06", "07", "08", "09", "10", "12", "13", "14")  # whose scripts and desk inputs are taken
+           "find": "picks", "tries": "state", "action": "-", "check_layers": "state", "build_layers_text": "state steps ends",
+           "pddl_domain": "out", "pddl_instance": "out", "pddl_plan_text": "out", "pddl_read": "steps"}  # what the numbers behind a call are the lengths of
+JOBS = ("01", "02", "03", "04", "05", "06", "07", "08", "09", "10", "11", "12", "13", "14")  # whose scripts and desk inputs are taken
 LATER = {"0342"}  # of the first desk folder: its `type` line was no record then, and stands in the wrong place now
 
 

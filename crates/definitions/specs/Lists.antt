@@ -65,6 +65,11 @@ unfoldable pub position : {A : Type 0} → (A → Bool) → List A → Option �
 position p [] = none
 position p (x ∷ xs) = if p x then some zero else option (position p xs) none (λ i. some (suc i))
 
+-- the first element that passes the test
+unfoldable pub find : {A : Type 0} → (A → Bool) → List A → Option A
+find p [] = none
+find p (x ∷ xs) = if p x then some x else find p xs
+
 -- the n numbers from a on; the numbers below n
 unfoldable pub from : ℕ → ℕ → List ℕ
 from a zero = []

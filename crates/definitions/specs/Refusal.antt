@@ -21,6 +21,8 @@
 --       at the end of the site: Sheets.readSite
 --   20  Finding.leastPicks
 --   21  Finding.leastPicks, Monotone.monotone
+--   22  a case with types, before 11: Pddl.noTypes; a line of a plan that is no step, after 12: Pddl.stepsFrom. (A line that is none is 2:
+--       Pddl.addPlanLine; a step to be written that is no action's number 13: Pddl.planFrom)
 --   23  an `every` line, just after 11: Outcome.ground; where no such case is taken: Outcome.withoutEvery
 --   24  Monotone.monotone
 use Prim.Native.Nat.{ℕ, zero}
@@ -63,7 +65,7 @@ unfoldable pub readText : {S : Type 0} → (S → Line → Result S) → S → T
 readText line s text = refuseIf (ltb textLimit (length text)) 1 zero >>= λ _. readLines line s (lines text)
 
 -- ---- the numbers that a call may refuse with: where no problem is made of the texts; or a lent buffer is too short; steps that are
--- taken one by one; picks that are handed over; picks that are looked for; rules that only want more
+-- taken one by one; picks that are handed over; picks that are looked for; rules that only want more; where PDDL is written or read
 abbrev pub caseNumbers : List ℕ
 caseNumbers = 1 ∷ 2 ∷ 3 ∷ 4 ∷ 5 ∷ 6 ∷ 7 ∷ 8 ∷ 9 ∷ 10 ∷ 11 ∷ 18 ∷ 19 ∷ 23 ∷ []
 
@@ -81,3 +83,6 @@ findNumbers = 20 ∷ 21 ∷ []
 
 abbrev pub monotoneNumbers : List ℕ
 monotoneNumbers = 24 ∷ 21 ∷ []
+
+abbrev pub pddlNumbers : List ℕ
+pddlNumbers = 22 ∷ readyNumbers

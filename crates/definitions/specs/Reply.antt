@@ -12,3 +12,6 @@ pub mod Finding
 pub mod Monotone
 pub mod Allowance
 pub mod Page
+pub mod Lifted
+pub mod Pddl
+pub mod PddlMeaning

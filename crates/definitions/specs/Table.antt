@@ -15,3 +15,4 @@ pub mod FindingCases
 pub mod MonotoneCases
 pub mod AllowanceCases
 pub mod PageCases
+pub mod PddlCases

@@ -49,6 +49,11 @@
 --   15  kept-problem, kept-sizes, kept-action, kept-check, kept-read, kept-build, kept-judgement, kept-tries, kept-allowances,
 --       kept-window, kept-check-layers, kept-build-layers, kept-page, kept-found, kept-monotone, kept-tally, kept-text, kept-steps; grown,
 --       limits-are, long-text, many-steps, desk-limits, desk-steps
+--   Pddl, job 11
+--   24  plan-exists, unground, plan-accepted, texts-mean; domain-written, instance-written, plan-written, plan-back, no-plan, plan-told,
+--       plan-none, plan-letters; actions-apart, predicates-apart, objects-apart, patterns-formed, facts-formed, objects-once; typed-refused,
+--       typed-plan, typed-read; every-refused, every-plan, every-read; domain-taken, instance-taken, plan-taken, read-taken; domain-refuse,
+--       instance-refuse, plan-refuse, plan-read-refuse, pddl-length
 --   Every, job 12
 --   22  every-sets, value-is, rounds, few-values; no-every-relations, no-every-tuple, no-every-not, no-every-atoms, no-every-actions,
 --       no-every-action, no-every-rule, no-every-built, no-every-ground
@@ -66,6 +71,7 @@ pub mod Finding
 pub mod Tries
 pub mod Page
 pub mod Larger
+pub mod Pddl
 pub mod Every
 pub mod Monotone
 pub mod Allowance

@@ -16,7 +16,7 @@ use Rattle.definitions.specs.Refusal.{accepted, _>>=_, refuseIf}
 use Rattle.definitions.specs.Sheet.Relations.{Relation, Tuple, sameTuple, isAmong, isUniversal, builtIn}
 use Rattle.definitions.specs.Sheet.Sheets.{relations, relationsOf, everyNumber}
 use Rattle.definitions.specs.Problem.Truth.{Case, everyTuples, values, digit, everyValue, ruleHolds, ruleIsTrue}
-use Rattle.definitions.specs.Problem.Atoms.{Problem, problemOf, problemWith, relationAt, placesOf, rowOf, tuplesOf, tuple, notTuple, atomNumber, relationStart, nodeStart, lastStart, lastTuples, atoms}
+use Rattle.definitions.specs.Problem.Atoms.{Problem, problemOf, problemWith, relationAt, placesOf, rowOf, tuplesOf, tuple, notTuple, marked, atomNumber, relationStart, nodeStart, lastStart, lastTuples, atoms}
 use Rattle.definitions.specs.Problem.Actions.{Action, beginProof, proveGoal, roundEnd, markIn, markOut, actionAt, actions, proofStart, marksBefore, rootAtom}
 use Rattle.definitions.specs.Problem.Strips.{reachesGoal, run}
 use Rattle.definitions.specs.Problem.Built.{setSteps, nodeSteps, builtActions, bound}
@@ -26,7 +26,7 @@ use Rattle.laws.specs.Results.{accepted-eq, bind-parts, not-refused}
 use Rattle.laws.specs.Lists.{all-at, all-of, mem-below}
 use Rattle.laws.specs.Tuples.{among-mem, mem-among}
 use Rattle.laws.specs.Rows.{length-places, places-below, places-row, row-lt}
-use Rattle.laws.specs.Numbers.{IsAction, lastWidth, action-is, early-start, last-first, last-next, atoms-end, mark-first, mark-next, actions-end}
+use Rattle.laws.specs.Numbers.{IsAtom, IsAction, lastWidth, action-is, early-start, last-first, last-next, atoms-end, mark-first, mark-next, actions-end, finish-goal}
 use Rattle.laws.specs.Digits.{digit-first, digit-next, is-odd, is-even}
 use Rattle.meaning.specs.Values.{one-value, value-mem, mem-value, with-zero}
 use Rattle.laws.specs.Reader.{Accepted, relations-none}
@@ -170,16 +170,32 @@ module _ (c : Case) (A : Accepted c) where
     pub plain-actions : actions (problemOf c) ≡ proofStart (problemOf c) (length (problemOf c .nodeList)) + 1
     plain-actions = let a = actions-end (problemOf c) in let b = none-last (length (problemOf c .relations)) (omega arith) .1 in omega arith
 
-    -- no action ends a round or marks a tuple
-    pub plain-action : (k : ℕ) (a : Action) → actionAt (problemOf c) k ≡ some a → (a ≡ roundEnd → ⊥) × ((r row : ℕ) → (a ≡ markIn r row → ⊥) × (a ≡ markOut r row → ⊥))
+    -- no action ends a round or marks a tuple, and no atom is a mark; the goal is proved by an action of its own
+    pub the-goal : IsAction (problemOf c) proveGoal
     unfolding IsAction
+    the-goal = alone
+
+    pub no-round : IsAction (problemOf c) roundEnd → ⊥
+    unfolding IsAction
+    no-round v = T-not (isSome (problemOf c .source .question .every)) alone v
+
+    pub no-mark-in : (r row : ℕ) → IsAction (problemOf c) (markIn r row) → ⊥
+    unfolding IsAction
+    no-mark-in r row v = subst T (early r (v .0)) (v .1)
+
+    pub no-mark-out : (r row : ℕ) → IsAction (problemOf c) (markOut r row) → ⊥
+    unfolding IsAction
+    no-mark-out r row v = subst T (early r (v .0)) (v .1)
+
+    pub no-marked : (r row : ℕ) → IsAtom (problemOf c) (marked r row) → ⊥
+    unfolding IsAtom
+    no-marked r row v = subst T (early r (v .0)) (v .1)
+
+    pub plain-action : (k : ℕ) (a : Action) → actionAt (problemOf c) k ≡ some a → (a ≡ roundEnd → ⊥) × ((r row : ℕ) → (a ≡ markIn r row → ⊥) × (a ≡ markOut r row → ⊥))
     plain-action k a e =
         let v = action-is (problemOf c) k a e in (
-          (λ i. T-not (isSome (problemOf c .source .question .every)) alone (subst (IsAction (problemOf c)) i v)),
-          (λ r row. (
-            (λ i. let w = subst (IsAction (problemOf c)) i v in subst T (early r (w .0)) (w .1)),
-            (λ i. let w = subst (IsAction (problemOf c)) i v in subst T (early r (w .0)) (w .1)),
-          )),
+          (λ i. no-round (subst (IsAction (problemOf c)) i v)),
+          (λ r row. ((λ i. no-mark-in r row (subst (IsAction (problemOf c)) i v)), (λ i. no-mark-out r row (subst (IsAction (problemOf c)) i v)))),
         )
 
     -- the rule is true as it is written, totality included; and there is one round, which ends by proving the goal

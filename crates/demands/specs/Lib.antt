@@ -37,6 +37,17 @@
 --   FullPage     a last page that is full
 --   Every        the values of an `every` relation in plain words, and what a case without one keeps
 --   Layering     layered plans: what a layer is, the fewest layers, lent ends, what the calls answer
+-- of PDDL (document 02, job 11), each on those before it:
+--   LiftedFacts  the fact of each atom; a part of a node, said with parameters and grounded
+--   Ungrounded   steps that reach the goal are the plans of the unground domain
+--   PlanLines    a plan's lines, written and read back, in whatever letters
+--   PddlCalls    what the four calls write, read, refuse and leave
+--   PddlReading  how PDDL reads words, brackets and lines
+--   PddlTasks    what PDDL makes of a written domain, instance and plan
+--   TextPlans    steps that reach the goal are those whose text is a plan of the two texts
+--   ReadPlans    a text that is read as steps is, but for letters, what is written for them
+--   NoPlans      a text with a line that is no step is no plan
+--   PddlForms    every predicate that is used is declared, every object once
 pub mod Demands
 pub mod BothSides
 pub mod Instance
@@ -73,3 +84,13 @@ pub mod Columns
 pub mod FullPage
 pub mod Every
 pub mod Layering
+pub mod LiftedFacts
+pub mod Ungrounded
+pub mod PlanLines
+pub mod PddlCalls
+pub mod PddlReading
+pub mod PddlTasks
+pub mod TextPlans
+pub mod ReadPlans
+pub mod NoPlans
+pub mod PddlForms

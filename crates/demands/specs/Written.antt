@@ -1,5 +1,5 @@
 -- Sheets of steps and of picks, written as the desk program prints them or in any way that spells them, are read back as they were.
-use Prim.Native.Nat.{ℕ, zero, suc, _+_, _-_, _^_, _≤_, _<_}
+use Prim.Native.Nat.{ℕ, zero, _+_, _-_, _^_, _≤_, _<_}
 use mathlib.Core.Path.{_≡_, refl, sym, ap, subst, _∙_, fun-ext}
 use mathlib.Core.Logic.{⊎-elim}
 use mathlib.Core.Bool.{Bool, true, false, _&&_}
@@ -20,12 +20,12 @@ use Rattle.definitions.specs.Problem.Atoms.{Problem, problemOf, relationAt, row
 use Rattle.definitions.specs.Problem.Built.{chosenNumbers, pickedRows}
 use Rattle.definitions.specs.Reply.Desk.{printLine, stepLine, said, pickLine}
 use Rattle.laws.specs.Booleans.{T-false, T-of, T-or, T-true, and-T, or-l, or-r}
-use Rattle.laws.specs.Lists.{any-of, flat-flat, flat-map, flat-same, getD-mem}
+use Rattle.laws.specs.Lists.{flat-flat, flat-map, flat-same, getD-mem}
 use Rattle.laws.specs.Positions.{position-at}
-use Rattle.laws.specs.Tuples.{among-mem, same-eq, same-refl}
+use Rattle.laws.specs.Tuples.{among-mem, same-refl}
 use Rattle.laws.specs.Repeats.{Once, distinct-once, once-middle}
 use Rattle.laws.specs.Numbers.{noRelation}
-use Rattle.laws.specs.Reader.{Accepted, Apart, TupleFits}
+use Rattle.laws.specs.Reader.{Accepted, Apart, apart-at, TupleFits}
 use Rattle.laws.specs.Labels.{LabelsFit}
 use Rattle.laws.specs.Spelling.{Spelled, said-spelled, spelled-plain, spelled-length, spelled-read, spelled-without}
 use Rattle.meaning.specs.Grounded.{good, chosen-at}
@@ -103,15 +103,6 @@ pub apart-right : (ks ls : List Relation) → Apart (ks ++ ls) → Apart ls
 unfolding Apart
 apart-right [] ls a = a
 apart-right (k ∷ ks) ls a = apart-right ks ls (a .1)
-
-apart-at : (ks : List Relation) (j i : ℕ) → Apart ks → j < i → i < length ks → same (getD ks j noRelation .name) (getD ks i noRelation .name) ≡ false
-unfolding Apart isDeclared
-apart-at [] j i a h l = absurd (omega arith)
-apart-at (k ∷ ks) j zero a h l = absurd (omega arith)
-apart-at (k ∷ ks) zero (suc i) a h l = T-false (same (k .name) (getD ks i noRelation .name)) (λ t.
-    T-not (any (λ (r : Relation). same (r .name) (k .name)) ks) (a .0) (any-of (λ (r : Relation). same (r .name) (k .name)) ks (getD ks i noRelation) (getD-mem ks i noRelation (omega arith))
-    (subst (λ (x : List ℕ). T (same x (k .name))) (same-eq (k .name) (getD ks i noRelation .name) t) (same-refl (k .name)))))
-apart-at (k ∷ ks) (suc j) (suc i) a h l = apart-at ks j i (a .1) (omega arith) (omega arith)
 
 pub used-at : (ks : List Relation) (first i : ℕ) → Apart ks → i < length ks → used ks first (getD ks i noRelation .name) (getD ks i noRelation .arity) ≡ some (first + i)
 unfolding used option

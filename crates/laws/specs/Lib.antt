@@ -6,6 +6,7 @@
 --   Repeats            lists without repeats
 --   Members            ranges: ascending lists of elements
 --   Rows               tuples and their rows, for any number of places
+--   TupleRows          all tuples in order are the places of all rows
 --   Blocks             runs of numbers, one after another
 --   SetRows            the rows that set actions set
 --   Numbers            the numbers of atoms and of actions
@@ -35,6 +36,7 @@ pub mod Tuples
 pub mod Repeats
 pub mod Members
 pub mod Rows
+pub mod TupleRows
 pub mod Blocks
 pub mod SetRows
 pub mod Numbers

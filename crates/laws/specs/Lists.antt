@@ -295,3 +295,22 @@ pub zeros-at : (k j : ℕ) → _≡_ {A = ℕ} (getD (replicate k 0) j 0) 0
 zeros-at zero j = refl
 zeros-at (suc k) zero = refl
 zeros-at (suc k) (suc j) = zeros-at k j
+
+pub map-same : {A B : Type 0} (f g : A → B) (l : List A) → ((x : A) → List·Memᴰ x l → f x ≡ g x) → map f l ≡ map g l
+map-same f g [] h = refl
+map-same f g (x ∷ l) h = ap₂ _∷_ (h x (List·Memᴰ·head refl)) (map-same f g l (λ y m. h y (List·Memᴰ·tail m)))
+
+pub mem-mapFrom : {A B : Type 0} (f : ℕ → A → B) (i j : ℕ) (l : List A) (d : A) → j < length l → List·Memᴰ (f (i + j) (getD l j d)) (mapFrom f i l)
+unfolding mapFrom
+mem-mapFrom f i j [] d h = absurd (omega arith)
+mem-mapFrom f i zero (x ∷ l) d h = let e : i + zero ≡ i = omega arith in List·Memᴰ·head (ap (λ (k : ℕ). f k x) e)
+mem-mapFrom f i (suc j) (x ∷ l) d h = let e : suc i + j ≡ i + suc j = omega arith in List·Memᴰ·tail (subst (λ (k : ℕ). List·Memᴰ (f k (getD l j d)) (mapFrom f (suc i) l)) e (mem-mapFrom f (suc i) j l d (omega arith)))
+
+pub mapFrom-mem : {A B : Type 0} (f : ℕ → A → B) (i : ℕ) (l : List A) (d : A) (y : B) → List·Memᴰ y (mapFrom f i l) → (j : ℕ) × (j < length l) × (y ≡ f (i + j) (getD l j d))
+unfolding mapFrom
+mapFrom-mem f i [] d y m = absurd (List·Memᴰ·not-nil m)
+mapFrom-mem f i (x ∷ l) d y m = from-this (mapFrom-mem f (suc i) l d y) (List·Memᴰ·cases-cons m)
+  where
+    from-this : (List·Memᴰ y (mapFrom f (suc i) l) → (j : ℕ) × (j < length l) × (y ≡ f (suc i + j) (getD l j d))) → (y ≡ f i x) ⊎ List·Memᴰ y (mapFrom f (suc i) l) → (j : ℕ) × (j < suc (length l)) × (y ≡ f (i + j) (getD (x ∷ l) j d))
+    from-this r (inl e) = let z : i + zero ≡ i = omega arith in (zero, omega arith, e ∙ ap (λ (k : ℕ). f k x) (sym z))
+    from-this r (inr q) = let (j, h, e) = r q in let z : suc i + j ≡ i + suc j = omega arith in (suc j, omega arith, e ∙ ap (λ (k : ℕ). f k (getD l j d)) z)

@@ -27,9 +27,9 @@ use Rattle.definitions.specs.Problem.Atoms.{Problem, problemOf, atoms}
 use Rattle.definitions.specs.Problem.Actions.{actions}
 use Rattle.definitions.specs.Problem.Built.{bound}
 use Rattle.definitions.specs.Reply.Outcome.{CaseRead, readFiled, readCase, tooManyValues, ground, readProblem}
-use Rattle.laws.specs.Booleans.{T-and-l, T-and-r, T-of, T-or, not-not-T, not-or-l, not-or-r, or-l, or-r}
+use Rattle.laws.specs.Booleans.{T-and-l, T-and-r, T-of, T-or, T-false, not-not-T, not-or-l, not-or-r, or-l, or-r}
 use Rattle.laws.specs.Tuples.{distinct-snoc, same-eq, same-refl}
-use Rattle.laws.specs.Lists.{all-at, any-of, mem-below, none-some}
+use Rattle.laws.specs.Lists.{all-at, any-of, mem-below, none-some, getD-mem}
 use Rattle.laws.specs.Repeats.{Once, once-append}
 use Rattle.laws.specs.Members.{IsRange, MembersFit, no-members, members-range}
 use Rattle.laws.specs.SetRows.{fun-chosen}
@@ -152,7 +152,7 @@ EntryFits (fact name xs) = Unit {0}
 EntryFits (pick name xs) = Unit {0}
 EntryFits (step k) = Unit {0}
 
-between : (a e b : ℕ) → T (isBetween a e b) → (a ≤ b) × (b ≤ e)
+pub between : (a e b : ℕ) → T (isBetween a e b) → (a ≤ b) × (b ≤ e)
 unfolding isBetween
 between a e b t = (leb→le a b (T-and-l (leb a b) _ t), leb→le b e (T-and-r (leb a b) _ t))
 
@@ -272,10 +272,20 @@ apart-snoc (k ∷ ks) x a h = (
   apart-snoc ks x (a .1) (not-T (isDeclared ks (x .name)) (λ t. T-not (same (k .name) (x .name) || isDeclared ks (x .name)) h (or-r (same (k .name) (x .name)) _ t))),
 )
 
+pub apart-at : (ks : List Relation) (j i : ℕ) → Apart ks → j < i → i < length ks → same (getD ks j noRelation .name) (getD ks i noRelation .name) ≡ false
+unfolding Apart isDeclared
+apart-at [] j i a h l = absurd (omega arith)
+apart-at (k ∷ ks) j zero a h l = absurd (omega arith)
+apart-at (k ∷ ks) zero (suc i) a h l = T-false (same (k .name) (getD ks i noRelation .name)) (λ t.
+    T-not (any (λ (r : Relation). same (r .name) (k .name)) ks) (a .0) (any-of (λ (r : Relation). same (r .name) (k .name)) ks (getD ks i noRelation) (getD-mem ks i noRelation (omega arith))
+    (subst (λ (x : List ℕ). T (same x (k .name))) (same-eq (k .name) (getD ks i noRelation .name) t) (same-refl (k .name)))))
+apart-at (k ∷ ks) (suc j) (suc i) a h l = apart-at ks j i (a .1) (omega arith) (omega arith)
+
 -- ---- the question's lines so far
 pub record RelFits (k : Relation) : Type 0 where
   pub few : Arity (k .arity)
   pub is-static : k .kind ≡ static
+  pub named : T (isRelationName (k .name))
   pub no-sorts : (k .firsts ≡ 0) × (k .seconds ≡ 0)
 
 -- the sorts of its places: of types that are declared, and of none unless it is of a function kind
@@ -416,7 +426,7 @@ rel-line d at name arity D h =
     (λ _ t. let z = not-or-r (not (isEmpty (d .types))) (not (isEmpty (d .chosen))) (not-or-l (not (isEmpty (d .types)) || not (isEmpty (d .chosen))) (leb 8 (length (d .rels))) t) in
     gives-bind (λ _. T (not (not (isNewName d name)))) DraftFits _ _ (gives-refuse (not (isNewName d name)) 4 at)
     (λ _ u. gives-accepted DraftFits _ (record {
-      rels-fit = mem-snoc RelFits (d .rels) (fixed name arity) (D .rels-fit) (record { few = h; is-static = refl; no-sorts = (refl, refl) });
+      rels-fit = mem-snoc RelFits (d .rels) (fixed name arity) (D .rels-fit) (record { few = h; is-static = refl; named = formed-name d name u; no-sorts = (refl, refl) });
       types-fit = D .types-fit;
       chosen-fit = D .chosen-fit;
       chosen-named = D .chosen-named;

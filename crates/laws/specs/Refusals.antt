@@ -40,22 +40,22 @@ Refuses P (refused k place) = P k
 Refuses P (accepted a) = Unit {0}
 
 module _ (P : ℕ → Type 0) where
-  bind-by : {A B : Type 0} (m : Result A) (f : A → Result B) → Refuses P m → ((a : A) → Refuses P (f a)) → Refuses P (m >>= f)
+  pub bind-by : {A B : Type 0} (m : Result A) (f : A → Result B) → Refuses P m → ((a : A) → Refuses P (f a)) → Refuses P (m >>= f)
   unfolding Refuses _>>=_
   bind-by (refused k place) f h g = h
   bind-by (accepted a) f h g = g a
 
-  if-by : (b : Bool) (k at : ℕ) → P k → Refuses P (refuseIf b k at)
+  pub if-by : (b : Bool) (k at : ℕ) → P k → Refuses P (refuseIf b k at)
   unfolding Refuses refuseIf
   if-by true k at h = h
   if-by false k at h = tt
 
-  given-by : {A : Type 0} (o : Option A) (k at : ℕ) → P k → Refuses P (given o k at)
+  pub given-by : {A : Type 0} (o : Option A) (k at : ℕ) → P k → Refuses P (given o k at)
   unfolding Refuses given
   given-by none k at h = h
   given-by (some a) k at h = tt
 
-  accepted-by : {A : Type 0} (a : A) → Refuses P (accepted a)
+  pub accepted-by : {A : Type 0} (a : A) → Refuses P (accepted a)
   unfolding Refuses
   accepted-by a = tt
 
@@ -68,11 +68,11 @@ module _ (P : ℕ → Type 0) where
   lines-by line h s [] = accepted-by s
   lines-by line h s (l ∷ ls) = bind-by (line s l) (λ s′. readLines line s′ ls) (h s l) (λ s′. lines-by line h s′ ls)
 
-  text-by : {S : Type 0} (line : S → Line → Result S) → P 1 → ((s : S) (l : Line) → Refuses P (line s l)) → (s : S) (text : List ℕ) → Refuses P (readText line s text)
+  pub text-by : {S : Type 0} (line : S → Line → Result S) → P 1 → ((s : S) (l : Line) → Refuses P (line s l)) → (s : S) (text : List ℕ) → Refuses P (readText line s text)
   unfolding readText
   text-by line p h s text = bind-by (refuseIf (ltb textLimit (length text)) 1 zero) _ (if-by (ltb textLimit (length text)) 1 zero p) (λ _. lines-by line h s (lines text))
 
-weaken : {A : Type 0} {P Q : ℕ → Type 0} → ((k : ℕ) → P k → Q k) → (r : Result A) → Refuses P r → Refuses Q r
+pub weaken : {A : Type 0} {P Q : ℕ → Type 0} → ((k : ℕ) → P k → Q k) → (r : Result A) → Refuses P r → Refuses Q r
 unfolding Refuses
 weaken f (refused k place) h = f k h
 weaken f (accepted a) h = tt
@@ -193,7 +193,7 @@ steps-add ks at (fact name xs) = other (List ℕ) at
 steps-add ks at (pick name xs) = other (List ℕ) at
 steps-add ks at (step k) = accepted-by Sheet _
 
-steps-by : (g : ThirdInput) → Refuses Sheet (takeSteps g)
+pub steps-by : (g : ThirdInput) → Refuses Sheet (takeSteps g)
 unfolding takeSteps readSteps stepsLine isIn any
 steps-by (asText text) = text-by Sheet stepsLine refl (λ ks l. bind-by Sheet (entryOf l) _ (entry-by l) (steps-add ks (l .at))) [] text
 steps-by (asNumbers ks) = bind-by Sheet _ _ (if-by Sheet _ 1 zero refl) (λ _. accepted-by Sheet _)
@@ -219,7 +219,7 @@ ground-by L c = bind-by Sheet _ _ (if-by Sheet _ 11 zero refl) (λ _. bind-by Sh
 abbrev pub Early : ℕ → Type 0
 Early = In readyNumbers
 
-sheet-early : (k : ℕ) → Sheet k → Early k
+pub sheet-early : (k : ℕ) → Sheet k → Early k
 unfolding isIn all any
 sheet-early = among caseNumbers readyNumbers refl
 
@@ -231,12 +231,17 @@ pub nothing-by : {A : Type 0} (a : A) → Refuses Sheet (nothing a)
 unfolding nothing
 nothing-by a = accepted-by Sheet tt
 
--- what every call begins with
+-- what every call begins with, whatever its own tests may refuse with
+pub gated-by : {A : Type 0} (P : ℕ → Type 0) → ((k : ℕ) → Sheet k → P k) → (L : CaseLimits) (question site : List ℕ) (third : CaseRead → Result A) (early late : Case → Result (Unit {0})) (rooms : Problem → Result (Unit {0}))
+    → ((c : CaseRead) → Refuses P (third c)) → ((c : Case) → Refuses P (early c)) → ((c : Case) → Refuses P (late c)) → ((p : Problem) → Refuses P (rooms p)) → Refuses P (asked L question site third early late rooms)
+unfolding asked
+gated-by P s L question site third early late rooms h e l g =
+    bind-by P _ _ (weaken s _ (filed-by L question site)) (λ c. bind-by P _ _ (h c) (λ t. bind-by P _ _ (e (c .case)) (λ _.
+    bind-by P _ _ (weaken s _ (ground-by L (c .case))) (λ p. bind-by P _ _ (l (c .case)) (λ _. bind-by P _ _ (g p) (λ _. accepted-by P _))))))
+
+-- where nothing is tested before 11
 pub tested-by : {A : Type 0} (L : CaseLimits) (question site : List ℕ) (third : CaseRead → Result A) (late : Case → Result (Unit {0})) (rooms : Problem → Result (Unit {0})) → ((c : CaseRead) → Refuses Sheet (third c)) → ((c : Case) → Refuses Sheet (late c)) → ((p : Problem) → Refuses Early (rooms p)) → Refuses Early (asked L question site third nothing late rooms)
-unfolding asked nothing
-tested-by L question site third late rooms h f g =
-    bind-by Early _ _ (weaken sheet-early _ (filed-by L question site)) (λ c. bind-by Early _ _ (weaken sheet-early _ (h c)) (λ t. bind-by Early _ _ (accepted-by Early tt) (λ _.
-    bind-by Early _ _ (weaken sheet-early _ (ground-by L (c .case))) (λ p. bind-by Early _ _ (weaken sheet-early _ (f (c .case))) (λ _. bind-by Early _ _ (g p) (λ _. accepted-by Early _))))))
+tested-by L question site third late rooms h f g = gated-by Early sheet-early L question site third nothing late rooms (λ c. weaken sheet-early _ (h c)) (λ c. weaken sheet-early _ (nothing-by c)) (λ c. weaken sheet-early _ (f c)) g
 
 pub asked-by : {A : Type 0} (L : CaseLimits) (question site : List ℕ) (third : CaseRead → Result A) (rooms : Problem → Result (Unit {0})) → ((c : CaseRead) → Refuses Sheet (third c)) → ((p : Problem) → Refuses Early (rooms p)) → Refuses Early (asked L question site third nothing nothing rooms)
 asked-by L question site third rooms h g = tested-by L question site third nothing rooms h nothing-by g
@@ -248,10 +253,7 @@ every-by c = if-by Sheet _ 23 zero refl
 
 -- of a case alone, where no buffer is lent
 alone-by : {A : Type 0} (L : CaseLimits) (question site : List ℕ) (third : CaseRead → Result A) (late : Case → Result (Unit {0})) → ((c : CaseRead) → Refuses Sheet (third c)) → ((c : Case) → Refuses Sheet (late c)) → Refuses Sheet (asked L question site third nothing late nothing)
-unfolding asked nothing
-alone-by L question site third late h f =
-    bind-by Sheet _ _ (filed-by L question site) (λ c. bind-by Sheet _ _ (h c) (λ t. bind-by Sheet _ _ (accepted-by Sheet tt) (λ _.
-    bind-by Sheet _ _ (ground-by L (c .case)) (λ p. bind-by Sheet _ _ (f (c .case)) (λ _. bind-by Sheet _ _ (accepted-by Sheet tt) (λ _. accepted-by Sheet _))))))
+alone-by L question site third late h f = gated-by Sheet (λ k t. t) L question site third nothing late nothing h nothing-by f nothing-by
 
 -- what a run refuses with
 abbrev pub Late : ℕ → Type 0

@@ -1,12 +1,13 @@
 -- Row order for any arity: `rowOf` and `placesOf` are inverse.
 use Prim.Native.Nat.{ℕ, zero, suc, _+_, _*_, _/_, _%_, _^_, _<_}
 use mathlib.Core.Path.{_≡_, refl, sym, ap, ap₂, _∙_}
-use mathlib.Core.List.{List, [], _∷_}
+use mathlib.Core.List.{List, [], _∷_, _++_}
 use native.Mathlib.Omega.{arith}
-use native.Mathlib.Nat.{pow-zero, pow-suc, pow-succ', div-add-mod', mod-add-div', mod-lt, mod-eq-of-lt, div-lt-iff-lt-mul, add-mul-div-right, add-mul-mod-self-right, mul-assoc, one-le-pow, one-mul, div-one}
+use native.Mathlib.Nat.{pow-zero, pow-suc, pow-succ', div-add-mod', mod-add-div', mod-lt, mod-eq-of-lt, div-lt-iff-lt-mul, add-mul-div-right, add-mul-mod-self-right, mul-assoc, one-le-pow, one-mul, div-one, mul-one, zero-mul, add-mul}
+use native.Mathlib.Numerals.{add-one}
 use lib.Arith.{digits-lt, digits-div}
 use lib.Dec.{T, ltb, ltb→lt, lt→ltb}
-use lib.ListN.{length}
+use lib.ListN.{length, length-append}
 use Rattle.definitions.specs.Lists.{all}
 use Rattle.definitions.specs.Problem.Atoms.{rowOf, placesOf}
 use Rattle.laws.specs.Booleans.{and-T, T-and-l, T-and-r}
@@ -39,7 +40,7 @@ places-below n zero row h = tt
 places-below n (suc k) row h = cons-below n (row / n ^ k % n) (placesOf n k row) (mod-lt (row / n ^ k) h) (places-below n k row h)
 
 -- what lies above the k lowest places does not matter
-places-shift : (n k row m : ℕ) → 0 < n → placesOf n k (row + m * n ^ k) ≡ placesOf n k row
+pub places-shift : (n k row m : ℕ) → 0 < n → placesOf n k (row + m * n ^ k) ≡ placesOf n k row
 unfolding placesOf
 places-shift n zero row m h = refl
 places-shift n (suc k) row m h =
@@ -86,3 +87,27 @@ pair-places n row h l =
     let l' : row < n * n = rw (square n) at l in
     let q : row / n < n = div-lt-iff-lt-mul h .1 l' in
     (ap₂ (λ (x y : ℕ). x ∷ y ∷ []) (ap (λ (x : ℕ). row / x % n) e ∙ mod-eq-of-lt q) (ap (λ (x : ℕ). row / x % n) z ∙ ap (λ (x : ℕ). x % n) (div-one row)), q)
+
+-- ---- rows with one place more
+pub row-snoc : (n : ℕ) (xs : List ℕ) (z : ℕ) → rowOf n (xs ++ (z ∷ [])) ≡ rowOf n xs * n + z
+unfolding rowOf
+row-snoc n [] z = let e = pow-zero n in let m = mul-one z in let o = zero-mul n in rw e (omega arith)
+row-snoc n (x ∷ xs) z =
+    let e : length (xs ++ (z ∷ [])) ≡ suc (length xs) = length-append xs (z ∷ []) ∙ add-one (length xs) in
+    let r = row-snoc n xs z in
+    let a : x * n ^ length (xs ++ (z ∷ [])) ≡ x * n ^ length xs * n = ap (λ (k : ℕ). x * n ^ k) e ∙ ap (λ (y : ℕ). x * y) (pow-suc n (length xs)) ∙ sym (mul-assoc x (n ^ length xs) n) in
+    let b : (x * n ^ length xs + rowOf n xs) * n ≡ x * n ^ length xs * n + rowOf n xs * n = add-mul (x * n ^ length xs) (rowOf n xs) n in
+    omega arith
+
+pub below-append : (n : ℕ) (xs ys : List ℕ) → Below n xs → Below n ys → Below n (xs ++ ys)
+unfolding all
+below-append n [] ys a b = b
+below-append n (x ∷ xs) ys a b = let q = below-cons n x xs a in cons-below n x (xs ++ ys) (q .0) (below-append n xs ys (q .1) b)
+
+pub places-snoc : (n k row z : ℕ) → 0 < n → row < n ^ k → z < n → placesOf n (suc k) (row * n + z) ≡ placesOf n k row ++ (z ∷ [])
+unfolding all
+places-snoc n k row z h l g =
+    let xs : List ℕ = placesOf n k row in
+    let a : rowOf n (xs ++ (z ∷ [])) ≡ row * n + z = row-snoc n xs z ∙ ap (λ (y : ℕ). y * n + z) (row-places n k row h l) in
+    let b : length (xs ++ (z ∷ [])) ≡ suc k = length-append xs (z ∷ []) ∙ add-one (length xs) ∙ ap suc (length-places n k row) in
+    ap₂ (placesOf n) (sym b) (sym a) ∙ places-row n (xs ++ (z ∷ [])) h (below-append n xs (z ∷ []) (places-below n k row h) (cons-below n z [] g tt))

@@ -162,7 +162,7 @@ module _ (c : Case) (A : Accepted c) where
   low-first = sym (append-assoc builtIn (c .question .rels) (c .question .chosen ++ listed (c .question .every)))
 
   -- what is known of the relation of an `every` line
-  every-fits : (k : Relation) → List·Memᴰ k (listed (c .question .every)) → EveryFits k
+  pub every-fits : (k : Relation) → List·Memᴰ k (listed (c .question .every)) → EveryFits k
   unfolding listed Holds
   every-fits k m = by-option (c .question .every) (A .question-fits .every-fits) m
     where

@@ -28,6 +28,7 @@
 --   Layered            the built layers: what they are, that they are accepted, how many
 --   LayerPlans         building layers is building steps with one buffer more
 --   FewNodes           a rule's tree has at most 64 nodes, and a node at most 64 parts
+--   PddlWords          no two actions, predicates or objects have one word in PDDL, even if case is ignored
 -- What steps leave in a state, for the code that builds and that reads picks:
 --   Changes            what a step changes, as an equation on atoms
 --   HeldTuples         after steps, the tuples that hold are the picks read from them
@@ -66,6 +67,7 @@ pub mod Placing
 pub mod Layered
 pub mod LayerPlans
 pub mod FewNodes
+pub mod PddlWords
 pub mod Changes
 pub mod HeldTuples
 pub mod Deciding

@@ -15,6 +15,7 @@ ghost use Rattle.definitions.specs.Reply.Finding.{find as «find-of»};
 ghost use Rattle.definitions.specs.Reply.Monotone.{monotone as «monotone-of»};
 ghost use Rattle.definitions.specs.Reply.Page.{layPage};
 ghost use Rattle.definitions.specs.Reply.Layers.{windowOf, checkLayers, buildLayers};
+ghost use Rattle.definitions.specs.Reply.Pddl.{writeDomain, writeInstance, writePlan, readPlan};
 ghost use Rattle.definitions.specs.Reply.Tries.{tryLists};
 ghost use Rattle.call_tries.specs.Recorded.{records};
 use call_action::Asked;
@@ -560,5 +561,93 @@ pub extern "C" fn nendokwe_build_layers(
     ensures { λ _. ⌜ now (ends .exit) ≡ buildLayers usual (now (question .entry)) (now (site .entry)) (asNumbers (now (picks .entry))) (now (state .entry)) (now (steps .entry)) (now (ends .entry)) .ends ⌝ }
 {
     let r = call_build_layers::build_layers_lent(question, site, picks, state, steps, ends);
+    tell(r, number, place);
+}
+
+// The domain of a case as PDDL: 0 and the bytes written, or a refusal, which leaves the buffer.
+#[no_mangle]
+pub extern "C" fn nendokwe_pddl_domain(
+    question: &[u8],
+    site: &[u8],
+    out: &mut [u8],
+    number: &mut u32,
+    place: &mut usize,
+)
+    ensures { λ _. ⌜ now (number .exit) ≡ replyNumber (writeDomain usual (now (question .entry)) (now (site .entry)) (now (out .entry)) .answer) ⌝ }
+    ensures { λ _. ⌜ now (place .exit) ≡ replyPlace (writeDomain usual (now (question .entry)) (now (site .entry)) (now (out .entry)) .answer) ⌝ }
+    ensures { λ _. ⌜ now (out .exit) ≡ writeDomain usual (now (question .entry)) (now (site .entry)) (now (out .entry)) .text ⌝ }
+{
+    let r = call_domain::domain(question, site, out);
+    tell(r, number, place);
+}
+
+// The instance of a case as PDDL.
+#[no_mangle]
+pub extern "C" fn nendokwe_pddl_instance(
+    question: &[u8],
+    site: &[u8],
+    out: &mut [u8],
+    number: &mut u32,
+    place: &mut usize,
+)
+    ensures { λ _. ⌜ now (number .exit) ≡ replyNumber (writeInstance usual (now (question .entry)) (now (site .entry)) (now (out .entry)) .answer) ⌝ }
+    ensures { λ _. ⌜ now (place .exit) ≡ replyPlace (writeInstance usual (now (question .entry)) (now (site .entry)) (now (out .entry)) .answer) ⌝ }
+    ensures { λ _. ⌜ now (out .exit) ≡ writeInstance usual (now (question .entry)) (now (site .entry)) (now (out .entry)) .text ⌝ }
+{
+    let r = call_instance::instance(question, site, out);
+    tell(r, number, place);
+}
+
+// A plan of PDDL from steps that are handed over as a text.
+#[no_mangle]
+pub extern "C" fn nendokwe_pddl_plan_text(
+    question: &[u8],
+    site: &[u8],
+    steps: &[u8],
+    out: &mut [u8],
+    number: &mut u32,
+    place: &mut usize,
+)
+    ensures { λ _. ⌜ now (number .exit) ≡ replyNumber (writePlan usual (now (question .entry)) (now (site .entry)) (asText (now (steps .entry))) (now (out .entry)) .answer) ⌝ }
+    ensures { λ _. ⌜ now (place .exit) ≡ replyPlace (writePlan usual (now (question .entry)) (now (site .entry)) (asText (now (steps .entry))) (now (out .entry)) .answer) ⌝ }
+    ensures { λ _. ⌜ now (out .exit) ≡ writePlan usual (now (question .entry)) (now (site .entry)) (asText (now (steps .entry))) (now (out .entry)) .text ⌝ }
+{
+    let r = call_plan::plan_text(question, site, steps, out);
+    tell(r, number, place);
+}
+
+// The same from steps that are lent as numbers.
+#[no_mangle]
+pub extern "C" fn nendokwe_pddl_plan(
+    question: &[u8],
+    site: &[u8],
+    steps: &[u32],
+    out: &mut [u8],
+    number: &mut u32,
+    place: &mut usize,
+)
+    ensures { λ _. ⌜ now (number .exit) ≡ replyNumber (writePlan usual (now (question .entry)) (now (site .entry)) (asNumbers (now (steps .entry))) (now (out .entry)) .answer) ⌝ }
+    ensures { λ _. ⌜ now (place .exit) ≡ replyPlace (writePlan usual (now (question .entry)) (now (site .entry)) (asNumbers (now (steps .entry))) (now (out .entry)) .answer) ⌝ }
+    ensures { λ _. ⌜ now (out .exit) ≡ writePlan usual (now (question .entry)) (now (site .entry)) (asNumbers (now (steps .entry))) (now (out .entry)) .text ⌝ }
+{
+    let r = call_plan::plan_lent(question, site, steps, out);
+    tell(r, number, place);
+}
+
+// The steps of a plan of PDDL: 0 and how many they are, or a refusal, which leaves the buffer.
+#[no_mangle]
+pub extern "C" fn nendokwe_pddl_read(
+    question: &[u8],
+    site: &[u8],
+    plan: &[u8],
+    steps: &mut [u32],
+    number: &mut u32,
+    place: &mut usize,
+)
+    ensures { λ _. ⌜ now (number .exit) ≡ replyNumber (readPlan usual (now (question .entry)) (now (site .entry)) (now (plan .entry)) (now (steps .entry)) .answer) ⌝ }
+    ensures { λ _. ⌜ now (place .exit) ≡ replyPlace (readPlan usual (now (question .entry)) (now (site .entry)) (now (plan .entry)) (now (steps .entry)) .answer) ⌝ }
+    ensures { λ _. ⌜ now (steps .exit) ≡ readPlan usual (now (question .entry)) (now (site .entry)) (now (plan .entry)) (now (steps .entry)) .steps ⌝ }
+{
+    let r = call_plan_read::read_plan(question, site, plan, steps);
     tell(r, number, place);
 }

@@ -54,7 +54,7 @@ fn places(n: usize, count: usize, row: usize, values: &mut [usize])
 }
 
 // The values of a node's free variables, and how many they are.
-fn free(table: &[usize], v: usize, row: usize, values: &mut [usize]) -> usize
+pub fn free(table: &[usize], v: usize, row: usize, values: &mut [usize]) -> usize
     requires { ⌜ Fits (now table) × (v < 64) × (5 ≤ length (now values)) × Within (sizeIn (now table)) (now values) ⌝ }
     ensures { λ r. ⌜ (r ≤ 4) × (take r (now (values .exit)) ≡ freeIn (now (table .entry)) v row) × Within (sizeIn (now (table .entry))) (now (values .exit)) ⌝ }
 {
@@ -65,7 +65,7 @@ fn free(table: &[usize], v: usize, row: usize, values: &mut [usize]) -> usize
 }
 
 // The same, and then an element.
-fn free_and(table: &[usize], v: usize, row: usize, x: usize, values: &mut [usize]) -> usize
+pub fn free_and(table: &[usize], v: usize, row: usize, x: usize, values: &mut [usize]) -> usize
     requires { ⌜ Fits (now table) × (v < 64) × (5 ≤ length (now values)) × Within (sizeIn (now table)) (now values) × (x < sizeIn (now table)) ⌝ }
     ensures { λ r. ⌜ (r ≤ 5) × (take r (now (values .exit)) ≡ freeIn (now (table .entry)) v row ++ (x ∷ [])) × Within (sizeIn (now (table .entry))) (now (values .exit)) ⌝ }
 {
@@ -75,7 +75,7 @@ fn free_and(table: &[usize], v: usize, row: usize, x: usize, values: &mut [usize
 }
 
 // The places of a tuple that an action is about, and how many they are.
-fn tuple_places(
+pub fn tuple_places(
     table: &[usize],
     names: &[usize],
     t: problem_table::TupleAct,

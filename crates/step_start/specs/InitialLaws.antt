@@ -258,7 +258,7 @@ module _ (p : Problem) (w f : List ℕ) (fits : Fits w) (is : Is p w) (F : Facts
   listed-holds r row g l h universal e =
       sym (is-unpicked f (sizeIn w) r 6 (factWord p r) row g (λ z. omega arith)) ∙ sym (unlisted p (λ r l u. is .every .alone r l u .0) r row l (subst (λ (d : Kind). T (isUniversal d)) (sym e) tt))
 
-  tuple-is : (r row : ℕ) → r < length (p .relations) → row < tuplesOf (p .size) (relationAt p r) → holdsAt f (sizeIn w) r (relationLine w r .kind) (factWord p r) row ≡ tupleHolds p r row
+  pub tuple-is : (r row : ℕ) → r < length (p .relations) → row < tuplesOf (p .size) (relationAt p r) → holdsAt f (sizeIn w) r (relationLine w r .kind) (factWord p r) row ≡ tupleHolds p r row
   tuple-is r row l h = ap (λ (k : ℕ). holdsAt f (sizeIn w) r k (factWord p r) row) (is .relation r l .kind) ∙ ⊎-elim (λ q. low q) (λ q. listed-holds r row q l h (relationAt p r .kind) refl) (lt-or-le r 5)
     where
       low : r < 5 → holdsAt f (sizeIn w) r (kindNumber (relationAt p r .kind)) (factWord p r) row ≡ tupleHolds p r row

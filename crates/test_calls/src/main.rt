@@ -29,10 +29,15 @@
 //     build_layers_text STATE STEPS ENDS, build_layers STATE STEPS ENDS
 //                               builds layers of the text's picks, or of those that are lent
 //     check_layers STATE        checks the lent steps, layer by layer
+//     pddl_domain OUT           the domain as PDDL
+//     pddl_instance OUT         the instance
+//     pddl_plan_text OUT, pddl_plan OUT
+//                               a plan of the text's steps, or of those that are lent
+//     pddl_read STEPS           the steps of the plan that is the text
 //     tries STATE               tries each list of lent steps
 //
 // Numbers after a call are the lengths of the buffers that it is lent, but for K and PAGE. A buffer begins as sevens and is written whole, one
-// of more than 64 entries as the SHA-256 of its numbers; a page's bytes as theirs, and where it is refused in hexadecimal, or as `kept`. An
+// of more than 64 entries as the SHA-256 of its numbers; bytes as theirs, and where they are refused as `kept`, or a page's in hexadecimal. An
 // answer is a line: an equals sign, the reply's number and place (0 and what success tells), then what the call handed out and its buffers,
 // each under its name. Any other line ends the run, and is written, with all that follows it, under a word that says so.
 ghost use Prim.Native.Nat.{_≤_, _<_};
@@ -295,6 +300,16 @@ fn show_page(r: Reply, out: &[u8]) {
     match r {
         Reply::Accepted(_) => show_digest(out),
         Reply::Refused(_, _) => show_refused(out),
+    }
+}
+
+// The bytes that were lent for a text of PDDL.
+fn show_text(r: Reply, out: &[u8]) {
+    show_reply(r);
+    io::write_all(1, b" out");
+    match r {
+        Reply::Accepted(_) => show_digest(out),
+        Reply::Refused(_, _) => show_kept_bytes(out),
     }
 }
 
@@ -756,6 +771,79 @@ fn check_layers(question: &[u8], site: &[u8], list: &[u32], ends: &[u32], room: 
     true
 }
 
+// ---- PDDL
+
+fn domain_into(question: &[u8], site: &[u8], out: &mut [u8]) {
+    let r = call_domain::domain(question, site, out);
+    show_text(r, out);
+}
+
+fn domain(question: &[u8], site: &[u8], room: usize) -> bool {
+    let mut out = [7u8; PAGE];
+    if PAGE < room {
+        return false;
+    }
+    domain_into(question, site, &mut out[..room]);
+    true
+}
+
+fn instance_into(question: &[u8], site: &[u8], out: &mut [u8]) {
+    let r = call_instance::instance(question, site, out);
+    show_text(r, out);
+}
+
+fn instance(question: &[u8], site: &[u8], room: usize) -> bool {
+    let mut out = [7u8; PAGE];
+    if PAGE < room {
+        return false;
+    }
+    instance_into(question, site, &mut out[..room]);
+    true
+}
+
+fn plan_text_into(question: &[u8], site: &[u8], text: &[u8], out: &mut [u8]) {
+    let r = call_plan::plan_text(question, site, text, out);
+    show_text(r, out);
+}
+
+fn plan_text(question: &[u8], site: &[u8], text: &[u8], room: usize) -> bool {
+    let mut out = [7u8; PAGE];
+    if PAGE < room {
+        return false;
+    }
+    plan_text_into(question, site, text, &mut out[..room]);
+    true
+}
+
+fn plan_into(question: &[u8], site: &[u8], list: &[u32], out: &mut [u8]) {
+    let r = call_plan::plan_lent(question, site, list, out);
+    show_text(r, out);
+}
+
+fn plan(question: &[u8], site: &[u8], list: &[u32], room: usize) -> bool {
+    let mut out = [7u8; PAGE];
+    if PAGE < room {
+        return false;
+    }
+    plan_into(question, site, list, &mut out[..room]);
+    true
+}
+
+fn read_plan_into(question: &[u8], site: &[u8], text: &[u8], steps: &mut [u32]) {
+    let r = call_plan_read::read_plan(question, site, text, steps);
+    show_reply(r);
+    show_steps(b" steps", steps);
+}
+
+fn read_plan(question: &[u8], site: &[u8], text: &[u8], many: usize) -> bool {
+    let mut steps = [7u32; STEPS];
+    if STEPS < many {
+        return false;
+    }
+    read_plan_into(question, site, text, &mut steps[..many]);
+    true
+}
+
 // ---- many lists of steps: what `call_tries::try_lists` does, but for the walk over lent records, which a program could lend only from
 // a function that is itself walked by hand
 
@@ -962,6 +1050,12 @@ fn call_on_case(line: &[u8], w: usize, question: &[u8], site: &[u8], n: Given) -
     if read_text::word(line, 0, w, b"window") {
         return window(question, site);
     }
+    if read_text::word(line, 0, w, b"pddl_domain") {
+        return domain(question, site, n.a);
+    }
+    if read_text::word(line, 0, w, b"pddl_instance") {
+        return instance(question, site, n.a);
+    }
     false
 }
 
@@ -991,6 +1085,12 @@ fn call_on_text(
     }
     if read_text::word(line, 0, w, b"build_layers_text") {
         return build_layers_text(question, site, text, n);
+    }
+    if read_text::word(line, 0, w, b"pddl_plan_text") {
+        return plan_text(question, site, text, n.a);
+    }
+    if read_text::word(line, 0, w, b"pddl_read") {
+        return read_plan(question, site, text, n.a);
     }
     false
 }
@@ -1037,6 +1137,9 @@ fn call_on_steps(
     }
     if read_text::word(line, 0, w, b"page") {
         return page(question, site, steps, n.a, n.b, n.c);
+    }
+    if read_text::word(line, 0, w, b"pddl_plan") {
+        return plan(question, site, steps, n.a);
     }
     false
 }

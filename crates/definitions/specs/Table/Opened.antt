@@ -24,14 +24,17 @@ use Rattle.definitions.specs.Reply.Finding
 use Rattle.definitions.specs.Reply.Monotone
 use Rattle.definitions.specs.Reply.Allowance
 use Rattle.definitions.specs.Reply.Page
+use Rattle.definitions.specs.Reply.Lifted
+use Rattle.definitions.specs.Reply.Pddl
+use Rattle.definitions.specs.Reply.PddlMeaning
 
 unfoldable pub everything : Unit {0}
-unfolding Lists.all Lists.any Lists.filter Lists.flatMap Lists.mapFrom Lists.option Lists.isSome Lists.listed Lists.position Lists.from Lists.below Lists.last Lists.isIn Lists.rank Lists.upTo Lists.before Lists.greatest Lists.sum Lists.same Lists.isEmpty
+unfolding Lists.all Lists.any Lists.filter Lists.flatMap Lists.mapFrom Lists.option Lists.isSome Lists.listed Lists.position Lists.find Lists.from Lists.below Lists.last Lists.isIn Lists.rank Lists.upTo Lists.before Lists.greatest Lists.sum Lists.same Lists.isEmpty
     Text.onFirst Text.split Text.linesFrom Text.lines Text.fields Text.isBetween Text.isDigit Text.decimalValue Text.noLeadingZero Text.number Text.decimalIn Text.decimal Text.isCapital Text.isRelationName Text.isSmall Text.isVariable
     Refusal._>>=_ Refusal.refuseIf Refusal.given Refusal.readLines Refusal.readText
     Relations.isChosen Relations.isUniversal Relations.isFunction Relations.isInjective Relations.isTotal Relations.builtIn Relations.builtInHolds Relations.numberOf Relations.isDeclared Relations.sameTuple Relations.isAmong Relations.areDistinct
     Parsing.begins Parsing.want Parsing.span Parsing.readWord Parsing.readVar Parsing.readEach Parsing.readType Parsing.readTyped Parsing.readParts Parsing.kindOf Parsing.readJoin Parsing.readQuant Parsing.readLit Parsing.readNeg Parsing.readImp Parsing.read Parsing.readFormula
-    Formula.variablesOf Formula.typeNumber Formula.sortNamed Formula.sortOf Formula.totals Formula.allForms Formula.isBound Formula.areNew Formula.forms Formula.nesting Formula.isKnown Formula.isScoped Formula.isType Formula.hasType Formula.isTyped
+    Formula.writeEach Formula.variablesOf Formula.typeNumber Formula.sortNamed Formula.sortOf Formula.totals Formula.allForms Formula.isBound Formula.areNew Formula.forms Formula.nesting Formula.isKnown Formula.isScoped Formula.isType Formula.hasType Formula.isTyped
     Sheets.arityOf Sheets.everyArityOf Sheets.kindNamed Sheets.chooseOf Sheets.element Sheets.elements Sheets.labelOf Sheets.memberOf Sheets.withOne Sheets.withTwo
     Sheets.withElements Sheets.entry Sheets.entryOf Sheets.relations Sheets.isRuled Sheets.isNewName Sheets.addRel Sheets.addType Sheets.placeSort
     Sheets.addChoose Sheets.addEvery Sheets.addRule Sheets.addToQuestion Sheets.questionLine Sheets.readQuestion Sheets.relationsOf Sheets.firstRel
@@ -74,4 +77,22 @@ unfolding Lists.all Lists.any Lists.filter Lists.flatMap Lists.mapFrom Lists.opt
     Page.spaces Page.left Page.right Page.kindWord Page.subjectWord Page.freeValues Page.shownElements Page.partWord Page.units Page.packed Page.stepHead
     Page.headed Page.stepLines Page.linesOf Page.blankLine Page.endedLine Page.pages Page.pageLines Page.pageText Page.pageOf Page.laid Page.pageIfLaid
     Page.pagedFrom Page.pageRooms Page.layPage
+    Lifted.predicateKind Lifted.predicateOf Lifted.sameFact Lifted.isSaid Lifted.termValue Lifted.saidOf Lifted.nameKind Lifted.nameSubject
+    Lifted.namePart Lifted.sameName Lifted.relationIn Lifted.nodeIn Lifted.lastIn Lifted.termAt Lifted.withTerm Lifted.ownTerms
+    Lifted.partPattern Lifted.partPatterns Lifted.underPattern Lifted.usedUp Lifted.setSchema Lifted.proofSchema Lifted.schemaOf
+    Lifted.setNames Lifted.nodeNames Lifted.actionNames Lifted.schemas Lifted.relationPredicates Lifted.predicates Lifted.nodePlaces
+    Lifted.placesIn Lifted.tuplesOver Lifted.eachSaid Lifted.relationFacts Lifted.factsOf Lifted.mayApply Lifted.applied Lifted.schemaNamed
+    Lifted.isPlanFrom Lifted.isPlan
+    Pddl.objectWord Pddl.parameterWord Pddl.termWord Pddl.nodeWord Pddl.predicateWord Pddl.actionWord Pddl.bracketed
+    Pddl.indented Pddl.writeFact Pddl.writePattern Pddl.conjoined Pddl.constants Pddl.predicateLine Pddl.schemaText Pddl.domainText
+    Pddl.instanceText Pddl.planStep Pddl.planFrom Pddl.planOf Pddl.stepText Pddl.planText Pddl.small Pddl.folded
+    Pddl.isWordByte Pddl.isWord Pddl.closed Pddl.wordsIn Pddl.addPlanLine Pddl.readPlanLines Pddl.nameFrom Pddl.objectFrom Pddl.objectsFrom
+    Pddl.actionNamed Pddl.stepFrom Pddl.stepsFrom Pddl.noTypes Pddl.readyForPddl Pddl.textFrom Pddl.fitting Pddl.writeDomain
+    Pddl.writeInstance Pddl.planWritten Pddl.writePlan Pddl.planSteps Pddl.planReadFrom Pddl.readPlan
+    PddlMeaning.listed PddlMeaning.unlisted PddlMeaning.grouped PddlMeaning.withWord PddlMeaning.inAll PddlMeaning.isBlank PddlMeaning.closing PddlMeaning.taking PddlMeaning.takingAll
+    PddlMeaning.nowhere PddlMeaning.expressions PddlMeaning.lettersOf PddlMeaning.membersIn PddlMeaning.begins PddlMeaning.each
+    PddlMeaning.asWord PddlMeaning.asWords PddlMeaning.conjuncts PddlMeaning.negated PddlMeaning.atomsIn PddlMeaning.addedIn
+    PddlMeaning.removedIn PddlMeaning.hasKey PddlMeaning.operatorIn PddlMeaning.section PddlMeaning.onlyOne PddlMeaning.taskFrom
+    PddlMeaning.taskOf PddlMeaning.sameWords PddlMeaning.isAmongAtoms PddlMeaning.inPlaceOf PddlMeaning.atomAt PddlMeaning.mayRun
+    PddlMeaning.afterRun PddlMeaning.runsFrom PddlMeaning.stepsIn PddlMeaning.isPlanOf
 everything = tt
