@@ -34,10 +34,21 @@ fn edge(
     Edge { name, sample: Box::new(sample), asked }
 }
 
-/// A case that every call refuses alike, and where lists to try keep the sevens they came with.
+/// A case that every call refuses alike, and where lists to try keep the sevens they came with; but for PDDL, which is not written where
+/// there is a type, and says so before the case's size is looked at.
 fn refused(name: &'static str, sample: impl Fn() -> Sample + 'static, answer: &str) -> Edge {
+    use Call::*;
     let kept = format!("{answer} 7 7 7 7 7 7");
-    let told = |call| if call == Call::Tries { kept.clone() } else { answer.into() };
+    let typed = sample().question.windows(6).any(|part| part == b"\ntype\t");
+    let told = |call| match call {
+        Tries => kept.clone(),
+        PddlDomain | PddlInstance | PddlPlanText | PddlPlan | PddlRead
+            if typed && answer == "11 0" =>
+        {
+            "22 0".into()
+        }
+        _ => answer.into(),
+    };
     let asked = CALLS.into_iter().filter(is_on_cases).map(|call| (call, NONE, told(call)));
     Edge { name, sample: Box::new(sample), asked: asked.collect() }
 }
