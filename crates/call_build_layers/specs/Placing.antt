@@ -1,6 +1,6 @@
 -- Layers from the plain steps: what building layers answers, by what building steps answered and what placing them gave.
 use Prim.Native.Nat.{ℕ, zero, _+_, _/_, _≤_, _<_, min}
-use mathlib.Core.Bool.{Bool, true, not}
+use mathlib.Core.Bool.{true, not}
 use mathlib.Core.Path.{_≡_, refl, sym, ap, subst, _∙_}
 use mathlib.Core.Option.{Option, none}
 use mathlib.Core.List.{List, [], _++_}
@@ -10,18 +10,16 @@ use lib.ListN.{length}
 use Rattle.definitions.specs.Lists.{isSome}
 use Rattle.definitions.specs.Refusal.{Result, refused, accepted, _>>=_}
 use Rattle.definitions.specs.Sheet.Relations.{Relation, Tuple}
-use Rattle.definitions.specs.Problem.Truth.{Case, arePicks, areOfKinds, firstOfOtherKind, ruleIsTrue, everyValue}
+use Rattle.definitions.specs.Problem.Truth.{Case, arePicks, areOfKinds, ruleIsTrue}
 use Rattle.definitions.specs.Problem.Atoms.{Problem, problemOf, problemWith, stateWords, wordsFor}
-use Rattle.definitions.specs.Problem.Tree.{Tree}
 use Rattle.definitions.specs.Problem.Actions.{actions}
 use Rattle.definitions.specs.Problem.Strips.{run, Run}
 use Rattle.definitions.specs.Problem.Built.{builtSteps, treeHolds}
-use Rattle.definitions.specs.Reply.Outcome.{StepsBuilt, builtFrom, takePicks, asText, satisfying, written, stateLength}
-use Rattle.definitions.specs.Reply.Layers.{flat, endsFrom, caseWindow, runLayers, LayeredPlan, LayersBuilt, layersBuiltFrom}
-use Rattle.laws.specs.Booleans.{T-of, T-true}
+use Rattle.definitions.specs.Reply.Outcome.{StepsBuilt, builtFrom, takePicks, asText, written, stateLength}
+use Rattle.definitions.specs.Reply.Layers.{flat, endsFrom, caseWindow, runLayers, layersBuiltFrom}
+use Rattle.laws.specs.Booleans.{T-of}
 use Rattle.laws.specs.Results.{accepted-eq, refused-accepted}
 use Rattle.laws.specs.Reader.{Accepted}
-use Rattle.meaning.specs.Means.{Good}
 use Rattle.meaning.specs.Grounded.{good}
 use Rattle.meaning.specs.Kinds.{tested-kinds, rule-everywhere}
 use Rattle.meaning.specs.Picks.{picks-inside}

@@ -1,6 +1,6 @@
 -- What writing the instance answers and leaves. Assumes nothing.
-use Prim.Native.Nat.{ℕ, zero, _+_, _^_, _≤_, _<_}
-use mathlib.Core.Path.{_≡_, refl, sym, ap, subst, _∙_}
+use Prim.Native.Nat.{ℕ, _+_, _^_, _≤_, _<_}
+use mathlib.Core.Path.{_≡_, refl, sym, ap, _∙_}
 use mathlib.Core.List.{List}
 use native.Mathlib.Omega.{arith}
 use lib.ListN.{length, getD}
@@ -8,7 +8,6 @@ use Rattle.definitions.specs.Limits.{usual}
 use Rattle.definitions.specs.Sheet.Relations.{Relation}
 use Rattle.definitions.specs.Sheet.Sheets.{relationsOf}
 use Rattle.definitions.specs.Problem.Truth.{Case}
-use Rattle.definitions.specs.Problem.Atoms.{problemOf}
 use Rattle.definitions.specs.Reply.Lifted.{relationIn}
 use Rattle.definitions.specs.Reply.Pddl.{instanceText, writeInstance}
 use Rattle.laws.specs.Lists.{getD-mem}
@@ -37,7 +36,7 @@ use Rattle.open_case.specs.Fronts.{Held, Fronted}
 use Rattle.open_case.specs.Known.{facts-held}
 use Rattle.open_case.specs.Replies.{resultOf}
 use Rattle.open_pddl.specs.Gates.{refusalIn, its, passed}
-use Rattle.open_pddl.specs.Texts.{told, Writes, question-short, writes-case, writes-gate, writes-short, writes-all}
+use Rattle.open_pddl.specs.Texts.{told, Writes, question-short, writes-short, writes-all}
 
 abbrev pub Stated : (question site old : List ℕ) → Reply → List ℕ → Type 0
 Stated question site old r new = Writes instanceText question site old r new

@@ -1,6 +1,6 @@
 -- What writing the plan of steps answers and leaves. Assumes nothing.
 use Prim.Native.Nat.{ℕ, zero, suc, _+_, _*_, _^_, _≤_, _<_}
-use mathlib.Core.Path.{_≡_, refl, sym, ap, ap₂, subst, _∙_}
+use mathlib.Core.Path.{_≡_, refl, sym, ap, subst, _∙_}
 use mathlib.Core.Bool.{Bool, true, false}
 use mathlib.Core.List.{List, [], _∷_}
 use native.Mathlib.Omega.{arith}
@@ -15,9 +15,9 @@ use Rattle.definitions.specs.Sheet.Sheets.{relationsOf}
 use Rattle.definitions.specs.Problem.Truth.{Case}
 use Rattle.definitions.specs.Problem.Atoms.{Problem, problemOf}
 use Rattle.definitions.specs.Problem.Actions.{actions}
-use Rattle.definitions.specs.Reply.Outcome.{CaseRead, ThirdInput, takeSteps, roomFor, written}
+use Rattle.definitions.specs.Reply.Outcome.{ThirdInput, takeSteps, written}
 use Rattle.definitions.specs.Reply.Lifted.{relationIn, PlanStep}
-use Rattle.definitions.specs.Reply.Pddl.{readyForPddl, planOf, planText, fitting, textFrom, planWritten, writePlan}
+use Rattle.definitions.specs.Reply.Pddl.{planOf, planText, fitting, textFrom, planWritten, writePlan}
 use Rattle.laws.specs.Lists.{getD-mem}
 use Rattle.laws.specs.Lines.{name-short}
 use Rattle.laws.specs.Numbers.{noRelation}

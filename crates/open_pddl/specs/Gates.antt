@@ -1,8 +1,8 @@
 -- What the PDDL calls refuse of a case that was opened, and what is known where they do not. Assumes nothing.
 use Prim.Native.Nat.{ℕ, zero, suc}
-use mathlib.Core.Path.{_≡_, refl, sym, ap, subst, _∙_}
-use mathlib.Core.Bool.{false, not}
-use mathlib.Core.Option.{Option, none, some}
+use mathlib.Core.Path.{_≡_, refl, sym, ap, _∙_}
+use mathlib.Core.Bool.{false}
+use mathlib.Core.Option.{none}
 use mathlib.Core.List.{List, [], _∷_}
 use native.Mathlib.Omega.{arith}
 use Rattle.definitions.specs.Limits.{usual}
@@ -11,7 +11,7 @@ use Rattle.definitions.specs.Refusal.{Result, refused, accepted, refuseIf}
 use Rattle.definitions.specs.Sheet.Sheets.{Label}
 use Rattle.definitions.specs.Problem.Truth.{Case}
 use Rattle.definitions.specs.Problem.Atoms.{Problem, problemOf}
-use Rattle.definitions.specs.Reply.Outcome.{CaseRead, readFiled, readCase, ground, withoutEvery, Ready, asked, nothing}
+use Rattle.definitions.specs.Reply.Outcome.{CaseRead, readFiled, readCase, ground, withoutEvery, nothing}
 use Rattle.definitions.specs.Reply.Pddl.{noTypes, readyForPddl}
 use Rattle.laws.specs.Asked as Order
 use Rattle.read_names.specs.Signatures.{typesOf, namesFrom, everyOf, lastOf}

@@ -2,16 +2,14 @@
 use Prim.Native.Nat.{ℕ, zero, _^_, _≤_, _<_}
 use mathlib.Core.Path.{_≡_, refl, sym, ap, subst, _∙_}
 use mathlib.Core.List.{List}
-use native.Mathlib.Omega.{arith}
 use lib.Dec.{ltb}
 use lib.ListN.{length}
 use borrow.Author.Tests.{ltb-false}
 use Rattle.definitions.specs.Limits.{usual, textLimit}
-use Rattle.definitions.specs.Refusal.{Result, refused, accepted, _>>=_, refuseIf, given, readText}
+use Rattle.definitions.specs.Refusal.{Result, refused, accepted, _>>=_, refuseIf, readText}
 use Rattle.definitions.specs.Sheet.Sheets.{Question, readQuestion}
 use Rattle.definitions.specs.Problem.Truth.{Case}
-use Rattle.definitions.specs.Problem.Atoms.{problemOf}
-use Rattle.definitions.specs.Reply.Outcome.{nothing, roomFor, written}
+use Rattle.definitions.specs.Reply.Outcome.{nothing, written}
 use Rattle.definitions.specs.Reply.Pddl.{readyForPddl, fitting, TextWritten, textFrom}
 use Rattle.laws.specs.Asked as Order
 use Rattle.laws.specs.Results.{bind-parts, not-refused}
@@ -19,7 +17,7 @@ use Rattle.print_bytes.specs.Emitted.{Emits, measured, whole-written}
 use Rattle.open_case.specs.declared.Front.{Front}
 use Rattle.open_case.specs.declared.Reply.{Reply}
 use Rattle.open_case.specs.declared.Reply.the-variants.{Accepted as Fine, Refused}
-use Rattle.open_case.specs.Fronts.{Held, Fronted}
+use Rattle.open_case.specs.Fronts.{Fronted}
 use Rattle.open_case.specs.Known.{room-short, room-there}
 use Rattle.open_case.specs.Replies.{resultOf}
 use Rattle.open_pddl.specs.Gates.{refusalIn, gate-case, gate-refused, gate-passed, its}

@@ -10,7 +10,7 @@ use lib.ListN.{length, getD}
 use Rattle.definitions.specs.Lists.{if_then_else_, filter, flatMap, mapFrom, from, below}
 use Rattle.definitions.specs.Sheet.Text.{bytes}
 use Rattle.definitions.specs.Sheet.Formula.{writeEach}
-use Rattle.definitions.specs.Sheet.Relations.{Relation, Kind, static, plain, Fun, PFun, Inj, PInj, universal, isFunction, isInjective}
+use Rattle.definitions.specs.Sheet.Relations.{Kind, static, plain, Fun, PFun, Inj, PInj, universal, isFunction, isInjective}
 use Rattle.definitions.specs.Sheet.Sheets.{relationsOf}
 use Rattle.definitions.specs.Problem.Truth.{Case, holds}
 use Rattle.definitions.specs.Problem.Atoms.{problemOf, problemWith, relationAt, placesOf, tuplesOf, tupleHolds, wordsFor}
@@ -29,7 +29,7 @@ use Rattle.step_start.specs.InitialLaws.{tuple-is}
 use Rattle.print_words.specs.Words.{termBy, term-high, wordBy, wordIn, nameFrom, atomIn, NamesOf}
 use Rattle.print_words.specs.Loops.{flat-runs}
 use Rattle.print_instance.specs.declared.Known.{Known}
-use Rattle.print_instance.specs.Texts.{agree, relationWord, wordFor, saidText, elementsText, rowText, tuplesText, runText, isFun, isInj, other, relationText, wordsOf, firstOf, knownAt, relationsText, instanceIn}
+use Rattle.print_instance.specs.Texts.{agree, relationWord, wordFor, saidText, elementsText, rowText, tuplesText, isFun, isInj, other, relationText, wordsOf, firstOf, knownAt, relationsText, instanceIn}
 
 -- ---- lists
 flat-filter : {A : Type 0} (h : A → List ℕ) (p : A → Bool) (l : List A) → flatMap h (filter p l) ≡ flatMap (λ x. if p x then h x else []) l

@@ -1,11 +1,8 @@
 -- No instance is longer than numbers reach. Assumes nothing.
 use Prim.Native.Nat.{ℕ, zero, suc, _+_, _-_, _*_, _^_, _≤_, _<_}
-use mathlib.Core.Path.{ap}
-use mathlib.Core.Bool.{Bool, true, false}
 use mathlib.Core.List.{List, [], _∷_, _++_, map}
 use native.Mathlib.Omega.{arith}
-use native.Mathlib.Nat.{mul-le-mul, le-refl, le-trans}
-use lib.ListN.{length, getD, length-append, length-map}
+use lib.ListN.{length, length-append, length-map}
 use Rattle.definitions.specs.Lists.{if_then_else_, flatMap, from, below}
 use Rattle.definitions.specs.Sheet.Text.{bytes}
 use Rattle.definitions.specs.Sheet.Formula.{writeEach}
@@ -16,7 +13,6 @@ use Rattle.laws.specs.Rows.{length-places}
 use Rattle.problem_layout.specs.declared.Relations.{Relations}
 use Rattle.problem_layout.specs.LaidLaws.{pow-most}
 use Rattle.print_words.specs.declared.Word.{Word}
-use Rattle.print_words.specs.Words.{atomIn}
 use Rattle.print_words.specs.Lengths.{flat-le, if-le, line-le, objects-le}
 use Rattle.print_instance.specs.declared.Known.{Known}
 use Rattle.print_instance.specs.Texts.{KnownFits, RelationsKnown, known-fits, other-fits, relationWord, saidText, elementsText, rowText, runText, tuplesText, other, relationText, knownAt, relationsText, instanceIn, agree, wordFor, isFun, isInj}

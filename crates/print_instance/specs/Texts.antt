@@ -7,18 +7,18 @@ use native.Mathlib.Omega.{arith}
 use native.Mathlib.Nat.{pow-suc, pow-zero, one-mul, mul-le-mul, le-refl, mod-eq-of-lt, mod-lt, div-one}
 use native.Mathlib.Numerals.{add-one}
 use lib.Arith.{digits-div, digits-mod}
-use lib.Dec.{ltb, eqb}
-use lib.ListN.{length, getD}
+use lib.Dec.{ltb}
+use lib.ListN.{getD}
 use borrow.Author.Tests.{lt-ltb, le-ltb}
 use Rattle.definitions.specs.Lists.{if_then_else_, flatMap, from, below}
 use Rattle.definitions.specs.Sheet.Text.{bytes}
 use Rattle.definitions.specs.Sheet.Formula.{writeEach}
 use Rattle.definitions.specs.Sheet.Relations.{builtInHolds}
-use Rattle.definitions.specs.Problem.Atoms.{placesOf, wordsFor}
+use Rattle.definitions.specs.Problem.Atoms.{placesOf}
 use Rattle.definitions.specs.Reply.Pddl.{objectWord, indented}
 use Rattle.laws.specs.Rows.{places-snoc, pair-places}
 use Rattle.step_start.specs.Rows.{holdsAt}
-use Rattle.step_start.specs.RowLaws.{is-pair, is-one}
+use Rattle.step_start.specs.RowLaws.{is-pair}
 use Rattle.problem_layout.specs.declared.Relations.{Relations}
 use Rattle.problem_layout.specs.Laid.{RelationsFit}
 use Rattle.problem_layout.specs.LaidLaws.{pow-most}

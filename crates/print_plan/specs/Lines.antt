@@ -1,37 +1,31 @@
 -- The line of a step by the table: its name, its objects, its bytes. Assumes nothing.
 use Prim.Native.Nat.{ℕ, zero, suc, _+_, _-_, _≤_, _<_}
-use mathlib.Core.Path.{_≡_, refl, sym, ap, ap₂, subst, _∙_}
-use mathlib.Core.Bool.{Bool}
-use mathlib.Core.Option.{Option, none, some}
+use mathlib.Core.Path.{_≡_, refl, sym, ap, ap₂, _∙_}
+use mathlib.Core.Option.{some}
 use mathlib.Core.List.{List, [], _∷_, _++_, map, append-assoc}
 use native.Mathlib.Omega.{arith}
 use native.Mathlib.Numerals.{add-one}
-use lib.Dec.{T}
-use lib.ListN.{length, getD, take, set}
+use lib.ListN.{length, take, set}
 use lib.Seq.{take-suc-set}
 use Rattle.definitions.specs.Lists.{option}
-use Rattle.definitions.specs.Sheet.Relations.{Kind, isChosen, isUniversal}
+use Rattle.definitions.specs.Sheet.Relations.{isChosen, isUniversal}
 use Rattle.definitions.specs.Sheet.Formula.{writeEach}
 use Rattle.definitions.specs.Problem.Truth.{Case}
-use Rattle.definitions.specs.Problem.Tree.{Tree}
 use Rattle.definitions.specs.Problem.Atoms.{Problem, problemOf, problemWith, relationAt, nodeAt, placesOf}
 use Rattle.definitions.specs.Problem.Actions as A
-use Rattle.definitions.specs.Reply.Lifted.{ActionName, setName, nodeIn, relationIn, PlanStep}
+use Rattle.definitions.specs.Reply.Lifted.{nodeIn, relationIn}
 use Rattle.definitions.specs.Reply.Pddl.{objectWord, actionWord, bracketed, indented, planStep, stepText}
 use Rattle.laws.specs.Booleans.{or-l}
 use Rattle.definitions.specs.Reply.Page.{spaces, freeValues}
 use Rattle.laws.specs.Numbers.{IsAction, action-is}
 use Rattle.meaning.specs.PddlWords.{Named}
-use Rattle.problem_table.specs.Lines.{sizeIn, nodeLine, Fits}
 use Rattle.problem_table.specs.Numbers.{ActFits}
 use Rattle.problem_table.specs.Of.{Is, said, actOf}
 use Rattle.problem_table.specs.declared.ChoiceAct.{ChoiceAct}
-use Rattle.problem_table.specs.declared.TupleAct.{TupleAct}
-use Rattle.problem_table.specs.declared.RowAct.{RowAct}
 use Rattle.problem_table.specs.declared.Act.{Act}
 use Rattle.problem_table.specs.declared.Act.the-variants.{Set, Begin, And, Or, Exists, Forall, Goal, RoundEnd, MarkIn, MarkOut, Nothing}
 use Rattle.rows.specs.Values.{Within}
-use Rattle.print_page.specs.Elements.{NamesAre, isMoved, freeIn, tupleIn}
+use Rattle.print_page.specs.Elements.{NamesAre, freeIn, tupleIn}
 use Rattle.print_names.specs.declared.Name.{Name}
 use Rattle.print_names.specs.declared.Name.the-variants as N
 use Rattle.print_names.specs.Naming.{SmallName, named, wordIn, word-is}

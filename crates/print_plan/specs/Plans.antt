@@ -11,17 +11,17 @@ use lib.ListN.{length, getD, take, drop, length-append, drop-of-length-le}
 use lib.Seq.{drop-cons, length-take-le, getD-take}
 use borrow.Author.Tests.{ltb-true, ltb-false}
 use Rattle.definitions.specs.Lists.{if_then_else_, flatMap, option}
-use Rattle.definitions.specs.Refusal.{Result, refused, accepted, _>>=_, given}
+use Rattle.definitions.specs.Refusal.{refused, accepted, _>>=_, given}
 use Rattle.definitions.specs.Sheet.Text.{bytes, decimal, decimalIn}
 use Rattle.definitions.specs.Sheet.Formula.{writeEach}
 use Rattle.definitions.specs.Problem.Truth.{Case}
 use Rattle.definitions.specs.Problem.Tree.{free}
-use Rattle.definitions.specs.Problem.Atoms.{Problem, problemOf, problemWith, relationAt, nodeAt, placesOf}
+use Rattle.definitions.specs.Problem.Atoms.{Problem, problemOf, problemWith, relationAt, nodeAt}
 use Rattle.definitions.specs.Problem.Actions as A
 use Rattle.definitions.specs.Reply.Lifted.{ActionName, setName, beginName, goalName, andName, existsName, firstName, nextName, orName, relationIn, PlanStep}
 use Rattle.definitions.specs.Reply.Pddl.{objectWord, actionWord, bracketed, indented, planStep, planFrom, planOf, stepText, planText}
 use Rattle.definitions.specs.Reply.Page.{spaces, freeValues}
-use Rattle.laws.specs.Numbers.{IsAction, action-is, at-none, action-some}
+use Rattle.laws.specs.Numbers.{at-none, action-some}
 use Rattle.laws.specs.Rows.{length-places}
 use Rattle.meaning.specs.Shown.{four-free}
 use Rattle.print_plan.specs.Lines.{objectsText, objects-none, objects-next, lineAt}

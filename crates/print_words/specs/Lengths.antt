@@ -12,7 +12,7 @@ use Rattle.definitions.specs.Sheet.Formula.{writeEach}
 use Rattle.definitions.specs.Sheet.Relations.{builtIn}
 use Rattle.definitions.specs.Reply.Page.{spaces}
 use Rattle.definitions.specs.Reply.Lifted.{parameter, object}
-use Rattle.definitions.specs.Reply.Pddl.{objectWord, parameterWord, termWord, bracketed, indented}
+use Rattle.definitions.specs.Reply.Pddl.{objectWord, parameterWord, termWord, indented}
 use Rattle.print_page.specs.Elements.{nameIn}
 use Rattle.print_words.specs.declared.Word.{Word}
 use Rattle.print_words.specs.Words.{builtInName, nameFrom, shapeWord, wordIn, wordBy, termBy, each, atomIn, atom-parts, line-parts}

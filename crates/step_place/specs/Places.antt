@@ -1,7 +1,7 @@
 -- The true node atoms in the order of their steps. Each step proves its own, and the entries of a node's levels follow one another.
 use Prim.Native.Nat.{ℕ, zero, suc, _+_, _-_, _*_, _/_, _%_, _<_, _≤_}
 use mathlib.Core.Path.{_≡_, refl, sym, ap, ap₂, subst, _∙_}
-use mathlib.Core.Logic.{_⊎_, inl, inr, ⊎-elim}
+use mathlib.Core.Logic.{_⊎_, ⊎-elim}
 use mathlib.Core.Bool.{Bool, true, false, _&&_}
 use mathlib.Core.Option.{Option, none, some}
 use mathlib.Core.List.{List, [], _∷_, _++_, map, List·Memᴰ, List·Memᴰ·append-cases, List·Memᴰ·not-nil}
@@ -18,7 +18,7 @@ use Rattle.definitions.specs.Problem.Atoms.{Problem, nodeAt, nodeWidth, nodeSta
 use Rattle.definitions.specs.Problem.Actions.{Action, actionNumber, adds}
 use Rattle.definitions.specs.Problem.Strips.{mayTake}
 use Rattle.definitions.specs.Problem.Built.{isTrueAt, stepFor, nodeSteps}
-use Rattle.laws.specs.Booleans.{T-of, T-true}
+use Rattle.laws.specs.Booleans.{T-true}
 use Rattle.laws.specs.Lists.{map-map, map-mem, filter-mem, from-mem, none-some, some-eq, getD-below, length-below}
 use Rattle.laws.specs.Numbers.{IsAction, IsAtom, node-next}
 use Rattle.laws.specs.Reader.{Holds, position-holds}
@@ -26,7 +26,6 @@ use Rattle.laws.specs.Repeats.{Once, once-append, once-filter, once-from, once-
 use Rattle.meaning.specs.Means.{Good}
 use Rattle.meaning.specs.Deciding.{isProofAtom, says}
 use Rattle.meaning.specs.Planning.{nodesFrom, when, stepNow, step-now, steps-next, tryAt, tries}
-use Rattle.meaning.specs.Levels.{level, raise}
 use Rattle.bits.specs.Table.{bit, num}
 use Rattle.step_write.specs.Steps.{Readable, nodeNumbers}
 use Rattle.step_place.specs.declared.Region.{Region}

@@ -3,7 +3,6 @@ use Prim.Native.Nat.{ℕ, zero, suc, _+_, _-_, _*_, _/_, _%_, _<_, _≤_, max}
 use mathlib.Core.Path.{_≡_, refl, sym, ap, ap₂, subst, _∙_}
 use mathlib.Core.Logic.{_⊎_, ⊎-elim}
 use mathlib.Core.Bool.{Bool, true, false, _||_}
-use mathlib.Core.Option.{Option, none, some}
 use mathlib.Core.List.{List, [], _∷_, _++_, map, List·Memᴰ, List·Memᴰ·head, List·Memᴰ·tail}
 use native.Mathlib.Omega.{arith}
 use lib.Dec.{T, eqb, ltb}
@@ -11,7 +10,6 @@ use borrow.Author.Tests.{eqb-true, eqb-false, ltb-true, ltb-false}
 use lib.ListN.{length, getD, set, take}
 use lib.Seq.{take-suc, take-length, length-take-le, getD-set-same, getD-set-other, set-out}
 use Rattle.definitions.specs.Lists.{if_then_else_, any, all}
-use Rattle.definitions.specs.Sheet.Relations.{Tuple}
 use Rattle.definitions.specs.Problem.Atoms.{Problem, Atom, atomNumber, nodeStart, atoms, State}
 use Rattle.definitions.specs.Problem.Actions.{Action, set as setTuple, beginProof, proveAnd, proveOr, proveExists, proveForall, proveGoal, roundEnd, markIn, markOut, needs, adds, actionNumber, actionAt}
 use Rattle.definitions.specs.Problem.Strips.{mayTake}
@@ -23,7 +21,7 @@ use Rattle.meaning.specs.Valid.{needs-valid}
 use Rattle.meaning.specs.Layers.{isAdded}
 use Rattle.meaning.specs.Levels.{level, raise}
 use Rattle.meaning.specs.Placing.{layersAfter}
-use Rattle.bits.specs.Table.{digit, bit, count, num}
+use Rattle.bits.specs.Table.{bit, count, num}
 use Rattle.bits.proofs.Laws.{count-add}
 use Rattle.problem_table.specs.Numbers.{needNumbers, addNumbers}
 use Rattle.problem_table.specs.Of.{Is, said, actOf}

@@ -1,3 +1,4 @@
+-- `call_build_layers::build_picks` meets its contract. Assumes nothing.
 use mathlib.Core.Path.{sym, _∙_}
 use native.Mathlib.Omega.{arith}
 use lib.Seq.{length-take-le}
@@ -6,31 +7,22 @@ use Rattle.call_build_layers.specs.Builds.{builds-over, builds-every, bu
 use borrow.Author.Needs.{needs}
 use Rattle.call_build_layers.proofs.build_picks.Statement.{statement}
 use Rattle.call_build_layers.proofs.build_picks.Tie as tie
-use Rattle.call_build_layers.proofs.build_picks.Reads as reads
-use Rattle.call_build_layers.proofs.build_picks.Lts as lts
-use Rattle.call_build_layers.proofs.place_built.Reads as place-built-reads
-use Rattle.step_picks.proofs.picks_length.Reads as picks-length-reads
-use Rattle.step_picks.proofs.spare_word.Reads as spare-word-reads
 
--- src/lib.rt:91:9
 returns : tie.Need-returns
 returns c = record {
   fit = λ j. omega (arith, c .before .before .before .before .before .before .shared-slice-known3 .given j);
   builds = λ L few q site given x e h u old F handed. builds-over L q site given _ _ _ x e _ _ _ h _ old F handed (c .if1 .taken);
 }
 
--- src/lib.rt:94:9
 returns-2 : tie.Need-returns-2
 returns-2 c = record {
   fit = λ j. omega (arith, c .before .before .before .before .before .before .before .before .shared-slice-known3 .given j);
   builds = λ L few q site given x e h u old F handed. builds-every L q site given _ _ _ x e _ _ _ h _ old F handed (c .before .before .if1 .left) (c .if2 .taken);
 }
 
--- src/lib.rt:96:9
 picks-length-requires : tie.Need-picks-length-requires
 picks-length-requires c κs = let r = c .before .before .before .before .before .before .before .before .before .before .before .pre .0 .1 in tabled (r .limits-are) (r .case) _ _ (r .held .grounded) (c .before .before .if1 .left) .fits
 
--- src/lib.rt:98:9
 returns-3 : tie.Need-returns-3
 returns-3 c = record {
   fit = λ j. omega (arith, c .before .before .before .before .before .before .before .before .before .before .shared-slice-known3 .given j);
@@ -39,11 +31,9 @@ returns-3 c = record {
       builds-picks L q site given _ _ _ x e _ _ _ h _ old F handed (c .before .before .before .before .if1 .left) (c .before .before .if2 .left) _ k (c .if3 .taken);
 }
 
--- src/lib.rt:100:18
 add-words : tie.Need-add-words
 add-words c = omega (arith, c .before .before .before .before .before .before .before .before .before .before .before .before .before .before .pre .1 (c .before .before .before .before .before .if1 .left))
 
--- src/lib.rt:103:9
 returns-4 : tie.Need-returns-4
 returns-4 c = record {
   fit = λ j. omega (arith, c .before .before .before .before .before .before .before .before .before .before .before .before .shared-slice-known3 .given j);
@@ -52,7 +42,6 @@ returns-4 c = record {
       builds-state L q site given _ _ _ x e _ _ _ h _ old F handed (c .before .before .before .before .before .before .if1 .left) (c .before .before .before .before .if2 .left) _ k (omega (arith, c .before .before .if3 .left)) (c .if4 .taken);
 }
 
--- src/lib.rt:106:9
 returns-5 : tie.Need-returns-5
 returns-5 c = record {
   fit = λ j. omega (arith, c .before .before .before .before .before .before .before .before .before .before .before .before .before .shared-slice-known3 .given j);
@@ -61,7 +50,6 @@ returns-5 c = record {
       builds-steps L q site given _ _ _ x e _ _ _ h _ old F handed (c .before .before .before .before .before .before .before .if1 .left) (c .before .before .before .before .before .if2 .left) _ k (omega (arith, c .before .before .before .if3 .left)) (omega (arith, c .before .if4 .left)) (c .if5 .taken);
 }
 
--- src/lib.rt:109:9
 returns-6 : tie.Need-returns-6
 returns-6 c = record {
   fit = λ j. omega (arith, c .before .before .before .before .before .before .before .before .before .before .before .before .before .before .shared-slice-known3 .given j);
@@ -70,28 +58,16 @@ returns-6 c = record {
       builds-ends L q site given _ _ _ x e _ _ _ h _ old F handed (c .before .before .before .before .before .before .before .before .if1 .left) (c .before .before .before .before .before .before .if2 .left) _ k (omega (arith, c .before .before .before .before .if3 .left)) (omega (arith, c .before .before .if4 .left)) (omega (arith, c .before .if5 .left)) _ u (c .if6 .taken);
 }
 
--- src/lib.rt:111:9
 spare-word-requires : tie.Need-spare-word-requires
 spare-word-requires c κs = let r = c .before .before .before .before .before .before .before .before .before .before .before .before .before .before .before .before .before .pre .0 .1 in tabled (r .limits-are) (r .case) _ _ (r .held .grounded) (c .before .before .before .before .before .before .before .before .if1 .left) .fits
 
--- src/lib.rt:113:33
-enum-known-s : tie.Need-enum-known-s
-enum-known-s c = search needs
-
--- src/lib.rt:115:25
-enum-told : tie.Need-enum-told
-enum-told c = search needs
-
--- src/lib.rt:115:68
 slice-aggregate-place-built : tie.Need-slice-aggregate-place-built
 slice-aggregate-place-built c = sym (length-take-le _ _ (omega arith))
 
--- src/lib.rt:115:13
 place-built-requires : tie.Need-place-built-requires
 place-built-requires c κs = let r = c .before .before .before .before .before .before .before .before .before .before .before .before .before .before .before .before .before .before .before .before .before .before .before .before .pre .0 .1 in let t = tabled (r .limits-are) (r .case) _ _ (r .held .grounded) (c .before .before .before .before .before .before .before .before .before .before .before .before .before .before .before .if1 .left) in
     (table-is (r .limits-are) (r .case) _ _ (r .held .grounded) (c .before .before .before .before .before .before .before .before .before .before .before .before .before .before .before .if1 .left), t .ends ∙ sym (t .atoms-are), c .before .before .before .before .before .before .before .before .before .before .before .before .before .before .before .before .before .before .before .before .before .before .before .before .pre .1 (c .before .before .before .before .before .before .before .before .before .before .before .before .before .before .before .if1 .left), omega (arith, c .before .before .before .before .before .before .before .before .before .if4 .left))
 
--- src/lib.rt:74:1
 returns-7 : tie.Need-returns-7
 returns-7 c = record {
   fit = λ j. omega (arith, c .before .before .before .before .before .before .before .before .before .before .before .before .before .before .before .before .before .before .shared-slice-known3 .given j);
@@ -101,19 +77,6 @@ returns-7 c = record {
       (omega (arith, c .before .before .before .before .before .before .before .before .if3 .left)) (omega (arith, c .before .before .before .before .before .before .if4 .left)) (omega (arith, c .before .before .before .before .before .if5 .left)) _ u (omega (arith, c .before .before .before .before .if6 .left)) _ (c .before .before .before .spare-word .ensures _ is) _ (c .before .s .given .1);
 }
 
--- src/lib.rt:74:1
-same-length : tie.Need-same-length
-same-length c = search needs
-
--- src/lib.rt:74:1
-same-length-2 : tie.Need-same-length-2
-same-length-2 c = search needs
-
--- src/lib.rt:74:1
-same-length-3 : tie.Need-same-length-3
-same-length-3 c = search needs
-
--- src/lib.rt:74:1
 returns-8 : tie.Need-returns-8
 returns-8 c = record {
   fit = λ j. omega (arith, c .before .before .before .before .before .before .before .before .before .before .before .before .before .before .before .before .before .before .before .before .before .before .before .before .before .before .before .before .shared-slice-known3 .given j);
@@ -137,12 +100,12 @@ build-picks-spec =
     returns-5
     returns-6
     spare-word-requires
-    enum-known-s
-    enum-told
+    (λ c. search needs)
+    (λ c. search needs)
     slice-aggregate-place-built
     place-built-requires
     returns-7
-    same-length
-    same-length-2
-    same-length-3
+    (λ c. search needs)
+    (λ c. search needs)
+    (λ c. search needs)
     returns-8)

@@ -1,33 +1,20 @@
+-- `call_domain::domain_in` meets its contract. Assumes nothing.
 use borrow.Author.Needs.{needs}
 use Rattle.call_domain.proofs.domain_in.Statement.{statement}
 use Rattle.call_domain.proofs.domain_in.Tie as tie
-use Rattle.call_domain.proofs.domain_in.Reads as reads
-use Rattle.call_domain.proofs.domain_in.Lts as lts
 use Rattle.definitions.specs.Reply.Pddl.{domainText}
 use Rattle.problem_layout.specs.LaidLaws.{most-zeros}
 use Rattle.problem_table.specs.Lines.{tableLength}
 use Rattle.open_pddl.specs.Texts.{writes-case}
 
-slice-aggregate-open-case : tie.Need-slice-aggregate-open-case
-slice-aggregate-open-case c = search needs
-
 open-case-requires : tie.Need-open-case-requires
 open-case-requires c κs = (c .before .before .before .before .before .before .pre, (search needs, most-zeros tableLength 0))
-
-same-length : tie.Need-same-length
-same-length c = search needs
 
 returns : tie.Need-returns
 returns c = writes-case domainText _ _ _ _ _ _ (c .before .before .before .before .before .open-case .ensures) (c .if1 .taken)
 
 of-case-requires : tie.Need-of-case-requires
 of-case-requires c κs = record { site = _; table = _; front = c .before .before .before .before .before .before .before .open-case .ensures; fine = c .before .before .if1 .left }
-
-same-length-2 : tie.Need-same-length-2
-same-length-2 c = search needs
-
-same-length-3 : tie.Need-same-length-3
-same-length-3 c = search needs
 
 returns-2 : tie.Need-returns-2
 returns-2 c = c .before .before .of-case .ensures _ _ (c .before .before .before .before .before .before .before .before .before .before .open-case .ensures) (c .before .before .before .before .before .if1 .left)
@@ -36,11 +23,11 @@ pub domain-in-spec : {M : Type 1} → statement M
 domain-in-spec =
     tie.close
     (tie.spec
-    slice-aggregate-open-case
+    (λ c. search needs)
     open-case-requires
-    same-length
+    (λ c. search needs)
     returns
     of-case-requires
-    same-length-2
-    same-length-3
+    (λ c. search needs)
+    (λ c. search needs)
     returns-2)

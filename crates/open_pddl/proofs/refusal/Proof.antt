@@ -1,22 +1,17 @@
+-- `open_pddl::refusal` meets its contract. Assumes nothing.
 use Rattle.open_pddl.specs.Gates.{by-types, by-over, by-every, by-none}
 use Rattle.open_pddl.proofs.refusal.Statement.{statement}
 use Rattle.open_pddl.proofs.refusal.Tie as tie
-use Rattle.open_pddl.proofs.refusal.Reads as reads
-use Rattle.open_pddl.proofs.refusal.Lts as lts
 
--- src/lib.rt:14:9
 returns : tie.Need-returns
 returns c = by-types _ _ _ (c .if1 .taken)
 
--- src/lib.rt:17:9
 returns-2 : tie.Need-returns-2
 returns-2 c = by-over _ _ _ (c .before .before .if1 .left) (c .if2 .taken)
 
--- src/lib.rt:20:9
 returns-3 : tie.Need-returns-3
 returns-3 c = by-every _ _ _ (c .before .before .before .before .if1 .left) (c .before .before .if2 .left) (c .if3 .taken)
 
--- src/lib.rt:7:1
 returns-4 : tie.Need-returns-4
 returns-4 c = by-none _ _ _ (c .before .before .before .before .if1 .left) (c .before .before .if2 .left) (c .if3 .left)
 

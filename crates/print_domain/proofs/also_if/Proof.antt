@@ -1,9 +1,7 @@
+-- `print_domain::also_if` meets its contract. Assumes nothing.
 use borrow.Author.Needs.{needs}
 use Rattle.print_domain.proofs.also_if.Statement.{statement}
 use Rattle.print_domain.proofs.also_if.Tie as tie
-use Rattle.print_domain.proofs.also_if.Reads as reads
-use Rattle.print_domain.proofs.also_if.Lts as lts
-use Rattle.print_domain.proofs.also.Reads as also-reads
 use Rattle.print_instance.specs.Texts.{if-yes, if-no}
 use Rattle.print_bytes.specs.Emitted.{emits-as, emits-none}
 use native.Mathlib.Omega.{arith}
@@ -13,21 +11,11 @@ use lib.ListN.{length}
 short : (c : tie.Start) → (length (c .args .out .now) < 2 ^ 64) × (c .args .at < 2 ^ 64)
 short c = (omega arith, omega arith)
 
--- src/lib.rt:233:9
-also-requires : tie.Need-also-requires
-also-requires c κs = search needs
-
--- src/lib.rt:233:9
-same-length : tie.Need-same-length
-same-length c = search needs
-
--- src/lib.rt:233:9
 returns : tie.Need-returns
 returns c = emits-as (if-yes _ _ (c .before .before .before .before .if1 .taken)) (c .before .before .also .ensures)
 
--- src/lib.rt:219:1
 returns-2 : tie.Need-returns-2
 returns-2 c = emits-as (if-no _ _ (c .if1 .left)) (emits-none _ _ (short (c .before .before .before .before) .1))
 
 pub also-if-spec : {M : Type 1} → statement M
-also-if-spec = tie.close (tie.spec also-requires same-length returns returns-2)
+also-if-spec = tie.close (tie.spec (λ c κs. search needs) (λ c. search needs) returns returns-2)

@@ -1,8 +1,7 @@
+-- `print_domain::domain` meets its contract. Assumes nothing.
 use borrow.Author.Needs.{needs}
 use Rattle.print_domain.proofs.domain.Statement.{statement}
 use Rattle.print_domain.proofs.domain.Tie as tie
-use Rattle.print_domain.proofs.domain.Reads as reads
-use Rattle.print_domain.proofs.domain.Lts as lts
 use native.Mathlib.Omega.{arith}
 use Rattle.print_domain.specs.Nodes.{domain-parts}
 use Prim.Native.Nat.{_^_, _<_}
@@ -27,15 +26,6 @@ nodes-schemas-requires c κs = (c .before .before .before .before .before .befor
 goal-schema-requires : tie.Need-goal-schema-requires
 goal-schema-requires c κs = (c .before .before .before .before .before .before .before .before .before .before .before .before .before .before .before .before .pre .0, c .before .before .before .before .before .before .before .before .before .before .before .before .before .before .before .before .pre .2)
 
-slice-aggregate-text : tie.Need-slice-aggregate-text
-slice-aggregate-text c = search needs
-
-text-requires : tie.Need-text-requires
-text-requires c κs = search needs
-
-same-length : tie.Need-same-length
-same-length c = search needs
-
 returns : tie.Need-returns
 returns c = finish _ (then _ _ (then _ _ (then _ _ (then _ _ (begin _ (domain-parts _ _ _ _ _) (short (c .before .before .before .before .before .before .before .before .before .before .before .before .before .before .before .before .before .before .before .before .before .before .before .before) .0) (short (c .before .before .before .before .before .before .before .before .before .before .before .before .before .before .before .before .before .before .before .before .before .before .before .before) .1)) (c .before .before .before .before .before .before .before .before .before .before .before .before .before .before .before .before .before .before .before .predicates .ensures)) (c .before .before .before .before .before .before .before .before .before .before .before .before .before .before .before .guesses .ensures)) (c .before .before .before .before .before .before .before .before .before .before .before .nodes-schemas .ensures)) (c .before .before .before .before .before .before .before .goal-schema .ensures)) (c .before .before .text .ensures)
 
@@ -48,7 +38,7 @@ domain-spec =
     add-end
     nodes-schemas-requires
     goal-schema-requires
-    slice-aggregate-text
-    text-requires
-    same-length
+    (λ c. search needs)
+    (λ c κs. search needs)
+    (λ c. search needs)
     returns)

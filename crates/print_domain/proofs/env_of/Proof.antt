@@ -1,8 +1,6 @@
+-- `print_domain::env_of` meets its contract. Assumes nothing.
 use Rattle.print_domain.proofs.env_of.Statement.{statement}
 use Rattle.print_domain.proofs.env_of.Tie as tie
-use Rattle.print_domain.proofs.env_of.Reads as reads
-use Rattle.print_domain.proofs.env_of.Lts as lts
-use Rattle.rule_nodes.proofs.wide.Reads as wide-reads
 use borrow.Author.Needs.{needs}
 use native.Mathlib.Omega.{arith}
 use Prim.Native.Nat.{_-_, _≤_}
@@ -17,43 +15,21 @@ Inv-loop end levels i₀ terms₀ i terms = (i ≤ 4) × (length terms ≡ 4) ×
 abbrev μ-loop : tie.MeasureT-loop
 μ-loop end levels i₀ terms₀ i terms = i
 
--- src/lib.rt:368:9
-wide-requires : tie.Need-wide-requires Inv-loop μ-loop
-wide-requires c κs = search needs
-
--- src/lib.rt:370:5
 loop-holds : tie.Need-loop-holds Inv-loop μ-loop
 loop-holds c = (omega (arith, c .wide .ensures .0, c .before .before .pre .0), refl, refl)
 
--- src/lib.rt:371:9
-sub-i : tie.Need-sub-i Inv-loop μ-loop
-sub-i c = omega arith
-
--- src/lib.rt:372:34
 array-read-wide : tie.Need-array-read-wide Inv-loop μ-loop
 array-read-wide c = omega (arith, c .before .loop .inv .0)
 
--- src/lib.rt:372:13
-wide-requires-2 : tie.Need-wide-requires-2 Inv-loop μ-loop
-wide-requires-2 c κs = search needs
-
--- src/lib.rt:373:9
 mul-terms : tie.Need-mul-terms Inv-loop μ-loop
 mul-terms c = omega (arith, c .wide2 .ensures .0, c .before .before .before .before .before .pre .1 (c .before .before .loop .i - 1))
 
--- src/lib.rt:373:9
 array-write-terms : tie.Need-array-write-terms Inv-loop μ-loop
 array-write-terms c = omega (arith, c .wide2 .ensures .0, c .before .before .before .before .before .pre .1 (c .before .before .loop .i - 1))
 
--- src/lib.rt:370:5
-loop-less : tie.Need-loop-less Inv-loop μ-loop
-loop-less c = omega arith
-
--- src/lib.rt:370:5
 loop-again : tie.Need-loop-again Inv-loop μ-loop
 loop-again c = (omega (arith, c .before .before .loop .inv .0), length-set (c .before .before .loop .terms) _ (c .before .before .loop .i - 1) ∙ c .before .before .loop .inv .1, c .before .before .loop .inv .2 ∙ env-next (c .before .before .before .before .before .args .row .levels) (c .before .before .loop .i) (c .before .before .loop .i - 1) _ (c .before .before .loop .terms) (omega arith) (c .wide2 .ensures .0))
 
--- src/lib.rt:363:1
 returns : tie.Need-returns Inv-loop μ-loop
 returns c = (sym (env-first (c .before .before .before .before .args .row) _ (c .before .before .wide .ensures .0) ∙ c .before .loop .inv .2 ∙ env-end _ (c .before .loop .i) _ (omega arith)), refl)
 
@@ -63,13 +39,13 @@ env-of-spec =
     (tie.spec
     Inv-loop
     μ-loop
-    wide-requires
+    (λ c κs. search needs)
     loop-holds
-    sub-i
+    (λ c. omega arith)
     array-read-wide
-    wide-requires-2
+    (λ c κs. search needs)
     mul-terms
     array-write-terms
-    loop-less
+    (λ c. omega arith)
     loop-again
     returns)

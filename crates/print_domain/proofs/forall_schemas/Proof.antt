@@ -1,8 +1,7 @@
+-- `print_domain::forall_schemas` meets its contract. Assumes nothing.
 use borrow.Author.Needs.{needs}
 use Rattle.print_domain.proofs.forall_schemas.Statement.{statement}
 use Rattle.print_domain.proofs.forall_schemas.Tie as tie
-use Rattle.print_domain.proofs.forall_schemas.Reads as reads
-use Rattle.print_domain.proofs.forall_schemas.Lts as lts
 use Rattle.print_domain.specs.Nodes.{forall-parts}
 use native.Mathlib.Omega.{arith}
 use Prim.Native.Nat.{_^_, _<_}
@@ -18,9 +17,6 @@ first-schema-requires c κs = (c .before .before .before .before .pre .0, c .bef
 next-schema-requires : tie.Need-next-schema-requires
 next-schema-requires c κs = (c .before .before .before .before .before .before .before .before .pre .0, c .before .before .before .before .before .before .before .before .pre .1, c .before .before .before .before .before .before .before .before .pre .2, c .before .before .before .before .before .before .before .before .pre .3)
 
-same-length : tie.Need-same-length
-same-length c = search needs
-
 returns : tie.Need-returns
 returns c = finish _ (then _ _ (begin _ (forall-parts _ _ _ _ _) (short (c .before .before .before .before .before .before .before .before .before .before .before) .0) (short (c .before .before .before .before .before .before .before .before .before .before .before) .1)) (c .before .before .before .before .before .before .first-schema .ensures)) (c .before .before .next-schema .ensures)
 
@@ -30,5 +26,5 @@ forall-schemas-spec =
     (tie.spec
     first-schema-requires
     next-schema-requires
-    same-length
+    (λ c. search needs)
     returns)

@@ -1,8 +1,7 @@
+-- `print_domain::goal_schema` meets its contract. Assumes nothing.
 use borrow.Author.Needs.{needs}
 use Rattle.print_domain.proofs.goal_schema.Statement.{statement}
 use Rattle.print_domain.proofs.goal_schema.Tie as tie
-use Rattle.print_domain.proofs.goal_schema.Reads as reads
-use Rattle.print_domain.proofs.goal_schema.Lts as lts
 use native.Mathlib.Omega.{arith}
 use Rattle.print_domain.specs.Nodes.{small-goal, goal-parts}
 use Prim.Native.Nat.{_^_, _<_}
@@ -18,15 +17,6 @@ head-requires c κs = (c .before .before .before .before .pre .0, small-goal, om
 part-requires : tie.Need-part-requires
 part-requires c κs = (c .before .before .before .before .before .before .before .before .before .pre .0, c .before .before .before .before .before .before .before .before .before .pre .1, c .before .before .before .before .before .before .before .before .before .pre .1 .root)
 
-slice-aggregate-text : tie.Need-slice-aggregate-text
-slice-aggregate-text c = search needs
-
-text-requires : tie.Need-text-requires
-text-requires c κs = search needs
-
-same-length : tie.Need-same-length
-same-length c = search needs
-
 returns : tie.Need-returns
 returns c = finish _ (then _ _ (then _ _ (begin _ (goal-parts _ _ _ _) (short (c .before .before .before .before .before .before .before .before .before .before .before .before .before .before .before .before .before) .0) (short (c .before .before .before .before .before .before .before .before .before .before .before .before .before .before .before .before .before) .1)) (c .before .before .before .before .before .before .before .before .before .before .before .before .head .ensures)) (c .before .before .before .before .before .before .before .part .ensures)) (c .before .before .text .ensures)
 
@@ -36,7 +26,7 @@ goal-schema-spec =
     (tie.spec
     head-requires
     part-requires
-    slice-aggregate-text
-    text-requires
-    same-length
+    (λ c. search needs)
+    (λ c κs. search needs)
+    (λ c. search needs)
     returns)

@@ -1,8 +1,7 @@
+-- `print_domain::kid` meets its contract. Assumes nothing.
 use borrow.Author.Needs.{needs}
 use Rattle.print_domain.proofs.kid.Statement.{statement}
 use Rattle.print_domain.proofs.kid.Tie as tie
-use Rattle.print_domain.proofs.kid.Reads as reads
-use Rattle.print_domain.proofs.kid.Lts as lts
 use native.Mathlib.Omega.{arith}
 use Rattle.print_bytes.specs.Emitted.{emits-as}
 use Rattle.print_domain.specs.Nodes.{kid-part}
@@ -16,9 +15,6 @@ element-copy-out-row c = omega (arith, c .before .before .before .pre .2)
 env-of-requires : tie.Need-env-of-requires
 env-of-requires c κs = (c .before .before .before .before .pre .1 .nodes .node (c .before .before .before .before .args .v) .width, c .before .before .before .before .pre .1 .nodes .node (c .before .before .before .before .args .v) .levels)
 
-wide-requires : tie.Need-wide-requires
-wide-requires c κs = search needs
-
 add-q : tie.Need-add-q
 add-q c = omega (arith, c .before .before .before .before .before .before .pre .3, c .wide .ensures .0)
 
@@ -31,9 +27,6 @@ element-copy-out-q c = omega (arith, c .before .before .before .before .before .
 part-requires : tie.Need-part-requires
 part-requires c κs = (c .before .before .before .before .before .before .before .before .pre .0, c .before .before .before .before .before .before .before .before .pre .1, c .before .before .before .before .before .before .before .before .pre .1 .parts .part _)
 
-same-length : tie.Need-same-length
-same-length c = search needs
-
 returns : tie.Need-returns
 returns c = emits-as (kid-part _ _ (c .before .before .before .before .before .before .before .before .before .before .before .args .t5) (c .before .before .before .before .before .before .before .before .before .before .before .args .v) _ _ _ _ _ (c .before .before .before .before .before .wide .ensures .0) (c .before .before .before .before .before .before .env-of .ensures .0) (c .before .before .before .before .before .before .env-of .ensures .1)) (c .before .before .part .ensures)
 
@@ -44,10 +37,10 @@ kid-spec =
     mul-row
     element-copy-out-row
     env-of-requires
-    wide-requires
+    (λ c κs. search needs)
     add-q
     mul-q
     element-copy-out-q
     part-requires
-    same-length
+    (λ c. search needs)
     returns)

@@ -1,8 +1,7 @@
+-- `print_domain::kids` meets its contract. Assumes nothing.
 use borrow.Author.Needs.{needs}
 use Rattle.print_domain.proofs.kids.Statement.{statement}
 use Rattle.print_domain.proofs.kids.Tie as tie
-use Rattle.print_domain.proofs.kids.Reads as reads
-use Rattle.print_domain.proofs.kids.Lts as lts
 use native.Mathlib.Omega.{arith}
 use Prim.Native.Nat.{_-_, _≤_}
 use Rattle.definitions.specs.Lists.{from, below, flatMap}
@@ -23,9 +22,6 @@ mul-row c = omega (arith, c .before .before .before .pre .2)
 element-copy-out-row : tie.Need-element-copy-out-row Inv-loop μ-loop
 element-copy-out-row c = omega (arith, c .before .before .before .pre .2)
 
-wide-requires : tie.Need-wide-requires Inv-loop μ-loop
-wide-requires c κs = search needs
-
 loop-holds : tie.Need-loop-holds Inv-loop μ-loop
 loop-holds c = (omega arith, begin _ (kids-many _ _ (c .before .before .before .before .before .args .t5) (c .before .before .before .before .before .args .v) (c .before .before .before .before .before .args .end) _ (c .wide .ensures .0)) (omega arith) (omega arith))
 
@@ -34,9 +30,6 @@ kid-requires c κs = (c .before .before .before .before .before .before .before 
 
 add-k : tie.Need-add-k Inv-loop μ-loop
 add-k c = omega (arith, c .before .before .before .before .before .before .wide .ensures .1)
-
-loop-less : tie.Need-loop-less Inv-loop μ-loop
-loop-less c = omega arith
 
 loop-again : tie.Need-loop-again Inv-loop μ-loop
 loop-again c = (omega arith, then _ _ (recut (flat-next _ (c .before .before .before .before .before .loop .k) (c .before .before .before .before .before .before .wide .result) (omega arith)) (c .before .before .before .before .before .loop .inv .1)) (c .before .before .kid .ensures))
@@ -55,11 +48,11 @@ kids-spec =
     μ-loop
     mul-row
     element-copy-out-row
-    wide-requires
+    (λ c κs. search needs)
     loop-holds
     kid-requires
     add-k
-    loop-less
+    (λ c. omega arith)
     loop-again
     same-length
     returns)

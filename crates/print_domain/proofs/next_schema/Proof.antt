@@ -1,8 +1,7 @@
+-- `print_domain::next_schema` meets its contract. Assumes nothing.
 use borrow.Author.Needs.{needs}
 use Rattle.print_domain.proofs.next_schema.Statement.{statement}
 use Rattle.print_domain.proofs.next_schema.Tie as tie
-use Rattle.print_domain.proofs.next_schema.Reads as reads
-use Rattle.print_domain.proofs.next_schema.Lts as lts
 use native.Mathlib.Omega.{arith}
 use Rattle.print_instance.specs.Texts.{relation-fits}
 use Rattle.print_domain.specs.Texts.{proved-fits, emits-size}
@@ -20,23 +19,11 @@ mul-row c = omega (arith, c .before .before .before .pre .2)
 element-copy-out-row : tie.Need-element-copy-out-row
 element-copy-out-row c = omega (arith, c .before .before .before .pre .2)
 
-wide-requires : tie.Need-wide-requires
-wide-requires c κs = search needs
-
 add-head : tie.Need-add-head
 add-head c = omega (arith, c .before .wide .ensures .1)
 
 head-requires : tie.Need-head-requires
 head-requires c κs = (c .before .before .before .before .before .before .pre .0, small-next _, omega (arith, c .before .wide .ensures .0, c .before .before .before .before .before .before .pre .1 .nodes .node (c .before .before .before .before .before .before .args .v) .width))
-
-slice-aggregate-text : tie.Need-slice-aggregate-text
-slice-aggregate-text c = search needs
-
-text-requires : tie.Need-text-requires
-text-requires c κs = search needs
-
-only-requires : tie.Need-only-requires
-only-requires c κs = search needs
 
 add-with-term : tie.Need-add-with-term
 add-with-term c = omega (arith, c .before .before .before .before .before .before .before .before .before .before .wide .ensures .1)
@@ -85,12 +72,12 @@ next-schema-spec =
     (tie.spec
     mul-row
     element-copy-out-row
-    wide-requires
+    (λ c κs. search needs)
     add-head
     head-requires
-    slice-aggregate-text
-    text-requires
-    only-requires
+    (λ c. search needs)
+    (λ c κs. search needs)
+    (λ c κs. search needs)
     add-with-term
     with-term-requires
     also-requires

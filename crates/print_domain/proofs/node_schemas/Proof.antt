@@ -1,8 +1,7 @@
+-- `print_domain::node_schemas` meets its contract. Assumes nothing.
 use borrow.Author.Needs.{needs}
 use Rattle.print_domain.proofs.node_schemas.Statement.{statement}
 use Rattle.print_domain.proofs.node_schemas.Tie as tie
-use Rattle.print_domain.proofs.node_schemas.Reads as reads
-use Rattle.print_domain.proofs.node_schemas.Lts as lts
 use native.Mathlib.Omega.{arith}
 use Rattle.print_bytes.specs.Emitted.{emits-as}
 use Rattle.print_domain.specs.Nodes.{node-forall, node-exists, node-and, node-or}
@@ -16,17 +15,11 @@ element-copy-out-row c = omega (arith, c .before .before .before .pre .3, c .bef
 forall-schemas-requires : tie.Need-forall-schemas-requires
 forall-schemas-requires c κs = (c .before .before .before .before .before .before .before .pre .0, c .before .before .before .before .before .before .before .pre .1, omega (arith, c .before .before .before .before .before .before .before .pre .3, c .before .before .before .before .before .before .before .pre .1 .few), c .before .before .before .before .before .before .before .pre .2 (c .before .before .before .before .before .before .before .args .v) (c .before .before .before .before .before .before .before .pre .3) (omega (arith, c .before .if1 .taken)))
 
-same-length : tie.Need-same-length
-same-length c = search needs
-
 returns : tie.Need-returns
 returns c = emits-as (node-forall _ _ (c .before .before .before .before .before .before .before .before .before .before .args .t5) (c .before .before .before .before .before .before .before .before .before .before .args .v) _ (c .before .before .before .before .if1 .taken)) (c .before .before .forall-schemas .ensures)
 
 exists-schema-requires : tie.Need-exists-schema-requires
 exists-schema-requires c κs = (c .before .before .before .before .before .before .before .before .before .pre .0, c .before .before .before .before .before .before .before .before .before .pre .1, omega (arith, c .before .before .before .before .before .before .before .before .before .pre .3, c .before .before .before .before .before .before .before .before .before .pre .1 .few), c .before .before .before .before .before .before .before .before .before .pre .2 (c .before .before .before .before .before .before .before .before .before .args .v) (c .before .before .before .before .before .before .before .before .before .pre .3) (omega (arith, c .before .if2 .taken)))
-
-same-length-2 : tie.Need-same-length-2
-same-length-2 c = search needs
 
 returns-2 : tie.Need-returns-2
 returns-2 c = emits-as (node-exists _ _ (c .before .before .before .before .before .before .before .before .before .before .before .before .args .t5) (c .before .before .before .before .before .before .before .before .before .before .before .before .args .v) _ (c .before .before .before .before .if2 .taken)) (c .before .before .exists-schema .ensures)
@@ -34,17 +27,11 @@ returns-2 c = emits-as (node-exists _ _ (c .before .before .before .before .befo
 and-schema-requires : tie.Need-and-schema-requires
 and-schema-requires c κs = (c .before .before .before .before .before .before .before .before .before .before .before .pre .0, c .before .before .before .before .before .before .before .before .before .before .before .pre .1, omega (arith, c .before .before .before .before .before .before .before .before .before .before .before .pre .3, c .before .before .before .before .before .before .before .before .before .before .before .pre .1 .few))
 
-same-length-3 : tie.Need-same-length-3
-same-length-3 c = search needs
-
 returns-3 : tie.Need-returns-3
 returns-3 c = emits-as (node-and _ _ (c .before .before .before .before .before .before .before .before .before .before .before .before .before .before .args .t5) (c .before .before .before .before .before .before .before .before .before .before .before .before .before .before .args .v) _ (c .before .before .before .before .if3 .taken)) (c .before .before .and-schema .ensures)
 
 or-schemas-requires : tie.Need-or-schemas-requires
 or-schemas-requires c κs = (c .before .before .before .before .before .before .before .before .before .before .before .pre .0, c .before .before .before .before .before .before .before .before .before .before .before .pre .1, omega (arith, c .before .before .before .before .before .before .before .before .before .before .before .pre .3, c .before .before .before .before .before .before .before .before .before .before .before .pre .1 .few))
-
-same-length-4 : tie.Need-same-length-4
-same-length-4 c = search needs
 
 returns-4 : tie.Need-returns-4
 returns-4 c = emits-as (node-or _ _ (c .before .before .before .before .before .before .before .before .before .before .before .before .before .before .args .t5) (c .before .before .before .before .before .before .before .before .before .before .before .before .before .before .args .v) _ (c .before .before .before .before .before .before .before .before .if1 .left) (c .before .before .before .before .before .before .if2 .left) (c .before .before .before .before .if3 .left)) (c .before .before .or-schemas .ensures)
@@ -56,14 +43,14 @@ node-schemas-spec =
     mul-row
     element-copy-out-row
     forall-schemas-requires
-    same-length
+    (λ c. search needs)
     returns
     exists-schema-requires
-    same-length-2
+    (λ c. search needs)
     returns-2
     and-schema-requires
-    same-length-3
+    (λ c. search needs)
     returns-3
     or-schemas-requires
-    same-length-4
+    (λ c. search needs)
     returns-4)

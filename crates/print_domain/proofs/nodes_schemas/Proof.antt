@@ -1,7 +1,6 @@
+-- `print_domain::nodes_schemas` meets its contract. Assumes nothing.
 use Rattle.print_domain.proofs.nodes_schemas.Statement.{statement}
 use Rattle.print_domain.proofs.nodes_schemas.Tie as tie
-use Rattle.print_domain.proofs.nodes_schemas.Reads as reads
-use Rattle.print_domain.proofs.nodes_schemas.Lts as lts
 use native.Mathlib.Omega.{arith}
 use Prim.Native.Nat.{_-_, _≤_}
 use Rattle.definitions.specs.Lists.{from, flatMap}
@@ -25,9 +24,6 @@ node-schemas-requires c κs = (c .before .before .before .before .before .before
 add-v : tie.Need-add-v Inv-loop μ-loop
 add-v c = omega (arith, c .before .before .before .before .before .before .before .before .before .before .pre .1 .few)
 
-loop-less : tie.Need-loop-less Inv-loop μ-loop
-loop-less c = omega arith
-
 loop-again : tie.Need-loop-again Inv-loop μ-loop
 loop-again c = (omega arith, then _ _ (recut (flat-next _ (c .before .before .before .before .before .before .loop .v) (c .before .before .before .before .before .before .before .before .before .before .args .t .count) (omega arith)) (c .before .before .before .before .before .before .loop .inv .1)) (c .before .before .node-schemas .ensures))
 
@@ -46,7 +42,7 @@ nodes-schemas-spec =
     loop-holds
     node-schemas-requires
     add-v
-    loop-less
+    (λ c. omega arith)
     loop-again
     same-length
     returns)

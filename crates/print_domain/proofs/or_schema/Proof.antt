@@ -1,8 +1,7 @@
+-- `print_domain::or_schema` meets its contract. Assumes nothing.
 use borrow.Author.Needs.{needs}
 use Rattle.print_domain.proofs.or_schema.Statement.{statement}
 use Rattle.print_domain.proofs.or_schema.Tie as tie
-use Rattle.print_domain.proofs.or_schema.Reads as reads
-use Rattle.print_domain.proofs.or_schema.Lts as lts
 use native.Mathlib.Omega.{arith}
 use Rattle.print_domain.specs.Texts.{proved-fits}
 use Rattle.print_domain.specs.Nodes.{small-or, or-parts}
@@ -19,17 +18,8 @@ mul-row c = omega (arith, c .before .before .before .pre .2)
 element-copy-out-row : tie.Need-element-copy-out-row
 element-copy-out-row c = omega (arith, c .before .before .before .pre .2)
 
-wide-requires : tie.Need-wide-requires
-wide-requires c κs = search needs
-
 head-requires : tie.Need-head-requires
 head-requires c κs = (c .before .before .before .before .before .before .pre .0, small-or _ _, omega (arith, c .before .wide .ensures .0, c .before .before .before .before .before .before .pre .1 .nodes .node (c .before .before .before .before .before .before .args .v) .width))
-
-slice-aggregate-text : tie.Need-slice-aggregate-text
-slice-aggregate-text c = search needs
-
-text-requires : tie.Need-text-requires
-text-requires c κs = search needs
 
 kid-requires : tie.Need-kid-requires
 kid-requires c κs = (c .before .before .before .before .before .before .before .before .before .before .before .before .before .before .before .pre .0, c .before .before .before .before .before .before .before .before .before .before .before .before .before .before .before .pre .1, c .before .before .before .before .before .before .before .before .before .before .before .before .before .before .before .pre .2, c .before .before .before .before .before .before .before .before .before .before .before .before .before .before .before .pre .3)
@@ -40,9 +30,6 @@ parameters-requires c κs = omega (arith, c .before .before .before .before .bef
 proof-end-requires : tie.Need-proof-end-requires
 proof-end-requires c κs = (c .before .before .before .before .before .before .before .before .before .before .before .before .before .before .before .before .before .before .before .before .pre .0, proved-fits _ _, c .before .parameters .ensures .0)
 
-same-length : tie.Need-same-length
-same-length c = search needs
-
 returns : tie.Need-returns
 returns c = finish _ (then _ _ (then _ _ (then _ _ (begin _ (or-parts _ _ (c .before .before .before .before .before .before .before .before .before .before .before .before .before .before .before .before .before .before .before .before .before .before .before .args .t5) (c .before .before .before .before .before .before .before .before .before .before .before .before .before .before .before .before .before .before .before .before .before .before .before .args .v) _ _ (c .before .before .before .before .before .before .before .before .before .before .before .before .before .before .before .before .before .before .wide .ensures .0) _ (c .before .before .before .before .parameters .ensures .2) (c .before .before .before .before .before .before .before .before .before .before .before .before .before .before .before .before .before .before .before .before .before .before .before .args .i)) (short (c .before .before .before .before .before .before .before .before .before .before .before .before .before .before .before .before .before .before .before .before .before .before .before) .0) (short (c .before .before .before .before .before .before .before .before .before .before .before .before .before .before .before .before .before .before .before .before .before .before .before) .1)) (c .before .before .before .before .before .before .before .before .before .before .before .before .before .before .before .before .head .ensures)) (c .before .before .before .before .before .before .before .before .before .before .before .text .ensures)) (c .before .before .before .before .before .before .before .kid .ensures)) (c .before .before .proof-end .ensures)
 
@@ -52,12 +39,12 @@ or-schema-spec =
     (tie.spec
     mul-row
     element-copy-out-row
-    wide-requires
+    (λ c κs. search needs)
     head-requires
-    slice-aggregate-text
-    text-requires
+    (λ c. search needs)
+    (λ c κs. search needs)
     kid-requires
     parameters-requires
     proof-end-requires
-    same-length
+    (λ c. search needs)
     returns)

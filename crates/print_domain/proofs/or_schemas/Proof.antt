@@ -1,8 +1,7 @@
+-- `print_domain::or_schemas` meets its contract. Assumes nothing.
 use borrow.Author.Needs.{needs}
 use Rattle.print_domain.proofs.or_schemas.Statement.{statement}
 use Rattle.print_domain.proofs.or_schemas.Tie as tie
-use Rattle.print_domain.proofs.or_schemas.Reads as reads
-use Rattle.print_domain.proofs.or_schemas.Lts as lts
 use native.Mathlib.Omega.{arith}
 use Prim.Native.Nat.{_-_, _≤_}
 use Rattle.definitions.specs.Lists.{from, flatMap}
@@ -23,9 +22,6 @@ mul-row c = omega (arith, c .before .before .before .pre .2)
 element-copy-out-row : tie.Need-element-copy-out-row Inv-loop μ-loop
 element-copy-out-row c = omega (arith, c .before .before .before .pre .2)
 
-wide-requires : tie.Need-wide-requires Inv-loop μ-loop
-wide-requires c κs = search needs
-
 loop-holds : tie.Need-loop-holds Inv-loop μ-loop
 loop-holds c = (omega arith, begin _ (ors-many _ _ (c .before .before .before .before .before .args .t5) (c .before .before .before .before .before .args .v) (c .before .before .before .before .before .args .end) _ (c .wide .ensures .0)) (omega arith) (omega arith))
 
@@ -34,9 +30,6 @@ or-schema-requires c κs = (c .before .before .before .before .before .before .b
 
 add-i : tie.Need-add-i Inv-loop μ-loop
 add-i c = omega (arith, c .before .before .before .before .before .before .wide .ensures .1)
-
-loop-less : tie.Need-loop-less Inv-loop μ-loop
-loop-less c = omega arith
 
 loop-again : tie.Need-loop-again Inv-loop μ-loop
 loop-again c = (omega arith, then _ _ (recut (flat-next _ (c .before .before .before .before .before .loop .i) (c .before .before .before .before .before .before .wide .result) (omega arith)) (c .before .before .before .before .before .loop .inv .1)) (c .before .before .or-schema .ensures))
@@ -55,11 +48,11 @@ or-schemas-spec =
     μ-loop
     mul-row
     element-copy-out-row
-    wide-requires
+    (λ c κs. search needs)
     loop-holds
     or-schema-requires
     add-i
-    loop-less
+    (λ c. omega arith)
     loop-again
     same-length
     returns)

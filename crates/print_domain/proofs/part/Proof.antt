@@ -1,8 +1,7 @@
+-- `print_domain::part` meets its contract. Assumes nothing.
 use borrow.Author.Needs.{needs}
 use Rattle.print_domain.proofs.part.Statement.{statement}
 use Rattle.print_domain.proofs.part.Tie as tie
-use Rattle.print_domain.proofs.part.Reads as reads
-use Rattle.print_domain.proofs.part.Lts as lts
 use Rattle.print_bytes.specs.Emitted.{emits-as}
 use Rattle.print_domain.specs.Nodes.{part-parts}
 
@@ -15,9 +14,6 @@ part-terms-requires c κs = c .before .before .before .before .pre .2
 also-requires : tie.Need-also-requires
 also-requires c κs = (c .before .before .before .before .before .before .pre .0, c .before .before .part-word .ensures .1, c .before .part-terms .ensures .0)
 
-same-length : tie.Need-same-length
-same-length c = search needs
-
 returns : tie.Need-returns
 returns c = emits-as (part-parts _ _ _ _ _ _ _ _ (c .before .before .before .before .before .part-word .ensures .0) (c .before .before .before .before .part-terms .ensures .1)) (c .before .before .also .ensures)
 
@@ -28,5 +24,5 @@ part-spec =
     part-word-requires
     part-terms-requires
     also-requires
-    same-length
+    (λ c. search needs)
     returns)

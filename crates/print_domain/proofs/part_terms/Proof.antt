@@ -1,10 +1,6 @@
+-- `print_domain::part_terms` meets its contract. Assumes nothing.
 use Rattle.print_domain.proofs.part_terms.Statement.{statement}
 use Rattle.print_domain.proofs.part_terms.Tie as tie
-use Rattle.print_domain.proofs.part_terms.Reads as reads
-use Rattle.print_domain.proofs.part_terms.Lts as lts
-use Rattle.print_words.proofs.parameters.Reads as parameters-reads
-use Rattle.print_words.proofs.with_term.Reads as with-term-reads
-use Rattle.rule_nodes.proofs.wide.Reads as wide-reads
 use borrow.Author.Needs.{needs}
 use native.Mathlib.Omega.{arith}
 use Prim.Native.Nat.{_-_, _≤_}
@@ -22,47 +18,24 @@ Inv-loop q e width levels env t₀ i₀ t i = (i ≤ width) × TermsFit t × (t 
 abbrev μ-loop : tie.MeasureT-loop
 μ-loop q e width levels env t₀ i₀ t i = width - i
 
--- src/lib.rt:393:9
-wide-requires : tie.Need-wide-requires Inv-loop μ-loop
-wide-requires c κs = search needs
-
--- src/lib.rt:396:9
-parameters-requires : tie.Need-parameters-requires Inv-loop μ-loop
-parameters-requires c κs = omega arith
-
--- src/lib.rt:398:5
 loop-holds : tie.Need-loop-holds Inv-loop μ-loop
 loop-holds c = (omega arith, c .parameters .ensures .0, c .parameters .ensures .1, terms-none (c .before .before .before .before .args .q .levels) (c .before .before .before .before .args .e .at) _ (c .parameters .ensures .2))
 
--- src/lib.rt:399:34
 array-read-wide : tie.Need-array-read-wide Inv-loop μ-loop
 array-read-wide c = omega (arith, c .before .before .before .before .before .wide .ensures .0, c .before .before .before .before .before .before .pre .width)
 
--- src/lib.rt:399:13
-wide-requires-2 : tie.Need-wide-requires-2 Inv-loop μ-loop
-wide-requires-2 c κs = search needs
-
--- src/lib.rt:400:39
 mul-with-term : tie.Need-mul-with-term Inv-loop μ-loop
 mul-with-term c = omega (arith, c .wide2 .ensures .0, c .before .before .before .before .before .before .before .pre .levels (c .before .before .loop .i))
 
--- src/lib.rt:400:39
 array-read-with-term : tie.Need-array-read-with-term Inv-loop μ-loop
 array-read-with-term c = omega (arith, c .wide2 .ensures .0, c .before .before .before .before .before .before .before .pre .levels (c .before .before .loop .i))
 
--- src/lib.rt:400:9
 with-term-requires : tie.Need-with-term-requires Inv-loop μ-loop
 with-term-requires c κs = (omega (arith, c .before .before .loop .inv .2, c .before .before .before .before .before .before .wide .ensures .0, c .before .before .before .before .before .before .before .pre .width), c .before .before .loop .inv .1)
 
--- src/lib.rt:401:9
 add-i : tie.Need-add-i Inv-loop μ-loop
 add-i c = omega (arith, c .before .before .before .before .before .before .before .wide .ensures .0, c .before .before .before .before .before .before .before .before .pre .width)
 
--- src/lib.rt:398:5
-loop-less : tie.Need-loop-less Inv-loop μ-loop
-loop-less c = omega arith
-
--- src/lib.rt:398:5
 loop-again : tie.Need-loop-again Inv-loop μ-loop
 loop-again c = (
   omega arith,
@@ -71,15 +44,12 @@ loop-again c = (
   terms-next (c .before .before .before .before .before .before .before .before .args .q .levels) (c .before .before .before .before .before .before .before .before .args .e .at) (c .before .before .before .loop .i) _ _ _ (omega (arith, long _ _ (c .before .before .before .before .before .before .before .before), c .before .before .before .before .before .before .before .wide .ensures .0, c .before .before .before .before .before .before .before .before .pre .width)) (c .before .wide2 .ensures .0) (c .before .before .before .loop .inv .3) (c .with-term .ensures .2),
 )
 
--- src/lib.rt:404:9
 with-term-requires-2 : tie.Need-with-term-requires-2 Inv-loop μ-loop
 with-term-requires-2 c κs = (omega (arith, c .before .before .before .loop .inv .0, c .before .before .before .loop .inv .2, c .before .before .before .before .before .before .before .wide .ensures .0, c .before .before .before .before .before .before .before .before .pre .width), c .before .before .before .loop .inv .1)
 
--- src/lib.rt:404:9
 returns : tie.Need-returns Inv-loop μ-loop
 returns c = (c .with-term2 .ensures .0, terms-more (c .before .before .before .before .before .before .before .before .before .args .q) (c .before .before .before .before .before .before .before .before .before .args .e .at) (c .before .before .before .before .before .before .before .before .before .args .e .end) (c .before .before .before .before .loop .i) _ _ _ (c .before .if1 .taken) (omega arith) (c .before .before .before .before .before .before .before .before .wide .ensures .0) (c .before .before .before .before .loop .inv .3) (c .with-term2 .ensures .2))
 
--- src/lib.rt:389:1
 returns-2 : tie.Need-returns-2 Inv-loop μ-loop
 returns-2 c = (c .before .before .before .loop .inv .1, terms-all (c .before .before .before .before .before .before .before .before .args .q) (c .before .before .before .before .before .before .before .before .args .e .at) (c .before .before .before .before .before .before .before .before .args .e .end) (c .before .before .before .loop .i) _ _ (c .if1 .left) (omega arith) (c .before .before .before .before .before .before .before .wide .ensures .0) (c .before .before .before .loop .inv .3))
 
@@ -89,16 +59,16 @@ part-terms-spec =
     (tie.spec
     Inv-loop
     μ-loop
-    wide-requires
-    parameters-requires
+    (λ c κs. search needs)
+    (λ c κs. omega arith)
     loop-holds
     array-read-wide
-    wide-requires-2
+    (λ c κs. search needs)
     mul-with-term
     array-read-with-term
     with-term-requires
     add-i
-    loop-less
+    (λ c. omega arith)
     loop-again
     with-term-requires-2
     returns

@@ -1,8 +1,6 @@
+-- `print_domain::relations_lines` meets its contract. Assumes nothing.
 use Rattle.print_domain.proofs.relations_lines.Statement.{statement}
 use Rattle.print_domain.proofs.relations_lines.Tie as tie
-use Rattle.print_domain.proofs.relations_lines.Reads as reads
-use Rattle.print_domain.proofs.relations_lines.Lts as lts
-use Rattle.print_domain.proofs.relation_lines.Reads as relation-lines-reads
 use native.Mathlib.Omega.{arith}
 use Prim.Native.Nat.{_-_, _≤_}
 use lib.ListN.{getD}
@@ -17,48 +15,34 @@ Inv-loop out₀ at question names g r₀ next₀ out r next = (r ≤ g .count) �
 abbrev μ-loop : tie.MeasureT-loop
 μ-loop out₀ at question names g r₀ next₀ out r next = g .count - r
 
--- src/lib.rt:111:5
 loop-holds : tie.Need-loop-holds Inv-loop μ-loop
 unfolding relationsLines
 loop-holds c = (omega arith, begin _ (flat-first _ _) (omega arith) (omega arith))
 
--- src/lib.rt:112:62
 mul-relation-lines : tie.Need-mul-relation-lines Inv-loop μ-loop
 mul-relation-lines c = omega (arith, c .before .before .before .before .before .before .pre .1 .fit .count)
 
--- src/lib.rt:112:62
 element-copy-out-relation-lines : tie.Need-element-copy-out-relation-lines Inv-loop μ-loop
 element-copy-out-relation-lines c = omega (arith, c .before .before .before .before .before .before .pre .1 .fit .count)
 
--- src/lib.rt:112:74
 mul-relation-lines-2 : tie.Need-mul-relation-lines-2 Inv-loop μ-loop
 mul-relation-lines-2 c = omega (arith, c .before .before .before .before .before .before .before .pre .1 .fit .count)
 
--- src/lib.rt:112:74
 element-copy-out-relation-lines-2 : tie.Need-element-copy-out-relation-lines-2 Inv-loop μ-loop
 element-copy-out-relation-lines-2 c = omega (arith, c .before .before .before .before .before .before .before .pre .1 .fit .count)
 
--- src/lib.rt:112:9
 relation-lines-requires : tie.Need-relation-lines-requires Inv-loop μ-loop
 relation-lines-requires c κs = (c .before .before .before .before .before .before .before .before .pre .0, omega (arith, c .before .before .before .before .before .before .before .before .pre .1 .fit .count), c .before .before .before .before .before .before .before .before .pre .1 .placed (c .before .before .before .before .loop .r) (omega arith))
 
--- src/lib.rt:113:9
 add-r : tie.Need-add-r Inv-loop μ-loop
 add-r c = omega (arith, c .before .before .before .before .before .before .before .before .before .before .before .pre .1 .fit .count)
 
--- src/lib.rt:111:5
-loop-less : tie.Need-loop-less Inv-loop μ-loop
-loop-less c = omega arith
-
--- src/lib.rt:111:5
 loop-again : tie.Need-loop-again Inv-loop μ-loop
 loop-again c = (omega arith, then _ _ (recut (flat-next _ (c .before .before .before .before .before .before .before .loop .r) (c .before .before .before .before .before .before .before .before .before .before .before .args .t5 .count) (omega arith)) (c .before .before .before .before .before .before .before .loop .inv .1)) (c .before .before .relation-lines .ensures))
 
--- src/lib.rt:99:1
 same-length : tie.Need-same-length Inv-loop μ-loop
 same-length c = c .before .loop .inv .1 .size
 
--- src/lib.rt:99:1
 returns : tie.Need-returns Inv-loop μ-loop
 returns c = finished (recut (flat-end _ (c .before .loop .r) (c .before .before .before .before .before .args .t5 .count) (omega arith)) (c .before .loop .inv .1))
 
@@ -75,7 +59,7 @@ relations-lines-spec =
     element-copy-out-relation-lines-2
     relation-lines-requires
     add-r
-    loop-less
+    (λ c. omega arith)
     loop-again
     same-length
     returns)

@@ -1,8 +1,6 @@
+-- `print_domain::set_schemas` meets its contract. Assumes nothing.
 use Rattle.print_domain.proofs.set_schemas.Statement.{statement}
 use Rattle.print_domain.proofs.set_schemas.Tie as tie
-use Rattle.print_domain.proofs.set_schemas.Reads as reads
-use Rattle.print_domain.proofs.set_schemas.Lts as lts
-use Rattle.print_domain.proofs.set_if.Reads as set-if-reads
 use native.Mathlib.Omega.{arith}
 use Prim.Native.Nat.{_-_, _≤_}
 use lib.ListN.{getD}
@@ -17,48 +15,34 @@ Inv-loop out₀ at question names g r₀ next₀ out r next = (r ≤ g .count) �
 abbrev μ-loop : tie.MeasureT-loop
 μ-loop out₀ at question names g r₀ next₀ out r next = g .count - r
 
--- src/lib.rt:362:5
 loop-holds : tie.Need-loop-holds Inv-loop μ-loop
 unfolding setsText
 loop-holds c = (omega arith, begin _ (flat-first _ _) (omega arith) (omega arith))
 
--- src/lib.rt:363:54
 mul-set-if : tie.Need-mul-set-if Inv-loop μ-loop
 mul-set-if c = omega (arith, c .before .before .before .before .before .before .pre .1 .fit .count)
 
--- src/lib.rt:363:54
 element-copy-out-set-if : tie.Need-element-copy-out-set-if Inv-loop μ-loop
 element-copy-out-set-if c = omega (arith, c .before .before .before .before .before .before .pre .1 .fit .count)
 
--- src/lib.rt:363:66
 mul-set-if-2 : tie.Need-mul-set-if-2 Inv-loop μ-loop
 mul-set-if-2 c = omega (arith, c .before .before .before .before .before .before .before .pre .1 .fit .count)
 
--- src/lib.rt:363:66
 element-copy-out-set-if-2 : tie.Need-element-copy-out-set-if-2 Inv-loop μ-loop
 element-copy-out-set-if-2 c = omega (arith, c .before .before .before .before .before .before .before .pre .1 .fit .count)
 
--- src/lib.rt:363:9
 set-if-requires : tie.Need-set-if-requires Inv-loop μ-loop
 set-if-requires c κs = (c .before .before .before .before .before .before .before .before .pre .0, omega (arith, c .before .before .before .before .before .before .before .before .pre .1 .fit .count), c .before .before .before .before .before .before .before .before .pre .1 .placed (c .before .before .before .before .loop .r) (omega arith))
 
--- src/lib.rt:364:9
 add-r : tie.Need-add-r Inv-loop μ-loop
 add-r c = omega (arith, c .before .before .before .before .before .before .before .before .before .before .before .pre .1 .fit .count)
 
--- src/lib.rt:362:5
-loop-less : tie.Need-loop-less Inv-loop μ-loop
-loop-less c = omega arith
-
--- src/lib.rt:362:5
 loop-again : tie.Need-loop-again Inv-loop μ-loop
 loop-again c = (omega arith, then _ _ (recut (flat-next _ (c .before .before .before .before .before .before .before .loop .r) (c .before .before .before .before .before .before .before .before .before .before .before .args .t5 .count) (omega arith)) (c .before .before .before .before .before .before .before .loop .inv .1)) (c .before .before .set-if .ensures))
 
--- src/lib.rt:350:1
 same-length : tie.Need-same-length Inv-loop μ-loop
 same-length c = c .before .loop .inv .1 .size
 
--- src/lib.rt:350:1
 returns : tie.Need-returns Inv-loop μ-loop
 returns c = finished (recut (flat-end _ (c .before .loop .r) (c .before .before .before .before .before .args .t5 .count) (omega arith)) (c .before .loop .inv .1))
 
@@ -75,7 +59,7 @@ set-schemas-spec =
     element-copy-out-set-if-2
     set-if-requires
     add-r
-    loop-less
+    (λ c. omega arith)
     loop-again
     same-length
     returns)

@@ -1,8 +1,7 @@
+-- `print_domain::under` meets its contract. Assumes nothing.
 use borrow.Author.Needs.{needs}
 use Rattle.print_domain.proofs.under.Statement.{statement}
 use Rattle.print_domain.proofs.under.Tie as tie
-use Rattle.print_domain.proofs.under.Reads as reads
-use Rattle.print_domain.proofs.under.Lts as lts
 use native.Mathlib.Omega.{arith}
 use Rattle.print_bytes.specs.Emitted.{emits-as}
 use Rattle.print_domain.specs.Nodes.{under-part}
@@ -16,14 +15,8 @@ element-copy-out-row c = omega (arith, c .before .before .before .pre .2)
 env-of-requires : tie.Need-env-of-requires
 env-of-requires c κs = (c .before .before .before .before .pre .1 .nodes .node (c .before .before .before .before .args .v) .width, c .before .before .before .before .pre .1 .nodes .node (c .before .before .before .before .args .v) .levels)
 
-wide-requires : tie.Need-wide-requires
-wide-requires c κs = search needs
-
 env-with-requires : tie.Need-env-with-requires
 env-with-requires c κs = omega (arith, c .wide .ensures .0, c .before .before .before .before .before .before .pre .1 .nodes .node (c .before .before .before .before .before .before .args .v) .level)
-
-wide-requires-2 : tie.Need-wide-requires-2
-wide-requires-2 c κs = search needs
 
 mul-q : tie.Need-mul-q
 mul-q c = omega (arith, c .before .before .before .before .before .before .before .before .pre .3, c .wide2 .ensures .0)
@@ -33,9 +26,6 @@ element-copy-out-q c = omega (arith, c .before .before .before .before .before .
 
 part-requires : tie.Need-part-requires
 part-requires c κs = (c .before .before .before .before .before .before .before .before .before .before .pre .0, c .before .before .before .before .before .before .before .before .before .before .pre .1, c .before .before .before .before .before .before .before .before .before .before .pre .1 .parts .part _)
-
-same-length : tie.Need-same-length
-same-length c = search needs
 
 returns : tie.Need-returns
 returns c = emits-as (under-part _ _ (c .before .before .before .before .before .before .before .before .before .before .before .before .before .args .t5) (c .before .before .before .before .before .before .before .before .before .before .before .before .before .args .v) _ _ _ _ _ _ _ _ (c .before .before .before .before .before .wide2 .ensures .0) (c .before .before .before .before .before .before .before .wide .ensures .0) (c .before .before .before .before .before .before .before .before .env-of .ensures .0) (c .before .before .before .before .before .before .env-with .ensures .0) (c .before .before .before .before .before .before .before .before .env-of .ensures .1) (c .before .before .before .before .before .before .env-with .ensures .1)) (c .before .before .part .ensures)
@@ -47,11 +37,11 @@ under-spec =
     mul-row
     element-copy-out-row
     env-of-requires
-    wide-requires
+    (λ c κs. search needs)
     env-with-requires
-    wide-requires-2
+    (λ c κs. search needs)
     mul-q
     element-copy-out-q
     part-requires
-    same-length
+    (λ c. search needs)
     returns)

@@ -1,15 +1,12 @@
+-- `print_instance::is_function` meets its contract. Assumes nothing.
 use Rattle.print_instance.proofs.is_function.Statement.{statement}
 use Rattle.print_instance.proofs.is_function.Tie as tie
-use Rattle.print_instance.proofs.is_function.Reads as reads
-use Rattle.print_instance.proofs.is_function.Lts as lts
 use Rattle.print_instance.specs.Texts.{fun-low, fun-high}
 use native.Mathlib.Omega.{arith}
 
--- src/lib.rt:236:9
 returns : tie.Need-returns
 returns c = fun-low _ (c .if1 .taken)
 
--- src/lib.rt:232:1
 returns-2 : tie.Need-returns-2
 returns-2 c = fun-high (c .before .args .kind) (omega arith)
 

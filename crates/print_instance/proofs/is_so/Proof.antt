@@ -1,57 +1,40 @@
+-- `print_instance::is_so` meets its contract. Assumes nothing.
 use borrow.Author.Needs.{needs}
 use Rattle.print_instance.proofs.is_so.Statement.{statement}
 use Rattle.print_instance.proofs.is_so.Tie as tie
-use Rattle.print_instance.proofs.is_so.Reads as reads
-use Rattle.print_instance.proofs.is_so.Lts as lts
-use Rattle.print_instance.proofs.built_in.Reads as built-in-reads
-use Rattle.print_instance.proofs.fact.Reads as fact-reads
 use Rattle.step_start.specs.RowLaws.{is-one, is-fact, is-unpicked}
 use Rattle.print_instance.specs.Texts.{so-pair, row-small}
 use native.Mathlib.Omega.{arith}
 use mathlib.Core.Path.{_∙_}
 use Prim.Native.Nat.{_+_, _*_}
 
--- src/lib.rt:68:9
 built-in-requires : tie.Need-built-in-requires
 built-in-requires c κs = (omega (arith, c .if1 .taken), omega (arith, c .before .before .before .pre .1))
 
--- src/lib.rt:68:9
 returns : tie.Need-returns
 returns c = c .built-in .ensures ∙ so-pair (c .before .before .before .before .args .facts .now) (c .before .before .before .before .args .k) (c .before .before .before .before .args .before) (c .before .before .before .before .args .z) (c .before .if1 .taken) (c .before .before .before .before .pre .2)
 
--- src/lib.rt:70:15
 mul-row : tie.Need-mul-row
 mul-row c = omega (arith, row-small (c .before .before .before .before .args .before) (c .before .before .before .before .args .k .n) (c .before .before .before .before .args .z) (c .before .before .before .before .pre .1) (c .before .before .before .before .pre .0 .few) (c .before .before .before .before .pre .2))
 
--- src/lib.rt:70:15
 add-row : tie.Need-add-row
 add-row c = omega (arith, row-small (c .before .before .before .before .args .before) (c .before .before .before .before .args .k .n) (c .before .before .before .before .args .z) (c .before .before .before .before .pre .1) (c .before .before .before .before .pre .0 .few) (c .before .before .before .before .pre .2))
 
--- src/lib.rt:72:9
 built-in-requires-2 : tie.Need-built-in-requires-2
 built-in-requires-2 c κs = (omega (arith, c .if2 .taken), omega (arith, row-small (c .before .before .before .before .before .before .args .before) (c .before .before .before .before .before .before .args .k .n) (c .before .before .before .before .before .before .args .z) (c .before .before .before .before .before .before .pre .1) (c .before .before .before .before .before .before .pre .0 .few) (c .before .before .before .before .before .before .pre .2)))
 
--- src/lib.rt:72:9
 returns-2 : tie.Need-returns-2
 returns-2 c = c .built-in2 .ensures ∙ is-one (c .before .before .before .before .before .before .before .args .facts .now) (c .before .before .before .before .before .before .before .args .k .n) (c .before .before .before .before .before .before .before .args .k .r) (c .before .before .before .before .before .before .before .args .k .kind) (c .before .before .before .before .before .before .before .args .k .first) (c .before .before .before .before .before .before .before .args .before * c .before .before .before .before .before .before .before .args .k .n + c .before .before .before .before .before .before .before .args .z) (omega (arith, c .before .before .before .before .if1 .left)) (c .before .if2 .taken)
 
--- src/lib.rt:75:28
 mul-fact : tie.Need-mul-fact
 mul-fact c = omega (arith, c .before .before .before .before .before .before .before .before .before .pre .0 .first)
 
--- src/lib.rt:75:28
 add-fact : tie.Need-add-fact
 add-fact c = omega (arith, c .before .before .before .before .before .before .before .before .before .pre .0 .first, row-small (c .before .before .before .before .before .before .before .before .before .args .before) (c .before .before .before .before .before .before .before .before .before .args .k .n) (c .before .before .before .before .before .before .before .before .before .args .z) (c .before .before .before .before .before .before .before .before .before .pre .1) (c .before .before .before .before .before .before .before .before .before .pre .0 .few) (c .before .before .before .before .before .before .before .before .before .pre .2))
 
--- src/lib.rt:75:9
-fact-requires : tie.Need-fact-requires
-fact-requires c κs = search needs
-
--- src/lib.rt:75:9
 returns-3 : tie.Need-returns-3
 returns-3 c = c .fact .ensures ∙ is-fact (c .before .before .before .before .before .before .before .before .before .before .args .facts .now) (c .before .before .before .before .before .before .before .before .before .before .args .k .n) (c .before .before .before .before .before .before .before .before .before .before .args .k .r) (c .before .before .before .before .before .before .before .before .before .before .args .k .kind) (c .before .before .before .before .before .before .before .before .before .before .args .k .first) (c .before .before .before .before .before .before .before .before .before .before .args .before * c .before .before .before .before .before .before .before .before .before .before .args .k .n + c .before .before .before .before .before .before .before .before .before .before .args .z) (omega (arith, c .before .before .before .before .if2 .left)) (c .before .before .if3 .taken)
 
--- src/lib.rt:63:1
 returns-4 : tie.Need-returns-4
 returns-4 c = is-unpicked (c .before .before .before .before .before .before .before .before .args .facts .now) (c .before .before .before .before .before .before .before .before .args .k .n) (c .before .before .before .before .before .before .before .before .args .k .r) (c .before .before .before .before .before .before .before .before .args .k .kind) (c .before .before .before .before .before .before .before .before .args .k .first) (c .before .before .before .before .before .before .before .before .args .before * c .before .before .before .before .before .before .before .before .args .k .n + c .before .before .before .before .before .before .before .before .args .z) (omega (arith, c .before .before .if2 .left)) (c .if3 .left)
 
@@ -67,6 +50,6 @@ is-so-spec =
     returns-2
     mul-fact
     add-fact
-    fact-requires
+    (λ c κs. search needs)
     returns-3
     returns-4)

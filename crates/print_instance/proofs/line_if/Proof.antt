@@ -1,11 +1,9 @@
+-- `print_instance::line_if` meets its contract. Assumes nothing.
 use borrow.Author.Needs.{needs}
 use Rattle.print_instance.proofs.line_if.Statement.{statement}
 use Rattle.print_instance.proofs.line_if.Tie as tie
-use Rattle.print_instance.proofs.line_if.Reads as reads
-use Rattle.print_instance.proofs.line_if.Lts as lts
-use Rattle.print_words.proofs.line.Reads as line-reads
 use Rattle.print_instance.specs.Texts.{if-yes, if-no}
-use Rattle.print_bytes.specs.Emitted.{emits-as, emits-none, begin, next as then, finish}
+use Rattle.print_bytes.specs.Emitted.{emits-as, emits-none}
 use native.Mathlib.Omega.{arith}
 use Prim.Native.Nat.{_^_, _<_}
 use lib.ListN.{length}
@@ -13,21 +11,11 @@ use lib.ListN.{length}
 short : (c : tie.Start) → (length (c .args .out .now) < 2 ^ 64) × (c .args .at < 2 ^ 64)
 short c = (omega arith, omega arith)
 
--- src/lib.rt:103:9
-line-requires : tie.Need-line-requires
-line-requires c κs = search needs
-
--- src/lib.rt:103:9
-same-length : tie.Need-same-length
-same-length c = search needs
-
--- src/lib.rt:103:9
 returns : tie.Need-returns
 returns c = emits-as (if-yes _ _ (c .before .before .before .before .if1 .taken)) (c .before .before .line .ensures)
 
--- src/lib.rt:90:1
 returns-2 : tie.Need-returns-2
 returns-2 c = emits-as (if-no _ _ (c .if1 .left)) (emits-none _ _ (short (c .before .before .before .before) .1))
 
 pub line-if-spec : {M : Type 1} → statement M
-line-if-spec = tie.close (tie.spec line-requires same-length returns returns-2)
+line-if-spec = tie.close (tie.spec (λ c κs. search needs) (λ c. search needs) returns returns-2)

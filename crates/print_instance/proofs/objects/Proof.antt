@@ -1,13 +1,9 @@
+-- `print_instance::objects` meets its contract. Assumes nothing.
 use Rattle.print_instance.proofs.objects.Statement.{statement}
 use Rattle.print_instance.proofs.objects.Tie as tie
-use Rattle.print_instance.proofs.objects.Reads as reads
-use Rattle.print_instance.proofs.objects.Lts as lts
-use Rattle.print_bytes.proofs.byte.Reads as byte-reads
-use Rattle.print_names.proofs.object_word.Reads as object-word-reads
 use native.Mathlib.Omega.{arith}
 use Prim.Native.Nat.{_-_, _≤_, _^_, _<_}
 use mathlib.Core.List.{map}
-use lib.ListN.{length}
 use borrow.Author.Needs.{needs}
 use Rattle.definitions.specs.Lists.{from}
 use Rattle.definitions.specs.Sheet.Formula.{writeEach}
@@ -21,39 +17,21 @@ Inv-loop out₀ at n x₀ next₀ out x next = (x ≤ 65) × Left (writeEach (λ
 abbrev μ-loop : tie.MeasureT-loop
 μ-loop out₀ at n x₀ next₀ out x next = n - x
 
--- src/lib.rt:338:5
 loop-holds : tie.Need-loop-holds Inv-loop μ-loop
 loop-holds c = (omega arith, begin _ (object-first _) (omega arith) (omega arith))
 
--- src/lib.rt:338:11
 add-loop : tie.Need-add-loop Inv-loop μ-loop
 add-loop c = omega (arith, c .loop .inv .0)
 
--- src/lib.rt:339:13
-byte-requires : tie.Need-byte-requires Inv-loop μ-loop
-byte-requires c κs = search needs
-
--- src/lib.rt:340:9
-object-word-requires : tie.Need-object-word-requires Inv-loop μ-loop
-object-word-requires c κs = search needs
-
--- src/lib.rt:341:9
 add-x : tie.Need-add-x Inv-loop μ-loop
 add-x c = omega (arith, c .before .before .before .before .before .before .before .before .before .loop .inv .0)
 
--- src/lib.rt:338:5
-loop-less : tie.Need-loop-less Inv-loop μ-loop
-loop-less c = omega arith
-
--- src/lib.rt:338:5
 loop-again : tie.Need-loop-again Inv-loop μ-loop
 loop-again c = (omega (arith, c .before .before .before .before .before .before .before .before .before .before .before .pre), then _ _ (then _ _ (recut (object-next (c .before .before .before .before .before .before .before .before .before .loop .x) (c .before .before .before .before .before .before .before .before .before .before .before .args .n) (omega arith)) (c .before .before .before .before .before .before .before .before .before .loop .inv .1)) (c .before .before .before .before .before .before .byte .ensures)) (c .before .before .object-word .ensures))
 
--- src/lib.rt:332:1
 same-length : tie.Need-same-length Inv-loop μ-loop
 same-length c = c .before .loop .inv .1 .size
 
--- src/lib.rt:332:1
 returns : tie.Need-returns Inv-loop μ-loop
 returns c = finished (recut (object-end (c .before .loop .x) (c .before .before .before .args .n) (omega arith)) (c .before .loop .inv .1))
 
@@ -65,10 +43,10 @@ objects-spec =
     μ-loop
     loop-holds
     add-loop
-    byte-requires
-    object-word-requires
+    (λ c κs. search needs)
+    (λ c κs. search needs)
     add-x
-    loop-less
+    (λ c. omega arith)
     loop-again
     same-length
     returns)

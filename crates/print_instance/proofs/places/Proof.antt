@@ -1,59 +1,35 @@
+-- `print_instance::places` meets its contract. Assumes nothing.
 use borrow.Author.Needs.{needs}
 use Rattle.print_instance.proofs.places.Statement.{statement}
 use Rattle.print_instance.proofs.places.Tie as tie
-use Rattle.print_instance.proofs.places.Reads as reads
-use Rattle.print_instance.proofs.places.Lts as lts
-use Rattle.print_words.proofs.parameters.Reads as parameters-reads
-use Rattle.print_words.proofs.with_term.Reads as with-term-reads
 use native.Mathlib.Omega.{arith}
 use mathlib.Core.Path.{sym, _∙_}
 use Rattle.print_instance.specs.Texts.{no-places, one-place, two-places, row-most, pair-small}
 
--- src/lib.rt:113:9
-parameters-requires : tie.Need-parameters-requires
-parameters-requires c κs = search needs
-
--- src/lib.rt:115:9
 returns : tie.Need-returns
 returns c = (c .before .parameters .ensures .0, c .before .parameters .ensures .1 ∙ sym (c .if1 .taken), c .before .parameters .ensures .2 ∙ no-places _ _ _ (c .if1 .taken))
 
--- src/lib.rt:118:45
 add-with-term : tie.Need-add-with-term
 add-with-term c = omega (arith, row-most (c .before .before .before .args .n) (c .before .before .before .args .count) (c .before .before .before .args .row) (c .before .before .before .pre .1) (c .before .before .before .pre .2) (c .before .before .before .pre .3))
 
--- src/lib.rt:118:9
 with-term-requires : tie.Need-with-term-requires
 with-term-requires c κs = (omega (arith, c .before .before .parameters .ensures .1), c .before .before .parameters .ensures .0)
 
--- src/lib.rt:118:9
 returns-2 : tie.Need-returns-2
 returns-2 c = (c .with-term .ensures .0, omega (arith, c .with-term .ensures .1, c .before .before .before .parameters .ensures .1, c .before .if2 .taken), one-place _ _ _ _ _ (c .before .if2 .taken) (c .before .before .before .before .pre .3) (c .before .before .before .parameters .ensures .2) (c .with-term .ensures .2))
 
--- src/lib.rt:120:48
-div-with-term : tie.Need-div-with-term
-div-with-term c = search needs
-
--- src/lib.rt:120:44
 add-with-term-2 : tie.Need-add-with-term-2
 add-with-term-2 c = omega (arith, pair-small (c .before .before .before .args .n) (c .before .before .before .args .count) (c .before .before .before .args .row) (c .before .before .before .pre .0) (omega (arith, c .before .if1 .left, c .if2 .left, c .before .before .before .pre .2)) (c .before .before .before .pre .3) .0, c .before .before .before .pre .1)
 
--- src/lib.rt:120:9
 with-term-requires-2 : tie.Need-with-term-requires-2
 with-term-requires-2 c κs = (omega (arith, c .before .before .parameters .ensures .1), c .before .before .parameters .ensures .0)
 
--- src/lib.rt:121:37
-rem-with-term : tie.Need-rem-with-term
-rem-with-term c = search needs
-
--- src/lib.rt:121:33
 add-with-term-3 : tie.Need-add-with-term-3
 add-with-term-3 c = omega (arith, pair-small (c .before .before .before .before .args .n) (c .before .before .before .before .args .count) (c .before .before .before .before .args .row) (c .before .before .before .before .pre .0) (omega (arith, c .before .before .if1 .left, c .before .if2 .left, c .before .before .before .before .pre .2)) (c .before .before .before .before .pre .3) .1, c .before .before .before .before .pre .1)
 
--- src/lib.rt:121:5
 with-term-requires-3 : tie.Need-with-term-requires-3
 with-term-requires-3 c κs = (omega (arith, c .with-term2 .ensures .1, c .before .before .before .parameters .ensures .1), c .with-term2 .ensures .0)
 
--- src/lib.rt:109:1
 returns-3 : tie.Need-returns-3
 returns-3 c = (c .with-term3 .ensures .0, omega (arith, c .with-term3 .ensures .1, c .before .with-term2 .ensures .1, c .before .before .before .before .parameters .ensures .1, c .before .before .before .if1 .left, c .before .before .if2 .left, c .before .before .before .before .before .pre .2), two-places (c .before .before .before .before .before .args .n) (c .before .before .before .before .before .args .count) (c .before .before .before .before .before .args .row) _ _ _ (c .before .before .before .before .before .pre .0) (omega (arith, c .before .before .before .if1 .left, c .before .before .if2 .left, c .before .before .before .before .before .pre .2)) (c .before .before .before .before .before .pre .3) (c .before .before .before .before .parameters .ensures .2) (c .before .with-term2 .ensures .2) (c .with-term3 .ensures .2))
 
@@ -61,15 +37,15 @@ pub places-spec : {M : Type 1} → statement M
 places-spec =
     tie.close
     (tie.spec
-    parameters-requires
+    (λ c κs. search needs)
     returns
     add-with-term
     with-term-requires
     returns-2
-    div-with-term
+    (λ c. search needs)
     add-with-term-2
     with-term-requires-2
-    rem-with-term
+    (λ c. search needs)
     add-with-term-3
     with-term-requires-3
     returns-3)

@@ -1,13 +1,9 @@
+-- `print_instance::relations` meets its contract. Assumes nothing.
 use Rattle.print_instance.proofs.relations.Statement.{statement}
 use Rattle.print_instance.proofs.relations.Tie as tie
-use Rattle.print_instance.proofs.relations.Reads as reads
-use Rattle.print_instance.proofs.relations.Lts as lts
-use Rattle.print_instance.proofs.relation.Reads as relation-reads
-use Rattle.print_instance.proofs.words.Reads as words-reads
 use native.Mathlib.Omega.{arith}
 use Prim.Native.Nat.{_-_, _≤_}
 use mathlib.Core.Path.{_≡_, refl}
-use lib.ListN.{length}
 use Rattle.definitions.specs.Lists.{from, flatMap}
 use Rattle.print_bytes.specs.Emitted.{Left, begin, recut, next as then, finished, emits-as}
 use Rattle.print_words.specs.Loops.{flat-first, flat-next, flat-end}
@@ -19,48 +15,34 @@ Inv-loop out₀ at question names facts n g first₀ r₀ next₀ out first r ne
 abbrev μ-loop : tie.MeasureT-loop
 μ-loop out₀ at question names facts n g first₀ r₀ next₀ out first r next = g .count - r
 
--- src/lib.rt:314:5
 loop-holds : tie.Need-loop-holds Inv-loop μ-loop
 unfolding relationsText firstOf
 loop-holds c = (omega arith, refl, begin _ (flat-first _ _) (omega arith) (omega arith))
 
--- src/lib.rt:315:21
 mul-arity : tie.Need-mul-arity Inv-loop μ-loop
 mul-arity c = omega (arith, c .before .before .before .before .before .before .pre .1 .fit .count)
 
--- src/lib.rt:315:21
 element-copy-out-arity : tie.Need-element-copy-out-arity Inv-loop μ-loop
 element-copy-out-arity c = omega (arith, c .before .before .before .before .before .before .pre .1 .fit .count)
 
--- src/lib.rt:320:19
 mul-t14 : tie.Need-mul-t14 Inv-loop μ-loop
 mul-t14 c = omega (arith, c .before .before .before .before .before .before .before .pre .1 .fit .count)
 
--- src/lib.rt:320:19
 element-copy-out-t18 : tie.Need-element-copy-out-t18 Inv-loop μ-loop
 element-copy-out-t18 c = omega (arith, c .before .before .before .before .before .before .before .pre .1 .fit .count)
 
--- src/lib.rt:324:9
 relation-requires : tie.Need-relation-requires Inv-loop μ-loop
 relation-requires c κs = (c .before .before .before .before .before .before .before .before .before .pre .0, known-here (c .before .before .before .before .before .before .before .before .before .args .n) (c .before .before .before .before .before .before .before .before .before .args .t7) (c .before .before .before .before .loop .r) (c .before .before .before .before .loop .first) (c .before .before .before .before .before .before .before .before .before .pre .1) (omega arith) (c .before .before .before .before .loop .inv .1), refl)
 
--- src/lib.rt:325:18
 words-requires : tie.Need-words-requires Inv-loop μ-loop
 words-requires c κs = (c .before .before .before .before .before .before .before .before .before .before .before .before .pre .1 .some, c .before .before .before .before .before .before .before .before .before .before .before .before .pre .1 .few, c .before .before .before .before .before .before .before .before .before .before .before .before .pre .1 .placed (c .before .before .before .before .before .before .before .loop .r) (omega arith) .1)
 
--- src/lib.rt:325:9
 add-first : tie.Need-add-first Inv-loop μ-loop
 add-first c = omega (arith, first-small (c .before .before .before .before .before .before .before .before .before .before .before .before .before .args .n) (c .before .before .before .before .before .before .before .before .before .before .before .before .before .args .t7) (c .before .before .before .before .before .before .before .before .loop .r) (c .before .before .before .before .before .before .before .before .loop .first) _ (c .before .before .before .before .before .before .before .before .before .before .before .before .before .pre .1) (omega arith) (c .before .before .before .before .before .before .before .before .loop .inv .1) (c .words .ensures))
 
--- src/lib.rt:326:9
 add-r : tie.Need-add-r Inv-loop μ-loop
 add-r c = omega (arith, c .before .before .before .before .before .before .before .before .before .before .before .before .before .pre .1 .fit .count)
 
--- src/lib.rt:314:5
-loop-less : tie.Need-loop-less Inv-loop μ-loop
-loop-less c = omega arith
-
--- src/lib.rt:314:5
 loop-again : tie.Need-loop-again Inv-loop μ-loop
 loop-again c = (
   omega arith,
@@ -68,11 +50,9 @@ loop-again c = (
   then _ _ (recut (flat-next _ (c .before .before .before .before .before .before .before .before .loop .r) (c .before .before .before .before .before .before .before .before .before .before .before .before .before .args .t7 .count) (omega arith)) (c .before .before .before .before .before .before .before .before .loop .inv .2)) (emits-as (known-is _ _ _ (c .before .before .before .before .before .before .before .before .before .before .before .before .before .args .n) (c .before .before .before .before .before .before .before .before .before .before .before .before .before .args .t7) (c .before .before .before .before .before .before .before .before .loop .r) (c .before .before .before .before .before .before .before .before .loop .first) (c .before .before .before .before .before .before .before .before .loop .inv .1)) (c .before .before .before .relation .ensures)),
 )
 
--- src/lib.rt:299:1
 same-length : tie.Need-same-length Inv-loop μ-loop
 same-length c = c .before .loop .inv .2 .size
 
--- src/lib.rt:299:1
 returns : tie.Need-returns Inv-loop μ-loop
 returns c = finished (recut (flat-end _ (c .before .loop .r) (c .before .before .before .before .before .before .args .t7 .count) (omega arith)) (c .before .loop .inv .2))
 
@@ -91,7 +71,7 @@ relations-spec =
     words-requires
     add-first
     add-r
-    loop-less
+    (λ c. omega arith)
     loop-again
     same-length
     returns)

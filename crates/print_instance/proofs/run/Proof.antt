@@ -1,17 +1,9 @@
+-- `print_instance::run` meets its contract. Assumes nothing.
 use Rattle.print_instance.proofs.run.Statement.{statement}
 use Rattle.print_instance.proofs.run.Tie as tie
-use Rattle.print_instance.proofs.run.Reads as reads
-use Rattle.print_instance.proofs.run.Lts as lts
-use Rattle.print_instance.proofs.agrees.Reads as agrees-reads
-use Rattle.print_instance.proofs.is_so.Reads as is-so-reads
-use Rattle.print_instance.proofs.line_if.Reads as line-if-reads
-use Rattle.print_instance.proofs.places.Reads as places-reads
-use Rattle.print_instance.proofs.word_for.Reads as word-for-reads
-use Rattle.print_words.proofs.with_term.Reads as with-term-reads
 use native.Mathlib.Omega.{arith}
 use Prim.Native.Nat.{_+_, _*_, _-_, _≤_}
 use mathlib.Core.Path.{subst, sym, _∙_}
-use lib.ListN.{length}
 use borrow.Author.Needs.{needs}
 use Rattle.definitions.specs.Lists.{from, flatMap}
 use Rattle.print_bytes.specs.Emitted.{Left, begin, recut, next as then, finished, emits-as}
@@ -25,51 +17,30 @@ Inv-loop out₀ at question names facts k before t w z₀ next₀ out z next = (
 abbrev μ-loop : tie.MeasureT-loop
 μ-loop out₀ at question names facts k before t w z₀ next₀ out z next = k .n - z
 
--- src/lib.rt:155:25
 sub-places : tie.Need-sub-places Inv-loop μ-loop
 sub-places c = omega (arith, c .before .before .before .before .before .pre .1 .placed)
 
--- src/lib.rt:155:9
 places-requires : tie.Need-places-requires Inv-loop μ-loop
 places-requires c κs = (c .before .before .before .before .before .pre .1 .some, c .before .before .before .before .before .pre .1 .few, omega (arith, c .before .before .before .before .before .pre .1 .places), c .before .before .before .before .before .pre .2)
 
--- src/lib.rt:156:9
-word-for-requires : tie.Need-word-for-requires Inv-loop μ-loop
-word-for-requires c κs = search needs
-
--- src/lib.rt:159:5
 loop-holds : tie.Need-loop-holds Inv-loop μ-loop
 loop-holds c = (omega arith, begin _ (run-first _ _ _) (omega arith) (omega arith))
 
--- src/lib.rt:160:25
 is-so-requires : tie.Need-is-so-requires Inv-loop μ-loop
 is-so-requires c κs = (c .before .before .before .before .before .before .before .before .before .before .pre .1, before-small (c .before .before .before .before .before .before .before .before .before .before .args .k) (c .before .before .before .before .before .before .before .before .before .before .args .before) (c .before .before .before .before .before .before .before .before .before .before .pre .1) (c .before .before .before .before .before .before .before .before .before .before .pre .2), omega arith)
 
--- src/lib.rt:160:13
-agrees-requires : tie.Need-agrees-requires Inv-loop μ-loop
-agrees-requires c κs = search needs
-
--- src/lib.rt:161:47
 add-with-term : tie.Need-add-with-term Inv-loop μ-loop
 add-with-term c = omega (arith, c .before .before .before .before .before .before .before .before .before .before .before .before .pre .1 .few)
 
--- src/lib.rt:161:13
 with-term-requires : tie.Need-with-term-requires Inv-loop μ-loop
 with-term-requires c κs = (omega (arith, c .before .before .before .before .before .before .places .ensures .1, c .before .before .before .before .before .before .before .before .before .before .before .before .pre .1 .places), c .before .before .before .before .before .before .places .ensures .0)
 
--- src/lib.rt:162:9
 line-if-requires : tie.Need-line-if-requires Inv-loop μ-loop
 line-if-requires c κs = (c .before .before .before .before .before .before .before .before .before .before .before .before .before .before .pre .0, subst WordFits (sym (c .before .before .before .before .before .before .before .word-for .ensures)) (word-fits (c .before .before .before .before .before .before .before .before .before .before .before .before .before .before .args .k .holds) (c .before .before .before .before .before .before .before .before .before .before .before .before .before .before .args .k .r) (c .before .before .before .before .before .before .before .before .before .before .before .before .before .before .pre .1 .number)), c .before .with-term .ensures .0)
 
--- src/lib.rt:163:9
 add-z : tie.Need-add-z Inv-loop μ-loop
 add-z c = omega (arith, c .before .before .before .before .before .before .before .before .before .before .before .before .before .before .before .before .before .pre .1 .few)
 
--- src/lib.rt:159:5
-loop-less : tie.Need-loop-less Inv-loop μ-loop
-loop-less c = omega arith
-
--- src/lib.rt:159:5
 loop-again : tie.Need-loop-again Inv-loop μ-loop
 loop-again c = (
   omega arith,
@@ -78,11 +49,9 @@ loop-again c = (
       (c .before .before .before .before .with-term .ensures .2 ∙ row-codes (c .before .before .before .before .before .before .before .before .before .before .before .before .before .before .before .before .before .args .k) (c .before .before .before .before .before .before .before .before .before .before .before .before .before .before .before .before .before .args .before) (c .before .before .before .before .before .before .before .before .before .loop .z) _ (c .before .before .before .before .before .before .before .before .before .before .before .before .before .before .before .before .before .pre .1) (c .before .before .before .before .before .before .before .before .before .before .before .before .before .before .before .before .before .pre .2) (omega arith) (c .before .before .before .before .before .before .before .before .before .before .before .places .ensures .2))) (c .before .before .line-if .ensures)),
 )
 
--- src/lib.rt:143:1
 same-length : tie.Need-same-length Inv-loop μ-loop
 same-length c = c .before .before .loop .inv .1 .size
 
--- src/lib.rt:143:1
 returns : tie.Need-returns Inv-loop μ-loop
 returns c = finished (recut (flat-stop _ (c .before .before .before .before .before .before .before .before .before .before .args .before * c .before .before .before .before .before .before .before .before .before .before .args .k .n) (c .before .before .loop .z) (c .before .before .before .before .before .before .before .before .before .before .args .k .n) (omega arith)) (c .before .before .loop .inv .1))
 
@@ -94,15 +63,15 @@ run-spec =
     μ-loop
     sub-places
     places-requires
-    word-for-requires
+    (λ c κs. search needs)
     loop-holds
     is-so-requires
-    agrees-requires
+    (λ c κs. search needs)
     add-with-term
     with-term-requires
     line-if-requires
     add-z
-    loop-less
+    (λ c. omega arith)
     loop-again
     same-length
     returns)

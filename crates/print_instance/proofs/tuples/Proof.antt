@@ -1,12 +1,8 @@
+-- `print_instance::tuples` meets its contract. Assumes nothing.
 use Rattle.print_instance.proofs.tuples.Statement.{statement}
 use Rattle.print_instance.proofs.tuples.Tie as tie
-use Rattle.print_instance.proofs.tuples.Reads as reads
-use Rattle.print_instance.proofs.tuples.Lts as lts
-use Rattle.print_instance.proofs.run.Reads as run-reads
-use Rattle.rows.proofs.power.Reads as power-reads
 use native.Mathlib.Omega.{arith}
 use Prim.Native.Nat.{_-_, _≤_}
-use lib.ListN.{length}
 use Rattle.definitions.specs.Lists.{from, flatMap}
 use Rattle.problem_layout.specs.LaidLaws.{pow-fits}
 use Rattle.print_bytes.specs.Emitted.{Left, begin, recut, next as then, finished}
@@ -19,39 +15,24 @@ Inv-loop out₀ at question names facts k runs before₀ next₀ out before next
 abbrev μ-loop : tie.MeasureT-loop
 μ-loop out₀ at question names facts k runs before₀ next₀ out before next = runs - before
 
--- src/lib.rt:180:33
 sub-power : tie.Need-sub-power Inv-loop μ-loop
 sub-power c = omega (arith, c .before .before .before .before .before .pre .1 .placed)
 
--- src/lib.rt:180:9
 power-requires : tie.Need-power-requires Inv-loop μ-loop
 power-requires c κs = (c .before .before .before .before .before .pre .1 .some, pow-fits (c .before .before .before .before .before .args .k .n) _ (c .before .before .before .before .before .pre .1 .few) (omega (arith, c .before .before .before .before .before .pre .1 .places)))
 
--- src/lib.rt:183:5
 loop-holds : tie.Need-loop-holds Inv-loop μ-loop
 loop-holds c = (omega arith, begin _ (tuples-first _ _ _ _ _ (c .power .ensures)) (omega arith) (omega arith))
 
--- src/lib.rt:184:9
 run-requires : tie.Need-run-requires Inv-loop μ-loop
 run-requires c κs = (c .before .before .before .before .before .before .before .before .before .pre .0, c .before .before .before .before .before .before .before .before .before .pre .1, omega (arith, c .before .before .before .power .ensures))
 
--- src/lib.rt:185:9
-add-before : tie.Need-add-before Inv-loop μ-loop
-add-before c = omega arith
-
--- src/lib.rt:183:5
-loop-less : tie.Need-loop-less Inv-loop μ-loop
-loop-less c = omega arith
-
--- src/lib.rt:183:5
 loop-again : tie.Need-loop-again Inv-loop μ-loop
 loop-again c = (omega arith, then _ _ (recut (flat-next (runText (c .before .before .before .before .before .before .before .before .before .before .before .before .args .question .now) (c .before .before .before .before .before .before .before .before .before .before .before .before .args .names .now) (c .before .before .before .before .before .before .before .before .before .before .before .before .args .facts .now) (c .before .before .before .before .before .before .before .before .before .before .before .before .args .k)) (c .before .before .before .before .before .loop .before) _ (omega arith)) (c .before .before .before .before .before .loop .inv .1)) (c .before .before .run .ensures))
 
--- src/lib.rt:169:1
 same-length : tie.Need-same-length Inv-loop μ-loop
 same-length c = c .before .loop .inv .1 .size
 
--- src/lib.rt:169:1
 returns : tie.Need-returns Inv-loop μ-loop
 returns c = finished (recut (flat-end (runText (c .before .before .before .before .before .before .before .before .args .question .now) (c .before .before .before .before .before .before .before .before .args .names .now) (c .before .before .before .before .before .before .before .before .args .facts .now) (c .before .before .before .before .before .before .before .before .args .k)) (c .before .loop .before) _ (omega arith)) (c .before .loop .inv .1))
 
@@ -65,8 +46,8 @@ tuples-spec =
     power-requires
     loop-holds
     run-requires
-    add-before
-    loop-less
+    (λ c. omega arith)
+    (λ c. omega arith)
     loop-again
     same-length
     returns)

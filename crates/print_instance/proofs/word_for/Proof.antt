@@ -1,14 +1,11 @@
+-- `print_instance::word_for` meets its contract. Assumes nothing.
 use Rattle.print_instance.proofs.word_for.Statement.{statement}
 use Rattle.print_instance.proofs.word_for.Tie as tie
-use Rattle.print_instance.proofs.word_for.Reads as reads
-use Rattle.print_instance.proofs.word_for.Lts as lts
 use Rattle.print_instance.specs.Texts.{word-held, word-not}
 
--- src/lib.rt:129:9
 returns : tie.Need-returns
 returns c = word-held _ _ (c .if1 .taken)
 
--- src/lib.rt:125:1
 returns-2 : tie.Need-returns-2
 returns-2 c = word-not _ _ (c .if1 .left)
 

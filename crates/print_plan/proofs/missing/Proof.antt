@@ -1,11 +1,10 @@
+-- `print_plan::missing` meets its contract. Assumes nothing.
 use native.Mathlib.Omega.{arith}
 use Prim.Native.Nat.{ℕ, _-_, _≤_, _<_}
 use lib.ListN.{length, getD}
 use Rattle.print_plan.specs.Plans.{smaller}
 use Rattle.print_plan.proofs.missing.Statement.{statement}
 use Rattle.print_plan.proofs.missing.Tie as tie
-use Rattle.print_plan.proofs.missing.Reads as reads
-use Rattle.print_plan.proofs.missing.Lts as lts
 
 abbrev Inv-loop : tie.InvT-loop
 Inv-loop steps actions i₀ i = (i ≤ length steps) × ((j : ℕ) → j < i → getD steps j 0 < actions)
@@ -13,39 +12,18 @@ Inv-loop steps actions i₀ i = (i ≤ length steps) × ((j : ℕ) → j < i →
 abbrev μ-loop : tie.MeasureT-loop
 μ-loop steps actions i₀ i = length steps - i
 
--- src/lib.rt:147:5
 loop-holds : tie.Need-loop-holds Inv-loop μ-loop
 loop-holds c = (omega arith, λ j h. absurd (omega arith))
 
--- src/lib.rt:148:23
-mul-if1 : tie.Need-mul-if1 Inv-loop μ-loop
-mul-if1 c = omega arith
-
--- src/lib.rt:148:23
-shared-slice-read-if1 : tie.Need-shared-slice-read-if1 Inv-loop μ-loop
-shared-slice-read-if1 c = omega arith
-
--- src/lib.rt:148:23
 cast-if1 : tie.Need-cast-if1 Inv-loop μ-loop
 cast-if1 c = omega (arith, c .shared-slice-known .given (c .before .before .loop .i))
 
--- src/lib.rt:149:13
 returns : tie.Need-returns Inv-loop μ-loop
 returns c = record { within = omega arith; small = c .before .before .before .loop .inv .1; large = λ h. omega arith }
 
--- src/lib.rt:151:9
-add-i : tie.Need-add-i Inv-loop μ-loop
-add-i c = omega arith
-
--- src/lib.rt:147:5
-loop-less : tie.Need-loop-less Inv-loop μ-loop
-loop-less c = omega arith
-
--- src/lib.rt:147:5
 loop-again : tie.Need-loop-again Inv-loop μ-loop
 loop-again c = (omega arith, smaller (c .before .before .before .before .args .steps .now) (c .before .before .before .before .args .actions) (c .before .before .before .loop .i) (c .before .before .before .loop .inv .1) (omega arith))
 
--- src/lib.rt:143:1
 returns-2 : tie.Need-returns-2 Inv-loop μ-loop
 returns-2 c = record { within = c .before .loop .inv .0; small = c .before .loop .inv .1; large = λ h. absurd (omega arith) }
 
@@ -56,11 +34,11 @@ missing-spec =
     Inv-loop
     μ-loop
     loop-holds
-    mul-if1
-    shared-slice-read-if1
+    (λ c. omega arith)
+    (λ c. omega arith)
     cast-if1
     returns
-    add-i
-    loop-less
+    (λ c. omega arith)
+    (λ c. omega arith)
     loop-again
     returns-2)

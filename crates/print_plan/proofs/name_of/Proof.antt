@@ -1,109 +1,52 @@
+-- `print_plan::name_of` meets its contract. Assumes nothing.
 use mathlib.Core.Path.{sym, ap}
 use Rattle.print_plan.specs.Lines.{nameIn, first-name, next-name}
 use borrow.Author.Needs.{needs}
 use Rattle.print_plan.proofs.name_of.Statement.{statement}
 use Rattle.print_plan.proofs.name_of.Tie as tie
-use Rattle.print_plan.proofs.name_of.Reads as reads
-use Rattle.print_plan.proofs.name_of.Lts as lts
 
--- src/lib.rt:28:18
-enum-known-a : tie.Need-enum-known-a
-enum-known-a c = search needs
-
--- src/lib.rt:29:23
-enum-told : tie.Need-enum-told
-enum-told c = search needs
-
--- src/lib.rt:30:18
-enum-known-a-2 : tie.Need-enum-known-a-2
-enum-known-a-2 c = search needs
-
--- src/lib.rt:31:17
-enum-known-a-3 : tie.Need-enum-known-a-3
-enum-known-a-3 c = search needs
-
--- src/lib.rt:32:21
-enum-known-a-4 : tie.Need-enum-known-a-4
-enum-known-a-4 c = search needs
-
--- src/lib.rt:33:21
-enum-known-a-5 : tie.Need-enum-known-a-5
-enum-known-a-5 c = search needs
-
--- src/lib.rt:35:17
 returns : tie.Need-returns
 returns c = first-name _ _ (c .before .before .before .a5 .given .1) (c .if1 .taken)
 
--- src/lib.rt:39:22
-enum-told-2 : tie.Need-enum-told-2
-enum-told-2 c = search needs
-
--- src/lib.rt:40:26
-enum-told-3 : tie.Need-enum-told-3
-enum-told-3 c = search needs
-
--- src/lib.rt:41:27
-enum-told-4 : tie.Need-enum-told-4
-enum-told-4 c = search needs
-
--- src/lib.rt:42:28
-enum-told-5 : tie.Need-enum-told-5
-enum-told-5 c = search needs
-
--- src/lib.rt:43:25
-enum-told-6 : tie.Need-enum-told-6
-enum-told-6 c = search needs
-
--- src/lib.rt:24:1
 returns-2 : tie.Need-returns-2
 unfolding nameIn
 returns-2 c = sym (ap nameIn (c .before .a .given .1))
 
--- src/lib.rt:24:1
 returns-3 : tie.Need-returns-3
 unfolding nameIn
 returns-3 c = sym (ap nameIn (c .enum-told .given .1))
 
--- src/lib.rt:24:1
 returns-4 : tie.Need-returns-4
 unfolding nameIn
 returns-4 c = sym (ap nameIn (c .before .a2 .given .1))
 
--- src/lib.rt:24:1
 returns-5 : tie.Need-returns-5
 unfolding nameIn
 returns-5 c = sym (ap nameIn (c .before .a3 .given .1))
 
--- src/lib.rt:24:1
 returns-6 : tie.Need-returns-6
 unfolding nameIn
 returns-6 c = sym (ap nameIn (c .before .a4 .given .1))
 
--- src/lib.rt:24:1
 returns-7 : tie.Need-returns-7
 returns-7 c = next-name _ _ (c .before .before .before .a5 .given .1) (c .if1 .left)
 
--- src/lib.rt:24:1
 returns-8 : tie.Need-returns-8
 unfolding nameIn
 returns-8 c = sym (ap nameIn (c .enum-told2 .given .1))
 
--- src/lib.rt:24:1
 returns-9 : tie.Need-returns-9
 unfolding nameIn
 returns-9 c = sym (ap nameIn (c .enum-told3 .given .1))
 
--- src/lib.rt:24:1
 returns-10 : tie.Need-returns-10
 unfolding nameIn
 returns-10 c = sym (ap nameIn (c .enum-told4 .given .1))
 
--- src/lib.rt:24:1
 returns-11 : tie.Need-returns-11
 unfolding nameIn
 returns-11 c = sym (ap nameIn (c .enum-told5 .given .1))
 
--- src/lib.rt:24:1
 returns-12 : tie.Need-returns-12
 unfolding nameIn
 returns-12 c = sym (ap nameIn (c .enum-told6 .given .1))
@@ -112,18 +55,18 @@ pub name-of-spec : {M : Type 1} → statement M
 name-of-spec =
     tie.close
     (tie.spec
-    enum-known-a
-    enum-told
-    enum-known-a-2
-    enum-known-a-3
-    enum-known-a-4
-    enum-known-a-5
+    (λ c. search needs)
+    (λ c. search needs)
+    (λ c. search needs)
+    (λ c. search needs)
+    (λ c. search needs)
+    (λ c. search needs)
     returns
-    enum-told-2
-    enum-told-3
-    enum-told-4
-    enum-told-5
-    enum-told-6
+    (λ c. search needs)
+    (λ c. search needs)
+    (λ c. search needs)
+    (λ c. search needs)
+    (λ c. search needs)
     returns-2
     returns-3
     returns-4

@@ -1,3 +1,4 @@
+-- `print_plan::plan` meets its contract. Assumes nothing.
 use borrow.Author.Needs.{needs}
 use native.Mathlib.Omega.{arith}
 use mathlib.Core.Path.{_≡_, refl}
@@ -13,9 +14,6 @@ use Rattle.print_plan.specs.Lines.{lineAt}
 use Rattle.print_plan.specs.Plans.{Taken, lines-next, lines-end}
 use Rattle.print_plan.proofs.plan.Statement.{statement}
 use Rattle.print_plan.proofs.plan.Tie as tie
-use Rattle.print_plan.proofs.plan.Reads as reads
-use Rattle.print_plan.proofs.plan.Lts as lts
-use Rattle.print_plan.proofs.step.Reads as step-reads
 
 abbrev Inv-loop : tie.InvT-loop
 Inv-loop out₀ question names table steps i₀ next₀ out i next = (length out ≡ length out₀) × ((c : Case) → Is (problemOf c) table → NamesAre (problemOf c) question names → Taken (problemOf c) steps
@@ -24,43 +22,21 @@ Inv-loop out₀ question names table steps i₀ next₀ out i next = (length out
 abbrev μ-loop : tie.MeasureT-loop
 μ-loop out₀ question names table steps i₀ next₀ out i next = length steps - i
 
--- src/lib.rt:134:5
 loop-holds : tie.Need-loop-holds Inv-loop μ-loop
 loop-holds c = (refl, λ case is N t. begin _ refl (omega arith) (omega arith))
 
--- src/lib.rt:135:17
-mul-k : tie.Need-mul-k Inv-loop μ-loop
-mul-k c = omega arith
-
--- src/lib.rt:135:17
-shared-slice-read-k : tie.Need-shared-slice-read-k Inv-loop μ-loop
-shared-slice-read-k c = omega arith
-
--- src/lib.rt:135:17
 cast-k : tie.Need-cast-k Inv-loop μ-loop
 cast-k c = omega (arith, c .shared-slice-known5 .given (c .before .before .loop .i))
 
--- src/lib.rt:136:9
 step-requires : tie.Need-step-requires Inv-loop μ-loop
 step-requires c κs = c .before .before .before .before .before .before .before .before .before .pre
 
--- src/lib.rt:137:9
-add-i : tie.Need-add-i Inv-loop μ-loop
-add-i c = omega arith
-
--- src/lib.rt:134:5
-loop-less : tie.Need-loop-less Inv-loop μ-loop
-loop-less c = omega arith
-
--- src/lib.rt:134:5
 loop-again : tie.Need-loop-again Inv-loop μ-loop
 loop-again c = (search needs, λ case is N t. then _ _ (recut (lines-next case (problemOf case) (c .before .before .before .before .before .before .before .before .before .before .before .before .args .steps .now) (c .before .before .before .before .before .before .loop .i) _ (omega arith) refl) (c .before .before .before .before .before .before .loop .inv .1 case is N t)) (c .before .before .step .ensures case (t (c .before .before .before .before .before .before .loop .i) (omega arith) .0) is N (t (c .before .before .before .before .before .before .loop .i) (omega arith) .1)))
 
--- src/lib.rt:121:1
 same-length : tie.Need-same-length Inv-loop μ-loop
 same-length c = c .before .loop .inv .0
 
--- src/lib.rt:121:1
 returns : tie.Need-returns Inv-loop μ-loop
 returns c = λ case is N t. finished (recut (lines-end case (problemOf case) (c .before .before .before .before .before .before .before .args .steps .now) (c .before .loop .i) (omega arith)) (c .before .loop .inv .1 case is N t))
 
@@ -71,12 +47,12 @@ plan-spec =
     Inv-loop
     μ-loop
     loop-holds
-    mul-k
-    shared-slice-read-k
+    (λ c. omega arith)
+    (λ c. omega arith)
     cast-k
     step-requires
-    add-i
-    loop-less
+    (λ c. omega arith)
+    (λ c. omega arith)
     loop-again
     same-length
     returns)

@@ -1,11 +1,9 @@
+-- `print_words::parameters` meets its contract. Assumes nothing.
 use Rattle.print_words.proofs.parameters.Statement.{statement}
 use Rattle.print_words.proofs.parameters.Tie as tie
-use Rattle.print_words.proofs.parameters.Reads as reads
-use Rattle.print_words.proofs.parameters.Lts as lts
 use Rattle.print_words.specs.Words.{first-parameters}
 use mathlib.Core.Path.{refl}
 
--- src/lib.rt:68:1
 returns : tie.Need-returns
 returns c = (record { few = c .pre; room = refl }, refl, first-parameters _ (c .pre))
 

@@ -1,140 +1,67 @@
+-- `read_plan::action` meets its contract. Assumes nothing.
 use native.Mathlib.Omega.{arith}
 use mathlib.Core.Path.{_∙_, ap₂, subst, refl}
 use Rattle.read_plan.specs.Numbers.{told, numberBy, NameFits, number-as}
 use borrow.Author.Needs.{needs}
 use Rattle.read_plan.proofs.action.Statement.{statement}
 use Rattle.read_plan.proofs.action.Tie as tie
-use Rattle.read_plan.proofs.action.Reads as reads
-use Rattle.read_plan.proofs.action.Lts as lts
-use Rattle.read_plan.proofs.and_step.Reads as and-step-reads
-use Rattle.read_plan.proofs.begin_step.Reads as begin-step-reads
-use Rattle.read_plan.proofs.exists_step.Reads as exists-step-reads
-use Rattle.read_plan.proofs.first_step.Reads as first-step-reads
-use Rattle.read_plan.proofs.goal_step.Reads as goal-step-reads
-use Rattle.read_plan.proofs.next_step.Reads as next-step-reads
-use Rattle.read_plan.proofs.no_step.Reads as no-step-reads
-use Rattle.read_plan.proofs.or_step.Reads as or-step-reads
-use Rattle.read_plan.proofs.set_step.Reads as set-step-reads
 
--- src/lib.rt:624:19
-enum-known-k : tie.Need-enum-known-k
-enum-known-k c = search needs
-
--- src/lib.rt:624:25
 set-step-requires : tie.Need-set-step-requires
 unfolding NameFits
 set-step-requires c κs = ((c .before .before .before .before .before .before .pre .0 .0, subst NameFits (c .before .k .given .1) (c .before .before .before .before .before .before .pre .0 .1), c .before .before .before .before .before .before .pre .0 .2, c .before .before .before .before .before .before .pre .0 .3), c .before .before .before .before .before .before .pre .1)
 
--- src/lib.rt:625:24
-enum-told : tie.Need-enum-told
-enum-told c = search needs
-
--- src/lib.rt:625:24
-begin-step-requires : tie.Need-begin-step-requires
-begin-step-requires c κs = search needs
-
--- src/lib.rt:626:23
-enum-told-2 : tie.Need-enum-told-2
-enum-told-2 c = search needs
-
--- src/lib.rt:626:23
-goal-step-requires : tie.Need-goal-step-requires
-goal-step-requires c κs = search needs
-
--- src/lib.rt:627:19
-enum-known-k-2 : tie.Need-enum-known-k-2
-enum-known-k-2 c = search needs
-
--- src/lib.rt:627:25
 and-step-requires : tie.Need-and-step-requires
 unfolding NameFits
 and-step-requires c κs = (c .before .before .before .before .before .before .pre .0 .0, subst NameFits (c .before .k2 .given .1) (c .before .before .before .before .before .before .pre .0 .1), c .before .before .before .before .before .before .pre .0 .2, c .before .before .before .before .before .before .pre .0 .3)
 
--- src/lib.rt:628:22
-enum-known-k-3 : tie.Need-enum-known-k-3
-enum-known-k-3 c = search needs
-
--- src/lib.rt:628:28
 exists-step-requires : tie.Need-exists-step-requires
 unfolding NameFits
 exists-step-requires c κs = (c .before .before .before .before .before .before .pre .0 .0, subst NameFits (c .before .k3 .given .1) (c .before .before .before .before .before .before .pre .0 .1), c .before .before .before .before .before .before .pre .0 .2, c .before .before .before .before .before .before .pre .0 .3)
 
--- src/lib.rt:629:21
-enum-known-k-4 : tie.Need-enum-known-k-4
-enum-known-k-4 c = search needs
-
--- src/lib.rt:629:27
 first-step-requires : tie.Need-first-step-requires
 unfolding NameFits
 first-step-requires c κs = (c .before .before .before .before .before .before .pre .0 .0, subst NameFits (c .before .k4 .given .1) (c .before .before .before .before .before .before .pre .0 .1), c .before .before .before .before .before .before .pre .0 .2, c .before .before .before .before .before .before .pre .0 .3)
 
--- src/lib.rt:630:20
-enum-known-k-5 : tie.Need-enum-known-k-5
-enum-known-k-5 c = search needs
-
--- src/lib.rt:630:26
 next-step-requires : tie.Need-next-step-requires
 unfolding NameFits
 next-step-requires c κs = (c .before .before .before .before .before .before .pre .0 .0, subst NameFits (c .before .k5 .given .1) (c .before .before .before .before .before .before .pre .0 .1), c .before .before .before .before .before .before .pre .0 .2, c .before .before .before .before .before .before .pre .0 .3)
 
--- src/lib.rt:631:18
-enum-known-k-6 : tie.Need-enum-known-k-6
-enum-known-k-6 c = search needs
-
--- src/lib.rt:631:27
 or-step-requires : tie.Need-or-step-requires
 unfolding NameFits
 or-step-requires c κs = ((c .before .before .before .before .before .before .pre .0 .0, subst NameFits (c .before .k6 .given .1) (c .before .before .before .before .before .before .pre .0 .1) .0, c .before .before .before .before .before .before .pre .0 .2, c .before .before .before .before .before .before .pre .0 .3), subst NameFits (c .before .k6 .given .1) (c .before .before .before .before .before .before .pre .0 .1) .1)
 
--- src/lib.rt:632:25
-enum-told-3 : tie.Need-enum-told-3
-enum-told-3 c = search needs
-
--- src/lib.rt:632:25
-no-step-requires : tie.Need-no-step-requires
-no-step-requires c κs = search needs
-
--- src/lib.rt:618:1
 returns : tie.Need-returns
 unfolding numberBy
 returns c = (number-as _ _ _ _ (c .before .before .before .before .before .before .before .args .k) _ _ (c .before .before .k .given .1) (c .set-step .ensures .0), c .set-step .ensures .1)
 
--- src/lib.rt:618:1
 returns-2 : tie.Need-returns-2
 unfolding numberBy
 returns-2 c = (number-as _ _ _ _ (c .before .before .before .before .before .before .args .k) _ _ (c .before .enum-told .given .1) (c .begin-step .ensures .0), c .begin-step .ensures .1)
 
--- src/lib.rt:618:1
 returns-3 : tie.Need-returns-3
 unfolding numberBy
 returns-3 c = (number-as _ _ _ _ (c .before .before .before .before .before .before .args .k) _ _ (c .before .enum-told2 .given .1) (c .goal-step .ensures .0), c .goal-step .ensures .1)
 
--- src/lib.rt:618:1
 returns-4 : tie.Need-returns-4
 unfolding numberBy
 returns-4 c = (number-as _ _ _ _ (c .before .before .before .before .before .before .before .args .k) _ _ (c .before .before .k2 .given .1) (c .and-step .ensures .0), c .and-step .ensures .1)
 
--- src/lib.rt:618:1
 returns-5 : tie.Need-returns-5
 unfolding numberBy
 returns-5 c = (number-as _ _ _ _ (c .before .before .before .before .before .before .before .args .k) _ _ (c .before .before .k3 .given .1) (c .exists-step .ensures .0), c .exists-step .ensures .1)
 
--- src/lib.rt:618:1
 returns-6 : tie.Need-returns-6
 unfolding numberBy
 returns-6 c = (number-as _ _ _ _ (c .before .before .before .before .before .before .before .args .k) _ _ (c .before .before .k4 .given .1) (c .first-step .ensures .0), c .first-step .ensures .1)
 
--- src/lib.rt:618:1
 returns-7 : tie.Need-returns-7
 unfolding numberBy
 returns-7 c = (number-as _ _ _ _ (c .before .before .before .before .before .before .before .args .k) _ _ (c .before .before .k5 .given .1) (c .next-step .ensures .0), c .next-step .ensures .1)
 
--- src/lib.rt:618:1
 returns-8 : tie.Need-returns-8
 unfolding numberBy
 returns-8 c = (number-as _ _ _ _ (c .before .before .before .before .before .before .before .args .k) _ _ (c .before .before .k6 .given .1) (c .or-step .ensures .0), c .or-step .ensures .1)
 
--- src/lib.rt:618:1
 returns-9 : tie.Need-returns-9
 unfolding numberBy told
 returns-9 c = (ap₂ told (c .no-step .ensures .0) (c .no-step .ensures .1) ∙ number-as _ _ _ _ (c .before .before .before .before .before .before .args .k) _ _ (c .before .enum-told3 .given .1) refl, omega (arith, c .no-step .ensures .1))
@@ -143,24 +70,24 @@ pub action-spec : {M : Type 1} → statement M
 action-spec =
     tie.close
     (tie.spec
-    enum-known-k
+    (λ c. search needs)
     set-step-requires
-    enum-told
-    begin-step-requires
-    enum-told-2
-    goal-step-requires
-    enum-known-k-2
+    (λ c. search needs)
+    (λ c κs. search needs)
+    (λ c. search needs)
+    (λ c κs. search needs)
+    (λ c. search needs)
     and-step-requires
-    enum-known-k-3
+    (λ c. search needs)
     exists-step-requires
-    enum-known-k-4
+    (λ c. search needs)
     first-step-requires
-    enum-known-k-5
+    (λ c. search needs)
     next-step-requires
-    enum-known-k-6
+    (λ c. search needs)
     or-step-requires
-    enum-told-3
-    no-step-requires
+    (λ c. search needs)
+    (λ c κs. search needs)
     returns
     returns-2
     returns-3

@@ -1,3 +1,4 @@
+-- `read_plan::form` meets its contract. Assumes nothing.
 use native.Mathlib.Omega.{arith}
 use mathlib.Core.Path.{_≡_, refl, sym, _∙_}
 use Prim.Native.Nat.{_-_, _≤_, _<_}
@@ -6,10 +7,6 @@ use Rattle.read_text.proofs.Laws.{end-within}
 use Rattle.read_plan.specs.Lines.{Going, formed-refused, read-over, going-first, going-on, going-wrong, going-open, going-end}
 use Rattle.read_plan.proofs.form.Statement.{statement}
 use Rattle.read_plan.proofs.form.Tie as tie
-use Rattle.read_plan.proofs.form.Reads as reads
-use Rattle.read_plan.proofs.form.Lts as lts
-use Rattle.read_plan.proofs.is_formed.Reads as is-formed-reads
-use Rattle.read_text.proofs.find.Reads as find-reads
 
 abbrev Inv-loop : tie.InvT-loop
 Inv-loop s n at₀ count₀ at count = (at ≤ n) × (count ≤ at) × (n ≡ length s) × Going s at count
@@ -17,39 +14,30 @@ Inv-loop s n at₀ count₀ at count = (at ≤ n) × (count ≤ at) × (n ≡ le
 abbrev μ-loop : tie.MeasureT-loop
 μ-loop s n at₀ count₀ at count = n - at
 
--- src/lib.rt:113:9
 returns : tie.Need-returns Inv-loop μ-loop
 returns c = formed-refused _ 1 0 0 (omega arith) (read-over _ (omega arith))
 
--- src/lib.rt:121:5
 loop-holds : tie.Need-loop-holds Inv-loop μ-loop
 loop-holds c = (omega arith, omega arith, refl, going-first _ (omega arith))
 
--- src/lib.rt:122:13
 find-requires : tie.Need-find-requires Inv-loop μ-loop
 find-requires c κs = (omega arith, omega arith)
 
--- src/lib.rt:124:13
 returns-2 : tie.Need-returns-2 Inv-loop μ-loop
 returns-2 c = going-open (c .before .before .before .before .before .before .args .s .now) (c .before .before .before .loop .at) (c .before .find .result) (c .before .before .before .loop .count) (omega arith) (c .before .find .ensures) (c .before .before .before .loop .inv .3) (omega arith)
 
--- src/lib.rt:130:12
 is-formed-requires : tie.Need-is-formed-requires Inv-loop μ-loop
 is-formed-requires c κs = (omega (arith, c .before .find .ensures), omega (arith, c .before .find .ensures, end-within 10 (c .before .before .before .loop .at) (length (c .before .before .before .before .before .before .args .s .now)) (c .before .before .before .before .before .before .args .s .now) (omega arith) (omega arith)))
 
--- src/lib.rt:131:18
 add-at : tie.Need-add-at Inv-loop μ-loop
 add-at c = omega (arith, c .before .before .before .find .ensures, end-within 10 (c .before .before .before .before .before .loop .at) (length (c .before .before .before .before .before .before .before .before .args .s .now)) (c .before .before .before .before .before .before .before .before .args .s .now) (omega arith) (omega arith))
 
--- src/lib.rt:132:13
 add-count : tie.Need-add-count Inv-loop μ-loop
 add-count c = omega (arith, c .before .before .before .before .before .loop .inv .1)
 
--- src/lib.rt:121:5
 loop-less : tie.Need-loop-less Inv-loop μ-loop
 loop-less c = omega (arith, c .before .before .before .find .ensures)
 
--- src/lib.rt:121:5
 loop-again : tie.Need-loop-again Inv-loop μ-loop
 loop-again c = (
   omega (arith, c .before .before .before .find .ensures, end-within 10 (c .before .before .before .before .before .loop .at) (length (c .before .before .before .before .before .before .before .before .args .s .now)) (c .before .before .before .before .before .before .before .before .args .s .now) (omega arith) (omega arith)),
@@ -58,11 +46,9 @@ loop-again c = (
   going-on (c .before .before .before .before .before .before .before .before .args .s .now) (c .before .before .before .before .before .loop .at) (c .before .before .before .find .result) (c .before .before .before .before .before .loop .count) (omega arith) (c .before .before .before .find .ensures) (c .before .before .before .before .before .loop .inv .3) (omega (arith, c .before .before .before .find .ensures, end-within 10 (c .before .before .before .before .before .loop .at) (length (c .before .before .before .before .before .before .before .before .args .s .now)) (c .before .before .before .before .before .before .before .before .args .s .now) (omega arith) (omega arith))) (sym (c .before .is-formed .ensures) ∙ c .if3 .taken),
 )
 
--- src/lib.rt:134:13
 returns-3 : tie.Need-returns-3 Inv-loop μ-loop
 returns-3 c = going-wrong (c .before .before .before .before .before .before .before .before .args .s .now) (c .before .before .before .before .before .loop .at) (c .before .before .before .find .result) (c .before .before .before .before .before .loop .count) (omega arith) (c .before .before .before .find .ensures) (c .before .before .before .before .before .loop .inv .3) (omega (arith, c .before .before .before .find .ensures, end-within 10 (c .before .before .before .before .before .loop .at) (length (c .before .before .before .before .before .before .before .before .args .s .now)) (c .before .before .before .before .before .before .before .before .args .s .now) (omega arith) (omega arith))) (sym (c .before .is-formed .ensures) ∙ c .if3 .left)
 
--- src/lib.rt:108:1
 returns-4 : tie.Need-returns-4 Inv-loop μ-loop
 returns-4 c = going-end (c .before .before .before .before .args .s .now) (c .before .loop .at) (c .before .loop .count) (omega (arith, c .before .loop .inv .0)) (c .before .loop .inv .3)
 

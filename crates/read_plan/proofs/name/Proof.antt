@@ -1,3 +1,4 @@
+-- `read_plan::name` meets its contract. Assumes nothing.
 use native.Mathlib.Omega.{arith}
 use mathlib.Core.Path.{_≡_, _∙_, sym, subst}
 use mathlib.Core.Bool.{Bool}
@@ -8,57 +9,24 @@ use Rattle.read_plan.specs.Domain.{Compared, named-small, name-empty, na
 use borrow.Author.Needs.{needs}
 use Rattle.read_plan.proofs.name.Statement.{statement}
 use Rattle.read_plan.proofs.name.Tie as tie
-use Rattle.read_plan.proofs.name.Reads as reads
-use Rattle.read_plan.proofs.name.Lts as lts
-use Rattle.read_plan.proofs.is_named.Reads as is-named-reads
-use Rattle.read_plan.proofs.is_said.Reads as is-said-reads
-use Rattle.read_plan.proofs.other_name.Reads as other-name-reads
-use Rattle.read_plan.proofs.set_name.Reads as set-name-reads
-use Rattle.read_plan.proofs.small.Reads as small-reads
 
--- src/lib.rt:374:9
 returns : tie.Need-returns
 returns c = λ case A is given. name-empty case A (c .before .before .before .before .before .args .question .now) (c .before .before .before .before .before .args .names .now) (c .before .before .before .before .before .args .table .now) is given _ (folded-none (c .before .before .before .before .before .args .s .now) (c .before .before .before .before .before .args .a) (c .before .before .before .before .before .args .e) (c .before .before .before .before .before .pre .1 .1) (omega arith) (omega arith))
 
--- src/lib.rt:376:14
-shared-slice-read-small : tie.Need-shared-slice-read-small
-shared-slice-read-small c = search needs
-
--- src/lib.rt:376:8
-small-requires : tie.Need-small-requires
-small-requires c κs = search needs
-
--- src/lib.rt:377:9
-set-name-requires : tie.Need-set-name-requires
-set-name-requires c κs = search needs
-
--- src/lib.rt:377:9
 returns-2 : tie.Need-returns-2
 returns-2 c = λ case A is given. name-set case A (c .before .before .before .before .before .before .before .before .before .args .question .now) (c .before .before .before .before .before .before .before .before .before .args .names .now) (c .before .before .before .before .before .before .before .before .before .args .table .now) is given _ (word-first (c .before .before .before .before .before .before .before .before .before .args .s .now) (c .before .before .before .before .before .before .before .before .before .args .a) (c .before .before .before .before .before .before .before .before .before .args .e) _ (omega arith) (c .before .before .small .ensures) ∙ c .before .if2 .taken) _ (c .set-name .ensures case A is given)
 
--- src/lib.rt:379:9
-other-name-requires : tie.Need-other-name-requires
-other-name-requires c κs = search needs
-
--- src/lib.rt:380:8
-is-named-requires : tie.Need-is-named-requires
-is-named-requires c κs = search needs
-
--- src/lib.rt:381:12
 is-said-requires : tie.Need-is-said-requires
 is-said-requires c κs = ((c .before .before .before .before .before .before .before .before .before .before .before .pre .0 .1, named-small _ _ (sym (c .before .is-named .ensures) ∙ c .if3 .taken)), (c .before .before .before .before .before .before .before .before .before .before .before .pre .1 .0, c .before .before .before .before .before .before .before .before .before .before .before .pre .1 .1))
 
--- src/lib.rt:382:13
 returns-3 : tie.Need-returns-3
 returns-3 c = λ case A is given. name-said case A (c .before .before .before .before .before .before .before .before .before .before .before .before .before .args .question .now) (c .before .before .before .before .before .before .before .before .before .before .before .before .before .args .names .now) (c .before .before .before .before .before .before .before .before .before .before .before .before .before .args .table .now) is given _ (λ z. c .before .before .before .before .before .if2 .left (sym (word-first (c .before .before .before .before .before .before .before .before .before .before .before .before .before .args .s .now) (c .before .before .before .before .before .before .before .before .before .before .before .before .before .args .a) (c .before .before .before .before .before .before .before .before .before .before .before .before .before .args .e) _ (omega arith) (c .before .before .before .before .before .before .small .ensures)) ∙ z)) _ (c .before .before .before .before .other-name .ensures) (sym (c .before .before .before .is-named .ensures) ∙ c .before .before .if3 .taken)
     (subst (λ (x : Bool). Compared (c .before .before .before .before .before .before .before .before .before .before .before .before .before .args .question .now) (c .before .before .before .before .before .before .before .before .before .before .before .before .before .args .names .now) (slice (c .before .before .before .before .before .before .before .before .before .before .before .before .before .args .a) (c .before .before .before .before .before .before .before .before .before .before .before .before .before .args .e) (c .before .before .before .before .before .before .before .before .before .before .before .before .before .args .s .now)) (c .before .before .before .before .other-name .result) x) (c .if4 .taken) (c .before .is-said .ensures))
 
--- src/lib.rt:368:1
 returns-4 : tie.Need-returns-4
 returns-4 c = λ case A is given. name-not-said case A (c .before .before .before .before .before .before .before .before .before .before .before .before .before .args .question .now) (c .before .before .before .before .before .before .before .before .before .before .before .before .before .args .names .now) (c .before .before .before .before .before .before .before .before .before .before .before .before .before .args .table .now) is given _ (λ z. c .before .before .before .before .before .if2 .left (sym (word-first (c .before .before .before .before .before .before .before .before .before .before .before .before .before .args .s .now) (c .before .before .before .before .before .before .before .before .before .before .before .before .before .args .a) (c .before .before .before .before .before .before .before .before .before .before .before .before .before .args .e) _ (omega arith) (c .before .before .before .before .before .before .small .ensures)) ∙ z)) _ (c .before .before .before .before .other-name .ensures)
     (subst (λ (x : Bool). Compared (c .before .before .before .before .before .before .before .before .before .before .before .before .before .args .question .now) (c .before .before .before .before .before .before .before .before .before .before .before .before .before .args .names .now) (slice (c .before .before .before .before .before .before .before .before .before .before .before .before .before .args .a) (c .before .before .before .before .before .before .before .before .before .before .before .before .before .args .e) (c .before .before .before .before .before .before .before .before .before .before .before .before .before .args .s .now)) (c .before .before .before .before .other-name .result) x) (c .if4 .left) (c .before .is-said .ensures))
 
--- src/lib.rt:368:1
 returns-5 : tie.Need-returns-5
 returns-5 c = λ case A is given. name-not-named case A (c .before .before .before .before .before .before .before .before .before .before .before .args .question .now) (c .before .before .before .before .before .before .before .before .before .before .before .args .names .now) (c .before .before .before .before .before .before .before .before .before .before .before .args .table .now) is given _ (λ z. c .before .before .before .if2 .left (sym (word-first (c .before .before .before .before .before .before .before .before .before .before .before .args .s .now) (c .before .before .before .before .before .before .before .before .before .before .before .args .a) (c .before .before .before .before .before .before .before .before .before .before .before .args .e) _ (omega arith) (c .before .before .before .before .small .ensures)) ∙ z)) _ (c .before .before .other-name .ensures) (sym (c .before .is-named .ensures) ∙ c .if3 .left)
 
@@ -67,12 +35,12 @@ name-spec =
     tie.close
     (tie.spec
     returns
-    shared-slice-read-small
-    small-requires
-    set-name-requires
+    (λ c. search needs)
+    (λ c κs. search needs)
+    (λ c κs. search needs)
     returns-2
-    other-name-requires
-    is-named-requires
+    (λ c κs. search needs)
+    (λ c κs. search needs)
     is-said-requires
     returns-3
     returns-4

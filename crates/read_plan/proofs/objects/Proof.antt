@@ -1,3 +1,4 @@
+-- `read_plan::objects` meets its contract. Assumes nothing.
 use native.Mathlib.Omega.{arith}
 use mathlib.Core.Path.{_≡_, sym, _∙_}
 use Prim.Native.Nat.{_+_, _-_, _≤_, _<_}
@@ -7,10 +8,6 @@ use Rattle.read_text.proofs.Laws.{end-within}
 use Rattle.read_plan.specs.Objects.{Gathered, wordsAfter, gathered-first, objects-wrong, objects-many, objects-all, gathered-next}
 use Rattle.read_plan.proofs.objects.Statement.{statement}
 use Rattle.read_plan.proofs.objects.Tie as tie
-use Rattle.read_plan.proofs.objects.Reads as reads
-use Rattle.read_plan.proofs.objects.Lts as lts
-use Rattle.read_plan.proofs.object.Reads as object-reads
-use Rattle.read_text.proofs.find.Reads as find-reads
 
 abbrev Inv-loop : tie.InvT-loop
 Inv-loop s t e n values₀ count₀ at₀ values count at = (at ≤ e) × Gathered n (wordsAfter s t e) s e at count values × Within n values
@@ -18,59 +15,45 @@ Inv-loop s t e n values₀ count₀ at₀ values count at = (at ≤ e) × Gather
 abbrev μ-loop : tie.MeasureT-loop
 μ-loop s t e n values₀ count₀ at₀ values count at = e - at
 
--- src/lib.rt:423:5
 loop-holds : tie.Need-loop-holds Inv-loop μ-loop
 loop-holds c = (c .before .before .pre .1, gathered-first _ _ _ _ _ (c .before .before .pre .2), c .before .before .pre .3)
 
--- src/lib.rt:424:36
 add-find : tie.Need-add-find Inv-loop μ-loop
 add-find c = omega (arith, c .before .before .before .before .pre .0)
 
--- src/lib.rt:424:13
 find-requires : tie.Need-find-requires Inv-loop μ-loop
 find-requires c κs = (omega arith, c .before .before .before .before .pre .0)
 
--- src/lib.rt:425:27
 add-object : tie.Need-add-object Inv-loop μ-loop
 add-object c = omega (arith, c .before .before .before .before .before .pre .0)
 
--- src/lib.rt:425:13
 object-requires : tie.Need-object-requires Inv-loop μ-loop
 object-requires c κs = (omega (arith, c .find .ensures), omega (arith, c .find .ensures, c .before .before .before .before .before .pre .0, end-within 32 (c .before .before .loop .at + 1) (c .before .before .before .before .before .args .e) (c .before .before .before .before .before .args .s .now) (omega arith) (c .before .before .before .before .before .pre .0)))
 
--- src/lib.rt:427:13
 same-length : tie.Need-same-length Inv-loop μ-loop
 same-length c = c .before .before .before .before .loop .inv .1 .room ∙ sym (c .before .before .before .before .before .before .before .pre .2)
 
--- src/lib.rt:427:13
 returns : tie.Need-returns Inv-loop μ-loop
 returns c = (objects-wrong _ _ _ _ (c .before .before .before .before .loop .at) (c .before .before .find .result) (c .before .before .before .before .loop .count) _ (c .before .before .before .before .loop .inv .1) (omega arith) (c .before .before .before .before .before .before .before .pre .0) (c .before .before .find .ensures) _ (c .before .object .ensures .1) (omega (arith, c .if1 .taken)), c .before .before .before .before .loop .inv .2)
 
--- src/lib.rt:430:13
 same-length-2 : tie.Need-same-length-2 Inv-loop μ-loop
 same-length-2 c = c .before .before .before .before .before .loop .inv .1 .room ∙ sym (c .before .before .before .before .before .before .before .before .pre .2)
 
--- src/lib.rt:430:13
 returns-2 : tie.Need-returns-2 Inv-loop μ-loop
 returns-2 c = (objects-many _ _ _ _ (c .before .before .before .before .before .loop .at) (c .before .before .before .find .result) (c .before .before .before .before .before .loop .count) _ (c .before .before .before .before .before .loop .inv .1) (omega arith) (c .before .before .before .before .before .before .before .before .pre .0) (c .before .before .before .find .ensures) (omega (arith, c .if2 .taken)), c .before .before .before .before .before .loop .inv .2)
 
--- src/lib.rt:432:9
 mul-values : tie.Need-mul-values Inv-loop μ-loop
 mul-values c = omega (arith, c .before .before .before .before .before .loop .inv .1 .few)
 
--- src/lib.rt:432:9
 slice-write-values : tie.Need-slice-write-values Inv-loop μ-loop
 slice-write-values c = omega (arith, c .before .before .before .before .before .loop .inv .1 .few, c .before .before .before .before .before .loop .inv .1 .room, c .if2 .left)
 
--- src/lib.rt:433:9
 add-count : tie.Need-add-count Inv-loop μ-loop
 add-count c = omega (arith, c .before .before .before .before .before .loop .inv .1 .few)
 
--- src/lib.rt:423:5
 loop-less : tie.Need-loop-less Inv-loop μ-loop
 loop-less c = omega (arith, c .before .before .before .find .ensures)
 
--- src/lib.rt:423:5
 loop-again : tie.Need-loop-again Inv-loop μ-loop
 loop-again c = (
   omega (arith, c .before .before .before .find .ensures, end-within 32 (c .before .before .before .before .before .loop .at + 1) (c .before .before .before .before .before .before .before .before .args .e) (c .before .before .before .before .before .before .before .before .args .s .now) (omega arith) (c .before .before .before .before .before .before .before .before .pre .0)),
@@ -78,11 +61,9 @@ loop-again c = (
   within-set (c .before .before .before .before .before .before .before .before .args .n) (c .before .before .before .before .before .loop .values) (c .before .before .before .before .before .loop .count) (c .before .before .object .result) (omega (arith, c .before .before .object .ensures .0, c .before .if1 .left)) (c .before .before .before .before .before .loop .inv .2),
 )
 
--- src/lib.rt:417:1
 same-length-3 : tie.Need-same-length-3 Inv-loop μ-loop
 same-length-3 c = c .before .loop .inv .1 .room ∙ sym (c .before .before .before .before .pre .2)
 
--- src/lib.rt:417:1
 returns-3 : tie.Need-returns-3 Inv-loop μ-loop
 returns-3 c = (objects-all _ _ _ _ (c .before .loop .at) (c .before .loop .count) _ (c .before .loop .inv .1) (omega arith), c .before .loop .inv .2)
 

@@ -1,3 +1,4 @@
+-- `read_plan::row` meets its contract. Assumes nothing.
 use native.Mathlib.Omega.{arith}
 use mathlib.Core.Path.{_≡_, subst, sym}
 use Prim.Native.Nat.{ℕ, _*_, _+_, _-_, _^_, _≤_, _<_}
@@ -6,8 +7,6 @@ use Rattle.definitions.specs.Problem.Atoms.{rowOf}
 use Rattle.read_plan.specs.Objects.{row-none, row-next, row-few, small-product}
 use Rattle.read_plan.proofs.row.Statement.{statement}
 use Rattle.read_plan.proofs.row.Tie as tie
-use Rattle.read_plan.proofs.row.Reads as reads
-use Rattle.read_plan.proofs.row.Lts as lts
 
 abbrev Inv-loop : tie.InvT-loop
 Inv-loop n values count sum₀ i₀ sum i = (i ≤ count) × (sum ≡ rowOf n (take i values)) × (sum < 2 ^ 36)
@@ -15,39 +14,27 @@ Inv-loop n values count sum₀ i₀ sum i = (i ≤ count) × (sum ≡ rowOf n (t
 abbrev μ-loop : tie.MeasureT-loop
 μ-loop n values count sum₀ i₀ sum i = count - i
 
--- src/lib.rt:446:5
 loop-holds : tie.Need-loop-holds Inv-loop μ-loop
 loop-holds c = (omega arith, row-none _ (c .args .values .now), omega arith)
 
--- src/lib.rt:447:15
 mul-sum : tie.Need-mul-sum Inv-loop μ-loop
 mul-sum c = omega (arith, small-product (c .before .loop .sum) (c .before .before .args .n) (c .before .loop .inv .2) (c .before .before .pre .0))
 
--- src/lib.rt:447:25
 mul-sum-2 : tie.Need-mul-sum-2 Inv-loop μ-loop
 mul-sum-2 c = omega (arith, small-product (c .before .loop .sum) (c .before .before .args .n) (c .before .loop .inv .2) (c .before .before .pre .0))
 
--- src/lib.rt:447:25
 shared-slice-read-sum : tie.Need-shared-slice-read-sum Inv-loop μ-loop
 shared-slice-read-sum c = omega (arith, c .before .before .before .pre .2)
 
--- src/lib.rt:447:15
 add-sum : tie.Need-add-sum Inv-loop μ-loop
 add-sum c = omega (arith, small-product (c .before .before .loop .sum) (c .before .before .before .args .n) (c .before .before .loop .inv .2) (c .before .before .before .pre .0), c .before .before .before .pre .3 (c .before .before .loop .i), c .before .before .before .pre .0)
 
--- src/lib.rt:448:9
 add-i : tie.Need-add-i Inv-loop μ-loop
 add-i c = omega (arith, c .before .before .before .pre .1)
 
--- src/lib.rt:446:5
-loop-less : tie.Need-loop-less Inv-loop μ-loop
-loop-less c = omega arith
-
--- src/lib.rt:446:5
 loop-again : tie.Need-loop-again Inv-loop μ-loop
 loop-again c = (omega arith, row-next (c .before .before .before .args .n) (c .before .before .before .args .values .now) (c .before .before .loop .i) (c .before .before .loop .sum) (omega (arith, c .before .before .before .pre .2)) (c .before .before .loop .inv .1), subst (λ (x : ℕ). x < 2 ^ 36) (sym (row-next (c .before .before .before .args .n) (c .before .before .before .args .values .now) (c .before .before .loop .i) (c .before .before .loop .sum) (omega (arith, c .before .before .before .pre .2)) (c .before .before .loop .inv .1))) (row-few (c .before .before .before .args .n) (c .before .before .before .args .values .now) (c .before .before .loop .i + 1) (c .before .before .before .pre .0) (omega (arith, c .before .before .before .pre .1)) (omega (arith, c .before .before .before .pre .2)) (c .before .before .before .pre .3)))
 
--- src/lib.rt:440:1
 returns : tie.Need-returns Inv-loop μ-loop
 returns c = (let e : c .before .loop .i ≡ c .before .before .args .count = omega (arith, c .before .loop .inv .0) in subst (λ (k : ℕ). c .before .loop .sum ≡ rowOf (c .before .before .args .n) (take k (c .before .before .args .values .now))) e (c .before .loop .inv .1), c .before .loop .inv .2)
 
@@ -63,6 +50,6 @@ row-spec =
     shared-slice-read-sum
     add-sum
     add-i
-    loop-less
+    (λ c. omega arith)
     loop-again
     returns)

@@ -1,3 +1,4 @@
+-- `read_plan::same_letters` meets its contract. Assumes nothing.
 use borrow.Author.Needs.{needs}
 use native.Mathlib.Omega.{arith}
 use mathlib.Core.Path.{_≡_, refl, sym, _∙_}
@@ -9,9 +10,6 @@ use Rattle.definitions.specs.Reply.Pddl.{folded}
 use Rattle.read_plan.specs.Spans.{letters-hit, letters-miss, letters-end}
 use Rattle.read_plan.proofs.same_letters.Statement.{statement}
 use Rattle.read_plan.proofs.same_letters.Tie as tie
-use Rattle.read_plan.proofs.same_letters.Reads as reads
-use Rattle.read_plan.proofs.same_letters.Lts as lts
-use Rattle.read_plan.proofs.small.Reads as small-reads
 
 abbrev Inv-loop : tie.InvT-loop
 Inv-loop t n s a i₀ i = (i ≤ n) × (same (folded (take n t)) (folded (slice a (a + n) s)) ≡ same (drop i (folded (take n t))) (drop i (folded (slice a (a + n) s))))
@@ -19,47 +17,24 @@ Inv-loop t n s a i₀ i = (i ≤ n) × (same (folded (take n t)) (folded (slice 
 abbrev μ-loop : tie.MeasureT-loop
 μ-loop t n s a i₀ i = n - i
 
--- src/lib.rt:162:5
 loop-holds : tie.Need-loop-holds Inv-loop μ-loop
 loop-holds c = (omega arith, refl)
 
--- src/lib.rt:163:18
 shared-slice-read-small : tie.Need-shared-slice-read-small Inv-loop μ-loop
 shared-slice-read-small c = omega (arith, c .before .before .before .before .before .pre .0)
 
--- src/lib.rt:163:12
-small-requires : tie.Need-small-requires Inv-loop μ-loop
-small-requires c κs = search needs
-
--- src/lib.rt:163:35
 add-small : tie.Need-add-small Inv-loop μ-loop
 add-small c = omega (arith, c .before .before .before .before .before .before .pre .1)
 
--- src/lib.rt:163:33
 shared-slice-read-small-2 : tie.Need-shared-slice-read-small-2 Inv-loop μ-loop
 shared-slice-read-small-2 c = omega (arith, c .before .before .before .before .before .before .before .pre .1)
 
--- src/lib.rt:163:27
-small-requires-2 : tie.Need-small-requires-2 Inv-loop μ-loop
-small-requires-2 c κs = search needs
-
--- src/lib.rt:164:13
 returns : tie.Need-returns Inv-loop μ-loop
 returns c = sym (c .before .before .before .before .before .before .loop .inv .1 ∙ letters-miss (c .before .before .before .before .before .before .before .before .before .args .t .now) (c .before .before .before .before .before .before .before .before .before .args .n) (c .before .before .before .before .before .before .before .before .before .args .s .now) (c .before .before .before .before .before .before .before .before .before .args .a) (c .before .before .before .before .before .before .before .before .before .pre .0) (c .before .before .before .before .before .before .before .before .before .pre .1) (c .before .before .before .before .before .before .loop .i) (omega arith) (λ w. c .if1 .taken (c .before .before .before .small .ensures ∙ w ∙ sym (c .before .small2 .ensures))))
 
--- src/lib.rt:166:9
-add-i : tie.Need-add-i Inv-loop μ-loop
-add-i c = omega arith
-
--- src/lib.rt:162:5
-loop-less : tie.Need-loop-less Inv-loop μ-loop
-loop-less c = omega arith
-
--- src/lib.rt:162:5
 loop-again : tie.Need-loop-again Inv-loop μ-loop
 loop-again c = (omega arith, c .before .before .before .before .before .before .loop .inv .1 ∙ letters-hit (c .before .before .before .before .before .before .before .before .before .args .t .now) (c .before .before .before .before .before .before .before .before .before .args .n) (c .before .before .before .before .before .before .before .before .before .args .s .now) (c .before .before .before .before .before .before .before .before .before .args .a) (c .before .before .before .before .before .before .before .before .before .pre .0) (c .before .before .before .before .before .before .before .before .before .pre .1) (c .before .before .before .before .before .before .loop .i) (omega arith) (sym (c .before .before .before .small .ensures) ∙ c .if1 .left ∙ c .before .small2 .ensures))
 
--- src/lib.rt:157:1
 returns-2 : tie.Need-returns-2 Inv-loop μ-loop
 returns-2 c = sym (c .before .loop .inv .1 ∙ letters-end (c .before .before .before .before .args .t .now) (c .before .before .before .before .args .n) (c .before .before .before .before .args .s .now) (c .before .before .before .before .args .a) (c .before .before .before .before .pre .0) (c .before .before .before .before .pre .1) (c .before .loop .i) (omega arith))
 
@@ -71,12 +46,12 @@ same-letters-spec =
     μ-loop
     loop-holds
     shared-slice-read-small
-    small-requires
+    (λ c κs. search needs)
     add-small
     shared-slice-read-small-2
-    small-requires-2
+    (λ c κs. search needs)
     returns
-    add-i
-    loop-less
+    (λ c. omega arith)
+    (λ c. omega arith)
     loop-again
     returns-2)

@@ -1,3 +1,4 @@
+-- `read_plan::steps` meets its contract. Assumes nothing.
 use native.Mathlib.Omega.{arith}
 use mathlib.Core.Path.{_≡_, refl, sym, ap, _∙_}
 use mathlib.Core.Bool.{Bool}
@@ -9,11 +10,6 @@ use Rattle.read_plan.specs.Lines.{read-within}
 use Rattle.read_plan.specs.Writing.{Goes, goes-first, line-whole, goes-on, goes-stop, goes-all, set-room}
 use Rattle.read_plan.proofs.steps.Statement.{statement}
 use Rattle.read_plan.proofs.steps.Tie as tie
-use Rattle.read_plan.proofs.steps.Reads as reads
-use Rattle.read_plan.proofs.steps.Lts as lts
-use Rattle.read_plan.proofs.line_step.Reads as line-step-reads
-use Rattle.read_plan.proofs.put.Reads as put-reads
-use Rattle.read_text.proofs.find.Reads as find-reads
 
 abbrev Inv-loop : tie.InvT-loop
 Inv-loop question names table s out₀ n at₀ count₀ out at count = (at ≤ n) × (count ≤ at) × (n ≡ length s) × (n ≤ 2 ^ 20) × (length out ≡ length out₀) × Goes question names table s out₀ at count out
@@ -21,47 +17,33 @@ Inv-loop question names table s out₀ n at₀ count₀ out at count = (at ≤ n
 abbrev μ-loop : tie.MeasureT-loop
 μ-loop question names table s out₀ n at₀ count₀ out at count = n - at
 
--- src/lib.rt:681:5
 loop-holds : tie.Need-loop-holds Inv-loop μ-loop
 loop-holds c = (omega arith, omega arith, refl, omega (arith, read-within _ _ (c .before .before .before .before .before .pre .1 .1)), refl, goes-first _ _ _ _ _)
 
--- src/lib.rt:682:13
 find-requires : tie.Need-find-requires Inv-loop μ-loop
 find-requires c κs = (omega arith, omega arith)
 
--- src/lib.rt:683:54
 add-line-step : tie.Need-add-line-step Inv-loop μ-loop
 add-line-step c = omega (arith, c .before .before .loop .inv .3)
 
--- src/lib.rt:683:62
 sub-line-step : tie.Need-sub-line-step Inv-loop μ-loop
 sub-line-step c = omega (arith, line-whole _ _ _ (c .before .before .before .before .before .before .before .before .args .s .now) _ (c .before .before .loop .at) (c .before .before .loop .count) _ (c .before .before .loop .inv .5) (c .find .result) (omega arith) (c .find .ensures) (c .before .before .before .before .before .before .before .before .pre .0 .0) (c .before .before .before .before .before .before .before .before .pre .0 .1) (c .before .before .before .before .before .before .before .before .pre .1 .0) (c .before .before .before .before .before .before .before .before .pre .1 .1) .1)
 
--- src/lib.rt:683:13
 line-step-requires : tie.Need-line-step-requires Inv-loop μ-loop
 line-step-requires c κs = (c .before .before .before .before .before .before .before .before .pre .0, (omega (arith, line-whole _ _ _ (c .before .before .before .before .before .before .before .before .args .s .now) _ (c .before .before .loop .at) (c .before .before .loop .count) _ (c .before .before .loop .inv .5) (c .find .result) (omega arith) (c .find .ensures) (c .before .before .before .before .before .before .before .before .pre .0 .0) (c .before .before .before .before .before .before .before .before .pre .0 .1) (c .before .before .before .before .before .before .before .before .pre .1 .0) (c .before .before .before .before .before .before .before .before .pre .1 .1) .1), omega (arith, line-whole _ _ _ (c .before .before .before .before .before .before .before .before .args .s .now) _ (c .before .before .loop .at) (c .before .before .loop .count) _ (c .before .before .loop .inv .5) (c .find .result) (omega arith) (c .find .ensures) (c .before .before .before .before .before .before .before .before .pre .0 .0) (c .before .before .before .before .before .before .before .before .pre .0 .1) (c .before .before .before .before .before .before .before .before .pre .1 .0) (c .before .before .before .before .before .before .before .before .pre .1 .1) .0), omega (arith, line-whole _ _ _ (c .before .before .before .before .before .before .before .before .args .s .now) _ (c .before .before .loop .at) (c .before .before .loop .count) _ (c .before .before .loop .inv .5) (c .find .result) (omega arith) (c .find .ensures) (c .before .before .before .before .before .before .before .before .pre .0 .0) (c .before .before .before .before .before .before .before .before .pre .0 .1) (c .before .before .before .before .before .before .before .before .pre .1 .0) (c .before .before .before .before .before .before .before .before .pre .1 .1) .0, c .before .before .loop .inv .3)))
 
--- src/lib.rt:685:29
 cast-put : tie.Need-cast-put Inv-loop μ-loop
 cast-put c = omega (arith, c .before .before .before .line-step .ensures .1)
 
--- src/lib.rt:685:13
-put-requires : tie.Need-put-requires Inv-loop μ-loop
-put-requires c κs = search needs
-
--- src/lib.rt:686:13
 add-count : tie.Need-add-count Inv-loop μ-loop
 add-count c = omega (arith, c .before .before .before .before .before .before .before .before .before .loop .inv .1, c .before .before .before .before .before .before .before .before .before .loop .inv .3)
 
--- src/lib.rt:687:18
 add-at : tie.Need-add-at Inv-loop μ-loop
 add-at c = omega (arith, line-whole _ _ _ (c .before .before .before .before .before .before .before .before .before .before .before .before .before .before .before .args .s .now) _ (c .before .before .before .before .before .before .before .before .before .loop .at) (c .before .before .before .before .before .before .before .before .before .loop .count) _ (c .before .before .before .before .before .before .before .before .before .loop .inv .5) (c .before .before .before .before .before .before .before .find .result) (omega arith) (c .before .before .before .before .before .before .before .find .ensures) (c .before .before .before .before .before .before .before .before .before .before .before .before .before .before .before .pre .0 .0) (c .before .before .before .before .before .before .before .before .before .before .before .before .before .before .before .pre .0 .1) (c .before .before .before .before .before .before .before .before .before .before .before .before .before .before .before .pre .1 .0) (c .before .before .before .before .before .before .before .before .before .before .before .before .before .before .before .pre .1 .1) .0, c .before .before .before .before .before .before .before .before .before .loop .inv .3)
 
--- src/lib.rt:681:5
 loop-less : tie.Need-loop-less Inv-loop μ-loop
 loop-less c = omega (arith, line-whole _ _ _ (c .before .before .before .before .before .before .before .before .before .before .before .before .before .before .before .args .s .now) _ (c .before .before .before .before .before .before .before .before .before .loop .at) (c .before .before .before .before .before .before .before .before .before .loop .count) _ (c .before .before .before .before .before .before .before .before .before .loop .inv .5) (c .before .before .before .before .before .before .before .find .result) (omega arith) (c .before .before .before .before .before .before .before .find .ensures) (c .before .before .before .before .before .before .before .before .before .before .before .before .before .before .before .pre .0 .0) (c .before .before .before .before .before .before .before .before .before .before .before .before .before .before .before .pre .0 .1) (c .before .before .before .before .before .before .before .before .before .before .before .before .before .before .before .pre .1 .0) (c .before .before .before .before .before .before .before .before .before .before .before .before .before .before .before .pre .1 .1) .0, line-whole _ _ _ (c .before .before .before .before .before .before .before .before .before .before .before .before .before .before .before .args .s .now) _ (c .before .before .before .before .before .before .before .before .before .loop .at) (c .before .before .before .before .before .before .before .before .before .loop .count) _ (c .before .before .before .before .before .before .before .before .before .loop .inv .5) (c .before .before .before .before .before .before .before .find .result) (omega arith) (c .before .before .before .before .before .before .before .find .ensures) (c .before .before .before .before .before .before .before .before .before .before .before .before .before .before .before .pre .0 .0) (c .before .before .before .before .before .before .before .before .before .before .before .before .before .before .before .pre .0 .1) (c .before .before .before .before .before .before .before .before .before .before .before .before .before .before .before .pre .1 .0) (c .before .before .before .before .before .before .before .before .before .before .before .before .before .before .before .pre .1 .1) .1)
 
--- src/lib.rt:681:5
 loop-again : tie.Need-loop-again Inv-loop μ-loop
 loop-again c = (
   omega (arith, line-whole _ _ _ (c .before .before .before .before .before .before .before .before .before .before .before .before .before .before .before .args .s .now) _ (c .before .before .before .before .before .before .before .before .before .loop .at) (c .before .before .before .before .before .before .before .before .before .loop .count) _ (c .before .before .before .before .before .before .before .before .before .loop .inv .5) (c .before .before .before .before .before .before .before .find .result) (omega arith) (c .before .before .before .before .before .before .before .find .ensures) (c .before .before .before .before .before .before .before .before .before .before .before .before .before .before .before .pre .0 .0) (c .before .before .before .before .before .before .before .before .before .before .before .before .before .before .before .pre .0 .1) (c .before .before .before .before .before .before .before .before .before .before .before .before .before .before .before .pre .1 .0) (c .before .before .before .before .before .before .before .before .before .before .before .before .before .before .before .pre .1 .1) .0),
@@ -72,19 +54,15 @@ loop-again c = (
   goes-on _ _ _ (c .before .before .before .before .before .before .before .before .before .before .before .before .before .before .before .args .s .now) _ (c .before .before .before .before .before .before .before .before .before .loop .at) (c .before .before .before .before .before .before .before .before .before .loop .count) _ (c .before .before .before .before .before .before .before .before .before .loop .inv .5) (c .before .before .before .before .before .before .before .find .result) (omega arith) (c .before .before .before .before .before .before .before .find .ensures) _ (λ case P. ap (λ (b : Bool). told b (c .before .before .before .before .before .before .line-step .result .number)) (sym (c .before .before .before .before .before .if1 .taken)) ∙ c .before .before .before .before .before .before .line-step .ensures .0 case P) _ (c .before .before .put .ensures),
 )
 
--- src/lib.rt:689:13
 same-length : tie.Need-same-length Inv-loop μ-loop
 same-length c = c .before .before .before .before .loop .inv .4
 
--- src/lib.rt:689:13
 returns : tie.Need-returns Inv-loop μ-loop
 returns c = goes-stop _ _ _ (c .before .before .before .before .before .before .before .before .before .before .args .s .now) _ (c .before .before .before .before .loop .at) (c .before .before .before .before .loop .count) _ (c .before .before .before .before .loop .inv .5) (c .before .before .find .result) (omega arith) (c .before .before .find .ensures) _ (λ case P. ap (λ (b : Bool). told b (c .before .line-step .result .number)) (sym (c .if1 .left)) ∙ c .before .line-step .ensures .0 case P)
 
--- src/lib.rt:673:1
 same-length-2 : tie.Need-same-length-2 Inv-loop μ-loop
 same-length-2 c = c .before .loop .inv .4
 
--- src/lib.rt:673:1
 returns-2 : tie.Need-returns-2 Inv-loop μ-loop
 returns-2 c = goes-all _ _ _ (c .before .before .before .before .before .before .before .args .s .now) _ (c .before .loop .at) (c .before .loop .count) _ (c .before .loop .inv .5) (omega (arith, c .before .loop .inv .0))
 
@@ -100,7 +78,7 @@ steps-spec =
     sub-line-step
     line-step-requires
     cast-put
-    put-requires
+    (λ c κs. search needs)
     add-count
     add-at
     loop-less
