@@ -6,7 +6,7 @@ ghost use Rattle.bits.specs.Table.{bit};
 ghost use Rattle.read_sheets.specs.Reading.{FactsRoom};
 ghost use Rattle.call_action.specs.Asked.{action_of, found};
 
-#[derive(Drop)]
+#[derive(Clone, Copy)]
 pub enum Asked {
     Action(problem_table::Act),
     Refused(u32, usize),

@@ -33,7 +33,7 @@ fn of_case(question: &[u8], o: Opened) -> Tally
     problem_sizes::of_tables(n, ranges, g, t)
 }
 
-#[derive(Drop)]
+#[derive(Clone, Copy)]
 pub enum Tallied {
     Counted(Tally),
     Refused(u32, usize),
@@ -65,7 +65,7 @@ pub fn tally(question: &[u8], site: &[u8]) -> Tallied
 }
 
 // How many elements, atoms and actions a problem has, and the bound.
-#[derive(Drop)]
+#[derive(Clone, Copy)]
 pub struct Counts {
     pub elements: usize,
     pub atoms: usize,
@@ -73,7 +73,7 @@ pub struct Counts {
     pub bound: usize,
 }
 
-#[derive(Drop)]
+#[derive(Clone, Copy)]
 pub enum Sizing {
     Sized(Counts),
     Refused(u32, usize),

@@ -9,7 +9,7 @@ ghost use Rattle.call_tries.specs.Each.{up_to, answer};
 
 // A record, laid out as C lays it out: where its list begins among the lent steps, how many steps it has, and the reply to it.
 #[repr(C)]
-#[derive(Drop)]
+#[derive(Clone, Copy)]
 pub struct Try {
     pub first: u32,
     pub length: u32,
@@ -18,7 +18,7 @@ pub struct Try {
 }
 
 // The reply to the call itself: a refusal's number and place, or 0 and 0.
-#[derive(Drop)]
+#[derive(Clone, Copy)]
 pub struct CallReply {
     pub number: u32,
     pub place: usize,

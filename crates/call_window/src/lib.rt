@@ -11,7 +11,7 @@ ghost use Rattle.call_window.specs.Windows.{windowed_of};
 
 use read_sheets::Opened;
 
-#[derive(Drop)]
+#[derive(Clone, Copy)]
 pub enum Windowed {
     Window(usize, usize),
     Refused(u32, usize),

@@ -28,7 +28,7 @@ pub const LINES: usize = 1479;
 // these parts and how many there are; where the elements stand that the quantifier goes over, and how many these are. An `and` or `or`
 // right under a quantifier is one with it, so that its parts are the quantifier's own. A quantifier takes a turn for each element. A node
 // without one takes a single turn, and so does a quantifier whose level is not free in the parts.
-#[derive(Drop)]
+#[derive(Clone, Copy)]
 pub struct NodeAt {
     pub kind: usize,
     pub level: usize,
@@ -41,7 +41,7 @@ pub struct NodeAt {
 
 // A part: node `which` (tag 0), or a tuple (1) or not-tuple (2) of a built-in relation (`which` is its number), of a `rel` (5), of a
 // `choose` (6), or of the `every` relation where that has value `which` - 7: its tuple k is in where digit k of the value is 1.
-#[derive(Drop)]
+#[derive(Clone, Copy)]
 pub struct PartAt {
     pub tag: usize,
     pub which: usize,

@@ -58,7 +58,7 @@ fn number_word(top: u64, d: usize) -> u64
 }
 
 // Sixty-four runs of 2 ^ low numbers, one after another: run j begins with (64 · top + j) · 2 ^ low.
-#[derive(Drop)]
+#[derive(Clone, Copy)]
 struct Lanes {
     top: u64,
     low: usize,
@@ -200,7 +200,7 @@ const LEVELS: usize = 4;
 
 // A place of the search: at its level, the next run to be entered among the sixty-four that `top` counts; all numbers before it are done.
 // For this level and each above, `kept` says in which of the runs the rule may hold. `found`: that run is one number, the answer.
-#[derive(Drop)]
+#[derive(Clone, Copy)]
 struct Spot {
     top: u64,
     lane: usize,
@@ -301,7 +301,7 @@ fn turn(table: &[usize], lines: &[usize], facts: &[u64], n: usize, cells: usize,
 }
 
 // The least number whose picks are of the declared kinds and make the rule true, or that there is none.
-#[derive(Drop)]
+#[derive(Clone, Copy)]
 pub enum Least {
     Nothing,
     Number(u64),

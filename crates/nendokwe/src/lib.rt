@@ -91,7 +91,7 @@ pub extern "C" fn nendokwe_sizes(
 }
 
 // An action in numbers.
-#[derive(Drop)]
+#[derive(Clone, Copy)]
 pub struct Details {
     pub kind: u32,
     pub subject: usize,

@@ -76,7 +76,7 @@ pub fn is_small(site: &[u8]) -> bool
 }
 
 // All is well, with the step count; or a refusal with its number and place.
-#[derive(Drop)]
+#[derive(Clone, Copy)]
 pub enum Reply {
     Accepted(usize),
     Refused(u32, usize),
@@ -95,7 +95,7 @@ pub fn reply_of(e: End) -> Reply
 }
 
 // A refusal's number and place; or fault 0, what was read of the case, and how large its problem is.
-#[derive(Drop)]
+#[derive(Clone, Copy)]
 pub struct Front {
     pub fault: u32,
     pub place: usize,

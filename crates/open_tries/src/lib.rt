@@ -16,7 +16,7 @@ ghost use Rattle.open_tries.specs.Begun.{BegunBy, ReadyToTry, Serves};
 use step_run::End;
 
 // The reply to a list: a refusal's number and place, or 0 and the step count.
-#[derive(Drop)]
+#[derive(Clone, Copy)]
 pub struct Verdict {
     pub number: u32,
     pub place: u64,
@@ -24,7 +24,7 @@ pub struct Verdict {
 
 // How a case began: a refusal's number and place, and no list is to be tried; or 0 and 0, how many words a state has, and how many
 // lists are to be tried.
-#[derive(Drop)]
+#[derive(Clone, Copy)]
 pub struct Begun {
     pub number: u32,
     pub place: usize,

@@ -21,7 +21,7 @@ use problem_layout::Relations;
 use rule_nodes::{NodeRow, Nodes, PartRow};
 
 // The term of each level by its number, 8 for one without, and that of the last element.
-#[derive(Drop)]
+#[derive(Clone, Copy)]
 pub struct Env {
     pub at: [usize; 4],
     pub end: usize,

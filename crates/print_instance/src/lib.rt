@@ -17,7 +17,7 @@ use problem_layout::Relations;
 
 // A relation over n elements: its number, arity and kind, the first word of its facts; and which of its tuples are written, those that
 // hold while nothing is picked or those that do not.
-#[derive(Drop)]
+#[derive(Clone, Copy)]
 pub struct Known {
     pub n: usize,
     pub r: usize,

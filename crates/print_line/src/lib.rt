@@ -95,7 +95,7 @@ pub fn count_line(out: &mut [u8], at: usize, name: &[u8], k: usize) -> usize
 }
 
 // Where a part of a text stands.
-#[derive(Drop)]
+#[derive(Clone, Copy)]
 pub struct Span {
     pub from: usize,
     pub to: usize,

@@ -6,7 +6,7 @@ ghost use Rattle.print_page.specs.Elements.{Names};
 ghost use Rattle.print_names.specs.Naming.{SmallName, set_word, one_number, two_numbers, word_in};
 
 // An action's name: of a relation, of a node, of a node and a part; or none.
-#[derive(Drop)]
+#[derive(Clone, Copy)]
 pub enum Name {
     Set(usize),
     Begin,

@@ -271,7 +271,7 @@ pub fn step_lines(
 }
 
 // The step that has a page's first line, and how many lines stand before that step; the number of steps where there is no such line.
-#[derive(Drop)]
+#[derive(Clone, Copy)]
 pub struct Place {
     pub index: usize,
     pub line: usize,

@@ -12,7 +12,7 @@ ghost use Rattle.print_report.specs.Report.{count_at, counts as «Counts_of», r
 use read_names::Signature;
 
 // Where a line's content ends, and where the next line begins.
-#[derive(Drop)]
+#[derive(Clone, Copy)]
 pub struct Ends {
     pub end: usize,
     pub next: usize,
@@ -87,7 +87,7 @@ pub fn starts_with_step(s: &[u8]) -> bool
 }
 
 // Where the input is cut: its question ends, its site ends, and whether what follows begins with a `step` line.
-#[derive(Drop)]
+#[derive(Clone, Copy)]
 pub struct Cut {
     pub question: usize,
     pub site: usize,

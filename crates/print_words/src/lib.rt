@@ -9,7 +9,7 @@ ghost use Rattle.print_words.specs.Words.{term_by, codes_of, name_from, built_in
 
 // A predicate by numbers. Of relation `which`: its tuples (kind 0), those that are none (1), elements that are free as a first (2), as a
 // second place (3). Of node `which`: that it is proved (4), and `shape` is its kind (0 forall, 1 exists, 2 and, 3 or).
-#[derive(Drop)]
+#[derive(Clone, Copy)]
 pub struct Word {
     pub kind: usize,
     pub which: usize,
@@ -17,7 +17,7 @@ pub struct Word {
 }
 
 // Terms: each is a parameter's index, below 8, or 8 and an element. The first `count` of them.
-#[derive(Drop)]
+#[derive(Clone, Copy)]
 pub struct Terms {
     pub at: [usize; 6],
     pub count: usize,

@@ -17,7 +17,7 @@ pub const NODES: usize = rule_nodes::NODES;
 
 // The relations by number: arity and kind (0 static, 1 plain, 2 Fun, 3 PFun, 4 Inj, 5 PInj, 6 that of an `every` line, which is the
 // last) of each, and the sorts of its first and of its second place (0, all elements, unless it is of a function kind with types).
-#[derive(Drop)]
+#[derive(Clone, Copy)]
 pub struct Relations {
     pub count: usize,
     pub arity: [usize; RELATIONS],
@@ -30,14 +30,14 @@ pub struct Relations {
 pub const SORTS: usize = 9;
 
 // What a variable of each sort goes over: how many elements, and the greatest of them.
-#[derive(Drop)]
+#[derive(Clone, Copy)]
 pub struct Ranges {
     pub count: [usize; SORTS],
     pub top: [usize; SORTS],
 }
 
 // The same of one sort.
-#[derive(Drop)]
+#[derive(Clone, Copy)]
 struct Range {
     count: usize,
     top: usize,
@@ -45,7 +45,7 @@ struct Range {
 
 // Where a relation's tuples, not-tuples, free atoms (of an `every` line's its marks) and set actions start, and a node's atoms and
 // actions; in `set`, `node` and `act` what comes after the last one starts at the next entry, and in `rel` the nodes do.
-#[derive(Drop)]
+#[derive(Clone, Copy)]
 pub struct Layout {
     pub rel: [usize; RELATIONS + 1],
     pub neg: [usize; RELATIONS],
@@ -56,7 +56,7 @@ pub struct Layout {
 }
 
 // The part of a layout that the relations have, and where it ends.
-#[derive(Drop)]
+#[derive(Clone, Copy)]
 struct RelationStarts {
     rel: [usize; RELATIONS + 1],
     neg: [usize; RELATIONS],
@@ -67,7 +67,7 @@ struct RelationStarts {
 }
 
 // The part that the nodes have, and where it ends.
-#[derive(Drop)]
+#[derive(Clone, Copy)]
 struct NodeStarts {
     node: [usize; NODES + 1],
     act: [usize; NODES + 1],

@@ -102,7 +102,7 @@ pub fn relations_of(g: Signature) -> Relations
 }
 
 // How many atoms and actions there are, the bound, and 0; or 11 or 23 where there are more than the limits allow.
-#[derive(Drop)]
+#[derive(Clone, Copy)]
 pub struct Sized {
     pub refusal: u32,
     pub atoms: usize,

@@ -10,7 +10,7 @@ ghost use Rattle.problem_sizes.specs.Sums.{RelationsSummed, NodesSummed, every_s
 use problem_layout::{Ranges, Relations};
 
 // How many atoms and actions a case may have, and how large the bound may be of one with an `every` line.
-#[derive(Drop)]
+#[derive(Clone, Copy)]
 pub struct Limits {
     pub atoms: usize,
     pub actions: usize,
@@ -19,7 +19,7 @@ pub struct Limits {
 
 // How many elements and nodes there are, whether there is an `every` line and how many tuples its relation has (0 where there is none),
 // how many atoms and actions, and the bound (0 where that relation has more than 8 tuples).
-#[derive(Drop)]
+#[derive(Clone, Copy)]
 pub struct Tally {
     pub elements: usize,
     pub nodes: usize,
@@ -31,7 +31,7 @@ pub struct Tally {
 }
 
 // What comes before the nodes: the atoms of the phases and of the relations, the set actions, the most picks.
-#[derive(Drop)]
+#[derive(Clone, Copy)]
 struct Before {
     atoms: usize,
     sets: usize,
@@ -60,7 +60,7 @@ fn of_relations(n: usize, ranges: Ranges, g: Relations) -> Before
 }
 
 // What the nodes have, and how many were visited.
-#[derive(Drop)]
+#[derive(Clone, Copy)]
 struct Walked {
     nodes: usize,
     atoms: usize,

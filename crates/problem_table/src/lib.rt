@@ -34,7 +34,7 @@ pub const TABLE: usize = 1920;
 // A relation: where its set actions, its tuples, its not-tuples and its free atoms (of an `every` line's its marks) start; its kind
 // (0 static, 1 plain, 2 Fun, 3 PFun, 4 Inj, 5 PInj, 6 that of an `every` line); of a function kind where the ranges of its first and of its second place start in the table, and how many
 // elements these have (0 for other kinds).
-#[derive(Drop)]
+#[derive(Clone, Copy)]
 pub struct RelationLine {
     pub sets: usize,
     pub tuples: usize,
@@ -50,7 +50,7 @@ pub struct RelationLine {
 // A node: where its actions and its atoms start; its kind (0 forall, 1 exists, 2 and, 3 or), a quantifier's level, its first
 // part, how many there are, and its free levels, outermost first, of which the first `width` count; where a quantifier's range
 // starts in the table, and how many elements it has.
-#[derive(Drop)]
+#[derive(Clone, Copy)]
 pub struct NodeLine {
     pub acts: usize,
     pub atoms: usize,
@@ -65,7 +65,7 @@ pub struct NodeLine {
 }
 
 // A part: its atom's number where all values are 0, and by how much that grows with the value of each level.
-#[derive(Drop)]
+#[derive(Clone, Copy)]
 pub struct PartLine {
     pub start: usize,
     pub weights: [usize; 4],
@@ -73,26 +73,26 @@ pub struct PartLine {
 
 // An action and its details: a tuple's relation and row; a node, a row of values of its free variables, and the part, the element
 // or the z that is chosen.
-#[derive(Drop)]
+#[derive(Clone, Copy)]
 pub struct TupleAct {
     pub relation: usize,
     pub row: usize,
 }
 
-#[derive(Drop)]
+#[derive(Clone, Copy)]
 pub struct RowAct {
     pub node: usize,
     pub row: usize,
 }
 
-#[derive(Drop)]
+#[derive(Clone, Copy)]
 pub struct ChoiceAct {
     pub node: usize,
     pub row: usize,
     pub choice: usize,
 }
 
-#[derive(Drop)]
+#[derive(Clone, Copy)]
 pub enum Act {
     Set(TupleAct),
     Begin,

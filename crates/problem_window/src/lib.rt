@@ -12,7 +12,7 @@ ghost use Rattle.problem_window.specs.Folds.{lower_by, upper_by};
 use problem_layout::Ranges;
 
 // The two numbers.
-#[derive(Drop)]
+#[derive(Clone, Copy)]
 pub struct Window {
     pub lower: usize,
     pub upper: usize,

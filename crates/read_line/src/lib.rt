@@ -12,7 +12,7 @@ use read_text::{Found, Num};
 pub const NAMED: u32 = 10000000;
 
 // One to three elements, by their numbers.
-#[derive(Drop)]
+#[derive(Clone, Copy)]
 pub enum Places {
     Unread,
     One(u32),
@@ -23,7 +23,7 @@ pub enum Places {
 // A record: names and the rule as spans of the text, a kind by its number. A label's element field is a span too, and after the tab
 // that ends it the label goes up to the line's end; so do the element fields of a fact or a pick after its name, and that of a member
 // after its type. A chosen relation's types are a span and, after the tab that ends it, another, which goes up to 0 where there are none.
-#[derive(Drop)]
+#[derive(Clone, Copy)]
 pub enum Entry {
     Wrong,
     Rel(usize, usize, u32),
@@ -40,21 +40,21 @@ pub enum Entry {
 }
 
 // Elements, and where the name before them ends.
-#[derive(Drop)]
+#[derive(Clone, Copy)]
 struct Tuple {
     end: usize,
     places: Places,
 }
 
 // A step and where the next line begins, or some other line.
-#[derive(Drop)]
+#[derive(Clone, Copy)]
 enum Quick {
     Step(u32, usize),
     Other,
 }
 
 // A line's record, and where the next line begins.
-#[derive(Drop)]
+#[derive(Clone, Copy)]
 pub struct Read {
     pub entry: Entry,
     pub next: usize,

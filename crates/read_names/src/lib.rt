@@ -20,7 +20,7 @@ pub const NAMES: usize = DECLARED + TYPES;
 
 // Names as spans of a text, arities, kinds by number, the sorts of both places; first each `rel`, then each `choose`, then that of an
 // `every` line, of which there is one or none. The names of types stand from DECLARED on, and those of types that are not there are empty.
-#[derive(Drop)]
+#[derive(Clone, Copy)]
 pub struct Signature {
     pub rels: usize,
     pub chosen: usize,

@@ -30,7 +30,7 @@ const MANY: usize = 7;
 const NO_NODE: usize = 10000000;
 
 // A node's steps at each row: how many they are, which one is meant, and how many values that takes beside the row's.
-#[derive(Drop)]
+#[derive(Clone, Copy)]
 struct Choice {
     each: usize,
     choice: usize,
@@ -38,14 +38,14 @@ struct Choice {
 }
 
 // A step's number, if there is one.
-#[derive(Drop)]
+#[derive(Clone, Copy)]
 pub struct Step {
     pub there: bool,
     pub number: usize,
 }
 
 // How the lines were read: a refusal's number and place, or fault 0 and how many there are.
-#[derive(Drop)]
+#[derive(Clone, Copy)]
 pub struct Ended {
     pub fault: u32,
     pub place: usize,

@@ -14,14 +14,14 @@ use read_names::Signature;
 use read_rule::Verdict;
 use read_text::Found;
 
-#[derive(Drop)]
+#[derive(Clone, Copy)]
 pub struct Span {
     pub from: usize,
     pub to: usize,
 }
 
 // The sorts of a relation's first and second place.
-#[derive(Drop)]
+#[derive(Clone, Copy)]
 struct Sorts {
     firsts: u8,
     seconds: u8,
@@ -29,7 +29,7 @@ struct Sorts {
 
 // What the lines up to the rule's give: a refusal (its number and place), or fault 0, the signature, the place of the rule's
 // line, the span of its formula and the place after its line.
-#[derive(Drop)]
+#[derive(Clone, Copy)]
 struct Head {
     fault: u32,
     place: usize,
@@ -40,7 +40,7 @@ struct Head {
 
 // A question: its refusal's number and place, with no relations, no types and an empty rule; or fault 0, its relations and types, and
 // its rule's span.
-#[derive(Drop)]
+#[derive(Clone, Copy)]
 pub struct Asked {
     pub fault: u32,
     pub place: usize,

@@ -10,7 +10,7 @@ ghost use Rattle.read_rule.specs.Seen.{total_of, join_of, head_of, seen, nought,
 use read_names::Signature;
 
 // The form of a formula, by its first bytes.
-#[derive(Drop)]
+#[derive(Clone, Copy)]
 pub enum Kind {
     Not,
     Implies,
@@ -23,7 +23,7 @@ pub enum Kind {
 
 // What is said of a part of a formula: its forms; whether no more than 4 quantifiers nest, those around it included; whether
 // its relations are known; whether its variables are bound, and none twice; whether its types are declared.
-#[derive(Drop)]
+#[derive(Clone, Copy)]
 pub struct Facts {
     pub forms: usize,
     pub fits: bool,
@@ -33,14 +33,14 @@ pub struct Facts {
 }
 
 // What is found at a place: where it ends and what is said of it, or that it is not of its form.
-#[derive(Drop)]
+#[derive(Clone, Copy)]
 pub enum Scanned {
     Ok(usize, Facts),
     Bad,
 }
 
 // The variables bound around, outermost first, as spans of the text.
-#[derive(Drop)]
+#[derive(Clone, Copy)]
 pub struct Scope {
     pub from: [usize; 4],
     pub to: [usize; 4],
@@ -48,7 +48,7 @@ pub struct Scope {
 }
 
 // A scope with further variables; whether they fit, and whether each was new.
-#[derive(Drop)]
+#[derive(Clone, Copy)]
 pub struct Grown {
     pub scope: Scope,
     pub fits: bool,
@@ -56,7 +56,7 @@ pub struct Grown {
 }
 
 // The rule field's refusal: none, 5, 6, 7, 8 or 19.
-#[derive(Drop)]
+#[derive(Clone, Copy)]
 pub enum Verdict {
     Fine,
     NotOfForm,

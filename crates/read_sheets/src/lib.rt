@@ -38,14 +38,14 @@ pub const LONG: usize = 7 * MANY;
 pub const LABELS: usize = 384;
 
 // A site's size, a count of picks or of steps; or a refusal's number and place.
-#[derive(Drop)]
+#[derive(Clone, Copy)]
 pub enum Answer {
     Done(usize),
     Refused(u32, usize),
 }
 
 // What was read of a site so far: its size, 0 for none, whether there was a member, and whether there was a fact.
-#[derive(Drop)]
+#[derive(Clone, Copy)]
 struct Stage {
     n: usize,
     joined: bool,
@@ -53,7 +53,7 @@ struct Stage {
 }
 
 // After a line of a site: what was read so far, or the refusal's number.
-#[derive(Drop)]
+#[derive(Clone, Copy)]
 enum Turn {
     Next(Stage),
     Fault(u32),
@@ -110,7 +110,7 @@ fn after(c: u32, st: Stage) -> Turn
 
 // A line of a site after what was read so far, where `most` is the most elements that the site may have, and a signature has so many
 // `rel` relations and types.
-#[derive(Drop)]
+#[derive(Clone, Copy)]
 struct SiteLine {
     entry: Entry,
     stage: Stage,
@@ -334,7 +334,7 @@ pub fn site(
 }
 
 // A line of picks over n elements, and which relations they are of: the `count` ones from `first` on.
-#[derive(Drop)]
+#[derive(Clone, Copy)]
 struct PickLine {
     entry: Entry,
     first: usize,
@@ -459,7 +459,7 @@ pub fn picks(
 }
 
 // What a line of a steps sheet gives.
-#[derive(Drop)]
+#[derive(Clone, Copy)]
 enum Verdict {
     Number(u32),
     Fault(u32),
@@ -524,7 +524,7 @@ pub fn steps(s: &[u8], out: &mut [u32]) -> Answer
 
 // What was read: a refusal's number and place; or fault 0, the relations and types, the rule's span, the number of elements, and the
 // members of the types, a word a type.
-#[derive(Drop)]
+#[derive(Clone, Copy)]
 pub struct Opened {
     pub fault: u32,
     pub place: usize,

@@ -9,14 +9,14 @@ ghost use Rattle.read_text.specs.Spans.{index_of, is_name_byte, num_of};
 pub const LIMIT: usize = 1048576;
 
 // A number of a field, or none.
-#[derive(Drop)]
+#[derive(Clone, Copy)]
 pub enum Num {
     Is(u32),
     Bad,
 }
 
 // A place or an index, or none.
-#[derive(Drop)]
+#[derive(Clone, Copy)]
 pub enum Found {
     At(usize),
     Nowhere,

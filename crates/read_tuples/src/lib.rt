@@ -16,7 +16,7 @@ use read_names::Signature;
 use read_text::Found;
 
 // The bit of a tuple, or the number of its refusal.
-#[derive(Drop)]
+#[derive(Clone, Copy)]
 enum Mark {
     Bit(usize),
     Fault(u32),
@@ -24,7 +24,7 @@ enum Mark {
 
 // A `fact` or `pick` line over n elements: a tuple of the `count` relations from `first` on, named from `name` up to `tab`; its element
 // fields, of these numbers, go from tab + 1 up to `end`.
-#[derive(Drop)]
+#[derive(Clone, Copy)]
 pub struct TupleLine {
     pub first: usize,
     pub count: usize,
@@ -37,7 +37,7 @@ pub struct TupleLine {
 
 // A `member` line over n elements: its type, one of the first `types`, is named from `name` up to `tab`; its element field, of this number,
 // goes from tab + 1 up to `end`.
-#[derive(Drop)]
+#[derive(Clone, Copy)]
 pub struct MemberLine {
     pub types: usize,
     pub n: usize,

@@ -14,7 +14,7 @@ pub const NODES: usize = 64;
 // A part of a node: a tuple (tag 0) or not-tuple (1) of relation `which` at its argument levels, or node `which` with its free
 // levels, outermost first, a `forall` (2) or another (3). A quantifier has a sort, what is none has 0. The first `width` of the levels
 // count.
-#[derive(Drop)]
+#[derive(Clone, Copy)]
 pub struct PartRow {
     pub tag: u8,
     pub which: u8,
@@ -25,7 +25,7 @@ pub struct PartRow {
 
 // A node: its kind (0 forall, 1 exists, 2 and, 3 or), a quantifier's level and sort, its free levels, outermost first, and where its parts
 // stand: `many` of them from part `first` on.
-#[derive(Drop)]
+#[derive(Clone, Copy)]
 pub struct NodeRow {
     pub kind: u8,
     pub level: u8,
@@ -37,7 +37,7 @@ pub struct NodeRow {
 }
 
 // The first `count` nodes in preorder, the first `placed` parts of all nodes, and the root as a part.
-#[derive(Drop)]
+#[derive(Clone, Copy)]
 pub struct Nodes {
     pub count: usize,
     pub placed: usize,
@@ -52,7 +52,7 @@ pub const ROWS: usize = 64;
 // A tree's row; the rows of its parts come before it. A node has its kind (0 forall, 1 exists, 2 and, 3 or), its preorder number
 // `which`, `many` parts, and for a quantifier its sort and its level, alone in `levels`. A literal (kind 4, a not-tuple 5) has its relation
 // `which`, no parts, and its levels. The first `width` of the levels count, the others are 0, as is the sort of what is no quantifier.
-#[derive(Drop)]
+#[derive(Clone, Copy)]
 pub struct Row {
     pub kind: u8,
     pub which: u8,
@@ -68,13 +68,13 @@ const WIDTH: usize = 8;
 pub const BYTES: usize = WIDTH * ROWS;
 
 // Which levels occur.
-#[derive(Drop)]
+#[derive(Clone, Copy)]
 struct Marks {
     at: [bool; 4],
 }
 
 // Levels in order; the first `width` count, the others are 0.
-#[derive(Drop)]
+#[derive(Clone, Copy)]
 struct Levels {
     at: [u8; 4],
     width: usize,

@@ -19,14 +19,14 @@ use read_text::Found;
 use rule_nodes::{Nodes, Row};
 
 // How many rows of a lent table are in use, and how many preorder numbers are taken.
-#[derive(Drop)]
+#[derive(Clone, Copy)]
 struct Used {
     len: usize,
     nodes: usize,
 }
 
 // ... and the place after what the rows are of.
-#[derive(Drop)]
+#[derive(Clone, Copy)]
 struct Walk {
     len: usize,
     nodes: usize,
@@ -34,7 +34,7 @@ struct Walk {
 }
 
 // ... and how many parts they are of.
-#[derive(Drop)]
+#[derive(Clone, Copy)]
 struct Pieces {
     len: usize,
     nodes: usize,
@@ -43,7 +43,7 @@ struct Pieces {
 }
 
 // A scope with the variables of a list, their sorts by level, and the place after the list.
-#[derive(Drop)]
+#[derive(Clone, Copy)]
 struct Bound {
     scope: Scope,
     sorts: [u8; 4],
@@ -51,7 +51,7 @@ struct Bound {
 }
 
 // A literal's row, and the place after its variables.
-#[derive(Drop)]
+#[derive(Clone, Copy)]
 struct Leaf {
     row: Row,
     at: usize,

@@ -344,7 +344,7 @@ fn start_and_follow(
 }
 
 // What building gives: how many steps, the index of the first `choose` of which the picks are not, or that the rule is false.
-#[derive(Drop)]
+#[derive(Clone, Copy)]
 pub enum PlanAnswer {
     Steps(usize),
     OtherKind(usize),

@@ -185,7 +185,7 @@ pub fn take_layer(state: &mut [u64], table: &[usize], steps: &[u32]) -> u8
 }
 
 // How layers end, and, where one is refused, how many steps there are before it.
-#[derive(Drop)]
+#[derive(Clone, Copy)]
 pub struct Layers {
     pub end: End,
     pub before: usize,

@@ -18,7 +18,7 @@ ghost use Rattle.step_picks.specs.Spare.{is_spare, spare_in, spare_found};
 use problem_table::RelationLine;
 
 // Whether picks are of the declared kinds, or the index of the first `choose` of which they are not.
-#[derive(Drop)]
+#[derive(Clone, Copy)]
 pub enum Kinds {
     Kept,
     Broken(usize),
@@ -283,7 +283,7 @@ pub fn copy_picks(table: &[usize], state: &[u64], picks: &mut [u64])
 }
 
 // The first word of lent picks that has a spare bit set, or that none has.
-#[derive(Drop)]
+#[derive(Clone, Copy)]
 pub enum Spare {
     Clear,
     Word(usize),

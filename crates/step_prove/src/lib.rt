@@ -15,7 +15,7 @@ ghost use Rattle.step_prove.specs.Tries.{way_by, first_from, first_by, Digits, R
 ghost use Rattle.step_prove.specs.Following.{ReadyToFollow, out, one};
 
 // Where an element takes a part: its atom's number at element 0, and by how much that grows with the element.
-#[derive(Drop)]
+#[derive(Clone, Copy)]
 pub struct Elements {
     pub start: usize,
     pub stride: usize,

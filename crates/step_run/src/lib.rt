@@ -14,7 +14,7 @@ ghost use Rattle.step_run.specs.Checks.{Runs};
 
 // How a list of steps ends: all taken and the goal reached (how many), no action of that number (which step), one that may not be
 // taken (which), or no goal (how many).
-#[derive(Drop)]
+#[derive(Clone, Copy)]
 pub enum End {
     Done(usize),
     NoAction(usize),

@@ -71,21 +71,21 @@ const PRINTED: usize = 64;
 const TEXT: usize = 131072;
 
 // A number of the script, or none.
-#[derive(Drop)]
+#[derive(Clone, Copy)]
 enum Value {
     Is(u64),
     Bad,
 }
 
 // A part of the script.
-#[derive(Drop)]
+#[derive(Clone, Copy)]
 struct Span {
     from: usize,
     to: usize,
 }
 
 // The numbers behind a call's word, 0 where there are fewer.
-#[derive(Drop)]
+#[derive(Clone, Copy)]
 struct Given {
     a: usize,
     b: usize,
@@ -94,7 +94,7 @@ struct Given {
 
 // What stands for the calls below, and the text whose lines are being read, from `from` on: 1 for the question, 2 for the site, 3 for steps
 // or picks, 0 for none, 4 once a line was none of a script.
-#[derive(Drop)]
+#[derive(Clone, Copy)]
 struct Script {
     open: u32,
     from: usize,

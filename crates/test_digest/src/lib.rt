@@ -87,7 +87,7 @@ fn keys() -> [u64; 64] {
 }
 
 // A digest on its way: eight numbers of 32 bits.
-#[derive(Drop)]
+#[derive(Clone, Copy)]
 pub struct Digest {
     pub a: u64,
     pub b: u64,
