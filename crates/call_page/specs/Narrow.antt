@@ -92,13 +92,13 @@ module _ (p : Problem) (G : Good p) (ls : List Label) (two : (x : ℕ) → x < p
   elements_two : (a : Action) → IsAction p a → (x : ℕ) → Memᴰ x (shown_elements p a) → length (said ls x) ≤ 2
   unfolding IsAction shown_elements
   elements_two (set r row) v x m = places_two (relation_at p r).arity row x m
-  elements_two begin_proof v x m = absurd (Memᴰ.not_nil m)
+  elements_two begin_proof v x m = absurd (Memᴰ.not-nil m)
   elements_two (prove_and w row) v x m = free_two w row x m
   elements_two (prove_or w row i) v x m = free_two w row x m
   elements_two (prove_exists w row y) v x m = more_two w row y v.2.1 v.2.4 x m
   elements_two (prove_forall w row y) v x m = more_two w row y v.2.1 v.2.4 x m
-  elements_two prove_goal v x m = absurd (Memᴰ.not_nil m)
-  elements_two round_end v x m = absurd (Memᴰ.not_nil m)
+  elements_two prove_goal v x m = absurd (Memᴰ.not-nil m)
+  elements_two round_end v x m = absurd (Memᴰ.not-nil m)
   elements_two (mark_in r row) v x m = places_two (relation_at p r).arity row x m
   elements_two (mark_out r row) v x m = places_two (relation_at p r).arity row x m
 

@@ -29,15 +29,15 @@ module _ (p : Problem) where
   pick_set : (a : Action) (t : Tuple) → Memᴰ t (pick_of p a) → (r : ℕ) × (row : ℕ) × (a ≡ set r row) × (t ≡ tuple_at p r row)
   unfolding pick_of
   pick_set (set r row) t m = (r, row, refl, Memᴰ.eq_of_singleton m)
-  pick_set begin_proof t m = absurd (Memᴰ.not_nil m)
-  pick_set (prove_and v row) t m = absurd (Memᴰ.not_nil m)
-  pick_set (prove_or v row i) t m = absurd (Memᴰ.not_nil m)
-  pick_set (prove_exists v row x) t m = absurd (Memᴰ.not_nil m)
-  pick_set (prove_forall v row z) t m = absurd (Memᴰ.not_nil m)
-  pick_set prove_goal t m = absurd (Memᴰ.not_nil m)
-  pick_set round_end t m = absurd (Memᴰ.not_nil m)
-  pick_set (mark_in r row) t m = absurd (Memᴰ.not_nil m)
-  pick_set (mark_out r row) t m = absurd (Memᴰ.not_nil m)
+  pick_set begin_proof t m = absurd (Memᴰ.not-nil m)
+  pick_set (prove_and v row) t m = absurd (Memᴰ.not-nil m)
+  pick_set (prove_or v row i) t m = absurd (Memᴰ.not-nil m)
+  pick_set (prove_exists v row x) t m = absurd (Memᴰ.not-nil m)
+  pick_set (prove_forall v row z) t m = absurd (Memᴰ.not-nil m)
+  pick_set prove_goal t m = absurd (Memᴰ.not-nil m)
+  pick_set round_end t m = absurd (Memᴰ.not-nil m)
+  pick_set (mark_in r row) t m = absurd (Memᴰ.not-nil m)
+  pick_set (mark_out r row) t m = absurd (Memᴰ.not-nil m)
 
   abbrev at_step : ℕ → List Tuple
   at_step k = option (action_at p k) [] (pick_of p)
@@ -47,7 +47,7 @@ module _ (p : Problem) where
   step_set k t m = by_option (action_at p k) m
     where
       by_option : (o : Option Action) → Memᴰ t (option o [] (pick_of p)) → (r : ℕ) × (row : ℕ) × (o ≡ some (set r row)) × (t ≡ tuple_at p r row)
-      by_option none m = absurd (Memᴰ.not_nil m)
+      by_option none m = absurd (Memᴰ.not-nil m)
       by_option (some a) m = let (r, row, e, f) = pick_set a t m in (r, row, ap some e, f)
 
   set_step : (k r row : ℕ) → action_at p k ≡ some (set r row) → Memᴰ (tuple_at p r row) (at_step k)

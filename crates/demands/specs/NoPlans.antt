@@ -122,7 +122,7 @@ steps_read text ls e =
 -- every line has a word
 has_word : (ls : List PlanLine) (text : List ℕ) → LineByLine IsLine ls text → (l : PlanLine) → Memᴰ l ls → (w : List ℕ) × (ws : List (List ℕ)) × (l.words ≡ w ∷ ws)
 unfolding LineByLine
-has_word [] text h l m = absurd (Memᴰ.not_nil m)
+has_word [] text h l m = absurd (Memᴰ.not-nil m)
 has_word (k ∷ ls) text (fs, r, (rest, e, h)) l m = ⊎_elim (λ q. let s = spelled (folded (joined fs)) k.words r in (s.first, s.others, ap (λ (x : PlanLine). x.words) q ∙ s.are)) (λ q. has_word ls rest h l q) (Memᴰ.cases_cons m)
 
 -- ---- lists

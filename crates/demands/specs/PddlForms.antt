@@ -51,7 +51,7 @@ pub record Formed (c : Case) (a : Pattern) : Type 0 where
 
 constant_at : (c : Case) (ts : List Term) → AllConstant c ts → (x : ℕ) → Memᴰ (object x) ts → Memᴰ x (constants c)
 unfolding AllConstant
-constant_at c [] h x m = absurd (Memᴰ.not_nil m)
+constant_at c [] h x m = absurd (Memᴰ.not-nil m)
 constant_at c (t ∷ ts) h x m = ⊎_elim (λ e. h.0 x (sym e)) (λ q. constant_at c ts h.1 x q) (Memᴰ.cases_cons m)
 
 constant_append : (c : Case) (ts us : List Term) → AllConstant c ts → AllConstant c us → AllConstant c (ts ++ us)
@@ -139,7 +139,7 @@ module _ (c : Case) where
       (let e : zero + v ≡ v = omega arith in subst (λ (j : ℕ). Memᴰ (proved j) (map_from (λ v t. proved v) zero (nodes (tree_of c.question)))) e (mem_map_from (λ v t. proved v) zero v (nodes (tree_of c.question)) no_node l)))))
 
   plain_formed : (a : Predicate) → Memᴰ a (predicates c) → places_in c a ≡ 0 → Formed c (plainly a)
-  plain_formed a m e = record { is_declared_lem = m; places_right = sym e; constants_only = λ x i. absurd (Memᴰ.not_nil i) }
+  plain_formed a m e = record { is_declared_lem = m; places_right = sym e; constants_only = λ x i. absurd (Memᴰ.not-nil i) }
 
   made : (a : Predicate) (ts : List Term) → Memᴰ a (predicates c) → length ts ≡ places_in c a → AllConstant c ts → Formed c (record { predicate = a; terms = ts })
   made a ts m e h = record { is_declared_lem = m; places_right = e; constants_only = constant_at c ts h }
@@ -196,7 +196,7 @@ module _ (c : Case) (A : Accepted c) where
   All l = (a : Pattern) → Memᴰ a l → Formed c a
 
   all_none : All []
-  all_none a m = absurd (Memᴰ.not_nil m)
+  all_none a m = absurd (Memᴰ.not-nil m)
 
   all_cons : (a : Pattern) (l : List Pattern) → Formed c a → All l → All (a ∷ l)
   all_cons a l h f b m = ⊎_elim (λ e. subst (Formed c) (sym e) h) (λ q. f b q) (Memᴰ.cases_cons m)
@@ -344,7 +344,7 @@ module _ (c : Case) (A : Accepted c) where
     where
       free_formed : (b : Bool) (a : Predicate) → (T b → Memᴰ a (predicates c)) → places_in c a ≡ 1 → Memᴰ f (if b then each_said a (tuples_over c.site.size 1) else []) → FactFormed f
       free_formed true a h e q = each_formed a 1 _ (h tt) e (λ xs i. i) f q
-      free_formed false a h e q = absurd (Memᴰ.not_nil q)
+      free_formed false a h e q = absurd (Memᴰ.not-nil q)
 
   pub facts_formed : (f : Fact) → Memᴰ f (facts_of c) → FactFormed f
   unfolding facts_of places_in all relation_in

@@ -273,7 +273,7 @@ module _ (c : Case) (A : Accepted c) where
   -- ---- the name, the objects and the action are read back
   find_only : {B : Type 0} (f : B → Bool) (l : List B) (a : B) → Memᴰ a l → T (f a) → ((b : B) → Memᴰ b l → T (f b) → b ≡ a) → find f l ≡ some a
   unfolding find
-  find_only f [] a m t h = absurd (Memᴰ.not_nil m)
+  find_only f [] a m t h = absurd (Memᴰ.not-nil m)
   find_only f (b ∷ l) a m t h = by_test (f b) refl (find_only f l a) (Memᴰ.cases_cons m)
     where
       by_test : (k : Bool) → f b ≡ k → (Memᴰ a l → T (f a) → ((d : _) → Memᴰ d l → T (f d) → d ≡ a) → find f l ≡ some a) → (a ≡ b) ⊎ Memᴰ a l → (if k then some b else find f l) ≡ some a
@@ -393,7 +393,7 @@ module _ (c : Case) (A : Accepted c) where
 
     steps_back : (ks : List ℕ) (i at : ℕ) (plan : List PlanStep) → plan_from p i ks ≡ accepted plan → (steps_from c p (plan_lines at plan) ≡ accepted ks) × AllNamed plan × (length plan ≡ length ks)
     unfolding plan_from steps_from plan_lines given ◌>>=◌
-    steps_back [] i at plan e = subst (λ (x : List PlanStep). (steps_from c p (plan_lines at x) ≡ accepted []) × AllNamed x × (length x ≡ 0)) (accepted_eq [] plan e) (refl, λ t m. absurd (Memᴰ.not_nil m), refl)
+    steps_back [] i at plan e = subst (λ (x : List PlanStep). (steps_from c p (plan_lines at x) ≡ accepted []) × AllNamed x × (length x ≡ 0)) (accepted_eq [] plan e) (refl, λ t m. absurd (Memᴰ.not-nil m), refl)
     steps_back (k ∷ ks) i at plan e =
         let (a, q, (rest, r, t)) = Ungrounded.plan_parts c A plain alone k i ks plan e in
         let v = action_is p k a q in
@@ -404,7 +404,7 @@ module _ (c : Case) (A : Accepted c) where
     lines_count : (at : ℕ) (plan : List PlanStep) → length (plan_lines at plan) ≡ length plan
     unfolding plan_lines
     lines_count at [] = refl
-    lines_count at (t ∷ ts) = ap suc (lines_count _ ts)
+    lines_count at (t ∷ ts) = ap suc (lines_count (at + length (bracketed (action_word c t.name ∷ map object_word t.objects)) + 1) ts)
 
     -- what is written for steps, if it is not too long, is read as lines, as many as there are steps, and these as the steps
     pub plan_back : (steps : List ℕ) (plan : List PlanStep) → plan_of (problem_of c) steps ≡ accepted plan → length (plan_text c plan) ≤ text_limit

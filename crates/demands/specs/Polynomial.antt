@@ -97,7 +97,7 @@ pick_degree k h x m = by_test (is_function k.kind) (is_chosen k.kind) m
     by_test : (f c : Bool) → Memᴰ x (if f then 1 ∷ [] else if c then k.arity ∷ [] else []) → x ≤ 3
     by_test true c m = let e = Memᴰ.eq_of_singleton m in omega arith
     by_test false true m = let e = Memᴰ.eq_of_singleton m in omega arith
-    by_test false false m = absurd (Memᴰ.not_nil m)
+    by_test false false m = absurd (Memᴰ.not-nil m)
 
 pub degree : (c : Case) → Accepted c → (x : ℕ) → Memᴰ x (bound_exponents c.question) → x ≤ 4
 unfolding bound_exponents problem_of problem_with node_at

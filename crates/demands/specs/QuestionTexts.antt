@@ -396,7 +396,7 @@ question_told text q e =
     let W = lines_told question_line Inv items_of (λ d. QuestionLine d.types)
     (λ d at w m I q. let S = line_step d at w m I q in (S.keeps, (S.item, S.grows, S.says)))
     (λ d at w m I q a fs r. let S = line_step d at w m I q in line_later d.types S.more m.types S.kept a fs r)
-    line_ends (split 10 text) empty d zero (record { lone = λ _. refl; unruled = λ _. refl; rels_few = omega arith; rels_named = λ k m. absurd (mathlib.Core.List.Memᴰ.not_nil m); chosen_few = omega arith; parsed = λ r h. absurd (none_some h) }) g in
+    line_ends (split 10 text) empty d zero (record { lone = λ _. refl; unruled = λ _. refl; rels_few = omega arith; rels_named = λ k m. absurd (mathlib.Core.List.Memᴰ.not-nil m); chosen_few = omega arith; parsed = λ r h. absurd (none_some h) }) g in
     let ruled = given_some d.ruled 3 (length text) r z in
     let w = accepted_eq _ q k in
     let items : W.new ≡ question_items (record { rels = d.rels; types = d.types; chosen = d.chosen; every = d.every; rule = r }) = sym W.grows ∙ ap (items_from d.rels d.types d.chosen d.every) ruled in

@@ -158,7 +158,7 @@ used_named rs first name k r e = by_place (position (λ (q : Relation). same q.n
 -- a member that is new
 new_member : (members : List Member) (k x : ℕ) → is_member members k x ≡ false → Once members → Once (members ++ (record { type = k; element = x } ∷ []))
 unfolding is_member Once
-new_member members k x e o = once_append members _ o (λ m. mathlib.Core.List.Memᴰ.not_nil m, tt) (λ m i j.
+new_member members k x e o = once_append members _ o (λ m. mathlib.Core.List.Memᴰ.not-nil m, tt) (λ m i j.
     let q = mathlib.Core.List.Memᴰ.eq_of_singleton j in
     subst T e (any_of (λ (n : Member). eqb n.type k && eqb n.element x) members m i
     (and_T (eqb m.type k) _ (subst (λ (y : ℕ). T (eqb m.type y)) (ap (λ (n : Member). n.type) q) (eqb_refl m.type)) (subst (λ (y : ℕ). T (eqb m.element y)) (ap (λ (n : Member). n.element) q) (eqb_refl m.element)))))

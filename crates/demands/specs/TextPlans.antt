@@ -137,7 +137,7 @@ fitting_cons : (k : ℕ) (a : Pattern) (l : List Pattern) → AllFit k a.terms �
 fitting_cons k a l h f b m = ⊎_elim (λ e. subst (λ (x : Pattern). AllFit k x.terms) (sym e) h) (λ q. f b q) (Memᴰ.cases_cons m)
 
 fitting_none : (k : ℕ) → Fitting k []
-fitting_none k a m = absurd (Memᴰ.not_nil m)
+fitting_none k a m = absurd (Memᴰ.not-nil m)
 
 plain_fits : (k : ℕ) (a : Predicate) → AllFit k (plainly a).terms
 unfolding AllFit
@@ -182,7 +182,7 @@ used_fits r k h = fitting_cons k.arity _ _ (own_fits k.arity k.arity (omega arit
   where
     one : (b : Bool) (x : Pattern) → (T b → AllFit k.arity x.terms) → (a : Pattern) → Memᴰ a (if b then x ∷ [] else []) → AllFit k.arity a.terms
     one true x f a q = subst (λ (y : Pattern). AllFit k.arity y.terms) (sym (Memᴰ.eq_of_singleton q)) (f tt)
-    one false x f a q = absurd (Memᴰ.not_nil q)
+    one false x f a q = absurd (Memᴰ.not-nil q)
 
 set_fits : (r : ℕ) (k : Relation) → (T (is_function k.kind) → k.arity ≡ 2) → k.arity ≤ 64 → SchemaFits (set_schema r k)
 unfolding set_schema
@@ -497,7 +497,7 @@ module _ (c : Case) (A : Accepted c) (plain : c.question.types ≡ []) (alone : 
     where
       free_proper : (b : Bool) (a : Predicate) → Declared c a → Memᴰ f (if b then each_said a (tuples_over c.site.size 1) else []) → Proper f
       free_proper true a h q = each_proper a 1 _ h (λ xs i. i) f q
-      free_proper false a h q = absurd (Memᴰ.not_nil q)
+      free_proper false a h q = absurd (Memᴰ.not-nil q)
 
   facts_proper : (f : Fact) → Memᴰ f (facts_of c) → Proper f
   unfolding facts_of Declared all
@@ -531,7 +531,7 @@ module _ (c : Case) (A : Accepted c) (plain : c.question.types ≡ []) (alone : 
   -- ---- an operator is found by its name
   find_mapped : {B C : Type 0} (f : C → Bool) (g : B → C) (l : List B) (a : B) → Memᴰ a l → T (f (g a)) → ((b : B) → Memᴰ b l → T (f (g b)) → b ≡ a) → find f (map g l) ≡ some (g a)
   unfolding find
-  find_mapped f g [] a m t h = absurd (Memᴰ.not_nil m)
+  find_mapped f g [] a m t h = absurd (Memᴰ.not-nil m)
   find_mapped f g (b ∷ l) a m t h = by_test (f (g b)) refl (find_mapped f g l a) (Memᴰ.cases_cons m)
     where
       by_test : (k : Bool) → f (g b) ≡ k → (Memᴰ a l → T (f (g a)) → ((d : _) → Memᴰ d l → T (f (g d)) → d ≡ a) → find f (map g l) ≡ some (g a)) → (a ≡ b) ⊎ Memᴰ a l → (if k then some (g b) else find f (map g l)) ≡ some (g a)

@@ -95,7 +95,7 @@ module _ (c : Case) where
 
   named_at : (names : List ActionName) (a : ActionName) → Memᴰ a names → schema_named (map (schema_of c) names) a ≡ some (schema_of c a)
   unfolding schema_named find
-  named_at [] a m = absurd (Memᴰ.not_nil m)
+  named_at [] a m = absurd (Memᴰ.not-nil m)
   named_at (b ∷ names) a m = by_test (same_name (schema_of c b).name a) refl (named_at names a) (Memᴰ.cases_cons m)
     where
       by_test : (t : Bool) → same_name (schema_of c b).name a ≡ t → (Memᴰ a names → find (λ (s : Schema). same_name s.name a) (map (schema_of c) names) ≡ some (schema_of c a)) → (a ≡ b) ⊎ Memᴰ a names
@@ -494,11 +494,11 @@ module _ (c : Case) (A : Accepted c) (plain : c.question.types ≡ []) (alone : 
   no_tuple (set r row) v y m e = ⊎_elim (λ q. let z = kind_is y (not_tuple r row) 4 q refl e in omega arith)
       (λ q. ⊎_elim (λ f. let z = kind_is y (free_domain r (row / n)) 5 f.1 refl e in omega arith) (λ f. let z = kind_is y (free_range r (row % n)) 6 f.1 refl e in omega arith) (free_cases p G n r row (relation_at p r) y q)) (Memᴰ.cases_cons m)
   no_tuple begin_proof v y m e = let z = kind_is y guess 0 (Memᴰ.eq_of_singleton m) refl e in omega arith
-  no_tuple (prove_and k row) v y m e = absurd (Memᴰ.not_nil m)
-  no_tuple (prove_or k row i) v y m e = absurd (Memᴰ.not_nil m)
-  no_tuple (prove_exists k row x) v y m e = absurd (Memᴰ.not_nil m)
-  no_tuple (prove_forall k row z) v y m e = absurd (Memᴰ.not_nil m)
-  no_tuple prove_goal v y m e = absurd (Memᴰ.not_nil m)
+  no_tuple (prove_and k row) v y m e = absurd (Memᴰ.not-nil m)
+  no_tuple (prove_or k row i) v y m e = absurd (Memᴰ.not-nil m)
+  no_tuple (prove_exists k row x) v y m e = absurd (Memᴰ.not-nil m)
+  no_tuple (prove_forall k row z) v y m e = absurd (Memᴰ.not-nil m)
+  no_tuple prove_goal v y m e = absurd (Memᴰ.not-nil m)
   no_tuple round_end v y m e = no_round c A alone v
   no_tuple (mark_in r row) v y m e = no_mark_in c A alone r row v
   no_tuple (mark_out r row) v y m e = no_mark_out c A alone r row v
@@ -597,7 +597,7 @@ module _ (c : Case) (A : Accepted c) (plain : c.question.types ≡ []) (alone : 
     where
       free_starts : (b : Bool) (a : Predicate) → ((xs : List ℕ) → Starts (record { predicate = a; objects = xs })) → Memᴰ f (if b then each_said a (tuples_over c.site.size 1) else []) → Starts f
       free_starts true a h q = let (xs, i, e) = each_said_lem a _ f q in subst Starts (sym e) (h xs)
-      free_starts false a h q = absurd (Memᴰ.not_nil q)
+      free_starts false a h q = absurd (Memᴰ.not-nil q)
 
   pub starts : (f : Fact) → Memᴰ f (facts_of c) → Starts f
   unfolding facts_of Starts

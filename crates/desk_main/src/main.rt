@@ -1,5 +1,6 @@
 // The desk program: one case from standard input, the reply to standard output. A read or a write that fails is told on standard error,
 // and of an input that was not read to its end nothing is said on standard output.
+#![tactic(auto)]
 ghost use Rattle.std.specs.Prelude.{◌≤◌, length};
 ghost use Rattle.io.specs.Counts.{IsPrefixLen};
 

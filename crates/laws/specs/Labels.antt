@@ -39,7 +39,7 @@ taken_at ls x name t =
 
 pub one_snoc : (ls : List Label) (k : Label) → OneToOne ls → T (not (is_taken ls k.element k.name)) → OneToOne (ls ++ (k ∷ []))
 unfolding OneToOne
-one_snoc [] k o h = (not_T (is_taken [] k.element k.name) (λ t. Memᴰ.not_nil (taken_at [] k.element k.name t).1), tt)
+one_snoc [] k o h = (not_T (is_taken [] k.element k.name) (λ t. Memᴰ.not-nil (taken_at [] k.element k.name t).1), tt)
 one_snoc (l ∷ ls) k o h = (
   not_T (is_taken (ls ++ (k ∷ [])) l.element l.name) (λ t.
       let (m, i, e) = taken_at (ls ++ (k ∷ [])) l.element l.name t in
@@ -73,7 +73,7 @@ element_at (l ∷ ls) name x e = by_test (same l.name name) refl e (element_at l
 -- and where they are one to one, each label of the list is found, by its element and by its name
 pub name_found : (ls : List Label) (l : Label) → OneToOne ls → Memᴰ l ls → name_of ls l.element ≡ some l.name
 unfolding name_of OneToOne
-name_found [] l o m = absurd (Memᴰ.not_nil m)
+name_found [] l o m = absurd (Memᴰ.not-nil m)
 name_found (k ∷ ls) l o m = ⊎_elim
     (λ q. subst (λ (y : Label). (if eqb k.element y.element then some k.name else name_of ls y.element) ≡ some y.name) (sym q) (let e = T_true (eqb k.element k.element) (eqb_refl k.element) in rw e refl))
     (λ q. let e = T_false (eqb k.element l.element) (λ t. T_not (is_taken ls k.element k.name) o.0 (taken_by ls l k.element k.name q (inl (sym (eqb→eq k.element l.element t))))) in rw e (name_found ls l o.1 q))
@@ -81,7 +81,7 @@ name_found (k ∷ ls) l o m = ⊎_elim
 
 pub element_found : (ls : List Label) (l : Label) → OneToOne ls → Memᴰ l ls → element_named ls l.name ≡ some l.element
 unfolding element_named OneToOne
-element_found [] l o m = absurd (Memᴰ.not_nil m)
+element_found [] l o m = absurd (Memᴰ.not-nil m)
 element_found (k ∷ ls) l o m = ⊎_elim
     (λ q. subst (λ (y : Label). (if same k.name y.name then some k.element else element_named ls y.name) ≡ some y.element) (sym q) (let e = T_true (same k.name k.name) (same_refl k.name) in rw e refl))
     (λ q. let e = T_false (same k.name l.name) (λ t. T_not (is_taken ls k.element k.name) o.0 (taken_by ls l k.element k.name q (inr (sym (same_eq k.name l.name t))))) in rw e (element_found ls l o.1 q))
@@ -112,7 +112,7 @@ pub record LabelsFit (n : ℕ) (labels : List Label) : Type 0 where
 
 pub no_labels : (n : ℕ) → LabelsFit n []
 unfolding OneToOne
-no_labels n = record { small = λ l m. absurd (Memᴰ.not_nil m); formed = λ l m. absurd (Memᴰ.not_nil m); one = tt }
+no_labels n = record { small = λ l m. absurd (Memᴰ.not-nil m); formed = λ l m. absurd (Memᴰ.not-nil m); one = tt }
 
 -- a `label` line with a name for its element is 18: the element that it means has a label, or it means none
 pub label_named : (d : SiteDraft) (at n : ℕ) (f name : List ℕ) → d.sized ≡ some n → d.members ≡ [] → d.facts ≡ [] → add_label d at (named f) name ≡ refused 18 at

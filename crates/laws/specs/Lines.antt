@@ -120,7 +120,7 @@ LineByLine R (a ∷ s) text = (fs : List (List ℕ)) × R a fs × ((rest : List 
 -- where each thing has only one line, it is what is written for them
 pub line_by_line : {A : Type 0} (write : A → List (List ℕ)) (P : A → Type 0) (s : List A) (text : List ℕ) → LineByLine (λ a fs. (fs ≡ write a) × P a) s text → (text ≡ flat_map (λ a. print_line (write a)) s) × ((a : A) → Memᴰ a s → P a)
 unfolding LineByLine flat_map
-line_by_line write P [] text h = (h, λ a m. absurd (Memᴰ.not_nil m))
+line_by_line write P [] text h = (h, λ a m. absurd (Memᴰ.not-nil m))
 line_by_line write P (b ∷ s) text (fs, r, (rest, e, h)) =
     let (f, g) = line_by_line write P s rest h in (
       e ∙ ap₂ (λ (x : List (List ℕ)) (y : List ℕ). print_line x ++ y) r.0 f,

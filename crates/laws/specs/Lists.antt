@@ -31,7 +31,7 @@ mem_from (suc n) a x h l = by_cases (T_dec (eqb x a)) (λ q. mem_from n (suc a) 
 
 pub from_mem : (n a x : ℕ) → Memᴰ x (from a n) → (a ≤ x) × (x < a + n)
 unfolding from
-from_mem zero a x m = absurd (Memᴰ.not_nil m)
+from_mem zero a x m = absurd (Memᴰ.not-nil m)
 from_mem (suc n) a x m = by_cases (Memᴰ.cases_cons m) (from_mem n (suc a) x)
   where
     by_cases : (x ≡ a) ⊎ Memᴰ x (from (suc a) n) → (Memᴰ x (from (suc a) n) → (suc a ≤ x) × (x < suc a + n)) → (a ≤ x) × (x < a + suc n)
@@ -84,7 +84,7 @@ get_or_below n i h = get_or_from n 0 i h ∙ zero-add i
 module _ {A : Type 0} where
   pub mem_filter : (p : A → Bool) (l : List A) (x : A) → Memᴰ x l → T (p x) → Memᴰ x (filter p l)
   unfolding filter
-  mem_filter p [] x m t = absurd (Memᴰ.not_nil m)
+  mem_filter p [] x m t = absurd (Memᴰ.not-nil m)
   mem_filter p (y ∷ l) x m t = by_test (p y) refl (λ q. mem_filter p l x q t) (Memᴰ.cases_cons m)
     where
       by_test : (b : Bool) → p y ≡ b → (Memᴰ x l → Memᴰ x (filter p l)) → (x ≡ y) ⊎ Memᴰ x l → Memᴰ x ((if b then y ∷ filter p l else filter p l))
@@ -95,7 +95,7 @@ module _ {A : Type 0} where
 
   pub filter_mem : (p : A → Bool) (l : List A) (x : A) → Memᴰ x (filter p l) → Memᴰ x l × T (p x)
   unfolding filter
-  filter_mem p [] x m = absurd (Memᴰ.not_nil m)
+  filter_mem p [] x m = absurd (Memᴰ.not-nil m)
   filter_mem p (y ∷ l) x m = by_test (p y) refl (filter_mem p l x) m
     where
       by_test : (b : Bool) → p y ≡ b → (Memᴰ x (filter p l) → Memᴰ x l × T (p x)) → Memᴰ x ((if b then y ∷ filter p l else filter p l)) → Memᴰ x (y ∷ l) × T (p x)
@@ -108,7 +108,7 @@ module _ {A : Type 0} where
 
   pub all_at : (p : A → Bool) (l : List A) → T (all p l) → (x : A) → Memᴰ x l → T (p x)
   unfolding all
-  all_at p [] t x m = absurd (Memᴰ.not_nil m)
+  all_at p [] t x m = absurd (Memᴰ.not-nil m)
   all_at p (y ∷ l) t x m = from_this (all_at p l (T_and_r (p y) (all p l) t) x) (Memᴰ.cases_cons m)
     where
       from_this : (Memᴰ x l → T (p x)) → (x ≡ y) ⊎ Memᴰ x l → T (p x)
@@ -122,7 +122,7 @@ module _ {A : Type 0} where
 
   pub any_of : (p : A → Bool) (l : List A) (x : A) → Memᴰ x l → T (p x) → T (any p l)
   unfolding any
-  any_of p [] x m t = absurd (Memᴰ.not_nil m)
+  any_of p [] x m t = absurd (Memᴰ.not-nil m)
   any_of p (y ∷ l) x m t = from_this (λ q. any_of p l x q t) (Memᴰ.cases_cons m)
     where
       from_this : (Memᴰ x l → T (any p l)) → (x ≡ y) ⊎ Memᴰ x l → T (p y || any p l)
@@ -154,11 +154,11 @@ module _ {A : Type 0} where
 
 -- ---- members of a map, of a part
 pub mem_map : {A B : Type 0} (f : A → B) (l : List A) (x : A) → Memᴰ x l → Memᴰ (f x) (map f l)
-mem_map f [] x m = absurd (Memᴰ.not_nil m)
+mem_map f [] x m = absurd (Memᴰ.not-nil m)
 mem_map f (z ∷ l) x m = ⊎_elim (λ e. Memᴰ.head (ap f e)) (λ q. Memᴰ.tail (mem_map f l x q)) (Memᴰ.cases_cons m)
 
 pub map_mem : {A B : Type 0} (f : A → B) (l : List A) (y : B) → Memᴰ y (map f l) → (x : A) × Memᴰ x l × (y ≡ f x)
-map_mem f [] y m = absurd (Memᴰ.not_nil m)
+map_mem f [] y m = absurd (Memᴰ.not-nil m)
 map_mem {A} f (z ∷ l) y m = from_this (map_mem f l y) (Memᴰ.cases_cons m)
   where
     from_this : (Memᴰ y (map f l) → (x : A) × Memᴰ x l × (y ≡ f x)) → (y ≡ f z) ⊎ Memᴰ y (map f l) → (x : A) × Memᴰ x (z ∷ l) × (y ≡ f x)
@@ -172,7 +172,7 @@ get_d_map f (x ∷ l) (suc i) d e h = get_d_map f l i d e (omega arith)
 
 pub take_mem : {A : Type 0} (k : ℕ) (l : List A) (x : A) → Memᴰ x (take k l) → Memᴰ x l
 take_mem zero [] x m = m
-take_mem zero (y ∷ l) x m = absurd (Memᴰ.not_nil m)
+take_mem zero (y ∷ l) x m = absurd (Memᴰ.not-nil m)
 take_mem (suc k) [] x m = m
 take_mem (suc k) (y ∷ l) x m = ⊎_elim (λ e. Memᴰ.head e) (λ q. Memᴰ.tail (take_mem k l x q)) (Memᴰ.cases_cons m)
 
@@ -191,7 +191,7 @@ get_or_mem (x ∷ l) zero d h = Memᴰ.head refl
 get_or_mem (x ∷ l) (suc i) d h = Memᴰ.tail (get_or_mem l i d (omega arith))
 
 pub mem_get_or : {A : Type 0} (l : List A) (x d : A) → Memᴰ x l → (i : ℕ) × (i < length l) × (get_or l i d ≡ x)
-mem_get_or [] x d m = absurd (Memᴰ.not_nil m)
+mem_get_or [] x d m = absurd (Memᴰ.not-nil m)
 mem_get_or {A} (y ∷ l) x d m = by_cases (Memᴰ.cases_cons m) (mem_get_or l x d)
   where
     by_cases : (x ≡ y) ⊎ Memᴰ x l → (Memᴰ x l → (i : ℕ) × (i < length l) × (get_or l i d ≡ x)) → (i : ℕ) × (i < suc (length l)) × (get_or (y ∷ l) i d ≡ x)
@@ -200,12 +200,12 @@ mem_get_or {A} (y ∷ l) x d m = by_cases (Memᴰ.cases_cons m) (mem_get_or l x 
 
 pub mem_flat : {A B : Type 0} (f : A → List B) (l : List A) (x : A) (y : B) → Memᴰ x l → Memᴰ y (f x) → Memᴰ y (flat_map f l)
 unfolding flat_map
-mem_flat f [] x y m q = absurd (Memᴰ.not_nil m)
+mem_flat f [] x y m q = absurd (Memᴰ.not-nil m)
 mem_flat {A} f (z ∷ l) x y m q = ⊎_elim (λ e. Memᴰ.append_left (flat_map f l) (subst (λ (w : A). Memᴰ y (f w)) e q)) (λ k. Memᴰ.append_right (f z) (mem_flat f l x y k q)) (Memᴰ.cases_cons m)
 
 pub flat_mem : {A B : Type 0} (f : A → List B) (l : List A) (y : B) → Memᴰ y (flat_map f l) → (x : A) × Memᴰ x l × Memᴰ y (f x)
 unfolding flat_map
-flat_mem f [] y m = absurd (Memᴰ.not_nil m)
+flat_mem f [] y m = absurd (Memᴰ.not-nil m)
 flat_mem {A} {B} f (z ∷ l) y m = from_this (flat_mem f l y) (Memᴰ.append_cases (f z) m)
   where
     from_this : (Memᴰ y (flat_map f l) → (x : A) × Memᴰ x l × Memᴰ y (f x)) → Memᴰ y (f z) ⊎ Memᴰ y (flat_map f l) → (x : A) × Memᴰ x (z ∷ l) × Memᴰ y (f x)
@@ -307,7 +307,7 @@ mem_map_from f i (suc j) (x ∷ l) d h = let e : suc i + j ≡ i + suc j = omega
 
 pub map_from_mem : {A B : Type 0} (f : ℕ → A → B) (i : ℕ) (l : List A) (d : A) (y : B) → Memᴰ y (map_from f i l) → (j : ℕ) × (j < length l) × (y ≡ f (i + j) (get_or l j d))
 unfolding map_from
-map_from_mem f i [] d y m = absurd (Memᴰ.not_nil m)
+map_from_mem f i [] d y m = absurd (Memᴰ.not-nil m)
 map_from_mem f i (x ∷ l) d y m = from_this (map_from_mem f (suc i) l d y) (Memᴰ.cases_cons m)
   where
     from_this : (Memᴰ y (map_from f (suc i) l) → (j : ℕ) × (j < length l) × (y ≡ f (suc i + j) (get_or l j d))) → (y ≡ f i x) ⊎ Memᴰ y (map_from f (suc i) l) → (j : ℕ) × (j < suc (length l)) × (y ≡ f (i + j) (get_or (x ∷ l) j d))

@@ -61,8 +61,8 @@ ascending_map g (x ∷ l) a h = (
 pub ascending_same : (l m : List ℕ) → Ascending l → Ascending m → ((x : ℕ) → Memᴰ x l → Memᴰ x m) → ((x : ℕ) → Memᴰ x m → Memᴰ x l) → l ≡ m
 unfolding Ascending
 ascending_same [] [] a b f g = refl
-ascending_same [] (y ∷ m) a b f g = absurd (Memᴰ.not_nil (g y (Memᴰ.head refl)))
-ascending_same (x ∷ l) [] a b f g = absurd (Memᴰ.not_nil (f x (Memᴰ.head refl)))
+ascending_same [] (y ∷ m) a b f g = absurd (Memᴰ.not-nil (g y (Memᴰ.head refl)))
+ascending_same (x ∷ l) [] a b f g = absurd (Memᴰ.not-nil (f x (Memᴰ.head refl)))
 ascending_same (x ∷ l) (y ∷ m) a b f g = ap₂ ◌∷◌ same (ascending_same l m a.1 b.1 down up)
   where
     least : (x y : ℕ) (m : List ℕ) → ((z : ℕ) → Memᴰ z m → y < z) → Memᴰ x (y ∷ m) → y ≤ x
@@ -92,7 +92,7 @@ pub record MembersFit (types n : ℕ) (members : List Member) : Type 0 where
   pub small : (m : Member) → Memᴰ m members → m.element < n
 
 pub no_members : (types n : ℕ) → MembersFit types n []
-no_members types n = record { typed = λ m i. absurd (Memᴰ.not_nil i); small = λ m i. absurd (Memᴰ.not_nil i) }
+no_members types n = record { typed = λ m i. absurd (Memᴰ.not-nil i); small = λ m i. absurd (Memᴰ.not-nil i) }
 
 -- a type that has a member is that of some element
 pub has_member_lem : (types n : ℕ) (members : List Member) (k : ℕ) → MembersFit types n members → T (has_member members k) → (x : ℕ) × (x < n) × T (is_member members k x)
@@ -118,7 +118,7 @@ range_means c k x h = rw (members_are c k h) (
 
 -- what a variable of any sort ranges over is a range
 some_in : (l : List ℕ) (x : ℕ) → Memᴰ x l → 0 < length l
-some_in [] x m = absurd (Memᴰ.not_nil m)
+some_in [] x m = absurd (Memᴰ.not-nil m)
 some_in (y ∷ l) x m = omega arith
 
 filter_range : (n : ℕ) (f : ℕ → Bool) (x : ℕ) → x < n → T (f x) → IsRange n (filter f (below n))
@@ -181,7 +181,7 @@ least_in f ms t =
 -- ---- the last of an ascending list is its greatest
 last_none : (l : List ℕ) → last l ≡ none → (x : ℕ) → Memᴰ x l → ⊥
 unfolding last
-last_none [] e x m = Memᴰ.not_nil m
+last_none [] e x m = Memᴰ.not-nil m
 last_none (y ∷ l) e x m = none_some (sym e)
 
 last_some : (l : List ℕ) (y : ℕ) → Ascending l → last l ≡ some y → Memᴰ y l × ((x : ℕ) → Memᴰ x l → x ≤ y)

@@ -138,7 +138,7 @@ head_length p i k a hi hk hs = simp length-append (omega (arith, right_length 7 
 
 pub headed_long : (head : List ℕ) (xs : List (List ℕ)) → length head ≡ 42 → Each (λ x. length x ≤ 30) xs → Each (λ y. length y ≡ 72) (headed head xs)
 unfolding headed
-headed_long head [] h s y m = absurd (Memᴰ.not_nil m)
+headed_long head [] h s y m = absurd (Memᴰ.not-nil m)
 headed_long head (x ∷ xs) h s y m = ⊎_elim
     (λ e. ap length e ∙ length-append head (left 30 x) ∙ omega (arith, left_length 30 x (s x (Memᴰ.head refl))))
     (λ i. let (z, j, e) = map_mem (λ z. spaces 42 ++ left 30 z) xs y i in ap length e ∙ length-append (spaces 42) (left 30 z) ∙ omega (arith, spaces_length 42, left_length 30 z (s z (Memᴰ.tail j))))
@@ -183,7 +183,7 @@ module _ (labels : List Label) (p : Problem) where
     at_long i k h y m = by_option (action_at p k) refl m
       where
         by_option : (o : Option Action) → action_at p k ≡ o → Memᴰ y (option o [] (step_lines labels p i k)) → length y ≡ 72
-        by_option none e m = absurd (Memᴰ.not_nil m)
+        by_option none e m = absurd (Memᴰ.not-nil m)
         by_option (some a) e m = step_long i k a h (S k a e) y m
 
     at_few : (i k : ℕ) → length (lines_at i k) ≤ 7
@@ -196,7 +196,7 @@ module _ (labels : List Label) (p : Problem) where
 
     pub from_long : (i : ℕ) (steps : List ℕ) → i + length steps ≤ 10 ^ 7 → Each (λ y. length y ≡ 72) (lines_from i steps)
     unfolding flat_map map_from
-    from_long i [] h y m = absurd (Memᴰ.not_nil m)
+    from_long i [] h y m = absurd (Memᴰ.not-nil m)
     from_long i (k ∷ ks) h y m = ⊎_elim (λ q. at_long i k (omega arith) y q) (λ q. from_long (suc i) ks (omega arith) y q) (Memᴰ.append_cases (lines_at i k) m)
 
     pub from_few : (i : ℕ) (steps : List ℕ) → length (lines_from i steps) ≤ 7 * length steps
@@ -215,7 +215,7 @@ module _ (labels : List Label) (p : Problem) where
 
 -- ---- pages
 replicate_mem : (k : ℕ) (a x : List ℕ) → Memᴰ x (replicate k a) → x ≡ a
-replicate_mem zero a x m = absurd (Memᴰ.not_nil m)
+replicate_mem zero a x m = absurd (Memᴰ.not-nil m)
 replicate_mem (suc k) a x m = ⊎_elim (λ e. e) (λ i. replicate_mem k a x i) (Memᴰ.cases_cons m)
 
 pub blank_long : length blank_line ≡ 72

@@ -391,11 +391,11 @@ snoc_some (y ∷ l) x = tt
 
 no_types_lem : TypesFit []
 unfolding Once
-no_types_lem = record { few = omega arith; named = λ t m. absurd (Memᴰ.not_nil m); once = tt }
+no_types_lem = record { few = omega arith; named = λ t m. absurd (Memᴰ.not-nil m); once = tt }
 
 once_one : (name : List ℕ) → Once (name ∷ [])
 unfolding Once
-once_one name = (λ m. Memᴰ.not_nil m, tt)
+once_one name = (λ m. Memᴰ.not-nil m, tt)
 
 types_more : (types : List (List ℕ)) (name : List ℕ) → T (not (leb 8 (length types))) → length (types ++ (name ∷ [])) ≤ 8
 types_more types name t = let h = nleb→lt 8 (length types) t in let e = length-append types (name ∷ []) in omega arith
@@ -590,12 +590,12 @@ question_fits text =
     gives_bind DraftFits QuestionFits (read_text question_line (record { rels = []; types = []; chosen = []; every = none; ruled = none }) text) _
     (gives_text DraftFits question_line line_step (record { rels = []; types = []; chosen = []; every = none; ruled = none }) text
     (record {
-      rels_fit = λ k m. absurd (Memᴰ.not_nil m);
+      rels_fit = λ k m. absurd (Memᴰ.not-nil m);
       types_fit = no_types_lem;
-      chosen_fit = λ k m. absurd (Memᴰ.not_nil m);
+      chosen_fit = λ k m. absurd (Memᴰ.not-nil m);
       chosen_named
-          = λ k m. absurd (Memᴰ.not_nil m);
-      chosen_sorted = λ k m. absurd (Memᴰ.not_nil m);
+          = λ k m. absurd (Memᴰ.not-nil m);
+      chosen_sorted = λ k m. absurd (Memᴰ.not-nil m);
       every_fits = holds_none EveryFits;
       every_chosen = λ t. absurd t;
       apart = built_in_apart;
@@ -662,7 +662,7 @@ module _ (rs : List Relation) (types : List (List ℕ)) where
         few_elements = omega (arith, b.1);
         labels_fit = subst (LabelsFit n) (sym D.0) (no_labels n);
         members_fit = subst (MembersFit (length types) n) (sym D.1) (no_members (length types) n);
-        facts_fit = subst (TuplesFit rs first_rel n) (sym D.2) (record { each_fits = λ t m. absurd (Memᴰ.not_nil m); distinct = tt });
+        facts_fit = subst (TuplesFit rs first_rel n) (sym D.2) (record { each_fits = λ t m. absurd (Memᴰ.not-nil m); distinct = tt });
       }))
   size_line L few d at n (some m) D = gives_refused (SiteSoFar rs types) 3 at
 
@@ -799,7 +799,7 @@ module _ (rs : List Relation) (first n : ℕ) (labels : List Label) (K : LabelsF
 
   pub picks_fit : (text : List ℕ) → Gives (TuplesFit rs first n) (read_picks rs first n labels text)
   unfolding read_picks are_distinct
-  picks_fit text = gives_text (TuplesFit rs first n) (picks_line rs first n labels) picks_step [] text (record { each_fits = λ t m. absurd (Memᴰ.not_nil m); distinct = tt })
+  picks_fit text = gives_text (TuplesFit rs first n) (picks_line rs first n labels) picks_step [] text (record { each_fits = λ t m. absurd (Memᴰ.not-nil m); distinct = tt })
 
 -- ---- the case
 pub record Accepted (c : Case) : Type 0 where

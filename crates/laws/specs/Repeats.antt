@@ -36,7 +36,7 @@ module _ {A : Type 0} where
 
 pub once_middle : {A : Type 0} (l m : List A) (x : A) → Once (l ++ (x ∷ m)) → Memᴰ x l → ⊥
 unfolding Once
-once_middle [] m x o i = Memᴰ.not_nil i
+once_middle [] m x o i = Memᴰ.not-nil i
 once_middle (y ∷ l) m x o i = ⊎_elim (λ e. o.0 (Memᴰ.append_right l (Memᴰ.head (sym e)))) (λ q. once_middle l m x o.1 q) (Memᴰ.cases_cons i)
 
 pub once_map : {A B : Type 0} (f : A → B) (l : List A) → ((x y : A) → Memᴰ x l → Memᴰ y l → f x ≡ f y → x ≡ y) → Once l → Once (map f l)
@@ -61,7 +61,7 @@ once_flat f tag (x ∷ l) o d h = once_append (f x) (flat_map f l) (o x) (once_f
 -- ---- a list without repeats is no longer than one that has all of it
 module _ {A : Type 0} where
   cut : (m : List A) (x : A) → Memᴰ x m → (m' : List A) × (length m ≡ suc (length m')) × ((y : A) → Memᴰ y m → (y ≡ x) ⊎ Memᴰ y m')
-  cut [] x i = absurd (Memᴰ.not_nil i)
+  cut [] x i = absurd (Memᴰ.not-nil i)
   cut (z ∷ m) x i = by_cases (Memᴰ.cases_cons i) (cut m x)
     where
       by_cases : (x ≡ z) ⊎ Memᴰ x m → (Memᴰ x m → (m' : List A) × (length m ≡ suc (length m')) × ((y : A) → Memᴰ y m → (y ≡ x) ⊎ Memᴰ y m')) → (m' : List A) × (suc (length m) ≡ suc (length m')) × ((y : A) → Memᴰ y (z ∷ m) → (y ≡ x) ⊎ Memᴰ y m')
@@ -88,7 +88,7 @@ module _ {A : Type 0} where
 -- leaving out some element makes a list shorter
 pub filter_lt : {A : Type 0} (f : A → Bool) (l : List A) (x : A) → Memᴰ x l → f x ≡ false → length (filter f l) < length l
 unfolding filter
-filter_lt f [] x m e = absurd (Memᴰ.not_nil m)
+filter_lt f [] x m e = absurd (Memᴰ.not-nil m)
 filter_lt {A} f (y ∷ l) x m e = by_test (f y) refl (Memᴰ.cases_cons m) (λ q. filter_lt f l x q e)
   where
     by_test : (b : Bool) → f y ≡ b → (x ≡ y) ⊎ Memᴰ x l → (Memᴰ x l → length (filter f l) < length l) → length (if b then y ∷ filter f l else filter f l) < suc (length l)

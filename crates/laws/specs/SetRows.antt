@@ -11,7 +11,7 @@ use Rattle.std.proofs.Math.Arith.{digits_lt, digits_div, digits_mod}
 use Rattle.std.proofs.Math.Dec.{T}
 use Rattle.std.proofs.Math.ListN.{length, length-map}
 use Rattle.definitions.specs.Lists.{if◌then◌else◌, filter, below, is_in, rank}
-use Rattle.definitions.specs.Sheet.Relations.{Kind, static, plain, Fun, PFun, Inj, PInj, is_chosen, is_function, Relation}
+use Rattle.definitions.specs.Sheet.Relations.{Kind, static, plain, Fun, PFun, Inj, PInj, universal, is_chosen, is_function, Relation}
 use Rattle.definitions.specs.Problem.Atoms.{tuples_of}
 use Rattle.definitions.specs.Problem.Actions.{is_settable, set_rows, sets_of}
 use Rattle.laws.specs.Booleans.{T_and_l, T_and_r, T_of, and_T}
@@ -28,6 +28,7 @@ fun_chosen Fun f = tt
 fun_chosen PFun f = tt
 fun_chosen Inj f = tt
 fun_chosen PInj f = tt
+fun_chosen universal f = elim f [ ]
 
 -- ---- two places of a number
 pub row_below : (i a c : ℕ) → i < a * c → (i / c < a) × (i % c < c)
@@ -79,7 +80,7 @@ module _ (n : ℕ) (R : ℕ → List ℕ) (k : Relation) where
     where
       by_test : (b : Bool) → Memᴰ row (if b then filter (is_settable n R k) (below (tuples_of n k)) else []) → T b × (row < tuples_of n k) × (T (is_function k.kind) → Typed row)
       by_test true m = let (i, s) = filter_mem (is_settable n R k) (below (tuples_of n k)) row m in (tt, below_lt (tuples_of n k) row i, settable_typed row s)
-      by_test false m = absurd (Memᴰ.not_nil m)
+      by_test false m = absurd (Memᴰ.not-nil m)
 
   pub row_set : (row : ℕ) → T (is_chosen k.kind) → row < tuples_of n k → (T (is_function k.kind) → Typed row) → Memᴰ row (set_rows n R k)
   unfolding set_rows

@@ -39,14 +39,14 @@ mutual
   unfolding nodes nodes_all Sorted SortedAll
 
   pub nodes_sorted : (k : ℕ) (t u : Tree) → Sorted k t → Memᴰ u (nodes t) → Sorted k u
-  nodes_sorted k (leaf p r ls) u h m = absurd (Memᴰ.not_nil m)
+  nodes_sorted k (leaf p r ls) u h m = absurd (Memᴰ.not-nil m)
   nodes_sorted k (forall_node d σ t) u h m = ⊎_elim (λ e. subst (Sorted k) (sym e) h) (λ i. nodes_sorted k t u h.1 i) (Memᴰ.cases_cons m)
   nodes_sorted k (exists_node d σ t) u h m = ⊎_elim (λ e. subst (Sorted k) (sym e) h) (λ i. nodes_sorted k t u h.1 i) (Memᴰ.cases_cons m)
   nodes_sorted k (and_node ts) u h m = ⊎_elim (λ e. subst (Sorted k) (sym e) h) (λ i. all_nodes_sorted k ts u h i) (Memᴰ.cases_cons m)
   nodes_sorted k (or_node ts) u h m = ⊎_elim (λ e. subst (Sorted k) (sym e) h) (λ i. all_nodes_sorted k ts u h i) (Memᴰ.cases_cons m)
 
   all_nodes_sorted : (k : ℕ) (ts : Trees) (u : Tree) → SortedAll k ts → Memᴰ u (nodes_all ts) → Sorted k u
-  all_nodes_sorted k end u h m = absurd (Memᴰ.not_nil m)
+  all_nodes_sorted k end u h m = absurd (Memᴰ.not-nil m)
   all_nodes_sorted k (t then ts) u h m = ⊎_elim (λ i. nodes_sorted k t u h.0 i) (λ i. all_nodes_sorted k ts u h.1 i) (Memᴰ.append_cases (nodes t) m)
 
 -- by its number, too; past the last there is a literal

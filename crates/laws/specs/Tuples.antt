@@ -38,7 +38,7 @@ among_mem t (u ∷ ts) h = ⊎_elim (λ q. Memᴰ.head (same_tuple_eq t u q)) (�
 
 pub mem_among : (t : Tuple) (ts : List Tuple) → Memᴰ t ts → T (is_among t ts)
 unfolding is_among any
-mem_among t [] m = absurd (Memᴰ.not_nil m)
+mem_among t [] m = absurd (Memᴰ.not-nil m)
 mem_among t (u ∷ ts) m = ⊎_elim (λ e. or_l (same_tuple t u) _ (subst (λ (x : Tuple). T (same_tuple t x)) e (same_tuple_refl t))) (λ q. or_r (same_tuple t u) _ (mem_among t ts q)) (Memᴰ.cases_cons m)
 
 pub distinct_snoc : (ts : List Tuple) (x : Tuple) → T (are_distinct ts) → T (not (is_among x ts)) → T (are_distinct (ts ++ (x ∷ [])))

@@ -407,7 +407,7 @@ module _ (p : Problem) (G : Good p) where
     built_are = ap (λ (l : List Action). l ++ (begin_proof ∷ flat_map (round_steps p F) (below (values p.source)))) (sets_are p F)
 
     set_part : Takes p G (initial p) (map set_of (pairs p F)) × Exact P₀ (ends p G (initial p) (map set_of (pairs p F)))
-    set_part = sets_run (pairs p F) (pairs_once p F) (pairs_ready p F) [] (λ t m. absurd (Memᴰ.not_nil m)) (λ q m k. Memᴰ.not_nil k) (initial p) initial_exact
+    set_part = sets_run (pairs p F) (pairs_once p F) (pairs_ready p F) [] (λ t m. absurd (Memᴰ.not-nil m)) (λ q m k. Memᴰ.not-nil k) (initial p) initial_exact
 
     abbrev s₁ : State
     s₁ = ends p G (initial p) (map set_of (pairs p F))

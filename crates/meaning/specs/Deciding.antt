@@ -95,7 +95,7 @@ module _ (p : Problem) (G : Good p) (F : List Tuple) (D : Decided) where
 
       parts_told : (ts : Trees) (w : ℕ) (e : Values) → v < w → (x : Atom) → Memᴰ x (part_atoms p.size p.range e (parts_from w ts)) → Told x
       unfolding part_atoms parts_from
-      parts_told end w e h x m = absurd (Memᴰ.not_nil m)
+      parts_told end w e h x m = absurd (Memᴰ.not-nil m)
       parts_told (t then ts) w e h x m = ⊎_elim
           (λ q. subst Told (sym q) (part_told w t e (λ row. later w row h)))
           (λ q. parts_told ts (w + length (nodes t)) e (omega arith) x q)
@@ -173,7 +173,7 @@ module _ (p : Problem) (G : Good p) (F : List Tuple) (D : Decided) where
 
         own_told : (o : Option ℕ) → ((y : ℕ) → o ≡ some y → D v (row * p.size + y) ≡ true) → (x : Atom) → Memᴰ x (own_at o) → Told x
         unfolding option
-        own_told none h x m = absurd (Memᴰ.not_nil m)
+        own_told none h x m = absurd (Memᴰ.not-nil m)
         own_told (some y) h x m = subst Told (sym (Memᴰ.eq_of_singleton m)) (node_told v (row * p.size + y) (h y refl))
 
         needs_told : (z : ℕ) → ((i : ℕ) → i < z → D v (row * p.size + i) ≡ true) → (x : Atom) → Memᴰ x (forall_needs p.size p.range v (forall_node d σ u) row z) → Told x

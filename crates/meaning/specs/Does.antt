@@ -100,7 +100,7 @@ module _ (p : Problem) (G : Good p) where
   unfolding Takes ends
   does_one X v row a S = record {
     legal = λ s h. (S.valid, may_of p G s a (λ x m. let q = S.needed x m in h x q.0 q.1), tt);
-    keeps = λ s h x w t. after_keep p G s a x S.valid w t (λ m. Memᴰ.not_nil (subst (λ (l : List Atom). Memᴰ x l) S.plain m));
+    keeps = λ s h x w t. after_keep p G s a x S.valid w t (λ m. Memᴰ.not-nil (subst (λ (l : List Atom). Memᴰ x l) S.plain m));
     leaves = λ s h x w e. after_add p G s a x (subst (λ (y : Atom). Memᴰ y (adds p a)) (sym e) S.given);
   }
 
@@ -162,7 +162,7 @@ module _ (p : Problem) (G : Good p) where
 
     parts_low : (ts : Trees) (k w : ℕ) (e : Values) → k ≤ w → HereAll p w ts → Bnd p.size e → T (trees_hold p.source P e ts) → (x : Atom) → Memᴰ x (part_atoms p.size p.range e (parts_from w ts)) → Low k x
     unfolding part_atoms parts_from trees_hold
-    parts_low end k w e l h b q x m = absurd (Memᴰ.not_nil m)
+    parts_low end k w e l h b q x m = absurd (Memᴰ.not-nil m)
     parts_low (t then ts) k w e l h b q x m = ⊎_elim
         (λ i. subst (Low k) (sym i) (part_low k w t e l (head_here p w t ts h) b (T_and_l (tree_holds p.source P e t) _ q)))
         (λ i. parts_low ts k (w + length (nodes t)) e (omega arith) (tail_here p w t ts h) b (T_and_r (tree_holds p.source P e t) _ q) x i)
@@ -251,7 +251,7 @@ module _ (p : Problem) (G : Good p) where
         upper = subst T (forall_at p G P d σ u row z g) t
 
         by_option : (o : Option ℕ) → before (p.range σ) z ≡ o → Memᴰ x (option o [] (λ y. holds_node v (row * p.size + y) ∷ [])) → Mine v (forall_node d σ u) (row * p.size + z) x
-        by_option none i q = absurd (Memᴰ.not_nil q)
+        by_option none i q = absurd (Memᴰ.not-nil q)
         by_option (some y) i q =
             let (k, b, h) = before_some (p.range σ) z y (G.ranged σ).ascends i in
             inr (row * p.size + y, omega arith, subst T (sym (forall_at p G P d σ u row y k)) (up_of f (p.range σ) y (λ m j c. up_at f (p.range σ) z upper m j (omega arith))), Memᴰ.eq_of_singleton q)

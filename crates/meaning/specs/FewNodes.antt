@@ -63,14 +63,14 @@ mutual
   unfolding weight nodes nodes_all
 
   node_le : (t u : Tree) → Memᴰ u (nodes t) → weight u ≤ weight t
-  node_le (leaf p r ls) u m = absurd (Memᴰ.not_nil m)
+  node_le (leaf p r ls) u m = absurd (Memᴰ.not-nil m)
   node_le (forall_node d s t) u m = ⊎_elim (λ e. rw e (omega arith)) (λ q. let h = node_le t u q in omega arith) (Memᴰ.cases_cons m)
   node_le (exists_node d s t) u m = ⊎_elim (λ e. rw e (omega arith)) (λ q. let h = node_le t u q in omega arith) (Memᴰ.cases_cons m)
   node_le (and_node ts) u m = ⊎_elim (λ e. rw e (omega arith)) (λ q. let h = nodes_of ts u q in omega arith) (Memᴰ.cases_cons m)
   node_le (or_node ts) u m = ⊎_elim (λ e. rw e (omega arith)) (λ q. let h = nodes_of ts u q in omega arith) (Memᴰ.cases_cons m)
 
   nodes_of : (ts : Trees) (u : Tree) → Memᴰ u (nodes_all ts) → weight u ≤ weights ts
-  nodes_of end u m = absurd (Memᴰ.not_nil m)
+  nodes_of end u m = absurd (Memᴰ.not-nil m)
   nodes_of (t then ts) u m = ⊎_elim (λ q. let h = node_le t u q in omega arith) (λ q. let h = nodes_of ts u q in omega arith) (Memᴰ.append_cases (nodes t) m)
 
 -- ---- the tree of a formula has no more than the formula has forms

@@ -170,7 +170,7 @@ module _ (c : Case) (A : Accepted c) where
   every_fits k m = by_option c.question.every A.question_fits.every_fits m
     where
       by_option : (o : Option Relation) → Holds EveryFits o → Memᴰ k (listed o) → EveryFits k
-      by_option none h m = absurd (Memᴰ.not_nil m)
+      by_option none h m = absurd (Memᴰ.not-nil m)
       by_option (some e) h m = subst EveryFits (sym (Memᴰ.eq_of_singleton m)) h
 
   pub relation_cases : (k : Relation) → Memᴰ k (relations_of c.question) → (1 ≤ k.arity) × (k.arity ≤ 3) × ((k.kind ≡ static) ⊎ (Fit k.arity k.kind ⊎ EveryFits k))

@@ -110,7 +110,7 @@ module _ (p : Problem) where
 
 module _ (p : Problem) (G : Good p) where
   pub actions_valid : (ks : List ℕ) (l : List Action) → actions_at p ks ≡ some l → Actions p G l
-  actions_valid [] l e a m = absurd (Memᴰ.not_nil (subst (Memᴰ a) (sym (actions_none p l e)) m))
+  actions_valid [] l e a m = absurd (Memᴰ.not-nil (subst (Memᴰ a) (sym (actions_none p l e)) m))
   actions_valid (k ∷ ks) l e a m =
       let (b, r, f, g, q) = actions_cons p k ks l e in
       ⊎_elim (λ j. subst (IsAction p) (sym j) (action_is p k b f)) (λ j. actions_valid ks r g a j) (Memᴰ.cases_cons (subst (Memᴰ a) (sym q) m))

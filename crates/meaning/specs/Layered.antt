@@ -180,12 +180,12 @@ module _ (p : Problem) (G : Good p) (plain : NoEvery p) where
 
   takes_valid : (l : List Action) (s : State) → Takes p G s l → Actions p G l
   unfolding Takes
-  takes_valid [] s t a m = absurd (Memᴰ.not_nil m)
+  takes_valid [] s t a m = absurd (Memᴰ.not-nil m)
   takes_valid (b ∷ l) s t a m = ⊎_elim (λ e. subst (IsAction p) (sym e) t.0) (λ k. takes_valid l (after p s b) t.2 a k) (Memᴰ.cases_cons m)
 
   sets_layer : (l : List Action) (s : State) → Takes p G s l → ((a : Action) → Memᴰ a l → IsSet a) → T (may_take_all p s l)
   unfolding Takes are_apart
-  sets_layer [] s t h = may_all p s [] (λ a m. absurd (Memᴰ.not_nil m)) tt
+  sets_layer [] s t h = may_all p s [] (λ a m. absurd (Memᴰ.not-nil m)) tt
   sets_layer (a ∷ l) s (v, u, t) h = sets_cons s a l v (takes_valid l (after p s a) t) (h a (Memᴰ.head refl)) (λ b m. h b (Memᴰ.tail m)) u (sets_layer l (after p s a) t (λ b m. h b (Memᴰ.tail m)))
 
   -- ---- the first layers: the set steps, if there are any, and begin-proof
@@ -273,16 +273,16 @@ module _ (p : Problem) (G : Good p) (plain : NoEvery p) where
 
   late_need : (a : Action) → removes p a ≡ [] → (x : Atom) × Memᴰ x (needs p a) × T (is_late x)
   unfolding removes needs root_atom is_late
-  late_need (set r row) e = absurd (Memᴰ.not_nil (subst (Memᴰ (not_tuple r row)) e (Memᴰ.head refl)))
-  late_need begin_proof e = absurd (Memᴰ.not_nil (subst (Memᴰ guess) e (Memᴰ.head refl)))
+  late_need (set r row) e = absurd (Memᴰ.not-nil (subst (Memᴰ (not_tuple r row)) e (Memᴰ.head refl)))
+  late_need begin_proof e = absurd (Memᴰ.not-nil (subst (Memᴰ guess) e (Memᴰ.head refl)))
   late_need (prove_and v row) e = (proof, Memᴰ.head refl, tt)
   late_need (prove_or v row i) e = (proof, Memᴰ.head refl, tt)
   late_need (prove_exists v row z) e = (proof, Memᴰ.head refl, tt)
   late_need (prove_forall v row z) e = (proof, Memᴰ.head refl, tt)
   late_need prove_goal e = (part_atom p.size p.range (λ _. zero) zero p.root, Memᴰ.head refl, root_late p.root G.root_node)
-  late_need round_end e = absurd (Memᴰ.not_nil (subst (Memᴰ proof) e (Memᴰ.head refl)))
-  late_need (mark_in r row) e = absurd (Memᴰ.not_nil (subst (Memᴰ (marked r row)) e (Memᴰ.head refl)))
-  late_need (mark_out r row) e = absurd (Memᴰ.not_nil (subst (Memᴰ (marked r row)) e (Memᴰ.head refl)))
+  late_need round_end e = absurd (Memᴰ.not-nil (subst (Memᴰ proof) e (Memᴰ.head refl)))
+  late_need (mark_in r row) e = absurd (Memᴰ.not-nil (subst (Memᴰ (marked r row)) e (Memᴰ.head refl)))
+  late_need (mark_out r row) e = absurd (Memᴰ.not-nil (subst (Memᴰ (marked r row)) e (Memᴰ.head refl)))
 
   too_early : (s : State) (a : Action) → Early s → IsAction p a → removes p a ≡ [] → T (may_take p s a) → ⊥
   too_early s a h v e t = let (x, m, l) = late_need a e in h x (needs_valid p G a v x m) l (may_needed p s a t (atom_number p x) (needed_at p a x m))
@@ -305,7 +305,7 @@ module _ (p : Problem) (G : Good p) (plain : NoEvery p) where
 
     nodes_add : (ts : List Tree) (v : ℕ) → Once (flat_map (adds p) (node_steps p F v ts)) × ((x : Atom) → Memᴰ x (flat_map (adds p) (node_steps p F v ts)) → (w : ℕ) × (row : ℕ) × (v ≤ w) × (x ≡ holds_node w row))
     unfolding node_steps flat_map Once true_rows
-    nodes_add [] v = (tt, λ x m. absurd (Memᴰ.not_nil m))
+    nodes_add [] v = (tt, λ x m. absurd (Memᴰ.not-nil m))
     nodes_add (t ∷ ts) v =
         let (o, h) = nodes_add ts (suc v) in
         let e : flat_map (adds p) (node_steps p F (suc v) ts ++ map (step_for p F v t) (true_rows p F t)) ≡ flat_map (adds p) (node_steps p F (suc v) ts) ++ map (holds_node v) (true_rows p F t)
@@ -346,7 +346,7 @@ module _ (p : Problem) (G : Good p) (plain : NoEvery p) where
 
     nodes_plain : (ts : List Tree) (v : ℕ) (a : Action) → Memᴰ a (node_steps p F v ts) → removes p a ≡ []
     unfolding node_steps
-    nodes_plain [] v a m = absurd (Memᴰ.not_nil m)
+    nodes_plain [] v a m = absurd (Memᴰ.not-nil m)
     nodes_plain (t ∷ ts) v a m = ⊎_elim
         (λ k. nodes_plain ts (suc v) a k)
         (λ k. let (row, j, e) = map_mem (step_for p F v t) (true_rows p F t) a k in ap (removes p) e ∙ (Planning.step_adds p G F v t row (rows_true t row j)).1)
@@ -354,7 +354,7 @@ module _ (p : Problem) (G : Good p) (plain : NoEvery p) where
 
   once_left_right : {A : Type 0} (l m : List A) → Once (l ++ m) → Once m × ((x : A) → Memᴰ x l → Memᴰ x m → ⊥)
   unfolding Once
-  once_left_right [] m o = (o, λ x i k. Memᴰ.not_nil i)
+  once_left_right [] m o = (o, λ x i k. Memᴰ.not-nil i)
   once_left_right {A} (y ∷ l) m o = let (q, h) = once_left_right l m o.1 in (q, λ x i k. ⊎_elim (λ e. o.0 (Memᴰ.append_right l (subst (λ (z : A). Memᴰ z m) e k))) (λ j. h x j k) (Memᴰ.cases_cons i))
 
   proving : (l : List Action) (s : State) → Takes p G s l → ((a : Action) → Memᴰ a l → removes p a ≡ []) → Once (flat_map (adds p) l) → ((x : Atom) → Memᴰ x (flat_map (adds p) l) → T (s (atom_number p x)) → ⊥) → Proving p G s l
@@ -526,7 +526,7 @@ module _ (p : Problem) (G : Good p) (plain : NoEvery p) (F : List Tuple) (K : Of
   unfolding Once is_goal
   added_once =
       let (o, h) = nodes_add p G plain F p.node_list zero in
-      subst Once (sym added_are) (once_append (flat_map (adds p) (node_steps p F zero p.node_list)) (goal ∷ []) o (Memᴰ.not_nil, tt)
+      subst Once (sym added_are) (once_append (flat_map (adds p) (node_steps p F zero p.node_list)) (goal ∷ []) o (Memᴰ.not-nil, tt)
       (λ x m k. let (w, row, l, e) = h x m in subst (λ (y : Atom). T (is_goal y)) (sym (Memᴰ.eq_of_singleton k) ∙ e) tt))
 
   proved : (x : Atom) → Memᴰ x (flat_map (adds p) proof_steps) → T (is_late x) × T (not (is_proof x))
@@ -558,7 +558,7 @@ module _ (p : Problem) (G : Good p) (plain : NoEvery p) (F : List Tuple) (K : Of
 
   none_told : (s : State) → Told p G s [] (λ _. zero)
   unfolding Legal after_layers state_before flat
-  none_told s = record { legal = tt; valid = λ a m. absurd (Memᴰ.not_nil m); tells = λ k b i h. ((λ t. omega arith), λ t. h) }
+  none_told s = record { legal = tt; valid = λ a m. absurd (Memᴰ.not-nil m); tells = λ k b i h. ((λ t. omega arith), λ t. h) }
 
   there : (join_each p (after_layers p (initial p) firsts) [] proof_steps ≡ insert_each p (λ _. zero) [] proof_steps)
       × Legal p (after_layers p (initial p) firsts) (insert_each p (λ _. zero) [] proof_steps)

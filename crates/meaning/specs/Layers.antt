@@ -258,7 +258,7 @@ module _ (p : Problem) where
 
   -- two that stand in a layer are one and the same, or apart
   pub one_or_apart : (l : List Action) → T (are_apart p l) → (a b : Action) → Memᴰ a l → Memᴰ b l → (a ≡ b) ⊎ Apart a b
-  one_or_apart [] t a b m k = absurd (Memᴰ.not_nil m)
+  one_or_apart [] t a b m k = absurd (Memᴰ.not-nil m)
   one_or_apart (c ∷ l) t a b m k = by_cases (Memᴰ.cases_cons m) (Memᴰ.cases_cons k) (one_or_apart l (apart_tail c l t) a b)
     where
       by_cases : (a ≡ c) ⊎ Memᴰ a l → (b ≡ c) ⊎ Memᴰ b l → (Memᴰ a l → Memᴰ b l → (a ≡ b) ⊎ Apart a b) → (a ≡ b) ⊎ Apart a b
@@ -270,7 +270,7 @@ module _ (p : Problem) where
   -- steps that are gone through may all be taken in the state before
   through_may : (l : List Action) (s : State) → T (go_through s l) → (b : Action) → Memᴰ b l → T (may_take p s b)
   unfolding go_through
-  through_may [] s t b m = absurd (Memᴰ.not_nil m)
+  through_may [] s t b m = absurd (Memᴰ.not-nil m)
   through_may (a ∷ l) s t b m = ⊎_elim
       (λ e. subst (λ (x : Action). T (may_take p s x)) (sym e) (T_and_l (may_take p s a) _ t))
       (λ k. may_more (λ i. s i && not (is_removed a i)) s b (λ i q. T_and_l (s i) _ q) (through_may l (λ i. s i && not (is_removed a i)) (T_and_r (may_take p s a) _ t) b k))
@@ -313,11 +313,11 @@ module _ (p : Problem) (G : Good p) where
     unfolding removes needs IsAction
     removes_needs (set r row) v x m = Memᴰ.tail m
     removes_needs begin_proof v x m = m
-    removes_needs (prove_and w row) v x m = absurd (Memᴰ.not_nil m)
-    removes_needs (prove_or w row i) v x m = absurd (Memᴰ.not_nil m)
-    removes_needs (prove_exists w row y) v x m = absurd (Memᴰ.not_nil m)
-    removes_needs (prove_forall w row z) v x m = absurd (Memᴰ.not_nil m)
-    removes_needs prove_goal v x m = absurd (Memᴰ.not_nil m)
+    removes_needs (prove_and w row) v x m = absurd (Memᴰ.not-nil m)
+    removes_needs (prove_or w row i) v x m = absurd (Memᴰ.not-nil m)
+    removes_needs (prove_exists w row y) v x m = absurd (Memᴰ.not-nil m)
+    removes_needs (prove_forall w row z) v x m = absurd (Memᴰ.not-nil m)
+    removes_needs prove_goal v x m = absurd (Memᴰ.not-nil m)
     removes_needs round_end v x m = absurd (no_round v)
     removes_needs (mark_in r row) v x m = m
     removes_needs (mark_out r row) v x m = m
@@ -342,11 +342,11 @@ module _ (p : Problem) (G : Good p) where
         (λ q. ⊎_elim (λ k. subst (λ (a : Atom). T (not (comes a))) (sym k.1) tt) (λ k. subst (λ (a : Atom). T (not (comes a))) (sym k.1) tt) (free_cases p G p.size r row _ x q))
         (Memᴰ.cases_cons m)
     removed_goes begin_proof v x m = subst (λ (a : Atom). T (not (comes a))) (sym (Memᴰ.eq_of_singleton m)) tt
-    removed_goes (prove_and w row) v x m = absurd (Memᴰ.not_nil m)
-    removed_goes (prove_or w row i) v x m = absurd (Memᴰ.not_nil m)
-    removed_goes (prove_exists w row y) v x m = absurd (Memᴰ.not_nil m)
-    removed_goes (prove_forall w row z) v x m = absurd (Memᴰ.not_nil m)
-    removed_goes prove_goal v x m = absurd (Memᴰ.not_nil m)
+    removed_goes (prove_and w row) v x m = absurd (Memᴰ.not-nil m)
+    removed_goes (prove_or w row i) v x m = absurd (Memᴰ.not-nil m)
+    removed_goes (prove_exists w row y) v x m = absurd (Memᴰ.not-nil m)
+    removed_goes (prove_forall w row z) v x m = absurd (Memᴰ.not-nil m)
+    removed_goes prove_goal v x m = absurd (Memᴰ.not-nil m)
     removed_goes round_end v x m = absurd (no_round v)
     removed_goes (mark_in r row) v x m = absurd (no_mark r row v)
     removed_goes (mark_out r row) v x m = absurd (no_mark r row v)

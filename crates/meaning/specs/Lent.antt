@@ -170,7 +170,7 @@ module _ (p : Problem) (G : Good p) where
 
   pub lent_at : (rs w : List ℕ) (t : Tuple) → Memᴰ t (lent_picks p w rs) → Memᴰ t.relation rs × ((row : ℕ) × (row < tuples_of p.size (relation_at p t.relation)) × (t ≡ tuple_at p t.relation row))
   unfolding lent_picks
-  lent_at [] w t m = absurd (Memᴰ.not_nil m)
+  lent_at [] w t m = absurd (Memᴰ.not-nil m)
   lent_at (r ∷ rs) w t m = ⊎_elim
       (λ q. let (row, l, b, e) = picks_at w r t q in
       let k : t.relation ≡ r = ap (λ (u : Tuple). u.relation) e in
@@ -218,4 +218,4 @@ module _ (p : Problem) (G : Good p) where
   -- words that are long enough and have no spare bit set are written again by the picks taken from them
   pub words_again : (w : List ℕ) → Words w → picks_length p ≤ length w → spare_word p w zero (chosen_numbers p) ≡ none → pick_words p (lent_picks p w (chosen_numbers p)) ≡ take (picks_length p) w
   unfolding picks_length
-  words_again w ok l e = words_of p (lent_picks p w (chosen_numbers p)) ∙ written p (lent_picks p w (chosen_numbers p)) w zero (chosen_numbers p) ok l (matches (chosen_numbers p) w [] numbers_once (λ t m k. absurd (Memᴰ.not_nil m))) e
+  words_again w ok l e = words_of p (lent_picks p w (chosen_numbers p)) ∙ written p (lent_picks p w (chosen_numbers p)) w zero (chosen_numbers p) ok l (matches (chosen_numbers p) w [] numbers_once (λ t m k. absurd (Memᴰ.not-nil m))) e

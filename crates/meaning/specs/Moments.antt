@@ -84,7 +84,7 @@ module _ (p : Problem) (G : Good p) (h : HasEvery p G) where
 
   -- an action that removes nothing
   none_gone : (s : State) (a : Action) → IsAction p a → removes p a ≡ [] → InOrOut s → InOrOut (after p s a)
-  none_gone s a v e F = both_stay s a v F (λ x m. absurd (Memᴰ.not_nil (subst (Memᴰ x) e m))) (λ x m. absurd (Memᴰ.not_nil (subst (Memᴰ x) e m)))
+  none_gone s a v e F = both_stay s a v F (λ x m. absurd (Memᴰ.not-nil (subst (Memᴰ x) e m))) (λ x m. absurd (Memᴰ.not-nil (subst (Memᴰ x) e m)))
 
   -- a tuple goes in, and one goes out
   goes_in : (s : State) → InOrOut s → (r i : ℕ) → IsAction p (mark_in r i) → InOrOut (after p s (mark_in r i))

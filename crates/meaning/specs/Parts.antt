@@ -88,7 +88,7 @@ holds_same c picks t e θ h = sym (by_holds c picks e t) ∙ by_same c (by_picks
 -- the values rebuilt from a node's row agree with those that it came from
 values_back : (ls : List ℕ) (e : Values) (l : ℕ) → Memᴰ l ls → values_in ls (map e ls) l ≡ e l
 unfolding values_in
-values_back [] e l m = absurd (Memᴰ.not_nil m)
+values_back [] e l m = absurd (Memᴰ.not-nil m)
 values_back (d ∷ ds) e l m = from_this (values_back ds e l) (Memᴰ.cases_cons m) (eqb l d) refl
   where
     from_this : (Memᴰ l ds → values_in ds (map e ds) l ≡ e l) → (l ≡ d) ⊎ Memᴰ l ds → (b : Bool) → eqb l d ≡ b → (if b then e d else values_in ds (map e ds) l) ≡ e l
@@ -238,12 +238,12 @@ module _ (p : Problem) where
     unfolding nodes nodes_all IsNode
 
     pub are_nodes : (s x : Tree) → Memᴰ x (nodes s) → IsNode x
-    are_nodes (leaf b k ls) x m = absurd (Memᴰ.not_nil m)
+    are_nodes (leaf b k ls) x m = absurd (Memᴰ.not-nil m)
     are_nodes (forall_node d σ s) x m = ⊎_elim (λ e. subst (IsNode) (sym e) tt) (λ q. are_nodes s x q) (Memᴰ.cases_cons m)
     are_nodes (exists_node d σ s) x m = ⊎_elim (λ e. subst (IsNode) (sym e) tt) (λ q. are_nodes s x q) (Memᴰ.cases_cons m)
     are_nodes (and_node ts) x m = ⊎_elim (λ e. subst (IsNode) (sym e) tt) (λ q. all_are_nodes ts x q) (Memᴰ.cases_cons m)
     are_nodes (or_node ts) x m = ⊎_elim (λ e. subst (IsNode) (sym e) tt) (λ q. all_are_nodes ts x q) (Memᴰ.cases_cons m)
 
     all_are_nodes : (ts : Trees) (x : Tree) → Memᴰ x (nodes_all ts) → IsNode x
-    all_are_nodes end x m = absurd (Memᴰ.not_nil m)
+    all_are_nodes end x m = absurd (Memᴰ.not-nil m)
     all_are_nodes (s then ts) x m = ⊎_elim (λ q. are_nodes s x q) (λ q. all_are_nodes ts x q) (Memᴰ.append_cases (nodes s) m)

@@ -171,11 +171,11 @@ module _ (c : Case) where
     where
       by_test : (b : Bool) → is_chosen (get_or (relations_of c.question) r no_relation).kind ≡ b → Memᴰ a (if b then set_name r ∷ [] else []) → Named c a
       by_test true e m = subst (Named c) (sym (Memᴰ.eq_of_singleton m)) (l, T_of e)
-      by_test false e m = absurd (Memᴰ.not_nil m)
+      by_test false e m = absurd (Memᴰ.not-nil m)
 
   node_named : (v : ℕ) (t : Tree) (a : ActionName) → v < length (nodes (tree_of c.question)) → node_in c v ≡ t → Memᴰ a (node_names v t) → Named c a
   unfolding node_names Named
-  node_named v (leaf q r ls) a l e m = absurd (Memᴰ.not_nil m)
+  node_named v (leaf q r ls) a l e m = absurd (Memᴰ.not-nil m)
   node_named v (forall_node d s t) a l e m = ⊎_elim (λ q. subst (Named c) (sym q) (l, (d, s, t, e))) (λ q. subst (Named c) (sym (Memᴰ.eq_of_singleton q)) (l, (d, s, t, e))) (Memᴰ.cases_cons m)
   node_named v (exists_node d s t) a l e m = subst (Named c) (sym (Memᴰ.eq_of_singleton m)) (l, (d, s, t, e))
   node_named v (and_node ts) a l e m = subst (Named c) (sym (Memᴰ.eq_of_singleton m)) (l, (ts, e))
@@ -354,7 +354,7 @@ module _ (c : Case) where
     where
       one : (b : Bool) (d : Predicate) → Declared c d → Memᴰ a (if b then d ∷ [] else []) → Declared c a
       one true d h q = subst (Declared c) (sym (Memᴰ.eq_of_singleton q)) h
-      one false d h q = absurd (Memᴰ.not_nil q)
+      one false d h q = absurd (Memᴰ.not-nil q)
 
   predicates_are : (a : Predicate) → Memᴰ a (predicates c) → Declared c a
   unfolding predicates Declared

@@ -132,7 +132,7 @@ module _ (f : CaseRead) (F : FiledFits f) (few_atoms : atoms (problem_of f.case)
         element = places_short (relation_at p r).arity row;
         few = omega (arith, length_places p.size (relation_at p r).arity row, arity_few r v.0);
       }
-      by_action begin_proof e v = record { number = low begin_proof e; subject = omega arith; part = omega arith; element = λ x m. absurd (Memᴰ.not_nil m); few = omega arith }
+      by_action begin_proof e v = record { number = low begin_proof e; subject = omega arith; part = omega arith; element = λ x m. absurd (Memᴰ.not-nil m); few = omega arith }
       by_action (prove_and w row) e v = record { number = low (prove_and w row) e; subject = node_short w v.0; part = omega arith; element = free_short w row; few = omega (arith, free_count w row) }
       by_action (prove_or w row i) e v = record {
         number = low (prove_or w row i) e;
@@ -155,8 +155,8 @@ module _ (f : CaseRead) (F : FiledFits f) (few_atoms : atoms (problem_of f.case)
         element = one_more w row x (range_short v.2.1 x v.2.4);
         few = omega (arith, free_count w row, length-append (free_values p w row) (x ∷ []));
       }
-      by_action prove_goal e v = record { number = low prove_goal e; subject = omega arith; part = omega arith; element = λ x m. absurd (Memᴰ.not_nil m); few = omega arith }
-      by_action round_end e v = record { number = low round_end e; subject = omega arith; part = omega arith; element = λ x m. absurd (Memᴰ.not_nil m); few = omega arith }
+      by_action prove_goal e v = record { number = low prove_goal e; subject = omega arith; part = omega arith; element = λ x m. absurd (Memᴰ.not-nil m); few = omega arith }
+      by_action round_end e v = record { number = low round_end e; subject = omega arith; part = omega arith; element = λ x m. absurd (Memᴰ.not-nil m); few = omega arith }
       by_action (mark_in r row) e v = record {
         number = low (mark_in r row) e;
         subject = mark_short r v.0 v.1;

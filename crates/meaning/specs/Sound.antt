@@ -323,8 +323,8 @@ module _ (p : Problem) (G : Good p) where
   initial_asked goal t = t
   initial_asked (tuple r row) t = t
   initial_asked (not_tuple r row) t = t
-  initial_asked (free_domain r x) t = λ y m. Memᴰ.not_nil m
-  initial_asked (free_range r y) t = λ x m. Memᴰ.not_nil m
+  initial_asked (free_domain r x) t = λ y m. Memᴰ.not-nil m
+  initial_asked (free_range r y) t = λ x m. Memᴰ.not-nil m
   initial_asked (holds_node v row) t = t
   initial_asked (marked r row) t = t
 
@@ -332,10 +332,10 @@ module _ (p : Problem) (G : Good p) where
   unfolding are_distinct
   first_guess = record {
     kinds = record {
-      inside = λ t m. absurd (Memᴰ.not_nil m);
-      fun = λ r x y z f m k. absurd (Memᴰ.not_nil m);
-      inj = λ r x y z f m k. absurd (Memᴰ.not_nil m);
-      typed = λ r x y f m. absurd (Memᴰ.not_nil m);
+      inside = λ t m. absurd (Memᴰ.not-nil m);
+      fun = λ r x y z f m k. absurd (Memᴰ.not-nil m);
+      inj = λ r x y z f m k. absurd (Memᴰ.not-nil m);
+      typed = λ r x y f m. absurd (Memᴰ.not-nil m);
     };
     distinct = tt;
     asked = λ x v h. initial_asked x (subst T (initial_at x v) h);

@@ -35,7 +35,7 @@ proof_or X x i h m = ⊎_elim (λ e. subst X (sym e) i) (λ q. h x q) (Memᴰ.ca
 -- the atoms of all nodes
 pub nodes_mem : (n v : ℕ) (ts : List Tree) (x : Atom) → Memᴰ x (nodes_atoms n v ts) → (j : ℕ) × (row : ℕ) × (j < length ts) × (row < node_width n (get_or ts j no_node)) × (x ≡ holds_node (v + j) row)
 unfolding nodes_atoms
-nodes_mem n v [] x m = absurd (Memᴰ.not_nil m)
+nodes_mem n v [] x m = absurd (Memᴰ.not-nil m)
 nodes_mem n v (t ∷ ts) x m = ⊎_elim
     (λ q. let (row, mr, e) = map_mem (holds_node v) (below (node_width n t)) x q in (zero, row, omega arith, below_lt (node_width n t) row mr, e ∙ ap (λ (w : ℕ). holds_node w row) (sym (add-zero v))))
     (λ q. let (j, row, l, h, e) = nodes_mem n (suc v) ts x q in let s : suc v + j ≡ v + suc j = omega arith in (suc j, row, omega arith, h, e ∙ ap (λ (w : ℕ). holds_node w row) s))
@@ -93,7 +93,7 @@ module _ (p : Problem) (G : Good p) where
     where
       one : (b : Bool) (a : Atom) → Memᴰ x (if b then a ∷ [] else []) → T b × (x ≡ a)
       one true a m = (tt, Memᴰ.eq_of_singleton m)
-      one false a m = absurd (Memᴰ.not_nil m)
+      one false a m = absurd (Memᴰ.not-nil m)
 
   pub domain_free : (n r row : ℕ) (k : Relation) → T (is_function k.kind) → Memᴰ (free_domain r (row / n)) (free_atoms n k r row)
   unfolding free_atoms
@@ -128,7 +128,7 @@ module _ (p : Problem) (G : Good p) where
 
   parts_valid : (ts : Trees) (v : ℕ) (e : Values) → HereAll p v ts → Bnd p.size e → (x : Atom) → Memᴰ x (part_atoms p.size p.range e (parts_from v ts)) → IsAtom p x
   unfolding part_atoms parts_from
-  parts_valid end v e h b x m = absurd (Memᴰ.not_nil m)
+  parts_valid end v e h b x m = absurd (Memᴰ.not-nil m)
   parts_valid (t then ts) v e h b x m = ⊎_elim (λ q. subst (IsAtom p) (sym q) (part_valid p G v t e (head_here p v t ts h) b)) (λ q. parts_valid ts (v + length (nodes t)) e (tail_here p v t ts h) b x q) (Memᴰ.cases_cons m)
 
   pub under_valid : (v row x : ℕ) (s : Tree) → v < length p.node_list → node_at p v ≡ s → x < p.size → IsNode p s → IsAtom p (under_atom p.size p.range v s row x)
@@ -155,7 +155,7 @@ module _ (p : Problem) (G : Good p) where
       (Memᴰ.cases_cons (subst (λ (s : Tree). Memᴰ x (forall_needs p.size p.range v s row z)) e m))
     where
       by_option : (o : Option ℕ) → before (p.range σ) z ≡ o → Memᴰ x (option o [] (λ y. holds_node v (row * p.size + y) ∷ [])) → IsAtom p x
-      by_option none i q = absurd (Memᴰ.not_nil q)
+      by_option none i q = absurd (Memᴰ.not-nil q)
       by_option (some y) i q = subst (IsAtom p) (sym (Memᴰ.eq_of_singleton q)) (own_valid v row y d σ t l e h ((G.ranged σ).small y (before_some (p.range σ) z y (G.ranged σ).ascends i).0))
 
   pub needs_valid : (a : Action) → IsAction p a → (x : Atom) → Memᴰ x (needs p a) → IsAtom p x
@@ -193,11 +193,11 @@ module _ (p : Problem) (G : Good p) where
   unfolding removes IsAction IsAtom
   removes_valid (set r row) v x m = ⊎_elim (λ e. subst (IsAtom p) (sym e) (v.0, set_below p r row v)) (λ s. free_valid r row v x s) (Memᴰ.cases_cons m)
   removes_valid begin_proof v x m = subst (IsAtom p) (sym (Memᴰ.eq_of_singleton m)) tt
-  removes_valid (prove_and v row) h x m = absurd (Memᴰ.not_nil m)
-  removes_valid (prove_or v row i) h x m = absurd (Memᴰ.not_nil m)
-  removes_valid (prove_exists v row z) h x m = absurd (Memᴰ.not_nil m)
-  removes_valid (prove_forall v row z) h x m = absurd (Memᴰ.not_nil m)
-  removes_valid prove_goal v x m = absurd (Memᴰ.not_nil m)
+  removes_valid (prove_and v row) h x m = absurd (Memᴰ.not-nil m)
+  removes_valid (prove_or v row i) h x m = absurd (Memᴰ.not-nil m)
+  removes_valid (prove_exists v row z) h x m = absurd (Memᴰ.not-nil m)
+  removes_valid (prove_forall v row z) h x m = absurd (Memᴰ.not-nil m)
+  removes_valid prove_goal v x m = absurd (Memᴰ.not-nil m)
   removes_valid round_end v x m = ⊎_elim (λ e. subst (IsAtom p) (sym e) tt) (λ q. node_valid x q) (Memᴰ.cases_cons m)
   removes_valid (mark_in r row) v x m = ⊎_elim (λ e. subst (IsAtom p) (sym e) v) (λ q. subst (IsAtom p) (sym (Memᴰ.eq_of_singleton q)) (v.0, v.2)) (Memᴰ.cases_cons m)
   removes_valid (mark_out r row) v x m = ⊎_elim (λ e. subst (IsAtom p) (sym e) v) (λ q. subst (IsAtom p) (sym (Memᴰ.eq_of_singleton q)) (v.0, v.2)) (Memᴰ.cases_cons m)

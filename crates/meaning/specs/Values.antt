@@ -77,7 +77,7 @@ module _ (p : Problem) (G : Good p) where
   value_mem k t m = (there p.source.question.every m, from_this (there p.source.question.every m))
     where
       there : (o : Option Relation) → Memᴰ t (option o [] (λ (e : Relation). map (λ row. tup E (places_of p.source.site.size e.arity row)) (filter (digit k) (below (every_tuples p.source))))) → T (is_some o)
-      there none m = absurd (Memᴰ.not_nil m)
+      there none m = absurd (Memᴰ.not-nil m)
       there (some e) m = tt
 
       from_this : HasEvery → (row : ℕ) × (row < every_tuples p.source) × T (digit k row) × (t ≡ tuple_at p E row)

@@ -28,7 +28,7 @@ use Rattle.meaning.specs.Valid.{proof_or}
 -- ---- the greatest and the least of numbers
 pub most_at : (ks : List ℕ) (k : ℕ) → Memᴰ k ks → k ≤ most ks
 unfolding most
-most_at [] k m = absurd (Memᴰ.not_nil m)
+most_at [] k m = absurd (Memᴰ.not-nil m)
 most_at (x ∷ ks) k m = ⊎_elim (λ e. omega (arith, le-max_left x (most ks), e)) (λ q. omega (arith, le-max_right x (most ks), most_at ks k q)) (Memᴰ.cases_cons m)
 
 pub most_of : (ks : List ℕ) (b : ℕ) → ((k : ℕ) → Memᴰ k ks → k ≤ b) → most ks ≤ b
@@ -38,7 +38,7 @@ most_of (x ∷ ks) b h = max-le (h x (Memᴰ.head refl)) (most_of ks b (λ k m. 
 
 pub fewest_at : (ks : List ℕ) (k : ℕ) → Memᴰ k ks → fewest ks ≤ k
 unfolding fewest
-fewest_at [] k m = absurd (Memᴰ.not_nil m)
+fewest_at [] k m = absurd (Memᴰ.not-nil m)
 fewest_at (x ∷ []) k m = omega (arith, Memᴰ.eq_of_singleton m)
 fewest_at (x ∷ y ∷ ks) k m = ⊎_elim (λ e. omega (arith, min-le_left x (fewest (y ∷ ks)), e)) (λ q. omega (arith, min-le_right x (fewest (y ∷ ks)), fewest_at (y ∷ ks) k q)) (Memᴰ.cases_cons m)
 
@@ -150,7 +150,7 @@ module _ (p : Problem) (G : Good p) where
 
   part_among : (ts : Trees) (v : ℕ) (e : Values) → HereAll p v ts → Bnd p.size e → (x : Atom) → Memᴰ x (part_atoms p.size p.range e (parts_from v ts)) → height p high x ≤ most (map upper_of (windows p.range ts))
   unfolding part_atoms parts_from windows most
-  part_among end v e h b x m = absurd (Memᴰ.not_nil m)
+  part_among end v e h b x m = absurd (Memᴰ.not-nil m)
   part_among (t then ts) v e h b x m = ⊎_elim
       (λ q. let k : height p high x ≡ high t = ap (height p high) q ∙ part_height p high G high_measures v t e (head_here p v t ts h) b in omega (arith, le-max_left (high t) (most (map upper_of (windows p.range ts)))))
       (λ q. omega (arith, le-max_right (high t) (most (map upper_of (windows p.range ts))), part_among ts (v + length (nodes t)) e (tail_here p v t ts h) b x q))
@@ -213,7 +213,7 @@ module _ (p : Problem) (G : Good p) where
       (Memᴰ.cases_cons (subst (λ (u : Tree). Memᴰ y (forall_needs p.size p.range v u row z)) e i))) m
     where
       by_option : (y : Atom) (o : Option ℕ) → before (p.range s) z ≡ o → Memᴰ y (option o [] (λ y. holds_node v (row * p.size + y) ∷ [])) → height p high y ≤ high t + rank (p.range s) z
-      by_option y none i q = absurd (Memᴰ.not_nil q)
+      by_option y none i q = absurd (Memᴰ.not-nil q)
       by_option y (some w) i q =
           let k = (before_some (p.range s) z w (G.ranged s).ascends i).0 in
           let j : height p high y ≡ high t + suc (rank (p.range s) w) = ap (height p high) (Memᴰ.eq_of_singleton q) ∙ own_height p high G high_measures v d s t row w e k in
@@ -228,16 +228,16 @@ module _ (p : Problem) (G : Good p) where
   -- for every action that removes nothing
   pub higher : (a : Action) → IsAction p a → removes p a ≡ [] → (x y : Atom) → Memᴰ x (needs p a) → Memᴰ y (adds p a) → Lower x y
   unfolding IsAction adds removes
-  higher (set r row) v e x y m k = absurd (Memᴰ.not_nil (subst (Memᴰ (not_tuple r row)) e (Memᴰ.head refl)))
-  higher begin_proof v e x y m k = absurd (Memᴰ.not_nil (subst (Memᴰ guess) e (Memᴰ.head refl)))
+  higher (set r row) v e x y m k = absurd (Memᴰ.not-nil (subst (Memᴰ (not_tuple r row)) e (Memᴰ.head refl)))
+  higher begin_proof v e x y m k = absurd (Memᴰ.not-nil (subst (Memᴰ guess) e (Memᴰ.head refl)))
   higher (prove_and v row) (l, h, (ts, q)) e x y m k = subst (Lower x) (sym (Memᴰ.eq_of_singleton k)) (and_lower v row ts l q x m)
   higher (prove_or v row i) (l, h, (ts, q, g)) e x y m k = subst (Lower x) (sym (Memᴰ.eq_of_singleton k)) (or_lower v row i ts l q x m)
   higher (prove_exists v row z) (l, h, (d, s, t, q, g)) e x y m k = subst (Lower x) (sym (Memᴰ.eq_of_singleton k)) (exists_lower v row z d s t l q g x m)
   higher (prove_forall v row z) (l, h, (d, s, t, q, g)) e x y m k = subst (Lower x) (sym (Memᴰ.eq_of_singleton k)) (forall_lower v row z d s t l q g x m)
   higher prove_goal v e x y m k = subst (Lower x) (sym (Memᴰ.eq_of_singleton k)) (goal_lower x m)
-  higher round_end v e x y m k = absurd (Memᴰ.not_nil (subst (Memᴰ proof) e (Memᴰ.head refl)))
-  higher (mark_in r row) v e x y m k = absurd (Memᴰ.not_nil (subst (Memᴰ (marked r row)) e (Memᴰ.head refl)))
-  higher (mark_out r row) v e x y m k = absurd (Memᴰ.not_nil (subst (Memᴰ (marked r row)) e (Memᴰ.head refl)))
+  higher round_end v e x y m k = absurd (Memᴰ.not-nil (subst (Memᴰ proof) e (Memᴰ.head refl)))
+  higher (mark_in r row) v e x y m k = absurd (Memᴰ.not-nil (subst (Memᴰ (marked r row)) e (Memᴰ.head refl)))
+  higher (mark_out r row) v e x y m k = absurd (Memᴰ.not-nil (subst (Memᴰ (marked r row)) e (Memᴰ.head refl)))
 
 -- ---- no node measures more than the root
 module _ (R : ℕ → List ℕ) where
@@ -248,14 +248,14 @@ module _ (R : ℕ → List ℕ) where
     unfolding nodes nodes_all window windows wider most
 
     nodes_high : (t u : Tree) → Memᴰ u (nodes t) → (window R u).upper ≤ (window R t).upper
-    nodes_high (leaf q r ls) u m = absurd (Memᴰ.not_nil m)
+    nodes_high (leaf q r ls) u m = absurd (Memᴰ.not-nil m)
     nodes_high (forall_node d s t) u m = ⊎_elim (λ e. let k = ap (λ (x : Tree). (window R x).upper) e in omega arith) (λ q. omega (arith, nodes_high t u q)) (Memᴰ.cases_cons m)
     nodes_high (exists_node d s t) u m = ⊎_elim (λ e. let k = ap (λ (x : Tree). (window R x).upper) e in omega arith) (λ q. omega (arith, nodes_high t u q)) (Memᴰ.cases_cons m)
     nodes_high (and_node ts) u m = ⊎_elim (λ e. let k = ap (λ (x : Tree). (window R x).upper) e in omega arith) (λ q. omega (arith, all_high ts u q)) (Memᴰ.cases_cons m)
     nodes_high (or_node ts) u m = ⊎_elim (λ e. let k = ap (λ (x : Tree). (window R x).upper) e in omega arith) (λ q. omega (arith, all_high ts u q)) (Memᴰ.cases_cons m)
 
     all_high : (ts : Trees) (u : Tree) → Memᴰ u (nodes_all ts) → (window R u).upper ≤ most (map (λ (w : Window). w.upper) (windows R ts))
-    all_high end u m = absurd (Memᴰ.not_nil m)
+    all_high end u m = absurd (Memᴰ.not-nil m)
     all_high (t then ts) u m = ⊎_elim
         (λ q. omega (arith, nodes_high t u q, le-max_left (window R t).upper (uppers ts)))
         (λ q. omega (arith, all_high ts u q, le-max_right (window R t).upper (uppers ts)))
@@ -277,14 +277,14 @@ module _ (p : Problem) (G : Good p) where
   -- so no step adds an atom that lies further than the last step's
   pub highest : (a : Action) → IsAction p a → removes p a ≡ [] → (y : Atom) → Memᴰ y (adds p a) → height p (high p G) y ≤ suc (window p.range p.root).upper
   unfolding IsAction adds removes height is_forall node_sort
-  highest (set r row) v e y k = absurd (Memᴰ.not_nil (subst (Memᴰ (not_tuple r row)) e (Memᴰ.head refl)))
-  highest begin_proof v e y k = absurd (Memᴰ.not_nil (subst (Memᴰ guess) e (Memᴰ.head refl)))
+  highest (set r row) v e y k = absurd (Memᴰ.not-nil (subst (Memᴰ (not_tuple r row)) e (Memᴰ.head refl)))
+  highest begin_proof v e y k = absurd (Memᴰ.not-nil (subst (Memᴰ guess) e (Memᴰ.head refl)))
   highest (prove_and v row) (l, h, (ts, q)) e y k = subst (λ (z : Atom). height p (high p G) z ≤ suc (window p.range p.root).upper) (sym (Memᴰ.eq_of_singleton k)) (omega (arith, node_most v row (node_at p v) refl l (inr (ap is_forall q))))
   highest (prove_or v row i) (l, h, (ts, q, g)) e y k = subst (λ (z : Atom). height p (high p G) z ≤ suc (window p.range p.root).upper) (sym (Memᴰ.eq_of_singleton k)) (omega (arith, node_most v row (node_at p v) refl l (inr (ap is_forall q))))
   highest (prove_exists v row z) (l, h, (d, s, t, q, g)) e y k = subst (λ (z : Atom). height p (high p G) z ≤ suc (window p.range p.root).upper) (sym (Memᴰ.eq_of_singleton k)) (omega (arith, node_most v row (node_at p v) refl l (inr (ap is_forall q))))
   highest (prove_forall v row z) (l, h, (d, s, t, q, g)) e y k = subst (λ (z : Atom). height p (high p G) z ≤ suc (window p.range p.root).upper) (sym (Memᴰ.eq_of_singleton k))
       (omega (arith, node_most v (row * p.size + z) (node_at p v) refl l (inl (subst₂ (λ (x : ℕ) (u : Tree). Memᴰ x (p.range (node_sort u))) (sym (digits_mod row ((G.ranged s).small z g))) (sym q) g))))
   highest prove_goal v e y k = subst (λ (z : Atom). height p (high p G) z ≤ suc (window p.range p.root).upper) (sym (Memᴰ.eq_of_singleton k)) (omega arith)
-  highest round_end v e y k = absurd (Memᴰ.not_nil (subst (Memᴰ proof) e (Memᴰ.head refl)))
-  highest (mark_in r row) v e y k = absurd (Memᴰ.not_nil (subst (Memᴰ (marked r row)) e (Memᴰ.head refl)))
-  highest (mark_out r row) v e y k = absurd (Memᴰ.not_nil (subst (Memᴰ (marked r row)) e (Memᴰ.head refl)))
+  highest round_end v e y k = absurd (Memᴰ.not-nil (subst (Memᴰ proof) e (Memᴰ.head refl)))
+  highest (mark_in r row) v e y k = absurd (Memᴰ.not-nil (subst (Memᴰ (marked r row)) e (Memᴰ.head refl)))
+  highest (mark_out r row) v e y k = absurd (Memᴰ.not-nil (subst (Memᴰ (marked r row)) e (Memᴰ.head refl)))

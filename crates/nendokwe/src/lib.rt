@@ -1,6 +1,7 @@
 // The public calls for programs in C, Rust and other languages. A slice goes over as a pointer and a length; lent memory must not
 // overlap. A call's number and place come back through two references: 0 and the step count, or a refusal's number and place.
 // What a refusal leaves as it was is left: sizes and an action's details are written only where there are some.
+#![tactic(auto)]
 ghost use Rattle.std.specs.Prelude.{◌≡◌, length};
 ghost use Rattle.definitions.specs.Reply.Desk.{desk};
 ghost use Rattle.definitions.specs.Limits.{usual};

@@ -40,7 +40,7 @@ use Rattle.step_run.specs.Checks.{Ran, Runs}
 
 every_universal : (o : Option Relation) → Fits EveryFits o → (k : Relation) → Memᴰ k (listed o) → T (is_universal k.kind)
 unfolding Fits listed is_universal
-every_universal none h k m = absurd (Memᴰ.not_nil m)
+every_universal none h k m = absurd (Memᴰ.not-nil m)
 every_universal (some e) h k m = subst (λ (x : Relation). T (is_universal x.kind)) (sym (Memᴰ.eq_of_singleton m)) (subst (λ (x : Kind). T (is_universal x)) (sym h.is_universal_lem) tt)
 
 -- the facts' words are those of the case's problem

@@ -41,14 +41,14 @@ mutual
   unfolding nodes Inner
 
   nodes_inner : (t u : Tree) → Memᴰ u (nodes t) → Inner u
-  nodes_inner (leaf p r ls) u m = absurd (Memᴰ.not_nil m)
+  nodes_inner (leaf p r ls) u m = absurd (Memᴰ.not-nil m)
   nodes_inner (forall_node d s t) u m = ⊎_elim (λ e. subst Inner (sym e) tt) (λ k. nodes_inner t u k) (Memᴰ.cases_cons m)
   nodes_inner (exists_node d s t) u m = ⊎_elim (λ e. subst Inner (sym e) tt) (λ k. nodes_inner t u k) (Memᴰ.cases_cons m)
   nodes_inner (and_node ts) u m = ⊎_elim (λ e. subst Inner (sym e) tt) (λ k. all_inner ts u k) (Memᴰ.cases_cons m)
   nodes_inner (or_node ts) u m = ⊎_elim (λ e. subst Inner (sym e) tt) (λ k. all_inner ts u k) (Memᴰ.cases_cons m)
 
   all_inner : (ts : Trees) (u : Tree) → Memᴰ u (nodes_all ts) → Inner u
-  all_inner end u m = absurd (Memᴰ.not_nil m)
+  all_inner end u m = absurd (Memᴰ.not-nil m)
   all_inner (t then ts) u m = ⊎_elim (λ k. nodes_inner t u k) (λ k. all_inner ts u k) (Memᴰ.append_cases (nodes t) m)
 
 shape_is : (u : Tree) → Inner u → shape_word (node_kind u) ≡ node_word u

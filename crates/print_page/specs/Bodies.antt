@@ -180,7 +180,7 @@ blank_page : page_lines [] 0 ≡ replicate 59 blank_line
 blank_page = page_lines_are [] 0
 
 blanks_long : length (flat_map ended_line (replicate 59 blank_line)) ≡ 4307
-blanks_long = ap (λ (l : List (List ℕ)). length (flat_map ended_line l)) (sym blank_page) ∙ ended_length (page_lines [] 0) (page_lines_long [] (λ z j. absurd (Memᴰ.not_nil j)) 0) ∙ omega (arith, page_lines_count [] 0)
+blanks_long = ap (λ (l : List (List ℕ)). length (flat_map ended_line l)) (sym blank_page) ∙ ended_length (page_lines [] 0) (page_lines_long [] (λ z j. absurd (Memᴰ.not-nil j)) 0) ∙ omega (arith, page_lines_count [] 0)
 
 module _ (all : List (List ℕ)) (L : Each (λ y. length y ≡ 72) all) (m : ℕ) (h : suc m < 10 ^ 6) where
   abbrev body : List ℕ

@@ -197,7 +197,7 @@ module _ (c : Case) (A : Accepted c) where
   -- ---- the name found
   find_only : {B : Type 0} (f : B → Bool) (l : List B) (a : B) → Memᴰ a l → T (f a) → ((b : B) → Memᴰ b l → T (f b) → b ≡ a) → find f l ≡ some a
   unfolding find
-  find_only f [] a m t h = absurd (Memᴰ.not_nil m)
+  find_only f [] a m t h = absurd (Memᴰ.not-nil m)
   find_only f (b ∷ l) a m t h = by_test (f b) refl (find_only f l a) (Memᴰ.cases_cons m)
     where
       by_test : (k : Bool) → f b ≡ k → (Memᴰ a l → T (f a) → ((d : _) → Memᴰ d l → T (f d) → d ≡ a) → find f l ≡ some a) → (a ≡ b) ⊎ Memᴰ a l → (if k then some b else find f l) ≡ some a

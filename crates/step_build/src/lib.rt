@@ -2,6 +2,7 @@
 // set in the order of the atoms, the proof begins, every true node atom is proved, and the goal is. Where there is an `every` line, there is
 // such a round for each of its values, ended by round-end and marks. Truth is decided by words in a scratch state before anything lent is
 // written.
+#![tactic(auto)]
 ghost use Rattle.std.specs.Prelude.{◌≡◌, true, false, ℕ, ◌+◌, ◌-◌, ◌/◌, ◌^◌, ◌<◌, ◌≤◌, ◌*◌, List, ◌∷◌, ◌++◌, length};
 ghost use Rattle.std.proofs.Math.Option.{none};
 ghost use Rattle.definitions.specs.Sheet.Relations.{Tuple};

@@ -79,7 +79,7 @@ module _ (p : Problem) (G : Good p) (F : List Tuple) where
 
   pub place_in : (k : ℕ) (q : Place) → Memᴰ q (places p F k) → Inside p F k q
   unfolding places
-  place_in zero q m = absurd (Memᴰ.not_nil m)
+  place_in zero q m = absurd (Memᴰ.not-nil m)
   place_in (suc v) q m = ⊎_elim
       (λ l. let (j, i, e) = map_mem (place_of v) (filter (is_true_at p F (node_at p v)) (from zero (node_width p.size (node_at p v)))) q l in
       let (f, t) = filter_mem (is_true_at p F (node_at p v)) (from zero (node_width p.size (node_at p v))) j i in

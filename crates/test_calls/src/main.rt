@@ -40,6 +40,7 @@
 // of more than 64 entries as the SHA-256 of its numbers; bytes as theirs, and where they are refused as `kept`, or a page's in hexadecimal. An
 // answer is a line: an equals sign, the reply's number and place (0 and what success tells), then what the call handed out and its buffers,
 // each under its name. Any other line ends the run, and is written, with all that follows it, under a word that says so.
+#![tactic(auto)]
 ghost use Rattle.std.specs.Prelude.{◌≤◌, ◌<◌, length};
 ghost use Rattle.open_tries.specs.Begun.{ReadyToTry};
 

@@ -1,0 +1,10 @@
+-- `call_build::build_text` meets its contract: the words for the facts are enough, and clear. Assumes nothing.
+use Rattle.read_sheets.proofs.Loops.{zeros_clear}
+use Rattle.open_case.specs.Rooms.{many_room}
+use Rattle.call_build.proofs.build_text.Goals as goal
+
+pub build_text_in-requires : goal.build_text_in-requires
+build_text_in-requires c = (c.is_small.ensures c.if-is_small.true, zeros_clear 512)
+
+pub build_text_in-requires-2 : goal.build_text_in-requires-2
+build_text_in-requires-2 c = (many_room _, zeros_clear 32768)

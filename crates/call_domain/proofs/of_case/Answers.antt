@@ -1,0 +1,50 @@
+-- `call_domain::of_case` meets its contract. Assumes nothing.
+use borrow.Author.Rules.{rules}
+use native.Mathlib.Omega.{arith}
+use mathlib.Core.Path.{sym, ◌∙◌}
+use Rattle.definitions.specs.Reply.Pddl.{domain_text}
+use Rattle.problem_layout.specs.LaidLaws.{most_zeros}
+use Rattle.open_pddl.specs.Texts.{writes_gate}
+use Rattle.call_instance.specs.Stated.{begun_sound, begun_declared, begun_names}
+use Rattle.call_domain.specs.Stated.{begun_rule, begun_elements, begun_relations, begun_bounded, stated_short, stated_all}
+use Rattle.call_domain.proofs.of_case.Goals as goal
+
+pub returns-then-no-ne0 : goal.returns-then-no-ne0
+returns-then-no-ne0 c = λ site table front z. writes_gate domain_text _ site _ _ _ table front z _ c.refusal-no.ensures c.if-no-ne0.true
+
+pub names_of-requires : goal.names_of-requires
+names_of-requires c = ((_, begun_sound _ _ _ c.requires), (search rules, most_zeros 54 0))
+
+pub relations_of-g-requires : goal.relations_of-g-requires
+relations_of-g-requires c = begun_declared _ _ _ c.requires
+
+pub nodes_of-t-requires : goal.nodes_of-t-requires
+nodes_of-t-requires c = begun_rule _ _ _ c.requires
+
+pub domain-bytes-requires : goal.domain-bytes-requires
+domain-bytes-requires c =
+    (
+  begun_names _ _ _ c.requires _ c.names_of.ensures,
+  begun_relations _ _ _ c.requires _ c.relations_of-g.ensures.0 c.relations_of-g.ensures.1,
+  c.nodes_of-t.ensures.fits,
+  begun_bounded _ _ _ c.requires _ _ c.relations_of-g.ensures.1 c.nodes_of-t.ensures,
+  (begun_elements _ _ _ c.requires).0,
+  (begun_elements _ _ _ c.requires).1,
+)
+
+pub returns-then-out-bytes : goal.returns-then-out-bytes
+returns-then-out-bytes c = λ site table front z. stated_short _ site _ _ _ table front z (sym c.if-no-ne0.false ∙ c.refusal-no.ensures) _ c.names_of.ensures _ c.relations_of-g.ensures.0 c.relations_of-g.ensures.1 _ c.nodes_of-t.ensures _ _ _ c.domain-bytes.ensures (omega arith)
+
+pub domain-requires : goal.domain-requires
+domain-requires c =
+    (
+  begun_names _ _ _ c.requires _ c.names_of.ensures,
+  begun_relations _ _ _ c.requires _ c.relations_of-g.ensures.0 c.relations_of-g.ensures.1,
+  c.nodes_of-t.ensures.fits,
+  begun_bounded _ _ _ c.requires _ _ c.relations_of-g.ensures.1 c.nodes_of-t.ensures,
+  (begun_elements _ _ _ c.requires).0,
+  (begun_elements _ _ _ c.requires).1,
+)
+
+pub returns : goal.returns
+returns c = λ site table front z. stated_all _ site _ _ _ table front z (sym c.if-no-ne0.false ∙ c.refusal-no.ensures) _ c.names_of.ensures _ c.relations_of-g.ensures.0 c.relations_of-g.ensures.1 _ c.nodes_of-t.ensures _ _ _ _ _ c.domain-bytes.ensures c.domain.ensures (omega arith)

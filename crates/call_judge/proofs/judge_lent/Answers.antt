@@ -1,0 +1,10 @@
+-- `call_judge::judge_lent` meets its contract: the words for the facts are enough, and clear. Assumes nothing.
+use Rattle.read_sheets.proofs.Loops.{zeros_clear}
+use Rattle.open_case.specs.Rooms.{many_room}
+use Rattle.call_judge.proofs.judge_lent.Goals as goal
+
+pub judge_lent_in-requires : goal.judge_lent_in-requires
+judge_lent_in-requires c = (c.is_small.ensures c.if-is_small.true, zeros_clear 512)
+
+pub judge_lent_in-requires-2 : goal.judge_lent_in-requires-2
+judge_lent_in-requires-2 c = (many_room _, zeros_clear 32768)

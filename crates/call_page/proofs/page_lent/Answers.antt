@@ -1,0 +1,10 @@
+-- `call_page::page_lent` meets its contract: the words for the facts are enough, and clear. Assumes nothing.
+use Rattle.read_sheets.proofs.Loops.{zeros_clear}
+use Rattle.open_case.specs.Rooms.{many_room}
+use Rattle.call_page.proofs.page_lent.Goals as goal
+
+pub page_lent_in-requires : goal.page_lent_in-requires
+page_lent_in-requires c = (c.is_small.ensures c.if-is_small.true, zeros_clear 512)
+
+pub page_lent_in-requires-2 : goal.page_lent_in-requires-2
+page_lent_in-requires-2 c = (many_room _, zeros_clear 32768)

@@ -1,0 +1,7 @@
+-- `call_page::page_text` meets its contract: the words and the list that it lends are enough, and clear. Assumes nothing.
+use native.Mathlib.Omega.{arith}
+use Rattle.read_sheets.proofs.Loops.{zeros_clear}
+use Rattle.call_page.proofs.page_text.Goals as goal
+
+pub page_text_with-requires : goal.page_text_with-requires
+page_text_with-requires c = ((c.is_small.ensures c.if-is_small.true, zeros_clear 512), λ few. omega arith)

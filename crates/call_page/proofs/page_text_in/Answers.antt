@@ -1,0 +1,9 @@
+-- `call_page::page_text_in` meets its contract: the list has room for the steps of the text. Assumes nothing.
+use native.Mathlib.Omega.{arith}
+use Rattle.call_page.proofs.page_text_in.Goals as goal
+
+pub page_text_with-requires : goal.page_text_with-requires
+page_text_with-requires c = (c.requires, λ few. omega arith)
+
+pub page_text_with-requires-2 : goal.page_text_with-requires-2
+page_text_with-requires-2 c = (c.requires, λ few. omega arith)

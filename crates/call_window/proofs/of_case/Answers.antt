@@ -1,0 +1,66 @@
+-- `call_window::of_case` meets its contract: 11 or 23, or the two numbers. Assumes nothing.
+use Prim.Native.Nat.{ℕ}
+use mathlib.Core.Bool.{Bool}
+use native.Mathlib.Omega.{arith}
+use Rattle.definitions.specs.Limits.{usual}
+use Rattle.definitions.specs.Problem.Truth.{Case}
+use Rattle.definitions.specs.Problem.Atoms.{problem_of}
+use Rattle.meaning.specs.Grounded.{good}
+use Rattle.problem_sizes.specs.Sums.{Tallied}
+use Rattle.problem_sizes.specs.Refused.{every_told}
+use Rattle.problem_of_case.specs.Grounds.{declared, rule_fine, inputs}
+use Rattle.read_sheets.specs.Opening.{Holds, case_read}
+use Rattle.open_case.specs.Usual.{over_usual, within_usual}
+use Rattle.call_window.specs.Windows.{window_over, window_every, window_told}
+use Rattle.call_window.proofs.of_case.Goals as goal
+
+-- what was counted is the problem's
+tallied : (c : goal.After-of_tables-m) → (x : Case) (facts : ℕ → Bool) → Holds c.args.question.now x c.args.o facts → Tallied (problem_of x) c.of_tables-m.result
+tallied c x facts h =
+    let is = inputs _ _ x facts h _ _ c.relations_of-g.ensures.1 c.nodes_of-t.ensures in
+    c.of_tables-m.ensures (problem_of x) _ _ c.ranges_of-ranges.ensures.1 is
+
+pub ranges_of-ranges-requires : goal.ranges_of-ranges-requires
+ranges_of-ranges-requires c =
+    let h = c.requires.holds in
+    (h.some-elements, h.few-elements, h.sound.types-le, omega (arith, h.sound.types-le, h.members-are.room))
+
+pub relations_of-g-requires : goal.relations_of-g-requires
+relations_of-g-requires c = declared _ _ _ _ c.requires.holds
+
+pub nodes_of-t-requires : goal.nodes_of-t-requires
+nodes_of-t-requires c = rule_fine _ _ _ _ c.requires.holds
+
+pub of_tables-m-requires : goal.of_tables-m-requires
+of_tables-m-requires c =
+    let h = c.requires.holds in
+    (h.some-elements, h.few-elements, c.relations_of-g.ensures.0, c.nodes_of-t.ensures.fits, c.ranges_of-ranges.ensures.0)
+
+pub returns-then-k-ne0 : goal.returns-then-k-ne0
+returns-then-k-ne0 c =
+    λ site facts read z.
+    let (x, e, h) = case_read usual _ site _ facts read z in
+    window_over usual _ site _ facts read z _
+    (over_usual x _ (tallied (goal.at.returns-then-k-ne0 c).After-of_tables-m x facts h) _ c.usual_limits.ensures _ c.refusal-k.ensures c.if-k-ne0.true)
+
+pub returns-then-m : goal.returns-then-m
+returns-then-m c =
+    λ site facts read z.
+    let (x, e, h) = case_read usual _ site _ facts read z in
+    let T = tallied (goal.at.returns-then-m c).After-of_tables-m x facts h in
+    window_every usual _ site _ facts read z
+    (within_usual x _ T _ c.usual_limits.ensures _ c.refusal-k.ensures c.if-k-ne0.false) _ (every_told x _ T) c.if-m.true
+
+pub of_tables-w-requires : goal.of_tables-w-requires
+of_tables-w-requires c = (c.nodes_of-t.ensures.fits, c.ranges_of-ranges.ensures.0)
+
+pub returns : goal.returns
+returns c =
+    λ site facts read z.
+    let (x, e, h) = case_read usual _ site _ facts read z in
+    let T = tallied (goal.at.returns c).After-of_tables-m x facts h in
+    window_told usual _ site _ facts read z
+    (within_usual x _ T _ c.usual_limits.ensures _ c.refusal-k.ensures c.if-k-ne0.false) _ (every_told x _ T)
+    (omega arith) c.if-m.false _ _
+    (λ y A i. c.of_tables-w.ensures (problem_of y) _ _ _ (good y A) c.ranges_of-ranges.ensures.1
+    (inputs _ _ y facts i _ _ c.relations_of-g.ensures.1 c.nodes_of-t.ensures))

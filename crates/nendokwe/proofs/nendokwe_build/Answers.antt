@@ -1,0 +1,9 @@
+-- `nendokwe::nendokwe_build` meets its contract: what `call_build::build_lent` returned is told. Assumes nothing.
+use mathlib.Core.Path.{ap, ◌∙◌}
+use Rattle.definitions.specs.Reply.Outcome.{reply_number, reply_place}
+use Rattle.nendokwe.proofs.nendokwe_build.Goals as goal
+
+pub returns : goal.returns
+returns c =
+    let build-lent = c.build_lent-r in
+    (c.tell.ensures.number_after ∙ ap reply_number build-lent.ensures.0, (c.tell.ensures.place_after ∙ ap reply_place build-lent.ensures.0, build-lent.ensures.1))

@@ -1,0 +1,9 @@
+-- `nendokwe::nendokwe_build_text` meets its contract: what `call_build::build_text` returned is told. Assumes nothing.
+use mathlib.Core.Path.{ap, ◌∙◌}
+use Rattle.definitions.specs.Reply.Outcome.{reply_number, reply_place}
+use Rattle.nendokwe.proofs.nendokwe_build_text.Goals as goal
+
+pub returns : goal.returns
+returns c =
+    let build-text = c.build_text-r in
+    (c.tell.ensures.number_after ∙ ap reply_number build-text.ensures.0, (c.tell.ensures.place_after ∙ ap reply_place build-text.ensures.0, build-text.ensures.1))

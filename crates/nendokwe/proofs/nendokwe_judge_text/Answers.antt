@@ -1,0 +1,7 @@
+-- `nendokwe::nendokwe_judge_text` meets its contract: what `call_judge::judge_text` returned is told. Assumes nothing.
+use mathlib.Core.Path.{ap, ◌∙◌}
+use Rattle.definitions.specs.Reply.Outcome.{reply_number, reply_place}
+use Rattle.nendokwe.proofs.nendokwe_judge_text.Goals as goal
+
+pub returns : goal.returns
+returns c = (c.tell.ensures.number_after ∙ ap reply_number c.judge_text-r.ensures, c.tell.ensures.place_after ∙ ap reply_place c.judge_text-r.ensures)

@@ -1,0 +1,10 @@
+-- `open_case::open_usual` meets its contract.
+use Rattle.open_case.specs.Fronts.{by_usual}
+use native.Mathlib.Omega.{arith}
+use Rattle.open_case.proofs.open_usual.Goals as goal
+
+pub open_filed-requires : goal.open_filed-requires
+open_filed-requires c = rw c.usual_limits-limits.ensures ((omega arith, omega arith, omega arith), c.requires)
+
+pub returns : goal.returns
+returns c = by_usual _ _ _ _ _ _ _ c.usual_limits-limits.ensures c.open_filed.ensures

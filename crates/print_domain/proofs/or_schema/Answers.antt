@@ -1,0 +1,32 @@
+-- `print_domain::or_schema` meets its contract. Assumes nothing.
+use native.Mathlib.Omega.{arith}
+use Rattle.print_domain.specs.Texts.{proved_fits}
+use Rattle.print_domain.specs.Nodes.{small_or, or_parts}
+use Prim.Native.Nat.{◌^◌, ◌<◌}
+use lib.ListN.{length}
+use Rattle.print_bytes.specs.Emitted.{begin, next as then, finish}
+use Rattle.print_domain.proofs.or_schema.Goals as goal
+
+short : (c : goal.Start) → (length c.args.out.now < 2 ^ 64) × (c.args.at < 2 ^ 64)
+short c = (omega arith, omega arith)
+
+pub offset_bounds-t-v : goal.offset_bounds-t-v
+offset_bounds-t-v c = omega (arith, c.requires.2)
+
+pub bounds-t-v : goal.bounds-t-v
+bounds-t-v c = omega (arith, c.requires.2)
+
+pub head-headed-requires : goal.head-headed-requires
+head-headed-requires c = (c.requires.0, small_or _ _, omega (arith, c.wide-width.ensures.0, (c.requires.1.nodes.node c.args.v).width))
+
+pub kid-needed-requires : goal.kid-needed-requires
+kid-needed-requires c = (c.requires.0, c.requires.1, c.requires.2, c.requires.3)
+
+pub parameters-own-requires : goal.parameters-own-requires
+parameters-own-requires c = omega (arith, c.wide-width.ensures.0, (c.requires.1.nodes.node c.args.v).width)
+
+pub proof_end-requires : goal.proof_end-requires
+proof_end-requires c = (c.requires.0, proved_fits _ _, c.parameters.ensures.0)
+
+pub returns : goal.returns
+returns c = finish _ (then _ _ (then _ _ (then _ _ (begin _ (or_parts _ _ c.args.t c.args.v _ _ c.wide-width.ensures.0 _ c.parameters.ensures.2 c.args.i) (short (goal.at.returns c).After-slice_known-1).0 (short (goal.at.returns c).After-slice_known-1).1) c.head-headed.ensures) c.text-opened.ensures) c.kid-needed.ensures) c.proof_end.ensures

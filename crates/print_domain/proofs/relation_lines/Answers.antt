@@ -1,0 +1,26 @@
+-- `print_domain::relation_lines` meets its contract. Assumes nothing.
+use Rattle.print_instance.specs.Texts.{relation_fits}
+use Rattle.print_domain.specs.Texts.{lines_parts}
+use native.Mathlib.Omega.{arith}
+use Prim.Native.Nat.{◌^◌, ◌<◌}
+use lib.ListN.{length}
+use Rattle.print_bytes.specs.Emitted.{begin, next as then, finish}
+use Rattle.print_domain.proofs.relation_lines.Goals as goal
+
+short : (c : goal.Start) → (length c.args.out.now < 2 ^ 64) × (c.args.at < 2 ^ 64)
+short c = (omega arith, omega arith)
+
+pub line-one-requires : goal.line-one-requires
+line-one-requires c = (c.requires.0, relation_fits 0 c.args.r c.requires.1, c.parameters-places.ensures.0)
+
+pub line-two-requires : goal.line-two-requires
+line-two-requires c = (c.requires.0, relation_fits 1 c.args.r c.requires.1, c.parameters-places.ensures.0)
+
+pub line_if-three-requires : goal.line_if-three-requires
+line_if-three-requires c = (c.requires.0, relation_fits 2 c.args.r c.requires.1, c.parameters-only.ensures.0)
+
+pub line_if-requires : goal.line_if-requires
+line_if-requires c = (c.requires.0, relation_fits 3 c.args.r c.requires.1, c.parameters-only.ensures.0)
+
+pub returns : goal.returns
+returns c = finish _ (then _ _ (then _ _ (then _ _ (begin _ (lines_parts _ _ _ _ _ _ _ _ _ c.parameters-places.ensures.2 c.parameters-only.ensures.2 c.is_function-is.ensures c.is_injective-too.ensures) (short (goal.at.returns c).Start).0 (short (goal.at.returns c).Start).1) c.line-one.ensures) c.line-two.ensures) c.line_if-three.ensures) c.line_if.ensures

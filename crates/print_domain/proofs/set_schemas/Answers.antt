@@ -1,0 +1,40 @@
+use native.Mathlib.Omega.{arith}
+use Prim.Native.Nat.{◌-◌}
+use Rattle.print_bytes.specs.Emitted.{begin, recut, next as then, finished}
+use Rattle.print_words.specs.Loops.{flat_first, flat_next, flat_end}
+use Rattle.print_domain.specs.Texts.{sets_text}
+use Rattle.print_domain.proofs.set_schemas.Goals as goal
+
+pub loop-r-init : goal.loop-r-init
+unfolding sets_text
+loop-r-init c = (omega arith, begin _ (flat_first _ _) (omega arith) (omega arith))
+
+pub offset_bounds-g-r : goal.offset_bounds-g-r
+offset_bounds-g-r c = omega (arith, c.requires.1.fit.count)
+
+pub bounds-g-r : goal.bounds-g-r
+bounds-g-r c = omega (arith, c.requires.1.fit.count)
+
+pub offset_bounds-g-r-in-loop-r : goal.offset_bounds-g-r-in-loop-r
+offset_bounds-g-r-in-loop-r c = omega (arith, c.requires.1.fit.count)
+
+pub bounds-g-r-in-loop-r : goal.bounds-g-r-in-loop-r
+bounds-g-r-in-loop-r c = omega (arith, c.requires.1.fit.count)
+
+pub set_if-next-requires : goal.set_if-next-requires
+set_if-next-requires c = (c.requires.0, omega (arith, c.requires.1.fit.count), c.requires.1.placed c.loop-r.r (omega arith))
+
+pub overflow_add-r : goal.overflow_add-r
+overflow_add-r c = omega (arith, c.requires.1.fit.count)
+
+pub loop-r-smaller : goal.loop-r-smaller
+loop-r-smaller c = omega arith
+
+pub loop-r-preserved : goal.loop-r-preserved
+loop-r-preserved c = (omega arith, then _ _ (recut (flat_next _ c.loop-r.r c.args.g.count (omega arith)) c.loop-r.invariant.1) c.set_if-next.ensures)
+
+pub shape_of-out : goal.shape_of-out
+shape_of-out c = c.loop-r.invariant.1.size
+
+pub returns : goal.returns
+returns c = finished (recut (flat_end _ c.loop-r.r c.args.g.count (omega arith)) c.loop-r.invariant.1)

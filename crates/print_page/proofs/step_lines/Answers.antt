@@ -1,0 +1,44 @@
+-- `print_page::step_lines` meets its contract.
+use native.Mathlib.Omega.{arith}
+use Prim.Native.Nat.{ℕ}
+use mathlib.Core.Path.{ap, ap₂, sym, ◌∙◌}
+use mathlib.Core.List.{List}
+use lib.ListN.{length}
+use Rattle.print_line.specs.Lines.{said_by}
+use Rattle.print_units.specs.Units.{all_units}
+use Rattle.print_units.specs.Streams.{lines_in}
+use Rattle.print_page.specs.Steps.{within_five, step_count, step_none}
+use Rattle.print_page.proofs.step_lines.Goals as goal
+
+pub elements-count-requires : goal.elements-count-requires
+elements-count-requires c = ((c.requires.0.fits, c.action_at-a.ensures.0, omega arith, within_five _ c.requires.0.fits.some), c.requires.1)
+
+pub part_of-part-requires : goal.part_of-part-requires
+part_of-part-requires c = (c.requires.0.fits, c.action_at-a.ensures.0)
+
+pub lines-requires : goal.lines-requires
+lines-requires c =
+    (
+      (_, c.requires.2, c.elements-count.ensures.2),
+      omega
+          (arith, c.elements-count.ensures.0),
+    )
+
+pub returns-then-is_there : goal.returns-then-is_there
+returns-then-is_there c =
+    (
+      (λ p ls question i is N says. c.lines.ensures.0 ∙ ap₂ (λ (q : ℕ) (xs : List ℕ). lines_in 0 (all_units (said_by c.args.site.now c.args.labels.now) q xs)) c.part_of-part.ensures
+          c.elements-count.ensures.1
+          ∙ sym (step_count p c.args.table.now question c.args.names.now c.args.site.now c.args.labels.now ls is N says i c.args.k
+          c.action_at-a.result (c.action_at-a.ensures.1 p is)
+          (sym c.is_there.ensures ∙ c.if-is_there.true))),
+      omega (arith, c.lines.ensures.1, c.elements-count.ensures.0),
+    )
+
+pub returns : goal.returns
+returns c =
+    (
+      (λ p ls question i is N says. sym (ap length (step_none p c.args.table.now question c.args.names.now c.args.site.now c.args.labels.now ls is N says i c.args.k
+          c.action_at-a.result (c.action_at-a.ensures.1 p is) (sym c.is_there.ensures ∙ c.if-is_there.false)))),
+      omega arith,
+    )

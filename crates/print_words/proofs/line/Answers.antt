@@ -1,0 +1,13 @@
+-- `print_words::line` meets its contract. Assumes nothing.
+use Rattle.print_words.specs.Words.{line_parts}
+use native.Mathlib.Omega.{arith}
+use Prim.Native.Nat.{◌^◌, ◌<◌}
+use lib.ListN.{length}
+use Rattle.print_bytes.specs.Emitted.{begin, next as then, finish}
+use Rattle.print_words.proofs.line.Goals as goal
+
+short : (c : goal.Start) → (length c.args.out.now < 2 ^ 64) × (c.args.at < 2 ^ 64)
+short c = (omega arith, omega arith)
+
+pub returns : goal.returns
+returns c = finish _ (then _ _ (then _ _ (begin _ (line_parts _) (short (goal.at.returns c).Start).0 (short (goal.at.returns c).Start).1) c.spaces-begun.ensures) c.atom-said.ensures) c.byte.ensures

@@ -1,0 +1,38 @@
+use Prim.Native.Nat.{◌-◌}
+use mathlib.Core.Path.{◌≡◌, sym, ◌∙◌}
+use mathlib.Core.Logic.{⊎_elim}
+use native.Mathlib.Omega.{arith}
+use Rattle.problem_layout.specs.Laid.{range_by}
+use Rattle.problem_layout.specs.RangeLaws.{count_none, count_yes, count_no}
+use Rattle.problem_layout.proofs.range_of.Goals as goal
+
+pub loop-x-init : goal.loop-x-init
+loop-x-init c = (omega arith, count_none _ _ c.requires.0, c.requires.3)
+
+pub get-requires : goal.get-requires
+get-requires c = omega (arith, c.requires.1, c.requires.2, c.loop-x-test.true)
+
+pub overflow_add-count : goal.overflow_add-count
+overflow_add-count c = omega (arith, c.loop-x.invariant.1.few, c.requires.1, c.loop-x.invariant.0)
+
+pub overflow_add-x : goal.overflow_add-x
+overflow_add-x c = omega arith
+
+pub loop-x-smaller : goal.loop-x-smaller
+loop-x-smaller c = omega arith
+
+pub loop-x-preserved : goal.loop-x-preserved
+loop-x-preserved c =
+    let l = c.loop-x in (
+      omega arith,
+      ⊎_elim
+          (λ w. count_yes _ _ _ _ _ _ _ l.invariant.1 (omega arith) (sym c.get.ensures ∙ w.0.taken) w.1 w.2)
+          (λ w. count_no _ _ _ _ _ _ _ l.invariant.1 (sym c.get.ensures ∙ w.0.left) w.1 w.2) c.if-get.branch,
+      l.invariant.2,
+    )
+
+pub returns : goal.returns
+unfolding range_by
+returns c =
+    let l = c.loop-x in let e : l.x ≡ c.args.n = omega arith in let k = l.invariant.1 in
+    (rw e at k.count-is, rw e at k.top-is, omega (arith, k.few), k.low)

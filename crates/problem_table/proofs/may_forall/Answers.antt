@@ -1,0 +1,39 @@
+-- `problem_table::may_forall` meets its contract.
+use mathlib.Core.Path.{sym, ◌∙◌}
+use Prim.Native.Nat.{◌*◌, ◌^◌, ◌≤◌}
+use native.Mathlib.Omega.{arith}
+use Rattle.rows.specs.Laws.{times_most}
+use Rattle.problem_table.specs.NeedLaws.{forall_no, forall_not, forall_first, forall_next}
+use Rattle.problem_table.proofs.may_forall.Goals as goal
+
+-- the atom of the row and of an element
+times : (c : goal.Start) → c.args.row * c.args.n ≤ 2 ^ 32 * 64
+times c = times_most _ _ c.requires.7 c.requires.1
+
+pub element_before-y-requires : goal.element_before-y-requires
+element_before-y-requires c = let q = c.requires in (q.2.whole, q.4.inside, omega arith, q.4.whole)
+
+pub returns-then-y-eq0 : goal.returns-then-y-eq0
+returns-then-y-eq0 c = forall_first _ _ _ _ _ _ _ c.element_before-y.ensures.0 (omega arith) (sym c.test.ensures ∙ c.if-test.true) (sym c.under_holds.ensures ∙ c.if-under_holds.true)
+
+pub overflow_mul-row : goal.overflow_mul-row
+overflow_mul-row c = omega (arith, times (goal.at.overflow_mul-row c).Start)
+
+pub overflow_add-row : goal.overflow_add-row
+overflow_add-row c = omega (arith, times (goal.at.overflow_add-row c).Start)
+
+pub overflow_add-v : goal.overflow_add-v
+overflow_add-v c = omega (arith, times (goal.at.overflow_add-v c).Start)
+
+pub returns-then-under_holds : goal.returns-then-under_holds
+returns-then-under_holds c =
+    let b =
+    c.element_before-y in forall_next _ _ _ _ _ _ _ _ b.ensures.0 (omega arith)
+    (sym c.test.ensures ∙ c.if-test.true)
+    (sym c.under_holds.ensures ∙ c.if-under_holds.true) c.test-then-under_holds.ensures
+
+pub returns-else-under_holds : goal.returns-else-under_holds
+returns-else-under_holds c = forall_not _ _ _ _ _ _ (sym c.test.ensures ∙ c.if-test.true) (sym c.under_holds.ensures ∙ c.if-under_holds.false)
+
+pub returns-else-test : goal.returns-else-test
+returns-else-test c = forall_no _ _ _ _ _ _ (sym c.test.ensures ∙ c.if-test.false)

@@ -1,0 +1,6 @@
+-- `read_question::push_type` meets its contract.
+use mathlib.Core.Path.{refl}
+use Rattle.read_question.proofs.push_type.Goals as goal
+
+pub returns : goal.returns
+returns c = refl

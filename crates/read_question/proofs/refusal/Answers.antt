@@ -1,0 +1,5 @@
+-- `read_question::refusal` meets its contract.
+use Rattle.read_question.proofs.refusal.Goals as goal
+
+pub returns : goal.returns
+returns c = rw c.no_relations-sig.ensures

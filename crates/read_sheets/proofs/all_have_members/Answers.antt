@@ -1,0 +1,26 @@
+use Prim.Native.Nat.{◌-◌}
+use mathlib.Core.Path.{refl, sym, ◌∙◌}
+use mathlib.Core.Bool.{true}
+use native.Mathlib.Omega.{arith}
+use Rattle.read_sheets.proofs.Loops.{no_member, a_member, each_next, each_fails, each_end}
+use Rattle.read_sheets.proofs.all_have_members.Goals as goal
+
+pub loop-k-init : goal.loop-k-init
+loop-k-init c = (omega arith, λ n ms few M. refl)
+
+pub returns-then-ones-eq0 : goal.returns-then-ones-eq0
+returns-then-ones-eq0 c =
+    λ n ms few M.
+    let none = no_member _ _ n ms few M c.loop-k.k (sym c.ones.ensures ∙ c.if-ones-eq0.true) in sym
+    (each_fails _ _ _ (omega arith) none)
+
+pub loop-k-preserved : goal.loop-k-preserved
+loop-k-preserved c =
+    let l = c.loop-k in (
+      omega arith,
+      λ n ms few M.
+          each_next _ _ (l.invariant.1 n ms few M) (a_member _ _ n ms few M l.k (λ e. c.if-ones-eq0.false (c.ones.ensures ∙ e))),
+    )
+
+pub returns : goal.returns
+returns c = λ n ms few M. each_end _ c.loop-k.k c.args.types (omega arith) (c.loop-k.invariant.1 n ms few M)

@@ -1,0 +1,43 @@
+-- `read_tuples::add` meets its contract. The bit tells whether the tuple stood in an earlier line.
+use mathlib.Core.Path.{sym, ◌∙◌}
+use native.Mathlib.Omega.{arith}
+use Rattle.read_tuples.specs.Marks.{Roomy}
+use Rattle.read_tuples.proofs.Adding.{no_signature, spot_limit, add_fault, add_10, add_0}
+use Prim.Native.Nat.{◌/◌, ◌<◌}
+use lib.ListN.{length}
+use Rattle.read_tuples.proofs.add.Goals as goal
+
+-- the bit of the tuple is in the table
+within : (c : goal.In-Bit-2) → c.in-Bit.b / 64 < length
+    c.args.table.now
+unfolding Roomy
+within c =
+    let p = c.requires.fielded.1 in
+    omega (
+      arith,
+      c.requires.arrays.2 no_signature,
+      spot_limit _ _ _ _ _ p.0 _ _ c.args.table.now c.args.table.now _
+          (c.spot-place.ensures p.0 p.1 no_signature) _ c.in-Bit.is,
+    )
+
+pub get-requires : goal.get-requires
+get-requires c = within (goal.at.get-requires c).In-Bit-1
+
+pub returns-then-get : goal.returns-then-get
+returns-then-get c =
+    λ ls L g.
+    add_10 _ _ _ _ _ ls _ _ _ _ _ (c.spot-place.ensures ls L g) _
+    c.in-Bit.is (sym c.get.ensures ∙ c.if-get.true)
+
+pub set-requires : goal.set-requires
+set-requires c = within (goal.at.set-requires c).In-Bit-1
+
+pub returns-in-Fault : goal.returns-in-Fault
+returns-in-Fault c = λ ls L g. add_fault _ _ _ _ _ ls _ _ _ _ _ (c.spot-place.ensures ls L g) _ c.in-Fault.is
+
+pub returns-else-get : goal.returns-else-get
+returns-else-get c =
+    λ ls L g.
+    add_0 _ _ _ _ _ ls _ _ _ _ _ (c.spot-place.ensures ls L g) _
+    c.in-Bit.is
+    (sym c.get.ensures ∙ c.if-get.false) c.set.ensures

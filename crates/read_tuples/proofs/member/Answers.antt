@@ -1,0 +1,71 @@
+-- `read_tuples::member` meets its contract. The bit tells whether an earlier line says the same.
+use mathlib.Core.Path.{sym, ◌∙◌}
+use native.Mathlib.Omega.{arith}
+use Rattle.read_names.proofs.Laws.{length_names}
+use Rattle.read_line.specs.Entries.{element_by}
+use Rattle.read_tuples.proofs.Joining.{type_below, member_untyped, member_wide, member_nobody, member_again, member_new}
+use Prim.Native.Nat.{◌<◌}
+use Rattle.read_tuples.proofs.member.Goals as goal
+
+-- the type is one of the eight
+few : (c : goal.In-At-2) → c.in-At.j < 8
+few c =
+    let a = c.args in
+    omega (
+      arith,
+      length_names a.q.now a.from.now a.to.now 13 a.line.types,
+      type_below _ a.line.n c.requires.labels_are.0 _ (element_by [] 0) [] [] _ c.type_named-f.ensures _ c.in-At.is,
+    )
+
+pub returns-then-n-x : goal.returns-then-n-x
+returns-then-n-x c =
+    λ ls L.
+    let fit = sym (c.fits2.ensures _) ∙ c.if-fits.true in
+    member_nobody _ _ ls _ _ _ _ _ c.type_named-f.ensures _
+    c.in-At.is L.fit fit _ (c.value-x.ensures ls L) (omega arith)
+
+pub overflow_mul-j : goal.overflow_mul-j
+overflow_mul-j c = omega (arith, few (goal.at.overflow_mul-j c).In-At-1)
+
+pub overflow_add-j : goal.overflow_add-j
+overflow_add-j c = omega (arith, few (goal.at.overflow_add-j c).In-At-1)
+
+pub get-requires : goal.get-requires
+get-requires c = omega (arith, few (goal.at.get-requires c).In-At-1)
+
+pub returns-then-get : goal.returns-then-get
+returns-then-get c =
+    λ ls L.
+    let fit = sym (c.fits2.ensures _) ∙ c.if-fits.true in
+    let type = c.type_named-f.ensures in
+    member_again _ _ ls _ _ _ _ _ type _ c.in-At.is L.fit fit _
+    (c.value-x.ensures ls L)
+    (omega arith) (omega arith) (sym c.get.ensures ∙ c.if-get.true)
+
+pub overflow_mul-j-then-fits : goal.overflow_mul-j-then-fits
+overflow_mul-j-then-fits c = omega (arith, few (goal.at.overflow_mul-j-then-fits c).In-At-1)
+
+pub overflow_add-j-then-fits : goal.overflow_add-j-then-fits
+overflow_add-j-then-fits c = omega (arith, few (goal.at.overflow_add-j-then-fits c).In-At-1)
+
+pub set-requires : goal.set-requires
+set-requires c = omega (arith, few (goal.at.set-requires c).In-At-1)
+
+pub returns-then-fits : goal.returns-then-fits
+returns-then-fits c =
+    λ ls L.
+    let fit = sym (c.fits2.ensures _)
+    ∙ c.if-fits.true in
+    let value = c.value-x.ensures ls L in
+    let eight = c.requires.types_bound in
+    member_new _ _ ls _ _ _ _ _ c.type_named-f.ensures _
+    c.in-At.is L.fit fit _ value
+    (omega (arith, c.if-n-x.false)) (omega (arith, eight))
+    (sym c.get.ensures ∙ c.if-get.false)
+    (omega (arith, c.members-1.given, eight)) c.set.ensures
+
+pub returns-in-Nowhere : goal.returns-in-Nowhere
+returns-in-Nowhere c = λ ls L. member_untyped _ _ ls _ _ _ _ _ c.type_named-f.ensures c.in-Nowhere.is
+
+pub returns-else-fits : goal.returns-else-fits
+returns-else-fits c = λ ls L. member_wide _ _ ls _ _ _ _ _ c.type_named-f.ensures _ c.in-At.is (sym (c.fits2.ensures _) ∙ c.if-fits.false)

@@ -1,0 +1,71 @@
+use Prim.Native.Nat.{◌-◌}
+use mathlib.Core.Path.{◌≡◌, sym, ◌∙◌}
+use mathlib.Core.Logic.{⊎_elim}
+use native.Mathlib.Omega.{arith}
+use lib.Seq.{length-slice}
+use Rattle.read_tuples.proofs.Naming.{not_yet, other_length, other_bytes, found_here, found_nowhere, found_empty}
+use Rattle.read_tuples.proofs.scan.Goals as goal
+
+pub returns-then-wanted-eq0 : goal.returns-then-wanted-eq0
+returns-then-wanted-eq0 c = λ ls L. found_empty _ _ c.args.n ls L _ (sym c.span_length-wanted.ensures ∙ c.if-wanted-eq0.true)
+
+pub loop-x-init : goal.loop-x-init
+loop-x-init c = (omega arith, not_yet _ _ _)
+
+pub overflow_mul-from : goal.overflow_mul-from
+overflow_mul-from c = omega (arith, c.loop-x.invariant.0)
+
+pub offset_bounds-labels-x : goal.offset_bounds-labels-x
+offset_bounds-labels-x c = omega arith
+
+pub bounds-labels-x : goal.bounds-labels-x
+bounds-labels-x c = omega (arith, c.requires.1.1.room)
+
+pub overflow_mul-to : goal.overflow_mul-to
+overflow_mul-to c = omega arith
+
+pub overflow_add-to : goal.overflow_add-to
+overflow_add-to c = omega arith
+
+pub offset_bounds-labels-x-in-loop-x : goal.offset_bounds-labels-x-in-loop-x
+offset_bounds-labels-x-in-loop-x c = omega arith
+
+pub bounds-labels-x-in-loop-x : goal.bounds-labels-x-in-loop-x
+bounds-labels-x-in-loop-x c = omega (arith, c.requires.1.1.room)
+
+pub overflow_sub-to : goal.overflow_sub-to
+overflow_sub-to c = (c.requires.1.1.in-text c.loop-x.x (omega arith)).0
+
+pub alike-requires : goal.alike-requires
+alike-requires c =
+    let l = c.loop-x in
+    let k = c.span_length-wanted.ensures in
+    let a = c.args in
+    (omega (arith, c.if-wanted-eq0.false), sym c.if-to-from.true ∙ sym (length-slice _ _ a.site.now (c.requires.1.1.in-text l.x (omega arith)).1), k)
+
+pub returns-then-alike : goal.returns-then-alike
+returns-then-alike c =
+    λ ls L.
+    found_here _ _ _ ls L _ c.loop-x.x (omega (arith, c.if-to-from.true))
+    (sym c.alike.ensures ∙ c.if-alike.true)
+
+pub overflow_add-x : goal.overflow_add-x
+overflow_add-x c = omega arith
+
+pub loop-x-smaller : goal.loop-x-smaller
+loop-x-smaller c = omega arith
+
+pub loop-x-preserved : goal.loop-x-preserved
+loop-x-preserved c =
+    let l = c.loop-x in
+    let here = (c.requires.1.1.in-text l.x (omega arith)).1 in
+    let length = c.span_length-wanted.ensures in (
+      omega arith,
+      ⊎_elim (λ w. other_bytes _ _ _ l.x l.invariant.1 (sym w.1.ensures ∙ w.2.left))
+          (λ w. other_length _ _ _ l.x l.invariant.1 here (λ q. w.left (q ∙ sym length))) c.if-to-from.branch,
+    )
+
+pub returns : goal.returns
+returns c =
+    λ ls L. found_nowhere _ _ _ ls L _
+    (let e : c.loop-x.x ≡ c.args.n = omega arith in rw e at c.loop-x.invariant.1)

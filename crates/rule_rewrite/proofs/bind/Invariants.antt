@@ -1,0 +1,16 @@
+-- `bind` meets its contract. The text that is left falls.
+use Prim.Native.Nat.{◌-◌}
+use mathlib.Core.Path.{◌≡◌}
+use lib.ListN.{length}
+use Rattle.read_names.specs.Signatures.{types_in}
+use Rattle.rule_rewrite.specs.declared.Bound.{Bound}
+use Rattle.rule_rewrite.specs.Ready.{ListReady}
+use Rattle.rule_rewrite.proofs.bind.Given as goal
+
+-- what the further variables make of the scope so far is what all make of the first
+abbrev pub invariant-loop-inner : goal.invariant-loop-inner
+invariant-loop-inner l =     ListReady l.s l.i l.inner × (length l.inner.from ≡ 4) × (length l.inner.to ≡ 4) × (length l.sorts ≡ 4)
+    × ((r : Bound) → Opens l.s l.i (types_in l.s l.from l.to 8) l.inner l.sorts r → Opens l.s l.at (types_in l.s l.from l.to 8) l.initial.inner l.initial.sorts r)
+
+abbrev pub decreases-loop-inner : goal.decreases-loop-inner
+decreases-loop-inner l = length l.s - l.i

@@ -1,0 +1,14 @@
+-- `number` meets its contract.
+use mathlib.Core.Path.{sym, ◌∙◌}
+use native.Mathlib.Omega.{arith}
+use Rattle.rule_rewrite.proofs.Words.{lent_low, number_at, number_none}
+use Rattle.rule_rewrite.proofs.number.Goals as goal
+
+pub overflow_cast-result : goal.overflow_cast-result
+overflow_cast-result c = omega (arith, lent_low _ _ _ _ _ _ c.requires.0 (λ g l. sym c.in-At.is ∙ c.relation-f.ensures g l))
+
+pub returns-in-At : goal.returns-in-At
+returns-in-At c = λ g l. number_at _ _ (sym c.in-At.is ∙ c.relation-f.ensures g l)
+
+pub returns-in-Nowhere : goal.returns-in-Nowhere
+returns-in-Nowhere c = λ g l. number_none _ (sym c.in-Nowhere.is ∙ c.relation-f.ensures g l)

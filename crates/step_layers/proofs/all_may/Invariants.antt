@@ -1,0 +1,16 @@
+-- `step_layers::all_may` meets its contract.
+use Prim.Native.Nat.{◌-◌, ◌≤◌}
+use mathlib.Core.Path.{◌≡◌}
+use lib.ListN.{length, drop}
+use Rattle.definitions.specs.Lists.{all}
+use Rattle.definitions.specs.Problem.Atoms.{Problem}
+use Rattle.bits.specs.Table.{bit}
+use Rattle.problem_table.specs.Of.{Is}
+use Rattle.step_layers.specs.Tests.{may_at}
+use Rattle.step_layers.proofs.all_may.Given as goal
+
+abbrev pub invariant-loop-i : goal.invariant-loop-i
+invariant-loop-i l = (l.i ≤ length l.steps) × ((p : Problem) → Is p l.table → all (may_at p (bit l.state)) l.steps ≡ all (may_at p (bit l.state)) (drop l.i l.steps))
+
+abbrev pub decreases-loop-i : goal.decreases-loop-i
+decreases-loop-i l = length l.steps - l.i

@@ -1,0 +1,23 @@
+use Prim.Native.Nat.{◌-◌}
+use mathlib.Core.Path.{sym, ◌∙◌}
+use native.Mathlib.Omega.{arith}
+use Rattle.step_write.specs.Skipping.{words_next}
+use Rattle.step_write.proofs.next_word.Goals as goal
+
+pub loop-k-init : goal.loop-k-init
+loop-k-init c = (omega arith, omega arith, λ m l u. absurd (omega arith))
+
+pub returns-then-word_at-ne0 : goal.returns-then-word_at-ne0
+returns-then-word_at-ne0 c = c.loop-k.invariant
+
+pub loop-k-smaller : goal.loop-k-smaller
+loop-k-smaller c = omega arith
+
+pub loop-k-preserved : goal.loop-k-preserved
+loop-k-preserved c =
+    let l = c.loop-k in
+    let a = c.args in
+    (omega arith, omega arith, words_next a.words.now a.j l.k l.invariant.2 (sym c.word_at.ensures ∙ c.if-word_at-ne0.false))
+
+pub returns : goal.returns
+returns c = c.loop-k.invariant

@@ -1,0 +1,11 @@
+-- `test_calls::build_text` runs safely.
+use mathlib.Core.Path.{sym}
+use native.Mathlib.Omega.{arith}
+use lib.Seq.{length-take-le}
+use Rattle.test_calls.proofs.build_text.Goals as goal
+
+pub slice_bounds-build_text_into-end : goal.slice_bounds-build_text_into-end
+slice_bounds-build_text_into-end c = sym (length-take-le _ _ (omega arith))
+
+pub slice_bounds-build_text_into-end-2 : goal.slice_bounds-build_text_into-end-2
+slice_bounds-build_text_into-end-2 c = sym (length-take-le _ _ (omega arith))

@@ -1,0 +1,11 @@
+-- `test_calls::page_text` runs safely.
+use mathlib.Core.Path.{sym}
+use native.Mathlib.Omega.{arith}
+use lib.Seq.{length-take-le}
+use Rattle.test_calls.proofs.page_text.Goals as goal
+
+pub slice_bounds-page_text_into-end : goal.slice_bounds-page_text_into-end
+slice_bounds-page_text_into-end c = sym (length-take-le _ _ (omega arith))
+
+pub slice_bounds-page_text_into-end-2 : goal.slice_bounds-page_text_into-end-2
+slice_bounds-page_text_into-end-2 c = sym (length-take-le _ _ (omega arith))

@@ -1,9 +1,0 @@
--- `test_calls::tries` runs safely.
-use mathlib.Core.Path.{sym}
-use native.Mathlib.Omega.{arith}
-use lib.Seq.{length-take-le}
-use borrow.Author.Rules.{rules}
-use Rattle.test_calls.proofs.tries.Tie as tie
-
-pub tries-spec : {M : Type 1} → Rattle.test_calls.proofs.tries.Statement.statement M
-tries-spec = tie.close (tie.spec (λ c. search rules) (λ c. search rules) (λ c. sym (length-take-le _ _ (omega arith))) (λ c κs. search rules) (λ c. search rules))
